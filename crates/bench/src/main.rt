@@ -1,0 +1,126 @@
+//! Times FUA writes and reads of one block through the device's five calls, and the plain cost of one
+//! SHA-256 over a page, in one run. It prints the times and their ratios on standard error.
+#![tactic(auto)]
+
+use anyhow::{Result, ensure};
+use sha2::{Digest, Sha256};
+use std::alloc::Global;
+use std::rt::Clock;
+use std::time::{Duration, Instant};
+use ufs_spec::{Config, UnitSpec};
+use workbench::{Workbench, new_dies};
+
+/// How many blocks are written, read, and how many pages hashed.
+const COUNT: u32 = 8192;
+
+/// The dies' sizes.
+const BLOCKS: u16 = 64;
+
+const PAGES: u16 = 64;
+
+/// A device over new dies in memory, with one unit of so many blocks.
+fn open(alloc: Global) -> Result<Workbench> {
+    let units = [UnitSpec {
+        blocks: COUNT,
+        boot: 0,
+        protect: 0,
+    }];
+    let config = Config::new(4, BLOCKS, PAGES, &units, 1, 64, 4)?;
+    let dies = new_dies(alloc, 4, BLOCKS, PAGES)?;
+    Ok(Workbench::new(alloc, config, dies)?)
+}
+
+/// A FUA write of one block: COMMAND, READY TO TRANSFER, DATA OUT, program, RESPONSE.
+fn write(bench: &mut Workbench, address: u32, out: &mut [u8; 4128]) -> Result<()> {
+    bench.send(&command(0x20, 0x2A, 0x08, address))?;
+    ensure!(bench.hear(), "no data were asked for");
+    out[..32].copy_from_slice(&data_out());
+    bench.send(out)?;
+    expect_good(bench, address)
+}
+
+/// A read of one block: COMMAND, die read, DATA IN, RESPONSE.
+fn read(bench: &mut Workbench, address: u32) -> Result<()> {
+    bench.send(&command(0x40, 0x28, 0x00, address))?;
+    ensure!(bench.hear_after_work((address % 4) as u8), "no block came");
+    ensure!(bench.reply.len() == 4128, "a block was not read");
+    expect_good(bench, address)
+}
+
+fn expect_good(bench: &mut Workbench, address: u32) -> Result<()> {
+    ensure!(bench.hear_after_work((address % 4) as u8), "no answer came");
+    ensure!(
+        bench.reply.get(7).copied() == Some(0),
+        "a command was not answered GOOD"
+    );
+    Ok(())
+}
+
+/// The COMMAND for one block.
+fn command(flags: u8, operation: u8, forced: u8, address: u32) -> [u8; 32] {
+    let mut bytes = [0u8; 32];
+    bytes[0] = 0x01;
+    bytes[1] = flags;
+    bytes[14] = 0x10;
+    bytes[16] = operation;
+    bytes[17] = forced;
+    bytes[18..22].copy_from_slice(&address.to_be_bytes());
+    bytes[24] = 1;
+    bytes
+}
+
+/// The header of the DATA OUT for one block.
+fn data_out() -> [u8; 32] {
+    let mut bytes = [0u8; 32];
+    bytes[0] = 0x02;
+    bytes[10] = 0x10;
+    bytes[18] = 0x10;
+    bytes
+}
+
+/// One SHA-256 over the 4160 bytes of a page that its check covers.
+fn hash_pages() -> u64 {
+    let page = [0x5Au8; 4160];
+    let mut all = 0u64;
+    for _ in 0..COUNT {
+        let mut hasher = Sha256::new();
+        hasher.update(&page);
+        let digest: [u8; 32] = hasher.finalize();
+        all = all.wrapping_add(digest[0] as u64);
+    }
+    all
+}
+
+fn each(total: Duration) -> u64 {
+    (total.as_nanos() / COUNT as u128).min(u64::MAX as u128) as u64
+}
+
+fn run<R: Clock + Eprint>(rt: &R, bench: &mut Workbench) -> Result<()> {
+    let mut out = [0x5Au8; 4128];
+    let start = Instant::now(rt)?;
+    for address in 0..COUNT {
+        write(bench, address, &mut out)?;
+    }
+    let writes = each(start.elapsed(rt)?);
+    let start = Instant::now(rt)?;
+    for address in 0..COUNT {
+        read(bench, address)?;
+    }
+    let reads = each(start.elapsed(rt)?);
+    let start = Instant::now(rt)?;
+    let all = hash_pages();
+    let hashes = each(start.elapsed(rt)?).max(1);
+    eprintln!(rt; "a FUA write of one block: {writes} ns")?;
+    eprintln!(rt; "a read of one block: {reads} ns")?;
+    eprintln!(rt; "one SHA-256 over a page: {hashes} ns ({all})")?;
+    let write_percent = writes.saturating_mul(100) / hashes;
+    let read_percent = reads.saturating_mul(100) / hashes;
+    eprintln!(rt; "write to hash: {write_percent} %, read to hash: {read_percent} %")?;
+    Ok(())
+}
+
+fn main(rt: HostRuntime) -> Result<()> {
+    let mut bench = open(rt.alloc())?;
+    bench.settle(4, 4);
+    run(&rt, &mut bench)
+}

@@ -1,0 +1,20 @@
+//! What the program may be asked, and why its words are refused.
+use thiserror::Error;
+
+/// What the program is asked to do.
+#[derive(Clone, Copy, Debug, PartialEq, Eq)]
+pub enum Call<'a> {
+    /// Run the script in the file of this name.
+    Run(&'a str),
+}
+
+/// Why there is nothing to do. The text is what the program prints after its name.
+#[derive(Clone, Copy, Debug, Error, PartialEq, Eq)]
+pub enum CallFault {
+    /// The words are none of the program's, or ask for help.
+    #[error("usage")]
+    Usage,
+    /// Memory was refused.
+    #[error("memory")]
+    Memory,
+}

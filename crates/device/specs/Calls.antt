@@ -1,0 +1,45 @@
+-- What the calls make of what the device keeps.
+use Rattle.std.specs.Prelude.{ℕ, ◌+◌, ◌-◌, nat_lt, Bool, false, if◌then◌else◌, List, length, map}
+use Rattle.ufs_spec.specs.declared.flash.Key.{Key}
+use Rattle.ftl_core.specs.declared.books.ReadState.TheVariants as read
+use Rattle.ftl_core.specs.Moves.{accepted, can_accept, free_slots, is_locked, look_of, next_number, with_pin}
+use Rattle.device.specs.declared.tasks.Status.TheVariants as status
+use Rattle.device.specs.declared.tasks.Phase.{Phase}
+use Rattle.device.specs.declared.tasks.Phase.TheVariants as phase
+use Rattle.device.specs.declared.tasks.Plan.{Plan}
+use Rattle.device.specs.declared.tasks.Plan.TheVariants as plan
+use Rattle.device.specs.Kept.{DeviceCore}
+use Rattle.device.specs.Tasks.{after_lock, write_error}
+
+-- how far a task is that begins to do this
+abbrev pub phase_begun : DeviceCore → Plan → Phase
+phase_begun d (plan.Nothing n) = phase.Answer status.Good n
+phase_begun d (plan.Read key) = if nat_lt (length d.ftl.pins) 32 then phase.SendBlock else phase.Answer status.Busy 0
+phase_begun d (plan.Write key) = if nat_lt 0 (free_slots d.ftl) then phase.AskData key else phase.Answer status.Busy 0
+
+-- a read keeps what it looks up, a write claims a slot
+abbrev pub begun : DeviceCore → ℕ → Plan → DeviceCore
+begun d tag (plan.Nothing n) = d
+begun d tag (plan.Read key) =
+    if nat_lt (length d.ftl.pins) 32
+    then record d { ftl = with_pin d.ftl record { reader = tag; key = key; looked = look_of d.ftl key; read = read.Owed } }
+    else d
+begun d tag (plan.Write key) =
+    if nat_lt 0 (free_slots d.ftl) then record d { ftl = record d.ftl { claimed = d.ftl.claimed + 1 } } else d
+
+-- the block is accepted for its address, unless the device is locked
+abbrev pub is_taken : DeviceCore → Bool
+is_taken d = if is_locked d.ftl then false else can_accept d.ftl
+
+abbrev pub phase_accepted : DeviceCore → Key → Phase
+phase_accepted d key =
+    if is_taken d then phase.AwaitFrontier (next_number d.ftl) else phase.Answer (status.CheckCondition write_error) 4096
+
+abbrev pub block_accepted : DeviceCore → Key → List ℕ → DeviceCore
+block_accepted d key body =
+    if is_taken d then record d { ftl = accepted d.ftl key body }
+    else record d { ftl = record d.ftl { claimed = d.ftl.claimed - 1 } }
+
+-- a lock ends each task that waits for a block to become durable
+abbrev pub waiting_ended : DeviceCore → DeviceCore
+waiting_ended d = if is_locked d.ftl then record d { tasks = map (after_lock d.ftl.frontier) d.tasks } else d

@@ -1,0 +1,34 @@
+-- What the device keeps, as its contracts see it.
+use Rattle.std.specs.Prelude.{◌≡◌, ℕ, Bool, List, [], Option}
+use Rattle.ufs_spec.specs.declared.configs.Numbers.{Numbers}
+use Rattle.ufs_spec.specs.declared.flash.Job.{Job}
+use Rattle.ufs_spec.specs.Dies.{DieState}
+use Rattle.ftl_core.specs.Moves.{fresh}
+use Rattle.ftl_core.specs.Core.{Core}
+use Rattle.device.specs.declared.tasks.Task.{Task}
+use Rattle.device.specs.declared.tasks.Refused.{Refused}
+use Rattle.device.specs.declared.tasks.Loaded.{Loaded}
+
+-- the translation layer, the open tasks, the commands refused with TASK SET FULL, and the blocks
+-- that die reads gave
+pub record DeviceCore : Type 0 where
+  pub ftl : Core
+  pub tasks : List Task
+  pub refused : List Refused
+  pub loaded : List Loaded
+
+-- a device over new dies of which some blocks are bad: nothing is stored, and no task is open
+abbrev pub new_device : Numbers → List Bool → DeviceCore
+new_device n bad = record { ftl = fresh n bad; tasks = []; refused = []; loaded = [] }
+
+abbrev pub IsNewDevice : Numbers → DeviceCore → Type 0
+IsNewDevice n d = (bad : List Bool) × (d ≡ new_device n bad)
+
+-- a device with its dies: the job that each die has in flight, how many steps were made, and whether
+-- one of them failed, which ends the world
+pub record WorldState : Type 0 where
+  pub core : DeviceCore
+  pub dies : List DieState
+  pub jobs : List (Option Job)
+  pub steps : ℕ
+  pub is_over : Bool

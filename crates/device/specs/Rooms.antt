@@ -1,0 +1,16 @@
+-- How the device's fields are seen, and the room that they keep.
+use Rattle.std.specs.Prelude.{◌≤◌, length, vec_capacity}
+use Rattle.device.specs.declared.device.Device.TheInside.{Inside}
+use Rattle.device.specs.Kept.{DeviceCore}
+
+abbrev pub core_of : Inside → DeviceCore
+core_of d = record { ftl = d.ftl; tasks = d.tasks.items; refused = d.refused.items; loaded = d.loaded.items }
+
+-- no list grows past its room
+pub record IsRoomy (d : Inside) : Type 0 where
+  pub tasks : 32 ≤ vec_capacity d.tasks
+  pub few_tasks : length d.tasks.items ≤ 32
+  pub refused : 32 ≤ vec_capacity d.refused
+  pub few_refused : length d.refused.items ≤ 32
+  pub loaded : 32 ≤ vec_capacity d.loaded
+  pub few_loaded : length d.loaded.items ≤ 32

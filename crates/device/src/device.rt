@@ -1,0 +1,210 @@
+//! The device and its five calls.
+ghost use Rattle.std.specs.Prelude.{◌≡◌, ℕ, ◌<◌, ◌≤◌, ◌+◌, length, IfOk, OnErr, map};
+ghost use Rattle.std.specs.Prelude.{false, if◌then◌else◌, IfErr, IfNone};
+ghost use Rattle.ftl_core.specs.Moves.{blocks_of, free_slots, is_locked, is_turn_due, mark_ordered};
+ghost use Rattle.device.specs.Kept.{IsNewDevice};
+ghost use Rattle.device.specs.Calls.{waiting_ended};
+ghost use Rattle.device.specs.Tasks.{after_lock, after_lost_read};
+
+use crate::tasks::{Loaded, Phase, Refused, Status, Task};
+use ftl_core::{Ended, Ftl};
+use nand_model::Die;
+use std::alloc::{AllocError, Global};
+use std::marker::Model;
+use ufs_spec::{Block, Config, Job, OpenFault, Outcome, Sense};
+
+/// How many tasks, and how many short exchanges, there is room for (JESD220, 10.9).
+pub(crate) const ROOM: usize = 32;
+
+/// A device: the translation layer, and the tasks that are open.
+#[derive(Drop)]
+pub struct Device {
+    pub(crate) ftl: Ftl,
+    pub(crate) tasks: Vec<Task>,
+    pub(crate) refused: Vec<Refused>,
+    pub(crate) loaded: Vec<Loaded>,
+}
+
+impl Model for Device {
+    ghost use Rattle.device.specs.Kept.{DeviceCore};
+
+    ghost Value = { DeviceCore };
+
+    ghost use Rattle.device.specs.Rooms.{core_of, IsRoomy};
+
+    ghost view = { core_of };
+
+    ghost invariant = { IsRoomy };
+}
+
+/// For each block of each die, in order, whether it is bad.
+fn bad_blocks<D: Die>(alloc: Global, dies: &[D], blocks: u16) -> Result<Vec<bool>, AllocError> {
+    let mut all = Vec::new(alloc);
+    for die in dies {
+        for block in 0..blocks {
+            all.push(die.is_bad(block))?;
+        }
+    }
+    Ok(all)
+}
+
+impl Device {
+    /// Opens a device over new dies of the configuration's number and sizes. It reads no page of them
+    /// and writes nothing.
+    ///
+    /// # Errors
+    ///
+    /// `NoMemory` where memory was refused.
+    pub fn open<D: Die>(alloc: Global, config: Config, dies: &[D]) -> Result<Device, OpenFault>
+        ensures opened { IfOk result (IsNewDevice config) }
+        ensures refused { IfErr result (λ e. e ≡ OpenFault.NoMemory) }
+    {
+        match Device::over(alloc, config, dies) {
+            Ok(device) => Ok(device),
+            Err(_) => Err(OpenFault::NoMemory),
+        }
+    }
+
+    fn over<D: Die>(alloc: Global, config: Config, dies: &[D]) -> Result<Device, AllocError>
+        ensures { IfOk result (IsNewDevice config) }
+    {
+        let blocks = config.numbers().blocks;
+        let bad = bad_blocks(alloc, dies, blocks)?;
+        Ok(Device {
+            ftl: Ftl::new(alloc, config, bad.as_slice())?,
+            tasks: Vec::with_capacity(alloc, ROOM)?,
+            refused: Vec::with_capacity(alloc, ROOM)?,
+            loaded: Vec::with_capacity(alloc, ROOM)?,
+        })
+    }
+
+    pub(crate) fn is_mended(&self) -> bool
+        ensures { result ≡ self.now.ftl.mended }
+    {
+        self.ftl.is_mended()
+    }
+
+    pub(crate) fn is_locked(&self) -> bool
+        ensures { result ≡ is_locked self.now.ftl }
+    {
+        self.ftl.is_locked()
+    }
+
+    pub(crate) fn free_slots(&self) -> usize
+        ensures { result ≡ free_slots self.now.ftl }
+    {
+        self.ftl.free_slots()
+    }
+
+    /// How many blocks the unit has; `None` where the LUN is no unit's.
+    pub(crate) fn unit_blocks(&self, lun: u8) -> Option<u32>
+        ensures { result ≡ blocks_of self.now.ftl lun }
+    {
+        self.ftl.unit_blocks(lun)
+    }
+
+    /// The next job of the die, which is then in flight; `None` where the die is not one of the device,
+    /// has a job in flight, or is owed nothing.
+    pub fn take(&mut self, die: u8) -> Option<Job>
+        ensures nothing { IfNone result (self.new ≡ self.old) }
+    {
+        self.ftl.take(die)
+    }
+
+    /// Ends the job in flight of the die. False, and nothing changes, where the die has no job in flight
+    /// or the outcome is not of its kind.
+    pub fn done(&mut self, die: u8, outcome: &Outcome) -> bool
+        ensures nothing { result ≡ false → self.new ≡ self.old }
+    {
+        let Some(ended) = self.ftl.done(die, outcome) else {
+            return false;
+        };
+        if let Ended::Read { reader, body } = ended {
+            self.read_ended(reader, body);
+        }
+        self.end_waiting();
+        true
+    }
+
+    /// Does one step of mending; false, and nothing changes, where none is due.
+    pub fn turn(&mut self) -> bool
+        ensures due { result ≡ is_turn_due self.old.ftl }
+        ensures after { self.new ≡ (if result then record self.old { ftl = mark_ordered self.old.ftl } else self.old) }
+    {
+        self.ftl.turn()
+    }
+
+    /// What the die read for the task of this tag gave: its block, or nothing, which ends the task.
+    fn read_ended(&mut self, tag: u8, body: Option<Block>) {
+        match body {
+            Some(body) => {
+                if self.loaded.len() < ROOM {
+                    self.loaded.push_reserved(Loaded { tag, body });
+                }
+            }
+            None => {
+                self.ftl.unpin(tag);
+                end_read(self.tasks.as_mut_slice(), tag);
+            }
+        }
+    }
+
+    /// A lock ends each task that waits for a block to become durable.
+    pub(crate) fn end_waiting(&mut self)
+        ensures { self.new ≡ waiting_ended self.old }
+    {
+        if self.is_locked() {
+            let frontier = self.ftl.frontier();
+            end_waiting(self.tasks.as_mut_slice(), frontier);
+        }
+    }
+}
+
+/// A block that could not be read ends its task.
+fn end_read(tasks: &mut [Task], tag: u8)
+    ensures { tasks.new ≡ map (after_lost_read tag) tasks.old }
+{
+    for task in tasks.iter_mut() {
+        *task = after_lost_read(*task, tag);
+    }
+}
+
+/// The task after the block of the task of this tag could not be read: nothing was carried.
+fn after_lost_read(task: Task, tag: u8) -> Task
+    ensures { result ≡ after_lost_read tag task }
+{
+    let mut ended = task;
+    if task.tag == tag && task.phase == Phase::SendBlock {
+        ended.phase = Phase::Answer {
+            status: Status::CheckCondition(Sense::READ_ERROR),
+            length: 0,
+        };
+    }
+    ended
+}
+
+/// The tasks after the lock began: none waits for the frontier any more.
+fn end_waiting(tasks: &mut [Task], frontier: u64)
+    ensures { tasks.new ≡ map (after_lock frontier) tasks.old }
+{
+    for task in tasks.iter_mut() {
+        *task = after_lock(*task, frontier);
+    }
+}
+
+/// The task after the lock began: a block that is not durable is told as not written, though it was
+/// carried. An answer that was due stays.
+fn after_lock(task: Task, frontier: u64) -> Task
+    ensures { result ≡ after_lock frontier task }
+{
+    let mut ended = task;
+    if let Phase::AwaitFrontier { number } = task.phase {
+        if number > frontier {
+            ended.phase = Phase::Answer {
+                status: Status::CheckCondition(Sense::WRITE_ERROR),
+                length: 4096,
+            };
+        }
+    }
+    ended
+}

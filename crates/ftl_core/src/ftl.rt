@@ -1,0 +1,375 @@
+//! The translation layer and its calls.
+ghost use Rattle.std.specs.Prelude.{◌≡◌, ℕ, ◌<◌, ◌≤◌, ◌+◌, ◌^◌, length, IsTrue, ◌↔◌, IfOk, IsSome, IfSome, vec_len, nat_lt, ◌-◌, ◌&&◌, ◌++◌, ◌∷◌, [], if◌then◌else◌, sum_by, slice_get};
+ghost use Rattle.std.specs.Prelude.{map, None, option_copied, position, replicate, reverse};
+ghost use Rattle.std.specs.List.{list_any};
+ghost use Rattle.ufs_spec.specs.declared.configs.UnitSpec.{UnitSpec};
+ghost use Rattle.ftl_core.specs.Moves.{accepted, blocks_of, can_accept, fresh, idle_book, slot_of, state_at_start, is_group_of, is_pin_of, pin_of, unpinned, look_of, last_of, position_of, stored_of, unit_position, with_pin, free_slots, is_locked, has_number, next_number, mark_ordered};
+
+mod ends;
+mod takes;
+
+use crate::books::{
+    BlockState, Book, Group, GroupState, Looked, MarkState, Pin, ReadState, Stored,
+};
+use std::alloc::{AllocError, Global};
+use std::marker::Model;
+use ufs_spec::{Block, Config, Key, Tag, UnitSpec};
+
+/// No group and no mark has a greater number.
+const LAST_NUMBER: u64 = 0x4000_0000_0000_0000;
+
+/// How many readers may keep what they looked up.
+const MOST_PINS: usize = 32;
+
+/// How a job ended, for whoever waits for it: a read gives its reader the block, or nothing where it
+/// failed or the page is not the one that was looked up.
+#[derive(Drop)]
+pub enum Ended {
+    Read { reader: u8, body: Option<Block> },
+    Other,
+}
+
+/// The translation layer of a device.
+#[derive(Drop)]
+pub struct Ftl {
+    config: Config,
+    states: Vec<BlockState>,
+    books: Vec<Book>,
+    has_bad: bool,
+    places: Vec<Option<Stored>>,
+    groups: Vec<Group>,
+    frontier: u64,
+    claimed: usize,
+    pins: Vec<Pin>,
+    mark: MarkState,
+    next_mark: u64,
+    mended: bool,
+}
+
+impl Model for Ftl {
+    ghost use Rattle.ftl_core.specs.Core.{Core};
+
+    ghost Value = { Core };
+
+    ghost use Rattle.ftl_core.specs.Rooms.{core_of, IsRoomy};
+
+    ghost view = { core_of };
+
+    ghost invariant = { IsRoomy };
+}
+
+/// How many addresses the units have together.
+fn address_count(units: &[UnitSpec]) -> usize
+    requires { length units.now ≤ 8 }
+    ensures count { result ≡ sum_by (λ (u : UnitSpec). u.blocks) units.now }
+    ensures small { result ≤ 2 ^ 35 }
+{
+    let mut count = 0;
+    for unit in units {
+        count += unit.blocks as usize;
+    }
+    count
+}
+
+/// The position of a unit's address among the addresses of all units, in order; `None` where the
+/// unit is not there or is smaller.
+fn position_of(units: &[UnitSpec], unit: u8, address: u32) -> Option<usize>
+    requires { length units.now ≤ 8 }
+    ensures { result ≡ unit_position units.now unit address }
+{
+    let unit = unit as usize;
+    if unit >= units.len() || address >= units[unit].blocks {
+        return None;
+    }
+    Some(address_count(&units[..unit]) + address as usize)
+}
+
+/// The position of the last pending group of the address.
+fn last_of(groups: &[Group], key: Key) -> Option<usize>
+    ensures { result ≡ last_of key groups.now }
+{
+    match groups_behind(groups, key) {
+        Some(behind) => Some(groups.len() - 1 - behind),
+        None => None,
+    }
+}
+
+/// How many pending groups stand behind the last one of the address.
+fn groups_behind(groups: &[Group], key: Key) -> Option<usize>
+    ensures what { result ≡ position (is_group_of key) (reverse groups.now) }
+    ensures less { IfSome result (λ k. k < length groups.now) }
+{
+    groups
+        .iter()
+        .rev()
+        .position(|group| is_group_of(group, key))
+}
+
+/// Whether the group is of this address.
+fn is_group_of(group: &Group, key: Key) -> bool
+    ensures { result ≡ is_group_of key group.now }
+{
+    group.key.kind == key.kind && group.key.unit == key.unit && group.key.address == key.address
+}
+
+/// Whether the pin is this reader's.
+fn is_pin_of(pin: &Pin, reader: u8) -> bool
+    ensures { result ≡ is_pin_of reader pin.now }
+{
+    pin.reader == reader
+}
+
+/// The position of the reader's pin.
+fn pin_at(pins: &[Pin], reader: u8) -> Option<usize>
+    ensures { result ≡ position (is_pin_of reader) pins.now }
+{
+    pins.iter().position(|pin| is_pin_of(pin, reader))
+}
+
+/// What is known of the blocks at the start: bad ones stay bad, and all others are free.
+fn states_of(alloc: Global, bad: &[bool]) -> Result<Vec<BlockState>, AllocError>
+    ensures { IfOk result (λ v. v.items ≡ map state_at_start bad.now) }
+{
+    bad.iter()
+        .map(|is_bad| state_at_start(*is_bad))
+        .collect(alloc)
+}
+
+fn state_at_start(is_bad: bool) -> BlockState
+    ensures { result ≡ state_at_start is_bad }
+{
+    if is_bad {
+        BlockState::Bad
+    } else {
+        BlockState::Free
+    }
+}
+
+/// Whether any of the blocks is bad.
+fn any_bad(bad: &[bool]) -> bool
+    ensures { result ≡ list_any (λ b. b) bad.now }
+{
+    bad.iter().any(|is_bad| *is_bad)
+}
+
+/// Dies with no job in flight and no block being filled.
+fn idle_books(alloc: Global, dies: u8) -> Result<Vec<Book>, AllocError>
+    ensures { IfOk result (λ v. v.items ≡ replicate dies idle_book) }
+{
+    let mut all = Vec::with_capacity(alloc, dies as usize)?;
+    for _ in 0..dies {
+        all.push(Book {
+            filling: None,
+            flight: None,
+        })?;
+    }
+    Ok(all)
+}
+
+/// No address has durable content.
+fn nowhere(alloc: Global, addresses: usize) -> Result<Vec<Option<Stored>>, AllocError>
+    ensures { IfOk result (λ v. v.items ≡ replicate addresses None) }
+{
+    let mut all = Vec::with_capacity(alloc, addresses)?;
+    for _ in 0..addresses {
+        all.push(None)?;
+    }
+    Ok(all)
+}
+
+impl Ftl {
+    /// The layer over new dies: for each block of each die, in order, whether it is bad.
+    pub fn new(alloc: Global, config: Config, bad: &[bool]) -> Result<Ftl, AllocError>
+        ensures { IfOk result (λ f. f ≡ fresh config bad.now) }
+    {
+        let numbers = config.numbers();
+        let dies = numbers.dies;
+        let slots = numbers.slots as usize;
+        let addresses = address_count(numbers.units.as_slice());
+        let states = states_of(alloc, bad)?;
+        let has_bad = any_bad(bad);
+        Ok(Ftl {
+            config,
+            states,
+            books: idle_books(alloc, dies)?,
+            has_bad,
+            places: nowhere(alloc, addresses)?,
+            groups: Vec::with_capacity(alloc, slots)?,
+            frontier: 0,
+            claimed: 0,
+            pins: Vec::with_capacity(alloc, MOST_PINS)?,
+            mark: MarkState::Idle,
+            next_mark: 1,
+            mended: false,
+        })
+    }
+
+    /// Whether a mark without a fence is finished, so that commands are taken.
+    pub fn is_mended(&self) -> bool
+        ensures { result ≡ self.now.mended }
+    {
+        self.mended
+    }
+
+    /// Whether writes are refused from now on: a block is bad (in this first stage none may be), or no
+    /// number is left.
+    pub fn is_locked(&self) -> bool
+        ensures { result ≡ is_locked self.now }
+    {
+        self.has_bad || self.frontier + self.groups.len() as u64 >= LAST_NUMBER
+    }
+
+    /// The number at or under which every group is durable.
+    pub fn frontier(&self) -> u64
+        ensures { result ≡ self.now.frontier }
+    {
+        self.frontier
+    }
+
+    /// How many slots neither a pending group nor a claim holds.
+    pub fn free_slots(&self) -> usize
+        ensures { result ≡ free_slots self.now }
+    {
+        self.config.numbers().slots as usize - self.groups.len() - self.claimed
+    }
+
+    /// How many blocks the unit has; `None` where there is no such unit.
+    pub fn unit_blocks(&self, unit: u8) -> Option<u32>
+        ensures { result ≡ blocks_of self.now unit }
+    {
+        let units = self.config.numbers().units.as_slice();
+        let unit = unit as usize;
+        if unit < units.len() {
+            Some(units[unit].blocks)
+        } else {
+            None
+        }
+    }
+
+    /// Claims one slot for a group to come, where one is free.
+    pub fn reserve(&mut self) -> bool
+        ensures found { result ≡ nat_lt 0 (free_slots self.old) }
+        ensures after { self.new ≡ (if result then record self.old { claimed = self.old.claimed + 1 } else self.old) }
+    {
+        if self.free_slots() == 0 {
+            return false;
+        }
+        self.claimed += 1;
+        true
+    }
+
+    /// Gives a claimed slot back.
+    pub fn release(&mut self)
+        ensures { self.new ≡ record self.old { claimed = self.old.claimed - 1 } }
+    {
+        self.claimed = self.claimed.saturating_sub(1);
+    }
+
+    /// What holds the content of the address after all pending groups: the slot of the last of these, or
+    /// its page, or nothing (it reads as zeros).
+    pub fn look(&self, key: Key) -> Looked
+        ensures { result ≡ look_of self.now key }
+    {
+        match last_of(self.groups.as_slice(), key) {
+            Some(index) => Looked::Slot(self.frontier + index as u64 + 1),
+            None => self.stored(key).map_or(Looked::Nothing, Looked::Page),
+        }
+    }
+
+    /// Where the durable content of the address stands.
+    fn stored(&self, key: Key) -> Option<Stored>
+        ensures { result ≡ stored_of self.now key }
+    {
+        let index = self.position(key)?;
+        self.places.get(index).copied().flatten()
+    }
+
+    /// The position of the address among those of all units.
+    fn position(&self, key: Key) -> Option<usize>
+        ensures { result ≡ position_of self.now.numbers key }
+    {
+        if key.kind != Tag::DATA {
+            return None;
+        }
+        position_of(
+            self.config.numbers().units.as_slice(),
+            key.unit,
+            key.address,
+        )
+    }
+
+    /// Keeps what was looked up for this reader, who is then owed a read of it where it is a page or
+    /// becomes one; false, and nothing is kept, where 32 readers keep something.
+    pub fn pin(&mut self, reader: u8, key: Key, looked: Looked) -> bool
+        ensures found { result ≡ nat_lt (length self.old.pins) 32 }
+        ensures after { self.new ≡ (if result then with_pin self.old (record { reader = reader; key = key; looked = looked; read = ReadState.Owed }) else self.old) }
+    {
+        if self.pins.len() >= MOST_PINS {
+            return false;
+        }
+        self.pins.push_reserved(Pin {
+            reader,
+            key,
+            looked,
+            read: ReadState::Owed,
+        });
+        true
+    }
+
+    /// The reader keeps nothing any more.
+    pub fn unpin(&mut self, reader: u8)
+        ensures { self.new ≡ unpinned self.old reader }
+    {
+        if let Some(index) = pin_at(self.pins.as_slice(), reader) {
+            if index < self.pins.len() {
+                self.pins.remove(index);
+            }
+        }
+    }
+
+    /// What the reader keeps, and how far its read is.
+    pub fn pinned(&self, reader: u8) -> Option<Pin>
+        ensures { result ≡ pin_of self.now reader }
+    {
+        let index = pin_at(self.pins.as_slice(), reader)?;
+        self.pins.get(index).copied()
+    }
+
+    /// The block in the slot of this number; `None` where no pending group has it.
+    pub fn slot(&self, number: u64) -> Option<&Block>
+        ensures { option_copied result ≡ slot_of self.now number }
+    {
+        if number <= self.frontier {
+            return None;
+        }
+        let index = (number - self.frontier - 1) as usize;
+        if index >= self.groups.len() {
+            return None;
+        }
+        Some(&self.groups[index].body)
+    }
+
+    /// Puts a group of one page behind all that are pending, in the place of a claimed slot, and
+    /// answers its number.
+    pub fn accept(&mut self, key: Key, body: &Block) -> u64
+        requires claimed { 0 < self.old.claimed }
+        requires numbered { IsTrue (has_number self.old) }
+        ensures number { result ≡ next_number self.old }
+        ensures after { self.new ≡ accepted self.old key body.now }
+    {
+        self.claimed -= 1;
+        self.groups.push_reserved(Group {
+            key,
+            state: GroupState::Waiting,
+            body: *body,
+        });
+        self.frontier + self.groups.len() as u64
+    }
+
+    /// Whether a group can be accepted: a slot is claimed and a number is left.
+    pub fn can_accept(&self) -> bool
+        ensures { result ≡ can_accept self.now }
+    {
+        self.claimed > 0 && self.frontier + (self.groups.len() as u64) < LAST_NUMBER
+    }
+}

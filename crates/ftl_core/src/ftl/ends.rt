@@ -1,0 +1,340 @@
+//! How a job in flight ends, and what a step of the device's own orders.
+ghost use Rattle.std.specs.Prelude.{◌≡◌, ℕ, ◌<◌, ◌≤◌, ◌+◌, ◌^◌, IsSome, IfNone, IfSome, length, if◌then◌else◌};
+ghost use Rattle.std.specs.Prelude.{map};
+ghost use Rattle.ftl_core.specs.Moves.{is_turn_due, moved_pin, erased, mark_failed, mark_ordered, mark_written, page_written, went_bad};
+
+use super::{Ended, Ftl, LAST_NUMBER};
+use crate::books::{
+    BlockState, Book, Flight, GroupState, Looked, MarkState, OpenBlock, Pin, ReadState, Stored,
+};
+use page_tag::open;
+use ufs_spec::{Block, Key, Outcome, Page, Place};
+
+/// The block of the page, where it is the page of this address with this number.
+fn body_of(page: &Page, key: Key, number: u64) -> Option<Block> {
+    let opened = open(page)?;
+    let tag = opened.tag;
+    if tag.kind == key.kind
+        && tag.unit == key.unit
+        && tag.address == key.address
+        && tag.number == number
+    {
+        Some(opened.body)
+    } else {
+        None
+    }
+}
+
+/// Whether a program or an erase ended well; `None` where the outcome is a read's.
+fn ending(outcome: &Outcome) -> Option<bool> {
+    match outcome {
+        Outcome::Done => Some(true),
+        Outcome::Failed => Some(false),
+        Outcome::Read(_) => None,
+        Outcome::ReadFailed => None,
+    }
+}
+
+/// Whether the reader's read of the place is in flight.
+fn is_reading(pin: &Pin, reader: u8, place: Place) -> bool {
+    match pin.looked {
+        Looked::Page(stored) => pin.reader == reader
+            && pin.read == ReadState::InFlight
+            && stored.place == place,
+        _ => false,
+    }
+}
+
+/// What the pin keeps once the group stands on its page.
+fn moved_pin(pin: Pin, stored: Stored) -> Pin
+    ensures { result ≡ moved_pin stored pin }
+{
+    let mut moved = pin;
+    if let Looked::Slot(number) = pin.looked {
+        if number == stored.number {
+            moved.looked = Looked::Page(stored);
+        }
+    }
+    moved
+}
+
+/// Who kept the slot of this group keeps its page from now on.
+fn move_pins(pins: &mut [Pin], stored: Stored)
+    ensures { pins.new ≡ map (moved_pin stored) pins.old }
+{
+    for pin in pins.iter_mut() {
+        *pin = moved_pin(*pin, stored);
+    }
+}
+
+impl Ftl {
+    /// The die has no job in flight any more, and its open block has one page less.
+    fn page_written(&mut self, die: u8, book: Book)
+        ensures { self.new ≡ page_written self.old die book book.filling }
+    {
+        let Some(open) = book.filling else {
+            return self.set_book(
+                die,
+                Book {
+                    filling: None,
+                    flight: None,
+                },
+            );
+        };
+        if open.next < self.config.numbers().pages.saturating_sub(1) {
+            let next = OpenBlock {
+                block: open.block,
+                next: open.next + 1,
+            };
+            self.set_book(
+                die,
+                Book {
+                    filling: Some(next),
+                    flight: None,
+                },
+            );
+        } else {
+            self.set_state(die, open.block, BlockState::Closed);
+            self.set_book(
+                die,
+                Book {
+                    filling: None,
+                    flight: None,
+                },
+            );
+        }
+    }
+
+    /// The block is bad from now on, and the die fills no block.
+    fn went_bad(&mut self, die: u8, block: u16)
+        ensures { self.new ≡ went_bad self.old die block }
+    {
+        self.set_state(die, block, BlockState::Bad);
+        self.has_bad = true;
+        self.set_book(
+            die,
+            Book {
+                filling: None,
+                flight: None,
+            },
+        );
+    }
+
+    fn erase_done(&mut self, die: u8, block: u16)
+        ensures { self.new ≡ erased self.old die block }
+    {
+        self.set_state(die, block, BlockState::Open);
+        self.set_book(
+            die,
+            Book {
+                filling: Some(OpenBlock { block, next: 0 }),
+                flight: None,
+            },
+        );
+    }
+
+    /// A finished mark without a fence ends the mending.
+    fn mark_done(&mut self, die: u8, book: Book)
+        ensures { self.new ≡ mark_written self.old die book }
+    {
+        self.mark = MarkState::Idle;
+        self.mended = true;
+        self.page_written(die, book);
+    }
+
+    /// In place of a failed mark waits one with the next number.
+    fn mark_failed(&mut self, die: u8, place: Place)
+        ensures { self.new ≡ mark_failed self.old die place }
+    {
+        self.order_mark();
+        self.went_bad(die, place.block);
+    }
+
+    /// A mark with the next number waits, where one is left.
+    fn order_mark(&mut self)
+        ensures { self.new ≡ mark_ordered self.old }
+    {
+        if self.next_mark <= LAST_NUMBER {
+            self.mark = MarkState::Waiting(self.next_mark);
+            self.next_mark += 1;
+        } else {
+            self.mark = MarkState::Idle;
+        }
+    }
+
+    /// The group with this number, if it is pending: its position.
+    fn pending_at(&self, number: u64) -> Option<usize>
+        ensures { IfSome result (λ k. k < length self.now.groups) }
+    {
+        if number <= self.frontier {
+            return None;
+        }
+        let index = (number - self.frontier - 1) as usize;
+        if index < self.groups.len() {
+            Some(index)
+        } else {
+            None
+        }
+    }
+
+    /// The group's page is so far.
+    fn move_group(&mut self, number: u64, state: GroupState) {
+        if let Some(index) = self.pending_at(number) {
+            let group = &mut self.groups[index];
+            group.state = state;
+        }
+    }
+
+    /// Where the page of the first pending group stands, once it is written.
+    fn front_written(&self) -> Option<Place>
+        ensures { IsSome result → 0 < length self.now.groups }
+    {
+        if self.groups.is_empty() {
+            return None;
+        }
+        let group = &self.groups[0];
+        match group.state {
+            GroupState::Written(place) => Some(place),
+            _ => None,
+        }
+    }
+
+    /// The first pending group is durable: its address now reads from this place, and so does who
+    /// keeps its slot.
+    fn make_durable(&mut self, place: Place)
+        requires { 0 < length self.old.groups }
+        ensures { length self.new.groups + 1 ≡ length self.old.groups }
+    {
+        let number = self.frontier + 1;
+        let group = self.groups.remove(0);
+        self.frontier = number;
+        let stored = Stored { place, number };
+        self.note_place(group.key, stored);
+        move_pins(self.pins.as_mut_slice(), stored);
+    }
+
+    fn note_place(&mut self, key: Key, stored: Stored)
+        ensures { self.new.groups ≡ self.old.groups }
+    {
+        if let Some(index) = self.position(key) {
+            if index < self.places.len() {
+                self.places[index] = Some(stored);
+            }
+        }
+    }
+
+    /// Every group at the front whose page is written is durable.
+    fn settle(&mut self) {
+        while let Some(place) = self.front_written() {
+            self.make_durable(place);
+        }
+    }
+
+    fn group_ended(&mut self, die: u8, book: Book, place: Place, number: u64, is_done: bool) {
+        if is_done {
+            self.move_group(number, GroupState::Written(place));
+            self.page_written(die, book);
+            self.settle();
+        } else {
+            self.move_group(number, GroupState::Waiting);
+            self.went_bad(die, place.block);
+        }
+    }
+
+    fn mark_ended(&mut self, die: u8, book: Book, place: Place, is_done: bool) {
+        if is_done {
+            self.mark_done(die, book);
+        } else {
+            self.mark_failed(die, place);
+        }
+    }
+
+    fn erase_ended(&mut self, die: u8, block: u16, is_done: bool) {
+        if is_done {
+            self.erase_done(die, block);
+        } else {
+            self.went_bad(die, block);
+        }
+    }
+
+    /// The position of the reader whose read of this place is in flight.
+    fn reading_at(&self, reader: u8, place: Place) -> Option<usize>
+        ensures { IfSome result (λ k. k < length self.now.pins) }
+    {
+        self.pins
+            .iter()
+            .position(|pin| is_reading(pin, reader, place))
+    }
+
+    /// What the read gave to its reader: the block, where the page is the one that was looked up.
+    fn give(&mut self, reader: u8, place: Place, page: Option<&Page>) -> Ended {
+        let Some(index) = self.reading_at(reader, place) else {
+            return Ended::Other;
+        };
+        let pin = &mut self.pins[index];
+        pin.read = ReadState::Over;
+        let body = match (page, pin.looked) {
+            (Some(page), Looked::Page(stored)) => body_of(page, pin.key, stored.number),
+            _ => None,
+        };
+        Ended::Read { reader, body }
+    }
+
+    fn read_ended(
+        &mut self,
+        die: u8,
+        book: Book,
+        place: Place,
+        reader: u8,
+        outcome: &Outcome,
+    ) -> Option<Ended>
+        ensures nothing { IfNone result (self.new ≡ self.old) }
+    {
+        let page = match outcome {
+            Outcome::Read(page) => Some(page),
+            Outcome::ReadFailed => None,
+            _ => return None,
+        };
+        self.set_book(
+            die,
+            Book {
+                filling: book.filling,
+                flight: None,
+            },
+        );
+        Some(self.give(reader, place, page))
+    }
+
+    /// Ends the job in flight of the die. `None`, and nothing changes, where the die has no job in
+    /// flight or the outcome is not of its kind.
+    pub fn done(&mut self, die: u8, outcome: &Outcome) -> Option<Ended>
+        ensures nothing { IfNone result (self.new ≡ self.old) }
+    {
+        let book = self.book(die)?;
+        let flight = book.flight?;
+        if let Flight::Read { place, reader } = flight {
+            return self.read_ended(die, book, place, reader, outcome);
+        }
+        let is_done = ending(outcome)?;
+        match flight {
+            Flight::Read { .. } => {}
+            Flight::Mark { place } => self.mark_ended(die, book, place, is_done),
+            Flight::Group { place, number } => self.group_ended(die, book, place, number, is_done),
+            Flight::Erase { block } => self.erase_ended(die, block, is_done),
+        }
+        Some(Ended::Other)
+    }
+
+    /// Orders the first mark where the device is not mended and no mark is under way; false, and
+    /// nothing changes, where no step is due.
+    pub fn turn(&mut self) -> bool
+        ensures due { result ≡ is_turn_due self.old }
+        ensures after { self.new ≡ (if result then mark_ordered self.old else self.old) }
+    {
+        if self.mended || self.mark != MarkState::Idle || self.next_mark > LAST_NUMBER {
+            return false;
+        }
+        self.order_mark();
+        true
+    }
+}

@@ -1,0 +1,296 @@
+//! What is owed to a die, in its order: a read, the program of a waiting page, the erase of a block
+//! to put one into.
+ghost use Rattle.std.specs.Prelude.{◌≡◌, ℕ, ◌<◌, ◌≤◌, ◌+◌, IfSome, length, slice_get, Some, None, true, if◌then◌else◌, unwrap_or, count_by, find};
+ghost use Rattle.std.specs.Prelude.{OnSome, option_map, IfNone, false, position, ◌^◌};
+ghost use Rattle.std.specs.List.{list_any};
+ghost use Rattle.ufs_spec.specs.Pages.{mark_bytes, seal_page};
+ghost use Rattle.ftl_core.specs.Moves.{mark_key, group_moved, place_owed, read_started, is_erasable, is_owed_by, is_waiting, keeps, may_open, started, waiting_of, free_blocks, single_tag, state_index, state_of, with_book, with_state};
+
+use super::{Ftl, LAST_NUMBER};
+use crate::books::{
+    BlockState, Book, Flight, Group, GroupState, Looked, MarkState, Pin, ReadState, Waiting,
+};
+use page_tag::{mark_body, seal};
+use ufs_spec::{Block, Job, Key, Page, Place, Tag};
+
+/// The page of a die that a reader is owed.
+fn wanted(pins: &[Pin], die: u8) -> Option<usize>
+    ensures { result ≡ position (is_owed_by die) pins.now }
+{
+    pins.iter().position(|pin| is_owed_by(pin, die))
+}
+
+/// Whether the reader is owed the read of a page of this die.
+fn is_owed_by(pin: &Pin, die: u8) -> bool
+    ensures { result ≡ is_owed_by die pin.now }
+{
+    match pin.looked {
+        Looked::Page(stored) => pin.read == ReadState::Owed && stored.place.die == die,
+        _ => false,
+    }
+}
+
+/// Whether the reader keeps a page of the block.
+fn keeps(pin: &Pin, die: u8, block: u16) -> bool
+    ensures { result ≡ keeps die block pin.now }
+{
+    match pin.looked {
+        Looked::Page(stored) => stored.place.die == die && stored.place.block == block,
+        _ => false,
+    }
+}
+
+/// The first group whose page waits.
+fn first_waiting(groups: &[Group]) -> Option<usize>
+    ensures { result ≡ position is_waiting groups.now }
+{
+    groups
+        .iter()
+        .position(|group| group.state == GroupState::Waiting)
+}
+
+/// The tag of a page: a group of one page, or a mark.
+fn tag_of(key: Key, number: u64, frontier: u64) -> Tag
+    ensures { result ≡ single_tag key number frontier }
+{
+    Tag {
+        kind: key.kind,
+        unit: key.unit,
+        address: key.address,
+        number,
+        index: 0,
+        size: 1,
+        frontier,
+    }
+}
+
+impl Ftl {
+    /// Where the die's block stands among all blocks.
+    pub(super) fn state_index(&self, die: u8, block: u16) -> usize
+        ensures { result ≡ state_index self.now die block }
+    {
+        die as usize * self.config.numbers().blocks as usize + block as usize
+    }
+
+    /// What the block is; `Bad` where there is no such block.
+    pub(super) fn state(&self, die: u8, block: u16) -> BlockState
+        ensures { result ≡ state_of self.now die block }
+    {
+        let index = self.state_index(die, block);
+        self.states.get(index).copied().unwrap_or(BlockState::Bad)
+    }
+
+    /// Notes what the block is from now on.
+    pub(super) fn set_state(&mut self, die: u8, block: u16, state: BlockState)
+        ensures { self.new ≡ with_state self.old die block state }
+    {
+        let index = self.state_index(die, block);
+        if index < self.states.len() {
+            self.states[index] = state;
+        }
+    }
+
+    /// What is known of the die; `None` where there is no such die.
+    pub(super) fn book(&self, die: u8) -> Option<Book>
+        ensures { result ≡ slice_get self.now.books die }
+    {
+        self.books.get(die as usize).copied()
+    }
+
+    /// Notes what is known of the die from now on.
+    pub(super) fn set_book(&mut self, die: u8, book: Book)
+        ensures { self.new ≡ with_book self.old die book }
+    {
+        let index = die as usize;
+        if index < self.books.len() {
+            self.books[index] = book;
+        }
+    }
+
+    /// How many blocks of all dies are free.
+    fn free_blocks(&self) -> usize
+        ensures { result ≡ free_blocks self.now }
+    {
+        self.states
+            .iter()
+            .filter(|state| **state == BlockState::Free)
+            .count()
+    }
+
+    /// Whether a reader keeps a page of the block.
+    fn is_pinned(&self, die: u8, block: u16) -> bool
+        ensures { result ≡ list_any (keeps die block) self.now.pins }
+    {
+        self.pins.iter().any(|pin| keeps(pin, die, block))
+    }
+
+    /// Whether the block is free and no reader keeps a page of it.
+    fn is_erasable(&self, die: u8, block: u16) -> bool
+        ensures { result ≡ is_erasable self.now die block }
+    {
+        self.state(die, block) == BlockState::Free && !self.is_pinned(die, block)
+    }
+
+    /// The lowest free block of the die without a pin.
+    fn lowest_free(&self, die: u8) -> Option<u16>
+        ensures found { IfSome result (λ b. (b < self.now.numbers.blocks) × (is_erasable self.now die b ≡ true)) }
+        ensures lowest { IfSome result (λ b. (k : ℕ) → k < b → is_erasable self.now die k ≡ false) }
+        ensures none { IfNone result ((k : ℕ) → k < self.now.numbers.blocks → is_erasable self.now die k ≡ false) }
+    {
+        for block in 0..self.config.numbers().blocks {
+            if self.is_erasable(die, block) {
+                return Some(block);
+            }
+        }
+        None
+    }
+
+    /// What waits first: a mark goes before the groups, and these in order of number.
+    fn waiting(&self) -> Option<Waiting>
+        ensures what { result ≡ waiting_of self.now }
+        ensures numbered { (n : ℕ) → result ≡ Some (Waiting.Mark n) → (1 ≤ n) × (n ≤ 2 ^ 62) }
+    {
+        match self.mark {
+            MarkState::Waiting(number) => Some(Waiting::Mark(number)),
+            _ => first_waiting(self.groups.as_slice()).map(Waiting::Group),
+        }
+    }
+
+    /// Whether a block may be opened for what waits: for a group alone more than dies + 2 blocks
+    /// stay free.
+    fn may_open(&self, waiting: Waiting) -> bool
+        ensures { result ≡ may_open self.now waiting }
+    {
+        match waiting {
+            Waiting::Mark(_) => true,
+            Waiting::Group(_) => self.free_blocks() > self.books.len() + 2,
+        }
+    }
+
+    /// The read that the reader at this position is owed.
+    fn start_read(&mut self, die: u8, book: Book, index: usize) -> Option<Job>
+        ensures job { result ≡ option_map Job.Read (place_owed (slice_get self.old.pins index)) }
+        ensures after { self.new ≡ read_started self.old die book index }
+    {
+        if index >= self.pins.len() {
+            return None;
+        }
+        let pin = self.pins[index];
+        let Looked::Page(stored) = pin.looked else {
+            return None;
+        };
+        let mut started = pin;
+        started.read = ReadState::InFlight;
+        self.pins[index] = started;
+        let flight = Flight::Read {
+            place: stored.place,
+            reader: pin.reader,
+        };
+        self.set_book(
+            die,
+            Book {
+                filling: book.filling,
+                flight: Some(flight),
+            },
+        );
+        Some(Job::Read(stored.place))
+    }
+
+    /// The mark's page: the configuration and no fence.
+    fn start_mark(&mut self, die: u8, book: Book, place: Place, number: u64) -> Job
+        requires { (1 ≤ number) × (number ≤ 2 ^ 62) }
+        ensures job { result ≡ Job.Program place (seal_page (single_tag mark_key number self.old.frontier) (mark_bytes self.old.numbers None)) }
+        ensures after { self.new ≡ started (record self.old { mark = MarkState.InFlight number }) die book (Flight.Mark place) }
+    {
+        let key = Key {
+            kind: Tag::MARK,
+            unit: 0,
+            address: 0,
+        };
+        let tag = tag_of(key, number, self.frontier);
+        let body = mark_body(self.config.numbers(), None);
+        let page = seal(&tag, &body);
+        self.mark = MarkState::InFlight(number);
+        self.set_book(
+            die,
+            Book {
+                filling: book.filling,
+                flight: Some(Flight::Mark { place }),
+            },
+        );
+        Job::Program(place, page)
+    }
+
+    /// The page of the pending group at this position.
+    fn start_group(&mut self, die: u8, book: Book, place: Place, index: usize) -> Option<Job>
+        ensures none { IfNone result (self.new ≡ self.old) }
+        ensures after { OnSome result (self.new ≡ started (group_moved self.old index GroupState.InFlight) die book (Flight.Group place (self.old.frontier + index + 1))) }
+    {
+        if index >= self.groups.len() {
+            return None;
+        }
+        let number = self.frontier + index as u64 + 1;
+        let frontier = self.frontier;
+        let group = &mut self.groups[index];
+        if group.key.kind != Tag::DATA || group.key.unit > 7 {
+            return None;
+        }
+        let tag = tag_of(group.key, number, frontier);
+        let page = seal(&tag, &group.body);
+        group.state = GroupState::InFlight;
+        self.set_book(
+            die,
+            Book {
+                filling: book.filling,
+                flight: Some(Flight::Group { place, number }),
+            },
+        );
+        Some(Job::Program(place, page))
+    }
+
+    /// The erase of the lowest block that may be opened for what waits.
+    fn start_erase(&mut self, die: u8, book: Book, waiting: Waiting) -> Option<Job>
+        ensures none { IfNone result (self.new ≡ self.old) }
+    {
+        if !self.may_open(waiting) {
+            return None;
+        }
+        let block = self.lowest_free(die)?;
+        self.set_book(
+            die,
+            Book {
+                filling: book.filling,
+                flight: Some(Flight::Erase { block }),
+            },
+        );
+        Some(Job::Erase { die, block })
+    }
+
+    /// The next job of the die, which is then in flight: a read that a reader is owed, else the
+    /// program of the first waiting page, else the erase of a block to put it into. `None` where the
+    /// die is not one of the device, has a job in flight, or is owed nothing.
+    pub fn take(&mut self, die: u8) -> Option<Job>
+        ensures nothing { IfNone result (self.new ≡ self.old) }
+    {
+        let book = self.book(die)?;
+        if book.flight.is_some() {
+            return None;
+        }
+        if let Some(index) = wanted(self.pins.as_slice(), die) {
+            return self.start_read(die, book, index);
+        }
+        let waiting = self.waiting()?;
+        let Some(open) = book.filling else {
+            return self.start_erase(die, book, waiting);
+        };
+        let place = Place {
+            die,
+            block: open.block,
+            page: open.next,
+        };
+        match waiting {
+            Waiting::Mark(number) => Some(self.start_mark(die, book, place, number)),
+            Waiting::Group(index) => self.start_group(die, book, place, index),
+        }
+    }
+}

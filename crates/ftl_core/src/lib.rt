@@ -1,0 +1,12 @@
+//! The translation layer: where the content of each address stands, which groups of pages are still
+//! to be programmed, and which job each die gets next. It knows places and tags, and no messages.
+#![tactic(auto)]
+
+mod books;
+mod ftl;
+
+pub use books::{
+    BlockState, Book, Flight, Group, GroupState, Looked, MarkState, OpenBlock, Pin, ReadState,
+    Stored, Waiting,
+};
+pub use ftl::{Ended, Ftl};

@@ -1,0 +1,238 @@
+//! A die whose pages are kept in memory.
+ghost use Rattle.std.specs.Prelude.{◌≡◌, ◌<◌, ◌↔◌, IfOk, IsOk, IsTrue, length, replicate, slice_set, slice_index_or};
+ghost use Rattle.ufs_spec.specs.Dies.{DieState, HasPage, CanProgram, CanErase, CanDo, page_at, is_bad_block, with_page, with_bad, programmed, erased, power_cycle_ended, blank_page, IsNewDie, IsOfSize};
+
+use crate::die::{Die, DieFault};
+use std::alloc::Global;
+use std::marker::Model;
+use ufs_spec::{Job, NoMemory, Page};
+
+/// How many jobs of a die in memory fail.
+const NO_FAILURES: u64 = 0;
+
+/// The pages of one block.
+#[derive(Drop)]
+struct MemBlock {
+    pages: Vec<Page>,
+}
+
+impl Model for MemBlock {
+    ghost use Rattle.std.specs.Prelude.{List};
+    ghost use Rattle.ufs_spec.specs.declared.flash.Page.{Page};
+
+    ghost Value = { List Page };
+
+    ghost view = { λ b. b.pages.items };
+}
+
+/// A page of which all bytes are FFh.
+#[tactic(auto, unfolding(ufs_spec::specs::Dies::blank_page))]
+fn blank() -> Page
+    ensures { result ≡ blank_page }
+{
+    Page {
+        body: [0xFF; 4096],
+        spare: [0xFF; 96],
+    }
+}
+
+/// The value, so many times.
+fn repeated<T: Copy>(alloc: Global, value: T, count: u16) -> Result<Vec<T>, NoMemory>
+    ensures { IfOk result (λ all. all.items ≡ replicate count value) }
+{
+    let mut all = Vec::with_capacity(alloc, count as usize).map_err(|_| NoMemory)?;
+    for _ in 0..count {
+        all.push(value).map_err(|_| NoMemory)?;
+    }
+    Ok(all)
+}
+
+/// Blocks of blank pages.
+fn blank_blocks(alloc: Global, blocks: u16, pages: u16) -> Result<Vec<MemBlock>, NoMemory>
+    ensures { IfOk result (λ all. all.items ≡ replicate blocks (replicate pages blank_page)) }
+{
+    let mut all = Vec::with_capacity(alloc, blocks as usize).map_err(|_| NoMemory)?;
+    for _ in 0..blocks {
+        let block = MemBlock {
+            pages: repeated(alloc, blank(), pages)?,
+        };
+        all.push(block).map_err(|_| NoMemory)?;
+    }
+    Ok(all)
+}
+
+impl MemBlock {
+    fn page(&self, page: usize) -> &Page
+        requires { page < length self.now }
+        ensures { result.now ≡ slice_index_or self.now page blank_page }
+    {
+        &self.pages[page]
+    }
+
+    fn set_page(&mut self, page: usize, content: &Page)
+        requires { page < length self.old }
+        ensures { self.new ≡ slice_set self.old page content.now }
+    {
+        self.pages[page] = *content;
+    }
+
+    fn erase(&mut self)
+        ensures { self.new ≡ replicate (length self.old) blank_page }
+    {
+        self.pages.fill(blank());
+    }
+}
+
+/// A die in memory. Its jobs never fail by themselves.
+#[derive(Drop)]
+pub struct MemDie {
+    page_count: u16,
+    blocks: Vec<MemBlock>,
+    ready: Vec<Option<u16>>,
+    bad: Vec<bool>,
+}
+
+impl Model for MemDie {
+    ghost use Rattle.std.specs.Prelude.{◌≡◌, ◌<◌, ◌^◌, length};
+    ghost use Rattle.std.specs.List.{All};
+    ghost use Rattle.ufs_spec.specs.Dies.{DieState};
+
+    ghost Value = { DieState };
+
+    ghost view = { λ d. record { blocks = d.blocks.items; ready = d.ready.items; bad = d.bad.items } };
+
+    ghost invariant = { λ d.
+        (length d.blocks.items < 2 ^ 16)
+        × All (λ block. length block ≡ d.page_count) d.blocks.items
+        × (length d.ready.items ≡ length d.blocks.items)
+        × (length d.bad.items ≡ length d.blocks.items) };
+}
+
+impl MemDie {
+    /// A new die: all bytes are FFh, no block is bad, and none may be programmed before an erase.
+    pub fn new(alloc: Global, blocks: u16, pages: u16) -> Result<MemDie, NoMemory>
+        ensures { IfOk result (λ die. IsNewDie blocks pages die) }
+    {
+        Ok(MemDie {
+            page_count: pages,
+            blocks: blank_blocks(alloc, blocks, pages)?,
+            ready: repeated(alloc, None, blocks)?,
+            bad: repeated(alloc, false, blocks)?,
+        })
+    }
+
+    /// What the page holds.
+    pub fn page_at(&self, block: u16, page: u16) -> &Page
+        requires { HasPage self.now block page }
+        ensures { result.now ≡ page_at self.now block page }
+    {
+        self.blocks[block as usize].page(page as usize)
+    }
+
+    /// Writes the page, as a stop, a failure or an image leaves it. All else stays.
+    pub fn set_page(&mut self, block: u16, page: u16, left: &Page)
+        requires { HasPage self.old block page }
+        ensures { self.new ≡ with_page self.old block page left.now }
+    {
+        self.blocks[block as usize].set_page(page as usize, left);
+    }
+
+    /// Makes the block bad: none of its pages may be programmed from now on. All else stays.
+    pub fn set_bad(&mut self, block: u16)
+        requires { block < length self.old.blocks }
+        ensures { self.new ≡ with_bad self.old block }
+    {
+        self.bad[block as usize] = true;
+        self.ready[block as usize] = None;
+    }
+
+    /// Ends the power cycle: no block may be programmed before an erase. All else stays.
+    pub fn end_power_cycle(&mut self)
+        ensures { self.new ≡ power_cycle_ended self.old }
+    {
+        self.ready.fill(None);
+    }
+
+    fn has_page(&self, block: u16, page: u16) -> bool
+        ensures { IsTrue result ↔ HasPage self.now block page }
+    {
+        (block as usize) < self.blocks.len() && page < self.pages()
+    }
+
+    /// Whether the job may be asked of the die.
+    pub fn can_do(&self, job: &Job) -> bool
+        ensures { IsTrue result ↔ CanDo self.now job.now }
+    {
+        match job {
+            Job::Read(place) => self.has_page(place.block, place.page),
+            Job::Program(place, _) => {
+                self.has_page(place.block, place.page)
+                    && !self.bad[place.block as usize]
+                    && self.ready[place.block as usize] == Some(place.page)
+            }
+            Job::Erase { die: _, block } => {
+                (*block as usize) < self.blocks.len() && !self.bad[*block as usize]
+            }
+        }
+    }
+}
+
+impl Die for MemDie {
+    ghost state = { λ die. die };
+
+    ghost failed = { λ die. 0 };
+
+    fn blocks(&self) -> u16
+        ensures { result ≡ length self.now.blocks }
+    {
+        self.blocks.len() as u16
+    }
+
+    fn pages(&self) -> u16
+        ensures { IsOfSize (length self.now.blocks) result self.now }
+    {
+        self.page_count
+    }
+
+    fn read(&mut self, block: u16, page: u16, into: &mut Page) -> Result<(), DieFault>
+        requires { HasPage self.old block page }
+        ensures never_fails { IsOk result }
+        ensures same { self.new ≡ self.old }
+        ensures found { into.new ≡ page_at self.old block page }
+    {
+        *into = *self.page_at(block, page);
+        Ok(())
+    }
+
+    fn program(&mut self, block: u16, page: u16, content: &Page) -> Result<(), DieFault>
+        requires { CanProgram self.old block page }
+        ensures never_fails { IsOk result }
+        ensures done { self.new ≡ programmed self.old block page content.now }
+    {
+        self.blocks[block as usize].set_page(page as usize, content);
+        self.ready[block as usize] = Some(page + 1);
+        Ok(())
+    }
+
+    fn erase(&mut self, block: u16) -> Result<(), DieFault>
+        requires { CanErase self.old block }
+        ensures never_fails { IsOk result }
+        ensures done { self.new ≡ erased self.old block }
+    {
+        self.blocks[block as usize].erase();
+        self.ready[block as usize] = Some(0);
+        Ok(())
+    }
+
+    fn is_bad(&self, block: u16) -> bool
+        ensures { result ≡ is_bad_block self.now block }
+    {
+        (block as usize) < self.bad.len() && self.bad[block as usize]
+    }
+
+    fn failures(&self) -> u64
+        ensures { result ≡ 0 }
+    {
+        NO_FAILURES
+    }
+}

@@ -1,0 +1,38 @@
+//! How a job is done on its die.
+ghost use Rattle.std.specs.Prelude.{◌≡◌, MatchResult};
+ghost use Rattle.ufs_spec.specs.Dies.{CanDo, Did};
+
+use crate::die::{Die, DieFault};
+use ufs_spec::{Job, Outcome, Page};
+
+/// How a program or an erase ended.
+fn ending(ended: Result<(), DieFault>) -> Outcome
+    ensures { MatchResult ended (λ _. result ≡ Outcome.Done) (λ _. result ≡ Outcome.Failed) }
+{
+    match ended {
+        Ok(_) => Outcome::Done,
+        Err(_) => Outcome::Failed,
+    }
+}
+
+/// Does the job on the die, which is the one that the job names. `Failed` and `ReadFailed` come only
+/// where the die's count of failures rose.
+pub fn work<D: Die>(die: &mut D, job: &Job) -> Outcome
+    requires { CanDo (D.state die.old) job.now }
+    ensures { Did (D.failed die.old) (D.failed die.new) (D.state die.old) job.now result (D.state die.new) }
+{
+    match job {
+        Job::Read(place) => {
+            let mut found = Page {
+                body: [0; 4096],
+                spare: [0; 96],
+            };
+            match die.read(place.block, place.page, &mut found) {
+                Ok(_) => Outcome::Read(found),
+                Err(_) => Outcome::ReadFailed,
+            }
+        }
+        Job::Program(place, page) => ending(die.program(place.block, place.page, page)),
+        Job::Erase { die: _, block } => ending(die.erase(*block)),
+    }
+}

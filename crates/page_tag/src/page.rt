@@ -1,0 +1,65 @@
+//! Sealed pages.
+ghost use Rattle.std.specs.Prelude.{◌≡◌, ◌↔◌, ℕ, List, IfSome, IsTrue, None, Some};
+ghost use Rattle.ufs_spec.specs.Pages.{IsTag, MayBeLeft, seal_page};
+ghost use Rattle.ufs_spec.specs.declared.flash.Tag.{Tag};
+
+use crate::check::{check_bytes, is_check_right};
+use crate::front::{front_of, is_tag, tag_of};
+use ufs_spec::{Block, Opened, Page, Tag};
+
+/// The page of a tag and a block. It takes one SHA-256.
+pub fn seal(tag: &Tag, body: &Block) -> Page
+    requires { IsTag tag.now }
+    ensures { result ≡ seal_page tag.now body.now }
+{
+    let front = front_of(tag);
+    let check = check_bytes(body, &front);
+    let mut spare = [0; 96];
+    spare[..64].copy_from_slice(&front);
+    spare[64..].copy_from_slice(&check);
+    Page { body: *body, spare }
+}
+
+/// The tag and the block of a page that `seal` could have made. `None` is for every other page: where
+/// magic, version, check or a byte that must be zero is wrong, or a field is out of its range. It takes
+/// one SHA-256, and none where the first 64 spare bytes are wrong already.
+pub fn open(page: &Page) -> Option<Opened>
+    ensures sealed { IfSome result (λ o. IsTag o.tag × (page.now ≡ seal_page o.tag o.body)) }
+    ensures refused { result ≡ None → (t : Tag) (b : List ℕ) → IsTag t → ¬ (page.now ≡ seal_page t b) }
+{
+    let tag = tag_of(&page.spare);
+    if !is_tag(&tag) {
+        return None;
+    }
+    let front = front_of(&tag);
+    if front[..] != page.spare[..64] || !is_check_right(page) {
+        return None;
+    }
+    Some(Opened {
+        tag,
+        body: page.body,
+    })
+}
+
+/// Whether a stop or a failed job may leave `after` of a page that was to become `intended` and was
+/// `before`: either of them, or any page whose check fails. It takes one SHA-256, and none where `after`
+/// is one of the two.
+pub fn leftover_ok(before: &Page, intended: &Page, after: &Page) -> bool
+    ensures { IsTrue result ↔ MayBeLeft before.now intended.now after.now }
+{
+    after == before || after == intended || !is_check_right(after)
+}
+
+/// A law, which nothing calls: a sealed page opens to the tag and the block that it was sealed with.
+pub fn reopened(tag: &Tag, body: &Block) -> Option<Opened>
+    requires { IsTag tag.now }
+    ensures { result ≡ Some (record { tag = tag.now; body = body.now }) }
+{
+    open(&seal(tag, body))
+}
+
+/// A law, which nothing calls: one page seals one tag and one block.
+pub fn one_seal()
+    ensures tag { (t u : Tag) (b d : List ℕ) → IsTag t → IsTag u → seal_page t b ≡ seal_page u d → t ≡ u }
+    ensures block { (t u : Tag) (b d : List ℕ) → seal_page t b ≡ seal_page u d → b ≡ d }
+{}

@@ -1,0 +1,2 @@
+pub mod ConfigFacts
+pub mod PlainFacts

@@ -1,0 +1,105 @@
+-- What writes leave of the units, and that commands keep the shape.
+use Rattle.std.proofs.Common.{◌≡◌, ℕ, ◌+◌, ◌*◌, ◌<◌, ◌≤◌, List, [], ◌∷◌, ◌++◌, All, length, drop, map, replicate, get_or, slice_index_or, slice_set, refl, sym, ap, ◌∙◌, subst, arith, drop-cons, append_assoc, add-one, suc}
+use Rattle.std.proofs.Math.ListN.{set}
+use Rattle.std.proofs.lemmas.List.{length-map, length-replicate, map-set, get_or-map, set-get_or, set_at, set_split, with_items_is}
+use Rattle.std.proofs.lemmas.Grind.{common_steps, replicate_next}
+use Rattle.std.specs.Vec.{with_items}
+use Rattle.std.specs.declared.vec.Vec.{Vec}
+use Rattle.ufs_spec.specs.declared.configs.UnitSpec.{UnitSpec}
+use Rattle.ufs_spec.specs.declared.configs.Numbers.{Numbers}
+use Rattle.ufs_spec.specs.declared.commands.Cmd.{Cmd}
+use Rattle.ufs_spec.specs.declared.commands.Cmd.TheVariants.{Write, Zero, Key, RpmbWrite, SetBoot, SetPermanent}
+use Rattle.ufs_spec.specs.Plain.{Plain, zero_block, zero_area, area_len, zero, with_part, apply, after, Shape, shape_of, shape_of_numbers, LiesWithin}
+
+-- Lists
+
+-- one more of the same over the front of a list
+pub fill_next : {X : Type 0} (n : ℕ) (v : X) (xs : List X) → n < length xs → set (replicate n v ++ drop n xs) n v ≡ replicate (n + 1) v ++ drop (n + 1) xs
+fill_next n v xs lt =
+    let front = replicate n v in
+    let step = drop-cons xs n v lt in
+    let written = set_at front (get_or xs n v) (drop (suc n) xs) v n (length-replicate n v) in
+    let more = replicate_next n v in
+    let joined = append_assoc front (v ∷ []) (drop (suc n) xs) in
+    let next = add-one n in
+    ap (λ ys. set (front ++ ys) n v) step ∙ (written ∙ (sym joined ∙ cc))
+
+-- a part of one element is that element set
+pub one_part : {X : Type 0} (at : ℕ) (v : X) (xs : List X) → at < length xs → set xs at v ≡ with_part at (v ∷ []) xs
+one_part at v xs lt = grind (arith, common_steps, set_split)
+
+pub length-with_part : {X : Type 0} (at : ℕ) (new old : List X) → at + length new ≤ length old → length (with_part at new old) ≡ length old
+length-with_part at new old within = grind (arith, common_steps)
+
+-- Units
+
+-- the blocks of a unit are those in its vector
+pub unit_items : {X Z : Type 0} (units : List (Vec X Z)) (unit : ℕ) (v : Vec X Z) → unit < length (map (λ (b : Vec X Z). b.items) units) → v ≡ get_or units unit v → get_or (map (λ (b : Vec X Z). b.items) units) unit [] ≡ v.items
+unit_items {X} {Z} units unit v there here =
+    let lt : unit < length units = omega (arith, length-map units (λ (b : Vec X Z). b.items)) in
+    let at = get_or-map (λ (b : Vec X Z). b.items) units unit v [] lt in
+    cc
+
+-- the vectors of blocks with one replaced, each as its list
+pub put_unit : {X Z : Type 0} (units : List (Vec X Z)) (unit : ℕ) (v w : Vec X Z) (new : List X → List X) → unit < length (map (λ (b : Vec X Z). b.items) units) → v ≡ get_or units unit v → w.items ≡ new v.items → map (λ (b : Vec X Z). b.items) (set units unit w) ≡ set (map (λ (b : Vec X Z). b.items) units) unit (new (get_or (map (λ (b : Vec X Z). b.items) units) unit []))
+put_unit {X} {Z} units unit v w new there here e =
+    let at = unit_items units unit v there here in
+    let changed = map-set (λ (b : Vec X Z). b.items) units unit w in
+    cc
+
+-- a vector of blocks after a write through its slice
+pub put_blocks : {X Z : Type 0} (v : Vec X Z) (slice written : List X) (new : List X → List X) → slice ≡ v.items → length slice ≡ v.len → length written ≡ length slice → written ≡ new slice → (with_items v written).items ≡ new v.items
+put_blocks v slice written new same len kept e = with_items_is v written (omega arith) ∙ (e ∙ ap new same)
+
+-- Shapes
+
+pub new_blocks : (units : List UnitSpec) → map length (map (λ u. replicate u.blocks zero_block) units) ≡ map (λ u. u.blocks) units
+new_blocks [] = refl
+new_blocks (u ∷ us) =
+    let first = length-replicate u.blocks zero_block in
+    let rest = new_blocks us in
+    cc
+
+pub new_area : (n : Numbers) → length (zero_area n) ≡ area_len n
+unfolding zero_area
+new_area n = length-replicate (area_len n) 0
+
+pub new_shape : (n : Numbers) → shape_of (zero n) ≡ shape_of_numbers n
+new_shape n =
+    let blocks = new_blocks n.units.items in
+    let area = new_area n in
+    cc
+
+-- a part that lies within a unit changes no count of blocks
+pub kept_blocks : (units : List (List (List ℕ))) (unit address : ℕ) (blocks : List (List ℕ)) → unit < length (map length units) → address + length blocks ≤ slice_index_or (map length units) unit 0 → map length (slice_set units unit (with_part address blocks (slice_index_or units unit []))) ≡ map length units
+kept_blocks units unit address blocks there within =
+    let old = slice_index_or units unit [] in
+    let lt : unit < length units = omega (arith, length-map units length) in
+    let at = get_or-map length units unit [] 0 lt in
+    let len = length-with_part address blocks old (omega (arith, at)) in
+    let changed = map-set length units unit (with_part address blocks old) in
+    let same = set-get_or (map length units) unit 0 in
+    cc
+
+pub kept_shape : (p : Plain) (c : Cmd) → LiesWithin (shape_of p) c → shape_of (apply p c) ≡ shape_of p
+kept_shape p (Write unit address blocks) within =
+    let same = kept_blocks p.units unit address blocks.items within.0 within.3 in
+    cc
+kept_shape p (Zero unit address count) within =
+    let len = length-replicate count zero_block in
+    let same = kept_blocks p.units unit address (replicate count zero_block) within.0 (omega (arith, within.3, len)) in
+    cc
+kept_shape p (Key bytes) within = refl
+kept_shape p (RpmbWrite address bytes) within =
+    let same = length-with_part (256 * address) bytes.items p.area within.1 in
+    cc
+kept_shape p (SetBoot boot) within = refl
+kept_shape p SetPermanent within = refl
+
+pub kept_shapes : (p : Plain) (cs : List Cmd) → All (LiesWithin (shape_of p)) cs → shape_of (after p cs) ≡ shape_of p
+kept_shapes p [] within = refl
+kept_shapes p (c ∷ cs) within =
+    let kept = kept_shape p c (within 0 c (omega (arith, refl {a = length (c ∷ cs)}))) in
+    let P : Shape → Type 0 = λ s. All (LiesWithin s) cs in
+    let rest : All (LiesWithin (shape_of p)) cs = λ k d lt. within (suc k) d (omega arith) in
+    kept_shapes (apply p c) cs (subst P (sym kept) rest) ∙ kept

@@ -1,0 +1,117 @@
+-- Which numbers make a configuration (this profile).
+use Rattle.std.specs.Prelude.{◌≡◌, ℕ, ◌+◌, ◌-◌, ◌*◌, ◌≤◌, ◌==◌, nat_lt, nat_le, ◌&&◌, ◌||◌, Bool, true, false, List, All, sum_by, count_by, Option, Some, None, not}
+use Rattle.std.specs.List.{list_all}
+use Rattle.std.specs.Int.{div_ceil}
+use Rattle.arrayvec.specs.ArrayVec.{array_vec_len}
+use Rattle.ufs_spec.specs.declared.configs.UnitSpec.{UnitSpec}
+use Rattle.ufs_spec.specs.declared.configs.Numbers.{Numbers}
+use Rattle.ufs_spec.specs.declared.faults.ConfigFault.{ConfigFault}
+use Rattle.ufs_spec.specs.declared.faults.ConfigFault.TheVariants.{Range, TooLittleSpare, TwoBootUnits}
+
+-- the numbers by name, in the order in which a configuration lists them
+abbrev pub numbers_of : ℕ → ℕ → ℕ → List UnitSpec → ℕ → ℕ → ℕ → Numbers
+numbers_of dies blocks pages units rpmb slots spare =
+    record { dies = dies; blocks = blocks; pages = pages; units = record { items = units }; rpmb = rpmb; slots = slots; spare = spare }
+
+-- Ranges
+
+-- whether a number lies between low and high, both included
+abbrev pub is_between : ℕ → ℕ → ℕ → Bool
+is_between low high n = nat_le low n && nat_le n high
+
+-- whether a unit has 1 to 2,097,152 blocks (8 GiB), a boot number 0 to 2, and one of three ways of protection
+abbrev pub unit_in_range : UnitSpec → Bool
+unit_in_range u = is_between 1 2097152 u.blocks && is_between 0 2 u.boot && is_between 0 2 u.protect
+
+-- whether each number is in its range
+abbrev pub in_range : Numbers → Bool
+in_range n =
+    is_between 1 8 n.dies
+    && is_between 16 1024 n.blocks
+    && is_between 16 256 n.pages
+    && is_between 1 8 (array_vec_len n.units)
+    && list_all unit_in_range n.units.items
+    && is_between 1 8 n.rpmb
+    && is_between 64 1024 n.slots
+    && is_between 0 (n.dies * n.blocks) n.spare
+
+-- Room
+
+-- the blocks of all units
+abbrev pub unit_blocks : Numbers → ℕ
+unit_blocks n = sum_by (λ u. u.blocks) n.units.items
+
+-- how many pages hold everything once: a page for each block of a unit and for each 4096 bytes of the RPMB
+-- area, and two for the settings
+abbrev pub pages_kept : Numbers → ℕ
+pages_kept n = unit_blocks n + 32 * n.rpmb + 2
+
+-- the blocks that hold all pages and four times the slots, and four for each die and eight to collect with
+abbrev pub blocks_needed : Numbers → ℕ
+blocks_needed n = div_ceil (pages_kept n + 4 * n.slots) n.pages + 4 * n.dies + 8
+
+-- the blocks that are left when all spare ones have gone bad
+abbrev pub blocks_left : Numbers → ℕ
+blocks_left n = n.dies * n.blocks - n.spare
+
+abbrev pub has_too_little_spare : Numbers → Bool
+has_too_little_spare n = nat_lt (blocks_left n) (blocks_needed n)
+
+-- Boot numbers
+
+-- how many units have the boot number
+abbrev pub boot_count : ℕ → Numbers → ℕ
+boot_count boot n = count_by (λ u. u.boot == boot) n.units.items
+
+abbrev pub has_two_boot_units : Numbers → Bool
+has_two_boot_units n = nat_lt 1 (boot_count 1 n) || nat_lt 1 (boot_count 2 n)
+
+-- Why numbers are no configuration
+
+-- the first of these that holds
+abbrev pub first_fault : Bool → Bool → Bool → Option ConfigFault
+first_fault true little two = Some Range
+first_fault false true two = Some TooLittleSpare
+first_fault false false true = Some TwoBootUnits
+first_fault false false false = None
+
+abbrev pub config_fault : Numbers → Option ConfigFault
+config_fault n = first_fault (not (in_range n)) (has_too_little_spare n) (has_two_boot_units n)
+
+-- numbers without a fault
+abbrev pub IsConfig : Numbers → Type 0
+IsConfig n = config_fault n ≡ None
+
+-- What a caller may rely on
+
+-- the ranges of one unit
+pub record UnitInRange (u : UnitSpec) : Type 0 where
+  pub has_block : 1 ≤ u.blocks
+  pub blocks_bound : u.blocks ≤ 2097152
+  pub boot_bound : u.boot ≤ 2
+  pub protect_bound : u.protect ≤ 2
+
+-- the ranges of all numbers
+pub record InRange (n : Numbers) : Type 0 where
+  pub has_die : 1 ≤ n.dies
+  pub dies_bound : n.dies ≤ 8
+  pub has_blocks : 16 ≤ n.blocks
+  pub blocks_bound : n.blocks ≤ 1024
+  pub has_pages : 16 ≤ n.pages
+  pub pages_bound : n.pages ≤ 256
+  pub has_unit : 1 ≤ array_vec_len n.units
+  pub units_bound : array_vec_len n.units ≤ 8
+  pub each_unit : All UnitInRange n.units.items
+  pub has_rpmb : 1 ≤ n.rpmb
+  pub rpmb_bound : n.rpmb ≤ 8
+  pub has_slots : 64 ≤ n.slots
+  pub slots_bound : n.slots ≤ 1024
+  pub spare_bound : n.spare ≤ n.dies * n.blocks
+
+-- the dies have a page for each block of a unit
+abbrev pub HasRoom : Numbers → Type 0
+HasRoom n = unit_blocks n ≤ n.dies * n.blocks * n.pages
+
+-- no two units have the same boot number, but 0
+abbrev pub HasOneBootUnitEach : Numbers → Type 0
+HasOneBootUnitEach n = (boot_count 1 n ≤ 1) × (boot_count 2 n ≤ 1)

@@ -1,0 +1,206 @@
+-- The grammar of UPIUs, the messages between a host and a device (JESD220, 10.5 to 10.7): the one spelling of each
+-- message, and what is wrong with bytes that spell none.
+use Rattle.std.specs.Prelude.{◌⊎◌, ◌≡◌, ◌≢◌, ◌<◌, ◌≤◌, ◌+◌, ◌-◌, ◌%◌, ◌^◌, ◌==◌, ◌&&◌, ◌||◌, not, ℕ, Bool, true, false, IsTrue, List, [], ◌∷◌, ◌++◌, length, replicate, slice_index, bit_and, nat_lt, if◌then◌else◌, Option, Some, None}
+use Rattle.byteorder.specs.Endian.{big_bytes}
+use Rattle.ufs_spec.specs.Fields.{field_at}
+use Rattle.ufs_spec.specs.declared.messages.Asked.{Asked}
+use Rattle.ufs_spec.specs.declared.messages.Message.{Message}
+use Rattle.ufs_spec.specs.declared.messages.Message.TheVariants.{NopOut, Command, DataOut, TaskRequest, QueryRequest, NopIn, Response, DataIn, TaskResponse, ReadyToTransfer, QueryResponse}
+use Rattle.ufs_spec.specs.declared.faults.HostFault.{HostFault}
+use Rattle.ufs_spec.specs.declared.faults.HostFault.TheVariants.{Short, Length, Digest, Ehs, Code}
+
+-- ## The spelling
+
+-- some zero bytes
+abbrev pub zeros : ℕ → List ℕ
+zeros n = replicate n 0
+
+-- how many zero bytes pad n bytes to a multiple of four
+abbrev pub padding : ℕ → ℕ
+padding n = (4 - n % 4) % 4
+
+-- the 32 bytes of a header (JESD220, 10.6.2): transaction code, flags, LUN and task tag in bytes 0..3; command set
+-- type 0, function, response and status in bytes 4..7; no extra header segment and no device information in bytes
+-- 8 and 9; the data segment's length in bytes 10..11; the transaction's own fields in bytes 12..31
+abbrev pub header : (code flags lun tag function response status segment : ℕ) → List ℕ → List ℕ
+header code flags lun tag function response status segment fields =
+    (code ∷ flags ∷ lun ∷ tag ∷ 0 ∷ function ∷ response ∷ status ∷ 0 ∷ 0 ∷ [])
+    ++ big_bytes 2 segment ++ fields
+
+-- the fields of a transfer: an offset and a count of bytes
+abbrev pub transfer : ℕ → ℕ → List ℕ
+transfer offset count = big_bytes 4 offset ++ big_bytes 4 count ++ zeros 12
+
+-- the fields of a query: what is asked, a length and a value
+abbrev pub query : Asked → ℕ → ℕ → List ℕ
+query asked size value =
+    (asked.opcode ∷ asked.idn ∷ asked.index ∷ asked.selector ∷ 0 ∷ 0 ∷ [])
+    ++ big_bytes 2 size ++ big_bytes 4 value ++ zeros 8
+
+-- the sense data that there are
+abbrev pub sense_of : Option (List ℕ) → List ℕ
+sense_of None = []
+sense_of (Some sense) = sense
+
+-- the data segment of a message
+abbrev pub segment_of : Message → List ℕ
+segment_of (DataOut lun tag offset «data») = «data».items
+segment_of (QueryRequest tag function asked size value «data») = «data».items
+segment_of (Response flags lun tag response status residual sense) = sense_of sense
+segment_of (DataIn lun tag offset «data») = «data».items
+segment_of (QueryResponse tag function response asked size value «data») = «data».items
+segment_of message = []
+
+-- the 32 bytes of a message's header (JESD220, 10.7)
+abbrev pub header_of : Message → List ℕ
+header_of (NopOut tag) = header 0x00 0 0 tag 0 0 0 0 (zeros 20)
+header_of (Command flags lun tag expected cdb) = header 0x01 flags lun tag 0 0 0 0 (big_bytes 4 expected ++ cdb)
+header_of (DataOut lun tag offset «data») =
+    header 0x02 0 lun tag 0 0 0 (length «data».items) (transfer offset (length «data».items))
+header_of (TaskRequest lun tag function meant) =
+    header 0x04 0 lun tag function 0 0 0 (zeros 3 ++ (lun ∷ []) ++ zeros 3 ++ (meant ∷ []) ++ zeros 12)
+header_of (QueryRequest tag function asked size value «data») =
+    header 0x16 0 0 tag function 0 0 (length «data».items) (query asked size value)
+header_of (NopIn tag) = header 0x20 0 0 tag 0 0 0 0 (zeros 20)
+header_of (Response flags lun tag response status residual sense) =
+    header 0x21 flags lun tag 0 response status (length (sense_of sense)) (big_bytes 4 residual ++ zeros 16)
+header_of (DataIn lun tag offset «data») =
+    header 0x22 0 lun tag 0 0 0 (length «data».items) (transfer offset (length «data».items))
+header_of (TaskResponse lun tag service) =
+    header 0x24 0 lun tag 0 0 0 0 (zeros 3 ++ (service ∷ []) ++ zeros 16)
+header_of (ReadyToTransfer lun tag offset count) = header 0x31 0 lun tag 0 0 0 0 (transfer offset count)
+header_of (QueryResponse tag function response asked size value «data») =
+    header 0x36 0 0 tag function response 0 (length «data».items) (query asked size value)
+
+-- the one spelling of a message: its header, and its data segment, padded with zeros to a multiple of four
+abbrev pub spelling : Message → List ℕ
+spelling message = header_of message ++ segment_of message ++ zeros (padding (length (segment_of message)))
+
+-- ## The sets and widths of the fields
+
+-- whether a number is one of these
+abbrev pub is_among : List ℕ → ℕ → Bool
+is_among [] n = false
+is_among (x ∷ xs) n = (n == x) || is_among xs n
+
+-- a number is one of these
+abbrev pub IsAmong : List ℕ → ℕ → Type 0
+IsAmong set n = IsTrue (is_among set n)
+
+-- a number fits a byte
+abbrev pub IsByte : ℕ → Type 0
+IsByte n = n < 2 ^ 8
+
+-- all numbers of a list fit a byte
+abbrev pub AreBytes : List ℕ → Type 0
+AreBytes bytes = (place : ℕ) → IsByte (slice_index bytes place)
+
+-- of a COMMAND: no data, write or read; of a RESPONSE: as expected, underflow or overflow
+abbrev pub AreFlags : ℕ → Type 0
+AreFlags flags = IsAmong (0x00 ∷ 0x20 ∷ 0x40 ∷ []) flags
+
+-- the data of a transfer: 1 to 4096 bytes
+abbrev pub IsTransferred : List ℕ → Type 0
+IsTransferred bytes = (1 ≤ length bytes) × (length bytes ≤ 4096) × AreBytes bytes
+
+-- a query's function: standard read or standard write
+abbrev pub IsQueryFunction : ℕ → Type 0
+IsQueryFunction function = IsAmong (0x01 ∷ 0x81 ∷ []) function
+
+-- the fields of a query
+abbrev pub IsQuery : Asked → ℕ → ℕ → Type 0
+IsQuery asked size value =
+    IsByte asked.opcode × IsByte asked.idn × IsByte asked.index × IsByte asked.selector
+    × (size < 2 ^ 16) × (value < 2 ^ 32)
+
+-- 20 bytes of sense data are there exactly with the status CHECK CONDITION
+abbrev pub IsSense : ℕ → Option (List ℕ) → Type 0
+IsSense status None = status ≢ 0x02
+IsSense status (Some sense) = (status ≡ 0x02) × (length sense ≡ 20) × AreBytes sense
+
+-- the fields of a message are in their sets and fit their widths (JESD220, 10.7). Data go with a QUERY REQUEST of
+-- opcode 2 (write descriptor) alone, and with a QUERY RESPONSE of opcode 1 (read descriptor) and response 0 alone
+abbrev pub IsMessage : Message → Type 0
+IsMessage (NopOut tag) = IsByte tag
+IsMessage (Command flags lun tag expected cdb) =
+    AreFlags flags × IsByte lun × IsByte tag × (expected < 2 ^ 32) × (length cdb ≡ 16) × AreBytes cdb
+IsMessage (DataOut lun tag offset «data») =
+    IsByte lun × IsByte tag × (offset < 2 ^ 32) × IsTransferred «data».items
+IsMessage (TaskRequest lun tag function meant) = IsByte lun × IsByte tag × IsByte function × IsByte meant
+IsMessage (QueryRequest tag function asked size value «data») =
+    IsByte tag × IsQueryFunction function × IsQuery asked size value
+    × (length «data».items ≤ 4096) × AreBytes «data».items × (asked.opcode ≢ 0x02 → «data».items ≡ [])
+IsMessage (NopIn tag) = IsByte tag
+IsMessage (Response flags lun tag response status residual sense) =
+    AreFlags flags × IsByte lun × IsByte tag × IsAmong (0x00 ∷ 0x01 ∷ []) response
+    × IsAmong (0x00 ∷ 0x02 ∷ 0x08 ∷ 0x28 ∷ []) status × (residual < 2 ^ 32) × IsSense status sense
+IsMessage (DataIn lun tag offset «data») =
+    IsByte lun × IsByte tag × (offset < 2 ^ 32) × IsTransferred «data».items
+IsMessage (TaskResponse lun tag service) = IsByte lun × IsByte tag × IsByte service
+IsMessage (ReadyToTransfer lun tag offset count) = IsByte lun × IsByte tag × (offset < 2 ^ 32) × (count < 2 ^ 32)
+IsMessage (QueryResponse tag function response asked size value «data») =
+    IsByte tag × IsQueryFunction function × IsByte response × IsQuery asked size value
+    × (length «data».items ≤ 4096) × AreBytes «data».items × ((asked.opcode ≡ 0x01) × (response ≡ 0x00) ⊎ («data».items ≡ []))
+
+-- the bytes are the spelling of a message
+abbrev pub Spells : Message → List ℕ → Type 0
+Spells message bytes = IsMessage message × (bytes ≡ spelling message)
+
+-- ## What is wrong with bytes, in the order in which it is told
+
+-- fewer bytes than a header has
+abbrev pub is_short : List ℕ → Bool
+is_short bytes = nat_lt (length bytes) 32
+
+-- the transaction code: bits 5..0 of byte 0, whatever the two bits above say
+abbrev pub code_of : List ℕ → ℕ
+code_of bytes = bit_and (slice_index bytes 0) 0x3F
+
+-- the data segment's length, as the header has it
+abbrev pub segment_length : List ℕ → ℕ
+segment_length bytes = field_at 2 10 bytes
+
+-- whether a message of this transaction code may have a data segment of n bytes (JESD220, 10.7): DATA OUT and DATA IN
+-- as many as they count; QUERY REQUEST with opcode 2 alone; RESPONSE 20 with status 02h, else none; QUERY RESPONSE
+-- with opcode 1 and response 00h alone; the other kinds none. A code that is no kind's may have any
+abbrev pub may_have : ℕ → List ℕ → ℕ → Bool
+may_have code bytes n =
+    if is_among (0x02 ∷ 0x22 ∷ []) code then nat_lt 0 n && (n == field_at 4 16 bytes)
+    else if code == 0x16 then (n == 0) || (slice_index bytes 12 == 0x02)
+    else if code == 0x21 then (n == (if slice_index bytes 7 == 0x02 then 20 else 0))
+    else if code == 0x36 then (n == 0) || ((slice_index bytes 12 == 0x01) && (slice_index bytes 6 == 0x00))
+    else if is_among (0x00 ∷ 0x01 ∷ 0x04 ∷ 0x20 ∷ 0x24 ∷ 0x31 ∷ []) code then (n == 0)
+    else true
+
+-- the data segment is longer than 4096 bytes or not of a length that the kind may have, or the bytes are not a header
+-- and the segment padded to a multiple of four
+abbrev pub has_wrong_length : List ℕ → Bool
+has_wrong_length bytes =
+    nat_lt 4096 (segment_length bytes) || not (may_have (code_of bytes) bytes (segment_length bytes))
+    || not (length bytes == 32 + segment_length bytes + padding (segment_length bytes))
+
+-- HD or DD, bits 7 and 6 of byte 0: a header or data digest
+abbrev pub has_digest : List ℕ → Bool
+has_digest bytes = not (bit_and (slice_index bytes 0) 0xC0 == 0)
+
+-- an extra header segment
+abbrev pub has_extra_header : List ℕ → Bool
+has_extra_header bytes = not (slice_index bytes 8 == 0)
+
+-- the limit of the first stage: of the kinds that a host sends, COMMAND and DATA OUT are taken
+abbrev pub stage_codes : List ℕ
+stage_codes = 0x01 ∷ 0x02 ∷ []
+
+-- a transaction code that no message from a host has
+abbrev pub has_other_code : List ℕ → Bool
+has_other_code bytes = not (is_among stage_codes (code_of bytes))
+
+-- the first of these faults
+abbrev pub host_fault_of : List ℕ → Option HostFault
+host_fault_of bytes =
+    if is_short bytes then Some Short
+    else if has_wrong_length bytes then Some Length
+    else if has_digest bytes then Some Digest
+    else if has_extra_header bytes then Some Ehs
+    else if has_other_code bytes then Some Code
+    else None

@@ -1,0 +1,90 @@
+-- How a flash page holds a block, what its tag says and the check of both. The layouts are this
+-- profile's, version 1; the check is the SHA-256 of FIPS 180-4.
+use Rattle.std.specs.Prelude.{◌≡◌, ◌⊎◌, ◌-◌, ◌^◌, ◌<◌, ◌≤◌, ℕ, List, [], ◌∷◌, ◌++◌, Option, None, Some, drop, length, replicate, slice_index, take}
+use Rattle.std.specs.List.{flat_map}
+use Rattle.byteorder.specs.Endian.{big_bytes}
+use Rattle.sha2.specs.Sha256.{sha256}
+use Rattle.ufs_spec.specs.Fields.{field_at}
+use Rattle.ufs_spec.specs.declared.configs.Numbers.{Numbers}
+use Rattle.ufs_spec.specs.declared.configs.UnitSpec.{UnitSpec}
+use Rattle.ufs_spec.specs.declared.flash.Fence.{Fence}
+use Rattle.ufs_spec.specs.declared.flash.Page.{Page}
+use Rattle.ufs_spec.specs.declared.flash.Tag.{Tag}
+
+-- the first 64 spare bytes: `UFSP`, version 1, and what the tag says
+abbrev pub spare_front : Tag → List ℕ
+spare_front t =
+    (85 ∷ 70 ∷ 83 ∷ 80 ∷ 1 ∷ t.kind ∷ t.unit ∷ 0 ∷ [])
+    ++ big_bytes 4 t.address ++ big_bytes 8 t.number
+    ++ (t.index ∷ t.size ∷ 0 ∷ 0 ∷ [])
+    ++ big_bytes 8 t.frontier
+    ++ replicate 32 0
+
+-- the tag that spare bytes name
+abbrev pub tag_in : List ℕ → Tag
+tag_in s = record {
+  kind = slice_index s 5;
+  unit = slice_index s 6;
+  address = field_at 4 8 s;
+  number = field_at 8 12 s;
+  index = slice_index s 20;
+  size = slice_index s 21;
+  frontier = field_at 8 24 s;
+}
+
+-- the ranges of a tag: kind 1 is data, 2 the RPMB area, 3 settings and 4 a mark
+pub record IsTag (t : Tag) : Type 0 where
+  pub kind_known : (1 ≤ t.kind) × (t.kind ≤ 4)
+  pub unit_known : t.unit < 8
+  pub unit_of_data_alone : 2 ≤ t.kind → t.unit ≡ 0
+  pub address_fits : t.address < 2 ^ 32
+  pub address_of_blocks_alone : 3 ≤ t.kind → t.address ≡ 0
+  pub number_given : (1 ≤ t.number) × (t.number ≤ 2 ^ 62)
+  pub group_not_long : (1 ≤ t.size) × (t.size ≤ 32)
+  pub index_in_group : t.index < t.size
+  pub mark_alone : t.kind ≡ 4 → (t.index ≡ 0) × (t.size ≡ 1)
+  pub frontier_fits : t.frontier ≤ 2 ^ 62
+
+-- the check of 4096 body bytes and spare bytes 0 to 63
+abbrev pub check_of : List ℕ → List ℕ → List ℕ
+check_of body front = sha256 (body ++ front)
+
+-- the page of a tag and a block
+abbrev pub seal_page : Tag → List ℕ → Page
+seal_page t body = record { body = body; spare = spare_front t ++ check_of body (spare_front t) }
+
+-- the last 32 spare bytes are the check of all that stands before them
+abbrev pub IsCheckRight : Page → Type 0
+IsCheckRight p = drop 64 p.spare ≡ check_of p.body (take 64 p.spare)
+
+-- what a stop or a failed program may leave of a page: the old content, the intended one, or
+-- one whose check fails
+abbrev pub MayBeLeft : Page → Page → Page → Type 0
+MayBeLeft before intended after = (after ≡ before) ⊎ (after ≡ intended) ⊎ (¬ IsCheckRight after)
+
+-- bytes, and zeros behind them up to a length
+unfoldable pub zero_filled : ℕ → List ℕ → List ℕ
+zero_filled n bytes = bytes ++ replicate (n - length bytes) 0
+
+-- the first and the last number of a fence, both 0 for none
+abbrev pub fence_bytes : Option Fence → List ℕ
+fence_bytes None = replicate 16 0
+fence_bytes (Some fence) = big_bytes 8 fence.first ++ big_bytes 8 fence.last
+
+-- the numbers of a configuration, but for those of each unit
+abbrev pub numbers_bytes : Numbers → List ℕ
+numbers_bytes n =
+    (n.dies ∷ length n.units.items ∷ [])
+    ++ big_bytes 2 n.blocks ++ big_bytes 2 n.pages
+    ++ (n.rpmb ∷ 0 ∷ [])
+    ++ big_bytes 2 n.slots ++ big_bytes 2 n.spare
+    ++ replicate 4 0
+
+-- the eight bytes of a unit
+abbrev pub unit_bytes : UnitSpec → List ℕ
+unit_bytes u = big_bytes 4 u.blocks ++ (u.boot ∷ u.protect ∷ 0 ∷ 0 ∷ [])
+
+-- the body of a mark: its fence, the configuration's numbers, and an entry for each unit
+abbrev pub mark_bytes : Numbers → Option Fence → List ℕ
+mark_bytes n fence =
+    zero_filled 4096 (fence_bytes fence ++ numbers_bytes n ++ flat_map unit_bytes n.units.items)

@@ -1,0 +1,30 @@
+//! What a host can change on a device, as commands with their data.
+use crate::fields::Block;
+
+/// A command that changes what the device holds (JESD220, 10.8 logical units, 12.4 RPMB).
+#[derive(Drop)]
+pub enum Cmd {
+    /// 1 to 32 blocks are written to a unit, from an address on.
+    Write {
+        unit: u8,
+        address: u32,
+        blocks: Vec<Block>,
+    },
+    /// 1 to 32 blocks of a unit, from an address on, become zeros.
+    Zero {
+        unit: u8,
+        address: u32,
+        count: u8,
+    },
+    /// The RPMB key is programmed.
+    Key([u8; 32]),
+    /// 1 to 8 blocks of 256 bytes are written to the RPMB area; the address counts such blocks.
+    RpmbWrite {
+        address: u16,
+        bytes: Vec<u8>,
+    },
+    /// The boot setting: 0 off, 1 A, 2 B (bBootLunEn).
+    SetBoot(u8),
+    /// Units whose protection is permanent are protected from now on (fPermanentWPEn).
+    SetPermanent,
+}

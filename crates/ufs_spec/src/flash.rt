@@ -1,0 +1,82 @@
+//! What lies on a die, and what is asked of it.
+use crate::fields::Block;
+
+/// A page of a die: 4096 bytes and 96 spare bytes.
+#[derive(Clone, Copy, PartialEq, Eq)]
+pub struct Page {
+    pub body: Block,
+    pub spare: [u8; 96],
+}
+
+/// Where a page lies.
+#[derive(Clone, Copy, Debug, Default, PartialEq, Eq)]
+pub struct Place {
+    pub die: u8,
+    pub block: u16,
+    pub page: u16,
+}
+
+/// What the device asks of a die.
+#[derive(Clone, Copy, PartialEq, Eq)]
+pub enum Job {
+    Read(Place),
+    Program(Place, Page),
+    Erase { die: u8, block: u16 },
+}
+
+/// How a job ended. `Done` and `Failed` are the endings of programs and erases.
+#[derive(Clone, Copy, PartialEq, Eq)]
+pub enum Outcome {
+    Read(Page),
+    ReadFailed,
+    Done,
+    Failed,
+}
+
+/// What a page says of its block: what it is (1 data, 2 RPMB area, 3 settings, 4 mark), whose it is,
+/// its group's number, its index in the group and the group's size, and the frontier at the moment
+/// when its job was handed out.
+#[derive(Clone, Copy, Debug, Default, PartialEq, Eq)]
+pub struct Tag {
+    pub kind: u8,
+    pub unit: u8,
+    pub address: u32,
+    pub number: u64,
+    pub index: u16,
+    pub size: u16,
+    pub frontier: u64,
+}
+
+impl Tag {
+    /// The kind of a page with a block of a unit.
+    pub const DATA: u8 = 1;
+    /// The kind of a page with sixteen blocks of the RPMB area.
+    pub const RPMB_AREA: u8 = 2;
+    /// The kind of a page with the settings, the RPMB key and the write counter.
+    pub const SETTINGS: u8 = 3;
+    /// The kind of a page with the configuration and a fence.
+    pub const MARK: u8 = 4;
+}
+
+/// Whose content a page holds: its kind, its unit (0 but for data) and its address there.
+#[derive(Clone, Copy, Debug, Default, PartialEq, Eq)]
+pub struct Key {
+    pub kind: u8,
+    pub unit: u8,
+    pub address: u32,
+}
+
+/// A range of group numbers, both its ends within it. Where the newest mark has one, no group page with
+/// such a number counts.
+#[derive(Clone, Copy, Debug, PartialEq, Eq)]
+pub struct Fence {
+    pub first: u64,
+    pub last: u64,
+}
+
+/// What a page opens to.
+#[derive(Clone, Copy, PartialEq, Eq)]
+pub struct Opened {
+    pub tag: Tag,
+    pub body: Block,
+}

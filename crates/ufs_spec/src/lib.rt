@@ -1,0 +1,23 @@
+//! The words in which the device is described: its types, each declared once, and their definitions.
+//! Section numbers are those of JESD220 (UFS), SPC and SBC.
+#![tactic(auto)]
+
+mod commands;
+mod configs;
+mod events;
+mod faults;
+mod fields;
+mod flash;
+mod messages;
+mod plain_device;
+mod scsi;
+
+pub use commands::Cmd;
+pub use configs::{Config, Numbers, UnitSpec};
+pub use events::{Event, Leftover, Output, RunFault, RunFaultKind, Trace};
+pub use faults::{ConfigFault, HostFault, NoMemory, OpenFault};
+pub use fields::{Block, Upiu, read_u16, read_u32, read_u64, write_u16, write_u32, write_u64};
+pub use flash::{Fence, Job, Key, Opened, Outcome, Page, Place, Tag};
+pub use messages::{Asked, Data, Message};
+pub use plain_device::{PlainDevice, after_joined_commands, commands_keep_the_shape};
+pub use scsi::{Cdb, Sense};

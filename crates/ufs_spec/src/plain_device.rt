@@ -1,0 +1,264 @@
+//! A device as plain arrays: slow, and exact by its definition. Tests compare with it.
+ghost use Rattle.std.specs.Prelude.{◌≡◌, ◌+◌, ◌*◌, ◌<◌, ◌≤◌, List, [], ◌∷◌, ◌++◌, length, replicate, map, All, IfOk};
+ghost use Rattle.ufs_spec.specs.declared.commands.Cmd.{Cmd};
+ghost use Rattle.ufs_spec.specs.Plain.{Plain, zero_block, zero_area, area_len, zero, with_part, unit_of, block_at, with_blocks, apply, after, shape_of, shape_of_numbers, LiesWithin, CanApply};
+
+use crate::commands::Cmd;
+use crate::configs::{Numbers, UnitSpec};
+use crate::faults::NoMemory;
+use crate::fields::Block;
+use std::alloc::{AllocError, Global};
+use std::marker::Model;
+
+/// What a device holds: the blocks of each unit, the boot setting, permanent protection, and the
+/// RPMB key, area and counter (JESD220, 10.8 and 12.4). Only `new` takes memory.
+#[derive(Drop)]
+pub struct PlainDevice {
+    units: Vec<Vec<Block>>,
+    boot: u8,
+    permanent: bool,
+    key: Option<[u8; 32]>,
+    area: Vec<u8>,
+    counter: u32,
+}
+
+impl Model for PlainDevice {
+    ghost use Rattle.std.specs.Prelude.{◌≤◌, map};
+    ghost use Rattle.ufs_spec.specs.Plain.{Plain};
+
+    ghost Value = { Plain };
+
+    ghost view = { λ d.
+        record {
+          units = map (λ blocks. blocks.items) d.units.items;
+          boot = d.boot;
+          permanent = d.permanent;
+          key = d.key;
+          area = d.area.items;
+          counter = d.counter;
+        } };
+
+    ghost invariant = { λ d. d.boot ≤ 2 };
+}
+
+impl PlainDevice {
+    /// A new device with these numbers: all blocks and the RPMB area are zeros, no key is programmed.
+    pub fn new(alloc: Global, numbers: &Numbers) -> Result<PlainDevice, NoMemory>
+        ensures { IfOk result (λ d. d ≡ zero numbers.now) }
+    {
+        Ok(PlainDevice {
+            units: zero_units(alloc, &numbers.units)?,
+            boot: 0,
+            permanent: false,
+            key: None,
+            area: zero_area(alloc, numbers)?,
+            counter: 0,
+        })
+    }
+
+    /// Does the command, which must lie within what the device holds. An RPMB write must find the
+    /// counter below FFFFFFFFh.
+    pub fn apply(&mut self, command: &Cmd)
+        requires { CanApply self.old command.now }
+        ensures { self.new ≡ apply self.old command.now }
+    {
+        match command {
+            Cmd::Write {
+                unit,
+                address,
+                blocks,
+            } => self.set_blocks(*unit, *address, blocks),
+            Cmd::Zero {
+                unit,
+                address,
+                count,
+            } => self.set_zeros(*unit, *address, *count),
+            Cmd::Key(key) => self.set_key(Some(*key)),
+            Cmd::RpmbWrite { address, bytes } => {
+                self.set_area(256 * usize::from(*address), bytes);
+                self.counter += 1;
+            }
+            Cmd::SetBoot(boot) => self.set_boot(*boot),
+            Cmd::SetPermanent => self.set_permanent(true),
+        }
+    }
+
+    /// The block at an address of a unit.
+    pub fn block(&self, unit: u8, address: u32) -> &Block
+        requires unit_in { unit < length self.now.units }
+        requires address_in { address < length (unit_of unit self.now) }
+        ensures { result.now ≡ block_at unit address self.now }
+    {
+        &self.units[unit as usize][address as usize]
+    }
+
+    /// Replaces one block.
+    pub fn set_block(&mut self, unit: u8, address: u32, block: &Block)
+        requires unit_in { unit < length self.old.units }
+        requires address_in { address < length (unit_of unit self.old) }
+        ensures { self.new ≡ with_blocks unit address (block.now ∷ []) self.old }
+    {
+        self.units[unit as usize][address as usize] = *block;
+    }
+
+    fn set_blocks(&mut self, unit: u8, address: u32, blocks: &[Block])
+        requires unit_in { unit < length self.old.units }
+        requires blocks_in { address + length blocks.now ≤ length (unit_of unit self.old) }
+        ensures { self.new ≡ with_blocks unit address blocks.now self.old }
+    {
+        let stored = &mut self.units[unit as usize];
+        replace(stored, address as usize, blocks);
+    }
+
+    fn set_zeros(&mut self, unit: u8, address: u32, count: u8)
+        requires unit_in { unit < length self.old.units }
+        requires blocks_in { address + count ≤ length (unit_of unit self.old) }
+        ensures { self.new ≡ with_blocks unit address (replicate count zero_block) self.old }
+    {
+        let stored = &mut self.units[unit as usize];
+        replace_by_zeros(stored, address as usize, usize::from(count));
+    }
+
+    /// The boot setting.
+    pub fn boot(&self) -> u8
+        ensures value { result ≡ self.now.boot }
+        ensures range { result ≤ 2 }
+    {
+        self.boot
+    }
+
+    /// Replaces the boot setting.
+    pub fn set_boot(&mut self, boot: u8)
+        requires { boot ≤ 2 }
+        ensures { self.new ≡ record self.old { boot = boot } }
+    {
+        self.boot = boot;
+    }
+
+    /// Whether permanent protection is on.
+    pub fn permanent(&self) -> bool
+        ensures { result ≡ self.now.permanent }
+    {
+        self.permanent
+    }
+
+    /// Turns permanent protection on or off.
+    pub fn set_permanent(&mut self, permanent: bool)
+        ensures { self.new ≡ record self.old { permanent = permanent } }
+    {
+        self.permanent = permanent;
+    }
+
+    /// The RPMB key, if one is programmed.
+    pub fn key(&self) -> Option<[u8; 32]>
+        ensures { result ≡ self.now.key }
+    {
+        self.key
+    }
+
+    /// Replaces the RPMB key.
+    pub fn set_key(&mut self, key: Option<[u8; 32]>)
+        ensures { self.new ≡ record self.old { key = key } }
+    {
+        self.key = key;
+    }
+
+    /// The bytes of the RPMB area.
+    pub fn area(&self) -> &[u8]
+        ensures { result.now ≡ self.now.area }
+    {
+        self.area.as_slice()
+    }
+
+    /// Replaces the bytes of the RPMB area from an offset on.
+    pub fn set_area(&mut self, offset: usize, bytes: &[u8])
+        requires { offset + length bytes.now ≤ length self.old.area }
+        ensures { self.new ≡ record self.old { area = with_part offset bytes.now self.old.area } }
+    {
+        replace(&mut self.area, offset, bytes);
+    }
+
+    /// The RPMB write counter.
+    pub fn counter(&self) -> u32
+        ensures { result ≡ self.now.counter }
+    {
+        self.counter
+    }
+
+    /// Replaces the RPMB write counter.
+    pub fn set_counter(&mut self, counter: u32)
+        ensures { self.new ≡ record self.old { counter = counter } }
+    {
+        self.counter = counter;
+    }
+}
+
+#[tactic(auto, unfolding(crate::specs::Plain::zero_block))]
+fn zero_block() -> Block
+    ensures { result ≡ zero_block }
+{
+    [0; 4096]
+}
+
+fn zero_units(alloc: Global, specs: &[UnitSpec]) -> Result<Vec<Vec<Block>>, AllocError>
+    ensures { IfOk result (λ v. map (λ blocks. blocks.items) v.items
+        ≡ map (λ u. replicate u.blocks zero_block) specs.now) }
+{
+    let mut units = Vec::new(alloc);
+    for unit in specs {
+        units.push(zero_blocks(alloc, unit.blocks)?)?;
+    }
+    Ok(units)
+}
+
+fn zero_blocks(alloc: Global, count: u32) -> Result<Vec<Block>, AllocError>
+    ensures { IfOk result (λ v. v.items ≡ replicate count zero_block) }
+{
+    let mut blocks = Vec::new(alloc);
+    blocks.resize(count as usize, zero_block())?;
+    Ok(blocks)
+}
+
+#[tactic(auto, unfolding(crate::specs::Plain::zero_area))]
+fn zero_area(alloc: Global, numbers: &Numbers) -> Result<Vec<u8>, AllocError>
+    ensures { IfOk result (λ v. v.items ≡ zero_area numbers.now) }
+{
+    let mut area = Vec::new(alloc);
+    area.resize(131_072 * usize::from(numbers.rpmb), 0)?;
+    Ok(area)
+}
+
+fn replace<T: Copy>(stored: &mut [T], at: usize, new: &[T])
+    requires { at + length new.now ≤ length stored.old }
+    ensures { stored.new ≡ with_part at new.now stored.old }
+{
+    stored[at..at + new.len()].copy_from_slice(new);
+}
+
+fn replace_by_zeros(stored: &mut [Block], at: usize, count: usize)
+    requires { at + count ≤ length stored.old }
+    ensures { stored.new ≡ with_part at (replicate count zero_block) stored.old }
+{
+    fill_with_zeros(&mut stored[at..at + count]);
+}
+
+fn fill_with_zeros(blocks: &mut [Block])
+    ensures { blocks.new ≡ replicate (length blocks.old) zero_block }
+{
+    for block in blocks.iter_mut() {
+        *block = zero_block();
+    }
+}
+
+/// What two lists of commands leave, one after the other, is what the joined list leaves.
+pub fn after_joined_commands()
+    ensures { (p : Plain) (xs ys : List Cmd) → after p (xs ++ ys) ≡ after (after p xs) ys }
+{}
+
+/// A command changes neither the counts of units and blocks nor the length of the RPMB area.
+pub fn commands_keep_the_shape()
+    ensures new_device { (n : Numbers) → shape_of (zero n) ≡ shape_of_numbers n }
+    ensures one { (p : Plain) (c : Cmd) → LiesWithin (shape_of p) c → shape_of (apply p c) ≡ shape_of p }
+    ensures many { (p : Plain) (cs : List Cmd) → All (LiesWithin (shape_of p)) cs
+        → shape_of (after p cs) ≡ shape_of p }
+{}

@@ -1,0 +1,146 @@
+//! The first lines of a script: one `config` and one or more `unit`, of which a device is made.
+use crate::fault::{ScriptFault, Word};
+use crate::lines::{Line, Lines};
+use crate::words::{Words, expect};
+use arrayvec::ArrayVec;
+use device::World;
+use nand_model::MemDie;
+use std::alloc::Global;
+use ufs_spec::{Config, NoMemory, RunFault, RunFaultKind, UnitSpec};
+
+/// What the first lines say. A number that its field cannot hold stands there as the greatest that it
+/// can, which no configuration has.
+#[derive(Drop)]
+pub(crate) struct FirstLines<'a> {
+    pub dies: u8,
+    blocks: u16,
+    pages: u16,
+    rpmb: u8,
+    slots: u16,
+    spare: u16,
+    /// One unit more than a configuration may have is kept, and what comes after it is not.
+    units: ArrayVec<UnitSpec, 9>,
+    /// The last `unit` line.
+    pub last: Line<'a>,
+    /// The lines behind it.
+    pub rest: Lines<'a>,
+}
+
+impl<'a> FirstLines<'a> {
+    /// Reads the first lines of a script. The first fault is told.
+    pub fn read(script: &'a [u8]) -> Result<FirstLines<'a>, ScriptFault> {
+        let mut lines = Lines::new(script);
+        let line = next_line(&mut lines)?;
+        let config = fields::<6>(line.bytes, b"config").map_err(|word| line.fault(word))?;
+        let [dies, blocks, pages, rpmb, slots, spare] = config;
+        let mut first = FirstLines {
+            dies: byte_field(dies),
+            blocks: short_field(blocks),
+            pages: short_field(pages),
+            rpmb: byte_field(rpmb),
+            slots: short_field(slots),
+            spare: short_field(spare),
+            units: ArrayVec::new(),
+            last: line,
+            rest: lines,
+        };
+        first.read_units()?;
+        Ok(first)
+    }
+
+    fn read_units(&mut self) -> Result<(), ScriptFault> {
+        let mut lines = self.rest;
+        let mut line = next_line(&mut lines)?;
+        loop {
+            let unit = fields::<3>(line.bytes, b"unit").map_err(|word| line.fault(word))?;
+            self.add(unit);
+            self.last = line;
+            self.rest = lines;
+            match lines.next() {
+                Some(next) if is_unit(next.bytes) => line = next,
+                _ => return Ok(()),
+            }
+        }
+    }
+
+    fn add(&mut self, unit: [u32; 3]) {
+        let [blocks, boot, protect] = unit;
+        let _ = self.units.try_push(UnitSpec {
+            blocks,
+            boot: byte_field(boot),
+            protect: byte_field(protect),
+        });
+    }
+
+    /// The device of these lines, over new dies: `Config` where it is refused, and `Memory` for want
+    /// of memory.
+    pub fn open(&self, alloc: Global) -> Result<World, Word> {
+        let config = Config::new(
+            self.dies,
+            self.blocks,
+            self.pages,
+            self.units.as_slice(),
+            self.rpmb,
+            self.slots,
+            self.spare,
+        )
+        .map_err(|_| Word::Config)?;
+        let dies = new_dies(alloc, self.dies, self.blocks, self.pages).map_err(|_| Word::Memory)?;
+        World::new(alloc, config, dies).map_err(|fault| refused(&fault))
+    }
+}
+
+// The next of the first lines. One that is missing is the fault `word`.
+fn next_line<'a>(lines: &mut Lines<'a>) -> Result<Line<'a>, ScriptFault> {
+    match lines.next() {
+        Some(line) => Ok(line),
+        None => Err(lines.missing()),
+    }
+}
+
+// The numbers of a line that begins with the word `name` and has `N` of them.
+fn fields<const N: usize>(line: &[u8], name: &[u8]) -> Result<[u32; N], Word> {
+    let mut words = Words::new(line);
+    if !line.is_ascii() || words.word()? != name {
+        return Err(Word::Word);
+    }
+    expect(words, N)?;
+    let mut numbers = [0; N];
+    for i in 0..N {
+        numbers[i] = words.number()?;
+    }
+    Ok(numbers)
+}
+
+fn is_unit(line: &[u8]) -> bool {
+    match Words::new(line).next() {
+        Some(b"unit") => true,
+        _ => false,
+    }
+}
+
+fn byte_field(number: u32) -> u8 {
+    u8::try_from(number).unwrap_or(u8::MAX)
+}
+
+fn short_field(number: u32) -> u16 {
+    u16::try_from(number).unwrap_or(u16::MAX)
+}
+
+// New dies of equal sizes.
+fn new_dies(alloc: Global, dies: u8, blocks: u16, pages: u16) -> Result<Vec<MemDie>, NoMemory> {
+    let mut all = Vec::with_capacity(alloc, dies as usize).map_err(|_| NoMemory)?;
+    for _ in 0..dies {
+        all.push(MemDie::new(alloc, blocks, pages)?)
+            .map_err(|_| NoMemory)?;
+    }
+    Ok(all)
+}
+
+// An opening that is refused for anything but memory is refused for its configuration.
+fn refused(fault: &RunFault) -> Word {
+    match fault.kind {
+        RunFaultKind::NoMemory => Word::Memory,
+        _ => Word::Config,
+    }
+}

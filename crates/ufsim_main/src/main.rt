@@ -1,0 +1,57 @@
+//! The program `ufsim`: runs a script over a storage device whose dies lie in memory.
+#![tactic(auto)]
+
+use std::io::ErrorKind;
+use std::process::ExitCode;
+use std::rt::{Env, Files};
+use std::{env, fs, io};
+use ufsim::{Call, CallFault, call, run_text};
+
+fn main(rt: HostRuntime) -> ExitCode {
+    let words = match words(&rt) {
+        Ok(words) => words,
+        Err(fault) => return refused(&rt, fault),
+    };
+    match call(rt.alloc(), words.as_slice()) {
+        Ok(Call::Run(script)) => run(&rt, script),
+        Err(fault) => refused(&rt, fault),
+    }
+}
+
+// The words that the program was started with. One that is no text is none of its own.
+fn words(rt: &(impl Env + AllocGlobal)) -> Result<Vec<String>, CallFault> {
+    let words = env::args(rt).map_err(|error| match error.kind() {
+        ErrorKind::OutOfMemory => CallFault::Memory,
+        _ => CallFault::Usage,
+    })?;
+    words.collect(rt.alloc()).map_err(|_| CallFault::Memory)
+}
+
+// Status 2 for wrong words, and 1 for want of memory.
+fn refused(rt: &impl Eprint, fault: CallFault) -> ExitCode {
+    let _ = rt.eprintln(format_args!("ufsim: {fault}"));
+    match fault {
+        CallFault::Usage => ExitCode::from(2),
+        CallFault::Memory => ExitCode::FAILURE,
+    }
+}
+
+fn run(rt: &HostRuntime, name: &str) -> ExitCode {
+    match fs::read(rt, name) {
+        Ok(script) => {
+            let mut out = io::writer(rt);
+            let status = run_text(rt.alloc(), script.as_slice(), &mut out, &mut rt.stderr());
+            ExitCode::from(status)
+        }
+        Err(error) => unread(rt, name, error.kind()),
+    }
+}
+
+// A script that cannot be read.
+fn unread(rt: &impl Eprint, name: &str, kind: ErrorKind) -> ExitCode {
+    let _ = match kind {
+        ErrorKind::OutOfMemory => rt.eprintln("ufsim: memory"),
+        _ => rt.eprintln(format_args!("ufsim: file: {name}")),
+    };
+    ExitCode::FAILURE
+}

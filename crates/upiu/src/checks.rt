@@ -1,0 +1,83 @@
+//! What is wrong with the bytes of a message, before its fields are read.
+ghost use Rattle.std.specs.Prelude.{◌≡◌, ◌≤◌, length};
+ghost use Rattle.ufs_spec.specs.Messages.{code_of, has_wrong_length, host_fault_of, may_have, segment_length};
+
+use ufs_spec::{HostFault, read_u16, read_u32};
+
+/// The bytes of a header.
+pub const HEADER: usize = 32;
+
+/// The transaction code of a COMMAND.
+pub const COMMAND: u8 = 0x01;
+
+/// The transaction code of a DATA OUT.
+pub const DATA_OUT: u8 = 0x02;
+
+// Bits 5 to 0 of byte 0.
+const CODE_BITS: u8 = 0x3F;
+
+// HD and DD, bits 7 and 6 of byte 0.
+const DIGEST_BITS: u8 = 0xC0;
+
+/// The first fault that the bytes have, of those that come before a message's fields: too short, a
+/// wrong length, a digest, an extra header segment, a code that is not taken.
+pub fn first_fault(bytes: &[u8]) -> Option<HostFault>
+    ensures { result ≡ host_fault_of bytes.now }
+{
+    if bytes.len() < HEADER {
+        Some(HostFault::Short)
+    } else if is_wrong_length(bytes) {
+        Some(HostFault::Length)
+    } else if bytes[0] & DIGEST_BITS != 0 {
+        Some(HostFault::Digest)
+    } else if bytes[8] != 0 {
+        Some(HostFault::Ehs)
+    } else if !matches!(code(bytes), COMMAND | DATA_OUT) {
+        Some(HostFault::Code)
+    } else {
+        None
+    }
+}
+
+/// The transaction code.
+pub fn code(bytes: &[u8]) -> u8
+    requires { HEADER ≤ length bytes.now }
+    ensures { result ≡ code_of bytes.now }
+{
+    bytes[0] & CODE_BITS
+}
+
+/// The data segment's length, as the header has it.
+pub fn stated_length(bytes: &[u8]) -> usize
+    requires { HEADER ≤ length bytes.now }
+    ensures { result ≡ segment_length bytes.now }
+{
+    usize::from(read_u16(bytes, 10))
+}
+
+// Whether the data segment is too long, is not of a length that the message's kind may have, or is
+// not what follows the header, padded to a multiple of four.
+fn is_wrong_length(bytes: &[u8]) -> bool
+    requires { HEADER ≤ length bytes.now }
+    ensures { result ≡ has_wrong_length bytes.now }
+{
+    let segment = stated_length(bytes);
+    let padding = (4 - segment % 4) % 4;
+    segment > 4096 || !can_have(bytes, segment) || bytes.len() != HEADER + segment + padding
+}
+
+// Whether a message of this kind may have a data segment of this length. A code that is no kind's
+// may have any.
+fn can_have(bytes: &[u8], segment: usize) -> bool
+    requires { HEADER ≤ length bytes.now }
+    ensures { result ≡ may_have (code_of bytes.now) bytes.now segment }
+{
+    match code(bytes) {
+        0x02 | 0x22 => segment > 0 && segment == read_u32(bytes, 16) as usize,
+        0x16 => segment == 0 || bytes[12] == 0x02,
+        0x21 if bytes[7] == 0x02 => segment == 20,
+        0x36 => segment == 0 || (bytes[12] == 0x01 && bytes[6] == 0x00),
+        0x00 | 0x01 | 0x04 | 0x20 | 0x21 | 0x24 | 0x31 => segment == 0,
+        _ => true,
+    }
+}

@@ -1,0 +1,13 @@
+//! Reads and writes UPIUs, the messages between a host and a device (JESD220, 10.5 to 10.7). Each
+//! message has one spelling.
+#![tactic(auto)]
+
+mod checks;
+mod headers;
+mod laws;
+mod reading;
+mod writing;
+
+pub use laws::{one_spelling, worked_faults, worked_messages};
+pub use reading::read;
+pub use writing::write;

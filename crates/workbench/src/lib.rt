@@ -1,0 +1,89 @@
+//! A device over dies in memory, driven by its five calls alone: what tests, timings and the program
+//! `five_calls` share. After `new` it takes no memory.
+#![tactic(auto)]
+
+ghost use Rattle.std.specs.Prelude.{◌≡◌, IfOk, IfErr};
+ghost use Rattle.device.specs.Kept.{IsNewDevice};
+ghost use Rattle.ufs_spec.specs.declared.faults.OpenFault.TheVariants as OpenFault;
+
+use device::Device;
+use nand_model::{MemDie, work};
+use std::alloc::Global;
+use ufs_spec::{Config, HostFault, NoMemory, OpenFault, Upiu};
+
+/// The device, its dies, and the reply that was handed out last.
+#[derive(Drop)]
+pub struct Workbench {
+    pub device: Device,
+    pub dies: Vec<MemDie>,
+    pub reply: Upiu,
+}
+
+/// New dies of these sizes.
+pub fn new_dies(alloc: Global, dies: u8, blocks: u16, pages: u16) -> Result<Vec<MemDie>, NoMemory> {
+    let mut all = Vec::with_capacity(alloc, dies as usize)?;
+    for _ in 0..dies {
+        all.push(MemDie::new(alloc, blocks, pages)?)
+            .map_err(|_| NoMemory)?;
+    }
+    Ok(all)
+}
+
+impl Workbench {
+    /// Opens a device over these dies, which are new.
+    pub fn new(alloc: Global, config: Config, dies: Vec<MemDie>) -> Result<Workbench, OpenFault>
+        ensures { IfOk result (λ w. IsNewDevice config w.device) }
+    {
+        let device = Device::open(alloc, config, dies.as_slice())?;
+        Ok(Workbench {
+            device,
+            dies,
+            reply: Upiu::new(),
+        })
+    }
+
+    /// One job of the die, done well; false where the die is owed none.
+    pub fn work(&mut self, die: u8) -> bool {
+        let index = die as usize;
+        let Some(job) = self.device.take(die) else {
+            return false;
+        };
+        if index >= self.dies.len() || !self.dies[index].can_do(&job) {
+            return false;
+        }
+        let outcome = work(&mut self.dies[index], &job);
+        self.device.done(die, &outcome)
+    }
+
+    /// Rounds of a turn and of one job of each of the first `dies` dies.
+    pub fn settle(&mut self, rounds: u8, dies: u8) {
+        for _ in 0..rounds {
+            self.device.turn();
+            for die in 0..dies {
+                self.work(die);
+            }
+        }
+    }
+
+    /// Hands the device a message.
+    pub fn send(&mut self, message: &[u8]) -> Result<(), HostFault> {
+        self.device.host(message)
+    }
+
+    /// Takes a reply, where one is due.
+    pub fn hear(&mut self) -> bool {
+        self.device.reply(&mut self.reply)
+    }
+
+    /// Takes a reply, after as much work of the four dies from this one on as it needs; false where none
+    /// came.
+    pub fn hear_after_work(&mut self, first: u8) -> bool {
+        for turn in 0..8u8 {
+            if self.hear() {
+                return true;
+            }
+            self.work((first % 4 + turn) % 4);
+        }
+        false
+    }
+}

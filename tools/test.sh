@@ -1,0 +1,72 @@
+#!/bin/sh
+# Everything that has to pass: the gate, `rt ci`, which proves every crate from nothing, tries the must-fail
+# edits and runs programs and tests; then the scripts in examples/, each of which has to print what stands
+# in the file of its name with .stdout behind it, and to end with status 0; then the calls of the program in
+# tools/bad_calls/, each of which has to end with its status and to print nothing; then that the five calls of
+# a device take no memory. The last line is 'N passed, M failed' for all together. The status is 0 only where nothing failed.
+set -u
+cd "$(dirname "$0")/.." || exit 1
+work=$(mktemp -d) || exit 1
+trap 'rm -rf "$work"' EXIT
+
+echo 1 >"$work/status"
+{
+    rt ci
+    echo $? >"$work/status"
+} | tee "$work/gate"
+status=$(cat "$work/status")
+counts=$(sed -n 's/^\([0-9][0-9]*\) passed, \([0-9][0-9]*\) failed$/\1 \2/p' "$work/gate" | tail -n 1)
+if [ -z "$counts" ]; then
+    echo "the gate told no counts"
+    counts="0 1"
+fi
+passed=${counts% *}
+failed=${counts#* }
+if [ "$status" -ne 0 ] && [ "$failed" -eq 0 ]; then
+    echo "the gate ended with status $status"
+    failed=1
+fi
+
+# Builds once, without a proof, and prints a line 'case=NAME ..' for each script on standard error.
+echo "== examples"
+(cd crates/ufsim_main && rt try --cases ../../examples -- run {}) >"$work/shown" 2>"$work/cases"
+cat "$work/shown" "$work/cases"
+scripts=$(ls examples | grep -c -v -e '\.stdout$' -e '\.args$')
+good=$(grep -c '^case=.* status=0 .*output=expected proved=no$' "$work/cases")
+if [ "$scripts" -eq 0 ]; then
+    echo "there are no examples"
+    failed=$((failed + 1))
+fi
+passed=$((passed + good))
+failed=$((failed + scripts - good))
+
+# Words that are none of the program's end with status 2, files that cannot be read with status 1.
+echo "== wrong words and files"
+(cd crates/ufsim_main && rt try --cases ../../tools/bad_calls) >"$work/shown" 2>"$work/cases"
+cat "$work/shown" "$work/cases"
+for call in no_words:2 help:2 two_scripts:2 another_command:2 missing_script:1 a_folder:1; do
+    if grep -q "^case=${call%:*} run=ended status=${call#*:} .*output=expected proved=no\$" "$work/cases"; then
+        passed=$((passed + 1))
+    else
+        echo "the call ${call%:*} did not end with status ${call#*:}"
+        failed=$((failed + 1))
+    fi
+done
+
+# The program five_calls opens a device and then plays a row by its five calls. With its last allocation
+# refused it prints nothing: so that allocation, and with it every other, is one of the opening.
+echo "== no memory after the opening"
+(cd crates/five_calls && rt try --fail-alloc 1000000000) >"$work/lines" 2>"$work/told"
+last=$(sed -n 's/^allocations: \([0-9][0-9]*\)$/\1/p' "$work/told" | head -n 1)
+(cd crates/five_calls && rt try --fail-alloc "${last:-1}") >"$work/refused" 2>"$work/told_refused"
+if [ -n "$last" ] && cmp -s "$work/lines" crates/five_calls/stdout && [ ! -s "$work/refused" ] &&
+    grep -q '^run=ended status=1 ' "$work/told_refused"; then
+    echo "the opening took all $last allocations"
+    passed=$((passed + 1))
+else
+    cat "$work/told" "$work/told_refused"
+    failed=$((failed + 1))
+fi
+
+echo "$passed passed, $failed failed"
+[ "$status" -eq 0 ] && [ "$failed" -eq 0 ]
