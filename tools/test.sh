@@ -53,6 +53,19 @@ for call in no_words:2 help:2 two_scripts:2 another_command:2 missing_script:1 a
     fi
 done
 
+# What the program says of them on standard error, which the cases above do not compare.
+says() {
+    (cd crates/ufsim_main && rt try -- $1) >"$work/shown" 2>"$work/said"
+    if grep -q -x -F "$2" "$work/said"; then
+        passed=$((passed + 1))
+    else
+        echo "ufsim $1 did not say: $2"
+        failed=$((failed + 1))
+    fi
+}
+says 'run nowhere.txt' 'ufsim: file: nowhere.txt'
+says 'run' 'ufsim: usage'
+
 # The program five_calls opens a device and then plays a row by its five calls. With its last allocation
 # refused it prints nothing: so that allocation, and with it every other, is one of the opening.
 echo "== no memory after the opening"
