@@ -20,26 +20,28 @@ pub(crate) struct Transfer {
     pub writes: bool,
 }
 
-pub(crate) fn transfer_of(cdb: &Cdb) -> Transfer {
+/// What a READ(10) or a WRITE(10) moves. The other commands of the table are not done yet.
+pub(crate) fn transfer_of(cdb: &Cdb) -> Option<Transfer> {
     match cdb {
         Cdb::Read10 {
             address,
             blocks,
             forced: _,
-        } => Transfer {
+        } => Some(Transfer {
             address: *address,
             blocks: *blocks,
             writes: false,
-        },
+        }),
         Cdb::Write10 {
             address,
             blocks,
             forced: _,
-        } => Transfer {
+        } => Some(Transfer {
             address: *address,
             blocks: *blocks,
             writes: true,
-        },
+        }),
+        _ => None,
     }
 }
 
@@ -67,9 +69,12 @@ impl Device {
         let Some(unit_blocks) = self.unit_blocks(lun) else {
             return Err(Status::CheckCondition(Sense::NO_UNIT));
         };
-        let transfer = match scsi_cdb::read(cdb) {
+        let taken = match scsi_cdb::read(cdb) {
             Ok(cdb) => transfer_of(&cdb),
             Err(sense) => return Err(Status::CheckCondition(sense)),
+        };
+        let Some(transfer) = taken else {
+            return Err(Status::CheckCondition(Sense::INVALID_OPCODE));
         };
         if transfer.blocks > BLOCKS_A_COMMAND {
             return Err(Status::CheckCondition(Sense::INVALID_FIELD));

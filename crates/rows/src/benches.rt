@@ -1,4 +1,8 @@
 //! What the tests share: scripts with their output, and a device at work without a world.
+ghost use Rattle.std.specs.Prelude.{◌≡◌};
+ghost use Rattle.rows.specs.RowShape.{row_shape};
+ghost use Rattle.ufs_spec.specs.Plain.{shape_of_numbers};
+
 use nand_model::{Die, MemDie};
 use std::alloc::Global;
 use std::process::Abort;
@@ -57,7 +61,9 @@ pub fn expect_run(
 }
 
 /// The row configuration.
-pub fn row_config(rt: &impl Abort) -> Config {
+pub fn row_config(rt: &impl Abort) -> Config
+    ensures { shape_of_numbers result ≡ row_shape }
+{
     let units = [
         UnitSpec {
             blocks: 256,

@@ -177,6 +177,8 @@ fn cdbs(rt: HostRuntime) {
     );
     let verify = [0x2F, 0, 0, 0, 0, 0, 0, 0, 1, 0, 0, 0, 0, 0, 0, 0];
     assert_eq!(rt; scsi_cdb::read(&verify), Err(Sense::INVALID_OPCODE));
+    // TEST UNIT READY is known, and not taken in this stage.
+    assert_eq!(rt; scsi_cdb::read(&[0; 16]), Err(Sense::INVALID_OPCODE));
     let reserved = [0x28, 0x01, 0, 0, 0, 0, 0, 0, 1, 0, 0, 0, 0, 0, 0, 0];
     assert_eq!(rt; scsi_cdb::read(&reserved), Err(Sense::INVALID_FIELD));
     let sense = [

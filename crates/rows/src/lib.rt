@@ -13,4 +13,6 @@ mod locks;
 #[cfg(test)]
 mod messages;
 #[cfg(test)]
+mod plain_rows;
+#[cfg(test)]
 mod worked_rows;

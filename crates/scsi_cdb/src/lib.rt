@@ -1,44 +1,52 @@
 //! Reads the commands of a host from the sixteen bytes of a CDB, and writes sense data (SPC, SBC).
 #![tactic(auto)]
 
-ghost use Rattle.std.specs.Prelude.{◌≡◌, ◌↔◌, ◌∷◌, [], replicate, true, false, IfOk, IfErr, IsTrue};
-ghost use Rattle.ufs_spec.specs.Cdbs.{cdb_bytes, fixed_sense, IsCdb, IsKnownOperation, IsTakenCdb, SpellsCdb, ten_bytes};
+ghost use Rattle.std.specs.Prelude.{◌≡◌, ◌↔◌, slice_index, Some, IfOk, IfErr, IsTrue};
+ghost use Rattle.ufs_spec.specs.Cdbs.{cdb_bytes, fixed_sense, IsKnownOperation, IsTakenCdb, IsTakenOperation, SpellsCdb};
 ghost use Rattle.ufs_spec.specs.declared.Cdb.{Cdb};
-ghost use Rattle.ufs_spec.specs.declared.Cdb.TheVariants.{Read10, Write10};
-ghost use Rattle.scsi_cdb.specs.Reading.{named_cdb};
+ghost use Rattle.scsi_cdb.specs.Reading.{named_cdb, named_six, named_ten, named_twelve, HasSelection, Writes};
 
-use ufs_spec::{Cdb, Sense, read_u16, read_u32, write_u16, write_u32};
+mod laws;
+mod operations;
+mod spelling;
 
-/// The operation code of READ(10).
-const READ_10: u8 = 0x28;
-
-/// The operation code of WRITE(10).
-const WRITE_10: u8 = 0x2A;
+pub use laws::{one_cdb, one_operation, worked_bytes, worked_residuals};
+use operations::{
+    INQUIRY, READ_6, READ_10, READ_CAPACITY_10, REPORT_LUNS, REQUEST_SENSE, SECURITY_IN,
+    SECURITY_OUT, SYNCHRONIZE_CACHE_10, TEST_UNIT_READY, UNMAP, WRITE_6, WRITE_10,
+};
+use spelling::bytes_of;
+use ufs_spec::{Cdb, Sense, read_u16, read_u32};
 
 /// FUA, bit 3 of byte 1.
 const FUA: u8 = 0x08;
 
-/// Reads a CDB (SBC, READ(10) and WRITE(10)).
+/// IMMED, bit 1 of byte 1.
+const IMMED: u8 = 0x02;
+
+/// The 21 bits of an address in bytes 0 to 3 of READ(6) and WRITE(6).
+const SIX_ADDRESS: u32 = 0x1F_FFFF;
+
+/// Reads a CDB: each command of the table is known, and of these READ(10) and WRITE(10) are taken.
 ///
 /// # Errors
 ///
-/// [`Sense::INVALID_OPCODE`] where the operation code in byte 0 is not known, else
+/// [`Sense::INVALID_OPCODE`] where the operation code in byte 0 is not taken, else
 /// [`Sense::INVALID_FIELD`] where a byte that no field names is not zero, or a WRITE(10) has no FUA.
 pub fn read(bytes: &[u8; 16]) -> Result<Cdb, Sense>
     // What is read is spelled so, each byte of it.
     ensures read { IfOk result (λ cdb. SpellsCdb cdb bytes.now) }
     // What is spelled so is read.
     ensures taken { (cdb : Cdb) → SpellsCdb cdb bytes.now → result ≡ Ok cdb }
-    ensures operation { (IsKnownOperation bytes.now → ⊥) → result ≡ Err Sense.INVALID_OPCODE }
-    ensures field { IfErr result (λ sense. IsKnownOperation bytes.now →
+    ensures operation { (IsTakenOperation bytes.now → ⊥) → result ≡ Err Sense.INVALID_OPCODE }
+    ensures field { IfErr result (λ sense. IsTakenOperation bytes.now →
         (sense ≡ Sense.INVALID_FIELD) × ((cdb : Cdb) → SpellsCdb cdb bytes.now → ⊥)) }
 {
-    let cdb = command_in(bytes).ok_or(Sense::INVALID_OPCODE)?;
-    if is_taken(&cdb) && bytes_of(&cdb) == *bytes {
-        Ok(cdb)
-    } else {
-        Err(Sense::INVALID_FIELD)
+    if !has_taken_operation(bytes) {
+        return Err(Sense::INVALID_OPCODE);
     }
+    let cdb = command_of(bytes)?;
+    is_taken(&cdb).then_some(cdb).ok_or(Sense::INVALID_FIELD)
 }
 
 /// The eighteen bytes of fixed sense data (SPC, 4.5.3).
@@ -54,23 +62,68 @@ pub fn sense_bytes(sense: &Sense) -> [u8; 18]
     bytes
 }
 
-/// The bytes of some commands and sense data: a FUA write of one block at address FFh, a read of 33
-/// blocks, an invalid field in a CDB. The function does nothing: its contract is a law.
-pub fn worked_bytes()
-    ensures write { cdb_bytes (Write10 0xFF 1 true) ≡ 0x2A ∷ 8 ∷ 0 ∷ 0 ∷ 0 ∷ 0xFF ∷ 0 ∷ 0 ∷ 1 ∷ replicate 7 0 }
-    ensures read { cdb_bytes (Read10 0 33 false) ≡ 0x28 ∷ 0 ∷ 0 ∷ 0 ∷ 0 ∷ 0 ∷ 0 ∷ 0 ∷ 0x21 ∷ replicate 7 0 }
-    ensures sense { fixed_sense Sense.INVALID_FIELD
-        ≡ 0x70 ∷ 0 ∷ 5 ∷ 0 ∷ 0 ∷ 0 ∷ 0 ∷ 0x0A ∷ 0 ∷ 0 ∷ 0 ∷ 0 ∷ 0x24 ∷ replicate 5 0 }
-{}
+// The command of the table that the bytes are.
+fn command_of(bytes: &[u8; 16]) -> Result<Cdb, Sense>
+    // What is read is written so, each byte of it.
+    ensures read { IfOk result (λ cdb. Writes cdb bytes.now) }
+    // What is written so is read.
+    ensures every { (cdb : Cdb) → Writes cdb bytes.now → result ≡ Ok cdb }
+    ensures operation { (IsKnownOperation bytes.now → ⊥) → result ≡ Err Sense.INVALID_OPCODE }
+    ensures field { IfErr result (λ sense. IsKnownOperation bytes.now →
+        (sense ≡ Sense.INVALID_FIELD) × ((cdb : Cdb) → Writes cdb bytes.now → ⊥)) }
+{
+    let cdb = command_in(bytes).ok_or(Sense::INVALID_OPCODE)?;
+    if is_written(&cdb, bytes) {
+        Ok(cdb)
+    } else {
+        Err(Sense::INVALID_FIELD)
+    }
+}
 
-// The command that the fields name, whether or not the bytes spell it.
+// The command that the fields name, whether or not the bytes are written so. The highest three bits of the
+// operation code tell how long the CDB is (SPC, group codes).
 fn command_in(bytes: &[u8; 16]) -> Option<Cdb>
     ensures { result ≡ named_cdb bytes.now }
+{
+    if bytes[0] < 0x20 {
+        six_in(bytes)
+    } else if bytes[0] < 0x60 {
+        ten_in(bytes)
+    } else {
+        twelve_in(bytes)
+    }
+}
+
+// The command of six bytes that the fields name.
+fn six_in(bytes: &[u8; 16]) -> Option<Cdb>
+    ensures { result ≡ named_six (slice_index bytes.now 0) bytes.now }
+{
+    let address = read_u32(bytes, 0) & SIX_ADDRESS;
+    let blocks = bytes[4];
+    match bytes[0] {
+        TEST_UNIT_READY => Some(Cdb::TestUnitReady),
+        REQUEST_SENSE => Some(Cdb::RequestSense {
+            allocation: bytes[4],
+        }),
+        READ_6 => Some(Cdb::Read6 { address, blocks }),
+        WRITE_6 => Some(Cdb::Write6 { address, blocks }),
+        INQUIRY => Some(Cdb::Inquiry {
+            allocation: read_u16(bytes, 3),
+        }),
+        _ => None,
+    }
+}
+
+// The command of ten bytes that the fields name.
+fn ten_in(bytes: &[u8; 16]) -> Option<Cdb>
+    ensures { result ≡ named_ten (slice_index bytes.now 0) bytes.now }
 {
     let address = read_u32(bytes, 2);
     let blocks = read_u16(bytes, 7);
     let forced = bytes[1] & FUA != 0;
+    let immediate = bytes[1] & IMMED != 0;
     match bytes[0] {
+        READ_CAPACITY_10 => Some(Cdb::ReadCapacity10),
         READ_10 => Some(Cdb::Read10 {
             address,
             blocks,
@@ -81,46 +134,74 @@ fn command_in(bytes: &[u8; 16]) -> Option<Cdb>
             blocks,
             forced,
         }),
+        SYNCHRONIZE_CACHE_10 => Some(Cdb::SynchronizeCache10 {
+            address,
+            blocks,
+            immediate,
+        }),
+        UNMAP => Some(Cdb::Unmap {
+            list: read_u16(bytes, 7),
+        }),
         _ => None,
     }
 }
 
-// The sixteen bytes of a command.
-fn bytes_of(cdb: &Cdb) -> [u8; 16]
-    ensures { result ≡ cdb_bytes cdb.now }
+// The command of twelve bytes that the fields name.
+fn twelve_in(bytes: &[u8; 16]) -> Option<Cdb>
+    ensures { result ≡ named_twelve (slice_index bytes.now 0) bytes.now }
 {
-    match cdb {
-        Cdb::Read10 {
-            address,
-            blocks,
-            forced,
-        } => ten_bytes_of(READ_10, *address, *blocks, *forced),
-        Cdb::Write10 {
-            address,
-            blocks,
-            forced,
-        } => ten_bytes_of(WRITE_10, *address, *blocks, *forced),
+    let number = read_u32(bytes, 6);
+    match bytes[0] {
+        REPORT_LUNS => Some(Cdb::ReportLuns {
+            select: bytes[2],
+            allocation: number,
+        }),
+        SECURITY_IN => Some(Cdb::SecurityIn { length: number }),
+        SECURITY_OUT => Some(Cdb::SecurityOut { length: number }),
+        _ => None,
     }
 }
 
-// The sixteen bytes of a command with an address and a count of blocks.
-fn ten_bytes_of(operation: u8, address: u32, blocks: u16, forced: bool) -> [u8; 16]
-    ensures { result ≡ ten_bytes operation address blocks forced }
+// Whether the bytes are those of the command that their fields name: REPORT LUNS has a selection of
+// the table, and what no field names is zero.
+fn is_written(cdb: &Cdb, bytes: &[u8; 16]) -> bool
+    requires { named_cdb bytes.now ≡ Some cdb.now }
+    ensures { IsTrue result ↔ Writes cdb.now bytes.now }
 {
-    let mut bytes = [0; 16];
-    bytes[0] = operation;
-    bytes[1] = if forced { FUA } else { 0 };
-    write_u32(&mut bytes, 2, address);
-    write_u16(&mut bytes, 7, blocks);
-    bytes
+    has_selection(cdb) && has_bytes(cdb, bytes)
 }
 
-// Whether this stage takes the command: a WRITE(10) only with FUA.
+// Whether the bytes are the sixteen of the command.
+fn has_bytes(cdb: &Cdb, bytes: &[u8; 16]) -> bool
+    ensures { IsTrue result ↔ (bytes.now ≡ cdb_bytes cdb.now) }
+{
+    bytes_of(cdb) == *bytes
+}
+
+// Whether a REPORT LUNS has a selection of the table.
+fn has_selection(cdb: &Cdb) -> bool
+    ensures { IsTrue result ↔ HasSelection cdb.now }
+{
+    match cdb {
+        Cdb::ReportLuns { select, .. } => *select <= 2,
+        _ => true,
+    }
+}
+
+// Whether this stage takes the operation code: READ(10) and WRITE(10).
+fn has_taken_operation(bytes: &[u8; 16]) -> bool
+    ensures { IsTrue result ↔ IsTakenOperation bytes.now }
+{
+    matches!(bytes[0], READ_10 | WRITE_10)
+}
+
+// Whether this stage takes the command: a READ(10), and a WRITE(10) only with FUA.
 fn is_taken(cdb: &Cdb) -> bool
     ensures { IsTrue result ↔ IsTakenCdb cdb.now }
 {
     match cdb {
         Cdb::Read10 { .. } => true,
         Cdb::Write10 { forced, .. } => *forced,
+        _ => false,
     }
 }

@@ -7,8 +7,7 @@ use Rattle.std.specs.Vec.{with_items}
 use Rattle.std.specs.declared.vec.Vec.{Vec}
 use Rattle.ufs_spec.specs.declared.configs.UnitSpec.{UnitSpec}
 use Rattle.ufs_spec.specs.declared.configs.Numbers.{Numbers}
-use Rattle.ufs_spec.specs.declared.commands.Cmd.{Cmd}
-use Rattle.ufs_spec.specs.declared.commands.Cmd.TheVariants.{Write, Zero, Key, RpmbWrite, SetBoot, SetPermanent}
+use Rattle.ufs_spec.specs.Commands.{Command, Write, Zero, SetKey, RpmbWrite, SetBoot, SetPermanent}
 use Rattle.ufs_spec.specs.Plain.{Plain, zero_block, zero_area, area_len, zero, with_part, apply, after, Shape, shape_of, shape_of_numbers, LiesWithin}
 
 -- Lists
@@ -81,22 +80,22 @@ kept_blocks units unit address blocks there within =
     let same = set-get_or (map length units) unit 0 in
     cc
 
-pub kept_shape : (p : Plain) (c : Cmd) → LiesWithin (shape_of p) c → shape_of (apply p c) ≡ shape_of p
+pub kept_shape : (p : Plain) (c : Command) → LiesWithin (shape_of p) c → shape_of (apply p c) ≡ shape_of p
 kept_shape p (Write unit address blocks) within =
-    let same = kept_blocks p.units unit address blocks.items within.0 within.3 in
+    let same = kept_blocks p.units unit address blocks within.0 within.3 in
     cc
 kept_shape p (Zero unit address count) within =
     let len = length-replicate count zero_block in
     let same = kept_blocks p.units unit address (replicate count zero_block) within.0 (omega (arith, within.3, len)) in
     cc
-kept_shape p (Key bytes) within = refl
+kept_shape p (SetKey bytes) within = refl
 kept_shape p (RpmbWrite address bytes) within =
-    let same = length-with_part (256 * address) bytes.items p.area within.1 in
+    let same = length-with_part (256 * address) bytes p.area within.1 in
     cc
 kept_shape p (SetBoot boot) within = refl
 kept_shape p SetPermanent within = refl
 
-pub kept_shapes : (p : Plain) (cs : List Cmd) → All (LiesWithin (shape_of p)) cs → shape_of (after p cs) ≡ shape_of p
+pub kept_shapes : (p : Plain) (cs : List Command) → All (LiesWithin (shape_of p)) cs → shape_of (after p cs) ≡ shape_of p
 kept_shapes p [] within = refl
 kept_shapes p (c ∷ cs) within =
     let kept = kept_shape p c (within 0 c (omega (arith, refl {a = length (c ∷ cs)}))) in

@@ -1,46 +1,236 @@
--- How SCSI commands and sense data are written as bytes (SPC, SBC).
-use Rattle.std.specs.Prelude.{◌≡◌, ◌<◌, ◌^◌, ◌⊎◌, ℕ, Bool, true, List, [], ◌∷◌, ◌++◌, replicate, slice_index, if◌then◌else◌}
+-- How SCSI commands and sense data are written as bytes, how much data a command has and in which direction, and what
+-- is left of what was expected (SPC, SBC, JESD220).
+use Rattle.std.specs.Prelude.{◌≡◌, ◌<◌, ◌≤◌, ◌+◌, ◌-◌, ◌*◌, ◌^◌, ◌==◌, ℕ, min, nat_lt, Bool, true, List, [], ◌∷◌, ◌++◌, replicate, slice_index, if◌then◌else◌}
 use Rattle.byteorder.specs.Endian.{big_bytes}
+use Rattle.ufs_spec.specs.Messages.{IsAmong}
 use Rattle.ufs_spec.specs.declared.scsi.Cdb.{Cdb}
-use Rattle.ufs_spec.specs.declared.scsi.Cdb.TheVariants.{Read10, Write10}
+use Rattle.ufs_spec.specs.declared.scsi.Cdb.TheVariants.{TestUnitReady, RequestSense, Read6, Write6, Inquiry, ReadCapacity10, Read10, Write10, SynchronizeCache10, Unmap, ReportLuns, SecurityIn, SecurityOut}
 use Rattle.ufs_spec.specs.declared.scsi.Sense.{Sense}
 
--- the sixteen bytes of a command with an address and a count of blocks (SBC, READ(10) and WRITE(10)): the operation
--- code; FUA is bit 3 of byte 1; the address in bytes 2..5; the blocks in bytes 7..8. All else is zero, up to byte 15
-abbrev pub ten_bytes : ℕ → ℕ → ℕ → Bool → List ℕ
-ten_bytes operation address blocks forced =
-    (operation ∷ (if forced then 0x08 else 0x00) ∷ [])
-    ++ big_bytes 4 address ++ (0 ∷ []) ++ big_bytes 2 blocks ++ replicate 7 0
+-- ## The operation codes (SPC, annex on operation codes)
 
--- the operation codes of READ(10) and WRITE(10)
+abbrev pub test_unit_ready : ℕ
+test_unit_ready = 0x00
+
+abbrev pub request_sense : ℕ
+request_sense = 0x03
+
+abbrev pub read_6 : ℕ
+read_6 = 0x08
+
+abbrev pub write_6 : ℕ
+write_6 = 0x0A
+
+abbrev pub inquiry : ℕ
+inquiry = 0x12
+
+abbrev pub read_capacity_10 : ℕ
+read_capacity_10 = 0x25
+
 abbrev pub read_10 : ℕ
 read_10 = 0x28
 
 abbrev pub write_10 : ℕ
 write_10 = 0x2A
 
--- the sixteen bytes of a command
-abbrev pub cdb_bytes : Cdb → List ℕ
-cdb_bytes (Read10 address blocks forced) = ten_bytes read_10 address blocks forced
-cdb_bytes (Write10 address blocks forced) = ten_bytes write_10 address blocks forced
+abbrev pub synchronize_cache_10 : ℕ
+synchronize_cache_10 = 0x35
 
--- the numbers of a command fit their fields
+abbrev pub unmap : ℕ
+unmap = 0x42
+
+abbrev pub report_luns : ℕ
+report_luns = 0xA0
+
+abbrev pub security_in : ℕ
+security_in = 0xA2
+
+abbrev pub security_out : ℕ
+security_out = 0xB5
+
+-- the operation code of a command
+abbrev pub operation_of : Cdb → ℕ
+operation_of TestUnitReady = test_unit_ready
+operation_of (RequestSense allocation) = request_sense
+operation_of (Read6 address blocks) = read_6
+operation_of (Write6 address blocks) = write_6
+operation_of (Inquiry allocation) = inquiry
+operation_of ReadCapacity10 = read_capacity_10
+operation_of (Read10 address blocks forced) = read_10
+operation_of (Write10 address blocks forced) = write_10
+operation_of (SynchronizeCache10 address blocks immediate) = synchronize_cache_10
+operation_of (Unmap list) = unmap
+operation_of (ReportLuns select allocation) = report_luns
+operation_of (SecurityIn length) = security_in
+operation_of (SecurityOut length) = security_out
+
+-- all operation codes of the table
+abbrev pub known_operations : List ℕ
+known_operations =
+    test_unit_ready ∷ request_sense ∷ read_6 ∷ write_6 ∷ inquiry ∷ read_capacity_10 ∷ read_10 ∷ write_10
+    ∷ synchronize_cache_10 ∷ unmap ∷ report_luns ∷ security_in ∷ security_out ∷ []
+
+-- the operation code in byte 0 is one of the table's
+abbrev pub IsKnownOperation : List ℕ → Type 0
+IsKnownOperation bytes = IsAmong known_operations (slice_index bytes 0)
+
+-- ## The bytes of a command: sixteen, and zero where no field is
+
+-- READ(6) and WRITE(6) (SBC): the address in bits 4..0 of byte 1 and in bytes 2 and 3, the blocks in byte 4
+abbrev pub six_bytes : ℕ → ℕ → ℕ → List ℕ
+six_bytes operation address blocks = (operation ∷ []) ++ big_bytes 3 address ++ (blocks ∷ []) ++ replicate 11 0
+
+-- FUA, bit 3 of byte 1 of READ(10) and WRITE(10) (SBC)
+abbrev pub forced_bit : Bool → ℕ
+forced_bit forced = if forced then 0x08 else 0x00
+
+-- IMMED, bit 1 of byte 1 of SYNCHRONIZE CACHE(10) (SBC)
+abbrev pub immediate_bit : Bool → ℕ
+immediate_bit immediate = if immediate then 0x02 else 0x00
+
+-- READ(10), WRITE(10) and SYNCHRONIZE CACHE(10) (SBC): the options in byte 1, the address in bytes 2..5, the blocks in
+-- bytes 7..8
+abbrev pub ten_bytes : ℕ → ℕ → ℕ → ℕ → List ℕ
+ten_bytes operation options address blocks =
+    (operation ∷ options ∷ []) ++ big_bytes 4 address ++ (0 ∷ []) ++ big_bytes 2 blocks ++ replicate 7 0
+
+-- SECURITY PROTOCOL IN and OUT (SPC): the protocol in byte 1, the specific field in bytes 2..3, the length in bytes
+-- 6..9. Protocol ECh with 0001h is that of RPMB (JESD220)
+abbrev pub security_bytes : ℕ → ℕ → List ℕ
+security_bytes operation length =
+    (operation ∷ 0xEC ∷ 0x00 ∷ 0x01 ∷ 0 ∷ 0 ∷ []) ++ big_bytes 4 length ++ replicate 6 0
+
+-- the sixteen bytes of a command. REQUEST SENSE has its allocation length in byte 4 and INQUIRY in bytes 3..4 (SPC);
+-- UNMAP the length of its list in bytes 7..8 (SBC); REPORT LUNS its selection in byte 2 and its allocation length in
+-- bytes 6..9 (SPC)
+abbrev pub cdb_bytes : Cdb → List ℕ
+cdb_bytes TestUnitReady = test_unit_ready ∷ replicate 15 0
+cdb_bytes (RequestSense allocation) = (request_sense ∷ replicate 3 0) ++ (allocation ∷ replicate 11 0)
+cdb_bytes (Read6 address blocks) = six_bytes read_6 address blocks
+cdb_bytes (Write6 address blocks) = six_bytes write_6 address blocks
+cdb_bytes (Inquiry allocation) = (inquiry ∷ replicate 2 0) ++ big_bytes 2 allocation ++ replicate 11 0
+cdb_bytes ReadCapacity10 = read_capacity_10 ∷ replicate 15 0
+cdb_bytes (Read10 address blocks forced) = ten_bytes read_10 (forced_bit forced) address blocks
+cdb_bytes (Write10 address blocks forced) = ten_bytes write_10 (forced_bit forced) address blocks
+cdb_bytes (SynchronizeCache10 address blocks immediate) =
+    ten_bytes synchronize_cache_10 (immediate_bit immediate) address blocks
+cdb_bytes (Unmap list) = (unmap ∷ replicate 6 0) ++ big_bytes 2 list ++ replicate 7 0
+cdb_bytes (ReportLuns select allocation) =
+    (report_luns ∷ 0 ∷ select ∷ replicate 3 0) ++ big_bytes 4 allocation ++ replicate 6 0
+cdb_bytes (SecurityIn length) = security_bytes security_in length
+cdb_bytes (SecurityOut length) = security_bytes security_out length
+
+-- the numbers of a command fit their fields, and REPORT LUNS selects by 00h, 01h or 02h (SPC)
 abbrev pub IsCdb : Cdb → Type 0
+IsCdb TestUnitReady = Unit {0}
+IsCdb (RequestSense allocation) = allocation < 2 ^ 8
+IsCdb (Read6 address blocks) = (address < 2 ^ 21) × (blocks < 2 ^ 8)
+IsCdb (Write6 address blocks) = (address < 2 ^ 21) × (blocks < 2 ^ 8)
+IsCdb (Inquiry allocation) = allocation < 2 ^ 16
+IsCdb ReadCapacity10 = Unit {0}
 IsCdb (Read10 address blocks forced) = (address < 2 ^ 32) × (blocks < 2 ^ 16)
 IsCdb (Write10 address blocks forced) = (address < 2 ^ 32) × (blocks < 2 ^ 16)
+IsCdb (SynchronizeCache10 address blocks immediate) = (address < 2 ^ 32) × (blocks < 2 ^ 16)
+IsCdb (Unmap list) = list < 2 ^ 16
+IsCdb (ReportLuns select allocation) = (select ≤ 2) × (allocation < 2 ^ 32)
+IsCdb (SecurityIn length) = length < 2 ^ 32
+IsCdb (SecurityOut length) = length < 2 ^ 32
 
--- the operation code of a command is one that is known
-abbrev pub IsKnownOperation : List ℕ → Type 0
-IsKnownOperation bytes = (slice_index bytes 0 ≡ read_10) ⊎ (slice_index bytes 0 ≡ write_10)
+-- ## The limit of the first stage: READ(10) and WRITE(10) are taken, and WRITE(10) with FUA alone
 
--- the limit of the first stage: a WRITE(10) has FUA
+-- the operation codes that are taken
+abbrev pub taken_operations : List ℕ
+taken_operations = read_10 ∷ write_10 ∷ []
+
+-- the operation code in byte 0 is one that is taken
+abbrev pub IsTakenOperation : List ℕ → Type 0
+IsTakenOperation bytes = IsAmong taken_operations (slice_index bytes 0)
+
+-- the commands that are taken
 abbrev pub IsTakenCdb : Cdb → Type 0
 IsTakenCdb (Read10 address blocks forced) = Unit {0}
 IsTakenCdb (Write10 address blocks forced) = forced ≡ true
+IsTakenCdb cdb = ⊥
 
 -- the bytes are those of a command that is taken
 abbrev pub SpellsCdb : Cdb → List ℕ → Type 0
 SpellsCdb cdb bytes = IsCdb cdb × IsTakenCdb cdb × (bytes ≡ cdb_bytes cdb)
+
+-- ## What a command asks for
+
+-- a count of blocks in one byte, where 0 means 256 (SBC, READ(6) and WRITE(6))
+abbrev pub six_blocks : ℕ → ℕ
+six_blocks blocks = if blocks == 0 then 256 else blocks
+
+-- how many blocks a READ or a WRITE names (SBC); no other command names any that count
+abbrev pub blocks_of : Cdb → ℕ
+blocks_of (Read6 address blocks) = six_blocks blocks
+blocks_of (Write6 address blocks) = six_blocks blocks
+blocks_of (Read10 address blocks forced) = blocks
+blocks_of (Write10 address blocks forced) = blocks
+blocks_of cdb = 0
+
+-- the first address of a READ or a WRITE (SBC); no other command names one that counts
+abbrev pub address_of : Cdb → ℕ
+address_of (Read6 address blocks) = address
+address_of (Write6 address blocks) = address
+address_of (Read10 address blocks forced) = address
+address_of (Write10 address blocks forced) = address
+address_of cdb = 0
+
+-- how many bytes of data a command has, where REPORT LUNS would list so many units: 4096 a block of a READ or a WRITE
+-- (SBC); of fixed sense data 18 and of INQUIRY data 36, of a list of units 8 and 8 a unit, but no more than the
+-- allocation length (SPC); 8 of READ CAPACITY(10) and the length of UNMAP's list (SBC); the length that SECURITY
+-- PROTOCOL IN or OUT names (SPC)
+abbrev pub length_of : ℕ → Cdb → ℕ
+length_of units (RequestSense allocation) = min allocation 18
+length_of units (Read6 address blocks) = six_blocks blocks * 4096
+length_of units (Write6 address blocks) = six_blocks blocks * 4096
+length_of units (Inquiry allocation) = min allocation 36
+length_of units ReadCapacity10 = 8
+length_of units (Read10 address blocks forced) = blocks * 4096
+length_of units (Write10 address blocks forced) = blocks * 4096
+length_of units (Unmap list) = list
+length_of units (ReportLuns select allocation) = min allocation (8 + 8 * units)
+length_of units (SecurityIn length) = length
+length_of units (SecurityOut length) = length
+length_of units cdb = 0
+
+-- where a command's data go (SAM, data-in and data-out buffers)
+pub data Direction : Type 0 where
+  NoData : Direction
+  ToDevice : Direction
+  ToHost : Direction
+
+abbrev pub direction_of : Cdb → Direction
+direction_of TestUnitReady = NoData
+direction_of (Write6 address blocks) = ToDevice
+direction_of (Write10 address blocks forced) = ToDevice
+direction_of (SynchronizeCache10 address blocks immediate) = NoData
+direction_of (Unmap list) = ToDevice
+direction_of (SecurityOut length) = ToDevice
+direction_of cdb = ToHost
+
+-- ## What is left of what was expected (JESD220, RESPONSE UPIU)
+
+-- the flags of a RESPONSE and its residual transfer count
+pub record Residual : Type 0 where
+  pub flags : ℕ
+  pub count : ℕ
+
+-- what is told where so many bytes were expected and so many were the command's or were carried: underflow (20h) and
+-- how many are missing, overflow (40h) and how many were left over, or neither
+abbrev pub residual_of : ℕ → ℕ → Residual
+residual_of expected length =
+    if nat_lt length expected then record { flags = 0x20; count = expected - length }
+    else if nat_lt expected length then record { flags = 0x40; count = length - expected }
+    else record { flags = 0x00; count = 0 }
+
+-- how many bytes of a command's data are carried where so many are expected: the data are cut there
+abbrev pub carried : ℕ → ℕ → ℕ
+carried expected length = min expected length
+
+-- ## Sense data
 
 -- fixed sense data of eighteen bytes (SPC, 4.5.3): 70h, the sense key in byte 2, ten further bytes, the additional
 -- sense code in byte 12 and its qualifier in byte 13

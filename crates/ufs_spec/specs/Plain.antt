@@ -2,8 +2,7 @@
 -- RPMB; the commands are this profile's).
 use Rattle.std.specs.Prelude.{◌≡◌, ℕ, ◌+◌, ◌*◌, ◌<◌, ◌≤◌, Bool, true, false, List, ◌++◌, length, take, drop, map, fold, replicate, slice_index_or, slice_set, [], Option, Some, None}
 use Rattle.ufs_spec.specs.declared.configs.Numbers.{Numbers}
-use Rattle.ufs_spec.specs.declared.commands.Cmd.{Cmd}
-use Rattle.ufs_spec.specs.declared.commands.Cmd.TheVariants.{Write, Zero, Key, RpmbWrite, SetBoot, SetPermanent}
+use Rattle.ufs_spec.specs.Commands.{Command, Write, Zero, SetKey, RpmbWrite, SetBoot, SetPermanent}
 
 -- the blocks of each unit by their addresses, the boot setting, whether units are protected for ever, the RPMB key
 -- once it is programmed, the bytes of the RPMB area, and its write counter
@@ -61,17 +60,17 @@ with_blocks unit address blocks p =
     record p { units = slice_set p.units unit (with_part address blocks (unit_of unit p)) }
 
 -- what a command leaves. An address of the RPMB area counts blocks of 256 bytes
-abbrev pub apply : Plain → Cmd → Plain
-apply p (Write unit address blocks) = with_blocks unit address blocks.items p
+abbrev pub apply : Plain → Command → Plain
+apply p (Write unit address blocks) = with_blocks unit address blocks p
 apply p (Zero unit address count) = with_blocks unit address (replicate count zero_block) p
-apply p (Key bytes) = record p { key = Some bytes }
+apply p (SetKey bytes) = record p { key = Some bytes }
 apply p (RpmbWrite address bytes) =
-    record p { area = with_part (256 * address) bytes.items p.area; counter = p.counter + 1 }
+    record p { area = with_part (256 * address) bytes p.area; counter = p.counter + 1 }
 apply p (SetBoot boot) = record p { boot = boot }
 apply p SetPermanent = record p { permanent = true }
 
 -- what the commands leave, one after another
-abbrev pub after : Plain → List Cmd → Plain
+abbrev pub after : Plain → List Command → Plain
 after base commands = fold apply base commands
 
 -- Which commands fit
@@ -98,23 +97,23 @@ IsAreaPart s address len =
     ((count : ℕ) × (len ≡ 256 * count) × (1 ≤ count) × (count ≤ 8)) × (256 * address + len ≤ s.area)
 
 -- the command lies within what there is
-abbrev pub LiesWithin : Shape → Cmd → Type 0
-LiesWithin s (Write unit address blocks) = IsBlocksOf s unit address (length blocks.items)
+abbrev pub LiesWithin : Shape → Command → Type 0
+LiesWithin s (Write unit address blocks) = IsBlocksOf s unit address (length blocks)
 LiesWithin s (Zero unit address count) = IsBlocksOf s unit address count
-LiesWithin s (Key bytes) = length bytes ≡ 32
-LiesWithin s (RpmbWrite address bytes) = IsAreaPart s address (length bytes.items)
+LiesWithin s (SetKey bytes) = length bytes ≡ 32
+LiesWithin s (RpmbWrite address bytes) = IsAreaPart s address (length bytes)
 LiesWithin s (SetBoot boot) = boot ≤ 2
 LiesWithin s SetPermanent = Unit {0}
 
 -- an RPMB write finds the counter below its end
-abbrev pub FindsCounter : ℕ → Cmd → Type 0
+abbrev pub FindsCounter : ℕ → Command → Type 0
 FindsCounter counter (RpmbWrite address bytes) = counter < 4294967295
 FindsCounter counter _ = Unit {0}
 
 -- the command lies within the numbers
-abbrev pub FitsIn : Numbers → Cmd → Type 0
+abbrev pub FitsIn : Numbers → Command → Type 0
 FitsIn n command = LiesWithin (shape_of_numbers n) command
 
 -- the command may come in this state
-abbrev pub CanApply : Plain → Cmd → Type 0
+abbrev pub CanApply : Plain → Command → Type 0
 CanApply p command = LiesWithin (shape_of p) command × FindsCounter p.counter command

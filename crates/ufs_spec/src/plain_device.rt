@@ -1,6 +1,6 @@
 //! A device as plain arrays: slow, and exact by its definition. Tests compare with it.
 ghost use Rattle.std.specs.Prelude.{◌≡◌, ◌+◌, ◌*◌, ◌<◌, ◌≤◌, List, [], ◌∷◌, ◌++◌, length, replicate, map, All, IfOk};
-ghost use Rattle.ufs_spec.specs.declared.commands.Cmd.{Cmd};
+ghost use Rattle.ufs_spec.specs.Commands.{Command, command_of};
 ghost use Rattle.ufs_spec.specs.Plain.{Plain, zero_block, zero_area, area_len, zero, with_part, unit_of, block_at, with_blocks, apply, after, shape_of, shape_of_numbers, LiesWithin, CanApply};
 
 use crate::commands::Cmd;
@@ -59,8 +59,8 @@ impl PlainDevice {
     /// Does the command, which must lie within what the device holds. An RPMB write must find the
     /// counter below FFFFFFFFh.
     pub fn apply(&mut self, command: &Cmd)
-        requires { CanApply self.old command.now }
-        ensures { self.new ≡ apply self.old command.now }
+        requires { CanApply self.old (command_of command.now) }
+        ensures { self.new ≡ apply self.old (command_of command.now) }
     {
         match command {
             Cmd::Write {
@@ -252,13 +252,13 @@ fn fill_with_zeros(blocks: &mut [Block])
 
 /// What two lists of commands leave, one after the other, is what the joined list leaves.
 pub fn after_joined_commands()
-    ensures { (p : Plain) (xs ys : List Cmd) → after p (xs ++ ys) ≡ after (after p xs) ys }
+    ensures { (p : Plain) (xs ys : List Command) → after p (xs ++ ys) ≡ after (after p xs) ys }
 {}
 
 /// A command changes neither the counts of units and blocks nor the length of the RPMB area.
 pub fn commands_keep_the_shape()
     ensures new_device { (n : Numbers) → shape_of (zero n) ≡ shape_of_numbers n }
-    ensures one { (p : Plain) (c : Cmd) → LiesWithin (shape_of p) c → shape_of (apply p c) ≡ shape_of p }
-    ensures many { (p : Plain) (cs : List Cmd) → All (LiesWithin (shape_of p)) cs
+    ensures one { (p : Plain) (c : Command) → LiesWithin (shape_of p) c → shape_of (apply p c) ≡ shape_of p }
+    ensures many { (p : Plain) (cs : List Command) → All (LiesWithin (shape_of p)) cs
         → shape_of (after p cs) ≡ shape_of p }
 {}

@@ -1,19 +1,67 @@
-//! SCSI commands and sense data, as far as the device takes them.
+//! SCSI commands and sense data (SPC, SBC).
 
-/// A command as its CDB gives it (SBC, 5).
+/// A command as its CDB gives it (SPC, 4.3).
 #[derive(Clone, Copy, Debug, PartialEq, Eq)]
 pub enum Cdb {
-    /// READ(10): an address and a count of blocks. Its FUA bit changes nothing.
+    /// SPC, TEST UNIT READY.
+    TestUnitReady,
+    /// SPC, REQUEST SENSE: it takes at most `allocation` bytes.
+    RequestSense {
+        allocation: u8,
+    },
+    /// SBC, READ(6): an address of 21 bits, and a count of blocks where 0 means 256.
+    Read6 {
+        address: u32,
+        blocks: u8,
+    },
+    /// SBC, WRITE(6): an address of 21 bits, and a count of blocks where 0 means 256. It has no FUA.
+    Write6 {
+        address: u32,
+        blocks: u8,
+    },
+    /// SPC, INQUIRY: it takes at most `allocation` bytes.
+    Inquiry {
+        allocation: u16,
+    },
+    /// SBC, READ CAPACITY(10).
+    ReadCapacity10,
+    /// SBC, READ(10): an address and a count of blocks. Its FUA bit changes nothing.
     Read10 {
         address: u32,
         blocks: u16,
         forced: bool,
     },
-    /// WRITE(10): with FUA (`forced`) it is answered once its blocks are durable.
+    /// SBC, WRITE(10): with FUA (`forced`) it is answered once its blocks are durable.
     Write10 {
         address: u32,
         blocks: u16,
         forced: bool,
+    },
+    /// SBC, SYNCHRONIZE CACHE(10): with IMMED (`immediate`) it is answered at once. Its address and
+    /// its count of blocks change nothing.
+    SynchronizeCache10 {
+        address: u32,
+        blocks: u16,
+        immediate: bool,
+    },
+    /// SBC, UNMAP: `list` is the length of its parameter list.
+    Unmap {
+        list: u16,
+    },
+    /// SPC, REPORT LUNS: `select` says which units it lists; it takes at most `allocation` bytes.
+    ReportLuns {
+        select: u8,
+        allocation: u32,
+    },
+    /// SPC, SECURITY PROTOCOL IN, of the protocol ECh and the specific field 0001h (JESD220, RPMB):
+    /// the length of its data.
+    SecurityIn {
+        length: u32,
+    },
+    /// SPC, SECURITY PROTOCOL OUT, of the protocol ECh and the specific field 0001h (JESD220, RPMB):
+    /// the length of its data.
+    SecurityOut {
+        length: u32,
     },
 }
 
@@ -26,7 +74,14 @@ pub struct Sense {
 }
 
 impl Sense {
-    /// ILLEGAL REQUEST, invalid command operation code (SPC, 4.5.6).
+    /// ILLEGAL REQUEST, parameter list length error (SPC, 4.5.6).
+    pub const LIST_LENGTH: Sense = Sense {
+        key: 0x05,
+        asc: 0x1A,
+        ascq: 0x00,
+    };
+
+    /// ILLEGAL REQUEST, invalid command operation code.
     pub const INVALID_OPCODE: Sense = Sense {
         key: 0x05,
         asc: 0x20,
@@ -51,6 +106,20 @@ impl Sense {
     pub const NO_UNIT: Sense = Sense {
         key: 0x05,
         asc: 0x25,
+        ascq: 0x00,
+    };
+
+    /// ILLEGAL REQUEST, invalid field in parameter list.
+    pub const INVALID_LIST_FIELD: Sense = Sense {
+        key: 0x05,
+        asc: 0x26,
+        ascq: 0x00,
+    };
+
+    /// ILLEGAL REQUEST, command sequence error.
+    pub const COMMAND_SEQUENCE: Sense = Sense {
+        key: 0x05,
+        asc: 0x2C,
         ascq: 0x00,
     };
 

@@ -1,0 +1,324 @@
+-- Moves that leave pages and groups as they are.
+use Rattle.std.proofs.Common.{◌≡◌, ℕ, suc, ◌+◌, ◌==◌, ◌≤◌, ◌⊎◌, Bool, true, List, max, Option, Some, None, refl, sym, ap, subst, inl, inr, ⊎_elim, arith}
+use Rattle.ufs_spec.specs.Cells.{Cell, GroupPage, Mark, MarkPage}
+use Rattle.ufs_spec.specs.Disk.{Disk, Erasing, Flight, Programming, Reader, Reading, ForTask, ForStep, ForRest, ForNobody, Spot, at_die}
+use Rattle.ufs_spec.specs.Ledger.{Ledger, before_accepted}
+use Rattle.ufs_spec.specs.Moves.{Claim, Keep, LetGo, LetGoAll, ReadRight, ReadWrong, Release, Tell, WantPage, die_idle, is_for, is_for_task, is_pin_of, let_go, without_reader, job_ended, moved, read_right, read_wrong, step_there}
+use Rattle.ufs_spec.specs.Translation.{CopyStep, MarkStep, Mending, Mended, Pin, Plan, RepairStep, Repairing, Rest, Step, StepKind, Translation, Unmarked, is_mended, taken}
+use Rattle.ufs_spec.specs.declared.flash.Place.{Place}
+use Rattle.power_loss.specs.Book.{Book, book, last_number}
+use Rattle.power_loss.specs.Invariant.{FlightsRight, Flights, FrontierRight, HistoryRight, IsLastRepair, IsMarked, IsToCopy, MarkFlightRight, MarksRight, MendingRight, OnePlanRight, PlanRight, RepairingRight, StandsIn, StepRight, UnmarkedRight, Valid}
+use Rattle.power_loss.proofs.OneMore.{at_die_is}
+
+-- what tasks hold does not matter
+pub other_holds : (t : Translation) (claims : ℕ) (pins : List Pin) → Valid t → Valid (record t { claims = claims; pins = pins })
+other_holds t claims pins v = record {
+  book_right = v.book_right;
+  frontier = v.frontier;
+  pages = v.pages;
+  blocks = v.blocks;
+  flights = v.flights;
+  safe = v.safe;
+  numbered = v.numbered;
+  mending = v.mending;
+  step = v.step;
+  plan = v.plan;
+  history = v.history;
+}
+
+-- nor does what pages wait for
+pub other_rests : (t : Translation) (rests : List Rest) → Valid t → Valid (record t { work = record t.work { rests = rests } })
+other_rests t rests v = record {
+  book_right = v.book_right;
+  frontier = v.frontier;
+  pages = v.pages;
+  blocks = v.blocks;
+  flights = v.flights;
+  safe = v.safe;
+  numbered = v.numbered;
+  mending = v.mending;
+  step = v.step;
+  plan = v.plan;
+  history = v.history;
+}
+
+-- Acknowledgements
+
+max_is : (a b : ℕ) → (max a b ≡ a) ⊎ (max a b ≡ b)
+max_is a b = grind arith
+
+mending_is : (b : Book) (d : Disk) (l : Ledger) (held : ℕ) (plan : Option Plan) (step : Option Step) (w : Mending) →
+    MendingRight b d l plan step w → MendingRight b d (record l { held = held }) plan step w
+mending_is b d l held plan step (Unmarked fence lost) m = m
+mending_is b d l held plan step (Repairing left) m = record { mark = m.mark; is = m.is; right = m.right; more = m.more }
+mending_is b d l held plan step Mended m = record { mark = m.mark; is = m.is; right = m.right; more = m.more }
+
+held_history : (b : Book) (repairs held frontier count : ℕ) (mended : Bool) → frontier ≤ last_number b →
+    HistoryRight b repairs held frontier mended → b.top + repairs + count ≤ frontier → HistoryRight b repairs (max held count) frontier mended
+held_history b repairs held frontier count mended up h l = record {
+  within = h.within;
+  contents = h.contents;
+  mending = λ no. let r = h.mending no in (r.0, (let e = r.0 in let z = r.1 in ⊎_elim (λ m. omega arith) (λ m. omega arith) (max_is held count)));
+  durable = ⊎_elim (λ m. ⊎_elim (λ z. inl (omega arith)) (λ z. inr (omega arith)) h.durable) (λ m. inr (omega arith)) (max_is held count);
+}
+
+pub tells : (t : Translation) (count : ℕ) → Valid t → before_accepted t.ledger + count ≤ t.ledger.frontier → Valid (moved t (Tell count))
+tells t count v l = record {
+  book_right = v.book_right;
+  frontier = v.frontier;
+  pages = v.pages;
+  blocks = v.blocks;
+  flights = v.flights;
+  safe = v.safe;
+  numbered = v.numbered;
+  mending = mending_is (book t) t.disk t.ledger (max t.ledger.held count) t.work.plan t.work.step t.work.mending v.mending;
+  step = v.step;
+  plan = v.plan;
+  history = held_history (book t) t.ledger.repairs t.ledger.held t.ledger.frontier count (is_mended t.work.mending) v.frontier.within v.history l;
+}
+
+-- Jobs that are reads
+
+-- no program and no erase more
+pub record IsFewer (f g : Flights) : Type 0 where
+  pub programs : (die : ℕ) (p : Place) (cell : Cell) → g die ≡ Some (Programming p cell) → f die ≡ Some (Programming p cell)
+  pub erases : (die : ℕ) (s : Spot) → g die ≡ Some (Erasing s) → f die ≡ Some (Erasing s)
+
+fewer_flights : (t : Translation) (g : Flights) → Valid t → IsFewer t.disk.flights g →
+    FlightsRight (book t) t.ledger.frontier t.ledger.marks t.disk.blocks t.disk.erasing g t.work.step
+fewer_flights t g v l = record {
+  programs = λ die p cell h. v.flights.programs die p cell (l.programs die p cell h);
+  erases = λ die s h. v.flights.erases die s (l.erases die s h);
+  something = λ die p h. v.flights.something die p (l.programs die p _ h);
+  known = λ die p tag body h. v.flights.known die p tag body (l.programs die p (GroupPage tag body) h);
+  recorded = λ die p tag body h. v.flights.recorded die p tag body (l.programs die p (GroupPage tag body) h);
+  mark = λ die p m h. v.flights.mark die p m (l.programs die p (MarkPage m) h);
+  one_mark = λ d e p q m other h k. v.flights.one_mark d e p q m other (l.programs d p (MarkPage m) h) (l.programs e q (MarkPage other) k);
+}
+
+fewer_marks : (t : Translation) (g : Flights) (m : Mark) → IsFewer t.disk.flights g →
+    MarksRight (book t) t.ledger.frontier t.ledger.marks t.disk.cells t.disk.finished t.disk.blocks t.disk.erasing t.disk.flights m →
+    MarksRight (book t) t.ledger.frontier t.ledger.marks t.disk.cells t.disk.finished t.disk.blocks t.disk.erasing g m
+fewer_marks t g m l r = record {
+  stands = r.stands;
+  within = r.within;
+  numbers = r.numbers;
+  whole = r.whole;
+  ended = r.ended;
+  known = r.known;
+  same = r.same;
+  freed = r.freed;
+  flies = λ die p other h. r.flies die p other (l.programs die p (MarkPage other) h);
+}
+
+fewer_mending : (t : Translation) (g : Flights) (w : Mending) → IsFewer t.disk.flights g →
+    MendingRight (book t) t.disk t.ledger t.work.plan t.work.step w →
+    MendingRight (book t) (record t.disk { flights = g }) t.ledger t.work.plan t.work.step w
+fewer_mending t g (Unmarked fence lost) l m = record {
+  opening = m.opening;
+  opened = m.opened;
+  fence_right = m.fence_right;
+  lost_right = m.lost_right;
+  none_new = m.none_new;
+  still = m.still;
+  same = m.same;
+  flies = λ die p cell h. m.flies die p cell (l.programs die p cell h);
+  blank = m.blank;
+  no_plan = m.no_plan;
+}
+fewer_mending t g (Repairing left) l m = record { mark = m.mark; is = m.is; right = fewer_marks t g m.mark l m.right; more = m.more }
+fewer_mending t g Mended l m = record { mark = m.mark; is = m.is; right = fewer_marks t g m.mark l m.right; more = m.more }
+
+fewer_plan : (b : Book) (frontier : ℕ) (standing : ℕ → ℕ → Option Place) (t : Translation) (g : Flights) (step : Option Step) (pl : Plan) → IsFewer t.disk.flights g →
+    OnePlanRight b frontier standing t.disk.blocks t.disk.flights step pl → OnePlanRight b frontier standing t.disk.blocks g step pl
+fewer_plan b frontier standing t g step pl l r = record {
+  state = r.state;
+  copied = r.copied;
+  flown = λ die q m h. r.flown die q m (l.programs die q (MarkPage m) h);
+}
+
+-- reads may begin and end
+pub other_reads : (t : Translation) (g : Flights) → Valid t → IsFewer t.disk.flights g → Valid (record t { disk = record t.disk { flights = g } })
+other_reads t g v l = record {
+  book_right = v.book_right;
+  frontier = v.frontier;
+  pages = v.pages;
+  blocks = v.blocks;
+  flights = fewer_flights t g v l;
+  safe = v.safe;
+  numbered = v.numbered;
+  mending = fewer_mending t g t.work.mending l v.mending;
+  step = v.step;
+  plan = record {
+    mended = v.plan.mended;
+    one = λ pl e. fewer_plan (book t) t.ledger.frontier t.ledger.standing t g t.work.step pl l (v.plan.one pl e);
+  };
+  history = v.history;
+}
+
+-- a read instead of no job
+read_begun : (t : Translation) (die : ℕ) (reader : Reader) (place : Place) → IsFewer t.disk.flights (at_die t.disk.flights die (Some (Reading reader place)))
+read_begun t die reader place = record {
+  programs = λ e p cell h. ⊎_elim (λ (k : (e ≡ die) × (Some (Reading reader place) ≡ Some (Programming p cell))). absurd (program p cell k.1)) (λ k. k.1) (at_die_is t.disk.flights die (Some (Reading reader place)) e (Some (Programming p cell)) h);
+  erases = λ e s h. ⊎_elim (λ (k : (e ≡ die) × (Some (Reading reader place) ≡ Some (Erasing s))). absurd (erase s k.1)) (λ k. k.1) (at_die_is t.disk.flights die (Some (Reading reader place)) e (Some (Erasing s)) h);
+}
+  where
+    program : (p : Place) (cell : Cell) → Some (Reading reader place) ≡ Some (Programming p cell) → ⊥
+    program p cell e = cc
+
+    erase : (s : Spot) → Some (Reading reader place) ≡ Some (Erasing s) → ⊥
+    erase s e = cc
+
+pub idle_fewer : (f : Flights) (die : ℕ) → IsFewer f (at_die f die None)
+idle_fewer f die = record {
+  programs = λ e p cell h. ⊎_elim (λ (k : (e ≡ die) × (None ≡ Some (Programming p cell))). absurd (some (Programming p cell) k.1)) (λ k. k.1) (at_die_is f die None e (Some (Programming p cell)) h);
+  erases = λ e s h. ⊎_elim (λ (k : (e ≡ die) × (None ≡ Some (Erasing s))). absurd (some (Erasing s) k.1)) (λ k. k.1) (at_die_is f die None e (Some (Erasing s)) h);
+}
+  where
+    some : (flight : Flight) → None ≡ Some flight → ⊥
+    some flight e = cc
+
+pub takes_read : (t : Translation) (die : ℕ) (reader : Reader) (place : Place) → Valid t → Valid (taken t die (Reading reader place))
+takes_read t die reader place v = other_reads t (at_die t.disk.flights die (Some (Reading reader place))) v (read_begun t die reader place)
+
+idle : (t : Translation) (die : ℕ) → Valid t → Valid (die_idle t die)
+idle t die v = other_reads t (at_die t.disk.flights die None) v (idle_fewer t.disk.flights die)
+
+-- The step's content is there
+
+there_kind : (s : Option Step) (x : Step) → step_there s ≡ Some x → (y : Step) × (s ≡ Some y) × (x.kind ≡ y.kind)
+there_kind None x e = cc
+there_kind (Some y) x e = (y, refl, ap (λ (z : Step). z.kind) (sym (is (record y { there = true }) x e)))
+  where
+    is : (a b : Step) → Some a ≡ Some b → a ≡ b
+    is a b e = cc
+
+kind_there : (s : Option Step) (kind : StepKind) (there : Bool) → s ≡ Some (record { kind = kind; there = there }) → step_there s ≡ Some (record { kind = kind; there = true })
+kind_there s kind there e = ap step_there e
+
+there_flights : (b : Book) (frontier marks : ℕ) (d : Disk) (s : Option Step) →
+    FlightsRight b frontier marks d.blocks d.erasing d.flights s → FlightsRight b frontier marks d.blocks d.erasing d.flights (step_there s)
+there_flights b frontier marks d s r = record {
+  programs = r.programs;
+  erases = r.erases;
+  something = r.something;
+  known = r.known;
+  recorded = r.recorded;
+  mark = λ die p m h. let f = r.mark die p m h in record { number = f.number; numbers_right = f.numbers_right; there = true; step_is = kind_there s (MarkStep m.number m.fence) f.there f.step_is };
+  one_mark = r.one_mark;
+}
+
+there_mending : (b : Book) (d : Disk) (l : Ledger) (plan : Option Plan) (s : Option Step) (w : Mending) →
+    MendingRight b d l plan s w → MendingRight b d l plan (step_there s) w
+there_mending b d l plan s (Unmarked fence lost) m = m
+there_mending b d l plan s (Repairing left) m = record {
+  mark = m.mark;
+  is = m.is;
+  right = m.right;
+  more = record {
+    fence = m.more.fence;
+    repaired = m.more.repaired;
+    keys = m.more.keys;
+    singles = m.more.singles;
+    under_way = ⊎_elim (λ e. inl e) (λ (e : (suc l.frontier ≡ last_number b) × IsLastRepair b s). inr (e.0, (e.1.0, true, kind_there s (RepairStep (record { number = last_number b; index = 0 }) e.1.0) e.1.1 e.1.2))) m.more.under_way;
+    blank = m.more.blank;
+    no_plan = m.more.no_plan;
+  };
+}
+there_mending b d l plan s Mended m = record { mark = m.mark; is = m.is; right = m.right; more = m.more }
+
+there_copy : (copies : List Place) (s : Option Step) (n i : ℕ) (p : Place) → IsToCopy copies s n i p → IsToCopy copies (step_there s) n i p
+there_copy copies s n i p (inl h) = inl h
+there_copy copies s n i p (inr h) = inr (true, kind_there s (CopyStep (record { number = n; index = i }) p) h.0 h.1)
+
+there_plan : (b : Book) (frontier : ℕ) (standing : ℕ → ℕ → Option Place) (d : Disk) (s : Option Step) (pl : Plan) →
+    OnePlanRight b frontier standing d.blocks d.flights s pl → OnePlanRight b frontier standing d.blocks d.flights (step_there s) pl
+there_plan b frontier standing d s pl r = record {
+  state = r.state;
+  copied = λ n i e p h. ⊎_elim (λ o. inl o) (λ c. inr (there_copy pl.copies s n i p c)) (r.copied n i e p h);
+  flown = r.flown;
+}
+
+pub content_there : (t : Translation) → Valid t → Valid (record t { work = record t.work { step = step_there t.work.step } })
+content_there t v = record {
+  book_right = v.book_right;
+  frontier = v.frontier;
+  pages = v.pages;
+  blocks = v.blocks;
+  flights = there_flights (book t) t.ledger.frontier t.ledger.marks t.disk t.work.step v.flights;
+  safe = v.safe;
+  numbered = v.numbered;
+  mending = there_mending (book t) t.disk t.ledger t.work.plan t.work.step t.work.mending v.mending;
+  step = record {
+    kind = λ x e.
+        let y = there_kind t.work.step x e in
+        subst (Rattle.power_loss.specs.Invariant.StepKindRight (book t) t.ledger.marks t.disk.cells t.work.mending t.work.plan) (sym y.2) (v.step.kind y.0 y.1);
+  };
+  plan = record {
+    mended = v.plan.mended;
+    one = λ pl e. there_plan (book t) t.ledger.frontier t.ledger.standing t.disk t.work.step pl (v.plan.one pl e);
+  };
+  history = v.history;
+}
+
+pub reads_right : (t : Translation) (reader : Reader) → Valid t → Valid (read_right t reader)
+reads_right t (ForTask tag index) v = other_holds t t.claims _ v
+reads_right t ForNobody v = v
+reads_right t ForStep v = content_there t v
+reads_right t (ForRest number index) v = other_rests t _ v
+
+pub reads_wrong : (t : Translation) (reader : Reader) → Valid t → Valid (read_wrong t reader)
+reads_wrong t (ForTask tag index) v = other_holds t t.claims _ v
+reads_wrong t ForStep v = v
+reads_wrong t (ForRest number index) v = v
+reads_wrong t ForNobody v = v
+
+-- a read ends
+pub ends_read_right : (t : Translation) (die : ℕ) (reader : Reader) (place : Place) → Valid t → Valid (job_ended t die (Reading reader place) ReadRight)
+ends_read_right t die reader place v = reads_right (die_idle t die) reader (idle t die v)
+
+pub ends_read_wrong : (t : Translation) (die : ℕ) (reader : Reader) (place : Place) → Valid t → Valid (job_ended t die (Reading reader place) ReadWrong)
+ends_read_wrong t die reader place v = reads_wrong (die_idle t die) reader (idle t die v)
+
+-- What tasks do
+
+pub claims : (t : Translation) (count : ℕ) → Valid t → Valid (moved t (Claim count))
+claims t count v = other_holds t _ t.pins v
+
+pub releases : (t : Translation) (count : ℕ) → Valid t → Valid (moved t (Release count))
+releases t count v = other_holds t _ t.pins v
+
+pub keeps : (t : Translation) (pin : Pin) → Valid t → Valid (moved t (Keep pin))
+keeps t pin v = other_holds t t.claims _ v
+
+pub wants_page : (t : Translation) (tag index : ℕ) → Valid t → Valid (moved t (WantPage tag index))
+wants_page t tag index v = other_holds t t.claims _ v
+
+program_is : (reads : Reader → Bool) (x : Option Flight) (p : Place) (cell : Cell) → without_reader reads x ≡ Some (Programming p cell) → x ≡ Some (Programming p cell)
+program_is reads None p cell h = h
+program_is reads (Some (Reading reader q)) p cell h = cc
+program_is reads (Some (Programming q c)) p cell h = h
+program_is reads (Some (Erasing s)) p cell h = h
+
+erase_is : (reads : Reader → Bool) (x : Option Flight) (s : Spot) → without_reader reads x ≡ Some (Erasing s) → x ≡ Some (Erasing s)
+erase_is reads None s h = h
+erase_is reads (Some (Reading reader q)) s h = cc
+erase_is reads (Some (Programming q c)) s h = h
+erase_is reads (Some (Erasing other)) s h = h
+
+gone_fewer : (f : Flights) (reads : Reader → Bool) → IsFewer f (λ die. without_reader reads (f die))
+gone_fewer f reads = record {
+  programs = λ die p cell h. program_is reads (f die) p cell h;
+  erases = λ die s h. erase_is reads (f die) s h;
+}
+
+gone : (t : Translation) (held : Pin → Bool) (reads : Reader → Bool) → Valid t → Valid (let_go t held reads)
+gone t held reads v =
+    other_holds (record t { disk = record t.disk { flights = λ die. without_reader reads (t.disk.flights die) } }) t.claims _
+    (other_reads t (λ die. without_reader reads (t.disk.flights die)) v (gone_fewer t.disk.flights reads))
+
+pub lets_go : (t : Translation) (tag index : ℕ) → Valid t → Valid (moved t (LetGo tag index))
+lets_go t tag index v = gone t (is_pin_of tag index) (is_for tag index) v
+
+pub lets_go_all : (t : Translation) (tag : ℕ) → Valid t → Valid (moved t (LetGoAll tag))
+lets_go_all t tag v = gone t (λ (pin : Pin). pin.tag == tag) (is_for_task tag) v

@@ -1,0 +1,240 @@
+-- The page that has a key's content at the frontier is the last of the pages of the key that are not lost.
+use Rattle.std.proofs.Common.{◌≡◌, ℕ, zero, suc, ◌+◌, ◌-◌, ◌<◌, ◌≤◌, ◌⊎◌, ◌&&◌, ◌==◌, Bool, true, false, List, [], ◌∷◌, get_or, length, take, Option, Some, None, slice_get, refl, sym, ap, ◌∙◌, subst, inl, inr, ⊎_elim, arith, le-ltb, lt-ltb}
+use Rattle.std.specs.Prelude.{position}
+use Rattle.std.specs.List.{position_or_len}
+use Rattle.std.proofs.lemmas.Option.{get_or_from_slice_get, slice_get_cases, slice_get_within}
+use Rattle.std.proofs.lemmas.List.Sums.{fails_before_first, passes_at_first}
+use Rattle.ufs_spec.specs.Cells.{Mark}
+use Rattle.ufs_spec.specs.Keys.{Group, Item, same_key}
+use Rattle.ufs_spec.specs.Ledger.{Entry, Name, index_in, is_name, latest_durable, latest_in, name_or, same_name}
+use Rattle.ufs_spec.specs.Translation.{Mended, Translation}
+use Rattle.ufs_spec.specs.declared.flash.Key.{Key}
+use Rattle.power_loss.specs.Book.{Book, FirstRight, IsLostNumber, IsOverwritten, IsPageAt, IsPlainMark, book}
+use Rattle.power_loss.specs.Invariant.{MendingRight, Valid}
+use Rattle.power_loss.proofs.Books.{at_most, false_true, is_old, new_page, none_some, old_page, page_new, some_is}
+use Rattle.power_loss.proofs.OneMore.{and_true, eq_self, eq_told, name_is, name_self}
+
+-- Lists
+
+-- the first element that passes, or none does
+pub position_cases : {X : Type 0} (p : X → Bool) (xs : List X) →
+    ((i : ℕ) × (x : X) × (position p xs ≡ Some i) × (slice_get xs i ≡ Some x) × (p x ≡ true))
+    ⊎ ((position p xs ≡ None) × ((j : ℕ) (y : X) → slice_get xs j ≡ Some y → p y ≡ false))
+position_cases {X} p xs = ⊎_elim past within (at_most (length xs) (position_or_len p xs))
+  where
+    past : length xs ≤ position_or_len p xs → ((i : ℕ) × (x : X) × (position p xs ≡ Some i) × (slice_get xs i ≡ Some x) × (p x ≡ true))
+        ⊎ ((position p xs ≡ None) × ((j : ℕ) (y : X) → slice_get xs j ≡ Some y → p y ≡ false))
+    past l =
+        inr (
+          rw (le-ltb (position_or_len p xs) (length xs) l),
+          λ j y h. let w = slice_get_within xs j y h in ap p (sym (get_or_from_slice_get xs j y y h)) ∙ fails_before_first p xs j y (omega arith),
+        )
+
+    within : position_or_len p xs < length xs → ((i : ℕ) × (x : X) × (position p xs ≡ Some i) × (slice_get xs i ≡ Some x) × (p x ≡ true))
+        ⊎ ((position p xs ≡ None) × ((j : ℕ) (y : X) → slice_get xs j ≡ Some y → p y ≡ false))
+    within l =
+        ⊎_elim
+        (λ (c : (x : X) × (position_or_len p xs < length xs) × (slice_get xs (position_or_len p xs) ≡ Some x) × (get_or xs (position_or_len p xs) x ≡ x)).
+        inl (position_or_len p xs, c.0, rw (lt-ltb (position_or_len p xs) (length xs) l), c.2, ap p (sym c.3) ∙ passes_at_first p xs c.0 l))
+        (λ c. let z = c.0 in absurd (omega arith))
+        (slice_get_cases xs (position_or_len p xs)).1
+
+pub get_take : {A : Type 0} (m : ℕ) (xs : List A) (j : ℕ) (x : A) → slice_get (take m xs) j ≡ Some x → (j < m) × (slice_get xs j ≡ Some x)
+get_take zero xs j x h = cc
+get_take (suc m) [] j x h = cc
+get_take (suc m) (y ∷ ys) zero x h = (omega arith, h)
+get_take (suc m) (y ∷ ys) (suc j) x h = let r = get_take m ys j x h in (omega (arith, r.0), r.1)
+
+pub take_get : {A : Type 0} (m : ℕ) (xs : List A) (j : ℕ) (x : A) → j < m → slice_get xs j ≡ Some x → slice_get (take m xs) j ≡ Some x
+take_get zero xs j x l h = absurd (omega arith)
+take_get (suc m) [] j x l h = cc
+take_get (suc m) (y ∷ ys) zero x l h = h
+take_get (suc m) (y ∷ ys) (suc j) x l h = take_get m ys j x (omega arith) h
+
+-- Keys
+
+pub key_is : (j k : Key) → j.kind ≡ k.kind → j.unit ≡ k.unit → j.address ≡ k.address → j ≡ k
+key_is j k d e f = λ i. record { kind = d i; unit = e i; address = f i }
+
+pub key_told : (j k : Key) → same_key j k ≡ true → j ≡ k
+key_told j k h =
+    let r = and_true ((j.kind == k.kind) && (j.unit == k.unit)) (j.address == k.address) h in
+    let u = and_true (j.kind == k.kind) (j.unit == k.unit) r.0 in
+    key_is j k (eq_told j.kind k.kind u.0) (eq_told j.unit k.unit u.1) (eq_told j.address k.address r.1)
+
+pub key_self : (k : Key) → same_key k k ≡ true
+key_self k = rw (eq_self k.kind) (rw (eq_self k.unit) (eq_self k.address))
+
+-- The last group that has the key
+
+pub record IsLastOf (k : Key) (n : ℕ) (gs : List Group) (o : Option Name) : Type 0 where
+  pub name : Name
+  pub is : o ≡ Some name
+  pub at : ℕ
+  pub group : Group
+  pub there : slice_get gs at ≡ Some group
+  pub item : Item
+  pub has : slice_get group name.index ≡ Some item
+  pub key : item.key ≡ k
+  pub number : name.number ≡ suc (n + at)
+  pub last : (j i : ℕ) (g : Group) (x : Item) → slice_get gs j ≡ Some g → slice_get g i ≡ Some x → x.key ≡ k → j ≤ at
+
+abbrev pub NoneOf : Key → List Group → Type 0
+NoneOf k gs = (j i : ℕ) (g : Group) (x : Item) → slice_get gs j ≡ Some g → slice_get g i ≡ Some x → x.key ≡ k → ⊥
+
+lasts_on : (k : Key) (n : ℕ) (g : Group) (gs : List Group) (o : Option Name) → IsLastOf k (suc n) gs o → IsLastOf k n (g ∷ gs) o
+lasts_on k n g gs o r = record {
+  name = r.name;
+  is = r.is;
+  at = suc r.at;
+  group = r.group;
+  there = r.there;
+  item = r.item;
+  has = r.has;
+  key = r.key;
+  number = let e = r.number in omega arith;
+  last = still;
+}
+  where
+    still : (j i : ℕ) (h : Group) (x : Item) → slice_get (g ∷ gs) j ≡ Some h → slice_get h i ≡ Some x → x.key ≡ k → j ≤ suc r.at
+    still zero i h x a b c = omega arith
+    still (suc j) i h x a b c = let l = r.last j i h x a b c in omega arith
+
+lasts_here : (k : Key) (n : ℕ) (g : Group) (gs : List Group) (o : Option Name) (i : ℕ) (x : Item) → o ≡ Some (record { number = suc n; index = i }) →
+    slice_get g i ≡ Some x → x.key ≡ k → NoneOf k gs → IsLastOf k n (g ∷ gs) o
+lasts_here k n g gs o i x e h same none = record {
+  name = record { number = suc n; index = i };
+  is = e;
+  at = 0;
+  group = g;
+  there = refl;
+  item = x;
+  has = h;
+  key = same;
+  number = omega arith;
+  last = still;
+}
+  where
+    still : (j i : ℕ) (h : Group) (x : Item) → slice_get (g ∷ gs) j ≡ Some h → slice_get h i ≡ Some x → x.key ≡ k → j ≤ 0
+    still zero i h x a b c = omega arith
+    still (suc j) i h x a b c = absurd (none j i h x a b c)
+
+none_on : (k : Key) (g : Group) (gs : List Group) → ((j : ℕ) (y : Item) → slice_get g j ≡ Some y → same_key y.key k ≡ false) → NoneOf k gs → NoneOf k (g ∷ gs)
+none_on k g gs here none zero i h x a b c =
+    false_true (sym (here i x (ap (λ (z : Group). slice_get z i) (some_is g h a) ∙ b)) ∙ subst (λ z. same_key x.key z ≡ true) c (key_self x.key))
+none_on k g gs here none (suc j) i h x a b c = none j i h x a b c
+
+pub latest_cases : (k : Key) (n : ℕ) (gs : List Group) (older : Option Name) →
+    IsLastOf k n gs (latest_in k n gs older) ⊎ ((latest_in k n gs older ≡ older) × NoneOf k gs)
+latest_cases k n [] older = inr (refl, λ j i g x a b c. none_some g a)
+latest_cases k n (g ∷ gs) older =
+    ⊎_elim
+    (λ r. inl (lasts_on k n g gs (latest_in k (suc n) gs (name_or (suc n) (index_in k g) older)) r))
+    (λ (r : (latest_in k (suc n) gs (name_or (suc n) (index_in k g) older) ≡ name_or (suc n) (index_in k g) older) × NoneOf k gs).
+    ⊎_elim
+    (λ (c : (i : ℕ) × (x : Item) × (index_in k g ≡ Some i) × (slice_get g i ≡ Some x) × (same_key x.key k ≡ true)).
+    inl (lasts_here k n g gs (latest_in k (suc n) gs (name_or (suc n) (index_in k g) older)) c.0 c.1 (r.0 ∙ ap (λ o. name_or (suc n) o older) c.2) c.3 (key_told c.1.key k c.4) r.1))
+    (λ (c : (index_in k g ≡ None) × ((j : ℕ) (y : Item) → slice_get g j ≡ Some y → same_key y.key k ≡ false)).
+    inr (r.0 ∙ ap (λ o. name_or (suc n) o older) c.0, none_on k g gs c.1 r.1))
+    (position_cases (λ (item : Item). same_key item.key k) g))
+    (latest_cases k (suc n) gs (name_or (suc n) (index_in k g) older))
+
+-- At the frontier
+
+abbrev Latest : Translation → ℕ → ℕ → Entry → Type 0
+Latest t n i e =
+    (is_name (record { number = n; index = i }) (latest_durable t.ledger e.item.key) ≡ true)
+    ⊎ IsOverwritten (book t) n e.item.key t.ledger.frontier
+
+-- the key's page there is at or behind the page
+latest_name : (t : Translation) (n i : ℕ) (e : Entry) (name : Name) (f : Entry) → Valid t → IsPageAt (book t) n i e →
+    latest_durable t.ledger e.item.key ≡ Some name → IsPageAt (book t) name.number name.index f → f.item.key ≡ e.item.key →
+    (IsLostNumber (book t) name.number → ⊥) → name.number ≤ t.ledger.frontier → n ≤ name.number → Latest t n i e
+latest_name t n i e name f v h is page key free within l = ⊎_elim same newer (at_most name.number n)
+  where
+    newer : n < name.number → Latest t n i e
+    newer u = inr (record { number = name.number; index = name.index; page = f; is = page; key = key; newer = u; within = within; free = free })
+
+    same : name.number ≤ n → Latest t n i e
+    same u =
+        let at : name.number ≡ n = omega arith in
+        let index = v.book_right.differ n name.index i f e (subst (λ z. IsPageAt (book t) z name.index f) at page) h key in
+        inl (ap (is_name (record { number = n; index = i })) is ∙ subst (λ (z : Name). same_name z name ≡ true) (name_is name (record { number = n; index = i }) at index) (name_self name))
+
+-- no group of this life at or under the frontier has the key
+none_written : (t : Translation) (n i : ℕ) (e : Entry) (k : Key) → NoneOf k (take (t.ledger.frontier - t.ledger.top) t.ledger.groups) →
+    IsPageAt (book t) n i e → e.item.key ≡ k → t.ledger.top < n → n ≤ t.ledger.frontier → ⊥
+none_written t n i e k none h key new l =
+    let p = page_new (book t) n i e new h in
+    none (n - t.ledger.top - 1) i p.group e.item (take_get (t.ledger.frontier - t.ledger.top) t.ledger.groups (n - t.ledger.top - 1) p.group (omega arith) p.is) p.item key
+
+latest_group : (t : Translation) (n i : ℕ) (e : Entry) → Valid t → IsPageAt (book t) n i e → n ≤ t.ledger.frontier →
+    IsLastOf e.item.key t.ledger.top (take (t.ledger.frontier - t.ledger.top) t.ledger.groups) (latest_durable t.ledger e.item.key) → Latest t n i e
+latest_group t n i e v h l r =
+    latest_name t n i e r.name (record { item = r.item; size = length r.group }) v h r.is
+    (new_page (book t) r.name.number r.name.index (record { item = r.item; size = length r.group }) (let z = r.number in omega arith)
+    (record {
+      group = r.group;
+      is = ap (slice_get t.ledger.groups) (let z = r.number in omega arith) ∙ there.1;
+      item = r.has;
+      size = refl;
+    }))
+    r.key
+    (λ lost. let z = r.number in let up = lost.to in omega arith)
+    (let z = r.number in let u = there.0 in omega arith)
+    (⊎_elim (λ old. let z = r.number in omega arith) after (at_most n t.ledger.top))
+  where
+    there : (r.at < t.ledger.frontier - t.ledger.top) × (slice_get t.ledger.groups r.at ≡ Some r.group)
+    there = get_take (t.ledger.frontier - t.ledger.top) t.ledger.groups r.at r.group r.there
+
+    after : t.ledger.top < n → n ≤ r.name.number
+    after new =
+        let p = page_new (book t) n i e new h in
+        let last = r.last (n - t.ledger.top - 1) i p.group e.item (take_get (t.ledger.frontier - t.ledger.top) t.ledger.groups (n - t.ledger.top - 1) p.group (omega arith) p.is) p.item refl in
+        let z = r.number in
+        omega arith
+
+-- an old number that is not lost is below those that are
+under : (b : Book) (n : ℕ) → (IsLostNumber b n → ⊥) → n ≤ b.top → n < b.low
+under b n free old = ⊎_elim (λ l. absurd (free (record { from = l; to = old }))) (λ l. l) (at_most b.low n)
+
+latest_first : (t : Translation) (n i : ℕ) (e : Entry) (o : Option Name) (m : Mark) → Valid t → IsPlainMark (book t) m → m.records ≤ t.ledger.frontier →
+    IsPageAt (book t) n i e → (IsLostNumber (book t) n → ⊥) → n ≤ t.ledger.top →
+    NoneOf e.item.key (take (t.ledger.frontier - t.ledger.top) t.ledger.groups) → latest_durable t.ledger e.item.key ≡ o →
+    FirstRight (book t) e.item.key o → Latest t n i e
+latest_first t n i e None m v plain marked h free old none is first =
+    absurd (first n i e (is_old (book t) n i e old h) refl (under (book t) n free old))
+latest_first t n i e (Some name) m v plain marked h free old none is first = ⊎_elim lost last first.3
+  where
+    lost : IsLostNumber (book t) name.number → Latest t n i e
+    lost at =
+        let w = plain.repaired name.number name.index first.0 at first.1 in
+        let u = w.within in
+        absurd (none_written t w.number w.index w.page e.item.key none w.is (w.key ∙ first.2) w.new (omega arith))
+
+    last : (name.number < t.ledger.low) × ((k j : ℕ) (f : Entry) → t.ledger.old k j ≡ Some f → f.item.key ≡ e.item.key → k < t.ledger.low → k ≤ name.number) → Latest t n i e
+    last r =
+        let low = v.book_right.low in
+        let below = r.0 in
+        let above = v.frontier.above in
+        latest_name t n i e name first.0 v h is (old_page (book t) name.number name.index first.0 (omega arith) first.1) first.2
+        (λ lost. let from = lost.from in omega arith)
+        (omega arith)
+        (r.1 n i e (is_old (book t) n i e old h) refl (under (book t) n free old))
+
+-- a page that is not lost, at or under the frontier, is the one with the content of its key there, or is overwritten
+pub latest_or_overwritten : (t : Translation) (n i : ℕ) (e : Entry) → Valid t → t.work.mending ≡ Mended → IsPageAt (book t) n i e →
+    (IsLostNumber (book t) n → ⊥) → n ≤ t.ledger.frontier →
+    (is_name (record { number = n; index = i }) (latest_durable t.ledger e.item.key) ≡ true) ⊎ IsOverwritten (book t) n e.item.key t.ledger.frontier
+latest_or_overwritten t n i e v mended h free l =
+    ⊎_elim (latest_group t n i e v h l) none (latest_cases e.item.key t.ledger.top (take (t.ledger.frontier - t.ledger.top) t.ledger.groups) (t.ledger.first e.item.key))
+  where
+    marked : MendingRight (book t) t.disk t.ledger t.work.plan t.work.step Mended
+    marked = subst (MendingRight (book t) t.disk t.ledger t.work.plan t.work.step) mended v.mending
+
+    none : (latest_durable t.ledger e.item.key ≡ t.ledger.first e.item.key) × NoneOf e.item.key (take (t.ledger.frontier - t.ledger.top) t.ledger.groups) → Latest t n i e
+    none r =
+        ⊎_elim
+        (λ old. latest_first t n i e (t.ledger.first e.item.key) marked.mark v marked.more marked.right.within h free old r.1 r.0 (v.book_right.first e.item.key (v.book_right.keys n i e h)))
+        (λ new. absurd (none_written t n i e e.item.key r.1 h refl new l))
+        (at_most n t.ledger.top)

@@ -1,0 +1,148 @@
+-- The contents at the life's start, by the pages of earlier lives.
+use Rattle.std.proofs.Common.{◌≡◌, ℕ, suc, ◌<◌, ◌≤◌, ◌⊎◌, Bool, List, Option, Some, None, sym, ◌∙◌, subst, inl, inr, ⊎_elim, arith}
+use Rattle.ufs_spec.specs.Cells.{GroupPage}
+use Rattle.ufs_spec.specs.Disk.{Spot}
+use Rattle.ufs_spec.specs.Kept.{Counts, HasNone, Holds, IsFenced, IsNewest, fence_in}
+use Rattle.ufs_spec.specs.Ledger.{Entry, Name}
+use Rattle.ufs_spec.specs.Openings.{IsFirst}
+use Rattle.ufs_spec.specs.Plain.{zero_block}
+use Rattle.ufs_spec.specs.Sound.{SamePage}
+use Rattle.ufs_spec.specs.Translation.{Translation}
+use Rattle.ufs_spec.specs.declared.flash.Fence.{Fence}
+use Rattle.ufs_spec.specs.declared.flash.Key.{Key}
+use Rattle.ufs_spec.specs.declared.flash.Place.{Place}
+use Rattle.ufs_spec.specs.declared.flash.Tag.{Tag}
+use Rattle.power_loss.specs.Book.{BaseAt, BaseNone, BookRight, FirstRight, HasKey, IsPageAt, book}
+use Rattle.power_loss.proofs.OpeningBook.{Opened, low_cases, low_within, no_group, old_page, old_within, only_old, page_is_old, shown, split}
+
+-- a page below the lost numbers counts
+below_counts : (bad : Spot → Bool) (t : Translation) (p : Place) (tag : Tag) (body : List ℕ) → Opened bad t → t.disk.cells p ≡ GroupPage tag body → tag.number < t.ledger.low →
+    Counts t.disk.cells t.ledger.newest p tag body
+below_counts bad t p tag body o h l = record { there = h; free = free }
+  where
+    free : IsFenced (fence_in t.ledger.newest) tag.number → ⊥
+    free x =
+        ⊎_elim
+        (λ (z : (fence_in t.ledger.newest ≡ None) × (t.ledger.low ≡ suc o.start.ledger.kept)). subst (λ f. IsFenced f tag.number) z.0 x)
+        (λ (z : (f : Fence) × (fence_in t.ledger.newest ≡ Some f) × (t.ledger.low ≡ f.first)).
+        let y : (z.0.first ≤ tag.number) × (tag.number ≤ z.0.last) = subst (λ f. IsFenced f tag.number) z.1 x in let u = y.0 in let w = z.2 in omega arith)
+        (low_cases bad t o)
+
+-- no page below the lost numbers is of the key
+abbrev NoneBelow : Translation → Key → Type 0
+NoneBelow t k = (n i : ℕ) (e : Entry) → t.ledger.old n i ≡ Some e → e.item.key ≡ k → n < t.ledger.low → ⊥
+
+-- none of them is above the number
+abbrev LastBelow : Translation → Key → ℕ → Type 0
+LastBelow t k number = (n i : ℕ) (e : Entry) → t.ledger.old n i ≡ Some e → e.item.key ≡ k → n < t.ledger.low → n ≤ number
+
+last_below : (bad : Spot → Bool) (t : Translation) (k : Key) (bound : ℕ) (p : Place) (tag : Tag) (body : List ℕ) → Opened bad t → t.ledger.low ≤ bound →
+    IsNewest t.disk.cells t.ledger.newest bound k p tag body → LastBelow t k tag.number
+last_below bad t k bound p tag body o up x n i e h key low =
+    let y = old_page bad t n i e o h in
+    let w = y.number in
+    let c = below_counts bad t y.place y.tag e.item.body o y.there (omega arith) in
+    let z = x.greatest y.place y.tag e.item.body c (sym y.key ∙ key) (omega arith) in
+    omega arith
+
+none_below : (bad : Spot → Bool) (t : Translation) (k : Key) (bound : ℕ) → Opened bad t → t.ledger.low ≤ bound → HasNone t.disk.cells t.ledger.newest bound k → NoneBelow t k
+none_below bad t k bound o up x n i e h key low =
+    let y = old_page bad t n i e o h in
+    let w = y.number in
+    let c = below_counts bad t y.place y.tag e.item.body o y.there (omega arith) in
+    let z = x y.place y.tag e.item.body c (sym y.key ∙ key) in
+    omega arith
+
+-- The base
+
+newest_base : (bad : Spot → Bool) (t : Translation) (k : Key) (bound : ℕ) (p : Place) (tag : Tag) → Opened bad t → t.ledger.low ≤ bound →
+    IsNewest t.disk.cells t.ledger.newest bound k p tag (t.ledger.base k) → tag.number < t.ledger.low → BaseAt (book t) k
+newest_base bad t k bound p tag o up x low = record {
+  number = tag.number;
+  index = tag.index;
+  size = tag.size;
+  is = page_is_old bad t p tag (t.ledger.base k) o x.counts.there ∙ (λ j. Some (record { item = record { key = x.key j; body = t.ledger.base k }; size = tag.size }));
+  below = low;
+  last = last_below bad t k bound p tag (t.ledger.base k) o up x;
+}
+
+none_base : (bad : Spot → Bool) (t : Translation) (k : Key) (bound : ℕ) → Opened bad t → t.ledger.low ≤ bound → HasNone t.disk.cells t.ledger.newest bound k → t.ledger.base k ≡ zero_block → BaseNone (book t) k
+none_base bad t k bound o up x zeros = record { none = none_below bad t k bound o up x; zeros = zeros }
+
+-- a page that counts above the lost numbers has the content of its key below them
+repaired_base : (bad : Spot → Bool) (t : Translation) (k : Key) (p : Place) (tag : Tag) → (o : Opened bad t) →
+    IsNewest t.disk.cells t.ledger.newest (suc o.start.ledger.kept) k p tag (t.ledger.base k) → t.ledger.low ≤ tag.number → BaseAt (book t) k ⊎ BaseNone (book t) k
+repaired_base bad t k p tag o x low =
+    ⊎_elim
+    (λ (z : (fence_in t.ledger.newest ≡ None) × (t.ledger.low ≡ suc o.start.ledger.kept)). absurd (let u = x.within in let w = z.1 in omega arith))
+    (λ (z : (f : Fence) × (fence_in t.ledger.newest ≡ Some f) × (t.ledger.low ≡ f.first)). at_fence z.0 z.1 z.2)
+    (low_cases bad t o)
+  where
+    above : (f : Fence) → fence_in t.ledger.newest ≡ Some f → t.ledger.low ≡ f.first → f.last < tag.number
+    above f is e = ⊎_elim (λ l. absurd (x.counts.free (subst (λ z. IsFenced z tag.number) (sym is) (omega arith, l)))) (λ l. l) (split tag.number f.last)
+
+    at_fence : (f : Fence) → fence_in t.ledger.newest ≡ Some f → t.ledger.low ≡ f.first → BaseAt (book t) k ⊎ BaseNone (book t) k
+    at_fence f is e =
+        ⊎_elim
+        (λ (r : (q : Place) × (u : Tag) × IsNewest t.disk.cells t.ledger.newest f.first k q u (t.ledger.base k)).
+        let w = r.2.within in inl (newest_base bad t k f.first r.0 r.1 o (omega arith) r.2 (omega arith)))
+        (λ r. inr (none_base bad t k f.first o (omega arith) r.0 r.1))
+        (subst (λ z. Holds t.disk.cells t.ledger.newest f.first z (t.ledger.base k)) x.key (o.sound.repairs f is p tag (t.ledger.base k) x.counts (above f is e)))
+
+base_is : (bad : Spot → Bool) (t : Translation) (k : Key) → Opened bad t → HasKey (book t) k → BaseAt (book t) k ⊎ BaseNone (book t) k
+base_is bad t k o has =
+    ⊎_elim
+    (λ (x : (p : Place) × (tag : Tag) × IsNewest t.disk.cells t.ledger.newest (suc o.start.ledger.kept) k p tag (t.ledger.base k)).
+    ⊎_elim
+    (λ l. repaired_base bad t k x.0 x.1 o x.2 l)
+    (λ l. inl (newest_base bad t k (suc o.start.ledger.kept) x.0 x.1 o (low_within bad t o).0 x.2 l))
+    (split t.ledger.low x.1.number))
+    (λ x. inr (none_base bad t k (suc o.start.ledger.kept) o (low_within bad t o).0 x.0 x.1))
+    (o.start.ledger.holds k has)
+
+-- The name of a key's content
+
+first_is : (bad : Spot → Bool) (t : Translation) (k : Key) → Opened bad t → HasKey (book t) k → FirstRight (book t) k (t.ledger.first k)
+first_is bad t k o has = go (t.ledger.first k) (o.start.ledger.first k has)
+  where
+    up : t.ledger.low ≤ suc o.start.ledger.kept
+    up = (low_within bad t o).0
+
+    go : (x : Option Name) → IsFirst t.disk.cells t.ledger.newest o.start.ledger.kept k x → FirstRight (book t) k x
+    go None x = none_below bad t k (suc o.start.ledger.kept) o up x
+    go (Some name) (p, tag, body, x, is) = subst (λ z. FirstRight (book t) k (Some z)) is (
+      shown tag body,
+      page_is_old bad t p tag body o x.counts.there,
+      x.key,
+      ⊎_elim
+          (λ l. inl record { from = l; to = o.start.ledger.top.0.numbers p tag body x.counts.there })
+          (λ l. inr (l, last_below bad t k (suc o.start.ledger.kept) p tag body o up x))
+          (split t.ledger.low tag.number),
+    )
+
+-- The book
+
+keys : (bad : Spot → Bool) (t : Translation) (n i : ℕ) (e : Entry) → Opened bad t → IsPageAt (book t) n i e → HasKey (book t) e.item.key
+keys bad t n i e o h =
+    let y = old_page bad t n i e o (only_old bad t n i e o h) in
+    subst (HasKey (book t)) (sym y.key) (o.start.suits.keys y.place y.tag e.item.body y.there)
+
+differ : (bad : Spot → Bool) (t : Translation) (n i j : ℕ) (e f : Entry) → Opened bad t → IsPageAt (book t) n i e → IsPageAt (book t) n j f → e.item.key ≡ f.item.key → i ≡ j
+differ bad t n i j e f o h l key =
+    let y = old_page bad t n i e o (only_old bad t n i e o h) in
+    let z = old_page bad t n j f o (only_old bad t n j f o l) in
+    let s : SamePage y.tag e.item.body z.tag f.item.body =
+    o.sound.pages y.place z.place y.tag z.tag e.item.body f.item.body y.there z.there (y.number ∙ sym z.number) (inr (sym y.key ∙ key ∙ z.key)) in
+    sym y.index ∙ s.2 ∙ z.index
+
+pub book_is_right : (bad : Spot → Bool) (t : Translation) → Opened bad t → BookRight (book t)
+book_is_right bad t o = record {
+  pages = o.pages;
+  keys = λ n i e h. keys bad t n i e o h;
+  differ = λ n i j e f h l key. differ bad t n i j e f o h l key;
+  some = λ j g h. absurd (no_group bad t j g o h);
+  old_within = λ n i e h. old_within bad t n i e o h;
+  low = (low_within bad t o).1;
+  base = λ k has. base_is bad t k o has;
+  first = λ k has. first_is bad t k o has;
+}

@@ -1,0 +1,169 @@
+-- What a stop leaves is sound, suits the device, and stands for a prefix of the accepted commands.
+use Rattle.std.proofs.Common.{◌≡◌, ℕ, suc, ◌+◌, ◌-◌, ◌<◌, ◌≤◌, ◌⊎◌, List, length, take, Option, Some, None, refl, sym, ap, ◌∙◌, subst, inl, inr, ⊎_elim, arith}
+use Rattle.std.proofs.lemmas.List.{length-drop}
+use Rattle.ufs_spec.specs.Cells.{Cells, GroupPage, Mark, MarkPage, key_of}
+use Rattle.ufs_spec.specs.Disk.{CellCrash}
+use Rattle.ufs_spec.specs.Keys.{put_groups}
+use Rattle.ufs_spec.specs.Kept.{Counts, HoldAll, Holds, IsKept, IsNewestMark, IsRecorded, recorded_in}
+use Rattle.ufs_spec.specs.Ledger.{Entry}
+use Rattle.ufs_spec.specs.Sound.{CellsSound, CellsSuit, SamePage}
+use Rattle.ufs_spec.specs.Translation.{Translation}
+use Rattle.ufs_spec.specs.declared.flash.Fence.{Fence}
+use Rattle.ufs_spec.specs.declared.flash.Place.{Place}
+use Rattle.ufs_spec.specs.declared.flash.Tag.{Tag}
+use Rattle.power_loss.specs.Book.{Book, IsPlainMark, book}
+use Rattle.power_loss.specs.Invariant.{IsPrefix, Valid}
+use Rattle.power_loss.proofs.StopCells.{is_new, one_page, page_moves, some_is, split}
+use Rattle.power_loss.proofs.StopHolds.{after_none, after_same, base_stays, holds_kept}
+use Rattle.power_loss.proofs.StopKept.{Changed, Image, IsRepairing, Unchanged, kept_accepted, kept_covers, outcome, recorded_within, whole_up}
+
+-- Sound
+
+same_named : (b : Book) (frontier marked : ℕ) (c : Cells) (m : Mark) (p q : Place) (t u : Tag) (body other : List ℕ) → Image b frontier marked c m →
+    c p ≡ GroupPage t body → c q ≡ GroupPage u other → t.number ≡ u.number → t.index ≡ u.index → SamePage t body u other
+same_named b frontier marked c m p q t u body other x h l n i =
+    let e : Entry = record { item = record { key = key_of t; body = body }; size = t.size } in
+    let f : Entry = record { item = record { key = key_of u; body = other }; size = u.size } in
+    let k = one_page b u.number u.index e f (page_moves b t.number t.index u.number u.index e n i (x.known p t body h)) (x.known q u other l) in
+    (ap (λ (y : Entry). y.item.key) k, n, i, ap (λ (y : Entry). y.size) k, ap (λ (y : Entry). y.item.body) k)
+
+same_page : (b : Book) (frontier marked : ℕ) (c : Cells) (m : Mark) (p q : Place) (t u : Tag) (body other : List ℕ) → Image b frontier marked c m →
+    c p ≡ GroupPage t body → c q ≡ GroupPage u other → t.number ≡ u.number → (t.index ≡ u.index) ⊎ (key_of t ≡ key_of u) → SamePage t body u other
+same_page b frontier marked c m p q t u body other x h l n (inl i) = same_named b frontier marked c m p q t u body other x h l n i
+same_page b frontier marked c m p q t u body other x h l n (inr k) =
+    let e : Entry = record { item = record { key = key_of t; body = body }; size = t.size } in
+    let f : Entry = record { item = record { key = key_of u; body = other }; size = u.size } in
+    same_named b frontier marked c m p q t u body other x h l n
+    (x.right.differ u.number t.index u.index e f (page_moves b t.number t.index u.number t.index e n refl (x.known p t body h)) (x.known q u other l) k)
+
+is_repairing : (b : Book) (m : Mark) (f : Fence) → IsRepairing b m ⊎ IsPlainMark b m → m.fence ≡ Some f → IsRepairing b m
+is_repairing b m f (inl r) e = r
+is_repairing b m f (inr r) e = absurd (apart (sym r.none ∙ e))
+  where
+    apart : None ≡ Some f → ⊥
+    apart z = cc
+
+-- the ends of its fence
+fence_ends : (b : Book) (m : Mark) (f : Fence) → IsRepairing b m → m.fence ≡ Some f → (f.first ≡ b.low) × (f.last ≡ b.top)
+fence_ends b m f r e =
+    let z = some_is f r.fence.fence (sym e ∙ r.fence.is) in
+    (ap (λ (y : Fence). y.first) z ∙ r.fence.first, ap (λ (y : Fence). y.last) z ∙ r.fence.last)
+
+repair_holds : (b : Book) (frontier marked : ℕ) (c : Cells) (m : Mark) (p : Place) (t : Tag) (body : List ℕ) → Image b frontier marked c m → IsRepairing b m →
+    c p ≡ GroupPage t body → b.top < t.number → Holds c (Some m) b.low (key_of t) body
+repair_holds b frontier marked c m p t body x r h up =
+    let e : Entry = record { item = record { key = key_of t; body = body }; size = t.size } in
+    let k = x.known p t body h in
+    let g = is_new b t.number t.index e up k in
+    subst (Holds c (Some m) b.low (key_of t)) (sym (r.repairs (t.number - b.top - 1) t.index g.group e.item g.is g.item))
+    (base_stays b frontier marked c m (key_of t) x r.fence.records (x.right.keys t.number t.index e k))
+
+image_sound : (b : Book) (frontier marked : ℕ) (c : Cells) (m : Mark) → Image b frontier marked c m → CellsSound c (Some m)
+image_sound b frontier marked c m x = record {
+  pages = λ p q t u body other h l n i. same_page b frontier marked c m p q t u body other x h l n i;
+  marks = x.same;
+  whole = λ r n is up far. let w = recorded_within b frontier marked c m r x is in whole_up b frontier marked c m n x up (omega arith);
+  fence = λ f e. let r = is_repairing b m f x.good e in r.fence.records ∙ sym (fence_ends b m f r e).1;
+  repairs = λ f e p t body h up.
+      let r = is_repairing b m f x.good e in
+      let z = fence_ends b m f r e in
+      let top = z.1 in
+      subst (λ y. Holds c (Some m) y (key_of t) body) (sym z.0) (repair_holds b frontier marked c m p t body x r h.there (omega arith));
+}
+
+pub sound : (t : Translation) (c : Cells) (m : Option Mark) → Valid t → CellCrash t.disk.cells t.disk.flights c → IsNewestMark c m → CellsSound c m
+sound t c m v crash n = ⊎_elim same changed (outcome t c m v crash n)
+  where
+    same : Unchanged (book t) t.ledger.newest c m → CellsSound c m
+    same u = subst (CellsSound c) (sym u.newest_is) u.opened.sound
+
+    changed : Changed (book t) t.ledger.frontier (recorded_in t.ledger.newest) c m → CellsSound c m
+    changed u = subst (CellsSound c) (sym u.is) (image_sound (book t) t.ledger.frontier (recorded_in t.ledger.newest) c u.mark u.image)
+
+-- Suits
+
+image_suits : (b : Book) (frontier marked : ℕ) (c : Cells) (m : Mark) → Image b frontier marked c m → CellsSuit b.numbers c (Some m)
+image_suits b frontier marked c m x = record {
+  config = λ newest e. ap (λ (y : Mark). y.numbers) (sym (some_is m newest e)) ∙ x.numbers;
+  keys = λ p t body h. x.right.keys t.number t.index (record { item = record { key = key_of t; body = body }; size = t.size }) (x.known p t body h);
+}
+
+pub suits : (t : Translation) (c : Cells) (m : Option Mark) → Valid t → CellCrash t.disk.cells t.disk.flights c → IsNewestMark c m → CellsSuit t.numbers c m
+suits t c m v crash n = ⊎_elim same changed (outcome t c m v crash n)
+  where
+    same : Unchanged (book t) t.ledger.newest c m → CellsSuit t.numbers c m
+    same u = subst (CellsSuit t.numbers c) (sym u.newest_is) u.opened.suits
+
+    changed : Changed (book t) t.ledger.frontier (recorded_in t.ledger.newest) c m → CellsSuit t.numbers c m
+    changed u = subst (CellsSuit t.numbers c) (sym u.is) (image_suits (book t) t.ledger.frontier (recorded_in t.ledger.newest) c u.mark u.image)
+
+-- A prefix
+
+image_prefix : (t : Translation) (c : Cells) (m : Mark) (kept : ℕ) → Valid t → Image (book t) t.ledger.frontier (recorded_in t.ledger.newest) c m → IsKept c (Some m) kept →
+    IsPrefix t c (Some m) kept
+image_prefix t c m kept v x k = ⊎_elim more less (split t.ledger.repairs (kept - t.ledger.top))
+  where
+    far : t.ledger.frontier ≤ kept
+    far = kept_covers (book t) t.ledger.frontier (recorded_in t.ledger.newest) c m kept x k
+
+    near : kept ≤ t.ledger.top + length t.ledger.groups
+    near = kept_accepted (book t) t.ledger.frontier (recorded_in t.ledger.newest) c m kept x k
+
+    here : HoldAll t.numbers c (Some m) kept (put_groups t.ledger.base (take (kept - t.ledger.top) t.ledger.groups))
+    here = holds_kept (book t) t.ledger.frontier (recorded_in t.ledger.newest) c m kept x k
+
+    more : t.ledger.repairs ≤ kept - t.ledger.top → IsPrefix t c (Some m) kept
+    more l = record {
+      count = kept - t.ledger.top - t.ledger.repairs;
+      held = ⊎_elim (λ e. omega arith) (λ e. omega (arith, far)) v.history.durable;
+      within = omega (arith, near, length-drop t.ledger.repairs t.ledger.groups);
+      holds = subst (HoldAll t.numbers c (Some m) kept) (after_same t.ledger.base t.ledger.groups t.ledger.repairs (kept - t.ledger.top) v.history.contents l) here;
+    }
+
+    less : kept - t.ledger.top < t.ledger.repairs → IsPrefix t c (Some m) kept
+    less l = record {
+      count = 0;
+      held = ⊎_elim (λ e. omega arith) (λ e. let a = v.frontier.above in absurd (omega (arith, far))) v.history.durable;
+      within = omega arith;
+      holds = subst (HoldAll t.numbers c (Some m) kept) (after_none t.ledger.base t.ledger.groups t.ledger.repairs (kept - t.ledger.top) v.history.contents (omega arith)) here;
+    }
+
+-- the kept number is one
+
+recorded_le : (c : Cells) (m : Option Mark) (r s : ℕ) → IsRecorded c m r → IsRecorded c m s → r ≤ s
+recorded_le c m r s g h = go g.reached
+  where
+    go : (r ≡ 0) ⊎ (((p : Place) × (t : Tag) × (body : List ℕ) × Counts c m p t body × (t.frontier ≡ r)) ⊎ ((p : Place) × (other : Mark) × (c p ≡ MarkPage other) × (other.records ≡ r))) → r ≤ s
+    go (inl e) = omega arith
+    go (inr (inl (p, t, body, x, e))) = let y = h.pages p t body x in omega arith
+    go (inr (inr (p, n, x, e))) = let y = h.marks p n x in omega arith
+
+kept_le : (c : Cells) (m : Option Mark) (k l : ℕ) → IsKept c m k → IsKept c m l → k ≤ l
+kept_le c m k l g h =
+    ⊎_elim
+    (λ x. x)
+    (λ x. absurd (h.stops (g.whole (suc l) (let y = recorded_le c m g.from h.from g.recorded h.recorded in let z = h.above in omega arith) (omega arith))))
+    (split k l)
+
+kept_one : (c : Cells) (m : Option Mark) (k l : ℕ) → IsKept c m k → IsKept c m l → k ≡ l
+kept_one c m k l g h = let a = kept_le c m k l g h in let b = kept_le c m l k h g in omega arith
+
+unchanged_prefix : (t : Translation) (c : Cells) (kept : ℕ) → Valid t → Unchanged (book t) t.ledger.newest c t.ledger.newest → IsKept c t.ledger.newest kept →
+    IsPrefix t c t.ledger.newest kept
+unchanged_prefix t c kept v u k = record {
+  count = 0;
+  held = let g = ap length u.none_new in let w = v.frontier.within in ⊎_elim (λ e. omega arith) (λ e. omega arith) v.history.durable;
+  within = omega arith;
+  holds = subst (λ y. HoldAll t.numbers c t.ledger.newest y t.ledger.base) (kept_one c t.ledger.newest u.opened.kept kept u.opened.is_kept k) u.opened.holds;
+}
+
+pub prefix : (t : Translation) (c : Cells) (m : Option Mark) (kept : ℕ) → Valid t → CellCrash t.disk.cells t.disk.flights c → IsNewestMark c m → IsKept c m kept → IsPrefix t c m kept
+prefix t c m kept v crash n k = ⊎_elim same changed (outcome t c m v crash n)
+  where
+    same : Unchanged (book t) t.ledger.newest c m → IsPrefix t c m kept
+    same u =
+        subst (λ y. IsPrefix t c y kept) (sym u.newest_is)
+        (unchanged_prefix t c kept v (record { opened = u.opened; newest_is = refl; none_new = u.none_new }) (subst (λ y. IsKept c y kept) u.newest_is k))
+
+    changed : Changed (book t) t.ledger.frontier (recorded_in t.ledger.newest) c m → IsPrefix t c m kept
+    changed u = subst (λ y. IsPrefix t c y kept) (sym u.is) (image_prefix t c u.mark kept v u.image (subst (λ y. IsKept c y kept) u.is k))

@@ -1,0 +1,315 @@
+-- What holds of the translation layer between any two of its moves. The records read single fields, so a move that
+-- leaves these fields keeps the record as it is.
+use Rattle.std.specs.Prelude.{◌≡◌, ◌≢◌, ◌⊎◌, ℕ, suc, ◌+◌, ◌<◌, ◌≤◌, Bool, true, false, List, [], length, take, Option, Some, None, slice_get}
+use Rattle.ufs_spec.specs.Cells.{AreWithin, Cell, Cells, GroupPage, IsPlace, Mark, MarkPage, Nothing}
+use Rattle.ufs_spec.specs.Disk.{BlockState, Bad, Closed, Disk, Erasing, Filling, Flight, Free, Programming, Spot, spot_of}
+use Rattle.ufs_spec.specs.Keys.{Group, Item, put_groups}
+use Rattle.ufs_spec.specs.Kept.{HoldAll, IsKept, IsNewestMark, recorded_in}
+use Rattle.ufs_spec.specs.Ledger.{Entry, Ledger, accepted_groups}
+use Rattle.ufs_spec.specs.Openings.{IsFirstFence, number_of}
+use Rattle.ufs_spec.specs.Sound.{CellsSound, CellsSuit}
+use Rattle.ufs_spec.specs.Translation.{CopyStep, MarkStep, Mended, Mending, Plan, RepairStep, Repairing, Step, StepKind, Translation, Unmarked, is_mended}
+use Rattle.ufs_spec.specs.declared.configs.Numbers.{Numbers}
+use Rattle.ufs_spec.specs.declared.flash.Fence.{Fence}
+use Rattle.ufs_spec.specs.declared.flash.Key.{Key}
+use Rattle.ufs_spec.specs.declared.flash.Place.{Place}
+use Rattle.ufs_spec.specs.declared.flash.Tag.{Tag}
+use Rattle.power_loss.specs.Book.{AreWholeAbove, Book, BookRight, HasKey, IsFenceMark, IsKnown, IsLostNumber, IsOverwritten, IsPageAt, IsPlainMark, IsWritten, book, last_number}
+
+abbrev pub Standing : Type 0
+Standing = ℕ → ℕ → Option Place
+
+abbrev pub Flights : Type 0
+Flights = ℕ → Option Flight
+
+-- The frontier
+
+pub record FrontierRight (b : Book) (standing : Standing) (frontier : ℕ) : Type 0 where
+  pub above : b.top ≤ frontier
+  pub within : frontier ≤ last_number b
+  -- at or under the frontier each page stands
+  pub stand : (n i : ℕ) (e : Entry) → n ≤ frontier → IsPageAt b n i e → (p : Place) × (standing n i ≡ Some p)
+  -- what stands is known
+  pub known : (n i : ℕ) (p : Place) → standing n i ≡ Some p → (e : Entry) × IsPageAt b n i e
+
+-- Pages
+
+pub record PagesRight (b : Book) (standing : Standing) (frontier : ℕ) (cells : Cells) (finished : Place → Bool) : Type 0 where
+  pub within : AreWithin b.numbers cells
+  pub known : (p : Place) (t : Tag) (body : List ℕ) → cells p ≡ GroupPage t body → IsKnown b t body
+  pub recorded : (p : Place) (t : Tag) (body : List ℕ) → cells p ≡ GroupPage t body → t.frontier ≤ frontier
+  -- the name of a finished page stands, there or elsewhere
+  pub stands : (p : Place) (t : Tag) (body : List ℕ) →
+      cells p ≡ GroupPage t body → finished p ≡ true → (q : Place) × (standing t.number t.index ≡ Some q)
+
+-- Blocks
+
+pub record BlocksRight (numbers : Numbers) (cells : Cells) (finished : Place → Bool) (blocks : Spot → BlockState) (erasing : Spot → Bool) : Type 0 where
+  -- a page whose program failed lies in a bad block
+  pub unfinished : (p : Place) → finished p ≡ false → blocks (spot_of p) ≡ Bad
+  pub filling : (s : Spot) (next : ℕ) → blocks s ≡ Filling next → next < numbers.pages
+  -- a block that is filled is blank from its next page on
+  pub blank : (p : Place) (next : ℕ) → blocks (spot_of p) ≡ Filling next → next ≤ p.page → cells p ≡ Nothing
+  -- a block whose erase is in flight is free, and one whose erase failed is bad
+  pub erased : (s : Spot) → erasing s ≡ true → (blocks s ≡ Free) ⊎ (blocks s ≡ Bad)
+
+-- Jobs
+
+-- a program goes to the next page of a block that is being filled
+pub record ProgramRight (numbers : Numbers) (blocks : Spot → BlockState) (die : ℕ) (p : Place) : Type 0 where
+  pub at_home : p.die ≡ die
+  pub place : IsPlace numbers p
+  pub next : blocks (spot_of p) ≡ Filling p.page
+
+pub record EraseRight (blocks : Spot → BlockState) (erasing : Spot → Bool) (die : ℕ) (s : Spot) : Type 0 where
+  pub at_home : s.die ≡ die
+  pub free : blocks s ≡ Free
+  pub counted : erasing s ≡ true
+
+-- a mark in flight is the one of the step under way
+pub record MarkFlightRight (numbers : Numbers) (marks : ℕ) (step : Option Step) (m : Mark) : Type 0 where
+  pub number : m.number ≡ marks
+  pub numbers_right : m.numbers ≡ numbers
+  pub there : Bool
+  pub step_is : step ≡ Some (record { kind = MarkStep m.number m.fence; there = there })
+
+pub record FlightsRight (b : Book) (frontier marks : ℕ) (blocks : Spot → BlockState) (erasing : Spot → Bool) (flights : Flights) (step : Option Step) : Type 0 where
+  pub programs : (die : ℕ) (p : Place) (cell : Cell) → flights die ≡ Some (Programming p cell) → ProgramRight b.numbers blocks die p
+  pub erases : (die : ℕ) (s : Spot) → flights die ≡ Some (Erasing s) → EraseRight blocks erasing die s
+  pub something : (die : ℕ) (p : Place) → flights die ≡ Some (Programming p Nothing) → ⊥
+  pub known : (die : ℕ) (p : Place) (t : Tag) (body : List ℕ) → flights die ≡ Some (Programming p (GroupPage t body)) → IsKnown b t body
+  pub recorded : (die : ℕ) (p : Place) (t : Tag) (body : List ℕ) → flights die ≡ Some (Programming p (GroupPage t body)) → t.frontier ≤ frontier
+  pub mark : (die : ℕ) (p : Place) (m : Mark) → flights die ≡ Some (Programming p (MarkPage m)) → MarkFlightRight b.numbers marks step m
+  pub one_mark : (d e : ℕ) (p q : Place) (m other : Mark) →
+      flights d ≡ Some (Programming p (MarkPage m)) → flights e ≡ Some (Programming q (MarkPage other)) → d ≡ e
+
+-- What stands safely
+
+-- the place that is known for the name holds its finished page, and no erase is near it
+pub record IsSecure (standing : Standing) (cells : Cells) (finished : Place → Bool) (blocks : Spot → BlockState) (erasing : Spot → Bool) (n i : ℕ) : Type 0 where
+  pub place : Place
+  pub tag : Tag
+  pub body : List ℕ
+  pub known : standing n i ≡ Some place
+  pub there : cells place ≡ GroupPage tag body
+  pub number : tag.number ≡ n
+  pub index : tag.index ≡ i
+  pub ended : finished place ≡ true
+  pub stays : erasing (spot_of place) ≡ false
+  pub needed : blocks (spot_of place) ≢ Free
+
+-- a newer page of the key, at or under what the newest finished mark records, stands so
+pub record IsSecurelyOverwritten (b : Book) (marked : ℕ) (standing : Standing) (cells : Cells) (finished : Place → Bool) (blocks : Spot → BlockState) (erasing : Spot → Bool) (n : ℕ) (k : Key) : Type 0 where
+  pub by : IsOverwritten b n k marked
+  pub secure : IsSecure standing cells finished blocks erasing by.number by.index
+
+abbrev pub IsSafe : Book → ℕ → Standing → Cells → (Place → Bool) → (Spot → BlockState) → (Spot → Bool) → ℕ → ℕ → Key → Type 0
+IsSafe b marked standing cells finished blocks erasing n i k =
+    IsSecure standing cells finished blocks erasing n i
+    ⊎ IsSecurelyOverwritten b marked standing cells finished blocks erasing n k
+
+-- every page that stood and is not lost is safe
+pub record SafeRight (b : Book) (marked : ℕ) (standing : Standing) (cells : Cells) (finished : Place → Bool) (blocks : Spot → BlockState) (erasing : Spot → Bool) : Type 0 where
+  pub safe : (n i : ℕ) (e : Entry) (p : Place) → IsPageAt b n i e → standing n i ≡ Some p → (IsLostNumber b n → ⊥) →
+      IsSafe b marked standing cells finished blocks erasing n i e.item.key
+
+-- Marks
+
+-- a mark behind the newest finished one: in flight, or left by a program that failed
+pub record IsLaterMark (b : Book) (frontier : ℕ) (newest m : Mark) : Type 0 where
+  pub newer : newest.number < m.number
+  pub above : newest.records ≤ m.records
+  pub within : m.records ≤ frontier
+  pub plain : IsPlainMark b m
+  pub numbers : m.numbers ≡ b.numbers
+
+-- the newest finished mark stands where no erase is near
+pub record MarkStands (cells : Cells) (finished : Place → Bool) (blocks : Spot → BlockState) (erasing : Spot → Bool) (newest : Mark) : Type 0 where
+  pub place : Place
+  pub there : cells place ≡ MarkPage newest
+  pub ended : finished place ≡ true
+  pub stays : erasing (spot_of place) ≡ false
+  pub needed : blocks (spot_of place) ≢ Free
+
+pub record MarksRight (b : Book) (frontier marks : ℕ) (cells : Cells) (finished : Place → Bool) (blocks : Spot → BlockState) (erasing : Spot → Bool) (flights : Flights) (newest : Mark) : Type 0 where
+  pub stands : MarkStands cells finished blocks erasing newest
+  pub within : newest.records ≤ frontier
+  pub numbers : newest.numbers ≡ b.numbers
+  pub whole : AreWholeAbove b newest.records
+  pub ended : (p : Place) (m : Mark) → cells p ≡ MarkPage m → finished p ≡ true → m.number ≤ newest.number
+  pub known : (p : Place) (m : Mark) → cells p ≡ MarkPage m → ((m.number ≤ newest.number) × (m.records ≤ frontier)) ⊎ IsLaterMark b frontier newest m
+  pub same : (p q : Place) (m other : Mark) → cells p ≡ MarkPage m → cells q ≡ MarkPage other → m.number ≡ other.number → m ≡ other
+  pub freed : (p : Place) (m : Mark) → cells p ≡ MarkPage m → blocks (spot_of p) ≡ Free → m.number < newest.number
+  pub flies : (die : ℕ) (p : Place) (m : Mark) → flights die ≡ Some (Programming p (MarkPage m)) → IsLaterMark b frontier newest m
+
+-- no mark has a number above the greatest known
+abbrev pub AreNumbered : ℕ → Cells → Type 0
+AreNumbered marks cells = (p : Place) (m : Mark) → cells p ≡ MarkPage m → m.number ≤ marks
+
+-- Mending
+
+-- no page stands in a block that is free or being erased
+abbrev pub AreFreeBlank : Cells → (Spot → BlockState) → (Spot → Bool) → Type 0
+AreFreeBlank cells blocks erasing =
+    (p : Place) → (blocks (spot_of p) ≡ Free) ⊎ (erasing (spot_of p) ≡ true) → cells p ≡ Nothing
+
+-- a mark that a life writes first
+pub record IsOwnMark (b : Book) (newest : Option Mark) (marks : ℕ) (fence : Option Fence) (m : Mark) : Type 0 where
+  pub newer : number_of newest < m.number
+  pub within : m.number ≤ marks
+  pub records : m.records ≡ b.top
+  pub fence_is : m.fence ≡ fence
+  pub numbers : m.numbers ≡ b.numbers
+
+-- the cell of the opening stands, or a mark whose program failed where nothing was
+abbrev pub IsOpenedOrOwn : Book → Option Mark → ℕ → Option Fence → Cell → Cell → Type 0
+IsOpenedOrOwn b newest marks fence opened cell =
+    (cell ≡ opened) ⊎ ((opened ≡ Nothing) × ((m : Mark) × (cell ≡ MarkPage m) × IsOwnMark b newest marks fence m))
+
+-- what the life began with
+pub record OpeningRight (b : Book) (newest : Option Mark) (opening : Cells) : Type 0 where
+  pub sound : CellsSound opening newest
+  pub is_newest : IsNewestMark opening newest
+  pub kept : ℕ
+  pub is_kept : IsKept opening newest kept
+  pub holds : HoldAll b.numbers opening newest kept b.base
+  pub suits : CellsSuit b.numbers opening newest
+  pub marks : (p : Place) (m : Mark) → opening p ≡ MarkPage m → m.records ≤ b.top
+
+-- each key with a lost page is in the list, and all of the list are keys of the device
+pub record LostRight (b : Book) (lost : List Key) : Type 0 where
+  pub all : (n i : ℕ) (e : Entry) → IsLostNumber b n → b.old n i ≡ Some e → (j : ℕ) × (slice_get lost j ≡ Some e.item.key)
+  pub keys : (j : ℕ) (k : Key) → slice_get lost j ≡ Some k → HasKey b k
+
+-- the first mark of the life is not finished
+pub record UnmarkedRight (b : Book) (frontier marks : ℕ) (newest : Option Mark) (cells : Cells) (blocks : Spot → BlockState) (erasing : Spot → Bool) (flights : Flights) (plan : Option Plan) (fence : Option Fence) (lost : List Key) : Type 0 where
+  pub opening : Cells
+  pub opened : OpeningRight b newest opening
+  pub fence_right : IsFirstFence newest b.low b.top fence
+  pub lost_right : LostRight b lost
+  pub none_new : b.groups ≡ []
+  pub still : frontier ≡ b.top
+  pub same : (p : Place) → IsOpenedOrOwn b newest marks fence (opening p) (cells p)
+  pub flies : (die : ℕ) (p : Place) (cell : Cell) → flights die ≡ Some (Programming p cell) →
+      (m : Mark) × (cell ≡ MarkPage m) × IsOwnMark b newest marks fence m
+  pub blank : AreFreeBlank cells blocks erasing
+  pub no_plan : plan ≡ None
+
+-- the step under way is the repair of the last group
+abbrev pub IsLastRepair : Book → Option Step → Type 0
+IsLastRepair b step =
+    (from : Option Place) × (there : Bool)
+    × (step ≡ Some (record { kind = RepairStep (record { number = last_number b; index = 0 }) from; there = there }))
+
+-- the first mark is finished, and these keys have no repair yet
+pub record RepairingRight (b : Book) (frontier : ℕ) (cells : Cells) (blocks : Spot → BlockState) (erasing : Spot → Bool) (newest : Mark) (plan : Option Plan) (step : Option Step) (left : List Key) : Type 0 where
+  pub fence : IsFenceMark b newest
+  pub repaired : (n i : ℕ) (e : Entry) → IsLostNumber b n → b.old n i ≡ Some e →
+      ((j : ℕ) × (slice_get left j ≡ Some e.item.key)) ⊎ IsWritten b e.item.key (last_number b)
+  pub keys : (j : ℕ) (k : Key) → slice_get left j ≡ Some k → HasKey b k
+  -- a repair is a group of one page
+  pub singles : (j : ℕ) (g : Group) → slice_get b.groups j ≡ Some g → length g ≡ 1
+  -- all groups are at or under the frontier, or all but the one that the step repairs
+  pub under_way : (frontier ≡ last_number b) ⊎ ((suc frontier ≡ last_number b) × IsLastRepair b step)
+  pub blank : AreFreeBlank cells blocks erasing
+  pub no_plan : plan ≡ None
+
+-- the newest finished mark is there, and what holds of it
+pub record IsMarked (b : Book) (d : Disk) (l : Ledger) (holds : Mark → Type 0) : Type 0 where
+  pub mark : Mark
+  pub is : l.newest ≡ Some mark
+  pub right : MarksRight b l.frontier l.marks d.cells d.finished d.blocks d.erasing d.flights mark
+  pub more : holds mark
+
+abbrev pub MendingRight : Book → Disk → Ledger → Option Plan → Option Step → Mending → Type 0
+MendingRight b d l plan step (Unmarked fence lost) =
+    UnmarkedRight b l.frontier l.marks l.newest d.cells d.blocks d.erasing d.flights plan fence lost
+MendingRight b d l plan step (Repairing left) =
+    IsMarked b d l (λ m. RepairingRight b l.frontier d.cells d.blocks d.erasing m plan step left)
+MendingRight b d l plan step Mended = IsMarked b d l (IsPlainMark b)
+
+-- The step under way
+
+-- the fence of a mark that is ordered
+abbrev pub FenceRight : Mending → Option Fence → Type 0
+FenceRight (Unmarked first lost) fence = fence ≡ first
+FenceRight (Repairing left) fence = (fence ≡ None) × (left ≡ [])
+FenceRight Mended fence = fence ≡ None
+
+pub record MarkStepRight (marks : ℕ) (cells : Cells) (mending : Mending) (plan : Option Plan) (number : ℕ) (fence : Option Fence) : Type 0 where
+  pub last : number ≡ marks
+  pub given : 0 < number
+  pub above : (p : Place) (m : Mark) → cells p ≡ MarkPage m → m.number < number
+  pub fence_right : FenceRight mending fence
+  pub behind_copies : (pl : Plan) → plan ≡ Some pl → pl.copies ≡ []
+
+abbrev pub StepKindRight : Book → ℕ → Cells → Mending → Option Plan → StepKind → Type 0
+StepKindRight b marks cells mending plan (MarkStep number fence) = MarkStepRight marks cells mending plan number fence
+StepKindRight b marks cells mending plan (CopyStep name from) =
+    (mending ≡ Mended) × ((e : Entry) × IsPageAt b name.number name.index e)
+StepKindRight b marks cells mending plan (RepairStep name from) =
+    (left : List Key) × (mending ≡ Repairing left) × ((e : Entry) × IsPageAt b name.number name.index e)
+
+pub record StepRight (b : Book) (marks : ℕ) (cells : Cells) (mending : Mending) (plan : Option Plan) (step : Option Step) : Type 0 where
+  pub kind : (s : Step) → step ≡ Some s → StepKindRight b marks cells mending plan s.kind
+
+-- Collection
+
+-- the page of the name is still to be copied, or the step under way copies it
+abbrev pub IsToCopy : List Place → Option Step → ℕ → ℕ → Place → Type 0
+IsToCopy copies step n i p =
+    ((j : ℕ) × (slice_get copies j ≡ Some p))
+    ⊎ ((there : Bool) × (step ≡ Some (record { kind = CopyStep (record { number = n; index = i }) p; there = there })))
+
+-- what stands in the victim and is not lost
+pub record StandsIn (b : Book) (standing : Standing) (victim : Spot) (n i : ℕ) (e : Entry) (p : Place) : Type 0 where
+  pub is : IsPageAt b n i e
+  pub known : standing n i ≡ Some p
+  pub inside : spot_of p ≡ victim
+  pub free : IsLostNumber b n → ⊥
+
+pub record OnePlanRight (b : Book) (frontier : ℕ) (standing : Standing) (blocks : Spot → BlockState) (flights : Flights) (step : Option Step) (plan : Plan) : Type 0 where
+  pub state : (blocks plan.victim ≡ Closed) ⊎ (blocks plan.victim ≡ Bad)
+  -- it is overwritten, or is still to be copied
+  pub copied : (n i : ℕ) (e : Entry) (p : Place) → StandsIn b standing plan.victim n i e p →
+      IsOverwritten b n e.item.key frontier ⊎ IsToCopy plan.copies step n i p
+  -- once the plan's mark is in flight, it is overwritten at or under what that mark records
+  pub flown : (die : ℕ) (q : Place) (m : Mark) → flights die ≡ Some (Programming q (MarkPage m)) →
+      (n i : ℕ) (e : Entry) (p : Place) → StandsIn b standing plan.victim n i e p → IsOverwritten b n e.item.key m.records
+
+pub record PlanRight (b : Book) (frontier : ℕ) (standing : Standing) (blocks : Spot → BlockState) (flights : Flights) (mending : Mending) (step : Option Step) (plan : Option Plan) : Type 0 where
+  pub mended : (pl : Plan) → plan ≡ Some pl → mending ≡ Mended
+  pub one : (pl : Plan) → plan ≡ Some pl → OnePlanRight b frontier standing blocks flights step pl
+
+-- Commands
+
+-- the repairs come first, and have the contents of the life's start; what was acknowledged is durable
+pub record HistoryRight (b : Book) (repairs held frontier : ℕ) (mended : Bool) : Type 0 where
+  pub within : repairs ≤ length b.groups
+  pub contents : (j i : ℕ) (g : Group) (item : Item) → j < repairs → slice_get b.groups j ≡ Some g → slice_get g i ≡ Some item → item.body ≡ b.base item.key
+  pub mending : mended ≡ false → (repairs ≡ length b.groups) × (held ≡ 0)
+  pub durable : (held ≡ 0) ⊎ (b.top + repairs + held ≤ frontier)
+
+-- All of it
+
+pub record Valid (t : Translation) : Type 0 where
+  pub book_right : BookRight (book t)
+  pub frontier : FrontierRight (book t) t.ledger.standing t.ledger.frontier
+  pub pages : PagesRight (book t) t.ledger.standing t.ledger.frontier t.disk.cells t.disk.finished
+  pub blocks : BlocksRight t.numbers t.disk.cells t.disk.finished t.disk.blocks t.disk.erasing
+  pub flights : FlightsRight (book t) t.ledger.frontier t.ledger.marks t.disk.blocks t.disk.erasing t.disk.flights t.work.step
+  pub safe : SafeRight (book t) (recorded_in t.ledger.newest) t.ledger.standing t.disk.cells t.disk.finished t.disk.blocks t.disk.erasing
+  pub numbered : AreNumbered t.ledger.marks t.disk.cells
+  pub mending : MendingRight (book t) t.disk t.ledger t.work.plan t.work.step t.work.mending
+  pub step : StepRight (book t) t.ledger.marks t.disk.cells t.work.mending t.work.plan t.work.step
+  pub plan : PlanRight (book t) t.ledger.frontier t.ledger.standing t.disk.blocks t.disk.flights t.work.mending t.work.step t.work.plan
+  pub history : HistoryRight (book t) t.ledger.repairs t.ledger.held t.ledger.frontier (is_mended t.work.mending)
+
+-- What a stop leaves
+
+-- the contents after a number of accepted groups that has each acknowledged one
+pub record IsPrefix (t : Translation) (c : Cells) (m : Option Mark) (kept : ℕ) : Type 0 where
+  pub count : ℕ
+  pub held : t.ledger.held ≤ count
+  pub within : count ≤ length (accepted_groups t.ledger)
+  pub holds : HoldAll t.numbers c m kept (put_groups t.ledger.base (take count (accepted_groups t.ledger)))

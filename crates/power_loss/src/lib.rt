@@ -1,0 +1,60 @@
+//! The laws of power loss: what holds of the translation layer in one life, and what a stop leaves of it. The functions
+//! do nothing: their contracts are the laws.
+#![tactic(auto)]
+
+mod mending;
+
+ghost use Rattle.std.specs.Prelude.{◌≡◌, ◌≢◌, ◌≤◌, ℕ, Bool, true, false, List, Option, Some};
+ghost use Rattle.ufs_spec.specs.Cells.{AreWithin, Cells, GroupPage, Mark};
+ghost use Rattle.ufs_spec.specs.Disk.{CellCrash, Erasing, HasCopy, MayErase, Spent, Spot, spot_of, with_erasing};
+ghost use Rattle.ufs_spec.specs.Kept.{IsKept, IsNewestMark};
+ghost use Rattle.ufs_spec.specs.Moves.{IsAllowedMove, Move, moved};
+ghost use Rattle.ufs_spec.specs.Openings.{IsOpenedTranslation};
+ghost use Rattle.ufs_spec.specs.Sound.{CellsSound, CellsSuit};
+ghost use Rattle.ufs_spec.specs.Translation.{MayTake, Translation, is_live, is_mended, is_pinned};
+ghost use Rattle.ufs_spec.specs.declared.configs.Numbers.{Numbers};
+ghost use Rattle.ufs_spec.specs.declared.flash.Place.{Place};
+ghost use Rattle.ufs_spec.specs.declared.flash.Tag.{Tag};
+ghost use Rattle.power_loss.specs.Book.{CellsRight};
+ghost use Rattle.power_loss.specs.Invariant.{IsPrefix, Valid};
+
+pub use mending::mending_ends_soon;
+
+/// Opening over a sound array gives a valid life.
+pub fn opening_is_valid()
+    ensures { (n : Numbers) (c : Cells) (bad : Spot → Bool) (t : Translation) →
+        1 ≤ n.pages → CellsRight c → AreWithin n c → CellsSound c t.ledger.newest → IsOpenedTranslation n c bad t → Valid t }
+{}
+
+/// Each move that is allowed keeps a life valid.
+pub fn each_move_keeps()
+    ensures { (t : Translation) (move : Move) → Valid t → IsAllowedMove t move → Valid (moved t move) }
+{}
+
+/// What a stop leaves is sound, suits the device, and stands for a prefix of the accepted commands that has each
+/// acknowledged one.
+pub fn a_stop_leaves_a_prefix()
+    ensures within { (t : Translation) (c : Cells) → Valid t → CellCrash t.disk.cells t.disk.flights c → AreWithin t.numbers c }
+    ensures sound { (t : Translation) (c : Cells) (m : Option Mark) →
+        Valid t → CellCrash t.disk.cells t.disk.flights c → IsNewestMark c m → CellsSound c m }
+    ensures suits { (t : Translation) (c : Cells) (m : Option Mark) →
+        Valid t → CellCrash t.disk.cells t.disk.flights c → IsNewestMark c m → CellsSuit t.numbers c m }
+    ensures prefix { (t : Translation) (c : Cells) (m : Option Mark) (kept : ℕ) →
+        Valid t → CellCrash t.disk.cells t.disk.flights c → IsNewestMark c m → IsKept c m kept → IsPrefix t c m kept }
+{}
+
+/// A block that is given to a die to be erased holds only pages that may go, and none that a task keeps.
+pub fn erased_blocks_are_spent()
+    ensures { (t : Translation) (die : ℕ) (s : Spot) →
+        Valid t → MayTake t die (Some (Erasing s)) → MayErase t.disk s × (is_pinned t s ≡ false) }
+{}
+
+/// Once the device is mended, a live page may go only where a finished copy of it stands elsewhere; and at no time is a
+/// block given to a die to be erased that has a live page.
+pub fn live_page_is_spent_by_a_copy_alone()
+    ensures copied { (t : Translation) (p : Place) (tag : Tag) (body : List ℕ) →
+        Valid t → is_mended t.work.mending ≡ true → t.disk.cells p ≡ GroupPage tag body → is_live t p ≡ true →
+        Spent t.disk p → HasCopy (with_erasing t.disk (spot_of p)) tag body }
+    ensures never_erased { (t : Translation) (die : ℕ) (s : Spot) (p : Place) →
+        Valid t → MayTake t die (Some (Erasing s)) → is_live t p ≡ true → spot_of p ≢ s }
+{}

@@ -1,0 +1,123 @@
+-- What a job's beginning and its end make of the jobs in flight.
+use Rattle.std.proofs.Common.{◌≡◌, ◌≢◌, ℕ, Bool, true, false, cond, map, Option, Some, None, refl, sym, ap, ◌∙◌, subst, eq-eqb, ne_eqb, true≢false}
+use Rattle.ufs_laws.specs.Flights.{die_of_flight}
+use Rattle.ufs_spec.specs.Cells.{Array, Cell, Cells, GroupPage, MarkPage, Nothing}
+use Rattle.ufs_spec.specs.Disk.{Disk, Flight, Erasing, ForNobody, ForRest, ForStep, ForTask, Programming, Reader, Reading, at_die, program_failed}
+use Rattle.ufs_spec.specs.Exchanges.{NotRead, ReadState, WasRead}
+use Rattle.ufs_spec.specs.Machine.{Allowed, reader_told, Finish, Finishes, Give, Gives, ends_with, fits, given as given_job, lock_told, observe, short_locked, task_locked, told_behind}
+use Rattle.ufs_spec.specs.Moves.{end_flight, Ending, ReadRight, ReadWrong, WentWell, WentWrong, cell_failed, cell_written, freed, job_ended, mark_again, read_right, read_wrong}
+use Rattle.ufs_spec.specs.Steps.{State, locked}
+use Rattle.ufs_spec.specs.Translation.{Plan, Translation, has_mark_number, mark_ordered}
+use Rattle.ufs_spec.specs.declared.flash.Fence.{Fence}
+use Rattle.ufs_spec.specs.declared.flash.Place.{Place}
+
+-- The job that was given
+
+pub at_its_die : (f : ℕ → Option Flight) (die : ℕ) (o : Option Flight) → at_die f die o die ≡ o
+at_its_die f die o = rw (eq-eqb die die refl) refl
+
+pub at_other : (f : ℕ → Option Flight) (die : ℕ) (o : Option Flight) (other : ℕ) → other ≢ die → at_die f die o other ≡ f other
+at_other f die o other differ = rw (ne_eqb other die differ) refl
+
+-- to tell the lock leaves the translation as it is
+pub told_layer : (s : State) → (lock_told s).translation ≡ s.translation
+told_layer s = by (locked s)
+  where
+    by : (b : Bool) → (cond b (record s { tasks = map (task_locked s) s.tasks; shorts = map (short_locked s) s.shorts }) s).translation ≡ s.translation
+    by true = refl
+    by false = refl
+
+told_flight : (s : State) (die : ℕ) → (lock_told s).translation.disk.flights die ≡ s.translation.disk.flights die
+told_flight s die = ap (λ (t : Translation). t.disk.flights die) (told_layer s)
+
+pub own_flight : (s : State) (die : ℕ) (flight : Flight) → (observe s (Give die) (Gives (Some flight))).translation.disk.flights die ≡ Some flight
+own_flight s die flight = told_flight (given_job s die (Some flight)) die ∙ at_its_die s.translation.disk.flights die (Some flight)
+
+pub other_flight : (s : State) (die : ℕ) (flight : Flight) (other : ℕ) → other ≢ die
+    → (observe s (Give die) (Gives (Some flight))).translation.disk.flights other ≡ s.translation.disk.flights other
+other_flight s die flight other differ =
+    told_flight (given_job s die (Some flight)) other ∙ at_other s.translation.disk.flights die (Some flight) other differ
+
+pub same_flights : (s : State) (die other : ℕ) → (observe s (Give die) (Gives None)).translation.disk.flights other ≡ s.translation.disk.flights other
+same_flights s die other = told_flight s other
+
+-- A job's end
+
+abbrev Freed : Translation → ℕ → Translation → Type 0
+Freed t die u = u.disk.flights ≡ at_die t.disk.flights die None
+
+read_frees : (t u : Translation) (die : ℕ) (reader : Reader) → Freed t die u → Freed t die (read_right u reader)
+read_frees t u die (ForTask tag index) e = e
+read_frees t u die ForStep e = e
+read_frees t u die (ForRest number index) e = e
+read_frees t u die ForNobody e = e
+
+wrong_frees : (t u : Translation) (die : ℕ) (reader : Reader) → Freed t die u → Freed t die (read_wrong u reader)
+wrong_frees t u die (ForTask tag index) e = e
+wrong_frees t u die reader e = e
+
+same_jobs_freed : (d : Disk) (plan : Option Plan) → (freed d plan).flights ≡ d.flights
+same_jobs_freed d None = refl
+same_jobs_freed d (Some plan) = refl
+
+program_frees : (t : Translation) (place : Place) (cell : Cell) → Freed t place.die (cell_written t place cell)
+program_frees t place Nothing = refl
+program_frees t place (GroupPage tag body) = refl
+program_frees t place (MarkPage m) = same_jobs_freed _ t.work.plan
+
+again_keeps : (t : Translation) (fence : Option Fence) → (mark_again t fence).disk.flights ≡ t.disk.flights
+again_keeps t fence = by (has_mark_number t)
+  where
+    by : (b : Bool) → (cond b (mark_ordered t fence) (record t { work = record t.work { step = None } })).disk.flights ≡ t.disk.flights
+    by true = refl
+    by false = refl
+
+failure_frees : (t : Translation) (place : Place) (cell : Cell) (left : Cells) → Freed t place.die (cell_failed t place cell left)
+failure_frees t place Nothing left = refl
+failure_frees t place (GroupPage tag body) left = refl
+failure_frees t place (MarkPage m) left = again_keeps (record t { disk = program_failed t.disk place left }) m.fence
+
+-- an end that fits the job frees the die that the job lies on
+end_frees : (t : Translation) (die : ℕ) (flight : Flight) (ending : Ending) → die_of_flight flight ≡ die → fits (Some flight) ending ≡ true
+    → Freed t die (job_ended t die flight ending)
+end_frees t die (Reading reader place) ReadRight here fit = read_frees t _ die reader refl
+end_frees t die (Reading reader place) ReadWrong here fit = wrong_frees t _ die reader refl
+end_frees t die (Programming place cell) WentWell here fit = subst (λ (d : ℕ). Freed t d (cell_written t place cell)) here (program_frees t place cell)
+end_frees t die (Programming place cell) (WentWrong left) here fit = subst (λ (d : ℕ). Freed t d (cell_failed t place cell left)) here (failure_frees t place cell left)
+end_frees t die (Erasing spot) WentWell here fit = ap (λ (d : ℕ). at_die t.disk.flights d None) here
+end_frees t die (Erasing spot) (WentWrong left) here fit = ap (λ (d : ℕ). at_die t.disk.flights d None) here
+end_frees t die flight ending here fit = absurd (true≢false (sym fit))
+
+told_keeps : (s : State) (reader : Reader) (read : ReadState) → (reader_told s reader read).translation ≡ s.translation
+told_keeps s (ForTask tag index) read = refl
+told_keeps s reader read = refl
+
+behind_keeps : (s : State) (flight : Flight) (ending : Ending) → (told_behind s flight ending).translation ≡ s.translation
+behind_keeps s (Reading reader place) ReadRight = told_keeps s reader WasRead
+behind_keeps s (Reading reader place) ReadWrong = told_keeps s reader NotRead
+behind_keeps s flight ending = refl
+
+-- the jobs behind the end of one that the die has
+pub jobs_behind : (s : State) (die : ℕ) (flight : Flight) (ending : Ending) (left : Array) → s.translation.disk.flights die ≡ Some flight
+    → die_of_flight flight ≡ die → Allowed s (Finish die ending left) (Finishes true)
+    → (observe s (Finish die ending left) (Finishes true)).translation.disk.flights ≡ at_die s.translation.disk.flights die None
+jobs_behind s die flight ending left e here right =
+    let t = s.translation in
+    let fit : fits (Some flight) ending ≡ true = ap (λ (o : Option Flight). fits o ending) (sym e) ∙ sym right in
+    ap (λ (u : Translation). u.disk.flights) (told_layer (ends_with s die (t.disk.flights die) ending left))
+    ∙ ap (λ (o : Option Flight). (ends_with s die o ending left).translation.disk.flights) e
+    ∙ ap (λ (u : Translation). (end_flight u die (u.disk.flights die) ending).disk.flights) (behind_keeps s flight ending)
+    ∙ ap (λ (o : Option Flight). (end_flight t die o ending).disk.flights) e
+    ∙ end_frees t die flight ending here fit
+
+pub ended_flight : (s : State) (die : ℕ) (flight : Flight) (ending : Ending) (left : Array) → s.translation.disk.flights die ≡ Some flight
+    → die_of_flight flight ≡ die → Allowed s (Finish die ending left) (Finishes true)
+    → (observe s (Finish die ending left) (Finishes true)).translation.disk.flights die ≡ None
+ended_flight s die flight ending left e here right =
+    ap (λ (f : ℕ → Option Flight). f die) (jobs_behind s die flight ending left e here right) ∙ at_its_die s.translation.disk.flights die None
+
+pub ended_others : (s : State) (die : ℕ) (flight : Flight) (ending : Ending) (left : Array) → s.translation.disk.flights die ≡ Some flight
+    → die_of_flight flight ≡ die → Allowed s (Finish die ending left) (Finishes true) → (other : ℕ) → other ≢ die
+    → (observe s (Finish die ending left) (Finishes true)).translation.disk.flights other ≡ s.translation.disk.flights other
+ended_others s die flight ending left e here right other differ =
+    ap (λ (f : ℕ → Option Flight). f other) (jobs_behind s die flight ending left e here right) ∙ at_other s.translation.disk.flights die None other differ

@@ -1,0 +1,5 @@
+use Rattle.ufs_laws.proofs.RpmbResults.{accepted_result}
+use Rattle.ufs_laws.proofs.tables.failed_request_accepts_nothing.Goals as goal
+
+pub returns : goal.returns
+returns c = accepted_result

@@ -1,0 +1,255 @@
+-- A run of a new device from end to end: its first mark is programmed, a block is written with FUA, and it is read. Each
+-- call is listed with its answer, and each state is what the calls before it lead to.
+use Rattle.std.specs.Prelude.{◌≡◌, ℕ, Bool, true, false, List, [], ◌∷◌, length, Some, None, Ok}
+use Rattle.std.specs.Global.{Vec}
+use Rattle.ufs_laws.specs.GapRows.{first_mark, write_page}
+use Rattle.ufs_spec.specs.Cdbs.{cdb_bytes, fixed_sense}
+use Rattle.ufs_spec.specs.Cells.{Array, MarkPage}
+use Rattle.ufs_spec.specs.Configs.{numbers_of}
+use Rattle.ufs_spec.specs.Dies.{blank_page}
+use Rattle.ufs_spec.specs.Disk.{job_of, Erasing, Flight, ForTask, Programming, Reading, Spot}
+use Rattle.ufs_spec.specs.Exchanges.{sense}
+use Rattle.ufs_spec.specs.Lives.{IsOpened, Life}
+use Rattle.ufs_spec.specs.Machine.{Allowed, Answer, Ask, Call, Finish, Finishes, Give, Gives, Heard, Hears, Host, IsHeard, Replies, Spelled, Step, Steps, observe}
+use Rattle.ufs_spec.specs.Messages.{spelling}
+use Rattle.ufs_spec.specs.Moves.{ReadRight, WentWell}
+use Rattle.ufs_spec.specs.Steps.{State}
+use Rattle.ufs_spec.specs.Steps as step
+use Rattle.ufs_spec.specs.declared.configs.Numbers.{Numbers}
+use Rattle.ufs_spec.specs.declared.configs.UnitSpec.{UnitSpec}
+use Rattle.ufs_spec.specs.declared.events.Event.{Event}
+use Rattle.ufs_spec.specs.declared.events.Event.TheVariants as event
+use Rattle.ufs_spec.specs.declared.events.Output.{Output}
+use Rattle.ufs_spec.specs.declared.events.Output.TheVariants as output
+use Rattle.ufs_spec.specs.declared.flash.Place.{Place}
+use Rattle.ufs_spec.specs.declared.messages.Message.{Message}
+use Rattle.ufs_spec.specs.declared.messages.Message.TheVariants as message
+use Rattle.ufs_spec.specs.declared.scsi.Cdb.{Cdb}
+use Rattle.ufs_spec.specs.declared.scsi.Cdb.TheVariants as cdb
+
+-- The device
+
+abbrev pub unit : ℕ → ℕ → UnitSpec
+unit blocks boot = record { blocks = blocks; boot = boot; protect = 0 }
+
+-- 4 dies of 16 blocks of 64 pages, three units, 128 KiB of RPMB area, 64 slots and 4 spare blocks
+abbrev pub row : Numbers
+row = numbers_of 4 16 64 (unit 256 0 ∷ unit 64 1 ∷ unit 64 2 ∷ []) 1 64 4
+
+-- it was opened over new dies
+pub record IsNew (s : State) : Type 0 where
+  pub array : Array
+  pub bad : Spot → Bool
+  pub blank : (p : Place) → array p ≡ blank_page
+  pub none_bad : (b : Spot) → bad b ≡ false
+  pub opened : IsOpened row array bad s
+
+-- of every new device and every block
+abbrev pub Always : (State → List ℕ → Type 0) → Type 0
+Always P = (s : State) (body : List ℕ) → IsNew s → length body ≡ 4096 → P s body
+
+-- the answer to the call is right, and no other one is
+pub record Gets (s : State) (call : Call) (answer : Answer) : Type 0 where
+  pub right : Allowed s call answer
+  pub only : (other : Answer) → Allowed s call other → other ≡ answer
+
+-- What is told and heard
+
+abbrev pub place_of : ℕ → Place
+place_of page = record { die = 0; block = 0; page = page }
+
+abbrev pub erase : Flight
+erase = Erasing (record { die = 0; block = 0 })
+
+-- the mark has number 1, records frontier 0 and has no fence
+abbrev pub mark_program : Flight
+mark_program = Programming (place_of 0) (MarkPage (first_mark row))
+
+-- the block is the one page of group 1, and records frontier 0
+abbrev pub data_program : List ℕ → Flight
+data_program body = Programming (place_of 1) (write_page 1 0xFF 0 body)
+
+abbrev pub data_read : Flight
+data_read = Reading (ForTask 8 0) (place_of 1)
+
+-- a COMMAND: flags, LUN, task tag, bytes expected, and the command that its CDB spells
+abbrev pub command : ℕ → ℕ → ℕ → ℕ → Cdb → Heard
+command flags lun tag expected c = Spelled (message.Command flags lun tag expected (cdb_bytes c)) (Some c)
+
+-- WRITE(10) with FUA of one block, its data, and READ(10) of it
+abbrev pub the_write : Heard
+the_write = command 0x20 0 7 4096 (cdb.Write10 0xFF 1 true)
+
+abbrev pub the_data : List ℕ → Heard
+the_data body = Spelled (message.DataOut 0 7 0 (record { items = body })) None
+
+abbrev pub the_read : Heard
+the_read = command 0x40 0 8 4096 (cdb.Read10 0xFF 1 false)
+
+-- there are bytes that say it
+abbrev pub IsSaid : Heard → Type 0
+IsSaid h = (bytes : List ℕ) × IsHeard bytes h
+
+abbrev pub heard : Answer
+heard = Hears (Ok tt)
+
+abbrev pub ready_message : Message
+ready_message = message.ReadyToTransfer 0 7 0 4096
+
+abbrev pub ready : Answer
+ready = Replies (Some ready_message)
+
+abbrev pub data_message : List ℕ → Message
+data_message body = message.DataIn 0 8 0 (record { items = body })
+
+abbrev pub data_in : List ℕ → Answer
+data_in body = Replies (Some (data_message body))
+
+-- RESPONSE with status GOOD and no residual count
+abbrev pub good_message : ℕ → Message
+good_message tag = message.Response 0x00 0 tag 0x00 0x00 0 None
+
+abbrev pub good : ℕ → Answer
+good tag = Replies (Some (good_message tag))
+
+-- the job of die 0 ends well
+abbrev pub program_ends : State → Call
+program_ends s = Finish 0 WentWell s.array
+
+abbrev pub read_ends : State → Call
+read_ends s = Finish 0 ReadRight s.array
+
+-- The first mark
+
+unfoldable pub state_1 : State → State
+state_1 s = observe s Step (Steps true)
+
+unfoldable pub state_2 : State → State
+state_2 s = observe (state_1 s) Step (Steps false)
+
+unfoldable pub state_3 : State → State
+state_3 s = observe (state_2 s) (Give 0) (Gives (Some erase))
+
+unfoldable pub state_4 : State → State
+state_4 s = observe (state_3 s) (Give 0) (Gives None)
+
+unfoldable pub state_5 : State → State
+state_5 s = observe (state_4 s) (program_ends (state_4 s)) (Finishes true)
+
+unfoldable pub state_6 : State → State
+state_6 s = observe (state_5 s) (Give 0) (Gives (Some mark_program))
+
+unfoldable pub state_7 : State → State
+state_7 s = observe (state_6 s) (program_ends (state_6 s)) (Finishes true)
+
+unfoldable pub state_8 : State → State
+state_8 s = observe (state_7 s) Step (Steps false)
+
+-- A block is written
+
+unfoldable pub state_9 : State → State
+state_9 s = observe (state_8 s) (Host the_write) heard
+
+unfoldable pub state_10 : State → State
+state_10 s = observe (state_9 s) Ask ready
+
+unfoldable pub state_11 : State → State
+state_11 s = observe (state_10 s) Ask (Replies None)
+
+unfoldable pub state_12 : State → List ℕ → State
+state_12 s body = observe (state_11 s) (Host (the_data body)) heard
+
+unfoldable pub state_13 : State → List ℕ → State
+state_13 s body = observe (state_12 s body) Ask (Replies None)
+
+unfoldable pub state_14 : State → List ℕ → State
+state_14 s body = observe (state_13 s body) (Give 0) (Gives (Some (data_program body)))
+
+unfoldable pub state_15 : State → List ℕ → State
+state_15 s body = observe (state_14 s body) Ask (Replies None)
+
+unfoldable pub state_16 : State → List ℕ → State
+state_16 s body = observe (state_15 s body) (program_ends (state_15 s body)) (Finishes true)
+
+unfoldable pub state_17 : State → List ℕ → State
+state_17 s body = observe (state_16 s body) Ask (good 7)
+
+-- It is read
+
+unfoldable pub state_18 : State → List ℕ → State
+state_18 s body = observe (state_17 s body) (Host the_read) heard
+
+unfoldable pub state_19 : State → List ℕ → State
+state_19 s body = observe (state_18 s body) Ask (Replies None)
+
+unfoldable pub state_20 : State → List ℕ → State
+state_20 s body = observe (state_19 s body) (Give 0) (Gives (Some data_read))
+
+unfoldable pub state_21 : State → List ℕ → State
+state_21 s body = observe (state_20 s body) (read_ends (state_20 s body)) (Finishes true)
+
+unfoldable pub state_22 : State → List ℕ → State
+state_22 s body = observe (state_21 s body) Ask (data_in body)
+
+unfoldable pub state_23 : State → List ℕ → State
+state_23 s body = observe (state_22 s body) Ask (good 8)
+
+unfoldable pub state_24 : State → List ℕ → State
+state_24 s body = observe (state_23 s body) Ask (Replies None)
+
+-- The run as events and outputs
+
+-- where the host says these bytes
+abbrev pub run_events : (write block read : Vec ℕ) → List Event
+run_events write block read =
+    event.Turn ∷ event.Turn
+    ∷ event.Take 0 ∷ event.Take 0 ∷ event.Finish 0 ∷ event.Take 0 ∷ event.Finish 0 ∷ event.Turn
+    ∷ event.Host write ∷ event.Reply ∷ event.Reply
+    ∷ event.Host block ∷ event.Reply ∷ event.Take 0 ∷ event.Reply ∷ event.Finish 0 ∷ event.Reply
+    ∷ event.Host read ∷ event.Reply ∷ event.Take 0 ∷ event.Finish 0 ∷ event.Reply ∷ event.Reply ∷ event.Reply
+    ∷ []
+
+abbrev pub told : Message → Output
+told m = output.Reply (Some (record { items = spelling m }))
+
+abbrev pub begins : Flight → Output
+begins flight = output.Take (Some (job_of flight))
+
+abbrev pub run_outputs : List ℕ → List Output
+run_outputs body =
+    output.Turn true ∷ output.Turn false
+    ∷ begins erase ∷ output.Take None ∷ output.Ended ∷ begins mark_program ∷ output.Ended ∷ output.Turn false
+    ∷ output.Host (Ok tt) ∷ told ready_message ∷ output.Reply None
+    ∷ output.Host (Ok tt) ∷ output.Reply None ∷ begins (data_program body) ∷ output.Reply None ∷ output.Ended
+    ∷ told (good_message 7)
+    ∷ output.Host (Ok tt) ∷ output.Reply None ∷ begins data_read ∷ output.Ended ∷ told (data_message body)
+    ∷ told (good_message 8) ∷ output.Reply None
+    ∷ []
+
+-- with these outputs the events are a life
+abbrev pub IsRunOf : State → List ℕ → Type 0
+IsRunOf s body =
+    (write block read : Vec ℕ) → IsHeard write.items the_write → IsHeard block.items (the_data body) →
+    IsHeard read.items the_read → Life s (run_events write block read) (run_outputs body) (state_24 s body)
+
+-- Refused commands
+
+-- nothing is open
+pub record IsIdle (s : State) : Type 0 where
+  pub numbers : step.numbers_of s ≡ row
+  pub no_tasks : s.tasks ≡ []
+  pub no_shorts : s.shorts ≡ []
+
+-- a COMMAND is taken, and this RESPONSE is the one reply
+pub record IsAnswered (s : State) (h : Heard) (m : Message) : Type 0 where
+  pub taken : Gets s (Host h) heard
+  pub reply : Gets (observe s (Host h) heard) Ask (Replies (Some m))
+
+-- RESPONSE with CHECK CONDITION and ILLEGAL REQUEST: underflow, of all that was expected
+abbrev pub refused : ℕ → ℕ → ℕ → ℕ → Message
+refused lun tag expected asc =
+    message.Response 0x20 lun tag 0x01 0x02 expected (Some (0 ∷ 0x12 ∷ fixed_sense (sense 0x05 asc)))
+
+-- READ(10) of so many blocks of unit 0 from an address on
+abbrev pub read_of : ℕ → ℕ → Bool → ℕ → ℕ → Heard
+read_of address blocks forced tag expected = command 0x40 0 tag expected (cdb.Read10 address blocks forced)

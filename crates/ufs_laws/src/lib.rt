@@ -1,0 +1,26 @@
+//! Laws of the definitions of `ufs_spec`: what shows that they say what they should. The functions do nothing: their
+//! contracts are the laws.
+#![tactic(auto)]
+
+mod arrays;
+mod calls;
+mod contents;
+mod rows;
+mod runs;
+mod tables;
+
+pub use arrays::{
+    array_stands_for_something, new_dies_stand_for_zero, page_is_one_cell,
+    sound_array_stands_for_one,
+};
+pub use calls::{
+    a_crash_leaves_old_or_new, a_crash_of_pages_is_one_of_cells, a_life_begins_with_its_beginning,
+    every_call_has_an_answer, jobs_lie_on_their_dies, messages_are_heard_once, new_dies_open,
+    one_answer, one_job_a_die,
+};
+pub use contents::{
+    command_replaces_its_keys, commands_keep_plain, new_device_is_zero, plain_state_is_its_contents,
+};
+pub use rows::{gap_keeps_the_first_write, write_after_the_gap_is_kept};
+pub use runs::{a_refused_read_says_why, a_written_block_is_read};
+pub use tables::{failed_request_accepts_nothing, worked_queries};

@@ -1,0 +1,27 @@
+-- What a host can change on a device (JESD220, 10.8 logical units, 12.4 RPMB; the commands are this profile's).
+use Rattle.std.specs.Prelude.{ℕ, List}
+use Rattle.ufs_spec.specs.declared.commands.Cmd.{Cmd}
+use Rattle.ufs_spec.specs.declared.commands.Cmd.TheVariants as held
+
+pub data Command : Type 0 where
+  -- 1 to 32 blocks are written to a unit, from an address on
+  Write : (unit address : ℕ) → (blocks : List (List ℕ)) → Command
+  -- 1 to 32 blocks of a unit, from an address on, become zeros
+  Zero : (unit address count : ℕ) → Command
+  -- the RPMB key is programmed
+  SetKey : (key : List ℕ) → Command
+  -- 1 to 8 blocks of 256 bytes are written to the RPMB area; the address counts such blocks
+  RpmbWrite : (address : ℕ) → (bytes : List ℕ) → Command
+  -- bBootLunEn
+  SetBoot : (boot : ℕ) → Command
+  -- fPermanentWPEn
+  SetPermanent : Command
+
+-- the command that a value of the code is
+abbrev pub command_of : Cmd → Command
+command_of (held.Write unit address blocks) = Write unit address blocks.items
+command_of (held.Zero unit address count) = Zero unit address count
+command_of (held.Key key) = SetKey key
+command_of (held.RpmbWrite address bytes) = RpmbWrite address bytes.items
+command_of (held.SetBoot boot) = SetBoot boot
+command_of held.SetPermanent = SetPermanent

@@ -1,0 +1,147 @@
+-- What is known in one life of numbers, groups and contents, whatever pages they stand on (this profile).
+use Rattle.std.specs.Prelude.{ℕ, zero, suc, ◌+◌, ◌-◌, ◌==◌, ◌&&◌, nat_le, nat_lt, Bool, true, false, if◌then◌else◌, is_some, List, [], ◌∷◌, drop, length, position, slice_get, take, Option, Some, None, option_and_then, option_map}
+use Rattle.ufs_spec.specs.Cells.{Mark}
+use Rattle.ufs_spec.specs.Keys.{Contents, Group, Item, same_key}
+use Rattle.ufs_spec.specs.declared.flash.Key.{Key}
+use Rattle.ufs_spec.specs.declared.flash.Place.{Place}
+
+-- Names of pages
+
+-- a page of a group, by the group's number and the index in it
+pub record Name : Type 0 where
+  pub number : ℕ
+  pub index : ℕ
+
+abbrev pub same_name : Name → Name → Bool
+same_name a b = (a.number == b.number) && (a.index == b.index)
+
+-- what a page has under its name: its item, and the size of its group
+pub record Entry : Type 0 where
+  pub item : Item
+  pub size : ℕ
+
+pub record Ledger : Type 0 where
+  -- the contents at the life's start
+  pub base : Contents
+  -- the pages that stood then, by name, and of each key the one that had its content
+  pub old : ℕ → ℕ → Option Entry
+  pub first : Key → Option Name
+  -- the greatest number seen then; numbers from `low` to it are lost, none where `low` is above it
+  pub top : ℕ
+  pub low : ℕ
+  -- the groups of this life, numbered from top + 1 on: repairs, and then those of accepted commands
+  pub groups : List Group
+  pub repairs : ℕ
+  -- where the page of a name stands, or stood before its block was erased: the copy whose program ended last
+  pub standing : ℕ → ℕ → Option Place
+  -- at or under it every group is wholly programmed or lost: what is not kept at the life's start is lost from then on
+  pub frontier : ℕ
+  -- the newest finished mark, and the greatest number that a mark was given
+  pub newest : Option Mark
+  pub marks : ℕ
+  -- how many accepted commands, from the first on, are acknowledged as durable
+  pub held : ℕ
+
+-- Groups by number
+
+abbrev pub group_at : Ledger → ℕ → Option Group
+group_at l n = if nat_le n l.top then None else slice_get l.groups (n - l.top - 1)
+
+-- a page of a group of this life
+abbrev pub entry_in : Group → ℕ → Option Entry
+entry_in g i = option_map (λ item. record { item = item; size = length g }) (slice_get g i)
+
+-- a page of an earlier life or of this one
+abbrev pub entry_of : Ledger → Name → Option Entry
+entry_of l name =
+    if nat_le name.number l.top then l.old name.number name.index
+    else option_and_then (λ g. entry_in g name.index) (group_at l name.number)
+
+-- the number of the next group
+abbrev pub next_number : Ledger → ℕ
+next_number l = l.top + length l.groups + 1
+
+-- the groups of accepted commands, and the number before the first of them
+abbrev pub accepted_groups : Ledger → List Group
+accepted_groups l = drop l.repairs l.groups
+
+abbrev pub before_accepted : Ledger → ℕ
+before_accepted l = l.top + l.repairs
+
+-- The frontier
+
+abbrev pub is_standing : Ledger → ℕ → ℕ → Bool
+is_standing l n i = is_some (l.standing n i)
+
+-- whether the pages of these indexes, and so the whole group, stand
+abbrev pub all_stand : (ℕ → Bool) → ℕ → Bool
+all_stand stands zero = true
+all_stand stands (suc i) = stands i && all_stand stands i
+
+-- from a number on, over the groups behind it, up to the first that is not wholly there
+abbrev pub climbed : (ℕ → ℕ → Bool) → ℕ → List Group → ℕ
+climbed stands n [] = n
+climbed stands n (g ∷ gs) = if all_stand (stands (suc n)) (length g) then climbed stands (suc n) gs else n
+
+-- one value more, under a name
+abbrev pub at_name : {A : Type 0} → (ℕ → ℕ → A) → Name → A → ℕ → ℕ → A
+at_name f name x n i = if (n == name.number) && (i == name.index) then x else f n i
+
+-- the frontier climbs over the groups that are wholly there
+abbrev pub climbs : Ledger → Ledger
+climbs l = record l { frontier = climbed (is_standing l) l.frontier (drop (l.frontier - l.top) l.groups) }
+
+-- a page's program ended well
+abbrev pub page_stands : Ledger → Name → Place → Ledger
+page_stands l name p = climbs (record l { standing = at_name l.standing name (Some p) })
+
+-- What a key has
+
+abbrev pub index_in : Key → Group → Option ℕ
+index_in k g = position (λ (item : Item). same_key item.key k) g
+
+abbrev pub name_or : ℕ → Option ℕ → Option Name → Option Name
+name_or n (Some i) older = Some (record { number = n; index = i })
+name_or n None older = older
+
+-- the last of the groups behind a number that has the key, else an older one
+abbrev pub latest_in : Key → ℕ → List Group → Option Name → Option Name
+latest_in k n [] older = older
+latest_in k n (g ∷ gs) older = latest_in k (suc n) gs (name_or (suc n) (index_in k g) older)
+
+-- the page with the key's content at the frontier, and after all groups
+abbrev pub latest_durable : Ledger → Key → Option Name
+latest_durable l k = latest_in k l.top (take (l.frontier - l.top) l.groups) (l.first k)
+
+abbrev pub latest : Ledger → Key → Option Name
+latest l k = latest_in k l.top l.groups (l.first k)
+
+abbrev pub is_name : Name → Option Name → Bool
+is_name name None = false
+is_name name (Some other) = same_name name other
+
+-- What was looked up
+
+-- nothing was ever written; a slot, whose group is not durable yet; or a page
+pub data Looked : Type 0 where
+  Unwritten : Looked
+  InSlot : (name : Name) → Looked
+  OnPage : (name : Name) → (place : Place) → Looked
+
+abbrev pub looked_on : Name → Option Place → Looked
+looked_on name None = Unwritten
+looked_on name (Some place) = OnPage name place
+
+abbrev pub looked_at : Ledger → Option Name → Looked
+looked_at l None = Unwritten
+looked_at l (Some name) =
+    if nat_lt l.frontier name.number then InSlot name else looked_on name (l.standing name.number name.index)
+
+-- what holds the content of the key after all groups
+abbrev pub look : Ledger → Key → Looked
+look l k = looked_at l (latest l k)
+
+-- who looked at a slot whose group is durable now looks at its page
+abbrev pub settled_look : Ledger → Looked → Looked
+settled_look l (InSlot name) = looked_at l (Some name)
+settled_look l looked = looked

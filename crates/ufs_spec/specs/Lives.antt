@@ -1,0 +1,211 @@
+-- Lives: what happens to a device with its dies from an opening to the next stop, and over any number of stops. A stop may
+-- come at any moment, inside any program or erase. The last definition is the promise of the product (this profile).
+use Rattle.std.specs.Prelude.{◌≡◌, ◌≢◌, ◌⊎◌, ℕ, ◌≤◌, Bool, true, false, List, [], ◌∷◌, ◌++◌, AllPairs, Contains, length, slice_get, slice_index_or, take, Option, Some, None, option_map}
+use Rattle.std.specs.List.{All}
+use Rattle.ufs_spec.specs.Cells.{Array, Cells, Shows}
+use Rattle.ufs_spec.specs.Dies.{DieState, IsOfSize, is_bad_block, new_die, page_at}
+use Rattle.ufs_spec.specs.Disk.{Crash, Erasing, Flight, Programming, Reading, Spot, flight_alone, job_of, spot_of}
+use Rattle.ufs_spec.specs.Exchanges.{empty_registers}
+use Rattle.ufs_spec.specs.Keys.{IsKey, content}
+use Rattle.ufs_spec.specs.Kept.{StandsFor}
+use Rattle.ufs_spec.specs.Machine.{Allowed, Answer, Ask, Call, Finish, Finishes, Give, Gives, Heard, Hears, Host, IsHeard, Replies, Step, Steps, observe}
+use Rattle.ufs_spec.specs.Messages.{spelling}
+use Rattle.ufs_spec.specs.Moves.{Ending, ReadRight, ReadWrong, WentWell, WentWrong}
+use Rattle.ufs_spec.specs.Openings.{IsOpenedTranslation}
+use Rattle.ufs_spec.specs.Plain.{Plain, after, shape_of_numbers}
+use Rattle.ufs_spec.specs.Steps.{State, numbers_of}
+use Rattle.ufs_spec.specs.Translation.{is_bad}
+use Rattle.ufs_spec.specs.declared.configs.Numbers.{Numbers}
+use Rattle.ufs_spec.specs.declared.events.Event.{Event}
+use Rattle.ufs_spec.specs.declared.events.Event.TheVariants as event
+use Rattle.ufs_spec.specs.declared.events.Leftover.{Leftover}
+use Rattle.ufs_spec.specs.declared.events.Leftover.TheVariants as leftover
+use Rattle.ufs_spec.specs.declared.events.Output.{Output}
+use Rattle.ufs_spec.specs.declared.events.Output.TheVariants as output
+use Rattle.ufs_spec.specs.declared.flash.Page.{Page}
+use Rattle.ufs_spec.specs.declared.flash.Place.{Place}
+
+-- ## Leftovers
+
+-- what a leftover says of the page there, if it names it
+abbrev pub page_left : Leftover → Place → Page → Type 0
+page_left (leftover.Page q page) p left = (q ≡ p) × (left ≡ page)
+page_left (leftover.Block die block pages) p left =
+    (spot_of p ≡ record { die = die; block = block }) × (slice_get pages.items p.page ≡ Some left)
+
+-- it names just the page, or just all pages of the block, that the job touches
+abbrev pub IsLeftoverOf : Numbers → Option Flight → Leftover → Type 0
+IsLeftoverOf n (Some (Programming p cell)) (leftover.Page q page) = q ≡ p
+IsLeftoverOf n (Some (Erasing s)) (leftover.Block die block pages) =
+    (s ≡ record { die = die; block = block }) × (length pages.items ≡ n.pages)
+IsLeftoverOf n flight left = ⊥
+
+abbrev pub die_of : Leftover → ℕ
+die_of (leftover.Page q page) = q.die
+die_of (leftover.Block die block pages) = die
+
+-- pages that a leftover names are as it says, and all others as they were
+abbrev pub IsLeft : Array → List Leftover → Array → Type 0
+IsLeft array lefts after = (p : Place) →
+    ((l : Leftover) × Contains lefts l × page_left l p (after p))
+    ⊎ (((l : Leftover) → Contains lefts l → page_left l p (after p) → ⊥) × (after p ≡ array p))
+
+-- each leftover is that of its die's job, and no die has two
+abbrev pub AreLeftovers : State → List Leftover → Type 0
+AreLeftovers s lefts =
+    All (λ l. IsLeftoverOf (numbers_of s) (s.translation.disk.flights (die_of l)) l) lefts
+    × AllPairs (λ l m. die_of l ≢ die_of m) lefts
+
+-- ## Events
+
+-- how a job ends that the die did well
+abbrev pub ended_well : Flight → Ending
+ended_well (Reading reader place) = ReadRight
+ended_well flight = WentWell
+
+-- how a job ends that failed: a read leaves nothing; a program or an erase leaves what an interruption may
+abbrev pub IsFailure : State → ℕ → Option Flight → Option Leftover → Ending → Array → Type 0
+IsFailure s die (Some (Reading reader place)) None ReadWrong left = left ≡ s.array
+IsFailure s die (Some flight) (Some l) (WentWrong cells) left =
+    IsLeftoverOf (numbers_of s) (Some flight) l × IsLeft s.array (l ∷ []) left
+    × Crash s.array (flight_alone s.translation.disk.flights die) left × Shows left cells
+IsFailure s die flight l ending left = ⊥
+
+abbrev pub IsFinish : State → ℕ → Option Flight → Call → Type 0
+IsFinish s die None call = ⊥
+IsFinish s die (Some flight) call = call ≡ Finish die (ended_well flight) s.array
+
+-- the call that an event is; a stop is none
+abbrev pub IsCall : State → Event → Call → Type 0
+IsCall s (event.Host bytes) call = (heard : Heard) × IsHeard bytes.items heard × (call ≡ Host heard)
+IsCall s event.Reply call = call ≡ Ask
+IsCall s (event.Take die) call = call ≡ Give die
+IsCall s (event.Finish die) call = IsFinish s die (s.translation.disk.flights die) call
+IsCall s (event.Fail die l) call =
+    (ending : Ending) × (left : Array)
+    × IsFailure s die (s.translation.disk.flights die) l ending left × (call ≡ Finish die ending left)
+IsCall s event.Turn call = call ≡ Step
+IsCall s (event.Stop lefts) call = ⊥
+
+-- what an answer shows: a job as the die is told it, a reply as its one spelling
+abbrev pub IsShown : Answer → Output → Type 0
+IsShown (Hears result) (output.Host shown) = shown ≡ result
+IsShown (Gives flight) (output.Take job) = job ≡ option_map job_of flight
+IsShown (Finishes known) output.Ended = known ≡ true
+IsShown (Steps due) (output.Turn shown) = shown ≡ due
+IsShown (Replies None) (output.Reply shown) = shown ≡ None
+IsShown (Replies (Some m)) (output.Reply None) = ⊥
+IsShown (Replies (Some m)) (output.Reply (Some bytes)) = bytes.items ≡ spelling m
+IsShown answer shown = ⊥
+
+-- the event may show this, and leads to the second state
+pub record Leads (s : State) (e : Event) (o : Output) (t : State) : Type 0 where
+  pub call : Call
+  pub answer : Answer
+  pub is_call : IsCall s e call
+  pub is_shown : IsShown answer o
+  pub right : Allowed s call answer
+  pub next : t ≡ observe s call answer
+
+-- ## One life
+
+-- each output is right where the events before it lead
+abbrev pub Life : State → List Event → List Output → State → Type 0
+Life s [] [] t = t ≡ s
+Life s (e ∷ es) (o ∷ os) t = (next : State) × Leads s e o next × Life next es os t
+Life s _ _ t = ⊥
+
+-- which blocks are bad
+abbrev pub bad_in : State → Spot → Bool
+bad_in s spot = is_bad (s.translation.disk.blocks spot)
+
+-- a life begins over the array: its base is what the array stands for, and nothing is accepted or open
+pub record IsOpened (n : Numbers) (array : Array) (bad : Spot → Bool) (s : State) : Type 0 where
+  pub start : s.start ≡ array
+  pub array_now : s.array ≡ array
+  pub cells : Cells
+  pub shown : Shows array cells
+  pub translation : IsOpenedTranslation n cells bad s.translation
+  pub stands : StandsFor n array s.base
+  pub contents : (k : _) → IsKey (shape_of_numbers n) k → s.translation.ledger.base k ≡ content s.base k
+  pub none_accepted : s.accepted ≡ []
+  pub no_tasks : s.tasks ≡ []
+  pub no_shorts : s.shorts ≡ []
+  pub power_off : s.power_on ≡ false
+  pub no_registers : s.registers ≡ empty_registers
+
+-- ## Stops
+
+-- the array that a stop leaves
+pub record Stops (s : State) (lefts : List Leftover) (left : Array) : Type 0 where
+  pub fit : AreLeftovers s lefts
+  pub is_left : IsLeft s.array lefts left
+  pub crash : Crash s.array s.translation.disk.flights left
+
+-- how many accepted commands, from the first on, are acknowledged as durable: a FUA write answered GOOD, all before
+-- a flush answered GOOD, a setting or an RPMB request answered
+abbrev pub held : State → ℕ
+held s = s.translation.ledger.held
+
+-- ## Several lives
+
+-- one life: where it began, its events, what they showed, and where it ended
+pub record Lived : Type 0 where
+  pub start : State
+  pub events : List Event
+  pub outputs : List Output
+  pub finish : State
+
+-- each of its answers is right, over its base
+abbrev pub IsLived : Numbers → Array → (Spot → Bool) → Lived → Type 0
+IsLived n array bad l = IsOpened n array bad l.start × Life l.start l.events l.outputs l.finish
+
+-- the first life has the base; each later one has what the first k accepted commands of the life before it make of that
+-- life's base, and these k hold all that was acknowledged as durable
+abbrev pub Chain : Plain → Lived → List Lived → List ℕ → Type 0
+Chain base l [] [] = l.start.base ≡ base
+Chain base l (m ∷ ls) (k ∷ ks) =
+    (l.start.base ≡ base) × (held l.finish ≤ k) × (k ≤ length l.finish.accepted)
+    × Chain (after base (take k l.finish.accepted)) m ls ks
+Chain base l _ _ = ⊥
+
+-- the events and what they showed are those of the lives, cut at the stops; each life begins over what the stop before it
+-- left, with the blocks bad that were
+abbrev pub Lives : Numbers → Array → (Spot → Bool) → Lived → List Lived → List Event → List Output → Type 0
+Lives n array bad l [] es os = IsLived n array bad l × (es ≡ l.events) × (os ≡ l.outputs)
+Lives n array bad l (m ∷ ls) es os =
+    IsLived n array bad l
+    × ((lefts : _) × (rest : List Event) × (shown : List Output) × (left : Array)
+    × (es ≡ l.events ++ event.Stop lefts ∷ rest)
+    × (os ≡ l.outputs ++ output.Stopped ∷ shown)
+    × Stops l.finish lefts.items left
+    × Lives n left (bad_in l.finish) m ls rest shown)
+
+-- ## Dies
+
+-- the page at each place, and which blocks are bad
+abbrev pub array_of : List DieState → Array
+array_of dies p = page_at (slice_index_or dies p.die (new_die 0 0)) p.block p.page
+
+abbrev pub bad_of : List DieState → Spot → Bool
+bad_of dies s = is_bad_block (slice_index_or dies s.die (new_die 0 0)) s.block
+
+-- the dies fit the configuration
+abbrev pub Fit : Numbers → List DieState → Type 0
+Fit n dies = (length dies ≡ n.dies) × All (IsOfSize n.blocks n.pages) dies
+
+-- ## The promise
+
+-- Stopped at any moment, inside any page program or block erase and under every order of host messages, die jobs, flushes
+-- and collector steps, the device that opens afterwards has its units, settings, RPMB area, key and counter as after a
+-- prefix of the accepted commands, and this prefix holds every command that was acknowledged as durable.
+-- It is promised of dies that fit the configuration and whose pages are sound and suit it, as new dies are, where the dies
+-- do what they report and the openings had memory.
+pub record Headline (n : Numbers) (dies : List DieState) (events : List Event) (trace : List Output) : Type 0 where
+  pub base : Plain
+  pub stands : StandsFor n (array_of dies) base
+  pub first : Lived
+  pub later : List Lived
+  pub ks : List ℕ
+  pub lives : Lives n (array_of dies) (bad_of dies) first later events trace
+  pub chain : Chain base first later ks

@@ -1,0 +1,554 @@
+-- The specification machine: which answers to the five calls are right, and what each call makes of the state. It is a
+-- function of the state but where the device may choose: which of several replies goes first, and which of several reads
+-- (JESD220, 10.7 and 10.8; this profile).
+use Rattle.std.specs.Prelude.{◌≡◌, ◌⊎◌, ℕ, zero, suc, ◌+◌, ◌-◌, ◌*◌, ◌==◌, ◌&&◌, ◌||◌, min, nat_le, nat_lt, not, Bool, true, false, if◌then◌else◌, is_none, List, [], ◌∷◌, ◌++◌, drop, filter, find, fold, length, map, slice_get, take, slice_set, Option, Some, None, Result, Ok, Err}
+use Rattle.std.specs.List.{flat_map, list_any}
+use Rattle.byteorder.specs.Endian.{big_bytes}
+use Rattle.std.specs.Int.{div_ceil}
+use Rattle.ufs_spec.specs.Cdbs.{SpellsCdb, length_of}
+use Rattle.ufs_spec.specs.Cells.{Array, IsCell}
+use Rattle.ufs_spec.specs.Commands.{Command}
+use Rattle.ufs_spec.specs.Commands as command
+use Rattle.ufs_spec.specs.Dies.{blank_page}
+use Rattle.ufs_spec.specs.Disk.{Erasing, Flight, ForTask, Programming, Reader, Reading, Spot, at_place, page_of, same_spot, spot_of}
+use Rattle.ufs_spec.specs.Exchanges.{Answering, Awaiting, Deed, Registers, empty_registers, ForFrames, ForUnmap, ForWrite, Gathering, Good, NotRead, Purpose, ReadBlock, ReadState, Sending, Short, Status, Task, TaskSetFull, Telling, Unread, WasRead, block_message, bytes_sent, data_message, invalid_operation, is_asked_of, is_short_of, is_task_of, read_error, ready_message, response, short_reply, task_of, with_deed, without_short, without_task, write_error}
+use Rattle.ufs_spec.specs.Keys.{below, data_key, group_of}
+use Rattle.ufs_spec.specs.Ledger.{Looked, OnPage, before_accepted, look}
+use Rattle.ufs_spec.specs.Messages.{Spells, host_fault_of, is_among, zeros}
+use Rattle.ufs_spec.specs.Moves.{Accept, Claim, End, Ending, Keep, LetGo, LetGoAll, Move, ReadRight, ReadWrong, Release, Take, Tell, Turn, WantPage, WentWell, WentWrong, is_pin_of, moved}
+use Rattle.ufs_spec.specs.Plain.{block_at}
+use Rattle.ufs_spec.specs.Stages.{manages_tasks, most_tasks}
+use Rattle.ufs_spec.specs.Steps.{Request, State, locked, lun_of, numbers_of, sends_frames, plain_now, refusal, slots_needed, spec_of, unit_of_request}
+use Rattle.ufs_spec.specs.Translation.{MayTake, Pin, is_step_due}
+use Rattle.ufs_spec.specs.declared.configs.Numbers.{Numbers}
+use Rattle.ufs_spec.specs.declared.configs.UnitSpec.{UnitSpec}
+use Rattle.ufs_spec.specs.declared.faults.HostFault.{HostFault}
+use Rattle.ufs_spec.specs.declared.faults.HostFault.TheVariants.{Backlog, NotAskedFor, Reserved, TagInUse}
+use Rattle.ufs_spec.specs.declared.flash.Outcome.{Outcome}
+use Rattle.ufs_spec.specs.declared.flash.Outcome.TheVariants as outcome
+use Rattle.ufs_spec.specs.declared.flash.Place.{Place}
+use Rattle.ufs_spec.specs.declared.messages.Asked.{Asked}
+use Rattle.ufs_spec.specs.declared.messages.Message.{Message}
+use Rattle.ufs_spec.specs.declared.messages.Message.TheVariants as message
+use Rattle.ufs_spec.specs.declared.scsi.Cdb.{Cdb}
+use Rattle.ufs_spec.specs.declared.scsi.Cdb.TheVariants as cdb
+
+-- ## Calls and answers
+
+-- what a host's bytes are: a message, with the command that its CDB spells, or a fault
+pub data Heard : Type 0 where
+  Spelled : (spelled : Message) → (taken : Option Cdb) → Heard
+  Faulty : (fault : HostFault) → Heard
+
+-- the sixteen bytes of a message's CDB
+abbrev pub cdb_of : Message → Option (List ℕ)
+cdb_of (message.Command flags lun tag expected bytes) = Some bytes
+cdb_of other = None
+
+abbrev pub IsCdbIn : Option (List ℕ) → Option Cdb → Type 0
+IsCdbIn None c = c ≡ None
+IsCdbIn (Some bytes) None = (c : Cdb) → SpellsCdb c bytes → ⊥
+IsCdbIn (Some bytes) (Some c) = SpellsCdb c bytes
+
+-- the lowest fault is told; reserved bytes and fields outside their sets are the last of those that bytes alone have
+abbrev pub IsHeard : List ℕ → Heard → Type 0
+IsHeard bytes (Spelled m c) = Spells m bytes × (host_fault_of bytes ≡ None) × IsCdbIn (cdb_of m) c
+IsHeard bytes (Faulty fault) =
+    (host_fault_of bytes ≡ Some fault)
+    ⊎ ((host_fault_of bytes ≡ None) × ((m : Message) → Spells m bytes → ⊥) × (fault ≡ Reserved))
+
+-- the five calls, with what went in. A job that fails leaves an array, a program or an erase that ends well its own
+pub data Call : Type 0 where
+  Host : (heard : Heard) → Call
+  Give : (die : ℕ) → Call
+  Finish : (die : ℕ) → (ending : Ending) → (left : Array) → Call
+  Step : Call
+  Ask : Call
+
+-- and what came out
+pub data Answer : Type 0 where
+  Hears : (result : Result Unit HostFault) → Answer
+  Gives : (flight : Option Flight) → Answer
+  Finishes : (known : Bool) → Answer
+  Steps : (due : Bool) → Answer
+  Replies : (reply : Option Message) → Answer
+
+-- ## Replies that are due
+
+-- how many accepted commands are durable: those at or under the frontier
+abbrev pub durable : State → ℕ
+durable s = s.translation.ledger.frontier - before_accepted s.translation.ledger
+
+-- what was looked up lies in a slot or was never written, so that no read is needed
+abbrev pub needs_no_read : Looked → Bool
+needs_no_read (OnPage name place) = false
+needs_no_read looked = true
+
+abbrev pub is_at_hand : Option Pin → Bool
+is_at_hand None = true
+is_at_hand (Some pin) = needs_no_read pin.looked
+
+-- what the task keeps for one of its blocks
+abbrev pub pin_of : State → Task → ℕ → Option Pin
+pin_of s task index = find (is_pin_of task.tag index) s.translation.pins
+
+-- a block that is at hand or was read goes out; one that could not be read ends the task
+abbrev pub block_reply : Task → ℕ → List ℕ → ReadState → Bool → Option Message
+block_reply task sent body WasRead at_hand = Some (block_message task sent body)
+block_reply task sent body NotRead at_hand = Some (response task.lun task.tag task.expected (4096 * sent) read_error)
+block_reply task sent body Unread at_hand = if at_hand then Some (block_message task sent body) else None
+
+abbrev pub next_block_reply : State → Task → ℕ → Option ReadBlock → Option Message
+next_block_reply s task sent None = None
+next_block_reply s task sent (Some block) = block_reply task sent block.body block.state (is_at_hand (pin_of s task sent))
+
+-- the next reply of a task, if it is due
+abbrev pub deed_reply : State → Task → Deed → Option Message
+deed_reply s task (Gathering purpose gathered asked) = if asked then None else Some (ready_message task gathered)
+deed_reply s task (Sending blocks sent) = next_block_reply s task sent (slice_get blocks sent)
+deed_reply s task (Telling bytes) = Some (data_message task 0 (take (bytes_sent task) bytes))
+deed_reply s task (Awaiting commands) =
+    if nat_le commands (durable s) then Some (response task.lun task.tag task.expected task.length Good) else None
+deed_reply s task (Answering status carried) = Some (response task.lun task.tag task.expected carried status)
+
+abbrev pub is_durable : State → Option ℕ → Bool
+is_durable s None = true
+is_durable s (Some commands) = nat_le commands (durable s)
+
+-- how a job ends by what its die reports: the page that stood there is the one that was wanted
+abbrev pub IsEndingOf : State → Option Flight → Outcome → Ending → Type 0
+IsEndingOf s (Some (Reading reader place)) (outcome.Read page) ReadRight = IsCell page (s.translation.disk.cells place)
+IsEndingOf s (Some (Reading reader place)) (outcome.Read page) ReadWrong = IsCell page (s.translation.disk.cells place) → ⊥
+IsEndingOf s (Some (Reading reader place)) outcome.ReadFailed ReadWrong = Unit {0}
+IsEndingOf s (Some (Programming place cell)) outcome.Done WentWell = Unit {0}
+IsEndingOf s (Some (Programming place cell)) outcome.Failed (WentWrong left) = Unit {0}
+IsEndingOf s (Some (Erasing spot)) outcome.Done WentWell = Unit {0}
+IsEndingOf s (Some (Erasing spot)) outcome.Failed (WentWrong left) = Unit {0}
+IsEndingOf s flight outcome ending = ⊥
+
+-- a reply that is due: which of several goes first is free
+abbrev pub Due : State → Message → Type 0
+Due s m =
+    ((k : ℕ) × (task : Task) × (slice_get s.tasks k ≡ Some task) × (deed_reply s task task.deed ≡ Some m))
+    ⊎ ((k : ℕ) × (short : Short) × (slice_get s.shorts k ≡ Some short) × (is_durable s short.awaits ≡ true) × (m ≡ short.reply))
+
+-- ## Answers that are right
+
+abbrev pub in_use : State → ℕ → Bool
+in_use s tag = list_any (is_task_of tag) s.tasks || list_any (is_short_of tag) s.shorts
+
+-- a message that opens a short exchange: every one but a COMMAND that becomes a task
+abbrev pub opens_short : State → Message → Bool
+opens_short s (message.Command flags lun tag expected bytes) = nat_le most_tasks (length s.tasks)
+opens_short s m = true
+
+-- an exchange is opened with a tag that is free, and at most 32 short ones are open
+abbrev pub opening_fault : State → ℕ → Bool → Option HostFault
+opening_fault s tag short =
+    if in_use s tag then Some TagInUse
+    else if short && nat_le 32 (length s.shorts) then Some Backlog
+    else None
+
+abbrev pub asked_fault : Bool → Option HostFault
+asked_fault true = None
+asked_fault false = Some NotAskedFor
+
+-- why a message is not taken; data must be those that a READY TO TRANSFER asked for
+abbrev pub message_fault : State → Message → Option HostFault
+message_fault s (message.DataOut lun tag offset «data») =
+    asked_fault (is_asked_of (task_of tag s.tasks) lun offset (length «data».items))
+message_fault s (message.NopOut tag) = opening_fault s tag true
+message_fault s (message.Command flags lun tag expected bytes) =
+    opening_fault s tag (opens_short s (message.Command flags lun tag expected bytes))
+message_fault s (message.TaskRequest lun tag function meant) = opening_fault s tag true
+message_fault s (message.QueryRequest tag function asked size value «data») = opening_fault s tag true
+message_fault s other = None
+
+abbrev pub result_of : Option HostFault → Result Unit HostFault
+result_of None = Ok tt
+result_of (Some fault) = Err fault
+
+abbrev pub MayHear : State → Heard → Result Unit HostFault → Type 0
+MayHear s (Spelled m c) result = result ≡ result_of (message_fault s m)
+MayHear s (Faulty fault) result = result ≡ Err fault
+
+abbrev pub fits : Option Flight → Ending → Bool
+fits (Some (Reading reader place)) ReadRight = true
+fits (Some (Reading reader place)) ReadWrong = true
+fits (Some (Programming place cell)) WentWell = true
+fits (Some (Programming place cell)) (WentWrong left) = true
+fits (Some (Erasing spot)) WentWell = true
+fits (Some (Erasing spot)) (WentWrong left) = true
+fits flight ending = false
+
+abbrev pub MayReply : State → Option Message → Type 0
+MayReply s (Some m) = Due s m
+MayReply s None = (m : Message) → Due s m → ⊥
+
+-- the answer to the call is right
+abbrev pub Allowed : State → Call → Answer → Type 0
+Allowed s (Host heard) (Hears result) = MayHear s heard result
+Allowed s (Give die) (Gives flight) = MayTake s.translation die flight
+Allowed s (Finish die ending left) (Finishes known) = known ≡ fits (s.translation.disk.flights die) ending
+Allowed s Step (Steps due) = due ≡ is_step_due s.translation
+Allowed s Ask (Replies reply) = MayReply s reply
+Allowed s call answer = ⊥
+
+-- ## What a message makes of the state
+
+abbrev pub with_moves : State → List Move → State
+with_moves s moves = record s { translation = fold moved s.translation moves }
+
+abbrev pub with_short : State → Short → State
+with_short s short = record s { shorts = s.shorts ++ short ∷ [] }
+
+abbrev pub with_task : State → Request → Option Cdb → ℕ → Deed → State
+with_task s r command n deed =
+    record s {
+      tasks = s.tasks ++ record { lun = r.lun; tag = r.tag; expected = r.expected; command = command; length = n; deed = deed } ∷ [];
+    }
+
+-- the blocks of a READ that are sent: those that the host expects, with their content now
+abbrev pub read_blocks : State → ℕ → ℕ → ℕ → List ReadBlock
+read_blocks s unit address n =
+    map (λ i. record { body = block_at unit (address + i) (plain_now s); state = Unread }) (below n)
+
+-- each of them is kept as it is looked up now, and the first is wanted
+abbrev pub kept_at : State → ℕ → ℕ → ℕ → ℕ → Pin
+kept_at s tag unit address i =
+    record { tag = tag; index = i; looked = look s.translation.ledger (data_key unit (address + i)); wanted = i == 0 }
+
+abbrev pub keeps : State → ℕ → ℕ → ℕ → ℕ → List Move
+keeps s tag unit address n = map (λ i. Keep (kept_at s tag unit address i)) (below n)
+
+abbrev pub blocks_expected : Request → ℕ → ℕ
+blocks_expected r n = div_ceil (min r.expected n) 4096
+
+abbrev pub sending : List ReadBlock → ℕ → Deed
+sending [] n = Answering Good n
+sending (b ∷ bs) n = Sending (b ∷ bs) 0
+
+abbrev pub read_begun : State → Request → Cdb → ℕ → ℕ → ℕ → State
+read_begun s r command unit address n =
+    with_task
+    (with_moves s (keeps s r.tag unit address (blocks_expected r n)))
+    r (Some command) n (sending (read_blocks s unit address (blocks_expected r n)) n)
+
+-- a WRITE claims a slot for each of its blocks
+abbrev pub write_begun : State → Request → Cdb → ℕ → ℕ → ℕ → Bool → State
+write_begun s r command unit address blocks forced =
+    if blocks == 0 then with_task s r (Some command) 0 (Answering Good 0)
+    else
+    with_task (with_moves s (Claim blocks ∷ [])) r (Some command) (4096 * blocks)
+    (Gathering (ForWrite unit address blocks forced) [] false)
+
+-- with IMMED a flush is answered at once, else once all that was accepted before it is durable
+abbrev pub flush_begun : State → Request → Cdb → Bool → State
+flush_begun s r command immediate =
+    with_task s r (Some command) 0 (if immediate then Answering Good 0 else Awaiting (length s.accepted))
+
+-- data that are sent at once
+abbrev pub telling : Request → List ℕ → Deed
+telling r bytes = if min r.expected (length bytes) == 0 then Answering Good (length bytes) else Telling bytes
+
+abbrev pub told : State → Request → Cdb → List ℕ → State
+told s r command bytes = with_task s r (Some command) (length bytes) (telling r bytes)
+
+-- REQUEST SENSE answers that there is none (SPC); READ CAPACITY(10) the last address and the length of a block (SBC)
+abbrev pub no_sense : List ℕ
+no_sense = (0x70 ∷ zeros 6) ++ (0x0A ∷ zeros 10)
+
+abbrev pub capacity_bytes : Option UnitSpec → List ℕ
+capacity_bytes None = zeros 8
+capacity_bytes (Some u) = big_bytes 4 (u.blocks - 1) ++ big_bytes 4 4096
+
+abbrev pub unit_or_first : Option ℕ → ℕ
+unit_or_first None = 0
+unit_or_first (Some unit) = unit
+
+-- what is not built yet: its operation code is not taken, so that no such command begins
+abbrev pub not_begun : State → Request → Cdb → State
+not_begun s r command = with_task s r None 0 (Answering invalid_operation 0)
+
+-- a command that is not refused begins
+abbrev pub begun : State → Request → ℕ → Cdb → State
+begun s r unit cdb.TestUnitReady = with_task s r (Some cdb.TestUnitReady) 0 (Answering Good 0)
+begun s r unit (cdb.RequestSense allocation) = told s r (cdb.RequestSense allocation) (take allocation no_sense)
+begun s r unit (cdb.Read6 address blocks) =
+    read_begun s r (cdb.Read6 address blocks) unit address (length_of 0 (cdb.Read6 address blocks))
+begun s r unit (cdb.Read10 address blocks forced) =
+    read_begun s r (cdb.Read10 address blocks forced) unit address (4096 * blocks)
+begun s r unit (cdb.Write6 address blocks) =
+    write_begun s r (cdb.Write6 address blocks) unit address (slots_needed (cdb.Write6 address blocks)) false
+begun s r unit (cdb.Write10 address blocks forced) =
+    write_begun s r (cdb.Write10 address blocks forced) unit address blocks forced
+begun s r unit (cdb.SynchronizeCache10 address blocks immediate) =
+    flush_begun s r (cdb.SynchronizeCache10 address blocks immediate) immediate
+begun s r unit cdb.ReadCapacity10 = told s r cdb.ReadCapacity10 (capacity_bytes (spec_of s r))
+begun s r unit command = not_begun s r command
+
+abbrev pub begun_with : State → Request → Option Cdb → State
+begun_with s r None = s
+begun_with s r (Some command) = begun s r (unit_or_first (unit_of_request s r)) command
+
+-- a refused command is a task too, until its answer is handed out
+abbrev pub opened_with : State → Request → Option Status → State
+opened_with s r (Some status) = with_task s r None 0 (Answering status 0)
+opened_with s r None = begun_with s r r.cdb
+
+-- where as many tasks are open as may be, a command gets TASK SET FULL, as a short exchange
+abbrev pub command_heard : State → Request → State
+command_heard s r =
+    if nat_le most_tasks (length s.tasks)
+    then with_short s (short_reply r.tag (response r.lun r.tag r.expected 0 TaskSetFull))
+    else opened_with s r (refusal s r)
+
+-- ## What data make of it
+
+-- data in blocks
+abbrev pub blocks_in : ℕ → List ℕ → List (List ℕ)
+blocks_in zero bytes = []
+blocks_in (suc n) bytes = take 4096 bytes ∷ blocks_in n (drop 4096 bytes)
+
+abbrev pub set_deed : State → ℕ → Deed → State
+set_deed s tag deed = record s { tasks = map (with_deed tag deed) s.tasks }
+
+-- a command is accepted: its group stands in place of claimed slots
+abbrev pub accepts : State → Command → ℕ → State
+accepts s c claimed =
+    record (with_moves s (Accept claimed (group_of (plain_now s) c) [] ∷ [])) { accepted = s.accepted ++ c ∷ [] }
+
+-- the answer of a WRITE whose command has this position: with FUA once it is durable, else at once
+abbrev pub write_deed : Bool → ℕ → ℕ → Deed
+write_deed true position n = Awaiting position
+write_deed false position n = Answering Good n
+
+-- a WRITE that meets the lock is not accepted
+abbrev pub write_complete : State → Task → ℕ → ℕ → ℕ → Bool → List ℕ → State
+write_complete s task unit address blocks forced bytes =
+    if locked s
+    then set_deed (with_moves s (Release blocks ∷ [])) task.tag (Answering write_error task.length)
+    else
+    set_deed (accepts s (command.Write unit address (blocks_in blocks bytes)) blocks) task.tag
+    (write_deed forced (length s.accepted + 1) task.length)
+
+-- all data of a task are there. UNMAP's list and RPMB frames come with their stages
+abbrev pub complete : State → Task → Purpose → List ℕ → State
+complete s task (ForWrite unit address blocks forced) bytes = write_complete s task unit address blocks forced bytes
+complete s task (ForUnmap unit) bytes = set_deed s task.tag (Answering invalid_operation task.length)
+complete s task ForFrames bytes = set_deed s task.tag (Answering invalid_operation task.length)
+
+abbrev pub gathered_more : State → Task → Purpose → List ℕ → State
+gathered_more s task purpose bytes =
+    if nat_lt (length bytes) task.length then set_deed s task.tag (Gathering purpose bytes false)
+    else complete s task purpose bytes
+
+abbrev pub data_for : State → Task → Deed → List ℕ → State
+data_for s task (Gathering purpose gathered asked) bytes = gathered_more s task purpose (gathered ++ bytes)
+data_for s task deed bytes = s
+
+abbrev pub data_heard : State → Option Task → List ℕ → State
+data_heard s None bytes = s
+data_heard s (Some task) bytes = data_for s task task.deed bytes
+
+-- ## Task management (JESD220, 10.7.6)
+
+-- how many slots a task has claimed that still gathers its data
+abbrev pub claimed_by : Deed → Option Cdb → ℕ
+claimed_by (Gathering purpose gathered asked) (Some c) = slots_needed c
+claimed_by deed command = 0
+
+abbrev pub is_named : ℕ → ℕ → Task → Bool
+is_named lun meant task = (task.lun == lun) && (task.tag == meant)
+
+-- abort task, abort task set, clear task set and logical unit reset
+abbrev pub aborts : ℕ → Bool
+aborts function = is_among (0x01 ∷ 0x02 ∷ 0x04 ∷ 0x08 ∷ []) function
+
+abbrev pub is_aborted : ℕ → ℕ → ℕ → Task → Bool
+is_aborted lun function meant task =
+    aborts function && (task.lun == lun) && (not (function == 0x01) || (task.tag == meant))
+
+-- 04h not supported, 09h no such unit, 08h succeeded (a task is there), 00h complete
+abbrev pub found : Bool → ℕ
+found true = 0x08
+found false = 0x00
+
+abbrev pub service : State → ℕ → ℕ → ℕ → ℕ
+service s lun function meant =
+    if not manages_tasks then 0x04
+    else if is_none (lun_of (numbers_of s) lun) then 0x09
+    else if aborts function then 0x00
+    else if function == 0x80 then found (list_any (is_named lun meant) s.tasks)
+    else if function == 0x81 then found (list_any (λ (task : Task). task.lun == lun) s.tasks)
+    else 0x04
+
+-- an aborted task gives back its claims and lets go of all that it keeps; what it had accepted stays accepted
+abbrev pub abort_moves : Task → List Move
+abort_moves task = Release (claimed_by task.deed task.command) ∷ LetGoAll task.tag ∷ []
+
+abbrev pub registers_behind : List Task → Registers → Registers
+registers_behind aborted registers =
+    if list_any (λ (task : Task). sends_frames task.command) aborted then empty_registers else registers
+
+abbrev pub without_tasks : State → (Task → Bool) → State
+without_tasks s is =
+    record (with_moves s (flat_map abort_moves (filter is s.tasks))) {
+      tasks = filter (λ task. not (is task)) s.tasks;
+      registers = registers_behind (filter is s.tasks) s.registers;
+    }
+
+abbrev pub managed : State → ℕ → ℕ → ℕ → State
+managed s lun function meant = if manages_tasks then without_tasks s (is_aborted lun function meant) else s
+
+-- until queries are built each is answered FEh, parameter not supported
+abbrev pub query_unanswered : ℕ → ℕ → Asked → Message
+query_unanswered tag function asked =
+    message.QueryResponse tag function 0xFE asked 0 0 (record { items = [] })
+
+-- ## What the calls make of the state
+
+abbrev pub heard : State → Message → Option Cdb → State
+heard s (message.NopOut tag) c = with_short s (short_reply tag (message.NopIn tag))
+heard s (message.Command flags lun tag expected bytes) c =
+    command_heard s (record { flags = flags; lun = lun; tag = tag; expected = expected; bytes = bytes; cdb = c })
+heard s (message.DataOut lun tag offset «data») c = data_heard s (task_of tag s.tasks) «data».items
+heard s (message.TaskRequest lun tag function meant) c =
+    with_short (managed s lun function meant) (short_reply tag (message.TaskResponse lun tag (service s lun function meant)))
+heard s (message.QueryRequest tag function asked size value «data») c =
+    with_short s (short_reply tag (query_unanswered tag function asked))
+heard s other c = s
+
+abbrev pub hears : State → Heard → State
+hears s (Spelled m c) = heard s m c
+hears s (Faulty fault) = s
+
+abbrev pub deed_behind_state : Task → List ReadBlock → ℕ → ReadState → Option Deed
+deed_behind_state task blocks sent NotRead = None
+deed_behind_state task blocks sent state =
+    Some (if nat_lt (sent + 1) (length blocks) then Sending blocks (sent + 1) else Answering Good task.length)
+
+-- behind the last block a READ answers GOOD; behind one that could not be read it has answered
+abbrev pub deed_behind_block : Task → List ReadBlock → ℕ → Option ReadBlock → Option Deed
+deed_behind_block task blocks sent None = None
+deed_behind_block task blocks sent (Some block) = deed_behind_state task blocks sent block.state
+
+-- what a task does behind a reply; nothing, where that was its last
+abbrev pub deed_behind : Task → Deed → Option Deed
+deed_behind task (Gathering purpose gathered asked) = Some (Gathering purpose gathered true)
+deed_behind task (Sending blocks sent) =
+    deed_behind_block task blocks sent (slice_get blocks sent)
+deed_behind task (Telling bytes) = Some (Answering Good task.length)
+deed_behind task (Awaiting commands) = None
+deed_behind task (Answering status carried) = None
+
+-- a block that was handed out is let go, and the next one is wanted; a durable command is told
+abbrev pub moves_behind : Task → Deed → List Move
+moves_behind task (Sending blocks sent) = LetGo task.tag sent ∷ WantPage task.tag (sent + 1) ∷ []
+moves_behind task (Awaiting commands) = Tell commands ∷ []
+moves_behind task deed = []
+
+abbrev pub task_behind : State → Task → Option Deed → State
+task_behind s task (Some deed) = set_deed s task.tag deed
+task_behind s task None = with_moves (record s { tasks = without_task task.tag s.tasks }) (LetGoAll task.tag ∷ [])
+
+abbrev pub task_replied : State → Task → State
+task_replied s task = task_behind (with_moves s (moves_behind task task.deed)) task (deed_behind task task.deed)
+
+abbrev pub tells : Option ℕ → List Move
+tells None = []
+tells (Some commands) = Tell commands ∷ []
+
+abbrev pub short_replied : State → Option Short → State
+short_replied s None = s
+short_replied s (Some short) = with_moves (record s { shorts = without_short short.tag s.shorts }) (tells short.awaits)
+
+abbrev pub tag_in : Message → ℕ
+tag_in (message.NopIn tag) = tag
+tag_in (message.Response flags lun tag response status residual sense) = tag
+tag_in (message.DataIn lun tag offset «data») = tag
+tag_in (message.TaskResponse lun tag service) = tag
+tag_in (message.ReadyToTransfer lun tag offset count) = tag
+tag_in (message.QueryResponse tag function response asked size value «data») = tag
+tag_in other = 0
+
+abbrev pub replied_by : State → ℕ → Option Task → State
+replied_by s tag (Some task) = task_replied s task
+replied_by s tag None = short_replied s (find (is_short_of tag) s.shorts)
+
+-- the task or the short exchange of the tag has handed out a reply
+abbrev pub replied : State → Message → State
+replied s m = replied_by s (tag_in m) (task_of (tag_in m) s.tasks)
+
+-- whether the block at an index was read
+abbrev pub set_state : ReadState → ReadBlock → ReadBlock
+set_state state block = record block { state = state }
+
+abbrev pub with_block : List ReadBlock → ℕ → ReadState → Option ReadBlock → List ReadBlock
+with_block blocks index state None = blocks
+with_block blocks index state (Some block) = slice_set blocks index (set_state state block)
+
+abbrev pub deed_read : ℕ → ReadState → Deed → Deed
+deed_read index state (Sending blocks sent) = Sending (with_block blocks index state (slice_get blocks index)) sent
+deed_read index state deed = deed
+
+abbrev pub task_read : ℕ → ℕ → ReadState → Task → Task
+task_read tag index state task =
+    if is_task_of tag task then record task { deed = deed_read index state task.deed } else task
+
+abbrev pub reader_told : State → Reader → ReadState → State
+reader_told s (ForTask tag index) state = record s { tasks = map (task_read tag index state) s.tasks }
+reader_told s reader state = s
+
+abbrev pub in_block : Numbers → Spot → Place → Bool
+in_block n spot p = same_spot (spot_of p) spot && nat_lt p.page n.pages
+
+-- what the dies hold behind a job
+abbrev pub array_behind : State → Flight → Ending → Array → Array
+array_behind s (Programming place cell) WentWell left = at_place s.array place (page_of cell)
+array_behind s (Erasing spot) WentWell left = λ p. if in_block (numbers_of s) spot p then blank_page else s.array p
+array_behind s flight (WentWrong cells) left = left
+array_behind s flight ending left = s.array
+
+abbrev pub told_behind : State → Flight → Ending → State
+told_behind s (Reading reader place) ReadRight = reader_told s reader WasRead
+told_behind s (Reading reader place) ReadWrong = reader_told s reader NotRead
+told_behind s flight ending = s
+
+abbrev pub ends_with : State → ℕ → Option Flight → Ending → Array → State
+ends_with s die None ending left = s
+ends_with s die (Some flight) ending left =
+    with_moves (record (told_behind s flight ending) { array = array_behind s flight ending left }) (End die ending ∷ [])
+
+abbrev pub given : State → ℕ → Option Flight → State
+given s die None = s
+given s die (Some flight) = with_moves s (Take die flight ∷ [])
+
+-- a lock ends what waits for commands that are not durable: a task with MEDIUM ERROR, write error
+abbrev pub deed_locked : State → Task → Deed → Deed
+deed_locked s task (Awaiting commands) =
+    if nat_le commands (durable s) then Awaiting commands else Answering write_error task.length
+deed_locked s task deed = deed
+
+abbrev pub task_locked : State → Task → Task
+task_locked s task = record task { deed = deed_locked s task task.deed }
+
+abbrev pub short_locked : State → Short → Short
+short_locked s short =
+    if is_durable s short.awaits then short else record short { awaits = None; reply = short.locked_reply }
+
+abbrev pub lock_told : State → State
+lock_told s =
+    if locked s then record s { tasks = map (task_locked s) s.tasks; shorts = map (short_locked s) s.shorts } else s
+
+abbrev pub behind : State → Call → Answer → State
+behind s (Host h) (Hears (Ok done)) = hears s h
+behind s (Give die) (Gives flight) = given s die flight
+behind s (Finish die ending left) (Finishes true) = ends_with s die (s.translation.disk.flights die) ending left
+behind s Step (Steps due) = with_moves s (Turn ∷ [])
+behind s Ask (Replies (Some m)) = replied s m
+behind s call answer = s
+
+-- what a call and its answer make of the state; wherever the lock stands, it is told
+abbrev pub observe : State → Call → Answer → State
+observe s call answer = lock_told (behind s call answer)

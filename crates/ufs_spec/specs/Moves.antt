@@ -1,0 +1,241 @@
+-- The moves of the translation layer: which may come, and what each makes of it (this profile).
+use Rattle.std.specs.Prelude.{◌≡◌, ℕ, ◌+◌, ◌-◌, ◌≤◌, ◌==◌, ◌&&◌, not, Bool, true, false, if◌then◌else◌, List, [], ◌∷◌, ◌++◌, All, filter, length, map, max, slice_get, Option, Some, None}
+use Rattle.std.specs.List.{list_any}
+use Rattle.ufs_spec.specs.Cells.{Cell, Cells, GroupPage, Mark, MarkPage, Nothing}
+use Rattle.ufs_spec.specs.Disk.{BlockState, Bad, CellCrash, Disk, Erasing, Flight, ForNobody, ForRest, ForStep, ForTask, Free, Programming, Reader, Reading, at_spot, ended, erase_failed, erased, flight_alone, program_failed, programmed}
+use Rattle.ufs_spec.specs.Keys.{Group, IsBlock, IsKey, IsSettingsBody, Item}
+use Rattle.ufs_spec.specs.Ledger.{Ledger, Name, before_accepted, page_stands, same_name, settled_look}
+use Rattle.ufs_spec.specs.Plain.{shape_of_numbers}
+use Rattle.ufs_spec.specs.Translation.{CopyStep, FromPage, FromSlot, MarkStep, MayTake, Mended, Mending, Pin, Plan, RepairStep, Repairing, Rest, Source, Step, StepKind, Translation, Unmarked, has_mark_number, has_number, is_mended, mark_ordered, name_of, taken, turned, is_rest_of}
+use Rattle.ufs_spec.specs.declared.flash.Fence.{Fence}
+use Rattle.ufs_spec.specs.declared.flash.Place.{Place}
+use Rattle.ufs_spec.specs.declared.flash.Tag.{Tag}
+
+-- Programs that ended well
+
+-- who kept a slot whose group is durable now keeps its page
+abbrev pub settled_pin : Ledger → Pin → Pin
+settled_pin l pin = record pin { looked = settled_look l pin.looked }
+
+abbrev pub settled : Translation → Translation
+settled t = record t { pins = map (settled_pin t.ledger) t.pins }
+
+abbrev pub is_kind_of : Name → StepKind → Bool
+is_kind_of name (MarkStep number fence) = false
+is_kind_of name (CopyStep other from) = same_name name other
+is_kind_of name (RepairStep other from) = same_name name other
+
+-- the step under way ends with its page
+abbrev pub step_behind : Name → Option Step → Option Step
+step_behind name None = None
+step_behind name (Some step) = if is_kind_of name step.kind then None else Some step
+
+-- a page of a group: the frontier climbs
+abbrev pub page_written : Translation → Place → Tag → List ℕ → Translation
+page_written t p tag body =
+    settled
+    (record t {
+      disk = programmed t.numbers.pages t.disk p (GroupPage tag body);
+      ledger = page_stands t.ledger (name_of tag) p;
+      work = record t.work { step = step_behind (name_of tag) t.work.step };
+    })
+
+-- the first mark of a mending is followed by its repairs, where it has a fence; a mark without one ends the mending
+abbrev pub mending_behind : Mending → Mending
+mending_behind (Unmarked None lost) = Mended
+mending_behind (Unmarked (Some fence) lost) = Repairing lost
+mending_behind (Repairing left) = Mended
+mending_behind Mended = Mended
+
+abbrev pub freed_state : BlockState → BlockState
+freed_state Bad = Bad
+freed_state state = Free
+
+-- the block of a plan is free behind the plan's mark, unless it is bad
+abbrev pub freed : Disk → Option Plan → Disk
+freed d None = d
+freed d (Some plan) = record d { blocks = at_spot d.blocks plan.victim (freed_state (d.blocks plan.victim)) }
+
+-- a mark
+abbrev pub mark_written : Translation → Place → Mark → Translation
+mark_written t p m =
+    record t {
+      disk = freed (programmed t.numbers.pages t.disk p (MarkPage m)) t.work.plan;
+      ledger = record t.ledger { newest = Some m };
+      work = record t.work { mending = mending_behind t.work.mending; plan = None; step = None };
+    }
+
+abbrev pub cell_written : Translation → Place → Cell → Translation
+cell_written t p Nothing = record t { disk = programmed t.numbers.pages t.disk p Nothing }
+cell_written t p (GroupPage tag body) = page_written t p tag body
+cell_written t p (MarkPage m) = mark_written t p m
+
+-- Programs that failed
+
+-- in place of a failed mark a new one waits, with the next mark number
+abbrev pub mark_again : Translation → Option Fence → Translation
+mark_again t fence =
+    if has_mark_number t then mark_ordered t fence else record t { work = record t.work { step = None } }
+
+-- a page of a group waits again by itself
+abbrev pub cell_failed : Translation → Place → Cell → Cells → Translation
+cell_failed t p (MarkPage m) left = mark_again (record t { disk = program_failed t.disk p left }) m.fence
+cell_failed t p cell left = record t { disk = program_failed t.disk p left }
+
+-- Reads
+
+abbrev pub is_pin_of : ℕ → ℕ → Pin → Bool
+is_pin_of tag index pin = (pin.tag == tag) && (pin.index == index)
+
+abbrev pub with_wanted : ℕ → ℕ → Bool → Pin → Pin
+with_wanted tag index wanted pin = if is_pin_of tag index pin then record pin { wanted = wanted } else pin
+
+abbrev pub step_there : Option Step → Option Step
+step_there None = None
+step_there (Some step) = Some (record step { there = true })
+
+-- a page that takes its rest from a slot waits for that slot's content
+abbrev pub still_waits : List Rest → Source → Bool
+still_waits before (FromPage place) = true
+still_waits before (FromSlot name) = list_any (is_rest_of name) before
+
+abbrev pub settled_rests : List Rest → List Rest → List Rest
+settled_rests before [] = before
+settled_rests before (r ∷ rs) = settled_rests (if still_waits before r.source then before ++ r ∷ [] else before) rs
+
+abbrev pub rests_without : Name → List Rest → List Rest
+rests_without name rests = settled_rests [] (filter (λ r. not (is_rest_of name r)) rests)
+
+-- the page that was wanted was read; for nobody, nothing follows
+abbrev pub read_right : Translation → Reader → Translation
+read_right t ForNobody = t
+read_right t (ForTask tag index) = record t { pins = map (with_wanted tag index false) t.pins }
+read_right t ForStep = record t { work = record t.work { step = step_there t.work.step } }
+read_right t (ForRest number index) =
+    record t { work = record t.work { rests = rests_without (record { number = number; index = index }) t.work.rests } }
+
+-- the read failed, or gave another page: a task is told, any other read is owed again
+abbrev pub read_wrong : Translation → Reader → Translation
+read_wrong t (ForTask tag index) = record t { pins = map (with_wanted tag index false) t.pins }
+read_wrong t reader = t
+
+-- How a job ends
+
+pub data Ending : Type 0 where
+  -- a read, that gave the page that was wanted
+  ReadRight : Ending
+  -- a read that failed or gave another page
+  ReadWrong : Ending
+  -- a program or an erase
+  WentWell : Ending
+  -- a program or an erase that failed, and left these cells
+  WentWrong : (left : Cells) → Ending
+
+abbrev pub die_idle : Translation → ℕ → Translation
+die_idle t die = record t { disk = ended t.disk die }
+
+abbrev pub job_ended : Translation → ℕ → Flight → Ending → Translation
+job_ended t die (Reading reader place) ReadRight = read_right (die_idle t die) reader
+job_ended t die (Reading reader place) ReadWrong = read_wrong (die_idle t die) reader
+job_ended t die (Programming place cell) WentWell = cell_written t place cell
+job_ended t die (Programming place cell) (WentWrong left) = cell_failed t place cell left
+job_ended t die (Erasing spot) WentWell = record t { disk = erased t.disk spot }
+job_ended t die (Erasing spot) (WentWrong left) = record t { disk = erase_failed t.disk spot left }
+job_ended t die flight ending = t
+
+-- the ending is of the job's kind, and a failed one leaves what an interruption may
+abbrev pub MayEnd : Disk → ℕ → Option Flight → Ending → Type 0
+MayEnd d die (Some (Reading reader place)) ReadRight = Unit {0}
+MayEnd d die (Some (Reading reader place)) ReadWrong = Unit {0}
+MayEnd d die (Some (Programming place cell)) WentWell = Unit {0}
+MayEnd d die (Some (Programming place cell)) (WentWrong left) = CellCrash d.cells (flight_alone d.flights die) left
+MayEnd d die (Some (Erasing spot)) WentWell = Unit {0}
+MayEnd d die (Some (Erasing spot)) (WentWrong left) = CellCrash d.cells (flight_alone d.flights die) left
+MayEnd d die flight ending = ⊥
+
+-- Moves
+
+pub data Move : Type 0 where
+  -- a task claims slots, or gives them back
+  Claim : (count : ℕ) → Move
+  Release : (count : ℕ) → Move
+  -- a group is accepted, in place of so many claimed slots; these of its pages take their rest from elsewhere
+  Accept : (claimed : ℕ) → (group : Group) → (rests : List Rest) → Move
+  -- so many accepted commands are acknowledged as durable
+  Tell : (count : ℕ) → Move
+  -- a task keeps what it looked up, wants one of its pages read, or lets go of one or of all it keeps
+  Keep : (pin : Pin) → Move
+  WantPage : (tag index : ℕ) → Move
+  LetGo : (tag index : ℕ) → Move
+  LetGoAll : (tag : ℕ) → Move
+  -- a die is given a job; its job ends; a step of mending or collection
+  Take : (die : ℕ) → (flight : Flight) → Move
+  End : (die : ℕ) → (ending : Ending) → Move
+  Turn : Move
+
+-- no key stands twice in a group
+abbrev pub KeysDiffer : Group → Type 0
+KeysDiffer g = (i j : ℕ) (a b : Item) → slice_get g i ≡ Some a → slice_get g j ≡ Some b → a.key ≡ b.key → i ≡ j
+
+-- what a key of the device may hold: a block, and of the settings one in their ranges
+pub record IsItem (t : Translation) (item : Item) : Type 0 where
+  pub key : IsKey (shape_of_numbers t.numbers) item.key
+  pub block : IsBlock item.body
+  pub settings : item.key.kind ≡ 3 → IsSettingsBody item.body
+
+-- 1 to 32 pages of different keys
+pub record IsGroup (t : Translation) (g : Group) : Type 0 where
+  pub some : 1 ≤ length g
+  pub not_long : length g ≤ 32
+  pub differ : KeysDiffer g
+  pub items : All (IsItem t) g
+
+abbrev pub IsAllowedMove : Translation → Move → Type 0
+IsAllowedMove t (Accept claimed g rests) =
+    (is_mended t.work.mending ≡ true) × (has_number t ≡ true) × (length g ≤ claimed) × (claimed ≤ t.claims) × IsGroup t g
+IsAllowedMove t (Tell count) = before_accepted t.ledger + count ≤ t.ledger.frontier
+IsAllowedMove t (Take die flight) = MayTake t die (Some flight)
+IsAllowedMove t (End die ending) = MayEnd t.disk die (t.disk.flights die) ending
+IsAllowedMove t move = Unit {0}
+
+-- the task is gone, or its block was handed out: a read for it that a die does is for nobody
+abbrev pub is_for : ℕ → ℕ → Reader → Bool
+is_for tag index (ForTask other i) = (other == tag) && (i == index)
+is_for tag index reader = false
+
+abbrev pub is_for_task : ℕ → Reader → Bool
+is_for_task tag (ForTask other i) = other == tag
+is_for_task tag reader = false
+
+abbrev pub without_reader : (Reader → Bool) → Option Flight → Option Flight
+without_reader is (Some (Reading reader place)) = Some (Reading (if is reader then ForNobody else reader) place)
+without_reader is flight = flight
+
+abbrev pub let_go : Translation → (Pin → Bool) → (Reader → Bool) → Translation
+let_go t keeps reads =
+    record t {
+      disk = record t.disk { flights = λ die. without_reader reads (t.disk.flights die) };
+      pins = filter (λ pin. not (keeps pin)) t.pins;
+    }
+
+abbrev pub end_flight : Translation → ℕ → Option Flight → Ending → Translation
+end_flight t die None ending = t
+end_flight t die (Some flight) ending = job_ended t die flight ending
+
+abbrev pub moved : Translation → Move → Translation
+moved t (Claim count) = record t { claims = t.claims + count }
+moved t (Release count) = record t { claims = t.claims - count }
+moved t (Accept claimed g rests) =
+    record t {
+      ledger = record t.ledger { groups = t.ledger.groups ++ g ∷ [] };
+      work = record t.work { rests = t.work.rests ++ rests };
+      claims = t.claims - claimed;
+    }
+moved t (Tell count) = record t { ledger = record t.ledger { held = max t.ledger.held count } }
+moved t (Keep pin) = record t { pins = t.pins ++ pin ∷ [] }
+moved t (WantPage tag index) = record t { pins = map (with_wanted tag index true) t.pins }
+moved t (LetGo tag index) = let_go t (is_pin_of tag index) (is_for tag index)
+moved t (LetGoAll tag) = let_go t (λ pin. pin.tag == tag) (is_for_task tag)
+moved t (Take die flight) = taken t die flight
+moved t (End die ending) = end_flight t die (t.disk.flights die) ending
+moved t Turn = turned t

@@ -1,0 +1,155 @@
+-- What the translation layer is when a life begins over an array: a relation, since it is read off the whole array
+-- (this profile).
+use Rattle.std.specs.Prelude.{◌≡◌, ◌≢◌, ◌⊎◌, ℕ, suc, ◌<◌, ◌≤◌, Bool, true, false, List, [], Option, Some, None, slice_get}
+use Rattle.ufs_spec.specs.Cells.{Cells, GroupPage, Mark, MarkPage, Nothing, key_of}
+use Rattle.ufs_spec.specs.Disk.{BlockState, Bad, Closed, Disk, Free, Spot, spot_of}
+use Rattle.ufs_spec.specs.Keys.{IsKey}
+use Rattle.ufs_spec.specs.Kept.{HasNone, HoldAll, IsKept, IsNewest, IsNewestMark, fence_in}
+use Rattle.ufs_spec.specs.Ledger.{Entry, Ledger, Name}
+use Rattle.ufs_spec.specs.Plain.{shape_of_numbers}
+use Rattle.ufs_spec.specs.Sound.{CellsSuit}
+use Rattle.ufs_spec.specs.Translation.{Mended, Mending, Translation, Unmarked, name_of}
+use Rattle.ufs_spec.specs.declared.configs.Numbers.{Numbers}
+use Rattle.ufs_spec.specs.declared.flash.Fence.{Fence}
+use Rattle.ufs_spec.specs.declared.flash.Key.{Key}
+use Rattle.ufs_spec.specs.declared.flash.Place.{Place}
+use Rattle.ufs_spec.specs.declared.flash.Tag.{Tag}
+
+-- Numbers seen
+
+-- no group's page, recorded frontier or last number of the newest mark's fence is above it
+pub record IsAtMost (c : Cells) (m : Option Mark) (top : ℕ) : Type 0 where
+  pub numbers : (p : Place) (t : Tag) (body : List ℕ) → c p ≡ GroupPage t body → t.number ≤ top
+  pub frontiers : (p : Place) (t : Tag) (body : List ℕ) → c p ≡ GroupPage t body → t.frontier ≤ top
+  pub marks : (p : Place) (other : Mark) → c p ≡ MarkPage other → other.records ≤ top
+  pub fence : (f : Fence) → fence_in m ≡ Some f → f.last ≤ top
+
+-- the greatest number seen
+abbrev pub IsTop : Cells → Option Mark → ℕ → Type 0
+IsTop c m top = IsAtMost c m top × ((other : ℕ) → IsAtMost c m other → top ≤ other)
+
+-- the first number that is lost: that of the old fence, else the one behind the kept number
+abbrev pub first_lost : Option Fence → ℕ → ℕ
+first_lost None kept = suc kept
+first_lost (Some f) kept = f.first
+
+-- Keys in order
+
+-- by kind, then by unit, then by address
+abbrev pub IsBefore : Key → Key → Type 0
+IsBefore j k =
+    (j.kind < k.kind)
+    ⊎ (((j.kind ≡ k.kind) × (j.unit < k.unit))
+    ⊎ ((j.kind ≡ k.kind) × (j.unit ≡ k.unit) × (j.address < k.address)))
+
+-- a page of the key that opens has a lost number
+abbrev pub IsLost : Cells → ℕ → ℕ → Key → Type 0
+IsLost c low top k =
+    (p : Place) × (t : Tag) × (body : List ℕ)
+    × (c p ≡ GroupPage t body) × (key_of t ≡ k) × (low ≤ t.number) × (t.number ≤ top)
+
+-- the keys with a lost page, each once, in order
+pub record AreLost (c : Cells) (low top : ℕ) (keys : List Key) : Type 0 where
+  pub ordered : (i j : ℕ) (a b : Key) → slice_get keys i ≡ Some a → slice_get keys j ≡ Some b → i < j → IsBefore a b
+  pub lost : (i : ℕ) (k : Key) → slice_get keys i ≡ Some k → IsLost c low top k
+  pub all : (k : Key) → IsLost c low top k → (i : ℕ) × (slice_get keys i ≡ Some k)
+
+-- Pages by name
+
+-- no later in the order by die, then by block, then by page
+abbrev pub IsLower : Place → Place → Type 0
+IsLower p q =
+    (p.die < q.die)
+    ⊎ (((p.die ≡ q.die) × (p.block < q.block))
+    ⊎ ((p.die ≡ q.die) × (p.block ≡ q.block) × (p.page ≤ q.page)))
+
+abbrev pub HasName : Cells → Name → Place → Type 0
+HasName c name p = (t : Tag) × (body : List ℕ) × (c p ≡ GroupPage t body) × (name_of t ≡ name)
+
+-- the lowest of the places that hold the page of this name
+abbrev pub StandsAt : Cells → Name → Option Place → Type 0
+StandsAt c name None = (p : Place) → HasName c name p → ⊥
+StandsAt c name (Some p) = HasName c name p × ((q : Place) → HasName c name q → IsLower p q)
+
+-- what the page of the name has
+abbrev pub IsEntry : Cells → Name → Option Entry → Type 0
+IsEntry c name None = (p : Place) → HasName c name p → ⊥
+IsEntry c name (Some e) =
+    (p : Place) × (t : Tag) × (c p ≡ GroupPage t e.item.body) × (name_of t ≡ name)
+    × (e.item.key ≡ key_of t) × (e.size ≡ t.size)
+
+-- the name of the page that has the key's content
+abbrev pub IsFirst : Cells → Option Mark → ℕ → Key → Option Name → Type 0
+IsFirst c m kept k None = HasNone c m (suc kept) k
+IsFirst c m kept k (Some name) =
+    (p : Place) × (t : Tag) × (body : List ℕ) × IsNewest c m (suc kept) k p t body × (name_of t ≡ name)
+
+-- Blocks
+
+-- a bad block is bad; one of whose pages none is anything is free; any other is closed
+abbrev pub IsBlockState : Cells → (Spot → Bool) → Spot → BlockState → Type 0
+IsBlockState c bad s Bad = bad s ≡ true
+IsBlockState c bad s Free = (bad s ≡ false) × ((p : Place) → spot_of p ≡ s → c p ≡ Nothing)
+IsBlockState c bad s Closed = (bad s ≡ false) × ((p : Place) × (spot_of p ≡ s) × (c p ≢ Nothing))
+IsBlockState c bad s state = ⊥
+
+-- Mending
+
+-- the fence of the first mark: over what is lost, or none where nothing is and no fence stood
+abbrev pub IsFirstFence : Option Mark → ℕ → ℕ → Option Fence → Type 0
+IsFirstFence m low top None = (fence_in m ≡ None) × (top < low)
+IsFirstFence m low top (Some f) = (f.first ≡ low) × (f.last ≡ top) × (low ≤ top)
+
+-- the device is mended at once where a mark counts, it has no fence and nothing is lost
+abbrev pub MayBeMended : Option Mark → ℕ → ℕ → Type 0
+MayBeMended m low top = (m ≢ None) × (fence_in m ≡ None) × (top < low)
+
+abbrev pub IsMendingAt : Cells → Option Mark → ℕ → ℕ → Mending → Type 0
+IsMendingAt c m low top Mended = MayBeMended m low top
+IsMendingAt c m low top (Unmarked fence lost) =
+    (MayBeMended m low top → ⊥) × IsFirstFence m low top fence × AreLost c low top lost
+IsMendingAt c m low top mending = ⊥
+
+-- The opening
+
+abbrev pub number_of : Option Mark → ℕ
+number_of None = 0
+number_of (Some m) = m.number
+
+-- what is known of the dies: all that stands is finished, no job is in flight
+pub record IsOpenedDisk (c : Cells) (bad : Spot → Bool) (d : Disk) : Type 0 where
+  pub cells : d.cells ≡ c
+  pub finished : (p : Place) → d.finished p ≡ true
+  pub blocks : (s : Spot) → IsBlockState c bad s (d.blocks s)
+  pub idle : (die : ℕ) → d.flights die ≡ None
+  pub none_erasing : (s : Spot) → d.erasing s ≡ false
+
+-- what is known of numbers and contents
+pub record IsOpenedLedger (n : Numbers) (c : Cells) (l : Ledger) : Type 0 where
+  pub newest : IsNewestMark c l.newest
+  pub kept : ℕ
+  pub is_kept : IsKept c l.newest kept
+  pub holds : HoldAll n c l.newest kept l.base
+  pub top : IsTop c l.newest l.top
+  pub low : l.low ≡ first_lost (fence_in l.newest) kept
+  pub old : (number index : ℕ) → IsEntry c (record { number = number; index = index }) (l.old number index)
+  pub standing : (number index : ℕ) → StandsAt c (record { number = number; index = index }) (l.standing number index)
+  pub first : (k : Key) → IsKey (shape_of_numbers n) k → IsFirst c l.newest kept k (l.first k)
+  pub none_new : l.groups ≡ []
+  pub none_repaired : l.repairs ≡ 0
+  pub frontier : l.frontier ≡ l.top
+  pub marks : l.marks ≡ number_of l.newest
+  pub none_held : l.held ≡ 0
+
+-- a life begins: nothing is under way but the mending that is due
+pub record IsOpenedTranslation (n : Numbers) (c : Cells) (bad : Spot → Bool) (t : Translation) : Type 0 where
+  pub numbers : t.numbers ≡ n
+  pub suits : CellsSuit n c t.ledger.newest
+  pub disk : IsOpenedDisk c bad t.disk
+  pub ledger : IsOpenedLedger n c t.ledger
+  pub mending : IsMendingAt c t.ledger.newest t.ledger.low t.ledger.top t.work.mending
+  pub no_plan : t.work.plan ≡ None
+  pub no_step : t.work.step ≡ None
+  pub no_rests : t.work.rests ≡ []
+  pub no_claims : t.claims ≡ 0
+  pub no_pins : t.pins ≡ []

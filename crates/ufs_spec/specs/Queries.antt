@@ -1,0 +1,164 @@
+-- Queries: descriptors, attributes and flags, and the table by which a query is refused: the first line that applies
+-- decides (JESD220, 10.7.8 and 14; the order of the lines and the values are this profile's).
+use Rattle.std.specs.Prelude.{ℕ, ◌==◌, ◌&&◌, ◌||◌, nat_lt, nat_le, not, Bool, if◌then◌else◌, is_none, List, [], ◌∷◌, ◌++◌, length, replicate, slice_get, take, Option, Some, None}
+use Rattle.std.specs.List.{list_any}
+use Rattle.byteorder.specs.Endian.{big_bytes}
+use Rattle.ufs_spec.specs.Commands.{Command, SetBoot, SetPermanent}
+use Rattle.ufs_spec.specs.Keys.{flag_byte}
+use Rattle.ufs_spec.specs.Messages.{is_among}
+use Rattle.ufs_spec.specs.Plain.{Plain}
+use Rattle.ufs_spec.specs.declared.configs.Numbers.{Numbers}
+use Rattle.ufs_spec.specs.declared.configs.UnitSpec.{UnitSpec}
+use Rattle.ufs_spec.specs.declared.messages.Asked.{Asked}
+
+-- a query: standard read (01h) or standard write (81h), what is asked, the length field and the value
+pub record Query : Type 0 where
+  pub function : ℕ
+  pub asked : Asked
+  pub length : ℕ
+  pub value : ℕ
+
+-- ## Classes
+
+pub data Class : Type 0 where
+  DescriptorClass : Class
+  AttributeClass : Class
+  FlagClass : Class
+  -- no operation, and opcodes that are none
+  NoClass : Class
+
+-- opcodes 1 and 2 read and write a descriptor; 3 and 4 an attribute; 5 to 8 read, set, clear and toggle a flag
+abbrev pub class_of : ℕ → Class
+class_of opcode =
+    if is_among (1 ∷ 2 ∷ []) opcode then DescriptorClass
+    else if is_among (3 ∷ 4 ∷ []) opcode then AttributeClass
+    else if is_among (5 ∷ 6 ∷ 7 ∷ 8 ∷ []) opcode then FlagClass
+    else NoClass
+
+-- the IDNs: device and unit descriptor; bBootLunEn; fDeviceInit, fPermanentWPEn and fPowerOnWPEn
+abbrev pub idns : Class → List ℕ
+idns DescriptorClass = 0x00 ∷ 0x02 ∷ []
+idns AttributeClass = 0x00 ∷ []
+idns FlagClass = 0x01 ∷ 0x02 ∷ 0x03 ∷ []
+idns NoClass = []
+
+-- ## Descriptors
+
+abbrev pub boots : UnitSpec → Bool
+boots u = not (u.boot == 0)
+
+-- the device descriptor of 64 bytes: its length; the number of units in byte 6, four well-known units, whether it
+-- boots, and 1; RPMB in byte Dh; version 0210h in bytes 10h and 11h (JESD220, 14.1.4.2)
+abbrev pub device_descriptor : Numbers → List ℕ
+device_descriptor n =
+    (0x40 ∷ 0 ∷ 0 ∷ 0 ∷ 0 ∷ 0 ∷ length n.units.items ∷ 0x04 ∷ flag_byte (list_any boots n.units.items) ∷ 0x01 ∷ [])
+    ++ (0 ∷ 0 ∷ 0 ∷ 0x01 ∷ 0 ∷ 0 ∷ 0x02 ∷ 0x10 ∷ []) ++ replicate 46 0
+
+-- a unit's descriptor of 35 bytes: its length, 2, its index and that it is enabled; boot and protection; 4096 bytes a
+-- block; its blocks, twice; an erase block of one (JESD220, 14.1.4.5)
+abbrev pub unit_descriptor : ℕ → UnitSpec → List ℕ
+unit_descriptor index u =
+    (0x23 ∷ 0x02 ∷ index ∷ 0x01 ∷ u.boot ∷ u.protect ∷ 0 ∷ 0 ∷ 0 ∷ 0x01 ∷ 0x0C ∷ [])
+    ++ big_bytes 8 u.blocks ++ big_bytes 4 1 ++ (0x03 ∷ []) ++ big_bytes 8 u.blocks ++ replicate 3 0
+
+abbrev pub unit_descriptor_at : ℕ → Option UnitSpec → List ℕ
+unit_descriptor_at index None = []
+unit_descriptor_at index (Some u) = unit_descriptor index u
+
+abbrev pub descriptor : Numbers → Asked → List ℕ
+descriptor n a =
+    if a.idn == 0x00 then device_descriptor n else unit_descriptor_at a.index (slice_get n.units.items a.index)
+
+-- ## Refusals
+
+-- FEh: an opcode above 8, or one that its function does not have
+abbrev pub has_wrong_opcode : Query → Bool
+has_wrong_opcode q =
+    nat_lt 8 q.asked.opcode
+    || (is_among (1 ∷ 3 ∷ 5 ∷ []) q.asked.opcode && (q.function == 0x81))
+    || (is_among (2 ∷ 4 ∷ 6 ∷ 7 ∷ 8 ∷ []) q.asked.opcode && (q.function == 0x01))
+
+-- FDh: an IDN that its class does not have
+abbrev pub has_wrong_idn : Query → Bool
+has_wrong_idn q = not (is_among (idns (class_of q.asked.opcode)) q.asked.idn)
+
+abbrev pub is_unit_descriptor : Query → Bool
+is_unit_descriptor q = is_among (1 ∷ 2 ∷ []) q.asked.opcode && (q.asked.idn == 0x02)
+
+-- FCh: an index that is not 0, and of a unit descriptor one that no unit has
+abbrev pub has_wrong_index : Numbers → Query → Bool
+has_wrong_index n q =
+    if is_unit_descriptor q then nat_le (length n.units.items) q.asked.index else not (q.asked.index == 0)
+
+-- F7h: descriptors are not written, and flags not cleared or toggled
+abbrev pub is_not_writable : Query → Bool
+is_not_writable q = is_among (2 ∷ 7 ∷ 8 ∷ []) q.asked.opcode
+
+-- F9h: a descriptor is read with a length of 0, or an attribute or a flag has a length
+abbrev pub has_wrong_size : Query → Bool
+has_wrong_size q = if q.asked.opcode == 1 then q.length == 0 else not (q.length == 0)
+
+-- FAh: a boot setting above 2
+abbrev pub has_wrong_value : Query → Bool
+has_wrong_value q = (q.asked.opcode == 4) && nat_lt 2 q.value
+
+abbrev pub sets_permanent : Query → Bool
+sets_permanent q = (q.asked.opcode == 6) && (q.asked.idn == 0x02)
+
+-- the command of a query that is a setting: writing bBootLunEn, and setting fPermanentWPEn
+abbrev pub setting_of : Query → Option Command
+setting_of q =
+    if q.asked.opcode == 4 then Some (SetBoot q.value) else if sets_permanent q then Some SetPermanent else None
+
+-- FFh: a setting that cannot be accepted now
+abbrev pub is_shut : Bool → Query → Bool
+is_shut may_accept q = not (is_none (setting_of q)) && not may_accept
+
+pub record QueryLine : Type 0 where
+  pub applies : Bool
+  pub code : ℕ
+
+abbrev pub query_line : Bool → ℕ → QueryLine
+query_line applies code = record { applies = applies; code = code }
+
+abbrev pub first_code : List QueryLine → ℕ
+first_code [] = 0x00
+first_code (l ∷ ls) = if l.applies then l.code else first_code ls
+
+-- the response of a query: 00h, success, where no line applies
+abbrev pub query_code : Numbers → Plain → Bool → Query → ℕ
+query_code n p may_accept q =
+    first_code
+    (query_line (has_wrong_opcode q) 0xFE
+    ∷ query_line (q.asked.opcode == 0) 0x00
+    ∷ query_line (has_wrong_idn q) 0xFD
+    ∷ query_line (has_wrong_index n q) 0xFC
+    ∷ query_line (not (q.asked.selector == 0)) 0xFB
+    ∷ query_line (is_not_writable q) 0xF7
+    ∷ query_line (has_wrong_size q) 0xF9
+    ∷ query_line (has_wrong_value q) 0xFA
+    ∷ query_line (sets_permanent q && p.permanent) 0xF8
+    ∷ query_line (is_shut may_accept q) 0xFF
+    ∷ [])
+
+-- ## What a query that succeeds tells
+
+-- the first bytes of a descriptor, as many as were asked for
+abbrev pub descriptor_told : Numbers → Query → List ℕ
+descriptor_told n q = if q.asked.opcode == 1 then take q.length (descriptor n q.asked) else []
+
+-- a flag's value; fDeviceInit reads 0
+abbrev pub flag_told : Plain → Bool → ℕ → ℕ
+flag_told p power_on idn =
+    if idn == 0x02 then flag_byte p.permanent else if idn == 0x03 then flag_byte power_on else 0
+
+-- the value as it stands behind the query: of the plain state that it leaves, and of fPowerOnWPEn
+abbrev pub value_told : Plain → Bool → Query → ℕ
+value_told p power_on q =
+    if is_among (3 ∷ 4 ∷ []) q.asked.opcode then p.boot
+    else if is_among (5 ∷ 6 ∷ []) q.asked.opcode then flag_told p power_on q.asked.idn
+    else 0
+
+-- setting fPowerOnWPEn lasts until the next power cycle
+abbrev pub sets_power_on : Query → Bool
+sets_power_on q = (q.asked.opcode == 6) && (q.asked.idn == 0x03)

@@ -1,0 +1,181 @@
+-- The replay protected memory block: frames, their MAC, and what a request does (JESD220, 12.4; RFC 2104; FIPS 180-4). What
+-- of it is refused, and in which order, is this profile's.
+use Rattle.std.specs.Prelude.{◌≡◌, ℕ, ◌+◌, ◌-◌, ◌*◌, ◌<◌, ◌^◌, ◌==◌, ◌&&◌, nat_lt, nat_le, not, Bool, true, false, if◌then◌else◌, is_none, is_some, List, [], ◌∷◌, ◌++◌, bit_or, bit_xor, length, map, replicate, Option, Some, None}
+use Rattle.std.specs.List.{flat_map, list_all}
+use Rattle.byteorder.specs.Endian.{big_bytes}
+use Rattle.sha2.specs.Sha256.{sha256}
+use Rattle.ufs_spec.specs.Commands.{Command, RpmbWrite, SetKey}
+use Rattle.ufs_spec.specs.Exchanges.{Registers, Status, invalid_list_field, sequence_error}
+use Rattle.ufs_spec.specs.Messages.{AreBytes}
+use Rattle.ufs_spec.specs.Plain.{Plain, apply}
+
+-- ## Frames
+
+-- a frame of 512 bytes: 196 stuff bytes, the key or the MAC of 32, 256 of data, a nonce of 16, and five numbers
+pub record Frame : Type 0 where
+  pub stuff : List ℕ
+  pub mac : List ℕ
+  pub payload : List ℕ
+  pub nonce : List ℕ
+  pub counter : ℕ
+  pub address : ℕ
+  pub count : ℕ
+  pub result : ℕ
+  pub kind : ℕ
+
+-- the bytes that the MAC covers: from the data on
+abbrev pub covered_bytes : Frame → List ℕ
+covered_bytes f =
+    f.payload ++ f.nonce ++ big_bytes 4 f.counter ++ big_bytes 2 f.address ++ big_bytes 2 f.count ++ big_bytes 2 f.result
+    ++ big_bytes 2 f.kind
+
+-- the 512 bytes of a frame
+abbrev pub frame_bytes : Frame → List ℕ
+frame_bytes f = f.stuff ++ f.mac ++ covered_bytes f
+
+-- the parts of a frame have their lengths and widths
+pub record IsFrame (f : Frame) : Type 0 where
+  pub stuff : (length f.stuff ≡ 196) × AreBytes f.stuff
+  pub mac : (length f.mac ≡ 32) × AreBytes f.mac
+  pub payload : (length f.payload ≡ 256) × AreBytes f.payload
+  pub nonce : (length f.nonce ≡ 16) × AreBytes f.nonce
+  pub counter : f.counter < 2 ^ 32
+  pub address : f.address < 2 ^ 16
+  pub count : f.count < 2 ^ 16
+  pub result : f.result < 2 ^ 16
+  pub kind : f.kind < 2 ^ 16
+
+-- ## The MAC (RFC 2104, HMAC with SHA-256 of FIPS 180-4)
+
+-- a key longer than 64 bytes is replaced by its SHA-256; then it is filled with zeros to 64 bytes
+abbrev pub short_key : List ℕ → List ℕ
+short_key key = if nat_lt 64 (length key) then sha256 key else key
+
+abbrev pub padded_key : List ℕ → List ℕ
+padded_key key = short_key key ++ replicate (64 - length (short_key key)) 0
+
+-- the padded key, each byte of it xor one byte
+abbrev pub keyed : ℕ → List ℕ → List ℕ
+keyed pad key = map (λ b. bit_xor b pad) (padded_key key)
+
+abbrev pub mac : List ℕ → List ℕ → List ℕ
+mac key message = sha256 (keyed 0x5C key ++ sha256 (keyed 0x36 key ++ message))
+
+-- the MAC of frames: of what it covers in each, one after another
+abbrev pub frames_mac : List ℕ → List Frame → List ℕ
+frames_mac key frames = mac key (flat_map covered_bytes frames)
+
+-- ## Requests: the kind of the first frame
+
+abbrev pub program_key : ℕ
+program_key = 1
+
+abbrev pub read_counter : ℕ
+read_counter = 2
+
+abbrev pub write_data : ℕ
+write_data = 3
+
+abbrev pub read_data : ℕ
+read_data = 4
+
+abbrev pub read_result : ℕ
+read_result = 5
+
+-- the frames of a write agree in kind, counter, address and count
+abbrev pub agrees : Frame → Frame → Bool
+agrees f g = (f.kind == g.kind) && (f.counter == g.counter) && (f.address == g.address) && (f.count == g.count)
+
+-- a write has as many frames as it counts, and they agree; a read counts 1 to 8 blocks; all but a write have one frame
+abbrev pub is_well_formed : Frame → List Frame → Bool
+is_well_formed f fs =
+    if f.kind == write_data then list_all (agrees f) fs && (f.count == length fs + 1)
+    else (length fs == 0)
+    && (if f.kind == read_data then nat_le 1 f.count && nat_le f.count 8 else nat_le 1 f.kind && nat_le f.kind 5)
+
+-- ## Outcomes
+
+-- what SECURITY PROTOCOL OUT does with its frames: it is refused; or it has a result and, where it is accepted, a command
+pub data RpmbOutcome : Type 0 where
+  Refused : (status : Status) → RpmbOutcome
+  Results : (result : ℕ) → (accepted : Option Command) → RpmbOutcome
+
+-- a check of a request, and its result where it fails
+pub record Check : Type 0 where
+  pub fails : Bool
+  pub result : ℕ
+
+abbrev pub unless : Bool → ℕ → Check
+unless fails result = record { fails = fails; result = result }
+
+abbrev pub first_failed : List Check → Option ℕ
+first_failed [] = None
+first_failed (c ∷ cs) = if c.fails then Some c.result else first_failed cs
+
+abbrev pub has_key : Plain → Bool
+has_key p = is_some p.key
+
+-- the last counter value
+abbrev pub counter_end : ℕ
+counter_end = 2 ^ 32 - 1
+
+-- blocks past the end of the area
+abbrev pub is_past_area : Plain → Frame → Bool
+is_past_area p f = nat_lt (length p.area) (256 * (f.address + f.count))
+
+-- the MAC in the last frame
+abbrev pub last_mac : Frame → List Frame → List ℕ
+last_mac f [] = f.mac
+last_mac f (g ∷ gs) = last_mac g gs
+
+-- whether two lists of bytes are equal
+abbrev pub same_bytes : List ℕ → List ℕ → Bool
+same_bytes [] [] = true
+same_bytes (x ∷ xs) (y ∷ ys) = (x == y) && same_bytes xs ys
+same_bytes _ _ = false
+
+abbrev pub has_wrong_mac : Option (List ℕ) → Frame → List Frame → Bool
+has_wrong_mac None f fs = true
+has_wrong_mac (Some key) f fs = not (same_bytes (last_mac f fs) (frames_mac key (f ∷ fs)))
+
+-- the checks of each kind of request, in order: authentication key not yet programmed (7), general failure (1), write
+-- failure (5), address failure (4), authentication failure (2), counter failure (3) (JESD220, 12.4.3)
+abbrev pub checks : Plain → Bool → Frame → List Frame → List Check
+checks p locked f fs =
+    if f.kind == program_key then unless (has_key p) 1 ∷ unless locked 5 ∷ []
+    else if f.kind == write_data then
+    unless (not (has_key p)) 7 ∷ unless (p.counter == counter_end) 5 ∷ unless (is_past_area p f) 4
+    ∷ unless (has_wrong_mac p.key f fs) 2 ∷ unless (not (f.counter == p.counter)) 3 ∷ unless locked 5 ∷ []
+    else if f.kind == read_data then unless (not (has_key p)) 7 ∷ unless (is_past_area p f) 4 ∷ []
+    else if f.kind == read_counter then unless (not (has_key p)) 7 ∷ []
+    else []
+
+-- the command of a request that passes its checks
+abbrev pub command_in : Frame → List Frame → Option Command
+command_in f fs =
+    if f.kind == program_key then Some (SetKey f.mac)
+    else if f.kind == write_data then Some (RpmbWrite f.address (flat_map (λ (g : Frame). g.payload) (f ∷ fs)))
+    else None
+
+abbrev pub applied : Plain → Option Command → Plain
+applied p None = p
+applied p (Some c) = apply p c
+
+-- bit 0080h of a result: a key is set, and the counter is at its end behind the request
+abbrev pub with_end_bit : Plain → ℕ → ℕ
+with_end_bit p result = if has_key p && (p.counter == counter_end) then bit_or result 0x80 else result
+
+abbrev pub outcome_behind : Plain → Option Command → Option ℕ → RpmbOutcome
+outcome_behind p accepted (Some result) = Results (with_end_bit p result) None
+outcome_behind p accepted None = Results (with_end_bit (applied p accepted) 0) accepted
+
+-- a result read finds no result: command sequence error
+abbrev pub lacks_result : Frame → Registers → Bool
+lacks_result f r = (f.kind == read_result) && is_none r.result
+
+abbrev pub rpmb_outcome : Plain → Registers → Bool → List Frame → RpmbOutcome
+rpmb_outcome p r locked [] = Refused invalid_list_field
+rpmb_outcome p r locked (f ∷ fs) =
+    if not (is_well_formed f fs) then Refused invalid_list_field
+    else if lacks_result f r then Refused sequence_error
+    else outcome_behind p (command_in f fs) (first_failed (checks p locked f fs))

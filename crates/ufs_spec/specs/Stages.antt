@@ -1,0 +1,29 @@
+-- What the device does not take yet. Each limit is one definition here, or one of `stage_codes` (Messages),
+-- `taken_operations` and `IsTakenCdb` (Cdbs), `query_unanswered`, `not_begun` and the lines of `complete` for UNMAP and
+-- RPMB (Machine), and goes with the stage that it names.
+use Rattle.std.specs.Prelude.{ℕ, Bool, false, List, []}
+use Rattle.ufs_spec.specs.declared.configs.Numbers.{Numbers}
+
+-- until commands of up to 32 blocks are built: how many blocks a command may have
+abbrev pub most_blocks : ℕ
+most_blocks = 1
+
+-- until 32 tasks are built: how many tasks may be open
+abbrev pub most_tasks : ℕ
+most_tasks = 1
+
+-- until collection is built: whether blocks are collected
+abbrev pub collects : Bool
+collects = false
+
+-- until bad blocks are replaced by spare ones: how many blocks may be bad before the device is locked
+abbrev pub most_bad : Numbers → ℕ
+most_bad n = 0
+
+-- until the well-known units are built, RPMB first: those that take commands, of 81h, B0h, C4h and D0h
+abbrev pub taken_luns : List ℕ
+taken_luns = []
+
+-- until task management is built: whether it is carried out
+abbrev pub manages_tasks : Bool
+manages_tasks = false

@@ -1,0 +1,457 @@
+-- The translation layer of one life: what it owes to each die, when a step of mending or collection is due, and what each
+-- of its calls makes of it (this profile).
+use Rattle.std.specs.Prelude.{◌≡◌, ◌⊎◌, ℕ, ◌+◌, ◌-◌, ◌*◌, ◌^◌, ◌==◌, ◌&&◌, ◌||◌, nat_le, nat_lt, not, Bool, true, false, if◌then◌else◌, is_none, is_some, List, [], ◌∷◌, ◌++◌, count_by, drop, filter, filter_map, find, length, map, sum_by, Option, Some, None, option_map}
+use Rattle.std.specs.List.{flat_map, list_any}
+use Rattle.ufs_spec.specs.Cells.{Cell, GroupPage, MarkPage, Nothing, key_of}
+use Rattle.ufs_spec.specs.Disk.{BlockState, Bad, Closed, Disk, Erasing, Filling, Flight, ForRest, ForStep, ForTask, Free, Programming, Reader, Reading, Spot, begun, place_in, same_spot, spot_of}
+use Rattle.ufs_spec.specs.Keys.{Group, below}
+use Rattle.ufs_spec.specs.Ledger.{Entry, Ledger, Looked, Name, OnPage, accepted_groups, before_accepted, entry_of, is_name, is_standing, latest_durable, next_number, same_name}
+use Rattle.ufs_spec.specs.Stages.{collects, most_bad}
+use Rattle.ufs_spec.specs.declared.configs.Numbers.{Numbers}
+use Rattle.ufs_spec.specs.declared.flash.Fence.{Fence}
+use Rattle.ufs_spec.specs.declared.flash.Key.{Key}
+use Rattle.ufs_spec.specs.declared.flash.Place.{Place}
+use Rattle.ufs_spec.specs.declared.flash.Tag.{Tag}
+
+-- What is under way
+
+-- how far the mending is: its first mark is not finished, with its fence and the keys that have a lost page; the mark is,
+-- and these keys have no repair yet; or the device is mended
+pub data Mending : Type 0 where
+  Unmarked : (fence : Option Fence) → (lost : List Key) → Mending
+  Repairing : (left : List Key) → Mending
+  Mended : Mending
+
+-- the collection of a block: the pages still to be copied, then a mark, and the block is free
+pub record Plan : Type 0 where
+  pub victim : Spot
+  pub copies : List Place
+
+-- one step of either: a mark with its number; the copy of a page; the repair of a key, whose content stands on a page
+-- or is zeros
+pub data StepKind : Type 0 where
+  MarkStep : (number : ℕ) → (fence : Option Fence) → StepKind
+  CopyStep : (name : Name) → (from : Place) → StepKind
+  RepairStep : (name : Name) → (from : Option Place) → StepKind
+
+-- and whether its content is there
+pub record Step : Type 0 where
+  pub kind : StepKind
+  pub there : Bool
+
+-- where the rest of a page comes from that a command has in part
+pub data Source : Type 0 where
+  FromPage : (place : Place) → Source
+  FromSlot : (name : Name) → Source
+
+pub record Rest : Type 0 where
+  pub name : Name
+  pub source : Source
+
+pub record Work : Type 0 where
+  pub mending : Mending
+  pub plan : Option Plan
+  pub step : Option Step
+  -- the pages of groups whose content is not there yet
+  pub rests : List Rest
+
+-- a block of a task that was looked up and is kept, and whether its page is wanted
+pub record Pin : Type 0 where
+  pub tag : ℕ
+  pub index : ℕ
+  pub looked : Looked
+  pub wanted : Bool
+
+pub record Translation : Type 0 where
+  pub numbers : Numbers
+  pub disk : Disk
+  pub ledger : Ledger
+  pub work : Work
+  -- how many slots tasks have claimed
+  pub claims : ℕ
+  pub pins : List Pin
+
+-- Blocks
+
+-- all blocks of all dies, in order
+abbrev pub spots : Numbers → List Spot
+spots n = flat_map (λ die. map (λ block. record { die = die; block = block }) (below n.blocks)) (below n.dies)
+
+abbrev pub is_free : BlockState → Bool
+is_free Free = true
+is_free _ = false
+
+abbrev pub is_bad : BlockState → Bool
+is_bad Bad = true
+is_bad _ = false
+
+abbrev pub count_blocks : Translation → (BlockState → Bool) → ℕ
+count_blocks t is = count_by (λ s. is (t.disk.blocks s)) (spots t.numbers)
+
+abbrev pub looks_into : Spot → Looked → Bool
+looks_into s (OnPage name place) = same_spot (spot_of place) s
+looks_into s _ = false
+
+-- a page of the block is kept for a task
+abbrev pub is_pinned : Translation → Spot → Bool
+is_pinned t s = list_any (λ (pin : Pin). looks_into s pin.looked) t.pins
+
+-- the lock: too many blocks are bad, or no number is left
+abbrev pub is_locked : Translation → Bool
+is_locked t = nat_lt (most_bad t.numbers) (count_blocks t is_bad) || nat_lt (2 ^ 62) (next_number t.ledger)
+
+-- Slots
+
+-- how many pages the groups have that are accepted and not durable
+abbrev pub pending_pages : Ledger → ℕ
+pending_pages l = sum_by length (drop (l.frontier - before_accepted l) (accepted_groups l))
+
+abbrev pub free_slots : Translation → ℕ
+free_slots t = t.numbers.slots - pending_pages t.ledger - t.claims
+
+-- something is accepted and not durable
+abbrev pub has_pending : Translation → Bool
+has_pending t = nat_lt 0 (pending_pages t.ledger)
+
+abbrev pub is_mended : Mending → Bool
+is_mended Mended = true
+is_mended _ = false
+
+-- Live pages
+
+-- a page that is the one standing under its name, and has its key's content at the frontier or is of a pending group
+abbrev pub is_live_as : Ledger → Place → Name → Key → Option Place → Bool
+is_live_as l p name k None = false
+is_live_as l p name k (Some at) =
+    same_spot (spot_of at) (spot_of p) && (at.page == p.page)
+    && (nat_lt l.frontier name.number || is_name name (latest_durable l k))
+
+abbrev pub name_of : Tag → Name
+name_of t = record { number = t.number; index = t.index }
+
+abbrev pub is_live_cell : Ledger → Place → Cell → Bool
+is_live_cell l p (GroupPage tag body) = is_live_as l p (name_of tag) (key_of tag) (l.standing tag.number tag.index)
+is_live_cell l p cell = false
+
+abbrev pub is_live : Translation → Place → Bool
+is_live t p = is_live_cell t.ledger p (t.disk.cells p)
+
+-- the live pages of a block, in order
+abbrev pub live_places : Translation → Spot → List Place
+live_places t s = filter (is_live t) (map (place_in s) (below t.numbers.pages))
+
+abbrev pub live_count : Translation → Spot → ℕ
+live_count t s = length (live_places t s)
+
+-- Collection
+
+-- a closed block that is not wholly live, or a bad block with live pages
+abbrev pub gains : Translation → Spot → BlockState → Bool
+gains t s Closed = nat_lt (live_count t s) t.numbers.pages
+gains t s Bad = nat_lt 0 (live_count t s)
+gains t s state = false
+
+abbrev pub may_be_victim : Translation → Spot → Bool
+may_be_victim t s = not (is_pinned t s) && gains t s (t.disk.blocks s)
+
+-- the first of those with the least count
+abbrev pub least_of : {A : Type 0} → (A → ℕ) → Option A → List A → Option A
+least_of count best [] = best
+least_of count None (x ∷ xs) = least_of count (Some x) xs
+least_of count (Some best) (x ∷ xs) = least_of count (Some (if nat_lt (count x) (count best) then x else best)) xs
+
+-- the block to be collected: of those that gain, the one with the fewest live pages, the lowest of several
+abbrev pub victim : Translation → Option Spot
+victim t = least_of (live_count t) None (filter (may_be_victim t) (spots t.numbers))
+
+abbrev pub is_bad_with_live : Translation → Spot → Bool
+is_bad_with_live t s = is_bad (t.disk.blocks s) && not (is_pinned t s) && nat_lt 0 (live_count t s)
+
+-- few blocks are free, or a bad block holds live pages
+abbrev pub wants_collection : Translation → Bool
+wants_collection t =
+    collects
+    && (nat_lt (count_blocks t is_free) (2 * t.numbers.dies + 4) || list_any (is_bad_with_live t) (spots t.numbers))
+
+-- Steps
+
+abbrev pub has_mark_number : Translation → Bool
+has_mark_number t = nat_lt t.ledger.marks (2 ^ 62)
+
+abbrev pub has_number : Translation → Bool
+has_number t = nat_le (next_number t.ledger) (2 ^ 62)
+
+-- what the next step begins with
+pub data Order : Type 0 where
+  OrderMark : (fence : Option Fence) → Order
+  OrderRepair : (key : Key) → (left : List Key) → Order
+  OrderCopy : (victim : Spot) → (place : Place) → (left : List Place) → Order
+  -- a block without live pages
+  OrderPlanMark : (victim : Spot) → Order
+
+abbrev pub plan_order : Translation → Spot → List Place → Option Order
+plan_order t victim [] = if has_mark_number t then Some (OrderPlanMark victim) else None
+plan_order t victim (p ∷ ps) = Some (OrderCopy victim p ps)
+
+abbrev pub victim_order : Translation → Option Spot → Option Order
+victim_order t None = None
+victim_order t (Some s) = plan_order t s (live_places t s)
+
+-- the next step of the mending; else of the plan that is begun; else of a new one, where collection is due. What would
+-- need a number above 2^62 is not due
+abbrev pub next_order : Translation → Mending → Option Plan → Option Order
+next_order t (Unmarked fence lost) plan = if has_mark_number t then Some (OrderMark fence) else None
+next_order t (Repairing []) plan = if has_mark_number t then Some (OrderMark None) else None
+next_order t (Repairing (k ∷ ks)) plan = if has_number t then Some (OrderRepair k ks) else None
+next_order t Mended (Some plan) = plan_order t plan.victim plan.copies
+next_order t Mended None = if wants_collection t && has_mark_number t then victim_order t (victim t) else None
+
+-- a step is due where none is under way
+abbrev pub due_order : Translation → Option Order
+due_order t = if is_none t.work.step then next_order t t.work.mending t.work.plan else None
+
+abbrev pub is_step_due : Translation → Bool
+is_step_due t = is_some (due_order t)
+
+abbrev pub with_step : Translation → StepKind → Bool → Translation
+with_step t kind there = record t { work = record t.work { step = Some (record { kind = kind; there = there }) } }
+
+-- a mark gets the next mark number when it is ordered
+abbrev pub mark_ordered : Translation → Option Fence → Translation
+mark_ordered t fence =
+    with_step (record t { ledger = record t.ledger { marks = t.ledger.marks + 1 } }) (MarkStep (t.ledger.marks + 1) fence) true
+
+abbrev pub standing_of : Ledger → Option Name → Option Place
+standing_of l None = None
+standing_of l (Some name) = l.standing name.number name.index
+
+abbrev pub with_repair : Ledger → Key → Ledger
+with_repair l k =
+    record l { groups = l.groups ++ (record { key = k; body = l.base k } ∷ []) ∷ []; repairs = l.repairs + 1 }
+
+-- a repair is a group of one page with the next number; what is zeros needs no read
+abbrev pub repair_ordered : Translation → Key → List Key → Translation
+repair_ordered t k left =
+    with_step
+    (record t { ledger = with_repair t.ledger k; work = record t.work { mending = Repairing left } })
+    (RepairStep (record { number = next_number t.ledger; index = 0 }) (standing_of t.ledger (t.ledger.first k)))
+    (is_none (standing_of t.ledger (t.ledger.first k)))
+
+abbrev pub with_plan : Translation → Spot → List Place → Translation
+with_plan t victim copies = record t { work = record t.work { plan = Some (record { victim = victim; copies = copies }) } }
+
+abbrev pub copy_begun : Translation → Place → Cell → Translation
+copy_begun t p (GroupPage tag body) = with_step t (CopyStep (name_of tag) p) false
+copy_begun t p cell = t
+
+abbrev pub ordered : Translation → Order → Translation
+ordered t (OrderMark fence) = mark_ordered t fence
+ordered t (OrderRepair k left) = repair_ordered t k left
+ordered t (OrderCopy victim p left) = copy_begun (with_plan t victim left) p (t.disk.cells p)
+ordered t (OrderPlanMark victim) = mark_ordered (with_plan t victim []) None
+
+-- one step of mending or collection, where one is due
+abbrev pub stepped : Translation → Option Order → Translation
+stepped t None = t
+stepped t (Some order) = ordered t order
+
+abbrev pub turned : Translation → Translation
+turned t = stepped t (due_order t)
+
+-- What waits to be programmed
+
+abbrev pub flies_name : Name → Option Flight → Bool
+flies_name name (Some (Programming p (GroupPage tag body))) = same_name name (name_of tag)
+flies_name name _ = false
+
+abbrev pub flies_mark : Option Flight → Bool
+flies_mark (Some (Programming p (MarkPage m))) = true
+flies_mark _ = false
+
+abbrev pub some_flight : Translation → (Option Flight → Bool) → Bool
+some_flight t is = list_any (λ die. is (t.disk.flights die)) (below t.numbers.dies)
+
+abbrev pub tag_of : Name → Entry → ℕ → Tag
+tag_of name e frontier =
+    record {
+      kind = e.item.key.kind;
+      unit = e.item.key.unit;
+      address = e.item.key.address;
+      number = name.number;
+      index = name.index;
+      size = e.size;
+      frontier = frontier;
+    }
+
+abbrev pub cell_of_entry : Name → Option Entry → ℕ → Cell
+cell_of_entry name None frontier = Nothing
+cell_of_entry name (Some e) frontier = GroupPage (tag_of name e frontier) e.item.body
+
+-- a page as it is programmed now: it records the frontier of the moment
+abbrev pub cell_now : Ledger → Name → Cell
+cell_now l name = cell_of_entry name (entry_of l name) l.frontier
+
+-- a mark without a fence records the frontier of the moment, one with a fence the fence's last number
+abbrev pub records_now : Ledger → Option Fence → ℕ
+records_now l None = l.frontier
+records_now l (Some f) = f.last
+
+abbrev pub step_cell : Translation → StepKind → Cell
+step_cell t (MarkStep number fence) =
+    MarkPage (record { number = number; records = records_now t.ledger fence; fence = fence; numbers = t.numbers })
+step_cell t (CopyStep name from) = cell_now t.ledger name
+step_cell t (RepairStep name from) = cell_now t.ledger name
+
+abbrev pub step_flies : Translation → StepKind → Bool
+step_flies t (MarkStep number fence) = some_flight t flies_mark
+step_flies t (CopyStep name from) = some_flight t (flies_name name)
+step_flies t (RepairStep name from) = some_flight t (flies_name name)
+
+-- the page of the step under way, once its content is there
+abbrev pub waiting_step : Translation → Option Step → Option Cell
+waiting_step t None = None
+waiting_step t (Some step) = if step.there && not (step_flies t step.kind) then Some (step_cell t step.kind) else None
+
+abbrev pub is_rest_of : Name → Rest → Bool
+is_rest_of name rest = same_name rest.name name
+
+abbrev pub names_of : ℕ → Group → List Name
+names_of n g = map (λ i. record { number = n; index = i }) (below (length g))
+
+-- the names of groups numbered from the one behind n on
+abbrev pub names_behind : ℕ → List Group → List Name
+names_behind n [] = []
+names_behind n (g ∷ gs) = names_of (n + 1) g ++ names_behind (n + 1) gs
+
+abbrev pub waits : Translation → Name → Bool
+waits t name =
+    not (is_standing t.ledger name.number name.index)
+    && not (some_flight t (flies_name name))
+    && not (list_any (is_rest_of name) t.work.rests)
+
+-- of the pages of accepted groups, by number and index, the first that waits
+abbrev pub waiting_name : Translation → Option Name
+waiting_name t = find (waits t) (names_behind (before_accepted t.ledger) (accepted_groups t.ledger))
+
+-- What is owed to a die
+
+-- a read, and for whom it is
+pub record Want : Type 0 where
+  pub reader : Reader
+  pub place : Place
+
+abbrev pub want_at : Reader → Place → Want
+want_at reader place = record { reader = reader; place = place }
+
+abbrev pub want_of_look : Reader → Looked → Option Want
+want_of_look reader (OnPage name place) = Some (want_at reader place)
+want_of_look reader looked = None
+
+abbrev pub want_of_pin : Pin → Option Want
+want_of_pin pin = if pin.wanted then want_of_look (ForTask pin.tag pin.index) pin.looked else None
+
+abbrev pub want_from : Option Place → Option Want
+want_from None = None
+want_from (Some place) = Some (want_at ForStep place)
+
+abbrev pub want_of_kind : StepKind → Option Want
+want_of_kind (MarkStep number fence) = None
+want_of_kind (CopyStep name from) = Some (want_at ForStep from)
+want_of_kind (RepairStep name from) = want_from from
+
+abbrev pub wants_of_step : Option Step → List Want
+wants_of_step None = []
+wants_of_step (Some step) = if step.there then [] else filter_map want_of_kind (step.kind ∷ [])
+
+abbrev pub want_of_source : Reader → Source → Option Want
+want_of_source reader (FromPage place) = Some (want_at reader place)
+want_of_source reader (FromSlot name) = None
+
+abbrev pub want_of_rest : Rest → Option Want
+want_of_rest rest = want_of_source (ForRest rest.name.number rest.name.index) rest.source
+
+abbrev pub same_reader : Reader → Reader → Bool
+same_reader (ForTask a i) (ForTask b j) = (a == b) && (i == j)
+same_reader ForStep ForStep = true
+same_reader (ForRest n i) (ForRest m j) = (n == m) && (i == j)
+same_reader _ _ = false
+
+abbrev pub flies_reader : Reader → Option Flight → Bool
+flies_reader reader (Some (Reading other place)) = same_reader reader other
+flies_reader reader _ = false
+
+abbrev pub is_unread : Translation → Want → Bool
+is_unread t want = not (some_flight t (flies_reader want.reader))
+
+-- the reads that are owed: for tasks, for the step under way, and for the rest of pages
+abbrev pub wants : Translation → List Want
+wants t =
+    filter (is_unread t)
+    (filter_map want_of_pin t.pins ++ wants_of_step t.work.step ++ filter_map want_of_rest t.work.rests)
+
+abbrev pub is_of_die : ℕ → Want → Bool
+is_of_die die want = want.place.die == die
+
+abbrev pub is_at : Place → Want → Bool
+is_at p want = same_spot (spot_of want.place) (spot_of p) && (want.place.page == p.page)
+
+-- the next page of a block that is being filled
+abbrev pub next_in : Spot → BlockState → Option Place
+next_in s (Filling next) = Some (place_in s next)
+next_in s state = None
+
+abbrev pub spots_of : Numbers → ℕ → List Spot
+spots_of n die = map (λ block. record { die = die; block = block }) (below n.blocks)
+
+abbrev pub first_of : {A : Type 0} → List A → Option A
+first_of [] = None
+first_of (x ∷ xs) = Some x
+
+-- the next page of the die's open block
+abbrev pub next_place : Translation → ℕ → Option Place
+next_place t die = first_of (filter_map (λ s. next_in s (t.disk.blocks s)) (spots_of t.numbers die))
+
+abbrev pub may_be_erased : Translation → Spot → Bool
+may_be_erased t s = is_free (t.disk.blocks s) && not (is_pinned t s)
+
+-- the lowest free block of the die that no task keeps
+abbrev pub next_erase : Translation → ℕ → Option Flight
+next_erase t die = option_map Erasing (find (may_be_erased t) (spots_of t.numbers die))
+
+-- for a page of a group alone a block is opened only where more than dies + 2 blocks are free
+abbrev pub may_open : Translation → Bool
+may_open t = nat_lt (t.numbers.dies + 2) (count_blocks t is_free)
+
+abbrev pub flight_at : Translation → ℕ → Bool → Cell → Option Place → Option Flight
+flight_at t die opens cell (Some p) = Some (Programming p cell)
+flight_at t die opens cell None = if opens then next_erase t die else None
+
+-- the page of a step goes before those of groups
+abbrev pub flight_for : Translation → ℕ → Option Cell → Option Name → Option Flight
+flight_for t die (Some cell) name = flight_at t die true cell (next_place t die)
+flight_for t die None (Some name) = flight_at t die (may_open t) (cell_now t.ledger name) (next_place t die)
+flight_for t die None None = None
+
+-- the program or the erase that is owed to the die
+abbrev pub next_flight : Translation → ℕ → Option Flight
+next_flight t die = flight_for t die (waiting_step t t.work.step) (waiting_name t)
+
+-- the die is one of the device's and has no job
+abbrev pub is_idle : Translation → ℕ → Bool
+is_idle t die = nat_lt die t.numbers.dies && is_none (t.disk.flights die)
+
+abbrev pub wants_on : Translation → ℕ → List Want
+wants_on t die = filter (is_of_die die) (wants t)
+
+-- a read that is owed goes first, and any of them may; of those of one page the first is meant
+abbrev pub IsOwed : Translation → ℕ → Flight → Type 0
+IsOwed t die (Reading reader place) = find (is_at place) (wants_on t die) ≡ Some (want_at reader place)
+IsOwed t die flight = (wants_on t die ≡ []) × (next_flight t die ≡ Some flight)
+
+-- the job that the die may be given; none where it is not idle or nothing is owed to it
+abbrev pub MayTake : Translation → ℕ → Option Flight → Type 0
+MayTake t die (Some flight) = (is_idle t die ≡ true) × IsOwed t die flight
+MayTake t die None = (is_idle t die ≡ false) ⊎ ((wants_on t die ≡ []) × (next_flight t die ≡ None))
+
+abbrev pub taken : Translation → ℕ → Flight → Translation
+taken t die flight = record t { disk = begun t.disk die flight }
