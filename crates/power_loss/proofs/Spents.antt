@@ -2,7 +2,7 @@
 use Rattle.std.proofs.Common.{◌≡◌, ◌≢◌, ℕ, ◌-◌, ◌<◌, ◌≤◌, nat_le, true, false, ◌⊎◌, if◌then◌else◌, List, Option, Some, None, option_and_then, slice_get, refl, sym, ap, ◌∙◌, subst, inl, inr, ⊎_elim, arith}
 use Rattle.std.proofs.lemmas.Bool.Decides.{nat_tests}
 use Rattle.ufs_spec.specs.Cells.{Cell, GroupPage, Mark, MarkPage, Nothing, key_of}
-use Rattle.ufs_spec.specs.Disk.{BlockState, Erasing, Free, HasCopy, IsNewestFinished, IsReplaced, MayErase, Spent, SpentBy, Spot, spot_of, with_erasing}
+use Rattle.ufs_spec.specs.Disk.{BlockState, Erasing, Free, HasCopy, IsNewestFinished, IsReplaced, MayErase, Spent, SpentBy, Spot, Stands, spot_of, with_erasing}
 use Rattle.ufs_spec.specs.Kept.{IsFenced, recorded_in}
 use Rattle.ufs_spec.specs.Ledger.{Entry, entry_in}
 use Rattle.ufs_spec.specs.Translation.{MayTake, Mended, Mending, Repairing, Translation, Unmarked, is_pinned}
@@ -165,3 +165,11 @@ spent_in t s Mended v free r p at some = mended_spent t s v free r.mark r.is r.m
 
 pub erased_are_spent : (t : Translation) (die : ℕ) (s : Spot) → Valid t → MayTake t die (Some (Erasing s)) → MayErase t.disk s × (is_pinned t s ≡ false)
 erased_are_spent t die s v may = let o = erase_owed t die s may in (spent_in t s t.work.mending v o.free v.mending, o.unkept)
+
+-- by a finished mark that stands where no block is being erased
+pub erased_by_some_mark : (t : Translation) (die : ℕ) (s : Spot) (p : Place) → Valid t → MayTake t die (Some (Erasing s)) → spot_of p ≡ s → t.disk.cells p ≢ Nothing →
+    (m : Mark) × Stands (with_erasing t.disk s) m × SpentBy (with_erasing t.disk s) m (t.disk.cells p)
+erased_by_some_mark t die s p v may at some =
+    let go = (erased_are_spent t die s v may).0 p at some in
+    subst (λ (q : Spot). (x : Mark) × Stands (with_erasing t.disk q) x × SpentBy (with_erasing t.disk q) x (t.disk.cells p)) at
+    (go.0, go.1.stands, go.2)

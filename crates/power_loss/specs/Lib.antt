@@ -1,3 +1,4 @@
 pub mod Book
 pub mod Invariant
+pub mod Exchange
 pub mod Mending

@@ -2,11 +2,12 @@
 //! do nothing: their contracts are the laws.
 #![tactic(auto)]
 
+mod exchange;
 mod mending;
 
 ghost use Rattle.std.specs.Prelude.{◌≡◌, ◌≢◌, ◌≤◌, ℕ, Bool, true, false, List, Option, Some};
-ghost use Rattle.ufs_spec.specs.Cells.{AreWithin, Cells, GroupPage, Mark};
-ghost use Rattle.ufs_spec.specs.Disk.{CellCrash, Erasing, HasCopy, MayErase, Spent, Spot, spot_of, with_erasing};
+ghost use Rattle.ufs_spec.specs.Cells.{AreWithin, Cells, GroupPage, Mark, Nothing};
+ghost use Rattle.ufs_spec.specs.Disk.{CellCrash, Erasing, HasCopy, MayErase, Spent, SpentBy, Spot, Stands, spot_of, with_erasing};
 ghost use Rattle.ufs_spec.specs.Kept.{IsKept, IsNewestMark};
 ghost use Rattle.ufs_spec.specs.Moves.{IsAllowedMove, Move, moved};
 ghost use Rattle.ufs_spec.specs.Openings.{IsOpenedTranslation};
@@ -18,6 +19,9 @@ ghost use Rattle.ufs_spec.specs.declared.flash.Tag.{Tag};
 ghost use Rattle.power_loss.specs.Book.{CellsRight};
 ghost use Rattle.power_loss.specs.Invariant.{IsPrefix, Valid};
 
+pub use exchange::{
+    each_event_keeps, lives_are_chained, next_life_begins_with_a_prefix, opened_state_is_valid,
+};
 pub use mending::mending_ends_soon;
 
 /// Opening over a sound array gives a valid life.
@@ -45,8 +49,13 @@ pub fn a_stop_leaves_a_prefix()
 
 /// A block that is given to a die to be erased holds only pages that may go, and none that a task keeps.
 pub fn erased_blocks_are_spent()
-    ensures { (t : Translation) (die : ℕ) (s : Spot) →
-        Valid t → MayTake t die (Some (Erasing s)) → MayErase t.disk s × (is_pinned t s ≡ false) }
+    ensures spent { (t : Translation) (die : ℕ) (s : Spot) → Valid t → MayTake t die (Some (Erasing s)) → MayErase t.disk s }
+    // So it may go by some finished mark that stands where no block is being erased.
+    ensures by_some_mark { (t : Translation) (die : ℕ) (s : Spot) (p : Place) →
+        Valid t → MayTake t die (Some (Erasing s)) → spot_of p ≡ s → t.disk.cells p ≢ Nothing →
+        (m : Mark) × Stands (with_erasing t.disk s) m × SpentBy (with_erasing t.disk s) m (t.disk.cells p) }
+    ensures unpinned { (t : Translation) (die : ℕ) (s : Spot) →
+        Valid t → MayTake t die (Some (Erasing s)) → is_pinned t s ≡ false }
 {}
 
 /// Once the device is mended, a live page may go only where a finished copy of it stands elsewhere; and at no time is a

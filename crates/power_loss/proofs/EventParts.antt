@@ -1,0 +1,265 @@
+-- The parts of what holds between events, and what the moves of a call leave of each.
+use Rattle.std.proofs.Common.{◌≡◌, ℕ, zero, suc, ◌+◌, ◌≤◌, Bool, true, false, List, [], ◌∷◌, ◌++◌, Option, Some, None, length, drop, map, refl, sym, ap, ◌∙◌, subst, arith}
+use Rattle.std.specs.Prelude.{if◌then◌else◌, nat_le}
+use Rattle.std.proofs.lemmas.List.{length-append}
+use Rattle.ufs_spec.specs.Cells.{Array, Cell, GroupPage, MarkPage, Nothing, Shows}
+use Rattle.ufs_spec.specs.Commands.{Command}
+use Rattle.ufs_spec.specs.Disk.{Erasing, Flight, ForNobody, ForRest, ForStep, ForTask, Programming, Reader, Reading, Spot, program_failed}
+use Rattle.ufs_spec.specs.Exchanges.{Answering, Awaiting, Deed, Gathering, Sending, Short, Task, Telling, write_error}
+use Rattle.ufs_spec.specs.Keys.{CanApplyAll, Contents, Group, IsArea, IsBlock, IsData, IsKey, IsPlain, IsSettings, IsSettingsBody, content, groups_of}
+use Rattle.ufs_spec.specs.Ledger.{accepted_groups}
+use Rattle.ufs_spec.specs.Machine.{claimed_by, deed_locked, is_durable, durable, given, lock_told, short_locked, task_locked, with_moves}
+use Rattle.ufs_spec.specs.Moves.{Ending, IsAllowedMove, Move, ReadRight, ReadWrong, Take, Turn, WentWell, WentWrong, die_idle, end_flight, moved, read_right, read_wrong}
+use Rattle.ufs_spec.specs.Plain.{Plain, Shape, shape_of, shape_of_numbers}
+use Rattle.ufs_spec.specs.Steps.{State, locked, numbers_of}
+use Rattle.ufs_spec.specs.Translation.{MayTake, Order, OrderCopy, OrderMark, OrderPlanMark, OrderRepair, Translation, copy_begun, due_order, has_mark_number, is_mended, mark_ordered, ordered, stepped, turned, with_plan}
+use Rattle.ufs_spec.specs.declared.configs.Numbers.{Numbers}
+use Rattle.ufs_spec.specs.declared.flash.Fence.{Fence}
+use Rattle.ufs_spec.specs.declared.flash.Key.{Key}
+use Rattle.ufs_spec.specs.declared.flash.Place.{Place}
+use Rattle.ufs_laws.proofs.States.{contents_of}
+use Rattle.power_loss.specs.Exchange.{DeedFits, ShortFits, TasksAreRight, TasksRight, IsTied}
+use Rattle.power_loss.specs.Invariant.{Valid}
+use Rattle.power_loss.proofs.FittingMoves.{BaseFits, Fits, Ordered, Stays, due_told, move_fits, move_stays}
+use Rattle.power_loss.proofs.TaskLists.{shorts_kept, tasks_kept, tasks_more}
+
+-- The parts
+
+-- what joins the translation layer with the pages, the life's start and the accepted commands
+pub record Ties (array : Array) (base : Plain) (accepted : List Command) (t : Translation) : Type 0 where
+  pub shown : Shows array t.disk.cells
+  pub plain : IsPlain base
+  pub shape : shape_of base ≡ shape_of_numbers t.numbers
+  pub contents : (k : Key) → IsKey (shape_of_numbers t.numbers) k → t.ledger.base k ≡ content base k
+  pub commands : CanApplyAll base accepted
+  pub groups : accepted_groups t.ledger ≡ groups_of base accepted
+
+pub base_fits : (n : Numbers) (base : Plain) (f : Contents) → IsPlain base → shape_of base ≡ shape_of_numbers n →
+    ((k : Key) → IsKey (shape_of_numbers n) k → f k ≡ content base k) → BaseFits n f
+base_fits n base f plain shape same = record { block = block; settings = λ k is e. settings k is e }
+  where
+    block : (k : Key) → IsKey (shape_of_numbers n) k → IsBlock (f k)
+    block k is = subst IsBlock (sym (same k is)) ((contents_of base plain).blocks k (subst (λ (s : Shape). IsKey s k) (sym shape) is))
+
+    settings : (k : Key) → IsKey (shape_of_numbers n) k → k.kind ≡ 3 → IsSettingsBody (f k)
+    settings k (IsData u a there within) e = absurd (omega arith)
+    settings k (IsArea page within) e = absurd (omega arith)
+    settings k IsSettings e = subst IsSettingsBody (sym (same _ IsSettings)) (contents_of base plain).settings
+
+pub ties_of : (s : State) → IsTied s → Ties s.array s.base s.accepted s.translation
+ties_of s v = record { shown = v.shown; plain = v.base.0; shape = v.base.1; contents = v.contents; commands = v.commands; groups = v.groups }
+
+pub fits_of : (s : State) → IsTied s → Fits s.translation
+fits_of s v = record {
+  config = v.config;
+  valid = v.valid;
+  book_fits = v.fits;
+  programs = v.flights;
+  marks = v.marks;
+  repaired = v.repaired;
+  base = base_fits s.translation.numbers s.base s.translation.ledger.base v.base.0 v.base.1 v.contents;
+}
+
+pub whole : (s : State) → Fits s.translation → Ties s.array s.base s.accepted s.translation → TasksAreRight s → IsTied s
+whole s f t r = record {
+  config = f.config;
+  shown = t.shown;
+  valid = f.valid;
+  fits = f.book_fits;
+  flights = f.programs;
+  base = (t.plain, t.shape);
+  contents = t.contents;
+  commands = t.commands;
+  groups = t.groups;
+  tasks = r;
+  marks = f.marks;
+  repaired = f.repaired;
+}
+
+-- What moves leave
+
+pub ties_stay : (array other : Array) (base : Plain) (accepted : List Command) (t u : Translation) → Ties array base accepted t → Stays t u →
+    Shows other u.disk.cells → accepted_groups u.ledger ≡ accepted_groups t.ledger → Ties other base accepted u
+ties_stay array other base accepted t u h s shown groups = record {
+  shown = shown;
+  plain = h.plain;
+  shape = h.shape ∙ ap shape_of_numbers (sym s.numbers);
+  contents = λ k is. ap (λ (f : Contents). f k) s.base ∙ h.contents k (subst (λ (n : Numbers). IsKey (shape_of_numbers n) k) s.numbers is);
+  commands = h.commands;
+  groups = groups ∙ h.groups;
+}
+
+-- what a move leaves of the accepted groups and the claims
+pub record Leaves (t u : Translation) : Type 0 where
+  pub groups : accepted_groups u.ledger ≡ accepted_groups t.ledger
+  pub claims : u.claims ≡ t.claims
+
+leaves_right : (t : Translation) (die : ℕ) (reader : Reader) → Leaves t (read_right (die_idle t die) reader)
+leaves_right t die (ForTask tag index) = record { groups = refl; claims = refl }
+leaves_right t die ForStep = record { groups = refl; claims = refl }
+leaves_right t die (ForRest number index) = record { groups = refl; claims = refl }
+leaves_right t die ForNobody = record { groups = refl; claims = refl }
+
+leaves_wrong : (t : Translation) (die : ℕ) (reader : Reader) → Leaves t (read_wrong (die_idle t die) reader)
+leaves_wrong t die (ForTask tag index) = record { groups = refl; claims = refl }
+leaves_wrong t die ForStep = record { groups = refl; claims = refl }
+leaves_wrong t die (ForRest number index) = record { groups = refl; claims = refl }
+leaves_wrong t die ForNobody = record { groups = refl; claims = refl }
+
+leaves_again : (t u : Translation) (fence : Option Fence) (b : Bool) → accepted_groups u.ledger ≡ accepted_groups t.ledger → u.claims ≡ t.claims →
+    Leaves t (if b then mark_ordered u fence else record u { work = record u.work { step = None } })
+leaves_again t u fence true g c = record { groups = g; claims = c }
+leaves_again t u fence false g c = record { groups = g; claims = c }
+
+pub end_leaves : (t : Translation) (die : ℕ) (flight : Option Flight) (ending : Ending) → Leaves t (end_flight t die flight ending)
+end_leaves t die None ending = record { groups = refl; claims = refl }
+end_leaves t die (Some (Reading reader place)) ReadRight = leaves_right t die reader
+end_leaves t die (Some (Reading reader place)) ReadWrong = leaves_wrong t die reader
+end_leaves t die (Some (Reading reader place)) WentWell = record { groups = refl; claims = refl }
+end_leaves t die (Some (Reading reader place)) (WentWrong left) = record { groups = refl; claims = refl }
+end_leaves t die (Some (Programming p Nothing)) WentWell = record { groups = refl; claims = refl }
+end_leaves t die (Some (Programming p (GroupPage tag body))) WentWell = record { groups = refl; claims = refl }
+end_leaves t die (Some (Programming p (MarkPage m))) WentWell = record { groups = refl; claims = refl }
+end_leaves t die (Some (Programming p Nothing)) (WentWrong left) = record { groups = refl; claims = refl }
+end_leaves t die (Some (Programming p (GroupPage tag body))) (WentWrong left) = record { groups = refl; claims = refl }
+end_leaves t die (Some (Programming p (MarkPage m))) (WentWrong left) =
+    leaves_again t (record t { disk = program_failed t.disk p left }) m.fence (has_mark_number t) refl refl
+end_leaves t die (Some (Programming p cell)) ReadRight = record { groups = refl; claims = refl }
+end_leaves t die (Some (Programming p cell)) ReadWrong = record { groups = refl; claims = refl }
+end_leaves t die (Some (Erasing s)) WentWell = record { groups = refl; claims = refl }
+end_leaves t die (Some (Erasing s)) (WentWrong left) = record { groups = refl; claims = refl }
+end_leaves t die (Some (Erasing s)) ReadRight = record { groups = refl; claims = refl }
+end_leaves t die (Some (Erasing s)) ReadWrong = record { groups = refl; claims = refl }
+
+-- a step of mending or collection leaves the cells too
+record LeavesAll (t u : Translation) : Type 0 where
+  leaves : Leaves t u
+  cells : u.disk.cells ≡ t.disk.cells
+
+leaves_copy : (t : Translation) (s : Spot) (p : Place) (left : List Place) (cell : Cell) → LeavesAll t (copy_begun (with_plan t s left) p cell)
+leaves_copy t s p left Nothing = record { leaves = record { groups = refl; claims = refl }; cells = refl }
+leaves_copy t s p left (GroupPage tag body) = record { leaves = record { groups = refl; claims = refl }; cells = refl }
+leaves_copy t s p left (MarkPage m) = record { leaves = record { groups = refl; claims = refl }; cells = refl }
+
+drop_all : {X : Type 0} (n : ℕ) (xs : List X) → length xs ≤ n → drop n xs ≡ []
+drop_all zero [] h = refl
+drop_all (suc n) [] h = refl
+drop_all zero (x ∷ xs) h = absurd (omega arith)
+drop_all (suc n) (x ∷ xs) h = drop_all n xs (omega arith)
+
+-- before the device is mended all groups are repairs
+repair_leaves : (t : Translation) (g : Group) → Valid t → is_mended t.work.mending ≡ false →
+    drop (t.ledger.repairs + 1) (t.ledger.groups ++ g ∷ []) ≡ drop t.ledger.repairs t.ledger.groups
+repair_leaves t g v unmended =
+    let all = (v.history.mending unmended).0 in
+    let long = length-append t.ledger.groups (g ∷ []) in
+    drop_all (t.ledger.repairs + 1) (t.ledger.groups ++ g ∷ []) (omega arith) ∙ sym (drop_all t.ledger.repairs t.ledger.groups (omega arith))
+
+order_leaves : (t : Translation) (o : Order) → Valid t → Ordered t t.work.mending o → LeavesAll t (ordered t o)
+order_leaves t (OrderMark fence) v told = record { leaves = record { groups = refl; claims = refl }; cells = refl }
+order_leaves t (OrderRepair k left) v told = record {
+  leaves = record { groups = repair_leaves t (record { key = k; body = t.ledger.base k } ∷ []) v (ap is_mended told.0); claims = refl };
+  cells = refl;
+}
+order_leaves t (OrderCopy s p left) v told = leaves_copy t s p left (t.disk.cells p)
+order_leaves t (OrderPlanMark s) v told = record { leaves = record { groups = refl; claims = refl }; cells = refl }
+
+turn_leaves : (t : Translation) → Valid t → LeavesAll t (turned t)
+turn_leaves t v = by (due_order t) refl
+  where
+    by : (x : Option Order) → due_order t ≡ x → LeavesAll t (stepped t x)
+    by None e = record { leaves = record { groups = refl; claims = refl }; cells = refl }
+    by (Some o) e = order_leaves t o v (due_told t o e)
+
+pub tasks_stay : (s : State) (accepted : List Command) (u : Translation) → Stays s.translation u → s.translation.claims ≤ u.claims → length s.accepted ≤ length accepted → TasksAreRight s →
+    TasksRight (shape_of_numbers u.numbers) (length accepted) (is_mended u.work.mending) u.claims s.tasks s.shorts
+tasks_stay s accepted u stays claims l h =
+    subst (λ (n : Numbers). TasksRight (shape_of_numbers n) (length accepted) (is_mended u.work.mending) u.claims s.tasks s.shorts) (sym stays.numbers)
+    (tasks_more (shape_of_numbers (numbers_of s)) (length s.accepted) (length accepted) (is_mended s.translation.work.mending) (is_mended u.work.mending)
+    s.translation.claims u.claims s.tasks s.shorts l stays.mended claims h)
+
+-- Moves that change nothing but the translation layer, and leave cells, accepted groups and claims
+
+pub one_move : (s : State) (move : Move) → IsTied s → IsAllowedMove s.translation move → Leaves s.translation (moved s.translation move) →
+    (moved s.translation move).disk.cells ≡ s.translation.disk.cells → IsTied (with_moves s (move ∷ []))
+one_move s move v may leaves cells =
+    let t = s.translation in
+    let u = moved t move in
+    let stays = move_stays t move in
+    whole (with_moves s (move ∷ [])) (move_fits t move (fits_of s v) may)
+    (ties_stay s.array s.array s.base s.accepted t u (ties_of s v) stays (subst (Shows s.array) (sym cells) v.shown) leaves.groups)
+    (tasks_stay s s.accepted u stays (let c = leaves.claims in omega arith) (omega arith) v.tasks)
+
+-- Giving a job, and a step
+
+pub gives_keep : (s : State) (die : ℕ) (flight : Option Flight) → IsTied s → MayTake s.translation die flight → IsTied (given s die flight)
+gives_keep s die None v may = v
+gives_keep s die (Some flight) v may = one_move s (Take die flight) v may (record { groups = refl; claims = refl }) refl
+
+pub step_keeps : (s : State) → IsTied s → IsTied (with_moves s (Turn ∷ []))
+step_keeps s v =
+    let l = turn_leaves s.translation v.valid in
+    one_move s Turn v tt l.leaves l.cells
+
+-- The lock
+
+locked_fits : (s : State) (sh : Shape) (a : ℕ) (m : Bool) (task : Task) (deed : Deed) → DeedFits sh a m (claimed_by deed task.command) task.length deed →
+    DeedFits sh a m (claimed_by (deed_locked s task deed) task.command) task.length (deed_locked s task deed)
+locked_fits s sh a m task (Gathering purpose gathered asked) h = h
+locked_fits s sh a m task (Sending blocks sent) h = h
+locked_fits s sh a m task (Telling bytes) h = h
+locked_fits s sh a m task (Awaiting commands) h = by (nat_le commands (durable s))
+  where
+    by : (b : Bool) → DeedFits sh a m (claimed_by (if b then Awaiting commands else Answering write_error task.length) task.command) task.length (if b then Awaiting commands else Answering write_error task.length)
+    by true = h
+    by false = tt
+locked_fits s sh a m task (Answering status carried) h = h
+
+locked_claims : (s : State) (task : Task) (deed : Deed) → claimed_by (deed_locked s task deed) task.command ≤ claimed_by deed task.command
+locked_claims s task (Gathering purpose gathered asked) = omega arith
+locked_claims s task (Sending blocks sent) = omega arith
+locked_claims s task (Telling bytes) = omega arith
+locked_claims s task (Awaiting commands) = by (nat_le commands (durable s))
+  where
+    by : (b : Bool) → claimed_by (if b then Awaiting commands else Answering write_error task.length) task.command ≤ claimed_by (Awaiting commands) task.command
+    by true = omega arith
+    by false = omega arith
+locked_claims s task (Answering status carried) = omega arith
+
+short_tag : (s : State) (x : Short) → (short_locked s x).tag ≡ x.tag
+short_tag s x = by (is_durable s x.awaits)
+  where
+    by : (b : Bool) → (if b then x else record x { awaits = None; reply = x.locked_reply }).tag ≡ x.tag
+    by true = refl
+    by false = refl
+
+short_fits : (s : State) (a : ℕ) (m : Bool) (x : Short) → ShortFits a m x → ShortFits a m (short_locked s x)
+short_fits s a m x h = by (is_durable s x.awaits)
+  where
+    by : (b : Bool) → ShortFits a m (if b then x else record x { awaits = None; reply = x.locked_reply })
+    by true = h
+    by false = record { awaits = tt; reply = h.locked_reply; locked_reply = h.locked_reply }
+
+pub same_but_tasks : (s : State) (tasks : List Task) (shorts : List Short) → IsTied s →
+    TasksRight (shape_of_numbers (numbers_of s)) (length s.accepted) (is_mended s.translation.work.mending) s.translation.claims tasks shorts →
+    IsTied (record s { tasks = tasks; shorts = shorts })
+same_but_tasks s tasks shorts v r = whole (record s { tasks = tasks; shorts = shorts }) (fits_of s v) (ties_of s v) r
+
+pub lock_keeps : (s : State) → IsTied s → IsTied (lock_told s)
+lock_keeps s v = by (locked s)
+  where
+    changed : IsTied (record s { tasks = map (task_locked s) s.tasks; shorts = map (short_locked s) s.shorts })
+    changed =
+        let n = shape_of_numbers (numbers_of s) in
+        let a = length s.accepted in
+        let m = is_mended s.translation.work.mending in
+        same_but_tasks s (map (task_locked s) s.tasks) (map (short_locked s) s.shorts) v
+        (shorts_kept n a m s.translation.claims (short_locked s) (map (task_locked s) s.tasks) s.shorts
+        (record { tag = short_tag s; fits = short_fits s a m })
+        (tasks_kept n a m s.translation.claims (task_locked s) s.tasks s.shorts
+        (record { tag = λ t. refl; fits = λ t h. locked_fits s n a m t t.deed h; claim = λ t. locked_claims s t t.deed })
+        v.tasks))
+
+    by : (b : Bool) → IsTied (if b then record s { tasks = map (task_locked s) s.tasks; shorts = map (short_locked s) s.shorts } else s)
+    by true = changed
+    by false = v

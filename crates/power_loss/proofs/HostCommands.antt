@@ -1,0 +1,328 @@
+-- A message from the host that opens an exchange.
+use Rattle.std.proofs.Common.{◌≡◌, ℕ, ◌+◌, ◌*◌, ◌<◌, ◌≤◌, ◌==◌, ◌&&◌, Bool, true, false, not, List, [], ◌∷◌, ◌++◌, Option, Some, None, length, map, get_or, min, refl, sym, ap, ◌∙◌, subst, arith}
+use Rattle.std.specs.Prelude.{if◌then◌else◌, nat_le, nat_lt, take}
+use Rattle.std.specs.List.{list_any}
+use Rattle.std.proofs.lemmas.Bool.Decides.{nat_tests}
+use Rattle.std.proofs.lemmas.Bool.{ltb-false, ltb-true, or_parts}
+use Rattle.std.proofs.lemmas.List.{get_or-map, length-map}
+use Rattle.std.proofs.lemmas.Option.{slice_get-get_or}
+use Rattle.ufs_spec.specs.Cdbs.{address_of, blocks_of, direction_of, length_of, operation_of, write_10, write_6}
+use Rattle.ufs_spec.specs.Exchanges.{Answering, Awaiting, Busy, Deed, ForWrite, Gathering, Good, ReadBlock, Sending, Short, Status, Task, TaskSetFull, Telling, invalid_field, invalid_operation, list_length_error, no_unit, not_ready, out_of_range, sequence_error, write_protected, is_short_of, is_task_of, response, short_reply}
+use Rattle.ufs_spec.specs.Keys.{below}
+use Rattle.ufs_spec.specs.Machine.{begun, begun_with, blocks_expected, capacity_bytes, claimed_by, command_heard, flush_begun, in_use, keeps, kept_at, no_sense, opened_with, opening_fault, read_begun, read_blocks, sending, tag_in, told, unit_or_first, with_moves, with_short, with_task, write_begun}
+use Rattle.ufs_spec.specs.Messages.{is_among}
+use Rattle.ufs_spec.specs.Moves.{Claim, Keep, moved}
+use Rattle.ufs_spec.specs.Plain.{shape_of_numbers}
+use Rattle.ufs_spec.specs.Stages.{most_blocks, most_tasks, taken_luns}
+use Rattle.ufs_spec.specs.Steps.{BootUnit, DeviceUnit, ReportLunsUnit, RpmbUnit, operation_in, takes, well_known, Lun, has_other_response, has_wrong_list, is_crowded, is_refused_write, lacks_data, lacks_response, length_in, spec_at, Line, Request, State, UnitOf, first_line, is_past, is_too_long, lacks_unit, line, lines_behind, lun_of, mended, needs_mended, not_taken, numbers_of, refusal, slots_needed, spec_of, unit_in, unit_of_request}
+use Rattle.ufs_spec.specs.Translation.{Pin, is_mended}
+use Rattle.ufs_spec.specs.declared.configs.Numbers.{Numbers}
+use Rattle.ufs_spec.specs.declared.configs.UnitSpec.{UnitSpec}
+use Rattle.ufs_spec.specs.declared.faults.HostFault.TheVariants.{Backlog, TagInUse}
+use Rattle.ufs_spec.specs.declared.messages.Message.{Message}
+use Rattle.ufs_spec.specs.declared.scsi.Cdb.{Cdb}
+use Rattle.ufs_spec.specs.declared.scsi.Cdb.TheVariants as cdb
+use Rattle.ufs_laws.proofs.Bytes.{bytes-nil}
+use Rattle.power_loss.specs.Exchange.{DeedFits, ShortFits, IsTied, WriteFits}
+use Rattle.power_loss.proofs.EventParts.{fits_of, one_move, same_but_tasks, ties_of, ties_stay, whole}
+use Rattle.power_loss.proofs.FittingMoves.{move_fits, move_stays}
+use Rattle.power_loss.proofs.TaskLists.{short_opened, task_opened}
+
+-- A tag that is free
+
+pub record IsFree (s : State) (tag : ℕ) : Type 0 where
+  pub no_task : list_any (is_task_of tag) s.tasks ≡ false
+  pub no_short : list_any (is_short_of tag) s.shorts ≡ false
+
+pub is_free : (s : State) (tag : ℕ) (short : Bool) → opening_fault s tag short ≡ None → IsFree s tag
+is_free s tag short h = by (in_use s tag) refl h
+  where
+    by : (b : Bool) → in_use s tag ≡ b → (if b then Some TagInUse else (if short && nat_le 32 (length s.shorts) then Some Backlog else None)) ≡ None → IsFree s tag
+    by true e k = absurd (none k)
+      where
+        none : Some TagInUse ≡ None → ⊥
+        none x = cc
+    by false e k = let both = or_parts (list_any (is_task_of tag) s.tasks) (list_any (is_short_of tag) s.shorts) e in record { no_task = both.0; no_short = both.1 }
+
+-- Opening an exchange
+
+pub short_keeps : (s : State) (short : Short) → IsTied s → IsFree s short.tag → ShortFits (length s.accepted) (is_mended s.translation.work.mending) short → IsTied (with_short s short)
+short_keeps s short v free fits =
+    let m = is_mended s.translation.work.mending in
+    same_but_tasks s s.tasks (s.shorts ++ short ∷ []) v
+    (short_opened (shape_of_numbers (numbers_of s)) (length s.accepted) m s.translation.claims s.tasks s.shorts short free.no_task free.no_short fits v.tasks)
+
+pub reply_keeps : (s : State) (tag : ℕ) (reply : Message) → IsTied s → IsFree s tag → tag_in reply ≡ tag → IsTied (with_short s (short_reply tag reply))
+reply_keeps s tag reply v free same = short_keeps s (short_reply tag reply) v free (record { awaits = tt; reply = same; locked_reply = same })
+
+-- a task that has claimed nothing
+task_keeps : (s : State) (r : Request) (command : Option Cdb) (n : ℕ) (deed : Deed) → IsTied s → IsFree s r.tag →
+    DeedFits (shape_of_numbers (numbers_of s)) (length s.accepted) (is_mended s.translation.work.mending) (claimed_by deed command) n deed → claimed_by deed command ≡ 0 →
+    IsTied (with_task s r command n deed)
+task_keeps s r command n deed v free fits none =
+    let m = is_mended s.translation.work.mending in
+    same_but_tasks s _ s.shorts v
+    (task_opened (shape_of_numbers (numbers_of s)) (length s.accepted) m s.translation.claims s.translation.claims s.tasks s.shorts
+    (record { lun = r.lun; tag = r.tag; expected = r.expected; command = command; length = n; deed = deed }) free.no_task free.no_short fits (omega arith) v.tasks)
+
+answer_keeps : (s : State) (r : Request) (command : Option Cdb) (n : ℕ) (status : Status) (carried : ℕ) → IsTied s → IsFree s r.tag → IsTied (with_task s r command n (Answering status carried))
+answer_keeps s r command n status carried v free = task_keeps s r command n (Answering status carried) v free tt refl
+
+telling_keeps : (s : State) (r : Request) (command : Cdb) (bytes : List ℕ) → IsTied s → IsFree s r.tag → IsTied (told s r command bytes)
+telling_keeps s r command bytes v free = by (min r.expected (length bytes) == 0)
+  where
+    by : (b : Bool) → IsTied (with_task s r (Some command) (length bytes) (if b then Answering Good (length bytes) else Telling bytes))
+    by true = answer_keeps s r (Some command) (length bytes) Good (length bytes) v free
+    by false = task_keeps s r (Some command) (length bytes) (Telling bytes) v free tt refl
+
+-- READ
+
+pins_keep : (s : State) (f : ℕ → Pin) (xs : List ℕ) → IsTied s → IsTied (with_moves s (map (λ i. Keep (f i)) xs))
+pins_keep s f [] v = v
+pins_keep s f (x ∷ xs) v =
+    pins_keep (with_moves s (Keep (f x) ∷ [])) f xs (one_move s (Keep (f x)) v tt (record { groups = refl; claims = refl }) refl)
+
+sending_keeps : (s : State) (r : Request) (command : Cdb) (n : ℕ) (blocks : List ReadBlock) → IsTied s → IsFree s r.tag → IsTied (with_task s r (Some command) n (sending blocks n))
+sending_keeps s r command n [] v free = answer_keeps s r (Some command) n Good n v free
+sending_keeps s r command n (b ∷ bs) v free = task_keeps s r (Some command) n (Sending (b ∷ bs) 0) v free tt refl
+
+read_keeps : (s : State) (r : Request) (command : Cdb) (unit address n : ℕ) → IsTied s → IsFree s r.tag → IsTied (read_begun s r command unit address n)
+read_keeps s r command unit address n v free =
+    let u = with_moves s (keeps s r.tag unit address (blocks_expected r n)) in
+    sending_keeps u r command n (read_blocks s unit address (blocks_expected r n))
+    (pins_keep s (kept_at s r.tag unit address) (below (blocks_expected r n)) v)
+    (record { no_task = free.no_task; no_short = free.no_short })
+
+-- What the table lets through
+
+record Passed (s : State) (r : Request) (command : Cdb) : Type 0 where
+  unit : lacks_unit s r (lun_of (numbers_of s) r.lun) ≡ false
+  taken : not_taken r (lun_of (numbers_of s) r.lun) ≡ false
+  not_long : is_too_long command ≡ false
+  within : is_past command (spec_of s r) ≡ false
+  ready : (needs_mended (operation_of command) && not (mended s)) ≡ false
+
+first_none : (applies : Bool) (status : Status) (ls : List Line) → first_line (line applies status ∷ ls) ≡ None → (applies ≡ false) × (first_line ls ≡ None)
+first_none true status ls h = absurd (none h)
+  where
+    none : Some status ≡ None → ⊥
+    none e = cc
+first_none false status ls h = (refl, h)
+
+record NoneApplies (a b c d e f g : Bool) : Type 0 where
+  first : a ≡ false
+  second : b ≡ false
+  third : c ≡ false
+  fourth : d ≡ false
+  fifth : e ≡ false
+  sixth : f ≡ false
+  seventh : g ≡ false
+
+none_applies : (a b c d e f g : Bool) (p q r t u v w : Status) (ls : List Line) →
+    first_line (line a p ∷ line b q ∷ line c r ∷ line d t ∷ line e u ∷ line f v ∷ line g w ∷ ls) ≡ None → NoneApplies a b c d e f g
+none_applies a b c d e f g p q r t u v w ls h =
+    let one = first_none a p (line b q ∷ line c r ∷ line d t ∷ line e u ∷ line f v ∷ line g w ∷ ls) h in
+    let two = first_none b q (line c r ∷ line d t ∷ line e u ∷ line f v ∷ line g w ∷ ls) one.1 in
+    let three = first_none c r (line d t ∷ line e u ∷ line f v ∷ line g w ∷ ls) two.1 in
+    let four = first_none d t (line e u ∷ line f v ∷ line g w ∷ ls) three.1 in
+    let five = first_none e u (line f v ∷ line g w ∷ ls) four.1 in
+    let six = first_none f v (line g w ∷ ls) five.1 in
+    let seven = first_none g w ls six.1 in
+    record { first = one.0; second = two.0; third = three.0; fourth = four.0; fifth = five.0; sixth = six.0; seventh = seven.0 }
+
+passed : (s : State) (r : Request) (command : Cdb) → r.cdb ≡ Some command → refusal s r ≡ None → Passed s r command
+passed s r command e h =
+    let lines : first_line (line (lacks_unit s r (lun_of (numbers_of s) r.lun)) no_unit ∷ line (not_taken r (lun_of (numbers_of s) r.lun)) invalid_operation ∷ lines_behind s r (Some command)) ≡ None =
+    subst (λ (c : Option Cdb). first_line (line (lacks_unit s r (lun_of (numbers_of s) r.lun)) no_unit ∷ line (not_taken r (lun_of (numbers_of s) r.lun)) invalid_operation ∷ lines_behind s r c) ≡ None) e h in
+    let none = none_applies (lacks_unit s r (lun_of (numbers_of s) r.lun)) (not_taken r (lun_of (numbers_of s) r.lun)) (is_too_long command) (has_wrong_list command)
+    (lacks_data r (direction_of command) (length_in s command)) (is_past command (spec_of s r)) (needs_mended (operation_of command) && not (mended s))
+    no_unit invalid_operation invalid_field list_length_error invalid_field out_of_range not_ready
+    (line (is_refused_write s (spec_of s r) command) write_protected ∷ line (lacks_response s command) sequence_error
+    ∷ line (has_other_response s command) invalid_field ∷ line (is_crowded s command) Busy ∷ []) lines in
+    record { unit = none.first; taken = none.second; not_long = none.third; within = none.sixth; ready = none.seventh }
+
+-- WRITE
+
+record UnitTold (s : State) (r : Request) : Type 0 where
+  there : r.lun < length (numbers_of s).units.items
+  is : unit_of_request s r ≡ Some r.lun
+
+-- no unit with another byte is an ordinary one
+well_known_none : (byte unit : ℕ) → well_known byte ≡ Some (UnitOf unit) → ⊥
+well_known_none byte unit h = by (byte == 0x81) (byte == 0xB0) (byte == 0xC4) (byte == 0xD0) h
+  where
+    by : (a b c d : Bool) →
+        (if a then Some ReportLunsUnit else if b then Some BootUnit else if c then Some RpmbUnit else if d then Some DeviceUnit else None) ≡ Some (UnitOf unit) → ⊥
+    by true b c d e = cc
+    by false true c d e = cc
+    by false false true d e = cc
+    by false false false true e = cc
+    by false false false false e = cc
+
+lun_told : (n : Numbers) (byte unit : ℕ) → lun_of n byte ≡ Some (UnitOf unit) → (byte < length n.units.items) × (unit ≡ byte)
+lun_told n byte unit h = by (nat_lt byte (length n.units.items)) (is_among taken_luns byte) refl h
+  where
+    other : (c : Bool) → (if c then well_known byte else None) ≡ Some (UnitOf unit) → ⊥
+    other true e = well_known_none byte unit e
+    other false e = cc
+
+    by : (b c : Bool) → nat_lt byte (length n.units.items) ≡ b → (if b then Some (UnitOf byte) else if c then well_known byte else None) ≡ Some (UnitOf unit) →
+        (byte < length n.units.items) × (unit ≡ byte)
+    by true c e k = (ltb-true byte (length n.units.items) e, cc)
+    by false c e k = absurd (other c k)
+
+-- ordinary units alone are written by WRITE
+abbrev TakenByUnits : ℕ → Type 0
+TakenByUnits operation = (lun : Lun) → takes lun operation ≡ true → (unit : ℕ) × (lun ≡ UnitOf unit)
+
+units_take_6 : TakenByUnits write_6
+units_take_6 (UnitOf unit) h = (unit, refl)
+units_take_6 ReportLunsUnit h = cc
+units_take_6 BootUnit h = cc
+units_take_6 RpmbUnit h = cc
+units_take_6 DeviceUnit h = cc
+
+units_take_10 : TakenByUnits write_10
+units_take_10 (UnitOf unit) h = (unit, refl)
+units_take_10 ReportLunsUnit h = cc
+units_take_10 BootUnit h = cc
+units_take_10 RpmbUnit h = cc
+units_take_10 DeviceUnit h = cc
+
+unit_told : (s : State) (r : Request) → TakenByUnits (operation_in r) → lacks_unit s r (lun_of (numbers_of s) r.lun) ≡ false → not_taken r (lun_of (numbers_of s) r.lun) ≡ false → UnitTold s r
+unit_told s r units h k = by (lun_of (numbers_of s) r.lun) refl h k
+  where
+    yes : (b : Bool) → not b ≡ false → b ≡ true
+    yes true e = refl
+    yes false e = cc
+
+    by : (x : Option Lun) → lun_of (numbers_of s) r.lun ≡ x → lacks_unit s r x ≡ false → not_taken r x ≡ false → UnitTold s r
+    by None e lacks taken = cc
+    by (Some lun) e lacks taken =
+        let unit = units lun (yes (takes lun (operation_in r)) taken) in
+        let is : lun_of (numbers_of s) r.lun ≡ Some (UnitOf unit.0) = e ∙ ap Some unit.1 in
+        let told = lun_told (numbers_of s) r.lun unit.0 is in
+        record { there = told.0; is = ap (unit_in s r) is ∙ ap Some told.1 }
+
+no_spec : UnitSpec
+no_spec = record { blocks = 0; boot = 0; protect = 0 }
+
+-- the blocks lie within the unit
+lies_within : (s : State) (r : Request) (command : Cdb) → UnitTold s r → is_past command (spec_of s r) ≡ false →
+    address_of command + blocks_of command ≤ get_or (map (λ (u : UnitSpec). u.blocks) (numbers_of s).units.items) r.lun 0
+lies_within s r command told h =
+    let units = (numbers_of s).units.items in
+    let found = slice_get-get_or units r.lun no_spec told.there in
+    let spec : spec_of s r ≡ Some (get_or units r.lun no_spec) = ap (spec_at (numbers_of s)) told.is ∙ found in
+    let past : is_past command (Some (get_or units r.lun no_spec)) ≡ false = subst (λ (u : Option UnitSpec). is_past command u ≡ false) spec h in
+    let bound = ltb-false (get_or units r.lun no_spec).blocks (address_of command + blocks_of command) past in
+    let same = get_or-map (λ (u : UnitSpec). u.blocks) units r.lun no_spec 0 told.there in
+    omega arith
+
+ready_now : (s : State) (command : Cdb) → needs_mended (operation_of command) ≡ true → (needs_mended (operation_of command) && not (mended s)) ≡ false → is_mended s.translation.work.mending ≡ true
+ready_now s command needs h = by (needs_mended (operation_of command)) (is_mended s.translation.work.mending) needs h
+  where
+    by : (a b : Bool) → a ≡ true → (a && not b) ≡ false → b ≡ true
+    by true true e k = refl
+    by true false e k = cc
+    by false b e k = cc
+
+claimed_keeps : (s : State) (r : Request) (command : Cdb) (unit blocks : ℕ) (forced : Bool) → IsTied s → IsFree s r.tag → Passed s r command → UnitTold s r → unit ≡ r.lun →
+    slots_needed command ≡ blocks → blocks_of command ≡ blocks → needs_mended (operation_of command) ≡ true → is_too_long command ≡ nat_lt most_blocks (blocks_of command) → 1 ≤ blocks →
+    IsTied (with_task (with_moves s (Claim blocks ∷ [])) r (Some command) (4096 * blocks) (Gathering (ForWrite unit (address_of command) blocks forced) [] false))
+claimed_keeps s r command unit blocks forced v free p told same slots size needs long some =
+    let t = s.translation in
+    let u = moved t (Claim blocks) in
+    let units = (numbers_of s).units.items in
+    let m = is_mended t.work.mending in
+    let deed : Deed = Gathering (ForWrite unit (address_of command) blocks forced) [] false in
+    let task : Task = record { lun = r.lun; tag = r.tag; expected = r.expected; command = Some command; length = 4096 * blocks; deed = deed } in
+    let few = ltb-false most_blocks (blocks_of command) (sym long ∙ p.not_long) in
+    let lies = lies_within s r command told p.within in
+    let count = length-map units (λ (x : UnitSpec). x.blocks) in
+    let here : get_or (map (λ (x : UnitSpec). x.blocks) units) unit 0 ≡ get_or (map (λ (x : UnitSpec). x.blocks) units) r.lun 0 =
+    ap (λ (x : ℕ). get_or (map (λ (y : UnitSpec). y.blocks) units) x 0) same in
+    let there = told.there in
+    let fits : WriteFits (shape_of_numbers (numbers_of s)) m unit (address_of command) blocks (4096 * blocks) [] (slots_needed command) = record {
+      unit_in = omega arith;
+      some = some;
+      not_long = omega arith;
+      within = omega arith;
+      total_is = refl;
+      short = omega arith;
+      bytes = bytes-nil;
+      claimed_is = slots;
+      is_mended = ready_now s command needs p.ready;
+    } in
+    whole (with_task (with_moves s (Claim blocks ∷ [])) r (Some command) (4096 * blocks) deed)
+    (move_fits t (Claim blocks) (fits_of s v) tt)
+    (ties_stay s.array s.array s.base s.accepted t u (ties_of s v) (move_stays t (Claim blocks)) v.shown refl)
+    (task_opened (shape_of_numbers (numbers_of s)) (length s.accepted) m t.claims (t.claims + blocks) s.tasks s.shorts task free.no_task free.no_short fits (omega arith) v.tasks)
+
+write_keeps : (s : State) (r : Request) (command : Cdb) (blocks : ℕ) (forced : Bool) → IsTied s → IsFree s r.tag → Passed s r command → TakenByUnits (operation_in r) →
+    slots_needed command ≡ blocks → blocks_of command ≡ blocks → needs_mended (operation_of command) ≡ true → is_too_long command ≡ nat_lt most_blocks (blocks_of command) →
+    IsTied (write_begun s r command (unit_or_first (unit_of_request s r)) (address_of command) blocks forced)
+write_keeps s r command blocks forced v free p units slots size needs long = by (blocks == 0) refl
+  where
+    some : (blocks == 0) ≡ false → 1 ≤ blocks
+    some h = grind (arith, nat_tests)
+
+    by : (b : Bool) → (blocks == 0) ≡ b →
+        IsTied (if b then with_task s r (Some command) 0 (Answering Good 0)
+        else with_task (with_moves s (Claim blocks ∷ [])) r (Some command) (4096 * blocks) (Gathering (ForWrite (unit_or_first (unit_of_request s r)) (address_of command) blocks forced) [] false))
+    by true h = answer_keeps s r (Some command) 0 Good 0 v free
+    by false h =
+        let told = unit_told s r units p.unit p.taken in
+        claimed_keeps s r command (unit_or_first (unit_of_request s r)) blocks forced v free p told (ap unit_or_first told.is) slots size needs long (some h)
+
+flush_keeps : (s : State) (r : Request) (address blocks : ℕ) (immediate : Bool) → IsTied s → IsFree s r.tag → Passed s r (cdb.SynchronizeCache10 address blocks immediate) →
+    IsTied (flush_begun s r (cdb.SynchronizeCache10 address blocks immediate) immediate)
+flush_keeps s r address blocks true v free p = answer_keeps s r (Some (cdb.SynchronizeCache10 address blocks true)) 0 Good 0 v free
+flush_keeps s r address blocks false v free p =
+    task_keeps s r (Some (cdb.SynchronizeCache10 address blocks false)) 0 (Awaiting (length s.accepted)) v free (omega arith, mended_now) refl
+  where
+    mended_now : is_mended s.translation.work.mending ≡ true
+    mended_now = by (is_mended s.translation.work.mending) p.ready
+      where
+        by : (b : Bool) → (true && not b) ≡ false → b ≡ true
+        by true h = refl
+        by false h = cc
+
+-- Commands
+
+-- a CDB has its command's operation code
+abbrev pub IsSpelled : Request → Type 0
+IsSpelled r = (command : Cdb) → r.cdb ≡ Some command → operation_in r ≡ operation_of command
+
+begins : (s : State) (r : Request) (command : Cdb) → IsTied s → IsFree s r.tag → Passed s r command → operation_in r ≡ operation_of command → IsTied (begun s r (unit_or_first (unit_of_request s r)) command)
+begins s r cdb.TestUnitReady v free p op = answer_keeps s r (Some cdb.TestUnitReady) 0 Good 0 v free
+begins s r (cdb.RequestSense allocation) v free p op = telling_keeps s r (cdb.RequestSense allocation) (take allocation no_sense) v free
+begins s r (cdb.Read6 address blocks) v free p op =
+    read_keeps s r (cdb.Read6 address blocks) (unit_or_first (unit_of_request s r)) address (length_of 0 (cdb.Read6 address blocks)) v free
+begins s r (cdb.Read10 address blocks forced) v free p op =
+    read_keeps s r (cdb.Read10 address blocks forced) (unit_or_first (unit_of_request s r)) address (4096 * blocks) v free
+begins s r (cdb.Write6 address blocks) v free p op =
+    write_keeps s r (cdb.Write6 address blocks) (slots_needed (cdb.Write6 address blocks)) false v free p (subst TakenByUnits (sym op) units_take_6) refl refl refl refl
+begins s r (cdb.Write10 address blocks forced) v free p op = write_keeps s r (cdb.Write10 address blocks forced) blocks forced v free p (subst TakenByUnits (sym op) units_take_10) refl refl refl refl
+begins s r (cdb.SynchronizeCache10 address blocks immediate) v free p op = flush_keeps s r address blocks immediate v free p
+begins s r cdb.ReadCapacity10 v free p op = telling_keeps s r cdb.ReadCapacity10 (capacity_bytes (spec_of s r)) v free
+begins s r (cdb.Inquiry allocation) v free p op = answer_keeps s r None 0 invalid_operation 0 v free
+begins s r (cdb.Unmap list) v free p op = answer_keeps s r None 0 invalid_operation 0 v free
+begins s r (cdb.ReportLuns select allocation) v free p op = answer_keeps s r None 0 invalid_operation 0 v free
+begins s r (cdb.SecurityIn n) v free p op = answer_keeps s r None 0 invalid_operation 0 v free
+begins s r (cdb.SecurityOut n) v free p op = answer_keeps s r None 0 invalid_operation 0 v free
+
+opened_keeps : (s : State) (r : Request) → IsTied s → IsFree s r.tag → IsSpelled r → (x : Option Status) → refusal s r ≡ x → IsTied (opened_with s r x)
+opened_keeps s r v free spelled (Some status) e = answer_keeps s r None 0 status 0 v free
+opened_keeps s r v free spelled None e = by r.cdb refl
+  where
+    by : (c : Option Cdb) → r.cdb ≡ c → IsTied (begun_with s r c)
+    by None h = v
+    by (Some command) h = begins s r command v free (passed s r command h e) (spelled command h)
+
+pub command_keeps : (s : State) (r : Request) → IsTied s → IsFree s r.tag → IsSpelled r → IsTied (command_heard s r)
+command_keeps s r v free spelled = by (nat_le most_tasks (length s.tasks))
+  where
+    by : (b : Bool) → IsTied (if b then with_short s (short_reply r.tag (response r.lun r.tag r.expected 0 TaskSetFull)) else opened_with s r (refusal s r))
+    by true = reply_keeps s r.tag (response r.lun r.tag r.expected 0 TaskSetFull) v free refl
+    by false = opened_keeps s r v free spelled (refusal s r) refl

@@ -1,0 +1,345 @@
+-- Data from the host, and a command that is accepted.
+use Rattle.std.proofs.Common.{◌≡◌, ℕ, zero, suc, ◌+◌, ◌-◌, ◌*◌, ◌<◌, ◌≤◌, ◌==◌, ◌&&◌, Bool, true, false, List, [], ◌∷◌, ◌++◌, All, Option, Some, None, length, map, get_or, drop, refl, sym, ap, ◌∙◌, subst, arith}
+use Rattle.std.specs.Prelude.{if◌then◌else◌, nat_lt, option_map, slice_get}
+use Rattle.std.proofs.lemmas.Bool.{le-leb, ltb-false, ltb-true, or_parts}
+use Rattle.std.proofs.lemmas.List.{length-append, length-drop, length-map, length-take-le}
+use Rattle.std.proofs.lemmas.Option.{get_or_from_slice_get, slice_get-get_or, slice_get-map, slice_get_within}
+use Rattle.ufs_spec.specs.Commands.{Command}
+use Rattle.ufs_spec.specs.Commands as command
+use Rattle.ufs_spec.specs.Exchanges.{Answering, Awaiting, Deed, ForFrames, ForUnmap, ForWrite, Gathering, Purpose, Sending, Task, Telling, count_at, invalid_operation, is_asked_in, is_asked_of, task_of, write_error}
+use Rattle.ufs_spec.specs.Keys.{CanApplyAll, Group, IsBlock, IsCommand, IsData, IsKey, IsPlain, Item, below, content, data_key, group_of, groups_of}
+use Rattle.ufs_spec.specs.Machine.{accepts, asked_fault, blocks_in, claimed_by, complete, data_for, data_heard, gathered_more, set_deed, with_moves, write_complete, write_deed}
+use Rattle.ufs_spec.specs.Messages.{AreBytes}
+use Rattle.ufs_spec.specs.Moves.{Accept, IsAllowedMove, IsGroup, IsItem, KeysDiffer, Release, moved}
+use Rattle.ufs_spec.specs.Plain.{CanApply, Plain, Shape, after, apply, shape_of, shape_of_numbers}
+use Rattle.ufs_spec.specs.Steps.{State, locked, numbers_of, plain_now}
+use Rattle.ufs_spec.specs.Translation.{Translation, has_number, is_locked, is_mended}
+use Rattle.ufs_spec.specs.declared.flash.Key.{Key}
+use Rattle.ufs_spec.proofs.PlainFacts.{kept_shape}
+use Rattle.ufs_laws.proofs.Bytes.{bytes-append, bytes-drop, bytes-take}
+use Rattle.ufs_laws.proofs.Commands.{all_kept_plain, kept_plain}
+use Rattle.ufs_laws.proofs.Parts.{get_or-below, length-below}
+use Rattle.ufs_laws.proofs.States.{contents_of}
+use Rattle.power_loss.specs.Exchange.{DeedFits, IsTied, claim_of}
+use Rattle.power_loss.proofs.EventParts.{Ties, fits_of, ties_of, ties_stay, whole}
+use Rattle.power_loss.proofs.FittingMoves.{move_fits, move_stays}
+use Rattle.power_loss.proofs.OneMore.{and_true, eq_told}
+use Rattle.power_loss.proofs.Replies.{FitsIn, claim_same, set_keeps}
+use Rattle.power_loss.proofs.TaskLists.{found_fits, task_set}
+
+-- One command more
+
+shape_after : (p : Plain) (cs : List Command) → CanApplyAll p cs → shape_of (after p cs) ≡ shape_of p
+shape_after p [] can = refl
+shape_after p (c ∷ cs) can = shape_after (apply p c) cs can.2 ∙ kept_shape p c can.1.0
+
+can_more : (p : Plain) (cs : List Command) (c : Command) → CanApplyAll p cs → IsCommand c → CanApply (after p cs) c → CanApplyAll p (cs ++ c ∷ [])
+can_more p [] c can is one = (is, one, tt)
+can_more p (d ∷ ds) c can is one = (can.0, can.1, can_more (apply p d) ds c can.2 is one)
+
+groups_more : (p : Plain) (cs : List Command) (c : Command) → groups_of p (cs ++ c ∷ []) ≡ groups_of p cs ++ group_of (after p cs) c ∷ []
+groups_more p [] c = refl
+groups_more p (d ∷ ds) c = ap (λ (gs : List Group). group_of p d ∷ gs) (groups_more (apply p d) ds c)
+
+drop_more : {X : Type 0} (n : ℕ) (xs : List X) (x : X) → n ≤ length xs → drop n (xs ++ x ∷ []) ≡ drop n xs ++ x ∷ []
+drop_more zero xs x h = refl
+drop_more (suc n) [] x h = absurd (omega arith)
+drop_more (suc n) (y ∷ ys) x h = drop_more n ys x (omega arith)
+
+-- The group of a write
+
+record IsOfWrite (p : Plain) (unit address n i : ℕ) (item : Item) : Type 0 where
+  low : i < n
+  key : item.key ≡ data_key unit (address + i)
+  body : item.body ≡ content p item.key
+
+abbrev item_of : Plain → Key → Item
+item_of p k = record { key = k; body = content p k }
+
+abbrev key_from : ℕ → ℕ → ℕ → Key
+key_from unit address i = data_key unit (address + i)
+
+item_at : (p : Plain) (unit address n i : ℕ) (item : Item) → slice_get (map (item_of p) (map (key_from unit address) (below n))) i ≡ Some item → IsOfWrite p unit address n i item
+item_at p unit address n i item h = by (slice_get (below n) i) refl (sym (two ∙ ap (option_map (item_of p)) one) ∙ h)
+  where
+    one : slice_get (map (key_from unit address) (below n)) i ≡ option_map (key_from unit address) (slice_get (below n) i)
+    one = slice_get-map (key_from unit address) (below n) i
+
+    two : slice_get (map (item_of p) (map (key_from unit address) (below n))) i ≡ option_map (item_of p) (slice_get (map (key_from unit address) (below n)) i)
+    two = slice_get-map (item_of p) (map (key_from unit address) (below n)) i
+
+    same : (a b : Item) → Some a ≡ Some b → a ≡ b
+    same a b e = cc
+
+    by : (x : Option ℕ) → slice_get (below n) i ≡ x →
+        option_map (item_of p) (option_map (key_from unit address) x) ≡ Some item → IsOfWrite p unit address n i item
+    by None e k = absurd (none k)
+      where
+        none : None ≡ Some item → ⊥
+        none z = cc
+    by (Some j) e k =
+        let low = slice_get_within (below n) i j e in
+        let count = length-below n in
+        let small : i < n = omega arith in
+        let at = get_or_from_slice_get (below n) i j 0 e in
+        let is = get_or-below n i 0 small in
+        let place : address + j ≡ address + i = omega arith in
+        let made : item_of p (key_from unit address j) ≡ item = same (item_of p (key_from unit address j)) item k in
+        record {
+          low = small;
+          key = ap (λ (x : Item). x.key) (sym made) ∙ ap (data_key unit) place;
+          body = subst (λ (x : Item). x.body ≡ content p x.key) made refl;
+        }
+
+pub group_length : (p : Plain) (unit address : ℕ) (blocks : List (List ℕ)) → length (group_of p (command.Write unit address blocks)) ≡ length blocks
+group_length p unit address blocks =
+    let one : length (group_of p (command.Write unit address blocks)) ≡ length (map (key_from unit address) (below (length blocks))) =
+    length-map (map (key_from unit address) (below (length blocks))) (item_of (apply p (command.Write unit address blocks))) in
+    let two : length (map (key_from unit address) (below (length blocks))) ≡ length (below (length blocks)) = length-map (below (length blocks)) (key_from unit address) in
+    let three = length-below (length blocks) in
+    omega arith
+
+pub write_group : (t : Translation) (p : Plain) (unit address : ℕ) (blocks : List (List ℕ)) → shape_of p ≡ shape_of_numbers t.numbers → IsPlain p →
+    IsCommand (command.Write unit address blocks) → CanApply p (command.Write unit address blocks) → IsGroup t (group_of p (command.Write unit address blocks))
+write_group t p unit address blocks shape plain is can = record {
+  some = let count = group_length p unit address blocks in let s = can.0.1 in omega arith;
+  not_long = let count = group_length p unit address blocks in let s = can.0.2 in omega arith;
+  differ = differ;
+  items = λ k d lt. item k (get_or (group_of p (command.Write unit address blocks)) k d) (slice_get-get_or (group_of p (command.Write unit address blocks)) k d lt);
+}
+  where
+    of_write : (i : ℕ) (x : Item) → slice_get (group_of p (command.Write unit address blocks)) i ≡ Some x → IsOfWrite (apply p (command.Write unit address blocks)) unit address (length blocks) i x
+    of_write i x h = item_at (apply p (command.Write unit address blocks)) unit address (length blocks) i x h
+
+    differ : KeysDiffer (group_of p (command.Write unit address blocks))
+    differ i j a b at also same =
+        let one = (of_write i a at).key in
+        let two = (of_write j b also).key in
+        let keys : data_key unit (address + i) ≡ data_key unit (address + j) = sym one ∙ (same ∙ two) in
+        let places : address + i ≡ address + j = ap (λ (k : Key). k.address) keys in
+        omega arith
+
+    is_key : (s : Shape) → s ≡ shape_of p → (i : ℕ) (x : Item) → slice_get (group_of p (command.Write unit address blocks)) i ≡ Some x → IsKey s x.key
+    is_key s e i x at =
+        let w = of_write i x at in
+        let low = w.low in
+        let room = can.0.3 in
+        subst (λ (z : Shape). IsKey z x.key) (sym e) (subst (IsKey (shape_of p)) (sym w.key) (IsData unit (address + i) can.0.0 (omega arith)))
+
+    item : (i : ℕ) (x : Item) → slice_get (group_of p (command.Write unit address blocks)) i ≡ Some x → IsItem t x
+    item i x at =
+        let w = of_write i x at in
+        let after_plain = kept_plain p (command.Write unit address blocks) plain is can in
+        let kept = kept_shape p (command.Write unit address blocks) can.0 in
+        record {
+          key = is_key (shape_of_numbers t.numbers) (sym shape) i x at;
+          block = subst IsBlock (sym w.body) ((contents_of (apply p (command.Write unit address blocks)) after_plain).blocks x.key (is_key (shape_of (apply p (command.Write unit address blocks))) kept i x at));
+          settings = λ h. absurd (let kind : x.key.kind ≡ 1 = ap (λ (k : Key). k.kind) w.key in omega arith);
+        }
+
+-- Data in blocks
+
+length-blocks_in : (n : ℕ) (bytes : List ℕ) → length (blocks_in n bytes) ≡ n
+length-blocks_in zero bytes = refl
+length-blocks_in (suc n) bytes = let rest = length-blocks_in n (drop 4096 bytes) in omega arith
+
+are_blocks : (n : ℕ) (bytes : List ℕ) → length bytes ≡ 4096 * n → AreBytes bytes → All IsBlock (blocks_in n bytes)
+are_blocks zero bytes long is k d lt = absurd (omega arith)
+are_blocks (suc n) bytes long is zero d lt = (length-take-le 4096 bytes (omega arith), bytes-take 4096 bytes is)
+are_blocks (suc n) bytes long is (suc k) d lt =
+    are_blocks n (drop 4096 bytes) (let l = length-drop 4096 bytes in omega arith) (bytes-drop 4096 bytes is) k d (omega arith)
+
+-- A command is accepted
+
+not_locked : (t : Translation) → is_locked t ≡ false → has_number t ≡ true
+not_locked t h = let both = or_parts _ _ h in le-leb _ _ (ltb-false _ _ both.1)
+
+pub record Accepts (s : State) (task : Task) (unit address blocks : ℕ) (bytes : List ℕ) : Type 0 where
+  pub there : task_of task.tag s.tasks ≡ Some task
+  pub claim : claim_of task ≡ blocks
+  pub few : blocks ≤ s.translation.claims
+  pub unit_in : unit < length (shape_of_numbers (numbers_of s)).blocks
+  pub some : 1 ≤ blocks
+  pub not_long : blocks ≤ 32
+  pub within : address + blocks ≤ get_or (shape_of_numbers (numbers_of s)).blocks unit 0
+  pub long : length bytes ≡ 4096 * blocks
+  pub are_bytes : AreBytes bytes
+  pub mended : is_mended s.translation.work.mending ≡ true
+
+can_write : (s : State) (unit address blocks : ℕ) (bytes : List ℕ) (task : Task) → IsTied s → Accepts s task unit address blocks bytes →
+    CanApply (plain_now s) (command.Write unit address (blocks_in blocks bytes))
+can_write s unit address blocks bytes task v a =
+    let shape : shape_of (plain_now s) ≡ shape_of_numbers (numbers_of s) = shape_after s.base s.accepted v.commands ∙ v.base.1 in
+    let count = length-blocks_in blocks bytes in
+    let some = a.some in
+    let most = a.not_long in
+    let room = a.within in (
+      subst (λ (x : Shape). (unit < length x.blocks) × (1 ≤ length (blocks_in blocks bytes)) × (length (blocks_in blocks bytes) ≤ 32) × (address + length (blocks_in blocks bytes) ≤ get_or x.blocks unit 0)) (sym shape)
+          (a.unit_in, omega arith, omega arith, omega arith),
+      tt,
+    )
+
+release_keeps : (s : State) (task : Task) (unit address blocks : ℕ) (bytes : List ℕ) → IsTied s → Accepts s task unit address blocks bytes →
+    IsTied (set_deed (with_moves s (Release blocks ∷ [])) task.tag (Answering write_error task.length))
+release_keeps s task unit address blocks bytes v a =
+    let t = s.translation in
+    let m = is_mended t.work.mending in
+    let claim = a.claim in
+    whole (set_deed (with_moves s (Release blocks ∷ [])) task.tag (Answering write_error task.length))
+    (move_fits t (Release blocks) (fits_of s v) tt)
+    (ties_stay s.array s.array s.base s.accepted t (moved t (Release blocks)) (ties_of s v) (move_stays t (Release blocks)) v.shown refl)
+    (task_set (shape_of_numbers (numbers_of s)) (length s.accepted) (length s.accepted) m m t.claims (t.claims - blocks) task task.tag (Answering write_error task.length) s.tasks s.shorts
+    (omega arith) (λ h. h) a.there tt (omega arith) v.tasks)
+
+abbrev write_of : ℕ → ℕ → ℕ → List ℕ → Command
+write_of unit address blocks bytes = command.Write unit address (blocks_in blocks bytes)
+
+accept_allowed : (s : State) (task : Task) (unit address blocks : ℕ) (bytes : List ℕ) → IsTied s → Accepts s task unit address blocks bytes → locked s ≡ false →
+    IsAllowedMove s.translation (Accept blocks (group_of (plain_now s) (write_of unit address blocks bytes)) [])
+accept_allowed s task unit address blocks bytes v a free =
+    let shape : shape_of (plain_now s) ≡ shape_of_numbers (numbers_of s) = shape_after s.base s.accepted v.commands ∙ v.base.1 in
+    let plain : IsPlain (plain_now s) = all_kept_plain s.base s.accepted v.base.0 v.commands in
+    let count = group_length (plain_now s) unit address (blocks_in blocks bytes) in
+    let each = length-blocks_in blocks bytes in (
+      a.mended,
+      not_locked s.translation free,
+      omega arith,
+      a.few,
+      write_group s.translation (plain_now s) unit address (blocks_in blocks bytes) shape plain (are_blocks blocks bytes a.long a.are_bytes) (can_write s unit address blocks bytes task v a),
+    )
+
+accepted_ties : (s : State) (task : Task) (unit address blocks : ℕ) (bytes : List ℕ) → IsTied s → Accepts s task unit address blocks bytes →
+    Ties s.array s.base (s.accepted ++ write_of unit address blocks bytes ∷ [])
+    (moved s.translation (Accept blocks (group_of (plain_now s) (write_of unit address blocks bytes)) []))
+accepted_ties s task unit address blocks bytes v a = record {
+  shown = v.shown;
+  plain = v.base.0;
+  shape = v.base.1;
+  contents = v.contents;
+  commands = can_more s.base s.accepted (write_of unit address blocks bytes) v.commands (are_blocks blocks bytes a.long a.are_bytes) (can_write s unit address blocks bytes task v a);
+  groups =
+      let g : Group = group_of (plain_now s) (write_of unit address blocks bytes) in
+      drop_more s.translation.ledger.repairs s.translation.ledger.groups g v.valid.history.within
+      ∙ (ap (λ (gs : List Group). gs ++ g ∷ []) v.groups ∙ sym (groups_more s.base s.accepted (write_of unit address blocks bytes)));
+}
+
+write_answers : (s : State) (task : Task) (forced : Bool) (more : List Command) → length more ≡ length s.accepted + 1 → is_mended s.translation.work.mending ≡ true →
+    DeedFits (shape_of_numbers (numbers_of s)) (length more) (is_mended s.translation.work.mending) (claimed_by (write_deed forced (length s.accepted + 1) task.length) task.command) task.length
+    (write_deed forced (length s.accepted + 1) task.length)
+write_answers s task true more long m = (omega arith, m)
+write_answers s task false more long m = tt
+
+write_claims : (task : Task) (forced : Bool) (position : ℕ) → claimed_by (write_deed forced position task.length) task.command ≡ 0
+write_claims task true position = refl
+write_claims task false position = refl
+
+accept_keeps : (s : State) (task : Task) (unit address blocks : ℕ) (forced : Bool) (bytes : List ℕ) → IsTied s → Accepts s task unit address blocks bytes → locked s ≡ false →
+    IsTied (set_deed (accepts s (command.Write unit address (blocks_in blocks bytes)) blocks) task.tag (write_deed forced (length s.accepted + 1) task.length))
+accept_keeps s task unit address blocks forced bytes v a free =
+    let t = s.translation in
+    let m = is_mended t.work.mending in
+    let deed = write_deed forced (length s.accepted + 1) task.length in
+    let more : List Command = s.accepted ++ write_of unit address blocks bytes ∷ [] in
+    let long : length more ≡ length s.accepted + 1 = length-append s.accepted (write_of unit address blocks bytes ∷ []) in
+    let claim = a.claim in
+    let none = write_claims task forced (length s.accepted + 1) in
+    whole (set_deed (accepts s (command.Write unit address (blocks_in blocks bytes)) blocks) task.tag deed)
+    (move_fits t (Accept blocks (group_of (plain_now s) (write_of unit address blocks bytes)) []) (fits_of s v) (accept_allowed s task unit address blocks bytes v a free))
+    (accepted_ties s task unit address blocks bytes v a)
+    (task_set (shape_of_numbers (numbers_of s)) (length s.accepted) (length more) m m t.claims (t.claims - blocks) task task.tag deed s.tasks s.shorts
+    (omega arith) (λ h. h) a.there (write_answers s task forced more long a.mended) (omega arith) v.tasks)
+
+pub write_completes : (s : State) (task : Task) (unit address blocks : ℕ) (forced : Bool) (bytes : List ℕ) → IsTied s → Accepts s task unit address blocks bytes →
+    IsTied (write_complete s task unit address blocks forced bytes)
+write_completes s task unit address blocks forced bytes v a = by (locked s) refl
+  where
+    by : (b : Bool) → locked s ≡ b → IsTied (if b then set_deed (with_moves s (Release blocks ∷ [])) task.tag (Answering write_error task.length)
+        else set_deed (accepts s (command.Write unit address (blocks_in blocks bytes)) blocks) task.tag (write_deed forced (length s.accepted + 1) task.length))
+    by true e = release_keeps s task unit address blocks bytes v a
+    by false e = accept_keeps s task unit address blocks forced bytes v a e
+
+-- Data
+
+no_offence : (b : Bool) → asked_fault b ≡ None → b ≡ true
+no_offence true h = refl
+no_offence false h = cc
+
+more_fits : (s : State) (task : Task) (purpose : Purpose) (gathered : List ℕ) (asked : Bool) (all : List ℕ) → FitsIn s task (Gathering purpose gathered asked) → length all < task.length → (AreBytes gathered → AreBytes all) →
+    FitsIn s task (Gathering purpose all false)
+more_fits s task (ForWrite unit address blocks forced) gathered asked all h l is = record {
+  unit_in = h.unit_in;
+  some = h.some;
+  not_long = h.not_long;
+  within = h.within;
+  total_is = h.total_is;
+  short = l;
+  bytes = is h.bytes;
+  claimed_is = claim_same (ForWrite unit address blocks forced) (ForWrite unit address blocks forced) all gathered false asked task.command ∙ h.claimed_is;
+  is_mended = h.is_mended;
+}
+more_fits s task (ForUnmap unit) gathered asked all h l is = tt
+more_fits s task ForFrames gathered asked all h l is = tt
+
+completes : (s : State) (task : Task) (purpose : Purpose) (gathered : List ℕ) (asked : Bool) (all : List ℕ) → IsTied s → task_of task.tag s.tasks ≡ Some task → claim_of task ≤ s.translation.claims →
+    claim_of task ≡ claimed_by (Gathering purpose gathered asked) task.command → FitsIn s task (Gathering purpose gathered asked) → (length gathered < task.length → length all ≡ task.length) → (AreBytes gathered → AreBytes all) →
+    IsTied (complete s task purpose all)
+completes s task (ForWrite unit address blocks forced) gathered asked all v there few claim h long is =
+    let claimed = h.claimed_is in
+    let total = h.total_is in
+    let all_there = long h.short in
+    write_completes s task unit address blocks forced all v (record {
+      there = there;
+      claim = claim ∙ h.claimed_is;
+      few = omega arith;
+      unit_in = h.unit_in;
+      some = h.some;
+      not_long = h.not_long;
+      within = h.within;
+      long = omega arith;
+      are_bytes = is h.bytes;
+      mended = h.is_mended;
+    })
+completes s task (ForUnmap unit) gathered asked all v there few claim h long is = set_keeps s task (Answering invalid_operation task.length) v there tt (omega arith)
+completes s task ForFrames gathered asked all v there few claim h long is = set_keeps s task (Answering invalid_operation task.length) v there tt (omega arith)
+
+gathers : (s : State) (task : Task) (purpose : Purpose) (gathered : List ℕ) (asked : Bool) (all : List ℕ) → IsTied s → task_of task.tag s.tasks ≡ Some task → claim_of task ≤ s.translation.claims →
+    claim_of task ≡ claimed_by (Gathering purpose gathered asked) task.command → FitsIn s task (Gathering purpose gathered asked) → (length gathered < task.length → length all ≤ task.length) → (AreBytes gathered → AreBytes all) →
+    IsTied (gathered_more s task purpose all)
+gathers s task purpose gathered asked all v there few claim h long is = by (nat_lt (length all) task.length) refl
+  where
+    by : (b : Bool) → nat_lt (length all) task.length ≡ b → IsTied (if b then set_deed s task.tag (Gathering purpose all false) else complete s task purpose all)
+    by true e =
+        set_keeps s task (Gathering purpose all false) v there (more_fits s task purpose gathered asked all h (ltb-true (length all) task.length e) is)
+        (let c = claim_same purpose purpose all gathered false asked task.command in omega arith)
+    by false e =
+        let l = ltb-false (length all) task.length e in
+        completes s task purpose gathered asked all v there few claim h (λ short. let most = long short in omega arith) is
+
+data_for_keeps : (s : State) (task : Task) (deed : Deed) (lun offset : ℕ) (bytes : List ℕ) → IsTied s → task_of task.tag s.tasks ≡ Some task → claim_of task ≤ s.translation.claims →
+    claim_of task ≡ claimed_by deed task.command → FitsIn s task deed → is_asked_in task lun offset (length bytes) deed ≡ true → AreBytes bytes →
+    IsTied (data_for s task deed bytes)
+data_for_keeps s task (Gathering purpose gathered asked) lun offset bytes v there few claim h is_asked is =
+    gathers s task purpose gathered asked (gathered ++ bytes) v there few claim h room (λ h. bytes-append gathered bytes h is)
+  where
+    room : length gathered < task.length → length (gathered ++ bytes) ≤ task.length
+    room short =
+        let last = and_true (asked && (task.lun == lun) && (offset == length gathered)) (length bytes == count_at task.length (length gathered)) is_asked in
+        let count = eq_told (length bytes) (count_at task.length (length gathered)) last.1 in
+        let joined = length-append gathered bytes in
+        omega arith
+data_for_keeps s task (Sending blocks sent) lun offset bytes v there few claim h is_asked is = v
+data_for_keeps s task (Telling more) lun offset bytes v there few claim h is_asked is = v
+data_for_keeps s task (Awaiting commands) lun offset bytes v there few claim h is_asked is = v
+data_for_keeps s task (Answering status carried) lun offset bytes v there few claim h is_asked is = v
+
+pub data_keeps : (s : State) (lun tag offset : ℕ) (bytes : List ℕ) → IsTied s → asked_fault (is_asked_of (task_of tag s.tasks) lun offset (length bytes)) ≡ None → AreBytes bytes →
+    IsTied (data_heard s (task_of tag s.tasks) bytes)
+data_keeps s lun tag offset bytes v h is = by (task_of tag s.tasks) refl (no_offence (is_asked_of (task_of tag s.tasks) lun offset (length bytes)) h)
+  where
+    by : (x : Option Task) → task_of tag s.tasks ≡ x → is_asked_of x lun offset (length bytes) ≡ true → IsTied (data_heard s x bytes)
+    by None e asked = v
+    by (Some task) e asked =
+        let found = found_fits (shape_of_numbers (numbers_of s)) (length s.accepted) (is_mended s.translation.work.mending) tag s.tasks task v.tasks.deeds e in
+        let claimed = v.tasks.claimed in
+        let few = found.2 in
+        data_for_keeps s task task.deed lun offset bytes v (ap (λ (x : ℕ). task_of x s.tasks) found.1 ∙ e) (omega arith) refl found.0 asked is

@@ -1,0 +1,155 @@
+-- What holds of a device with its dies between any two events of a life: the translation layer is valid, its cells are
+-- what the pages show, and its groups are those of the accepted commands.
+use Rattle.std.specs.Prelude.{◌≡◌, ℕ, ◌+◌, ◌*◌, ◌<◌, ◌≤◌, ◌^◌, Bool, true, false, List, [], ◌∷◌, length, Option, Some, None, slice_index_or}
+use Rattle.std.specs.List.{list_any}
+use Rattle.ufs_spec.specs.Cells.{Array, Cell, DataHold, IsCell, IsPlace, Opens, Shows}
+use Rattle.ufs_spec.specs.Configs.{IsConfig}
+use Rattle.ufs_spec.specs.Dies.{blank_page}
+use Rattle.ufs_spec.specs.Disk.{Erasing, Programming, Spot, page_of}
+use Rattle.ufs_spec.specs.Exchanges.{Awaiting, Deed, ForWrite, Gathering, Short, Task, is_short_of, is_task_of}
+use Rattle.ufs_spec.specs.Keys.{CanApplyAll, IsBlock, IsKey, IsPlain, IsSettingsBody, content, groups_of}
+use Rattle.ufs_spec.specs.Ledger.{Entry, accepted_groups, before_accepted}
+use Rattle.ufs_spec.specs.Machine.{claimed_by, tag_in}
+use Rattle.ufs_spec.specs.Messages.{AreBytes}
+use Rattle.ufs_spec.specs.Plain.{Shape, shape_of, shape_of_numbers}
+use Rattle.ufs_spec.specs.Steps.{State, numbers_of}
+use Rattle.ufs_spec.specs.Translation.{is_mended}
+use Rattle.ufs_spec.specs.declared.configs.Numbers.{Numbers}
+use Rattle.ufs_spec.specs.declared.flash.Place.{Place}
+use Rattle.ufs_spec.specs.declared.flash.Tag.{Tag}
+use Rattle.power_loss.specs.Book.{Book, IsPageAt, book, last_number}
+use Rattle.power_loss.specs.Invariant.{Valid}
+
+-- Pages as they are sealed
+
+-- what an entry may hold: a block, of the settings one in their ranges, in a group of at most 32 pages
+pub record EntryFits (e : Entry) (index : ℕ) : Type 0 where
+  pub block : IsBlock e.item.body
+  pub settings : e.item.key.kind ≡ 3 → IsSettingsBody e.item.body
+  pub size : e.size ≤ 32
+  pub inside : index < e.size
+
+pub record BookFits (b : Book) : Type 0 where
+  pub entries : (n i : ℕ) (e : Entry) → IsPageAt b n i e → EntryFits e i × (1 ≤ n)
+  pub last : last_number b ≤ 2 ^ 62
+  -- where numbers are lost, the last of them is a number
+  pub lost : b.low ≤ b.top → 1 ≤ b.top
+
+-- Tasks
+
+-- a WRITE that gathers its data lies within its unit, and has less than its length; it is there once the device is
+-- mended alone, and has claimed a slot for each block
+pub record WriteFits (s : Shape) (mended : Bool) (unit address blocks total : ℕ) (gathered : List ℕ) (claimed : ℕ) : Type 0 where
+  pub unit_in : unit < length s.blocks
+  pub some : 1 ≤ blocks
+  pub not_long : blocks ≤ 32
+  pub within : address + blocks ≤ slice_index_or s.blocks unit 0
+  pub total_is : total ≡ 4096 * blocks
+  pub short : length gathered < total
+  pub bytes : AreBytes gathered
+  pub claimed_is : claimed ≡ blocks
+  pub is_mended : mended ≡ true
+
+-- what waits for commands waits for no more than are accepted, and for none before the device is mended
+abbrev pub AwaitsFit : ℕ → Bool → ℕ → Type 0
+AwaitsFit accepted mended commands = (commands ≤ accepted) × (mended ≡ true)
+
+abbrev pub DeedFits : Shape → ℕ → Bool → ℕ → ℕ → Deed → Type 0
+DeedFits s accepted mended claimed total (Gathering (ForWrite unit address blocks forced) gathered asked) =
+    WriteFits s mended unit address blocks total gathered claimed
+DeedFits s accepted mended claimed total (Awaiting commands) = AwaitsFit accepted mended commands
+DeedFits s accepted mended claimed total deed = Unit {0}
+
+abbrev pub claim_of : Task → ℕ
+claim_of task = claimed_by task.deed task.command
+
+abbrev pub DeedsFit : Shape → ℕ → Bool → List Task → Type 0
+DeedsFit s accepted mended [] = Unit {0}
+DeedsFit s accepted mended (task ∷ tasks) =
+    DeedFits s accepted mended (claim_of task) task.length task.deed × DeedsFit s accepted mended tasks
+
+abbrev pub ShortAwaits : ℕ → Bool → Option ℕ → Type 0
+ShortAwaits accepted mended None = Unit {0}
+ShortAwaits accepted mended (Some commands) = AwaitsFit accepted mended commands
+
+-- each reply of a short exchange has its tag
+pub record ShortFits (accepted : ℕ) (mended : Bool) (short : Short) : Type 0 where
+  pub awaits : ShortAwaits accepted mended short.awaits
+  pub reply : tag_in short.reply ≡ short.tag
+  pub locked_reply : tag_in short.locked_reply ≡ short.tag
+
+abbrev pub ShortsFit : ℕ → Bool → List Short → Type 0
+ShortsFit accepted mended [] = Unit {0}
+ShortsFit accepted mended (short ∷ shorts) = ShortFits accepted mended short × ShortsFit accepted mended shorts
+
+-- no tag twice among tasks, nor among short exchanges, nor in both
+abbrev pub TasksDiffer : List Task → Type 0
+TasksDiffer [] = Unit {0}
+TasksDiffer (task ∷ tasks) = (list_any (is_task_of task.tag) tasks ≡ false) × TasksDiffer tasks
+
+abbrev pub ShortsDiffer : List Short → Type 0
+ShortsDiffer [] = Unit {0}
+ShortsDiffer (short ∷ shorts) = (list_any (is_short_of short.tag) shorts ≡ false) × ShortsDiffer shorts
+
+abbrev pub AreApart : List Short → List Task → Type 0
+AreApart shorts [] = Unit {0}
+AreApart shorts (task ∷ tasks) = (list_any (is_short_of task.tag) shorts ≡ false) × AreApart shorts tasks
+
+-- how many slots the tasks have claimed
+abbrev pub claims_of : List Task → ℕ
+claims_of [] = 0
+claims_of (task ∷ tasks) = claim_of task + claims_of tasks
+
+pub record TasksRight (shape : Shape) (accepted : ℕ) (mended : Bool) (claims : ℕ) (tasks : List Task) (shorts : List Short) : Type 0 where
+  pub deeds : DeedsFit shape accepted mended tasks
+  pub waits : ShortsFit accepted mended shorts
+  pub tasks_differ : TasksDiffer tasks
+  pub shorts_differ : ShortsDiffer shorts
+  pub apart : AreApart shorts tasks
+  -- what tasks have claimed is claimed
+  pub claimed : claims_of tasks ≤ claims
+
+abbrev pub TasksAreRight : State → Type 0
+TasksAreRight s =
+    TasksRight (shape_of_numbers (numbers_of s)) (length s.accepted) (is_mended s.translation.work.mending)
+    s.translation.claims s.tasks s.shorts
+
+-- The translation layer is valid, its cells are what the pages show, and its groups are those of the accepted commands
+
+pub record IsTied (s : State) : Type 0 where
+  pub config : IsConfig (numbers_of s)
+  pub shown : Shows s.array s.translation.disk.cells
+  pub valid : Valid s.translation
+  pub fits : BookFits (book s.translation)
+  -- each page in flight shows the cell that it is meant to be
+  pub flights : (die : ℕ) (p : Place) (cell : Cell) → s.translation.disk.flights die ≡ Some (Programming p cell) → IsCell (page_of cell) cell
+  pub base : IsPlain s.base × (shape_of s.base ≡ shape_of_numbers (numbers_of s))
+  pub contents : (k : _) → IsKey (shape_of_numbers (numbers_of s)) k → s.translation.ledger.base k ≡ content s.base k
+  pub commands : CanApplyAll s.base s.accepted
+  pub groups : accepted_groups s.translation.ledger ≡ groups_of s.base s.accepted
+  pub tasks : TasksAreRight s
+  -- marks have numbers that fit
+  pub marks : s.translation.ledger.marks ≤ 2 ^ 62
+  -- once the device is mended each repair is durable
+  pub repaired : is_mended s.translation.work.mending ≡ true →
+      before_accepted s.translation.ledger ≤ s.translation.ledger.frontier
+
+-- the block is one of the dies'
+pub record IsSpot (n : Numbers) (spot : Spot) : Type 0 where
+  pub die : spot.die < n.dies
+  pub block : spot.block < n.blocks
+
+-- All of it
+
+pub record ValidState (s : State) : Type 0 where
+  pub tied : IsTied s
+  -- the data of each page that opens keep the rules of its kind
+  pub hold : (p : Place) (t : Tag) (body : List ℕ) → Opens (s.array p) t body → DataHold t body
+  -- a block that is being erased is one of the dies'
+  pub erases : (die : ℕ) (spot : Spot) → s.translation.disk.flights die ≡ Some (Erasing spot) → IsSpot (numbers_of s) spot
+
+-- An array as a device may be opened over it
+
+-- outside the dies all is blank
+abbrev pub IsArrayOf : Numbers → Array → Type 0
+IsArrayOf n array = (p : Place) → (IsPlace n p → ⊥) → array p ≡ blank_page
