@@ -1,3 +1,7 @@
 pub mod Core
+pub mod Done
+pub mod Ends
+pub mod Gives
 pub mod Moves
 pub mod Rooms
+pub mod Takes

@@ -11,6 +11,7 @@ pub mod Flying
 pub mod Gap
 pub mod Groups
 pub mod HeardOnce
+pub mod HeldFacts
 pub mod Homes
 pub mod Jobs
 pub mod Joined

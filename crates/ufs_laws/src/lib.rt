@@ -5,6 +5,7 @@
 mod arrays;
 mod calls;
 mod contents;
+mod held;
 mod rows;
 mod runs;
 mod tables;
@@ -21,6 +22,7 @@ pub use calls::{
 pub use contents::{
     command_replaces_its_keys, commands_keep_plain, new_device_is_zero, plain_state_is_its_contents,
 };
+pub use held::acknowledged_commands_are_held;
 pub use rows::{gap_keeps_the_first_write, write_after_the_gap_is_kept};
 pub use runs::{a_refused_read_says_why, a_written_block_is_read};
 pub use tables::{failed_request_accepts_nothing, worked_queries};

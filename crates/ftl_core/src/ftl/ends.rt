@@ -1,32 +1,78 @@
 //! How a job in flight ends, and what a step of the device's own orders.
 ghost use Rattle.std.specs.Prelude.{◌≡◌, ℕ, ◌<◌, ◌≤◌, ◌+◌, ◌^◌, IsSome, IfNone, IfSome, length, if◌then◌else◌};
-ghost use Rattle.std.specs.Prelude.{map};
+ghost use Rattle.std.specs.Prelude.{map, option_map, position};
+ghost use Rattle.ftl_core.specs.Ends.{front_durable, front_written, noted, numbered_moved, pending_at, place_written, settled};
+ghost use Rattle.ftl_core.specs.Gives.{Gives, GivesIf, IsBodyLooked, IsBodyOf, IsGiven, change_after, change_ended, ending, erase_ended, group_ended, is_read, is_reading, mark_ended, names, other_for, read_after, read_over, reading_at, same_place};
+ghost use Rattle.ftl_core.specs.Done.{IsEnded, JobEnds, core_ended, job_after};
 ghost use Rattle.ftl_core.specs.Moves.{is_turn_due, moved_pin, erased, mark_failed, mark_ordered, mark_written, page_written, went_bad};
 
 use super::{Ended, Ftl, LAST_NUMBER};
 use crate::books::{
     BlockState, Book, Flight, GroupState, Looked, MarkState, OpenBlock, Pin, ReadState, Stored,
 };
-use page_tag::open;
-use ufs_spec::{Block, Key, Outcome, Page, Place};
+use page_tag::{one_seal, open};
+use ufs_spec::{Block, Key, Outcome, Page, Place, Tag};
 
-/// The block of the page, where it is the page of this address with this number.
-fn body_of(page: &Page, key: Key, number: u64) -> Option<Block> {
-    let opened = open(page)?;
-    let tag = opened.tag;
-    if tag.kind == key.kind
+/// Whether the tag is of this address and this number.
+fn names(tag: &Tag, key: Key, number: u64) -> bool
+    ensures { result ≡ names tag.now key number }
+{
+    tag.kind == key.kind
         && tag.unit == key.unit
         && tag.address == key.address
         && tag.number == number
-    {
+}
+
+/// The block of the page, where it is the page of this address with this number.
+fn body_of(page: &Page, key: Key, number: u64) -> Option<Block>
+    ensures { IsBodyOf page.now key number result }
+{
+    one_seal();
+    let Some(opened) = open(page) else {
+        return None;
+    };
+    if names(&opened.tag, key, number) {
         Some(opened.body)
     } else {
         None
     }
 }
 
+/// The block of the page, where the pin keeps a page and this is it.
+fn body_looked(page: &Page, pin: &Pin) -> Option<Block>
+    ensures { IsBodyLooked page.now pin.now.key pin.now.looked result }
+{
+    match pin.looked {
+        Looked::Page(stored) => body_of(page, pin.key, stored.number),
+        _ => None,
+    }
+}
+
+/// What the end of its read gives to the pin's reader.
+fn body_given(outcome: &Outcome, pin: &Pin) -> Option<Block>
+    ensures { IsGiven outcome.now pin.now result }
+{
+    match outcome {
+        Outcome::Read(page) => body_looked(page, pin),
+        _ => None,
+    }
+}
+
+/// Whether the outcome is a read's.
+fn is_read(outcome: &Outcome) -> bool
+    ensures { result ≡ is_read outcome.now }
+{
+    match outcome {
+        Outcome::Read(_) => true,
+        Outcome::ReadFailed => true,
+        _ => false,
+    }
+}
+
 /// Whether a program or an erase ended well; `None` where the outcome is a read's.
-fn ending(outcome: &Outcome) -> Option<bool> {
+fn ending(outcome: &Outcome) -> Option<bool>
+    ensures { result ≡ ending outcome.now }
+{
     match outcome {
         Outcome::Done => Some(true),
         Outcome::Failed => Some(false),
@@ -35,14 +81,40 @@ fn ending(outcome: &Outcome) -> Option<bool> {
     }
 }
 
+/// Where the group's page is written.
+fn place_written(state: GroupState) -> Option<Place>
+    ensures { result ≡ place_written state }
+{
+    match state {
+        GroupState::Written(place) => Some(place),
+        _ => None,
+    }
+}
+
+/// Whether the places are one.
+fn same_place(place: Place, other: Place) -> bool
+    ensures { result ≡ same_place place other }
+{
+    place.die == other.die && place.block == other.block && place.page == other.page
+}
+
 /// Whether the reader's read of the place is in flight.
-fn is_reading(pin: &Pin, reader: u8, place: Place) -> bool {
+fn is_reading(pin: &Pin, reader: u8, place: Place) -> bool
+    ensures { result ≡ is_reading reader place pin.now }
+{
     match pin.looked {
         Looked::Page(stored) => pin.reader == reader
             && pin.read == ReadState::InFlight
-            && stored.place == place,
+            && same_place(stored.place, place),
         _ => false,
     }
+}
+
+/// The position of the reader whose read of this place is in flight.
+fn reading_at(pins: &[Pin], reader: u8, place: Place) -> Option<usize>
+    ensures { result ≡ position (is_reading reader place) pins.now }
+{
+    pins.iter().position(|pin| is_reading(pin, reader, place))
 }
 
 /// What the pin keeps once the group stands on its page.
@@ -164,7 +236,7 @@ impl Ftl {
 
     /// The group with this number, if it is pending: its position.
     fn pending_at(&self, number: u64) -> Option<usize>
-        ensures { IfSome result (λ k. k < length self.now.groups) }
+        ensures { result ≡ pending_at self.now number }
     {
         if number <= self.frontier {
             return None;
@@ -178,32 +250,31 @@ impl Ftl {
     }
 
     /// The group's page is so far.
-    fn move_group(&mut self, number: u64, state: GroupState) {
+    fn move_group(&mut self, number: u64, state: GroupState)
+        ensures { self.new ≡ numbered_moved self.old number state }
+    {
         if let Some(index) = self.pending_at(number) {
-            let group = &mut self.groups[index];
-            group.state = state;
+            self.move_at(index, state);
         }
     }
 
     /// Where the page of the first pending group stands, once it is written.
     fn front_written(&self) -> Option<Place>
-        ensures { IsSome result → 0 < length self.now.groups }
+        ensures what { result ≡ front_written self.now }
+        ensures some { IsSome result → 0 < length self.now.groups }
     {
         if self.groups.is_empty() {
             return None;
         }
-        let group = &self.groups[0];
-        match group.state {
-            GroupState::Written(place) => Some(place),
-            _ => None,
-        }
+        place_written(self.groups[0].state)
     }
 
     /// The first pending group is durable: its address now reads from this place, and so does who
     /// keeps its slot.
     fn make_durable(&mut self, place: Place)
         requires { 0 < length self.old.groups }
-        ensures { length self.new.groups + 1 ≡ length self.old.groups }
+        ensures after { self.new ≡ front_durable self.old place }
+        ensures less { length self.new.groups + 1 ≡ length self.old.groups }
     {
         let number = self.frontier + 1;
         let group = self.groups.remove(0);
@@ -213,8 +284,9 @@ impl Ftl {
         move_pins(self.pins.as_mut_slice(), stored);
     }
 
+    /// The durable content of the address stands there.
     fn note_place(&mut self, key: Key, stored: Stored)
-        ensures { self.new.groups ≡ self.old.groups }
+        ensures { self.new ≡ noted self.old key stored }
     {
         if let Some(index) = self.position(key) {
             if index < self.places.len() {
@@ -224,13 +296,18 @@ impl Ftl {
     }
 
     /// Every group at the front whose page is written is durable.
-    fn settle(&mut self) {
+    fn settle(&mut self)
+        ensures { self.new ≡ settled self.old }
+    {
         while let Some(place) = self.front_written() {
             self.make_durable(place);
         }
     }
 
-    fn group_ended(&mut self, die: u8, book: Book, place: Place, number: u64, is_done: bool) {
+    /// A group whose program failed waits again.
+    fn group_ended(&mut self, die: u8, book: Book, place: Place, number: u64, is_done: bool)
+        ensures { self.new ≡ group_ended self.old die book place number is_done }
+    {
         if is_done {
             self.move_group(number, GroupState::Written(place));
             self.page_written(die, book);
@@ -241,7 +318,9 @@ impl Ftl {
         }
     }
 
-    fn mark_ended(&mut self, die: u8, book: Book, place: Place, is_done: bool) {
+    fn mark_ended(&mut self, die: u8, book: Book, place: Place, is_done: bool)
+        ensures { self.new ≡ mark_ended self.old die book place is_done }
+    {
         if is_done {
             self.mark_done(die, book);
         } else {
@@ -249,7 +328,9 @@ impl Ftl {
         }
     }
 
-    fn erase_ended(&mut self, die: u8, block: u16, is_done: bool) {
+    fn erase_ended(&mut self, die: u8, block: u16, is_done: bool)
+        ensures { self.new ≡ erase_ended self.old die block is_done }
+    {
         if is_done {
             self.erase_done(die, block);
         } else {
@@ -257,29 +338,55 @@ impl Ftl {
         }
     }
 
-    /// The position of the reader whose read of this place is in flight.
-    fn reading_at(&self, reader: u8, place: Place) -> Option<usize>
-        ensures { IfSome result (λ k. k < length self.now.pins) }
+    /// What the end of a program or an erase changes.
+    fn change_ended(&mut self, die: u8, book: Book, flight: Flight, is_done: bool)
+        ensures { self.new ≡ change_ended self.old die book flight is_done }
     {
-        self.pins
-            .iter()
-            .position(|pin| is_reading(pin, reader, place))
+        match flight {
+            Flight::Read { .. } => {}
+            Flight::Mark { place } => self.mark_ended(die, book, place, is_done),
+            Flight::Group { place, number } => self.group_ended(die, book, place, number, is_done),
+            Flight::Erase { block } => self.erase_ended(die, block, is_done),
+        }
     }
 
-    /// What the read gave to its reader: the block, where the page is the one that was looked up.
-    fn give(&mut self, reader: u8, place: Place, page: Option<&Page>) -> Ended {
-        let Some(index) = self.reading_at(reader, place) else {
+    /// The end of a program or an erase.
+    fn change_done(
+        &mut self,
+        die: u8,
+        book: Book,
+        flight: Flight,
+        outcome: &Outcome,
+    ) -> Option<Ended>
+        ensures answer { result ≡ option_map other_for (ending outcome.now) }
+        ensures after { self.new ≡ change_after self.old die book flight (ending outcome.now) }
+    {
+        let is_done = ending(outcome)?;
+        self.change_ended(die, book, flight, is_done);
+        Some(Ended::Other)
+    }
+
+    /// What the end of the read gives to its reader: the block, where the page is the one that was
+    /// looked up.
+    fn give(&mut self, reader: u8, place: Place, outcome: &Outcome) -> Ended
+        ensures answer { Gives self.old outcome.now place reader result }
+        ensures after { self.new ≡ read_over self.old (reading_at self.old reader place) }
+    {
+        let Some(index) = reading_at(self.pins.as_slice(), reader, place) else {
             return Ended::Other;
         };
-        let pin = &mut self.pins[index];
-        pin.read = ReadState::Over;
-        let body = match (page, pin.looked) {
-            (Some(page), Looked::Page(stored)) => body_of(page, pin.key, stored.number),
-            _ => None,
-        };
+        if index >= self.pins.len() {
+            return Ended::Other;
+        }
+        let pin = self.pins[index];
+        let mut over = pin;
+        over.read = ReadState::Over;
+        self.pins[index] = over;
+        let body = body_given(outcome, &pin);
         Ended::Read { reader, body }
     }
 
+    /// The end of a read.
     fn read_ended(
         &mut self,
         die: u8,
@@ -288,13 +395,12 @@ impl Ftl {
         reader: u8,
         outcome: &Outcome,
     ) -> Option<Ended>
-        ensures nothing { IfNone result (self.new ≡ self.old) }
+        ensures answer { GivesIf (is_read outcome.now) self.old outcome.now place reader result }
+        ensures after { self.new ≡ read_after self.old die book place reader (is_read outcome.now) }
     {
-        let page = match outcome {
-            Outcome::Read(page) => Some(page),
-            Outcome::ReadFailed => None,
-            _ => return None,
-        };
+        if !is_read(outcome) {
+            return None;
+        }
         self.set_book(
             die,
             Book {
@@ -302,27 +408,30 @@ impl Ftl {
                 flight: None,
             },
         );
-        Some(self.give(reader, place, page))
+        Some(self.give(reader, place, outcome))
+    }
+
+    /// The end of this job in flight.
+    fn job_ended(&mut self, die: u8, book: Book, flight: Flight, outcome: &Outcome) -> Option<Ended>
+        ensures answer { JobEnds self.old flight outcome.now result }
+        ensures after { self.new ≡ job_after self.old die book flight outcome.now }
+    {
+        match flight {
+            Flight::Read { place, reader } => self.read_ended(die, book, place, reader, outcome),
+            _ => self.change_done(die, book, flight, outcome),
+        }
     }
 
     /// Ends the job in flight of the die. `None`, and nothing changes, where the die has no job in
     /// flight or the outcome is not of its kind.
     pub fn done(&mut self, die: u8, outcome: &Outcome) -> Option<Ended>
         ensures nothing { IfNone result (self.new ≡ self.old) }
+        ensures answer { IsEnded self.old die outcome.now result }
+        ensures after { self.new ≡ core_ended self.old die outcome.now }
     {
         let book = self.book(die)?;
         let flight = book.flight?;
-        if let Flight::Read { place, reader } = flight {
-            return self.read_ended(die, book, place, reader, outcome);
-        }
-        let is_done = ending(outcome)?;
-        match flight {
-            Flight::Read { .. } => {}
-            Flight::Mark { place } => self.mark_ended(die, book, place, is_done),
-            Flight::Group { place, number } => self.group_ended(die, book, place, number, is_done),
-            Flight::Erase { block } => self.erase_ended(die, block, is_done),
-        }
-        Some(Ended::Other)
+        self.job_ended(die, book, flight, outcome)
     }
 
     /// Orders the first mark where the device is not mended and no mark is under way; false, and

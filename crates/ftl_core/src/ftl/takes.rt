@@ -4,6 +4,7 @@ ghost use Rattle.std.specs.Prelude.{◌≡◌, ℕ, ◌<◌, ◌≤◌, ◌+◌,
 ghost use Rattle.std.specs.Prelude.{OnSome, option_map, IfNone, false, position, ◌^◌};
 ghost use Rattle.std.specs.List.{list_any};
 ghost use Rattle.ufs_spec.specs.Pages.{mark_bytes, seal_page};
+ghost use Rattle.ftl_core.specs.Takes.{any_waiting_job, any_waiting_started, block_for, core_taken, erase_of, erase_started, first_owed, group_job, group_started, is_data, job_taken, page_of_group, owed_job, owed_started, page_job, page_started, waiting_job, waiting_started};
 ghost use Rattle.ftl_core.specs.Moves.{mark_key, group_moved, place_owed, read_started, is_erasable, is_owed_by, is_waiting, keeps, may_open, started, waiting_of, free_blocks, single_tag, state_index, state_of, with_book, with_state};
 
 use super::{Ftl, LAST_NUMBER};
@@ -47,6 +48,13 @@ fn first_waiting(groups: &[Group]) -> Option<usize>
     groups
         .iter()
         .position(|group| group.state == GroupState::Waiting)
+}
+
+/// Whether the group is data of a unit.
+fn is_data(group: &Group) -> bool
+    ensures { result ≡ is_data group.now }
+{
+    group.key.kind == Tag::DATA && group.key.unit <= 7
 }
 
 /// The tag of a page: a group of one page, or a mark.
@@ -221,23 +229,50 @@ impl Ftl {
         Job::Program(place, page)
     }
 
-    /// The page of the pending group at this position.
-    fn start_group(&mut self, die: u8, book: Book, place: Place, index: usize) -> Option<Job>
-        ensures none { IfNone result (self.new ≡ self.old) }
-        ensures after { OnSome result (self.new ≡ started (group_moved self.old index GroupState.InFlight) die book (Flight.Group place (self.old.frontier + index + 1))) }
+    /// The program of this group, pending at this position.
+    fn program_of(&self, place: Place, index: usize, group: &Group) -> Job
+        requires less { index < length self.now.groups }
+        requires data { is_data group.now ≡ true }
+        ensures { result ≡ page_of_group self.now place index group.now }
+    {
+        let number = self.frontier + index as u64 + 1;
+        let tag = tag_of(group.key, number, self.frontier);
+        Job::Program(place, seal(&tag, &group.body))
+    }
+
+    /// The program of the pending group at this position; only data of a unit is programmed as one.
+    fn group_job(&self, place: Place, index: usize) -> Option<Job>
+        ensures { result ≡ group_job self.now place index (slice_get self.now.groups index) }
     {
         if index >= self.groups.len() {
             return None;
         }
-        let number = self.frontier + index as u64 + 1;
-        let frontier = self.frontier;
-        let group = &mut self.groups[index];
-        if group.key.kind != Tag::DATA || group.key.unit > 7 {
-            return None;
+        let group = &self.groups[index];
+        if is_data(group) {
+            Some(self.program_of(place, index, group))
+        } else {
+            None
         }
-        let tag = tag_of(group.key, number, frontier);
-        let page = seal(&tag, &group.body);
-        group.state = GroupState::InFlight;
+    }
+
+    /// The page of the pending group at this position is so far.
+    pub(super) fn move_at(&mut self, index: usize, state: GroupState)
+        ensures { self.new ≡ group_moved self.old index state }
+    {
+        if index < self.groups.len() {
+            let group = &mut self.groups[index];
+            group.state = state;
+        }
+    }
+
+    /// The page of the pending group at this position.
+    fn start_group(&mut self, die: u8, book: Book, place: Place, index: usize) -> Option<Job>
+        ensures job { result ≡ group_job self.old place index (slice_get self.old.groups index) }
+        ensures after { self.new ≡ group_started self.old die book place index (group_job self.old place index (slice_get self.old.groups index)) }
+    {
+        let job = self.group_job(place, index)?;
+        let number = self.frontier + index as u64 + 1;
+        self.move_at(index, GroupState::InFlight);
         self.set_book(
             die,
             Book {
@@ -245,17 +280,26 @@ impl Ftl {
                 flight: Some(Flight::Group { place, number }),
             },
         );
-        Some(Job::Program(place, page))
+        Some(job)
+    }
+
+    /// The block of the die that is erased for what waits, where one may be opened for it.
+    fn block_for(&self, die: u8, waiting: Waiting) -> Option<u16>
+        ensures { result ≡ block_for self.now die waiting }
+    {
+        if self.may_open(waiting) {
+            self.lowest_free(die)
+        } else {
+            None
+        }
     }
 
     /// The erase of the lowest block that may be opened for what waits.
     fn start_erase(&mut self, die: u8, book: Book, waiting: Waiting) -> Option<Job>
-        ensures none { IfNone result (self.new ≡ self.old) }
+        ensures job { result ≡ option_map (erase_of die) (block_for self.old die waiting) }
+        ensures after { self.new ≡ erase_started self.old die book (block_for self.old die waiting) }
     {
-        if !self.may_open(waiting) {
-            return None;
-        }
-        let block = self.lowest_free(die)?;
+        let block = self.block_for(die, waiting)?;
         self.set_book(
             die,
             Book {
@@ -271,15 +315,42 @@ impl Ftl {
     /// die is not one of the device, has a job in flight, or is owed nothing.
     pub fn take(&mut self, die: u8) -> Option<Job>
         ensures nothing { IfNone result (self.new ≡ self.old) }
+        ensures job { result ≡ job_taken self.old die }
+        ensures after { self.new ≡ core_taken self.old die }
     {
         let book = self.book(die)?;
         if book.flight.is_some() {
             return None;
         }
-        if let Some(index) = wanted(self.pins.as_slice(), die) {
-            return self.start_read(die, book, index);
+        self.take_idle(die, book)
+    }
+
+    /// The next job of a die with no job in flight.
+    fn take_idle(&mut self, die: u8, book: Book) -> Option<Job>
+        ensures job { result ≡ owed_job self.old die book (first_owed self.old die) }
+        ensures after { self.new ≡ owed_started self.old die book (first_owed self.old die) }
+    {
+        match wanted(self.pins.as_slice(), die) {
+            Some(index) => self.start_read(die, book, index),
+            None => self.take_waiting(die, book),
         }
+    }
+
+    /// What waits first, where anything does.
+    fn take_waiting(&mut self, die: u8, book: Book) -> Option<Job>
+        ensures job { result ≡ any_waiting_job self.old die book (waiting_of self.old) }
+        ensures after { self.new ≡ any_waiting_started self.old die book (waiting_of self.old) }
+    {
         let waiting = self.waiting()?;
+        self.start_waiting(die, book, waiting)
+    }
+
+    /// What waits is programmed into the open block, and where none is open one is erased.
+    fn start_waiting(&mut self, die: u8, book: Book, waiting: Waiting) -> Option<Job>
+        requires { (n : ℕ) → waiting ≡ Waiting.Mark n → (1 ≤ n) × (n ≤ 2 ^ 62) }
+        ensures job { result ≡ waiting_job self.old die book.filling waiting }
+        ensures after { self.new ≡ waiting_started self.old die book book.filling waiting }
+    {
         let Some(open) = book.filling else {
             return self.start_erase(die, book, waiting);
         };
@@ -288,6 +359,15 @@ impl Ftl {
             block: open.block,
             page: open.next,
         };
+        self.start_page(die, book, place, waiting)
+    }
+
+    /// The program of what waits.
+    fn start_page(&mut self, die: u8, book: Book, place: Place, waiting: Waiting) -> Option<Job>
+        requires { (n : ℕ) → waiting ≡ Waiting.Mark n → (1 ≤ n) × (n ≤ 2 ^ 62) }
+        ensures job { result ≡ page_job self.old place waiting }
+        ensures after { self.new ≡ page_started self.old die book place waiting }
+    {
         match waiting {
             Waiting::Mark(number) => Some(self.start_mark(die, book, place, number)),
             Waiting::Group(index) => self.start_group(die, book, place, index),

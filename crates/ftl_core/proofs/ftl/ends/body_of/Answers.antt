@@ -1,0 +1,6 @@
+use Rattle.ftl_core.proofs.Opening.{none_opened}
+use Rattle.ftl_core.proofs.ftl.ends.body_of.Goals as goal
+
+pub returns-in_default : goal.returns-in_default
+returns-in_default c =
+    none_opened c.args.page.now c.args.key c.args.number c.open.result c.in_default.not-Some c.open.ensures.refused

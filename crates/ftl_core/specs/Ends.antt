@@ -1,0 +1,76 @@
+-- How a group moves on until it is durable.
+use Rattle.std.specs.Prelude.{ℕ, zero, suc, ◌+◌, ◌-◌, nat_le, nat_lt, if◌then◌else◌, List, length, map, slice_get, slice_set, remove, Option, Some, None}
+use Rattle.ufs_spec.specs.declared.flash.Key.{Key}
+use Rattle.ufs_spec.specs.declared.flash.Place.{Place}
+use Rattle.ftl_core.specs.declared.books.Stored.{Stored}
+use Rattle.ftl_core.specs.declared.books.Group.{Group}
+use Rattle.ftl_core.specs.declared.books.GroupState.{GroupState}
+use Rattle.ftl_core.specs.declared.books.GroupState.TheVariants as group
+use Rattle.ftl_core.specs.Core.{Core}
+use Rattle.ftl_core.specs.Moves.{group_moved, moved_pin, position_of}
+
+-- Groups
+
+abbrev pub below : ℕ → ℕ → Option ℕ
+below k n = if nat_lt k n then Some k else None
+
+-- the position of the pending group with this number
+abbrev pub pending_at : Core → ℕ → Option ℕ
+pending_at c n = if nat_le n c.frontier then None else below (n - c.frontier - 1) (length c.groups)
+
+abbrev pub moved_at : Core → GroupState → Option ℕ → Core
+moved_at c s None = c
+moved_at c s (Some k) = group_moved c k s
+
+-- the pending group with this number is so far
+abbrev pub numbered_moved : Core → ℕ → GroupState → Core
+numbered_moved c n s = moved_at c s (pending_at c n)
+
+abbrev pub place_written : GroupState → Option Place
+place_written (group.Written p) = Some p
+place_written _ = None
+
+abbrev pub place_of_group : Option Group → Option Place
+place_of_group None = None
+place_of_group (Some g) = place_written g.state
+
+-- where the page of the first pending group stands, once it is written
+abbrev pub front_written : Core → Option Place
+front_written c = place_of_group (slice_get c.groups 0)
+
+abbrev pub places_noted : List (Option Stored) → Stored → Option ℕ → List (Option Stored)
+places_noted ps s None = ps
+places_noted ps s (Some k) = slice_set ps k (Some s)
+
+-- the durable content of the address stands there
+abbrev pub noted : Core → Key → Stored → Core
+noted c k s = record c { places = places_noted c.places s (position_of c.numbers k) }
+
+-- the first group is pending no more
+abbrev pub without_first : Core → Core
+without_first c = record c { groups = remove c.groups 0; frontier = c.frontier + 1 }
+
+-- who keeps the slot of the group keeps its page
+abbrev pub pins_moved : Core → Stored → Core
+pins_moved c s = record c { pins = map (moved_pin s) c.pins }
+
+abbrev pub group_durable : Core → Stored → Option Group → Core
+group_durable c s None = c
+group_durable c s (Some g) = pins_moved (noted (without_first c) g.key s) s
+
+-- the first group is durable: its address reads from this place, and so does who keeps its slot
+abbrev pub front_durable : Core → Place → Core
+front_durable c p = group_durable c (record { place = p; number = c.frontier + 1 }) (slice_get c.groups 0)
+
+-- so many groups at most become durable, each only while its page is written and it is the first
+unfoldable pub settled_by : ℕ → Core → Core
+settled_by zero c = c
+settled_by (suc n) c =
+    elim (front_written c) as (λ p. Core) [
+      | None ↦ c
+      | Some p ↦ settled_by n (front_durable c p)
+    ]
+
+-- every group at the front whose page is written is durable
+abbrev pub settled : Core → Core
+settled c = settled_by (length c.groups) c

@@ -1,0 +1,20 @@
+-- What is held once an answer is handed out.
+use Rattle.std.proofs.Common.{◌≡◌, ◌+◌, ℕ, Bool, true, false, if◌then◌else◌, List, length, max, Option, Some, refl, ap, subst, sym}
+use Rattle.ufs_spec.specs.Commands as command
+use Rattle.ufs_spec.specs.Exchanges.{Answering, Awaiting, Deed, Task, write_error}
+use Rattle.ufs_spec.specs.Lives.{held}
+use Rattle.ufs_spec.specs.Machine.{accepts, blocks_in, deed_behind, moves_behind, set_deed, task_behind, task_replied, with_moves, write_complete}
+use Rattle.ufs_spec.specs.Moves.{Release}
+use Rattle.ufs_spec.specs.Steps.{State, locked}
+
+-- the first of two branches is not taken
+second : {A : Type 0} (b : Bool) (x y : A) → b ≡ false → (if b then x else y) ≡ y
+second b x y h = ap (λ (c : Bool). if c then x else y) h
+
+pub forced : (s : State) (task : Task) (unit address blocks : ℕ) (bytes : List ℕ) → locked s ≡ false →
+    write_complete s task unit address blocks true bytes ≡ set_deed (accepts s (command.Write unit address (blocks_in blocks bytes)) blocks) task.tag (Awaiting (length s.accepted + 1))
+forced s task unit address blocks bytes h = second (locked s) _ _ h
+
+pub handed : (s : State) (task : Task) (n : ℕ) → task.deed ≡ Awaiting n → held (task_replied s task) ≡ max (held s) n
+handed s task n h =
+    subst (λ (d : Deed). held (task_behind (with_moves s (moves_behind task d)) task (deed_behind task d)) ≡ max (held s) n) (sym h) refl
