@@ -24,6 +24,8 @@ from typing import NamedTuple, Tuple
 
 ROOT = pathlib.Path(__file__).resolve().parent.parent
 SPECS = "ufs_spec/specs/"
+# A crate of laws below another one: what it refuses never comes to the crate above it.
+LAWS_BELOW = ("ufs_laws",)
 # The lines that name the crate that rt checks, and a law; and the place of an error in a crate's own files.
 CRATE = re.compile(r"^rt: chose --jobs \d+ for (\w+)", re.MULTILINE)
 LAW = re.compile(r"^fn (\w+)::(\S+?): (.*)$", re.MULTILINE)
@@ -449,7 +451,7 @@ EDITS = (
         SPECS + "Disk.antt",
         (("with_erasing d s = record d { erasing = at_spot d.erasing s true }", "with_erasing d s = d"),),
         "power_loss",
-        "live_page_is_spent_by_a_copy_alone",
+        "erased_blocks_are_spent",
     ),
     Edit(
         "replaced_whatever_is_recorded",
@@ -504,8 +506,8 @@ def checked(folder, crate, flags):
 
 
 def fails(verdict):
-    """Whether a law is refused: a law that merely has no proof yet is not."""
-    return verdict.startswith("not proved")
+    """Whether a law has no proof any more, or one that is refused."""
+    return verdict.startswith(("not proved", "no proof"))
 
 
 def stands(said, holes):
@@ -519,7 +521,12 @@ def judged(edit, before, said, holes):
     """Whether the edit is refused, and the words for it."""
     if not said.laws:
         came = CRATE.findall(said.text)
-        return False, f"NOT REFUSED: the check came to {came[-1] if came else 'nothing'}, not to {edit.crate}"
+        below = came[-1] if came else "nothing"
+        if below in LAWS_BELOW:
+            laws = [law for crate, law, verdict in LAW.findall(said.text) if crate == below and fails(verdict)]
+            if laws:
+                return True, f"refused by {', '.join(laws)} of {below}, before {edit.crate}"
+        return False, f"NOT REFUSED: the check came to {below}, not to {edit.crate}"
     new = [law for law, verdict in said.laws.items() if fails(verdict) and not fails(before.laws.get(law, ""))]
     if edit.law in new:
         return True, f"refused by {edit.law}" + (f", {said.fault}" if said.fault else "")
