@@ -1,15 +1,17 @@
 -- What the calls make of what the device keeps.
-use Rattle.std.specs.Prelude.{ℕ, ◌+◌, ◌-◌, nat_lt, Bool, false, if◌then◌else◌, List, length, map}
+use Rattle.std.specs.Prelude.{ℕ, ◌+◌, ◌-◌, nat_lt, Bool, false, if◌then◌else◌, List, [], ◌∷◌, ◌++◌, length, map, Option, Some, None}
 use Rattle.ufs_spec.specs.declared.flash.Key.{Key}
 use Rattle.ftl_core.specs.declared.books.ReadState.TheVariants as read
 use Rattle.ftl_core.specs.Moves.{accepted, can_accept, free_slots, is_locked, look_of, next_number, with_pin}
+use Rattle.ftl_core.specs.declared.ftl.Ended.{Ended}
+use Rattle.ftl_core.specs.declared.ftl.Ended.TheVariants as ended
 use Rattle.device.specs.declared.tasks.Status.TheVariants as status
 use Rattle.device.specs.declared.tasks.Phase.{Phase}
 use Rattle.device.specs.declared.tasks.Phase.TheVariants as phase
 use Rattle.device.specs.declared.tasks.Plan.{Plan}
 use Rattle.device.specs.declared.tasks.Plan.TheVariants as plan
 use Rattle.device.specs.Kept.{DeviceCore}
-use Rattle.device.specs.Tasks.{after_lock, write_error}
+use Rattle.device.specs.Tasks.{after_lock, after_lost_read, write_error}
 
 -- how far a task is that begins to do this
 abbrev pub phase_begun : DeviceCore → Plan → Phase
@@ -43,3 +45,13 @@ block_accepted d key body =
 -- a lock ends each task that waits for a block to become durable
 abbrev pub waiting_ended : DeviceCore → DeviceCore
 waiting_ended d = if is_locked d.ftl then record d { tasks = map (after_lock d.ftl.frontier) d.tasks } else d
+
+-- what the die gave to the task of this tag: a block, or none, which ends the task
+abbrev pub read_told : DeviceCore → ℕ → Option (List ℕ) → DeviceCore
+read_told d tag (Some body) =
+    if nat_lt (length d.loaded) 32 then record d { loaded = d.loaded ++ record { tag = tag; body = body } ∷ [] } else d
+read_told d tag None = record d { tasks = map (after_lost_read tag) d.tasks }
+
+abbrev pub told : DeviceCore → Ended → DeviceCore
+told d (ended.Read reader body) = read_told d reader body
+told d ended.Other = d

@@ -1,8 +1,9 @@
 -- What the device keeps, as its contracts see it.
-use Rattle.std.specs.Prelude.{◌≡◌, ℕ, Bool, List, [], Option}
+use Rattle.std.specs.Prelude.{◌≡◌, ℕ, Bool, List, [], map, Option}
 use Rattle.ufs_spec.specs.declared.configs.Numbers.{Numbers}
 use Rattle.ufs_spec.specs.declared.flash.Job.{Job}
-use Rattle.ufs_spec.specs.Dies.{DieState}
+use Rattle.ufs_spec.specs.Dies.{DieState, is_bad_block}
+use Rattle.ufs_spec.specs.Keys.{below}
 use Rattle.ftl_core.specs.Moves.{fresh}
 use Rattle.ftl_core.specs.Core.{Core}
 use Rattle.device.specs.declared.tasks.Task.{Task}
@@ -32,3 +33,7 @@ pub record WorldState : Type 0 where
   pub jobs : List (Option Job)
   pub steps : ℕ
   pub is_over : Bool
+
+-- for each block of a die whether it is bad, in order
+abbrev pub bad_in : {D : Type 0} → (D → DieState) → ℕ → D → List Bool
+bad_in state blocks die = map (is_bad_block (state die)) (below blocks)

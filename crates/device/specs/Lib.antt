@@ -1,6 +1,11 @@
 pub use Rattle.ftl_core.specs.Core
 pub use Rattle.ftl_core.specs.Moves
 pub mod Calls
+pub mod Describes
+pub mod Hears
 pub mod Kept
+pub mod Plans
+pub mod Replies
 pub mod Rooms
 pub mod Tasks
+pub mod Worlds

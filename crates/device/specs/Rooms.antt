@@ -1,10 +1,14 @@
 -- How the device's fields are seen, and the room that they keep.
 use Rattle.std.specs.Prelude.{◌≤◌, length, vec_capacity}
 use Rattle.device.specs.declared.device.Device.TheInside.{Inside}
-use Rattle.device.specs.Kept.{DeviceCore}
+use Rattle.device.specs.declared.world.World.TheInside.{Inside as World}
+use Rattle.device.specs.Kept.{DeviceCore, WorldState}
 
 abbrev pub core_of : Inside → DeviceCore
 core_of d = record { ftl = d.ftl; tasks = d.tasks.items; refused = d.refused.items; loaded = d.loaded.items }
+
+abbrev pub world_of : World → WorldState
+world_of w = record { core = w.device; dies = w.dies.items; jobs = w.jobs.items; steps = w.steps; is_over = w.is_over }
 
 -- no list grows past its room
 pub record IsRoomy (d : Inside) : Type 0 where

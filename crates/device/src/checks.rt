@@ -1,7 +1,10 @@
 //! The checks of a command, in the order in which the first that applies ends it.
+ghost use Rattle.std.specs.Prelude.{◌≡◌, ◌*◌, ◌^◌, ◌≤◌, if◌then◌else◌};
+ghost use Rattle.device.specs.Plans.{IsTakenFrom, carries, length_of, plan_of, planned, planned_or, planned_taken, planned_transfer, refusal_of, state_refusal, transfer_of, write_refusal};
+
 use crate::device::Device;
 use crate::tasks::{Plan, Status};
-use ufs_spec::{Cdb, Key, Sense, Tag};
+use ufs_spec::{Cdb, Key, Message, Sense, Tag};
 
 /// The most blocks of a command. In this first stage one.
 const BLOCKS_A_COMMAND: u16 = 1;
@@ -20,8 +23,20 @@ pub(crate) struct Transfer {
     pub writes: bool,
 }
 
+/// What the CDB of a message spells, or the sense of one that is not taken.
+pub(crate) fn taken_of(message: &Message) -> Result<Cdb, Sense>
+    ensures { IsTakenFrom message.now result }
+{
+    match message {
+        Message::Command { cdb, .. } => scsi_cdb::read(cdb),
+        _ => Err(Sense::INVALID_OPCODE),
+    }
+}
+
 /// What a READ(10) or a WRITE(10) moves. The other commands of the table are not done yet.
-pub(crate) fn transfer_of(cdb: &Cdb) -> Option<Transfer> {
+fn transfer_of(cdb: &Cdb) -> Option<Transfer>
+    ensures { result ≡ transfer_of cdb.now }
+{
     match cdb {
         Cdb::Read10 {
             address,
@@ -45,15 +60,39 @@ pub(crate) fn transfer_of(cdb: &Cdb) -> Option<Transfer> {
     }
 }
 
-/// Whether the COMMAND's flags and expected length carry that many bytes in its direction.
-pub(crate) fn carries(transfer: &Transfer, flags: u8, expected: u32, length: u32) -> bool {
+/// How many bytes the transfer has.
+fn length_of(transfer: &Transfer) -> u32
+    ensures { result ≡ length_of transfer.now }
+{
+    transfer.blocks as u32 * 4096
+}
+
+/// Whether the COMMAND's flags and expected length carry the data in their direction.
+fn carries(transfer: &Transfer, flags: u8, expected: u32) -> bool
+    ensures { result ≡ carries transfer.now flags expected }
+{
+    let length = length_of(transfer);
     if length == 0 {
-        return true;
-    }
-    if transfer.writes {
+        true
+    } else if transfer.writes {
         flags == WRITES && expected >= length
     } else {
         flags == READS
+    }
+}
+
+/// What a command that passed the checks does.
+fn plan_of(transfer: &Transfer, key: Key, expected: u32) -> Plan
+    ensures { result ≡ plan_of transfer.now key expected }
+{
+    if transfer.blocks == 0 || (!transfer.writes && expected == 0) {
+        Plan::Nothing {
+            length: length_of(transfer),
+        }
+    } else if transfer.writes {
+        Plan::Write { key }
+    } else {
+        Plan::Read { key }
     }
 }
 
@@ -64,61 +103,85 @@ impl Device {
         lun: u8,
         flags: u8,
         expected: u32,
-        cdb: &[u8; 16],
-    ) -> Result<Plan, Status> {
+        taken: Result<Cdb, Sense>,
+    ) -> Result<Plan, Status>
+        ensures { result ≡ planned self.now.ftl lun flags expected taken }
+    {
         let Some(unit_blocks) = self.unit_blocks(lun) else {
             return Err(Status::CheckCondition(Sense::NO_UNIT));
         };
-        let taken = match scsi_cdb::read(cdb) {
-            Ok(cdb) => transfer_of(&cdb),
-            Err(sense) => return Err(Status::CheckCondition(sense)),
-        };
-        let Some(transfer) = taken else {
+        match taken {
+            Ok(cdb) => self.plan_taken(lun, flags, expected, unit_blocks, &cdb),
+            Err(sense) => Err(Status::CheckCondition(sense)),
+        }
+    }
+
+    /// What a command that is taken does to a unit of so many blocks.
+    fn plan_taken(
+        &self,
+        lun: u8,
+        flags: u8,
+        expected: u32,
+        unit_blocks: u32,
+        cdb: &Cdb,
+    ) -> Result<Plan, Status>
+        ensures { result ≡ planned_transfer self.now.ftl lun flags expected unit_blocks (transfer_of cdb.now) }
+    {
+        let Some(transfer) = transfer_of(cdb) else {
             return Err(Status::CheckCondition(Sense::INVALID_OPCODE));
         };
-        if transfer.blocks > BLOCKS_A_COMMAND {
-            return Err(Status::CheckCondition(Sense::INVALID_FIELD));
+        if let Some(refused) = self.refusal(unit_blocks, flags, expected, &transfer) {
+            return Err(refused);
         }
-        let length = transfer.blocks as u32 * 4096;
-        if !carries(&transfer, flags, expected, length) {
-            return Err(Status::CheckCondition(Sense::INVALID_FIELD));
-        }
-        if transfer.address as u64 + transfer.blocks as u64 > unit_blocks as u64 {
-            return Err(Status::CheckCondition(Sense::OUT_OF_RANGE));
-        }
-        self.check_state(&transfer)?;
         let key = Key {
             kind: Tag::DATA,
             unit: lun,
             address: transfer.address,
         };
-        Ok(plan_of(&transfer, key, expected, length))
+        Ok(plan_of(&transfer, key, expected))
     }
 
-    /// The checks of what the device is: mended, locked, with room.
-    fn check_state(&self, transfer: &Transfer) -> Result<(), Status> {
+    /// Why a transfer within a unit of so many blocks is refused, if it is.
+    fn refusal(
+        &self,
+        unit_blocks: u32,
+        flags: u8,
+        expected: u32,
+        transfer: &Transfer,
+    ) -> Option<Status>
+        ensures { result ≡ refusal_of self.now.ftl unit_blocks flags expected transfer.now }
+    {
+        if transfer.blocks > BLOCKS_A_COMMAND || !carries(transfer, flags, expected) {
+            return Some(Status::CheckCondition(Sense::INVALID_FIELD));
+        }
+        if transfer.address as u64 + transfer.blocks as u64 > unit_blocks as u64 {
+            return Some(Status::CheckCondition(Sense::OUT_OF_RANGE));
+        }
+        self.state_refusal(transfer)
+    }
+
+    /// The checks of what the device is: mended, and for a write not locked and with room.
+    fn state_refusal(&self, transfer: &Transfer) -> Option<Status>
+        ensures { result ≡ state_refusal self.now.ftl transfer.now }
+    {
         if !self.is_mended() {
-            return Err(Status::CheckCondition(Sense::NOT_READY));
+            return Some(Status::CheckCondition(Sense::NOT_READY));
         }
         if transfer.writes && transfer.blocks > 0 {
-            if self.is_locked() {
-                return Err(Status::CheckCondition(Sense::WRITE_PROTECTED));
-            }
-            if self.free_slots() == 0 {
-                return Err(Status::Busy);
-            }
+            return self.write_refusal();
         }
-        Ok(())
+        None
     }
-}
 
-/// What a command that passed the checks does.
-fn plan_of(transfer: &Transfer, key: Key, expected: u32, length: u32) -> Plan {
-    if transfer.blocks == 0 || (!transfer.writes && expected == 0) {
-        Plan::Nothing { length }
-    } else if transfer.writes {
-        Plan::Write { key }
-    } else {
-        Plan::Read { key }
+    fn write_refusal(&self) -> Option<Status>
+        ensures { result ≡ write_refusal self.now.ftl }
+    {
+        if self.is_locked() {
+            return Some(Status::CheckCondition(Sense::WRITE_PROTECTED));
+        }
+        if self.free_slots() == 0 {
+            return Some(Status::Busy);
+        }
+        None
     }
 }

@@ -1,16 +1,26 @@
 //! Messages of the host: a COMMAND opens a task, a DATA OUT brings what a task asked for.
-ghost use Rattle.std.specs.Prelude.{◌≡◌, ◌<◌, length, IfSome, position, ◌∷◌, ◌++◌, [], OnErr, OnOk, IsOk, ◌↔◌};
-ghost use Rattle.device.specs.Calls.{begun, block_accepted, phase_accepted, phase_begun};
-ghost use Rattle.std.specs.Prelude.{◌==◌};
+ghost use Rattle.std.specs.Prelude.{◌≡◌, ◌<◌, length, slice_get, position, ◌∷◌, ◌++◌, [], OnErr};
 ghost use Rattle.std.specs.List.{list_any};
+ghost use Rattle.device.specs.Calls.{begun, block_accepted, phase_accepted, phase_begun, waiting_ended};
+ghost use Rattle.device.specs.Hears.{asked_by, asked_for, asked_of, command_core, command_result, data_core, data_result, heard_core, heard_result, is_refused_of, key_asked, refused_more, refused_result, task_opened, task_set, uses, with_task};
 ghost use Rattle.device.specs.Tasks.{is_task_of};
+ghost use Rattle.ufs_spec.specs.Steps.{State};
+ghost use Rattle.device.specs.Describes.{Describes, IsHeardAs};
 
+use crate::checks::taken_of;
 use crate::device::{Device, ROOM};
 use crate::tasks::{Phase, Plan, Refused, Status, Task};
-use ufs_spec::{HostFault, Key, Message, Sense};
+use ufs_spec::{Cdb, HostFault, Key, Message, Sense};
 
 /// How many tasks may be open. In this first stage one.
 const OPEN_TASKS: usize = 1;
+
+/// A task whose data came: its position, and their address.
+#[derive(Clone, Copy, Debug, PartialEq, Eq)]
+struct AskedFor {
+    index: usize,
+    key: Key,
+}
 
 /// The position of the task of this tag.
 pub(crate) fn task_at(tasks: &[Task], tag: u8) -> Option<usize>
@@ -26,13 +36,21 @@ fn is_task_of(task: &Task, tag: u8) -> bool
 }
 
 fn is_refused(refused: &[Refused], tag: u8) -> bool
-    ensures { result ≡ list_any (λ r. r.tag == tag) refused.now }
+    ensures { result ≡ list_any (is_refused_of tag) refused.now }
 {
-    refused.iter().any(|exchange| exchange.tag == tag)
+    refused.iter().any(|exchange| is_refused_of(exchange, tag))
+}
+
+fn is_refused_of(exchange: &Refused, tag: u8) -> bool
+    ensures { result ≡ is_refused_of tag exchange.now }
+{
+    exchange.tag == tag
 }
 
 /// The address that the task asked data for, where it was told so and none came.
-fn asked_for(task: &Task, lun: u8) -> Option<Key> {
+fn key_asked(task: &Task, lun: u8) -> Option<Key>
+    ensures { result ≡ key_asked lun task.now task.now.phase }
+{
     match task.phase {
         Phase::AwaitData { key } => if task.lun == lun { Some(key) } else { None },
         _ => None,
@@ -48,27 +66,46 @@ impl Device {
     /// DATA OUT are taken.
     pub fn host(&mut self, bytes: &[u8]) -> Result<(), HostFault>
         ensures refused { OnErr result (self.new ≡ self.old) }
+        // The bytes are heard as the one message or fault that they are, and answered as the specified
+        // device answers it.
+        ensures heard { (s : State) → Describes self.old s → IsHeardAs s bytes.now result self.new }
     {
-        match upiu::read(bytes)? {
+        match upiu::read(bytes) {
+            Ok(message) => {
+                let taken = taken_of(&message);
+                self.hear(&message, taken)
+            }
+            Err(fault) => Err(fault),
+        }
+    }
+
+    /// Takes a message whose CDB, where it has one, was read so.
+    fn hear(&mut self, message: &Message, taken: Result<Cdb, Sense>) -> Result<(), HostFault>
+        ensures answer { result ≡ heard_result self.old message.now }
+        ensures after { self.new ≡ heard_core self.old message.now taken }
+    {
+        match message {
             Message::Command {
                 flags,
                 lun,
                 tag,
                 expected,
-                cdb,
-            } => { self.command(flags, lun, tag, expected, &cdb) }
+                cdb: _,
+            } => self.command(*flags, *lun, *tag, *expected, taken),
             Message::DataOut {
                 lun,
                 tag,
                 offset,
                 data,
-            } => { self.data_out(lun, tag, offset, data.as_slice()) }
+            } => self.data_out(*lun, *tag, *offset, data.as_slice()),
             _ => Err(HostFault::Code),
         }
     }
 
     /// Whether a task or a short exchange with this tag is open.
-    fn uses(&self, tag: u8) -> bool {
+    fn uses(&self, tag: u8) -> bool
+        ensures { result ≡ uses self.now tag }
+    {
         task_at(self.tasks.as_slice(), tag).is_some() || is_refused(self.refused.as_slice(), tag)
     }
 
@@ -79,9 +116,10 @@ impl Device {
         lun: u8,
         tag: u8,
         expected: u32,
-        cdb: &[u8; 16],
+        taken: Result<Cdb, Sense>,
     ) -> Result<(), HostFault>
-        ensures refused { OnErr result (self.new ≡ self.old) }
+        ensures answer { result ≡ command_result self.old tag }
+        ensures after { self.new ≡ command_core self.old flags lun tag expected taken }
     {
         if self.uses(tag) {
             return Err(HostFault::TagInUse);
@@ -89,24 +127,38 @@ impl Device {
         if self.tasks.len() >= OPEN_TASKS {
             return self.refuse(Refused { tag, lun, expected });
         }
-        let phase = match self.plan(lun, flags, expected, cdb) {
+        self.open_task(flags, lun, tag, expected, taken);
+        Ok(())
+    }
+
+    /// A command becomes a task, refused or not.
+    fn open_task(&mut self, flags: u8, lun: u8, tag: u8, expected: u32, taken: Result<Cdb, Sense>)
+        requires { length self.old.tasks < 32 }
+        ensures { self.new ≡ task_opened self.old flags lun tag expected taken }
+    {
+        let phase = match self.plan(lun, flags, expected, taken) {
             Ok(plan) => self.begin(tag, plan),
             Err(status) => Phase::Answer { status, length: 0 },
         };
-        self.tasks.push_reserved(Task {
+        self.push_task(Task {
             tag,
             lun,
             expected,
             phase,
         });
-        Ok(())
+    }
+
+    fn push_task(&mut self, task: Task)
+        requires { length self.old.tasks < 32 }
+        ensures { self.new ≡ with_task self.old task }
+    {
+        self.tasks.push_reserved(task);
     }
 
     /// The command is answered TASK SET FULL.
     fn refuse(&mut self, exchange: Refused) -> Result<(), HostFault>
-        ensures variant { IsOk result ↔ (length self.old.refused < 32) }
-        ensures ok { OnOk result (self.new ≡ record self.old { refused = self.old.refused ++ exchange ∷ [] }) }
-        ensures refused { OnErr result (self.new ≡ self.old) }
+        ensures answer { result ≡ refused_result self.old }
+        ensures after { self.new ≡ refused_more self.old exchange }
     {
         if self.refused.len() >= ROOM {
             return Err(HostFault::Backlog);
@@ -149,24 +201,50 @@ impl Device {
         }
     }
 
+    /// The task that asked for these data, and their address.
+    fn asked_for(&self, lun: u8, tag: u8, offset: u32, count: usize) -> Option<AskedFor>
+        ensures what { result ≡ asked_for self.now lun tag offset count }
+    {
+        if offset != 0 || count != 4096 {
+            return None;
+        }
+        let index = task_at(self.tasks.as_slice(), tag)?;
+        self.asked_by(lun, index)
+    }
+
+    /// The same of the task at this position.
+    fn asked_by(&self, lun: u8, index: usize) -> Option<AskedFor>
+        ensures { result ≡ asked_by lun index (slice_get self.now.tasks index) }
+    {
+        if index >= self.tasks.len() {
+            return None;
+        }
+        let key = key_asked(&self.tasks[index], lun)?;
+        Some(AskedFor { index, key })
+    }
+
     /// A DATA OUT brings the block that a task asked for.
     fn data_out(&mut self, lun: u8, tag: u8, offset: u32, data: &[u8]) -> Result<(), HostFault>
-        ensures refused { OnErr result (self.new ≡ self.old) }
+        ensures answer { result ≡ data_result (asked_for self.old lun tag offset (length data.now)) }
+        ensures after { self.new ≡ data_core self.old data.now (asked_for self.old lun tag offset (length data.now)) }
     {
-        let Some(index) = task_at(self.tasks.as_slice(), tag) else {
+        let Some(asked) = self.asked_for(lun, tag, offset, data.len()) else {
             return Err(HostFault::NotAskedFor);
         };
-        if index >= self.tasks.len() || offset != 0 || data.len() != 4096 {
-            return Err(HostFault::NotAskedFor);
-        }
-        let Some(key) = asked_for(&self.tasks[index], lun) else {
-            return Err(HostFault::NotAskedFor);
-        };
-        let phase = self.accept(key, data);
-        let task = &mut self.tasks[index];
-        task.phase = phase;
+        let phase = self.accept(asked.key, data);
+        self.set_phase(asked.index, phase);
         self.end_waiting();
         Ok(())
+    }
+
+    /// The task at this position does this from now on.
+    pub(crate) fn set_phase(&mut self, index: usize, phase: Phase)
+        ensures { self.new ≡ task_set self.old index phase }
+    {
+        if index < self.tasks.len() {
+            let task = &mut self.tasks[index];
+            task.phase = phase;
+        }
     }
 
     /// Accepts the block for its address, unless the device is locked.

@@ -2,9 +2,19 @@
 ghost use Rattle.std.specs.Prelude.{◌≡◌, ℕ, ◌<◌, ◌≤◌, ◌+◌, length, IfOk, OnErr, map};
 ghost use Rattle.std.specs.Prelude.{false, if◌then◌else◌, IfErr, IfNone};
 ghost use Rattle.ftl_core.specs.Moves.{blocks_of, free_slots, is_locked, is_turn_due, mark_ordered};
-ghost use Rattle.device.specs.Kept.{IsNewDevice};
-ghost use Rattle.device.specs.Calls.{waiting_ended};
+ghost use Rattle.device.specs.Calls.{read_told, told, waiting_ended};
 ghost use Rattle.device.specs.Tasks.{after_lock, after_lost_read};
+ghost use Rattle.std.specs.Prelude.{true, ◌++◌, OnOk};
+ghost use Rattle.std.specs.List.{flat_map};
+ghost use Rattle.ufs_spec.specs.Cells.{Array};
+ghost use Rattle.ufs_spec.specs.Configs.{IsConfig};
+ghost use Rattle.ufs_spec.specs.Lives.{IsOpened, array_of, bad_of};
+ghost use Rattle.ufs_spec.specs.Machine.{Finish, Finishes, MayLeave, Step, Steps};
+ghost use Rattle.ufs_spec.specs.Moves.{Ending, IsEndingOf, suits};
+ghost use Rattle.ufs_spec.specs.Steps.{State};
+ghost use Rattle.device.specs.Describes.{Describes, IsAnswered, IsGiven};
+ghost use Rattle.device.specs.Kept.{bad_in, new_device};
+ghost use Rattle.device.specs.Worlds.{AreBlank};
 
 use crate::tasks::{Loaded, Phase, Refused, Status, Task};
 use ftl_core::{Ended, Ftl};
@@ -38,14 +48,24 @@ impl Model for Device {
 }
 
 /// For each block of each die, in order, whether it is bad.
-fn bad_blocks<D: Die>(alloc: Global, dies: &[D], blocks: u16) -> Result<Vec<bool>, AllocError> {
+fn bad_blocks<D: Die>(alloc: Global, dies: &[D], blocks: u16) -> Result<Vec<bool>, AllocError>
+    ensures { IfOk result (λ v. v.items ≡ flat_map (bad_in D.state blocks) dies.now) }
+{
     let mut all = Vec::new(alloc);
     for die in dies {
-        for block in 0..blocks {
-            all.push(die.is_bad(block))?;
-        }
+        append_bad(&mut all, die, blocks)?;
     }
     Ok(all)
+}
+
+/// Behind the others, for each block of the die whether it is bad.
+fn append_bad<D: Die>(all: &mut Vec<bool>, die: &D, blocks: u16) -> Result<(), AllocError>
+    ensures { OnOk result (all.new.items ≡ all.old.items ++ bad_in D.state blocks die.now) }
+{
+    for block in 0..blocks {
+        all.push(die.is_bad(block))?;
+    }
+    Ok(())
 }
 
 impl Device {
@@ -56,8 +76,11 @@ impl Device {
     ///
     /// `NoMemory` where memory was refused.
     pub fn open<D: Die>(alloc: Global, config: Config, dies: &[D]) -> Result<Device, OpenFault>
-        ensures opened { IfOk result (IsNewDevice config) }
+        ensures opened { IfOk result (λ d. d ≡ new_device config (flat_map (bad_in D.state config.blocks) dies.now)) }
         ensures refused { IfErr result (λ e. e ≡ OpenFault.NoMemory) }
+        // Over dies whose pages are blank it is the device that the definitions open over them.
+        ensures described { IfOk result (λ d. (s : State) → length dies.now ≡ config.dies → AreBlank (map D.state dies.now) →
+            IsOpened config (array_of (map D.state dies.now)) (bad_of (map D.state dies.now)) s → Describes d s) }
     {
         match Device::over(alloc, config, dies) {
             Ok(device) => Ok(device),
@@ -66,8 +89,10 @@ impl Device {
     }
 
     fn over<D: Die>(alloc: Global, config: Config, dies: &[D]) -> Result<Device, AllocError>
-        ensures { IfOk result (IsNewDevice config) }
+        ensures opened { IfOk result (λ d. d ≡ new_device config (flat_map (bad_in D.state config.blocks) dies.now)) }
+        ensures configured { IsConfig config }
     {
+        config.has_no_fault();
         let blocks = config.numbers().blocks;
         let bad = bad_blocks(alloc, dies, blocks)?;
         Ok(Device {
@@ -107,6 +132,8 @@ impl Device {
     /// has a job in flight, or is owed nothing.
     pub fn take(&mut self, die: u8) -> Option<Job>
         ensures nothing { IfNone result (self.new ≡ self.old) }
+        // It is one that the specified device owes to the die then, and none where it owes none.
+        ensures given { (s : State) → Describes self.old s → IsGiven s die result self.new }
     {
         self.ftl.take(die)
     }
@@ -115,37 +142,51 @@ impl Device {
     /// or the outcome is not of its kind.
     pub fn done(&mut self, die: u8, outcome: &Outcome) -> bool
         ensures nothing { result ≡ false → self.new ≡ self.old }
+        ensures known { (s : State) → Describes self.old s → result ≡ suits (s.translation.disk.flights die) outcome.now }
+        // However the job ended: what is kept then describes what this end makes of the specified device.
+        ensures ended { (s : State) (ending : Ending) (left : Array) → Describes self.old s →
+            IsEndingOf s.translation.disk.cells (s.translation.disk.flights die) outcome.now ending → MayLeave s die ending left →
+            (result ≡ true) × IsAnswered s (Finish die ending left) (Finishes true) self.new }
     {
         let Some(ended) = self.ftl.done(die, outcome) else {
             return false;
         };
-        if let Ended::Read { reader, body } = ended {
-            self.read_ended(reader, body);
-        }
+        self.tell(ended);
         self.end_waiting();
         true
+    }
+
+    /// What the end of a job told.
+    fn tell(&mut self, ended: Ended)
+        ensures { self.new ≡ told self.old ended }
+    {
+        match ended {
+            Ended::Read { reader, body } => self.read_ended(reader, body),
+            Ended::Other => {}
+        }
     }
 
     /// Does one step of mending; false, and nothing changes, where none is due.
     pub fn turn(&mut self) -> bool
         ensures due { result ≡ is_turn_due self.old.ftl }
         ensures after { self.new ≡ (if result then record self.old { ftl = mark_ordered self.old.ftl } else self.old) }
+        // True exactly where a step is due.
+        ensures stepped { (s : State) → Describes self.old s → IsAnswered s Step (Steps result) self.new }
     {
         self.ftl.turn()
     }
 
     /// What the die read for the task of this tag gave: its block, or nothing, which ends the task.
-    fn read_ended(&mut self, tag: u8, body: Option<Block>) {
+    fn read_ended(&mut self, tag: u8, body: Option<Block>)
+        ensures { self.new ≡ read_told self.old tag body }
+    {
         match body {
             Some(body) => {
                 if self.loaded.len() < ROOM {
                     self.loaded.push_reserved(Loaded { tag, body });
                 }
             }
-            None => {
-                self.ftl.unpin(tag);
-                end_read(self.tasks.as_mut_slice(), tag);
-            }
+            None => end_read(self.tasks.as_mut_slice(), tag),
         }
     }
 

@@ -1,28 +1,36 @@
 //! Replies: which are due, what they say, and what becomes of their tasks.
-ghost use Rattle.std.specs.Prelude.{◌≡◌, ◌<◌, ◌≤◌, false, length, IfSome};
+ghost use Rattle.std.specs.Prelude.{◌≡◌, ◌<◌, ◌≤◌, ◌==◌, ℕ, false, find, length, nat_le, nat_lt, true, position, remove, slice_get, take, replicate, if◌then◌else◌, IfSome, IfNone, Some, None, option_copied, option_map};
 ghost use Rattle.std.specs.Prelude.{◌^◌, ◌∷◌, []};
-ghost use Rattle.ufs_spec.specs.Messages.{AreFlags, IsAmong, IsMessage};
+ghost use Rattle.ufs_spec.specs.Cdbs.{residual_of};
+ghost use Rattle.ufs_spec.specs.Exchanges.{CheckCondition, response, sense_data};
+ghost use Rattle.ufs_spec.specs.Messages.{AreFlags, IsAmong, IsMessage, spelling};
+ghost use Rattle.ufs_spec.specs.Plain.{zero_block};
+ghost use Rattle.ufs_spec.specs.declared.Message.{Message};
+ghost use Rattle.device.specs.Replies.{answer_of, block_in, loaded_of, loaded_without, block_kept, block_message, count_of, full_answer, is_loaded_for, let_go, moved_on, reply_of, status_kept, without_first, without_task};
+ghost use Rattle.ufs_spec.specs.Machine.{Ask, Replies};
+ghost use Rattle.ufs_spec.specs.Steps.{State};
+ghost use Rattle.device.specs.Describes.{Describes, IsAnswered, IsReplied};
 
 use crate::device::Device;
-use crate::tasks::{Loaded, Phase, Status, Task};
+use crate::tasks::{Loaded, Phase, Refused, Status, Task};
 use ftl_core::{Looked, Pin};
 use ufs_spec::{Block, Data, Message, Sense, Upiu};
 
 /// A block of zeros, as an address reads that was never written.
 static ZEROS: Block = [0; 4096];
 
+/// What an address reads that was never written.
+#[tactic(auto, unfolding(ufs_spec::specs::Plain::zero_block))]
+fn zeros() -> &'static Block
+    ensures { result.now ≡ zero_block }
+{
+    &ZEROS
+}
+
 /// Flags of a RESPONSE (JESD220, 10.7.2): less than expected was carried, or more was there.
 const UNDERFLOW: u8 = 0x20;
 
 const OVERFLOW: u8 = 0x40;
-
-/// Where the block of a task stands, once it is there.
-#[derive(Clone, Copy, Debug, PartialEq, Eq)]
-enum Content {
-    Zeros,
-    Slot(u64),
-    Loaded(usize),
-}
 
 /// The flags of a RESPONSE and its residual count, where so much was expected and so much was the
 /// command's length or was carried.
@@ -33,8 +41,9 @@ struct Residual {
 }
 
 fn residual_of(expected: u32, length: u32) -> Residual
-    ensures flags { AreFlags result.flags }
-    ensures fits { result.count < 2 ^ 32 }
+    ensures flags { result.flags ≡ (residual_of expected length).flags }
+    ensures count { result.count ≡ (residual_of expected length).count }
+    ensures are_flags { AreFlags result.flags }
 {
     if length < expected {
         Residual {
@@ -52,7 +61,9 @@ fn residual_of(expected: u32, length: u32) -> Residual
 }
 
 /// The twenty bytes of a RESPONSE's data segment: the length of the sense data and these.
-fn sense_segment(sense: &Sense) -> [u8; 20] {
+fn sense_segment(sense: &Sense) -> [u8; 20]
+    ensures { Some result ≡ sense_data (CheckCondition sense.now) }
+{
     let mut bytes = [0u8; 20];
     bytes[1] = 18;
     bytes[2..].copy_from_slice(&scsi_cdb::sense_bytes(sense));
@@ -61,7 +72,8 @@ fn sense_segment(sense: &Sense) -> [u8; 20] {
 
 /// The RESPONSE that ends a task (JESD220, 10.7.2).
 fn response(lun: u8, tag: u8, expected: u32, status: Status, length: u32) -> Message
-    ensures { IsMessage result }
+    ensures what { result ≡ response lun tag expected length (status_kept status) }
+    ensures message { IsMessage result }
 {
     let residual = residual_of(expected, length);
     match status {
@@ -76,7 +88,8 @@ fn response(lun: u8, tag: u8, expected: u32, status: Status, length: u32) -> Mes
 fn plain_response(lun: u8, tag: u8, residual: Residual, status: u8) -> Message
     requires flags { AreFlags residual.flags }
     requires status { IsAmong (0x00 ∷ 0x08 ∷ 0x28 ∷ []) status }
-    ensures { IsMessage result }
+    ensures what { result ≡ Message.Response residual.flags lun tag (if status == 0 then 0 else 1) status residual.count None }
+    ensures message { IsMessage result }
 {
     Message::Response {
         flags: residual.flags,
@@ -92,7 +105,8 @@ fn plain_response(lun: u8, tag: u8, residual: Residual, status: u8) -> Message
 /// A RESPONSE with status CHECK CONDITION and sense data.
 fn sense_response(lun: u8, tag: u8, residual: Residual, sense: &Sense) -> Message
     requires { AreFlags residual.flags }
-    ensures { IsMessage result }
+    ensures what { result ≡ Message.Response residual.flags lun tag 1 2 residual.count (sense_data (CheckCondition sense.now)) }
+    ensures message { IsMessage result }
 {
     Message::Response {
         flags: residual.flags,
@@ -108,7 +122,8 @@ fn sense_response(lun: u8, tag: u8, residual: Residual, sense: &Sense) -> Messag
 /// The DATA IN with the first `count` bytes of a block (JESD220, 10.7.4).
 fn data_in(lun: u8, tag: u8, block: &Block, count: usize) -> Message
     requires { (1 ≤ count) × (count ≤ 4096) }
-    ensures { IsMessage result }
+    ensures what { result ≡ Message.DataIn lun tag 0 (record { items = take count block.now }) }
+    ensures message { IsMessage result }
 {
     let mut data = Data::new();
     let _ = data.try_extend_from_slice(&block[..count]);
@@ -120,18 +135,55 @@ fn data_in(lun: u8, tag: u8, block: &Block, count: usize) -> Message
     }
 }
 
-/// Where the block that the task keeps stands, once it is there.
-fn content_of(pin: &Pin, loaded: Option<usize>) -> Option<Content> {
-    match pin.looked {
-        Looked::Nothing => Some(Content::Zeros),
-        Looked::Slot(number) => Some(Content::Slot(number)),
-        Looked::Page(_) => loaded.map(Content::Loaded),
-    }
+/// Whether the block was read for the task of this tag.
+fn is_loaded_for(loaded: &Loaded, tag: u8) -> bool
+    ensures { result ≡ is_loaded_for tag loaded.now }
+{
+    loaded.tag == tag
 }
 
 /// The position of the block that was read for the task of this tag.
-fn loaded_at(loaded: &[Loaded], tag: u8) -> Option<usize> {
-    loaded.iter().position(|read| read.tag == tag)
+fn loaded_at(loaded: &[Loaded], tag: u8) -> Option<usize>
+    ensures { result ≡ position (is_loaded_for tag) loaded.now }
+{
+    loaded.iter().position(|read| is_loaded_for(read, tag))
+}
+
+/// The RESPONSE of a command that was refused with TASK SET FULL.
+fn full_answer(exchange: &Refused) -> Message
+    ensures what { result ≡ full_answer exchange.now }
+    ensures message { IsMessage result }
+{
+    response(
+        exchange.lun,
+        exchange.tag,
+        exchange.expected,
+        Status::TaskSetFull,
+        0,
+    )
+}
+
+/// How many bytes of a block a host is sent that expects so many.
+fn count_of(expected: u32) -> usize
+    ensures what { result ≡ count_of expected }
+    ensures some { (1 ≤ result) × (result ≤ 4096) }
+{
+    (expected as usize).clamp(1, 4096)
+}
+
+/// The DATA IN of the task's block.
+fn block_message(task: &Task, block: &Block) -> Message
+    ensures what { result ≡ block_message task.now block.now }
+    ensures message { IsMessage result }
+{
+    data_in(task.lun, task.tag, block, count_of(task.expected))
+}
+
+/// A task that owes a reply, by its position, and this reply.
+#[derive(Drop)]
+struct DueReply {
+    index: usize,
+    message: Message,
 }
 
 impl Device {
@@ -139,67 +191,110 @@ impl Device {
     /// tag come in order.
     pub fn reply(&mut self, into: &mut Upiu) -> bool
         ensures nothing { result ≡ false → (self.new ≡ self.old) × (into.new ≡ into.old) }
+        // What is handed out is a reply that is due, in its one spelling; and false says that none is.
+        ensures replied { (s : State) → Describes self.old s → result ≡ true → IsReplied s into.new.items self.new }
+        ensures silent { (s : State) → Describes self.old s → result ≡ false → IsAnswered s Ask (Replies None) self.new }
     {
-        if let Some(index) = self.due_task() {
-            self.reply_of(index, into);
+        if let Some(due) = self.due() {
+            upiu::write(&due.message, into);
+            self.move_on(due.index);
             return true;
         }
         self.reply_refused(into)
     }
 
-    /// The first task that owes a reply now.
-    fn due_task(&self) -> Option<usize>
-        ensures { IfSome result (λ k. k < length self.now.tasks) }
+    /// The first task that owes a reply now, and this reply.
+    fn due(&self) -> Option<DueReply>
+        ensures found { IfSome result (λ due. (task : Task) × (slice_get self.now.tasks due.index ≡ Some task) × (reply_of self.now task ≡ Some due.message)) }
+        ensures message { IfSome result (λ due. IsMessage due.message) }
+        ensures none { IfNone result ((k : ℕ) (task : Task) → slice_get self.now.tasks k ≡ Some task → reply_of self.now task ≡ None) }
     {
         for index in 0..self.tasks.len() {
-            if self.is_due(&self.tasks[index]) {
-                return Some(index);
+            if let Some(message) = self.reply_of(&self.tasks[index]) {
+                return Some(DueReply { index, message });
             }
         }
         None
     }
 
-    /// Whether the task owes a reply now.
-    fn is_due(&self, task: &Task) -> bool {
+    /// The reply that the task owes now.
+    fn reply_of(&self, task: &Task) -> Option<Message>
+        ensures what { result ≡ reply_of self.now task.now }
+        ensures message { IfSome result (λ m. IsMessage m) }
+    {
         match task.phase {
-            Phase::AskData { key: _ } => true,
-            Phase::AwaitData { key: _ } => false,
-            Phase::AwaitFrontier { number } => number <= self.ftl.frontier(),
-            Phase::SendBlock => self.content(task.tag).is_some(),
-            Phase::Answer {
-                status: _,
-                length: _,
-            } => true,
+            Phase::AskData { key: _ } => Some(ready_to_transfer(task.lun, task.tag)),
+            Phase::AwaitData { key: _ } => None,
+            Phase::AwaitFrontier { number } => self.durable_answer(task, number),
+            Phase::SendBlock => {
+                let block = self.block(task.tag)?;
+                Some(block_message(task, block))
+            }
+            Phase::Answer { status, length } => Some(response(
+                task.lun,
+                task.tag,
+                task.expected,
+                status,
+                length,
+            )),
         }
     }
 
-    /// Where the block that the task of this tag keeps stands, once it is there.
-    fn content(&self, tag: u8) -> Option<Content> {
-        let pin = self.ftl.pinned(tag)?;
-        content_of(&pin, loaded_at(self.loaded.as_slice(), tag))
+    /// The answer of a write, once the group of this number is durable.
+    fn durable_answer(&self, task: &Task, number: u64) -> Option<Message>
+        ensures what { result ≡ (if nat_le number self.now.ftl.frontier then Some (answer_of task.now Status.Good 4096) else None) }
+        ensures message { IfSome result (λ m. IsMessage m) }
+    {
+        if number > self.ftl.frontier() {
+            return None;
+        }
+        Some(response(task.lun, task.tag, task.expected, Status::Good, 4096))
     }
 
-    /// Hands out the reply of the task at this position.
-    fn reply_of(&mut self, index: usize, into: &mut Upiu)
-        requires { index < length self.old.tasks }
+    /// The block that the task of this tag keeps, once it is there.
+    fn block(&self, tag: u8) -> Option<&Block>
+        ensures { option_copied result ≡ block_kept self.now tag }
     {
+        let pin = self.ftl.pinned(tag)?;
+        self.block_looked(tag, pin.looked)
+    }
+
+    /// The block that the task of this tag looked up, once it is there.
+    fn block_looked(&self, tag: u8, looked: Looked) -> Option<&Block>
+        ensures { option_copied result ≡ block_in self.now tag looked }
+    {
+        match looked {
+            Looked::Nothing => Some(zeros()),
+            Looked::Slot(number) => self.ftl.slot(number),
+            Looked::Page(_) => self.loaded_block(tag),
+        }
+    }
+
+    /// The block that the die read for the task of this tag gave.
+    fn loaded_block(&self, tag: u8) -> Option<&Block>
+        ensures { option_copied result ≡ loaded_of self.now tag }
+    {
+        let index = loaded_at(self.loaded.as_slice(), tag)?;
+        if index >= self.loaded.len() {
+            return None;
+        }
+        Some(&self.loaded[index].body)
+    }
+
+    /// What becomes of the task at this position, which has handed out its reply.
+    fn move_on(&mut self, index: usize)
+        ensures { self.new ≡ moved_on self.old index }
+    {
+        if index >= self.tasks.len() {
+            return;
+        }
         let task = self.tasks[index];
         match task.phase {
-            Phase::AskData { key } => {
-                upiu::write(&ready_to_transfer(task.lun, task.tag), into);
-                self.move_task(index, Phase::AwaitData { key });
-            }
+            Phase::AskData { key } => self.set_phase(index, Phase::AwaitData { key }),
             Phase::AwaitData { key: _ } => {}
-            Phase::AwaitFrontier { number: _ } => {
-                upiu::write(
-                    &response(task.lun, task.tag, task.expected, Status::Good, 4096),
-                    into,
-                );
-                self.tasks.remove(index);
-            }
             Phase::SendBlock => {
-                self.send_block(&task, into);
-                self.move_task(
+                self.let_go(task.tag);
+                self.set_phase(
                     index,
                     Phase::Answer {
                         status: Status::Good,
@@ -207,47 +302,31 @@ impl Device {
                     },
                 );
             }
-            Phase::Answer { status, length } => {
-                upiu::write(
-                    &response(task.lun, task.tag, task.expected, status, length),
-                    into,
-                );
-                self.tasks.remove(index);
+            _ => {
+                self.let_go(task.tag);
+                self.remove_task(index);
             }
         }
     }
 
-    fn move_task(&mut self, index: usize, phase: Phase)
-        requires { index < length self.old.tasks }
+    /// The task of this tag keeps nothing any more.
+    fn let_go(&mut self, tag: u8)
+        ensures { self.new ≡ let_go self.old tag }
     {
-        let task = &mut self.tasks[index];
-        task.phase = phase;
+        self.ftl.unpin(tag);
+        self.unload(tag);
     }
 
-    /// Hands out the DATA IN of the block that the task keeps, and keeps it no more.
-    fn send_block(&mut self, task: &Task, into: &mut Upiu)
-        ensures { self.new.tasks ≡ self.old.tasks }
+    fn remove_task(&mut self, index: usize)
+        requires { index < length self.old.tasks }
+        ensures { self.new ≡ without_task self.old index }
     {
-        let count = (task.expected as usize).clamp(1, 4096);
-        let message = match self.content(task.tag) {
-            Some(Content::Slot(number)) => match self.ftl.slot(number) {
-                Some(block) => data_in(task.lun, task.tag, block, count),
-                None => data_in(task.lun, task.tag, &ZEROS, count),
-            },
-            Some(Content::Loaded(index)) => match self.loaded.get(index) {
-                Some(read) => data_in(task.lun, task.tag, &read.body, count),
-                None => data_in(task.lun, task.tag, &ZEROS, count),
-            },
-            _ => data_in(task.lun, task.tag, &ZEROS, count),
-        };
-        upiu::write(&message, into);
-        self.ftl.unpin(task.tag);
-        self.unload(task.tag);
+        self.tasks.remove(index);
     }
 
     /// The block that was read for the task of this tag is given up.
     fn unload(&mut self, tag: u8)
-        ensures { self.new.tasks ≡ self.old.tasks }
+        ensures { self.new ≡ record self.old { loaded = loaded_without self.old.loaded (position (is_loaded_for tag) self.old.loaded) } }
     {
         if let Some(index) = loaded_at(self.loaded.as_slice(), tag) {
             if index < self.loaded.len() {
@@ -258,27 +337,24 @@ impl Device {
 
     /// Hands out the RESPONSE of the first command that was refused with TASK SET FULL.
     fn reply_refused(&mut self, into: &mut Upiu) -> bool
+        ensures found { result ≡ nat_lt 0 (length self.old.refused) }
         ensures nothing { result ≡ false → (self.new ≡ self.old) × (into.new ≡ into.old) }
+        ensures said { (r : Refused) → slice_get self.old.refused 0 ≡ Some r → into.new.items ≡ spelling (full_answer r) }
+        ensures after { result ≡ true → self.new ≡ without_first self.old }
     {
         if self.refused.is_empty() {
             return false;
         }
         let exchange = self.refused.remove(0);
-        let message = response(
-            exchange.lun,
-            exchange.tag,
-            exchange.expected,
-            Status::TaskSetFull,
-            0,
-        );
-        upiu::write(&message, into);
+        upiu::write(&full_answer(&exchange), into);
         true
     }
 }
 
 /// The READY TO TRANSFER for the one block of a write (JESD220, 10.7.5).
 fn ready_to_transfer(lun: u8, tag: u8) -> Message
-    ensures { IsMessage result }
+    ensures what { result ≡ Message.ReadyToTransfer lun tag 0 4096 }
+    ensures message { IsMessage result }
 {
     Message::ReadyToTransfer {
         lun,

@@ -1,13 +1,21 @@
 //! A device with its dies, and runs of events over one.
 ghost use Rattle.std.specs.Prelude.{◌≡◌, ◌≢◌, ◌<◌, ◌+◌, ◌^◌, [], false, true, length, replicate, vec_len, None, IfErr, IfNone, IfOk, IsErr, OnErr, OnOk};
+ghost use Rattle.std.specs.Prelude.{IfSome, Some, slice_set, ◌++◌, ◌∷◌};
+ghost use Rattle.ufs_spec.specs.Dies.{CanDo, after_job, outcome_of};
+ghost use Rattle.std.specs.List.{All};
+ghost use Rattle.ufs_spec.specs.Dies.{IsOfSize};
+ghost use Rattle.ufs_spec.specs.Lives.{Fit, IsOpened, array_of, bad_of};
+ghost use Rattle.ufs_spec.specs.Steps.{State};
+ghost use Rattle.device.specs.Describes.{Describes};
 ghost use Rattle.device.specs.Kept.{IsNewDevice};
+ghost use Rattle.device.specs.Worlds.{AreBlank, Fits, IsLife, IsOpeningFault, IsRunFault, Played, Stepped, Went, die_at, job_at, jobs_given};
 
 use crate::device::Device;
 use nand_model::{Die, MemDie, work};
 use std::alloc::{AllocError, Global};
 use std::marker::Model;
 use ufs_spec::{
-    Config, Event, Job, OpenFault, Outcome, Output, RunFault, RunFaultKind, Trace, Upiu,
+    Config, Event, HostFault, Job, OpenFault, Outcome, Output, RunFault, RunFaultKind, Trace, Upiu,
 };
 
 /// A device with its dies, and the job that each die has in flight.
@@ -23,24 +31,41 @@ pub struct World {
 
 impl Model for World {
     ghost use Rattle.device.specs.Kept.{WorldState};
+    ghost use Rattle.device.specs.Rooms.{world_of};
 
     ghost Value = { WorldState };
 
-    ghost view = { λ w.
-        record {
-          core = w.device;
-          dies = w.dies.items;
-          jobs = w.jobs.items;
-          steps = w.steps;
-          is_over = w.is_over;
-        } };
+    ghost view = { world_of };
+}
+
+/// Whether the die has so many blocks, each of so many pages.
+fn is_of_size(die: &MemDie, blocks: u16, pages: u16) -> bool
+    ensures sized { result ≡ true → IsOfSize blocks pages die.now }
+    ensures not_sized { 0 < blocks → result ≡ false → IsOfSize blocks pages die.now → ⊥ }
+{
+    die.blocks() == blocks && die.pages() == pages
 }
 
 /// Whether the dies are as many and as large as the configuration says.
-fn fit(config: &Config, dies: &[MemDie]) -> bool {
+fn fit(config: &Config, dies: &[MemDie]) -> bool
+    ensures fit { result ≡ true → Fit config.now dies.now }
+    ensures unfit { result ≡ false → Fit config.now dies.now → ⊥ }
+{
     let numbers = config.numbers();
-    dies.len() == numbers.dies as usize
-        && dies.iter().all(|die| die.blocks() == numbers.blocks && die.pages() == numbers.pages)
+    dies.len() == numbers.dies as usize && are_of_size(dies, numbers.blocks, numbers.pages)
+}
+
+/// Whether each of the dies has this size.
+fn are_of_size(dies: &[MemDie], blocks: u16, pages: u16) -> bool
+    ensures sized { result ≡ true → All (IsOfSize blocks pages) dies.now }
+    ensures not_sized { 0 < blocks → result ≡ false → All (IsOfSize blocks pages) dies.now → ⊥ }
+{
+    for die in dies {
+        if !is_of_size(die, blocks, pages) {
+            return false;
+        }
+    }
+    true
 }
 
 /// No job in flight on any die.
@@ -79,6 +104,10 @@ impl World {
         ensures idle { IfOk result (λ w. (w.jobs ≡ replicate (length dies.items) None) × (w.steps ≡ 0) × (w.is_over ≡ false)) }
         ensures position { IfErr result (λ f. (f.position ≡ 0) × (f.trace.items ≡ [])) }
         ensures never_bad { IfErr result (λ f. f.kind ≢ RunFaultKind.BadLeftover) }
+        // Over dies whose pages are blank the world fits the state that the definitions open over them.
+        ensures fits { IfOk result (λ w. AreBlank dies.items → (s : State) →
+            IsOpened config (array_of dies.items) (bad_of dies.items) s → Fits w s) }
+        ensures refused { IfErr result (λ f. IsOpeningFault config dies.items f.kind) }
     {
         if !fit(&config, dies.as_slice()) {
             return Err(fault(alloc, RunFaultKind::WrongEvent, 0));
@@ -92,6 +121,8 @@ impl World {
     fn over(alloc: Global, config: Config, dies: Vec<MemDie>) -> Result<World, OpenFault>
         ensures opened { IfOk result (λ w. IsNewDevice config w.core × (w.dies ≡ dies.items)) }
         ensures idle { IfOk result (λ w. (w.jobs ≡ replicate (length dies.items) None) × (w.steps ≡ 0) × (w.is_over ≡ false)) }
+        ensures described { IfOk result (λ w. length dies.items ≡ config.dies → AreBlank dies.items → (s : State) →
+            IsOpened config (array_of dies.items) (bad_of dies.items) s → Describes w.core s) }
     {
         let device = Device::open(alloc, config, dies.as_slice())?;
         let jobs = idle(alloc, dies.len()).map_err(|_| OpenFault::NoMemory)?;
@@ -141,6 +172,9 @@ impl World {
         ensures dies { OnErr result (self.new.dies ≡ self.old.dies) }
         ensures wrong { IfErr result (λ f. (f.kind ≡ RunFaultKind.WrongEvent) × (f.position ≡ self.new.steps) × (f.trace.items ≡ [])) }
         ensures counted { self.old.steps + 1 < 2 ^ 64 → self.new.steps ≡ self.old.steps + 1 }
+        // Over a world that fits a state each event shows what is right there, and the world fits the
+        // state that it leads to; and only an event that does not fit is refused.
+        ensures stepped { (s : State) → Fits self.old s → self.old.is_over ≡ false → Stepped s event.now self.new result }
     {
         self.steps = self.steps.saturating_add(1);
         if !self.is_over {
@@ -152,47 +186,88 @@ impl World {
         Err(fault(self.alloc, RunFaultKind::WrongEvent, self.steps))
     }
 
+    /// One event, and what it showed behind the trace.
+    fn play(&mut self, event: &Event, trace: &mut Trace) -> Result<(), RunFaultKind>
+        ensures going_on { OnOk result (self.new.is_over ≡ false) }
+        ensures counted { self.old.steps + 1 < 2 ^ 64 → self.new.steps ≡ self.old.steps + 1 }
+        ensures one_more { OnOk result (length trace.new.items ≡ length trace.old.items + 1) }
+        ensures played { (s : State) → Fits self.old s → self.old.is_over ≡ false →
+            Played s event.now self.new trace.old.items trace.new.items result }
+    {
+        match self.step(event) {
+            Ok(output) => note(trace, output),
+            Err(fault) => Err(fault.kind),
+        }
+    }
+
     /// What the event shows; `None` where it does not fit.
     fn perform(&mut self, event: &Event) -> Option<Output>
         ensures dies { IfNone result (self.new.dies ≡ self.old.dies) }
         ensures steps { self.new.steps ≡ self.old.steps }
         ensures is_over { self.new.is_over ≡ self.old.is_over }
+        ensures went { (s : State) → Fits self.old s → Went s event.now self.new result }
     {
         match event {
-            Event::Host(bytes) => Some(Output::Host(self.device.host(bytes.as_slice()))),
+            Event::Host(bytes) => Some(Output::Host(self.hear(bytes))),
             Event::Reply => Some(Output::Reply(self.reply())),
             Event::Take(die) => Some(Output::Take(self.take(*die))),
             Event::Finish(die) => self.finish(*die),
             Event::Fail(_, _) => None,
-            Event::Turn => Some(Output::Turn(self.device.turn())),
+            Event::Turn => Some(Output::Turn(self.turn())),
             Event::Stop(_) => None,
         }
+    }
+
+    fn hear(&mut self, bytes: &Vec<u8>) -> Result<(), HostFault>
+        ensures dies { self.new.dies ≡ self.old.dies }
+        ensures steps { self.new.steps ≡ self.old.steps }
+        ensures is_over { self.new.is_over ≡ self.old.is_over }
+        ensures went { (s : State) → Fits self.old s → Went s (Event.Host bytes.now) self.new (Some (Output.Host result)) }
+    {
+        self.device.host(bytes.as_slice())
+    }
+
+    fn turn(&mut self) -> bool
+        ensures dies { self.new.dies ≡ self.old.dies }
+        ensures steps { self.new.steps ≡ self.old.steps }
+        ensures is_over { self.new.is_over ≡ self.old.is_over }
+        ensures went { (s : State) → Fits self.old s → Went s Event.Turn self.new (Some (Output.Turn result)) }
+    {
+        self.device.turn()
     }
 
     fn reply(&mut self) -> Option<Upiu>
         ensures dies { self.new.dies ≡ self.old.dies }
         ensures steps { self.new.steps ≡ self.old.steps }
         ensures is_over { self.new.is_over ≡ self.old.is_over }
+        ensures went { (s : State) → Fits self.old s → Went s Event.Reply self.new (Some (Output.Reply result)) }
     {
         let mut message = Upiu::new();
-        if self.device.reply(&mut message) {
-            Some(message)
-        } else {
-            None
+        if !self.device.reply(&mut message) {
+            return None;
         }
+        Some(message)
     }
 
     fn take(&mut self, die: u8) -> Option<Job>
         ensures dies { self.new.dies ≡ self.old.dies }
         ensures steps { self.new.steps ≡ self.old.steps }
         ensures is_over { self.new.is_over ≡ self.old.is_over }
+        ensures went { (s : State) → Fits self.old s → Went s (Event.Take die) self.new (Some (Output.Take result)) }
     {
-        let job = self.device.take(die)?;
+        let job = self.device.take(die);
+        self.note_job(die, job);
+        job
+    }
+
+    /// The die has this job in flight, if it was given one.
+    fn note_job(&mut self, die: u8, job: Option<Job>)
+        ensures { self.new ≡ record self.old { jobs = jobs_given self.old.jobs die job } }
+    {
         let index = die as usize;
-        if index < self.jobs.len() {
-            self.jobs[index] = Some(job);
+        if index < self.jobs.len() && job.is_some() {
+            self.jobs[index] = job;
         }
-        Some(job)
     }
 
     /// The die does its job in flight, and the device is told.
@@ -200,6 +275,7 @@ impl World {
         ensures dies { IfNone result (self.new.dies ≡ self.old.dies) }
         ensures steps { self.new.steps ≡ self.old.steps }
         ensures is_over { self.new.is_over ≡ self.old.is_over }
+        ensures went { (s : State) → Fits self.old s → Went s (Event.Finish die) self.new result }
     {
         let job = self.end_job(die)?;
         let outcome = self.work(die, &job)?;
@@ -207,31 +283,41 @@ impl World {
         Some(Output::Ended)
     }
 
-    /// The job that the die had in flight.
+    /// The job that the die had in flight; it has none from now on.
     fn end_job(&mut self, die: u8) -> Option<Job>
-        ensures dies { self.new.dies ≡ self.old.dies }
-        ensures steps { self.new.steps ≡ self.old.steps }
-        ensures is_over { self.new.is_over ≡ self.old.is_over }
+        ensures what { result ≡ job_at self.old.jobs die }
+        ensures after { self.new ≡ record self.old { jobs = slice_set self.old.jobs die None } }
     {
         let index = die as usize;
         if index >= self.jobs.len() {
             return None;
         }
-        let job = self.jobs[index]?;
+        let job = self.jobs[index];
         self.jobs[index] = None;
-        Some(job)
+        job
     }
 
+    /// Does the job on the die; `None`, and nothing changes, where it may not be asked of it.
     fn work(&mut self, die: u8, job: &Job) -> Option<Outcome>
-        ensures dies { IfNone result (self.new.dies ≡ self.old.dies) }
-        ensures steps { self.new.steps ≡ self.old.steps }
-        ensures is_over { self.new.is_over ≡ self.old.is_over }
+        ensures cannot { IfNone result (die < length self.old.dies → CanDo (die_at self.old.dies die) job.now → ⊥) }
+        ensures nothing { IfNone result (self.new ≡ self.old) }
+        ensures outcome { IfSome result (λ o. o ≡ outcome_of (die_at self.old.dies die) job.now) }
+        ensures after { IfSome result (λ o. self.new ≡ record self.old { dies = slice_set self.old.dies die (after_job (die_at self.old.dies die) job.now) }) }
     {
         let index = die as usize;
         if index >= self.dies.len() || !self.dies[index].can_do(job) {
             return None;
         }
-        Some(work(&mut self.dies[index], job))
+        Some(self.do_job(index, job))
+    }
+
+    fn do_job(&mut self, index: usize, job: &Job) -> Outcome
+        requires there { index < length self.old.dies }
+        requires can { CanDo (die_at self.old.dies index) job.now }
+        ensures outcome { result ≡ outcome_of (die_at self.old.dies index) job.now }
+        ensures after { self.new ≡ record self.old { dies = slice_set self.old.dies index (after_job (die_at self.old.dies index) job.now) } }
+    {
+        work(&mut self.dies[index], job)
     }
 }
 
@@ -247,29 +333,35 @@ pub fn run(
     dies: Vec<MemDie>,
     events: &[Event],
 ) -> Result<Trace, RunFault>
-    ensures { IfOk result (λ trace. vec_len trace ≡ length events.now) }
+    ensures one_each { IfOk result (λ trace. length trace.items ≡ length events.now) }
+    // Over dies whose pages are blank the trace is that of one life over these events: each message is
+    // answered, each job given and each turn told as the specified device does.
+    ensures lived { IfOk result (λ trace. AreBlank dies.items → IsLife config dies.items events.now trace.items) }
+    // A fault says where: at position 0 the opening was refused; at any other one the event there did not
+    // fit, or memory was refused, and its trace is that of the life before it.
+    ensures broken { IfErr result (λ f. IsRunFault config dies.items events.now f.position f) }
 {
     let mut world = World::new(alloc, config, dies)?;
     let mut trace = Vec::new(alloc);
-    for event in events {
-        match world.step(event) {
-            Ok(output) => {
-                if trace.push(output).is_err() {
-                    return Err(RunFault {
-                        kind: RunFaultKind::NoMemory,
-                        position: world.steps,
-                        trace,
-                    });
-                }
-            }
-            Err(fault) => {
-                return Err(RunFault {
-                    kind: fault.kind,
-                    position: fault.position,
-                    trace,
-                });
-            }
+    for (index, event) in events.iter().enumerate() {
+        if let Err(kind) = world.play(event, &mut trace) {
+            return Err(RunFault {
+                kind,
+                position: index + 1,
+                trace,
+            });
         }
     }
     Ok(trace)
+}
+
+/// Puts what an event showed behind the trace.
+fn note(trace: &mut Trace, output: Output) -> Result<(), RunFaultKind>
+    ensures more { OnOk result (trace.new.items ≡ trace.old.items ++ output ∷ []) }
+    ensures same { IfErr result (λ k. (k ≡ RunFaultKind.NoMemory) × (trace.new.items ≡ trace.old.items)) }
+{
+    match trace.push(output) {
+        Ok(_) => Ok(()),
+        Err(_) => Err(RunFaultKind::NoMemory),
+    }
 }

@@ -1,5 +1,6 @@
 -- How a job in flight ends: what is kept then, and what is given to whoever waits for it.
 use Rattle.std.specs.Prelude.{◌≡◌, ℕ, ◌==◌, Bool, true, false, ◌&&◌, List, position, slice_get, slice_set, Option, Some, None}
+use Rattle.ufs_spec.specs.Keys.{IsBlock}
 use Rattle.ufs_spec.specs.Pages.{IsTag, seal_page}
 use Rattle.ufs_spec.specs.declared.flash.Key.{Key}
 use Rattle.ufs_spec.specs.declared.flash.Outcome.{Outcome}
@@ -103,7 +104,7 @@ names t k n = (t.kind == k.kind) && (t.unit == k.unit) && (t.address == k.addres
 
 -- the body, where the page is a sealed one of this address and this number; none where it is not
 pub record IsBodyOf (page : Page) (k : Key) (n : ℕ) (body : Option (List ℕ)) : Type 0 where
-  pub found : (b : List ℕ) → body ≡ Some b → (t : Tag) × IsTag t × (names t k n ≡ true) × (page ≡ seal_page t b)
+  pub found : (b : List ℕ) → body ≡ Some b → (t : Tag) × IsTag t × IsBlock b × (names t k n ≡ true) × (page ≡ seal_page t b)
   pub none : body ≡ None → (t : Tag) (b : List ℕ) → IsTag t → names t k n ≡ true → page ≡ seal_page t b → ⊥
 
 abbrev pub IsBodyLooked : Page → Key → Looked → Option (List ℕ) → Type 0

@@ -1,4 +1,5 @@
 pub mod Core
+pub mod Describes
 pub mod Done
 pub mod Ends
 pub mod Gives

@@ -1,9 +1,15 @@
 //! The translation layer and its calls.
 ghost use Rattle.std.specs.Prelude.{◌≡◌, ℕ, ◌<◌, ◌≤◌, ◌+◌, ◌^◌, length, IsTrue, ◌↔◌, IfOk, IsSome, IfSome, vec_len, nat_lt, ◌-◌, ◌&&◌, ◌++◌, ◌∷◌, [], if◌then◌else◌, sum_by, slice_get};
-ghost use Rattle.std.specs.Prelude.{map, None, option_copied, position, replicate, reverse};
+ghost use Rattle.std.specs.Prelude.{map, None, true, option_copied, position, replicate, reverse};
 ghost use Rattle.std.specs.List.{list_any};
 ghost use Rattle.ufs_spec.specs.declared.configs.UnitSpec.{UnitSpec};
 ghost use Rattle.ftl_core.specs.Moves.{accepted, blocks_of, can_accept, fresh, idle_book, slot_of, state_at_start, is_group_of, is_pin_of, pin_of, unpinned, look_of, last_of, position_of, stored_of, unit_position, with_pin, free_slots, is_locked, has_number, next_number, mark_ordered};
+ghost use Rattle.ufs_spec.specs.Keys.{IsKey};
+ghost use Rattle.ufs_spec.specs.Ledger.{look, next_number as next_of_layer};
+ghost use Rattle.ufs_spec.specs.Moves.{Accept, Claim, IsAllowedMove, Keep, LetGo, LetGoAll, Release, moved};
+ghost use Rattle.ufs_spec.specs.Plain.{shape_of_numbers};
+ghost use Rattle.ufs_spec.specs.Translation.{Translation, free_slots as layer_slots, is_locked as is_layer_locked, is_mended};
+ghost use Rattle.ftl_core.specs.Describes.{Describes, IsLookedAt};
 
 mod ends;
 mod takes;
@@ -179,8 +185,9 @@ fn nowhere(alloc: Global, addresses: usize) -> Result<Vec<Option<Stored>>, Alloc
 
 impl Ftl {
     /// The layer over new dies: for each block of each die, in order, whether it is bad.
+    #[tactic(auto, using(crate::proofs::OpensNew::opens_right))]
     pub fn new(alloc: Global, config: Config, bad: &[bool]) -> Result<Ftl, AllocError>
-        ensures { IfOk result (λ f. f ≡ fresh config bad.now) }
+        ensures core { IfOk result (λ f. f ≡ fresh config bad.now) }
     {
         let numbers = config.numbers();
         let dies = numbers.dies;
@@ -206,29 +213,35 @@ impl Ftl {
 
     /// Whether a mark without a fence is finished, so that commands are taken.
     pub fn is_mended(&self) -> bool
-        ensures { result ≡ self.now.mended }
+        ensures core { result ≡ self.now.mended }
+        ensures described { (t : Translation) → Describes self.now t → result ≡ is_mended t.work.mending }
     {
         self.mended
     }
 
     /// Whether writes are refused from now on: a block is bad (in this first stage none may be), or no
     /// number is left.
+    #[tactic(auto, using(crate::proofs::Rests::locks_right))]
     pub fn is_locked(&self) -> bool
-        ensures { result ≡ is_locked self.now }
+        ensures core { result ≡ is_locked self.now }
+        ensures described { (t : Translation) → Describes self.now t → result ≡ is_layer_locked t }
     {
         self.has_bad || self.frontier + self.groups.len() as u64 >= LAST_NUMBER
     }
 
     /// The number at or under which every group is durable.
     pub fn frontier(&self) -> u64
-        ensures { result ≡ self.now.frontier }
+        ensures core { result ≡ self.now.frontier }
+        ensures described { (t : Translation) → Describes self.now t → result ≡ t.ledger.frontier }
     {
         self.frontier
     }
 
     /// How many slots neither a pending group nor a claim holds.
+    #[tactic(auto, using(crate::proofs::Rests::slots_right))]
     pub fn free_slots(&self) -> usize
-        ensures { result ≡ free_slots self.now }
+        ensures core { result ≡ free_slots self.now }
+        ensures described { (t : Translation) → Describes self.now t → result ≡ layer_slots t }
     {
         self.config.numbers().slots as usize - self.groups.len() - self.claimed
     }
@@ -247,9 +260,11 @@ impl Ftl {
     }
 
     /// Claims one slot for a group to come, where one is free.
+    #[tactic(auto, using(crate::proofs::Rests::claims_right))]
     pub fn reserve(&mut self) -> bool
         ensures found { result ≡ nat_lt 0 (free_slots self.old) }
         ensures after { self.new ≡ (if result then record self.old { claimed = self.old.claimed + 1 } else self.old) }
+        ensures described { (t : Translation) → Describes self.old t → result ≡ true → Describes self.new (moved t (Claim 1)) }
     {
         if self.free_slots() == 0 {
             return false;
@@ -259,15 +274,26 @@ impl Ftl {
     }
 
     /// Gives a claimed slot back.
+    #[tactic(auto, using(crate::proofs::Rests::releases_right))]
     pub fn release(&mut self)
-        ensures { self.new ≡ record self.old { claimed = self.old.claimed - 1 } }
+        ensures after { self.new ≡ record self.old { claimed = self.old.claimed - 1 } }
+        ensures described { (t : Translation) → Describes self.old t → Describes self.new (moved t (Release 1)) }
     {
         self.claimed = self.claimed.saturating_sub(1);
     }
 
     /// What holds the content of the address after all pending groups: the slot of the last of these, or
     /// its page, or nothing (it reads as zeros).
+    #[tactic(auto, using(crate::proofs::Looks::looks_right))]
     pub fn look(&self, key: Key) -> Looked
+        ensures core { result ≡ look_of self.now key }
+        ensures described { (t : Translation) → Describes self.now t → IsKey (shape_of_numbers t.numbers) key → key.kind ≡ 1 →
+            IsLookedAt result (look t.ledger key) }
+    {
+        self.looked(key)
+    }
+
+    fn looked(&self, key: Key) -> Looked
         ensures { result ≡ look_of self.now key }
     {
         match last_of(self.groups.as_slice(), key) {
@@ -303,21 +329,40 @@ impl Ftl {
     pub fn pin(&mut self, reader: u8, key: Key, looked: Looked) -> bool
         ensures found { result ≡ nat_lt (length self.old.pins) 32 }
         ensures after { self.new ≡ (if result then with_pin self.old (record { reader = reader; key = key; looked = looked; read = ReadState.Owed }) else self.old) }
+        ensures described { (t : Translation) → Describes self.old t → IsKey (shape_of_numbers t.numbers) key → key.kind ≡ 1 →
+            looked ≡ look_of self.old key → pin_of self.old reader ≡ None → result ≡ true →
+            Describes self.new (moved t (Keep (record { tag = reader; index = 0; looked = look t.ledger key; wanted = true }))) }
     {
-        if self.pins.len() >= MOST_PINS {
-            return false;
-        }
-        self.pins.push_reserved(Pin {
+        self.keep(Pin {
             reader,
             key,
             looked,
             read: ReadState::Owed,
-        });
+        })
+    }
+
+    /// Keeps this pin, where 32 readers do not keep something yet.
+    fn keep(&mut self, pin: Pin) -> bool
+        ensures found { result ≡ nat_lt (length self.old.pins) 32 }
+        ensures after { self.new ≡ (if result then with_pin self.old pin else self.old) }
+    {
+        if self.pins.len() >= MOST_PINS {
+            return false;
+        }
+        self.pins.push_reserved(pin);
         true
     }
 
     /// The reader keeps nothing any more.
     pub fn unpin(&mut self, reader: u8)
+        ensures after { self.new ≡ unpinned self.old reader }
+        ensures described { (t : Translation) → Describes self.old t → Describes self.new (moved t (LetGoAll reader)) }
+        ensures described_one { (t : Translation) → Describes self.old t → Describes self.new (moved t (LetGo reader 0)) }
+    {
+        self.let_go(reader);
+    }
+
+    fn let_go(&mut self, reader: u8)
         ensures { self.new ≡ unpinned self.old reader }
     {
         if let Some(index) = pin_at(self.pins.as_slice(), reader) {
@@ -356,6 +401,28 @@ impl Ftl {
         requires numbered { IsTrue (has_number self.old) }
         ensures number { result ≡ next_number self.old }
         ensures after { self.new ≡ accepted self.old key body.now }
+        ensures described { (t : Translation) → Describes self.old t → key.kind ≡ 1 → key.unit ≤ 7 →
+            IsAllowedMove t (Accept 1 (record { key = key; body = body.now } ∷ []) []) →
+            Describes self.new (moved t (Accept 1 (record { key = key; body = body.now } ∷ []) [])) }
+        ensures described_number { (t : Translation) → Describes self.old t → result ≡ next_of_layer t.ledger }
+    {
+        let number = self.next_number();
+        self.add_group(key, body);
+        number
+    }
+
+    /// The number of the next group.
+    fn next_number(&self) -> u64
+        requires { IsTrue (has_number self.now) }
+        ensures { result ≡ next_number self.now }
+    {
+        self.frontier + self.groups.len() as u64 + 1
+    }
+
+    fn add_group(&mut self, key: Key, body: &Block)
+        requires claimed { 0 < self.old.claimed }
+        requires numbered { IsTrue (has_number self.old) }
+        ensures { self.new ≡ accepted self.old key body.now }
     {
         self.claimed -= 1;
         self.groups.push_reserved(Group {
@@ -363,7 +430,6 @@ impl Ftl {
             state: GroupState::Waiting,
             body: *body,
         });
-        self.frontier + self.groups.len() as u64
     }
 
     /// Whether a group can be accepted: a slot is claimed and a number is left.

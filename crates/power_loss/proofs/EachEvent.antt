@@ -80,14 +80,14 @@ host_keeps s (Spelled m c) (Ok done) bytes v is may = heard_keeps s m c bytes v 
 
 -- Calls
 
-host_answered : (s : State) (h : Heard) (answer : Answer) (bytes : List ℕ) → IsTied s → IsHeard bytes h → Allowed s (Host h) answer → IsTied (behind s (Host h) answer)
+pub host_answered : (s : State) (h : Heard) (answer : Answer) (bytes : List ℕ) → IsTied s → IsHeard bytes h → Allowed s (Host h) answer → IsTied (behind s (Host h) answer)
 host_answered s h (Hears result) bytes v is may = host_keeps s h result bytes v is may
 host_answered s h (Gives flight) bytes v is may = v
 host_answered s h (Finishes known) bytes v is may = v
 host_answered s h (Steps due) bytes v is may = v
 host_answered s h (Replies reply) bytes v is may = v
 
-asked_answered : (s : State) (answer : Answer) → IsTied s → Allowed s Ask answer → IsTied (behind s Ask answer)
+pub asked_answered : (s : State) (answer : Answer) → IsTied s → Allowed s Ask answer → IsTied (behind s Ask answer)
 asked_answered s (Replies None) v may = v
 asked_answered s (Replies (Some m)) v may = replies_keep s m v may
 asked_answered s (Hears result) v may = v
@@ -95,14 +95,14 @@ asked_answered s (Gives flight) v may = v
 asked_answered s (Finishes known) v may = v
 asked_answered s (Steps due) v may = v
 
-give_answered : (s : State) (die : ℕ) (answer : Answer) → IsTied s → Allowed s (Give die) answer → IsTied (behind s (Give die) answer)
+pub give_answered : (s : State) (die : ℕ) (answer : Answer) → IsTied s → Allowed s (Give die) answer → IsTied (behind s (Give die) answer)
 give_answered s die (Gives flight) v may = gives_keep s die flight v may
 give_answered s die (Hears result) v may = v
 give_answered s die (Finishes known) v may = v
 give_answered s die (Steps due) v may = v
 give_answered s die (Replies reply) v may = v
 
-step_answered : (s : State) (answer : Answer) → IsTied s → IsTied (behind s Step answer)
+pub step_answered : (s : State) (answer : Answer) → IsTied s → IsTied (behind s Step answer)
 step_answered s (Steps due) v = step_keeps s v
 step_answered s (Hears result) v = v
 step_answered s (Gives flight) v = v

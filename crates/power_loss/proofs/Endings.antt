@@ -122,13 +122,13 @@ ends_keep s die flight ending left v e r =
 
 -- What the dies show
 
-right_shown : (s : State) (die : ℕ) (reader : Reader) → Shows s.array s.translation.disk.cells → Shows s.array (read_right (die_idle s.translation die) reader).disk.cells
+pub right_shown : (s : State) (die : ℕ) (reader : Reader) → Shows s.array s.translation.disk.cells → Shows s.array (read_right (die_idle s.translation die) reader).disk.cells
 right_shown s die (ForTask tag index) h = h
 right_shown s die ForStep h = h
 right_shown s die (ForRest number index) h = h
 right_shown s die ForNobody h = h
 
-wrong_shown : (s : State) (die : ℕ) (reader : Reader) → Shows s.array s.translation.disk.cells → Shows s.array (read_wrong (die_idle s.translation die) reader).disk.cells
+pub wrong_shown : (s : State) (die : ℕ) (reader : Reader) → Shows s.array s.translation.disk.cells → Shows s.array (read_wrong (die_idle s.translation die) reader).disk.cells
 wrong_shown s die (ForTask tag index) h = h
 wrong_shown s die ForStep h = h
 wrong_shown s die (ForRest number index) h = h
@@ -150,7 +150,7 @@ again_shown : (array : Array) (u : Translation) (fence : Option Fence) (b : Bool
 again_shown array u fence true h = h
 again_shown array u fence false h = h
 
-written_shown : (s : State) (die : ℕ) (p : Place) (cell : Cell) (left : Array) → IsTied s → s.translation.disk.flights die ≡ Some (Programming p cell) →
+pub written_shown : (s : State) (die : ℕ) (p : Place) (cell : Cell) (left : Array) → IsTied s → s.translation.disk.flights die ≡ Some (Programming p cell) →
     Shows (array_behind s (Programming p cell) WentWell left) (end_flight s.translation die (Some (Programming p cell)) WentWell).disk.cells
 written_shown s die p Nothing left v e = absurd (v.valid.flights.something die p e)
 written_shown s die p (GroupPage tag body) left v e = put_shown s.array s.translation.disk.cells p (GroupPage tag body) v.shown (v.flights die p (GroupPage tag body) e)
@@ -158,7 +158,7 @@ written_shown s die p (MarkPage m) left v e =
     freed_shown (at_place s.array p (page_of (MarkPage m))) (programmed s.translation.numbers.pages s.translation.disk p (MarkPage m)) s.translation.work.plan
     (put_shown s.array s.translation.disk.cells p (MarkPage m) v.shown (v.flights die p (MarkPage m) e))
 
-erased_shown : (s : State) (spot : Spot) → IsTied s →
+pub erased_shown : (s : State) (spot : Spot) → IsTied s →
     Shows (λ p. if in_block (numbers_of s) spot p then blank_page else s.array p) (λ p. if same_spot (spot_of p) spot then Nothing else s.translation.disk.cells p)
 erased_shown s spot v p = by (same_spot (spot_of p) spot) (nat_lt p.page (numbers_of s).pages) refl
   where
@@ -204,7 +204,7 @@ alone_fits s die e p cell v = by (e == die)
     by true h = touch (s.translation.disk.flights e) refl h
     by false h = absurd h
 
-left_shown : (s : State) (die : ℕ) (p : Place) (cell : Cell) (left : Array) (cells : Cells) → Shows left cells →
+pub left_shown : (s : State) (die : ℕ) (p : Place) (cell : Cell) (left : Array) (cells : Cells) → Shows left cells →
     Shows left (end_flight s.translation die (Some (Programming p cell)) (WentWrong cells)).disk.cells
 left_shown s die p Nothing left cells h = h
 left_shown s die p (GroupPage tag body) left cells h = h
@@ -223,7 +223,7 @@ finish_keeps s die (Some (Programming p cell)) call v e h =
 finish_keeps s die (Some (Erasing spot)) call v e h =
     (WentWell, h, ends_keep s die (Erasing spot) WentWell s.array v e (record { may = tt; shown = erased_shown s spot v }))
 
-failed_keeps : (s : State) (die : ℕ) (flight : Flight) (cells : Cells) (left : Array) → IsTied s → s.translation.disk.flights die ≡ Some flight →
+pub failed_keeps : (s : State) (die : ℕ) (flight : Flight) (cells : Cells) (left : Array) → IsTied s → s.translation.disk.flights die ≡ Some flight →
     Crash s.array (flight_alone s.translation.disk.flights die) left → Shows left cells →
     (CellCrash s.translation.disk.cells (flight_alone s.translation.disk.flights die) cells → EndsRight s die flight (WentWrong cells) left) →
     IsTied (ends_with s die (Some flight) (WentWrong cells) left)

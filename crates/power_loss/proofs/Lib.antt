@@ -4,6 +4,7 @@ pub mod AllMoves
 pub mod Begins
 pub mod Books
 pub mod CallPages
+pub mod CallsKeep
 pub mod ChainedLives
 pub mod Changes
 pub mod Crashes
@@ -23,6 +24,7 @@ pub mod Grows
 pub mod HostCommands
 pub mod HostData
 pub mod Latest
+pub mod LifeTurns
 pub mod LivePages
 pub mod LostKeys
 pub mod MovesStay

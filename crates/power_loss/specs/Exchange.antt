@@ -9,7 +9,7 @@ use Rattle.ufs_spec.specs.Disk.{Erasing, Programming, Spot, page_of}
 use Rattle.ufs_spec.specs.Exchanges.{Awaiting, Deed, ForWrite, Gathering, Short, Task, is_short_of, is_task_of}
 use Rattle.ufs_spec.specs.Keys.{CanApplyAll, IsBlock, IsKey, IsPlain, IsSettingsBody, content, groups_of}
 use Rattle.ufs_spec.specs.Ledger.{Entry, accepted_groups, before_accepted}
-use Rattle.ufs_spec.specs.Machine.{claimed_by, tag_in}
+use Rattle.ufs_spec.specs.Machine.{Call, Finish, Host, IsHeard, MayLeave, claimed_by, tag_in}
 use Rattle.ufs_spec.specs.Messages.{AreBytes}
 use Rattle.ufs_spec.specs.Plain.{Shape, shape_of, shape_of_numbers}
 use Rattle.ufs_spec.specs.Steps.{State, numbers_of}
@@ -147,6 +147,14 @@ pub record ValidState (s : State) : Type 0 where
   pub hold : (p : Place) (t : Tag) (body : List ℕ) → Opens (s.array p) t body → DataHold t body
   -- a block that is being erased is one of the dies'
   pub erases : (die : ℕ) (spot : Spot) → s.translation.disk.flights die ≡ Some (Erasing spot) → IsSpot (numbers_of s) spot
+
+-- Calls
+
+-- a message of some bytes is heard, and a job that ends leaves what it may
+abbrev pub MayCome : State → Call → Type 0
+MayCome s (Host heard) = (bytes : List ℕ) × IsHeard bytes heard
+MayCome s (Finish die ending left) = MayLeave s die ending left
+MayCome s call = Unit {0}
 
 -- An array as a device may be opened over it
 

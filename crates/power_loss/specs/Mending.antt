@@ -1,7 +1,9 @@
 -- How many turns may still find a step due before the device is mended.
-use Rattle.std.specs.Prelude.{◌&&◌, ℕ, suc, ◌+◌, not, Bool, true, false, if◌then◌else◌, List, [], ◌∷◌, length, Option, Some, None}
+use Rattle.std.specs.Prelude.{◌&&◌, ℕ, suc, ◌+◌, not, Bool, true, false, if◌then◌else◌, List, [], ◌∷◌, count_by, length, Option, Some, None}
 use Rattle.ufs_spec.specs.Moves.{IsAllowedMove, Move, Turn, moved}
 use Rattle.ufs_spec.specs.Translation.{MarkStep, Mended, Mending, Repairing, Step, StepKind, Translation, Unmarked, has_mark_number, is_mended, is_step_due}
+use Rattle.ufs_spec.specs.declared.events.Output.{Output}
+use Rattle.ufs_spec.specs.declared.events.Output.TheVariants as output
 use Rattle.ufs_spec.specs.declared.flash.Fence.{Fence}
 use Rattle.ufs_spec.specs.declared.flash.Key.{Key}
 
@@ -56,3 +58,14 @@ is_mending_turn t move = false
 abbrev pub mending_turns : Translation → List Move → ℕ
 mending_turns t [] = 0
 mending_turns t (move ∷ moves) = (if is_mending_turn t move then 1 else 0) + mending_turns (moved t move) moves
+
+-- Outputs
+
+-- a turn that was answered true: it found a step due
+abbrev pub is_true_turn : Output → Bool
+is_true_turn (output.Turn due) = due
+is_true_turn shown = false
+
+-- how many of the outputs are such turns
+abbrev pub true_turns : List Output → ℕ
+true_turns shown = count_by is_true_turn shown

@@ -5,6 +5,7 @@ ghost use Rattle.ufs_spec.specs.Configs.{IsConfig};
 ghost use Rattle.ufs_spec.specs.Disk.{Spot};
 ghost use Rattle.ufs_spec.specs.Kept.{StandsFor};
 ghost use Rattle.ufs_spec.specs.Lives.{Chain, IsOpened, Leads, Life, Lived, Lives, Stops, held};
+ghost use Rattle.ufs_spec.specs.Machine.{Allowed, Answer, Call, observe};
 ghost use Rattle.ufs_spec.specs.Plain.{Plain, after};
 ghost use Rattle.ufs_spec.specs.Sound.{Sound, Suits};
 ghost use Rattle.ufs_spec.specs.Steps.{State, numbers_of};
@@ -12,7 +13,7 @@ ghost use Rattle.ufs_spec.specs.declared.Event.{Event};
 ghost use Rattle.ufs_spec.specs.declared.Leftover.{Leftover};
 ghost use Rattle.ufs_spec.specs.declared.Numbers.{Numbers};
 ghost use Rattle.ufs_spec.specs.declared.Output.{Output};
-ghost use Rattle.power_loss.specs.Exchange.{IsArrayOf, ValidState};
+ghost use Rattle.power_loss.specs.Exchange.{IsArrayOf, IsTied, MayCome, ValidState};
 
 /// A device that was opened over a sound array is in a valid state.
 pub fn opened_state_is_valid()
@@ -24,6 +25,12 @@ pub fn opened_state_is_valid()
 pub fn each_event_keeps()
     ensures one { (s t : State) (e : Event) (o : Output) → ValidState s → Leads s e o t → ValidState t }
     ensures many { (s t : State) (es : List Event) (os : List Output) → ValidState s → Life s es os t → ValidState t }
+{}
+
+/// Each call that is answered rightly keeps the state tied to its dies and commands, whatever a failed job leaves.
+pub fn each_call_keeps()
+    ensures { (s : State) (call : Call) (answer : Answer) →
+        IsTied s → MayCome s call → Allowed s call answer → IsTied (observe s call answer) }
 {}
 
 /// What a stop leaves of a valid state is sound and suits the device; and a device that is opened over it has the plain

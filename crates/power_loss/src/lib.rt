@@ -20,9 +20,10 @@ ghost use Rattle.power_loss.specs.Book.{CellsRight};
 ghost use Rattle.power_loss.specs.Invariant.{IsPrefix, Valid};
 
 pub use exchange::{
-    each_event_keeps, lives_are_chained, next_life_begins_with_a_prefix, opened_state_is_valid,
+    each_call_keeps, each_event_keeps, lives_are_chained, next_life_begins_with_a_prefix,
+    opened_state_is_valid,
 };
-pub use mending::mending_ends_soon;
+pub use mending::{a_life_is_mended_soon, mending_ends_soon};
 
 /// Opening over a sound array gives a valid life.
 pub fn opening_is_valid()

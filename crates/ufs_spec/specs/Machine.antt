@@ -6,11 +6,11 @@ use Rattle.std.specs.List.{flat_map, list_any}
 use Rattle.byteorder.specs.Endian.{big_bytes}
 use Rattle.std.specs.Int.{div_ceil}
 use Rattle.ufs_spec.specs.Cdbs.{SpellsCdb, length_of}
-use Rattle.ufs_spec.specs.Cells.{Array, IsCell}
+use Rattle.ufs_spec.specs.Cells.{Array, Shows}
 use Rattle.ufs_spec.specs.Commands.{Command}
 use Rattle.ufs_spec.specs.Commands as command
 use Rattle.ufs_spec.specs.Dies.{blank_page}
-use Rattle.ufs_spec.specs.Disk.{Erasing, Flight, ForTask, Programming, Reader, Reading, Spot, at_place, page_of, same_spot, spot_of}
+use Rattle.ufs_spec.specs.Disk.{Crash, Erasing, Flight, ForTask, Programming, Reader, Reading, Spot, at_place, flight_alone, page_of, same_spot, spot_of}
 use Rattle.ufs_spec.specs.Exchanges.{Answering, Awaiting, Deed, Registers, empty_registers, ForFrames, ForUnmap, ForWrite, Gathering, Good, NotRead, Purpose, ReadBlock, ReadState, Sending, Short, Status, Task, TaskSetFull, Telling, Unread, WasRead, block_message, bytes_sent, data_message, invalid_operation, is_asked_of, is_short_of, is_task_of, read_error, ready_message, response, short_reply, task_of, with_deed, without_short, without_task, write_error}
 use Rattle.ufs_spec.specs.Keys.{below, data_key, group_of}
 use Rattle.ufs_spec.specs.Ledger.{Looked, OnPage, before_accepted, look}
@@ -24,8 +24,6 @@ use Rattle.ufs_spec.specs.declared.configs.Numbers.{Numbers}
 use Rattle.ufs_spec.specs.declared.configs.UnitSpec.{UnitSpec}
 use Rattle.ufs_spec.specs.declared.faults.HostFault.{HostFault}
 use Rattle.ufs_spec.specs.declared.faults.HostFault.TheVariants.{Backlog, NotAskedFor, Reserved, TagInUse}
-use Rattle.ufs_spec.specs.declared.flash.Outcome.{Outcome}
-use Rattle.ufs_spec.specs.declared.flash.Outcome.TheVariants as outcome
 use Rattle.ufs_spec.specs.declared.flash.Place.{Place}
 use Rattle.ufs_spec.specs.declared.messages.Asked.{Asked}
 use Rattle.ufs_spec.specs.declared.messages.Message.{Message}
@@ -115,16 +113,11 @@ abbrev pub is_durable : State → Option ℕ → Bool
 is_durable s None = true
 is_durable s (Some commands) = nat_le commands (durable s)
 
--- how a job ends by what its die reports: the page that stood there is the one that was wanted
-abbrev pub IsEndingOf : State → Option Flight → Outcome → Ending → Type 0
-IsEndingOf s (Some (Reading reader place)) (outcome.Read page) ReadRight = IsCell page (s.translation.disk.cells place)
-IsEndingOf s (Some (Reading reader place)) (outcome.Read page) ReadWrong = IsCell page (s.translation.disk.cells place) → ⊥
-IsEndingOf s (Some (Reading reader place)) outcome.ReadFailed ReadWrong = Unit {0}
-IsEndingOf s (Some (Programming place cell)) outcome.Done WentWell = Unit {0}
-IsEndingOf s (Some (Programming place cell)) outcome.Failed (WentWrong left) = Unit {0}
-IsEndingOf s (Some (Erasing spot)) outcome.Done WentWell = Unit {0}
-IsEndingOf s (Some (Erasing spot)) outcome.Failed (WentWrong left) = Unit {0}
-IsEndingOf s flight outcome ending = ⊥
+-- what a job that ends so leaves of the pages: a failed program or erase what an interruption of it may
+abbrev pub MayLeave : State → ℕ → Ending → Array → Type 0
+MayLeave s die (WentWrong cells) left =
+    Crash s.array (flight_alone s.translation.disk.flights die) left × Shows left cells
+MayLeave s die ending left = Unit {0}
 
 -- a reply that is due: which of several goes first is free
 abbrev pub Due : State → Message → Type 0

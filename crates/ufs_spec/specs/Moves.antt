@@ -1,13 +1,16 @@
 -- The moves of the translation layer: which may come, and what each makes of it (this profile).
 use Rattle.std.specs.Prelude.{◌≡◌, ℕ, ◌+◌, ◌-◌, ◌≤◌, ◌==◌, ◌&&◌, not, Bool, true, false, if◌then◌else◌, List, [], ◌∷◌, ◌++◌, All, filter, length, map, max, slice_get, Option, Some, None}
 use Rattle.std.specs.List.{list_any}
-use Rattle.ufs_spec.specs.Cells.{Cell, Cells, GroupPage, Mark, MarkPage, Nothing}
+use Rattle.ufs_spec.specs.Cells.{Cell, Cells, GroupPage, IsCell, Mark, MarkPage, Nothing, Opens, key_of}
 use Rattle.ufs_spec.specs.Disk.{BlockState, Bad, CellCrash, Disk, Erasing, Flight, ForNobody, ForRest, ForStep, ForTask, Free, Programming, Reader, Reading, at_spot, ended, erase_failed, erased, flight_alone, program_failed, programmed}
 use Rattle.ufs_spec.specs.Keys.{Group, IsBlock, IsKey, IsSettingsBody, Item}
 use Rattle.ufs_spec.specs.Ledger.{Ledger, Name, before_accepted, page_stands, same_name, settled_look}
 use Rattle.ufs_spec.specs.Plain.{shape_of_numbers}
 use Rattle.ufs_spec.specs.Translation.{CopyStep, FromPage, FromSlot, MarkStep, MayTake, Mended, Mending, Pin, Plan, RepairStep, Repairing, Rest, Source, Step, StepKind, Translation, Unmarked, has_mark_number, has_number, is_mended, mark_ordered, name_of, taken, turned, is_rest_of}
 use Rattle.ufs_spec.specs.declared.flash.Fence.{Fence}
+use Rattle.ufs_spec.specs.declared.flash.Outcome.{Outcome}
+use Rattle.ufs_spec.specs.declared.flash.Outcome.TheVariants as outcome
+use Rattle.ufs_spec.specs.declared.flash.Page.{Page}
 use Rattle.ufs_spec.specs.declared.flash.Place.{Place}
 use Rattle.ufs_spec.specs.declared.flash.Tag.{Tag}
 
@@ -152,6 +155,33 @@ MayEnd d die (Some (Programming place cell)) (WentWrong left) = CellCrash d.cell
 MayEnd d die (Some (Erasing spot)) WentWell = Unit {0}
 MayEnd d die (Some (Erasing spot)) (WentWrong left) = CellCrash d.cells (flight_alone d.flights die) left
 MayEnd d die flight ending = ⊥
+
+-- the page is none of that group's page with this key, whatever it records
+abbrev pub IsAnother : Page → Cell → Type 0
+IsAnother page (GroupPage tag body) =
+    (other : Tag) (bytes : List ℕ) → Opens page other bytes → key_of other ≡ key_of tag → other.number ≡ tag.number → ⊥
+IsAnother page cell = Unit {0}
+
+-- how a job ends by what its die reports: a read ends well where the page is the one that was wanted
+abbrev pub IsEndingOf : Cells → Option Flight → Outcome → Ending → Type 0
+IsEndingOf cells (Some (Reading reader place)) (outcome.Read page) ReadRight = IsCell page (cells place)
+IsEndingOf cells (Some (Reading reader place)) (outcome.Read page) ReadWrong = IsAnother page (cells place)
+IsEndingOf cells (Some (Reading reader place)) outcome.ReadFailed ReadWrong = Unit {0}
+IsEndingOf cells (Some (Programming place cell)) outcome.Done WentWell = Unit {0}
+IsEndingOf cells (Some (Programming place cell)) outcome.Failed (WentWrong left) = Unit {0}
+IsEndingOf cells (Some (Erasing spot)) outcome.Done WentWell = Unit {0}
+IsEndingOf cells (Some (Erasing spot)) outcome.Failed (WentWrong left) = Unit {0}
+IsEndingOf cells flight outcome ending = ⊥
+
+-- whether the outcome is of the job's kind
+abbrev pub suits : Option Flight → Outcome → Bool
+suits (Some (Reading reader place)) (outcome.Read page) = true
+suits (Some (Reading reader place)) outcome.ReadFailed = true
+suits (Some (Programming place cell)) outcome.Done = true
+suits (Some (Programming place cell)) outcome.Failed = true
+suits (Some (Erasing spot)) outcome.Done = true
+suits (Some (Erasing spot)) outcome.Failed = true
+suits flight outcome = false
 
 -- Moves
 

@@ -1,7 +1,7 @@
 //! The numbers of a device: its dies, its units and its room.
 ghost use Rattle.std.specs.Prelude.{◌≡◌, ◌≤◌, ◌*◌, ◌==◌, Some, None, length, count_by, sum_by, IfOk, IfErr};
 ghost use Rattle.std.specs.List.{list_all};
-ghost use Rattle.ufs_spec.specs.Configs.{numbers_of, is_between, unit_in_range, in_range, unit_blocks, pages_kept, blocks_needed, blocks_left, boot_count, config_fault, InRange, HasRoom, HasOneBootUnitEach};
+ghost use Rattle.ufs_spec.specs.Configs.{IsConfig, numbers_of, is_between, unit_in_range, in_range, unit_blocks, pages_kept, blocks_needed, blocks_left, boot_count, config_fault, InRange, HasRoom, HasOneBootUnitEach};
 
 use crate::faults::ConfigFault;
 use arrayvec::ArrayVec;
@@ -97,6 +97,13 @@ impl Config {
             return Err(ConfigFault::TwoBootUnits);
         }
         Ok(Config { numbers })
+    }
+
+    /// The numbers have no fault. It does nothing: its contract says so.
+    pub fn has_no_fault(&self)
+        ensures { IsConfig self.now }
+    {
+        let _ = &self.numbers;
     }
 
     /// The numbers.

@@ -5,6 +5,12 @@ ghost use Rattle.ftl_core.specs.Ends.{front_durable, front_written, noted, numbe
 ghost use Rattle.ftl_core.specs.Gives.{Gives, GivesIf, IsBodyLooked, IsBodyOf, IsGiven, change_after, change_ended, ending, erase_ended, group_ended, is_read, is_reading, mark_ended, names, other_for, read_after, read_over, reading_at, same_place};
 ghost use Rattle.ftl_core.specs.Done.{IsEnded, JobEnds, core_ended, job_after};
 ghost use Rattle.ftl_core.specs.Moves.{is_turn_due, moved_pin, erased, mark_failed, mark_ordered, mark_written, page_written, went_bad};
+ghost use Rattle.ufs_spec.specs.Keys.{IsBlock};
+ghost use Rattle.std.specs.Prelude.{is_some, Some};
+ghost use Rattle.ufs_spec.specs.Moves.{End, Ending, IsEndingOf, MayEnd, Turn, moved, suits};
+ghost use Rattle.ufs_spec.specs.Translation.{Translation, is_step_due};
+ghost use Rattle.ftl_core.specs.Describes.{Describes, IsTold};
+ghost use Rattle.ftl_core.specs.declared.ftl.Ended.{Ended};
 
 use super::{Ended, Ftl, LAST_NUMBER};
 use crate::books::{
@@ -23,6 +29,12 @@ fn names(tag: &Tag, key: Key, number: u64) -> bool
         && tag.number == number
 }
 
+/// A law: 4096 bytes are a block.
+fn one_block(bytes: &[u8])
+    requires { length bytes.now ≡ 4096 }
+    ensures { IsBlock bytes.now }
+{}
+
 /// The block of the page, where it is the page of this address with this number.
 fn body_of(page: &Page, key: Key, number: u64) -> Option<Block>
     ensures { IsBodyOf page.now key number result }
@@ -31,6 +43,7 @@ fn body_of(page: &Page, key: Key, number: u64) -> Option<Block>
     let Some(opened) = open(page) else {
         return None;
     };
+    one_block(opened.body.as_slice());
     if names(&opened.tag, key, number) {
         Some(opened.body)
     } else {
@@ -428,6 +441,23 @@ impl Ftl {
         ensures nothing { IfNone result (self.new ≡ self.old) }
         ensures answer { IsEnded self.old die outcome.now result }
         ensures after { self.new ≡ core_ended self.old die outcome.now }
+        // It is known exactly where the outcome is of the kind of the job in flight.
+        ensures known { (t : Translation) → Describes self.old t → is_some result ≡ suits (t.disk.flights die) outcome.now }
+        // What is kept then describes what the end makes of the layer, and the answer tells what it gave.
+        ensures described { (t : Translation) (ending : Ending) → Describes self.old t →
+            IsEndingOf t.disk.cells (t.disk.flights die) outcome.now ending → MayEnd t.disk die (t.disk.flights die) ending →
+            Describes self.new (moved t (End die ending)) }
+        ensures told { (t : Translation) (ending : Ending) → Describes self.old t →
+            IsEndingOf t.disk.cells (t.disk.flights die) outcome.now ending →
+            (e : Ended) × (result ≡ Some e) × IsTold t.disk.cells (t.disk.flights die) ending e }
+    {
+        self.end_job(die, outcome)
+    }
+
+    fn end_job(&mut self, die: u8, outcome: &Outcome) -> Option<Ended>
+        ensures nothing { IfNone result (self.new ≡ self.old) }
+        ensures answer { IsEnded self.old die outcome.now result }
+        ensures after { self.new ≡ core_ended self.old die outcome.now }
     {
         let book = self.book(die)?;
         let flight = book.flight?;
@@ -437,6 +467,15 @@ impl Ftl {
     /// Orders the first mark where the device is not mended and no mark is under way; false, and
     /// nothing changes, where no step is due.
     pub fn turn(&mut self) -> bool
+        ensures due { result ≡ is_turn_due self.old }
+        ensures after { self.new ≡ (if result then mark_ordered self.old else self.old) }
+        ensures described_due { (t : Translation) → Describes self.old t → result ≡ is_step_due t }
+        ensures described { (t : Translation) → Describes self.old t → Describes self.new (moved t Turn) }
+    {
+        self.order_step()
+    }
+
+    fn order_step(&mut self) -> bool
         ensures due { result ≡ is_turn_due self.old }
         ensures after { self.new ≡ (if result then mark_ordered self.old else self.old) }
     {

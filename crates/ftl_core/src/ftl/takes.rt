@@ -6,6 +6,8 @@ ghost use Rattle.std.specs.List.{list_any};
 ghost use Rattle.ufs_spec.specs.Pages.{mark_bytes, seal_page};
 ghost use Rattle.ftl_core.specs.Takes.{any_waiting_job, any_waiting_started, block_for, core_taken, erase_of, erase_started, first_owed, group_job, group_started, is_data, job_taken, page_of_group, owed_job, owed_started, page_job, page_started, waiting_job, waiting_started};
 ghost use Rattle.ftl_core.specs.Moves.{mark_key, group_moved, place_owed, read_started, is_erasable, is_owed_by, is_waiting, keeps, may_open, started, waiting_of, free_blocks, single_tag, state_index, state_of, with_book, with_state};
+ghost use Rattle.ufs_spec.specs.Translation.{Translation};
+ghost use Rattle.ftl_core.specs.Describes.{Describes, IsTaken};
 
 use super::{Ftl, LAST_NUMBER};
 use crate::books::{
@@ -314,6 +316,16 @@ impl Ftl {
     /// program of the first waiting page, else the erase of a block to put it into. `None` where the
     /// die is not one of the device, has a job in flight, or is owed nothing.
     pub fn take(&mut self, die: u8) -> Option<Job>
+        ensures nothing { IfNone result (self.new ≡ self.old) }
+        ensures job { result ≡ job_taken self.old die }
+        ensures after { self.new ≡ core_taken self.old die }
+        // It is one that the layer owes to the die, in the order of what is owed, and none where none is.
+        ensures described { (t : Translation) → Describes self.old t → IsTaken t die result self.new }
+    {
+        self.next_job(die)
+    }
+
+    fn next_job(&mut self, die: u8) -> Option<Job>
         ensures nothing { IfNone result (self.new ≡ self.old) }
         ensures job { result ≡ job_taken self.old die }
         ensures after { self.new ≡ core_taken self.old die }

@@ -1,5 +1,5 @@
-use Rattle.std.proofs.Common.{◌≡◌, vec_len}
+use Rattle.device.specs.Worlds.{IsPlayed}
 use Rattle.device.proofs.world.run.Given as goal
 
-abbrev pub invariant-loop-event : goal.invariant-loop-event
-invariant-loop-event l = vec_len l.trace ≡ l.event-index
+abbrev pub invariant-loop-index : goal.invariant-loop-index
+invariant-loop-index l = IsPlayed l.fn.config l.fn.dies.items l.events l.index l.trace.items l.world

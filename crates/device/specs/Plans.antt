@@ -1,0 +1,106 @@
+-- What a command does, or the status that ends it: the first check that fails decides.
+use Rattle.std.specs.Prelude.{◌≡◌, ℕ, ◌+◌, ◌*◌, ◌==◌, ◌&&◌, ◌||◌, nat_le, nat_lt, not, Bool, true, false, if◌then◌else◌, List, Option, Some, None, Result, Ok, Err}
+use Rattle.ufs_spec.specs.Cdbs.{IsTakenOperation, SpellsCdb}
+use Rattle.ufs_spec.specs.Keys.{data_key}
+use Rattle.ufs_spec.specs.declared.flash.Key.{Key}
+use Rattle.ufs_spec.specs.declared.messages.Message.{Message}
+use Rattle.ufs_spec.specs.declared.messages.Message.TheVariants as message
+use Rattle.ufs_spec.specs.declared.scsi.Cdb.{Cdb}
+use Rattle.ufs_spec.specs.declared.scsi.Cdb.TheVariants as cdb
+use Rattle.ufs_spec.specs.declared.scsi.Sense.{Sense}
+use Rattle.ufs_spec.specs.declared.scsi.TheConstants.Sense.{INVALID_FIELD, INVALID_OPCODE, NOT_READY, NO_UNIT, OUT_OF_RANGE, WRITE_PROTECTED}
+use Rattle.ftl_core.specs.Core.{Core}
+use Rattle.ftl_core.specs.Moves.{blocks_of, free_slots, is_locked}
+use Rattle.device.specs.declared.checks.Transfer.{Transfer}
+use Rattle.device.specs.declared.tasks.Plan.{Plan}
+use Rattle.device.specs.declared.tasks.Plan.TheVariants as plan
+use Rattle.device.specs.declared.tasks.Status.{Status}
+use Rattle.device.specs.declared.tasks.Status.TheVariants as status
+
+-- CDBs
+
+-- what the sixteen bytes of a CDB were read as: the command that they spell, or the sense of one that is not taken
+pub record IsCdbRead (bytes : List ℕ) (taken : Result Cdb Sense) : Type 0 where
+  pub read : (c : Cdb) → taken ≡ Ok c → SpellsCdb c bytes
+  pub every : (c : Cdb) → SpellsCdb c bytes → taken ≡ Ok c
+  pub operation : (IsTakenOperation bytes → ⊥) → taken ≡ Err INVALID_OPCODE
+  pub field : (sense : Sense) → taken ≡ Err sense → IsTakenOperation bytes → sense ≡ INVALID_FIELD
+
+-- what the CDB of a message was read as, where it has one
+abbrev pub IsTakenFrom : Message → Result Cdb Sense → Type 0
+IsTakenFrom (message.Command flags lun tag expected bytes) taken = IsCdbRead bytes taken
+IsTakenFrom m taken = Unit {0}
+
+-- Transfers
+
+abbrev pub transfer_of : Cdb → Option Transfer
+transfer_of (cdb.Read10 address blocks forced) = Some (record { address = address; blocks = blocks; writes = false })
+transfer_of (cdb.Write10 address blocks forced) = Some (record { address = address; blocks = blocks; writes = true })
+transfer_of _ = None
+
+abbrev pub length_of : Transfer → ℕ
+length_of t = t.blocks * 4096
+
+-- the flags and the expected length carry the data in their direction
+abbrev pub carries : Transfer → ℕ → ℕ → Bool
+carries t flags expected =
+    if length_of t == 0 then true
+    else if t.writes then (flags == 0x20) && nat_le (length_of t) expected
+    else flags == 0x40
+
+-- what a command that passed the checks does
+abbrev pub plan_of : Transfer → Key → ℕ → Plan
+plan_of t key expected =
+    if (t.blocks == 0) || (not t.writes && (expected == 0)) then plan.Nothing (length_of t)
+    else if t.writes then plan.Write key
+    else plan.Read key
+
+-- Checks
+
+abbrev pub check : Sense → Option Status
+check sense = Some (status.CheckCondition sense)
+
+-- a write needs a device that is not locked, and a slot
+abbrev pub write_refusal : Core → Option Status
+write_refusal c =
+    if is_locked c then check WRITE_PROTECTED
+    else if free_slots c == 0 then Some status.Busy
+    else None
+
+abbrev pub state_refusal : Core → Transfer → Option Status
+state_refusal c t =
+    if not c.mended then check NOT_READY
+    else if t.writes && nat_lt 0 t.blocks then write_refusal c
+    else None
+
+-- why a transfer within a unit of so many blocks is refused, if it is
+abbrev pub refusal_of : Core → ℕ → ℕ → ℕ → Transfer → Option Status
+refusal_of c unit_blocks flags expected t =
+    if nat_lt 1 t.blocks then check INVALID_FIELD
+    else if not (carries t flags expected) then check INVALID_FIELD
+    else if nat_lt unit_blocks (t.address + t.blocks) then check OUT_OF_RANGE
+    else state_refusal c t
+
+-- Plans
+
+abbrev pub planned_or : ℕ → ℕ → Transfer → Option Status → Result Plan Status
+planned_or lun expected t (Some refused) = Err refused
+planned_or lun expected t None = Ok (plan_of t (data_key lun t.address) expected)
+
+abbrev pub planned_transfer : Core → ℕ → ℕ → ℕ → ℕ → Option Transfer → Result Plan Status
+planned_transfer c lun flags expected unit_blocks None = Err (status.CheckCondition INVALID_OPCODE)
+planned_transfer c lun flags expected unit_blocks (Some t) =
+    planned_or lun expected t (refusal_of c unit_blocks flags expected t)
+
+abbrev pub planned_taken : Core → ℕ → ℕ → ℕ → ℕ → Result Cdb Sense → Result Plan Status
+planned_taken c lun flags expected unit_blocks (Err sense) = Err (status.CheckCondition sense)
+planned_taken c lun flags expected unit_blocks (Ok command) =
+    planned_transfer c lun flags expected unit_blocks (transfer_of command)
+
+abbrev pub planned_in : Core → ℕ → ℕ → ℕ → Result Cdb Sense → Option ℕ → Result Plan Status
+planned_in c lun flags expected taken None = Err (status.CheckCondition NO_UNIT)
+planned_in c lun flags expected taken (Some unit_blocks) = planned_taken c lun flags expected unit_blocks taken
+
+-- what the command does, or why it is refused
+abbrev pub planned : Core → ℕ → ℕ → ℕ → Result Cdb Sense → Result Plan Status
+planned c lun flags expected taken = planned_in c lun flags expected taken (blocks_of c lun)
