@@ -1,4 +1,5 @@
 -- The table by which a command is refused, against the checks of the code: they end a command with the same status.
+use Rattle.ufs_spec.proofs.Facts.{true≢false}
 use Rattle.std.proofs.Common.{IsTrue, get_or, ◌≡◌, ◌∙◌, ◌⊎◌, ℕ, zero, suc, ◌+◌, ◌<◌, ◌≤◌, Bool, true, false, List, [], ◌∷◌, Option, Some, None, length, refl, sym, ap, subst, inl, inr, ⊎_elim, arith}
 use Rattle.std.specs.Prelude.{◌*◌, ◌||◌, ◌&&◌, ◌==◌, if◌then◌else◌, nat_lt, nat_le, not, slice_get, option_map, Result, Ok, Err}
 use Rattle.std.proofs.lemmas.Bool.{le-ltb, lt-ltb, ltb-false}
@@ -233,13 +234,10 @@ Agrees c s r refused told = ⊥
 takes_none : (unit operation : ℕ) → takes (UnitOf unit) operation ≡ false → IsTrue (is_among taken_operations operation) → ⊥
 takes_none unit operation h k = by (operation == read_10) (operation == write_10) refl refl k
   where
-    yes : true ≡ false → ⊥
-    yes e = cc
-
     by : (a b : Bool) → (operation == read_10) ≡ a → (operation == write_10) ≡ b → IsTrue (a || (b || false)) → ⊥
-    by true b e f k = yes (subst (λ n. takes (UnitOf unit) n ≡ false) (eq_told operation read_10 e) h)
-    by false true e f k = yes (subst (λ n. takes (UnitOf unit) n ≡ false) (eq_told operation write_10 f) h)
-    by false false e f k = yes (sym k)
+    by true b e f k = true≢false (subst (λ n. takes (UnitOf unit) n ≡ false) (eq_told operation read_10 e) h)
+    by false true e f k = true≢false (subst (λ n. takes (UnitOf unit) n ≡ false) (eq_told operation write_10 f) h)
+    by false false e f k = true≢false (sym k)
 
 takes_some : (unit operation : ℕ) → takes (UnitOf unit) operation ≡ true → IsTrue (is_among taken_operations operation)
 takes_some unit operation h =

@@ -1,4 +1,5 @@
 -- Lists: one element changed, the first that passes a test, and the pins of readers.
+use Rattle.ufs_spec.proofs.Facts.{true≢false}
 use Rattle.std.proofs.Common.{◌≡◌, ◌≢◌, ◌∙◌, ◌⊎◌, ℕ, zero, suc, ◌<◌, ◌≤◌, Bool, true, false, List, [], ◌∷◌, Option, Some, None, length, refl, sym, ap, subst, inl, inr, ⊎_elim, arith}
 use Rattle.std.proofs.lemmas.Option.{slice_get_within}
 use Rattle.std.proofs.lemmas.Bool.{lt-ltb, le-ltb}
@@ -31,9 +32,6 @@ use Rattle.ftl_core.specs.Describes.{BookKept, DiesKept, GroupsKept, IsFlight, I
 use Rattle.ftl_core.specs.Core.{Core}
 use Rattle.ftl_core.specs.Gives.{is_reading, reads_place, same_place}
 use Rattle.ftl_core.specs.Moves.{is_pin_of}
-
-true_false : true ≡ false → ⊥
-true_false e = cc
 
 -- One element changed
 
@@ -84,7 +82,7 @@ any_told f (z ∷ zs) h =
     ⊎_elim (λ (is : f z ≡ true). (0, z, refl, is)) (λ (is : list_any f zs ≡ true). let r = any_told f zs is in (suc r.0, r.1, r.2, r.3)) (any_split (f z) (list_any f zs) h)
 
 pub any_none : {A : Type 0} (f : A → Bool) (xs : List A) (k : ℕ) (x : A) → list_any f xs ≡ false → slice_get xs k ≡ Some x → f x ≡ false
-any_none f xs k x none h = ⊎_elim (λ is. absurd (true_false (sym (any_here f xs k x h is) ∙ none))) (λ is. is) (two_ways (f x))
+any_none f xs k x none h = ⊎_elim (λ is. absurd (true≢false (sym (any_here f xs k x h is) ∙ none))) (λ is. is) (two_ways (f x))
 
 -- The first that passes a test
 
@@ -129,7 +127,7 @@ position_any {A = A} f xs h =
     ⊎_elim
     (λ r. r)
     (λ (r : (position f xs ≡ None) × ((j : ℕ) (y : A) → slice_get xs j ≡ Some y → f y ≡ false)).
-    let w = any_told f xs h in absurd (true_false (sym w.3 ∙ r.1 w.0 w.1 w.2)))
+    let w = any_told f xs h in absurd (true≢false (sym w.3 ∙ r.1 w.0 w.1 w.2)))
     (position_cases f xs)
 
 -- none passes
@@ -137,7 +135,7 @@ pub position_none : {A : Type 0} (f : A → Bool) (xs : List A) → list_any f x
 position_none {A = A} f xs h =
     ⊎_elim
     (λ (r : (i : ℕ) × (x : A) × (position f xs ≡ Some i) × (slice_get xs i ≡ Some x) × (f x ≡ true)).
-    absurd (true_false (sym (any_here f xs r.0 r.1 r.3 r.4) ∙ h)))
+    absurd (true≢false (sym (any_here f xs r.0 r.1 r.3 r.4) ∙ h)))
     (λ r. r.0)
     (position_cases f xs)
 
@@ -165,9 +163,9 @@ pub differ_one : (ps : List Pin) (j k : ℕ) (p q : Pin) → ReadersDiffer ps �
 differ_one [] j k p q d h g e = absurd (none_some p h)
 differ_one (x ∷ xs) zero zero p q d h g e = refl
 differ_one (x ∷ xs) zero (suc k) p q d h g e =
-    absurd (true_false (sym (reader_is x.reader q (sym e ∙ ap (λ (y : Pin). y.reader) (sym (some_is x p h)))) ∙ any_none (is_pin_of x.reader) xs k q d.0 g))
+    absurd (true≢false (sym (reader_is x.reader q (sym e ∙ ap (λ (y : Pin). y.reader) (sym (some_is x p h)))) ∙ any_none (is_pin_of x.reader) xs k q d.0 g))
 differ_one (x ∷ xs) (suc j) zero p q d h g e =
-    absurd (true_false (sym (reader_is x.reader p (e ∙ ap (λ (y : Pin). y.reader) (sym (some_is x q g)))) ∙ any_none (is_pin_of x.reader) xs j p d.0 h))
+    absurd (true≢false (sym (reader_is x.reader p (e ∙ ap (λ (y : Pin). y.reader) (sym (some_is x q g)))) ∙ any_none (is_pin_of x.reader) xs j p d.0 h))
 differ_one (x ∷ xs) (suc j) (suc k) p q d h g e = ap suc (differ_one xs j k p q d.1 h g e)
 
 -- a pin changes, and its reader stays
@@ -201,7 +199,7 @@ pins_others l cells erasing flies after f reader [] (q ∷ qs) others none kept 
 pins_others l cells erasing flies after f reader (p ∷ ps) [] others none kept = absurd kept
 pins_others l cells erasing flies after f reader (p ∷ ps) (q ∷ qs) others none kept =
     let r = or_false (is_pin_of reader p) (list_any (is_pin_of reader) ps) none in
-    (others p q (λ e. true_false (sym (reader_is reader p e) ∙ r.0)) kept.0, pins_others l cells erasing flies after f reader ps qs others r.1 kept.1)
+    (others p q (λ e. true≢false (sym (reader_is reader p e) ∙ r.0)) kept.0, pins_others l cells erasing flies after f reader ps qs others r.1 kept.1)
 
 -- the pin of one reader changes, and what was known of those of all others still holds
 pub pins_put : (l : Ledger) (cells : Cells) (erasing : Spot → Bool) (flies after : Reader → Bool) (f : layer.Pin → layer.Pin) (ps : List Pin) (qs : List layer.Pin) (k : ℕ) (p x : Pin) →
@@ -215,7 +213,7 @@ pins_put l cells erasing flies after f (a ∷ ps) (b ∷ qs) zero p x others one
   pins_others l cells erasing flies after f p.reader ps qs others (subst (λ (z : Pin). list_any (is_pin_of z.reader) ps ≡ false) (some_is a p h) d.0) kept.1,
 )
 pins_put l cells erasing flies after f (a ∷ ps) (b ∷ qs) (suc k) p x others one d h kept = (
-  others a b (λ e. true_false (sym (reader_is a.reader p (sym e)) ∙ any_none (is_pin_of a.reader) ps k p d.0 h)) kept.0,
+  others a b (λ e. true≢false (sym (reader_is a.reader p (sym e)) ∙ any_none (is_pin_of a.reader) ps k p d.0 h)) kept.0,
   pins_put l cells erasing flies after f ps qs k p x others one d.1 h kept.1,
 )
 
@@ -263,10 +261,10 @@ reads_told : (place : Place) (b : Bool) (r : ReadState) (l : Looked) → reads_p
     (s : Stored) × (l ≡ looked.Page s) × (r ≡ read.InFlight) × (b ≡ true) × (s.place ≡ place)
 reads_told place b r looked.Nothing h = cc
 reads_told place b r (looked.Slot n) h = cc
-reads_told place b read.Owed (looked.Page s) h = let w = and_true (b && false) (same_place s.place place) h in absurd (true_false (sym (and_true b false w.0).1))
+reads_told place b read.Owed (looked.Page s) h = let w = and_true (b && false) (same_place s.place place) h in absurd (true≢false (sym (and_true b false w.0).1))
 reads_told place b read.InFlight (looked.Page s) h =
     let w = and_true (b && true) (same_place s.place place) h in (s, refl, refl, (and_true b true w.0).0, place_told s.place place w.1)
-reads_told place b read.Over (looked.Page s) h = let w = and_true (b && false) (same_place s.place place) h in absurd (true_false (sym (and_true b false w.0).1))
+reads_told place b read.Over (looked.Page s) h = let w = and_true (b && false) (same_place s.place place) h in absurd (true≢false (sym (and_true b false w.0).1))
 
 pub reading_told : (reader : ℕ) (place : Place) (p : Pin) → is_reading reader place p ≡ true → IsReadingOf reader place p
 reading_told reader place p h =
@@ -337,7 +335,7 @@ dies_put n blocks flights books ps qs die b x job h there this none same = recor
 
     before : (d : ℕ) (name : Name) → flies_name name (at_die flights die job d) ≡ true → flies_name name (flights d) ≡ true
     before d name f = ⊎_elim
-        (λ (r : (d ≡ die) × (at_die flights die job d ≡ job)). absurd (true_false (sym f ∙ ap (flies_name name) r.1 ∙ none name)))
+        (λ (r : (d ≡ die) × (at_die flights die job d ≡ job)). absurd (true≢false (sym f ∙ ap (flies_name name) r.1 ∙ none name)))
         (λ (r : (d ≢ die) × (at_die flights die job d ≡ flights d)). sym (ap (flies_name name) r.1) ∙ f)
         (at_die_cases flights die job d)
 

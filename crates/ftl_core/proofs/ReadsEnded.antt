@@ -1,4 +1,5 @@
 -- A read ends.
+use Rattle.ufs_spec.proofs.Facts.{key_is}
 use Rattle.std.proofs.Common.{◌≡◌, ◌≢◌, ◌∙◌, ◌⊎◌, ℕ, ◌<◌, ◌≤◌, Bool, true, false, List, Option, Some, None, length, map, refl, sym, ap, subst, inl, inr, ⊎_elim, arith}
 use Rattle.std.specs.Prelude.{◌&&◌, ◌==◌, slice_get, slice_set}
 use Rattle.std.specs.List.{list_any}
@@ -276,9 +277,6 @@ named t k n e f =
   where
     all : (a b c d : Bool) → a ≡ true → b ≡ true → c ≡ true → d ≡ true → (a && b && c && d) ≡ true
     all a b c d p q r s = ap (λ (x : Bool). x && b && c && d) p ∙ ap (λ (x : Bool). true && x && c && d) q ∙ ap (λ (x : Bool). true && true && x && d) r ∙ s
-
-key_is : (j k : Key) → j.kind ≡ k.kind → j.unit ≡ k.unit → j.address ≡ k.address → j ≡ k
-key_is j k d e f = λ i. record { kind = d i; unit = e i; address = f i }
 
 names_told : (t : Tag) (k : Key) (n : ℕ) → names t k n ≡ true → (key_of t ≡ k) × (t.number ≡ n)
 names_told t k n h =

@@ -8,7 +8,7 @@ use Rattle.ufs_spec.specs.Plain.{Shape, shape_of_numbers}
 use Rattle.ufs_spec.specs.declared.configs.Numbers.{Numbers}
 use Rattle.ufs_spec.specs.declared.configs.UnitSpec.{UnitSpec}
 use Rattle.ufs_spec.specs.declared.flash.Key.{Key}
-use Rattle.power_loss.proofs.Latest.{key_is}
+use Rattle.ufs_spec.proofs.Facts.{key_is}
 use Rattle.power_loss.proofs.OneMore.{if_true}
 use Rattle.power_loss.proofs.Books.{some_is}
 use Rattle.ftl_core.specs.Moves.{position_of, position_within, unit_position}

@@ -1,45 +1,19 @@
 -- Tasks that a host ends: their claims come back, and what they keep is let go.
-use Rattle.std.proofs.Common.{◌≡◌, ℕ, ◌+◌, ◌≤◌, Bool, true, false, not, cond, List, [], ◌∷◌, length, refl, sym, subst, arith}
-use Rattle.std.specs.Prelude.{if◌then◌else◌, filter, fold}
+use Rattle.std.proofs.Common.{◌≡◌, ℕ, ◌+◌, ◌≤◌, Bool, true, false, not, cond, List, [], ◌∷◌, length, refl, arith}
+use Rattle.std.specs.Prelude.{if◌then◌else◌, filter}
 use Rattle.std.specs.List.{flat_map}
-use Rattle.ufs_spec.specs.Cells.{Shows}
 use Rattle.ufs_spec.specs.Exchanges.{Task, is_task_of}
-use Rattle.ufs_spec.specs.Ledger.{accepted_groups}
-use Rattle.ufs_spec.specs.Machine.{abort_moves, is_aborted, managed, without_tasks}
-use Rattle.ufs_spec.specs.Moves.{LetGoAll, Release, moved}
+use Rattle.ufs_spec.specs.Machine.{abort_moves, is_aborted, managed, registers_behind, with_moves, without_tasks}
+use Rattle.ufs_spec.specs.Moves.{LetGoAll, Release}
 use Rattle.ufs_spec.specs.Plain.{shape_of_numbers}
 use Rattle.ufs_spec.specs.Stages.{manages_tasks}
 use Rattle.ufs_spec.specs.Steps.{State, numbers_of}
-use Rattle.ufs_spec.specs.Translation.{Translation, is_mended}
-use Rattle.ufs_spec.specs.declared.configs.Numbers.{Numbers}
-use Rattle.power_loss.specs.Exchange.{TasksRight, IsTied, claim_of, claims_of}
-use Rattle.power_loss.proofs.EventParts.{fits_of, ties_of, ties_stay, whole}
-use Rattle.power_loss.proofs.FittingMoves.{Fits, Stays, move_fits}
+use Rattle.ufs_spec.specs.Translation.{is_mended}
+use Rattle.power_loss.specs.Exchange.{IsTied, claim_of, claims_of}
 use Rattle.power_loss.proofs.HostCommands.{IsFree}
-use Rattle.power_loss.proofs.TaskLists.{any_fewer, tasks_fewer, tasks_more}
-
--- the layer after tasks were ended
-record Ended (t u : Translation) (claims : ℕ) : Type 0 where
-  fits : Fits u
-  stays : Stays t u
-  groups : accepted_groups u.ledger ≡ accepted_groups t.ledger
-  cells : u.disk.cells ≡ t.disk.cells
-  left : t.claims ≤ u.claims + claims
-
-ended : (t : Translation) (tasks : List Task) → Fits t → Ended t (fold moved t (flat_map abort_moves tasks)) (claims_of tasks)
-ended t [] f = record { fits = f; stays = record { numbers = refl; base = refl; mended = λ h. h }; groups = refl; cells = refl; left = omega arith }
-ended t (task ∷ tasks) f =
-    let freed = moved t (Release (claim_of task)) in
-    let gone = moved freed (LetGoAll task.tag) in
-    let rest = ended gone tasks (move_fits freed (LetGoAll task.tag) (move_fits t (Release (claim_of task)) f tt) tt) in
-    let left = rest.left in
-    record {
-      fits = rest.fits;
-      stays = record { numbers = rest.stays.numbers; base = rest.stays.base; mended = rest.stays.mended };
-      groups = rest.groups;
-      cells = rest.cells;
-      left = omega arith;
-    }
+use Rattle.power_loss.proofs.TaskLists.{any_fewer, tasks_fewer}
+use Rattle.power_loss.proofs.RightChanges.{Right, right_keeps, right_move}
+use Rattle.ufs_laws.proofs.Changed.{Both, Closes, Moves, One, SetsRegisters, Still}
 
 -- each claim is one of a task that goes or of one that stays
 claims_split : (is : Task → Bool) (tasks : List Task) → claims_of (filter is tasks) + claims_of (filter (λ task. not (is task)) tasks) ≡ claims_of tasks
@@ -51,42 +25,48 @@ claims_split is (t ∷ ts) = by (is t) (claims_split is ts)
     by true e = omega arith
     by false e = omega arith
 
-fewer_claims : (s : State) (is : Task → Bool) (u : Translation) → IsTied s → Ended s.translation u (claims_of (filter is s.tasks)) →
-    TasksRight (shape_of_numbers u.numbers) (length s.accepted) (is_mended u.work.mending) u.claims (filter (λ task. not (is task)) s.tasks) s.shorts
-fewer_claims s is u v e =
-    let sh = shape_of_numbers (numbers_of s) in
-    let a = length s.accepted in
-    let m = is_mended s.translation.work.mending in
-    let stay = filter (λ (task : Task). not (is task)) s.tasks in
-    let few = tasks_fewer sh a m s.translation.claims (λ (task : Task). not (is task)) s.tasks s.shorts v.tasks in
+-- what they claimed comes back, and what they kept is let go
+aborted : (s : State) (tasks : List Task) → IsTied s → claims_of s.tasks + claims_of tasks ≤ s.translation.claims → Right s (with_moves s (flat_map abort_moves tasks))
+aborted s [] v few = Still
+aborted s (task ∷ tasks) v few =
+    let release : Right s (with_moves s (Release (claim_of task) ∷ [])) = One (Moves (Release (claim_of task))) (record {
+      small = tt;
+      layer = tt;
+      tasks = record {
+        deeds = v.tasks.deeds;
+        waits = v.tasks.waits;
+        tasks_differ = v.tasks.tasks_differ;
+        shorts_differ = v.tasks.shorts_differ;
+        apart = v.tasks.apart;
+        claimed = omega arith;
+      };
+    }) in
+    let freed = right_keeps release v in
+    let go = right_move (with_moves s (Release (claim_of task) ∷ [])) (LetGoAll task.tag) freed tt tt (omega arith) in
+    Both release (Both go (aborted (with_moves s (abort_moves task)) tasks (right_keeps go freed) (omega arith)))
+
+pub aborts_right : (s : State) (is : Task → Bool) → IsTied s → Right s (without_tasks s is)
+aborts_right s is v =
+    let u : State = record s { tasks = filter (λ (task : Task). not (is task)) s.tasks } in
     let split = claims_split is s.tasks in
     let claimed = v.tasks.claimed in
-    let left = e.left in
-    let right : TasksRight sh a m u.claims stay s.shorts = record {
-      deeds = few.deeds;
-      waits = few.waits;
-      tasks_differ = few.tasks_differ;
-      shorts_differ = few.shorts_differ;
-      apart = few.apart;
-      claimed = omega arith;
-    } in
-    subst (λ (n : Numbers). TasksRight (shape_of_numbers n) a (is_mended u.work.mending) u.claims stay s.shorts) (sym e.stays.numbers)
-    (tasks_more sh a a m (is_mended u.work.mending) u.claims u.claims stay s.shorts (omega arith) e.stays.mended (omega arith) right)
+    let gone : Right s u = One (Closes is) (record {
+      small = tt;
+      layer = tt;
+      tasks = tasks_fewer (shape_of_numbers (numbers_of s)) (length s.accepted) (is_mended s.translation.work.mending) s.translation.claims (λ (task : Task). not (is task))
+          s.tasks s.shorts v.tasks;
+    }) in
+    let back = aborted u (filter is s.tasks) (right_keeps gone v) (omega arith) in
+    Both gone
+    (Both back
+    (One (SetsRegisters (registers_behind (filter is s.tasks) s.registers)) (record { small = tt; layer = tt; tasks = (right_keeps back (right_keeps gone v)).tasks })))
 
-pub aborts_keep : (s : State) (is : Task → Bool) → IsTied s → IsTied (without_tasks s is)
-aborts_keep s is v =
-    let u = fold moved s.translation (flat_map abort_moves (filter is s.tasks)) in
-    let e = ended s.translation (filter is s.tasks) (fits_of s v) in
-    whole (without_tasks s is) e.fits
-    (ties_stay s.array s.array s.base s.accepted s.translation u (ties_of s v) e.stays (subst (Shows s.array) (sym e.cells) v.shown) e.groups)
-    (fewer_claims s is u v e)
-
-pub managed_keeps : (s : State) (lun function meant : ℕ) → IsTied s → IsTied (managed s lun function meant)
-managed_keeps s lun function meant v = by manages_tasks
+pub managed_right : (s : State) (lun function meant : ℕ) → IsTied s → Right s (managed s lun function meant)
+managed_right s lun function meant v = by manages_tasks
   where
-    by : (b : Bool) → IsTied (if b then without_tasks s (is_aborted lun function meant) else s)
-    by true = aborts_keep s (is_aborted lun function meant) v
-    by false = v
+    by : (b : Bool) → Right s (if b then without_tasks s (is_aborted lun function meant) else s)
+    by true = aborts_right s (is_aborted lun function meant) v
+    by false = Still
 
 -- a tag that is free stays so
 pub managed_free : (s : State) (lun function meant tag : ℕ) → IsFree s tag → IsFree (managed s lun function meant) tag

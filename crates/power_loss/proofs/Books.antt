@@ -1,4 +1,5 @@
 -- What a book knows of a page, and how it grows by a group.
+pub use Rattle.ufs_spec.proofs.Facts.{at_most}
 use Rattle.std.proofs.Common.{◌≡◌, ℕ, zero, suc, ◌-◌, ◌<◌, ◌≤◌, ◌⊎◌, true, false, List, [], ◌∷◌, ◌++◌, length, nat_le, Option, Some, None, slice_get, refl, sym, ap, ◌∙◌, subst, inl, inr, ⊎_elim, arith, length-append, le-leb}
 use Rattle.std.specs.Prelude.{option_and_then, option_map}
 use Rattle.std.proofs.lemmas.Option.{slice_get_within}
@@ -12,9 +13,6 @@ use Rattle.ufs_spec.specs.declared.flash.Tag.{Tag}
 use Rattle.power_loss.specs.Book.{BaseAt, BaseNone, Book, BookRight, FirstRight, HasKey, IsFenceMark, IsKnown, IsLastOrLost, IsLostNumber, IsOverwritten, IsPageAt, IsPlainMark, IsWritten, last_number, page_at}
 
 -- Numbers
-
-pub at_most : (a b : ℕ) → (a ≤ b) ⊎ (b < a)
-at_most a b = grind arith
 
 pub false_true : false ≡ true → ⊥
 false_true e = cc

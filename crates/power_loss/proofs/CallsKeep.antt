@@ -1,55 +1,132 @@
 -- Each call that is answered rightly keeps the state tied to its dies and commands, whatever a failed job leaves.
-use Rattle.std.proofs.Common.{◌≡◌, ℕ, true, false, Option, Some, None, refl, sym}
+use Rattle.std.proofs.Common.{List, None, Option, Some, ap, refl, subst, sym, true, ℕ, ◌∙◌, ◌≡◌}
+use Rattle.ufs_spec.proofs.Facts.{false≢true}
+use Rattle.std.specs.Prelude.{Err, Ok, Result, slice_index}
+use Rattle.ufs_spec.specs.Cdbs.{SpellsCdb, cdb_bytes, operation_of}
+use Rattle.ufs_spec.specs.Machine.{Allowed, Answer, Ask, Call, Faulty, Finish, Finishes, Give, Gives, Heard, Hears, Host, IsCdbIn, IsHeard, MayHear, MayLeave, Replies, Spelled, Step, Steps, behind, cdb_of, fits, heard, managed, message_fault, observe, opens_short, query_unanswered, result_of, service}
+use Rattle.ufs_spec.specs.Messages.{Spells}
+use Rattle.ufs_spec.specs.Moves.{Ending, ReadRight, ReadWrong, Take, WentWell, WentWrong}
 use Rattle.ufs_spec.specs.Cells.{Array}
-use Rattle.ufs_spec.specs.Disk.{Erasing, Flight, Programming, Reading}
-use Rattle.ufs_spec.specs.Machine.{Allowed, Answer, Ask, Call, Finish, Finishes, Give, Gives, Hears, Host, MayLeave, Replies, Step, Steps, behind, ends_with, fits, observe}
-use Rattle.ufs_spec.specs.Moves.{Ending, ReadRight, ReadWrong, WentWell, WentWrong}
 use Rattle.ufs_spec.specs.Steps.{State}
+use Rattle.ufs_spec.specs.declared.faults.HostFault.{HostFault}
+use Rattle.ufs_spec.specs.declared.messages.Message.{Message}
+use Rattle.ufs_spec.specs.declared.scsi.Cdb.{Cdb}
 use Rattle.power_loss.specs.Exchange.{IsTied, MayCome}
-use Rattle.power_loss.proofs.EachEvent.{asked_answered, give_answered, host_answered, step_answered}
-use Rattle.power_loss.proofs.Endings.{ends_keep, erased_shown, failed_keeps, left_shown, right_shown, written_shown, wrong_shown}
-use Rattle.power_loss.proofs.EventParts.{lock_keeps}
+use Rattle.power_loss.proofs.Aborts.{managed_free, managed_right}
+use Rattle.power_loss.proofs.Endings.{ends_right, erased_shown, failed_keeps, left_shown, over_keeps, right_shown, written_shown, wrong_shown}
+use Rattle.power_loss.proofs.EventParts.{one_move, step_keeps}
+use Rattle.power_loss.proofs.HostCommands.{command_right, is_free, reply_right}
+use Rattle.power_loss.proofs.HostData.{data_right}
+use Rattle.power_loss.proofs.Replies.{replies_right}
+use Rattle.ufs_spec.specs.Disk.{Erasing, Flight, Programming, Reading}
+use Rattle.power_loss.proofs.RightChanges.{Right, lock_right, right_keeps}
+use Rattle.ufs_laws.proofs.Changed.{Both, Still, first, job_over}
+use Rattle.ufs_spec.specs.declared.messages.Message.TheVariants as message
+use Rattle.ufs_spec.specs.declared.scsi.Cdb.TheVariants as cdb
+
+-- What a call does first
 
 -- an ending that fits the job keeps the state tied: one that went well whatever array comes with it, one that failed with
 -- what an interruption of the job may leave
 ending_keeps : (s : State) (die : ℕ) (flight : Option Flight) (ending : Ending) (left : Array) → IsTied s → s.translation.disk.flights die ≡ flight →
-    fits flight ending ≡ true → MayLeave s die ending left → IsTied (ends_with s die flight ending left)
+    fits flight ending ≡ true → MayLeave s die ending left → IsTied (job_over s die flight ending left)
 ending_keeps s die None ending left v e fit may = v
 ending_keeps s die (Some (Reading reader place)) ReadRight left v e fit may =
-    ends_keep s die (Reading reader place) ReadRight left v e (record { may = tt; shown = right_shown s die reader v.shown })
+    over_keeps s die (Reading reader place) ReadRight left v e (record { may = tt; shown = right_shown s die reader v.shown })
 ending_keeps s die (Some (Reading reader place)) ReadWrong left v e fit may =
-    ends_keep s die (Reading reader place) ReadWrong left v e (record { may = tt; shown = wrong_shown s die reader v.shown })
+    over_keeps s die (Reading reader place) ReadWrong left v e (record { may = tt; shown = wrong_shown s die reader v.shown })
 ending_keeps s die (Some (Programming p cell)) WentWell left v e fit may =
-    ends_keep s die (Programming p cell) WentWell left v e (record { may = tt; shown = written_shown s die p cell left v e })
+    over_keeps s die (Programming p cell) WentWell left v e (record { may = tt; shown = written_shown s die p cell left v e })
 ending_keeps s die (Some (Programming p cell)) (WentWrong cells) left v e fit may =
     failed_keeps s die (Programming p cell) cells left v e may.0 may.1 (λ crash. record { may = crash; shown = left_shown s die p cell left cells may.1 })
 ending_keeps s die (Some (Erasing spot)) WentWell left v e fit may =
-    ends_keep s die (Erasing spot) WentWell left v e (record { may = tt; shown = erased_shown s spot v })
+    over_keeps s die (Erasing spot) WentWell left v e (record { may = tt; shown = erased_shown s spot v })
 ending_keeps s die (Some (Erasing spot)) (WentWrong cells) left v e fit may =
     failed_keeps s die (Erasing spot) cells left v e may.0 may.1 (λ crash. record { may = crash; shown = may.1 })
-ending_keeps s die (Some (Reading reader place)) WentWell left v e fit may = cc
-ending_keeps s die (Some (Reading reader place)) (WentWrong cells) left v e fit may = cc
-ending_keeps s die (Some (Programming p cell)) ReadRight left v e fit may = cc
-ending_keeps s die (Some (Programming p cell)) ReadWrong left v e fit may = cc
-ending_keeps s die (Some (Erasing spot)) ReadRight left v e fit may = cc
-ending_keeps s die (Some (Erasing spot)) ReadWrong left v e fit may = cc
+ending_keeps s die (Some (Reading reader place)) WentWell left v e fit may = absurd (false≢true fit)
+ending_keeps s die (Some (Reading reader place)) (WentWrong cells) left v e fit may = absurd (false≢true fit)
+ending_keeps s die (Some (Programming p cell)) ReadRight left v e fit may = absurd (false≢true fit)
+ending_keeps s die (Some (Programming p cell)) ReadWrong left v e fit may = absurd (false≢true fit)
+ending_keeps s die (Some (Erasing spot)) ReadRight left v e fit may = absurd (false≢true fit)
+ending_keeps s die (Some (Erasing spot)) ReadWrong left v e fit may = absurd (false≢true fit)
 
--- the job's end is known just where the ending fits; else nothing changes
-finish_call : (s : State) (die : ℕ) (ending : Ending) (left : Array) (answer : Answer) → IsTied s → MayLeave s die ending left →
-    Allowed s (Finish die ending left) answer → IsTied (behind s (Finish die ending left) answer)
-finish_call s die ending left (Finishes true) v may right = ending_keeps s die (s.translation.disk.flights die) ending left v refl (sym right) may
-finish_call s die ending left (Finishes false) v may right = v
-finish_call s die ending left (Hears result) v may right = absurd right
-finish_call s die ending left (Gives flight) v may right = absurd right
-finish_call s die ending left (Steps due) v may right = absurd right
-finish_call s die ending left (Replies reply) v may right = absurd right
+first_keeps : (s : State) (call : Call) (answer : Answer) → IsTied s → MayCome s call → Allowed s call answer → IsTied (first s call answer)
+first_keeps s (Give die) (Gives (Some flight)) v may right = one_move s (Take die flight) v right (record { groups = refl; claims = refl }) refl
+first_keeps s (Finish die ending left) (Finishes true) v may right = ending_keeps s die (s.translation.disk.flights die) ending left v refl (sym right) may
+first_keeps s Step (Steps due) v may right = step_keeps s v
+first_keeps s call answer v may right = v
 
-call_answered : (s : State) (call : Call) (answer : Answer) → IsTied s → MayCome s call → Allowed s call answer → IsTied (behind s call answer)
-call_answered s (Host heard) answer v may right = host_answered s heard answer may.0 v may.1 right
-call_answered s (Give die) answer v may right = give_answered s die answer v right
-call_answered s (Finish die ending left) answer v may right = finish_call s die ending left answer v may right
-call_answered s Step answer v may right = step_answered s answer v
-call_answered s Ask answer v may right = asked_answered s answer v right
+-- Messages
+
+first_byte : (command : Cdb) → slice_index (cdb_bytes command) 0 ≡ operation_of command
+first_byte cdb.TestUnitReady = refl
+first_byte (cdb.RequestSense a) = refl
+first_byte (cdb.Read6 a b) = refl
+first_byte (cdb.Write6 a b) = refl
+first_byte (cdb.Inquiry a) = refl
+first_byte cdb.ReadCapacity10 = refl
+first_byte (cdb.Read10 a b f) = refl
+first_byte (cdb.Write10 a b f) = refl
+first_byte (cdb.SynchronizeCache10 a b i) = refl
+first_byte (cdb.Unmap a) = refl
+first_byte (cdb.ReportLuns a b) = refl
+first_byte (cdb.SecurityIn a) = refl
+first_byte (cdb.SecurityOut a) = refl
+
+operation_is : (c : Option Cdb) (command : Cdb) (taken : List ℕ) → IsCdbIn (Some taken) c → c ≡ Some command → slice_index taken 0 ≡ operation_of command
+operation_is c command taken h e =
+    let spells : SpellsCdb command taken = subst (IsCdbIn (Some taken)) e h in
+    ap (λ (bytes : List ℕ). slice_index bytes 0) spells.2 ∙ first_byte command
+
+heard_right : (s : State) (m : Message) (c : Option Cdb) (bytes : List ℕ) → IsTied s → Spells m bytes → IsCdbIn (cdb_of m) c → message_fault s m ≡ None → Right s (heard s m c)
+heard_right s (message.NopOut tag) c bytes v spells spelled h = reply_right s tag (message.NopIn tag) v (is_free s tag true h) refl
+heard_right s (message.Command flags lun tag expected taken) c bytes v spells spelled h =
+    command_right s (record { flags = flags; lun = lun; tag = tag; expected = expected; bytes = taken; cdb = c }) v
+    (is_free s tag (opens_short s (message.Command flags lun tag expected taken)) h) (λ command e. operation_is c command taken spelled e)
+heard_right s (message.DataOut lun tag offset «data») c bytes v spells spelled h = data_right s lun tag offset «data».items v h spells.0.3.2
+heard_right s (message.TaskRequest lun tag function meant) c bytes v spells spelled h =
+    let m = managed_right s lun function meant v in
+    Both m
+    (reply_right (managed s lun function meant) tag (message.TaskResponse lun tag (service s lun function meant)) (right_keeps m v)
+    (managed_free s lun function meant tag (is_free s tag true h)) refl)
+heard_right s (message.QueryRequest tag function asked size value «data») c bytes v spells spelled h =
+    reply_right s tag (query_unanswered tag function asked) v (is_free s tag true h) refl
+heard_right s (message.NopIn tag) c bytes v spells spelled h = Still
+heard_right s (message.Response flags lun tag response status residual sense) c bytes v spells spelled h = Still
+heard_right s (message.DataIn lun tag offset «data») c bytes v spells spelled h = Still
+heard_right s (message.TaskResponse lun tag response) c bytes v spells spelled h = Still
+heard_right s (message.ReadyToTransfer lun tag offset count) c bytes v spells spelled h = Still
+heard_right s (message.QueryResponse tag function response asked size value «data») c bytes v spells spelled h = Still
+
+no_fault : (x : Option HostFault) (done : Unit {0}) → Ok done ≡ result_of x → x ≡ None
+no_fault None done h = refl
+no_fault (Some fault) done h = absurd (other h)
+  where
+    other : Ok done ≡ Err fault → ⊥
+    other e = cc
+
+host_right : (s : State) (h : Heard) (result : Result (Unit {0}) HostFault) (bytes : List ℕ) → IsTied s → IsHeard bytes h → MayHear s h result → Right s (behind s (Host h) (Hears result))
+host_right s h (Err fault) bytes v is may = Still
+host_right s (Faulty fault) (Ok done) bytes v is may = Still
+host_right s (Spelled m c) (Ok done) bytes v is may = heard_right s m c bytes v is.0 is.2 (no_fault (message_fault s m) done may)
+
+-- Calls
+
+behind_right : (s : State) (call : Call) (answer : Answer) → IsTied s → MayCome s call → Allowed s call answer → Right (first s call answer) (behind s call answer)
+behind_right s (Host h) (Hears result) v may right = host_right s h result may.0 v may.1 right
+behind_right s (Give die) (Gives None) v may right = Still
+behind_right s (Give die) (Gives (Some flight)) v may right = Still
+behind_right s (Finish die ending left) (Finishes true) v may right =
+    ends_right s die (s.translation.disk.flights die) ending left (first_keeps s (Finish die ending left) (Finishes true) v may right)
+behind_right s Step (Steps due) v may right = Still
+behind_right s Ask (Replies (Some m)) v may right = replies_right s m v right
+behind_right s call answer v may right = Still
+
+-- behind what it does first, each call makes changes that may come
+pub call_right : (s : State) (call : Call) (answer : Answer) → IsTied s → MayCome s call → Allowed s call answer → Right (first s call answer) (observe s call answer)
+call_right s call answer v may right =
+    let h = behind_right s call answer v may right in
+    Both h (lock_right (behind s call answer) (right_keeps h (first_keeps s call answer v may right)))
 
 pub call_keeps : (s : State) (call : Call) (answer : Answer) → IsTied s → MayCome s call → Allowed s call answer → IsTied (observe s call answer)
-call_keeps s call answer v may right = lock_keeps (behind s call answer) (call_answered s call answer v may right)
+call_keeps s call answer v may right = right_keeps (call_right s call answer v may right) (first_keeps s call answer v may right)

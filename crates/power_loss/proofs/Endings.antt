@@ -1,40 +1,31 @@
 -- The end of a job: what the dies hold then, and what tasks are told.
-use Rattle.std.proofs.Common.{◌≡◌, ◌⊎◌, ℕ, ◌≤◌, ◌==◌, ◌&&◌, Bool, true, false, List, [], ◌∷◌, Option, Some, None, length, map, refl, sym, subst, inl, inr, arith}
+use Rattle.std.proofs.Common.{◌≡◌, ◌⊎◌, ℕ, ◌≤◌, ◌==◌, ◌&&◌, Bool, true, false, [], ◌∷◌, Option, Some, None, length, map, refl, sym, subst, inl, inr, arith}
 use Rattle.std.specs.Prelude.{if◌then◌else◌, nat_lt}
 use Rattle.std.proofs.lemmas.Bool.{ltb-false}
 use Rattle.ufs_spec.specs.Cells.{Array, Cell, Cells, GroupPage, IsCell, IsPlace, MarkPage, Nothing, Shows, same_place}
 use Rattle.ufs_spec.specs.Dies.{blank_page}
 use Rattle.ufs_spec.specs.Disk.{CellCrash, Crash, Disk, Erasing, Flight, ForNobody, ForRest, ForStep, ForTask, Programming, Reader, Reading, Spot, Touches, at_place, flight_alone, page_of, program_failed, programmed, same_spot, spot_of}
 use Rattle.ufs_spec.specs.Exchanges.{Answering, Awaiting, Deed, Gathering, NotRead, ReadState, Sending, Task, Telling, WasRead, is_task_of}
-use Rattle.ufs_spec.specs.Lives.{IsFailure, IsFinish}
-use Rattle.ufs_spec.specs.Machine.{Call, Finish, array_behind, claimed_by, deed_read, ends_with, in_block, reader_told, task_read, told_behind, with_moves}
+use Rattle.ufs_spec.specs.Machine.{array_behind, claimed_by, deed_read, ends_with, in_block, reader_told, task_read, with_moves}
 use Rattle.ufs_spec.specs.Moves.{End, Ending, MayEnd, ReadRight, ReadWrong, WentWell, WentWrong, die_idle, end_flight, freed, moved, read_right, read_wrong}
 use Rattle.ufs_spec.specs.Pages.{MayBeLeft}
 use Rattle.ufs_spec.specs.Plain.{Shape, shape_of_numbers}
 use Rattle.ufs_spec.specs.Steps.{State, numbers_of}
 use Rattle.ufs_spec.specs.Translation.{Plan, Translation, has_mark_number, is_mended, mark_ordered}
-use Rattle.ufs_spec.specs.declared.events.Leftover.{Leftover}
 use Rattle.ufs_spec.specs.declared.flash.Fence.{Fence}
 use Rattle.ufs_spec.specs.declared.flash.Page.{Page}
 use Rattle.ufs_spec.specs.declared.flash.Place.{Place}
 use Rattle.ufs_laws.proofs.Blank.{nothing_is_blank}
 use Rattle.ufs_laws.proofs.OneCell.{one_cell}
-use Rattle.power_loss.specs.Exchange.{DeedFits, TasksAreRight, TasksRight, IsTied, claim_of}
+use Rattle.power_loss.specs.Exchange.{DeedFits, IsTied, claim_of}
 use Rattle.power_loss.proofs.EventParts.{end_leaves, fits_of, tasks_stay, ties_of, ties_stay, whole}
 use Rattle.power_loss.proofs.FittingMoves.{move_fits, move_stays}
 use Rattle.power_loss.proofs.SealedCells.{torn_is_nothing}
 use Rattle.power_loss.proofs.TaskLists.{KeepsTasks, tasks_kept}
+use Rattle.power_loss.proofs.RightChanges.{Right}
+use Rattle.ufs_laws.proofs.Changed.{Maps, One, Still, job_over, reads}
 
 -- What tasks are told
-
--- the state with other tasks, that fit
-record Told (s u : State) : Type 0 where
-  tasks : List Task
-  is : u ≡ record s { tasks = tasks }
-  right : TasksAreRight s → TasksRight (shape_of_numbers (numbers_of s)) (length s.accepted) (is_mended s.translation.work.mending) s.translation.claims tasks s.shorts
-
-nothing_told : (s : State) → Told s s
-nothing_told s = record { tasks = s.tasks; is = refl; right = λ h. h }
 
 read_fits : (sh : Shape) (a : ℕ) (m : Bool) (index : ℕ) (state : ReadState) (task : Task) (deed : Deed) → DeedFits sh a m (claimed_by deed task.command) task.length deed →
     DeedFits sh a m (claimed_by (deed_read index state deed) task.command) task.length (deed_read index state deed)
@@ -68,26 +59,34 @@ read_keeps sh a m tag index state = record { tag = λ t. same t (is_task_of tag 
     claim t true = read_claims index state t t.deed
     claim t false = omega arith
 
-reader_is_told : (s : State) (reader : Reader) (state : ReadState) → Told s (reader_told s reader state)
-reader_is_told s (ForTask tag index) state = record {
-  tasks = map (task_read tag index state) s.tasks;
-  is = refl;
-  right = λ h.
-      let sh = shape_of_numbers (numbers_of s) in
-      let m = is_mended s.translation.work.mending in
-      tasks_kept sh (length s.accepted) m s.translation.claims (task_read tag index state) s.tasks s.shorts (read_keeps sh (length s.accepted) m tag index state) h;
-}
-reader_is_told s ForStep state = nothing_told s
-reader_is_told s (ForRest number index) state = nothing_told s
-reader_is_told s ForNobody state = nothing_told s
+-- the task that a read was for is told of it
+reader_right : (s : State) (tag index : ℕ) (state : ReadState) → IsTied s → Right s (record s { tasks = map (task_read tag index state) s.tasks })
+reader_right s tag index state v =
+    let sh = shape_of_numbers (numbers_of s) in
+    let m = is_mended s.translation.work.mending in
+    One (Maps (task_read tag index state)) (record {
+      small = reads tag index state;
+      layer = tt;
+      tasks = tasks_kept sh (length s.accepted) m s.translation.claims (task_read tag index state) s.tasks s.shorts (read_keeps sh (length s.accepted) m tag index state) v.tasks;
+    })
 
-is_told : (s : State) (flight : Flight) (ending : Ending) → Told s (told_behind s flight ending)
-is_told s (Reading reader place) ReadRight = reader_is_told s reader WasRead
-is_told s (Reading reader place) ReadWrong = reader_is_told s reader NotRead
-is_told s (Reading reader place) WentWell = nothing_told s
-is_told s (Reading reader place) (WentWrong left) = nothing_told s
-is_told s (Programming p cell) ending = nothing_told s
-is_told s (Erasing spot) ending = nothing_told s
+told_right : (s : State) (die : ℕ) (reader : Reader) (state : ReadState) (ending : Ending) (array : Array) → IsTied (record (with_moves s (End die ending ∷ [])) { array = array }) →
+    Right (record (with_moves s (End die ending ∷ [])) { array = array }) (with_moves (record (reader_told s reader state) { array = array }) (End die ending ∷ []))
+told_right s die (ForTask tag index) state ending array v = reader_right (record (with_moves s (End die ending ∷ [])) { array = array }) tag index state v
+told_right s die ForStep state ending array v = Still
+told_right s die (ForRest number index) state ending array v = Still
+told_right s die ForNobody state ending array v = Still
+
+-- behind its job's end, what a call does
+pub ends_right : (s : State) (die : ℕ) (flight : Option Flight) (ending : Ending) (left : Array) → IsTied (job_over s die flight ending left) →
+    Right (job_over s die flight ending left) (ends_with s die flight ending left)
+ends_right s die None ending left v = Still
+ends_right s die (Some (Reading reader place)) ReadRight left v = told_right s die reader WasRead ReadRight _ v
+ends_right s die (Some (Reading reader place)) ReadWrong left v = told_right s die reader NotRead ReadWrong _ v
+ends_right s die (Some (Reading reader place)) WentWell left v = Still
+ends_right s die (Some (Reading reader place)) (WentWrong cells) left v = Still
+ends_right s die (Some (Programming place cell)) ending left v = Still
+ends_right s die (Some (Erasing spot)) ending left v = Still
 
 -- The end of a job
 
@@ -95,11 +94,9 @@ pub record EndsRight (s : State) (die : ℕ) (flight : Flight) (ending : Ending)
   pub may : MayEnd s.translation.disk die (Some flight) ending
   pub shown : Shows (array_behind s flight ending left) (end_flight s.translation die (Some flight) ending).disk.cells
 
-ends_told : (s : State) (die : ℕ) (flight : Flight) (ending : Ending) (left : Array) (tasks : List Task) → IsTied s → s.translation.disk.flights die ≡ Some flight →
-    EndsRight s die flight ending left →
-    TasksRight (shape_of_numbers (numbers_of s)) (length s.accepted) (is_mended s.translation.work.mending) s.translation.claims tasks s.shorts →
-    IsTied (with_moves (record s { tasks = tasks; array = array_behind s flight ending left }) (End die ending ∷ []))
-ends_told s die flight ending left tasks v e r right =
+pub over_keeps : (s : State) (die : ℕ) (flight : Flight) (ending : Ending) (left : Array) → IsTied s → s.translation.disk.flights die ≡ Some flight →
+    EndsRight s die flight ending left → IsTied (job_over s die (Some flight) ending left)
+over_keeps s die flight ending left v e r =
     let t = s.translation in
     let u = moved t (End die ending) in
     let stays = move_stays t (End die ending) in
@@ -108,17 +105,10 @@ ends_told s die flight ending left tasks v e r right =
     subst (λ (x : Option Flight). Shows (array_behind s flight ending left) (end_flight t die x ending).disk.cells) (sym e) r.shown in
     let may : MayEnd t.disk die (t.disk.flights die) ending = subst (λ (x : Option Flight). MayEnd t.disk die x ending) (sym e) r.may in
     let claims = leaves.claims in
-    whole (with_moves (record s { tasks = tasks; array = array_behind s flight ending left }) (End die ending ∷ []))
+    whole (job_over s die (Some flight) ending left)
     (move_fits t (End die ending) (fits_of s v) may)
     (ties_stay s.array (array_behind s flight ending left) s.base s.accepted t u (ties_of s v) stays shown leaves.groups)
-    (tasks_stay (record s { tasks = tasks }) s.accepted u stays (omega arith) (omega arith) right)
-
-pub ends_keep : (s : State) (die : ℕ) (flight : Flight) (ending : Ending) (left : Array) → IsTied s → s.translation.disk.flights die ≡ Some flight →
-    EndsRight s die flight ending left → IsTied (ends_with s die (Some flight) ending left)
-ends_keep s die flight ending left v e r =
-    let told = is_told s flight ending in
-    subst (λ (x : State). IsTied (with_moves (record x { array = array_behind s flight ending left }) (End die ending ∷ []))) (sym told.is)
-    (ends_told s die flight ending left told.tasks v e r (told.right v.tasks))
+    (tasks_stay s s.accepted u stays (omega arith) (omega arith) v.tasks)
 
 -- What the dies show
 
@@ -211,34 +201,10 @@ left_shown s die p (GroupPage tag body) left cells h = h
 left_shown s die p (MarkPage m) left cells h =
     again_shown left (record s.translation { disk = program_failed s.translation.disk p cells }) m.fence (has_mark_number s.translation) h
 
--- Events
-
-pub finish_keeps : (s : State) (die : ℕ) (flight : Option Flight) (call : Call) → IsTied s → s.translation.disk.flights die ≡ flight → IsFinish s die flight call →
-    (ending : Ending) × (call ≡ Finish die ending s.array) × IsTied (ends_with s die flight ending s.array)
-finish_keeps s die None call v e h = absurd h
-finish_keeps s die (Some (Reading reader place)) call v e h =
-    (ReadRight, h, ends_keep s die (Reading reader place) ReadRight s.array v e (record { may = tt; shown = right_shown s die reader v.shown }))
-finish_keeps s die (Some (Programming p cell)) call v e h =
-    (WentWell, h, ends_keep s die (Programming p cell) WentWell s.array v e (record { may = tt; shown = written_shown s die p cell s.array v e }))
-finish_keeps s die (Some (Erasing spot)) call v e h =
-    (WentWell, h, ends_keep s die (Erasing spot) WentWell s.array v e (record { may = tt; shown = erased_shown s spot v }))
-
 pub failed_keeps : (s : State) (die : ℕ) (flight : Flight) (cells : Cells) (left : Array) → IsTied s → s.translation.disk.flights die ≡ Some flight →
     Crash s.array (flight_alone s.translation.disk.flights die) left → Shows left cells →
     (CellCrash s.translation.disk.cells (flight_alone s.translation.disk.flights die) cells → EndsRight s die flight (WentWrong cells) left) →
-    IsTied (ends_with s die (Some flight) (WentWrong cells) left)
+    IsTied (job_over s die (Some flight) (WentWrong cells) left)
 failed_keeps s die flight cells left v e crash shown right =
-    ends_keep s die flight (WentWrong cells) left v e
+    over_keeps s die flight (WentWrong cells) left v e
     (right (crash_cells s.array left s.translation.disk.cells cells (flight_alone s.translation.disk.flights die) v.shown shown crash (λ d p cell h. alone_fits s die d p cell v h)))
-
-pub failure_keeps : (s : State) (die : ℕ) (flight : Option Flight) (l : Option Leftover) (ending : Ending) (left : Array) → IsTied s → s.translation.disk.flights die ≡ flight →
-    IsFailure s die flight l ending left → IsTied (ends_with s die flight ending left)
-failure_keeps s die (Some (Reading reader place)) None ReadWrong left v e h =
-    ends_keep s die (Reading reader place) ReadWrong left v e (record { may = tt; shown = wrong_shown s die reader v.shown })
-failure_keeps s die (Some (Programming p cell)) (Some l) (WentWrong cells) left v e h =
-    failed_keeps s die (Programming p cell) cells left v e h.2 h.3 (λ crash. record { may = crash; shown = left_shown s die p cell left cells h.3 })
-failure_keeps s die (Some (Erasing spot)) (Some l) (WentWrong cells) left v e h =
-    failed_keeps s die (Erasing spot) cells left v e h.2 h.3 (λ crash. record { may = crash; shown = h.3 })
-failure_keeps s die (Some (Reading reader place)) (Some l) (WentWrong cells) left v e h = absurd h.0
-failure_keeps s die None l ending left v e h = absurd h
-failure_keeps s die (Some flight) l ending left v e h = absurd h

@@ -1,27 +1,26 @@
 -- The parts of what holds between events, and what the moves of a call leave of each.
-use Rattle.std.proofs.Common.{◌≡◌, ℕ, zero, suc, ◌+◌, ◌≤◌, Bool, true, false, List, [], ◌∷◌, ◌++◌, Option, Some, None, length, drop, map, refl, sym, ap, ◌∙◌, subst, arith}
-use Rattle.std.specs.Prelude.{if◌then◌else◌, nat_le}
+use Rattle.std.proofs.Common.{◌≡◌, ℕ, zero, suc, ◌+◌, ◌≤◌, Bool, true, false, List, [], ◌∷◌, ◌++◌, Option, Some, None, length, drop, refl, sym, ap, ◌∙◌, subst, arith}
+use Rattle.std.specs.Prelude.{if◌then◌else◌}
 use Rattle.std.proofs.lemmas.List.{length-append}
 use Rattle.ufs_spec.specs.Cells.{Array, Cell, GroupPage, MarkPage, Nothing, Shows}
 use Rattle.ufs_spec.specs.Commands.{Command}
 use Rattle.ufs_spec.specs.Disk.{Erasing, Flight, ForNobody, ForRest, ForStep, ForTask, Programming, Reader, Reading, Spot, program_failed}
-use Rattle.ufs_spec.specs.Exchanges.{Answering, Awaiting, Deed, Gathering, Sending, Short, Task, Telling, write_error}
 use Rattle.ufs_spec.specs.Keys.{CanApplyAll, Contents, Group, IsArea, IsBlock, IsData, IsKey, IsPlain, IsSettings, IsSettingsBody, content, groups_of}
 use Rattle.ufs_spec.specs.Ledger.{accepted_groups}
-use Rattle.ufs_spec.specs.Machine.{claimed_by, deed_locked, is_durable, durable, given, lock_told, short_locked, task_locked, with_moves}
-use Rattle.ufs_spec.specs.Moves.{Ending, IsAllowedMove, Move, ReadRight, ReadWrong, Take, Turn, WentWell, WentWrong, die_idle, end_flight, moved, read_right, read_wrong}
+use Rattle.ufs_spec.specs.Machine.{with_moves}
+use Rattle.ufs_spec.specs.Moves.{Ending, IsAllowedMove, Move, ReadRight, ReadWrong, Turn, WentWell, WentWrong, die_idle, end_flight, moved, read_right, read_wrong}
 use Rattle.ufs_spec.specs.Plain.{Plain, Shape, shape_of, shape_of_numbers}
-use Rattle.ufs_spec.specs.Steps.{State, locked, numbers_of}
-use Rattle.ufs_spec.specs.Translation.{MayTake, Order, OrderCopy, OrderMark, OrderPlanMark, OrderRepair, Translation, copy_begun, due_order, has_mark_number, is_mended, mark_ordered, ordered, stepped, turned, with_plan}
+use Rattle.ufs_spec.specs.Steps.{State, numbers_of}
+use Rattle.ufs_spec.specs.Translation.{Order, OrderCopy, OrderMark, OrderPlanMark, OrderRepair, Translation, copy_begun, due_order, has_mark_number, is_mended, mark_ordered, ordered, stepped, turned, with_plan}
 use Rattle.ufs_spec.specs.declared.configs.Numbers.{Numbers}
 use Rattle.ufs_spec.specs.declared.flash.Fence.{Fence}
 use Rattle.ufs_spec.specs.declared.flash.Key.{Key}
 use Rattle.ufs_spec.specs.declared.flash.Place.{Place}
 use Rattle.ufs_laws.proofs.States.{contents_of}
-use Rattle.power_loss.specs.Exchange.{DeedFits, ShortFits, TasksAreRight, TasksRight, IsTied}
+use Rattle.power_loss.specs.Exchange.{TasksAreRight, TasksRight, IsTied}
 use Rattle.power_loss.specs.Invariant.{Valid}
 use Rattle.power_loss.proofs.FittingMoves.{BaseFits, Fits, Ordered, Stays, due_told, move_fits, move_stays}
-use Rattle.power_loss.proofs.TaskLists.{shorts_kept, tasks_kept, tasks_more}
+use Rattle.power_loss.proofs.TaskLists.{tasks_more}
 
 -- The parts
 
@@ -190,76 +189,9 @@ one_move s move v may leaves cells =
     (ties_stay s.array s.array s.base s.accepted t u (ties_of s v) stays (subst (Shows s.array) (sym cells) v.shown) leaves.groups)
     (tasks_stay s s.accepted u stays (let c = leaves.claims in omega arith) (omega arith) v.tasks)
 
--- Giving a job, and a step
-
-pub gives_keep : (s : State) (die : ℕ) (flight : Option Flight) → IsTied s → MayTake s.translation die flight → IsTied (given s die flight)
-gives_keep s die None v may = v
-gives_keep s die (Some flight) v may = one_move s (Take die flight) v may (record { groups = refl; claims = refl }) refl
+-- A step
 
 pub step_keeps : (s : State) → IsTied s → IsTied (with_moves s (Turn ∷ []))
 step_keeps s v =
     let l = turn_leaves s.translation v.valid in
     one_move s Turn v tt l.leaves l.cells
-
--- The lock
-
-locked_fits : (s : State) (sh : Shape) (a : ℕ) (m : Bool) (task : Task) (deed : Deed) → DeedFits sh a m (claimed_by deed task.command) task.length deed →
-    DeedFits sh a m (claimed_by (deed_locked s task deed) task.command) task.length (deed_locked s task deed)
-locked_fits s sh a m task (Gathering purpose gathered asked) h = h
-locked_fits s sh a m task (Sending blocks sent) h = h
-locked_fits s sh a m task (Telling bytes) h = h
-locked_fits s sh a m task (Awaiting commands) h = by (nat_le commands (durable s))
-  where
-    by : (b : Bool) → DeedFits sh a m (claimed_by (if b then Awaiting commands else Answering write_error task.length) task.command) task.length (if b then Awaiting commands else Answering write_error task.length)
-    by true = h
-    by false = tt
-locked_fits s sh a m task (Answering status carried) h = h
-
-locked_claims : (s : State) (task : Task) (deed : Deed) → claimed_by (deed_locked s task deed) task.command ≤ claimed_by deed task.command
-locked_claims s task (Gathering purpose gathered asked) = omega arith
-locked_claims s task (Sending blocks sent) = omega arith
-locked_claims s task (Telling bytes) = omega arith
-locked_claims s task (Awaiting commands) = by (nat_le commands (durable s))
-  where
-    by : (b : Bool) → claimed_by (if b then Awaiting commands else Answering write_error task.length) task.command ≤ claimed_by (Awaiting commands) task.command
-    by true = omega arith
-    by false = omega arith
-locked_claims s task (Answering status carried) = omega arith
-
-short_tag : (s : State) (x : Short) → (short_locked s x).tag ≡ x.tag
-short_tag s x = by (is_durable s x.awaits)
-  where
-    by : (b : Bool) → (if b then x else record x { awaits = None; reply = x.locked_reply }).tag ≡ x.tag
-    by true = refl
-    by false = refl
-
-short_fits : (s : State) (a : ℕ) (m : Bool) (x : Short) → ShortFits a m x → ShortFits a m (short_locked s x)
-short_fits s a m x h = by (is_durable s x.awaits)
-  where
-    by : (b : Bool) → ShortFits a m (if b then x else record x { awaits = None; reply = x.locked_reply })
-    by true = h
-    by false = record { awaits = tt; reply = h.locked_reply; locked_reply = h.locked_reply }
-
-pub same_but_tasks : (s : State) (tasks : List Task) (shorts : List Short) → IsTied s →
-    TasksRight (shape_of_numbers (numbers_of s)) (length s.accepted) (is_mended s.translation.work.mending) s.translation.claims tasks shorts →
-    IsTied (record s { tasks = tasks; shorts = shorts })
-same_but_tasks s tasks shorts v r = whole (record s { tasks = tasks; shorts = shorts }) (fits_of s v) (ties_of s v) r
-
-pub lock_keeps : (s : State) → IsTied s → IsTied (lock_told s)
-lock_keeps s v = by (locked s)
-  where
-    changed : IsTied (record s { tasks = map (task_locked s) s.tasks; shorts = map (short_locked s) s.shorts })
-    changed =
-        let n = shape_of_numbers (numbers_of s) in
-        let a = length s.accepted in
-        let m = is_mended s.translation.work.mending in
-        same_but_tasks s (map (task_locked s) s.tasks) (map (short_locked s) s.shorts) v
-        (shorts_kept n a m s.translation.claims (short_locked s) (map (task_locked s) s.tasks) s.shorts
-        (record { tag = short_tag s; fits = short_fits s a m })
-        (tasks_kept n a m s.translation.claims (task_locked s) s.tasks s.shorts
-        (record { tag = λ t. refl; fits = λ t h. locked_fits s n a m t t.deed h; claim = λ t. locked_claims s t t.deed })
-        v.tasks))
-
-    by : (b : Bool) → IsTied (if b then record s { tasks = map (task_locked s) s.tasks; shorts = map (short_locked s) s.shorts } else s)
-    by true = changed
-    by false = v

@@ -1,5 +1,5 @@
 -- A message from the host that opens an exchange.
-use Rattle.std.proofs.Common.{◌≡◌, ℕ, ◌+◌, ◌*◌, ◌<◌, ◌≤◌, ◌==◌, ◌&&◌, Bool, true, false, not, List, [], ◌∷◌, ◌++◌, Option, Some, None, length, map, get_or, min, refl, sym, ap, ◌∙◌, subst, arith}
+use Rattle.std.proofs.Common.{◌≡◌, ℕ, ◌+◌, ◌*◌, ◌<◌, ◌≤◌, ◌==◌, ◌&&◌, Bool, true, false, not, List, [], ◌∷◌, Option, Some, None, length, map, get_or, min, refl, sym, ap, ◌∙◌, subst, arith}
 use Rattle.std.specs.Prelude.{if◌then◌else◌, nat_le, nat_lt, take}
 use Rattle.std.specs.List.{list_any}
 use Rattle.std.proofs.lemmas.Bool.Decides.{nat_tests}
@@ -11,7 +11,7 @@ use Rattle.ufs_spec.specs.Exchanges.{Answering, Awaiting, Busy, Deed, ForWrite, 
 use Rattle.ufs_spec.specs.Keys.{below}
 use Rattle.ufs_spec.specs.Machine.{begun, begun_with, blocks_expected, capacity_bytes, claimed_by, command_heard, flush_begun, in_use, keeps, kept_at, no_sense, opened_with, opening_fault, read_begun, read_blocks, sending, tag_in, told, unit_or_first, with_moves, with_short, with_task, write_begun}
 use Rattle.ufs_spec.specs.Messages.{is_among}
-use Rattle.ufs_spec.specs.Moves.{Claim, Keep, moved}
+use Rattle.ufs_spec.specs.Moves.{Claim, Keep}
 use Rattle.ufs_spec.specs.Plain.{shape_of_numbers}
 use Rattle.ufs_spec.specs.Stages.{most_blocks, most_tasks, taken_luns}
 use Rattle.ufs_spec.specs.Steps.{BootUnit, DeviceUnit, ReportLunsUnit, RpmbUnit, operation_in, takes, well_known, Lun, has_other_response, has_wrong_list, is_crowded, is_refused_write, lacks_data, lacks_response, length_in, spec_at, Line, Request, State, UnitOf, first_line, is_past, is_too_long, lacks_unit, line, lines_behind, lun_of, mended, needs_mended, not_taken, numbers_of, refusal, slots_needed, spec_of, unit_in, unit_of_request}
@@ -24,9 +24,9 @@ use Rattle.ufs_spec.specs.declared.scsi.Cdb.{Cdb}
 use Rattle.ufs_spec.specs.declared.scsi.Cdb.TheVariants as cdb
 use Rattle.ufs_laws.proofs.Bytes.{bytes-nil}
 use Rattle.power_loss.specs.Exchange.{DeedFits, ShortFits, IsTied, WriteFits}
-use Rattle.power_loss.proofs.EventParts.{fits_of, one_move, same_but_tasks, ties_of, ties_stay, whole}
-use Rattle.power_loss.proofs.FittingMoves.{move_fits, move_stays}
 use Rattle.power_loss.proofs.TaskLists.{short_opened, task_opened}
+use Rattle.power_loss.proofs.RightChanges.{Right, right_keeps, right_move}
+use Rattle.ufs_laws.proofs.Changed.{Both, One, OpensShort, Opens, Still}
 
 -- A tag that is free
 
@@ -46,52 +46,61 @@ is_free s tag short h = by (in_use s tag) refl h
 
 -- Opening an exchange
 
-pub short_keeps : (s : State) (short : Short) → IsTied s → IsFree s short.tag → ShortFits (length s.accepted) (is_mended s.translation.work.mending) short → IsTied (with_short s short)
-short_keeps s short v free fits =
+pub short_right : (s : State) (short : Short) → IsTied s → IsFree s short.tag → ShortFits (length s.accepted) (is_mended s.translation.work.mending) short → Right s (with_short s short)
+short_right s short v free fits =
     let m = is_mended s.translation.work.mending in
-    same_but_tasks s s.tasks (s.shorts ++ short ∷ []) v
-    (short_opened (shape_of_numbers (numbers_of s)) (length s.accepted) m s.translation.claims s.tasks s.shorts short free.no_task free.no_short fits v.tasks)
+    One (OpensShort short) (record {
+      small = tt;
+      layer = tt;
+      tasks = short_opened (shape_of_numbers (numbers_of s)) (length s.accepted) m s.translation.claims s.tasks s.shorts short free.no_task free.no_short fits v.tasks;
+    })
 
-pub reply_keeps : (s : State) (tag : ℕ) (reply : Message) → IsTied s → IsFree s tag → tag_in reply ≡ tag → IsTied (with_short s (short_reply tag reply))
-reply_keeps s tag reply v free same = short_keeps s (short_reply tag reply) v free (record { awaits = tt; reply = same; locked_reply = same })
+pub reply_right : (s : State) (tag : ℕ) (reply : Message) → IsTied s → IsFree s tag → tag_in reply ≡ tag → Right s (with_short s (short_reply tag reply))
+reply_right s tag reply v free same = short_right s (short_reply tag reply) v free (record { awaits = tt; reply = same; locked_reply = same })
 
 -- a task that has claimed nothing
-task_keeps : (s : State) (r : Request) (command : Option Cdb) (n : ℕ) (deed : Deed) → IsTied s → IsFree s r.tag →
+task_right : (s : State) (r : Request) (command : Option Cdb) (n : ℕ) (deed : Deed) → IsTied s → IsFree s r.tag →
     DeedFits (shape_of_numbers (numbers_of s)) (length s.accepted) (is_mended s.translation.work.mending) (claimed_by deed command) n deed → claimed_by deed command ≡ 0 →
-    IsTied (with_task s r command n deed)
-task_keeps s r command n deed v free fits none =
+    Right s (with_task s r command n deed)
+task_right s r command n deed v free fits none =
     let m = is_mended s.translation.work.mending in
-    same_but_tasks s _ s.shorts v
-    (task_opened (shape_of_numbers (numbers_of s)) (length s.accepted) m s.translation.claims s.translation.claims s.tasks s.shorts
-    (record { lun = r.lun; tag = r.tag; expected = r.expected; command = command; length = n; deed = deed }) free.no_task free.no_short fits (omega arith) v.tasks)
+    let task : Task = record { lun = r.lun; tag = r.tag; expected = r.expected; command = command; length = n; deed = deed } in
+    One (Opens task) (record {
+      small = tt;
+      layer = tt;
+      tasks = task_opened (shape_of_numbers (numbers_of s)) (length s.accepted) m s.translation.claims s.translation.claims s.tasks s.shorts task free.no_task free.no_short
+          fits (omega arith) v.tasks;
+    })
 
-answer_keeps : (s : State) (r : Request) (command : Option Cdb) (n : ℕ) (status : Status) (carried : ℕ) → IsTied s → IsFree s r.tag → IsTied (with_task s r command n (Answering status carried))
-answer_keeps s r command n status carried v free = task_keeps s r command n (Answering status carried) v free tt refl
+answer_right : (s : State) (r : Request) (command : Option Cdb) (n : ℕ) (status : Status) (carried : ℕ) → IsTied s → IsFree s r.tag → Right s (with_task s r command n (Answering status carried))
+answer_right s r command n status carried v free = task_right s r command n (Answering status carried) v free tt refl
 
-telling_keeps : (s : State) (r : Request) (command : Cdb) (bytes : List ℕ) → IsTied s → IsFree s r.tag → IsTied (told s r command bytes)
-telling_keeps s r command bytes v free = by (min r.expected (length bytes) == 0)
+telling_right : (s : State) (r : Request) (command : Cdb) (bytes : List ℕ) → IsTied s → IsFree s r.tag → Right s (told s r command bytes)
+telling_right s r command bytes v free = by (min r.expected (length bytes) == 0)
   where
-    by : (b : Bool) → IsTied (with_task s r (Some command) (length bytes) (if b then Answering Good (length bytes) else Telling bytes))
-    by true = answer_keeps s r (Some command) (length bytes) Good (length bytes) v free
-    by false = task_keeps s r (Some command) (length bytes) (Telling bytes) v free tt refl
+    by : (b : Bool) → Right s (with_task s r (Some command) (length bytes) (if b then Answering Good (length bytes) else Telling bytes))
+    by true = answer_right s r (Some command) (length bytes) Good (length bytes) v free
+    by false = task_right s r (Some command) (length bytes) (Telling bytes) v free tt refl
 
 -- READ
 
-pins_keep : (s : State) (f : ℕ → Pin) (xs : List ℕ) → IsTied s → IsTied (with_moves s (map (λ i. Keep (f i)) xs))
-pins_keep s f [] v = v
-pins_keep s f (x ∷ xs) v =
-    pins_keep (with_moves s (Keep (f x) ∷ [])) f xs (one_move s (Keep (f x)) v tt (record { groups = refl; claims = refl }) refl)
+pins_right : (s : State) (f : ℕ → Pin) (xs : List ℕ) → IsTied s → Right s (with_moves s (map (λ i. Keep (f i)) xs))
+pins_right s f [] v = Still
+pins_right s f (x ∷ xs) v =
+    let one = right_move s (Keep (f x)) v tt tt (omega arith) in
+    Both one (pins_right (with_moves s (Keep (f x) ∷ [])) f xs (right_keeps one v))
 
-sending_keeps : (s : State) (r : Request) (command : Cdb) (n : ℕ) (blocks : List ReadBlock) → IsTied s → IsFree s r.tag → IsTied (with_task s r (Some command) n (sending blocks n))
-sending_keeps s r command n [] v free = answer_keeps s r (Some command) n Good n v free
-sending_keeps s r command n (b ∷ bs) v free = task_keeps s r (Some command) n (Sending (b ∷ bs) 0) v free tt refl
+sending_right : (s : State) (r : Request) (command : Cdb) (n : ℕ) (blocks : List ReadBlock) → IsTied s → IsFree s r.tag → Right s (with_task s r (Some command) n (sending blocks n))
+sending_right s r command n [] v free = answer_right s r (Some command) n Good n v free
+sending_right s r command n (b ∷ bs) v free = task_right s r (Some command) n (Sending (b ∷ bs) 0) v free tt refl
 
-read_keeps : (s : State) (r : Request) (command : Cdb) (unit address n : ℕ) → IsTied s → IsFree s r.tag → IsTied (read_begun s r command unit address n)
-read_keeps s r command unit address n v free =
+read_right : (s : State) (r : Request) (command : Cdb) (unit address n : ℕ) → IsTied s → IsFree s r.tag → Right s (read_begun s r command unit address n)
+read_right s r command unit address n v free =
     let u = with_moves s (keeps s r.tag unit address (blocks_expected r n)) in
-    sending_keeps u r command n (read_blocks s unit address (blocks_expected r n))
-    (pins_keep s (kept_at s r.tag unit address) (below (blocks_expected r n)) v)
-    (record { no_task = free.no_task; no_short = free.no_short })
+    let pins = pins_right s (kept_at s r.tag unit address) (below (blocks_expected r n)) v in
+    Both pins
+    (sending_right u r command n (read_blocks s unit address (blocks_expected r n)) (right_keeps pins v)
+    (record { no_task = free.no_task; no_short = free.no_short }))
 
 -- What the table lets through
 
@@ -227,12 +236,11 @@ ready_now s command needs h = by (needs_mended (operation_of command)) (is_mende
     by true false e k = cc
     by false b e k = cc
 
-claimed_keeps : (s : State) (r : Request) (command : Cdb) (unit blocks : ℕ) (forced : Bool) → IsTied s → IsFree s r.tag → Passed s r command → UnitTold s r → unit ≡ r.lun →
+claimed_right : (s : State) (r : Request) (command : Cdb) (unit blocks : ℕ) (forced : Bool) → IsTied s → IsFree s r.tag → Passed s r command → UnitTold s r → unit ≡ r.lun →
     slots_needed command ≡ blocks → blocks_of command ≡ blocks → needs_mended (operation_of command) ≡ true → is_too_long command ≡ nat_lt most_blocks (blocks_of command) → 1 ≤ blocks →
-    IsTied (with_task (with_moves s (Claim blocks ∷ [])) r (Some command) (4096 * blocks) (Gathering (ForWrite unit (address_of command) blocks forced) [] false))
-claimed_keeps s r command unit blocks forced v free p told same slots size needs long some =
+    Right s (with_task (with_moves s (Claim blocks ∷ [])) r (Some command) (4096 * blocks) (Gathering (ForWrite unit (address_of command) blocks forced) [] false))
+claimed_right s r command unit blocks forced v free p told same slots size needs long some =
     let t = s.translation in
-    let u = moved t (Claim blocks) in
     let units = (numbers_of s).units.items in
     let m = is_mended t.work.mending in
     let deed : Deed = Gathering (ForWrite unit (address_of command) blocks forced) [] false in
@@ -254,32 +262,35 @@ claimed_keeps s r command unit blocks forced v free p told same slots size needs
       claimed_is = slots;
       is_mended = ready_now s command needs p.ready;
     } in
-    whole (with_task (with_moves s (Claim blocks ∷ [])) r (Some command) (4096 * blocks) deed)
-    (move_fits t (Claim blocks) (fits_of s v) tt)
-    (ties_stay s.array s.array s.base s.accepted t u (ties_of s v) (move_stays t (Claim blocks)) v.shown refl)
-    (task_opened (shape_of_numbers (numbers_of s)) (length s.accepted) m t.claims (t.claims + blocks) s.tasks s.shorts task free.no_task free.no_short fits (omega arith) v.tasks)
+    Both (right_move s (Claim blocks) v tt tt (omega arith))
+    (One (Opens task) (record {
+      small = tt;
+      layer = tt;
+      tasks = task_opened (shape_of_numbers (numbers_of s)) (length s.accepted) m t.claims (t.claims + blocks) s.tasks s.shorts task free.no_task free.no_short fits
+          (omega arith) v.tasks;
+    }))
 
-write_keeps : (s : State) (r : Request) (command : Cdb) (blocks : ℕ) (forced : Bool) → IsTied s → IsFree s r.tag → Passed s r command → TakenByUnits (operation_in r) →
+write_right : (s : State) (r : Request) (command : Cdb) (blocks : ℕ) (forced : Bool) → IsTied s → IsFree s r.tag → Passed s r command → TakenByUnits (operation_in r) →
     slots_needed command ≡ blocks → blocks_of command ≡ blocks → needs_mended (operation_of command) ≡ true → is_too_long command ≡ nat_lt most_blocks (blocks_of command) →
-    IsTied (write_begun s r command (unit_or_first (unit_of_request s r)) (address_of command) blocks forced)
-write_keeps s r command blocks forced v free p units slots size needs long = by (blocks == 0) refl
+    Right s (write_begun s r command (unit_or_first (unit_of_request s r)) (address_of command) blocks forced)
+write_right s r command blocks forced v free p units slots size needs long = by (blocks == 0) refl
   where
     some : (blocks == 0) ≡ false → 1 ≤ blocks
     some h = grind (arith, nat_tests)
 
     by : (b : Bool) → (blocks == 0) ≡ b →
-        IsTied (if b then with_task s r (Some command) 0 (Answering Good 0)
+        Right s (if b then with_task s r (Some command) 0 (Answering Good 0)
         else with_task (with_moves s (Claim blocks ∷ [])) r (Some command) (4096 * blocks) (Gathering (ForWrite (unit_or_first (unit_of_request s r)) (address_of command) blocks forced) [] false))
-    by true h = answer_keeps s r (Some command) 0 Good 0 v free
+    by true h = answer_right s r (Some command) 0 Good 0 v free
     by false h =
         let told = unit_told s r units p.unit p.taken in
-        claimed_keeps s r command (unit_or_first (unit_of_request s r)) blocks forced v free p told (ap unit_or_first told.is) slots size needs long (some h)
+        claimed_right s r command (unit_or_first (unit_of_request s r)) blocks forced v free p told (ap unit_or_first told.is) slots size needs long (some h)
 
-flush_keeps : (s : State) (r : Request) (address blocks : ℕ) (immediate : Bool) → IsTied s → IsFree s r.tag → Passed s r (cdb.SynchronizeCache10 address blocks immediate) →
-    IsTied (flush_begun s r (cdb.SynchronizeCache10 address blocks immediate) immediate)
-flush_keeps s r address blocks true v free p = answer_keeps s r (Some (cdb.SynchronizeCache10 address blocks true)) 0 Good 0 v free
-flush_keeps s r address blocks false v free p =
-    task_keeps s r (Some (cdb.SynchronizeCache10 address blocks false)) 0 (Awaiting (length s.accepted)) v free (omega arith, mended_now) refl
+flush_right : (s : State) (r : Request) (address blocks : ℕ) (immediate : Bool) → IsTied s → IsFree s r.tag → Passed s r (cdb.SynchronizeCache10 address blocks immediate) →
+    Right s (flush_begun s r (cdb.SynchronizeCache10 address blocks immediate) immediate)
+flush_right s r address blocks true v free p = answer_right s r (Some (cdb.SynchronizeCache10 address blocks true)) 0 Good 0 v free
+flush_right s r address blocks false v free p =
+    task_right s r (Some (cdb.SynchronizeCache10 address blocks false)) 0 (Awaiting (length s.accepted)) v free (omega arith, mended_now) refl
   where
     mended_now : is_mended s.translation.work.mending ≡ true
     mended_now = by (is_mended s.translation.work.mending) p.ready
@@ -294,35 +305,35 @@ flush_keeps s r address blocks false v free p =
 abbrev pub IsSpelled : Request → Type 0
 IsSpelled r = (command : Cdb) → r.cdb ≡ Some command → operation_in r ≡ operation_of command
 
-begins : (s : State) (r : Request) (command : Cdb) → IsTied s → IsFree s r.tag → Passed s r command → operation_in r ≡ operation_of command → IsTied (begun s r (unit_or_first (unit_of_request s r)) command)
-begins s r cdb.TestUnitReady v free p op = answer_keeps s r (Some cdb.TestUnitReady) 0 Good 0 v free
-begins s r (cdb.RequestSense allocation) v free p op = telling_keeps s r (cdb.RequestSense allocation) (take allocation no_sense) v free
+begins : (s : State) (r : Request) (command : Cdb) → IsTied s → IsFree s r.tag → Passed s r command → operation_in r ≡ operation_of command → Right s (begun s r (unit_or_first (unit_of_request s r)) command)
+begins s r cdb.TestUnitReady v free p op = answer_right s r (Some cdb.TestUnitReady) 0 Good 0 v free
+begins s r (cdb.RequestSense allocation) v free p op = telling_right s r (cdb.RequestSense allocation) (take allocation no_sense) v free
 begins s r (cdb.Read6 address blocks) v free p op =
-    read_keeps s r (cdb.Read6 address blocks) (unit_or_first (unit_of_request s r)) address (length_of 0 (cdb.Read6 address blocks)) v free
+    read_right s r (cdb.Read6 address blocks) (unit_or_first (unit_of_request s r)) address (length_of 0 (cdb.Read6 address blocks)) v free
 begins s r (cdb.Read10 address blocks forced) v free p op =
-    read_keeps s r (cdb.Read10 address blocks forced) (unit_or_first (unit_of_request s r)) address (4096 * blocks) v free
+    read_right s r (cdb.Read10 address blocks forced) (unit_or_first (unit_of_request s r)) address (4096 * blocks) v free
 begins s r (cdb.Write6 address blocks) v free p op =
-    write_keeps s r (cdb.Write6 address blocks) (slots_needed (cdb.Write6 address blocks)) false v free p (subst TakenByUnits (sym op) units_take_6) refl refl refl refl
-begins s r (cdb.Write10 address blocks forced) v free p op = write_keeps s r (cdb.Write10 address blocks forced) blocks forced v free p (subst TakenByUnits (sym op) units_take_10) refl refl refl refl
-begins s r (cdb.SynchronizeCache10 address blocks immediate) v free p op = flush_keeps s r address blocks immediate v free p
-begins s r cdb.ReadCapacity10 v free p op = telling_keeps s r cdb.ReadCapacity10 (capacity_bytes (spec_of s r)) v free
-begins s r (cdb.Inquiry allocation) v free p op = answer_keeps s r None 0 invalid_operation 0 v free
-begins s r (cdb.Unmap list) v free p op = answer_keeps s r None 0 invalid_operation 0 v free
-begins s r (cdb.ReportLuns select allocation) v free p op = answer_keeps s r None 0 invalid_operation 0 v free
-begins s r (cdb.SecurityIn n) v free p op = answer_keeps s r None 0 invalid_operation 0 v free
-begins s r (cdb.SecurityOut n) v free p op = answer_keeps s r None 0 invalid_operation 0 v free
+    write_right s r (cdb.Write6 address blocks) (slots_needed (cdb.Write6 address blocks)) false v free p (subst TakenByUnits (sym op) units_take_6) refl refl refl refl
+begins s r (cdb.Write10 address blocks forced) v free p op = write_right s r (cdb.Write10 address blocks forced) blocks forced v free p (subst TakenByUnits (sym op) units_take_10) refl refl refl refl
+begins s r (cdb.SynchronizeCache10 address blocks immediate) v free p op = flush_right s r address blocks immediate v free p
+begins s r cdb.ReadCapacity10 v free p op = telling_right s r cdb.ReadCapacity10 (capacity_bytes (spec_of s r)) v free
+begins s r (cdb.Inquiry allocation) v free p op = answer_right s r None 0 invalid_operation 0 v free
+begins s r (cdb.Unmap list) v free p op = answer_right s r None 0 invalid_operation 0 v free
+begins s r (cdb.ReportLuns select allocation) v free p op = answer_right s r None 0 invalid_operation 0 v free
+begins s r (cdb.SecurityIn n) v free p op = answer_right s r None 0 invalid_operation 0 v free
+begins s r (cdb.SecurityOut n) v free p op = answer_right s r None 0 invalid_operation 0 v free
 
-opened_keeps : (s : State) (r : Request) → IsTied s → IsFree s r.tag → IsSpelled r → (x : Option Status) → refusal s r ≡ x → IsTied (opened_with s r x)
-opened_keeps s r v free spelled (Some status) e = answer_keeps s r None 0 status 0 v free
-opened_keeps s r v free spelled None e = by r.cdb refl
+opened_right : (s : State) (r : Request) → IsTied s → IsFree s r.tag → IsSpelled r → (x : Option Status) → refusal s r ≡ x → Right s (opened_with s r x)
+opened_right s r v free spelled (Some status) e = answer_right s r None 0 status 0 v free
+opened_right s r v free spelled None e = by r.cdb refl
   where
-    by : (c : Option Cdb) → r.cdb ≡ c → IsTied (begun_with s r c)
-    by None h = v
+    by : (c : Option Cdb) → r.cdb ≡ c → Right s (begun_with s r c)
+    by None h = Still
     by (Some command) h = begins s r command v free (passed s r command h e) (spelled command h)
 
-pub command_keeps : (s : State) (r : Request) → IsTied s → IsFree s r.tag → IsSpelled r → IsTied (command_heard s r)
-command_keeps s r v free spelled = by (nat_le most_tasks (length s.tasks))
+pub command_right : (s : State) (r : Request) → IsTied s → IsFree s r.tag → IsSpelled r → Right s (command_heard s r)
+command_right s r v free spelled = by (nat_le most_tasks (length s.tasks))
   where
-    by : (b : Bool) → IsTied (if b then with_short s (short_reply r.tag (response r.lun r.tag r.expected 0 TaskSetFull)) else opened_with s r (refusal s r))
-    by true = reply_keeps s r.tag (response r.lun r.tag r.expected 0 TaskSetFull) v free refl
-    by false = opened_keeps s r v free spelled (refusal s r) refl
+    by : (b : Bool) → Right s (if b then with_short s (short_reply r.tag (response r.lun r.tag r.expected 0 TaskSetFull)) else opened_with s r (refusal s r))
+    by true = reply_right s r.tag (response r.lun r.tag r.expected 0 TaskSetFull) v free refl
+    by false = opened_right s r v free spelled (refusal s r) refl

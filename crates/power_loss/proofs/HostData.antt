@@ -7,11 +7,11 @@ use Rattle.std.proofs.lemmas.Option.{get_or_from_slice_get, slice_get-get_or, sl
 use Rattle.ufs_spec.specs.Commands.{Command}
 use Rattle.ufs_spec.specs.Commands as command
 use Rattle.ufs_spec.specs.Exchanges.{Answering, Awaiting, Deed, ForFrames, ForUnmap, ForWrite, Gathering, Purpose, Sending, Task, Telling, count_at, invalid_operation, is_asked_in, is_asked_of, task_of, write_error}
-use Rattle.ufs_spec.specs.Keys.{CanApplyAll, Group, IsBlock, IsCommand, IsData, IsKey, IsPlain, Item, below, content, data_key, group_of, groups_of}
+use Rattle.ufs_spec.specs.Keys.{IsBlock, IsCommand, IsData, IsKey, IsPlain, Item, below, content, data_key, group_of}
 use Rattle.ufs_spec.specs.Machine.{accepts, asked_fault, blocks_in, claimed_by, complete, data_for, data_heard, gathered_more, set_deed, with_moves, write_complete, write_deed}
 use Rattle.ufs_spec.specs.Messages.{AreBytes}
-use Rattle.ufs_spec.specs.Moves.{Accept, IsAllowedMove, IsGroup, IsItem, KeysDiffer, Release, moved}
-use Rattle.ufs_spec.specs.Plain.{CanApply, Plain, Shape, after, apply, shape_of, shape_of_numbers}
+use Rattle.ufs_spec.specs.Moves.{Accept, IsAllowedMove, IsGroup, IsItem, KeysDiffer, Release}
+use Rattle.ufs_spec.specs.Plain.{CanApply, Plain, Shape, apply, shape_of, shape_of_numbers}
 use Rattle.ufs_spec.specs.Steps.{State, locked, numbers_of, plain_now}
 use Rattle.ufs_spec.specs.Translation.{Translation, has_number, is_locked, is_mended}
 use Rattle.ufs_spec.specs.declared.flash.Key.{Key}
@@ -20,31 +20,13 @@ use Rattle.ufs_laws.proofs.Bytes.{bytes-append, bytes-drop, bytes-take}
 use Rattle.ufs_laws.proofs.Commands.{all_kept_plain, kept_plain}
 use Rattle.ufs_laws.proofs.Parts.{get_or-below, length-below}
 use Rattle.ufs_laws.proofs.States.{contents_of}
-use Rattle.power_loss.specs.Exchange.{DeedFits, IsTied, claim_of}
-use Rattle.power_loss.proofs.EventParts.{Ties, fits_of, ties_of, ties_stay, whole}
-use Rattle.power_loss.proofs.FittingMoves.{move_fits, move_stays}
+use Rattle.power_loss.specs.Exchange.{DeedFits, IsTied, TasksRight, claim_of}
 use Rattle.power_loss.proofs.OneMore.{and_true, eq_told}
-use Rattle.power_loss.proofs.Replies.{FitsIn, claim_same, set_keeps}
+use Rattle.power_loss.proofs.Replies.{FitsIn, claim_same, set_right}
 use Rattle.power_loss.proofs.TaskLists.{found_fits, task_set}
-
--- One command more
-
-shape_after : (p : Plain) (cs : List Command) → CanApplyAll p cs → shape_of (after p cs) ≡ shape_of p
-shape_after p [] can = refl
-shape_after p (c ∷ cs) can = shape_after (apply p c) cs can.2 ∙ kept_shape p c can.1.0
-
-can_more : (p : Plain) (cs : List Command) (c : Command) → CanApplyAll p cs → IsCommand c → CanApply (after p cs) c → CanApplyAll p (cs ++ c ∷ [])
-can_more p [] c can is one = (is, one, tt)
-can_more p (d ∷ ds) c can is one = (can.0, can.1, can_more (apply p d) ds c can.2 is one)
-
-groups_more : (p : Plain) (cs : List Command) (c : Command) → groups_of p (cs ++ c ∷ []) ≡ groups_of p cs ++ group_of (after p cs) c ∷ []
-groups_more p [] c = refl
-groups_more p (d ∷ ds) c = ap (λ (gs : List Group). group_of p d ∷ gs) (groups_more (apply p d) ds c)
-
-drop_more : {X : Type 0} (n : ℕ) (xs : List X) (x : X) → n ≤ length xs → drop n (xs ++ x ∷ []) ≡ drop n xs ++ x ∷ []
-drop_more zero xs x h = refl
-drop_more (suc n) [] x h = absurd (omega arith)
-drop_more (suc n) (y ∷ ys) x h = drop_more n ys x (omega arith)
+use Rattle.power_loss.proofs.RightChanges.{Right, shape_after}
+use Rattle.ufs_laws.proofs.Changed.{Accepts, Both, Maps, Moves, One, Still, does}
+use Rattle.ufs_spec.specs.Exchanges.{with_deed}
 
 -- The group of a write
 
@@ -154,7 +136,7 @@ are_blocks (suc n) bytes long is (suc k) d lt =
 not_locked : (t : Translation) → is_locked t ≡ false → has_number t ≡ true
 not_locked t h = let both = or_parts _ _ h in le-leb _ _ (ltb-false _ _ both.1)
 
-pub record Accepts (s : State) (task : Task) (unit address blocks : ℕ) (bytes : List ℕ) : Type 0 where
+pub record MayAccept (s : State) (task : Task) (unit address blocks : ℕ) (bytes : List ℕ) : Type 0 where
   pub there : task_of task.tag s.tasks ≡ Some task
   pub claim : claim_of task ≡ blocks
   pub few : blocks ≤ s.translation.claims
@@ -166,7 +148,7 @@ pub record Accepts (s : State) (task : Task) (unit address blocks : ℕ) (bytes 
   pub are_bytes : AreBytes bytes
   pub mended : is_mended s.translation.work.mending ≡ true
 
-can_write : (s : State) (unit address blocks : ℕ) (bytes : List ℕ) (task : Task) → IsTied s → Accepts s task unit address blocks bytes →
+can_write : (s : State) (unit address blocks : ℕ) (bytes : List ℕ) (task : Task) → IsTied s → MayAccept s task unit address blocks bytes →
     CanApply (plain_now s) (command.Write unit address (blocks_in blocks bytes))
 can_write s unit address blocks bytes task v a =
     let shape : shape_of (plain_now s) ≡ shape_of_numbers (numbers_of s) = shape_after s.base s.accepted v.commands ∙ v.base.1 in
@@ -179,22 +161,30 @@ can_write s unit address blocks bytes task v a =
       tt,
     )
 
-release_keeps : (s : State) (task : Task) (unit address blocks : ℕ) (bytes : List ℕ) → IsTied s → Accepts s task unit address blocks bytes →
-    IsTied (set_deed (with_moves s (Release blocks ∷ [])) task.tag (Answering write_error task.length))
-release_keeps s task unit address blocks bytes v a =
+release_right : (s : State) (task : Task) (unit address blocks : ℕ) (bytes : List ℕ) → IsTied s → MayAccept s task unit address blocks bytes →
+    Right s (set_deed (with_moves s (Release blocks ∷ [])) task.tag (Answering write_error task.length))
+release_right s task unit address blocks bytes v a =
     let t = s.translation in
     let m = is_mended t.work.mending in
     let claim = a.claim in
-    whole (set_deed (with_moves s (Release blocks ∷ [])) task.tag (Answering write_error task.length))
-    (move_fits t (Release blocks) (fits_of s v) tt)
-    (ties_stay s.array s.array s.base s.accepted t (moved t (Release blocks)) (ties_of s v) (move_stays t (Release blocks)) v.shown refl)
-    (task_set (shape_of_numbers (numbers_of s)) (length s.accepted) (length s.accepted) m m t.claims (t.claims - blocks) task task.tag (Answering write_error task.length) s.tasks s.shorts
-    (omega arith) (λ h. h) a.there tt (omega arith) v.tasks)
+    Both
+    (One (Maps (with_deed task.tag (Answering write_error task.length))) (record {
+      small = does task.tag (Answering write_error task.length);
+      layer = tt;
+      tasks = set t.claims (omega arith);
+    }))
+    (One (Moves (Release blocks)) (record { small = tt; layer = tt; tasks = set (t.claims - blocks) (omega arith) }))
+  where
+    set : (d : ℕ) → s.translation.claims ≤ d + claim_of task →
+        TasksRight (shape_of_numbers (numbers_of s)) (length s.accepted) (is_mended s.translation.work.mending) d (map (with_deed task.tag (Answering write_error task.length)) s.tasks) s.shorts
+    set d l =
+        task_set (shape_of_numbers (numbers_of s)) (length s.accepted) (length s.accepted) (is_mended s.translation.work.mending) (is_mended s.translation.work.mending)
+        s.translation.claims d task task.tag (Answering write_error task.length) s.tasks s.shorts (omega arith) (λ h. h) a.there tt (omega arith) v.tasks
 
 abbrev write_of : ℕ → ℕ → ℕ → List ℕ → Command
 write_of unit address blocks bytes = command.Write unit address (blocks_in blocks bytes)
 
-accept_allowed : (s : State) (task : Task) (unit address blocks : ℕ) (bytes : List ℕ) → IsTied s → Accepts s task unit address blocks bytes → locked s ≡ false →
+accept_allowed : (s : State) (task : Task) (unit address blocks : ℕ) (bytes : List ℕ) → IsTied s → MayAccept s task unit address blocks bytes → locked s ≡ false →
     IsAllowedMove s.translation (Accept blocks (group_of (plain_now s) (write_of unit address blocks bytes)) [])
 accept_allowed s task unit address blocks bytes v a free =
     let shape : shape_of (plain_now s) ≡ shape_of_numbers (numbers_of s) = shape_after s.base s.accepted v.commands ∙ v.base.1 in
@@ -208,21 +198,6 @@ accept_allowed s task unit address blocks bytes v a free =
       write_group s.translation (plain_now s) unit address (blocks_in blocks bytes) shape plain (are_blocks blocks bytes a.long a.are_bytes) (can_write s unit address blocks bytes task v a),
     )
 
-accepted_ties : (s : State) (task : Task) (unit address blocks : ℕ) (bytes : List ℕ) → IsTied s → Accepts s task unit address blocks bytes →
-    Ties s.array s.base (s.accepted ++ write_of unit address blocks bytes ∷ [])
-    (moved s.translation (Accept blocks (group_of (plain_now s) (write_of unit address blocks bytes)) []))
-accepted_ties s task unit address blocks bytes v a = record {
-  shown = v.shown;
-  plain = v.base.0;
-  shape = v.base.1;
-  contents = v.contents;
-  commands = can_more s.base s.accepted (write_of unit address blocks bytes) v.commands (are_blocks blocks bytes a.long a.are_bytes) (can_write s unit address blocks bytes task v a);
-  groups =
-      let g : Group = group_of (plain_now s) (write_of unit address blocks bytes) in
-      drop_more s.translation.ledger.repairs s.translation.ledger.groups g v.valid.history.within
-      ∙ (ap (λ (gs : List Group). gs ++ g ∷ []) v.groups ∙ sym (groups_more s.base s.accepted (write_of unit address blocks bytes)));
-}
-
 write_answers : (s : State) (task : Task) (forced : Bool) (more : List Command) → length more ≡ length s.accepted + 1 → is_mended s.translation.work.mending ≡ true →
     DeedFits (shape_of_numbers (numbers_of s)) (length more) (is_mended s.translation.work.mending) (claimed_by (write_deed forced (length s.accepted + 1) task.length) task.command) task.length
     (write_deed forced (length s.accepted + 1) task.length)
@@ -233,9 +208,9 @@ write_claims : (task : Task) (forced : Bool) (position : ℕ) → claimed_by (wr
 write_claims task true position = refl
 write_claims task false position = refl
 
-accept_keeps : (s : State) (task : Task) (unit address blocks : ℕ) (forced : Bool) (bytes : List ℕ) → IsTied s → Accepts s task unit address blocks bytes → locked s ≡ false →
-    IsTied (set_deed (accepts s (command.Write unit address (blocks_in blocks bytes)) blocks) task.tag (write_deed forced (length s.accepted + 1) task.length))
-accept_keeps s task unit address blocks forced bytes v a free =
+accept_right : (s : State) (task : Task) (unit address blocks : ℕ) (forced : Bool) (bytes : List ℕ) → IsTied s → MayAccept s task unit address blocks bytes → locked s ≡ false →
+    Right s (set_deed (accepts s (command.Write unit address (blocks_in blocks bytes)) blocks) task.tag (write_deed forced (length s.accepted + 1) task.length))
+accept_right s task unit address blocks forced bytes v a free =
     let t = s.translation in
     let m = is_mended t.work.mending in
     let deed = write_deed forced (length s.accepted + 1) task.length in
@@ -243,20 +218,25 @@ accept_keeps s task unit address blocks forced bytes v a free =
     let long : length more ≡ length s.accepted + 1 = length-append s.accepted (write_of unit address blocks bytes ∷ []) in
     let claim = a.claim in
     let none = write_claims task forced (length s.accepted + 1) in
-    whole (set_deed (accepts s (command.Write unit address (blocks_in blocks bytes)) blocks) task.tag deed)
-    (move_fits t (Accept blocks (group_of (plain_now s) (write_of unit address blocks bytes)) []) (fits_of s v) (accept_allowed s task unit address blocks bytes v a free))
-    (accepted_ties s task unit address blocks bytes v a)
-    (task_set (shape_of_numbers (numbers_of s)) (length s.accepted) (length more) m m t.claims (t.claims - blocks) task task.tag deed s.tasks s.shorts
-    (omega arith) (λ h. h) a.there (write_answers s task forced more long a.mended) (omega arith) v.tasks)
+    One (Accepts (write_of unit address blocks bytes) blocks (with_deed task.tag deed)) (record {
+      small = does task.tag deed;
+      layer = (
+        are_blocks blocks bytes a.long a.are_bytes,
+        can_write s unit address blocks bytes task v a,
+        accept_allowed s task unit address blocks bytes v a free,
+      );
+      tasks = task_set (shape_of_numbers (numbers_of s)) (length s.accepted) (length more) m m t.claims (t.claims - blocks) task task.tag deed s.tasks s.shorts
+          (omega arith) (λ h. h) a.there (write_answers s task forced more long a.mended) (omega arith) v.tasks;
+    })
 
-pub write_completes : (s : State) (task : Task) (unit address blocks : ℕ) (forced : Bool) (bytes : List ℕ) → IsTied s → Accepts s task unit address blocks bytes →
-    IsTied (write_complete s task unit address blocks forced bytes)
+pub write_completes : (s : State) (task : Task) (unit address blocks : ℕ) (forced : Bool) (bytes : List ℕ) → IsTied s → MayAccept s task unit address blocks bytes →
+    Right s (write_complete s task unit address blocks forced bytes)
 write_completes s task unit address blocks forced bytes v a = by (locked s) refl
   where
-    by : (b : Bool) → locked s ≡ b → IsTied (if b then set_deed (with_moves s (Release blocks ∷ [])) task.tag (Answering write_error task.length)
+    by : (b : Bool) → locked s ≡ b → Right s (if b then set_deed (with_moves s (Release blocks ∷ [])) task.tag (Answering write_error task.length)
         else set_deed (accepts s (command.Write unit address (blocks_in blocks bytes)) blocks) task.tag (write_deed forced (length s.accepted + 1) task.length))
-    by true e = release_keeps s task unit address blocks bytes v a
-    by false e = accept_keeps s task unit address blocks forced bytes v a e
+    by true e = release_right s task unit address blocks bytes v a
+    by false e = accept_right s task unit address blocks forced bytes v a e
 
 -- Data
 
@@ -282,7 +262,7 @@ more_fits s task ForFrames gathered asked all h l is = tt
 
 completes : (s : State) (task : Task) (purpose : Purpose) (gathered : List ℕ) (asked : Bool) (all : List ℕ) → IsTied s → task_of task.tag s.tasks ≡ Some task → claim_of task ≤ s.translation.claims →
     claim_of task ≡ claimed_by (Gathering purpose gathered asked) task.command → FitsIn s task (Gathering purpose gathered asked) → (length gathered < task.length → length all ≡ task.length) → (AreBytes gathered → AreBytes all) →
-    IsTied (complete s task purpose all)
+    Right s (complete s task purpose all)
 completes s task (ForWrite unit address blocks forced) gathered asked all v there few claim h long is =
     let claimed = h.claimed_is in
     let total = h.total_is in
@@ -299,26 +279,26 @@ completes s task (ForWrite unit address blocks forced) gathered asked all v ther
       are_bytes = is h.bytes;
       mended = h.is_mended;
     })
-completes s task (ForUnmap unit) gathered asked all v there few claim h long is = set_keeps s task (Answering invalid_operation task.length) v there tt (omega arith)
-completes s task ForFrames gathered asked all v there few claim h long is = set_keeps s task (Answering invalid_operation task.length) v there tt (omega arith)
+completes s task (ForUnmap unit) gathered asked all v there few claim h long is = set_right s task (Answering invalid_operation task.length) v there tt (omega arith)
+completes s task ForFrames gathered asked all v there few claim h long is = set_right s task (Answering invalid_operation task.length) v there tt (omega arith)
 
 gathers : (s : State) (task : Task) (purpose : Purpose) (gathered : List ℕ) (asked : Bool) (all : List ℕ) → IsTied s → task_of task.tag s.tasks ≡ Some task → claim_of task ≤ s.translation.claims →
     claim_of task ≡ claimed_by (Gathering purpose gathered asked) task.command → FitsIn s task (Gathering purpose gathered asked) → (length gathered < task.length → length all ≤ task.length) → (AreBytes gathered → AreBytes all) →
-    IsTied (gathered_more s task purpose all)
+    Right s (gathered_more s task purpose all)
 gathers s task purpose gathered asked all v there few claim h long is = by (nat_lt (length all) task.length) refl
   where
-    by : (b : Bool) → nat_lt (length all) task.length ≡ b → IsTied (if b then set_deed s task.tag (Gathering purpose all false) else complete s task purpose all)
+    by : (b : Bool) → nat_lt (length all) task.length ≡ b → Right s (if b then set_deed s task.tag (Gathering purpose all false) else complete s task purpose all)
     by true e =
-        set_keeps s task (Gathering purpose all false) v there (more_fits s task purpose gathered asked all h (ltb-true (length all) task.length e) is)
+        set_right s task (Gathering purpose all false) v there (more_fits s task purpose gathered asked all h (ltb-true (length all) task.length e) is)
         (let c = claim_same purpose purpose all gathered false asked task.command in omega arith)
     by false e =
         let l = ltb-false (length all) task.length e in
         completes s task purpose gathered asked all v there few claim h (λ short. let most = long short in omega arith) is
 
-data_for_keeps : (s : State) (task : Task) (deed : Deed) (lun offset : ℕ) (bytes : List ℕ) → IsTied s → task_of task.tag s.tasks ≡ Some task → claim_of task ≤ s.translation.claims →
+data_for_right : (s : State) (task : Task) (deed : Deed) (lun offset : ℕ) (bytes : List ℕ) → IsTied s → task_of task.tag s.tasks ≡ Some task → claim_of task ≤ s.translation.claims →
     claim_of task ≡ claimed_by deed task.command → FitsIn s task deed → is_asked_in task lun offset (length bytes) deed ≡ true → AreBytes bytes →
-    IsTied (data_for s task deed bytes)
-data_for_keeps s task (Gathering purpose gathered asked) lun offset bytes v there few claim h is_asked is =
+    Right s (data_for s task deed bytes)
+data_for_right s task (Gathering purpose gathered asked) lun offset bytes v there few claim h is_asked is =
     gathers s task purpose gathered asked (gathered ++ bytes) v there few claim h room (λ h. bytes-append gathered bytes h is)
   where
     room : length gathered < task.length → length (gathered ++ bytes) ≤ task.length
@@ -327,19 +307,19 @@ data_for_keeps s task (Gathering purpose gathered asked) lun offset bytes v ther
         let count = eq_told (length bytes) (count_at task.length (length gathered)) last.1 in
         let joined = length-append gathered bytes in
         omega arith
-data_for_keeps s task (Sending blocks sent) lun offset bytes v there few claim h is_asked is = v
-data_for_keeps s task (Telling more) lun offset bytes v there few claim h is_asked is = v
-data_for_keeps s task (Awaiting commands) lun offset bytes v there few claim h is_asked is = v
-data_for_keeps s task (Answering status carried) lun offset bytes v there few claim h is_asked is = v
+data_for_right s task (Sending blocks sent) lun offset bytes v there few claim h is_asked is = Still
+data_for_right s task (Telling more) lun offset bytes v there few claim h is_asked is = Still
+data_for_right s task (Awaiting commands) lun offset bytes v there few claim h is_asked is = Still
+data_for_right s task (Answering status carried) lun offset bytes v there few claim h is_asked is = Still
 
-pub data_keeps : (s : State) (lun tag offset : ℕ) (bytes : List ℕ) → IsTied s → asked_fault (is_asked_of (task_of tag s.tasks) lun offset (length bytes)) ≡ None → AreBytes bytes →
-    IsTied (data_heard s (task_of tag s.tasks) bytes)
-data_keeps s lun tag offset bytes v h is = by (task_of tag s.tasks) refl (no_offence (is_asked_of (task_of tag s.tasks) lun offset (length bytes)) h)
+pub data_right : (s : State) (lun tag offset : ℕ) (bytes : List ℕ) → IsTied s → asked_fault (is_asked_of (task_of tag s.tasks) lun offset (length bytes)) ≡ None → AreBytes bytes →
+    Right s (data_heard s (task_of tag s.tasks) bytes)
+data_right s lun tag offset bytes v h is = by (task_of tag s.tasks) refl (no_offence (is_asked_of (task_of tag s.tasks) lun offset (length bytes)) h)
   where
-    by : (x : Option Task) → task_of tag s.tasks ≡ x → is_asked_of x lun offset (length bytes) ≡ true → IsTied (data_heard s x bytes)
-    by None e asked = v
+    by : (x : Option Task) → task_of tag s.tasks ≡ x → is_asked_of x lun offset (length bytes) ≡ true → Right s (data_heard s x bytes)
+    by None e asked = Still
     by (Some task) e asked =
         let found = found_fits (shape_of_numbers (numbers_of s)) (length s.accepted) (is_mended s.translation.work.mending) tag s.tasks task v.tasks.deeds e in
         let claimed = v.tasks.claimed in
         let few = found.2 in
-        data_for_keeps s task task.deed lun offset bytes v (ap (λ (x : ℕ). task_of x s.tasks) found.1 ∙ e) (omega arith) refl found.0 asked is
+        data_for_right s task task.deed lun offset bytes v (ap (λ (x : ℕ). task_of x s.tasks) found.1 ∙ e) (omega arith) refl found.0 asked is

@@ -1,4 +1,5 @@
 -- The page that has a key's content at the frontier is the last of the pages of the key that are not lost.
+use Rattle.ufs_spec.proofs.Facts.{key_is}
 use Rattle.std.proofs.Common.{◌≡◌, ℕ, zero, suc, ◌+◌, ◌-◌, ◌<◌, ◌≤◌, ◌⊎◌, ◌&&◌, ◌==◌, Bool, true, false, List, [], ◌∷◌, get_or, length, take, Option, Some, None, slice_get, refl, sym, ap, ◌∙◌, subst, inl, inr, ⊎_elim, arith, le-ltb, lt-ltb}
 use Rattle.std.specs.Prelude.{position}
 use Rattle.std.specs.List.{position_or_len}
@@ -52,9 +53,6 @@ take_get (suc m) (y ∷ ys) zero x l h = h
 take_get (suc m) (y ∷ ys) (suc j) x l h = take_get m ys j x (omega arith) h
 
 -- Keys
-
-pub key_is : (j k : Key) → j.kind ≡ k.kind → j.unit ≡ k.unit → j.address ≡ k.address → j ≡ k
-key_is j k d e f = λ i. record { kind = d i; unit = e i; address = f i }
 
 pub key_told : (j k : Key) → same_key j k ≡ true → j ≡ k
 key_told j k h =

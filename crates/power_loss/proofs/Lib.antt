@@ -41,6 +41,7 @@ pub mod Owed
 pub mod PagesHold
 pub mod Replies
 pub mod SealedCells
+pub mod RightChanges
 pub mod Secures
 pub mod Spents
 pub mod Stays

@@ -1,72 +1,17 @@
 -- What no move of the translation layer changes: the numbers, and but for takes the blocks that are being erased.
-use Rattle.std.proofs.Common.{if◌then◌else◌, ◌≡◌, ℕ, Bool, true, false, List, [], ◌∷◌, Option, Some, None, fold, refl, ◌∙◌, ⊎_elim}
+use Rattle.std.proofs.Common.{if◌then◌else◌, ◌≡◌, ℕ, Bool, true, false, List, [], ◌∷◌, Option, Some, None, fold, refl, ap, sym, ◌∙◌, ⊎_elim}
 use Rattle.ufs_spec.specs.Cells.{Cell, GroupPage, MarkPage, Nothing}
 use Rattle.ufs_spec.specs.Disk.{Disk, Erasing, Flight, ForNobody, ForRest, ForStep, ForTask, Programming, Reader, Reading, Spot, at_die, programmed}
 use Rattle.ufs_spec.specs.Moves.{Accept, Claim, End, Ending, die_idle, freed, is_for, is_for_task, without_reader, Keep, LetGo, LetGoAll, Move, ReadRight, ReadWrong, Release, Take, Tell, Turn, WantPage, WentWell, WentWrong, cell_failed, cell_written, end_flight, job_ended, moved, read_right, read_wrong}
-use Rattle.ufs_spec.specs.Translation.{Order, OrderCopy, OrderMark, OrderPlanMark, OrderRepair, Plan, Translation, copy_begun, due_order, stepped, with_plan}
+use Rattle.ufs_spec.specs.Translation.{Plan, Translation}
 use Rattle.ufs_spec.specs.declared.flash.Place.{Place}
 use Rattle.power_loss.proofs.OneMore.{at_die_is}
+use Rattle.ufs_laws.proofs.Turned.{end_only, turn_only}
 
 -- Numbers
 
 abbrev SameNumbers : Translation → Translation → Type 0
 SameNumbers t u = u.numbers ≡ t.numbers
-
-numbers_if : (t : Translation) (b : Bool) (u w : Translation) → SameNumbers t u → SameNumbers t w → SameNumbers t (if b then u else w)
-numbers_if t true u w h k = h
-numbers_if t false u w h k = k
-
-copy_numbers : (t : Translation) (p : Place) (cell : Cell) → SameNumbers t (copy_begun t p cell)
-copy_numbers t p Nothing = refl
-copy_numbers t p (GroupPage tag body) = refl
-copy_numbers t p (MarkPage m) = refl
-
-step_numbers : (t : Translation) (order : Option Order) → SameNumbers t (stepped t order)
-step_numbers t None = refl
-step_numbers t (Some (OrderMark fence)) = refl
-step_numbers t (Some (OrderRepair k left)) = refl
-step_numbers t (Some (OrderCopy victim p left)) = copy_numbers (with_plan t victim left) p (t.disk.cells p)
-step_numbers t (Some (OrderPlanMark victim)) = refl
-
-written_numbers : (t : Translation) (p : Place) (cell : Cell) → SameNumbers t (cell_written t p cell)
-written_numbers t p Nothing = refl
-written_numbers t p (GroupPage tag body) = refl
-written_numbers t p (MarkPage m) = refl
-
-failed_numbers : (t : Translation) (p : Place) (cell : Cell) (left : Place → Cell) → SameNumbers t (cell_failed t p cell left)
-failed_numbers t p Nothing left = refl
-failed_numbers t p (GroupPage tag body) left = refl
-failed_numbers t p (MarkPage m) left = numbers_if t _ _ _ refl refl
-
-right_numbers : (t : Translation) (reader : Reader) → SameNumbers t (read_right t reader)
-right_numbers t ForNobody = refl
-right_numbers t (ForTask tag index) = refl
-right_numbers t ForStep = refl
-right_numbers t (ForRest number index) = refl
-
-wrong_numbers : (t : Translation) (reader : Reader) → SameNumbers t (read_wrong t reader)
-wrong_numbers t ForNobody = refl
-wrong_numbers t (ForTask tag index) = refl
-wrong_numbers t ForStep = refl
-wrong_numbers t (ForRest number index) = refl
-
-ended_numbers : (t : Translation) (die : ℕ) (flight : Flight) (ending : Ending) → SameNumbers t (job_ended t die flight ending)
-ended_numbers t die (Reading reader place) ReadRight = right_numbers _ reader
-ended_numbers t die (Reading reader place) ReadWrong = wrong_numbers _ reader
-ended_numbers t die (Programming place cell) WentWell = written_numbers t place cell
-ended_numbers t die (Programming place cell) (WentWrong left) = failed_numbers t place cell left
-ended_numbers t die (Erasing spot) WentWell = refl
-ended_numbers t die (Erasing spot) (WentWrong left) = refl
-ended_numbers t die (Reading reader place) WentWell = refl
-ended_numbers t die (Reading reader place) (WentWrong left) = refl
-ended_numbers t die (Programming place cell) ReadRight = refl
-ended_numbers t die (Programming place cell) ReadWrong = refl
-ended_numbers t die (Erasing spot) ReadRight = refl
-ended_numbers t die (Erasing spot) ReadWrong = refl
-
-flight_numbers : (t : Translation) (die : ℕ) (flight : Option Flight) (ending : Ending) → SameNumbers t (end_flight t die flight ending)
-flight_numbers t die None ending = refl
-flight_numbers t die (Some flight) ending = ended_numbers t die flight ending
 
 pub move_numbers : (t : Translation) (move : Move) → SameNumbers t (moved t move)
 move_numbers t (Claim count) = refl
@@ -78,8 +23,8 @@ move_numbers t (WantPage tag index) = refl
 move_numbers t (LetGo tag index) = refl
 move_numbers t (LetGoAll tag) = refl
 move_numbers t (Take die flight) = refl
-move_numbers t (End die ending) = flight_numbers t die (t.disk.flights die) ending
-move_numbers t Turn = step_numbers t (due_order t)
+move_numbers t (End die ending) = ap (λ (u : Translation). u.numbers) (end_only t die ending).is
+move_numbers t Turn = ap (λ (u : Translation). u.numbers) (turn_only t).is
 
 pub moves_numbers : (t : Translation) (moves : List Move) → SameNumbers t (fold moved t moves)
 moves_numbers t [] = refl
@@ -113,18 +58,6 @@ unread_erases reads (Some (Erasing other)) spot h = h
 erases_if : (t : Translation) (b : Bool) (u w : Translation) → NoMore t u → NoMore t w → NoMore t (if b then u else w)
 erases_if t true u w h k = h
 erases_if t false u w h k = k
-
-copy_erases : (t : Translation) (p : Place) (cell : Cell) → NoMore t (copy_begun t p cell)
-copy_erases t p Nothing die spot e = e
-copy_erases t p (GroupPage tag body) die spot e = e
-copy_erases t p (MarkPage m) die spot e = e
-
-step_erases : (t : Translation) (order : Option Order) → NoMore t (stepped t order)
-step_erases t None die spot e = e
-step_erases t (Some (OrderMark fence)) die spot e = e
-step_erases t (Some (OrderRepair k left)) die spot e = e
-step_erases t (Some (OrderCopy victim p left)) die spot e = copy_erases (with_plan t victim left) p (t.disk.cells p) die spot e
-step_erases t (Some (OrderPlanMark victim)) die spot e = e
 
 freed_erases : (d : Disk) (plan : Option Plan) → NoMoreErases d.flights (freed d plan).flights
 freed_erases d None die spot e = e
@@ -197,7 +130,7 @@ move_erases t (WantPage tag index) free = λ other spot e. e
 move_erases t (LetGo tag index) free = λ other spot e. unread_erases (is_for tag index) (t.disk.flights other) spot e
 move_erases t (LetGoAll tag) free = λ other spot e. unread_erases (is_for_task tag) (t.disk.flights other) spot e
 move_erases t (End die ending) free = flight_erases t die (t.disk.flights die) ending
-move_erases t Turn free = step_erases t (due_order t)
+move_erases t Turn free = λ other spot e. sym (ap (λ (u : Translation). u.disk.flights other) (turn_only t).is) ∙ e
 
 abbrev pub NoTakes : List Move → Type 0
 NoTakes [] = Unit {0}

@@ -11,8 +11,10 @@ use Rattle.ufs_spec.specs.Translation.{is_mended}
 use Rattle.ufs_spec.specs.declared.messages.Message.{Message}
 use Rattle.ufs_spec.specs.declared.scsi.Cdb.{Cdb}
 use Rattle.power_loss.specs.Exchange.{AwaitsFit, DeedFits, ShortAwaits, ShortFits, IsTied, claim_of}
-use Rattle.power_loss.proofs.EventParts.{one_move, same_but_tasks}
 use Rattle.power_loss.proofs.TaskLists.{found_short, found_task, no_task_found, short_fits_at, shorts_fewer, task_fits_at, task_set, tasks_fewer}
+use Rattle.power_loss.proofs.RightChanges.{Right, right_keeps, right_move}
+use Rattle.ufs_laws.proofs.Changed.{Both, Closes, ClosesShorts, Maps, One, Still, does}
+use Rattle.ufs_spec.specs.Exchanges.{with_deed}
 
 -- whether the deed fits a task of the state
 abbrev pub FitsIn : State → Task → Deed → Type 0
@@ -20,22 +22,27 @@ FitsIn s task deed =
     DeedFits (shape_of_numbers (numbers_of s)) (length s.accepted) (is_mended s.translation.work.mending) (claimed_by deed task.command) task.length deed
 
 -- a task does something else that claims no more
-pub set_keeps : (s : State) (task : Task) (deed : Deed) → IsTied s → task_of task.tag s.tasks ≡ Some task → FitsIn s task deed → claimed_by deed task.command ≤ claim_of task →
-    IsTied (set_deed s task.tag deed)
-set_keeps s task deed v there fits few =
+pub set_right : (s : State) (task : Task) (deed : Deed) → IsTied s → task_of task.tag s.tasks ≡ Some task → FitsIn s task deed → claimed_by deed task.command ≤ claim_of task →
+    Right s (set_deed s task.tag deed)
+set_right s task deed v there fits few =
     let m = is_mended s.translation.work.mending in
-    same_but_tasks s _ s.shorts v
-    (task_set (shape_of_numbers (numbers_of s)) (length s.accepted) (length s.accepted) m m s.translation.claims s.translation.claims task task.tag deed s.tasks s.shorts
-    (omega arith) (λ h. h) there fits (omega arith) v.tasks)
+    One (Maps (with_deed task.tag deed)) (record {
+      small = does task.tag deed;
+      layer = tt;
+      tasks = task_set (shape_of_numbers (numbers_of s)) (length s.accepted) (length s.accepted) m m s.translation.claims s.translation.claims task task.tag deed s.tasks
+          s.shorts (omega arith) (λ h. h) there fits (omega arith) v.tasks;
+    })
 
 -- a task goes
-removed_keeps : (s : State) (tag : ℕ) → IsTied s → IsTied (with_moves (record s { tasks = without_task tag s.tasks }) (LetGoAll tag ∷ []))
-removed_keeps s tag v =
+removed_right : (s : State) (tag : ℕ) → IsTied s → Right s (with_moves (record s { tasks = without_task tag s.tasks }) (LetGoAll tag ∷ []))
+removed_right s tag v =
     let m = is_mended s.translation.work.mending in
-    one_move (record s { tasks = without_task tag s.tasks }) (LetGoAll tag)
-    (same_but_tasks s (without_task tag s.tasks) s.shorts v
-    (tasks_fewer (shape_of_numbers (numbers_of s)) (length s.accepted) m s.translation.claims (λ (task : Task). not (is_task_of tag task)) s.tasks s.shorts v.tasks))
-    tt (record { groups = refl; claims = refl }) refl
+    let gone : Right s (record s { tasks = without_task tag s.tasks }) = One (Closes (is_task_of tag)) (record {
+      small = tt;
+      layer = tt;
+      tasks = tasks_fewer (shape_of_numbers (numbers_of s)) (length s.accepted) m s.translation.claims (λ (task : Task). not (is_task_of tag task)) s.tasks s.shorts v.tasks;
+    }) in
+    Both gone (right_move (record s { tasks = without_task tag s.tasks }) (LetGoAll tag) (right_keeps gone v) tt tt (omega arith))
 
 -- what may be told is durable
 tell_allowed : (s : State) (commands : ℕ) → IsTied s → AwaitsFit (length s.accepted) (is_mended s.translation.work.mending) commands →
@@ -45,9 +52,9 @@ tell_allowed s commands v fits h =
     let l = leb-true commands (durable s) h in
     omega arith
 
-told_keeps : (s : State) (commands : ℕ) → IsTied s → AwaitsFit (length s.accepted) (is_mended s.translation.work.mending) commands →
-    nat_le commands (durable s) ≡ true → IsTied (with_moves s (Tell commands ∷ []))
-told_keeps s commands v fits h = one_move s (Tell commands) v (tell_allowed s commands v fits h) (record { groups = refl; claims = refl }) refl
+told_right : (s : State) (commands : ℕ) → IsTied s → AwaitsFit (length s.accepted) (is_mended s.translation.work.mending) commands →
+    nat_le commands (durable s) ≡ true → Right s (with_moves s (Tell commands ∷ []))
+told_right s commands v fits h = right_move s (Tell commands) v tt (tell_allowed s commands v fits h) (omega arith)
 
 -- The tag of a reply
 
@@ -103,21 +110,21 @@ asked_fits s task (ForWrite unit address blocks forced) gathered asked h = recor
 asked_fits s task (ForUnmap unit) gathered asked h = tt
 asked_fits s task ForFrames gathered asked h = tt
 
-sent_keeps : (s : State) (task : Task) (blocks : List ReadBlock) (sent : ℕ) (b : Bool) → IsTied s → task_of task.tag s.tasks ≡ Some task →
-    IsTied (set_deed s task.tag (if b then Sending blocks (sent + 1) else Answering Good task.length))
-sent_keeps s task blocks sent true v there = set_keeps s task (Sending blocks (sent + 1)) v there tt (omega arith)
-sent_keeps s task blocks sent false v there = set_keeps s task (Answering Good task.length) v there tt (omega arith)
+sent_right : (s : State) (task : Task) (blocks : List ReadBlock) (sent : ℕ) (b : Bool) → IsTied s → task_of task.tag s.tasks ≡ Some task →
+    Right s (set_deed s task.tag (if b then Sending blocks (sent + 1) else Answering Good task.length))
+sent_right s task blocks sent true v there = set_right s task (Sending blocks (sent + 1)) v there tt (omega arith)
+sent_right s task blocks sent false v there = set_right s task (Answering Good task.length) v there tt (omega arith)
 
-state_keeps : (s : State) (task : Task) (blocks : List ReadBlock) (sent : ℕ) (state : ReadState) → IsTied s → task_of task.tag s.tasks ≡ Some task →
-    IsTied (task_behind s task (deed_behind_state task blocks sent state))
-state_keeps s task blocks sent NotRead v there = removed_keeps s task.tag v
-state_keeps s task blocks sent Unread v there = sent_keeps s task blocks sent (nat_lt (sent + 1) (length blocks)) v there
-state_keeps s task blocks sent WasRead v there = sent_keeps s task blocks sent (nat_lt (sent + 1) (length blocks)) v there
+state_right : (s : State) (task : Task) (blocks : List ReadBlock) (sent : ℕ) (state : ReadState) → IsTied s → task_of task.tag s.tasks ≡ Some task →
+    Right s (task_behind s task (deed_behind_state task blocks sent state))
+state_right s task blocks sent NotRead v there = removed_right s task.tag v
+state_right s task blocks sent Unread v there = sent_right s task blocks sent (nat_lt (sent + 1) (length blocks)) v there
+state_right s task blocks sent WasRead v there = sent_right s task blocks sent (nat_lt (sent + 1) (length blocks)) v there
 
-block_keeps : (s : State) (task : Task) (blocks : List ReadBlock) (sent : ℕ) (x : Option ReadBlock) → IsTied s → task_of task.tag s.tasks ≡ Some task →
-    IsTied (task_behind s task (deed_behind_block task blocks sent x))
-block_keeps s task blocks sent None v there = removed_keeps s task.tag v
-block_keeps s task blocks sent (Some block) v there = state_keeps s task blocks sent block.state v there
+block_right : (s : State) (task : Task) (blocks : List ReadBlock) (sent : ℕ) (x : Option ReadBlock) → IsTied s → task_of task.tag s.tasks ≡ Some task →
+    Right s (task_behind s task (deed_behind_block task blocks sent x))
+block_right s task blocks sent None v there = removed_right s task.tag v
+block_right s task blocks sent (Some block) v there = state_right s task blocks sent block.state v there
 
 awaited : (s : State) (task : Task) (commands : ℕ) (m : Message) → deed_reply s task (Awaiting commands) ≡ Some m → nat_le commands (durable s) ≡ true
 awaited s task commands m h = by (nat_le commands (durable s)) h
@@ -127,53 +134,58 @@ awaited s task commands m h = by (nat_le commands (durable s)) h
     by false e = no_tag m e
 
 deed_replies : (s : State) (task : Task) (deed : Deed) (m : Message) → IsTied s → task_of task.tag s.tasks ≡ Some task → FitsIn s task deed → claim_of task ≡ claimed_by deed task.command →
-    deed_reply s task deed ≡ Some m → IsTied (task_behind (with_moves s (moves_behind task deed)) task (deed_behind task deed))
+    deed_reply s task deed ≡ Some m → Right s (task_behind (with_moves s (moves_behind task deed)) task (deed_behind task deed))
 deed_replies s task (Gathering purpose gathered asked) m v there fits claim h =
-    set_keeps s task (Gathering purpose gathered true) v there (asked_fits s task purpose gathered asked fits)
+    set_right s task (Gathering purpose gathered true) v there (asked_fits s task purpose gathered asked fits)
     (let e = claim_same purpose purpose gathered gathered true asked task.command in omega arith)
 deed_replies s task (Sending blocks sent) m v there fits claim h =
-    let one = one_move s (LetGo task.tag sent) v tt (record { groups = refl; claims = refl }) refl in
-    let two = one_move (with_moves s (LetGo task.tag sent ∷ [])) (WantPage task.tag (sent + 1)) one tt (record { groups = refl; claims = refl }) refl in
-    block_keeps (with_moves s (LetGo task.tag sent ∷ WantPage task.tag (sent + 1) ∷ [])) task blocks sent (slice_get blocks sent) two there
-deed_replies s task (Telling bytes) m v there fits claim h = set_keeps s task (Answering Good task.length) v there tt (omega arith)
+    let one = right_move s (LetGo task.tag sent) v tt tt (omega arith) in
+    let two = right_move (with_moves s (LetGo task.tag sent ∷ [])) (WantPage task.tag (sent + 1)) (right_keeps one v) tt tt (omega arith) in
+    Both one
+    (Both two
+    (block_right (with_moves s (LetGo task.tag sent ∷ WantPage task.tag (sent + 1) ∷ [])) task blocks sent (slice_get blocks sent) (right_keeps (Both one two) v) there))
+deed_replies s task (Telling bytes) m v there fits claim h = set_right s task (Answering Good task.length) v there tt (omega arith)
 deed_replies s task (Awaiting commands) m v there fits claim h =
-    removed_keeps (with_moves s (Tell commands ∷ [])) task.tag (told_keeps s commands v fits (awaited s task commands m h))
-deed_replies s task (Answering status carried) m v there fits claim h = removed_keeps s task.tag v
+    let told = told_right s commands v fits (awaited s task commands m h) in
+    Both told (removed_right (with_moves s (Tell commands ∷ [])) task.tag (right_keeps told v))
+deed_replies s task (Answering status carried) m v there fits claim h = removed_right s task.tag v
 
 -- The reply of a short exchange
 
-short_tells : (s : State) (x : Option ℕ) → IsTied s → ShortAwaits (length s.accepted) (is_mended s.translation.work.mending) x → is_durable s x ≡ true → IsTied (with_moves s (tells x))
-short_tells s None v fits h = v
-short_tells s (Some commands) v fits h = told_keeps s commands v fits h
+short_tells : (s : State) (x : Option ℕ) → IsTied s → ShortAwaits (length s.accepted) (is_mended s.translation.work.mending) x → is_durable s x ≡ true → Right s (with_moves s (tells x))
+short_tells s None v fits h = Still
+short_tells s (Some commands) v fits h = told_right s commands v fits h
 
 short_replies : (s : State) (short : Short) → IsTied s → ShortFits (length s.accepted) (is_mended s.translation.work.mending) short → is_durable s short.awaits ≡ true →
-    IsTied (short_replied s (Some short))
+    Right s (short_replied s (Some short))
 short_replies s short v fits h =
     let m = is_mended s.translation.work.mending in
-    short_tells (record s { shorts = without_short short.tag s.shorts }) short.awaits
-    (same_but_tasks s s.tasks (without_short short.tag s.shorts) v
-    (shorts_fewer (shape_of_numbers (numbers_of s)) (length s.accepted) m s.translation.claims (λ (x : Short). not (is_short_of short.tag x)) s.tasks s.shorts v.tasks))
-    fits.awaits h
+    let gone : Right s (record s { shorts = without_short short.tag s.shorts }) = One (ClosesShorts (is_short_of short.tag)) (record {
+      small = tt;
+      layer = tt;
+      tasks = shorts_fewer (shape_of_numbers (numbers_of s)) (length s.accepted) m s.translation.claims (λ (x : Short). not (is_short_of short.tag x)) s.tasks s.shorts v.tasks;
+    }) in
+    Both gone (short_tells (record s { shorts = without_short short.tag s.shorts }) short.awaits (right_keeps gone v) fits.awaits h)
 
 -- Both
 
-pub replies_keep : (s : State) (m : Message) → IsTied s → Due s m → IsTied (replied s m)
-replies_keep s m v (inl h) = task_due h.0 h.1 h.2 h.3
+pub replies_right : (s : State) (m : Message) → IsTied s → Due s m → Right s (replied s m)
+replies_right s m v (inl h) = task_due h.0 h.1 h.2 h.3
   where
-    task_due : (k : ℕ) (task : Task) → slice_get s.tasks k ≡ Some task → deed_reply s task task.deed ≡ Some m → IsTied (replied s m)
+    task_due : (k : ℕ) (task : Task) → slice_get s.tasks k ≡ Some task → deed_reply s task task.deed ≡ Some m → Right s (replied s m)
     task_due k task at reply =
         let found = found_task s.tasks k task v.tasks.tasks_differ at in
         let tag = reply_tag s task task.deed m reply in
         let here : task_of (tag_in m) s.tasks ≡ Some task = ap (λ (x : ℕ). task_of x s.tasks) tag ∙ found in
         let fits = task_fits_at (shape_of_numbers (numbers_of s)) (length s.accepted) (is_mended s.translation.work.mending) s.tasks k task v.tasks.deeds at in
-        subst (λ (x : Option Task). IsTied (replied_by s (tag_in m) x)) (sym here) (deed_replies s task task.deed m v found fits refl reply)
-replies_keep s m v (inr h) = short_due h.0 h.1 h.2 h.3 h.4
+        subst (λ (x : Option Task). Right s (replied_by s (tag_in m) x)) (sym here) (deed_replies s task task.deed m v found fits refl reply)
+replies_right s m v (inr h) = short_due h.0 h.1 h.2 h.3 h.4
   where
-    short_due : (k : ℕ) (short : Short) → slice_get s.shorts k ≡ Some short → is_durable s short.awaits ≡ true → m ≡ short.reply → IsTied (replied s m)
+    short_due : (k : ℕ) (short : Short) → slice_get s.shorts k ≡ Some short → is_durable s short.awaits ≡ true → m ≡ short.reply → Right s (replied s m)
     short_due k short at due same =
         let fits = short_fits_at (length s.accepted) (is_mended s.translation.work.mending) s.shorts k short v.tasks.waits at in
         let tag : tag_in m ≡ short.tag = ap tag_in same ∙ fits.reply in
         let none : task_of (tag_in m) s.tasks ≡ None = ap (λ (x : ℕ). task_of x s.tasks) tag ∙ no_task_found s.shorts s.tasks k short v.tasks.apart at in
         let found : find (is_short_of (tag_in m)) s.shorts ≡ Some short = ap (λ (x : ℕ). find (is_short_of x) s.shorts) tag ∙ found_short s.shorts k short v.tasks.shorts_differ at in
-        subst (λ (x : Option Task). IsTied (replied_by s (tag_in m) x)) (sym none)
-        (subst (λ (x : Option Short). IsTied (short_replied s x)) (sym found) (short_replies s short v fits due))
+        subst (λ (x : Option Task). Right s (replied_by s (tag_in m) x)) (sym none)
+        (subst (λ (x : Option Short). Right s (short_replied s x)) (sym found) (short_replies s short v fits due))

@@ -1,4 +1,5 @@
 -- A block that is given to a die to be erased holds only pages that may go.
+use Rattle.ufs_spec.proofs.Facts.{at_most}
 use Rattle.std.proofs.Common.{◌≡◌, ◌≢◌, ℕ, ◌-◌, ◌<◌, ◌≤◌, nat_le, true, false, ◌⊎◌, if◌then◌else◌, List, Option, Some, None, option_and_then, slice_get, refl, sym, ap, ◌∙◌, subst, inl, inr, ⊎_elim, arith}
 use Rattle.std.proofs.lemmas.Bool.Decides.{nat_tests}
 use Rattle.ufs_spec.specs.Cells.{Cell, GroupPage, Mark, MarkPage, Nothing, key_of}
@@ -39,12 +40,9 @@ old_page b n i x l h =
 
 pub lost_or_not : (b : Book) (n : ℕ) → IsLostNumber b n ⊎ (IsLostNumber b n → ⊥)
 lost_or_not b n = ⊎_elim
-    (λ (l : b.low ≤ n). ⊎_elim (λ (k : n ≤ b.top). inl record { from = l; to = k }) (λ (k : b.top < n). inr (λ o. let z = o.to in omega arith)) (split n b.top))
+    (λ (l : b.low ≤ n). ⊎_elim (λ (k : n ≤ b.top). inl record { from = l; to = k }) (λ (k : b.top < n). inr (λ o. let z = o.to in omega arith)) (at_most n b.top))
     (λ (l : n < b.low). inr (λ o. let z = o.from in omega arith))
-    (split b.low n)
-  where
-    split : (m n : ℕ) → (m ≤ n) ⊎ (n < m)
-    split m n = grind arith
+    (at_most b.low n)
 
 -- Copies and newer pages
 

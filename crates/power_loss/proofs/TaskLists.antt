@@ -13,9 +13,6 @@ use Rattle.power_loss.proofs.OneMore.{eq_self, eq_told, if_false, if_true}
 pub other_way : (m n : ℕ) → (m == n) ≡ false → (n == m) ≡ false
 other_way m n h = grind (arith, nat_tests)
 
-pub true_or_false : true ≡ false → ⊥
-true_or_false h = cc
-
 -- Later on, more is accepted and claimed
 
 awaits_more : (a b : ℕ) (m w : Bool) (commands : ℕ) → a ≤ b → (m ≡ true → w ≡ true) → AwaitsFit a m commands → AwaitsFit b w commands

@@ -2,6 +2,7 @@ pub mod Answered
 pub mod Blank
 pub mod Bodies
 pub mod Bytes
+pub mod Changed
 pub mod Commands
 pub mod Crashes
 pub mod Decide
@@ -12,6 +13,7 @@ pub mod Gap
 pub mod Groups
 pub mod HeardOnce
 pub mod HeldFacts
+pub mod HeldGrows
 pub mod Homes
 pub mod Jobs
 pub mod Joined
@@ -40,4 +42,5 @@ pub mod SomeCell
 pub mod Stands
 pub mod States
 pub mod Staying
+pub mod Turned
 pub mod Whole

@@ -1,4 +1,5 @@
 -- The newest mark, the greatest recorded frontier and the newest page of a key: each is found by one search.
+use Rattle.ufs_spec.proofs.Facts.{key_is}
 use Rattle.std.proofs.Common.{◌≡◌, ℕ, suc, ◌<◌, ◌≤◌, ◌⊎◌, List, Option, Some, None, refl, sym, ap, ◌∙◌, inl, inr, ⊎_elim, arith}
 use Rattle.std.proofs.lemmas.Bool.Decides.{eqb_tells}
 use Rattle.ufs_laws.proofs.Search.{Decided, Greatest, greatest, if_so, not, so, split, was_so}
@@ -88,14 +89,11 @@ recorded n c within m =
 
 -- The newest page of a key
 
-pub same_fields : (j k : Key) → j.kind ≡ k.kind → j.unit ≡ k.unit → j.address ≡ k.address → j ≡ k
-same_fields j k e f g i = record { kind = e i; unit = f i; address = g i }
-
 pub is_key : (j k : Key) → Decided (j ≡ k)
 is_key j k = ⊎_elim (λ e. of_kind e.1) (λ n. inr (λ e. n.1 (ap (λ l. l.kind) e))) (eqb_tells j.kind k.kind)
   where
     of_unit : j.kind ≡ k.kind → j.unit ≡ k.unit → Decided (j ≡ k)
-    of_unit e f = ⊎_elim (λ g. inl (same_fields j k e f g.1)) (λ n. inr (λ g. n.1 (ap (λ l. l.address) g))) (eqb_tells j.address k.address)
+    of_unit e f = ⊎_elim (λ g. inl (key_is j k e f g.1)) (λ n. inr (λ g. n.1 (ap (λ l. l.address) g))) (eqb_tells j.address k.address)
 
     of_kind : j.kind ≡ k.kind → Decided (j ≡ k)
     of_kind e = ⊎_elim (λ f. of_unit e f.1) (λ n. inr (λ f. n.1 (ap (λ l. l.unit) f))) (eqb_tells j.unit k.unit)

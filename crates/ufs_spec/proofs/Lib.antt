@@ -1,2 +1,3 @@
 pub mod ConfigFacts
+pub mod Facts
 pub mod PlainFacts

@@ -1,0 +1,179 @@
+-- Small changes that may come in a life: each keeps the state tied to its dies and commands, and so do all of a call.
+use Rattle.std.proofs.Common.{Bool, List, None, [], ap, arith, drop, false, length, map, refl, subst, suc, sym, true, zero, ℕ, ◌++◌, ◌∙◌, ◌∷◌, ◌≡◌, ◌≤◌}
+use Rattle.std.specs.Prelude.{if◌then◌else◌, nat_le}
+use Rattle.ufs_spec.specs.Cells.{Shows}
+use Rattle.ufs_spec.specs.Commands.{Command}
+use Rattle.ufs_spec.specs.Exchanges.{Answering, Awaiting, Deed, Gathering, Sending, Short, Task, Telling, write_error}
+use Rattle.ufs_spec.specs.Keys.{CanApplyAll, Group, IsCommand, group_of, groups_of}
+use Rattle.ufs_spec.specs.Ledger.{accepted_groups}
+use Rattle.ufs_spec.specs.Machine.{claimed_by, deed_locked, durable, is_durable, lock_told, short_locked, task_locked, with_moves}
+use Rattle.ufs_spec.specs.Moves.{Accept, End, IsAllowedMove, Move, Take, Turn, moved}
+use Rattle.ufs_spec.specs.Plain.{CanApply, Plain, Shape, after, apply, shape_of, shape_of_numbers}
+use Rattle.ufs_spec.specs.Steps.{State, locked, numbers_of, plain_now}
+use Rattle.ufs_spec.specs.Translation.{Translation, is_mended}
+use Rattle.power_loss.specs.Exchange.{DeedFits, IsTied, ShortFits, TasksAreRight, TasksRight}
+use Rattle.power_loss.proofs.FittingMoves.{move_fits, move_stays}
+use Rattle.power_loss.proofs.TaskLists.{shorts_kept, tasks_kept}
+use Rattle.ufs_spec.proofs.PlainFacts.{kept_shape}
+use Rattle.power_loss.proofs.EventParts.{Ties, fits_of, tasks_stay, ties_of, ties_stay, whole}
+use Rattle.ufs_laws.proofs.Changed.{weaker, Small, Accepts, Both, Change, Changes, Closes, ClosesShorts, IsSmall, IsSmallMove, Maps, MapsShorts, Moves, One, Opens, OpensShort, SetsPowerOn, SetsRegisters, Still, changed, kept, lock_short}
+
+-- Changes that may come
+
+-- a move may come, and a command be applied and its group accepted
+abbrev pub LayerMay : State → Change → Type 0
+LayerMay s (Moves move) = IsAllowedMove s.translation move
+LayerMay s (Accepts command claimed f) =
+    IsCommand command × CanApply (plain_now s) command × IsAllowedMove s.translation (Accept claimed (group_of (plain_now s) command) [])
+LayerMay s change = Unit {0}
+
+pub record IsRight (s : State) (change : Change) : Type 0 where
+  pub small : IsSmall change
+  pub layer : LayerMay s change
+  -- the tasks and the short exchanges are right behind it
+  pub tasks : TasksAreRight (changed s change)
+
+-- the second state is the first one after changes that may come
+abbrev pub Right : State → State → Type 0
+Right = Changes IsRight
+
+pub right_small : {s t : State} → Right s t → Small s t
+right_small h = weaker (λ s change r. r.small) h
+
+-- One command more
+
+pub shape_after : (p : Plain) (cs : List Command) → CanApplyAll p cs → shape_of (after p cs) ≡ shape_of p
+shape_after p [] can = refl
+shape_after p (c ∷ cs) can = shape_after (apply p c) cs can.2 ∙ kept_shape p c can.1.0
+
+can_more : (p : Plain) (cs : List Command) (c : Command) → CanApplyAll p cs → IsCommand c → CanApply (after p cs) c → CanApplyAll p (cs ++ c ∷ [])
+can_more p [] c can is one = (is, one, tt)
+can_more p (d ∷ ds) c can is one = (can.0, can.1, can_more (apply p d) ds c can.2 is one)
+
+groups_more : (p : Plain) (cs : List Command) (c : Command) → groups_of p (cs ++ c ∷ []) ≡ groups_of p cs ++ group_of (after p cs) c ∷ []
+groups_more p [] c = refl
+groups_more p (d ∷ ds) c = ap (λ (gs : List Group). group_of p d ∷ gs) (groups_more (apply p d) ds c)
+
+drop_more : {X : Type 0} (n : ℕ) (xs : List X) (x : X) → n ≤ length xs → drop n (xs ++ x ∷ []) ≡ drop n xs ++ x ∷ []
+drop_more zero xs x h = refl
+drop_more (suc n) [] x h = absurd (omega arith)
+drop_more (suc n) (y ∷ ys) x h = drop_more n ys x (omega arith)
+
+-- What they keep
+
+record LeavesGroups (t u : Translation) : Type 0 where
+  groups : accepted_groups u.ledger ≡ accepted_groups t.ledger
+  cells : u.disk.cells ≡ t.disk.cells
+
+small_leaves : (t : Translation) (move : Move) → IsSmallMove move → LeavesGroups t (moved t move)
+small_leaves t (Accept claimed g rests) is = absurd is
+small_leaves t (Take die flight) is = absurd is
+small_leaves t (End die ending) is = absurd is
+small_leaves t Turn is = absurd is
+small_leaves t move is = record { groups = refl; cells = refl }
+
+accepted_ties : (s : State) (c : Command) (claimed : ℕ) → IsTied s → IsCommand c → CanApply (plain_now s) c →
+    Ties s.array s.base (s.accepted ++ c ∷ []) (moved s.translation (Accept claimed (group_of (plain_now s) c) []))
+accepted_ties s c claimed v is can = record {
+  shown = v.shown;
+  plain = v.base.0;
+  shape = v.base.1;
+  contents = v.contents;
+  commands = can_more s.base s.accepted c v.commands is can;
+  groups =
+      let g : Group = group_of (plain_now s) c in
+      drop_more s.translation.ledger.repairs s.translation.ledger.groups g v.valid.history.within
+      ∙ (ap (λ (gs : List Group). gs ++ g ∷ []) v.groups ∙ sym (groups_more s.base s.accepted c));
+}
+
+change_keeps : (s : State) (change : Change) → IsRight s change → IsTied s → IsTied (changed s change)
+change_keeps s (Moves move) r v =
+    let leaves = small_leaves s.translation move r.small in
+    whole (with_moves s (move ∷ [])) (move_fits s.translation move (fits_of s v) r.layer)
+    (ties_stay s.array s.array s.base s.accepted s.translation (moved s.translation move) (ties_of s v) (move_stays s.translation move)
+    (subst (Shows s.array) (sym leaves.cells) v.shown) leaves.groups)
+    r.tasks
+change_keeps s (Accepts command claimed f) r v =
+    let g : Group = group_of (plain_now s) command in
+    whole (changed s (Accepts command claimed f)) (move_fits s.translation (Accept claimed g []) (fits_of s v) r.layer.2)
+    (accepted_ties s command claimed v r.layer.0 r.layer.1) r.tasks
+change_keeps s (Opens task) r v = whole (changed s (Opens task)) (fits_of s v) (ties_of s v) r.tasks
+change_keeps s (Maps f) r v = whole (changed s (Maps f)) (fits_of s v) (ties_of s v) r.tasks
+change_keeps s (Closes is) r v = whole (changed s (Closes is)) (fits_of s v) (ties_of s v) r.tasks
+change_keeps s (OpensShort short) r v = whole (changed s (OpensShort short)) (fits_of s v) (ties_of s v) r.tasks
+change_keeps s (MapsShorts f) r v = whole (changed s (MapsShorts f)) (fits_of s v) (ties_of s v) r.tasks
+change_keeps s (ClosesShorts is) r v = whole (changed s (ClosesShorts is)) (fits_of s v) (ties_of s v) r.tasks
+change_keeps s (SetsRegisters registers) r v = whole (changed s (SetsRegisters registers)) (fits_of s v) (ties_of s v) r.tasks
+change_keeps s (SetsPowerOn on) r v = whole (changed s (SetsPowerOn on)) (fits_of s v) (ties_of s v) r.tasks
+
+pub right_keeps : {s t : State} → Right s t → IsTied s → IsTied t
+right_keeps h = kept (λ (s t : State). IsTied s → IsTied t) (record { self = λ s v. v; both = λ s t u h k v. k (h v); one = change_keeps }) h
+
+-- a move that takes no claim back
+pub right_move : (s : State) (move : Move) → IsTied s → IsSmallMove move → IsAllowedMove s.translation move → s.translation.claims ≤ (moved s.translation move).claims →
+    Right s (with_moves s (move ∷ []))
+right_move s move v small may claims = One (Moves move) (record {
+  small = small;
+  layer = may;
+  tasks = tasks_stay s s.accepted (moved s.translation move) (move_stays s.translation move) claims (omega arith) v.tasks;
+})
+
+-- The lock
+
+locked_fits : (s : State) (sh : Shape) (a : ℕ) (m : Bool) (task : Task) (deed : Deed) → DeedFits sh a m (claimed_by deed task.command) task.length deed →
+    DeedFits sh a m (claimed_by (deed_locked s task deed) task.command) task.length (deed_locked s task deed)
+locked_fits s sh a m task (Gathering purpose gathered asked) h = h
+locked_fits s sh a m task (Sending blocks sent) h = h
+locked_fits s sh a m task (Telling bytes) h = h
+locked_fits s sh a m task (Awaiting commands) h = by (nat_le commands (durable s))
+  where
+    by : (b : Bool) → DeedFits sh a m (claimed_by (if b then Awaiting commands else Answering write_error task.length) task.command) task.length (if b then Awaiting commands else Answering write_error task.length)
+    by true = h
+    by false = tt
+locked_fits s sh a m task (Answering status carried) h = h
+
+locked_claims : (s : State) (task : Task) (deed : Deed) → claimed_by (deed_locked s task deed) task.command ≤ claimed_by deed task.command
+locked_claims s task (Gathering purpose gathered asked) = omega arith
+locked_claims s task (Sending blocks sent) = omega arith
+locked_claims s task (Telling bytes) = omega arith
+locked_claims s task (Awaiting commands) = by (nat_le commands (durable s))
+  where
+    by : (b : Bool) → claimed_by (if b then Awaiting commands else Answering write_error task.length) task.command ≤ claimed_by (Awaiting commands) task.command
+    by true = omega arith
+    by false = omega arith
+locked_claims s task (Answering status carried) = omega arith
+
+short_fits : (s : State) (a : ℕ) (m : Bool) (x : Short) → ShortFits a m x → ShortFits a m (short_locked s x)
+short_fits s a m x h = by (is_durable s x.awaits)
+  where
+    by : (b : Bool) → ShortFits a m (if b then x else record x { awaits = None; reply = x.locked_reply })
+    by true = h
+    by false = record { awaits = tt; reply = h.locked_reply; locked_reply = h.locked_reply }
+
+pub lock_right : (s : State) → IsTied s → Right s (lock_told s)
+lock_right s v = by (locked s)
+  where
+    sh : Shape
+    sh = shape_of_numbers (numbers_of s)
+
+    a : ℕ
+    a = length s.accepted
+
+    m : Bool
+    m = is_mended s.translation.work.mending
+
+    tasks : TasksRight sh a m s.translation.claims (map (task_locked s) s.tasks) s.shorts
+    tasks = tasks_kept sh a m s.translation.claims (task_locked s) s.tasks s.shorts
+        (record { tag = λ t. refl; fits = λ t h. locked_fits s sh a m t t.deed h; claim = λ t. locked_claims s t t.deed })
+        v.tasks
+
+    by : (b : Bool) → Right s (if b then record s { tasks = map (task_locked s) s.tasks; shorts = map (short_locked s) s.shorts } else s)
+    by true = Both
+        (One (Maps (task_locked s)) (record { small = λ task. record { lun = refl; tag = refl; expected = refl; command = refl; length = refl }; layer = tt; tasks = tasks }))
+        (One (MapsShorts (short_locked s)) (record {
+          small = lock_short s;
+          layer = tt;
+          tasks = shorts_kept sh a m s.translation.claims (short_locked s) (map (task_locked s) s.tasks) s.shorts
+              (record { tag = lock_short s; fits = short_fits s a m }) tasks;
+        }))
+    by false = Still
