@@ -50,7 +50,7 @@ pub fn leftover_ok(before: &Page, intended: &Page, after: &Page) -> bool
     after == before || after == intended || !is_check_right(after)
 }
 
-/// A law, which nothing calls: a sealed page opens to the tag and the block that it was sealed with.
+/// A law: a sealed page opens to the tag and the block that it was sealed with. No code calls it.
 pub fn reopened(tag: &Tag, body: &Block) -> Option<Opened>
     requires { IsTag tag.now }
     ensures { result ≡ Some (record { tag = tag.now; body = body.now }) }
@@ -58,7 +58,7 @@ pub fn reopened(tag: &Tag, body: &Block) -> Option<Opened>
     open(&seal(tag, body))
 }
 
-/// A law, which nothing calls: one page seals one tag and one block.
+/// A law: one page seals one tag and one block. It does nothing; `ftl_core` calls it to have the law at hand.
 pub fn one_seal()
     ensures tag { (t u : Tag) (b d : List ℕ) → IsTag t → IsTag u → seal_page t b ≡ seal_page u d → t ≡ u }
     ensures block { (t u : Tag) (b d : List ℕ) → seal_page t b ≡ seal_page u d → b ≡ d }

@@ -118,11 +118,29 @@ fn faults_of_scripts(rt: HostRuntime) -> Result<(), Fail> {
             "",
             "ufsim: line 3: event\n",
         ),
+        (
+            "config 4 16 64 1 64 4\nunit 9 0 0\nturn\ntake 0\ndone 0 fail\n",
+            "turn yes\ntake 0 erase 0\n",
+            "ufsim: line 5: event\n",
+        ),
     ];
     for (script, output, fault) in cases {
         expect_run(&rt, alloc, script.as_bytes(), output.as_bytes(), fault)?;
     }
     Ok(())
+}
+
+/// A message is refused for its length however many bytes a line fills in.
+#[test]
+fn long_fills(rt: HostRuntime) -> Result<(), Fail> {
+    let alloc = rt.alloc();
+    expect_run(
+        &rt,
+        alloc,
+        b"config 4 16 64 1 64 4\nunit 9 0 0\nfill 00 00 65536\nfill 00 00 70000\nfill 00 00 4294967295\n",
+        b"host fault 2\nhost fault 2\nhost fault 2\n",
+        "",
+    )
 }
 
 /// Bytes that are no text at all end with a fault of the first line.
@@ -191,5 +209,10 @@ fn words_of_the_program(rt: HostRuntime) -> Result<(), Fail> {
     );
     assert_eq!(rt; call(alloc, &["ufsim", "stress"]), Err(CallFault::Usage));
     assert_eq!(rt; call(alloc, &["ufsim", "--help"]), Err(CallFault::Usage));
+    assert_eq!(rt; call(alloc, &["ufsim", "Run", "a"]), Err(CallFault::Usage));
+    assert_eq!(rt;
+        call(alloc, &["ufsim", "run", "--all", "a"]),
+        Err(CallFault::Usage)
+    );
     Ok(())
 }
