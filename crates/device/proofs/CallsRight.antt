@@ -12,7 +12,7 @@ use Rattle.ufs_spec.specs.Disk.{CellCrash, Erasing, Flight, Programming, Reading
 use Rattle.ufs_spec.specs.Exchanges as exchange
 use Rattle.ufs_spec.specs.Keys.{below}
 use Rattle.ufs_spec.specs.Lives.{IsOpened, bad_of}
-use Rattle.ufs_spec.specs.Machine.{Finish, Finishes, Give, Gives, MayLeave, Step, Steps, lock_told, observe, short_locked, task_locked}
+use Rattle.ufs_spec.specs.Machine.{Finish, Finishes, Give, Gives, MayLeave, Step, Steps, behind, lock_told, observe, short_locked, task_locked}
 use Rattle.ufs_spec.specs.Moves.{End, Ending, IsEndingOf, MayEnd, ReadRight, ReadWrong, Take, Turn, WentWell, WentWrong, moved}
 use Rattle.ufs_spec.specs.Plain.{Plain, after as after_all}
 use Rattle.ufs_spec.specs.Steps.{State, locked}
@@ -27,7 +27,7 @@ use Rattle.ufs_laws.proofs.FirstLife.{base_is_zero, none_there}
 use Rattle.ufs_laws.proofs.Parts.{made_of}
 use Rattle.ufs_laws.proofs.Stands.{new_sound}
 use Rattle.power_loss.specs.Exchange.{IsTied}
-use Rattle.power_loss.proofs.CallsKeep.{call_keeps}
+use Rattle.power_loss.proofs.CallsKeep.{unfilled_keeps}
 use Rattle.power_loss.proofs.Given.{opened_valid}
 use Rattle.power_loss.proofs.SealedCells.{ranges_of}
 use Rattle.ftl_core.specs.declared.ftl.Ended.{Ended}
@@ -43,6 +43,7 @@ use Rattle.device.proofs.Layer as its_layer
 use Rattle.device.proofs.Layer.{turns_due}
 use Rattle.device.proofs.LockStays.{Leaves, described}
 use Rattle.device.proofs.TasksCarried.{all_stay}
+use Rattle.device.proofs.Unfilled.{settles}
 
 -- A job is given
 
@@ -53,7 +54,7 @@ same_leaves : (s : State) → Leaves s.translation s.translation
 same_leaves s = record { became = all_stay s.translation.ledger s.translation.ledger s.translation.pins (λ name. refl); before = refl; frontier = refl; lock = refl }
 
 gives : (d : DeviceCore) (s : State) (die : ℕ) (flight : Option Flight) (after : Core) → Describes d s → layer_kept.Describes after (layer_kept.given s.translation die flight) →
-    IsTied (observe s (Give die) (Gives flight)) → Describes (record d { ftl = after }) (observe s (Give die) (Gives flight))
+    IsTied (lock_told (behind s (Give die) (Gives flight))) → Describes (record d { ftl = after }) (lock_told (behind s (Give die) (Gives flight)))
 gives d s die None after h layer tied = described d after s s.translation h layer.kept (same_leaves s) tied
 gives d s die (Some flight) after h layer tied = described d after s (moved s.translation (Take die flight)) h layer.kept (given_leaves s die flight) tied
 
@@ -64,7 +65,9 @@ gives_right d s die job after h taken = record {
   shown = taken.shown;
   answered = record {
     right = taken.right;
-    describes = gives d s die taken.job after h taken.describes (call_keeps s (Give die) (Gives taken.job) h.tied tt taken.right);
+    describes =
+        settles (record d { ftl = after }) s (Give die) (Gives taken.job)
+        (gives d s die taken.job after h taken.describes (unfilled_keeps s (Give die) (Gives taken.job) h.tied tt taken.right));
   };
 }
 
@@ -151,8 +154,9 @@ turns_right d s h =
       right = due;
       describes =
           subst (λ (core : DeviceCore). Describes core (observe s Step (Steps (is_turn_due d.ftl)))) (sym (turned_core d (mark_ordered d.ftl) (is_turn_due d.ftl)))
+          (settles (record d { ftl = if is_turn_due d.ftl then mark_ordered d.ftl else d.ftl }) s Step (Steps (is_turn_due d.ftl))
           (described d (if is_turn_due d.ftl then mark_ordered d.ftl else d.ftl) s (moved s.translation Turn) h (its_layer.turns_right d.ftl s.translation layer).kept
-          (turn_leaves s.translation (due_is d.ftl s.translation h.ftl_kept)) (call_keeps s Step (Steps (is_turn_due d.ftl)) h.tied tt due));
+          (turn_leaves s.translation (due_is d.ftl s.translation h.ftl_kept)) (unfilled_keeps s Step (Steps (is_turn_due d.ftl)) h.tied tt due)));
     }
 
 -- Blocks that are bad

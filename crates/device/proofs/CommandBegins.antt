@@ -76,7 +76,7 @@ no_pins l cells erasing flies (p ∷ ps) qs h e = cc
 
 -- the specified task that is opened
 abbrev opened : Request → Option Cdb → ℕ → Deed → exchange.Task
-opened r command n deed = record { lun = r.lun; tag = r.tag; expected = r.expected; command = command; length = n; deed = deed }
+opened r command n deed = record { lun = r.lun; tag = r.tag; expected = r.expected; command = command; length = n; deed = deed; request = None }
 
 -- one task is opened where none is
 one_opened : (d : DeviceCore) (v : State) (r : Request) (command : Option Cdb) (n : ℕ) (deed : Deed) (a : Task) → IsTied (lock_told (machine.with_task v r command n deed)) →
@@ -176,7 +176,7 @@ module _ (d : DeviceCore) (s : State) (r : Request) (h : Describes d s) (none : 
   answer_opened command n carried answer told m same count tied =
       one_opened (with_task d (answer_of told m)) s r command n (Answering answer carried) (answer_of told m) tied h.ftl_kept
       (ap (λ (xs : List Task). xs ++ answer_of told m ∷ []) none) idle.0
-      (record { lun = refl; tag = refl; expected = refl; doing = (same, count, nothing_stays d (with_task d (answer_of told m)) refl refl idle.1) })
+      (record { lun = refl; tag = refl; expected = refl; request = refl; doing = (same, count, nothing_stays d (with_task d (answer_of told m)) refl refl idle.1) })
       h.shorts h.power_off h.unprotected (λ w task. refl)
 
   -- a READ of one block
@@ -198,7 +198,7 @@ module _ (d : DeviceCore) (s : State) (r : Request) (h : Describes d s) (none : 
 
   abbrev reading_at : Cdb → ℕ → ℕ → ℕ → State
   reading_at command n unit address =
-      machine.with_task (with_moves s (Keep (record { tag = r.tag; index = 0; looked = look s.translation.ledger (data_key unit address); wanted = true }) ∷ [])) r (Some command) n
+      machine.with_task (with_moves s (Keep (data_key unit address) (record { tag = r.tag; index = 0; looked = look s.translation.ledger (data_key unit address); wanted = true }) ∷ [])) r (Some command) n
       (Sending (record { body = block_at unit address (plain_now s); state = Unread } ∷ []) 0)
 
   abbrev reading : Cdb → ℕ → ℕ → State
@@ -207,13 +207,14 @@ module _ (d : DeviceCore) (s : State) (r : Request) (h : Describes d s) (none : 
   read_opened : (command : Cdb) (n address : ℕ) → n ≡ 4096 → 1 ≤ r.expected → IsKey (shape_of_numbers (numbers_of s)) (data_key r.lun address) → s.translation.work.mending ≡ Mended →
       IsTied (lock_told (reading command n address)) → Describes (reader_core address) (lock_told (reading command n address))
   read_opened command n address size some key mended tied =
-      one_opened (reader_core address) (with_moves s (Keep (kept_block address) ∷ [])) r (Some command) n (Sending (block_now address ∷ []) 0) reader_task tied
+      one_opened (reader_core address) (with_moves s (Keep (data_key r.lun address) (kept_block address) ∷ [])) r (Some command) n (Sending (block_now address ∷ []) 0) reader_task tied
       (pins_right d.ftl s.translation (data_key r.lun address) r.tag layer_now key refl no_pin).kept
       (ap (λ (xs : List Task). xs ++ reader_task ∷ []) none) idle.0
       (record {
         lun = refl;
         tag = refl;
         expected = refl;
+        request = refl;
         doing = record {
           block = block_now address;
           one = refl;
@@ -246,15 +247,16 @@ module _ (d : DeviceCore) (s : State) (r : Request) (h : Describes d s) (none : 
   writing command address =
       machine.with_task (with_moves s (Claim 1 ∷ [])) r (Some command) 4096 (Gathering (ForWrite r.lun address 1 true) [] false)
 
-  write_opened : (command : Cdb) (address : ℕ) → IsTied (lock_told (writing command address)) → Describes (writer_core address) (lock_told (writing command address))
-  write_opened command address tied =
+  write_opened : (command : Cdb) (address : ℕ) → nat_lt 0 (free_slots d.ftl) ≡ true → IsTied (lock_told (writing command address)) → Describes (writer_core address) (lock_told (writing command address))
+  write_opened command address room tied =
       one_opened (writer_core address) (with_moves s (Claim 1 ∷ [])) r (Some command) 4096 (Gathering (ForWrite r.lun address 1 true) [] false) (writer_task address) tied
-      (claims_right d.ftl s.translation layer_now).kept
+      (claims_right d.ftl s.translation layer_now room).kept
       (ap (λ (xs : List Task). xs ++ writer_task address ∷ []) none) idle.0
       (record {
         lun = refl;
         tag = refl;
         expected = refl;
+        request = refl;
         doing = (
           record {
             write = (refl, refl, refl);
@@ -362,7 +364,7 @@ module _ (d : DeviceCore) (s : State) (r : Request) (h : Describes d s) (none : 
       subst (λ (x : DeviceCore). Describes x (lock_told (write_at command u address blocks false))) (sym core)
       (elsewhere (writer_core address) (write_at command u address blocks false) (writing command address)
       (λ i. machine.with_task (with_moves s (Claim (one i) ∷ [])) r (Some command) (4096 * one i) (Gathering (ForWrite (same i) address (one i) true) [] false))
-      (write_opened command address) tied)
+      (write_opened command address room) tied)
     where
       some : 1 ≤ blocks
       some = some_told blocks e

@@ -173,7 +173,7 @@ pub tasks_stay : (d e : DeviceCore) (l : Ledger) (qs : List layer.Pin) (kept : L
     TasksKept d l qs kept tasks → TasksKept e l qs kept tasks
 tasks_stay d e l qs [] [] pins loaded h = nothing_stays d e pins loaded h
 tasks_stay d e l qs (a ∷ []) (b ∷ []) pins loaded h =
-    record { lun = h.lun; tag = h.tag; expected = h.expected; doing = doing_stays d e l qs a b a.phase b.deed pins loaded h.doing }
+    record { lun = h.lun; tag = h.tag; expected = h.expected; request = h.request; doing = doing_stays d e l qs a b a.phase b.deed pins loaded h.doing }
 tasks_stay d e l qs [] (b ∷ bs) pins loaded h = absurd h
 tasks_stay d e l qs (a ∷ []) [] pins loaded h = absurd h
 tasks_stay d e l qs (a ∷ x ∷ more) [] pins loaded h = absurd h

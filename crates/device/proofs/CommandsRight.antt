@@ -3,7 +3,7 @@ use Rattle.std.proofs.Common.{◌≡◌, ◌∙◌, ℕ, suc, ◌<◌, Bool, tru
 use Rattle.std.specs.Prelude.{if◌then◌else◌, nat_lt, nat_le, Result, Ok, Err}
 use Rattle.std.proofs.lemmas.Bool.{leb-false}
 use Rattle.ufs_spec.specs.Exchanges.{Short, TaskSetFull, response, short_reply}
-use Rattle.ufs_spec.specs.Machine.{Call, Hears, Host, IsHeard, Spelled, command_heard, lock_told, observe, opened_with, opening_fault, result_of, with_short}
+use Rattle.ufs_spec.specs.Machine.{Call, Hears, Host, IsHeard, Spelled, behind, command_heard, lock_told, observe, opened_with, opening_fault, result_of, with_short}
 use Rattle.ufs_spec.specs.Steps.{Request, State, refusal}
 use Rattle.ufs_spec.specs.Translation.{is_mended}
 use Rattle.ufs_spec.specs.declared.faults.HostFault.TheVariants.{Backlog, TagInUse}
@@ -11,7 +11,7 @@ use Rattle.ufs_spec.specs.declared.messages.Message.TheVariants as message
 use Rattle.ufs_spec.specs.declared.scsi.Cdb.{Cdb}
 use Rattle.ufs_spec.specs.declared.scsi.Sense.{Sense}
 use Rattle.power_loss.specs.Exchange.{IsTied}
-use Rattle.power_loss.proofs.CallsKeep.{call_keeps}
+use Rattle.power_loss.proofs.CallsKeep.{unfilled_keeps}
 use Rattle.ftl_core.specs.Describes as layer_kept
 use Rattle.device.specs.declared.tasks.Refused.{Refused}
 use Rattle.device.specs.declared.tasks.Task.{Task}
@@ -23,6 +23,7 @@ use Rattle.device.proofs.CommandBegins.{agreed_begins, describes_told}
 use Rattle.device.proofs.CommandTable.{SameFacts, table_right}
 use Rattle.device.proofs.CommandTags.{result_is, tasks_count, tasks_stay, tasks_told}
 use Rattle.device.proofs.Layer.{locks_right, slots_right}
+use Rattle.device.proofs.Unfilled.{settles}
 
 mended_same : (b : Bool) → is_mended (layer_kept.mending_kept b) ≡ b
 mended_same true = refl
@@ -75,7 +76,12 @@ pub commands_right : (d : DeviceCore) (s : State) (flags lun tag expected : ℕ)
     IsHeard whole (Spelled (message.Command flags lun tag expected cdb_bytes) (cdb_taken taken)) →
     IsAnswered s (Host (Spelled (message.Command flags lun tag expected cdb_bytes) (cdb_taken taken))) (Hears (command_result d tag)) (command_core d flags lun tag expected taken)
 commands_right d s flags lun tag expected cdb_bytes whole taken h is heard =
-    record { right = right; describes = by (uses d tag) (nat_le 1 (length d.tasks)) refl (call_keeps s call (Hears (command_result d tag)) h.tied (whole, heard) right) }
+    record {
+      right = right;
+      describes =
+          settles (command_core d flags lun tag expected taken) s call (Hears (command_result d tag))
+          (by (uses d tag) (nat_le 1 (length d.tasks)) refl (unfilled_keeps s call (Hears (command_result d tag)) h.tied (whole, heard) right));
+    }
   where
     call : Call
     call = Host (Spelled (message.Command flags lun tag expected cdb_bytes) (cdb_taken taken))
@@ -101,17 +107,17 @@ commands_right d s flags lun tag expected cdb_bytes whole taken h is heard =
     elsewhere e u v same described tied =
         subst (λ (x : State). Describes e (lock_told x)) (sym same) (described (subst (λ (x : State). IsTied (lock_told x)) same tied))
 
-    full : (b : Bool) → nat_le 1 (length d.tasks) ≡ true → IsTied (observe s call (Hears (if b then Ok tt else Err Backlog))) →
-        Describes (if b then with_refused d refused else d) (observe s call (Hears (if b then Ok tt else Err Backlog)))
+    full : (b : Bool) → nat_le 1 (length d.tasks) ≡ true → IsTied (lock_told (behind s call (Hears (if b then Ok tt else Err Backlog)))) →
+        Describes (if b then with_refused d refused else d) (lock_told (behind s call (Hears (if b then Ok tt else Err Backlog))))
     full true e tied =
         elsewhere (with_refused d refused) (command_heard s r) (with_short s (short_reply tag (response lun tag expected 0 TaskSetFull))) (opened true e)
         (full_right d s lun tag expected h) tied
     full false e tied = stays d s h
 
     by : (used many : Bool) → nat_le 1 (length d.tasks) ≡ many →
-        IsTied (observe s call (Hears (if used then Err TagInUse else if many then refused_result d else Ok tt))) →
+        IsTied (lock_told (behind s call (Hears (if used then Err TagInUse else if many then refused_result d else Ok tt)))) →
         Describes (if used then d else if many then refused_more d refused else task_opened d flags lun tag expected taken)
-        (observe s call (Hears (if used then Err TagInUse else if many then refused_result d else Ok tt)))
+        (lock_told (behind s call (Hears (if used then Err TagInUse else if many then refused_result d else Ok tt))))
     by true many e tied = stays d s h
     by false true e tied = full (nat_lt (length d.refused) 32) e tied
     by false false e tied =

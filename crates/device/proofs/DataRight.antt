@@ -8,7 +8,7 @@ use Rattle.ufs_spec.specs.Exchanges as exchange
 use Rattle.ufs_spec.specs.Exchanges.{Answering, Awaiting, ForFrames, ForUnmap, ForWrite, Gathering, Sending, Telling, is_asked_of, task_of, with_deed}
 use Rattle.ufs_spec.specs.Keys.{Group, data_key, group_of}
 use Rattle.ufs_spec.specs.Ledger.{Ledger, before_accepted}
-use Rattle.ufs_spec.specs.Machine.{Allowed, Call, Hears, Host, IsHeard, Spelled, accepts, asked_fault, data_for, data_heard, lock_told, observe, result_of, set_deed, with_moves, write_complete}
+use Rattle.ufs_spec.specs.Machine.{Allowed, Call, Hears, Host, IsHeard, Spelled, accepts, asked_fault, behind, data_for, data_heard, lock_told, observe, result_of, set_deed, with_moves, write_complete}
 use Rattle.ufs_spec.specs.Messages.{AreBytes}
 use Rattle.ufs_spec.specs.Moves.{Accept, Release, moved}
 use Rattle.ufs_spec.specs.Plain.{shape_of_numbers}
@@ -19,7 +19,7 @@ use Rattle.ufs_spec.specs.declared.configs.UnitSpec.{UnitSpec}
 use Rattle.ufs_spec.specs.declared.flash.Key.{Key}
 use Rattle.ufs_spec.specs.declared.messages.Message.TheVariants as message
 use Rattle.power_loss.specs.Exchange.{DeedFits, DeedsFit, IsTied, WriteFits, claim_of, claims_of}
-use Rattle.power_loss.proofs.CallsKeep.{call_keeps}
+use Rattle.power_loss.proofs.CallsKeep.{unfilled_keeps}
 use Rattle.power_loss.proofs.SealedCells.{ranges_of}
 use Rattle.ftl_core.specs.Describes as layer_kept
 use Rattle.ftl_core.specs.Describes.{Kept}
@@ -38,6 +38,7 @@ use Rattle.device.proofs.AskedData.{AreAsked, HasAsked, data_asked}
 use Rattle.device.proofs.Layer.{accepts_right, locks_right, numbers_right, releases_right}
 use Rattle.device.proofs.LocksAll.{told_describes}
 use Rattle.device.proofs.OneBlock.{accepts_one, can_write_one, group_one, number_awaited, one_block, permanent_still, write_one}
+use Rattle.device.proofs.Unfilled.{settles, still}
 
 -- The WRITE
 
@@ -119,7 +120,7 @@ refused_right d s a b unit address bytes h w tied =
     told_describes (core_behind d (data_key unit address) bytes false) (released s b) tied (releases_right d.ftl s.translation (layer_of d s h)).kept
     (one_task (core_behind d (data_key unit address) bytes false) s.translation.ledger s.translation.pins d.tasks s.tasks a b
     (phase.Answer (status.CheckCondition write_error) 4096) (Answering exchange.write_error b.length) w.ours w.theirs
-    (record { lun = w.kept.lun; tag = w.kept.tag; expected = w.kept.expected; doing = (refl, w.length_is, record { pins = w.nothing.pins; loaded = w.nothing.loaded }) }))
+    (record { lun = w.kept.lun; tag = w.kept.tag; expected = w.kept.expected; request = w.kept.request; doing = (refl, w.length_is, record { pins = w.nothing.pins; loaded = w.nothing.loaded }) }))
     h.shorts h.power_off h.unprotected
 
 -- any other accepts the block, and the task waits for it
@@ -129,7 +130,7 @@ accepted_right d s a b unit address bytes h w free tied =
     told_describes (core_behind d (data_key unit address) bytes true) (written s b unit address bytes) tied layer_right
     (one_task (core_behind d (data_key unit address) bytes true) (written s b unit address bytes).translation.ledger s.translation.pins d.tasks s.tasks a b
     (phase.AwaitFrontier (next_number d.ftl)) (Awaiting (length s.accepted + 1)) w.ours w.theirs
-    (record { lun = w.kept.lun; tag = w.kept.tag; expected = w.kept.expected; doing = (number, w.length_is, record { pins = w.nothing.pins; loaded = w.nothing.loaded }) }))
+    (record { lun = w.kept.lun; tag = w.kept.tag; expected = w.kept.expected; request = w.kept.request; doing = (number, w.length_is, record { pins = w.nothing.pins; loaded = w.nothing.loaded }) }))
     h.shorts h.power_off (permanent_still s.base s.accepted unit address bytes ∙ h.unprotected)
   where
     few : unit ≤ 7
@@ -205,12 +206,13 @@ taken_right : (d : DeviceCore) (s : State) (lun tag offset : ℕ) («data» : Ar
 taken_right d s lun tag offset «data» whole asked is h heard right x g = record {
   right = right;
   describes =
-      subst (λ (y : State). Describes (waiting_ended (task_set (block_accepted d x.key «data».items) 0 (phase_accepted d x.key))) (lock_told y)) (sym done)
-      (completes_right d s x.a x.b x.key g.unit g.address «data».items h known g.key_is (subst (λ (y : State). IsTied (lock_told y)) done tied));
+      settles (waiting_ended (task_set (block_accepted d x.key «data».items) 0 (phase_accepted d x.key))) s (call_of lun tag offset «data») (Hears (Ok tt))
+      (subst (λ (y : State). Describes (waiting_ended (task_set (block_accepted d x.key «data».items) 0 (phase_accepted d x.key))) (lock_told y)) (sym done)
+      (completes_right d s x.a x.b x.key g.unit g.address «data».items h known g.key_is (subst (λ (y : State). IsTied (lock_told y)) done tied)));
 }
   where
-    tied : IsTied (observe s (call_of lun tag offset «data») (Hears (Ok tt)))
-    tied = call_keeps s (call_of lun tag offset «data») (Hears (Ok tt)) h.tied (whole, heard) right
+    tied : IsTied (lock_told (behind s (call_of lun tag offset «data») (Hears (Ok tt))))
+    tied = unfilled_keeps s (call_of lun tag offset «data») (Hears (Ok tt)) h.tied (whole, heard) right
 
     done : data_heard s (task_of tag s.tasks) «data».items ≡ write_complete s x.b g.unit g.address 1 true «data».items
     done = heard_completes s x.b tag g.unit g.address «data».items x.theirs (x.kept.tag ∙ x.tag_is) g.deed_is g.length_is x.count_is
@@ -241,7 +243,7 @@ each_right : (d : DeviceCore) (s : State) (lun tag offset : ℕ) («data» : Arr
     IsAnswered s (call_of lun tag offset «data») (Hears (data_result asked)) (data_core d «data».items asked)
 each_right d s lun tag offset «data» whole asked is h heard is_is (inl (none, not_asked)) =
     subst (λ (x : Option AskedFor). IsAnswered s (call_of lun tag offset «data») (Hears (data_result x)) (data_core d «data».items x)) (sym none)
-    (record { right = ap (λ (b : Bool). result_of (asked_fault b)) (sym (is_is ∙ not_asked)); describes = subst (Describes d) (sym h.lock_was_told) h })
+    (record { right = ap (λ (b : Bool). result_of (asked_fault b)) (sym (is_is ∙ not_asked)); describes = still d s h })
 each_right d s lun tag offset «data» whole asked is h heard is_is (inr x) =
     subst (λ (y : Option AskedFor). IsAnswered s (call_of lun tag offset «data») (Hears (data_result y)) (data_core d «data».items y)) (sym x.asked_is)
     (taken_right d s lun tag offset «data» whole asked is h heard (ap (λ (b : Bool). result_of (asked_fault b)) (sym (is_is ∙ x.right))) x

@@ -2,7 +2,7 @@
 use Rattle.std.proofs.Common.{◌≡◌, ℕ, ◌<◌, ◌≤◌, Bool, true, false, if◌then◌else◌, List, [], ◌∷◌, ◌++◌, filter_map, find, length, Option, Some, None, refl, sym, ap, ◌∙◌, subst, ⊎_elim, arith}
 use Rattle.std.specs.Prelude.{slice_index_or}
 use Rattle.std.specs.List.{All}
-use Rattle.std.proofs.lemmas.List.Elements.{All-append, All-cons, All-filter, All-head, All-nil, All-tail}
+use Rattle.std.proofs.lemmas.List.Elements.{All-append, All-cons, All-contains, All-filter, All-nil}
 use Rattle.std.proofs.lemmas.Option.{slice_get-get_or}
 use Rattle.ufs_spec.specs.Cells.{Cells, GroupPage, IsPlace, Nothing}
 use Rattle.ufs_spec.specs.Disk as disk
@@ -10,7 +10,7 @@ use Rattle.ufs_spec.specs.Disk.{Erasing, ForTask, Programming, Reader, Reading, 
 use Rattle.ufs_spec.specs.Ledger as ledger
 use Rattle.ufs_spec.specs.Ledger.{InSlot, Ledger, OnPage, Unwritten}
 use Rattle.ufs_spec.specs.Translation as layer
-use Rattle.ufs_spec.specs.Translation.{MayTake, Rest, Translation, Want, is_at, is_of_die, is_unread, want_at, want_of_pin, want_of_rest, wants, wants_of_step, wants_on}
+use Rattle.ufs_spec.specs.Translation.{MayTake, Rest, Translation, Want, is_of_die, is_unread, want_at, want_of_pin, want_of_rest, wants, wants_of_step, wants_on}
 use Rattle.ufs_spec.specs.declared.configs.Numbers.{Numbers}
 use Rattle.ufs_spec.specs.declared.flash.Key.{Key}
 use Rattle.ufs_spec.specs.declared.flash.Place.{Place}
@@ -132,21 +132,8 @@ wants_inside c t v k =
     (All-append (IsInside t.numbers) (filter_map want_of_pin t.pins ++ wants_of_step t.work.step) (filter_map want_of_rest t.work.rests)
     (All-append (IsInside t.numbers) (filter_map want_of_pin t.pins) (wants_of_step t.work.step) pins step) rests)
 
-one_inside : (n : Numbers) (x w : Want) (rest : Option Want) (b : Bool) → IsPlace n x.place → (rest ≡ Some w → IsPlace n w.place) → (if b then Some x else rest) ≡ Some w →
-    IsPlace n w.place
-one_inside n x w rest true h more e = subst (IsInside n) (same e) h
-  where
-    same : Some x ≡ Some w → x ≡ w
-    same f = cc
-one_inside n x w rest false h more e = more e
-
-found_inside : (n : Numbers) (test : Want → Bool) (ws : List Want) (w : Want) → AreInside n ws → find test ws ≡ Some w → IsPlace n w.place
-found_inside n test [] w h e = cc
-found_inside n test (x ∷ xs) w h e =
-    one_inside n x w (find test xs) (test x) (All-head (IsInside n) x xs h) (λ f. found_inside n test xs w (All-tail (IsInside n) x xs h) f) e
-
 -- a read that a die is given is one of the dies' pages
 pub read_inside : (c : Core) (t : Translation) (die : ℕ) (who : Reader) (p : Place) → Valid t → Kept c t → MayTake t die (Some (Reading who p)) → IsPlace t.numbers p
 read_inside c t die who p v k may =
-    found_inside t.numbers (is_at p) (wants_on t die) (want_at who p)
+    All-contains (IsInside t.numbers) (wants_on t die) (want_at who p)
     (All-filter (is_of_die die) (IsInside t.numbers) (wants t) (wants_inside c t v k)) may.1

@@ -7,7 +7,7 @@ use Rattle.ufs_spec.specs.DieLaws.{has_page}
 use Rattle.ufs_spec.specs.Dies.{CanDo, DieState, after_job, blank_page, outcome_of}
 use Rattle.ufs_spec.specs.Disk.{BlockState, Bad, Closed, Erasing, Filling, Flight, Free, Programming, Reader, Reading, Spot, at_die, at_place, job_of, page_of, spot_of}
 use Rattle.ufs_spec.specs.Lives.{Fit, IsOpened, array_of, bad_of, ended_well}
-use Rattle.ufs_spec.specs.Machine.{Ask, Finish, Finishes, Give, Gives, Heard, Hears, Host, Replies, Step, Steps, array_behind, given, hears, in_block, lock_told, observe, replied, with_moves}
+use Rattle.ufs_spec.specs.Machine.{Ask, Finish, Finishes, Give, Gives, Heard, Hears, Host, Replies, Step, Steps, array_behind, given, hears, in_block, fills, lock_told, observe, replied, with_moves}
 use Rattle.ufs_spec.specs.Moves.{IsEndingOf, Turn}
 use Rattle.ufs_spec.specs.Openings.{IsBlockState}
 use Rattle.ufs_spec.specs.Steps.{State}
@@ -18,7 +18,7 @@ use Rattle.ufs_spec.specs.declared.flash.Job.{Job}
 use Rattle.ufs_spec.specs.declared.flash.Job.TheVariants as job
 use Rattle.ufs_spec.specs.declared.flash.Place.{Place}
 use Rattle.ufs_spec.specs.declared.messages.Message.{Message}
-use Rattle.ufs_laws.proofs.Flying.{told_layer}
+use Rattle.ufs_laws.proofs.Settled.{settled_jobs}
 use Rattle.ufs_laws.proofs.Jobs.{is_die}
 use Rattle.ufs_laws.proofs.Quiet as quiet
 use Rattle.ufs_laws.proofs.Search.{split}
@@ -31,6 +31,7 @@ use Rattle.device.proofs.DieJobs.{erase_inside, is_own, lies_home, read_inside}
 use Rattle.device.proofs.DieParts.{BlocksFit, die_size, erase_blocks, erase_pages, program_blocks, program_pages, put_jobs, put_same, put_sizes}
 use Rattle.device.proofs.FinishDies.{blocks_behind, flights_behind, layer_behind, seen_behind}
 use Rattle.device.proofs.QuietDies.{Seen, hears_same, replied_same, seen, seen_over, step_same, told_same}
+use Rattle.device.proofs.Unfilled.{no_request}
 
 -- What a fit says of what is seen of a state and of its jobs in flight
 
@@ -93,13 +94,10 @@ stays dies jobs s u look same h =
     (subst (λ (k : Seen). FitSeen dies jobs k u.translation.disk.flights) (sym look)
     (flights_moved dies jobs (seen s) s.translation.disk.flights u.translation.disk.flights same (of_fit dies jobs s h)))
 
-told_jobs : (s : State) (die : ℕ) → option_map job_of ((lock_told s).translation.disk.flights die) ≡ option_map job_of (s.translation.disk.flights die)
-told_jobs s die = ap (λ (t : Translation). option_map job_of (t.disk.flights die)) (told_layer s)
-
--- and so is what it is once the lock was told
+-- and so is what it is once registers were filled and the lock was told
 told_stays : (dies : List DieState) (jobs : List (Option Job)) (s u : State) → seen u ≡ seen s →
-    ((die : ℕ) → option_map job_of (u.translation.disk.flights die) ≡ option_map job_of (s.translation.disk.flights die)) → DiesFit dies jobs s → DiesFit dies jobs (lock_told u)
-told_stays dies jobs s u look same h = stays dies jobs s (lock_told u) (told_same u ∙ look) (λ die. told_jobs u die ∙ same die) h
+    ((die : ℕ) → option_map job_of (u.translation.disk.flights die) ≡ option_map job_of (s.translation.disk.flights die)) → DiesFit dies jobs s → DiesFit dies jobs (lock_told (fills u))
+told_stays dies jobs s u look same h = stays dies jobs s (lock_told (fills u)) (told_same u ∙ look) (λ die. settled_jobs u die ∙ same die) h
 
 -- what changes no job, no block and no page
 
@@ -278,7 +276,7 @@ finish_fits d dies jobs s die flight h fit flies =
     } in
     to_fit after left u
     (subst (λ (k : Seen). FitSeen after left k u.translation.disk.flights) (sym (seen_behind s die flight h.ftl_kept.work.no_plan flies))
-    (subst (FitSeen after left (seen_over array (layer_behind s.translation flight))) (sym (flights_behind s die flight flies home)) known))
+    (subst (FitSeen after left (seen_over array (layer_behind s.translation flight))) (sym (flights_behind s die flight (no_request d s h) flies home)) known))
 
 -- the opening
 

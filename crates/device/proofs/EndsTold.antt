@@ -17,7 +17,7 @@ use Rattle.ufs_spec.specs.declared.flash.Place.{Place}
 use Rattle.ufs_spec.specs.declared.flash.Tag.{Tag}
 use Rattle.power_loss.specs.Exchange.{IsTied}
 use Rattle.power_loss.specs.Invariant.{Valid}
-use Rattle.power_loss.proofs.CallsKeep.{call_keeps}
+use Rattle.power_loss.proofs.CallsKeep.{unfilled_keeps}
 use Rattle.power_loss.proofs.OneMore.{if_true}
 use Rattle.ftl_core.specs.Core.{Core}
 use Rattle.ftl_core.specs.Describes as layer_kept
@@ -35,6 +35,7 @@ use Rattle.device.proofs.EndsLeft.{EndLeaves, IsForNone, job_leaves}
 use Rattle.device.proofs.LockStays.{tasks_left}
 use Rattle.device.proofs.LocksAll.{told_describes}
 use Rattle.device.proofs.ReadsLeft.{Ends, not_read, over_now, read_for_host, read_kept, was_read, with_loaded}
+use Rattle.device.proofs.Unfilled.{settles}
 
 -- An ending that may come fits the job
 
@@ -234,6 +235,7 @@ ends_answered d s die o ending left after e h is leaves layer tells =
     record {
       right = sym fit;
       describes =
-          settled d s after (ends_with s die (s.translation.disk.flights die) ending left) (moved s.translation (End die ending)) e h b
-          (call_keeps s (Finish die ending left) (Finishes true) h.tied leaves (sym fit)) layer.kept;
+          settles (waiting_ended (told (record d { ftl = after }) e)) s (Finish die ending left) (Finishes true)
+          (settled d s after (ends_with s die (s.translation.disk.flights die) ending left) (moved s.translation (End die ending)) e h b
+          (unfilled_keeps s (Finish die ending left) (Finishes true) h.tied leaves (sym fit)) layer.kept);
     }

@@ -10,6 +10,7 @@ use Rattle.ufs_spec.specs.Steps.{State}
 use Rattle.ufs_spec.specs.Translation.{Plan, Translation}
 use Rattle.ufs_laws.proofs.Flying.{jobs_behind}
 use Rattle.ufs_laws.specs.Flights.{die_of_flight}
+use Rattle.ufs_laws.specs.Requests.{HaveNoRequest}
 use Rattle.device.proofs.QuietDies.{LayerSeen, layer_seen, seen, seen_over, told_same}
 
 -- the state of each block behind the end of a job that went well
@@ -65,8 +66,8 @@ well_fits (Reading reader place) = refl
 well_fits (Programming place cell) = refl
 well_fits (Erasing spot) = refl
 
-pub flights_behind : (s : State) (die : ℕ) (flight : Flight) → s.translation.disk.flights die ≡ Some flight → die_of_flight flight ≡ die →
+pub flights_behind : (s : State) (die : ℕ) (flight : Flight) → HaveNoRequest s.tasks → s.translation.disk.flights die ≡ Some flight → die_of_flight flight ≡ die →
     (observe s (Finish die (ended_well flight) s.array) (Finishes true)).translation.disk.flights ≡ at_die s.translation.disk.flights die None
-flights_behind s die flight flies home =
-    jobs_behind s die flight (ended_well flight) s.array flies home
+flights_behind s die flight none flies home =
+    jobs_behind s die flight (ended_well flight) s.array none flies home
     (well_fits flight ∙ ap (λ (o : Option Flight). fits o (ended_well flight)) (sym flies))

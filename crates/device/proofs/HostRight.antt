@@ -17,13 +17,14 @@ use Rattle.device.specs.Kept.{DeviceCore}
 use Rattle.device.specs.Plans.{IsCdbRead, IsTakenFrom}
 use Rattle.device.proofs.CommandsRight.{commands_right}
 use Rattle.device.proofs.DataRight.{data_right}
+use Rattle.device.proofs.Unfilled.{still}
 
 -- what is no message is told its fault, and changes nothing
 pub faults_right : (d : DeviceCore) (s : State) (bytes : List ℕ) (fault : HostFault) → Describes d s → IsHeard bytes (Faulty fault) → IsHeardAs s bytes (Err fault) d
 faults_right d s bytes fault h heard = record {
   heard = Faulty fault;
   is_heard = heard;
-  answered = record { right = refl; describes = subst (Describes d) (sym h.lock_was_told) h };
+  answered = record { right = refl; describes = still d s h };
 }
 
 -- bytes without an early fault spell no message of a kind that is not taken

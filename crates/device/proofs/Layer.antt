@@ -1,6 +1,6 @@
 -- What the translation layer promises of each of its calls.
 use Rattle.std.proofs.Common.{◌≡◌, ℕ, ◌+◌, ◌<◌, ◌≤◌, Bool, true, List, [], ◌∷◌, None}
-use Rattle.std.specs.Prelude.{◌-◌, if◌then◌else◌, map}
+use Rattle.std.specs.Prelude.{◌-◌, if◌then◌else◌, map, nat_lt}
 use Rattle.ufs_spec.specs.Cells.{Cells, Nothing}
 use Rattle.ufs_spec.specs.Disk.{Spot}
 use Rattle.ufs_spec.specs.Keys.{IsKey}
@@ -28,7 +28,7 @@ looks_right = looks.looks_right
 
 pub pins_right : (c : Core) (t : Translation) (k : Key) (reader : ℕ) → Describes c t → IsKey (shape_of_numbers t.numbers) k → k.kind ≡ 1 → pin_of c reader ≡ None →
     Describes (with_pin c (record { reader = reader; key = k; looked = look_of c k; read = read.Owed }))
-    (moved t (Keep (record { tag = reader; index = 0; looked = look t.ledger k; wanted = true })))
+    (moved t (Keep k (record { tag = reader; index = 0; looked = look t.ledger k; wanted = true })))
 pins_right = looks.pins_right
 
 pub accepts_right : (c : Core) (t : Translation) (k : Key) (body : List ℕ) → Describes c t → k.kind ≡ 1 → k.unit ≤ 7 →
@@ -54,7 +54,7 @@ lets_go_right = rests.lets_go_right
 pub wants_no_more : (c : Core) (t : Translation) (reader index : ℕ) → Describes c t → 0 < index → moved t (WantPage reader index) ≡ t
 wants_no_more = rests.wants_no_more
 
-pub claims_right : (c : Core) (t : Translation) → Describes c t → Describes (record c { claimed = c.claimed + 1 }) (moved t (Claim 1))
+pub claims_right : (c : Core) (t : Translation) → Describes c t → nat_lt 0 (free_slots c) ≡ true → Describes (record c { claimed = c.claimed + 1 }) (moved t (Claim 1))
 claims_right = rests.claims_right
 
 pub releases_right : (c : Core) (t : Translation) → Describes c t → Describes (record c { claimed = c.claimed - 1 }) (moved t (Release 1))

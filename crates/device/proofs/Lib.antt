@@ -33,4 +33,5 @@ pub mod ReplySame
 pub mod ReplySlots
 pub mod Runs
 pub mod TasksCarried
+pub mod Unfilled
 pub mod WentRight

@@ -154,7 +154,7 @@ tasks_told : (d : DeviceCore) (x : State) (ts : List Task) (ours : List Task) (b
     TasksKept (with_tasks d ts) x.translation.ledger x.translation.pins (map (after_lock d.ftl.frontier) ours) (map (task_locked x) bs)
 tasks_told d x ts [] [] low same h = still_nothing d ts h
 tasks_told d x ts (a ∷ []) (b ∷ []) low same h =
-    record { lun = h.lun; tag = h.tag; expected = h.expected; doing = doing_told d x ts a b a.phase b.deed low same h.doing }
+    record { lun = h.lun; tag = h.tag; expected = h.expected; request = h.request; doing = doing_told d x ts a b a.phase b.deed low same h.doing }
 tasks_told d x ts ours bs low same h = absurd h
 
 -- Short exchanges

@@ -2,13 +2,13 @@
 use Rattle.std.proofs.Common.{◌≡◌, [], ◌∷◌, refl, ap, ◌∙◌}
 use Rattle.ufs_spec.specs.Cells.{Array}
 use Rattle.ufs_spec.specs.Disk.{BlockState, Spot}
-use Rattle.ufs_spec.specs.Machine.{Heard, hears, lock_told, replied, with_moves}
+use Rattle.ufs_spec.specs.Machine.{Heard, fills, hears, lock_told, replied, with_moves}
 use Rattle.ufs_spec.specs.Moves.{End, Move, Take, Turn, moved}
 use Rattle.ufs_spec.specs.Steps.{State}
 use Rattle.ufs_spec.specs.Translation.{Translation}
 use Rattle.ufs_spec.specs.declared.configs.Numbers.{Numbers}
 use Rattle.ufs_spec.specs.declared.messages.Message.{Message}
-use Rattle.ufs_laws.proofs.Changed.{Change, IsQuiet, IsSmall, Moves, Small, changed, hears_small, kept, lock_small, replied_small, small_quiet}
+use Rattle.ufs_laws.proofs.Changed.{Change, IsQuiet, IsSmall, Moves, Small, changed, hears_small, kept, replied_small, settled_small, small_quiet}
 use Rattle.ufs_laws.proofs.Turned.{turn_only}
 
 -- What is looked at
@@ -54,9 +54,9 @@ small_one s change is = refl
 small_same : {s u : State} → Small s u → Same s u
 small_same h = kept Same (record { self = λ s. refl; both = λ s t u h g. g ∙ h; one = small_one }) h
 
--- to tell the lock changes tasks and short exchanges alone
-pub told_same : (s : State) → Same s (lock_told s)
-told_same s = small_same (lock_small s)
+-- to fill registers and to tell the lock are small changes
+pub told_same : (s : State) → Same s (lock_told (fills s))
+told_same s = small_same (settled_small s)
 
 pub step_same : (s : State) → Same s (with_moves s (Turn ∷ []))
 step_same s = ap (λ (t : Translation). seen_over s.array (layer_seen t)) (turn_only s.translation).is

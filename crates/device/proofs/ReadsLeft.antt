@@ -359,6 +359,7 @@ was_read d after t rs tag place page body (a ∷ []) (b ∷ []) ends cell h =
             lun = h.lun;
             tag = h.tag;
             expected = h.expected;
+            request = h.request;
             doing =
                 subst (λ (p : Phase). IsDoing (with_loaded d after (record { tag = tag; body = body })) t.ledger rs a (read_deed b WasRead) p (deed_read 0 WasRead b.deed))
                 (sym s.phase_is)
@@ -396,6 +397,7 @@ not_read d after t rs tag place core_tasks (a ∷ []) (b ∷ []) ends h =
       lun = h.lun;
       tag = h.tag;
       expected = h.expected;
+      request = h.request;
       doing =
           subst (λ (deed : Deed). IsDoing (record d { ftl = after; tasks = core_tasks }) t.ledger rs (lost_task a) (read_deed b NotRead)
           (phase.Answer (status.CheckCondition read_error) 0) (deed_read 0 NotRead deed)) (sym s.deed_is) lost;

@@ -25,6 +25,7 @@ use Rattle.device.proofs.ReplyKeeps.{tasks_of}
 use Rattle.device.proofs.ReplyLocks.{lock_left_tasks, shorts_told}
 use Rattle.device.proofs.ReplyMoves.{IsBehind, answered, moves_on, task_does}
 use Rattle.device.proofs.ReplySame.{same_in}
+use Rattle.device.proofs.Unfilled.{still}
 
 -- The open task
 
@@ -190,5 +191,5 @@ none_due d s h none empty m (inr due) = none_refused d.refused s.shorts due.0 du
 pub silence_right : (d : DeviceCore) (s : State) → Describes d s → OwesNone d → length d.refused ≡ 0 → IsAnswered s Ask (Replies None) d
 silence_right d s h none empty = record {
   right = none_due d s h none empty;
-  describes = subst (λ (x : State). Describes d x) (sym h.lock_was_told) h;
+  describes = still d s h;
 }

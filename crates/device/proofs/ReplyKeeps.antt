@@ -90,7 +90,7 @@ pub tasks_of : (d : DeviceCore) (rs : List Refused) (l : Ledger) (qs : List laye
     TasksKept (record d { refused = rs }) l qs ts us
 tasks_of d rs l qs [] [] h = nothing_of d rs h
 tasks_of d rs l qs (a ∷ []) (b ∷ []) h =
-    record { lun = h.lun; tag = h.tag; expected = h.expected; doing = doing_of d rs l qs a b a.phase b.deed h.doing }
+    record { lun = h.lun; tag = h.tag; expected = h.expected; request = h.request; doing = doing_of d rs l qs a b a.phase b.deed h.doing }
 tasks_of d rs l qs [] (b ∷ bs) h = absurd h
 tasks_of d rs l qs (a ∷ []) [] h = absurd h
 tasks_of d rs l qs (a ∷ []) (b ∷ c ∷ cs) h = absurd h

@@ -7,7 +7,7 @@ use Rattle.ufs_spec.specs.Disk.{Reader, Spot}
 use Rattle.ufs_spec.specs.Exchanges as exchange
 use Rattle.ufs_spec.specs.Exchanges.{Answering, Awaiting, Deed, Gathering, Good, NotRead, Purpose, ReadBlock, Sending, Telling, Unread, WasRead}
 use Rattle.ufs_spec.specs.Ledger.{Ledger, before_accepted}
-use Rattle.ufs_spec.specs.Machine.{Ask, Due, Replies, deed_behind, deed_behind_state, lock_told, moves_behind, observe, replied, short_locked, task_behind, task_locked, with_moves}
+use Rattle.ufs_spec.specs.Machine.{Ask, Due, Replies, deed_behind, deed_behind_state, lock_told, moves_behind, replied, short_locked, task_behind, task_locked, with_moves}
 use Rattle.ufs_spec.specs.Moves.{LetGo, LetGoAll, Tell, WantPage, moved}
 use Rattle.ufs_spec.specs.Steps.{State, plain_now}
 use Rattle.ufs_spec.specs.Translation as layer
@@ -16,7 +16,7 @@ use Rattle.ufs_spec.specs.declared.flash.Key.{Key}
 use Rattle.ufs_spec.specs.declared.messages.Message.{Message}
 use Rattle.power_loss.specs.Exchange.{IsTied}
 use Rattle.power_loss.proofs.AllMoves.{all_keep}
-use Rattle.power_loss.proofs.CallsKeep.{call_keeps}
+use Rattle.power_loss.proofs.CallsKeep.{unfilled_keeps}
 use Rattle.power_loss.proofs.OneMore.{eq_self, if_false, if_true}
 use Rattle.ftl_core.specs.declared.books.Pin.{Pin}
 use Rattle.ftl_core.specs.Core.{Core}
@@ -38,6 +38,7 @@ use Rattle.device.specs.Replies.{is_loaded_for, let_go, loaded_without, moved_in
 use Rattle.device.proofs.Layer.{lets_go_right, unpins_right, wants_no_more}
 use Rattle.device.proofs.ReplyLocks.{lock_changes_nothing, shorts_told}
 use Rattle.device.proofs.ReplySame.{layer_of, one_position}
+use Rattle.device.proofs.Unfilled.{one_request, settles}
 
 -- What is let go
 
@@ -119,18 +120,18 @@ pub record IsBehind (e : DeviceCore) (u : State) : Type 0 where
 
 pub answered : (d e : DeviceCore) (s u : State) (m : Message) → Describes d s → Due s m → replied s m ≡ u → IsBehind e u → IsAnswered s Ask (Replies (Some m)) e
 answered d e s u m h due is k =
-    let path : observe s Ask (Replies (Some m)) ≡ u = ap lock_told is ∙ k.told in
+    let path : lock_told (replied s m) ≡ u = ap lock_told is ∙ k.told in
     record {
       right = due;
-      describes = subst (λ (x : State). Describes e x) (sym path) (record {
-        tied = subst IsTied path (call_keeps s Ask (Replies (Some m)) h.tied tt due);
+      describes = settles e s Ask (Replies (Some m)) (subst (λ (x : State). Describes e x) (sym path) (record {
+        tied = subst IsTied path (unfilled_keeps s Ask (Replies (Some m)) h.tied tt due);
         ftl_kept = k.kept;
         tasks_kept = k.tasks;
         shorts = k.stays.shorts;
         lock_was_told = k.told;
         power_off = k.stays.power;
         unprotected = k.stays.free;
-      });
+      }));
     }
 
 same_told : (u : State) (rs : List Refused) → u.shorts ≡ map short_kept rs → map (task_locked u) u.tasks ≡ u.tasks → lock_told u ≡ u
@@ -238,6 +239,7 @@ asks d s a b key purpose gathered asked h is js lun tag expected doing =
       lun = lun;
       tag = tag;
       expected = expected;
+      request = one_request d s b h js;
       doing = (
         record {
           write = doing.write;
@@ -260,7 +262,7 @@ sends d s a b blocks sent h is js lun tag expected doing =
     (does (let_go d a.tag) (with_moves s (LetGo b.tag 0 ∷ WantPage b.tag 1 ∷ [])) a b (phase.Answer status.Good 4096) (Answering Good b.length) is js
     (lets_go_one d.ftl s.translation a.tag b.tag tag (layer_of d s h)).kept
     (record { shorts = h.shorts; power = h.power_off; free = h.unprotected })
-    (record { lun = lun; tag = tag; expected = expected; doing = (refl, doing.length_is, record { pins = left.pins; loaded = left.loaded }) })
+    (record { lun = lun; tag = tag; expected = expected; request = one_request d s b h js; doing = (refl, doing.length_is, record { pins = left.pins; loaded = left.loaded }) })
     (λ u. refl))
   where
     left : KeepsNothing (let_go d a.tag)

@@ -1,18 +1,17 @@
 -- A run: the life that its trace is, event by event.
-use Rattle.std.proofs.Common.{◌≡◌, ◌⊎◌, ℕ, zero, suc, ◌+◌, ◌<◌, ◌≤◌, List, [], ◌∷◌, ◌++◌, Some, length, refl, sym, ap, subst, arith}
+use Rattle.std.proofs.Common.{◌≡◌, ℕ, zero, suc, ◌+◌, ◌<◌, ◌≤◌, List, [], ◌∷◌, ◌++◌, Some, length, refl, sym, ap, subst, arith}
 use Rattle.std.specs.Prelude.{slice_index_or, slice_get}
 use Rattle.ufs_spec.specs.Dies.{DieState}
 use Rattle.ufs_spec.specs.Lives.{IsOpened, Life, array_of, bad_of}
 use Rattle.ufs_spec.specs.Steps.{State}
 use Rattle.ufs_spec.specs.declared.configs.Numbers.{Numbers}
 use Rattle.device.specs.Kept.{WorldState}
-use Rattle.device.specs.Worlds.{AreBlank, Fits, IsBroken, IsLife, IsRunFault, IsUnderWay, IsWrong, Went}
+use Rattle.device.specs.Worlds.{AreBlank, Fits, IsBroken, IsLife, IsRefused, IsRunFault, IsUnderWay, Went}
 use Rattle.ufs_spec.specs.declared.events.Event.{Event}
 use Rattle.ufs_spec.specs.declared.events.Output.{Output}
 use Rattle.power_loss.proofs.Books.{none_some, some_is}
 use Rattle.std.specs.Prelude.{take}
 use Rattle.ufs_spec.specs.declared.events.RunFault.{RunFault}
-use Rattle.ufs_spec.specs.declared.events.RunFaultKind.TheVariants as kind
 use Rattle.ufs_laws.proofs.FirstLife.{opens_new}
 use Rattle.ufs_laws.proofs.Joined.{join}
 
@@ -73,7 +72,7 @@ run_ends n dies events trace k w all u =
 
 pub run_breaks : (n : Numbers) (dies : List DieState) (events : List Event) (before : List Output) (k : ℕ) (e : Event) (w : WorldState) (f : RunFault) →
     slice_get events k ≡ Some e → (u : IsUnderWay n dies (take k events) before w) →
-    (f.trace.items ≡ before) × ((f.kind ≡ kind.NoMemory) ⊎ ((f.kind ≡ kind.WrongEvent) × IsWrong u.now e)) → IsBroken n dies events k f
+    (f.trace.items ≡ before) × IsRefused u.now e f.kind → IsBroken n dies events k f
 run_breaks n dies events before k e w f is u why =
     record {
       before = u.now;

@@ -243,6 +243,7 @@ tasks_stay d after l m qs rs (a ∷ []) (b ∷ []) same became before h = record
   lun = h.lun;
   tag = h.tag;
   expected = h.expected;
+  request = h.request;
   doing = doing_stays d after l m qs rs a b a.phase b.deed same became before h.doing;
 }
 tasks_stay d after l m qs rs ts us same became before h = absurd h

@@ -117,6 +117,8 @@ pub record TaskKept (d : DeviceCore) (l : Ledger) (qs : List layer.Pin) (a : Tas
   pub lun : b.lun ≡ a.lun
   pub tag : b.tag ≡ a.tag
   pub expected : b.expected ≡ a.expected
+  -- no SECURITY PROTOCOL OUT is taken yet
+  pub request : b.request ≡ None
   pub doing : IsDoing d l qs a b a.phase b.deed
 
 abbrev pub TasksKept : DeviceCore → Ledger → List layer.Pin → List Task → List exchange.Task → Type 0

@@ -70,11 +70,14 @@ abbrev pub Stepped : State → Event → WorldState → Result Output RunFault �
 Stepped s e after (Ok o) = (t : State) × Leads s e o t × Fits after t
 Stepped s e after (Err f) = IsWrong s e
 
+-- why an event shows nothing: there was no memory for what it shows, and so it shows something; or it does not fit
+abbrev pub IsRefused : State → Event → RunFaultKind → Type 0
+IsRefused s e k = ((k ≡ kind.NoMemory) × (o : Output) × (t : State) × Leads s e o t) ⊎ ((k ≡ kind.WrongEvent) × IsWrong s e)
+
 -- one output more, of an event that went so; or the trace stays, and why
 abbrev pub Played : State → Event → WorldState → List Output → List Output → Result Unit RunFaultKind → Type 0
 Played s e after before trace (Ok done) = (o : Output) × (trace ≡ before ++ o ∷ []) × Went s e after (Some o)
-Played s e after before trace (Err k) =
-    (trace ≡ before) × ((k ≡ kind.NoMemory) ⊎ ((k ≡ kind.WrongEvent) × IsWrong s e))
+Played s e after before trace (Err k) = (trace ≡ before) × IsRefused s e k
 
 -- Runs
 
@@ -108,11 +111,11 @@ pub record IsBroken (n : Numbers) (dies : List DieState) (events : List Event) (
   pub life : Life start (take k events) f.trace.items before
   pub broken : Event
   pub there : slice_get events k ≡ Some broken
-  pub why : (f.kind ≡ kind.NoMemory) ⊎ ((f.kind ≡ kind.WrongEvent) × IsWrong before broken)
+  pub why : IsRefused before broken f.kind
 
--- a fault at position 0 is that of the opening: the dies do not fit the configuration, or memory was refused
+-- a fault at position 0 is that of the opening: the dies do not fit the configuration; or they do, and memory was refused
 abbrev pub IsOpeningFault : Numbers → List DieState → RunFaultKind → Type 0
-IsOpeningFault n dies kind.NoMemory = Unit {0}
+IsOpeningFault n dies kind.NoMemory = Fit n dies
 IsOpeningFault n dies kind.WrongEvent = Fit n dies → ⊥
 IsOpeningFault n dies kind.BadLeftover = ⊥
 

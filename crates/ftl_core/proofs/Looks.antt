@@ -42,9 +42,9 @@ looks_right c t k h is kind = looks c t h k is kind
 
 pub pins_right : (c : Core) (t : Translation) (k : Key) (reader : ℕ) → Describes c t → IsKey (shape_of_numbers t.numbers) k → k.kind ≡ 1 → pin_of c reader ≡ None →
     Describes (with_pin c (record { reader = reader; key = k; looked = look_of c k; read = read.Owed }))
-    (moved t (Keep (record { tag = reader; index = 0; looked = look t.ledger k; wanted = true })))
+    (moved t (Keep k (record { tag = reader; index = 0; looked = look t.ledger k; wanted = true })))
 pins_right c t k reader h is kind none = record {
-  valid = all_keep t (Keep (record { tag = reader; index = 0; looked = look t.ledger k; wanted = true })) h.valid tt;
+  valid = all_keep t (Keep k (record { tag = reader; index = 0; looked = look t.ledger k; wanted = true })) h.valid (is, refl);
   kept = record {
     numbers = h.kept.numbers;
     blocks = h.kept.blocks;

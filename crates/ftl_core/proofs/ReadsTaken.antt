@@ -2,7 +2,7 @@
 use Rattle.std.proofs.Common.{◌≡◌, ◌≢◌, ◌∙◌, ◌⊎◌, ℕ, zero, suc, ◌<◌, Bool, true, false, List, [], ◌∷◌, ◌++◌, Option, Some, None, length, refl, sym, ap, subst, inl, inr, ⊎_elim, arith}
 use Rattle.std.proofs.lemmas.List.{append-nil}
 use Rattle.std.proofs.lemmas.Option.{slice_get_within}
-use Rattle.std.specs.Prelude.{◌&&◌, ◌==◌, if◌then◌else◌, filter_map, find, slice_get, slice_set, option_map, filter, not, position}
+use Rattle.std.specs.Prelude.{◌&&◌, ◌==◌, if◌then◌else◌, Contains, filter_map, slice_get, slice_set, option_map, filter, not, position}
 use Rattle.std.specs.List.{list_any, cons_option}
 use Rattle.ufs_spec.specs.Cells.{Cells}
 use Rattle.ufs_spec.specs.Disk as disk
@@ -11,7 +11,7 @@ use Rattle.ufs_spec.specs.Keys.{below}
 use Rattle.ufs_spec.specs.Ledger as ledger
 use Rattle.ufs_spec.specs.Ledger.{InSlot, Ledger, Name, OnPage, Unwritten}
 use Rattle.ufs_spec.specs.Translation as layer
-use Rattle.ufs_spec.specs.Translation.{IsOwed, Rest, Translation, Want, flies_mark, flies_name, flies_reader, is_at, is_of_die, taken, want_at, want_of_look, want_of_pin, want_of_rest, wants_of_step, wants_on}
+use Rattle.ufs_spec.specs.Translation.{IsOwed, Rest, Translation, Want, flies_mark, flies_name, flies_reader, is_of_die, taken, want_at, want_of_look, want_of_pin, want_of_rest, wants_of_step, wants_on}
 use Rattle.ufs_spec.specs.declared.configs.Numbers.{Numbers}
 use Rattle.ufs_spec.specs.declared.flash.Job.TheVariants as job
 use Rattle.ufs_spec.specs.declared.flash.Place.{Place}
@@ -217,13 +217,9 @@ none_read c t die b h there idle none =
 
 -- The first of them is begun
 
--- the read of a page is found first among those that begin with it
-want_found : (reader : Reader) (place : Place) (ws rest : List Want) → ws ≡ want_at reader place ∷ rest → find (is_at place) ws ≡ Some (want_at reader place)
-want_found reader place ws rest e =
-    ap (find (is_at place)) e ∙ if_true (is_at place (want_at reader place)) (Some (want_at reader place)) (find (is_at place) rest) (is_here (spot_self (spot_of place)) (eq_self place.page))
-  where
-    is_here : same_spot (spot_of place) (spot_of place) ≡ true → (place.page == place.page) ≡ true → is_at place (want_at reader place) ≡ true
-    is_here a b = ap (λ (x : Bool). x && (place.page == place.page)) a ∙ b
+-- the read that is first is one of those that are owed
+want_found : (reader : Reader) (place : Place) (ws rest : List Want) → ws ≡ want_at reader place ∷ rest → Contains ws (want_at reader place)
+want_found reader place ws rest e = subst (λ (xs : List Want). Contains xs (want_at reader place)) (sym e) (0, omega arith, refl)
 
 -- what the reader at a position is given
 pub record IsReadTaken (c : Core) (t : Translation) (die : ℕ) (b : Book) (k : ℕ) : Type 0 where

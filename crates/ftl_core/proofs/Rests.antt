@@ -2,6 +2,7 @@
 use Rattle.std.proofs.Common.{◌≡◌, ◌∙◌, ℕ, suc, ◌+◌, ◌<◌, ◌≤◌, Bool, true, false, List, [], ◌∷◌, Option, Some, None, length, drop, get_or, map, refl, sym, ap, subst, ⊎_elim, arith}
 use Rattle.std.specs.Prelude.{◌-◌, ◌||◌, ◌&&◌, ◌==◌, if◌then◌else◌, nat_lt, nat_le, is_some, count_by, slice_get, sum_by, is_none, not, ◌^◌, filter}
 use Rattle.std.specs.List.{list_any}
+use Rattle.std.proofs.lemmas.Bool.{ltb-true}
 use Rattle.std.proofs.lemmas.Bool.Decides.{nat_tests}
 use Rattle.std.proofs.lemmas.List.{length-drop}
 use Rattle.std.proofs.lemmas.Option.{slice_get_cases}
@@ -18,6 +19,7 @@ use Rattle.ufs_spec.specs.Translation as layer
 use Rattle.ufs_spec.specs.Translation.{Mending, Translation, due_order, is_bad, is_step_due, spots}
 use Rattle.ufs_spec.specs.declared.flash.Key.{Key}
 use Rattle.power_loss.proofs.AllMoves.{all_keep}
+use Rattle.power_loss.proofs.Easy.{releases}
 use Rattle.ftl_core.proofs.PinsGone.{flight_for, kept_pins, only_one, others, same_flight, same_marks, same_names, same_pins, same_reads, still_differ}
 use Rattle.ftl_core.specs.declared.books.Book.{Book}
 use Rattle.ftl_core.specs.declared.books.Pin.{Pin}
@@ -223,15 +225,15 @@ claimed_right c t n m k same = record {
   differ = k.differ;
 }
 
-pub claims_right : (c : Core) (t : Translation) → Describes c t → Describes (record c { claimed = c.claimed + 1 }) (moved t (Claim 1))
-claims_right c t h = record {
-  valid = all_keep t (Claim 1) h.valid tt;
+pub claims_right : (c : Core) (t : Translation) → Describes c t → nat_lt 0 (free_slots c) ≡ true → Describes (record c { claimed = c.claimed + 1 }) (moved t (Claim 1))
+claims_right c t h room = record {
+  valid = all_keep t (Claim 1) h.valid (let some = ltb-true 0 (free_slots c) room in let same = slots_right c t h in omega (arith, some, same));
   kept = claimed_right c t (c.claimed + 1) (t.claims + 1) h.kept (ap (λ (n : ℕ). n + 1) h.kept.claims);
 }
 
 pub releases_right : (c : Core) (t : Translation) → Describes c t → Describes (record c { claimed = c.claimed - 1 }) (moved t (Release 1))
 releases_right c t h = record {
-  valid = all_keep t (Release 1) h.valid tt;
+  valid = releases t 1 h.valid;
   kept = claimed_right c t (c.claimed - 1) (t.claims - 1) h.kept (ap (λ (n : ℕ). n - 1) h.kept.claims);
 }
 

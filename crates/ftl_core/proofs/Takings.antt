@@ -1,14 +1,14 @@
 -- The job that a die is given is one that is owed to it.
 use Rattle.std.proofs.Common.{◌≡◌, ◌∙◌, ◌⊎◌, ℕ, ◌<◌, ◌≤◌, Bool, true, false, List, [], Option, Some, None, length, refl, sym, ap, subst, inl, inr, arith, get_or, is_none, lt-ltb, ltb-true}
-use Rattle.std.specs.Prelude.{◌&&◌, nat_lt, find, slice_get, option_map}
+use Rattle.std.specs.Prelude.{◌&&◌, Contains, nat_lt, slice_get, option_map}
 use Rattle.std.proofs.lemmas.Option.{slice_get_cases, slice_get_within}
 use Rattle.ufs_spec.specs.Disk as disk
 use Rattle.ufs_spec.specs.Disk.{ForTask, job_of}
 use Rattle.ufs_spec.specs.Moves.{Take}
-use Rattle.ufs_spec.specs.Translation.{MayTake, Translation, is_at, next_flight, want_at, wants_on, is_idle}
+use Rattle.ufs_spec.specs.Translation.{MayTake, Translation, Want, next_flight, want_at, wants_on, is_idle}
 use Rattle.ufs_spec.specs.declared.configs.Numbers.{Numbers}
 use Rattle.ufs_spec.specs.declared.flash.Job.{Job}
-use Rattle.ufs_laws.proofs.Jobs.{given as some_job}
+use Rattle.ufs_laws.proofs.Jobs.{given as some_job, nothing_inside}
 use Rattle.power_loss.proofs.AllMoves.{all_keep}
 use Rattle.ftl_core.specs.declared.books.Book.{Book}
 use Rattle.ftl_core.specs.declared.books.Flight.{Flight}
@@ -79,7 +79,7 @@ next_may t die f idle none next = by_job (some_job t die)
 
     by_flight : (g : disk.Flight) → MayTake t die (Some g) → MayTake t die (Some f)
     by_flight (disk.Reading reader place) may =
-        absurd (let clash : None ≡ Some (want_at reader place) = sym (ap (find (is_at place)) none) ∙ may.1 in cc)
+        absurd (nothing_inside (want_at reader place) (subst (λ (ws : List Want). Contains ws (want_at reader place)) none may.1))
     by_flight (disk.Programming place cell) may = same (disk.Programming place cell) may may.1.1
     by_flight (disk.Erasing spot) may = same (disk.Erasing spot) may may.1.1
 

@@ -331,7 +331,7 @@ impl Ftl {
         ensures after { self.new ≡ (if result then with_pin self.old (record { reader = reader; key = key; looked = looked; read = ReadState.Owed }) else self.old) }
         ensures described { (t : Translation) → Describes self.old t → IsKey (shape_of_numbers t.numbers) key → key.kind ≡ 1 →
             looked ≡ look_of self.old key → pin_of self.old reader ≡ None → result ≡ true →
-            Describes self.new (moved t (Keep (record { tag = reader; index = 0; looked = look t.ledger key; wanted = true }))) }
+            Describes self.new (moved t (Keep key (record { tag = reader; index = 0; looked = look t.ledger key; wanted = true }))) }
     {
         self.keep(Pin {
             reader,

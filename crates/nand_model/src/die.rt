@@ -1,5 +1,5 @@
 //! What the device asks of a flash die.
-ghost use Rattle.std.specs.Prelude.{◌≡◌, ℕ, ◌<◌, length, OnOk, OnErr};
+ghost use Rattle.std.specs.Prelude.{◌≡◌, ℕ, ◌<◌, ◌≤◌, length, OnOk, OnErr};
 ghost use Rattle.ufs_spec.specs.Dies.{DieState, IsOfSize, HasPage, CanProgram, CanErase, page_at, is_bad_block, programmed, erased, IsFailedProgram, IsFailedErase};
 
 use thiserror::Error;
@@ -10,10 +10,11 @@ use ufs_spec::Page;
 #[error("the die could not do the job")]
 pub struct DieFault;
 
-/// A flash die. It does one job at a time, and counts those that failed.
+/// A flash die. It does one job at a time, and counts failures: each job that failed, and what else it likes to count,
+/// as a read that went well only when it was tried again.
 ///
 /// A block is programmed page by page in rising order, after an erase that finished in this power
-/// cycle, and never once it is bad. An `Err` comes only where `failures` rose in that call.
+/// cycle, and never once it is bad. An `Err` comes only if `failures` rose in that call, and no call lowers it.
 pub trait Die {
     ghost state: { Self → DieState };
 
@@ -32,7 +33,7 @@ pub trait Die {
         requires { HasPage (state self.old) block page }
         ensures same { state self.new ≡ state self.old }
         ensures found { OnOk result (into.new ≡ page_at (state self.old) block page) }
-        ensures counted_ok { OnOk result (failed self.new ≡ failed self.old) }
+        ensures counted_ok { OnOk result (failed self.old ≤ failed self.new) }
         ensures counted_err { OnErr result (failed self.old < failed self.new) };
 
     /// Programs the next page of a block. After an `Err` the page holds what it held, its intended
@@ -41,7 +42,7 @@ pub trait Die {
         requires { CanProgram (state self.old) block page }
         ensures done { OnOk result (state self.new ≡ programmed (state self.old) block page content.now) }
         ensures left { OnErr result (IsFailedProgram (state self.old) block page content.now (state self.new)) }
-        ensures counted_ok { OnOk result (failed self.new ≡ failed self.old) }
+        ensures counted_ok { OnOk result (failed self.old ≤ failed self.new) }
         ensures counted_err { OnErr result (failed self.old < failed self.new) };
 
     /// Erases a block: all bytes of its pages are FFh. After an `Err` each of its pages holds what it
@@ -50,7 +51,7 @@ pub trait Die {
         requires { CanErase (state self.old) block }
         ensures done { OnOk result (state self.new ≡ erased (state self.old) block) }
         ensures left { OnErr result (IsFailedErase (state self.old) block (state self.new)) }
-        ensures counted_ok { OnOk result (failed self.new ≡ failed self.old) }
+        ensures counted_ok { OnOk result (failed self.old ≤ failed self.new) }
         ensures counted_err { OnErr result (failed self.old < failed self.new) };
 
     /// Whether the block is bad, from the factory or since one of its jobs failed. A block that the die
@@ -58,7 +59,7 @@ pub trait Die {
     fn is_bad(&self, block: u16) -> bool
         ensures { result ≡ is_bad_block (state self.now) block };
 
-    /// How many of its jobs failed.
+    /// How many failures it counted.
     fn failures(&self) -> u64
         ensures { result ≡ failed self.now };
 }

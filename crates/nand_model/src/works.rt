@@ -16,7 +16,7 @@ fn ending(ended: Result<(), DieFault>) -> Outcome
 }
 
 /// Does the job on the die, which is the one that the job names. `Failed` and `ReadFailed` come only
-/// where the die's count of failures rose.
+/// if the die's count of failures rose.
 pub fn work<D: Die>(die: &mut D, job: &Job) -> Outcome
     requires { CanDo (D.state die.old) job.now }
     ensures { Did (D.failed die.old) (D.failed die.new) (D.state die.old) job.now result (D.state die.new) }

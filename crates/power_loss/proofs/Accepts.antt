@@ -1,14 +1,15 @@
 -- A group that is accepted keeps a life valid.
-use Rattle.std.proofs.Common.{◌≡◌, ℕ, true, List, [], ◌∷◌, ◌++◌, Option, sym, subst, ⊎_elim, arith}
+use Rattle.std.proofs.Common.{◌≡◌, ℕ, ◌-◌, ◌≤◌, true, length, List, [], ◌∷◌, ◌++◌, Option, sym, subst, ⊎_elim, arith}
 use Rattle.std.proofs.lemmas.Option.{get_or_from_slice_get, slice_get_within}
 use Rattle.ufs_spec.specs.Disk.{Disk}
 use Rattle.ufs_spec.specs.Keys.{Group, Item}
 use Rattle.ufs_spec.specs.Ledger.{Ledger}
 use Rattle.ufs_spec.specs.Moves.{Accept, IsAllowedMove, IsGroup, moved}
-use Rattle.ufs_spec.specs.Translation.{Mended, Mending, Plan, Repairing, Rest, Step, Translation, Unmarked, is_mended}
+use Rattle.ufs_spec.specs.Translation.{Mended, Mending, Plan, Repairing, Rest, Step, Translation, Unmarked, is_mended, pending_pages}
 use Rattle.power_loss.specs.Book.{Book, HasKey, book}
-use Rattle.power_loss.specs.Invariant.{HistoryRight, MendingRight, Valid}
+use Rattle.power_loss.specs.Invariant.{HistoryRight, MendingRight, SlotsRight, Valid}
 use Rattle.power_loss.proofs.Books.{MayAdd, book_grows, false_true, get_splits, grown, grown_length, plain_grows}
+use Rattle.power_loss.proofs.Slots.{more_pages}
 use Rattle.power_loss.proofs.Grows.{flights_grow, frontier_grows, kind_grows, marks_grow, pages_grow, plan_grows, safe_grows}
 
 -- the ledger with the group
@@ -42,6 +43,14 @@ history_grows b g repairs held frontier h = record {
   durable = h.durable;
 }
 
+-- its pages take claimed slots
+slots_grow : (t : Translation) (claimed : ℕ) (g : Group) → Valid t → length g ≤ claimed → claimed ≤ t.claims →
+    SlotsRight t.numbers.slots (pending_pages (with_group t.ledger g)) (t.claims - claimed)
+slots_grow t claimed g v few has =
+    let more = more_pages t.ledger g v.history.within v.frontier.within in
+    let w = v.slots.within in
+    record { within = omega (arith, more, w, few, has) }
+
 pub accepts : (t : Translation) (claimed : ℕ) (g : Group) (rests : List Rest) → Valid t → IsAllowedMove t (Accept claimed g rests) → Valid (moved t (Accept claimed g rests))
 accepts t claimed g rests v may = record {
   book_right = book_grows (book t) g (group_may t g may.4) v.book_right;
@@ -60,4 +69,5 @@ accepts t claimed g rests v may = record {
   history = subst (HistoryRight (grown (book t) g) t.ledger.repairs t.ledger.held t.ledger.frontier) (sym may.0)
       (history_grows (book t) g t.ledger.repairs t.ledger.held t.ledger.frontier
       (subst (HistoryRight (book t) t.ledger.repairs t.ledger.held t.ledger.frontier) may.0 v.history));
+  slots = slots_grow t claimed g v may.2 may.3;
 }

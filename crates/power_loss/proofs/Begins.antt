@@ -135,4 +135,5 @@ module _ (t : Translation) (die : ℕ) (p : Place) (cell : Cell) (v : Valid t) (
     step = v.step;
     plan = begun_plan;
     history = v.history;
+    slots = v.slots;
   }

@@ -3,7 +3,7 @@ use Rattle.std.proofs.Common.{List, None, Option, Some, ap, refl, subst, sym, tr
 use Rattle.ufs_spec.proofs.Facts.{false≢true}
 use Rattle.std.specs.Prelude.{Err, Ok, Result, slice_index}
 use Rattle.ufs_spec.specs.Cdbs.{SpellsCdb, cdb_bytes, operation_of}
-use Rattle.ufs_spec.specs.Machine.{Allowed, Answer, Ask, Call, Faulty, Finish, Finishes, Give, Gives, Heard, Hears, Host, IsCdbIn, IsHeard, MayHear, MayLeave, Replies, Spelled, Step, Steps, behind, cdb_of, fits, heard, managed, message_fault, observe, opens_short, query_unanswered, result_of, service}
+use Rattle.ufs_spec.specs.Machine.{Allowed, Answer, Ask, Call, Faulty, Finish, Finishes, Give, Gives, Heard, Hears, Host, IsCdbIn, IsHeard, MayHear, MayLeave, Replies, Spelled, Step, Steps, behind, cdb_of, fits, heard, lock_told, managed, message_fault, observe, opens_short, query_unanswered, result_of, service}
 use Rattle.ufs_spec.specs.Messages.{Spells}
 use Rattle.ufs_spec.specs.Moves.{Ending, ReadRight, ReadWrong, Take, WentWell, WentWrong}
 use Rattle.ufs_spec.specs.Cells.{Array}
@@ -19,7 +19,7 @@ use Rattle.power_loss.proofs.HostCommands.{command_right, is_free, reply_right}
 use Rattle.power_loss.proofs.HostData.{data_right}
 use Rattle.power_loss.proofs.Replies.{replies_right}
 use Rattle.ufs_spec.specs.Disk.{Erasing, Flight, Programming, Reading}
-use Rattle.power_loss.proofs.RightChanges.{Right, lock_right, right_keeps}
+use Rattle.power_loss.proofs.RightChanges.{Right, lock_right, right_keeps, settled_right}
 use Rattle.ufs_laws.proofs.Changed.{Both, Still, first, job_over}
 use Rattle.ufs_spec.specs.declared.messages.Message.TheVariants as message
 use Rattle.ufs_spec.specs.declared.scsi.Cdb.TheVariants as cdb
@@ -126,7 +126,14 @@ behind_right s call answer v may right = Still
 pub call_right : (s : State) (call : Call) (answer : Answer) → IsTied s → MayCome s call → Allowed s call answer → Right (first s call answer) (observe s call answer)
 call_right s call answer v may right =
     let h = behind_right s call answer v may right in
-    Both h (lock_right (behind s call answer) (right_keeps h (first_keeps s call answer v may right)))
+    Both h (settled_right (behind s call answer) (right_keeps h (first_keeps s call answer v may right)))
 
 pub call_keeps : (s : State) (call : Call) (answer : Answer) → IsTied s → MayCome s call → Allowed s call answer → IsTied (observe s call answer)
 call_keeps s call answer v may right = right_keeps (call_right s call answer v may right) (first_keeps s call answer v may right)
+
+-- and so does what is behind it, with the lock told, before registers are filled
+pub unfilled_keeps : (s : State) (call : Call) (answer : Answer) → IsTied s → MayCome s call → Allowed s call answer → IsTied (lock_told (behind s call answer))
+unfilled_keeps s call answer v may right =
+    let h = behind_right s call answer v may right in
+    let tied = right_keeps h (first_keeps s call answer v may right) in
+    right_keeps (lock_right (behind s call answer) tied) tied

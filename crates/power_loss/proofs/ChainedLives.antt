@@ -141,7 +141,7 @@ chained n array bad l (m ∷ ls) es os base config blank sound stands h =
     let opened : IsOpened (numbers_of l.finish) left (bad_in l.finish) m.start = subst (λ (x : Numbers). IsOpened x left (bad_in l.finish) m.start) (sym ended.numbers) next.0 in
     let prefix = prefix_left l.finish ended.valid lefts.items left h.1.6 m.start (bad_in l.finish) opened in
     let reached : m.start.base ≡ after base (take prefix.0 l.finish.accepted) =
-    prefix.3 ∙ ap (λ (b : Plain). after b (take prefix.0 l.finish.accepted)) (ended.base ∙ start) in
+    prefix.4 ∙ ap (λ (b : Plain). after b (take prefix.0 l.finish.accepted)) (ended.base ∙ start) in
     let rest = chained n left (bad_in l.finish) m ls h.1.1 h.1.2 (after base (take prefix.0 l.finish.accepted)) config behind.inside behind.sound
     (subst (StandsFor n left) reached next.0.stands) h.1.7 in
-    (prefix.0 ∷ rest.0, (start, prefix.1, prefix.2, rest.1))
+    (prefix.0 ∷ rest.0, (start, prefix.1, prefix.3, rest.1))

@@ -258,6 +258,7 @@ changed t e marks step v c gone f = record {
   step = f.right;
   plan = plan_change t e v c marks step f;
   history = v.history;
+  slots = v.slots;
 }
 
 -- The same step

@@ -324,6 +324,7 @@ mark_valid t die p m after IsVictim v job g frees out of flown = record {
   mending = mark_mending t die p m after IsVictim t.work.mending v job g frees out of v.mending;
   step = record { kind = λ s e. absurd (no_step s e) };
   plan = record { mended = λ pl e. absurd (no_plan pl e); one = λ pl e. absurd (no_plan pl e) };
+  slots = v.slots;
   history = record {
     within = v.history.within;
     contents = v.history.contents;

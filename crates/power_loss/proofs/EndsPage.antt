@@ -1,18 +1,19 @@
 -- The program of a group's page, of a copy or of a repair ended well: the frontier climbs.
-use Rattle.std.proofs.Common.{◌≡◌, ◌≢◌, ℕ, suc, ◌<◌, ◌≤◌, ◌⊎◌, Bool, true, false, is_some, List, length, Option, Some, None, slice_get, refl, sym, ap, ◌∙◌, subst, inl, inr, ⊎_elim, arith}
+use Rattle.std.proofs.Common.{◌≡◌, ◌≢◌, ℕ, suc, ◌-◌, ◌<◌, ◌≤◌, ◌⊎◌, Bool, true, false, is_some, List, drop, length, Option, Some, None, slice_get, refl, sym, ap, ◌∙◌, subst, inl, inr, ⊎_elim, arith}
 use Rattle.ufs_spec.specs.Cells.{Cells, GroupPage, IsPlace, Mark, MarkPage, Nothing, key_of}
 use Rattle.ufs_spec.specs.Disk.{BlockState, Erasing, Flight, Programming, Spot, at_die, at_place, programmed, spot_of, state_behind}
 use Rattle.ufs_spec.specs.Keys.{Group}
 use Rattle.ufs_spec.specs.Kept.{recorded_in}
-use Rattle.ufs_spec.specs.Ledger.{Entry, Name, at_name, page_stands, same_name}
+use Rattle.ufs_spec.specs.Ledger.{Entry, Name, accepted_groups, at_name, before_accepted, page_stands, same_name}
 use Rattle.ufs_spec.specs.Moves.{WentWell, is_kind_of, job_ended, step_behind}
-use Rattle.ufs_spec.specs.Translation.{CopyStep, MarkStep, Mended, Mending, Plan, RepairStep, Repairing, Step, StepKind, Translation, Unmarked, is_mended, name_of}
+use Rattle.ufs_spec.specs.Translation.{CopyStep, MarkStep, Mended, Mending, Plan, RepairStep, Repairing, Step, StepKind, Translation, Unmarked, is_mended, name_of, pending_pages}
 use Rattle.ufs_spec.specs.declared.flash.Place.{Place}
 use Rattle.ufs_spec.specs.declared.flash.Tag.{Tag}
 use Rattle.power_loss.specs.Book.{Book, IsKnown, book, last_number}
 use Rattle.power_loss.specs.Invariant.{FlightsRight, FrontierRight, HistoryRight, IsLastRepair, IsLaterMark, IsToCopy, MarksRight, MendingRight, OnePlanRight, PagesRight, Standing, StandsIn, StepKindRight, Valid}
 use Rattle.power_loss.proofs.Frontiers.{climbed_to, climbs_last, climbs_right, climbs_up, stands_more, stands_now, stood}
 use Rattle.power_loss.proofs.OneMore.{at_place_cases, at_place_is, at_spot_cases, if_false, if_true, name_cases, two_ways}
+use Rattle.power_loss.proofs.Slots.{fewer_pages, pages_of, slots_fewer}
 use Rattle.power_loss.proofs.Written.{GoesTo, blank_programmed, blocks_behind, blocks_programmed, erase_goes_on, goes_to, mark_goes_on, not_there, other_flight, overwritten_more, program_goes_on, safe_written, still_free}
 
 -- The step under way
@@ -279,6 +280,8 @@ ends_page t die p tag body v job = record {
     one = λ pl e. page_plan (book t) t.ledger.frontier to t.ledger.standing t t.work.step p (name_of tag) pl up g (v.plan.one pl e);
   };
   history = history_more (book t) t.ledger.repairs t.ledger.held t.ledger.frontier to (is_mended t.work.mending) up v.history;
+  slots = slots_fewer t.numbers.slots (pending_pages t.ledger) t.claims (pages_of (drop (to - before_accepted t.ledger) (accepted_groups t.ledger))) t.claims
+      (fewer_pages (accepted_groups t.ledger) (t.ledger.frontier - before_accepted t.ledger) (to - before_accepted t.ledger) (omega (arith, up))) (omega arith) v.slots;
 }
   where
     g : GoesTo t.numbers t.disk.cells t.disk.blocks t.disk.erasing p

@@ -485,7 +485,7 @@ move_fits t (Claim count) f may = light t (moved t (Claim count)) f (all_keep t 
 move_fits t (Release count) f may = light t (moved t (Release count)) f (all_keep t (Release count) f.valid may) refl refl f.programs f.marks f.repaired refl
 move_fits t (Accept claimed g rests) f may = accepts_fit t claimed g rests f may
 move_fits t (Tell count) f may = light t (moved t (Tell count)) f (all_keep t (Tell count) f.valid may) refl refl f.programs f.marks f.repaired refl
-move_fits t (Keep pin) f may = light t (moved t (Keep pin)) f (all_keep t (Keep pin) f.valid may) refl refl f.programs f.marks f.repaired refl
+move_fits t (Keep key pin) f may = light t (moved t (Keep key pin)) f (all_keep t (Keep key pin) f.valid may) refl refl f.programs f.marks f.repaired refl
 move_fits t (WantPage tag index) f may = light t (moved t (WantPage tag index)) f (all_keep t (WantPage tag index) f.valid may) refl refl f.programs f.marks f.repaired refl
 move_fits t (LetGo tag index) f may =
     light t (moved t (LetGo tag index)) f (all_keep t (LetGo tag index) f.valid may) refl refl (gone_programs t.disk.flights _ f.programs) f.marks f.repaired refl
@@ -572,7 +572,7 @@ move_stays t (Claim count) = record { numbers = refl; base = refl; mended = λ h
 move_stays t (Release count) = record { numbers = refl; base = refl; mended = λ h. h }
 move_stays t (Accept claimed g rests) = record { numbers = refl; base = refl; mended = λ h. h }
 move_stays t (Tell count) = record { numbers = refl; base = refl; mended = λ h. h }
-move_stays t (Keep pin) = record { numbers = refl; base = refl; mended = λ h. h }
+move_stays t (Keep key pin) = record { numbers = refl; base = refl; mended = λ h. h }
 move_stays t (WantPage tag index) = record { numbers = refl; base = refl; mended = λ h. h }
 move_stays t (LetGo tag index) = record { numbers = refl; base = refl; mended = λ h. h }
 move_stays t (LetGoAll tag) = record { numbers = refl; base = refl; mended = λ h. h }

@@ -1,5 +1,5 @@
 -- A message from the host that opens an exchange.
-use Rattle.std.proofs.Common.{◌≡◌, ℕ, ◌+◌, ◌*◌, ◌<◌, ◌≤◌, ◌==◌, ◌&&◌, Bool, true, false, not, List, [], ◌∷◌, Option, Some, None, length, map, get_or, min, refl, sym, ap, ◌∙◌, subst, arith}
+use Rattle.std.proofs.Common.{◌≡◌, ℕ, ◌+◌, ◌*◌, ◌<◌, ◌≤◌, ◌==◌, ◌&&◌, Bool, true, false, not, List, [], ◌∷◌, Option, Some, None, length, map, get_or, min, refl, sym, ap, ◌∙◌, subst, inl, inr, arith, All}
 use Rattle.std.specs.Prelude.{if◌then◌else◌, nat_le, nat_lt, take}
 use Rattle.std.specs.List.{list_any}
 use Rattle.std.proofs.lemmas.Bool.Decides.{nat_tests}
@@ -8,14 +8,14 @@ use Rattle.std.proofs.lemmas.List.{get_or-map, length-map}
 use Rattle.std.proofs.lemmas.Option.{slice_get-get_or}
 use Rattle.ufs_spec.specs.Cdbs.{address_of, blocks_of, direction_of, length_of, operation_of, write_10, write_6}
 use Rattle.ufs_spec.specs.Exchanges.{Answering, Awaiting, Busy, Deed, ForWrite, Gathering, Good, ReadBlock, Sending, Short, Status, Task, TaskSetFull, Telling, invalid_field, invalid_operation, list_length_error, no_unit, not_ready, out_of_range, sequence_error, write_protected, is_short_of, is_task_of, response, short_reply}
-use Rattle.ufs_spec.specs.Keys.{below}
+use Rattle.ufs_spec.specs.Keys.{IsKey, below, data_key}
 use Rattle.ufs_spec.specs.Machine.{begun, begun_with, blocks_expected, capacity_bytes, claimed_by, command_heard, flush_begun, in_use, keeps, kept_at, no_sense, opened_with, opening_fault, read_begun, read_blocks, sending, tag_in, told, unit_or_first, with_moves, with_short, with_task, write_begun}
 use Rattle.ufs_spec.specs.Messages.{is_among}
-use Rattle.ufs_spec.specs.Moves.{Claim, Keep}
+use Rattle.ufs_spec.specs.Moves.{Claim}
 use Rattle.ufs_spec.specs.Plain.{shape_of_numbers}
 use Rattle.ufs_spec.specs.Stages.{most_blocks, most_tasks, taken_luns}
 use Rattle.ufs_spec.specs.Steps.{BootUnit, DeviceUnit, ReportLunsUnit, RpmbUnit, operation_in, takes, well_known, Lun, has_other_response, has_wrong_list, is_crowded, is_refused_write, lacks_data, lacks_response, length_in, spec_at, Line, Request, State, UnitOf, first_line, is_past, is_too_long, lacks_unit, line, lines_behind, lun_of, mended, needs_mended, not_taken, numbers_of, refusal, slots_needed, spec_of, unit_in, unit_of_request}
-use Rattle.ufs_spec.specs.Translation.{Pin, is_mended}
+use Rattle.ufs_spec.specs.Translation.{free_slots, is_mended}
 use Rattle.ufs_spec.specs.declared.configs.Numbers.{Numbers}
 use Rattle.ufs_spec.specs.declared.configs.UnitSpec.{UnitSpec}
 use Rattle.ufs_spec.specs.declared.faults.HostFault.TheVariants.{Backlog, TagInUse}
@@ -24,6 +24,7 @@ use Rattle.ufs_spec.specs.declared.scsi.Cdb.{Cdb}
 use Rattle.ufs_spec.specs.declared.scsi.Cdb.TheVariants as cdb
 use Rattle.ufs_laws.proofs.Bytes.{bytes-nil}
 use Rattle.power_loss.specs.Exchange.{DeedFits, ShortFits, IsTied, WriteFits}
+use Rattle.power_loss.proofs.HostReads.{keys_read, pins_right}
 use Rattle.power_loss.proofs.TaskLists.{short_opened, task_opened}
 use Rattle.power_loss.proofs.RightChanges.{Right, right_keeps, right_move}
 use Rattle.ufs_laws.proofs.Changed.{Both, One, OpensShort, Opens, Still}
@@ -64,7 +65,7 @@ task_right : (s : State) (r : Request) (command : Option Cdb) (n : ℕ) (deed : 
     Right s (with_task s r command n deed)
 task_right s r command n deed v free fits none =
     let m = is_mended s.translation.work.mending in
-    let task : Task = record { lun = r.lun; tag = r.tag; expected = r.expected; command = command; length = n; deed = deed } in
+    let task : Task = record { lun = r.lun; tag = r.tag; expected = r.expected; command = command; length = n; deed = deed; request = None } in
     One (Opens task) (record {
       small = tt;
       layer = tt;
@@ -84,20 +85,19 @@ telling_right s r command bytes v free = by (min r.expected (length bytes) == 0)
 
 -- READ
 
-pins_right : (s : State) (f : ℕ → Pin) (xs : List ℕ) → IsTied s → Right s (with_moves s (map (λ i. Keep (f i)) xs))
-pins_right s f [] v = Still
-pins_right s f (x ∷ xs) v =
-    let one = right_move s (Keep (f x)) v tt tt (omega arith) in
-    Both one (pins_right (with_moves s (Keep (f x) ∷ [])) f xs (right_keeps one v))
-
 sending_right : (s : State) (r : Request) (command : Cdb) (n : ℕ) (blocks : List ReadBlock) → IsTied s → IsFree s r.tag → Right s (with_task s r (Some command) n (sending blocks n))
 sending_right s r command n [] v free = answer_right s r (Some command) n Good n v free
 sending_right s r command n (b ∷ bs) v free = task_right s r (Some command) n (Sending (b ∷ bs) 0) v free tt refl
 
-read_right : (s : State) (r : Request) (command : Cdb) (unit address n : ℕ) → IsTied s → IsFree s r.tag → Right s (read_begun s r command unit address n)
-read_right s r command unit address n v free =
+-- each block that the host expects is a key of the device
+abbrev KeysOfDevice : State → ℕ → ℕ → ℕ → Type 0
+KeysOfDevice s unit address n = All (λ i. IsKey (shape_of_numbers (numbers_of s)) (data_key unit (address + i))) (below n)
+
+read_right : (s : State) (r : Request) (command : Cdb) (unit address n : ℕ) → IsTied s → IsFree s r.tag → KeysOfDevice s unit address (blocks_expected r n) →
+    Right s (read_begun s r command unit address n)
+read_right s r command unit address n v free keys =
     let u = with_moves s (keeps s r.tag unit address (blocks_expected r n)) in
-    let pins = pins_right s (kept_at s r.tag unit address) (below (blocks_expected r n)) v in
+    let pins = pins_right s (numbers_of s) s.translation.ledger (λ i. data_key unit (address + i)) (kept_at s r.tag unit address) (below (blocks_expected r n)) v refl refl keys (λ i. refl) in
     Both pins
     (sending_right u r command n (read_blocks s unit address (blocks_expected r n)) (right_keeps pins v)
     (record { no_task = free.no_task; no_short = free.no_short }))
@@ -110,6 +110,7 @@ record Passed (s : State) (r : Request) (command : Cdb) : Type 0 where
   not_long : is_too_long command ≡ false
   within : is_past command (spec_of s r) ≡ false
   ready : (needs_mended (operation_of command) && not (mended s)) ≡ false
+  room : is_crowded s command ≡ false
 
 first_none : (applies : Bool) (status : Status) (ls : List Line) → first_line (line applies status ∷ ls) ≡ None → (applies ≡ false) × (first_line ls ≡ None)
 first_none true status ls h = absurd (none h)
@@ -128,7 +129,8 @@ record NoneApplies (a b c d e f g : Bool) : Type 0 where
   seventh : g ≡ false
 
 none_applies : (a b c d e f g : Bool) (p q r t u v w : Status) (ls : List Line) →
-    first_line (line a p ∷ line b q ∷ line c r ∷ line d t ∷ line e u ∷ line f v ∷ line g w ∷ ls) ≡ None → NoneApplies a b c d e f g
+    first_line (line a p ∷ line b q ∷ line c r ∷ line d t ∷ line e u ∷ line f v ∷ line g w ∷ ls) ≡ None →
+    NoneApplies a b c d e f g × (first_line ls ≡ None)
 none_applies a b c d e f g p q r t u v w ls h =
     let one = first_none a p (line b q ∷ line c r ∷ line d t ∷ line e u ∷ line f v ∷ line g w ∷ ls) h in
     let two = first_none b q (line c r ∷ line d t ∷ line e u ∷ line f v ∷ line g w ∷ ls) one.1 in
@@ -137,7 +139,7 @@ none_applies a b c d e f g p q r t u v w ls h =
     let five = first_none e u (line f v ∷ line g w ∷ ls) four.1 in
     let six = first_none f v (line g w ∷ ls) five.1 in
     let seven = first_none g w ls six.1 in
-    record { first = one.0; second = two.0; third = three.0; fourth = four.0; fifth = five.0; sixth = six.0; seventh = seven.0 }
+    (record { first = one.0; second = two.0; third = three.0; fourth = four.0; fifth = five.0; sixth = six.0; seventh = seven.0 }, seven.1)
 
 passed : (s : State) (r : Request) (command : Cdb) → r.cdb ≡ Some command → refusal s r ≡ None → Passed s r command
 passed s r command e h =
@@ -148,7 +150,12 @@ passed s r command e h =
     no_unit invalid_operation invalid_field list_length_error invalid_field out_of_range not_ready
     (line (is_refused_write s (spec_of s r) command) write_protected ∷ line (lacks_response s command) sequence_error
     ∷ line (has_other_response s command) invalid_field ∷ line (is_crowded s command) Busy ∷ []) lines in
-    record { unit = none.first; taken = none.second; not_long = none.third; within = none.sixth; ready = none.seventh }
+    let allowed = first_none (is_refused_write s (spec_of s r) command) write_protected
+    (line (lacks_response s command) sequence_error ∷ line (has_other_response s command) invalid_field ∷ line (is_crowded s command) Busy ∷ []) none.1 in
+    let response = first_none (lacks_response s command) sequence_error (line (has_other_response s command) invalid_field ∷ line (is_crowded s command) Busy ∷ []) allowed.1 in
+    let other = first_none (has_other_response s command) invalid_field (line (is_crowded s command) Busy ∷ []) response.1 in
+    let crowded = first_none (is_crowded s command) Busy [] other.1 in
+    record { unit = none.0.first; taken = none.0.second; not_long = none.0.third; within = none.0.sixth; ready = none.0.seventh; room = crowded.0 }
 
 -- WRITE
 
@@ -244,7 +251,7 @@ claimed_right s r command unit blocks forced v free p told same slots size needs
     let units = (numbers_of s).units.items in
     let m = is_mended t.work.mending in
     let deed : Deed = Gathering (ForWrite unit (address_of command) blocks forced) [] false in
-    let task : Task = record { lun = r.lun; tag = r.tag; expected = r.expected; command = Some command; length = 4096 * blocks; deed = deed } in
+    let task : Task = record { lun = r.lun; tag = r.tag; expected = r.expected; command = Some command; length = 4096 * blocks; deed = deed; request = None } in
     let few = ltb-false most_blocks (blocks_of command) (sym long ∙ p.not_long) in
     let lies = lies_within s r command told p.within in
     let count = length-map units (λ (x : UnitSpec). x.blocks) in
@@ -262,7 +269,9 @@ claimed_right s r command unit blocks forced v free p told same slots size needs
       claimed_is = slots;
       is_mended = ready_now s command needs p.ready;
     } in
-    Both (right_move s (Claim blocks) v tt tt (omega arith))
+    let crowded = or_parts _ (nat_lt (free_slots t) (slots_needed command)) p.room in
+    let room = ltb-false (free_slots t) (slots_needed command) crowded.1 in
+    Both (right_move s (Claim blocks) v tt (omega arith) (omega arith))
     (One (Opens task) (record {
       small = tt;
       layer = tt;
@@ -310,8 +319,10 @@ begins s r cdb.TestUnitReady v free p op = answer_right s r (Some cdb.TestUnitRe
 begins s r (cdb.RequestSense allocation) v free p op = telling_right s r (cdb.RequestSense allocation) (take allocation no_sense) v free
 begins s r (cdb.Read6 address blocks) v free p op =
     read_right s r (cdb.Read6 address blocks) (unit_or_first (unit_of_request s r)) address (length_of 0 (cdb.Read6 address blocks)) v free
+    (keys_read s r (cdb.Read6 address blocks) (length_of 0 (cdb.Read6 address blocks)) refl (inl op) (λ unit e. lun_told (numbers_of s) r.lun unit e) p.unit p.taken p.within)
 begins s r (cdb.Read10 address blocks forced) v free p op =
     read_right s r (cdb.Read10 address blocks forced) (unit_or_first (unit_of_request s r)) address (4096 * blocks) v free
+    (keys_read s r (cdb.Read10 address blocks forced) (4096 * blocks) (omega arith) (inr op) (λ unit e. lun_told (numbers_of s) r.lun unit e) p.unit p.taken p.within)
 begins s r (cdb.Write6 address blocks) v free p op =
     write_right s r (cdb.Write6 address blocks) (slots_needed (cdb.Write6 address blocks)) false v free p (subst TakenByUnits (sym op) units_take_6) refl refl refl refl
 begins s r (cdb.Write10 address blocks forced) v free p op = write_right s r (cdb.Write10 address blocks forced) blocks forced v free p (subst TakenByUnits (sym op) units_take_10) refl refl refl refl

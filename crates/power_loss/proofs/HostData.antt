@@ -173,7 +173,7 @@ release_right s task unit address blocks bytes v a =
       layer = tt;
       tasks = set t.claims (omega arith);
     }))
-    (One (Moves (Release blocks)) (record { small = tt; layer = tt; tasks = set (t.claims - blocks) (omega arith) }))
+    (One (Moves (Release blocks)) (record { small = tt; layer = a.few; tasks = set (t.claims - blocks) (omega arith) }))
   where
     set : (d : ℕ) → s.translation.claims ≤ d + claim_of task →
         TasksRight (shape_of_numbers (numbers_of s)) (length s.accepted) (is_mended s.translation.work.mending) d (map (with_deed task.tag (Answering write_error task.length)) s.tasks) s.shorts

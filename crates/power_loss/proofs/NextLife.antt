@@ -17,6 +17,7 @@ use Rattle.ufs_spec.specs.Keys.{CanApplyAll, Contents, Group, IsKey, content, gr
 use Rattle.ufs_spec.specs.Kept.{CellsStandFor, Holds}
 use Rattle.ufs_spec.specs.Ledger.{accepted_groups}
 use Rattle.ufs_spec.specs.Lives.{IsLeft, IsLeftoverOf, IsOpened, Stops, die_of, held, page_left}
+use Rattle.ufs_spec.specs.Machine.{durable}
 use Rattle.ufs_spec.specs.Plain.{Plain, Shape, after, apply, shape_of, shape_of_numbers}
 use Rattle.ufs_spec.specs.Sound.{Sound, Suits}
 use Rattle.ufs_spec.specs.Steps.{State, numbers_of}
@@ -99,7 +100,7 @@ module _ (s : State) (v : ValidState s) (lefts : List Leftover) (left : Array) (
         }
 
     prefix_shown : (p : Plain) → CellsStandFor (numbers_of s) c p →
-        (k : ℕ) × (held s ≤ k) × (k ≤ length s.accepted) × (p ≡ after s.base (take k s.accepted))
+        (k : ℕ) × (held s ≤ k) × (durable s ≤ k) × (k ≤ length s.accepted) × (p ≡ after s.base (take k s.accepted))
     prefix_shown p h =
         let pre = stop_prefix s.translation c h.newest h.kept v.tied.valid crash h.is_newest h.is_kept in
         let sound = stop_sound s.translation c h.newest v.tied.valid crash h.is_newest in
@@ -109,6 +110,7 @@ module _ (s : State) (v : ValidState s) (lefts : List Leftover) (left : Array) (
         let long : length (accepted_groups s.translation.ledger) ≡ length s.accepted = ap length v.tied.groups ∙ length-groups s.base s.accepted in (
           pre.count,
           pre.held,
+          let far = pre.durable in omega arith,
           subst (λ (n : ℕ). pre.count ≤ n) long pre.within,
           same_contents p (after s.base (take pre.count s.accepted)) h.plain (all_kept_plain s.base (take pre.count s.accepted) v.tied.base.0 can) shape
               (λ (k : Key) key.
@@ -124,7 +126,7 @@ module _ (s : State) (v : ValidState s) (lefts : List Leftover) (left : Array) (
   suits_left = suits_shown (λ p. (some_cell (left p)).0) (λ p. (some_cell (left p)).1)
 
   pub prefix_left : (t : State) (bad : Spot → Bool) → IsOpened (numbers_of s) left bad t →
-      (k : ℕ) × (held s ≤ k) × (k ≤ length s.accepted) × (t.base ≡ after s.base (take k s.accepted))
+      (k : ℕ) × (held s ≤ k) × (durable s ≤ k) × (k ≤ length s.accepted) × (t.base ≡ after s.base (take k s.accepted))
   prefix_left t bad opened = prefix_shown opened.stands.0 opened.stands.1 t.base opened.stands.2
 
 -- Outside the dies
@@ -157,7 +159,7 @@ pub left_inside : (n : Numbers) (array : Array) (lefts : List Leftover) (left : 
     IsArrayOf n array → IsLeft array lefts left → IsArrayOf n left
 left_inside n array lefts left inside blank is p out =
     ⊎_elim (λ (x : (l : Leftover) × Contains lefts l × page_left l p (left p)). absurd (out (inside x.0 x.1 p (left p) x.2)))
-    (λ (x : ((l : Leftover) → Contains lefts l → page_left l p (left p) → ⊥) × (left p ≡ array p)). x.1 ∙ blank p out) (is p)
+    (λ (x : ((l : Leftover) (page : Page) → Contains lefts l → page_left l p page → ⊥) × (left p ≡ array p)). x.1 ∙ blank p out) (is p)
 
 inside_of : (n : Numbers) (f : Option Flight) → ((p : Place) (cell : Cell) → f ≡ Some (Programming p cell) → IsPlace n p) →
     ((spot : Spot) → f ≡ Some (Erasing spot) → IsSpot n spot) → IsInside n f

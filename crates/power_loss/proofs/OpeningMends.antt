@@ -1,5 +1,5 @@
 -- An opened translation layer is valid: the mending that is due, and all of it.
-use Rattle.std.proofs.Common.{◌≡◌, ◌≢◌, ℕ, suc, ◌<◌, ◌≤◌, Bool, List, length, Option, Some, None, refl, sym, ap, ◌∙◌, subst, inl, ⊎_elim, arith}
+use Rattle.std.proofs.Common.{◌≡◌, ◌≢◌, ℕ, suc, ◌<◌, ◌≤◌, ◌-◌, Bool, List, [], drop, length, Option, Some, None, refl, sym, ap, ◌∙◌, subst, inl, ⊎_elim, arith}
 use Rattle.ufs_spec.specs.Cells.{AreWithin, Cells, Mark, MarkPage}
 use Rattle.ufs_spec.specs.Disk.{Programming, Spot, spot_of}
 use Rattle.ufs_spec.specs.Kept.{IsNewestMark, IsWhole, fence_in, recorded_in}
@@ -12,6 +12,9 @@ use Rattle.ufs_spec.specs.declared.flash.Key.{Key}
 use Rattle.ufs_spec.specs.declared.flash.Place.{Place}
 use Rattle.power_loss.specs.Book.{CellsRight, HasKey, IsWholeOld, book}
 use Rattle.power_loss.specs.Invariant.{HistoryRight, LostRight, MarkStands, MarksRight, MendingRight, Valid}
+use Rattle.std.proofs.lemmas.List.{drop_all}
+use Rattle.ufs_spec.specs.Ledger.{accepted_groups, before_accepted}
+use Rattle.power_loss.proofs.Slots.{no_pages}
 use Rattle.power_loss.proofs.OpeningBook.{Opened, low_cases, no_group, old_page, opened, page_is_old, shown, split}
 use Rattle.power_loss.proofs.OpeningHolds.{book_is_right}
 use Rattle.power_loss.proofs.OpeningPages.{all_safe, blocks_are_right, flights_are_right, free_blank, frontier_is_right, mark_not_free, none_flies, numbered, pages_are_right}
@@ -162,6 +165,12 @@ valid bad t o = record {
     one = λ pl e. absurd (none_is t.work.plan pl o.start.no_plan e);
   };
   history = history bad t o;
+  slots = record {
+    within =
+        let none = no_pages (accepted_groups t.ledger) (t.ledger.frontier - before_accepted t.ledger) (ap (drop t.ledger.repairs) o.start.ledger.none_new ∙ drop_all t.ledger.repairs [] (omega arith)) in
+        let claims = o.start.no_claims in
+        omega (arith, none, claims);
+  };
 }
 
 pub opening_valid : (n : Numbers) (c : Cells) (bad : Spot → Bool) (t : Translation) →

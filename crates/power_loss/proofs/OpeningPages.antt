@@ -19,10 +19,10 @@ pub not_free : (bad : Spot → Bool) (t : Translation) (p : Place) → Opened ba
 not_free bad t p o some free =
     some ((subst (IsBlockState t.disk.cells bad (spot_of p)) free (o.start.disk.blocks (spot_of p))).1 p refl)
 
-page_is_some : (t : Tag) (body : List ℕ) → GroupPage t body ≢ Nothing
+pub page_is_some : (t : Tag) (body : List ℕ) → GroupPage t body ≢ Nothing
 page_is_some t body e = cc
 
-mark_is_some : (m : Mark) → MarkPage m ≢ Nothing
+pub mark_is_some : (m : Mark) → MarkPage m ≢ Nothing
 mark_is_some m e = cc
 
 pub page_not_free : (bad : Spot → Bool) (t : Translation) (p : Place) (tag : Tag) (body : List ℕ) → Opened bad t → t.disk.cells p ≡ GroupPage tag body → t.disk.blocks (spot_of p) ≢ Free

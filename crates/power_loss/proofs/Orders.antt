@@ -1,12 +1,12 @@
 -- Steps that are ordered keep a life valid: a mark, a repair, and a copy of a plan.
-use Rattle.std.proofs.Common.{◌≡◌, ℕ, zero, suc, ◌+◌, ◌≤◌, ◌⊎◌, true, false, is_none, List, [], ◌∷◌, length, Option, Some, None, slice_get, refl, sym, ap, ◌∙◌, subst, inl, inr, ⊎_elim, arith}
+use Rattle.std.proofs.Common.{◌≡◌, ℕ, zero, suc, ◌+◌, ◌-◌, ◌≤◌, ◌⊎◌, true, false, is_none, List, [], ◌∷◌, ◌++◌, length, Option, Some, None, slice_get, refl, sym, ap, ◌∙◌, subst, inl, inr, ⊎_elim, arith}
 use Rattle.std.proofs.lemmas.Option.{slice_get_within}
 use Rattle.ufs_spec.specs.Cells.{Cell, Cells, GroupPage, Mark, MarkPage, Nothing, key_of}
 use Rattle.ufs_spec.specs.Disk.{Disk, Programming, Spot}
 use Rattle.ufs_spec.specs.Keys.{Contents, Group, Item}
 use Rattle.ufs_spec.specs.Kept.{recorded_in}
-use Rattle.ufs_spec.specs.Ledger.{Entry, Ledger, next_number}
-use Rattle.ufs_spec.specs.Translation.{CopyStep, MarkStep, Mended, Mending, Plan, RepairStep, Repairing, Step, Translation, Unmarked, copy_begun, is_mended, mark_ordered, name_of, repair_ordered, standing_of, with_plan, with_repair}
+use Rattle.ufs_spec.specs.Ledger.{Entry, Ledger, accepted_groups, before_accepted, next_number}
+use Rattle.ufs_spec.specs.Translation.{CopyStep, MarkStep, Mended, Mending, Plan, RepairStep, Repairing, Step, Translation, Unmarked, copy_begun, is_mended, mark_ordered, name_of, pending_pages, repair_ordered, standing_of, with_plan, with_repair}
 use Rattle.ufs_spec.specs.declared.flash.Fence.{Fence}
 use Rattle.ufs_spec.specs.declared.flash.Key.{Key}
 use Rattle.ufs_spec.specs.declared.flash.Place.{Place}
@@ -14,6 +14,8 @@ use Rattle.ufs_spec.specs.declared.flash.Tag.{Tag}
 use Rattle.power_loss.specs.Book.{Book, HasKey, IsLostNumber, IsOverwritten, IsPageAt, IsWritten, book, last_number}
 use Rattle.power_loss.specs.Invariant.{FenceRight, FlightsRight, HistoryRight, IsLastRepair, IsOpenedOrOwn, IsOwnMark, IsSafe, IsToCopy, MarkStepRight, MarksRight, MendingRight, OnePlanRight, RepairingRight, Standing, StandsIn, StepKindRight, StepRight, Valid}
 use Rattle.power_loss.proofs.Books.{MayAdd, added_page, book_grows, fence_grows, get_splits, grown, grown_length, last_grows, lost_before, none_some, overwritten_more, some_is, written_grows, written_more}
+use Rattle.std.proofs.lemmas.List.{drop_all}
+use Rattle.power_loss.proofs.Slots.{no_pages, slots_fewer}
 use Rattle.power_loss.proofs.Grows.{flights_grow, frontier_grows, marks_grow, pages_grow, safe_grows}
 
 -- Where no step is under way
@@ -144,6 +146,7 @@ marks_ordered t fence v e right behind = record {
     one = λ pl h. next_plan (book t) t.ledger.frontier t.ledger.standing t.disk t.work.step (Some (mark_step t.ledger.marks fence)) pl e (v.plan.one pl h);
   };
   history = v.history;
+  slots = v.slots;
 }
   where
     mark_right : MarkStepRight (t.ledger.marks + 1) t.disk.cells t.work.mending t.work.plan (t.ledger.marks + 1) fence
@@ -270,6 +273,7 @@ repairs_ordered t k left v none m = record {
   };
   history = repair_history (book t) k t.ledger.repairs t.ledger.held t.ledger.frontier
       (subst (λ (z : Mending). HistoryRight (book t) t.ledger.repairs t.ledger.held t.ledger.frontier (is_mended z)) m v.history);
+  slots = slots_fewer t.numbers.slots (pending_pages t.ledger) t.claims (pending_pages (with_repair t.ledger k)) t.claims (omega (arith, no_more)) (omega arith) v.slots;
 }
   where
     repairing : MendingRight (book t) t.disk t.ledger t.work.plan t.work.step (Repairing (k ∷ left))
@@ -277,6 +281,14 @@ repairs_ordered t k left v none m = record {
 
     no_plan : (pl : Plan) → t.work.plan ≡ Some pl → ⊥
     no_plan pl h = none_some pl (sym repairing.more.no_plan ∙ h)
+
+    -- until the device is mended no command's group is there
+    no_more : pending_pages (with_repair t.ledger k) ≡ 0
+    no_more =
+        let all = (v.history.mending (ap is_mended m)).0 in
+        let long = grown_length t.ledger.groups (repair_group t.ledger.base k) in
+        no_pages (accepted_groups (with_repair t.ledger k)) (t.ledger.frontier - before_accepted (with_repair t.ledger k))
+        (drop_all (t.ledger.repairs + 1) (t.ledger.groups ++ repair_group t.ledger.base k ∷ []) (omega (arith, all, long)))
 
 -- A plan
 
@@ -315,6 +327,7 @@ plans t pl next v none mended r s = record {
     one = λ other h. subst (OnePlanRight (book t) t.ledger.frontier t.ledger.standing t.disk.blocks t.disk.flights next) (some_is pl other h) r;
   };
   history = v.history;
+  slots = v.slots;
 }
 
 -- What stands in the victim

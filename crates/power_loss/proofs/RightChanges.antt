@@ -1,22 +1,22 @@
 -- Small changes that may come in a life: each keeps the state tied to its dies and commands, and so do all of a call.
 use Rattle.std.proofs.Common.{Bool, List, None, [], ap, arith, drop, false, length, map, refl, subst, suc, sym, true, zero, ℕ, ◌++◌, ◌∙◌, ◌∷◌, ◌≡◌, ◌≤◌}
-use Rattle.std.specs.Prelude.{if◌then◌else◌, nat_le}
+use Rattle.std.specs.Prelude.{if◌then◌else◌, filter, nat_le}
 use Rattle.ufs_spec.specs.Cells.{Shows}
 use Rattle.ufs_spec.specs.Commands.{Command}
-use Rattle.ufs_spec.specs.Exchanges.{Answering, Awaiting, Deed, Gathering, Sending, Short, Task, Telling, write_error}
+use Rattle.ufs_spec.specs.Exchanges.{Answering, Awaiting, Deed, Gathering, Sending, Short, Task, Telling, filled, write_error}
 use Rattle.ufs_spec.specs.Keys.{CanApplyAll, Group, IsCommand, group_of, groups_of}
 use Rattle.ufs_spec.specs.Ledger.{accepted_groups}
-use Rattle.ufs_spec.specs.Machine.{claimed_by, deed_locked, durable, is_durable, lock_told, short_locked, task_locked, with_moves}
-use Rattle.ufs_spec.specs.Moves.{Accept, End, IsAllowedMove, Move, Take, Turn, moved}
+use Rattle.ufs_spec.specs.Machine.{claimed_by, deed_locked, durable, fill_moves, fills, is_durable, is_to_fill, lock_told, short_locked, task_filled, task_locked, with_moves}
+use Rattle.ufs_spec.specs.Moves.{Accept, End, IsAllowedMove, LetGoAll, Move, Take, Turn, moved}
 use Rattle.ufs_spec.specs.Plain.{CanApply, Plain, Shape, after, apply, shape_of, shape_of_numbers}
 use Rattle.ufs_spec.specs.Steps.{State, locked, numbers_of, plain_now}
 use Rattle.ufs_spec.specs.Translation.{Translation, is_mended}
-use Rattle.power_loss.specs.Exchange.{DeedFits, IsTied, ShortFits, TasksAreRight, TasksRight}
+use Rattle.power_loss.specs.Exchange.{DeedFits, IsTied, ShortFits, TasksAreRight, TasksRight, claim_of}
 use Rattle.power_loss.proofs.FittingMoves.{move_fits, move_stays}
-use Rattle.power_loss.proofs.TaskLists.{shorts_kept, tasks_kept}
+use Rattle.power_loss.proofs.TaskLists.{KeepsTasks, shorts_kept, tasks_kept}
 use Rattle.ufs_spec.proofs.PlainFacts.{kept_shape}
 use Rattle.power_loss.proofs.EventParts.{Ties, fits_of, tasks_stay, ties_of, ties_stay, whole}
-use Rattle.ufs_laws.proofs.Changed.{weaker, Small, Accepts, Both, Change, Changes, Closes, ClosesShorts, IsSmall, IsSmallMove, Maps, MapsShorts, Moves, One, Opens, OpensShort, SetsPowerOn, SetsRegisters, Still, changed, kept, lock_short}
+use Rattle.ufs_laws.proofs.Changed.{weaker, Small, Accepts, Both, Change, Changes, Closes, ClosesShorts, IsSmall, IsSmallMove, Maps, MapsShorts, Moves, One, Opens, OpensShort, SetsPowerOn, SetsRegisters, Still, changed, fills_task, kept, lock_short}
 
 -- Changes that may come
 
@@ -177,3 +177,45 @@ lock_right s v = by (locked s)
               (record { tag = lock_short s; fits = short_fits s a m }) tasks;
         }))
     by false = Still
+
+-- Requests that fill a register
+
+filling_right : (s : State) (tasks : List Task) → IsTied s → Right s (with_moves s (fill_moves tasks))
+filling_right s [] v = Still
+filling_right s (task ∷ tasks) v =
+    let go = right_move s (LetGoAll task.tag) v tt tt (omega arith) in
+    Both go (filling_right (with_moves s (LetGoAll task.tag ∷ [])) tasks (right_keeps go v))
+
+-- a task that fills a register stays the same but for its request
+filled_keeps : (s : State) (sh : Shape) (a : ℕ) (m : Bool) → KeepsTasks sh a m (task_filled s)
+filled_keeps s sh a m = record { tag = λ t. tag t (is_to_fill s t); fits = λ t. fits t (is_to_fill s t); claim = λ t. claim t (is_to_fill s t) }
+  where
+    tag : (t : Task) (b : Bool) → (if b then record t { request = filled t.request } else t).tag ≡ t.tag
+    tag t true = refl
+    tag t false = refl
+
+    fits : (t : Task) (b : Bool) → DeedFits sh a m (claim_of t) t.length t.deed →
+        DeedFits sh a m (claim_of (if b then record t { request = filled t.request } else t)) (if b then record t { request = filled t.request } else t).length
+        (if b then record t { request = filled t.request } else t).deed
+    fits t true h = h
+    fits t false h = h
+
+    claim : (t : Task) (b : Bool) → claim_of (if b then record t { request = filled t.request } else t) ≤ claim_of t
+    claim t true = omega arith
+    claim t false = omega arith
+
+pub fills_right : (s : State) → IsTied s → Right s (fills s)
+fills_right s v =
+    let go = filling_right s (filter (is_to_fill s) s.tasks) v in
+    let u : State = with_moves s (fill_moves (filter (is_to_fill s) s.tasks)) in
+    let tied = right_keeps go v in
+    let tasks =
+    tasks_kept (shape_of_numbers (numbers_of u)) (length u.accepted) (is_mended u.translation.work.mending) u.translation.claims (task_filled s) u.tasks u.shorts
+    (filled_keeps s (shape_of_numbers (numbers_of u)) (length u.accepted) (is_mended u.translation.work.mending)) tied.tasks in
+    Both go
+    (Both (One (Maps (task_filled s)) (record { small = fills_task s; layer = tt; tasks = tasks }))
+    (One (SetsRegisters (fills s).registers) (record { small = tt; layer = tt; tasks = tasks })))
+
+-- and then the lock is told
+pub settled_right : (s : State) → IsTied s → Right s (lock_told (fills s))
+settled_right s v = let h = fills_right s v in Both h (lock_right (fills s) (right_keeps h v))

@@ -357,7 +357,7 @@ put_nil f zero = refl
 put_nil f (suc n) = refl
 
 -- so many first groups have the contents themselves
-abbrev AreSame : Contents → List Group → ℕ → Type 0
+abbrev pub AreSame : Contents → List Group → ℕ → Type 0
 AreSame f gs r = (j i : ℕ) (g : Group) (item : Item) → j < r → slice_get gs j ≡ Some g → slice_get g i ≡ Some item → item.body ≡ f item.key
 
 pub after_same : (f : Contents) (gs : List Group) (r n : ℕ) → AreSame f gs r → r ≤ n → put_groups f (take n gs) ≡ put_groups f (take (n - r) (drop r gs))

@@ -116,6 +116,7 @@ image_prefix t c m kept v x k = ⊎_elim more less (split t.ledger.repairs (kept
     more l = record {
       count = kept - t.ledger.top - t.ledger.repairs;
       held = ⊎_elim (λ e. omega arith) (λ e. omega (arith, far)) v.history.durable;
+      durable = omega (arith, far);
       within = omega (arith, near, length-drop t.ledger.repairs t.ledger.groups);
       holds = subst (HoldAll t.numbers c (Some m) kept) (after_same t.ledger.base t.ledger.groups t.ledger.repairs (kept - t.ledger.top) v.history.contents l) here;
     }
@@ -124,6 +125,7 @@ image_prefix t c m kept v x k = ⊎_elim more less (split t.ledger.repairs (kept
     less l = record {
       count = 0;
       held = ⊎_elim (λ e. omega arith) (λ e. let a = v.frontier.above in absurd (omega (arith, far))) v.history.durable;
+      durable = let a = v.frontier.above in omega (arith, far);
       within = omega arith;
       holds = subst (HoldAll t.numbers c (Some m) kept) (after_none t.ledger.base t.ledger.groups t.ledger.repairs (kept - t.ledger.top) v.history.contents (omega arith)) here;
     }
@@ -153,6 +155,7 @@ unchanged_prefix : (t : Translation) (c : Cells) (kept : ℕ) → Valid t → Un
 unchanged_prefix t c kept v u k = record {
   count = 0;
   held = let g = ap length u.none_new in let w = v.frontier.within in ⊎_elim (λ e. omega arith) (λ e. omega arith) v.history.durable;
+  durable = let g = ap length u.none_new in let w = v.frontier.within in omega arith;
   within = omega arith;
   holds = subst (λ y. HoldAll t.numbers c t.ledger.newest y t.ledger.base) (kept_one c t.ledger.newest u.opened.kept kept u.opened.is_kept k) u.opened.holds;
 }

@@ -5,10 +5,10 @@ use Rattle.ufs_spec.specs.Cells.{AreWithin, Cell, Cells, GroupPage, IsPlace, Mar
 use Rattle.ufs_spec.specs.Disk.{BlockState, Bad, Closed, Disk, Erasing, Filling, Flight, Free, Programming, Spot, spot_of}
 use Rattle.ufs_spec.specs.Keys.{Group, Item, put_groups}
 use Rattle.ufs_spec.specs.Kept.{HoldAll, IsKept, IsNewestMark, recorded_in}
-use Rattle.ufs_spec.specs.Ledger.{Entry, Ledger, accepted_groups}
+use Rattle.ufs_spec.specs.Ledger.{Entry, Ledger, accepted_groups, before_accepted}
 use Rattle.ufs_spec.specs.Openings.{IsFirstFence, number_of}
 use Rattle.ufs_spec.specs.Sound.{CellsSound, CellsSuit}
-use Rattle.ufs_spec.specs.Translation.{CopyStep, MarkStep, Mended, Mending, Plan, RepairStep, Repairing, Step, StepKind, Translation, Unmarked, is_mended}
+use Rattle.ufs_spec.specs.Translation.{CopyStep, MarkStep, Mended, Mending, Plan, RepairStep, Repairing, Step, StepKind, Translation, Unmarked, is_mended, pending_pages}
 use Rattle.ufs_spec.specs.declared.configs.Numbers.{Numbers}
 use Rattle.ufs_spec.specs.declared.flash.Fence.{Fence}
 use Rattle.ufs_spec.specs.declared.flash.Key.{Key}
@@ -290,6 +290,12 @@ pub record HistoryRight (b : Book) (repairs held frontier : ℕ) (mended : Bool)
   pub mending : mended ≡ false → (repairs ≡ length b.groups) × (held ≡ 0)
   pub durable : (held ≡ 0) ⊎ (b.top + repairs + held ≤ frontier)
 
+-- Slots
+
+-- the pages that are accepted and not durable and the claims have a slot each
+pub record SlotsRight (slots pending claims : ℕ) : Type 0 where
+  pub within : pending + claims ≤ slots
+
 -- All of it
 
 pub record Valid (t : Translation) : Type 0 where
@@ -304,12 +310,14 @@ pub record Valid (t : Translation) : Type 0 where
   pub step : StepRight (book t) t.ledger.marks t.disk.cells t.work.mending t.work.plan t.work.step
   pub plan : PlanRight (book t) t.ledger.frontier t.ledger.standing t.disk.blocks t.disk.flights t.work.mending t.work.step t.work.plan
   pub history : HistoryRight (book t) t.ledger.repairs t.ledger.held t.ledger.frontier (is_mended t.work.mending)
+  pub slots : SlotsRight t.numbers.slots (pending_pages t.ledger) t.claims
 
 -- What a stop leaves
 
--- the contents after a number of accepted groups that has each acknowledged one
+-- the contents after a number of accepted groups, among them each acknowledged one and each durable one
 pub record IsPrefix (t : Translation) (c : Cells) (m : Option Mark) (kept : ℕ) : Type 0 where
   pub count : ℕ
   pub held : t.ledger.held ≤ count
+  pub durable : t.ledger.frontier ≤ before_accepted t.ledger + count
   pub within : count ≤ length (accepted_groups t.ledger)
   pub holds : HoldAll t.numbers c m kept (put_groups t.ledger.base (take count (accepted_groups t.ledger)))

@@ -5,7 +5,7 @@ ghost use Rattle.ufs_spec.specs.Configs.{IsConfig};
 ghost use Rattle.ufs_spec.specs.Disk.{Spot};
 ghost use Rattle.ufs_spec.specs.Kept.{StandsFor};
 ghost use Rattle.ufs_spec.specs.Lives.{Chain, IsOpened, Leads, Life, Lived, Lives, Stops, held};
-ghost use Rattle.ufs_spec.specs.Machine.{Allowed, Answer, Call, observe};
+ghost use Rattle.ufs_spec.specs.Machine.{Allowed, Answer, Call, durable, observe};
 ghost use Rattle.ufs_spec.specs.Plain.{Plain, after};
 ghost use Rattle.ufs_spec.specs.Sound.{Sound, Suits};
 ghost use Rattle.ufs_spec.specs.Steps.{State, numbers_of};
@@ -34,7 +34,7 @@ pub fn each_call_keeps()
 {}
 
 /// What a stop leaves of a valid state is sound and suits the device; and a device that is opened over it has the plain
-/// state after a prefix of the accepted commands that holds every one acknowledged as durable.
+/// state after a prefix of the accepted commands that holds every one acknowledged as durable, and every durable one.
 pub fn next_life_begins_with_a_prefix()
     ensures sound { (s : State) (lefts : List Leftover) (left : Array) → ValidState s → Stops s lefts left → Sound left }
     ensures suits { (s : State) (lefts : List Leftover) (left : Array) → ValidState s → Stops s lefts left →
@@ -43,7 +43,7 @@ pub fn next_life_begins_with_a_prefix()
         Stops s lefts left → IsArrayOf (numbers_of s) left }
     ensures prefix { (s t : State) (lefts : List Leftover) (left : Array) (bad : Spot → Bool) →
         ValidState s → Stops s lefts left → IsOpened (numbers_of s) left bad t →
-        (k : ℕ) × (held s ≤ k) × (k ≤ length s.accepted) × (t.base ≡ after s.base (take k s.accepted)) }
+        (k : ℕ) × (held s ≤ k) × (durable s ≤ k) × (k ≤ length s.accepted) × (t.base ≡ after s.base (take k s.accepted)) }
 {}
 
 /// Over any number of lives, events and stops, each life's base is what a prefix of the commands accepted before its stop

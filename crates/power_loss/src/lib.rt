@@ -4,15 +4,17 @@
 
 mod exchange;
 mod mending;
+mod pending;
+mod runs;
 
-ghost use Rattle.std.specs.Prelude.{◌≡◌, ◌≢◌, ◌≤◌, ℕ, Bool, true, false, List, Option, Some};
+ghost use Rattle.std.specs.Prelude.{◌≡◌, ◌≢◌, ◌+◌, ◌≤◌, ℕ, Bool, true, false, List, Option, Some};
 ghost use Rattle.ufs_spec.specs.Cells.{AreWithin, Cells, GroupPage, Mark, Nothing};
 ghost use Rattle.ufs_spec.specs.Disk.{CellCrash, Erasing, HasCopy, MayErase, Spent, SpentBy, Spot, Stands, spot_of, with_erasing};
 ghost use Rattle.ufs_spec.specs.Kept.{IsKept, IsNewestMark};
 ghost use Rattle.ufs_spec.specs.Moves.{IsAllowedMove, Move, moved};
 ghost use Rattle.ufs_spec.specs.Openings.{IsOpenedTranslation};
 ghost use Rattle.ufs_spec.specs.Sound.{CellsSound, CellsSuit};
-ghost use Rattle.ufs_spec.specs.Translation.{MayTake, Translation, is_live, is_mended, is_pinned};
+ghost use Rattle.ufs_spec.specs.Translation.{MayTake, Translation, is_live, is_mended, is_pinned, pending_pages};
 ghost use Rattle.ufs_spec.specs.declared.configs.Numbers.{Numbers};
 ghost use Rattle.ufs_spec.specs.declared.flash.Place.{Place};
 ghost use Rattle.ufs_spec.specs.declared.flash.Tag.{Tag};
@@ -24,6 +26,11 @@ pub use exchange::{
     opened_state_is_valid,
 };
 pub use mending::{a_life_is_mended_soon, mending_ends_soon};
+pub use pending::pending_groups_become_durable_in_order;
+pub use runs::{
+    a_job_may_fail_at_any_moment, a_run_keeps_the_promise, a_stop_may_come_at_any_moment,
+    any_sound_array_opens, new_dies_fit, one_array_is_left,
+};
 
 /// Opening over a sound array gives a valid life.
 pub fn opening_is_valid()
@@ -36,8 +43,13 @@ pub fn each_move_keeps()
     ensures { (t : Translation) (move : Move) → Valid t → IsAllowedMove t move → Valid (moved t move) }
 {}
 
+/// Pages that are accepted and not durable, and the slots that tasks have claimed, are never more than the device's slots.
+pub fn slots_are_never_overdrawn()
+    ensures within { (t : Translation) → Valid t → pending_pages t.ledger + t.claims ≤ t.numbers.slots }
+{}
+
 /// What a stop leaves is sound, suits the device, and stands for a prefix of the accepted commands that has each
-/// acknowledged one.
+/// acknowledged one and each durable one.
 pub fn a_stop_leaves_a_prefix()
     ensures within { (t : Translation) (c : Cells) → Valid t → CellCrash t.disk.cells t.disk.flights c → AreWithin t.numbers c }
     ensures sound { (t : Translation) (c : Cells) (m : Option Mark) →

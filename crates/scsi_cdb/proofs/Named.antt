@@ -1,9 +1,9 @@
 -- The command whose bytes they are is the one that their fields name, and what the fields name fits its ranges.
-use Rattle.std.proofs.Common.{◌≡◌, ◌<◌, ◌+◌, ◌*◌, ◌^◌, ◌==◌, ℕ, Bool, true, false, cond, nat_lt, List, ◌∷◌, ◌++◌, drop, replicate, slice_index, Option, Some, None, refl, sym, ap, ◌∙◌, subst, arith}
+use Rattle.std.proofs.Common.{◌≡◌, ◌<◌, ◌+◌, ◌^◌, ◌==◌, ℕ, Bool, true, false, cond, nat_lt, List, ◌∷◌, drop, replicate, slice_index, Option, Some, None, refl, sym, ap, ◌∙◌, subst, arith}
 use Rattle.std.proofs.lemmas.List.{get_or-drop}
-use Rattle.std.proofs.lemmas.Nat.{and_mask, and_le_r}
+use Rattle.std.proofs.lemmas.Nat.{and_le_r}
 use Rattle.byteorder.specs.Numbers.{big_from-lt, big_number-reads_back}
-use Rattle.byteorder.specs.Endian.{big_bytes, big_from}
+use Rattle.ufs_spec.proofs.CdbsBack.{forced_again, immediate_again, six_again, ten_again}
 use Rattle.ufs_spec.specs.Fields.{field_at}
 use Rattle.ufs_spec.specs.Cdbs.{cdb_bytes, forced_bit, immediate_bit, ten_bytes, read_6, write_6, read_10, write_10, synchronize_cache_10, IsCdb}
 use Rattle.ufs_spec.specs.declared.scsi.Cdb.{Cdb}
@@ -11,33 +11,6 @@ use Rattle.ufs_spec.specs.declared.scsi.Cdb.TheVariants.{TestUnitReady, RequestS
 use Rattle.scsi_cdb.specs.Reading.{HasSelection, Writes, is_forced, is_immediate, named_cdb, named_six, named_ten, named_twelve, six_address}
 
 -- ## What is read again from the bytes of a command
-
--- the lowest 21 bits of four bytes, the last three of which are an address of 21 bits
-six_again : (operation address : ℕ) (rest : List ℕ) → address < 2 ^ 21
-    → six_address (operation ∷ (big_bytes 3 address ++ rest)) ≡ address
-six_again operation address rest fits =
-    let bytes : List ℕ = operation ∷ (big_bytes 3 address ++ rest) in
-    let three : big_from 0 3 (big_bytes 3 address ++ rest) ≡ address = big_number-reads_back 3 address rest (omega arith) in
-    let four : field_at 4 0 bytes ≡ operation * 2 ^ 24 + address = ap (λ (n : ℕ). operation * 2 ^ 24 + n) three in
-    and_mask (field_at 4 0 bytes) 21 ∙ omega (arith, four)
-
--- FUA is told from its byte
-forced_again : (forced : Bool) (operation : ℕ) (rest : List ℕ) → is_forced (operation ∷ forced_bit forced ∷ rest) ≡ forced
-forced_again true operation rest = refl
-forced_again false operation rest = refl
-
--- IMMED is told from its byte
-immediate_again : (immediate : Bool) (operation : ℕ) (rest : List ℕ) → is_immediate (operation ∷ immediate_bit immediate ∷ rest) ≡ immediate
-immediate_again true operation rest = refl
-immediate_again false operation rest = refl
-
--- the address and the blocks of ten bytes
-ten_again : {X : Type 0} (make : ℕ → ℕ → X) (operation options address blocks : ℕ) → address < 2 ^ 32 → blocks < 2 ^ 16
-    → make (field_at 4 2 (ten_bytes operation options address blocks)) (field_at 2 7 (ten_bytes operation options address blocks)) ≡ make address blocks
-ten_again make operation options address blocks fits_address fits_blocks =
-    let bytes : List ℕ = ten_bytes operation options address blocks in
-    ap (λ (n : ℕ). make n (field_at 2 7 bytes)) (big_number-reads_back 4 address (drop 6 bytes) fits_address)
-    ∙ ap (make address) (big_number-reads_back 2 blocks (replicate 7 0) fits_blocks)
 
 -- the command that a command's bytes name is that command
 pub again : (cdb : Cdb) → IsCdb cdb → named_cdb (cdb_bytes cdb) ≡ Some cdb

@@ -6,14 +6,15 @@ use Rattle.std.specs.Prelude.{Ok}
 use Rattle.ufs_spec.specs.Cells.{Array}
 use Rattle.ufs_spec.specs.Commands.{Command}
 use Rattle.ufs_spec.specs.Disk.{Erasing, Flight, ForNobody, ForRest, ForStep, ForTask, Programming, Reader, Reading}
-use Rattle.ufs_spec.specs.Exchanges.{Answering, Awaiting, Deed, ForFrames, ForUnmap, ForWrite, Gathering, Purpose, ReadState, NotRead, Registers, Sending, Short, Status, Task, WasRead, is_short_of, is_task_of, short_reply, task_of, with_deed}
-use Rattle.ufs_spec.specs.Keys.{below}
-use Rattle.ufs_spec.specs.Machine.{Answer, Ask, Call, Faulty, Finish, Finishes, Give, Gives, Heard, Hears, Host, Replies, Spelled, Step, Steps, abort_moves, accepts, array_behind, behind, begun, begun_with, blocks_expected, claimed_by, command_heard, complete, data_for, data_heard, deed_behind, ends_with, heard, hears, is_aborted, is_durable, kept_at, lock_told, managed, moves_behind, observe, opened_with, read_begun, reader_told, registers_behind, replied, replied_by, set_deed, short_locked, short_replied, tag_in, task_behind, task_locked, task_read, tells, with_moves, with_short, with_task, without_tasks, write_begun, write_complete}
+use Rattle.ufs_spec.specs.Exchanges.{Answering, Awaiting, Deed, ForFrames, ForUnmap, ForWrite, Gathering, Purpose, ReadState, NotRead, Registers, Sending, Short, Status, Task, WasRead, filled, is_short_of, is_task_of, short_reply, task_of, with_deed}
+use Rattle.ufs_spec.specs.Keys.{below, data_key}
+use Rattle.ufs_spec.specs.Machine.{Answer, Ask, Call, Faulty, Finish, Finishes, Give, Gives, Heard, Hears, Host, Replies, Spelled, Step, Steps, abort_moves, accepts, array_behind, behind, begun, begun_with, blocks_expected, claimed_by, command_heard, complete, data_for, data_heard, deed_behind, ends_with, fill_moves, fills, heard, hears, is_aborted, is_to_fill, is_durable, kept_at, lock_told, managed, moves_behind, observe, opened_with, read_begun, reader_told, registers_behind, replied, replied_by, set_deed, short_locked, short_replied, tag_in, task_behind, task_filled, task_locked, task_read, tells, with_moves, with_short, with_task, without_tasks, write_begun, write_complete}
 use Rattle.ufs_spec.specs.Moves.{Accept, Claim, End, Ending, Keep, LetGo, LetGoAll, Move, ReadRight, ReadWrong, Release, Take, Tell, Turn, WantPage, WentWell, WentWrong, moved}
 use Rattle.ufs_spec.specs.Stages.{manages_tasks, most_tasks}
 use Rattle.ufs_spec.specs.Steps.{Request, State, locked, plain_now, refusal}
 use Rattle.ufs_spec.specs.Keys.{group_of}
 use Rattle.ufs_spec.specs.Translation.{Pin, Translation}
+use Rattle.ufs_spec.specs.declared.flash.Key.{Key}
 use Rattle.ufs_spec.specs.declared.messages.Message.{Message}
 use Rattle.ufs_spec.specs.declared.messages.Message.TheVariants as message
 use Rattle.ufs_spec.specs.declared.scsi.Cdb.{Cdb}
@@ -65,7 +66,7 @@ IsSmallMove Turn = ⊥
 IsSmallMove (Accept claimed g rests) = ⊥
 IsSmallMove move = Unit {0}
 
--- it is the same task, whatever it does
+-- it is the same task, whatever it does and whatever its request has filled
 pub record SameTask (task other : Task) : Type 0 where
   pub lun : other.lun ≡ task.lun
   pub tag : other.tag ≡ task.tag
@@ -116,7 +117,7 @@ pub small_quiet : (move : Move) → IsSmallMove move → IsQuiet move
 small_quiet (Claim count) is = tt
 small_quiet (Release count) is = tt
 small_quiet (Tell count) is = tt
-small_quiet (Keep pin) is = tt
+small_quiet (Keep key pin) is = tt
 small_quiet (WantPage tag index) is = tt
 small_quiet (LetGo tag index) is = tt
 small_quiet (LetGoAll tag) is = tt
@@ -156,7 +157,7 @@ one_move move is = One (Moves move) is
 -- Tasks
 
 opens : {s : State} (r : Request) (c : Option Cdb) (n : ℕ) (deed : Deed) → Small s (with_task s r c n deed)
-opens r c n deed = One (Opens (record { lun = r.lun; tag = r.tag; expected = r.expected; command = c; length = n; deed = deed })) tt
+opens r c n deed = One (Opens (record { lun = r.lun; tag = r.tag; expected = r.expected; command = c; length = n; deed = deed; request = None })) tt
 
 pub does : (tag : ℕ) (deed : Deed) (task : Task) → SameTask task (with_deed tag deed task)
 does tag deed task = by (is_task_of tag task)
@@ -173,13 +174,13 @@ short tag reply = One (OpensShort (short_reply tag reply)) tt
 
 -- Commands
 
-keeps_small : (s : State) (f : ℕ → Pin) (xs : List ℕ) → Small s (with_moves s (map (λ i. Keep (f i)) xs))
-keeps_small s f [] = Still
-keeps_small s f (x ∷ xs) = Both (one_move (Keep (f x)) tt) (keeps_small (with_moves s (Keep (f x) ∷ [])) f xs)
+keeps_small : (s : State) (k : ℕ → Key) (f : ℕ → Pin) (xs : List ℕ) → Small s (with_moves s (map (λ i. Keep (k i) (f i)) xs))
+keeps_small s k f [] = Still
+keeps_small s k f (x ∷ xs) = Both (one_move (Keep (k x) (f x)) tt) (keeps_small (with_moves s (Keep (k x) (f x) ∷ [])) k f xs)
 
 read_small : (s : State) (r : Request) (command : Cdb) (unit address n : ℕ) → Small s (read_begun s r command unit address n)
 read_small s r command unit address n =
-    Both (keeps_small s (kept_at s r.tag unit address) (below (blocks_expected r n))) (opens r (Some command) n _)
+    Both (keeps_small s (λ i. data_key unit (address + i)) (kept_at s r.tag unit address) (below (blocks_expected r n))) (opens r (Some command) n _)
 
 write_small : (s : State) (r : Request) (command : Cdb) (unit address blocks : ℕ) (forced : Bool) → Small s (write_begun s r command unit address blocks forced)
 write_small s r command unit address blocks forced =
@@ -293,6 +294,28 @@ lock_small s = small_if (locked s)
     (One (MapsShorts (short_locked s)) (lock_short s)))
     Still
 
+-- Requests that fill a register
+
+pub fills_task : (s : State) (task : Task) → SameTask task (task_filled s task)
+fills_task s task = by (is_to_fill s task)
+  where
+    by : (b : Bool) → SameTask task (if b then record task { request = filled task.request } else task)
+    by true = record { lun = refl; tag = refl; expected = refl; command = refl; length = refl }
+    by false = record { lun = refl; tag = refl; expected = refl; command = refl; length = refl }
+
+fill_moves_small : (s : State) (tasks : List Task) → Small s (with_moves s (fill_moves tasks))
+fill_moves_small s [] = Still
+fill_moves_small s (task ∷ tasks) = Both (one_move (LetGoAll task.tag) tt) (fill_moves_small (with_moves s (LetGoAll task.tag ∷ [])) tasks)
+
+pub fills_small : (s : State) → Small s (fills s)
+fills_small s =
+    Both (fill_moves_small s (filter (is_to_fill s) s.tasks))
+    (Both (One (Maps (task_filled s)) (fills_task s)) (One (SetsRegisters (fills s).registers) tt))
+
+-- and then the lock is told
+pub settled_small : (s : State) → Small s (lock_told (fills s))
+settled_small s = Both (fills_small s) (lock_small (fills s))
+
 -- The ends of jobs
 
 pub reads : (tag index : ℕ) (state : ReadState) (task : Task) → SameTask task (task_read tag index state task)
@@ -347,4 +370,4 @@ behind_call s call answer = Still
 
 -- behind what it does first, each call makes small changes alone
 pub observed : (s : State) (call : Call) (answer : Answer) → Small (first s call answer) (observe s call answer)
-observed s call answer = Both (behind_call s call answer) (lock_small (behind s call answer))
+observed s call answer = Both (behind_call s call answer) (settled_small (behind s call answer))

@@ -19,6 +19,26 @@ dec_and (yes p) (yes q) = yes (p, q)
 dec_and (yes p) (no n) = no (λ h. n h.1)
 dec_and (no n) d = no (λ h. n h.0)
 
+pub dec_three : {P Q R : Type 0} → Dec P → Dec Q → Dec R → Dec (P × Q × R)
+dec_three p q r =
+    map_dec (λ h. (h.0, h.1.0, h.1.1)) (λ h. (h.0, (h.1, h.2))) (dec_and p (dec_and q r))
+
+pub dec_four : {P Q R S : Type 0} → Dec P → Dec Q → Dec R → Dec S → Dec (P × Q × R × S)
+dec_four p q r s =
+    map_dec (λ h. (h.0, h.1.0, h.1.1, h.1.2)) (λ h. (h.0, (h.1, h.2, h.3))) (dec_and p (dec_three q r s))
+
+pub dec_five : {P Q R S T : Type 0} → Dec P → Dec Q → Dec R → Dec S → Dec T → Dec (P × Q × R × S × T)
+dec_five p q r s t =
+    map_dec (λ h. (h.0, h.1.0, h.1.1, h.1.2, h.1.3)) (λ h. (h.0, (h.1, h.2, h.3, h.4))) (dec_and p (dec_four q r s t))
+
+pub dec_six : {P Q R S T U : Type 0} → Dec P → Dec Q → Dec R → Dec S → Dec T → Dec U → Dec (P × Q × R × S × T × U)
+dec_six p q r s t u =
+    map_dec (λ h. (h.0, h.1.0, h.1.1, h.1.2, h.1.3, h.1.4)) (λ h. (h.0, (h.1, h.2, h.3, h.4, h.5))) (dec_and p (dec_five q r s t u))
+
+pub dec_seven : {P Q R S T U V : Type 0} → Dec P → Dec Q → Dec R → Dec S → Dec T → Dec U → Dec V → Dec (P × Q × R × S × T × U × V)
+dec_seven p q r s t u v =
+    map_dec (λ h. (h.0, h.1.0, h.1.1, h.1.2, h.1.3, h.1.4, h.1.5)) (λ h. (h.0, (h.1, h.2, h.3, h.4, h.5, h.6))) (dec_and p (dec_six q r s t u v))
+
 pub dec_implies : {P Q : Type 0} → Dec P → Dec Q → Dec (P → Q)
 dec_implies (yes p) (yes q) = yes (λ _. q)
 dec_implies (yes p) (no n) = no (λ h. n (h p))

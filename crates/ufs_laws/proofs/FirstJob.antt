@@ -2,6 +2,8 @@
 use Rattle.std.proofs.Common.{◌≡◌, ℕ, zero, suc, ◌+◌, ◌<◌, ◌≤◌, Bool, true, false, cond, List, [], ◌∷◌, ◌++◌, find, filter_map, map, Option, Some, None, refl, sym, ap, ◌∙◌, subst, lt-ltb, true≢false, ⊎_elim, arith}
 use Rattle.std.specs.List.{list_any}
 use Rattle.ufs_laws.proofs.Flying.{told_layer}
+use Rattle.ufs_laws.proofs.Settled.{settled_is}
+use Rattle.ufs_laws.specs.Requests.{HaveNoRequest}
 use Rattle.ufs_laws.proofs.Homes.{spot_at}
 use Rattle.ufs_laws.proofs.Jobs.{found_here}
 use Rattle.ufs_laws.proofs.FirstLife.{none_there, opened_first_mark}
@@ -117,7 +119,8 @@ first_job n array bad s blank h good there within right =
     let u = h.translation in
     let turn = opened_first_mark n array bad s blank h in
     let none = none_there n array bad s blank h in
-    let reached : (observe s Step (Steps true)).translation ≡ mark_ordered t turn.0 = told_layer (with_moves s (Turn ∷ [])) ∙ turn.1 in
+    let reached : (observe s Step (Steps true)).translation ≡ mark_ordered t turn.0 =
+    ap (λ (v : State). v.translation) (settled_is (with_moves s (Turn ∷ [])) (subst HaveNoRequest (sym h.no_tasks) tt)) ∙ told_layer (with_moves s (Turn ∷ [])) ∙ turn.1 in
     let dies : good.die < t.numbers.dies = subst (λ (m : Numbers). good.die < m.dies) (sym u.numbers) there in
     let blocks : good.block < t.numbers.blocks = subst (λ (m : Numbers). good.block < m.blocks) (sym u.numbers) within in
     subst

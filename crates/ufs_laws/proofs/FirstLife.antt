@@ -62,7 +62,6 @@ first_layer n bad =
 abbrev first_state : Numbers → Array → (Spot → Bool) → State
 first_state n array bad =
     record {
-      start = array;
       array = array;
       base = zero_state n;
       accepted = [];
@@ -144,7 +143,6 @@ pub opens_new : (n : Numbers) (array : Array) (bad : Spot → Bool) → AllBlank
 opens_new n array bad blank = (
   first_state n array bad,
   record {
-    start = refl;
     array_now = refl;
     cells = empty;
     shown = shows_nothing array blank;

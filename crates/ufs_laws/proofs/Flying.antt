@@ -1,10 +1,13 @@
 -- What a job's beginning and its end make of the jobs in flight.
-use Rattle.std.proofs.Common.{◌≡◌, ◌≢◌, ℕ, Bool, true, false, cond, map, Option, Some, None, refl, sym, ap, ◌∙◌, subst, eq-eqb, ne_eqb, true≢false}
+use Rattle.std.proofs.Common.{◌≡◌, ◌≢◌, ℕ, Bool, true, false, cond, List, [], ◌∷◌, map, Option, Some, None, option_map, refl, sym, ap, ◌∙◌, subst, eq-eqb, ne_eqb, true≢false}
+use Rattle.std.proofs.lemmas.Option.{none-some}
+use Rattle.ufs_laws.proofs.Settled.{settled_is, settled_jobs}
 use Rattle.ufs_laws.specs.Flights.{die_of_flight}
+use Rattle.ufs_laws.specs.Requests.{HaveNoRequest}
 use Rattle.ufs_spec.specs.Cells.{Array, Cell, Cells, GroupPage, MarkPage, Nothing}
-use Rattle.ufs_spec.specs.Disk.{Disk, Flight, Erasing, ForNobody, ForRest, ForStep, ForTask, Programming, Reader, Reading, at_die, program_failed}
-use Rattle.ufs_spec.specs.Exchanges.{NotRead, ReadState, WasRead}
-use Rattle.ufs_spec.specs.Machine.{Allowed, reader_told, Finish, Finishes, Give, Gives, ends_with, fits, given as given_job, lock_told, observe, short_locked, task_locked, told_behind}
+use Rattle.ufs_spec.specs.Disk.{Disk, Flight, Erasing, ForNobody, ForRest, ForStep, ForTask, Programming, Reader, Reading, at_die, job_of, program_failed}
+use Rattle.ufs_spec.specs.Exchanges.{NotRead, ReadState, Task, WasRead, is_task_of}
+use Rattle.ufs_spec.specs.Machine.{Allowed, reader_told, Finish, Finishes, Give, Gives, deed_read, ends_with, fills, fits, given as given_job, lock_told, observe, short_locked, task_locked, task_read, told_behind}
 use Rattle.ufs_spec.specs.Moves.{end_flight, Ending, ReadRight, ReadWrong, WentWell, WentWrong, cell_failed, cell_written, freed, job_ended, mark_again, read_right, read_wrong}
 use Rattle.ufs_spec.specs.Steps.{State, locked}
 use Rattle.ufs_spec.specs.Translation.{Plan, Translation, has_mark_number, mark_ordered}
@@ -27,19 +30,27 @@ told_layer s = by (locked s)
     by true = refl
     by false = refl
 
-told_flight : (s : State) (die : ℕ) → (lock_told s).translation.disk.flights die ≡ s.translation.disk.flights die
-told_flight s die = ap (λ (t : Translation). t.disk.flights die) (told_layer s)
+pub own_job : (s : State) (die : ℕ) (flight : Flight) → option_map job_of ((observe s (Give die) (Gives (Some flight))).translation.disk.flights die) ≡ Some (job_of flight)
+own_job s die flight = settled_jobs (given_job s die (Some flight)) die ∙ ap (option_map job_of) (at_its_die s.translation.disk.flights die (Some flight))
 
-pub own_flight : (s : State) (die : ℕ) (flight : Flight) → (observe s (Give die) (Gives (Some flight))).translation.disk.flights die ≡ Some flight
-own_flight s die flight = told_flight (given_job s die (Some flight)) die ∙ at_its_die s.translation.disk.flights die (Some flight)
+pub other_job : (s : State) (die : ℕ) (flight : Flight) (other : ℕ) → other ≢ die
+    → option_map job_of ((observe s (Give die) (Gives (Some flight))).translation.disk.flights other) ≡ option_map job_of (s.translation.disk.flights other)
+other_job s die flight other differ =
+    settled_jobs (given_job s die (Some flight)) other ∙ ap (option_map job_of) (at_other s.translation.disk.flights die (Some flight) other differ)
 
-pub other_flight : (s : State) (die : ℕ) (flight : Flight) (other : ℕ) → other ≢ die
-    → (observe s (Give die) (Gives (Some flight))).translation.disk.flights other ≡ s.translation.disk.flights other
-other_flight s die flight other differ =
-    told_flight (given_job s die (Some flight)) other ∙ at_other s.translation.disk.flights die (Some flight) other differ
+pub same_jobs : (s : State) (die other : ℕ) → option_map job_of ((observe s (Give die) (Gives None)).translation.disk.flights other) ≡ option_map job_of (s.translation.disk.flights other)
+same_jobs s die other = settled_jobs s other
 
-pub same_flights : (s : State) (die other : ℕ) → (observe s (Give die) (Gives None)).translation.disk.flights other ≡ s.translation.disk.flights other
-same_flights s die other = told_flight s other
+-- where no task has a request, for whom a read is stays as well
+settled_flights : (s : State) → HaveNoRequest s.tasks → (lock_told (fills s)).translation.disk.flights ≡ s.translation.disk.flights
+settled_flights s none = ap (λ (u : State). u.translation.disk.flights) (settled_is s none) ∙ ap (λ (t : Translation). t.disk.flights) (told_layer s)
+
+pub given_flights : (s : State) (die : ℕ) (flight : Flight) → HaveNoRequest s.tasks
+    → (observe s (Give die) (Gives (Some flight))).translation.disk.flights ≡ at_die s.translation.disk.flights die (Some flight)
+given_flights s die flight none = settled_flights (given_job s die (Some flight)) none
+
+pub same_flights : (s : State) (die : ℕ) → HaveNoRequest s.tasks → (observe s (Give die) (Gives None)).translation.disk.flights ≡ s.translation.disk.flights
+same_flights s die none = settled_flights s none
 
 -- A job's end
 
@@ -97,15 +108,14 @@ behind_keeps s (Reading reader place) ReadRight = told_keeps s reader WasRead
 behind_keeps s (Reading reader place) ReadWrong = told_keeps s reader NotRead
 behind_keeps s flight ending = refl
 
--- the jobs behind the end of one that the die has
-pub jobs_behind : (s : State) (die : ℕ) (flight : Flight) (ending : Ending) (left : Array) → s.translation.disk.flights die ≡ Some flight
+-- the jobs where one ended that the die has
+pub jobs_left : (s : State) (die : ℕ) (flight : Flight) (ending : Ending) (left : Array) → s.translation.disk.flights die ≡ Some flight
     → die_of_flight flight ≡ die → Allowed s (Finish die ending left) (Finishes true)
-    → (observe s (Finish die ending left) (Finishes true)).translation.disk.flights ≡ at_die s.translation.disk.flights die None
-jobs_behind s die flight ending left e here right =
+    → (ends_with s die (s.translation.disk.flights die) ending left).translation.disk.flights ≡ at_die s.translation.disk.flights die None
+jobs_left s die flight ending left e here right =
     let t = s.translation in
     let fit : fits (Some flight) ending ≡ true = ap (λ (o : Option Flight). fits o ending) (sym e) ∙ sym right in
-    ap (λ (u : Translation). u.disk.flights) (told_layer (ends_with s die (t.disk.flights die) ending left))
-    ∙ ap (λ (o : Option Flight). (ends_with s die o ending left).translation.disk.flights) e
+    ap (λ (o : Option Flight). (ends_with s die o ending left).translation.disk.flights) e
     ∙ ap (λ (u : Translation). (end_flight u die (u.disk.flights die) ending).disk.flights) (behind_keeps s flight ending)
     ∙ ap (λ (o : Option Flight). (end_flight t die o ending).disk.flights) e
     ∙ end_frees t die flight ending here fit
@@ -114,10 +124,48 @@ pub ended_flight : (s : State) (die : ℕ) (flight : Flight) (ending : Ending) (
     → die_of_flight flight ≡ die → Allowed s (Finish die ending left) (Finishes true)
     → (observe s (Finish die ending left) (Finishes true)).translation.disk.flights die ≡ None
 ended_flight s die flight ending left e here right =
-    ap (λ (f : ℕ → Option Flight). f die) (jobs_behind s die flight ending left e here right) ∙ at_its_die s.translation.disk.flights die None
+    no_job _
+    (settled_jobs (ends_with s die (s.translation.disk.flights die) ending left) die
+    ∙ ap (λ (f : ℕ → Option Flight). option_map job_of (f die)) (jobs_left s die flight ending left e here right)
+    ∙ ap (option_map job_of) (at_its_die s.translation.disk.flights die None))
+  where
+    no_job : (o : Option Flight) → option_map job_of o ≡ None → o ≡ None
+    no_job None h = refl
+    no_job (Some f) h = absurd (none-some _ (sym h))
 
 pub ended_others : (s : State) (die : ℕ) (flight : Flight) (ending : Ending) (left : Array) → s.translation.disk.flights die ≡ Some flight
     → die_of_flight flight ≡ die → Allowed s (Finish die ending left) (Finishes true) → (other : ℕ) → other ≢ die
-    → (observe s (Finish die ending left) (Finishes true)).translation.disk.flights other ≡ s.translation.disk.flights other
+    → option_map job_of ((observe s (Finish die ending left) (Finishes true)).translation.disk.flights other) ≡ option_map job_of (s.translation.disk.flights other)
 ended_others s die flight ending left e here right other differ =
-    ap (λ (f : ℕ → Option Flight). f other) (jobs_behind s die flight ending left e here right) ∙ at_other s.translation.disk.flights die None other differ
+    settled_jobs (ends_with s die (s.translation.disk.flights die) ending left) other
+    ∙ ap (λ (f : ℕ → Option Flight). option_map job_of (f other)) (jobs_left s die flight ending left e here right)
+    ∙ ap (option_map job_of) (at_other s.translation.disk.flights die None other differ)
+
+-- a job's end changes no request
+read_requests : (tag index : ℕ) (read : ReadState) (tasks : List Task) → HaveNoRequest tasks → HaveNoRequest (map (task_read tag index read) tasks)
+read_requests tag index read [] h = tt
+read_requests tag index read (t ∷ ts) h = (by (is_task_of tag t) h.0, read_requests tag index read ts h.1)
+  where
+    by : (b : Bool) → t.request ≡ None → (cond b (record t { deed = deed_read index read t.deed }) t).request ≡ None
+    by true none = none
+    by false none = none
+
+reader_requests : (s : State) (reader : Reader) (read : ReadState) → HaveNoRequest s.tasks → HaveNoRequest (reader_told s reader read).tasks
+reader_requests s (ForTask tag index) read none = read_requests tag index read s.tasks none
+reader_requests s reader read none = none
+
+told_behind_requests : (s : State) (flight : Flight) (ending : Ending) → HaveNoRequest s.tasks → HaveNoRequest (told_behind s flight ending).tasks
+told_behind_requests s (Reading reader place) ReadRight none = reader_requests s reader WasRead none
+told_behind_requests s (Reading reader place) ReadWrong none = reader_requests s reader NotRead none
+told_behind_requests s flight ending none = none
+
+ends_requests : (s : State) (die : ℕ) (o : Option Flight) (ending : Ending) (left : Array) → HaveNoRequest s.tasks → HaveNoRequest (ends_with s die o ending left).tasks
+ends_requests s die None ending left none = none
+ends_requests s die (Some flight) ending left none = told_behind_requests s flight ending none
+
+pub jobs_behind : (s : State) (die : ℕ) (flight : Flight) (ending : Ending) (left : Array) → HaveNoRequest s.tasks → s.translation.disk.flights die ≡ Some flight
+    → die_of_flight flight ≡ die → Allowed s (Finish die ending left) (Finishes true)
+    → (observe s (Finish die ending left) (Finishes true)).translation.disk.flights ≡ at_die s.translation.disk.flights die None
+jobs_behind s die flight ending left none e here right =
+    settled_flights (ends_with s die (s.translation.disk.flights die) ending left) (ends_requests s die (s.translation.disk.flights die) ending left none)
+    ∙ jobs_left s die flight ending left e here right

@@ -1,10 +1,9 @@
 -- What is held once an answer is handed out.
-use Rattle.std.proofs.Common.{◌≡◌, ◌+◌, ℕ, Bool, true, false, if◌then◌else◌, List, length, max, Option, Some, refl, ap, subst, sym}
+use Rattle.std.proofs.Common.{◌≡◌, ◌+◌, ℕ, Bool, true, false, if◌then◌else◌, List, length, max, refl, ap, subst, sym}
 use Rattle.ufs_spec.specs.Commands as command
-use Rattle.ufs_spec.specs.Exchanges.{Answering, Awaiting, Deed, Task, write_error}
+use Rattle.ufs_spec.specs.Exchanges.{Awaiting, Deed, Task}
 use Rattle.ufs_spec.specs.Lives.{held}
 use Rattle.ufs_spec.specs.Machine.{accepts, blocks_in, deed_behind, moves_behind, set_deed, task_behind, task_replied, with_moves, write_complete}
-use Rattle.ufs_spec.specs.Moves.{Release}
 use Rattle.ufs_spec.specs.Steps.{State, locked}
 
 -- the first of two branches is not taken

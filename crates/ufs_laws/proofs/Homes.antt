@@ -1,34 +1,22 @@
 -- Each job that a die may be given lies on it.
 use Rattle.std.proofs.Common.{◌≡◌, ℕ, Bool, true, false, cond, List, [], ◌∷◌, map, filter, filter_map, find, Option, Some, None, option_map, refl, sym, ap, ◌∙◌, eqb-true}
 use Rattle.std.specs.List.{cons_option}
+use Rattle.std.proofs.lemmas.List.Elements.{All-contains, filter_passes}
 use Rattle.ufs_laws.proofs.Jobs.{found_here}
 use Rattle.ufs_laws.specs.Flights.{die_of_flight}
 use Rattle.ufs_spec.specs.Cells.{Cell}
 use Rattle.ufs_spec.specs.Disk.{BlockState, Bad, Closed, Filling, Free, Flight, Erasing, Programming, Reader, Reading, Spot}
 use Rattle.ufs_spec.specs.Keys.{below}
 use Rattle.ufs_spec.specs.Ledger.{Name}
-use Rattle.ufs_spec.specs.Translation.{MayTake, Translation, cell_now, first_of, flight_at, flight_for, is_at, is_of_die, may_be_erased, may_open, next_flight, next_in, next_place, waiting_name, waiting_step, want_at, wants}
+use Rattle.ufs_spec.specs.Translation.{MayTake, Translation, Want, cell_now, first_of, flight_at, flight_for, is_of_die, may_be_erased, may_open, next_flight, next_in, next_place, waiting_name, waiting_step, want_at, wants, wants_on}
 use Rattle.ufs_spec.specs.declared.flash.Place.{Place}
 
 -- Reads
 
--- what was found among those that pass a test passes it
-passes_first : {A : Type 0} (p q : A → Bool) (y : A) (ys : List A) (x : A) → (find p (filter q ys) ≡ Some x → q x ≡ true)
-    → (a b : Bool) → q y ≡ a → p y ≡ b → find p (cond a (y ∷ filter q ys) (filter q ys)) ≡ Some x → q x ≡ true
-passes_first p q y ys x rest false b fails e h = rest h
-passes_first {A} p q y ys x rest true true passes e h =
-    let found = found_here p y (filter q ys) e in
-    let same : y ≡ x = cc in
-    ap q (sym same) ∙ passes
-passes_first {A} p q y ys x rest true false passes e h =
-    rest (ap (λ (b : Bool). cond {A = Option A} b (Some y) (find p (filter q ys))) (sym e) ∙ h)
-
-found_passes : {A : Type 0} (p q : A → Bool) (xs : List A) (x : A) → find p (filter q xs) ≡ Some x → q x ≡ true
-found_passes p q [] x e = absurd (let no : None ≡ Some x = e in cc)
-found_passes p q (y ∷ ys) x e = passes_first p q y ys x (found_passes p q ys x) (q y) (p y) refl refl e
-
 read_here : (t : Translation) (die : ℕ) (reader : Reader) (place : Place) → MayTake t die (Some (Reading reader place)) → place.die ≡ die
-read_here t die reader place h = eqb-true place.die die (found_passes (is_at place) (is_of_die die) (wants t) (want_at reader place) h.1)
+read_here t die reader place h =
+    eqb-true place.die die
+    (All-contains (λ (w : Want). is_of_die die w ≡ true) (wants_on t die) (want_at reader place) (filter_passes (is_of_die die) (wants t)) h.1)
 
 -- Programs
 

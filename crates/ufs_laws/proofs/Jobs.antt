@@ -1,9 +1,9 @@
 -- Jobs that dies may be given: one is there or none is owed, where it lies, and when it is one.
-use Rattle.std.proofs.Common.{◌≡◌, ◌⊎◌, ℕ, ◌<◌, ◌&&◌, Bool, true, false, cond, List, [], ◌∷◌, find, nat_lt, is_none, Option, Some, None, option_map, refl, sym, ap, ◌∙◌, inl, inr, eq-eqb, ltb-true, true≢false}
+use Rattle.std.proofs.Common.{◌≡◌, ◌⊎◌, ℕ, ◌<◌, ◌&&◌, Bool, true, false, cond, List, [], ◌∷◌, Contains, find, nat_lt, is_none, Option, Some, None, option_map, refl, sym, ap, ◌∙◌, subst, inl, inr, arith, ltb-true, true≢false}
 use Rattle.ufs_spec.specs.Cells.{Cell}
 use Rattle.ufs_spec.specs.Ledger.{Name}
 use Rattle.ufs_spec.specs.Disk.{Flight, Erasing, Programming, Reader, Reading, Spot}
-use Rattle.ufs_spec.specs.Translation.{IsOwed, MayTake, Translation, Want, flight_at, flight_for, is_at, is_idle, next_flight, want_at, wants_on}
+use Rattle.ufs_spec.specs.Translation.{IsOwed, MayTake, Translation, Want, flight_at, flight_for, is_idle, next_flight, want_at, wants_on}
 use Rattle.ufs_spec.specs.declared.flash.Place.{Place}
 
 -- Tests
@@ -16,13 +16,8 @@ both false b e = absurd (true≢false (sym e))
 pub found_here : {A : Type 0} (test : A → Bool) (x : A) (xs : List A) → test x ≡ true → find test (x ∷ xs) ≡ Some x
 found_here {A} test x xs e = ap (λ (b : Bool). cond {A = Option A} b (Some x) (find test xs)) e
 
--- a want is at its own place
-at_itself : (want : Want) → is_at want.place want ≡ true
-at_itself want =
-    let die = eq-eqb want.place.die want.place.die refl in
-    let block = eq-eqb want.place.block want.place.block refl in
-    let page = eq-eqb want.place.page want.place.page refl in
-    rw (die, block, page) refl
+pub nothing_inside : {A : Type 0} (x : A) → Contains [] x → ⊥
+nothing_inside x h = let short = h.1 in omega (arith, short)
 
 -- No read is among the jobs behind the reads
 
@@ -66,7 +61,7 @@ owed t die (Erasing spot) none next = (none, next)
 
 -- the first read that is owed
 read_owed : (t : Translation) (die : ℕ) (want : Want) (more : List Want) → wants_on t die ≡ want ∷ more → IsOwed t die (Reading want.reader want.place)
-read_owed t die want more e = ap (find (is_at want.place)) e ∙ found_here (is_at want.place) want more (at_itself want)
+read_owed t die want more e = subst (λ (ws : List Want). Contains ws want) (sym e) (0, omega arith, refl)
 
 given_idle : (t : Translation) (die : ℕ) → is_idle t die ≡ true → (ws : List Want) → wants_on t die ≡ ws
     → (o : Option Flight) → next_flight t die ≡ o → Given t die
@@ -85,7 +80,7 @@ given t die = given_as t die (is_idle t die) refl
 -- Not both
 
 none_found : (t : Translation) (die : ℕ) (reader : Reader) (place : Place) → wants_on t die ≡ [] → IsOwed t die (Reading reader place) → ⊥
-none_found t die reader place none e = let same : None ≡ Some (want_at reader place) = sym (ap (find (is_at place)) none) ∙ e in cc
+none_found t die reader place none h = nothing_inside (want_at reader place) (subst (λ (ws : List Want). Contains ws (want_at reader place)) none h)
 
 -- where no read is owed, what is owed is the next flight
 is_next : (t : Translation) (die : ℕ) (flight : Flight) → wants_on t die ≡ [] → IsOwed t die flight → next_flight t die ≡ Some flight

@@ -1,3 +1,4 @@
+pub mod AllHeard
 pub mod Answered
 pub mod Blank
 pub mod Bodies
@@ -14,9 +15,11 @@ pub mod Groups
 pub mod HeardOnce
 pub mod HeldFacts
 pub mod HeldGrows
+pub mod HeldLives
 pub mod Homes
 pub mod Jobs
 pub mod Joined
+pub mod KnownTasks
 pub mod Listed
 pub mod MarkBodies
 pub mod NewDevice
@@ -38,9 +41,12 @@ pub mod Said
 pub mod Sealing
 pub mod Search
 pub mod Settings
+pub mod Settled
 pub mod SomeCell
+pub mod SpokenCalls
 pub mod Stands
 pub mod States
 pub mod Staying
+pub mod TaskWalk
 pub mod Turned
 pub mod Whole

@@ -21,7 +21,6 @@ use Rattle.ufs_spec.specs.declared.flash.Tag.{Tag}
 
 -- what a life begins with that the numbers do not say
 pub record Open : Type 0 where
-  pub start : Array
   pub array : Array
   pub base : Plain
   pub contents : Contents
@@ -29,7 +28,6 @@ pub record Open : Type 0 where
 
 abbrev pub open_in : State → Open
 open_in s = record {
-  start = s.start;
   array = s.array;
   base = s.base;
   contents = s.translation.ledger.base;
@@ -69,7 +67,6 @@ new_translation o = record { numbers = row; disk = new_disk; ledger = new_ledger
 
 abbrev pub new_state : Open → State
 new_state o = record {
-  start = o.start;
   array = o.array;
   base = o.base;
   accepted = [];
@@ -233,7 +230,6 @@ module _ (s : State) (n : IsNew s) where
   state_is i =
       let o = n.opened in
       record {
-        start = s.start;
         array = s.array;
         base = s.base;
         accepted = o.none_accepted i;

@@ -27,7 +27,6 @@ none_bad b = false
 -- what is left open: the array is blank, the base zero, and no key has a page
 new_open : Open
 new_open = record {
-  start = λ p. blank_page;
   array = λ p. blank_page;
   base = zero row;
   contents = content (zero row);
@@ -126,7 +125,6 @@ new_opens = (
     blank = λ p. refl;
     none_bad = λ b. refl;
     opened = record {
-      start = refl;
       array_now = refl;
       cells = empty;
       shown = λ p. nothing_is_blank;

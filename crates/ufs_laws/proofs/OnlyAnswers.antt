@@ -1,5 +1,6 @@
 -- When an answer is right and no other one is.
-use Rattle.std.proofs.Common.{◌≡◌, ℕ, zero, suc, Bool, true, false, [], ◌∷◌, find, slice_get, if◌then◌else◌, Option, Some, None, Result, refl, sym, ap, ◌∙◌, subst, inl, inr, ⊎_elim}
+use Rattle.std.proofs.Common.{◌≡◌, ℕ, zero, suc, Bool, true, false, List, [], ◌∷◌, Contains, find, slice_get, if◌then◌else◌, Option, Some, None, Result, refl, sym, ap, ◌∙◌, subst, inl, inr, ⊎_elim, arith}
+use Rattle.ufs_laws.proofs.Jobs.{nothing_inside}
 use Rattle.ufs_laws.specs.Runs.{Gets}
 use Rattle.ufs_spec.specs.Disk.{Erasing, Flight, Programming, Reading}
 use Rattle.ufs_spec.specs.Exchanges.{Task}
@@ -7,7 +8,7 @@ use Rattle.ufs_spec.specs.Machine.{Allowed, Answer, Ask, Due, Finish, Finishes, 
 use Rattle.ufs_spec.specs.Cells.{Array}
 use Rattle.ufs_spec.specs.Moves.{Ending}
 use Rattle.ufs_spec.specs.Steps.{State}
-use Rattle.ufs_spec.specs.Translation.{IsOwed, MayTake, Want, is_at, is_idle, is_step_due, next_flight, want_at, wants_on}
+use Rattle.ufs_spec.specs.Translation.{IsOwed, MayTake, Want, is_idle, is_step_due, next_flight, want_at, wants_on}
 use Rattle.ufs_spec.specs.declared.faults.HostFault.{HostFault}
 use Rattle.ufs_spec.specs.declared.flash.Place.{Place}
 use Rattle.ufs_spec.specs.declared.messages.Message.{Message}
@@ -60,11 +61,11 @@ pub busy_gets : (s : State) (die : ℕ) → is_idle s.translation die ≡ false 
 busy_gets s die e = record { right = inl e; only = only_busy s die e }
 
 -- where no read is owed, the next program or erase
-none_found : (s : State) (die : ℕ) (place : Place) (want : Want) → wants_on s.translation die ≡ [] → find (is_at place) (wants_on s.translation die) ≡ Some want → ⊥
-none_found s die place want none e = (let h : None ≡ Some want = sym (ap (find (is_at place)) none) ∙ e in cc)
+none_found : (s : State) (die : ℕ) (want : Want) → wants_on s.translation die ≡ [] → Contains (wants_on s.translation die) want → ⊥
+none_found s die want none h = nothing_inside want (subst (λ (ws : List Want). Contains ws want) none h)
 
 one_flight : (s : State) (die : ℕ) (flight other : Flight) → wants_on s.translation die ≡ [] → next_flight s.translation die ≡ Some flight → IsOwed s.translation die other → Some other ≡ Some flight
-one_flight s die flight (Reading reader place) none e h = absurd (none_found s die place (want_at reader place) none h)
+one_flight s die flight (Reading reader place) none e h = absurd (none_found s die (want_at reader place) none h)
 one_flight s die flight (Programming place cell) none e h = sym h.1 ∙ e
 one_flight s die flight (Erasing spot) none e h = sym h.1 ∙ e
 
@@ -85,7 +86,7 @@ flight_gets s die flight right none e = record { right = right; only = only_flig
 
 -- where nothing is owed, none
 not_owed : (s : State) (die : ℕ) (flight : Flight) → wants_on s.translation die ≡ [] → next_flight s.translation die ≡ None → IsOwed s.translation die flight → ⊥
-not_owed s die (Reading reader place) none e h = none_found s die place (want_at reader place) none h
+not_owed s die (Reading reader place) none e h = none_found s die (want_at reader place) none h
 not_owed s die (Programming place cell) none e h = (let g : None ≡ Some (Programming place cell) = sym e ∙ h.1 in cc)
 not_owed s die (Erasing spot) none e h = (let g : None ≡ Some (Erasing spot) = sym e ∙ h.1 in cc)
 
@@ -101,16 +102,13 @@ pub no_flight_gets : (s : State) (die : ℕ) → wants_on s.translation die ≡ 
 no_flight_gets s die none e = record { right = inr (none, e); only = only_no_flight s die none e }
 
 -- where one read is owed, that read
-found_one : (p : Place) (a b : Want) → find (is_at p) (a ∷ []) ≡ Some b → b ≡ a
-found_one p a b e = by_test (is_at p a) e
-  where
-    by_test : (test : Bool) → (if test then Some a else None) ≡ Some b → b ≡ a
-    by_test true e = (let h : Some a ≡ Some b = e in cc)
-    by_test false e = (let h : None ≡ Some b = e in cc)
+found_one : (a b : Want) → Contains (a ∷ []) b → b ≡ a
+found_one a b (zero, short, e) = sym e
+found_one a b (suc k, short, e) = absurd (omega (arith, short))
 
 one_read : (s : State) (die : ℕ) (want : Want) (other : Flight) → wants_on s.translation die ≡ want ∷ [] → IsOwed s.translation die other → other ≡ Reading want.reader want.place
 one_read s die want (Reading reader place) one h =
-    let e : want_at reader place ≡ want = found_one place want (want_at reader place) (subst (λ ws. find (is_at place) ws ≡ Some (want_at reader place)) one h) in
+    let e : want_at reader place ≡ want = found_one want (want_at reader place) (subst (λ ws. Contains ws (want_at reader place)) one h) in
     ap (λ (w : Want). Reading w.reader w.place) e
 one_read s die want (Programming place cell) one h = absurd (let g : want ∷ [] ≡ [] = sym one ∙ h.0 in cc)
 one_read s die want (Erasing spot) one h = absurd (let g : want ∷ [] ≡ [] = sym one ∙ h.0 in cc)
@@ -127,9 +125,9 @@ only_read s die want idle one (Steps d) h = absurd h
 only_read s die want idle one (Finishes k) h = absurd h
 only_read s die want idle one (Replies r) h = absurd h
 
-pub read_gets : (s : State) (die : ℕ) (want : Want) → is_idle s.translation die ≡ true → wants_on s.translation die ≡ want ∷ [] → find (is_at want.place) (want ∷ []) ≡ Some want → Gets s (Give die) (Gives (Some (Reading want.reader want.place)))
-read_gets s die want idle one there = record {
-  right = (idle, subst (λ ws. find (is_at want.place) ws ≡ Some want) (sym one) there);
+pub read_gets : (s : State) (die : ℕ) (want : Want) → is_idle s.translation die ≡ true → wants_on s.translation die ≡ want ∷ [] → Gets s (Give die) (Gives (Some (Reading want.reader want.place)))
+read_gets s die want idle one = record {
+  right = (idle, subst (λ ws. Contains ws want) (sym one) (0, omega arith, refl));
   only = only_read s die want idle one;
 }
 

@@ -5,7 +5,7 @@ use Rattle.ufs_laws.proofs.OnlyAnswers.{host_gets, reply_gets}
 use Rattle.ufs_laws.specs.Runs.{Gets, IsAnswered, IsIdle, heard, read_of, refused, row}
 use Rattle.ufs_spec.specs.Cdbs.{Residual, cdb_bytes, read_10, residual_of}
 use Rattle.ufs_spec.specs.Exchanges.{Answering, Status, Task, check, invalid_field, invalid_operation, no_unit, out_of_range, response, response_message}
-use Rattle.ufs_spec.specs.Machine.{Ask, Heard, Host, Replies, Spelled, lock_told, observe, opened_with, short_locked, task_locked, with_task}
+use Rattle.ufs_spec.specs.Machine.{Ask, Heard, Host, Replies, Spelled, fills, lock_told, observe, opened_with, short_locked, task_locked, with_task}
 use Rattle.ufs_spec.specs.Steps.{Request, State, UnitOf, first_line, lacks_unit, line, lines_behind, locked, lun_of, not_taken, refusal}
 use Rattle.ufs_spec.specs.declared.messages.Message.{Message}
 use Rattle.ufs_spec.specs.declared.messages.Message.TheVariants as message
@@ -26,7 +26,7 @@ idle_is s h i =
 
 abbrev refused_task : Request → Status → Task
 refused_task r status =
-    record { lun = r.lun; tag = r.tag; expected = r.expected; command = None; length = 0; deed = Answering status 0 }
+    record { lun = r.lun; tag = r.tag; expected = r.expected; command = None; length = 0; deed = Answering status 0; request = None }
 
 -- a lock leaves a task that answers as it is
 told_tasks : (s : State) (r : Request) (status : Status) (b : Bool) → s.tasks ≡ refused_task r status ∷ []
@@ -57,7 +57,7 @@ behind_reply s r status =
 
 is_behind : (s : State) (r : Request) (status : Status) → refusal (idle_state s) r ≡ Some status
     → observe (idle_state s) (Host (heard_as r)) heard ≡ lock_told (behind s r status)
-is_behind s r status e = ap (λ o. lock_told (opened_with (idle_state s) r o)) e
+is_behind s r status e = ap (λ o. lock_told (fills (opened_with (idle_state s) r o))) e
 
 idle_answers : (s : State) (r : Request) (status : Status) → refusal (idle_state s) r ≡ Some status → IsAnswered (idle_state s) (heard_as r) (answer_of r status)
 idle_answers s r status e = record {

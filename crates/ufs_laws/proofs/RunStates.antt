@@ -14,7 +14,7 @@ use Rattle.ufs_spec.specs.Disk.{Disk, Flight, ForTask, Spot, at_die, at_place, b
 use Rattle.ufs_spec.specs.Exchanges.{Answering, Awaiting, Deed, ForWrite, Gathering, Good, Purpose, ReadState, Sending, Task, Unread, WasRead, data_message, is_asked_of}
 use Rattle.ufs_spec.specs.Keys.{Item, data_key}
 use Rattle.ufs_spec.specs.Ledger.{Ledger, Name, OnPage, at_name}
-use Rattle.ufs_spec.specs.Machine.{Ask, Host, Finishes, Give, Gives, Replies, Step, Steps, accepts, asked_fault, complete, gathered_more, in_block, lock_told, observe, result_of, set_deed}
+use Rattle.ufs_spec.specs.Machine.{Ask, Host, Finishes, Give, Gives, Replies, Step, Steps, accepts, asked_fault, complete, gathered_more, in_block, fills, lock_told, observe, result_of, set_deed}
 use Rattle.ufs_spec.specs.Moves.{ReadRight, WentWell}
 use Rattle.ufs_spec.specs.Plain.{Plain, apply, block_at, shape_of, shape_of_numbers, with_part}
 use Rattle.ufs_spec.specs.Steps.{State}
@@ -187,7 +187,7 @@ step_8 o = refl
 
 abbrev write_task : Deed → Task
 write_task deed =
-    record { lun = 0; tag = 7; expected = 4096; command = Some (cdb.Write10 0xFF 1 true); length = 4096; deed = deed }
+    record { lun = 0; tag = 7; expected = 4096; command = Some (cdb.Write10 0xFF 1 true); length = 4096; deed = deed; request = None }
 
 abbrev gathering_data : Bool → Deed
 gathering_data asked = Gathering (ForWrite 0 0xFF 1 true) [] asked
@@ -302,8 +302,8 @@ step_12 o body long shape =
     let s = gathering_state o true in
     let task = write_task (gathering_data true) in
     let purpose = ForWrite 0 0xFF 1 true in
-    ap lock_told (gathered_all s task purpose body (omega arith))
-    ∙ (ap (λ b. lock_told (set_deed (accepts s (command.Write 0 0xFF (b ∷ [])) 1) 7 (Awaiting 1))) (take_all 4096 body (omega arith))
+    ap (λ (t : State). lock_told (fills t)) (gathered_all s task purpose body (omega arith))
+    ∙ (ap (λ b. lock_told (fills (set_deed (accepts s (command.Write 0 0xFF (b ∷ [])) 1) 7 (Awaiting 1)))) (take_all 4096 body (omega arith))
     ∙ ap (pending_with o body) (block_written o.base body shape))
 
 pub gets_13 : (o : Open) (body : List ℕ) → Gets (pending o body) Ask (Replies None)
@@ -356,7 +356,7 @@ data_pin wanted = record { tag = 8; index = 0; looked = OnPage first_name (place
 
 abbrev read_task : Deed → Task
 read_task deed =
-    record { lun = 0; tag = 8; expected = 4096; command = Some (cdb.Read10 0xFF 1 false); length = 4096; deed = deed }
+    record { lun = 0; tag = 8; expected = 4096; command = Some (cdb.Read10 0xFF 1 false); length = 4096; deed = deed; request = None }
 
 abbrev sending_block : List ℕ → ReadState → Deed
 sending_block body state = Sending (record { body = body; state = state } ∷ []) 0
@@ -411,7 +411,7 @@ step_19 o body = refl
 
 pub gets_20 : (o : Open) (body : List ℕ) → Gets (reading o body) (Give 0) (Gives (Some data_read))
 unfolding reading
-gets_20 o body = read_gets (reading_block o body body) 0 (want_at (ForTask 8 0) (place_of 1)) refl refl refl
+gets_20 o body = read_gets (reading_block o body body) 0 (want_at (ForTask 8 0) (place_of 1)) refl refl
 
 pub step_20 : (o : Open) (body : List ℕ) → observe (reading o body) (Give 0) (Gives (Some data_read)) ≡ in_flight o body
 unfolding reading in_flight

@@ -1,14 +1,15 @@
 -- Every job in flight lies on its die, from the beginning of a life to its end.
 use Rattle.std.proofs.Common.{◌≡◌, ◌≢◌, ℕ, ◌==◌, Bool, true, false, cond, List, [], ◌∷◌, Option, Some, None, Result, Ok, Err, option_map, refl, sym, ap, ◌∙◌, subst, ⊎_elim}
 use Rattle.std.proofs.lemmas.Bool.Decides.{eqb_tells}
-use Rattle.ufs_laws.proofs.Flying.{at_other, jobs_behind, told_layer}
+use Rattle.ufs_laws.proofs.Flying.{at_other, jobs_left}
 use Rattle.ufs_laws.proofs.Homes.{job_here}
 use Rattle.ufs_laws.proofs.Quiet.{hears_same, replied_same, step_same}
+use Rattle.ufs_laws.proofs.Settled.{settled_jobs}
 use Rattle.ufs_laws.specs.Flights.{JobsLieOnTheirDies, die_of_flight}
 use Rattle.ufs_spec.specs.Cells.{Array}
 use Rattle.ufs_spec.specs.Disk.{Erasing, Flight, Programming, Reading, Spot, at_die, job_of}
 use Rattle.ufs_spec.specs.Lives.{IsOpened, Life}
-use Rattle.ufs_spec.specs.Machine.{Allowed, Answer, Ask, Call, Finish, Finishes, Give, Gives, Heard, Hears, Host, Replies, Step, Steps, behind, ends_with, given, hears, lock_told, observe, replied, with_moves}
+use Rattle.ufs_spec.specs.Machine.{Allowed, Answer, Ask, Call, Finish, Finishes, Give, Gives, Heard, Hears, Host, Replies, Step, Steps, behind, ends_with, fills, given, hears, lock_told, observe, replied, with_moves}
 use Rattle.ufs_spec.specs.Moves.{Ending, Turn}
 use Rattle.ufs_spec.specs.Steps.{State}
 use Rattle.ufs_spec.specs.Translation.{MayTake, Translation}
@@ -62,9 +63,9 @@ jobs_stay f g same h die flight e = job_stays die (f die) flight (h die) (ap (op
 
 -- Calls
 
--- a call whose jobs lie on their dies before the lock is told
+-- a call whose jobs lie on their dies before registers are filled and the lock is told
 told_stay : (s : State) (call : Call) (answer : Answer) → Stay (behind s call answer).translation.disk.flights → JobsLieOnTheirDies (observe s call answer)
-told_stay s call answer h = same_stay _ _ (ap (λ (t : Translation). t.disk.flights) (told_layer (behind s call answer))) h
+told_stay s call answer h = jobs_stay _ _ (settled_jobs (behind s call answer)) h
 
 gives_stay : (s : State) (die : ℕ) (o : Option Flight) → MayTake s.translation die o → JobsLieOnTheirDies s → Stay (given s die o).translation.disk.flights
 gives_stay s die None right h = h
@@ -76,8 +77,9 @@ ends_stay s die ending left None e right h =
     told_stay s (Finish die ending left) (Finishes true)
     (same_stay s.translation.disk.flights _ (ap (λ (o : Option Flight). (ends_with s die o ending left).translation.disk.flights) e) h)
 ends_stay s die ending left (Some flight) e right h =
-    same_stay _ _ (jobs_behind s die flight ending left e (h die flight e) right)
-    (stay_at s.translation.disk.flights die None h (λ f e. absurd (let two : None ≡ Some f = e in cc)))
+    told_stay s (Finish die ending left) (Finishes true)
+    (same_stay _ _ (jobs_left s die flight ending left e (h die flight e) right)
+    (stay_at s.translation.disk.flights die None h (λ f e. absurd (let two : None ≡ Some f = e in cc))))
 
 pub stays : (s : State) (call : Call) (answer : Answer) → Allowed s call answer → JobsLieOnTheirDies s → JobsLieOnTheirDies (observe s call answer)
 stays s (Host h) (Hears (Ok done)) right home = told_stay s (Host h) (Hears (Ok done)) (jobs_stay s.translation.disk.flights _ (hears_same s h) home)
@@ -94,8 +96,8 @@ stays s call answer right home = absurd right
 abbrev Does : State → ℕ → Option Job
 Does s die = option_map job_of (s.translation.disk.flights die)
 
-told_same : (s : State) (die : ℕ) → Does (lock_told s) die ≡ Does s die
-told_same s die = ap (λ (t : Translation). option_map job_of (t.disk.flights die)) (told_layer s)
+told_same : (s : State) (die : ℕ) → Does (lock_told (fills s)) die ≡ Does s die
+told_same s die = settled_jobs s die
 
 pub host_same : (s : State) (h : Heard) (result : Result Unit HostFault) (die : ℕ) → Does (observe s (Host h) (Hears result)) die ≡ Does s die
 host_same s h (Ok done) die = told_same (hears s h) die ∙ hears_same s h die

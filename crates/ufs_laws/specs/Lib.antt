@@ -1,3 +1,5 @@
+pub mod Exchange
 pub mod Flights
 pub mod GapRows
+pub mod Requests
 pub mod Runs

@@ -1,6 +1,7 @@
 //! The five calls of a device with its dies: which answers are right, and what follows from them.
-ghost use Rattle.std.specs.Prelude.{◌≡◌, ◌≢◌, ◌⊎◌, ◌<◌, ◌++◌, if◌then◌else◌, ℕ, Bool, true, false, List, [], length, Option, Some, None, Result, option_map};
+ghost use Rattle.std.specs.Prelude.{◌≡◌, ◌≢◌, ◌⊎◌, ◌<◌, ◌++◌, if◌then◌else◌, ℕ, Bool, true, false, List, [], Contains, length, Option, Some, None, Result, option_map};
 ghost use Rattle.ufs_laws.specs.Flights.{JobsLieOnTheirDies, die_of_flight};
+ghost use Rattle.ufs_laws.specs.Requests.{HaveNoRequest};
 ghost use Rattle.ufs_spec.specs.declared.Cdb.{Cdb};
 ghost use Rattle.ufs_spec.specs.declared.Event.{Event};
 ghost use Rattle.ufs_spec.specs.declared.HostFault.{HostFault};
@@ -11,14 +12,14 @@ ghost use Rattle.ufs_spec.specs.declared.Page.{Page};
 ghost use Rattle.ufs_spec.specs.declared.Place.{Place};
 ghost use Rattle.ufs_spec.specs.Cells.{Array, Cell, Cells, IsCell, Nothing, Shows};
 ghost use Rattle.ufs_spec.specs.Dies.{blank_page};
-ghost use Rattle.ufs_spec.specs.Disk.{CellCrash, Crash, Erasing, Flight, Programming, Spot, Touches, at_place, job_of, page_of, same_spot, spot_of};
+ghost use Rattle.ufs_spec.specs.Disk.{CellCrash, Crash, Erasing, Flight, Programming, Reader, Reading, Spot, Touches, at_place, job_of, page_of, same_spot, spot_of, at_die};
 ghost use Rattle.ufs_spec.specs.Lives.{IsCall, IsOpened, Leads, Life};
-ghost use Rattle.ufs_spec.specs.Machine.{Allowed, Answer, Ask, Call, Due, Faulty, Finish, Finishes, Give, Gives, Heard, Hears, Host, IsHeard, Replies, Spelled, Step, Steps, in_block, observe};
+ghost use Rattle.ufs_spec.specs.Machine.{Allowed, Answer, Ask, Call, Due, Faulty, Finish, Finishes, Give, Gives, Heard, Hears, Host, IsHeard, Replies, Spelled, Step, Steps, fills, in_block, observe};
 ghost use Rattle.ufs_spec.specs.Moves.{Ending};
 ghost use Rattle.ufs_spec.specs.Pages.{IsCheckRight};
 ghost use Rattle.ufs_spec.specs.Plain.{zero};
 ghost use Rattle.ufs_spec.specs.Steps.{State, mended};
-ghost use Rattle.ufs_spec.specs.Translation.{MayTake, Translation, is_step_due, wants_on};
+ghost use Rattle.ufs_spec.specs.Translation.{MayTake, Translation, Want, is_idle, is_step_due, want_at, wants_on};
 
 /// In every state each of the five calls has a right answer: to a die a job or none, and to a host a reply that is due or
 /// none. So an event that is a call leads somewhere.
@@ -54,11 +55,13 @@ pub fn one_job_a_die()
     ensures there { (t : Translation) (die : ℕ) (flight : Flight) → MayTake t die (Some flight) → die < t.numbers.dies }
     ensures here { (t : Translation) (die : ℕ) (flight : Flight) → MayTake t die (Some flight) → die_of_flight flight ≡ die }
     ensures own { (s : State) (die : ℕ) (flight : Flight) →
-        (observe s (Give die) (Gives (Some flight))).translation.disk.flights die ≡ Some flight }
+        option_map job_of ((observe s (Give die) (Gives (Some flight))).translation.disk.flights die) ≡ Some (job_of flight) }
     ensures others { (s : State) (die : ℕ) (flight : Flight) (other : ℕ) → other ≢ die →
-        (observe s (Give die) (Gives (Some flight))).translation.disk.flights other ≡ s.translation.disk.flights other }
+        option_map job_of ((observe s (Give die) (Gives (Some flight))).translation.disk.flights other)
+        ≡ option_map job_of (s.translation.disk.flights other) }
     ensures none { (s : State) (die other : ℕ) →
-        (observe s (Give die) (Gives None)).translation.disk.flights other ≡ s.translation.disk.flights other }
+        option_map job_of ((observe s (Give die) (Gives None)).translation.disk.flights other)
+        ≡ option_map job_of (s.translation.disk.flights other) }
     ensures ends { (s : State) (die : ℕ) (flight : Flight) (ending : Ending) (left : Array) →
         s.translation.disk.flights die ≡ Some flight → die_of_flight flight ≡ die →
         Allowed s (Finish die ending left) (Finishes true) →
@@ -66,7 +69,8 @@ pub fn one_job_a_die()
     ensures ends_alone { (s : State) (die : ℕ) (flight : Flight) (ending : Ending) (left : Array) →
         s.translation.disk.flights die ≡ Some flight → die_of_flight flight ≡ die →
         Allowed s (Finish die ending left) (Finishes true) → (other : ℕ) → other ≢ die →
-        (observe s (Finish die ending left) (Finishes true)).translation.disk.flights other ≡ s.translation.disk.flights other }
+        option_map job_of ((observe s (Finish die ending left) (Finishes true)).translation.disk.flights other)
+        ≡ option_map job_of (s.translation.disk.flights other) }
     ensures host { (s : State) (heard : Heard) (result : Result Unit HostFault) (die : ℕ) →
         option_map job_of ((observe s (Host heard) (Hears result)).translation.disk.flights die)
         ≡ option_map job_of (s.translation.disk.flights die) }
@@ -76,6 +80,29 @@ pub fn one_job_a_die()
     ensures ask { (s : State) (reply : Option Message) (die : ℕ) →
         option_map job_of ((observe s Ask (Replies reply)).translation.disk.flights die)
         ≡ option_map job_of (s.translation.disk.flights die) }
+{}
+
+/// An idle die may be given each of the reads that are owed to it, whatever page and reader it is for, and no other read.
+pub fn any_owed_read_may_go()
+    ensures each { (t : Translation) (die : ℕ) (want : Want) → is_idle t die ≡ true → Contains (wants_on t die) want →
+        MayTake t die (Some (Reading want.reader want.place)) }
+    ensures no_other { (t : Translation) (die : ℕ) (reader : Reader) (place : Place) →
+        MayTake t die (Some (Reading reader place)) → Contains (wants_on t die) (want_at reader place) }
+{}
+
+/// If no task has a request, no register is filled; and then a read also stays for whom it is.
+pub fn no_request_fills_nothing()
+    ensures nothing { (s : State) → HaveNoRequest s.tasks → fills s ≡ s }
+    ensures given { (s : State) (die : ℕ) (flight : Flight) → HaveNoRequest s.tasks →
+        (observe s (Give die) (Gives (Some flight))).translation.disk.flights
+        ≡ at_die s.translation.disk.flights die (Some flight) }
+    ensures not_given { (s : State) (die : ℕ) → HaveNoRequest s.tasks →
+        (observe s (Give die) (Gives None)).translation.disk.flights ≡ s.translation.disk.flights }
+    ensures ended { (s : State) (die : ℕ) (flight : Flight) (ending : Ending) (left : Array) → HaveNoRequest s.tasks →
+        s.translation.disk.flights die ≡ Some flight → die_of_flight flight ≡ die →
+        Allowed s (Finish die ending left) (Finishes true) →
+        (observe s (Finish die ending left) (Finishes true)).translation.disk.flights
+        ≡ at_die s.translation.disk.flights die None }
 {}
 
 /// Every job in flight lies on its die, from the beginning of a life to its end.
@@ -148,9 +175,11 @@ pub fn new_dies_open()
         (spot : Spot) × MayTake (observe s Step (Steps true)).translation good.die (Some (Erasing spot)) }
 {}
 
-/// Bytes are heard as one fault at most, and never both as a fault and as a message.
+/// Bytes are heard as one fault at most, or as one message with one command at most, and never as both.
 pub fn messages_are_heard_once()
     ensures one_fault { (bytes : List ℕ) (f g : HostFault) → IsHeard bytes (Faulty f) → IsHeard bytes (Faulty g) → f ≡ g }
     ensures not_both { (bytes : List ℕ) (m : Message) (c : Option Cdb) (f : HostFault) →
         IsHeard bytes (Spelled m c) → IsHeard bytes (Faulty f) → ⊥ }
+    ensures one_message { (bytes : List ℕ) (m n : Message) (c d : Option Cdb) →
+        IsHeard bytes (Spelled m c) → IsHeard bytes (Spelled n d) → (m ≡ n) × (c ≡ d) }
 {}

@@ -1,13 +1,17 @@
 //! What is acknowledged as durable.
-ghost use Rattle.std.specs.Prelude.{◌≡◌, ◌+◌, ◌≤◌, ℕ, true, false, List, Some, length, max};
+ghost use Rattle.std.specs.Prelude.{◌≡◌, ◌+◌, ◌≤◌, ◌++◌, ℕ, true, false, List, Some, None, find, length, max};
+ghost use Rattle.ufs_spec.specs.Commands.{Command};
 ghost use Rattle.ufs_spec.specs.Commands as command;
-ghost use Rattle.ufs_spec.specs.Exchanges.{Awaiting, Task};
-ghost use Rattle.ufs_spec.specs.Lives.{held};
-ghost use Rattle.ufs_spec.specs.Machine.{accepts, blocks_in, flush_begun, set_deed, task_replied, with_task, write_complete};
+ghost use Rattle.ufs_spec.specs.Exchanges.{Awaiting, Short, Task, is_short_of, task_of};
+ghost use Rattle.ufs_spec.specs.Lives.{Life, held};
+ghost use Rattle.ufs_spec.specs.Machine.{Ask, Replies, accepts, blocks_in, flush_begun, observe, set_deed, tag_in, task_replied, with_task, write_complete};
 ghost use Rattle.ufs_spec.specs.Moves.{Tell, moved};
 ghost use Rattle.ufs_spec.specs.Steps.{Request, State, locked};
 ghost use Rattle.ufs_spec.specs.Translation.{Translation};
 ghost use Rattle.ufs_spec.specs.declared.Cdb.{Cdb};
+ghost use Rattle.ufs_spec.specs.declared.Event.{Event};
+ghost use Rattle.ufs_spec.specs.declared.Message.{Message};
+ghost use Rattle.ufs_spec.specs.declared.Output.{Output};
 
 /// A FUA write waits for its own command, and a flush without IMMED for all that was accepted before it; once such an
 /// answer is handed out, these commands are held.
@@ -21,4 +25,18 @@ pub fn acknowledged_commands_are_held()
     ensures handed_out { (s : State) (task : Task) (n : ℕ) → task.deed ≡ Awaiting n →
         held (task_replied s task) ≡ max (held s) n }
     ensures told { (t : Translation) (n : ℕ) → (moved t (Tell n)).ledger.held ≡ max t.ledger.held n }
+{}
+
+/// Along a life no acknowledged command is taken back, and each accepted command keeps its place. Once the answer of a task
+/// or a short exchange that waits for n commands is handed out, these n are held from then on.
+pub fn held_commands_stay_held()
+    ensures held { (s t : State) (es : List Event) (os : List Output) → Life s es os t → held s ≤ held t }
+    ensures accepted { (s t : State) (es : List Event) (os : List Output) → Life s es os t →
+        (more : List Command) × (t.accepted ≡ s.accepted ++ more) }
+    ensures task { (s t : State) (m : Message) (task : Task) (n : ℕ) (es : List Event) (os : List Output) →
+        task_of (tag_in m) s.tasks ≡ Some task → task.deed ≡ Awaiting n →
+        Life (observe s Ask (Replies (Some m))) es os t → n ≤ held t }
+    ensures short { (s t : State) (m : Message) (short : Short) (n : ℕ) (es : List Event) (os : List Output) →
+        task_of (tag_in m) s.tasks ≡ None → find (is_short_of (tag_in m)) s.shorts ≡ Some short → short.awaits ≡ Some n →
+        Life (observe s Ask (Replies (Some m))) es os t → n ≤ held t }
 {}

@@ -5,6 +5,7 @@
 mod arrays;
 mod calls;
 mod contents;
+mod exchange;
 mod held;
 mod rows;
 mod runs;
@@ -16,13 +17,14 @@ pub use arrays::{
 };
 pub use calls::{
     a_crash_leaves_old_or_new, a_crash_of_pages_is_one_of_cells, a_life_begins_with_its_beginning,
-    every_call_has_an_answer, jobs_lie_on_their_dies, messages_are_heard_once, new_dies_open,
-    one_answer, one_job_a_die,
+    any_owed_read_may_go, every_call_has_an_answer, jobs_lie_on_their_dies,
+    messages_are_heard_once, new_dies_open, one_answer, one_job_a_die,
 };
 pub use contents::{
     command_replaces_its_keys, commands_keep_plain, new_device_is_zero, plain_state_is_its_contents,
 };
-pub use held::acknowledged_commands_are_held;
+pub use exchange::{a_command_is_never_unknown_once_taken, every_byte_string_is_heard};
+pub use held::{acknowledged_commands_are_held, held_commands_stay_held};
 pub use rows::{gap_keeps_the_first_write, write_after_the_gap_is_kept};
 pub use runs::{a_refused_read_says_why, a_written_block_is_read};
 pub use tables::{failed_request_accepts_nothing, worked_queries};

@@ -5,7 +5,8 @@ ghost use Rattle.ufs_spec.specs.Commands.{Command};
 ghost use Rattle.ufs_spec.specs.Exchanges.{Registers};
 ghost use Rattle.ufs_spec.specs.Plain.{Plain};
 ghost use Rattle.ufs_spec.specs.Queries.{query_code, unit_descriptor};
-ghost use Rattle.ufs_spec.specs.Rpmb.{Frame, Results, rpmb_outcome};
+ghost use Rattle.ufs_spec.specs.Frames.{Frame};
+ghost use Rattle.ufs_spec.specs.Rpmb.{Results, rpmb_outcome};
 
 /// The descriptor of unit 1, of 64 blocks with boot number 1; setting fPermanentWPEn succeeds, again it is refused, and
 /// clearing it always is; a boot setting of 3 is refused.

@@ -1,5 +1,5 @@
 -- Flash dies: what they hold, what they are asked to do, and what each ending of a job makes of them (this profile).
-use Rattle.std.specs.Prelude.{◌≡◌, ℕ, ◌+◌, ◌<◌, Bool, true, false, List, [], Option, Some, None, length, replicate, slice_index_or, slice_set}
+use Rattle.std.specs.Prelude.{◌≡◌, ℕ, ◌+◌, ◌<◌, ◌≤◌, Bool, true, false, List, [], Option, Some, None, length, replicate, slice_index_or, slice_set}
 use Rattle.std.specs.List.{All}
 use Rattle.ufs_spec.specs.Pages.{MayBeLeft}
 use Rattle.ufs_spec.specs.declared.flash.Page.{Page}
@@ -120,16 +120,17 @@ outcome_of state (job.Read place) = outcome.Read (page_at state place.block plac
 outcome_of state (job.Program place page) = outcome.Done
 outcome_of state (job.Erase die block) = outcome.Done
 
--- how a job ended and what became of the die, where its count of failures went from the first number to the second
+-- how a job ended and what became of the die, while its count of failures went from the first number to the second: it
+-- rises if the job failed; it may rise if the job ended well, since a die may count what it tried again by itself
 abbrev pub Did : ℕ → ℕ → DieState → Job → Outcome → DieState → Type 0
 Did failed now before (job.Read place) (outcome.Read page) after =
-    (page ≡ page_at before place.block place.page) × (after ≡ before) × (now ≡ failed)
+    (page ≡ page_at before place.block place.page) × (after ≡ before) × (failed ≤ now)
 Did failed now before (job.Read place) outcome.ReadFailed after = (after ≡ before) × (failed < now)
 Did failed now before (job.Program place page) outcome.Done after =
-    (after ≡ programmed before place.block place.page page) × (now ≡ failed)
+    (after ≡ programmed before place.block place.page page) × (failed ≤ now)
 Did failed now before (job.Program place page) outcome.Failed after =
     IsFailedProgram before place.block place.page page after × (failed < now)
-Did failed now before (job.Erase die block) outcome.Done after = (after ≡ erased before block) × (now ≡ failed)
+Did failed now before (job.Erase die block) outcome.Done after = (after ≡ erased before block) × (failed ≤ now)
 Did failed now before (job.Erase die block) outcome.Failed after = IsFailedErase before block after × (failed < now)
 Did failed now before _ _ after = ⊥
 

@@ -1,7 +1,8 @@
 -- What is open between a host and the device: tasks, short exchanges, and what lasts until the next power cycle
 -- (JESD220, 10.7 UPIUs, 12.4 RPMB; SAM, tasks).
-use Rattle.std.specs.Prelude.{ℕ, ◌-◌, ◌*◌, ◌==◌, ◌&&◌, min, not, Bool, false, if◌then◌else◌, List, [], ◌∷◌, filter, find, length, take, Option, Some, None}
+use Rattle.std.specs.Prelude.{ℕ, ◌-◌, ◌*◌, ◌==◌, ◌&&◌, min, not, Bool, true, false, if◌then◌else◌, List, [], ◌∷◌, filter, find, length, take, Option, Some, None}
 use Rattle.ufs_spec.specs.Cdbs.{Residual, fixed_sense, residual_of}
+use Rattle.ufs_spec.specs.Frames.{Frame}
 use Rattle.ufs_spec.specs.declared.messages.Message.{Message}
 use Rattle.ufs_spec.specs.declared.messages.Message.TheVariants as message
 use Rattle.ufs_spec.specs.declared.scsi.Cdb.{Cdb}
@@ -26,6 +27,12 @@ status_byte TaskSetFull = 0x28
 abbrev pub response_byte : Status → ℕ
 response_byte Good = 0x00
 response_byte status = 0x01
+
+abbrev pub is_good : Status → Bool
+is_good Good = true
+is_good (CheckCondition sense) = false
+is_good Busy = false
+is_good TaskSetFull = false
 
 -- with CHECK CONDITION alone: a length of 18 and fixed sense data
 abbrev pub sense_data : Status → Option (List ℕ)
@@ -117,7 +124,25 @@ pub data Deed : Type 0 where
   -- its answer is due, and so many bytes are the command's or were carried
   Answering : (status : Status) → (carried : ℕ) → Deed
 
--- an open command: its length in bytes is what it transfers where the host expects enough; a refused one has none
+-- the request of a SECURITY PROTOCOL OUT, from its last data on: its frames, its result, and whether its register was
+-- filled (JESD220, 12.4)
+pub record RpmbRequest : Type 0 where
+  pub frames : List Frame
+  pub result : ℕ
+  pub filled : Bool
+
+-- a request that has not filled its register yet
+abbrev pub is_unfilled : Option RpmbRequest → Bool
+is_unfilled None = false
+is_unfilled (Some request) = not request.filled
+
+-- the request has filled its register
+abbrev pub filled : Option RpmbRequest → Option RpmbRequest
+filled None = None
+filled (Some request) = Some (record request { filled = true })
+
+-- an open command: its length in bytes is what it transfers where the host expects enough; a refused one has none. Only
+-- a SECURITY PROTOCOL OUT has a request
 pub record Task : Type 0 where
   pub lun : ℕ
   pub tag : ℕ
@@ -125,6 +150,7 @@ pub record Task : Type 0 where
   pub command : Option Cdb
   pub length : ℕ
   pub deed : Deed
+  pub request : Option RpmbRequest
 
 -- an exchange of one reply: due at once, or once so many accepted commands are durable; if a lock ends it before, the
 -- reply is another one

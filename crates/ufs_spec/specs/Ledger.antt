@@ -1,7 +1,7 @@
 -- What is known in one life of numbers, groups and contents, whatever pages they stand on (this profile).
 use Rattle.std.specs.Prelude.{ℕ, zero, suc, ◌+◌, ◌-◌, ◌==◌, ◌&&◌, nat_le, nat_lt, Bool, true, false, if◌then◌else◌, is_some, List, [], ◌∷◌, drop, length, position, slice_get, take, Option, Some, None, option_and_then, option_map}
 use Rattle.ufs_spec.specs.Cells.{Mark}
-use Rattle.ufs_spec.specs.Keys.{Contents, Group, Item, same_key}
+use Rattle.ufs_spec.specs.Keys.{Contents, Group, Item, put_groups, same_key}
 use Rattle.ufs_spec.specs.declared.flash.Key.{Key}
 use Rattle.ufs_spec.specs.declared.flash.Place.{Place}
 
@@ -67,6 +67,17 @@ accepted_groups l = drop l.repairs l.groups
 
 abbrev pub before_accepted : Ledger → ℕ
 before_accepted l = l.top + l.repairs
+
+-- the groups that are accepted and not durable, in order of number
+abbrev pub pending : Ledger → List Group
+pending l = drop (l.frontier - before_accepted l) (accepted_groups l)
+
+-- the contents after the groups that are durable, and after all groups
+abbrev pub durable_contents : Ledger → Contents
+durable_contents l = put_groups l.base (take (l.frontier - l.top) l.groups)
+
+abbrev pub all_contents : Ledger → Contents
+all_contents l = put_groups l.base l.groups
 
 -- The frontier
 

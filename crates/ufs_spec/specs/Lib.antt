@@ -7,6 +7,7 @@ pub mod Dies
 pub mod Disk
 pub mod Exchanges
 pub mod Fields
+pub mod Frames
 pub mod Kept
 pub mod Keys
 pub mod Ledger

@@ -2,9 +2,9 @@
 -- come at any moment, inside any program or erase. The last definition is the promise of the product (this profile).
 use Rattle.std.specs.Prelude.{◌≡◌, ◌≢◌, ◌⊎◌, ℕ, ◌≤◌, Bool, true, false, List, [], ◌∷◌, ◌++◌, AllPairs, Contains, length, slice_get, slice_index_or, take, Option, Some, None, option_map}
 use Rattle.std.specs.List.{All}
-use Rattle.ufs_spec.specs.Cells.{Array, Cells, Shows}
+use Rattle.ufs_spec.specs.Cells.{Array, Cell, Cells, Shows}
 use Rattle.ufs_spec.specs.Dies.{DieState, IsOfSize, is_bad_block, new_die, page_at}
-use Rattle.ufs_spec.specs.Disk.{Crash, Erasing, Flight, Programming, Reading, Spot, flight_alone, job_of, spot_of}
+use Rattle.ufs_spec.specs.Disk.{Crash, Erasing, Flight, Programming, Reading, Spot, Touches, flight_alone, job_of, page_of, spot_of}
 use Rattle.ufs_spec.specs.Exchanges.{empty_registers}
 use Rattle.ufs_spec.specs.Keys.{IsKey, content}
 use Rattle.ufs_spec.specs.Kept.{StandsFor}
@@ -12,6 +12,7 @@ use Rattle.ufs_spec.specs.Machine.{Allowed, Answer, Ask, Call, Finish, Finishes,
 use Rattle.ufs_spec.specs.Messages.{spelling}
 use Rattle.ufs_spec.specs.Moves.{Ending, ReadRight, ReadWrong, WentWell, WentWrong}
 use Rattle.ufs_spec.specs.Openings.{IsOpenedTranslation}
+use Rattle.ufs_spec.specs.Pages.{MayBeLeft}
 use Rattle.ufs_spec.specs.Plain.{Plain, after, shape_of_numbers}
 use Rattle.ufs_spec.specs.Steps.{State, numbers_of}
 use Rattle.ufs_spec.specs.Translation.{is_bad}
@@ -44,17 +45,23 @@ abbrev pub die_of : Leftover → ℕ
 die_of (leftover.Page q page) = q.die
 die_of (leftover.Block die block pages) = die
 
--- pages that a leftover names are as it says, and all others as they were
+-- a page that a leftover names is as one of them says, and a page that none names is as it was
 abbrev pub IsLeft : Array → List Leftover → Array → Type 0
 IsLeft array lefts after = (p : Place) →
     ((l : Leftover) × Contains lefts l × page_left l p (after p))
-    ⊎ (((l : Leftover) → Contains lefts l → page_left l p (after p) → ⊥) × (after p ≡ array p))
+    ⊎ (((l : Leftover) (page : Page) → Contains lefts l → page_left l p page → ⊥) × (after p ≡ array p))
 
 -- each leftover is that of its die's job, and no die has two
 abbrev pub AreLeftovers : State → List Leftover → Type 0
 AreLeftovers s lefts =
     All (λ l. IsLeftoverOf (numbers_of s) (s.translation.disk.flights (die_of l)) l) lefts
     × AllPairs (λ l m. die_of l ≢ die_of m) lefts
+
+-- each page that the leftover names is one that the job of its die may leave there
+abbrev pub IsLawfulLeftover : State → Leftover → Type 0
+IsLawfulLeftover s l =
+    (p : Place) (page : Page) → page_left l p page →
+    (intended : Cell) × Touches (s.translation.disk.flights p.die) p intended × MayBeLeft (s.array p) (page_of intended) page
 
 -- ## Events
 
@@ -121,7 +128,6 @@ bad_in s spot = is_bad (s.translation.disk.blocks spot)
 
 -- a life begins over the array: its base is what the array stands for, and nothing is accepted or open
 pub record IsOpened (n : Numbers) (array : Array) (bad : Spot → Bool) (s : State) : Type 0 where
-  pub start : s.start ≡ array
   pub array_now : s.array ≡ array
   pub cells : Cells
   pub shown : Shows array cells
@@ -142,12 +148,30 @@ pub record Stops (s : State) (lefts : List Leftover) (left : Array) : Type 0 whe
   pub is_left : IsLeft s.array lefts left
   pub crash : Crash s.array s.translation.disk.flights left
 
+-- the event is a stop: it leaves an array, and a device is opened over that array, with the same bad blocks
+abbrev pub Reopens : Numbers → State → Event → Output → State → Type 0
+Reopens n s (event.Stop lefts) output.Stopped t =
+    (left : Array) × Stops s lefts.items left × IsOpened n left (bad_in s) t
+Reopens n s e o t = ⊥
+
+-- ## Runs
+
+-- the event leads on in the life, or it is a stop and the next life begins after it
+abbrev pub GoesOn : Numbers → State → Event → Output → State → Type 0
+GoesOn n s e o t = Leads s e o t ⊎ Reopens n s e o t
+
+-- the events show these outputs and lead from one state to the other, over any number of stops
+abbrev pub Runs : Numbers → State → List Event → List Output → State → Type 0
+Runs n s [] [] t = t ≡ s
+Runs n s (e ∷ es) (o ∷ os) t = (next : State) × GoesOn n s e o next × Runs n next es os t
+Runs n s _ _ t = ⊥
+
+-- ## Several lives
+
 -- how many accepted commands, from the first on, are acknowledged as durable: a FUA write answered GOOD, all before
 -- a flush answered GOOD, a setting or an RPMB request answered
 abbrev pub held : State → ℕ
 held s = s.translation.ledger.held
-
--- ## Several lives
 
 -- one life: where it began, its events, what they showed, and where it ended
 pub record Lived : Type 0 where

@@ -11,7 +11,7 @@ use Rattle.ufs_spec.specs.Commands.{Command}
 use Rattle.ufs_spec.specs.Commands as command
 use Rattle.ufs_spec.specs.Dies.{blank_page}
 use Rattle.ufs_spec.specs.Disk.{Crash, Erasing, Flight, ForTask, Programming, Reader, Reading, Spot, at_place, flight_alone, page_of, same_spot, spot_of}
-use Rattle.ufs_spec.specs.Exchanges.{Answering, Awaiting, Deed, Registers, empty_registers, ForFrames, ForUnmap, ForWrite, Gathering, Good, NotRead, Purpose, ReadBlock, ReadState, Sending, Short, Status, Task, TaskSetFull, Telling, Unread, WasRead, block_message, bytes_sent, data_message, invalid_operation, is_asked_of, is_short_of, is_task_of, read_error, ready_message, response, short_reply, task_of, with_deed, without_short, without_task, write_error}
+use Rattle.ufs_spec.specs.Exchanges.{Answering, Awaiting, Deed, Registers, empty_registers, ForFrames, ForUnmap, ForWrite, Gathering, Good, NotRead, Purpose, ReadBlock, ReadState, Sending, Short, Status, Task, TaskSetFull, Telling, Unread, WasRead, block_message, bytes_sent, data_message, filled, invalid_operation, is_asked_of, is_good, is_short_of, is_task_of, is_unfilled, read_error, ready_message, response, short_reply, task_of, with_deed, without_short, without_task, write_error}
 use Rattle.ufs_spec.specs.Keys.{below, data_key, group_of}
 use Rattle.ufs_spec.specs.Ledger.{Looked, OnPage, before_accepted, look}
 use Rattle.ufs_spec.specs.Messages.{Spells, host_fault_of, is_among, zeros}
@@ -198,7 +198,9 @@ with_short s short = record s { shorts = s.shorts ++ short ∷ [] }
 abbrev pub with_task : State → Request → Option Cdb → ℕ → Deed → State
 with_task s r command n deed =
     record s {
-      tasks = s.tasks ++ record { lun = r.lun; tag = r.tag; expected = r.expected; command = command; length = n; deed = deed } ∷ [];
+      tasks =
+          s.tasks
+          ++ record { lun = r.lun; tag = r.tag; expected = r.expected; command = command; length = n; deed = deed; request = None } ∷ [];
     }
 
 -- the blocks of a READ that are sent: those that the host expects, with their content now
@@ -212,7 +214,7 @@ kept_at s tag unit address i =
     record { tag = tag; index = i; looked = look s.translation.ledger (data_key unit (address + i)); wanted = i == 0 }
 
 abbrev pub keeps : State → ℕ → ℕ → ℕ → ℕ → List Move
-keeps s tag unit address n = map (λ i. Keep (kept_at s tag unit address i)) (below n)
+keeps s tag unit address n = map (λ i. Keep (data_key unit (address + i)) (kept_at s tag unit address i)) (below n)
 
 abbrev pub blocks_expected : Request → ℕ → ℕ
 blocks_expected r n = div_ceil (min r.expected n) 4096
@@ -517,6 +519,41 @@ abbrev pub given : State → ℕ → Option Flight → State
 given s die None = s
 given s die (Some flight) = with_moves s (Take die flight ∷ [])
 
+-- ## Requests that fill a register (JESD220, 12.4)
+
+-- until RPMB is built: what the request of a task, whose GOOD becomes due now, leaves in the registers. Kinds 1 and 3
+-- fill the result register, kinds 2, 4 and 5 the response register
+abbrev pub filled_registers : State → Task → Registers → Registers
+filled_registers s task registers = registers
+
+abbrev pub is_good_due : State → Deed → Bool
+is_good_due s (Gathering purpose gathered asked) = false
+is_good_due s (Sending blocks sent) = false
+is_good_due s (Telling bytes) = false
+is_good_due s (Awaiting commands) = nat_le commands (durable s)
+is_good_due s (Answering status carried) = is_good status
+
+-- a register is filled once, when the GOOD of its request is due, handed out or not
+abbrev pub is_to_fill : State → Task → Bool
+is_to_fill s task = is_unfilled task.request && is_good_due s task.deed
+
+abbrev pub task_filled : State → Task → Task
+task_filled s task = if is_to_fill s task then record task { request = filled task.request } else task
+
+abbrev pub fill_moves : List Task → List Move
+fill_moves tasks = map (λ (task : Task). LetGoAll task.tag) tasks
+
+-- the request of each task whose GOOD became due fills its register, and lets go of all that it keeps
+abbrev pub fills : State → State
+fills s =
+    record (with_moves s (fill_moves (filter (is_to_fill s) s.tasks))) {
+      tasks = map (task_filled s) s.tasks;
+      registers =
+          fold (λ (registers : Registers) (task : Task). filled_registers s task registers) s.registers (filter (is_to_fill s) s.tasks);
+    }
+
+-- ## The lock
+
 -- a lock ends what waits for commands that are not durable: a task with MEDIUM ERROR, write error
 abbrev pub deed_locked : State → Task → Deed → Deed
 deed_locked s task (Awaiting commands) =
@@ -542,6 +579,7 @@ behind s Step (Steps due) = with_moves s (Turn ∷ [])
 behind s Ask (Replies (Some m)) = replied s m
 behind s call answer = s
 
--- what a call and its answer make of the state; wherever the lock stands, it is told
+-- what a call and its answer make of the state. What became due fills its register, also if the lock begins in the same
+-- call; then the lock, if it is there, is told
 abbrev pub observe : State → Call → Answer → State
-observe s call answer = lock_told (behind s call answer)
+observe s call answer = lock_told (fills (behind s call answer))

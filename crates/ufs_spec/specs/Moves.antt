@@ -4,10 +4,11 @@ use Rattle.std.specs.List.{list_any}
 use Rattle.ufs_spec.specs.Cells.{Cell, Cells, GroupPage, IsCell, Mark, MarkPage, Nothing, Opens, key_of}
 use Rattle.ufs_spec.specs.Disk.{BlockState, Bad, CellCrash, Disk, Erasing, Flight, ForNobody, ForRest, ForStep, ForTask, Free, Programming, Reader, Reading, at_spot, ended, erase_failed, erased, flight_alone, program_failed, programmed}
 use Rattle.ufs_spec.specs.Keys.{Group, IsBlock, IsKey, IsSettingsBody, Item}
-use Rattle.ufs_spec.specs.Ledger.{Ledger, Name, before_accepted, page_stands, same_name, settled_look}
+use Rattle.ufs_spec.specs.Ledger.{Ledger, Name, before_accepted, look, page_stands, same_name, settled_look}
 use Rattle.ufs_spec.specs.Plain.{shape_of_numbers}
-use Rattle.ufs_spec.specs.Translation.{CopyStep, FromPage, FromSlot, MarkStep, MayTake, Mended, Mending, Pin, Plan, RepairStep, Repairing, Rest, Source, Step, StepKind, Translation, Unmarked, has_mark_number, has_number, is_mended, mark_ordered, name_of, taken, turned, is_rest_of}
+use Rattle.ufs_spec.specs.Translation.{CopyStep, FromPage, FromSlot, MarkStep, MayTake, Mended, Mending, Pin, Plan, RepairStep, Repairing, Rest, Source, Step, StepKind, Translation, Unmarked, free_slots, has_mark_number, has_number, is_mended, mark_ordered, name_of, taken, turned, is_rest_of}
 use Rattle.ufs_spec.specs.declared.flash.Fence.{Fence}
+use Rattle.ufs_spec.specs.declared.flash.Key.{Key}
 use Rattle.ufs_spec.specs.declared.flash.Outcome.{Outcome}
 use Rattle.ufs_spec.specs.declared.flash.Outcome.TheVariants as outcome
 use Rattle.ufs_spec.specs.declared.flash.Page.{Page}
@@ -193,8 +194,8 @@ pub data Move : Type 0 where
   Accept : (claimed : ℕ) → (group : Group) → (rests : List Rest) → Move
   -- so many accepted commands are acknowledged as durable
   Tell : (count : ℕ) → Move
-  -- a task keeps what it looked up, wants one of its pages read, or lets go of one or of all it keeps
-  Keep : (pin : Pin) → Move
+  -- a task keeps what it looked up of a key, wants one of its pages read, or lets go of one or of all it keeps
+  Keep : (key : Key) → (pin : Pin) → Move
   WantPage : (tag index : ℕ) → Move
   LetGo : (tag index : ℕ) → Move
   LetGoAll : (tag : ℕ) → Move
@@ -221,9 +222,12 @@ pub record IsGroup (t : Translation) (g : Group) : Type 0 where
   pub items : All (IsItem t) g
 
 abbrev pub IsAllowedMove : Translation → Move → Type 0
+IsAllowedMove t (Claim count) = count ≤ free_slots t
+IsAllowedMove t (Release count) = count ≤ t.claims
 IsAllowedMove t (Accept claimed g rests) =
     (is_mended t.work.mending ≡ true) × (has_number t ≡ true) × (length g ≤ claimed) × (claimed ≤ t.claims) × IsGroup t g
 IsAllowedMove t (Tell count) = before_accepted t.ledger + count ≤ t.ledger.frontier
+IsAllowedMove t (Keep key pin) = IsKey (shape_of_numbers t.numbers) key × (pin.looked ≡ look t.ledger key)
 IsAllowedMove t (Take die flight) = MayTake t die (Some flight)
 IsAllowedMove t (End die ending) = MayEnd t.disk die (t.disk.flights die) ending
 IsAllowedMove t move = Unit {0}
@@ -262,7 +266,7 @@ moved t (Accept claimed g rests) =
       claims = t.claims - claimed;
     }
 moved t (Tell count) = record t { ledger = record t.ledger { held = max t.ledger.held count } }
-moved t (Keep pin) = record t { pins = t.pins ++ pin ∷ [] }
+moved t (Keep key pin) = record t { pins = t.pins ++ pin ∷ [] }
 moved t (WantPage tag index) = record t { pins = map (with_wanted tag index true) t.pins }
 moved t (LetGo tag index) = let_go t (is_pin_of tag index) (is_for tag index)
 moved t (LetGoAll tag) = let_go t (λ pin. pin.tag == tag) (is_for_task tag)

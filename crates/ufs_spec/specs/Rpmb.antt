@@ -1,49 +1,12 @@
--- The replay protected memory block: frames, their MAC, and what a request does (JESD220, 12.4; RFC 2104; FIPS 180-4). What
+-- The replay protected memory block: the MAC of frames, and what a request does (JESD220, 12.4; RFC 2104; FIPS 180-4). What
 -- of it is refused, and in which order, is this profile's.
-use Rattle.std.specs.Prelude.{◌≡◌, ℕ, ◌+◌, ◌-◌, ◌*◌, ◌<◌, ◌^◌, ◌==◌, ◌&&◌, nat_lt, nat_le, not, Bool, true, false, if◌then◌else◌, is_none, is_some, List, [], ◌∷◌, ◌++◌, bit_or, bit_xor, length, map, replicate, Option, Some, None}
+use Rattle.std.specs.Prelude.{ℕ, ◌+◌, ◌-◌, ◌*◌, ◌^◌, ◌==◌, ◌&&◌, nat_lt, nat_le, not, Bool, true, false, if◌then◌else◌, is_none, is_some, List, [], ◌∷◌, ◌++◌, bit_or, bit_xor, length, map, replicate, Option, Some, None}
 use Rattle.std.specs.List.{flat_map, list_all}
-use Rattle.byteorder.specs.Endian.{big_bytes}
 use Rattle.sha2.specs.Sha256.{sha256}
 use Rattle.ufs_spec.specs.Commands.{Command, RpmbWrite, SetKey}
 use Rattle.ufs_spec.specs.Exchanges.{Registers, Status, invalid_list_field, sequence_error}
-use Rattle.ufs_spec.specs.Messages.{AreBytes}
+use Rattle.ufs_spec.specs.Frames.{Frame, covered_bytes}
 use Rattle.ufs_spec.specs.Plain.{Plain, apply}
-
--- ## Frames
-
--- a frame of 512 bytes: 196 stuff bytes, the key or the MAC of 32, 256 of data, a nonce of 16, and five numbers
-pub record Frame : Type 0 where
-  pub stuff : List ℕ
-  pub mac : List ℕ
-  pub payload : List ℕ
-  pub nonce : List ℕ
-  pub counter : ℕ
-  pub address : ℕ
-  pub count : ℕ
-  pub result : ℕ
-  pub kind : ℕ
-
--- the bytes that the MAC covers: from the data on
-abbrev pub covered_bytes : Frame → List ℕ
-covered_bytes f =
-    f.payload ++ f.nonce ++ big_bytes 4 f.counter ++ big_bytes 2 f.address ++ big_bytes 2 f.count ++ big_bytes 2 f.result
-    ++ big_bytes 2 f.kind
-
--- the 512 bytes of a frame
-abbrev pub frame_bytes : Frame → List ℕ
-frame_bytes f = f.stuff ++ f.mac ++ covered_bytes f
-
--- the parts of a frame have their lengths and widths
-pub record IsFrame (f : Frame) : Type 0 where
-  pub stuff : (length f.stuff ≡ 196) × AreBytes f.stuff
-  pub mac : (length f.mac ≡ 32) × AreBytes f.mac
-  pub payload : (length f.payload ≡ 256) × AreBytes f.payload
-  pub nonce : (length f.nonce ≡ 16) × AreBytes f.nonce
-  pub counter : f.counter < 2 ^ 32
-  pub address : f.address < 2 ^ 16
-  pub count : f.count < 2 ^ 16
-  pub result : f.result < 2 ^ 16
-  pub kind : f.kind < 2 ^ 16
 
 -- ## The MAC (RFC 2104, HMAC with SHA-256 of FIPS 180-4)
 

@@ -18,8 +18,7 @@ use Rattle.ufs_spec.specs.declared.scsi.Cdb.TheVariants as cdb
 -- All that can be read off one life so far
 
 pub record State : Type 0 where
-  -- the pages of the dies at the life's start, and now
-  pub start : Array
+  -- the pages of the dies
   pub array : Array
   -- the plain state at the life's start, and the commands accepted since, in order
   pub base : Plain

@@ -1,11 +1,11 @@
 -- The translation layer of one life: what it owes to each die, when a step of mending or collection is due, and what each
 -- of its calls makes of it (this profile).
-use Rattle.std.specs.Prelude.{◌≡◌, ◌⊎◌, ℕ, ◌+◌, ◌-◌, ◌*◌, ◌^◌, ◌==◌, ◌&&◌, ◌||◌, nat_le, nat_lt, not, Bool, true, false, if◌then◌else◌, is_none, is_some, List, [], ◌∷◌, ◌++◌, count_by, drop, filter, filter_map, find, length, map, sum_by, Option, Some, None, option_map}
+use Rattle.std.specs.Prelude.{◌≡◌, ◌⊎◌, ℕ, ◌+◌, ◌-◌, ◌*◌, ◌^◌, ◌==◌, ◌&&◌, ◌||◌, nat_le, nat_lt, not, Bool, true, false, if◌then◌else◌, is_none, is_some, List, [], ◌∷◌, ◌++◌, count_by, filter, filter_map, find, length, map, sum_by, Option, Some, None, option_map, Contains}
 use Rattle.std.specs.List.{flat_map, list_any}
 use Rattle.ufs_spec.specs.Cells.{Cell, GroupPage, MarkPage, Nothing, key_of}
 use Rattle.ufs_spec.specs.Disk.{BlockState, Bad, Closed, Disk, Erasing, Filling, Flight, ForRest, ForStep, ForTask, Free, Programming, Reader, Reading, Spot, begun, place_in, same_spot, spot_of}
 use Rattle.ufs_spec.specs.Keys.{Group, below}
-use Rattle.ufs_spec.specs.Ledger.{Entry, Ledger, Looked, Name, OnPage, accepted_groups, before_accepted, entry_of, is_name, is_standing, latest_durable, next_number, same_name}
+use Rattle.ufs_spec.specs.Ledger.{Entry, Ledger, Looked, Name, OnPage, accepted_groups, before_accepted, entry_of, is_name, is_standing, latest_durable, next_number, pending, same_name}
 use Rattle.ufs_spec.specs.Stages.{collects, most_bad}
 use Rattle.ufs_spec.specs.declared.configs.Numbers.{Numbers}
 use Rattle.ufs_spec.specs.declared.flash.Fence.{Fence}
@@ -104,7 +104,7 @@ is_locked t = nat_lt (most_bad t.numbers) (count_blocks t is_bad) || nat_lt (2 ^
 
 -- how many pages the groups have that are accepted and not durable
 abbrev pub pending_pages : Ledger → ℕ
-pending_pages l = sum_by length (drop (l.frontier - before_accepted l) (accepted_groups l))
+pending_pages l = sum_by length (pending l)
 
 abbrev pub free_slots : Translation → ℕ
 free_slots t = t.numbers.slots - pending_pages t.ledger - t.claims
@@ -392,9 +392,6 @@ wants t =
 abbrev pub is_of_die : ℕ → Want → Bool
 is_of_die die want = want.place.die == die
 
-abbrev pub is_at : Place → Want → Bool
-is_at p want = same_spot (spot_of want.place) (spot_of p) && (want.place.page == p.page)
-
 -- the next page of a block that is being filled
 abbrev pub next_in : Spot → BlockState → Option Place
 next_in s (Filling next) = Some (place_in s next)
@@ -443,9 +440,9 @@ is_idle t die = nat_lt die t.numbers.dies && is_none (t.disk.flights die)
 abbrev pub wants_on : Translation → ℕ → List Want
 wants_on t die = filter (is_of_die die) (wants t)
 
--- a read that is owed goes first, and any of them may; of those of one page the first is meant
+-- a read that is owed goes first, and any of them may
 abbrev pub IsOwed : Translation → ℕ → Flight → Type 0
-IsOwed t die (Reading reader place) = find (is_at place) (wants_on t die) ≡ Some (want_at reader place)
+IsOwed t die (Reading reader place) = Contains (wants_on t die) (want_at reader place)
 IsOwed t die flight = (wants_on t die ≡ []) × (next_flight t die ≡ Some flight)
 
 -- the job that the die may be given; none where it is not idle or nothing is owed to it

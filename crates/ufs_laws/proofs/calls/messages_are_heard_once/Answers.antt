@@ -1,3 +1,4 @@
+use Rattle.ufs_laws.proofs.AllHeard.{one_spelled}
 use Rattle.ufs_laws.proofs.HeardOnce.{no_fault, one_fault}
 use Rattle.ufs_laws.proofs.calls.messages_are_heard_once.Goals as goal
 
@@ -6,3 +7,6 @@ returns-clause-one_fault c = one_fault
 
 pub returns-clause-not_both : goal.returns-clause-not_both
 returns-clause-not_both c = no_fault
+
+pub returns-clause-one_message : goal.returns-clause-one_message
+returns-clause-one_message c = one_spelled

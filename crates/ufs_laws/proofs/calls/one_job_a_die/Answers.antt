@@ -1,4 +1,4 @@
-use Rattle.ufs_laws.proofs.Flying.{ended_flight, ended_others, other_flight, own_flight, same_flights}
+use Rattle.ufs_laws.proofs.Flying.{ended_flight, ended_others, other_job, own_job, same_jobs}
 use Rattle.ufs_laws.proofs.Homes.{job_here}
 use Rattle.ufs_laws.proofs.Jobs.{is_die, was_free}
 use Rattle.ufs_laws.proofs.Staying.{ask_same, host_same, turn_same}
@@ -14,13 +14,13 @@ pub returns-clause-here : goal.returns-clause-here
 returns-clause-here c = job_here
 
 pub returns-clause-own : goal.returns-clause-own
-returns-clause-own c = own_flight
+returns-clause-own c = own_job
 
 pub returns-clause-others : goal.returns-clause-others
-returns-clause-others c = other_flight
+returns-clause-others c = other_job
 
 pub returns-clause-none : goal.returns-clause-none
-returns-clause-none c = same_flights
+returns-clause-none c = same_jobs
 
 pub returns-clause-ends : goal.returns-clause-ends
 returns-clause-ends c = ended_flight

@@ -1,6 +1,6 @@
 -- Each message is read back from its spelling, so no two messages have one spelling.
-use Rattle.std.proofs.Common.{◌≡◌, ◌<◌, ◌≤◌, ◌+◌, ◌-◌, ◌^◌, ℕ, cond, ◌==◌, List, ◌++◌, length, take, drop, slice_index, slice_range, Option, Some, None, refl, sym, ap, ◌∙◌, arith}
-use Rattle.std.proofs.lemmas.List.{take_at}
+use Rattle.std.proofs.Common.{◌≡◌, ◌<◌, ◌≤◌, ◌+◌, ◌-◌, ◌^◌, ℕ, cond, ◌==◌, List, [], ◌++◌, length, take, drop, slice_index, slice_range, Option, Some, None, refl, sym, ap, ◌∙◌, arith}
+use Rattle.std.proofs.lemmas.List.{append-nil, take_all, take_at}
 use Rattle.byteorder.specs.Numbers.{big_number-reads_back}
 use Rattle.arrayvec.specs.ArrayVec.{ArrayVec}
 use Rattle.ufs_spec.specs.Fields.{field_at}
@@ -8,8 +8,6 @@ use Rattle.ufs_spec.specs.Messages.{IsMessage, IsSense, code_of, padding, segmen
 use Rattle.ufs_spec.specs.declared.messages.Asked.{Asked}
 use Rattle.ufs_spec.specs.declared.messages.Message.{Message}
 use Rattle.ufs_spec.specs.declared.messages.Message.TheVariants.{NopOut, Command, DataOut, TaskRequest, QueryRequest, NopIn, Response, DataIn, TaskResponse, ReadyToTransfer, QueryResponse}
-use Rattle.upiu.specs.Reading.{named_command, named_data_out}
-use Rattle.upiu.proofs.Spelled.{command_named, data_out_named}
 
 -- the data segment that the header names
 abbrev segment_in : List ℕ → List ℕ
@@ -24,11 +22,11 @@ abbrev sense_in : ℕ → List ℕ → Option (List ℕ)
 sense_in n segment = cond (n == 0) None (Some segment)
 
 -- the message of any kind that the fields name
-abbrev message_of : ℕ → List ℕ → Message
+abbrev pub message_of : ℕ → List ℕ → Message
 message_of code bytes =
     cond (code == 0x00) (NopOut (slice_index bytes 3))
-    (cond (code == 0x01) (named_command bytes)
-    (cond (code == 0x02) (named_data_out bytes)
+    (cond (code == 0x01) (Command (slice_index bytes 1) (slice_index bytes 2) (slice_index bytes 3) (field_at 4 12 bytes) (slice_range bytes 16 32))
+    (cond (code == 0x02) (DataOut (slice_index bytes 2) (slice_index bytes 3) (field_at 4 12 bytes) (record { items = segment_in bytes }))
     (cond (code == 0x04) (TaskRequest (slice_index bytes 2) (slice_index bytes 3) (slice_index bytes 5) (slice_index bytes 19))
     (cond (code == 0x16)
     (QueryRequest (slice_index bytes 3) (slice_index bytes 5) (asked_in bytes) (field_at 2 18 bytes) (field_at 4 20 bytes) (record { items = segment_in bytes }))
@@ -50,6 +48,24 @@ segment_again bytes segment behind size =
     let count : 32 + n - 32 ≡ n = omega arith in
     ap (λ (k : ℕ). slice_range bytes 32 (32 + k)) size ∙ ap (λ (k : ℕ). take k (drop 32 bytes)) count
     ∙ ap (take n) behind ∙ take_at segment (zeros (padding n)) n refl
+
+command_again : (flags lun tag expected : ℕ) (cdb : List ℕ) → expected < 2 ^ 32 → length cdb ≡ 16
+    → message_of 0x01 (spelling (Command flags lun tag expected cdb)) ≡ Command flags lun tag expected cdb
+command_again flags lun tag expected cdb fits sixteen =
+    let number : field_at 4 12 (spelling (Command flags lun tag expected cdb)) ≡ expected = big_number-reads_back 4 expected (cdb ++ [] ++ []) fits in
+    let same : cdb ++ [] ++ [] ≡ cdb = append-nil (cdb ++ []) ∙ append-nil cdb in
+    let operation : take 16 (cdb ++ [] ++ []) ≡ cdb = ap (take 16) same ∙ take_all 16 cdb (omega arith) in
+    rw (number, operation) refl
+
+data_out_again : (lun tag offset : ℕ) («data» : ArrayVec ℕ) → offset < 2 ^ 32 → length «data».items ≤ 4096
+    → message_of 0x02 (spelling (DataOut lun tag offset «data»)) ≡ DataOut lun tag offset «data»
+data_out_again lun tag offset «data» fits most =
+    let bytes : List ℕ = spelling (DataOut lun tag offset «data») in
+    let length_in : segment_length bytes ≡ length «data».items = big_number-reads_back 2 (length «data».items) (drop 12 bytes) (omega arith) in
+    let segment : segment_in bytes ≡ «data».items = segment_again bytes «data».items refl length_in in
+    let offset_in : field_at 4 12 bytes ≡ offset = big_number-reads_back 4 offset (drop 16 bytes) fits in
+    ap (λ (k : ℕ). DataOut lun tag k (record { items = segment_in bytes })) offset_in
+    ∙ ap (λ (xs : List ℕ). DataOut lun tag offset (record { items = xs })) segment
 
 query_request_again : (tag function : ℕ) (asked : Asked) (size value : ℕ) («data» : ArrayVec ℕ)
     → size < 2 ^ 16 → value < 2 ^ 32 → length «data».items ≤ 4096
@@ -112,8 +128,8 @@ response_again flags lun tag response status residual (Some sense) fits (check, 
 -- each message is read back from its spelling
 pub again : (message : Message) → IsMessage message → message_of (code_of (spelling message)) (spelling message) ≡ message
 again (NopOut tag) h = refl
-again (Command flags lun tag expected cdb) h = (command_named flags lun tag expected cdb h.3 h.4).same
-again (DataOut lun tag offset «data») h = (data_out_named lun tag offset «data» h.2 h.3.1).same
+again (Command flags lun tag expected cdb) h = command_again flags lun tag expected cdb h.3 h.4
+again (DataOut lun tag offset «data») h = data_out_again lun tag offset «data» h.2 h.3.1
 again (TaskRequest lun tag function meant) h = refl
 again (QueryRequest tag function asked size value «data») h = query_request_again tag function asked size value «data» h.2.4 h.2.5 h.3
 again (NopIn tag) h = refl

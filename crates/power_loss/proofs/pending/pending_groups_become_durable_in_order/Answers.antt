@@ -1,0 +1,23 @@
+use Rattle.power_loss.proofs.PendingGroups.{accept, all, first, front, opened, others, stops}
+use Rattle.power_loss.proofs.pending.pending_groups_become_durable_in_order.Goals as goal
+
+pub returns-clause-accept : goal.returns-clause-accept
+returns-clause-accept c = accept
+
+pub returns-clause-front : goal.returns-clause-front
+returns-clause-front c = front
+
+pub returns-clause-others : goal.returns-clause-others
+returns-clause-others c = others
+
+pub returns-clause-stops : goal.returns-clause-stops
+returns-clause-stops c = stops
+
+pub returns-clause-opened : goal.returns-clause-opened
+returns-clause-opened c = opened
+
+pub returns-clause-first : goal.returns-clause-first
+returns-clause-first c = first
+
+pub returns-clause-all : goal.returns-clause-all
+returns-clause-all c = all

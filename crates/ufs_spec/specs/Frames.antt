@@ -1,0 +1,38 @@
+-- The frames of the replay protected memory block: 512 bytes, of which a MAC covers the last 284 (JESD220, 12.4).
+use Rattle.std.specs.Prelude.{◌≡◌, ℕ, ◌<◌, ◌^◌, List, ◌++◌, length}
+use Rattle.byteorder.specs.Endian.{big_bytes}
+use Rattle.ufs_spec.specs.Messages.{AreBytes}
+
+-- a frame of 512 bytes: 196 stuff bytes, the key or the MAC of 32, 256 of data, a nonce of 16, and five numbers
+pub record Frame : Type 0 where
+  pub stuff : List ℕ
+  pub mac : List ℕ
+  pub payload : List ℕ
+  pub nonce : List ℕ
+  pub counter : ℕ
+  pub address : ℕ
+  pub count : ℕ
+  pub result : ℕ
+  pub kind : ℕ
+
+-- the bytes that the MAC covers: from the data on
+abbrev pub covered_bytes : Frame → List ℕ
+covered_bytes f =
+    f.payload ++ f.nonce ++ big_bytes 4 f.counter ++ big_bytes 2 f.address ++ big_bytes 2 f.count ++ big_bytes 2 f.result
+    ++ big_bytes 2 f.kind
+
+-- the 512 bytes of a frame
+abbrev pub frame_bytes : Frame → List ℕ
+frame_bytes f = f.stuff ++ f.mac ++ covered_bytes f
+
+-- the parts of a frame have their lengths and widths
+pub record IsFrame (f : Frame) : Type 0 where
+  pub stuff : (length f.stuff ≡ 196) × AreBytes f.stuff
+  pub mac : (length f.mac ≡ 32) × AreBytes f.mac
+  pub payload : (length f.payload ≡ 256) × AreBytes f.payload
+  pub nonce : (length f.nonce ≡ 16) × AreBytes f.nonce
+  pub counter : f.counter < 2 ^ 32
+  pub address : f.address < 2 ^ 16
+  pub count : f.count < 2 ^ 16
+  pub result : f.result < 2 ^ 16
+  pub kind : f.kind < 2 ^ 16
