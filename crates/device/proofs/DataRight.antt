@@ -143,9 +143,9 @@ accepted_right d s a b unit address bytes h w free tied =
     group : group_of (plain_now s) (write_one unit address bytes) ≡ one_block unit address bytes
     group = group_one (plain_now s) unit address bytes w.long (can_write_one s unit address bytes h.tied w.there w.within)
 
-    layer_right : Kept (accepted d.ftl (data_key unit address) bytes) (moved s.translation (Accept 1 (group_of (plain_now s) (write_one unit address bytes)) []))
+    layer_right : Kept (accepted d.ftl (data_key unit address) bytes) (moved s.translation (Accept 1 (group_of (plain_now s) (write_one unit address bytes))))
     layer_right =
-        subst (λ (g : Group). Kept (accepted d.ftl (data_key unit address) bytes) (moved s.translation (Accept 1 g []))) (sym group)
+        subst (λ (g : Group). Kept (accepted d.ftl (data_key unit address) bytes) (moved s.translation (Accept 1 g))) (sym group)
         (accepts_right d.ftl s.translation (data_key unit address) bytes (layer_of d s h) refl few
         (accepts_one s unit address bytes h.tied w.there w.within w.long w.are_bytes w.mended w.claimed free)).kept
 

@@ -3,7 +3,8 @@ use Rattle.std.proofs.Common.{◌≡◌, ◌∙◌, ℕ, true, false, List, Some
 use Rattle.std.specs.Prelude.{Result, Ok, Err}
 use Rattle.std.proofs.lemmas.Bool.{false≢true}
 use Rattle.ufs_spec.specs.Machine.{Faulty, IsCdbIn, IsHeard, Spelled}
-use Rattle.ufs_spec.specs.Messages.{Spells, code_of, host_fault_of, is_among, spelling, stage_codes}
+use Rattle.ufs_spec.specs.Messages.{Spells, code_of, host_fault_of, is_among, spelling}
+use Rattle.ufs_spec.specs.Stages.{heard_codes}
 use Rattle.ufs_spec.specs.Steps.{State}
 use Rattle.ufs_spec.specs.declared.faults.HostFault.{HostFault}
 use Rattle.ufs_spec.specs.declared.messages.Message.{Message}
@@ -28,9 +29,9 @@ faults_right d s bytes fault h heard = record {
 }
 
 -- bytes without an early fault spell no message of a kind that is not taken
-no_other_kind : {P : Type 0} (bytes : List ℕ) (m : Message) → Spells m bytes → host_fault_of bytes ≡ None → is_among stage_codes (code_of (spelling m)) ≡ false → P
+no_other_kind : {P : Type 0} (bytes : List ℕ) (m : Message) → Spells m bytes → host_fault_of bytes ≡ None → is_among heard_codes (code_of (spelling m)) ≡ false → P
 no_other_kind bytes m spells none other =
-    let here : is_among stage_codes (code_of (spelling m)) ≡ true = ap (λ (b : List ℕ). is_among stage_codes (code_of b)) (sym spells.1) ∙ (passes bytes none).code in
+    let here : is_among heard_codes (code_of (spelling m)) ≡ true = ap (λ (b : List ℕ). is_among heard_codes (code_of b)) (sym spells.1) ∙ (passes bytes none).code in
     absurd (false≢true (sym other ∙ here))
 
 -- the command that a CDB was read as is the one that it spells

@@ -32,8 +32,8 @@ pub pins_right : (c : Core) (t : Translation) (k : Key) (reader : ℕ) → Descr
 pins_right = looks.pins_right
 
 pub accepts_right : (c : Core) (t : Translation) (k : Key) (body : List ℕ) → Describes c t → k.kind ≡ 1 → k.unit ≤ 7 →
-    IsAllowedMove t (Accept 1 (record { key = k; body = body } ∷ []) []) →
-    Describes (accepted c k body) (moved t (Accept 1 (record { key = k; body = body } ∷ []) []))
+    IsAllowedMove t (Accept 1 (record { key = k; body = body } ∷ [])) →
+    Describes (accepted c k body) (moved t (Accept 1 (record { key = k; body = body } ∷ [])))
 accepts_right = looks.accepts_right
 
 pub numbers_right : (c : Core) (t : Translation) → Describes c t → next_number c ≡ ledger.next_number t.ledger

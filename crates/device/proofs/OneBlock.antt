@@ -90,7 +90,7 @@ number_left t free = let both = or_parts _ _ free in le-leb _ _ (ltb-false _ _ b
 pub accepts_one : (s : State) (unit address : ℕ) (bytes : List ℕ) → IsTied s → unit < length (shape_of_numbers (numbers_of s)).blocks →
     address + 1 ≤ slice_index_or (shape_of_numbers (numbers_of s)).blocks unit 0 → length bytes ≡ 4096 → AreBytes bytes →
     is_mended s.translation.work.mending ≡ true → 1 ≤ s.translation.claims → locked s ≡ false →
-    IsAllowedMove s.translation (Accept 1 (one_block unit address bytes) [])
+    IsAllowedMove s.translation (Accept 1 (one_block unit address bytes))
 accepts_one s unit address bytes v there within long are mended few free = (mended, number_left s.translation free, omega arith, few, group)
   where
     can : CanApply (plain_now s) (write_one unit address bytes)

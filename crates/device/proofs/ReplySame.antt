@@ -123,7 +123,7 @@ slot_there d s key n name body h is content there =
 in_hand : (d : DeviceCore) (s : State) (a : Task) (b : exchange.Task) (pin : Pin) (body : List ℕ) (state : exchange.ReadState) (p : Looked) (q : ledger.Looked) → Describes d s →
     exchange.block_message b 0 body ≡ block_message a body → pin.looked ≡ p → IsLookedAt p q → IsContent s.translation.ledger q body →
     IsThere s.translation.ledger s.translation.disk.cells s.translation.disk.erasing pin.key q → IsRead d.loaded a.tag pin body state →
-    block_reply b 0 body state (needs_no_read q) ≡ option_map (block_message a) (block_in d a.tag p)
+    block_reply b 0 body state (needs_no_read [] q) ≡ option_map (block_message a) (block_in d a.tag p)
 in_hand d s a b pin body Unread looked.Nothing Unwritten h same is at content there so_far =
     ap (λ z. Some z) (same ∙ ap (block_message a) content)
 in_hand d s a b pin body WasRead looked.Nothing Unwritten h same is at content there so_far = no_page d so_far.1.0 pin.looked is so_far.1.1
@@ -153,10 +153,11 @@ sending_same d s a b blocks sent h lun tag expected is =
     let k = pins_as s.translation.ledger s.translation.disk.cells s.translation.disk.erasing _ d.ftl.pins s.translation.pins is.pin is.kept is.pins is.keeps h.ftl_kept.pins in
     ap (λ (n : ℕ). next_block_reply s b n (slice_get blocks n)) is.none_sent
     ∙ (ap (λ (bs : List ReadBlock). next_block_reply s b 0 (slice_get bs 0)) is.one
-    ∙ (ap (λ x. block_reply b 0 is.block.body is.block.state (is_at_hand x)) (found_pin s.translation.pins is.kept b.tag is.keeps (k.tag ∙ (is.reader ∙ sym tag)) k.first)
+    ∙ (ap (λ (rests : List layer.Rest). block_reply b 0 is.block.body is.block.state (is_at_hand rests (machine.pin_of s b 0))) h.ftl_kept.work.no_rests
+    ∙ (ap (λ x. block_reply b 0 is.block.body is.block.state (is_at_hand [] x)) (found_pin s.translation.pins is.kept b.tag is.keeps (k.tag ∙ (is.reader ∙ sym tag)) k.first)
     ∙ (in_hand d s a b is.pin is.block.body is.block.state is.pin.looked is.kept.looked h (same_block a b is.block.body lun tag expected is.length_is is.some) refl
     k.looked_at is.content k.there is.so_far
-    ∙ ap (λ x. option_map (block_message a) (block_kept_in d a.tag x)) (sym (one_pin d.ftl.pins is.pin a.tag is.pins is.reader)))))
+    ∙ ap (λ x. option_map (block_message a) (block_kept_in d a.tag x)) (sym (one_pin d.ftl.pins is.pin a.tag is.pins is.reader))))))
 
 answer_same : (a : Task) (b : exchange.Task) (n m : ℕ) (x y : exchange.Status) → b.lun ≡ a.lun → b.tag ≡ a.tag → b.expected ≡ a.expected → n ≡ m → x ≡ y →
     response b.lun b.tag b.expected n x ≡ response a.lun a.tag a.expected m y
@@ -191,7 +192,7 @@ lost_same : (d : DeviceCore) (s : State) (a : Task) (b : exchange.Task) (blocks 
 lost_same d s a b blocks sent told n lun tag expected is =
     ap (λ (n : ℕ). next_block_reply s b n (slice_get blocks n)) is.none_sent
     ∙ (ap (λ (bs : List ReadBlock). next_block_reply s b 0 (slice_get bs 0)) is.one
-    ∙ (ap (λ (x : exchange.ReadState). block_reply b 0 is.block.body x (is_at_hand (machine.pin_of s b 0))) is.lost
+    ∙ (ap (λ (x : exchange.ReadState). block_reply b 0 is.block.body x (is_at_hand s.translation.work.rests (machine.pin_of s b 0))) is.lost
     ∙ ap (λ z. Some z) (answer_same a b 0 n exchange.read_error (status_kept told) lun tag expected (sym is.nothing) (sym (ap status_kept is.told_is)))))
 
 pub same_in : (d : DeviceCore) (s : State) (a : Task) (b : exchange.Task) (p : Phase) (deed : Deed) → Describes d s → b.lun ≡ a.lun → b.tag ≡ a.tag → b.expected ≡ a.expected →

@@ -72,7 +72,9 @@ Stepped s e after (Err f) = IsWrong s e
 
 -- why an event shows nothing: there was no memory for what it shows, and so it shows something; or it does not fit
 abbrev pub IsRefused : State → Event → RunFaultKind → Type 0
-IsRefused s e k = ((k ≡ kind.NoMemory) × (o : Output) × (t : State) × Leads s e o t) ⊎ ((k ≡ kind.WrongEvent) × IsWrong s e)
+IsRefused s e k =
+    ((k ≡ kind.NoMemory) × (o : Output) × (t : State) × Leads s e o t)
+    ⊎ ((k ≡ kind.WrongEvent) × IsWrong s e)
 
 -- one output more, of an event that went so; or the trace stays, and why
 abbrev pub Played : State → Event → WorldState → List Output → List Output → Result Unit RunFaultKind → Type 0

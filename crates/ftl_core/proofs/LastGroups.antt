@@ -143,25 +143,3 @@ module _ (standing : Standing) (flies : Name → Bool) (n : ℕ) (gs : List Grou
   -- and where the ledger has none, none is kept
   pub none_kept : NoneOf k hs → last_of k gs ≡ None
   none_kept none = none_is k gs (λ b g is passes. let u = has_key b g is passes in none b 0 u.0 u.1 u.2 u.3 u.4)
-
--- All groups
-
-latest_append : (k : Key) (n : ℕ) (xs ys : List keys.Group) (older : Option Name) → latest_in k n (xs ++ ys) older ≡ latest_in k (n + length xs) ys (latest_in k n xs older)
-latest_append k n [] ys older = ap (λ z. latest_in k z ys older) (omega arith)
-latest_append k n (x ∷ xs) ys older =
-    latest_append k (suc n) xs ys (name_or (suc n) (index_in k x) older)
-    ∙ ap (λ z. latest_in k z ys (latest_in k (suc n) xs (name_or (suc n) (index_in k x) older))) (more n (length xs))
-  where
-    more : (n m : ℕ) → suc n + m ≡ n + suc m
-    more n m = omega arith
-
--- the page of the key after all groups is found among those behind the frontier, else it is the one at the frontier
-pub latest_splits : (l : Ledger) (k : Key) → l.top ≤ l.frontier → l.frontier ≤ l.top + length l.groups →
-    latest l k ≡ latest_in k l.frontier (drop (l.frontier - l.top) l.groups) (latest_durable l k)
-latest_splits l k low high =
-    ap (λ (gs : List keys.Group). latest_in k l.top gs (l.first k)) (sym (take-append-drop (l.frontier - l.top) l.groups))
-    ∙ latest_append k l.top (take (l.frontier - l.top) l.groups) (drop (l.frontier - l.top) l.groups) (l.first k)
-    ∙ ap (λ z. latest_in k z (drop (l.frontier - l.top) l.groups) (latest_durable l k)) (at_frontier (length-take-le (l.frontier - l.top) l.groups (omega arith)))
-  where
-    at_frontier : length (take (l.frontier - l.top) l.groups) ≡ l.frontier - l.top → l.top + length (take (l.frontier - l.top) l.groups) ≡ l.frontier
-    at_frontier e = omega arith

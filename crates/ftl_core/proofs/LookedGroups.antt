@@ -15,7 +15,8 @@ use Rattle.ftl_core.specs.declared.books.Stored.{Stored}
 use Rattle.ftl_core.specs.Core.{Core}
 use Rattle.ftl_core.specs.Describes.{Describes, IsLookedAt, IsStored, name_at, name_flies}
 use Rattle.ftl_core.specs.Moves.{last_of, look_of, looked_at, stored_of}
-use Rattle.ftl_core.proofs.LastGroups.{kept_length, last_kept, latest_splits, none_kept}
+use Rattle.power_loss.proofs.LookedKeys.{latest_splits}
+use Rattle.ftl_core.proofs.LastGroups.{kept_length, last_kept, none_kept}
 use Rattle.ftl_core.proofs.LookedPages.{durable_within, lt_not, lt_told}
 
 -- the number is no more than the frontier

@@ -14,19 +14,11 @@ use Rattle.power_loss.specs.Book.{Book, FirstRight, HasKey, IsLostNumber, IsOver
 use Rattle.power_loss.specs.Invariant.{IsSecure, MendingRight, Valid}
 use Rattle.power_loss.proofs.Books.{at_most, is_old, new_page, old_page, page_new, page_one, page_within, some_is, written_more}
 use Rattle.power_loss.proofs.Latest.{IsLastOf, NoneOf, get_take, latest_cases, take_get}
+use Rattle.power_loss.proofs.LookedKeys.{IsLatest, IsSettled, last_page, latest_is_durable, latest_right, latest_secure}
 use Rattle.power_loss.proofs.OneMore.{if_false, if_true, name_is, two_ways}
 use Rattle.ftl_core.specs.Describes.{IsThere, mending_kept}
-use Rattle.ftl_core.proofs.LastGroups.{latest_splits}
 
 -- What is lost is written again, and marks record no more than the frontier
-
--- each key with a lost page is written again in this life, at or under the frontier
-abbrev AreRewritten : Translation → Type 0
-AreRewritten t = (n i : ℕ) (e : Entry) → IsLostNumber (book t) n → t.ledger.old n i ≡ Some e → IsWritten (book t) e.item.key t.ledger.frontier
-
--- and what the newest finished mark records, or every number, is at or under the frontier
-abbrev IsSettled : Translation → Type 0
-IsSettled t = AreRewritten t × ((recorded_in t.ledger.newest ≤ t.ledger.frontier) ⊎ (last_number (book t) ≤ t.ledger.frontier))
 
 -- so it is in a mended device, and where the first mark has no fence
 settled_by : (t : Translation) (mended : Bool) → MendingRight (book t) t.disk t.ledger t.work.plan t.work.step (mending_kept mended) → IsSettled t
@@ -42,110 +34,7 @@ settled_by t false m = (
 settled_kept : (t : Translation) (mended : Bool) → Valid t → t.work.mending ≡ mending_kept mended → IsSettled t
 settled_kept t mended v e = settled_by t mended (subst (MendingRight (book t) t.disk t.ledger t.work.plan t.work.step) e v.mending)
 
--- The page of a key at the frontier
-
--- the page that has the key's content at the frontier: it is of the key, it is not lost, and none that is not lost is newer
-record IsLatest (t : Translation) (k : Key) (name : Name) : Type 0 where
-  pub entry : Entry
-  pub is : IsPageAt (book t) name.number name.index entry
-  pub key : entry.item.key ≡ k
-  pub free : IsLostNumber (book t) name.number → ⊥
-  pub within : name.number ≤ t.ledger.frontier
-  pub newest : (n i : ℕ) (e : Entry) → IsPageAt (book t) n i e → e.item.key ≡ k → (IsLostNumber (book t) n → ⊥) → n ≤ t.ledger.frontier → n ≤ name.number
-
--- the last of some groups from the first on that has the key has a page of it
-last_page : (b : Book) (k : Key) (gs : List keys.Group) (o : Option Name) (l : IsLastOf k b.top gs o) → slice_get b.groups l.at ≡ Some l.group →
-    IsPageAt b l.name.number l.name.index (record { item = l.item; size = length l.group })
-last_page b k gs o l at =
-    let z = l.number in
-    new_page b l.name.number l.name.index (record { item = l.item; size = length l.group }) (omega arith)
-    (record { group = l.group; is = ap (slice_get b.groups) (omega arith) ∙ at; item = l.has; size = refl })
-
--- where no group at or under the frontier has the key, no page of this life there is of it
-none_new : (t : Translation) (k : Key) → NoneOf k (take (t.ledger.frontier - t.ledger.top) t.ledger.groups) →
-    (n i : ℕ) (e : Entry) → IsPageAt (book t) n i e → e.item.key ≡ k → t.ledger.top < n → n ≤ t.ledger.frontier → ⊥
-none_new t k none n i e h key new l =
-    let p = page_new (book t) n i e new h in
-    none (n - t.ledger.top - 1) i p.group e.item (take_get (t.ledger.frontier - t.ledger.top) t.ledger.groups (n - t.ledger.top - 1) p.group (omega arith) p.is) p.item key
-
-latest_of_group : (t : Translation) (k : Key) (o : Option Name) (l : IsLastOf k t.ledger.top (take (t.ledger.frontier - t.ledger.top) t.ledger.groups) o) → IsLatest t k l.name
-latest_of_group t k o l = record {
-  entry = record { item = l.item; size = length l.group };
-  is = last_page (book t) k (take (t.ledger.frontier - t.ledger.top) t.ledger.groups) o l there.1;
-  key = l.key;
-  free = λ lost. let z = l.number in let u = lost.to in omega arith;
-  within = let z = l.number in let u = there.0 in omega arith;
-  newest = newest;
-}
-  where
-    there : (l.at < t.ledger.frontier - t.ledger.top) × (slice_get t.ledger.groups l.at ≡ Some l.group)
-    there = get_take (t.ledger.frontier - t.ledger.top) t.ledger.groups l.at l.group l.there
-
-    newest : (n i : ℕ) (e : Entry) → IsPageAt (book t) n i e → e.item.key ≡ k → (IsLostNumber (book t) n → ⊥) → n ≤ t.ledger.frontier → n ≤ l.name.number
-    newest n i e h key free u = ⊎_elim (λ old. let z = l.number in omega arith) after (at_most n t.ledger.top)
-      where
-        after : t.ledger.top < n → n ≤ l.name.number
-        after new =
-            let p = page_new (book t) n i e new h in
-            let last = l.last (n - t.ledger.top - 1) i p.group e.item (take_get (t.ledger.frontier - t.ledger.top) t.ledger.groups (n - t.ledger.top - 1) p.group (omega arith) p.is) p.item key in
-            let z = l.number in
-            omega arith
-
-latest_of_first : (t : Translation) (k : Key) (name : Name) → Valid t → AreRewritten t → FirstRight (book t) k (Some name) →
-    NoneOf k (take (t.ledger.frontier - t.ledger.top) t.ledger.groups) → IsLatest t k name
-latest_of_first t k name v again first none = record {
-  entry = first.0;
-  is = old_page (book t) name.number name.index first.0 within first.1;
-  key = first.2;
-  free = free;
-  within = let a = v.frontier.above in let w = within in omega arith;
-  newest = λ n i e h key kept u. ⊎_elim
-      (λ lost. absurd (free lost))
-      (λ (o : (name.number < t.ledger.low) × ((n i : ℕ) (e : Entry) → t.ledger.old n i ≡ Some e → e.item.key ≡ k → n < t.ledger.low → n ≤ name.number)).
-      ⊎_elim
-      (λ old. o.1 n i e (is_old (book t) n i e old h) key (under n kept old))
-      (λ new. absurd (none_new t k none n i e h key new u))
-      (at_most n t.ledger.top))
-      first.3;
-}
-  where
-    within : name.number ≤ t.ledger.top
-    within = v.book_right.old_within name.number name.index first.0 first.1
-
-    -- where it is lost the key is written again
-    free : IsLostNumber (book t) name.number → ⊥
-    free lost =
-        let w = again name.number name.index first.0 lost first.1 in
-        none_new t k none w.number w.index w.page w.is (w.key ∙ first.2) w.new w.within
-
-    under : (n : ℕ) → (IsLostNumber (book t) n → ⊥) → n ≤ t.ledger.top → n < t.ledger.low
-    under n kept old = ⊎_elim (λ l. absurd (kept (record { from = l; to = old }))) (λ l. l) (at_most t.ledger.low n)
-
-latest_right : (t : Translation) (k : Key) (name : Name) → Valid t → AreRewritten t → HasKey (book t) k → latest_durable t.ledger k ≡ Some name → IsLatest t k name
-latest_right t k name v again has e =
-    ⊎_elim
-    (λ (l : IsLastOf k t.ledger.top (take (t.ledger.frontier - t.ledger.top) t.ledger.groups) (latest_durable t.ledger k)).
-    subst (IsLatest t k) (some_is l.name name (sym l.is ∙ e)) (latest_of_group t k (latest_durable t.ledger k) l))
-    (λ (r : (latest_durable t.ledger k ≡ t.ledger.first k) × NoneOf k (take (t.ledger.frontier - t.ledger.top) t.ledger.groups)).
-    latest_of_first t k name v again (subst (FirstRight (book t) k) (sym r.0 ∙ e) (v.book_right.first k has)) r.1)
-    (latest_cases k t.ledger.top (take (t.ledger.frontier - t.ledger.top) t.ledger.groups) (t.ledger.first k))
-
 -- It is there
-
--- where it stands, its place holds its page and no erase is near
-latest_secure : (t : Translation) (k : Key) (name : Name) (p : Place) → Valid t → IsSettled t → IsLatest t k name → t.ledger.standing name.number name.index ≡ Some p →
-    IsSecure t.ledger.standing t.disk.cells t.disk.finished t.disk.blocks t.disk.erasing name.number name.index
-latest_secure t k name p v s l e = ⊎_elim (λ h. h) (λ h. absurd (never h.by)) (v.safe.safe name.number name.index l.entry p l.is e l.free)
-  where
-    never : IsOverwritten (book t) name.number l.entry.item.key (recorded_in t.ledger.newest) → ⊥
-    never o =
-        let newer = o.newer in
-        let u = l.newest o.number o.index o.page o.is (o.key ∙ l.key) o.free (bound s.1) in
-        omega arith
-      where
-        bound : (recorded_in t.ledger.newest ≤ t.ledger.frontier) ⊎ (last_number (book t) ≤ t.ledger.frontier) → o.number ≤ t.ledger.frontier
-        bound (inl h) = let w = o.within in omega arith
-        bound (inr h) = let w = page_within (book t) o.number o.index o.page o.is in omega arith
 
 latest_there : (t : Translation) (k : Key) (name : Name) (p : Place) → Valid t → IsSettled t → IsLatest t k name → t.ledger.standing name.number name.index ≡ Some p →
     IsThere t.ledger t.disk.cells t.disk.erasing k (OnPage name p)
@@ -191,20 +80,6 @@ behind_there t k name v has e behind =
     let a = v.frontier.above in
     absurd (omega arith))
     (latest_cases k t.ledger.top t.ledger.groups (t.ledger.first k))
-
--- at or under it the page of the key at the frontier is the one after all groups
-latest_is_durable : (t : Translation) (k : Key) (name : Name) → Valid t → latest t.ledger k ≡ Some name → name.number ≤ t.ledger.frontier → latest_durable t.ledger k ≡ Some name
-latest_is_durable t k name v e l =
-    ⊎_elim
-    (λ (last : IsLastOf k t.ledger.frontier (drop (t.ledger.frontier - t.ledger.top) t.ledger.groups) (latest_in k t.ledger.frontier (drop (t.ledger.frontier - t.ledger.top) t.ledger.groups) (latest_durable t.ledger k))).
-    let z = last.number in
-    let same = ap (λ (x : Name). x.number) (some_is last.name name (sym last.is ∙ sym splits ∙ e)) in
-    absurd (omega arith))
-    (λ r. sym r.0 ∙ sym splits ∙ e)
-    (latest_cases k t.ledger.frontier (drop (t.ledger.frontier - t.ledger.top) t.ledger.groups) (latest_durable t.ledger k))
-  where
-    splits : latest t.ledger k ≡ latest_in k t.ledger.frontier (drop (t.ledger.frontier - t.ledger.top) t.ledger.groups) (latest_durable t.ledger k)
-    splits = latest_splits t.ledger k v.frontier.above v.frontier.within
 
 look_there : (t : Translation) (k : Key) (o : Option Name) → Valid t → IsSettled t → HasKey (book t) k → latest t.ledger k ≡ o →
     IsThere t.ledger t.disk.cells t.disk.erasing k (looked_at t.ledger o)

@@ -6,7 +6,7 @@ use Rattle.ufs_spec.specs.Ledger as ledger
 use Rattle.ufs_spec.specs.Ledger.{look}
 use Rattle.ufs_spec.specs.Moves.{Accept, IsAllowedMove, Keep, moved}
 use Rattle.ufs_spec.specs.Plain.{shape_of_numbers}
-use Rattle.ufs_spec.specs.Translation.{Translation, Work, flies_mark, some_flight}
+use Rattle.ufs_spec.specs.Translation.{Translation, Work, flies_mark, rests_of, some_flight}
 use Rattle.ufs_spec.specs.declared.flash.Key.{Key}
 use Rattle.power_loss.proofs.AllMoves.{all_keep}
 use Rattle.ftl_core.specs.declared.books.ReadState.TheVariants as read
@@ -77,17 +77,22 @@ pins_right c t k reader h is kind none = record {
 
 -- A group
 
+-- a block of a unit is not had in part
+none_in_part : (t : Translation) (k : Key) (body : List ℕ) → k.kind ≡ 1 → rests_of t (record { key = k; body = body } ∷ []) ≡ []
+none_in_part t k body kind = rw kind refl
+
 pub accepts_right : (c : Core) (t : Translation) (k : Key) (body : List ℕ) → Describes c t → k.kind ≡ 1 → k.unit ≤ 7 →
-    IsAllowedMove t (Accept 1 (record { key = k; body = body } ∷ []) []) →
-    Describes (accepted c k body) (moved t (Accept 1 (record { key = k; body = body } ∷ []) []))
+    IsAllowedMove t (Accept 1 (record { key = k; body = body } ∷ [])) →
+    Describes (accepted c k body) (moved t (Accept 1 (record { key = k; body = body } ∷ [])))
 accepts_right c t k body h kind unit may = record {
-  valid = all_keep t (Accept 1 (record { key = k; body = body } ∷ []) []) h.valid may;
+  valid = all_keep t (Accept 1 (record { key = k; body = body } ∷ [])) h.valid may;
   kept = record {
     numbers = h.kept.numbers;
     blocks = h.kept.blocks;
     dies = h.kept.dies;
     ledger_kept = ledger_more c t k body h (rw kind (le-leb k.unit 7 unit));
-    work = same_work c (accepted c k body) t t.work (record t.work { rests = t.work.rests ++ [] }) h.kept.work refl refl refl refl refl refl (ap (λ rests. rests ++ []) h.kept.work.no_rests);
+    work = same_work c (accepted c k body) t t.work (record t.work { rests = t.work.rests ++ rests_of t (record { key = k; body = body } ∷ []) }) h.kept.work refl refl refl refl refl refl
+        (ap (λ rests. rests ++ rests_of t (record { key = k; body = body } ∷ [])) h.kept.work.no_rests ∙ none_in_part t k body kind);
     claims = ap (λ n. n - 1) h.kept.claims;
     pins = pins_kept_more t (record { key = k; body = body } ∷ []) (reader_flies t) c.pins t.pins h.kept.pins;
     differ = h.kept.differ;

@@ -11,7 +11,7 @@ use Rattle.ftl_core.specs.Core.{Core}
 use Rattle.ftl_core.specs.Describes.{Describes, block_kept, reader_flies, spot_at}
 use Rattle.ftl_core.specs.Moves.{free_blocks, is_erasable, is_free, state_of}
 use Rattle.ftl_core.specs.Takes.{found_or, lowest_below}
-use Rattle.ftl_core.proofs.NextJobs.{pinned_alike}
+use Rattle.ftl_core.proofs.NextJobs.{tasks_keep, pinned_alike}
 use Rattle.ftl_core.proofs.Spots.{found_lowest, free_counted, state_there}
 
 -- The lowest that passes
@@ -55,7 +55,7 @@ erasable_is : (c : Core) (t : Translation) (die block : ℕ) → Describes c t �
     is_erasable c die block ≡ may_be_erased t (spot_at die block)
 erasable_is c t die block h there within =
     let free = ap is_free (state_is c t die block h there within) ∙ free_kept (t.disk.blocks (spot_at die block)) in
-    let pinned = pinned_alike t.ledger t.disk.cells t.disk.erasing (reader_flies t) (spot_at die block) c.pins t.pins h.kept.pins in
+    let pinned = pinned_alike t.ledger t.disk.cells t.disk.erasing (reader_flies t) (spot_at die block) c.pins t.pins h.kept.pins ∙ tasks_keep t (spot_at die block) h.kept.work.no_rests in
     λ i. free i && not (pinned i)
 
 -- the block that is erased next

@@ -199,6 +199,16 @@ pinned_alike l cells erasing flies s (p ∷ ps) [] k = absurd k
 pinned_alike l cells erasing flies s (p ∷ ps) (q ∷ qs) k =
     λ i. looks_alike s p.looked q.looked k.0.looked_at i || pinned_alike l cells erasing flies s ps qs k.1 i
 
+-- where no rest of a page is to be read, tasks alone keep pages
+pub tasks_keep : (t : Translation) (s : Spot) → t.work.rests ≡ [] → list_any (λ (pin : layer.Pin). layer.looks_into s pin.looked) t.pins ≡ layer.is_pinned t s
+tasks_keep t s none =
+    sym (or_nothing (list_any (λ (pin : layer.Pin). layer.looks_into s pin.looked) t.pins))
+    ∙ ap (λ (rests : List layer.Rest). list_any (λ (pin : layer.Pin). layer.looks_into s pin.looked) t.pins || list_any (λ (rest : layer.Rest). layer.reads_from s rest.source) rests) (sym none)
+  where
+    or_nothing : (b : Bool) → (b || false) ≡ b
+    or_nothing true = refl
+    or_nothing false = refl
+
 there_begun : (l : Ledger) (cells : Cells) (erasing : Spot → Bool) (s : Spot) (k : Key) (q : ledger.Looked) → layer.looks_into s q ≡ false →
     IsThere l cells erasing k q → IsThere l cells (at_spot erasing s true) k q
 there_begun l cells erasing s k Unwritten apart is = is
@@ -238,7 +248,7 @@ erase_begun c t die b block h at idle closed within free =
     (groups_same c t die b (disk.Erasing (spot_at die block)) h at idle (λ name. refl))
     h.kept.work.step
     (same_marks c t die b (disk.Erasing (spot_at die block)) h at idle refl)
-    (pins_begun t.ledger t.disk.cells t.disk.erasing (reader_flies t) (spot_at die block) c.pins t.pins h.kept.pins free)
+    (pins_begun t.ledger t.disk.cells t.disk.erasing (reader_flies t) (spot_at die block) c.pins t.pins h.kept.pins (tasks_keep t (spot_at die block) h.kept.work.no_rests ∙ free))
   where
     no : false ≡ true → ⊥
     no e = cc

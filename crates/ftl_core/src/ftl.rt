@@ -402,8 +402,8 @@ impl Ftl {
         ensures number { result ≡ next_number self.old }
         ensures after { self.new ≡ accepted self.old key body.now }
         ensures described { (t : Translation) → Describes self.old t → key.kind ≡ 1 → key.unit ≤ 7 →
-            IsAllowedMove t (Accept 1 (record { key = key; body = body.now } ∷ []) []) →
-            Describes self.new (moved t (Accept 1 (record { key = key; body = body.now } ∷ []) [])) }
+            IsAllowedMove t (Accept 1 (record { key = key; body = body.now } ∷ [])) →
+            Describes self.new (moved t (Accept 1 (record { key = key; body = body.now } ∷ []))) }
         ensures described_number { (t : Translation) → Describes self.old t → result ≡ next_of_layer t.ledger }
     {
         let number = self.next_number();

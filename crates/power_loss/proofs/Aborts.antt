@@ -1,12 +1,11 @@
 -- Tasks that a host ends: their claims come back, and what they keep is let go.
-use Rattle.std.proofs.Common.{◌≡◌, ℕ, ◌+◌, ◌≤◌, Bool, true, false, not, cond, List, [], ◌∷◌, length, refl, arith}
+use Rattle.std.proofs.Common.{◌≡◌, ℕ, ◌+◌, ◌≤◌, ◌==◌, Bool, true, false, not, cond, List, [], ◌∷◌, length, refl, arith}
 use Rattle.std.specs.Prelude.{if◌then◌else◌, filter}
 use Rattle.std.specs.List.{flat_map}
 use Rattle.ufs_spec.specs.Exchanges.{Task, is_task_of}
-use Rattle.ufs_spec.specs.Machine.{abort_moves, is_aborted, managed, registers_behind, with_moves, without_tasks}
+use Rattle.ufs_spec.specs.Machine.{abort_moves, is_aborted, managed, registers_behind, service, with_moves, without_tasks}
 use Rattle.ufs_spec.specs.Moves.{LetGoAll, Release}
 use Rattle.ufs_spec.specs.Plain.{shape_of_numbers}
-use Rattle.ufs_spec.specs.Stages.{manages_tasks}
 use Rattle.ufs_spec.specs.Steps.{State, numbers_of}
 use Rattle.ufs_spec.specs.Translation.{is_mended}
 use Rattle.power_loss.specs.Exchange.{IsTied, claim_of, claims_of}
@@ -62,7 +61,7 @@ aborts_right s is v =
     (One (SetsRegisters (registers_behind (filter is s.tasks) s.registers)) (record { small = tt; layer = tt; tasks = (right_keeps back (right_keeps gone v)).tasks })))
 
 pub managed_right : (s : State) (lun function meant : ℕ) → IsTied s → Right s (managed s lun function meant)
-managed_right s lun function meant v = by manages_tasks
+managed_right s lun function meant v = by (service s lun function meant == 0x00)
   where
     by : (b : Bool) → Right s (if b then without_tasks s (is_aborted lun function meant) else s)
     by true = aborts_right s (is_aborted lun function meant) v
@@ -70,7 +69,7 @@ managed_right s lun function meant v = by manages_tasks
 
 -- a tag that is free stays so
 pub managed_free : (s : State) (lun function meant tag : ℕ) → IsFree s tag → IsFree (managed s lun function meant) tag
-managed_free s lun function meant tag free = by manages_tasks
+managed_free s lun function meant tag free = by (service s lun function meant == 0x00)
   where
     by : (b : Bool) → IsFree (if b then without_tasks s (is_aborted lun function meant) else s) tag
     by true = record { no_task = any_fewer (is_task_of tag) (λ (task : Task). not (is_aborted lun function meant task)) s.tasks free.no_task; no_short = free.no_short }

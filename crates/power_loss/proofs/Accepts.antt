@@ -1,14 +1,21 @@
 -- A group that is accepted keeps a life valid.
-use Rattle.std.proofs.Common.{◌≡◌, ℕ, ◌-◌, ◌≤◌, true, length, List, [], ◌∷◌, ◌++◌, Option, sym, subst, ⊎_elim, arith}
+use Rattle.std.proofs.Common.{◌≡◌, ℕ, ◌-◌, ◌≤◌, true, length, List, [], ◌∷◌, ◌++◌, Option, Some, None, refl, sym, subst, ⊎_elim, arith}
 use Rattle.std.proofs.lemmas.Option.{get_or_from_slice_get, slice_get_within}
 use Rattle.ufs_spec.specs.Disk.{Disk}
-use Rattle.ufs_spec.specs.Keys.{Group, Item}
-use Rattle.ufs_spec.specs.Ledger.{Ledger}
+use Rattle.ufs_spec.specs.Keys.{Group, Item, below}
+use Rattle.ufs_spec.specs.Ledger.{InSlot, Ledger, Looked, OnPage, Unwritten, look}
 use Rattle.ufs_spec.specs.Moves.{Accept, IsAllowedMove, IsGroup, moved}
-use Rattle.ufs_spec.specs.Translation.{Mended, Mending, Plan, Repairing, Rest, Step, Translation, Unmarked, is_mended, pending_pages}
+use Rattle.ufs_spec.specs.Translation.{FromPage, FromSlot, Mended, Mending, Plan, Repairing, Rest, Source, Step, Translation, Unmarked, awaits, is_mended, is_rest_of, pending_pages, rests_of, source_of}
 use Rattle.power_loss.specs.Book.{Book, HasKey, book}
-use Rattle.power_loss.specs.Invariant.{HistoryRight, MendingRight, SlotsRight, Valid}
-use Rattle.power_loss.proofs.Books.{MayAdd, book_grows, false_true, get_splits, grown, grown_length, plain_grows}
+use Rattle.power_loss.specs.Invariant.{HistoryRight, LookedRight, MendingRight, SlotsRight, SourceRight, Valid}
+use Rattle.power_loss.proofs.Books.{MayAdd, book_grows, false_true, get_splits, grown, grown_length, page_grows, plain_grows}
+use Rattle.std.specs.Prelude.{find, option_map}
+use Rattle.std.proofs.lemmas.List.Elements.{All-append, All-weaker}
+use Rattle.ufs_spec.proofs.Facts.{none-some, same_Some}
+use Rattle.power_loss.specs.Rests.{IsRestOf}
+use Rattle.power_loss.proofs.LookedKeys.{look_right}
+use Rattle.power_loss.proofs.PagesKept.{pins_stay}
+use Rattle.power_loss.proofs.RestsFound.{each_rest}
 use Rattle.power_loss.proofs.Slots.{more_pages}
 use Rattle.power_loss.proofs.Grows.{flights_grow, frontier_grows, kind_grows, marks_grow, pages_grow, plan_grows, safe_grows}
 
@@ -51,8 +58,24 @@ slots_grow t claimed g v few has =
     let w = v.slots.within in
     record { within = omega (arith, more, w, few, has) }
 
-pub accepts : (t : Translation) (claimed : ℕ) (g : Group) (rests : List Rest) → Valid t → IsAllowedMove t (Accept claimed g rests) → Valid (moved t (Accept claimed g rests))
-accepts t claimed g rests v may = record {
+-- the rest of a page comes from a page that is there
+source_there : (t : Translation) (x : Looked) (source : Source) → LookedRight (book t) t.ledger.frontier t.disk.cells t.disk.finished t.disk.erasing x → source_of t.work.rests x ≡ Some source →
+    SourceRight t.disk.cells t.disk.finished t.disk.erasing source
+source_there t Unwritten source h e = absurd (none-some source e)
+source_there t (OnPage name place) source h e = subst (SourceRight t.disk.cells t.disk.finished t.disk.erasing) (same_Some (FromPage place) source e) (name, h)
+source_there t (InSlot name) (FromSlot other) h e = tt
+source_there t (InSlot name) (FromPage place) h e = absurd (by (find (is_rest_of name) t.work.rests) e)
+  where
+    by : (o : Option Rest) → option_map (λ (rest : Rest). FromSlot (awaits rest.name rest.source)) o ≡ Some (FromPage place) → ⊥
+    by None k = cc
+    by (Some rest) k = cc
+
+rest_there : (t : Translation) (g : Group) (rest : Rest) → Valid t → IsGroup t g → IsRestOf t g rest → SourceRight t.disk.cells t.disk.finished t.disk.erasing rest.source
+rest_there t g rest v is r =
+    source_there t (look t.ledger r.item.key) rest.source (look_right t r.item.key v ((group_may t g is).keys r.index r.item r.at)) r.source
+
+pub accepts : (t : Translation) (claimed : ℕ) (g : Group) → Valid t → IsAllowedMove t (Accept claimed g) → Valid (moved t (Accept claimed g))
+accepts t claimed g v may = record {
   book_right = book_grows (book t) g (group_may t g may.4) v.book_right;
   frontier = frontier_grows (book t) g t.ledger.standing t.ledger.frontier v.frontier;
   pages = pages_grow (book t) g t.ledger.standing t.ledger.frontier t.disk.cells t.disk.finished v.pages;
@@ -70,4 +93,12 @@ accepts t claimed g rests v may = record {
       (history_grows (book t) g t.ledger.repairs t.ledger.held t.ledger.frontier
       (subst (HistoryRight (book t) t.ledger.repairs t.ledger.held t.ledger.frontier) may.0 v.history));
   slots = slots_grow t claimed g v may.2 may.3;
+  unmended = v.unmended;
+  pins = pins_stay (book t) (grown (book t) g) t.ledger.frontier t.disk.cells t.disk.cells t.disk.finished t.disk.finished t.disk.erasing t.disk.erasing t.pins
+      (λ n i e h. page_grows (book t) g n i e h) (λ q some ended stays. record { there = refl; ended = ended; stays = stays }) v.pins;
+  rests = record {
+    each = All-append (λ (rest : Rest). SourceRight t.disk.cells t.disk.finished t.disk.erasing rest.source) t.work.rests (rests_of t g) v.rests.each
+        (All-weaker (IsRestOf t g) (λ (rest : Rest). SourceRight t.disk.cells t.disk.finished t.disk.erasing rest.source) (λ rest h. rest_there t g rest v may.4 h) (rests_of t g)
+        (each_rest t g (below (length g))));
+  };
 }

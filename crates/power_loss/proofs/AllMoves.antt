@@ -42,9 +42,9 @@ takes t die (Erasing s) v may = takes_erase t die s v may
 pub all_keep : (t : Translation) (move : Move) → Valid t → IsAllowedMove t move → Valid (moved t move)
 all_keep t (Claim count) v may = claims t count may v
 all_keep t (Release count) v may = releases t count v
-all_keep t (Accept claimed g rests) v may = accepts t claimed g rests v may
+all_keep t (Accept claimed g) v may = accepts t claimed g v may
 all_keep t (Tell count) v may = tells t count v may
-all_keep t (Keep key pin) v may = keeps t key pin v
+all_keep t (Keep key pin) v may = keeps t key pin may.0 may.1 v
 all_keep t (WantPage tag index) v may = wants_page t tag index v
 all_keep t (LetGo tag index) v may = lets_go t tag index v
 all_keep t (LetGoAll tag) v may = lets_go_all t tag v

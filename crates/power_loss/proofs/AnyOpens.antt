@@ -1,5 +1,5 @@
 -- A device can be opened over any array that is sound and suits it: the state that an opening finds is one.
-use Rattle.std.proofs.Common.{◌≡◌, ℕ, suc, ◌≤◌, Bool, true, false, [], Option, Some, None, refl, sym, ap, subst, arith}
+use Rattle.std.proofs.Common.{◌≡◌, ℕ, suc, ◌≤◌, Bool, true, false, [], Option, Some, None, refl, ap, subst, arith}
 use Rattle.ufs_laws.proofs.Newest.{holds}
 use Rattle.ufs_laws.proofs.One.{cells_one, mark_one}
 use Rattle.ufs_laws.proofs.OneCell.{one_cell}
@@ -25,8 +25,10 @@ use Rattle.power_loss.specs.Exchange.{IsArrayOf}
 use Rattle.power_loss.proofs.OpenedBook.{cells_right}
 use Rattle.power_loss.proofs.OpeningFinds.{block_at, first_of, is_entry, mending_at, some_top, stands_at}
 
-module _ (n : Numbers) (c : Cells) (within : AreWithin n c) (bad : Spot → Bool) (m : Option Mark) (newest : IsNewestMark c m) (kept : ℕ) (is_kept : IsKept c m kept) (base : Plain)
-    (holds_base : HoldAll n c m kept (content base)) (suit : CellsSuit n c m) (ordered : (f : Fence) → fence_in m ≡ Some f → f.first ≤ f.last) where
+module _ (n : Numbers) (c : Cells) (within : AreWithin n c) (bad : Spot → Bool) (m : Option Mark)
+    (newest : IsNewestMark c m) (kept : ℕ) (is_kept : IsKept c m kept) (base : Plain)
+    (holds_base : HoldAll n c m kept (content base)) (suit : CellsSuit n c m)
+    (ordered : (f : Fence) → fence_in m ≡ Some f → f.first ≤ f.last) where
   last : ℕ
   last = (some_top n c within m).0
 
@@ -58,7 +60,8 @@ module _ (n : Numbers) (c : Cells) (within : AreWithin n c) (bad : Spot → Bool
   ledger = record {
     base = content base;
     old = λ number index. (is_entry n c within (record { number = number; index = index })).0;
-    first = λ k. (first_of n c within m kept k (holds n c within m (suc kept) k).0 (holds n c within m (suc kept) k).1).0;
+    first = λ k. (first_of n c within m kept k (holds n c within m (suc kept) k).0
+        (holds n c within m (suc kept) k).1).0;
     top = last;
     low = low;
     groups = [];
@@ -101,7 +104,8 @@ module _ (n : Numbers) (c : Cells) (within : AreWithin n c) (bad : Spot → Bool
     low = refl;
     old = λ number index. (is_entry n c within (record { number = number; index = index })).1;
     standing = λ number index. (stands_at n c within (record { number = number; index = index })).1;
-    first = λ k key. (first_of n c within m kept k (holds n c within m (suc kept) k).0 (holds n c within m (suc kept) k).1).1;
+    first = λ k key. (first_of n c within m kept k (holds n c within m (suc kept) k).0
+        (holds n c within m (suc kept) k).1).1;
     none_new = refl;
     none_repaired = refl;
     frontier = refl;
@@ -157,7 +161,8 @@ module _ (n : Numbers) (c : Cells) (within : AreWithin n c) (bad : Spot → Bool
 
 -- The array
 
-ordered_fence : (c : Cells) (m : Option Mark) → CellsRight c → IsNewestMark c m → (f : Fence) → fence_in m ≡ Some f → f.first ≤ f.last
+ordered_fence : (c : Cells) (m : Option Mark) → CellsRight c → IsNewestMark c m → (f : Fence) → fence_in m ≡ Some f →
+    f.first ≤ f.last
 ordered_fence c None right newest f e = absurd (none-some f e)
 ordered_fence c (Some m) right newest f e = right.fences newest.0.0 m f newest.0.1 e
 
@@ -167,7 +172,8 @@ are_plain = state_is_plain
 are_there : ContentsAreThere
 are_there = λ s f contents whole k is_key. contents_there s f contents k is_key
 
-pub any_opens : (n : Numbers) (array : Array) (bad : Spot → Bool) → IsArrayOf n array → Sound array → Suits n array → (s : State) × IsOpened n array bad s
+pub any_opens : (n : Numbers) (array : Array) (bad : Spot → Bool) → IsArrayOf n array → Sound array → Suits n array →
+    (s : State) × IsOpened n array bad s
 any_opens n array bad inside sound suits =
     let found = stands_for_something are_plain are_there n array inside sound suits in
     let base : Plain = found.0 in
@@ -178,8 +184,11 @@ any_opens n array bad inside sound suits =
     let same : sound.cells ≡ c = cells_one one_cell array sound.cells c sound.shown shown in
     let suited : suits.cells ≡ c = cells_one one_cell array suits.cells c suits.shown shown in
     let first : IsNewestMark c sound.newest = subst (λ (x : Cells). IsNewestMark x sound.newest) same sound.is_newest in
-    let other : IsNewestMark c suits.newest = subst (λ (x : Cells). IsNewestMark x suits.newest) suited suits.is_newest in
+    let other : IsNewestMark c suits.newest = subst
+    (λ (x : Cells). IsNewestMark x suits.newest) suited suits.is_newest in
     let right : CellsSound c sound.newest = subst (λ (x : Cells). CellsSound x sound.newest) same sound.sound in
     let one : suits.newest ≡ is.newest = mark_one c sound.newest suits.newest is.newest right other is.is_newest in
-    let suit : CellsSuit n c is.newest = subst (CellsSuit n c) one (subst (λ (x : Cells). CellsSuit n x suits.newest) suited suits.suit) in
-    opens n c within bad is.newest is.is_newest is.kept is.is_kept base is.holds suit (ordered_fence c is.newest (cells_right array c shown) is.is_newest) array shown found.1
+    let suit : CellsSuit n c is.newest = subst (CellsSuit n c) one
+    (subst (λ (x : Cells). CellsSuit n x suits.newest) suited suits.suit) in
+    opens n c within bad is.newest is.is_newest is.kept is.is_kept base is.holds suit
+    (ordered_fence c is.newest (cells_right array c shown) is.is_newest) array shown found.1

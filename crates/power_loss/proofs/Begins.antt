@@ -136,4 +136,7 @@ module _ (t : Translation) (die : ℕ) (p : Place) (cell : Cell) (v : Valid t) (
     plan = begun_plan;
     history = v.history;
     slots = v.slots;
+    unmended = v.unmended;
+    pins = v.pins;
+    rests = v.rests;
   }

@@ -73,7 +73,7 @@ first_byte (cdb.ReportLuns a b) = refl
 first_byte (cdb.SecurityIn a) = refl
 first_byte (cdb.SecurityOut a) = refl
 
-operation_is : (c : Option Cdb) (command : Cdb) (taken : List ℕ) → IsCdbIn (Some taken) c → c ≡ Some command → slice_index taken 0 ≡ operation_of command
+pub operation_is : (c : Option Cdb) (command : Cdb) (taken : List ℕ) → IsCdbIn (Some taken) c → c ≡ Some command → slice_index taken 0 ≡ operation_of command
 operation_is c command taken h e =
     let spells : SpellsCdb command taken = subst (IsCdbIn (Some taken)) e h in
     ap (λ (bytes : List ℕ). slice_index bytes 0) spells.2 ∙ first_byte command
@@ -98,7 +98,7 @@ heard_right s (message.TaskResponse lun tag response) c bytes v spells spelled h
 heard_right s (message.ReadyToTransfer lun tag offset count) c bytes v spells spelled h = Still
 heard_right s (message.QueryResponse tag function response asked size value «data») c bytes v spells spelled h = Still
 
-no_fault : (x : Option HostFault) (done : Unit {0}) → Ok done ≡ result_of x → x ≡ None
+pub no_fault : (x : Option HostFault) (done : Unit {0}) → Ok done ≡ result_of x → x ≡ None
 no_fault None done h = refl
 no_fault (Some fault) done h = absurd (other h)
   where

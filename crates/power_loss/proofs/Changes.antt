@@ -11,7 +11,8 @@ use Rattle.ufs_spec.specs.declared.flash.Place.{Place}
 use Rattle.ufs_spec.specs.declared.flash.Tag.{Tag}
 use Rattle.power_loss.specs.Book.{book, last_number}
 use Rattle.power_loss.specs.Invariant.{AreFreeBlank, AreNumbered, BlocksRight, EraseRight, FlightsRight, IsLastRepair, IsOpenedOrOwn, IsOwnMark, IsToCopy, MarkFlightRight, MarksRight, MendingRight, PagesRight, PlanRight, ProgramRight, StepKindRight, StepRight, UnmarkedRight, Valid}
-use Rattle.power_loss.proofs.Secures.{Keeps, all_safe, free_is_not_bad, mark_stands_moves, true_is_not_false}
+use Rattle.power_loss.proofs.Secures.{Keeps, all_safe, free_is_not_bad, mark_stands_moves, secure_moves, true_is_not_false}
+use Rattle.power_loss.proofs.PagesKept.{HeldStay}
 
 -- a program that failed left its page there
 pub record IsFresh (t : Translation) (e : Disk) (q : Place) : Type 0 where
@@ -244,9 +245,9 @@ module _ (t : Translation) (e : Disk) (v : Valid t) (c : Change t e) where
 abbrev pub IsGone : Translation → Disk → Type 0
 IsGone t e = AreFreeBlank t.disk.cells t.disk.blocks t.disk.erasing → (p : Place) → e.cells p ≡ Nothing → t.disk.cells p ≡ Nothing
 
-pub changed : (t : Translation) (e : Disk) (marks : ℕ) (step : Option Step) → Valid t → Change t e → IsGone t e → Follows t e marks step →
+pub changed : (t : Translation) (e : Disk) (marks : ℕ) (step : Option Step) → Valid t → Change t e → IsGone t e → Follows t e marks step → HeldStay t e →
     Valid (record t { disk = e; ledger = record t.ledger { marks = marks }; work = record t.work { step = step } })
-changed t e marks step v c gone f = record {
+changed t e marks step v c gone f held = record {
   book_right = v.book_right;
   frontier = v.frontier;
   pages = pages_change t e v c;
@@ -259,6 +260,9 @@ changed t e marks step v c gone f = record {
   plan = plan_change t e v c marks step f;
   history = v.history;
   slots = v.slots;
+  unmended = record { stand = λ un n i p h. secure_moves t.disk e t.ledger.standing n i c.keeps (v.unmended.stand un n i p h) };
+  pins = held.0;
+  rests = held.1;
 }
 
 -- The same step
@@ -290,8 +294,9 @@ same_step t e v c old = record {
 }
 
 -- a change that only loses pages
-pub lost_pages : (t : Translation) (e : Disk) → Valid t → Change t e → IsGone t e → ((q : Place) → (e.cells q ≡ t.disk.cells q) ⊎ (e.cells q ≡ Nothing)) →
+pub lost_pages : (t : Translation) (e : Disk) → Valid t → Change t e → IsGone t e → ((q : Place) → (e.cells q ≡ t.disk.cells q) ⊎ (e.cells q ≡ Nothing)) → HeldStay t e →
     Valid (record t { disk = e })
-lost_pages t e v c gone less =
+lost_pages t e v c gone less held =
     changed t e t.ledger.marks t.work.step v c gone
     (same_step t e v c (λ q m h. ⊎_elim (λ k. sym k ∙ h) (λ k. absurd (is_mark (e.cells q) m k h)) (less q)))
+    held

@@ -16,9 +16,11 @@ use Rattle.power_loss.specs.Exchange.{IsArrayOf}
 use Rattle.power_loss.specs.Runs.{AreNewDies, IsNewDie, MayBeOpened}
 
 no_pages : (d : DieState) (block page : ℕ) → length d.blocks ≤ block → page_at d block page ≡ blank_page
-no_pages d block page l = ap (λ (pages : List Page). slice_index_or pages page blank_page) (get_or_past d.blocks block [] l) ∙ get_or_past [] page blank_page (omega arith)
+no_pages d block page l = ap (λ (pages : List Page). slice_index_or pages page blank_page)
+    (get_or_past d.blocks block [] l) ∙ get_or_past [] page blank_page (omega arith)
 
-on_die : (n : Numbers) (d : DieState) (p : Place) → IsOfSize n.blocks n.pages d → p.die < n.dies → (IsPlace n p → ⊥) → page_at d p.block p.page ≡ blank_page
+on_die : (n : Numbers) (d : DieState) (p : Place) → IsOfSize n.blocks n.pages d → p.die < n.dies → (IsPlace n p → ⊥) →
+    page_at d p.block p.page ≡ blank_page
 on_die n d p size die out =
     ⊎_elim
     (λ (block : suc p.block ≤ n.blocks).
@@ -36,9 +38,11 @@ fit_inside n dies fit p out =
     ⊎_elim
     (λ (die : suc p.die ≤ length dies).
     let many = fit.0 in
-    on_die n (slice_index_or dies p.die (new_die 0 0)) p (All-get_or (IsOfSize n.blocks n.pages) dies p.die (new_die 0 0) die fit.1) (omega arith) out)
+    on_die n (slice_index_or dies p.die (new_die 0 0)) p
+    (All-get_or (IsOfSize n.blocks n.pages) dies p.die (new_die 0 0) die fit.1) (omega arith) out)
     (λ (die : length dies < suc p.die).
-    ap (λ (d : DieState). page_at d p.block p.page) (get_or_past dies p.die (new_die 0 0) (omega arith)) ∙ new_die_blank 0 0 p.block p.page)
+    ap (λ (d : DieState). page_at d p.block p.page) (get_or_past dies p.die (new_die 0 0) (omega arith))
+    ∙ new_die_blank 0 0 p.block p.page)
     (split (suc p.die) (length dies))
 
 -- New dies

@@ -1,5 +1,5 @@
 -- A program or an erase may fail and leave each lawful leftover of it, and no other; and a read may fail.
-use Rattle.std.proofs.Common.{◌≡◌, ◌⊎◌, ◌==◌, ℕ, Bool, true, false, [], ◌∷◌, Option, Some, None, refl, sym, ap, ◌∙◌, subst, inl, inr, ⊎_elim}
+use Rattle.std.proofs.Common.{◌≡◌, ◌==◌, ℕ, true, [], ◌∷◌, Option, Some, None, refl, sym, ap, ◌∙◌, subst, inl, ⊎_elim}
 use Rattle.std.specs.Prelude.{Contains}
 use Rattle.ufs_laws.proofs.SomeCell.{some_cell}
 use Rattle.ufs_spec.specs.Cells.{Array, Cell, Cells, Shows}
@@ -26,12 +26,14 @@ use Rattle.power_loss.proofs.OneMore.{eq_self, if_false, if_true, two_ways}
 alone_own : (flights : ℕ → Option Flight) (die other : ℕ) → other ≡ die → flight_alone flights die other ≡ flights other
 alone_own flights die other e = if_true (other == die) (flights other) None (ap (λ (d : ℕ). d == die) e ∙ eq_self die)
 
-touches_alone : (flights : ℕ → Option Flight) (die : ℕ) (p : Place) (intended : Cell) → Touches (flight_alone flights die p.die) p intended →
+touches_alone : (flights : ℕ → Option Flight) (die : ℕ) (p : Place) (intended : Cell) →
+    Touches (flight_alone flights die p.die) p intended →
     Touches (flights p.die) p intended
 touches_alone flights die p intended h =
     ⊎_elim
     (λ e. subst (λ (f : Option Flight). Touches f p intended) (if_true (p.die == die) (flights p.die) None e) h)
-    (λ e. absurd (subst (λ (f : Option Flight). Touches f p intended) (if_false (p.die == die) (flights p.die) None e) h))
+    (λ e. absurd (subst (λ (f : Option Flight). Touches f p intended)
+    (if_false (p.die == die) (flights p.die) None e) h))
     (two_ways (p.die == die))
 
 module _ (s : State) (v : ValidState s) (die : ℕ) (l : Leftover) where
@@ -39,7 +41,8 @@ module _ (s : State) (v : ValidState s) (die : ℕ) (l : Leftover) where
   Flies = s.translation.disk.flights
 
   -- the leftover of a job is on the job's die
-  home : (flight : Flight) → Flies die ≡ Some flight → (m : Leftover) → IsLeftoverOf (numbers_of s) (Some flight) m → die_of m ≡ die
+  home : (flight : Flight) → Flies die ≡ Some flight → (m : Leftover) → IsLeftoverOf (numbers_of s) (Some flight) m →
+      die_of m ≡ die
   home (Programming p cell) e (leftover.Page q page) fit =
       ap (λ (r : Place). r.die) fit ∙ (v.tied.valid.flights.programs die p cell e).at_home
   home (Programming p cell) e (leftover.Block d block pages) fit = absurd fit
@@ -55,12 +58,14 @@ module _ (s : State) (v : ValidState s) (die : ℕ) (l : Leftover) where
 
     module _ (lawful : IsLawfulLeftover s l) where
       lawful_alone : (m : Leftover) → Contains (l ∷ []) m → (p : Place) (page : Page) → page_left m p page →
-          (intended : Cell) × Touches (flight_alone Flies die p.die) p intended × MayBeLeft (s.array p) (page_of intended) page
+          (intended : Cell) × Touches (flight_alone Flies die p.die) p intended ×
+          MayBeLeft (s.array p) (page_of intended) page
       lawful_alone m there p page h =
           let named : page_left l p page = subst (λ (x : Leftover). page_left x p page) (only_contained l m there) h in
           let is = lawful p page named in (
             is.0,
-            subst (λ (f : Option Flight). Touches f p is.0) (sym (alone_own Flies die p.die (named_home p page named))) is.1,
+            subst (λ (f : Option Flight). Touches f p is.0)
+                (sym (alone_own Flies die p.die (named_home p page named))) is.1,
             is.2,
           )
 
@@ -84,54 +89,80 @@ module _ (s : State) (v : ValidState s) (die : ℕ) (l : Leftover) where
 
 -- A job that fails leads on
 
-failure_leads : (s : State) (die : ℕ) (flight : Flight) (l : Option Leftover) (ending : Ending) (left : Array) →
-    s.translation.disk.flights die ≡ Some flight → fits (Some flight) ending ≡ true → IsFailure s die (Some flight) l ending left →
-    (t : State) × Leads s (event.Fail die l) output.Ended t
-failure_leads s die flight l ending left flies fit h = (
-  observe s (Finish die ending left) (Finishes true),
-  record {
-    call = Finish die ending left;
-    answer = Finishes true;
-    is_call = (ending, left, subst (λ (f : Option Flight). IsFailure s die f l ending left) (sym flies) h, refl);
-    is_shown = refl;
-    right = sym (ap (λ (f : Option Flight). fits f ending) flies ∙ fit);
-    next = refl;
-  },
+pub failure_leads : (s : State) (die : ℕ) (flight : Flight) (l : Option Leftover) (ending : Ending) (left : Array) →
+    s.translation.disk.flights die ≡ Some flight → fits (Some flight) ending ≡ true →
+    IsFailure s die (Some flight) l ending left →
+    Leads s (event.Fail die l) output.Ended (observe s (Finish die ending left) (Finishes true))
+failure_leads s die flight l ending left flies fit h = record {
+  call = Finish die ending left;
+  answer = Finishes true;
+  is_call = (ending, left, subst (λ (f : Option Flight). IsFailure s die f l ending left) (sym flies) h, refl);
+  is_shown = refl;
+  right = sym (ap (λ (f : Option Flight). fits f ending) flies ∙ fit);
+  next = refl;
+}
+
+-- what a failure of the job leaves by the leftover
+abbrev Failure : State → ℕ → Flight → Leftover → Type 0
+Failure s die flight l = (c : Cells) × (left : Array) × IsFailure s die (Some flight) (Some l) (WentWrong c) left
+
+pub program_failure : (s : State) (die : ℕ) (p : Place) (cell : Cell) (l : Leftover) → ValidState s →
+    s.translation.disk.flights die ≡ Some (Programming p cell) →
+    IsLeftoverOf (numbers_of s) (Some (Programming p cell)) l →
+    IsLawfulLeftover s l → Failure s die (Programming p cell) l
+program_failure s die p cell l v e fit lawful = (
+  cells_here s v die l (Programming p cell) e fit lawful,
+  left_here s v die l (Programming p cell) e fit lawful,
+  (
+    fit,
+    is_left_here s v die l (Programming p cell) e fit lawful,
+    crash_here s v die l (Programming p cell) e fit lawful,
+    shown_here s v die l (Programming p cell) e fit lawful,
+  ),
 )
 
-pub job_fails : (s : State) (die : ℕ) (flight : Flight) (l : Leftover) → ValidState s → s.translation.disk.flights die ≡ Some flight →
-    IsLeftoverOf (numbers_of s) (Some flight) l → IsLawfulLeftover s l → (t : State) × Leads s (event.Fail die (Some l)) output.Ended t
+erase_failure : (s : State) (die : ℕ) (spot : Spot) (l : Leftover) → ValidState s →
+    s.translation.disk.flights die ≡ Some (Erasing spot) →
+    IsLeftoverOf (numbers_of s) (Some (Erasing spot)) l → IsLawfulLeftover s l → Failure s die (Erasing spot) l
+erase_failure s die spot l v e fit lawful = (
+  cells_here s v die l (Erasing spot) e fit lawful,
+  left_here s v die l (Erasing spot) e fit lawful,
+  (
+    fit,
+    is_left_here s v die l (Erasing spot) e fit lawful,
+    crash_here s v die l (Erasing spot) e fit lawful,
+    shown_here s v die l (Erasing spot) e fit lawful,
+  ),
+)
+
+pub job_fails : (s : State) (die : ℕ) (flight : Flight) (l : Leftover) → ValidState s →
+    s.translation.disk.flights die ≡ Some flight →
+    IsLeftoverOf (numbers_of s) (Some flight) l → IsLawfulLeftover s l → (t : State) ×
+    Leads s (event.Fail die (Some l)) output.Ended t
 job_fails s die (Programming p cell) l v e fit lawful =
-    failure_leads s die (Programming p cell) (Some l) (WentWrong (cells_here s v die l (Programming p cell) e fit lawful))
-    (left_here s v die l (Programming p cell) e fit lawful) e refl (
-      fit,
-      is_left_here s v die l (Programming p cell) e fit lawful,
-      crash_here s v die l (Programming p cell) e fit lawful,
-      shown_here s v die l (Programming p cell) e fit lawful,
-    )
+    let f = program_failure s die p cell l v e fit lawful in
+    (_, failure_leads s die (Programming p cell) (Some l) (WentWrong f.0) f.1 e refl f.2)
 job_fails s die (Erasing spot) l v e fit lawful =
-    failure_leads s die (Erasing spot) (Some l) (WentWrong (cells_here s v die l (Erasing spot) e fit lawful))
-    (left_here s v die l (Erasing spot) e fit lawful) e refl (
-      fit,
-      is_left_here s v die l (Erasing spot) e fit lawful,
-      crash_here s v die l (Erasing spot) e fit lawful,
-      shown_here s v die l (Erasing spot) e fit lawful,
-    )
+    let f = erase_failure s die spot l v e fit lawful in
+    (_, failure_leads s die (Erasing spot) (Some l) (WentWrong f.0) f.1 e refl f.2)
 job_fails s die (Reading reader p) (leftover.Page q page) v e fit lawful = absurd fit
 job_fails s die (Reading reader p) (leftover.Block d block pages) v e fit lawful = absurd fit
 
-pub read_fails : (s : State) (die : ℕ) (reader : Reader) (p : Place) → s.translation.disk.flights die ≡ Some (Reading reader p) →
+pub read_fails : (s : State) (die : ℕ) (reader : Reader) (p : Place) →
+    s.translation.disk.flights die ≡ Some (Reading reader p) →
     (t : State) × Leads s (event.Fail die None) output.Ended t
-read_fails s die reader p e = failure_leads s die (Reading reader p) None ReadWrong s.array e refl refl
+read_fails s die reader p e = (_, failure_leads s die (Reading reader p) None ReadWrong s.array e refl refl)
 
 -- And no other
 
-module _ (s : State) (v : ValidState s) (die : ℕ) (flight : Flight) (l : Leftover) (left : Array) (flies : s.translation.disk.flights die ≡ Some flight)
+module _ (s : State) (v : ValidState s) (die : ℕ) (flight : Flight) (l : Leftover) (left : Array)
+    (flies : s.translation.disk.flights die ≡ Some flight)
     (fit : IsLeftoverOf (numbers_of s) (Some flight) l) (is_left : IsLeft s.array (l ∷ []) left)
     (crash : Crash s.array (flight_alone s.translation.disk.flights die) left) where
   failed_lawful : IsLawfulLeftover s l
   failed_lawful p page h =
-      let is : left p ≡ page = left_named s.array (l ∷ []) (one_apart l) left is_left p page (l, first_contained l [], h) in
+      let is : left p ≡ page = left_named s.array (l ∷ []) (one_apart l) left is_left p page
+      (l, first_contained l [], h) in
       ⊎_elim
       (λ (old : left p ≡ s.array p).
       let t = named_touches (numbers_of s) (Some flight) l p page fit h in (
@@ -140,13 +171,19 @@ module _ (s : State) (v : ValidState s) (die : ℕ) (flight : Flight) (l : Lefto
             (sym (ap s.translation.disk.flights (named_home s v die l flight flies fit p page h) ∙ flies)) t.1,
         inl (sym is ∙ old),
       ))
-      (λ (k : (intended : Cell) × Touches (flight_alone s.translation.disk.flights die p.die) p intended × MayBeLeft (s.array p) (page_of intended) (left p)).
+      (λ (k : (intended : Cell) × Touches (flight_alone s.translation.disk.flights die p.die) p intended ×
+      MayBeLeft (s.array p) (page_of intended) (left p)).
       (k.0, touches_alone s.translation.disk.flights die p k.0 k.1, subst (MayBeLeft (s.array p) (page_of k.0)) is k.2))
       (crash p)
 
-pub failure_lawful : (s : State) (die : ℕ) (flight : Flight) (l : Leftover) (ending : Ending) (left : Array) → ValidState s →
-    s.translation.disk.flights die ≡ Some flight → IsFailure s die (Some flight) (Some l) ending left → IsLawfulLeftover s l
-failure_lawful s die (Programming p cell) l (WentWrong c) left v e h = failed_lawful s v die (Programming p cell) l left e h.0 h.1 h.2
-failure_lawful s die (Erasing spot) l (WentWrong c) left v e h = failed_lawful s v die (Erasing spot) l left e h.0 h.1 h.2
-failure_lawful s die (Reading reader p) l (WentWrong c) left v e h = failed_lawful s v die (Reading reader p) l left e h.0 h.1 h.2
+pub failure_lawful : (s : State) (die : ℕ) (flight : Flight) (l : Leftover) (ending : Ending) (left : Array) →
+    ValidState s →
+    s.translation.disk.flights die ≡ Some flight → IsFailure s die (Some flight) (Some l) ending left →
+    IsLawfulLeftover s l
+failure_lawful s die (Programming p cell) l (WentWrong c) left v e h = failed_lawful s v die
+    (Programming p cell) l left e h.0 h.1 h.2
+failure_lawful s die (Erasing spot) l (WentWrong c) left v e h = failed_lawful s v die
+    (Erasing spot) l left e h.0 h.1 h.2
+failure_lawful s die (Reading reader p) l (WentWrong c) left v e h = failed_lawful s v die
+    (Reading reader p) l left e h.0 h.1 h.2
 failure_lawful s die flight l ending left v e h = absurd h

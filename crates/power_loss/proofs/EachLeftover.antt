@@ -1,5 +1,5 @@
 -- Lawful leftovers that fit the jobs in flight, of any number of dies, are left by a stop; and a stop leaves no others.
-use Rattle.std.proofs.Common.{◌≡◌, ◌≢◌, ◌⊎◌, ℕ, zero, suc, List, [], ◌∷◌, Option, Some, None, slice_get, refl, sym, ap, ◌∙◌, subst, inl, inr, ⊎_elim}
+use Rattle.std.proofs.Common.{◌≡◌, ◌⊎◌, ℕ, zero, suc, List, [], ◌∷◌, Option, Some, None, slice_get, refl, sym, ◌∙◌, subst, inl, inr, ⊎_elim}
 use Rattle.std.proofs.lemmas.List.Elements.{All-contains, All-nil}
 use Rattle.std.specs.Prelude.{Contains}
 use Rattle.ufs_laws.proofs.Crashes.{old_left}
@@ -82,7 +82,8 @@ left_by array lefts p = pick lefts p (chosen lefts p) (array p)
 -- what may become of a page: it stays, or is one that the job of its die may leave
 abbrev MayBecome : Array → (ℕ → Option Flight) → Place → Page → Type 0
 MayBecome array flights p page =
-    (page ≡ array p) ⊎ ((intended : Cell) × Touches (flights p.die) p intended × MayBeLeft (array p) (page_of intended) page)
+    (page ≡ array p) ⊎ ((intended : Cell) × Touches (flights p.die) p intended ×
+    MayBeLeft (array p) (page_of intended) page)
 
 module _ (array : Array) (lefts : List Leftover) where
   left_at : (p : Place) (x : Named lefts p ⊎ Unnamed lefts p) →
@@ -96,7 +97,8 @@ module _ (array : Array) (lefts : List Leftover) where
   unfolding left_by
   is_left_by p = left_at p (chosen lefts p)
 
-  module _ (flights : ℕ → Option Flight) (lawful : (l : Leftover) → Contains lefts l → (p : Place) (page : Page) → page_left l p page →
+  module _ (flights : ℕ → Option Flight)
+      (lawful : (l : Leftover) → Contains lefts l → (p : Place) (page : Page) → page_left l p page →
       (intended : Cell) × Touches (flights p.die) p intended × MayBeLeft (array p) (page_of intended) page) where
     crash_at : (p : Place) (x : Named lefts p ⊎ Unnamed lefts p) → MayBecome array flights p (pick lefts p x (array p))
     unfolding pick
@@ -109,7 +111,8 @@ module _ (array : Array) (lefts : List Leftover) where
 
 -- A stop
 
-pub each_stops : (s : State) (lefts : List Leftover) → AreLeftovers s lefts → ((l : Leftover) → Contains lefts l → IsLawfulLeftover s l) →
+pub each_stops : (s : State) (lefts : List Leftover) → AreLeftovers s lefts →
+    ((l : Leftover) → Contains lefts l → IsLawfulLeftover s l) →
     (left : Array) × Stops s lefts left
 each_stops s lefts fit lawful = (
   left_by s.array lefts,
@@ -131,7 +134,8 @@ none_left s = record {
 -- And no others
 
 -- a job touches each page that a leftover of it names
-pub named_touches : (n : Numbers) (f : Option Flight) (l : Leftover) (p : Place) (page : Page) → IsLeftoverOf n f l → page_left l p page →
+pub named_touches : (n : Numbers) (f : Option Flight) (l : Leftover) (p : Place) (page : Page) → IsLeftoverOf n f l →
+    page_left l p page →
     (intended : Cell) × Touches f p intended
 named_touches n (Some (Programming q cell)) (leftover.Page r x) p page fit h = (cell, (sym fit ∙ h.0, refl))
 named_touches n (Some (Programming q cell)) (leftover.Block die block pages) p page fit h = absurd fit
@@ -146,7 +150,8 @@ module _ (s : State) (lefts : List Leftover) (left : Array) (stops : Stops s lef
   abbrev Flies : ℕ → Option Flight
   Flies = s.translation.disk.flights
 
-  touches : (l : Leftover) (p : Place) (page : Page) → Contains lefts l → page_left l p page → (intended : Cell) × Touches (Flies p.die) p intended
+  touches : (l : Leftover) (p : Place) (page : Page) → Contains lefts l → page_left l p page → (intended : Cell) ×
+      Touches (Flies p.die) p intended
   touches l p page there h =
       named_touches (numbers_of s) (Flies p.die) l p page
       (subst (λ (die : ℕ). IsLeftoverOf (numbers_of s) (Flies die) l) (named_die l p page h)

@@ -1,21 +1,24 @@
 -- Moves that leave pages and groups as they are.
-use Rattle.std.proofs.Common.{◌≡◌, ℕ, suc, ◌+◌, ◌-◌, ◌==◌, ◌≤◌, ◌⊎◌, Bool, true, List, max, Option, Some, None, refl, sym, ap, subst, inl, inr, ⊎_elim, arith}
+use Rattle.std.proofs.Common.{◌≡◌, ℕ, suc, ◌+◌, ◌-◌, ◌==◌, ◌≤◌, ◌⊎◌, Bool, true, false, List, max, Option, Some, None, refl, sym, ap, subst, inl, inr, ⊎_elim, arith}
 use Rattle.ufs_spec.specs.Cells.{Cell, GroupPage, Mark, MarkPage}
 use Rattle.ufs_spec.specs.Disk.{Disk, Erasing, Flight, Programming, Reader, Reading, ForTask, ForStep, ForRest, ForNobody, Spot, at_die}
-use Rattle.ufs_spec.specs.Ledger.{Ledger, before_accepted}
+use Rattle.ufs_spec.specs.Ledger.{Ledger, before_accepted, look}
 use Rattle.ufs_spec.specs.Moves.{Claim, Keep, LetGo, LetGoAll, ReadRight, ReadWrong, Release, Tell, WantPage, die_idle, is_for, is_for_task, is_pin_of, let_go, without_reader, job_ended, moved, read_right, read_wrong, step_there}
 use Rattle.ufs_spec.specs.Translation.{CopyStep, MarkStep, Mending, Mended, Pin, Plan, RepairStep, Repairing, Rest, Step, StepKind, Translation, Unmarked, free_slots, is_mended, pending_pages, taken}
 use Rattle.ufs_spec.specs.declared.flash.Key.{Key}
 use Rattle.ufs_spec.specs.declared.flash.Place.{Place}
-use Rattle.power_loss.specs.Book.{Book, book, last_number}
-use Rattle.power_loss.specs.Invariant.{FlightsRight, Flights, FrontierRight, HistoryRight, IsLastRepair, IsMarked, IsToCopy, MarkFlightRight, MarksRight, MendingRight, OnePlanRight, PlanRight, RepairingRight, SlotsRight, StandsIn, StepRight, UnmarkedRight, Valid}
+use Rattle.power_loss.specs.Book.{Book, HasKey, book, last_number}
+use Rattle.power_loss.specs.Invariant.{FlightsRight, Flights, FrontierRight, HistoryRight, IsLastRepair, IsMarked, IsToCopy, LookedRight, MarkFlightRight, MarksRight, MendingRight, OnePlanRight, PinsRight, PlanRight, RepairingRight, RestsRight, SlotsRight, SourceRight, StandsIn, StepRight, UnmarkedRight, Valid}
 use Rattle.power_loss.proofs.OneMore.{at_die_is}
+use Rattle.std.proofs.lemmas.List.Elements.{All-filter, All-push}
+use Rattle.power_loss.proofs.LookedKeys.{look_right}
+use Rattle.power_loss.proofs.PagesKept.{pins_wanted}
 use Rattle.power_loss.proofs.Slots.{slots_claimed, slots_fewer}
 
 -- what tasks hold does not matter
-pub other_holds : (t : Translation) (claims : ℕ) (pins : List Pin) → SlotsRight t.numbers.slots (pending_pages t.ledger) claims → Valid t →
-    Valid (record t { claims = claims; pins = pins })
-other_holds t claims pins slots v = record {
+pub other_holds : (t : Translation) (claims : ℕ) (pins : List Pin) → SlotsRight t.numbers.slots (pending_pages t.ledger) claims →
+    PinsRight (book t) t.ledger.frontier t.disk.cells t.disk.finished t.disk.erasing pins → Valid t → Valid (record t { claims = claims; pins = pins })
+other_holds t claims pins slots kept v = record {
   book_right = v.book_right;
   frontier = v.frontier;
   pages = v.pages;
@@ -28,11 +31,14 @@ other_holds t claims pins slots v = record {
   plan = v.plan;
   history = v.history;
   slots = slots;
+  unmended = v.unmended;
+  pins = kept;
+  rests = v.rests;
 }
 
 -- nor does what pages wait for
-pub other_rests : (t : Translation) (rests : List Rest) → Valid t → Valid (record t { work = record t.work { rests = rests } })
-other_rests t rests v = record {
+pub other_rests : (t : Translation) (rests : List Rest) → RestsRight t.disk.cells t.disk.finished t.disk.erasing rests → Valid t → Valid (record t { work = record t.work { rests = rests } })
+other_rests t rests kept v = record {
   book_right = v.book_right;
   frontier = v.frontier;
   pages = v.pages;
@@ -45,6 +51,9 @@ other_rests t rests v = record {
   plan = v.plan;
   history = v.history;
   slots = v.slots;
+  unmended = v.unmended;
+  pins = v.pins;
+  rests = kept;
 }
 
 -- Acknowledgements
@@ -81,6 +90,9 @@ tells t count v l = record {
   plan = v.plan;
   history = held_history (book t) t.ledger.repairs t.ledger.held t.ledger.frontier count (is_mended t.work.mending) v.frontier.within v.history l;
   slots = v.slots;
+  unmended = v.unmended;
+  pins = v.pins;
+  rests = v.rests;
 }
 
 -- Jobs that are reads
@@ -161,6 +173,9 @@ other_reads t g v l = record {
   };
   history = v.history;
   slots = v.slots;
+  unmended = v.unmended;
+  pins = v.pins;
+  rests = v.rests;
 }
 
 -- a read instead of no job
@@ -267,16 +282,22 @@ content_there t v = record {
   };
   history = v.history;
   slots = v.slots;
+  unmended = v.unmended;
+  pins = v.pins;
+  rests = v.rests;
 }
 
 pub reads_right : (t : Translation) (reader : Reader) → Valid t → Valid (read_right t reader)
-reads_right t (ForTask tag index) v = other_holds t t.claims _ v.slots v
+reads_right t (ForTask tag index) v = other_holds t t.claims _ v.slots (pins_wanted (book t) t.ledger.frontier t.disk.cells t.disk.finished t.disk.erasing tag index false t.pins v.pins) v
 reads_right t ForNobody v = v
 reads_right t ForStep v = content_there t v
-reads_right t (ForRest number index) v = other_rests t _ v
+reads_right t (ForRest number index) v =
+    other_rests t _
+    (record { each = All-filter _ (λ (rest : Rest). SourceRight t.disk.cells t.disk.finished t.disk.erasing rest.source) t.work.rests v.rests.each })
+    v
 
 pub reads_wrong : (t : Translation) (reader : Reader) → Valid t → Valid (read_wrong t reader)
-reads_wrong t (ForTask tag index) v = other_holds t t.claims _ v.slots v
+reads_wrong t (ForTask tag index) v = other_holds t t.claims _ v.slots (pins_wanted (book t) t.ledger.frontier t.disk.cells t.disk.finished t.disk.erasing tag index false t.pins v.pins) v
 reads_wrong t ForStep v = v
 reads_wrong t (ForRest number index) v = v
 reads_wrong t ForNobody v = v
@@ -291,17 +312,23 @@ ends_read_wrong t die reader place v = reads_wrong (die_idle t die) reader (idle
 -- What tasks do
 
 pub claims : (t : Translation) (count : ℕ) → count ≤ free_slots t → Valid t → Valid (moved t (Claim count))
-claims t count free v = other_holds t _ t.pins (slots_claimed t.numbers.slots (pending_pages t.ledger) t.claims count free v.slots) v
+claims t count free v = other_holds t _ t.pins (slots_claimed t.numbers.slots (pending_pages t.ledger) t.claims count free v.slots) v.pins v
 
 pub releases : (t : Translation) (count : ℕ) → Valid t → Valid (moved t (Release count))
 releases t count v =
-    other_holds t _ t.pins (slots_fewer t.numbers.slots (pending_pages t.ledger) t.claims (pending_pages t.ledger) (t.claims - count) (omega arith) (omega arith) v.slots) v
+    other_holds t _ t.pins (slots_fewer t.numbers.slots (pending_pages t.ledger) t.claims (pending_pages t.ledger) (t.claims - count) (omega arith) (omega arith) v.slots) v.pins v
 
-pub keeps : (t : Translation) (key : Key) (pin : Pin) → Valid t → Valid (moved t (Keep key pin))
-keeps t key pin v = other_holds t t.claims _ v.slots v
+pub keeps : (t : Translation) (key : Key) (pin : Pin) → HasKey (book t) key → pin.looked ≡ look t.ledger key → Valid t → Valid (moved t (Keep key pin))
+keeps t key pin has same v =
+    other_holds t t.claims _ v.slots
+    (record {
+      each = All-push (λ (x : Pin). LookedRight (book t) t.ledger.frontier t.disk.cells t.disk.finished t.disk.erasing x.looked) t.pins pin v.pins.each
+          (subst (LookedRight (book t) t.ledger.frontier t.disk.cells t.disk.finished t.disk.erasing) (sym same) (look_right t key v has));
+    })
+    v
 
 pub wants_page : (t : Translation) (tag index : ℕ) → Valid t → Valid (moved t (WantPage tag index))
-wants_page t tag index v = other_holds t t.claims _ v.slots v
+wants_page t tag index v = other_holds t t.claims _ v.slots (pins_wanted (book t) t.ledger.frontier t.disk.cells t.disk.finished t.disk.erasing tag index true t.pins v.pins) v
 
 program_is : (reads : Reader → Bool) (x : Option Flight) (p : Place) (cell : Cell) → without_reader reads x ≡ Some (Programming p cell) → x ≡ Some (Programming p cell)
 program_is reads None p cell h = h
@@ -324,6 +351,9 @@ gone_fewer f reads = record {
 gone : (t : Translation) (held : Pin → Bool) (reads : Reader → Bool) → Valid t → Valid (let_go t held reads)
 gone t held reads v =
     other_holds (record t { disk = record t.disk { flights = λ die. without_reader reads (t.disk.flights die) } }) t.claims _ v.slots
+    (record {
+      each = All-filter _ (λ (x : Pin). LookedRight (book t) t.ledger.frontier t.disk.cells t.disk.finished t.disk.erasing x.looked) t.pins v.pins.each;
+    })
     (other_reads t (λ die. without_reader reads (t.disk.flights die)) v (gone_fewer t.disk.flights reads))
 
 pub lets_go : (t : Translation) (tag index : ℕ) → Valid t → Valid (moved t (LetGo tag index))

@@ -13,6 +13,8 @@ use Rattle.ufs_spec.specs.declared.flash.Place.{Place}
 use Rattle.ufs_spec.specs.declared.flash.Tag.{Tag}
 use Rattle.power_loss.specs.Book.{AreWholeAbove, Book, IsPlainMark, book}
 use Rattle.power_loss.specs.Invariant.{FlightsRight, IsLaterMark, IsOwnMark, MarksRight, MendingRight, OnePlanRight, PagesRight, RepairingRight, UnmarkedRight, Valid}
+use Rattle.power_loss.proofs.UnmendedStands.{mark_stands}
+use Rattle.power_loss.proofs.PagesKept.{StayThere, pins_stay, rests_stay, stay_written}
 use Rattle.power_loss.proofs.OneMore.{at_place_cases, at_place_is, at_spot_cases}
 use Rattle.power_loss.proofs.Written.{AreOverwritten, Frees, GoesTo, blank_programmed, blocks_behind, blocks_freed, blocks_programmed, erase_goes_on, firm_now, frees_none, frees_one, goes_to, not_there, other_flight, program_goes_on, safe_freed, safe_marked}
 
@@ -325,6 +327,12 @@ mark_valid t die p m after IsVictim v job g frees out of flown = record {
   step = record { kind = λ s e. absurd (no_step s e) };
   plan = record { mended = λ pl e. absurd (no_plan pl e); one = λ pl e. absurd (no_plan pl e) };
   slots = v.slots;
+  unmended = record {
+    stand = λ un n i q h. mark_stands t p m after IsVictim n i (behind_unmended t.work.mending un) g frees of (v.unmended.stand (behind_unmended t.work.mending un) n i q h);
+  };
+  pins = pins_stay (book t) (book t) t.ledger.frontier t.disk.cells (at_place t.disk.cells p (MarkPage m)) t.disk.finished (at_place t.disk.finished p true) t.disk.erasing t.disk.erasing t.pins
+      (λ n i e h. h) stay v.pins;
+  rests = rests_stay t.disk.cells (at_place t.disk.cells p (MarkPage m)) t.disk.finished (at_place t.disk.finished p true) t.disk.erasing t.disk.erasing t.work.rests stay v.rests;
   history = record {
     within = v.history.within;
     contents = v.history.contents;
@@ -333,6 +341,9 @@ mark_valid t die p m after IsVictim v job g frees out of flown = record {
   };
 }
   where
+    stay : StayThere t.disk.cells t.disk.finished t.disk.erasing (at_place t.disk.cells p (MarkPage m)) (at_place t.disk.finished p true) t.disk.erasing
+    stay = stay_written t.disk.cells t.disk.finished t.disk.erasing p (MarkPage m) g.blank
+
     ends : MarkEnds t m
     ends = mark_ends t die p m t.work.mending v v.mending job
 

@@ -9,12 +9,14 @@ use Rattle.ufs_spec.specs.Moves.{WentWell, is_kind_of, job_ended, step_behind}
 use Rattle.ufs_spec.specs.Translation.{CopyStep, MarkStep, Mended, Mending, Plan, RepairStep, Repairing, Step, StepKind, Translation, Unmarked, is_mended, name_of, pending_pages}
 use Rattle.ufs_spec.specs.declared.flash.Place.{Place}
 use Rattle.ufs_spec.specs.declared.flash.Tag.{Tag}
-use Rattle.power_loss.specs.Book.{Book, IsKnown, book, last_number}
+use Rattle.power_loss.specs.Book.{Book, IsKnown, IsPageAt, book, last_number}
 use Rattle.power_loss.specs.Invariant.{FlightsRight, FrontierRight, HistoryRight, IsLastRepair, IsLaterMark, IsToCopy, MarksRight, MendingRight, OnePlanRight, PagesRight, Standing, StandsIn, StepKindRight, Valid}
 use Rattle.power_loss.proofs.Frontiers.{climbed_to, climbs_last, climbs_right, climbs_up, stands_more, stands_now, stood}
 use Rattle.power_loss.proofs.OneMore.{at_place_cases, at_place_is, at_spot_cases, if_false, if_true, name_cases, two_ways}
+use Rattle.power_loss.proofs.Books.{page_within}
+use Rattle.power_loss.proofs.PagesKept.{StayThere, pins_settle, rests_stay, settles, stay_written}
 use Rattle.power_loss.proofs.Slots.{fewer_pages, pages_of, slots_fewer}
-use Rattle.power_loss.proofs.Written.{GoesTo, blank_programmed, blocks_behind, blocks_programmed, erase_goes_on, goes_to, mark_goes_on, not_there, other_flight, overwritten_more, program_goes_on, safe_written, still_free}
+use Rattle.power_loss.proofs.Written.{GoesTo, blank_programmed, blocks_behind, blocks_programmed, erase_goes_on, goes_to, mark_goes_on, not_there, other_flight, overwritten_more, program_goes_on, safe_written, secure_written, still_free}
 
 -- The step under way
 
@@ -259,6 +261,17 @@ history_more b repairs held frontier to mended l r = record {
 
 -- All of it
 
+-- where a page is above the frontier, marks record no more than it
+recorded_under : (t : Translation) (n i : ℕ) (x : Entry) → Valid t → (w : Mending) → MendingRight (book t) t.disk t.ledger t.work.plan t.work.step w → IsPageAt (book t) n i x → t.ledger.frontier < n →
+    recorded_in t.ledger.newest ≤ t.ledger.frontier
+recorded_under t n i x v (Unmarked fence lost) m is above =
+    let within = page_within (book t) n i x is in
+    let none : length t.ledger.groups ≡ 0 = ap length m.none_new in
+    let still = m.still in
+    absurd (omega (arith, within, none, still, above))
+recorded_under t n i x v (Repairing left) m is above = subst (λ o. recorded_in o ≤ t.ledger.frontier) (sym m.is) m.right.within
+recorded_under t n i x v Mended m is above = subst (λ o. recorded_in o ≤ t.ledger.frontier) (sym m.is) m.right.within
+
 pub ends_page : (t : Translation) (die : ℕ) (p : Place) (tag : Tag) (body : List ℕ) → Valid t → t.disk.flights die ≡ Some (Programming p (GroupPage tag body)) →
     Valid (job_ended t die (Programming p (GroupPage tag body)) WentWell)
 ends_page t die p tag body v job = record {
@@ -282,6 +295,21 @@ ends_page t die p tag body v job = record {
   history = history_more (book t) t.ledger.repairs t.ledger.held t.ledger.frontier to (is_mended t.work.mending) up v.history;
   slots = slots_fewer t.numbers.slots (pending_pages t.ledger) t.claims (pages_of (drop (to - before_accepted t.ledger) (accepted_groups t.ledger))) t.claims
       (fewer_pages (accepted_groups t.ledger) (t.ledger.frontier - before_accepted t.ledger) (to - before_accepted t.ledger) (omega (arith, up))) (omega arith) v.slots;
+  unmended = record {
+    stand = λ un n i q h. secure_written t.numbers t.ledger.standing t.disk.cells t.disk.finished t.disk.blocks t.disk.erasing p tag body n i g
+        (⊎_elim
+        (λ (k : (n ≡ tag.number) × (i ≡ tag.index) × (p ≡ q)). inr (k.0, k.1))
+        (λ k. inl (v.unmended.stand un n i q k.1))
+        (stood t.ledger.standing (name_of tag) p n i q h));
+  };
+  pins = pins_settle (book t) t.ledger.frontier (page_stands t.ledger (name_of tag) p) t.disk.cells (at_place t.disk.cells p (GroupPage tag body)) t.disk.finished (at_place t.disk.finished p true)
+      t.disk.erasing t.disk.erasing t.pins stay
+      (settles (book t) (recorded_in t.ledger.newest) t.ledger.frontier (page_stands t.ledger (name_of tag) p) (at_place t.disk.cells p (GroupPage tag body)) (at_place t.disk.finished p true)
+      (blocks_behind t.numbers.pages t.disk.blocks p) t.disk.erasing v.frontier.above (page_frontier t p tag body v known)
+      (safe_written (book t) t.numbers (recorded_in t.ledger.newest) t.ledger.standing t.disk.cells t.disk.finished t.disk.blocks t.disk.erasing p tag body g v.safe)
+      (λ n i x is above. recorded_under t n i x v t.work.mending v.mending is above))
+      v.pins;
+  rests = rests_stay t.disk.cells (at_place t.disk.cells p (GroupPage tag body)) t.disk.finished (at_place t.disk.finished p true) t.disk.erasing t.disk.erasing t.work.rests stay v.rests;
 }
   where
     g : GoesTo t.numbers t.disk.cells t.disk.blocks t.disk.erasing p
@@ -289,6 +317,9 @@ ends_page t die p tag body v job = record {
 
     known : IsKnown (book t) tag body
     known = v.flights.known die p tag body job
+
+    stay : StayThere t.disk.cells t.disk.finished t.disk.erasing (at_place t.disk.cells p (GroupPage tag body)) (at_place t.disk.finished p true) t.disk.erasing
+    stay = stay_written t.disk.cells t.disk.finished t.disk.erasing p (GroupPage tag body) g.blank
 
     to : ℕ
     to = climbed_to (book t) (at_name t.ledger.standing (name_of tag) (Some p)) t.ledger.frontier

@@ -8,6 +8,7 @@ use Rattle.ufs_spec.specs.declared.flash.Place.{Place}
 use Rattle.power_loss.specs.Invariant.{BlocksRight, EraseRight, ProgramRight, Valid}
 use Rattle.power_loss.proofs.Changes.{Change, lost_pages}
 use Rattle.power_loss.proofs.Easy.{idle_fewer}
+use Rattle.power_loss.proofs.PagesKept.{held_stay, stay_erased, stay_unerased}
 use Rattle.power_loss.proofs.OneMore.{at_die_is, at_spot_is, spot_cases}
 use Rattle.power_loss.proofs.Secures.{at_spot_here, at_spot_other, erase_left, erased_here, erased_other, keeps_erase_failed, keeps_erased, true_is_not_false}
 
@@ -114,6 +115,7 @@ ends_erase t die s v e =
     lost_pages t (erased t.disk s) v (erased_change t s v r.free r.counted)
     (λ blank p h. ⊎_elim (λ k. blank p (inl (ap t.disk.blocks k.1 ∙ r.free))) (λ k. sym (erased_other t.disk s p k.1) ∙ h) (spot_cases (spot_of p) s))
     (erased_less t s)
+    (held_stay t (erased t.disk s) v (stay_erased t.disk s r.counted))
 
 -- An erase that failed
 
@@ -165,3 +167,4 @@ fails_erase t die s left v e crash =
     lost_pages t (erase_failed t.disk s left) v (failed_change t s left v r.free r.counted less)
     (λ blank p h. ⊎_elim (λ k. sym k ∙ h) (λ k. blank p (inl (ap t.disk.blocks k.0 ∙ r.free))) (less p))
     (λ q. ⊎_elim (λ k. inl k) (λ k. inr k.1) (less q))
+    (held_stay t (erase_failed t.disk s left) v (stay_unerased t.disk.cells left t.disk.finished t.disk.erasing s (λ q. left q ≡ Nothing) r.counted less))

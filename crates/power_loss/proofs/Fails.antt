@@ -8,6 +8,7 @@ use Rattle.ufs_spec.specs.declared.flash.Place.{Place}
 use Rattle.ufs_spec.specs.declared.flash.Tag.{Tag}
 use Rattle.power_loss.specs.Book.{book}
 use Rattle.power_loss.specs.Invariant.{BlocksRight, EraseRight, MarkStepRight, ProgramRight, StepKindRight, Valid}
+use Rattle.power_loss.proofs.PagesKept.{HeldStay, held_stay, stay_failed}
 use Rattle.power_loss.proofs.Changes.{Change, Follows, HasNoMore, IsGone, IsLeft, changed, numbered_change, same_step}
 use Rattle.power_loss.proofs.Easy.{idle_fewer}
 use Rattle.power_loss.proofs.OneMore.{at_die_is, at_place_is, at_spot_is, if_false, if_true, spot_cases, two_ways}
@@ -158,6 +159,13 @@ module _ (t : Translation) (die : ℕ) (p : Place) (cell : Cell) (left : Cells) 
       (λ k. ap t.disk.cells k.0 ∙ program_blank t die p v (v.flights.programs die p cell e))
       (by q)
 
+-- what is kept is not there
+failed_held : (t : Translation) (die : ℕ) (p : Place) (cell : Cell) (left : Cells) → Valid t → t.disk.flights die ≡ Some (Programming p cell) →
+    ((q : Place) → (left q ≡ t.disk.cells q) ⊎ ((q ≡ p) × ((left q ≡ cell) ⊎ (left q ≡ Nothing)))) → HeldStay t (program_failed t.disk p left)
+failed_held t die p cell left v e by =
+    held_stay t (program_failed t.disk p left) v
+    (stay_failed t.disk.cells left t.disk.finished t.disk.erasing p (λ q. (left q ≡ cell) ⊎ (left q ≡ Nothing)) (program_blank t die p v (v.flights.programs die p cell e)) by)
+
 -- A page of a group
 
 page_no_mark : (cell : Cell) (tag : Tag) (body : List ℕ) (m : Mark) → cell ≡ GroupPage tag body → cell ≡ MarkPage m → ⊥
@@ -173,6 +181,7 @@ fails_page t die p tag body left v e crash =
     let c = program_change t die p (GroupPage tag body) left v e by in
     changed t (program_failed t.disk p left) t.ledger.marks t.work.step v c (program_gone t die p (GroupPage tag body) left v e by)
     (same_step t (program_failed t.disk p left) v c old)
+    (failed_held t die p (GroupPage tag body) left v e by)
   where
     old : HasNoMore t (program_failed t.disk p left)
     old q m h = ⊎_elim
@@ -240,9 +249,9 @@ fails_mark t die p m left v e crash =
     let gone = program_gone t die p (MarkPage m) left v e by in
     ⊎_elim
     (λ h. subst Valid (sym (if_true (has_mark_number t) (mark_ordered behind m.fence) (record behind { work = record t.work { step = None } }) h))
-    (changed t (program_failed t.disk p left) (t.ledger.marks + 1) (Some (record { kind = MarkStep (t.ledger.marks + 1) m.fence; there = true })) v c gone (again t die p m left v e c)))
+    (changed t (program_failed t.disk p left) (t.ledger.marks + 1) (Some (record { kind = MarkStep (t.ledger.marks + 1) m.fence; there = true })) v c gone (again t die p m left v e c) (failed_held t die p (MarkPage m) left v e by)))
     (λ h. subst Valid (sym (if_false (has_mark_number t) (mark_ordered behind m.fence) (record behind { work = record t.work { step = None } }) h))
-    (changed t (program_failed t.disk p left) t.ledger.marks None v c gone (no_more t die p m left v e c)))
+    (changed t (program_failed t.disk p left) t.ledger.marks None v c gone (no_more t die p m left v e c) (failed_held t die p (MarkPage m) left v e by)))
     (two_ways (has_mark_number t))
   where
     behind : Translation

@@ -171,10 +171,10 @@ group_fits b g f few items fit = record {
   lost = f.lost;
 }
 
-accepts_fit : (t : Translation) (claimed : ℕ) (g : Group) (rests : List Rest) → Fits t → IsAllowedMove t (Accept claimed g rests) → Fits (moved t (Accept claimed g rests))
-accepts_fit t claimed g rests f may = record {
+accepts_fit : (t : Translation) (claimed : ℕ) (g : Group) → Fits t → IsAllowedMove t (Accept claimed g) → Fits (moved t (Accept claimed g))
+accepts_fit t claimed g f may = record {
   config = f.config;
-  valid = all_keep t (Accept claimed g rests) f.valid may;
+  valid = all_keep t (Accept claimed g) f.valid may;
   book_fits = group_fits (book t) g f.book_fits may.4.not_long items (leb-true (next_number t.ledger) (2 ^ 62) may.1);
   programs = f.programs;
   marks = f.marks;
@@ -483,7 +483,7 @@ turns_fit t f = by (due_order t) refl (all_keep t Turn f.valid tt)
 pub move_fits : (t : Translation) (move : Move) → Fits t → IsAllowedMove t move → Fits (moved t move)
 move_fits t (Claim count) f may = light t (moved t (Claim count)) f (all_keep t (Claim count) f.valid may) refl refl f.programs f.marks f.repaired refl
 move_fits t (Release count) f may = light t (moved t (Release count)) f (all_keep t (Release count) f.valid may) refl refl f.programs f.marks f.repaired refl
-move_fits t (Accept claimed g rests) f may = accepts_fit t claimed g rests f may
+move_fits t (Accept claimed g) f may = accepts_fit t claimed g f may
 move_fits t (Tell count) f may = light t (moved t (Tell count)) f (all_keep t (Tell count) f.valid may) refl refl f.programs f.marks f.repaired refl
 move_fits t (Keep key pin) f may = light t (moved t (Keep key pin)) f (all_keep t (Keep key pin) f.valid may) refl refl f.programs f.marks f.repaired refl
 move_fits t (WantPage tag index) f may = light t (moved t (WantPage tag index)) f (all_keep t (WantPage tag index) f.valid may) refl refl f.programs f.marks f.repaired refl
@@ -570,7 +570,7 @@ end_stays t die (Some (Erasing s)) ReadWrong = stays_same t t refl refl refl
 pub move_stays : (t : Translation) (move : Move) → Stays t (moved t move)
 move_stays t (Claim count) = record { numbers = refl; base = refl; mended = λ h. h }
 move_stays t (Release count) = record { numbers = refl; base = refl; mended = λ h. h }
-move_stays t (Accept claimed g rests) = record { numbers = refl; base = refl; mended = λ h. h }
+move_stays t (Accept claimed g) = record { numbers = refl; base = refl; mended = λ h. h }
 move_stays t (Tell count) = record { numbers = refl; base = refl; mended = λ h. h }
 move_stays t (Keep key pin) = record { numbers = refl; base = refl; mended = λ h. h }
 move_stays t (WantPage tag index) = record { numbers = refl; base = refl; mended = λ h. h }

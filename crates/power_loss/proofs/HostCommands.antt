@@ -104,13 +104,13 @@ read_right s r command unit address n v free keys =
 
 -- What the table lets through
 
-record Passed (s : State) (r : Request) (command : Cdb) : Type 0 where
-  unit : lacks_unit s r (lun_of (numbers_of s) r.lun) ≡ false
-  taken : not_taken r (lun_of (numbers_of s) r.lun) ≡ false
-  not_long : is_too_long command ≡ false
-  within : is_past command (spec_of s r) ≡ false
-  ready : (needs_mended (operation_of command) && not (mended s)) ≡ false
-  room : is_crowded s command ≡ false
+pub record Passed (s : State) (r : Request) (command : Cdb) : Type 0 where
+  pub unit : lacks_unit s r (lun_of (numbers_of s) r.lun) ≡ false
+  pub taken : not_taken r (lun_of (numbers_of s) r.lun) ≡ false
+  pub not_long : is_too_long command ≡ false
+  pub within : is_past command (spec_of s r) ≡ false
+  pub ready : (needs_mended (operation_of command) && not (mended s)) ≡ false
+  pub room : is_crowded s command ≡ false
 
 first_none : (applies : Bool) (status : Status) (ls : List Line) → first_line (line applies status ∷ ls) ≡ None → (applies ≡ false) × (first_line ls ≡ None)
 first_none true status ls h = absurd (none h)
@@ -141,7 +141,7 @@ none_applies a b c d e f g p q r t u v w ls h =
     let seven = first_none g w ls six.1 in
     (record { first = one.0; second = two.0; third = three.0; fourth = four.0; fifth = five.0; sixth = six.0; seventh = seven.0 }, seven.1)
 
-passed : (s : State) (r : Request) (command : Cdb) → r.cdb ≡ Some command → refusal s r ≡ None → Passed s r command
+pub passed : (s : State) (r : Request) (command : Cdb) → r.cdb ≡ Some command → refusal s r ≡ None → Passed s r command
 passed s r command e h =
     let lines : first_line (line (lacks_unit s r (lun_of (numbers_of s) r.lun)) no_unit ∷ line (not_taken r (lun_of (numbers_of s) r.lun)) invalid_operation ∷ lines_behind s r (Some command)) ≡ None =
     subst (λ (c : Option Cdb). first_line (line (lacks_unit s r (lun_of (numbers_of s) r.lun)) no_unit ∷ line (not_taken r (lun_of (numbers_of s) r.lun)) invalid_operation ∷ lines_behind s r c) ≡ None) e h in
@@ -159,9 +159,9 @@ passed s r command e h =
 
 -- WRITE
 
-record UnitTold (s : State) (r : Request) : Type 0 where
-  there : r.lun < length (numbers_of s).units.items
-  is : unit_of_request s r ≡ Some r.lun
+pub record UnitTold (s : State) (r : Request) : Type 0 where
+  pub there : r.lun < length (numbers_of s).units.items
+  pub is : unit_of_request s r ≡ Some r.lun
 
 -- no unit with another byte is an ordinary one
 well_known_none : (byte unit : ℕ) → well_known byte ≡ Some (UnitOf unit) → ⊥
@@ -188,7 +188,7 @@ lun_told n byte unit h = by (nat_lt byte (length n.units.items)) (is_among taken
     by false c e k = absurd (other c k)
 
 -- ordinary units alone are written by WRITE
-abbrev TakenByUnits : ℕ → Type 0
+abbrev pub TakenByUnits : ℕ → Type 0
 TakenByUnits operation = (lun : Lun) → takes lun operation ≡ true → (unit : ℕ) × (lun ≡ UnitOf unit)
 
 units_take_6 : TakenByUnits write_6
@@ -198,14 +198,14 @@ units_take_6 BootUnit h = cc
 units_take_6 RpmbUnit h = cc
 units_take_6 DeviceUnit h = cc
 
-units_take_10 : TakenByUnits write_10
+pub units_take_10 : TakenByUnits write_10
 units_take_10 (UnitOf unit) h = (unit, refl)
 units_take_10 ReportLunsUnit h = cc
 units_take_10 BootUnit h = cc
 units_take_10 RpmbUnit h = cc
 units_take_10 DeviceUnit h = cc
 
-unit_told : (s : State) (r : Request) → TakenByUnits (operation_in r) → lacks_unit s r (lun_of (numbers_of s) r.lun) ≡ false → not_taken r (lun_of (numbers_of s) r.lun) ≡ false → UnitTold s r
+pub unit_told : (s : State) (r : Request) → TakenByUnits (operation_in r) → lacks_unit s r (lun_of (numbers_of s) r.lun) ≡ false → not_taken r (lun_of (numbers_of s) r.lun) ≡ false → UnitTold s r
 unit_told s r units h k = by (lun_of (numbers_of s) r.lun) refl h k
   where
     yes : (b : Bool) → not b ≡ false → b ≡ true

@@ -185,7 +185,7 @@ abbrev write_of : ℕ → ℕ → ℕ → List ℕ → Command
 write_of unit address blocks bytes = command.Write unit address (blocks_in blocks bytes)
 
 accept_allowed : (s : State) (task : Task) (unit address blocks : ℕ) (bytes : List ℕ) → IsTied s → MayAccept s task unit address blocks bytes → locked s ≡ false →
-    IsAllowedMove s.translation (Accept blocks (group_of (plain_now s) (write_of unit address blocks bytes)) [])
+    IsAllowedMove s.translation (Accept blocks (group_of (plain_now s) (write_of unit address blocks bytes)))
 accept_allowed s task unit address blocks bytes v a free =
     let shape : shape_of (plain_now s) ≡ shape_of_numbers (numbers_of s) = shape_after s.base s.accepted v.commands ∙ v.base.1 in
     let plain : IsPlain (plain_now s) = all_kept_plain s.base s.accepted v.base.0 v.commands in
@@ -240,7 +240,7 @@ write_completes s task unit address blocks forced bytes v a = by (locked s) refl
 
 -- Data
 
-no_offence : (b : Bool) → asked_fault b ≡ None → b ≡ true
+pub no_offence : (b : Bool) → asked_fault b ≡ None → b ≡ true
 no_offence true h = refl
 no_offence false h = cc
 

@@ -1,9 +1,9 @@
 -- What a READ keeps: the blocks that the host expects lie within its unit, and each is kept as it is looked up.
-use Rattle.std.proofs.Common.{◌≡◌, ◌⊎◌, ℕ, zero, suc, ◌+◌, ◌*◌, ◌<◌, ◌≤◌, ◌==◌, ◌&&◌, Bool, true, false, not, List, [], ◌∷◌, All, Option, Some, None, length, map, position, slice_get, get_or, min, refl, sym, ap, ◌∙◌, subst, inl, inr, arith}
+use Rattle.std.proofs.Common.{◌≡◌, ◌⊎◌, ℕ, ◌+◌, ◌*◌, ◌<◌, ◌≤◌, ◌==◌, ◌&&◌, Bool, true, false, not, List, [], ◌∷◌, All, Option, Some, None, length, map, position, slice_get, get_or, min, refl, sym, ap, ◌∙◌, subst, inl, inr, arith}
 use Rattle.std.specs.Prelude.{if◌then◌else◌, is_none, nat_lt}
 use Rattle.std.specs.Int.{div_ceil}
 use Rattle.std.specs.List.{position_or_len}
-use Rattle.std.proofs.lemmas.Bool.{ltb-false, ltb-true, true≢false}
+use Rattle.std.proofs.lemmas.Bool.{ltb-false, ltb-true, not-false, true≢false}
 use Rattle.std.proofs.lemmas.Grind.{div_ceil_times}
 use Rattle.std.proofs.lemmas.List.{get_or-map, length-map}
 use Rattle.std.proofs.lemmas.List.Elements.{All-head, All-tail, All-weaker}
@@ -73,10 +73,6 @@ ordinary_there n byte unit h = let same = h.1 in let short = h.0 in unit_there n
 abbrev pub Reads : ℕ → Type 0
 Reads operation = (operation ≡ read_6) ⊎ (operation ≡ read_10)
 
-not_false : (b : Bool) → not b ≡ false → b ≡ true
-not_false true e = refl
-not_false false e = cc
-
 none_left : (a b : Bool) → a ≡ true → (a && b) ≡ false → b ≡ false
 none_left true b e h = h
 none_left false b e h = cc
@@ -107,7 +103,7 @@ reads_unit s r reads ordinary lacks taken = by (lun_of (numbers_of s) r.lun) ref
     by (Some lun) e h k =
         lun_there s r lun reads
         (λ unit same. ordinary_there (numbers_of s) r.lun unit (ordinary unit (e ∙ ap Some same)))
-        h (not_false (takes lun (operation_in r)) k)
+        h (not-false (takes lun (operation_in r)) k)
 
 -- The blocks
 

@@ -283,7 +283,7 @@ copy_alone t m p tag body v l none (inl fenced) = absurd (fenced_none m.fence ta
 copy_alone t m p tag body v l none (inr (inl copy)) = copy
 copy_alone t m p tag body v l none (inr (inr r)) = absurd (replaced_never t m p tag v l r)
 
-newest_is : (t : Translation) (s : Spot) (m other : Mark) → MarksRight (book t) t.ledger.frontier t.ledger.marks t.disk.cells t.disk.finished t.disk.blocks t.disk.erasing t.disk.flights m →
+pub newest_is : (t : Translation) (s : Spot) (m other : Mark) → MarksRight (book t) t.ledger.frontier t.ledger.marks t.disk.cells t.disk.finished t.disk.blocks t.disk.erasing t.disk.flights m →
     IsNewestFinished (with_erasing t.disk s) other → other ≡ m
 newest_is t s m other right n =
     let up = right.ended n.stands.place other n.stands.there n.stands.finished in

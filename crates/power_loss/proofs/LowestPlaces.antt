@@ -27,7 +27,8 @@ least_below P d (suc end) =
 abbrev at : ℕ → ℕ → ℕ → Place
 at die block page = record { die = die; block = block; page = page }
 
-module _ (n : Numbers) (c : Cells) (within : AreWithin n c) (P : Cell → Type 0) (d : (x : Cell) → Decided (P x)) (none : P Nothing → ⊥) where
+module _ (n : Numbers) (c : Cells) (within : AreWithin n c) (P : Cell → Type 0) (d : (x : Cell) → Decided (P x))
+    (none : P Nothing → ⊥) where
   abbrev OnPage : ℕ → ℕ → ℕ → Type 0
   OnPage die block page = P (c (at die block page))
 
@@ -37,7 +38,8 @@ module _ (n : Numbers) (c : Cells) (within : AreWithin n c) (P : Cell → Type 0
   abbrev OnDie : ℕ → Type 0
   OnDie die = (block : ℕ) × (block < n.blocks) × InBlock die block
 
-  in_block : (die block : ℕ) → Least (OnPage die block) n.pages ⊎ ((page : ℕ) → page < n.pages → OnPage die block page → ⊥)
+  in_block : (die block : ℕ) → Least (OnPage die block) n.pages ⊎
+      ((page : ℕ) → page < n.pages → OnPage die block page → ⊥)
   in_block die block = least_below (OnPage die block) (λ page. d (c (at die block page))) n.pages
 
   has_block : (die block : ℕ) → Decided (InBlock die block)
@@ -60,13 +62,16 @@ module _ (n : Numbers) (c : Cells) (within : AreWithin n c) (P : Cell → Type 0
           e,
           f,
           ⊎_elim (λ l. l)
-              (λ l. absurd (z.least q.page l (subst (λ die. OnPage die y.at q.page) (sym e) (subst (λ block. OnPage q.die block q.page) (sym f) h)))) (split z.at q.page),
+              (λ l. absurd (z.least q.page l
+              (subst (λ die. OnPage die y.at q.page) (sym e)
+              (subst (λ block. OnPage q.die block q.page) (sym f) h)))) (split z.at q.page),
         ))
 
     by_block : (q : Place) → P (c q) → IsPlace n q → x.at ≡ q.die → IsLower (at x.at y.at z.at) q
     by_block q h i e =
         ⊎_elim (by_page q h i e)
-        (⊎_elim (λ l. inr (inl (e, l))) (λ l. absurd (y.least q.block l (subst (λ die. InBlock die q.block) (sym e) (q.page, i.page, h)))))
+        (⊎_elim (λ l. inr (inl (e, l)))
+        (λ l. absurd (y.least q.block l (subst (λ die. InBlock die q.block) (sym e) (q.page, i.page, h)))))
         (cases_order y.at q.block)
 
     lower : (q : Place) → P (c q) → IsLower (at x.at y.at z.at) q

@@ -16,7 +16,7 @@ SameNumbers t u = u.numbers ≡ t.numbers
 pub move_numbers : (t : Translation) (move : Move) → SameNumbers t (moved t move)
 move_numbers t (Claim count) = refl
 move_numbers t (Release count) = refl
-move_numbers t (Accept claimed g rests) = refl
+move_numbers t (Accept claimed g) = refl
 move_numbers t (Tell count) = refl
 move_numbers t (Keep key pin) = refl
 move_numbers t (WantPage tag index) = refl
@@ -110,7 +110,7 @@ abbrev pub IsNoTake : Move → Type 0
 IsNoTake (Take die flight) = ⊥
 IsNoTake (Claim count) = Unit {0}
 IsNoTake (Release count) = Unit {0}
-IsNoTake (Accept claimed g rests) = Unit {0}
+IsNoTake (Accept claimed g) = Unit {0}
 IsNoTake (Tell count) = Unit {0}
 IsNoTake (Keep key pin) = Unit {0}
 IsNoTake (WantPage tag index) = Unit {0}
@@ -123,7 +123,7 @@ pub move_erases : (t : Translation) (move : Move) → IsNoTake move → NoMore t
 move_erases t (Take die flight) free = absurd free
 move_erases t (Claim count) free = λ other spot e. e
 move_erases t (Release count) free = λ other spot e. e
-move_erases t (Accept claimed g rests) free = λ other spot e. e
+move_erases t (Accept claimed g) free = λ other spot e. e
 move_erases t (Tell count) free = λ other spot e. e
 move_erases t (Keep key pin) free = λ other spot e. e
 move_erases t (WantPage tag index) free = λ other spot e. e

@@ -1,13 +1,13 @@
 -- Leftovers leave one array: no two of them name a page, and each page that none names stays.
-use Rattle.std.proofs.Common.{◌≡◌, ◌≢◌, ◌⊎◌, ◌<◌, ℕ, List, [], ◌∷◌, Option, Some, None, refl, sym, ap, ◌∙◌, subst, ⊎_elim, arith}
+use Rattle.std.proofs.Common.{◌≡◌, ℕ, List, [], ◌∷◌, Option, Some, None, refl, sym, ap, ◌∙◌, subst, ⊎_elim}
 use Rattle.std.specs.Prelude.{Contains}
 use Rattle.ufs_laws.proofs.One.{cells_one}
 use Rattle.ufs_laws.proofs.OneCell.{one_cell}
 use Rattle.ufs_spec.proofs.Facts.{same_Some}
 use Rattle.ufs_spec.specs.Cells.{Array, Cells, Shows}
-use Rattle.ufs_spec.specs.Disk.{Erasing, Flight, Programming, Reading, Spot, spot_of}
-use Rattle.ufs_spec.specs.Lives.{AreLeftovers, IsFailure, IsLeft, die_of, page_left}
-use Rattle.ufs_spec.specs.Moves.{Ending, ReadRight, ReadWrong, WentWell, WentWrong}
+use Rattle.ufs_spec.specs.Disk.{Erasing, Flight, Programming, Reading, Spot}
+use Rattle.ufs_spec.specs.Lives.{IsFailure, IsLeft, die_of, page_left}
+use Rattle.ufs_spec.specs.Moves.{Ending, ReadWrong, WentWrong}
 use Rattle.ufs_spec.specs.Steps.{State}
 use Rattle.ufs_spec.specs.declared.events.Leftover.{Leftover}
 use Rattle.ufs_spec.specs.declared.events.Leftover.TheVariants as leftover
@@ -37,7 +37,8 @@ module _ (array : Array) (lefts : List Leftover) (pairs : Apart lefts) where
 
   named_alike : (p : Place) (x y : Page) → Named p x → Named p y → x ≡ y
   named_alike p x y h k =
-      let same : h.0 ≡ k.0 = one_leftover lefts h.0 k.0 pairs h.1 k.1 (named_die h.0 p x h.2 ∙ sym (named_die k.0 p y k.2)) in
+      let same : h.0 ≡ k.0 = one_leftover lefts h.0 k.0 pairs h.1 k.1
+      (named_die h.0 p x h.2 ∙ sym (named_die k.0 p y k.2)) in
       named_once k.0 p x y (subst (λ (l : Leftover). page_left l p x) same h.2) k.2
 
   pub left_named : (left : Array) → IsLeft array lefts left → (p : Place) (page : Page) → Named p page → left p ≡ page
@@ -49,7 +50,8 @@ module _ (array : Array) (lefts : List Leftover) (pairs : Apart lefts) where
 
   pub left_unnamed : (left : Array) → IsLeft array lefts left → (p : Place) → Unnamed p → left p ≡ array p
   left_unnamed left is p none =
-      ⊎_elim (λ (k : Named p (left p)). absurd (none k.0 (left p) k.1 k.2)) (λ (k : Unnamed p × (left p ≡ array p)). k.1) (is p)
+      ⊎_elim (λ (k : Named p (left p)). absurd (none k.0 (left p) k.1 k.2))
+      (λ (k : Unnamed p × (left p ≡ array p)). k.1) (is p)
 
   pub one_left : (left other : Array) → IsLeft array lefts left → IsLeft array lefts other → left ≡ other
   one_left left other is its i p =
@@ -61,13 +63,18 @@ module _ (array : Array) (lefts : List Leftover) (pairs : Apart lefts) where
 
 -- A failed job
 
-wrong_alike : (s : State) (l : Leftover) (left other : Array) (c d : Cells) → IsLeft s.array (l ∷ []) left → IsLeft s.array (l ∷ []) other →
+wrong_alike : (s : State) (l : Leftover) (left other : Array) (c d : Cells) → IsLeft s.array (l ∷ []) left →
+    IsLeft s.array (l ∷ []) other →
     Shows left c → Shows other d → (WentWrong c ≡ WentWrong d) × (left ≡ other)
 wrong_alike s l left other c d h k shown other_shown =
-    let same : left ≡ other = one_left s.array (l ∷ []) (one_apart l) left other h k in
-    (ap WentWrong (cells_one one_cell other c d (subst (λ (array : Array). Shows array c) same shown) other_shown), same)
+    let same : left ≡ other = one_left s.array (l ∷ []) (one_apart l) left other h k in (
+      ap WentWrong (cells_one one_cell other c d
+          (subst (λ (array : Array). Shows array c) same shown) other_shown),
+      same,
+    )
 
-pub one_failure : (s : State) (die : ℕ) (flight : Option Flight) (l : Option Leftover) (ending next : Ending) (left other : Array) →
+pub one_failure : (s : State) (die : ℕ) (flight : Option Flight) (l : Option Leftover) (ending next : Ending)
+    (left other : Array) →
     IsFailure s die flight l ending left → IsFailure s die flight l next other → (ending ≡ next) × (left ≡ other)
 one_failure s die (Some (Reading reader place)) None ReadWrong ReadWrong left other h k = (refl, h ∙ sym k)
 one_failure s die (Some (Programming place cell)) (Some l) (WentWrong c) (WentWrong d) left other h k =

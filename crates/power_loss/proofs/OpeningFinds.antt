@@ -1,6 +1,6 @@
 -- What an opening finds in cells: the page of each name, the greatest number seen, the lost keys in order, the mending
 -- that is due and the state of each block.
-use Rattle.std.proofs.Common.{◌≡◌, ◌≢◌, ◌⊎◌, ℕ, suc, ◌<◌, ◌≤◌, Bool, true, false, List, [], Option, Some, None, refl, sym, ap, ◌∙◌, subst, inl, inr, ⊎_elim, arith}
+use Rattle.std.proofs.Common.{◌≡◌, ◌≢◌, ◌⊎◌, ℕ, suc, ◌≤◌, Bool, true, false, List, Option, Some, None, refl, sym, ap, ◌∙◌, subst, inl, inr, ⊎_elim, arith}
 use Rattle.std.specs.Prelude.{max, if◌then◌else◌}
 use Rattle.ufs_laws.proofs.Search.{Decided, Greatest, greatest, is_place, some_cell, split}
 use Rattle.ufs_spec.proofs.Facts.{none-some}
@@ -35,7 +35,8 @@ is_named name Nothing = inr (λ h. h)
 is_named name (GroupPage t body) = is_name (name_of t) name
 is_named name (MarkPage m) = inr (λ h. h)
 
-named_page : (name : Name) (x : Cell) → IsNamed name x → (t : Tag) × (body : List ℕ) × (x ≡ GroupPage t body) × (name_of t ≡ name)
+named_page : (name : Name) (x : Cell) → IsNamed name x → (t : Tag) × (body : List ℕ) × (x ≡ GroupPage t body) ×
+    (name_of t ≡ name)
 named_page name Nothing h = absurd h
 named_page name (GroupPage t body) h = (t, body, refl, h)
 named_page name (MarkPage m) h = absurd h
@@ -69,7 +70,8 @@ module _ (n : Numbers) (c : Cells) (within : AreWithin n c) where
 
   -- The name that a key begins with
 
-  pub first_of : (m : Option Mark) (kept : ℕ) (k : Key) (x : List ℕ) → Holds c m (suc kept) k x → (o : Option Name) × IsFirst c m kept k o
+  pub first_of : (m : Option Mark) (kept : ℕ) (k : Key) (x : List ℕ) → Holds c m (suc kept) k x → (o : Option Name) ×
+      IsFirst c m kept k o
   first_of m kept k x (inl (p, t, h)) = (Some (name_of t), (p, t, x, h, refl))
   first_of m kept k x (inr (none, e)) = (None, none)
 
@@ -111,23 +113,29 @@ module _ (n : Numbers) (c : Cells) (within : AreWithin n c) where
 
     above : (p : Place) (y : Cell) → c p ≡ y → weight y ≤ top
     unfolding top
-    above p y e = let a = g.above p in let b = ap weight e in let l = left_max g.weight (last_of (fence_in m)) in omega arith
+    above p y e = let a = g.above p in let b = ap weight e in let l = left_max g.weight
+        (last_of (fence_in m)) in omega arith
 
     least : (x : ℕ) → IsAtMost c m x → top ≤ x
     unfolding top
     least x h =
         max_low g.weight (last_of (fence_in m)) x
-        (⊎_elim (λ e. omega arith) (λ (r : (p : Place) × (weight (c p) ≡ g.weight)). let l = at_most m x h r.0 (c r.0) refl in let e = r.1 in omega arith) g.reached)
+        (⊎_elim (λ e. omega arith)
+        (λ (r : (p : Place) × (weight (c p) ≡ g.weight)). let l = at_most m x h r.0
+        (c r.0) refl in let e = r.1 in omega arith) g.reached)
         (fence_low (fence_in m) x h.fence)
 
     is_top : IsTop c m top
     unfolding top
     is_top = (
       record {
-        numbers = λ p t body e. let a = above p (GroupPage t body) e in let b = left_max t.number t.frontier in omega arith;
-        frontiers = λ p t body e. let a = above p (GroupPage t body) e in let b = right_max t.number t.frontier in omega arith;
+        numbers = λ p t body e. let a = above p
+            (GroupPage t body) e in let b = left_max t.number t.frontier in omega arith;
+        frontiers = λ p t body e. let a = above p
+            (GroupPage t body) e in let b = right_max t.number t.frontier in omega arith;
         marks = λ p o e. above p (MarkPage o) e;
-        fence = λ f e. let a = right_max g.weight (last_of (fence_in m)) in let b = low_fence (fence_in m) f e in omega arith;
+        fence = λ f e. let a = right_max g.weight (last_of (fence_in m)) in let b = low_fence
+            (fence_in m) f e in omega arith;
       },
       least,
     )
@@ -159,13 +167,15 @@ module _ (n : Numbers) (c : Cells) (within : AreWithin n c) where
   at die block page = record { die = die; block = block; page = page }
 
   abbrev LostOn : ℕ → ℕ → Key → Type 0
-  LostOn low last = Below n.dies (λ die. Below n.blocks (λ block. Below n.pages (λ page. LostAt low last (c (at die block page)))))
+  LostOn low last = Below n.dies
+      (λ die. Below n.blocks (λ block. Below n.pages (λ page. LostAt low last (c (at die block page)))))
 
   lost_on : (low last : ℕ) → Listed (LostOn low last)
   lost_on low last =
       collect (λ die. Below n.blocks (λ block. Below n.pages (λ page. LostAt low last (c (at die block page)))))
       (λ die. collect (λ block. Below n.pages (λ page. LostAt low last (c (at die block page))))
-      (λ block. collect (λ page. LostAt low last (c (at die block page))) (λ page. lost_at low last (c (at die block page))) n.pages) n.blocks) n.dies
+      (λ block. collect (λ page. LostAt low last (c (at die block page)))
+      (λ page. lost_at low last (c (at die block page))) n.pages) n.blocks) n.dies
 
   told_lost : (low last : ℕ) (p : Place) (x : Cell) (k : Key) → c p ≡ x → LostAt low last x k → IsLost c low last k
   told_lost low last p Nothing k e h = absurd h
@@ -200,7 +210,8 @@ module _ (n : Numbers) (c : Cells) (within : AreWithin n c) where
   none_or None = inl refl
   none_or (Some g) = inr (g, refl)
 
-  pub mending_at : (m : Option Mark) (low last : ℕ) → ((f : Fence) → fence_in m ≡ Some f → low ≤ last) → (w : Mending) × IsMendingAt c m low last w
+  pub mending_at : (m : Option Mark) (low last : ℕ) → ((f : Fence) → fence_in m ≡ Some f → low ≤ last) → (w : Mending) ×
+      IsMendingAt c m low last w
   mending_at None low last wide =
       let keys = are_lost low last in
       ⊎_elim
@@ -210,8 +221,20 @@ module _ (n : Numbers) (c : Cells) (within : AreWithin n c) where
   mending_at (Some mark) low last wide =
       let keys = are_lost low last in
       ⊎_elim
-      (λ l. (Unmarked (Some (record { first = low; last = last })) keys.0, ((λ h. let x = h.2 in omega arith), (refl, refl, l), keys.1)))
-      (λ l. (Mended, ((λ e. none-some mark (sym e)), ⊎_elim (λ e. e) (λ (f : (g : Fence) × (mark.fence ≡ Some g)). absurd (let x = wide f.0 f.1 in omega arith)) (none_or mark.fence), l)))
+      (λ l. (
+        Unmarked (Some (record { first = low; last = last })) keys.0,
+        ((λ h. let x = h.2 in omega arith), (refl, refl, l), keys.1),
+      ))
+      (λ l. (
+        Mended,
+        (
+          (λ e. none-some mark (sym e)),
+          ⊎_elim (λ e. e)
+              (λ (f : (g : Fence) × (mark.fence ≡ Some g)). absurd (let x = wide f.0 f.1 in omega arith))
+              (none_or mark.fence),
+          l,
+        ),
+      ))
       (split low last)
 
   -- Blocks

@@ -1,23 +1,24 @@
 -- An opened translation layer is valid: the mending that is due, and all of it.
-use Rattle.std.proofs.Common.{◌≡◌, ◌≢◌, ℕ, suc, ◌<◌, ◌≤◌, ◌-◌, Bool, List, [], drop, length, Option, Some, None, refl, sym, ap, ◌∙◌, subst, inl, ⊎_elim, arith}
+use Rattle.std.proofs.Common.{◌≡◌, ◌≢◌, ℕ, suc, ◌<◌, ◌≤◌, ◌-◌, All, Bool, List, [], drop, length, Option, Some, None, refl, sym, ap, ◌∙◌, subst, inl, ⊎_elim, arith}
 use Rattle.ufs_spec.specs.Cells.{AreWithin, Cells, Mark, MarkPage}
 use Rattle.ufs_spec.specs.Disk.{Programming, Spot, spot_of}
 use Rattle.ufs_spec.specs.Kept.{IsNewestMark, IsWhole, fence_in, recorded_in}
 use Rattle.ufs_spec.specs.Openings.{AreLost, IsMendingAt, IsOpenedTranslation}
 use Rattle.ufs_spec.specs.Sound.{CellsSound}
-use Rattle.ufs_spec.specs.Translation.{Mended, Mending, Repairing, Translation, Unmarked, is_mended}
+use Rattle.ufs_spec.specs.Translation.{Mended, Mending, Pin, Repairing, Rest, Translation, Unmarked, is_mended}
 use Rattle.ufs_spec.specs.declared.configs.Numbers.{Numbers}
 use Rattle.ufs_spec.specs.declared.flash.Fence.{Fence}
 use Rattle.ufs_spec.specs.declared.flash.Key.{Key}
 use Rattle.ufs_spec.specs.declared.flash.Place.{Place}
 use Rattle.power_loss.specs.Book.{CellsRight, HasKey, IsWholeOld, book}
-use Rattle.power_loss.specs.Invariant.{HistoryRight, LostRight, MarkStands, MarksRight, MendingRight, Valid}
+use Rattle.power_loss.specs.Invariant.{HistoryRight, LookedRight, LostRight, MarkStands, MarksRight, MendingRight, SourceRight, Valid}
 use Rattle.std.proofs.lemmas.List.{drop_all}
+use Rattle.std.proofs.lemmas.List.Elements.{All-nil}
 use Rattle.ufs_spec.specs.Ledger.{accepted_groups, before_accepted}
 use Rattle.power_loss.proofs.Slots.{no_pages}
 use Rattle.power_loss.proofs.OpeningBook.{Opened, low_cases, no_group, old_page, opened, page_is_old, shown, split}
 use Rattle.power_loss.proofs.OpeningHolds.{book_is_right}
-use Rattle.power_loss.proofs.OpeningPages.{all_safe, blocks_are_right, flights_are_right, free_blank, frontier_is_right, mark_not_free, none_flies, numbered, pages_are_right}
+use Rattle.power_loss.proofs.OpeningPages.{all_safe, blocks_are_right, flights_are_right, free_blank, frontier_is_right, mark_not_free, none_flies, numbered, pages_are_right, stands_secure}
 
 -- Mended at once
 
@@ -171,6 +172,9 @@ valid bad t o = record {
         let claims = o.start.no_claims in
         omega (arith, none, claims);
   };
+  unmended = record { stand = λ un n i p h. stands_secure bad t n i p o h };
+  pins = record { each = subst (All (λ (pin : Pin). LookedRight (book t) t.ledger.frontier t.disk.cells t.disk.finished t.disk.erasing pin.looked)) (sym o.start.no_pins) (All-nil _) };
+  rests = record { each = subst (All (λ (rest : Rest). SourceRight t.disk.cells t.disk.finished t.disk.erasing rest.source)) (sym o.start.no_rests) (All-nil _) };
 }
 
 pub opening_valid : (n : Numbers) (c : Cells) (bad : Spot → Bool) (t : Translation) →

@@ -9,7 +9,7 @@ use Rattle.ufs_spec.specs.Translation.{Translation}
 use Rattle.ufs_spec.specs.declared.flash.Place.{Place}
 use Rattle.ufs_spec.specs.declared.flash.Tag.{Tag}
 use Rattle.power_loss.specs.Book.{IsPageAt, book}
-use Rattle.power_loss.specs.Invariant.{AreFreeBlank, AreNumbered, BlocksRight, FlightsRight, FrontierRight, IsSafe, PagesRight, SafeRight}
+use Rattle.power_loss.specs.Invariant.{AreFreeBlank, AreNumbered, BlocksRight, FlightsRight, FrontierRight, IsSecure, PagesRight, SafeRight}
 use Rattle.power_loss.proofs.OpeningBook.{Opened, from_old, is_known, old_page, only_old, page_is_old, shown, stands, stands_there}
 
 -- Blocks
@@ -121,11 +121,11 @@ flights_are_right bad t o = record {
 
 -- What stands is safe
 
-safe : (bad : Spot → Bool) (t : Translation) (n i : ℕ) (e : Entry) (p : Place) → Opened bad t → t.ledger.standing n i ≡ Some p →
-    IsSafe (book t) (recorded_in t.ledger.newest) t.ledger.standing t.disk.cells t.disk.finished t.disk.blocks t.disk.erasing n i e.item.key
-safe bad t n i e p o h =
+pub stands_secure : (bad : Spot → Bool) (t : Translation) (n i : ℕ) (p : Place) → Opened bad t → t.ledger.standing n i ≡ Some p →
+    IsSecure t.ledger.standing t.disk.cells t.disk.finished t.disk.blocks t.disk.erasing n i
+stands_secure bad t n i p o h =
     let x = page_there bad t n i p o h in
-    inl record {
+    record {
       place = p;
       tag = x.tag;
       body = x.body;
@@ -140,7 +140,7 @@ safe bad t n i e p o h =
 
 pub all_safe : (bad : Spot → Bool) (t : Translation) → Opened bad t →
     SafeRight (book t) (recorded_in t.ledger.newest) t.ledger.standing t.disk.cells t.disk.finished t.disk.blocks t.disk.erasing
-all_safe bad t o = record { safe = λ n i e p is h free. safe bad t n i e p o h }
+all_safe bad t o = record { safe = λ n i e p is h free. inl (stands_secure bad t n i p o h) }
 
 -- Marks have numbers
 

@@ -13,8 +13,9 @@ use Rattle.ufs_spec.specs.declared.flash.Place.{Place}
 use Rattle.ufs_spec.specs.declared.flash.Tag.{Tag}
 use Rattle.power_loss.specs.Book.{Book, HasKey, IsLostNumber, IsOverwritten, IsPageAt, IsWritten, book, last_number}
 use Rattle.power_loss.specs.Invariant.{FenceRight, FlightsRight, HistoryRight, IsLastRepair, IsOpenedOrOwn, IsOwnMark, IsSafe, IsToCopy, MarkStepRight, MarksRight, MendingRight, OnePlanRight, RepairingRight, Standing, StandsIn, StepKindRight, StepRight, Valid}
-use Rattle.power_loss.proofs.Books.{MayAdd, added_page, book_grows, fence_grows, get_splits, grown, grown_length, last_grows, lost_before, none_some, overwritten_more, some_is, written_grows, written_more}
+use Rattle.power_loss.proofs.Books.{MayAdd, added_page, book_grows, fence_grows, get_splits, grown, grown_length, last_grows, lost_before, none_some, overwritten_more, page_grows, some_is, written_grows, written_more}
 use Rattle.std.proofs.lemmas.List.{drop_all}
+use Rattle.power_loss.proofs.PagesKept.{pins_stay}
 use Rattle.power_loss.proofs.Slots.{no_pages, slots_fewer}
 use Rattle.power_loss.proofs.Grows.{flights_grow, frontier_grows, marks_grow, pages_grow, safe_grows}
 
@@ -147,6 +148,9 @@ marks_ordered t fence v e right behind = record {
   };
   history = v.history;
   slots = v.slots;
+  unmended = v.unmended;
+  pins = v.pins;
+  rests = v.rests;
 }
   where
     mark_right : MarkStepRight (t.ledger.marks + 1) t.disk.cells t.work.mending t.work.plan (t.ledger.marks + 1) fence
@@ -274,6 +278,10 @@ repairs_ordered t k left v none m = record {
   history = repair_history (book t) k t.ledger.repairs t.ledger.held t.ledger.frontier
       (subst (λ (z : Mending). HistoryRight (book t) t.ledger.repairs t.ledger.held t.ledger.frontier (is_mended z)) m v.history);
   slots = slots_fewer t.numbers.slots (pending_pages t.ledger) t.claims (pending_pages (with_repair t.ledger k)) t.claims (omega (arith, no_more)) (omega arith) v.slots;
+  unmended = record { stand = λ un n i p h. v.unmended.stand (ap is_mended m) n i p h };
+  pins = pins_stay (book t) (grown (book t) (repair_group t.ledger.base k)) t.ledger.frontier t.disk.cells t.disk.cells t.disk.finished t.disk.finished t.disk.erasing t.disk.erasing t.pins
+      (λ n i e h. page_grows (book t) (repair_group t.ledger.base k) n i e h) (λ q some ended stays. record { there = refl; ended = ended; stays = stays }) v.pins;
+  rests = v.rests;
 }
   where
     repairing : MendingRight (book t) t.disk t.ledger t.work.plan t.work.step (Repairing (k ∷ left))
@@ -328,6 +336,9 @@ plans t pl next v none mended r s = record {
   };
   history = v.history;
   slots = v.slots;
+  unmended = v.unmended;
+  pins = v.pins;
+  rests = v.rests;
 }
 
 -- What stands in the victim

@@ -205,7 +205,7 @@ one_more t move g v accepts some is =
 pub effect : (t : Translation) (move : Move) → Valid t → IsAllowedMove t move → Effect t move
 effect t (Claim count) v may = none_new t (Claim count) refl ((refl, refl), λ s. s)
 effect t (Release count) v may = none_new t (Release count) refl ((refl, refl), λ s. s)
-effect t (Accept claimed g rests) v may = one_more t (Accept claimed g rests) g v refl (let s = may.4.some in omega arith) refl
+effect t (Accept claimed g) v may = one_more t (Accept claimed g) g v refl (let s = may.4.some in omega arith) refl
 effect t (Tell count) v may = none_new t (Tell count) refl ((refl, refl), λ s. s)
 effect t (Keep key pin) v may = none_new t (Keep key pin) refl ((refl, refl), λ s. s)
 effect t (WantPage tag index) v may = none_new t (WantPage tag index) refl ((refl, refl), λ s. s)

@@ -75,9 +75,9 @@ block_tag task sent body Unread false m h = no_tag m h
 
 next_tag : (s : State) (task : Task) (sent : ℕ) (x : Option ReadBlock) (m : Message) → next_block_reply s task sent x ≡ Some m → tag_in m ≡ task.tag
 next_tag s task sent None m h = no_tag m h
-next_tag s task sent (Some block) m h = block_tag task sent block.body block.state (is_at_hand (pin_of s task sent)) m h
+next_tag s task sent (Some block) m h = block_tag task sent block.body block.state (is_at_hand s.translation.work.rests (pin_of s task sent)) m h
 
-reply_tag : (s : State) (task : Task) (deed : Deed) (m : Message) → deed_reply s task deed ≡ Some m → tag_in m ≡ task.tag
+pub reply_tag : (s : State) (task : Task) (deed : Deed) (m : Message) → deed_reply s task deed ≡ Some m → tag_in m ≡ task.tag
 reply_tag s task (Gathering purpose gathered true) m h = no_tag m h
 reply_tag s task (Gathering purpose gathered false) m h = one_tag (ready_message task gathered) m task.tag h refl
 reply_tag s task (Sending blocks sent) m h = next_tag s task sent (slice_get blocks sent) m h

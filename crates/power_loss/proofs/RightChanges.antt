@@ -24,7 +24,7 @@ use Rattle.ufs_laws.proofs.Changed.{weaker, Small, Accepts, Both, Change, Change
 abbrev pub LayerMay : State → Change → Type 0
 LayerMay s (Moves move) = IsAllowedMove s.translation move
 LayerMay s (Accepts command claimed f) =
-    IsCommand command × CanApply (plain_now s) command × IsAllowedMove s.translation (Accept claimed (group_of (plain_now s) command) [])
+    IsCommand command × CanApply (plain_now s) command × IsAllowedMove s.translation (Accept claimed (group_of (plain_now s) command))
 LayerMay s change = Unit {0}
 
 pub record IsRight (s : State) (change : Change) : Type 0 where
@@ -66,14 +66,14 @@ record LeavesGroups (t u : Translation) : Type 0 where
   cells : u.disk.cells ≡ t.disk.cells
 
 small_leaves : (t : Translation) (move : Move) → IsSmallMove move → LeavesGroups t (moved t move)
-small_leaves t (Accept claimed g rests) is = absurd is
+small_leaves t (Accept claimed g) is = absurd is
 small_leaves t (Take die flight) is = absurd is
 small_leaves t (End die ending) is = absurd is
 small_leaves t Turn is = absurd is
 small_leaves t move is = record { groups = refl; cells = refl }
 
 accepted_ties : (s : State) (c : Command) (claimed : ℕ) → IsTied s → IsCommand c → CanApply (plain_now s) c →
-    Ties s.array s.base (s.accepted ++ c ∷ []) (moved s.translation (Accept claimed (group_of (plain_now s) c) []))
+    Ties s.array s.base (s.accepted ++ c ∷ []) (moved s.translation (Accept claimed (group_of (plain_now s) c)))
 accepted_ties s c claimed v is can = record {
   shown = v.shown;
   plain = v.base.0;
@@ -95,7 +95,7 @@ change_keeps s (Moves move) r v =
     r.tasks
 change_keeps s (Accepts command claimed f) r v =
     let g : Group = group_of (plain_now s) command in
-    whole (changed s (Accepts command claimed f)) (move_fits s.translation (Accept claimed g []) (fits_of s v) r.layer.2)
+    whole (changed s (Accepts command claimed f)) (move_fits s.translation (Accept claimed g) (fits_of s v) r.layer.2)
     (accepted_ties s command claimed v r.layer.0 r.layer.1) r.tasks
 change_keeps s (Opens task) r v = whole (changed s (Opens task)) (fits_of s v) (ties_of s v) r.tasks
 change_keeps s (Maps f) r v = whole (changed s (Maps f)) (fits_of s v) (ties_of s v) r.tasks

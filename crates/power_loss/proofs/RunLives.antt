@@ -1,5 +1,5 @@
 -- A run over stops is lives one after another: so it keeps the promise, and each of its lives is right.
-use Rattle.std.proofs.Common.{◌≡◌, ℕ, ◌≤◌, Bool, List, [], ◌∷◌, ◌++◌, length, refl, sym, ap, ◌∙◌, subst, ⊎_elim}
+use Rattle.std.proofs.Common.{◌≡◌, Bool, List, [], ◌∷◌, ◌++◌, refl, sym, ap, ◌∙◌, subst, ⊎_elim}
 use Rattle.std.proofs.lemmas.List.{append_assoc, append-nil}
 use Rattle.ufs_laws.proofs.Joined.{join}
 use Rattle.ufs_spec.specs.Cells.{Array}
@@ -35,7 +35,8 @@ more n s t u (d ∷ es) (p ∷ os) e o h g = (h.0, h.1, more n h.0 t u es os e o
 
 -- Lives
 
-pub record AreLives (n : Numbers) (array : Array) (bad : Spot → Bool) (es : List Event) (os : List Output) (t : State) : Type 0 where
+pub record AreLives (n : Numbers) (array : Array) (bad : Spot → Bool) (es : List Event) (os : List Output)
+    (t : State) : Type 0 where
   pub first : Lived
   pub later : List Lived
   pub lives : Lives n array bad first later es os
@@ -65,8 +66,10 @@ reopened n s (event.Fail x y) o t h = absurd h
 reopened n s event.Turn o t h = absurd h
 
 -- a life over these events, and lives behind the stop that ends it
-at_stop : (n : Numbers) (array : Array) (bad : Spot → Bool) (s now next t : State) (ds : List Event) (ps : List Output) (e : Event) (o : Output) (es : List Event) (os : List Output) →
-    IsOpened n array bad s → Life s ds ps now → (r : IsReopened n now e o next) → AreLives n r.left (bad_in now) es os t →
+at_stop : (n : Numbers) (array : Array) (bad : Spot → Bool) (s now next t : State) (ds : List Event) (ps : List Output)
+    (e : Event) (o : Output) (es : List Event) (os : List Output) →
+    IsOpened n array bad s → Life s ds ps now → (r : IsReopened n now e o next) →
+    AreLives n r.left (bad_in now) es os t →
     AreLives n array bad (ds ++ e ∷ es) (ps ++ o ∷ os) t
 at_stop n array bad s now next t ds ps e o es os opened life r rest =
     record {
@@ -88,13 +91,16 @@ at_stop n array bad s now next t ds ps e o es os opened life r rest =
       ends = rest.ends;
     }
 
-shifted : (n : Numbers) (array : Array) (bad : Spot → Bool) (t : State) (ds : List Event) (ps : List Output) (e : Event) (o : Output) (es : List Event) (os : List Output) →
-    AreLives n array bad ((ds ++ e ∷ []) ++ es) ((ps ++ o ∷ []) ++ os) t → AreLives n array bad (ds ++ e ∷ es) (ps ++ o ∷ os) t
+shifted : (n : Numbers) (array : Array) (bad : Spot → Bool) (t : State) (ds : List Event) (ps : List Output) (e : Event)
+    (o : Output) (es : List Event) (os : List Output) →
+    AreLives n array bad ((ds ++ e ∷ []) ++ es) ((ps ++ o ∷ []) ++ os) t →
+    AreLives n array bad (ds ++ e ∷ es) (ps ++ o ∷ os) t
 shifted n array bad t ds ps e o es os h =
     subst (λ (xs : List Event). AreLives n array bad xs (ps ++ o ∷ os) t) (append_assoc ds (e ∷ []) es)
     (subst (λ (xs : List Output). AreLives n array bad ((ds ++ e ∷ []) ++ es) xs t) (append_assoc ps (o ∷ []) os) h)
 
-lives_from : (n : Numbers) (array : Array) (bad : Spot → Bool) (s now t : State) (ds : List Event) (ps : List Output) (es : List Event) (os : List Output) →
+lives_from : (n : Numbers) (array : Array) (bad : Spot → Bool) (s now t : State) (ds : List Event) (ps : List Output)
+    (es : List Event) (os : List Output) →
     IsOpened n array bad s → Life s ds ps now → Runs n now es os t → AreLives n array bad (ds ++ es) (ps ++ os) t
 lives_from n array bad s now t ds ps [] [] opened life h =
     record {
@@ -113,7 +119,8 @@ lives_from n array bad s now t ds ps (e ∷ es) (o ∷ os) opened life (next, go
     (join s ds (e ∷ []) ps (o ∷ []) now next life (next, leads, refl)) rest))
     (λ (g : Reopens n now e o next).
     let r : IsReopened n now e o next = reopened n now e o next g in
-    at_stop n array bad s now next t ds ps e o es os opened life r (lives_from n r.left (bad_in now) next next t [] [] es os r.opened refl rest))
+    at_stop n array bad s now next t ds ps e o es os opened life r
+    (lives_from n r.left (bad_in now) next next t [] [] es os r.opened refl rest))
     goes
 
 pub lives_of : (n : Numbers) (array : Array) (bad : Spot → Bool) (s t : State) (es : List Event) (os : List Output) →
@@ -123,7 +130,8 @@ lives_of n array bad s t es os opened h = lives_from n array bad s s t [] [] es 
 -- Each life
 
 -- a life that begins over an array that a device may be opened over
-module _ (n : Numbers) (array : Array) (bad : Spot → Bool) (l : Lived) (config : IsConfig n) (may : MayBeOpened n array) (lived : IsLived n array bad l) where
+module _ (n : Numbers) (array : Array) (bad : Spot → Bool) (l : Lived) (config : IsConfig n) (may : MayBeOpened n array)
+    (lived : IsLived n array bad l) where
   numbers : numbers_of l.start ≡ n
   numbers = lived.0.translation.numbers
 
@@ -131,9 +139,11 @@ module _ (n : Numbers) (array : Array) (bad : Spot → Bool) (l : Lived) (config
   begins = opened_valid n array bad l.start config may.inside may.sound lived.0
 
   start_inside : IsArrayOf (numbers_of l.start) l.start.array
-  start_inside = subst (λ (x : Numbers). IsArrayOf x l.start.array) (sym numbers) (subst (IsArrayOf n) (sym lived.0.array_now) may.inside)
+  start_inside = subst (λ (x : Numbers). IsArrayOf x l.start.array) (sym numbers)
+      (subst (IsArrayOf n) (sym lived.0.array_now) may.inside)
 
-  continues : (numbers_of l.finish ≡ numbers_of l.start) × (l.finish.base ≡ l.start.base) × IsArrayOf (numbers_of l.start) l.finish.array
+  continues : (numbers_of l.finish ≡ numbers_of l.start) × (l.finish.base ≡ l.start.base) ×
+      IsArrayOf (numbers_of l.start) l.finish.array
   continues = life_continues l.start l.finish l.events l.outputs begins start_inside lived.1
 
   finish_numbers : numbers_of l.finish ≡ n
@@ -147,7 +157,8 @@ module _ (n : Numbers) (array : Array) (bad : Spot → Bool) (l : Lived) (config
 
   left_opens : (lefts : List Leftover) (left : Array) → Stops l.finish lefts left → MayBeOpened n left
   left_opens lefts left stops = record {
-    inside = subst (λ (x : Numbers). IsArrayOf x left) finish_numbers (within_left l.finish ends_valid lefts left stops finish_inside);
+    inside = subst (λ (x : Numbers). IsArrayOf x left) finish_numbers
+        (within_left l.finish ends_valid lefts left stops finish_inside);
     sound = sound_left l.finish ends_valid lefts left stops;
     suits = subst (λ (x : Numbers). Suits x left) finish_numbers (suits_left l.finish ends_valid lefts left stops);
   }
@@ -162,7 +173,8 @@ module _ (n : Numbers) (array : Array) (bad : Spot → Bool) (l : Lived) (config
     mends = λ lost are es os middle life unmended. true_turns_of_life n array bad l.start middle es os lost config may.inside may.sound lived.0 are life unmended;
   }
 
-pub lives_right : (n : Numbers) (array : Array) (bad : Spot → Bool) (first : Lived) (later : List Lived) (es : List Event) (os : List Output) →
+pub lives_right : (n : Numbers) (array : Array) (bad : Spot → Bool) (first : Lived) (later : List Lived)
+    (es : List Event) (os : List Output) →
     IsConfig n → MayBeOpened n array → Lives n array bad first later es os → LivesRight n array bad first later
 lives_right n array bad l [] es os config may h = life_right n array bad l config may h.0
 lives_right n array bad l (m ∷ ls) es os config may h =
@@ -173,17 +185,20 @@ lives_right n array bad l (m ∷ ls) es os config may h =
         lefts.items,
         left,
         h.1.6,
-        lives_right n left (bad_in l.finish) m ls h.1.1 h.1.2 config (left_opens n array bad l config may h.0 lefts.items left h.1.6) h.1.7,
+        lives_right n left (bad_in l.finish) m ls h.1.1 h.1.2 config
+            (left_opens n array bad l config may h.0 lefts.items left h.1.6) h.1.7,
       ),
     )
 
 -- The promise
 
 pub headline : (n : Numbers) (dies : List DieState) (s t : State) (es : List Event) (os : List Output) →
-    IsConfig n → Fit n dies → Sound (array_of dies) → IsOpened n (array_of dies) (bad_of dies) s → Runs n s es os t → Headline n dies es os
+    IsConfig n → Fit n dies → Sound (array_of dies) → IsOpened n (array_of dies) (bad_of dies) s → Runs n s es os t →
+    Headline n dies es os
 headline n dies s t es os config fit sound opened runs =
     let l = lives_of n (array_of dies) (bad_of dies) s t es os opened runs in
-    let c = chained n (array_of dies) (bad_of dies) l.first l.later es os s.base config (fit_inside n dies fit) sound opened.stands l.lives in
+    let c = chained n (array_of dies) (bad_of dies) l.first l.later es os s.base config
+    (fit_inside n dies fit) sound opened.stands l.lives in
     record {
       base = s.base;
       stands = opened.stands;

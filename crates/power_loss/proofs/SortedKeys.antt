@@ -1,5 +1,5 @@
 -- The keys of a sort, each once and in order, where it can be said of each number below an end which keys those are.
-use Rattle.std.proofs.Common.{◌≡◌, ◌⊎◌, ℕ, zero, suc, ◌<◌, List, [], ◌∷◌, Some, None, slice_get, refl, sym, ap, ◌∙◌, subst, inl, inr, ⊎_elim, arith}
+use Rattle.std.proofs.Common.{◌≡◌, ◌⊎◌, ℕ, zero, suc, ◌<◌, List, [], ◌∷◌, Some, slice_get, refl, sym, ap, ◌∙◌, subst, inl, inr, ⊎_elim, arith}
 use Rattle.std.proofs.lemmas.Bool.{cases_order}
 use Rattle.ufs_laws.proofs.Search.{split}
 use Rattle.ufs_spec.proofs.Facts.{key_is, none-some, same_Some}
@@ -31,7 +31,8 @@ before_trans a b c (inr (inr h)) (inl k) = inl (let e = h.0 in omega arith)
 before_trans a b c (inr (inl h)) (inr (inl k)) = inr (inl (h.0 ∙ k.0, let x = h.1 in let y = k.1 in omega arith))
 before_trans a b c (inr (inl h)) (inr (inr k)) = inr (inl (h.0 ∙ k.0, let x = h.1 in let y = k.1 in omega arith))
 before_trans a b c (inr (inr h)) (inr (inl k)) = inr (inl (h.0 ∙ k.0, let x = h.1 in let y = k.1 in omega arith))
-before_trans a b c (inr (inr h)) (inr (inr k)) = inr (inr (h.0 ∙ k.0, h.1 ∙ k.1, let x = h.2 in let y = k.2 in omega arith))
+before_trans a b c (inr (inr h)) (inr (inr k)) = inr
+    (inr (h.0 ∙ k.0, h.1 ∙ k.1, let x = h.2 in let y = k.2 in omega arith))
 
 -- Lists
 
@@ -63,7 +64,15 @@ inserted_behind k x xs s l r = record {
 }
 
 insert : (k : Key) (xs : List Key) → Sorted xs → Inserted k xs
-insert k [] s = record { keys = k ∷ []; sorted = ((λ j h. absurd h), tt); has = inl refl; kept = λ j h. absurd h; only = λ j h. ⊎_elim (λ e. inl (sym e)) (λ g. absurd g) h }
+insert k [] s = record {
+  keys = k ∷ [];
+  sorted =
+      ((λ j h. absurd h), tt);
+  has = inl refl;
+  kept = λ j h. absurd h;
+  only = λ j h. ⊎_elim (λ e. inl (sym e))
+      (λ g. absurd g) h;
+}
 insert k (x ∷ xs) s =
     ⊎_elim
     (λ (l : IsBefore k x). record {
@@ -86,15 +95,23 @@ pub record Listed (P : Key → Type 0) : Type 0 where
   pub only : (k : Key) → Has keys k → P k
 
 insert_all : (P : Key → Type 0) (xs : List Key) → Listed P → Listed (λ k. Has xs k ⊎ P k)
-insert_all P [] l = record { keys = l.keys; sorted = l.sorted; has = λ k h. ⊎_elim (λ g. absurd g) (λ g. l.has k g) h; only = λ k h. inr (l.only k h) }
+insert_all P [] l = record {
+  keys = l.keys;
+  sorted = l.sorted;
+  has = λ k h. ⊎_elim (λ g. absurd g)
+      (λ g. l.has k g) h;
+  only = λ k h. inr (l.only k h);
+}
 insert_all P (x ∷ xs) l =
     let r = insert_all P xs l in
     let i = insert x r.keys r.sorted in
     record {
       keys = i.keys;
       sorted = i.sorted;
-      has = λ k h. ⊎_elim (⊎_elim (λ e. subst (Has i.keys) e i.has) (λ g. i.kept k (r.has k (inl g)))) (λ g. i.kept k (r.has k (inr g))) h;
-      only = λ k h. ⊎_elim (λ e. inl (inl (sym e))) (λ g. ⊎_elim (λ a. inl (inr a)) (λ a. inr a) (r.only k g)) (i.only k h);
+      has = λ k h. ⊎_elim (⊎_elim (λ e. subst (Has i.keys) e i.has) (λ g. i.kept k (r.has k (inl g))))
+          (λ g. i.kept k (r.has k (inr g))) h;
+      only = λ k h. ⊎_elim (λ e. inl (inl (sym e))) (λ g. ⊎_elim (λ a. inl (inr a)) (λ a. inr a) (r.only k g))
+          (i.only k h);
     }
 
 abbrev pub Below : ℕ → (ℕ → Key → Type 0) → Key → Type 0
@@ -102,15 +119,24 @@ Below end P k = (i : ℕ) × (i < end) × P i k
 
 -- those of each number below the end
 pub collect : (P : ℕ → Key → Type 0) → ((i : ℕ) → Listed (P i)) → (end : ℕ) → Listed (Below end P)
-collect P l zero = record { keys = []; sorted = tt; has = λ k h. absurd (let low = h.1 in omega arith); only = λ k h. absurd h }
+collect P l zero = record {
+  keys = [];
+  sorted = tt;
+  has = λ k h. absurd
+      (let low = h.1 in omega arith);
+  only = λ k h. absurd h;
+}
 collect P l (suc end) =
     let rest = collect P l end in
     let all = insert_all (Below end P) (l end).keys rest in
     record {
       keys = all.keys;
       sorted = all.sorted;
-      has = λ k h. ⊎_elim (λ low. all.has k (inr (h.0, low, h.2))) (λ high. all.has k (inl ((l end).has k (subst (λ i. P i k) (let low = h.1 in omega arith) h.2)))) (split (suc h.0) end);
-      only = λ k h. ⊎_elim (λ g. (end, omega arith, (l end).only k g)) (λ (g : Below end P k). (g.0, (let low = g.1 in omega arith), g.2)) (all.only k h);
+      has = λ k h. ⊎_elim (λ low. all.has k (inr (h.0, low, h.2)))
+          (λ high. all.has k (inl ((l end).has k (subst (λ i. P i k) (let low = h.1 in omega arith) h.2))))
+          (split (suc h.0) end);
+      only = λ k h. ⊎_elim (λ g. (end, omega arith, (l end).only k g))
+          (λ (g : Below end P k). (g.0, (let low = g.1 in omega arith), g.2)) (all.only k h);
     }
 
 pub none_listed : (P : Key → Type 0) → ((k : Key) → P k → ⊥) → Listed P
@@ -136,7 +162,8 @@ at_has [] i k h = absurd (none-some k h)
 at_has (x ∷ xs) zero k h = inl (same_Some x k h)
 at_has (x ∷ xs) (suc i) k h = inr (at_has xs i k h)
 
-pub ordered_at : (xs : List Key) → Sorted xs → (i j : ℕ) (a b : Key) → slice_get xs i ≡ Some a → slice_get xs j ≡ Some b → i < j → IsBefore a b
+pub ordered_at : (xs : List Key) → Sorted xs → (i j : ℕ) (a b : Key) → slice_get xs i ≡ Some a →
+    slice_get xs j ≡ Some b → i < j → IsBefore a b
 ordered_at [] s i j a b e f l = absurd (none-some a e)
 ordered_at (x ∷ xs) s zero zero a b e f l = absurd (omega arith)
 ordered_at (x ∷ xs) s zero (suc j) a b e f l = subst (λ y. IsBefore y b) (same_Some x a e) (s.0 b (at_has xs j b f))

@@ -77,7 +77,7 @@ shown t c v crash n i e up is free =
 
 -- An image, of the parts that differ
 
-record Parts (b : Book) (frontier marked : ℕ) (c : Cells) (m : Mark) : Type 0 where
+pub record Parts (b : Book) (frontier marked : ℕ) (c : Cells) (m : Mark) : Type 0 where
   pub marks : (p : Place) (other : Mark) → c p ≡ MarkPage other → other.records ≤ frontier
   pub same : (p q : Place) (a other : Mark) → c p ≡ MarkPage a → c q ≡ MarkPage other → a.number ≡ other.number → a ≡ other
   pub place : Place
@@ -87,7 +87,7 @@ record Parts (b : Book) (frontier marked : ℕ) (c : Cells) (m : Mark) : Type 0 
   pub whole : AreWholeAbove b m.records
   pub numbers : m.numbers ≡ b.numbers
 
-image : (t : Translation) (c : Cells) (m : Mark) → Valid t → CellCrash t.disk.cells t.disk.flights c →
+pub image : (t : Translation) (c : Cells) (m : Mark) → Valid t → CellCrash t.disk.cells t.disk.flights c →
     Parts (book t) t.ledger.frontier (recorded_in t.ledger.newest) c m → Image (book t) t.ledger.frontier (recorded_in t.ledger.newest) c m
 image t c m v crash x = record {
   right = v.book_right;
@@ -108,11 +108,11 @@ image t c m v crash x = record {
 
 -- Once a mark of this life, or the one it began with, is finished
 
-abbrev Finished : Translation → Mark → Type 0
+abbrev pub Finished : Translation → Mark → Type 0
 Finished t newest =
     MarksRight (book t) t.ledger.frontier t.ledger.marks t.disk.cells t.disk.finished t.disk.blocks t.disk.erasing t.disk.flights newest
 
-newest_stays : (t : Translation) (c : Cells) (newest : Mark) → Valid t → CellCrash t.disk.cells t.disk.flights c → (r : Finished t newest) → c r.stands.place ≡ MarkPage newest
+pub newest_stays : (t : Translation) (c : Cells) (newest : Mark) → Valid t → CellCrash t.disk.cells t.disk.flights c → (r : Finished t newest) → c r.stands.place ≡ MarkPage newest
 newest_stays t c newest v crash r = mark_stays t c r.stands.place newest v crash r.stands.there r.stands.stays
 
 -- the newest mark of the cells is the newest finished one, or a later one
@@ -127,7 +127,7 @@ newest_or_later t c newest m p v crash r h up =
     (λ e. inr (r.flies p.die p m e))
     (mark_from t.disk c p m crash h)
 
-finished_parts : (t : Translation) (c : Cells) (newest m : Mark) (p : Place) → Valid t → CellCrash t.disk.cells t.disk.flights c → (r : Finished t newest) →
+pub finished_parts : (t : Translation) (c : Cells) (newest m : Mark) (p : Place) → Valid t → CellCrash t.disk.cells t.disk.flights c → (r : Finished t newest) →
     t.ledger.newest ≡ Some newest → IsRepairing (book t) newest ⊎ IsPlainMark (book t) newest →
     c p ≡ MarkPage m → newest.number ≤ m.number → Parts (book t) t.ledger.frontier (recorded_in t.ledger.newest) c m
 finished_parts t c newest m p v crash r is good h up = record {
@@ -163,11 +163,11 @@ finished t c newest (Some m) v crash r is good n =
 
 -- Before that
 
-abbrev Started : Translation → Option Fence → Type 0
+abbrev pub Started : Translation → Option Fence → Type 0
 Started t fence =
     (lost : List Key) × UnmarkedRight (book t) t.ledger.frontier t.ledger.marks t.ledger.newest t.disk.cells t.disk.blocks t.disk.erasing t.disk.flights t.work.plan fence lost
 
-abbrev Own : Translation → Option Fence → Mark → Type 0
+abbrev pub Own : Translation → Option Fence → Mark → Type 0
 Own t fence m = IsOwnMark (book t) t.ledger.newest t.ledger.marks fence m
 
 -- two marks of this life with one number are equal
@@ -192,7 +192,7 @@ newest_one c (Some m) (Some n) same h k =
     let x = h.1 k.0.0 n k.0.1 in let y = k.1 h.0.0 m h.0.1 in ap Some (same h.0.0 k.0.0 m n h.0.1 k.0.1 (omega arith))
 
 -- a mark on the disk stood at the opening, or is one of this life
-disk_mark : (t : Translation) (fence : Option Fence) (u : Started t fence) (p : Place) (m : Mark) → t.disk.cells p ≡ MarkPage m →
+pub disk_mark : (t : Translation) (fence : Option Fence) (u : Started t fence) (p : Place) (m : Mark) → t.disk.cells p ≡ MarkPage m →
     (u.1.opening p ≡ MarkPage m) ⊎ Own t fence m
 disk_mark t fence u p m h =
     ⊎_elim
@@ -305,7 +305,7 @@ started t c fence u (Some m) v crash n =
 
 -- What a stop leaves
 
-all_repairs : (t : Translation) (left : List Key) → Valid t → t.work.mending ≡ Repairing left →
+pub all_repairs : (t : Translation) (left : List Key) → Valid t → t.work.mending ≡ Repairing left →
     (j i : ℕ) (g : Group) (item : Item) → slice_get t.ledger.groups j ≡ Some g → slice_get g i ≡ Some item → item.body ≡ t.ledger.base item.key
 all_repairs t left v e j i g item h l =
     let r = (v.history.mending (ap is_mended e)).0 in

@@ -58,7 +58,7 @@ repair_holds b frontier marked c m p t body x r h up =
     subst (Holds c (Some m) b.low (key_of t)) (sym (r.repairs (t.number - b.top - 1) t.index g.group e.item g.is g.item))
     (base_stays b frontier marked c m (key_of t) x r.fence.records (x.right.keys t.number t.index e k))
 
-image_sound : (b : Book) (frontier marked : ℕ) (c : Cells) (m : Mark) → Image b frontier marked c m → CellsSound c (Some m)
+pub image_sound : (b : Book) (frontier marked : ℕ) (c : Cells) (m : Mark) → Image b frontier marked c m → CellsSound c (Some m)
 image_sound b frontier marked c m x = record {
   pages = λ p q t u body other h l n i. same_page b frontier marked c m p q t u body other x h l n i;
   marks = x.same;
@@ -82,7 +82,7 @@ sound t c m v crash n = ⊎_elim same changed (outcome t c m v crash n)
 
 -- Suits
 
-image_suits : (b : Book) (frontier marked : ℕ) (c : Cells) (m : Mark) → Image b frontier marked c m → CellsSuit b.numbers c (Some m)
+pub image_suits : (b : Book) (frontier marked : ℕ) (c : Cells) (m : Mark) → Image b frontier marked c m → CellsSuit b.numbers c (Some m)
 image_suits b frontier marked c m x = record {
   config = λ newest e. ap (λ (y : Mark). y.numbers) (sym (some_is m newest e)) ∙ x.numbers;
   keys = λ p t body h. x.right.keys t.number t.index (record { item = record { key = key_of t; body = body }; size = t.size }) (x.known p t body h);
@@ -99,7 +99,7 @@ suits t c m v crash n = ⊎_elim same changed (outcome t c m v crash n)
 
 -- A prefix
 
-image_prefix : (t : Translation) (c : Cells) (m : Mark) (kept : ℕ) → Valid t → Image (book t) t.ledger.frontier (recorded_in t.ledger.newest) c m → IsKept c (Some m) kept →
+pub image_prefix : (t : Translation) (c : Cells) (m : Mark) (kept : ℕ) → Valid t → Image (book t) t.ledger.frontier (recorded_in t.ledger.newest) c m → IsKept c (Some m) kept →
     IsPrefix t c (Some m) kept
 image_prefix t c m kept v x k = ⊎_elim more less (split t.ledger.repairs (kept - t.ledger.top))
   where

@@ -15,6 +15,7 @@ use Rattle.ufs_spec.specs.declared.flash.Place.{Place}
 use Rattle.ufs_spec.specs.declared.flash.Tag.{Tag}
 use Rattle.power_loss.specs.Book.{Book, IsKnown, IsLostNumber, IsOverwritten, IsWritten, book, last_number}
 use Rattle.power_loss.specs.Invariant.{FenceRight, IsLastRepair, IsLaterMark, IsOpenedOrOwn, IsOwnMark, IsToCopy, MarkFlightRight, MarkStepRight, MarksRight, MendingRight, StandsIn, UnmarkedRight, Valid}
+use Rattle.power_loss.proofs.PagesKept.{held_begun}
 use Rattle.power_loss.proofs.Begins.{CellRight, IsMarkedOnce, begins}
 use Rattle.power_loss.proofs.Changes.{Change, lost_pages}
 use Rattle.power_loss.proofs.OneMore.{at_die_is, at_spot_is, spot_cases}
@@ -71,6 +72,7 @@ erase_change t die s v o = record {
 pub takes_erase : (t : Translation) (die : ℕ) (s : Spot) → Valid t → MayTake t die (Some (Erasing s)) → Valid (taken t die (Erasing s))
 takes_erase t die s v may =
     lost_pages t (begun t.disk die (Erasing s)) v (erase_change t die s v (erase_owed t die s may)) (λ blank p h. h) (λ q. inl refl)
+    (held_begun t s (begun t.disk die (Erasing s)) v (erase_owed t die s may).unkept refl refl refl)
 
 -- The page of a group
 

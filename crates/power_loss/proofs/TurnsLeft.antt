@@ -223,7 +223,7 @@ ends t die (Some (Erasing s)) ReadWrong v e = le_same (turns_left t) (turns_left
 pub move_keeps_turns : (t : Translation) (move : Move) → Valid t → turns_left (moved t move) ≤ turns_left t
 move_keeps_turns t (Claim count) v = le_same (turns_left t) (turns_left t) refl
 move_keeps_turns t (Release count) v = le_same (turns_left t) (turns_left t) refl
-move_keeps_turns t (Accept claimed g rests) v = le_same (turns_left t) (turns_left t) refl
+move_keeps_turns t (Accept claimed g) v = le_same (turns_left t) (turns_left t) refl
 move_keeps_turns t (Tell count) v = le_same (turns_left t) (turns_left t) refl
 move_keeps_turns t (Keep key pin) v = le_same (turns_left t) (turns_left t) refl
 move_keeps_turns t (WantPage tag index) v = le_same (turns_left t) (turns_left t) refl
@@ -242,7 +242,7 @@ not_true false h = refl
 counted : (t : Translation) (move : Move) → Valid t → (if is_mending_turn t move then 1 else 0) + turns_left (moved t move) ≤ turns_left t
 counted t (Claim count) v = uncounted _ _ (move_keeps_turns t (Claim count) v)
 counted t (Release count) v = uncounted _ _ (move_keeps_turns t (Release count) v)
-counted t (Accept claimed g rests) v = uncounted _ _ (move_keeps_turns t (Accept claimed g rests) v)
+counted t (Accept claimed g) v = uncounted _ _ (move_keeps_turns t (Accept claimed g) v)
 counted t (Tell count) v = uncounted _ _ (move_keeps_turns t (Tell count) v)
 counted t (Keep key pin) v = uncounted _ _ (move_keeps_turns t (Keep key pin) v)
 counted t (WantPage tag index) v = uncounted _ _ (move_keeps_turns t (WantPage tag index) v)

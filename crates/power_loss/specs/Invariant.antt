@@ -1,14 +1,14 @@
 -- What holds of the translation layer between any two of its moves. The records read single fields, so a move that
 -- leaves these fields keeps the record as it is.
-use Rattle.std.specs.Prelude.{◌≡◌, ◌≢◌, ◌⊎◌, ℕ, suc, ◌+◌, ◌<◌, ◌≤◌, Bool, true, false, List, [], length, take, Option, Some, None, slice_get}
+use Rattle.std.specs.Prelude.{◌≡◌, ◌≢◌, ◌⊎◌, ℕ, suc, ◌+◌, ◌<◌, ◌≤◌, Bool, true, false, All, List, [], length, take, Option, Some, None, slice_get}
 use Rattle.ufs_spec.specs.Cells.{AreWithin, Cell, Cells, GroupPage, IsPlace, Mark, MarkPage, Nothing}
 use Rattle.ufs_spec.specs.Disk.{BlockState, Bad, Closed, Disk, Erasing, Filling, Flight, Free, Programming, Spot, spot_of}
 use Rattle.ufs_spec.specs.Keys.{Group, Item, put_groups}
 use Rattle.ufs_spec.specs.Kept.{HoldAll, IsKept, IsNewestMark, recorded_in}
-use Rattle.ufs_spec.specs.Ledger.{Entry, Ledger, accepted_groups, before_accepted}
+use Rattle.ufs_spec.specs.Ledger.{Entry, InSlot, Ledger, Looked, Name, OnPage, Unwritten, accepted_groups, before_accepted}
 use Rattle.ufs_spec.specs.Openings.{IsFirstFence, number_of}
 use Rattle.ufs_spec.specs.Sound.{CellsSound, CellsSuit}
-use Rattle.ufs_spec.specs.Translation.{CopyStep, MarkStep, Mended, Mending, Plan, RepairStep, Repairing, Step, StepKind, Translation, Unmarked, is_mended, pending_pages}
+use Rattle.ufs_spec.specs.Translation.{CopyStep, FromPage, FromSlot, MarkStep, Mended, Mending, Pin, Plan, RepairStep, Repairing, Rest, Source, Step, StepKind, Translation, Unmarked, is_mended, name_of, pending_pages}
 use Rattle.ufs_spec.specs.declared.configs.Numbers.{Numbers}
 use Rattle.ufs_spec.specs.declared.flash.Fence.{Fence}
 use Rattle.ufs_spec.specs.declared.flash.Key.{Key}
@@ -290,6 +290,40 @@ pub record HistoryRight (b : Book) (repairs held frontier : ℕ) (mended : Bool)
   pub mending : mended ≡ false → (repairs ≡ length b.groups) × (held ≡ 0)
   pub durable : (held ≡ 0) ⊎ (b.top + repairs + held ≤ frontier)
 
+-- Pages that are needed still
+
+-- the finished page of the name is there, in a block that is not being erased
+pub record IsGroupPage (cells : Cells) (finished : Place → Bool) (erasing : Spot → Bool) (name : Name) (place : Place) : Type 0 where
+  pub tag : Tag
+  pub body : List ℕ
+  pub there : cells place ≡ GroupPage tag body
+  pub is : name_of tag ≡ name
+  pub ended : finished place ≡ true
+  pub stays : erasing (spot_of place) ≡ false
+
+-- what was looked up is there: a page has its place, and a slot is of a group above the frontier
+abbrev pub LookedRight : Book → ℕ → Cells → (Place → Bool) → (Spot → Bool) → Looked → Type 0
+LookedRight b frontier cells finished erasing Unwritten = Unit {0}
+LookedRight b frontier cells finished erasing (InSlot name) =
+    (frontier < name.number) × ((e : Entry) × IsPageAt b name.number name.index e)
+LookedRight b frontier cells finished erasing (OnPage name place) = IsGroupPage cells finished erasing name place
+
+-- what tasks keep
+pub record PinsRight (b : Book) (frontier : ℕ) (cells : Cells) (finished : Place → Bool) (erasing : Spot → Bool) (pins : List Pin) : Type 0 where
+  pub each : All (λ (pin : Pin). LookedRight b frontier cells finished erasing pin.looked) pins
+
+abbrev pub SourceRight : Cells → (Place → Bool) → (Spot → Bool) → Source → Type 0
+SourceRight cells finished erasing (FromPage place) = (name : Name) × IsGroupPage cells finished erasing name place
+SourceRight cells finished erasing (FromSlot name) = Unit {0}
+
+-- the pages that the rests of others are still to be read from
+pub record RestsRight (cells : Cells) (finished : Place → Bool) (erasing : Spot → Bool) (rests : List Rest) : Type 0 where
+  pub each : All (λ (rest : Rest). SourceRight cells finished erasing rest.source) rests
+
+-- until the device is mended no page that stands goes
+pub record UnmendedRight (mended : Bool) (standing : Standing) (cells : Cells) (finished : Place → Bool) (blocks : Spot → BlockState) (erasing : Spot → Bool) : Type 0 where
+  pub stand : mended ≡ false → (n i : ℕ) (p : Place) → standing n i ≡ Some p → IsSecure standing cells finished blocks erasing n i
+
 -- Slots
 
 -- the pages that are accepted and not durable and the claims have a slot each
@@ -311,6 +345,9 @@ pub record Valid (t : Translation) : Type 0 where
   pub plan : PlanRight (book t) t.ledger.frontier t.ledger.standing t.disk.blocks t.disk.flights t.work.mending t.work.step t.work.plan
   pub history : HistoryRight (book t) t.ledger.repairs t.ledger.held t.ledger.frontier (is_mended t.work.mending)
   pub slots : SlotsRight t.numbers.slots (pending_pages t.ledger) t.claims
+  pub unmended : UnmendedRight (is_mended t.work.mending) t.ledger.standing t.disk.cells t.disk.finished t.disk.blocks t.disk.erasing
+  pub pins : PinsRight (book t) t.ledger.frontier t.disk.cells t.disk.finished t.disk.erasing t.pins
+  pub rests : RestsRight t.disk.cells t.disk.finished t.disk.erasing t.work.rests
 
 -- What a stop leaves
 

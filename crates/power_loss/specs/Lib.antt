@@ -1,6 +1,12 @@
 pub mod Book
 pub mod Invariant
 pub mod Exchange
+pub mod Collection
+pub mod Losing
 pub mod Mending
+pub mod Promises
+pub mod Rests
 pub mod Runs
+pub mod OwedJobs
 pub mod Pending
+pub mod StoppedWrites

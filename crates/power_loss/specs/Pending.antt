@@ -9,7 +9,7 @@ use Rattle.ufs_spec.specs.Translation.{Translation}
 
 -- the group that the move accepts
 abbrev pub accepted_by : Move → Option Group
-accepted_by (Accept claimed group rests) = Some group
+accepted_by (Accept claimed group) = Some group
 accepted_by move = None
 
 -- the job programs a page of a group that stands nowhere yet

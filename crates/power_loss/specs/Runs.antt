@@ -4,7 +4,7 @@ use Rattle.std.specs.List.{All}
 use Rattle.ufs_spec.specs.Cells.{Array}
 use Rattle.ufs_spec.specs.Dies.{DieState, IsOfSize, blank_page, page_at}
 use Rattle.ufs_spec.specs.Disk.{Spot}
-use Rattle.ufs_spec.specs.Lives.{IsLived, IsOpened, Life, Lived, Stops, bad_in}
+use Rattle.ufs_spec.specs.Lives.{IsLived, Life, Lived, Stops, bad_in}
 use Rattle.ufs_spec.specs.Openings.{AreLost}
 use Rattle.ufs_spec.specs.Sound.{Sound, Suits}
 use Rattle.ufs_spec.specs.Steps.{State, mended}
@@ -41,7 +41,8 @@ pub record LifeRight (n : Numbers) (array : Array) (bad : Spot → Bool) (l : Li
   pub stops : (lefts : List Leftover) (left : Array) → Stops l.finish lefts left → MayBeOpened n left
   -- up to each of its events that does not find it mended, at most two turns more than there are keys with a lost page
   -- were answered true
-  pub mends : (lost : List Key) → AreLost lived.0.cells l.start.translation.ledger.low l.start.translation.ledger.top lost →
+  pub mends : (lost : List Key) →
+      AreLost lived.0.cells l.start.translation.ledger.low l.start.translation.ledger.top lost →
       (es : List Event) (os : List Output) (middle : State) → Life l.start es os middle → mended middle ≡ false →
       true_turns os ≤ length lost + 2
 

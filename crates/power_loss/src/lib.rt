@@ -2,10 +2,17 @@
 //! do nothing: their contracts are the laws.
 #![tactic(auto)]
 
+mod collection;
+mod erasing;
 mod exchange;
+mod fence;
+mod kept;
 mod mending;
+mod owed_jobs;
 mod pending;
+mod promises;
 mod runs;
+mod settled_slots;
 
 ghost use Rattle.std.specs.Prelude.{◌≡◌, ◌≢◌, ◌+◌, ◌≤◌, ℕ, Bool, true, false, List, Option, Some};
 ghost use Rattle.ufs_spec.specs.Cells.{AreWithin, Cells, GroupPage, Mark, Nothing};
@@ -21,16 +28,30 @@ ghost use Rattle.ufs_spec.specs.declared.flash.Tag.{Tag};
 ghost use Rattle.power_loss.specs.Book.{CellsRight};
 ghost use Rattle.power_loss.specs.Invariant.{IsPrefix, Valid};
 
+pub use collection::{
+    collection_is_due_when_it_should, the_victim_has_the_fewest_live_pages,
+    too_many_bad_blocks_lock,
+};
+pub use erasing::erasing_what_may_go_loses_nothing;
 pub use exchange::{
     each_call_keeps, each_event_keeps, lives_are_chained, next_life_begins_with_a_prefix,
     opened_state_is_valid,
 };
-pub use mending::{a_life_is_mended_soon, mending_ends_soon};
-pub use pending::pending_groups_become_durable_in_order;
-pub use runs::{
-    a_job_may_fail_at_any_moment, a_run_keeps_the_promise, a_stop_may_come_at_any_moment,
-    any_sound_array_opens, new_dies_fit, one_array_is_left,
+pub use fence::the_fence_falls_last;
+pub use kept::{
+    a_page_that_is_read_is_a_groups, a_rest_keeps_its_page, kept_pages_stay,
+    rests_are_found_at_the_accept,
 };
+pub use mending::{a_life_is_mended_soon, mending_ends_soon};
+pub use owed_jobs::{a_copy_is_programmed_after_its_read, one_die_each};
+pub use pending::pending_groups_become_durable_in_order;
+pub use promises::good_promises_durability;
+pub use runs::{
+    a_failed_write_is_answered, a_job_may_fail_at_any_moment, a_run_keeps_the_promise,
+    a_stop_may_come_at_any_moment, a_stopped_write_opens, any_sound_array_opens, new_dies_fit,
+    one_array_is_left,
+};
+pub use settled_slots::a_durable_slot_becomes_its_page;
 
 /// Opening over a sound array gives a valid life.
 pub fn opening_is_valid()
@@ -60,7 +81,8 @@ pub fn a_stop_leaves_a_prefix()
         Valid t → CellCrash t.disk.cells t.disk.flights c → IsNewestMark c m → IsKept c m kept → IsPrefix t c m kept }
 {}
 
-/// A block that is given to a die to be erased holds only pages that may go, and none that a task keeps.
+/// A block that is given to a die to be erased holds only pages that may go, and none that a task keeps or that the rest of a
+/// page is still to be read from.
 pub fn erased_blocks_are_spent()
     ensures spent { (t : Translation) (die : ℕ) (s : Spot) → Valid t → MayTake t die (Some (Erasing s)) → MayErase t.disk s }
     // So it may go by some finished mark that stands where no block is being erased.

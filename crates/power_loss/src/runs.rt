@@ -1,16 +1,21 @@
 //! The laws of a run: what a stop and a failed job leave, and what holds over any number of stops.
 ghost use Rattle.std.specs.Global.{Vec};
-ghost use Rattle.std.specs.Prelude.{◌≡◌, ◌++◌, ◌∷◌, ℕ, Bool, List, [], Contains, Option, Some, None};
+ghost use Rattle.std.specs.Prelude.{◌≡◌, ◌++◌, ◌∷◌, ℕ, Bool, List, [], Contains, length, Option, Some, None};
+ghost use Rattle.ufs_laws.specs.Runs.{place_of, the_data, the_write};
 ghost use Rattle.ufs_spec.specs.Cells.{Array};
 ghost use Rattle.ufs_spec.specs.Configs.{IsConfig};
 ghost use Rattle.ufs_spec.specs.Dies.{DieState, blank_page, new_die};
-ghost use Rattle.ufs_spec.specs.Disk.{Flight, Reader, Reading, Spot};
+ghost use Rattle.ufs_spec.specs.Disk.{Flight, Reader, Reading, Spot, at_place};
 ghost use Rattle.ufs_spec.specs.Lives.{AreLeftovers, Fit, GoesOn, Headline, IsFailure, IsLawfulLeftover, IsLeft, IsLeftoverOf, IsOpened, Leads, Lived, Lives, Runs, Stops, array_of, bad_of, page_left};
+ghost use Rattle.ufs_spec.specs.Machine.{IsHeard};
 ghost use Rattle.ufs_spec.specs.Moves.{Ending};
+ghost use Rattle.ufs_spec.specs.Pages.{IsCheckRight, MayBeLeft};
+ghost use Rattle.ufs_spec.specs.Plain.{zero_block};
 ghost use Rattle.ufs_spec.specs.Sound.{Sound, Suits};
 ghost use Rattle.ufs_spec.specs.Steps.{State, numbers_of};
 ghost use Rattle.ufs_spec.specs.declared.Event.TheVariants as event;
 ghost use Rattle.ufs_spec.specs.declared.Event.{Event};
+ghost use Rattle.ufs_spec.specs.declared.Leftover.TheVariants as leftover;
 ghost use Rattle.ufs_spec.specs.declared.Leftover.{Leftover};
 ghost use Rattle.ufs_spec.specs.declared.Numbers.{Numbers};
 ghost use Rattle.ufs_spec.specs.declared.Output.TheVariants as output;
@@ -19,6 +24,7 @@ ghost use Rattle.ufs_spec.specs.declared.Page.{Page};
 ghost use Rattle.ufs_spec.specs.declared.Place.{Place};
 ghost use Rattle.power_loss.specs.Exchange.{IsArrayOf, ValidState};
 ghost use Rattle.power_loss.specs.Runs.{AreNewDies, IsNewDie, LivesRight, MayBeOpened, last_state};
+ghost use Rattle.power_loss.specs.StoppedWrites.{IsFailedWrite, IsStoppedWrite, written_page};
 
 /// A stop with these leftovers leaves one array at most, and so does a failed job with its leftover: each page that a
 /// leftover names is as it says, and every other page is as it was.
@@ -44,57 +50,85 @@ pub fn any_sound_array_opens()
 pub fn new_dies_fit()
     ensures new_die { (n : Numbers) → IsNewDie n (new_die n.blocks n.pages) }
     ensures fit { (n : Numbers) (dies : List DieState) → AreNewDies n dies → Fit n dies }
-    ensures blank { (n : Numbers) (dies : List DieState) → AreNewDies n dies → (p : Place) → array_of dies p ≡ blank_page }
+    ensures blank { (n : Numbers) (dies : List DieState) → AreNewDies n dies → (p : Place) →
+        array_of dies p ≡ blank_page }
     ensures opens { (n : Numbers) (dies : List DieState) → AreNewDies n dies → MayBeOpened n (array_of dies) }
     ensures inside { (n : Numbers) (dies : List DieState) → Fit n dies → IsArrayOf n (array_of dies) }
 {}
 
-/// A stop may come at any moment of a run and leave each lawful leftover of the jobs in flight, and no other; the device
+/// A stop may come at any moment of a run. It leaves each lawful leftover of the jobs in flight and no other; the device
 /// opens over what it leaves, and the run goes on. Right after an opening a stop changes nothing.
 pub fn a_stop_may_come_at_any_moment()
-    ensures leaves { (n : Numbers) (array : Array) (bad : Spot → Bool) (s t : State) (es : List Event) (os : List Output) →
-        IsConfig n → MayBeOpened n array → IsOpened n array bad s → Runs n s es os t →
+    ensures leaves { (n : Numbers) (array : Array) (bad : Spot → Bool) (s t : State) (es : List Event)
+        (os : List Output) → IsConfig n → MayBeOpened n array → IsOpened n array bad s → Runs n s es os t →
         (lefts : List Leftover) (left : Array) → Stops t lefts left → MayBeOpened n left }
-    ensures ends { (n : Numbers) (array : Array) (bad : Spot → Bool) (s t : State) (es : List Event) (os : List Output) →
-        IsConfig n → MayBeOpened n array → IsOpened n array bad s → Runs n s es os t → MayBeOpened n t.array }
-    ensures goes { (n : Numbers) (array : Array) (bad : Spot → Bool) (s t : State) (es : List Event) (os : List Output) →
-        IsConfig n → MayBeOpened n array → IsOpened n array bad s → Runs n s es os t →
+    ensures ends { (n : Numbers) (array : Array) (bad : Spot → Bool) (s t : State) (es : List Event)
+        (os : List Output) → IsConfig n → MayBeOpened n array → IsOpened n array bad s → Runs n s es os t →
+        MayBeOpened n t.array }
+    ensures goes { (n : Numbers) (array : Array) (bad : Spot → Bool) (s t : State) (es : List Event)
+        (os : List Output) → IsConfig n → MayBeOpened n array → IsOpened n array bad s → Runs n s es os t →
         (lefts : Vec Leftover) (left : Array) → Stops t lefts.items left →
         (u : State) × GoesOn n t (event.Stop lefts) output.Stopped u }
     ensures each { (s : State) (lefts : List Leftover) → AreLeftovers s lefts →
         ((l : Leftover) → Contains lefts l → IsLawfulLeftover s l) → (left : Array) × Stops s lefts left }
     ensures no_other { (s : State) (lefts : List Leftover) (left : Array) → Stops s lefts left →
         (l : Leftover) → Contains lefts l → IsLawfulLeftover s l }
-    ensures again { (n : Numbers) (array : Array) (bad : Spot → Bool) (s : State) (lefts : List Leftover) (left : Array) →
-        IsOpened n array bad s → Stops s lefts left → left ≡ array }
+    ensures again { (n : Numbers) (array : Array) (bad : Spot → Bool) (s : State) (lefts : List Leftover)
+        (left : Array) → IsOpened n array bad s → Stops s lefts left → left ≡ array }
 {}
 
-/// A program or an erase may fail at any moment and leave each lawful leftover of it, and no other; and a read may fail.
+/// A program or an erase may fail at any moment. It leaves each lawful leftover of it and no other; a read may fail too.
 pub fn a_job_may_fail_at_any_moment()
     ensures each { (s : State) (die : ℕ) (flight : Flight) (l : Leftover) → ValidState s →
-        s.translation.disk.flights die ≡ Some flight → IsLeftoverOf (numbers_of s) (Some flight) l → IsLawfulLeftover s l →
-        (t : State) × Leads s (event.Fail die (Some l)) output.Ended t }
-    ensures no_other { (s : State) (die : ℕ) (flight : Flight) (l : Leftover) (ending : Ending) (left : Array) → ValidState s →
-        s.translation.disk.flights die ≡ Some flight → IsFailure s die (Some flight) (Some l) ending left →
-        IsLawfulLeftover s l }
+        s.translation.disk.flights die ≡ Some flight → IsLeftoverOf (numbers_of s) (Some flight) l →
+        IsLawfulLeftover s l → (t : State) × Leads s (event.Fail die (Some l)) output.Ended t }
+    ensures no_other { (s : State) (die : ℕ) (flight : Flight) (l : Leftover) (ending : Ending) (left : Array) →
+        ValidState s → s.translation.disk.flights die ≡ Some flight →
+        IsFailure s die (Some flight) (Some l) ending left → IsLawfulLeftover s l }
     ensures read { (s : State) (die : ℕ) (reader : Reader) (p : Place) →
         s.translation.disk.flights die ≡ Some (Reading reader p) →
         (t : State) × Leads s (event.Fail die None) output.Ended t }
 {}
 
-/// A run goes on event by event, over any number of stops. It is lives one after another, each of them right: it begins
-/// over an array that a device may be opened over, its end is valid, whatever a stop leaves of it may be opened again, and
-/// it is mended soon. So a run over dies that fit keeps the promise.
+/// A run goes on event by event, over any number of stops. It is lives one after another, and each of them is right: it
+/// begins over an array that a device may be opened over, its end is valid, a device may be opened over whatever a stop
+/// leaves of it, and it is mended soon. So a run over dies that fit keeps the promise.
 pub fn a_run_keeps_the_promise()
     ensures more { (n : Numbers) (s t u : State) (es : List Event) (os : List Output) (e : Event) (o : Output) →
         Runs n s es os t → GoesOn n t e o u → Runs n s (es ++ e ∷ []) (os ++ o ∷ []) u }
-    ensures lives { (n : Numbers) (array : Array) (bad : Spot → Bool) (s t : State) (es : List Event) (os : List Output) →
-        IsOpened n array bad s → Runs n s es os t →
+    ensures lives { (n : Numbers) (array : Array) (bad : Spot → Bool) (s t : State) (es : List Event)
+        (os : List Output) → IsOpened n array bad s → Runs n s es os t →
         (first : Lived) × (later : List Lived) × Lives n array bad first later es os × (last_state first later ≡ t) }
     ensures right { (n : Numbers) (array : Array) (bad : Spot → Bool) (first : Lived) (later : List Lived)
         (es : List Event) (os : List Output) →
         IsConfig n → MayBeOpened n array → Lives n array bad first later es os → LivesRight n array bad first later }
     ensures fit { (n : Numbers) (dies : List DieState) (s t : State) (es : List Event) (os : List Output) →
-        IsConfig n → Fit n dies → Sound (array_of dies) → IsOpened n (array_of dies) (bad_of dies) s → Runs n s es os t →
-        Headline n dies es os }
+        IsConfig n → Fit n dies → Sound (array_of dies) → IsOpened n (array_of dies) (bad_of dies) s →
+        Runs n s es os t → Headline n dies es os }
+{}
+
+/// A write of one block with FUA is stopped inside its program. If the page is as it was, or torn, the one accepted command
+/// is not kept, and the next life finds zeros. If the page is the new one, the command is kept, though it was not
+/// acknowledged.
+pub fn a_stopped_write_opens()
+    ensures old { (body : List ℕ) (write block : Vec ℕ) (lefts : Vec Leftover) → length body ≡ 4096 →
+        IsHeard write.items the_write → IsHeard block.items (the_data body) → lefts.items ≡ [] →
+        IsStoppedWrite body write block lefts (λ array. array) 0 zero_block }
+    ensures new { (body : List ℕ) (write block : Vec ℕ) (lefts : Vec Leftover) → length body ≡ 4096 →
+        IsHeard write.items the_write → IsHeard block.items (the_data body) →
+        lefts.items ≡ leftover.Page (place_of 1) (written_page body) ∷ [] →
+        IsStoppedWrite body write block lefts (λ array. at_place array (place_of 1) (written_page body)) 1 body }
+    ensures torn { (body : List ℕ) (write block : Vec ℕ) (lefts : Vec Leftover) (torn : Page) → length body ≡ 4096 →
+        IsHeard write.items the_write → IsHeard block.items (the_data body) → (IsCheckRight torn → ⊥) →
+        lefts.items ≡ leftover.Page (place_of 1) torn ∷ [] →
+        IsStoppedWrite body write block lefts (λ array. at_place array (place_of 1) torn) 0 zero_block }
+    ensures torn_page { (torn : Page) × (IsCheckRight torn → ⊥) }
+{}
+
+/// The program of the same write fails; it leaves the page as it was, the new one, or a torn one. The bad block locks the
+/// device, the write is answered with a write error, and nothing is acknowledged.
+pub fn a_failed_write_is_answered()
+    ensures { (body : List ℕ) (write block : Vec ℕ) (page : Page) → length body ≡ 4096 →
+        IsHeard write.items the_write → IsHeard block.items (the_data body) →
+        MayBeLeft blank_page (written_page body) page → IsFailedWrite body write block page }
 {}

@@ -49,7 +49,7 @@ pub fn read(bytes: &[u8; 16]) -> Result<Cdb, Sense>
     is_taken(&cdb).then_some(cdb).ok_or(Sense::INVALID_FIELD)
 }
 
-/// The eighteen bytes of fixed sense data (SPC, 4.5.3).
+/// The eighteen bytes of fixed sense data (SPC, fixed format sense data).
 pub fn sense_bytes(sense: &Sense) -> [u8; 18]
     ensures { result ≡ fixed_sense sense.now }
 {

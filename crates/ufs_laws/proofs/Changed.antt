@@ -8,9 +8,9 @@ use Rattle.ufs_spec.specs.Commands.{Command}
 use Rattle.ufs_spec.specs.Disk.{Erasing, Flight, ForNobody, ForRest, ForStep, ForTask, Programming, Reader, Reading}
 use Rattle.ufs_spec.specs.Exchanges.{Answering, Awaiting, Deed, ForFrames, ForUnmap, ForWrite, Gathering, Purpose, ReadState, NotRead, Registers, Sending, Short, Status, Task, WasRead, filled, is_short_of, is_task_of, short_reply, task_of, with_deed}
 use Rattle.ufs_spec.specs.Keys.{below, data_key}
-use Rattle.ufs_spec.specs.Machine.{Answer, Ask, Call, Faulty, Finish, Finishes, Give, Gives, Heard, Hears, Host, Replies, Spelled, Step, Steps, abort_moves, accepts, array_behind, behind, begun, begun_with, blocks_expected, claimed_by, command_heard, complete, data_for, data_heard, deed_behind, ends_with, fill_moves, fills, heard, hears, is_aborted, is_to_fill, is_durable, kept_at, lock_told, managed, moves_behind, observe, opened_with, read_begun, reader_told, registers_behind, replied, replied_by, set_deed, short_locked, short_replied, tag_in, task_behind, task_filled, task_locked, task_read, tells, with_moves, with_short, with_task, without_tasks, write_begun, write_complete}
+use Rattle.ufs_spec.specs.Machine.{Answer, Ask, Call, Faulty, Finish, Finishes, Give, Gives, Heard, Hears, Host, Replies, Spelled, Step, Steps, abort_moves, accepts, array_behind, behind, begun, begun_with, blocks_expected, claimed_by, command_heard, complete, data_for, data_heard, deed_behind, ends_with, fill_moves, fills, heard, hears, is_aborted, is_to_fill, is_durable, kept_at, lock_told, managed, moves_behind, observe, opened_with, read_begun, reader_told, registers_behind, replied, replied_by, set_deed, short_locked, short_replied, tag_in, task_behind, task_filled, task_locked, task_read, tells, with_moves, with_short, with_task, without_tasks, write_begun, write_complete, service}
 use Rattle.ufs_spec.specs.Moves.{Accept, Claim, End, Ending, Keep, LetGo, LetGoAll, Move, ReadRight, ReadWrong, Release, Take, Tell, Turn, WantPage, WentWell, WentWrong, moved}
-use Rattle.ufs_spec.specs.Stages.{manages_tasks, most_tasks}
+use Rattle.ufs_spec.specs.Stages.{most_tasks}
 use Rattle.ufs_spec.specs.Steps.{Request, State, locked, plain_now, refusal}
 use Rattle.ufs_spec.specs.Keys.{group_of}
 use Rattle.ufs_spec.specs.Translation.{Pin, Translation}
@@ -63,7 +63,7 @@ abbrev pub IsSmallMove : Move → Type 0
 IsSmallMove (Take die flight) = ⊥
 IsSmallMove (End die ending) = ⊥
 IsSmallMove Turn = ⊥
-IsSmallMove (Accept claimed g rests) = ⊥
+IsSmallMove (Accept claimed g) = ⊥
 IsSmallMove move = Unit {0}
 
 -- it is the same task, whatever it does and whatever its request has filled
@@ -121,7 +121,7 @@ small_quiet (Keep key pin) is = tt
 small_quiet (WantPage tag index) is = tt
 small_quiet (LetGo tag index) is = tt
 small_quiet (LetGoAll tag) is = tt
-small_quiet (Accept claimed g rests) is = tt
+small_quiet (Accept claimed g) is = tt
 small_quiet (Take die flight) is = is
 small_quiet (End die ending) is = is
 small_quiet Turn is = is
@@ -135,7 +135,7 @@ layer_kept R k h = kept (λ (s t : State). R s.translation t.translation) (recor
   where
     one : (s : State) (change : Change) → IsSmall change → R s.translation (changed s change).translation
     one s (Moves move) is = k.one s.translation move (small_quiet move is)
-    one s (Accepts c claimed f) is = k.one s.translation (Accept claimed (group_of (plain_now s) c) []) tt
+    one s (Accepts c claimed f) is = k.one s.translation (Accept claimed (group_of (plain_now s) c)) tt
     one s (Opens task) is = k.self s.translation
     one s (Maps f) is = k.self s.translation
     one s (Closes f) is = k.self s.translation
@@ -237,7 +237,7 @@ without_small s is =
     Both (aborts_small s (filter is s.tasks)) (Both (One (Closes is) tt) (One (SetsRegisters (registers_behind (filter is s.tasks) s.registers)) tt))
 
 managed_small : (s : State) (lun function meant : ℕ) → Small s (managed s lun function meant)
-managed_small s lun function meant = small_if manages_tasks (without_small s (is_aborted lun function meant)) Still
+managed_small s lun function meant = small_if (service s lun function meant == 0x00) (without_small s (is_aborted lun function meant)) Still
 
 heard_small : (s : State) (m : Message) (c : Option Cdb) → Small s (heard s m c)
 heard_small s (message.NopOut tag) c = short tag _
@@ -359,7 +359,7 @@ first s (Finish die ending left) (Finishes true) = job_over s die (s.translation
 first s Step (Steps due) = with_moves s (Turn ∷ [])
 first s call answer = s
 
-behind_call : (s : State) (call : Call) (answer : Answer) → Small (first s call answer) (behind s call answer)
+pub behind_call : (s : State) (call : Call) (answer : Answer) → Small (first s call answer) (behind s call answer)
 behind_call s (Host h) (Hears (Ok done)) = hears_small s h
 behind_call s (Give die) (Gives None) = Still
 behind_call s (Give die) (Gives (Some flight)) = Still

@@ -89,7 +89,7 @@ pub erase_waits : (t : Translation) (number : ℕ) (fence : Option Fence) (die b
 erase_waits t number fence die block pins rests step idle none free there within = (found.0, (is_die, (no_wants, flight)))
   where
     may : may_be_erased t (spot_at die block) ≡ true
-    may = rw (free, pins) refl
+    may = rw (free, pins, rests) refl
 
     found : Found (may_be_erased t) die (below t.numbers.blocks)
     found = found_below (may_be_erased t) die t.numbers.blocks block within may

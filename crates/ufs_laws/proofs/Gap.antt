@@ -33,7 +33,7 @@ no_fence : (xs : List Standing) (m : Mark) → m.fence ≡ None → (f : Fence) 
 no_fence xs m e f g = absurd (let h : None ≡ Some f = sym e ∙ g in cc)
 
 -- the kept number is the recorded frontier
-kept_there : (xs : List Standing) (m : Mark) → IsRecorded (cells_of xs) (Some m) m.records → (IsWhole (cells_of xs) (suc m.records) → ⊥) → IsKept (cells_of xs) (Some m) m.records
+pub kept_there : (xs : List Standing) (m : Mark) → IsRecorded (cells_of xs) (Some m) m.records → (IsWhole (cells_of xs) (suc m.records) → ⊥) → IsKept (cells_of xs) (Some m) m.records
 kept_there xs m top stop = record {
   from = m.records;
   recorded = top;
@@ -43,7 +43,7 @@ kept_there xs m top stop = record {
 }
 
 -- it is the next one
-kept_next : (xs : List Standing) (m : Mark) (k : ℕ) → k ≡ suc m.records → IsRecorded (cells_of xs) (Some m) m.records → IsWhole (cells_of xs) k → (IsWhole (cells_of xs) (suc k) → ⊥) → IsKept (cells_of xs) (Some m) k
+pub kept_next : (xs : List Standing) (m : Mark) (k : ℕ) → k ≡ suc m.records → IsRecorded (cells_of xs) (Some m) m.records → IsWhole (cells_of xs) k → (IsWhole (cells_of xs) (suc k) → ⊥) → IsKept (cells_of xs) (Some m) k
 kept_next xs m k e top next stop = record {
   from = m.records;
   recorded = top;

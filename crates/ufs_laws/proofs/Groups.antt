@@ -12,7 +12,7 @@ use Rattle.ufs_laws.proofs.Parts.{get_or-made, length-made, same_part, with_part
 
 -- Keys
 
-same_from_true : (j k : Key) → same_key j k ≡ true → j ≡ k
+pub same_from_true : (j k : Key) → same_key j k ≡ true → j ≡ k
 same_from_true j k h =
     let both = and_parts ((j.kind == k.kind) && (j.unit == k.unit)) (j.address == k.address) h in
     let first = and_parts (j.kind == k.kind) (j.unit == k.unit) both.0 in

@@ -1,7 +1,7 @@
 -- A command that was taken never ends with an invalid operation code.
 use Rattle.std.proofs.Common.{◌≡◌, ◌≢◌, ℕ, ◌+◌, ◌*◌, ◌==◌, Bool, true, false, if◌then◌else◌, List, [], ◌∷◌, ◌++◌, length, map, nat_le, nat_lt, Option, Some, None, refl, sym, ap, ◌∙◌, subst, arith}
 use Rattle.std.specs.Prelude.{slice_get, slice_index}
-use Rattle.ufs_laws.proofs.TaskWalk.{IsTaskLaw, every_mapped, task_for, tasks_kept}
+use Rattle.ufs_laws.proofs.TaskWalk.{Any, any_asks, IsTaskLaw, every_mapped, task_for, tasks_kept}
 use Rattle.ufs_laws.specs.Exchange.{AllKnown, Every, IsKnownDeed, IsKnownTask, IsRequest, IsSpoken}
 use Rattle.ufs_spec.proofs.Facts.{and_parts, not-false, same_Some}
 use Rattle.ufs_spec.specs.Cells.{Array}
@@ -10,7 +10,7 @@ use Rattle.ufs_spec.specs.Lives.{IsOpened}
 use Rattle.ufs_spec.specs.declared.configs.Numbers.{Numbers}
 use Rattle.ufs_spec.specs.Cdbs.{cdb_bytes, operation_of, taken_operations}
 use Rattle.ufs_spec.specs.Exchanges.{Answering, Awaiting, CheckCondition, Deed, ForFrames, ForUnmap, ForWrite, Gathering, Good, NotRead, Purpose, ReadBlock, ReadState, Sending, Status, Task, Telling, Unread, WasRead, invalid_field, invalid_operation, is_task_of, no_unit, with_deed, write_error, filled}
-use Rattle.ufs_spec.specs.Machine.{Answer, Call, IsCdbIn, begun, blocks_expected, deed_behind, deed_behind_block, deed_behind_state, deed_locked, deed_read, durable, is_to_fill, observe, read_begun, read_blocks, sending, task_filled, task_read, unit_or_first, write_begun, write_deed}
+use Rattle.ufs_spec.specs.Machine.{Answer, Call, IsCdbIn, begun, blocks_expected, deed_behind, deed_behind_block, deed_behind_state, deed_locked, deed_read, durable, is_to_fill, observe, read_begun, read_blocks, sending, task_filled, task_read, unit_or_first, write_begun, write_deed, Allowed}
 use Rattle.ufs_spec.specs.Messages.{IsAmong}
 use Rattle.ufs_spec.specs.Steps.{Lun, Request, State, first_line, lacks_unit, lines_behind, lun_of, not_taken, numbers_of, operation_in, refusal, unit_of_request}
 use Rattle.ufs_spec.specs.declared.scsi.Cdb.{Cdb}
@@ -235,16 +235,16 @@ known_set tag deed tasks known = every_mapped Known (with_deed tag deed) each ta
         by true = known_in task.command deed known
         by false = h
 
-known_law : (s : State) → IsTaskLaw Known (λ task deed. IsKnownDeed deed) s
+known_law : (s : State) → IsTaskLaw Known (λ task deed. IsKnownDeed deed) Any s
 known_law s = record {
   set = λ task deed found all known. known_set task.tag deed s.tasks known all;
-  refused = λ r status is e. tt;
-  begins = λ r c is e passed.
+  refused = λ r status is asks free e. tt;
+  begins = λ r c is asks free e passed.
       let p = passes s r is passed in
       let same : p.0 ≡ c = same_Some p.0 c (sym p.1 ∙ e) in
       let b = begins s r (unit_or_first (unit_of_request s r)) c (subst (λ (x : Cdb). IsAmong taken_operations (operation_of x)) same p.2) in
       (b.0, b.1, known_in b.0.command b.0.deed b.3);
-  gathers = λ task purpose gathered bytes asked e h more. gathering_known purpose gathered (gathered ++ bytes) asked false (gathers_known task purpose gathered asked e h);
+  gathers = λ task purpose gathered bytes asked e h next more. gathering_known purpose gathered (gathered ++ bytes) asked false (gathers_known task purpose gathered asked e h);
   meets_lock = λ task unit address blocks forced gathered asked e h. error_known;
   writes = λ task unit address blocks forced gathered asked position e h. write_deed_known forced position task.length;
   unmaps = λ task unit gathered asked e h. absurd (gathers_known task (ForUnmap unit) gathered asked e h);
@@ -255,8 +255,8 @@ known_law s = record {
   reads = task_read_known;
 }
 
-pub call_known : (s : State) (call : Call) (answer : Answer) → IsSpoken call → AllKnown s → AllKnown (observe s call answer)
-call_known s call answer is all = tasks_kept Known (λ task deed. IsKnownDeed deed) s (known_law s) all call answer is
+pub call_known : (s : State) (call : Call) (answer : Answer) → IsSpoken call → Allowed s call answer → AllKnown s → AllKnown (observe s call answer)
+call_known s call answer is may all = tasks_kept Known (λ task deed. IsKnownDeed deed) Any s (known_law s) all call answer is (any_asks call) may
 
 opened_known : (s : State) → s.tasks ≡ [] → AllKnown s
 opened_known s none = subst (Every Known) (sym none) tt

@@ -1,3 +1,4 @@
+pub mod Aborted
 pub mod AllHeard
 pub mod Answered
 pub mod Blank
@@ -6,6 +7,7 @@ pub mod Bytes
 pub mod Changed
 pub mod Commands
 pub mod Crashes
+pub mod DataOrder
 pub mod Decide
 pub mod FirstJob
 pub mod FirstLife
@@ -21,6 +23,7 @@ pub mod Jobs
 pub mod Joined
 pub mod KnownTasks
 pub mod Listed
+pub mod Managed
 pub mod MarkBodies
 pub mod NewDevice
 pub mod NewLife
@@ -32,8 +35,10 @@ pub mod OneCell
 pub mod OnlyAnswers
 pub mod Parts
 pub mod Quiet
+pub mod ReadSends
 pub mod Refused
 pub mod Replies
+pub mod ReplySizes
 pub mod RpmbResults
 pub mod RunLife
 pub mod RunStates
@@ -43,10 +48,12 @@ pub mod Search
 pub mod Settings
 pub mod Settled
 pub mod SomeCell
+pub mod Speaks
 pub mod SpokenCalls
 pub mod Stands
 pub mod States
 pub mod Staying
+pub mod TableLines
 pub mod TaskWalk
 pub mod Turned
 pub mod Whole

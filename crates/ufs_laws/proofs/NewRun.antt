@@ -161,7 +161,7 @@ module _ (s : State) (n : IsNew s) where
     pub right_15 : Gets (state_14 s body) Ask (Replies None)
     right_15 = at Ask (Replies None) is_14 (gets_15 behind_mark body)
 
-    is_15 : state_15 s body ≡ writing behind_mark body
+    pub is_15 : state_15 s body ≡ writing behind_mark body
     unfolding state_15
     is_15 = led Ask (Replies None) is_14 (step_15 behind_mark body)
 

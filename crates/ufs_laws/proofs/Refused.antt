@@ -6,7 +6,9 @@ use Rattle.ufs_laws.specs.Runs.{Gets, IsAnswered, IsIdle, heard, read_of, refuse
 use Rattle.ufs_spec.specs.Cdbs.{Residual, cdb_bytes, read_10, residual_of}
 use Rattle.ufs_spec.specs.Exchanges.{Answering, Status, Task, check, invalid_field, invalid_operation, no_unit, out_of_range, response, response_message}
 use Rattle.ufs_spec.specs.Machine.{Ask, Heard, Host, Replies, Spelled, fills, lock_told, observe, opened_with, short_locked, task_locked, with_task}
-use Rattle.ufs_spec.specs.Steps.{Request, State, UnitOf, first_line, lacks_unit, line, lines_behind, locked, lun_of, not_taken, refusal}
+use Rattle.ufs_spec.specs.Messages.{is_among}
+use Rattle.ufs_spec.specs.Stages.{taken_luns}
+use Rattle.ufs_spec.specs.Steps.{Request, State, UnitOf, first_line, lacks_unit, line, lines_behind, locked, lun_of, not_taken, refusal, well_known}
 use Rattle.ufs_spec.specs.declared.messages.Message.{Message}
 use Rattle.ufs_spec.specs.declared.messages.Message.TheVariants as message
 use Rattle.ufs_spec.specs.declared.scsi.Cdb.{Cdb}
@@ -15,10 +17,10 @@ use Rattle.ufs_spec.specs.declared.scsi.Cdb.TheVariants as cdb
 -- Idle states
 
 -- what an idle state is
-abbrev idle_state : State → State
+abbrev pub idle_state : State → State
 idle_state s = record s { translation = record s.translation { numbers = row }; tasks = []; shorts = [] }
 
-idle_is : (s : State) → IsIdle s → s ≡ idle_state s
+pub idle_is : (s : State) → IsIdle s → s ≡ idle_state s
 idle_is s h i =
     record s { translation = record s.translation { numbers = h.numbers i }; tasks = h.no_tasks i; shorts = h.no_shorts i }
 
@@ -65,7 +67,7 @@ idle_answers s r status e = record {
   reply = subst (λ t. Gets t Ask (Replies (Some (answer_of r status)))) (sym (is_behind s r status e)) (behind_reply s r status);
 }
 
-answers : (s : State) (r : Request) (status : Status) → IsIdle s → refusal (idle_state s) r ≡ Some status → IsAnswered s (heard_as r) (answer_of r status)
+pub answers : (s : State) (r : Request) (status : Status) → IsIdle s → refusal (idle_state s) r ≡ Some status → IsAnswered s (heard_as r) (answer_of r status)
 answers s r status h e = subst (λ t. IsAnswered t (heard_as r) (answer_of r status)) (sym (idle_is s h)) (idle_answers s r status e)
 
 -- The four
@@ -91,13 +93,20 @@ residual_under n more =
 answer_under : (lun tag expected asc : ℕ) → 0 < expected → response lun tag expected 0 (check 0x05 asc) ≡ refused lun tag expected asc
 answer_under lun tag expected asc more = ap (λ r. response_message r lun tag (check 0x05 asc)) (residual_under expected more)
 
-no_such_unit : (lun : ℕ) → 3 ≤ lun → lun_of row lun ≡ None
-no_such_unit lun high = ap (λ (b : Bool). if b then Some (UnitOf lun) else None) (le-ltb lun 3 high)
+-- whatever well-known units take commands
+no_such_unit : (lun : ℕ) → 3 ≤ lun → well_known lun ≡ None → lun_of row lun ≡ None
+no_such_unit lun high other =
+    ap (λ (b : Bool). if b then Some (UnitOf lun) else if is_among taken_luns lun then well_known lun else None) (le-ltb lun 3 high)
+    ∙ by (is_among taken_luns lun)
+  where
+    by : (b : Bool) → (if b then well_known lun else None) ≡ None
+    by true = other
+    by false = refl
 
-lacks : (s : State) (r : Request) → 3 ≤ r.lun → refusal (idle_state s) r ≡ Some no_unit
-lacks s r high =
+pub lacks : (s : State) (r : Request) → 3 ≤ r.lun → well_known r.lun ≡ None → refusal (idle_state s) r ≡ Some no_unit
+lacks s r high other =
     ap (λ l. first_line (line (lacks_unit (idle_state s) r l) no_unit ∷ line (not_taken r l) invalid_operation ∷ lines_behind (idle_state s) r r.cdb))
-    (no_such_unit r.lun high)
+    (no_such_unit r.lun high other)
 
 pub past_the_end : (s : State) (forced : Bool) (tag : ℕ) → IsIdle s → IsAnswered s (read_of 256 1 forced tag 4096) (refused 0 tag 4096 0x21)
 past_the_end s forced tag h = answers s (read_request 256 1 forced tag 4096) out_of_range h refl
@@ -105,11 +114,11 @@ past_the_end s forced tag h = answers s (read_request 256 1 forced tag 4096) out
 pub too_many_blocks : (s : State) (address : ℕ) (forced : Bool) (tag : ℕ) → IsIdle s → IsAnswered s (read_of address 33 forced tag 0x21000) (refused 0 tag 0x21000 0x24)
 too_many_blocks s address forced tag h = answers s (read_request address 33 forced tag 0x21000) invalid_field h refl
 
-pub not_a_unit : (s : State) (flags lun tag expected : ℕ) (bytes : List ℕ) (c : Option Cdb) → IsIdle s → 3 ≤ lun → 0 < expected
+pub not_a_unit : (s : State) (flags lun tag expected : ℕ) (bytes : List ℕ) (c : Option Cdb) → IsIdle s → 3 ≤ lun → well_known lun ≡ None → 0 < expected
     → IsAnswered s (Spelled (message.Command flags lun tag expected bytes) c) (refused lun tag expected 0x25)
-not_a_unit s flags lun tag expected bytes c h high more =
+not_a_unit s flags lun tag expected bytes c h high other more =
     let r = request flags lun tag expected bytes c in
-    subst (IsAnswered s (heard_as r)) (answer_under lun tag expected 0x25 more) (answers s r no_unit h (lacks s r high))
+    subst (IsAnswered s (heard_as r)) (answer_under lun tag expected 0x25 more) (answers s r no_unit h (lacks s r high other))
 
 pub no_command : (s : State) (flags tag expected : ℕ) (rest : List ℕ) → IsIdle s → 0 < expected
     → IsAnswered s (Spelled (message.Command flags 0 tag expected (read_10 ∷ rest)) None) (refused 0 tag expected 0x24)

@@ -32,7 +32,7 @@ block_set (u ∷ us) body rest e =
     let long : length u ≡ 256 = cc in
     get_or_at (take 255 u) body (drop 256 u) [] 255 (length-take-le 255 u (omega arith))
 
-block_written : (base : Plain) (body : List ℕ) → shape_of base ≡ shape_of_numbers row
+pub block_written : (base : Plain) (body : List ℕ) → shape_of base ≡ shape_of_numbers row
     → block_at 0 0xFF (apply base (command.Write 0 0xFF (body ∷ []))) ≡ body
 block_written base body shape = block_set base.units body (64 ∷ 64 ∷ []) (ap (λ s. s.blocks) shape)
 
@@ -185,7 +185,7 @@ step_8 o = refl
 
 -- A block is written
 
-abbrev write_task : Deed → Task
+abbrev pub write_task : Deed → Task
 write_task deed =
     record { lun = 0; tag = 7; expected = 4096; command = Some (cdb.Write10 0xFF 1 true); length = 4096; deed = deed; request = None }
 

@@ -1,19 +1,22 @@
 -- What holds of each open task: a law of tasks is a case for each way in which a task is opened and goes on, and each call
 -- keeps it.
 use Rattle.std.proofs.Common.{◌≡◌, ℕ, Bool, true, false, cond, not, ◌++◌, if◌then◌else◌, List, [], ◌∷◌, filter, find, length, map, nat_le, nat_lt, Option, Some, None, refl, sym, subst}
-use Rattle.std.specs.Prelude.{Ok}
-use Rattle.ufs_spec.proofs.Facts.{eqb-true, same_Some}
-use Rattle.ufs_laws.specs.Exchange.{Every, IsRequest, IsSpoken}
+use Rattle.std.specs.Prelude.{Err, Ok, ◌*◌, ◌==◌, ◌&&◌}
+use Rattle.ufs_spec.specs.declared.faults.HostFault.{HostFault}
+use Rattle.ufs_spec.specs.declared.faults.HostFault.TheVariants.{Backlog, NotAskedFor, TagInUse}
+use Rattle.ufs_spec.proofs.Facts.{and_parts, eqb-true, none-some, same_Some}
+use Rattle.ufs_laws.specs.Exchange.{Asks, Every, IsAskedBy, IsAskedIn, IsRequest, IsSpoken}
 use Rattle.ufs_spec.specs.Cells.{Array}
 use Rattle.ufs_spec.specs.Disk.{Erasing, Flight, ForNobody, ForRest, ForStep, ForTask, Programming, Reader, Reading}
-use Rattle.ufs_spec.specs.Exchanges.{Answering, Awaiting, Deed, ForFrames, ForUnmap, ForWrite, Gathering, Purpose, ReadState, NotRead, Sending, Short, Status, Task, Telling, WasRead, invalid_operation, is_short_of, is_task_of, task_of, with_deed, write_error}
-use Rattle.ufs_spec.specs.Machine.{Answer, Ask, Call, Faulty, Finish, Finishes, Give, Gives, Heard, Hears, Host, IsHeard, Replies, Spelled, Step, Steps, begun, begun_with, command_heard, complete, data_for, data_heard, deed_behind, ends_with, heard, hears, is_aborted, fills, observe, behind, opened_with, reader_told, replied_by, short_replied, tag_in, task_behind, task_filled, task_locked, task_read, unit_or_first, without_tasks, write_complete, write_deed}
+use Rattle.ufs_spec.specs.Exchanges.{Answering, Awaiting, Deed, ForFrames, ForUnmap, ForWrite, Gathering, Purpose, ReadState, NotRead, Sending, Short, Status, Task, Telling, WasRead, invalid_operation, is_short_of, is_task_of, task_of, with_deed, write_error, count_at, is_asked_in, is_asked_of, Good}
+use Rattle.ufs_spec.specs.Machine.{Answer, Ask, Call, Faulty, Finish, Finishes, Give, Gives, Heard, Hears, Host, IsHeard, Replies, Spelled, Step, Steps, begun, begun_with, command_heard, complete, data_for, data_heard, deed_behind, ends_with, heard, hears, is_aborted, fills, observe, behind, opened_with, reader_told, replied_by, short_replied, tag_in, task_behind, task_filled, task_locked, task_read, unit_or_first, without_tasks, write_complete, write_deed, Allowed, MayHear, asked_fault, in_use, message_fault, opening_fault, result_of, write_begun}
 use Rattle.ufs_spec.specs.Moves.{Ending, ReadRight, ReadWrong, WentWell, WentWrong}
 use Rattle.ufs_spec.specs.Stages.{manages_tasks, most_tasks}
-use Rattle.ufs_spec.specs.Steps.{Request, State, locked, refusal, unit_of_request}
+use Rattle.ufs_spec.specs.Steps.{Request, State, locked, refusal, slots_needed, unit_of_request}
 use Rattle.ufs_spec.specs.declared.messages.Message.{Message}
 use Rattle.ufs_spec.specs.declared.messages.Message.TheVariants as message
 use Rattle.ufs_spec.specs.declared.scsi.Cdb.{Cdb}
+use Rattle.ufs_spec.specs.declared.scsi.Cdb.TheVariants as cdb
 
 -- the task of a request
 abbrev pub task_for : Request → Option Cdb → ℕ → Deed → Task
@@ -23,16 +26,42 @@ task_for r command n deed = record { lun = r.lun; tag = r.tag; expected = r.expe
 abbrev pub OneMore : (Task → Type 0) → List Task → List Task → Type 0
 OneMore P before after = (task : Task) × (after ≡ before ++ task ∷ []) × P task
 
-pub record IsTaskLaw (P : Task → Type 0) (May : Task → Deed → Type 0) (s : State) : Type 0 where
+-- of any request nothing
+abbrev pub Any : Request → Type 0
+Any r = Unit {0}
+
+any_in : (m : Message) (c : Option Cdb) → IsAskedIn Any m c
+any_in (message.Command flags lun tag expected bytes) c = tt
+any_in (message.NopOut tag) c = tt
+any_in (message.DataOut lun tag offset «data») c = tt
+any_in (message.TaskRequest lun tag function meant) c = tt
+any_in (message.QueryRequest tag function asked size value «data») c = tt
+any_in (message.NopIn tag) c = tt
+any_in (message.Response flags lun tag response status residual sense) c = tt
+any_in (message.DataIn lun tag offset «data») c = tt
+any_in (message.TaskResponse lun tag service) c = tt
+any_in (message.ReadyToTransfer lun tag offset count) c = tt
+any_in (message.QueryResponse tag function response asked size value «data») c = tt
+
+pub any_asks : (call : Call) → Asks Any call
+any_asks (Host (Spelled m c)) = any_in m c
+any_asks (Host (Faulty fault)) = tt
+any_asks (Give die) = tt
+any_asks (Finish die ending left) = tt
+any_asks Step = tt
+any_asks Ask = tt
+
+pub record IsTaskLaw (P : Task → Type 0) (May : Task → Deed → Type 0) (Asked : Request → Type 0) (s : State) : Type 0 where
   -- a task that does something else keeps the law, and so do all
   pub set : (task : Task) (deed : Deed) → task_of task.tag s.tasks ≡ Some task → Every P s.tasks → May task deed →
       Every P (map (with_deed task.tag deed) s.tasks)
   -- tasks that are opened
-  pub refused : (r : Request) (status : Status) → IsRequest r → refusal s r ≡ Some status → P (task_for r None 0 (Answering status 0))
-  pub begins : (r : Request) (c : Cdb) → IsRequest r → r.cdb ≡ Some c → refusal s r ≡ None →
+  pub refused : (r : Request) (status : Status) → IsRequest r → Asked r → in_use s r.tag ≡ false → refusal s r ≡ Some status → P (task_for r None 0 (Answering status 0))
+  pub begins : (r : Request) (c : Cdb) → IsRequest r → Asked r → in_use s r.tag ≡ false → r.cdb ≡ Some c → refusal s r ≡ None →
       OneMore P s.tasks (begun s r (unit_or_first (unit_of_request s r)) c).tasks
-  -- tasks that get data
+  -- tasks that get the data that they asked for
   pub gathers : (task : Task) (purpose : Purpose) (gathered bytes : List ℕ) (asked : Bool) → task.deed ≡ Gathering purpose gathered asked → P task →
+      length bytes ≡ count_at task.length (length gathered) →
       nat_lt (length (gathered ++ bytes)) task.length ≡ true → May task (Gathering purpose (gathered ++ bytes) false)
   pub meets_lock : (task : Task) (unit address blocks : ℕ) (forced : Bool) (gathered : List ℕ) (asked : Bool) →
       task.deed ≡ Gathering (ForWrite unit address blocks forced) gathered asked → P task → May task (Answering write_error task.length)
@@ -94,9 +123,73 @@ every_if P false t u h k = k refl
 pub every_one_more : (P : Task → Type 0) (before after : List Task) → Every P before → OneMore P before after → Every P after
 every_one_more P before after h more = subst (Every P) (sym more.1) (every_more P before more.0 h more.2)
 
+-- ## What is taken
+
+-- as many bytes as it asked for
+abbrev pub IsNext : Task → ℕ → Deed → Type 0
+IsNext task count (Gathering purpose gathered asked) = count ≡ count_at task.length (length gathered)
+IsNext task count deed = Unit {0}
+
+asked_next : (task : Task) (lun offset count : ℕ) (deed : Deed) → is_asked_in task lun offset count deed ≡ true → IsNext task count deed
+asked_next task lun offset count (Gathering purpose gathered asked) e = eqb-true count (count_at task.length (length gathered)) (and_parts _ _ e).1
+asked_next task lun offset count (Sending blocks sent) e = tt
+asked_next task lun offset count (Telling bytes) e = tt
+asked_next task lun offset count (Awaiting commands) e = tt
+asked_next task lun offset count (Answering status carried) e = tt
+
+pub is_asked : (b : Bool) → asked_fault b ≡ None → b ≡ true
+is_asked true e = refl
+is_asked false e = absurd (none-some NotAskedFor (sym e))
+
+-- what is taken has no fault
+not_refused : (fault : Option HostFault) (done : Unit) → Ok done ≡ result_of fault → fault ≡ None
+not_refused None done e = refl
+not_refused (Some fault) done e = let other : Ok done ≡ Err fault = e in cc
+
+is_unused : (s : State) (tag : ℕ) (short : Bool) → opening_fault s tag short ≡ None → in_use s tag ≡ false
+is_unused s tag short e = by (in_use s tag) e
+  where
+    by : (b : Bool) → (if b then Some TagInUse else if short && nat_le 32 (length s.shorts) then Some Backlog else None) ≡ None → b ≡ false
+    by true k = absurd (none-some TagInUse (sym k))
+    by false k = refl
+
+-- ## What begins
+
+-- a command that begins opens one task, of its tag
+abbrev pub OpensOne : State → State → ℕ → Type 0
+OpensOne s t tag = (task : Task) × (t.tasks ≡ s.tasks ++ task ∷ []) × (task.tag ≡ tag)
+
+opens_if : (s t u : State) (tag : ℕ) (b : Bool) → OpensOne s t tag → OpensOne s u tag → OpensOne s (if b then t else u) tag
+opens_if s t u tag true h k = h
+opens_if s t u tag false h k = k
+
+opens_task : (s t : State) (r : Request) (c : Option Cdb) (n : ℕ) (deed : Deed) → t.tasks ≡ s.tasks ++ task_for r c n deed ∷ [] → OpensOne s t r.tag
+opens_task s t r c n deed e = (task_for r c n deed, e, refl)
+
+write_opens : (s : State) (r : Request) (c : Cdb) (unit address blocks : ℕ) (forced : Bool) → OpensOne s (write_begun s r c unit address blocks forced) r.tag
+write_opens s r c unit address blocks forced =
+    opens_if s _ _ r.tag (blocks == 0)
+    (task_for r (Some c) 0 (Answering Good 0), refl, refl)
+    (task_for r (Some c) (4096 * blocks) (Gathering (ForWrite unit address blocks forced) [] false), refl, refl)
+
+pub begun_task : (s : State) (r : Request) (unit : ℕ) (c : Cdb) → OpensOne s (begun s r unit c) r.tag
+begun_task s r unit (cdb.Write6 address blocks) = write_opens s r (cdb.Write6 address blocks) unit address (slots_needed (cdb.Write6 address blocks)) false
+begun_task s r unit (cdb.Write10 address blocks forced) = write_opens s r (cdb.Write10 address blocks forced) unit address blocks forced
+begun_task s r unit cdb.TestUnitReady = opens_task s (begun s r unit cdb.TestUnitReady) r _ _ _ refl
+begun_task s r unit (cdb.RequestSense allocation) = opens_task s (begun s r unit (cdb.RequestSense allocation)) r _ _ _ refl
+begun_task s r unit (cdb.Read6 address blocks) = opens_task s (begun s r unit (cdb.Read6 address blocks)) r _ _ _ refl
+begun_task s r unit (cdb.Inquiry allocation) = opens_task s (begun s r unit (cdb.Inquiry allocation)) r _ _ _ refl
+begun_task s r unit cdb.ReadCapacity10 = opens_task s (begun s r unit cdb.ReadCapacity10) r _ _ _ refl
+begun_task s r unit (cdb.Read10 address blocks forced) = opens_task s (begun s r unit (cdb.Read10 address blocks forced)) r _ _ _ refl
+begun_task s r unit (cdb.SynchronizeCache10 address blocks immediate) = opens_task s (begun s r unit (cdb.SynchronizeCache10 address blocks immediate)) r _ _ _ refl
+begun_task s r unit (cdb.Unmap list) = opens_task s (begun s r unit (cdb.Unmap list)) r _ _ _ refl
+begun_task s r unit (cdb.ReportLuns select allocation) = opens_task s (begun s r unit (cdb.ReportLuns select allocation)) r _ _ _ refl
+begun_task s r unit (cdb.SecurityIn length) = opens_task s (begun s r unit (cdb.SecurityIn length)) r _ _ _ refl
+begun_task s r unit (cdb.SecurityOut length) = opens_task s (begun s r unit (cdb.SecurityOut length)) r _ _ _ refl
+
 -- ## The walk
 
-module _ (P : Task → Type 0) (May : Task → Deed → Type 0) (s : State) (k : IsTaskLaw P May s) (all : Every P s.tasks) where
+module _ (P : Task → Type 0) (May : Task → Deed → Type 0) (Asked : Request → Type 0) (s : State) (k : IsTaskLaw P May Asked s) (all : Every P s.tasks) where
   set_kept : (tag : ℕ) (task : Task) (deed : Deed) → task_of tag s.tasks ≡ Some task → May task deed → Every P (map (with_deed task.tag deed) s.tasks)
   set_kept tag task deed found p = k.set task deed (found_self tag s.tasks task found) all p
 
@@ -105,16 +198,16 @@ module _ (P : Task → Type 0) (May : Task → Deed → Type 0) (s : State) (k :
 
   -- Commands
 
-  begun_kept : (r : Request) (c : Option Cdb) → IsRequest r → r.cdb ≡ c → refusal s r ≡ None → Every P (begun_with s r c).tasks
-  begun_kept r None is e passed = all
-  begun_kept r (Some c) is e passed = every_one_more P s.tasks (begun s r (unit_or_first (unit_of_request s r)) c).tasks all (k.begins r c is e passed)
+  begun_kept : (r : Request) (c : Option Cdb) → IsRequest r → Asked r → in_use s r.tag ≡ false → r.cdb ≡ c → refusal s r ≡ None → Every P (begun_with s r c).tasks
+  begun_kept r None is asks free e passed = all
+  begun_kept r (Some c) is asks free e passed = every_one_more P s.tasks (begun s r (unit_or_first (unit_of_request s r)) c).tasks all (k.begins r c is asks free e passed)
 
-  opened_kept : (r : Request) (refused : Option Status) → IsRequest r → refusal s r ≡ refused → Every P (opened_with s r refused).tasks
-  opened_kept r (Some status) is e = every_more P s.tasks (task_for r None 0 (Answering status 0)) all (k.refused r status is e)
-  opened_kept r None is e = begun_kept r r.cdb is refl e
+  opened_kept : (r : Request) (refused : Option Status) → IsRequest r → Asked r → in_use s r.tag ≡ false → refusal s r ≡ refused → Every P (opened_with s r refused).tasks
+  opened_kept r (Some status) is asks free e = every_more P s.tasks (task_for r None 0 (Answering status 0)) all (k.refused r status is asks free e)
+  opened_kept r None is asks free e = begun_kept r r.cdb is asks free refl e
 
-  command_kept : (r : Request) → IsRequest r → Every P (command_heard s r).tasks
-  command_kept r is = every_if P (nat_le most_tasks (length s.tasks)) _ _ (λ e. all) (λ e. opened_kept r (refusal s r) is refl)
+  command_kept : (r : Request) → IsRequest r → Asked r → in_use s r.tag ≡ false → Every P (command_heard s r).tasks
+  command_kept r is asks free = every_if P (nat_le most_tasks (length s.tasks)) _ _ (λ e. all) (λ e. opened_kept r (refusal s r) is asks free refl)
 
   -- Data
 
@@ -133,42 +226,44 @@ module _ (P : Task → Type 0) (May : Task → Deed → Type 0) (s : State) (k :
       set_kept tag task _ found (k.unmaps task unit gathered asked e (found_kept tag task found))
   complete_kept tag task ForFrames gathered bytes asked found e = set_kept tag task _ found (k.frames task gathered asked e (found_kept tag task found))
 
-  data_kept : (tag : ℕ) (task : Task) (deed : Deed) (bytes : List ℕ) → task_of tag s.tasks ≡ Some task → task.deed ≡ deed → Every P (data_for s task deed bytes).tasks
-  data_kept tag task (Gathering purpose gathered asked) bytes found e =
+  data_kept : (tag : ℕ) (task : Task) (deed : Deed) (bytes : List ℕ) → task_of tag s.tasks ≡ Some task → task.deed ≡ deed →
+      IsNext task (length bytes) deed → Every P (data_for s task deed bytes).tasks
+  data_kept tag task (Gathering purpose gathered asked) bytes found e next =
       every_if P (nat_lt (length (gathered ++ bytes)) task.length) _ _
-      (λ more. set_kept tag task _ found (k.gathers task purpose gathered bytes asked e (found_kept tag task found) more))
+      (λ more. set_kept tag task _ found (k.gathers task purpose gathered bytes asked e (found_kept tag task found) next more))
       (λ over. complete_kept tag task purpose gathered (gathered ++ bytes) asked found e)
-  data_kept tag task (Sending blocks sent) bytes found e = all
-  data_kept tag task (Telling told) bytes found e = all
-  data_kept tag task (Awaiting commands) bytes found e = all
-  data_kept tag task (Answering status carried) bytes found e = all
+  data_kept tag task (Sending blocks sent) bytes found e next = all
+  data_kept tag task (Telling told) bytes found e next = all
+  data_kept tag task (Awaiting commands) bytes found e next = all
+  data_kept tag task (Answering status carried) bytes found e next = all
 
-  data_heard_kept : (tag : ℕ) (o : Option Task) (bytes : List ℕ) → task_of tag s.tasks ≡ o → Every P (data_heard s o bytes).tasks
-  data_heard_kept tag None bytes e = all
-  data_heard_kept tag (Some task) bytes e = data_kept tag task task.deed bytes e refl
+  data_heard_kept : (tag lun offset : ℕ) (o : Option Task) (bytes : List ℕ) → task_of tag s.tasks ≡ o → is_asked_of o lun offset (length bytes) ≡ true →
+      Every P (data_heard s o bytes).tasks
+  data_heard_kept tag lun offset None bytes e asked = all
+  data_heard_kept tag lun offset (Some task) bytes e asked = data_kept tag task task.deed bytes e refl (asked_next task lun offset (length bytes) task.deed asked)
 
   -- Messages
 
-  heard_kept : (m : Message) (c : Option Cdb) → ((bytes : List ℕ) × IsHeard bytes (Spelled m c)) → Every P (heard s m c).tasks
-  heard_kept (message.Command flags lun tag expected bytes) c is =
-      command_kept (record { flags = flags; lun = lun; tag = tag; expected = expected; bytes = bytes; cdb = c }) is
-  heard_kept (message.DataOut lun tag offset «data») c is = data_heard_kept tag (task_of tag s.tasks) «data».items refl
-  heard_kept (message.TaskRequest lun tag function meant) c is =
+  heard_kept : (m : Message) (c : Option Cdb) → ((bytes : List ℕ) × IsHeard bytes (Spelled m c)) → IsAskedIn Asked m c → message_fault s m ≡ None → Every P (heard s m c).tasks
+  heard_kept (message.Command flags lun tag expected bytes) c is asks may =
+      command_kept (record { flags = flags; lun = lun; tag = tag; expected = expected; bytes = bytes; cdb = c }) is asks (is_unused s tag _ may)
+  heard_kept (message.DataOut lun tag offset «data») c is asks may = data_heard_kept tag lun offset (task_of tag s.tasks) «data».items refl (is_asked _ may)
+  heard_kept (message.TaskRequest lun tag function meant) c is asks may =
       every_if P manages_tasks (without_tasks s (is_aborted lun function meant)) s
       (λ e. every_filtered P (λ task. not (is_aborted lun function meant task)) s.tasks all)
       (λ e. all)
-  heard_kept (message.NopOut tag) c is = all
-  heard_kept (message.QueryRequest tag function asked size value «data») c is = all
-  heard_kept (message.NopIn tag) c is = all
-  heard_kept (message.Response flags lun tag response status residual sense) c is = all
-  heard_kept (message.DataIn lun tag offset «data») c is = all
-  heard_kept (message.TaskResponse lun tag service) c is = all
-  heard_kept (message.ReadyToTransfer lun tag offset count) c is = all
-  heard_kept (message.QueryResponse tag function response asked size value «data») c is = all
+  heard_kept (message.NopOut tag) c is asks may = all
+  heard_kept (message.QueryRequest tag function asked size value «data») c is asks may = all
+  heard_kept (message.NopIn tag) c is asks may = all
+  heard_kept (message.Response flags lun tag response status residual sense) c is asks may = all
+  heard_kept (message.DataIn lun tag offset «data») c is asks may = all
+  heard_kept (message.TaskResponse lun tag service) c is asks may = all
+  heard_kept (message.ReadyToTransfer lun tag offset count) c is asks may = all
+  heard_kept (message.QueryResponse tag function response asked size value «data») c is asks may = all
 
-  hears_kept : (h : Heard) → ((bytes : List ℕ) × IsHeard bytes h) → Every P (hears s h).tasks
-  hears_kept (Spelled m c) is = heard_kept m c is
-  hears_kept (Faulty fault) is = all
+  hears_kept : (h : Heard) → ((bytes : List ℕ) × IsHeard bytes h) → IsAskedBy Asked h → (done : Unit) → MayHear s h (Ok done) → Every P (hears s h).tasks
+  hears_kept (Spelled m c) is asks done may = heard_kept m c is asks (not_refused (message_fault s m) done may)
+  hears_kept (Faulty fault) is asks done may = all
 
   -- Replies
 
@@ -206,18 +301,18 @@ module _ (P : Task → Type 0) (May : Task → Deed → Type 0) (s : State) (k :
 
   -- Calls
 
-  call_kept : (call : Call) (answer : Answer) → IsSpoken call → Every P (behind s call answer).tasks
-  call_kept (Host h) (Hears (Ok done)) is = hears_kept h is
-  call_kept (Give die) (Gives None) is = all
-  call_kept (Give die) (Gives (Some flight)) is = all
-  call_kept (Finish die ending left) (Finishes true) is = ends_kept die (s.translation.disk.flights die) ending left
-  call_kept Step (Steps due) is = all
-  call_kept Ask (Replies (Some m)) is = replied_kept (tag_in m) (task_of (tag_in m) s.tasks) refl
-  call_kept call answer is = all
+  call_kept : (call : Call) (answer : Answer) → IsSpoken call → Asks Asked call → Allowed s call answer → Every P (behind s call answer).tasks
+  call_kept (Host h) (Hears (Ok done)) is asks may = hears_kept h is asks done may
+  call_kept (Give die) (Gives None) is asks may = all
+  call_kept (Give die) (Gives (Some flight)) is asks may = all
+  call_kept (Finish die ending left) (Finishes true) is asks may = ends_kept die (s.translation.disk.flights die) ending left
+  call_kept Step (Steps due) is asks may = all
+  call_kept Ask (Replies (Some m)) is asks may = replied_kept (tag_in m) (task_of (tag_in m) s.tasks) refl
+  call_kept call answer is asks may = all
 
-  pub tasks_kept : (call : Call) (answer : Answer) → IsSpoken call → Every P (observe s call answer).tasks
-  tasks_kept call answer is =
+  pub tasks_kept : (call : Call) (answer : Answer) → IsSpoken call → Asks Asked call → Allowed s call answer → Every P (observe s call answer).tasks
+  tasks_kept call answer is asks may =
       let before = behind s call answer in
       let u = fills before in
-      let here = every_mapped P (task_filled before) (k.fills before) before.tasks (call_kept call answer is) in
+      let here = every_mapped P (task_filled before) (k.fills before) before.tasks (call_kept call answer is asks may) in
       every_if P (locked u) _ _ (λ e. every_mapped P (task_locked u) (k.locks u) u.tasks here) (λ e. here)

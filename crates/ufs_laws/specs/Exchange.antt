@@ -1,8 +1,11 @@
 -- What the laws of the exchange speak of: requests as they are heard, and tasks of commands that are known.
-use Rattle.std.specs.Prelude.{◌≢◌, ℕ, List, [], ◌∷◌, Option, Some, None}
-use Rattle.ufs_spec.specs.Exchanges.{Answering, Deed, ForFrames, ForUnmap, Gathering, Task, invalid_operation}
-use Rattle.ufs_spec.specs.Machine.{Call, Host, IsHeard, Spelled}
+use Rattle.std.specs.Prelude.{◌≡◌, ◌≢◌, ℕ, ◌+◌, ◌-◌, ◌==◌, min, Bool, true, List, [], ◌∷◌, length, map, Option, Some, None}
+use Rattle.std.specs.List.{list_any}
+use Rattle.ufs_spec.specs.Exchanges.{Answering, Deed, ForFrames, ForUnmap, Gathering, Purpose, Sending, Task, count_at, invalid_operation}
+use Rattle.ufs_spec.specs.Machine.{Call, Faulty, Heard, Host, IsHeard, Spelled}
 use Rattle.ufs_spec.specs.Steps.{Request, State}
+use Rattle.ufs_spec.specs.Translation.{Pin}
+use Rattle.ufs_spec.specs.declared.messages.Message.{Message}
 use Rattle.ufs_spec.specs.declared.messages.Message.TheVariants as message
 use Rattle.ufs_spec.specs.declared.scsi.Cdb.{Cdb}
 
@@ -39,3 +42,54 @@ IsKnownTask (Some command) deed = IsKnownDeed deed
 -- no open command that was taken ends with an invalid operation code
 abbrev pub AllKnown : State → Type 0
 AllKnown s = Every (λ task. IsKnownTask task.command task.deed) s.tasks
+
+-- segments of a command of so many bytes, from an offset on: each has as many bytes as are asked for there
+abbrev pub AreAsked : ℕ → ℕ → List (List ℕ) → Type 0
+AreAsked total offset [] = Unit {0}
+AreAsked total offset (segment ∷ segments) =
+    (length segment ≡ count_at total offset) × AreAsked total (offset + length segment) segments
+
+-- the READY TO TRANSFER of a task was handed out that asks for these data
+pub record WasAsked (task : Task) (lun offset count : ℕ) : Type 0 where
+  pub purpose : Purpose
+  pub gathered : List ℕ
+  pub deed : task.deed ≡ Gathering purpose gathered true
+  pub lun_is : lun ≡ task.lun
+  pub offset_is : offset ≡ length gathered
+  pub count_is : count ≡ min 4096 (task.length - length gathered)
+
+-- a READ sends blocks of these contents, whichever of them were read, or has sent them and answers
+abbrev pub SendsThese : List (List ℕ) → Deed → Type 0
+SendsThese bodies (Sending blocks sent) = map (λ block. block.body) blocks ≡ bodies
+SendsThese bodies (Answering status carried) = Unit {0}
+SendsThese bodies deed = ⊥
+
+-- the open task of this tag does so
+abbrev pub TagSends : ℕ → List (List ℕ) → State → Type 0
+TagSends tag bodies s = Every (λ task. task.tag ≡ tag → SendsThese bodies task.deed) s.tasks
+
+-- ## Aborted tags
+
+abbrev pub HasOtherTag : ℕ → Task → Type 0
+HasOtherTag tag task = task.tag ≢ tag
+
+abbrev pub NoTask : ℕ → State → Type 0
+NoTask tag s = Every (HasOtherTag tag) s.tasks
+
+-- what is asked of the request, if the call is a COMMAND
+abbrev pub IsAskedIn : (Request → Type 0) → Message → Option Cdb → Type 0
+IsAskedIn Asked (message.Command flags lun tag expected bytes) c =
+    Asked (record { flags = flags; lun = lun; tag = tag; expected = expected; bytes = bytes; cdb = c })
+IsAskedIn Asked m c = Unit {0}
+
+abbrev pub IsAskedBy : (Request → Type 0) → Heard → Type 0
+IsAskedBy Asked (Spelled m c) = IsAskedIn Asked m c
+IsAskedBy Asked (Faulty fault) = Unit {0}
+
+abbrev pub Asks : (Request → Type 0) → Call → Type 0
+Asks Asked (Host heard) = IsAskedBy Asked heard
+Asks Asked call = Unit {0}
+
+-- the tag is kept for a task
+abbrev pub Pinned : ℕ → List Pin → Bool
+Pinned tag pins = list_any (λ (pin : Pin). pin.tag == tag) pins

@@ -2,4 +2,6 @@ pub mod Exchange
 pub mod Flights
 pub mod GapRows
 pub mod Requests
+pub mod Replies
 pub mod Runs
+pub mod Table

@@ -226,6 +226,23 @@ run_outputs body =
     ∷ told (good_message 8) ∷ output.Reply None
     ∷ []
 
+-- its beginning, up to the program of the block, which is in flight then
+abbrev pub write_events : (write block : Vec ℕ) → List Event
+write_events write block =
+    event.Turn ∷ event.Turn
+    ∷ event.Take 0 ∷ event.Take 0 ∷ event.Finish 0 ∷ event.Take 0 ∷ event.Finish 0 ∷ event.Turn
+    ∷ event.Host write ∷ event.Reply ∷ event.Reply
+    ∷ event.Host block ∷ event.Reply ∷ event.Take 0 ∷ event.Reply
+    ∷ []
+
+abbrev pub write_outputs : List ℕ → List Output
+write_outputs body =
+    output.Turn true ∷ output.Turn false
+    ∷ begins erase ∷ output.Take None ∷ output.Ended ∷ begins mark_program ∷ output.Ended ∷ output.Turn false
+    ∷ output.Host (Ok tt) ∷ told ready_message ∷ output.Reply None
+    ∷ output.Host (Ok tt) ∷ output.Reply None ∷ begins (data_program body) ∷ output.Reply None
+    ∷ []
+
 -- with these outputs the events are a life
 abbrev pub IsRunOf : State → List ℕ → Type 0
 IsRunOf s body =

@@ -6,6 +6,7 @@ ghost use Rattle.ufs_spec.specs.declared.Cdb.{Cdb};
 ghost use Rattle.ufs_spec.specs.declared.Event.{Event};
 ghost use Rattle.ufs_spec.specs.declared.HostFault.{HostFault};
 ghost use Rattle.ufs_spec.specs.declared.Message.{Message};
+ghost use Rattle.ufs_spec.specs.declared.Message.TheVariants as message;
 ghost use Rattle.ufs_spec.specs.declared.Numbers.{Numbers};
 ghost use Rattle.ufs_spec.specs.declared.Output.{Output};
 ghost use Rattle.ufs_spec.specs.declared.Page.{Page};
@@ -14,11 +15,13 @@ ghost use Rattle.ufs_spec.specs.Cells.{Array, Cell, Cells, IsCell, Nothing, Show
 ghost use Rattle.ufs_spec.specs.Dies.{blank_page};
 ghost use Rattle.ufs_spec.specs.Disk.{CellCrash, Crash, Erasing, Flight, Programming, Reader, Reading, Spot, Touches, at_place, job_of, page_of, same_spot, spot_of, at_die};
 ghost use Rattle.ufs_spec.specs.Lives.{IsCall, IsOpened, Leads, Life};
-ghost use Rattle.ufs_spec.specs.Machine.{Allowed, Answer, Ask, Call, Due, Faulty, Finish, Finishes, Give, Gives, Heard, Hears, Host, IsHeard, Replies, Spelled, Step, Steps, fills, in_block, observe};
+ghost use Rattle.ufs_spec.specs.Machine.{Allowed, Answer, Ask, Call, Due, Faulty, Finish, Finishes, Give, Gives, Heard, Hears, Host, IsHeard, Replies, Spelled, Step, Steps, aborts, carried_out, fills, heard, in_block, observe, service, service_of, with_short};
+ghost use Rattle.ufs_spec.specs.Exchanges.{short_reply};
+ghost use Rattle.ufs_spec.specs.Messages.{IsAmong, code_of, host_codes, known_codes, read_fault_of};
 ghost use Rattle.ufs_spec.specs.Moves.{Ending};
 ghost use Rattle.ufs_spec.specs.Pages.{IsCheckRight};
 ghost use Rattle.ufs_spec.specs.Plain.{zero};
-ghost use Rattle.ufs_spec.specs.Steps.{State, mended};
+ghost use Rattle.ufs_spec.specs.Steps.{Lun, State, lun_of, mended, numbers_of};
 ghost use Rattle.ufs_spec.specs.Translation.{MayTake, Translation, Want, is_idle, is_step_due, want_at, wants_on};
 
 /// In every state each of the five calls has a right answer: to a die a job or none, and to a host a reply that is due or
@@ -173,6 +176,27 @@ pub fn new_dies_open()
     ensures first_job { (n : Numbers) (array : Array) (bad : Spot → Bool) (s : State) → ((p : Place) → array p ≡ blank_page) →
         IsOpened n array bad s → (good : Spot) → good.die < n.dies → good.block < n.blocks → bad good ≡ false →
         (spot : Spot) × MayTake (observe s Step (Steps true)).translation good.die (Some (Erasing spot)) }
+{}
+
+/// A task management request that is answered other than 00h changes no task, nor anything else but its own answer: one
+/// for a unit that is not there, one with an unknown function, and one that asks for tasks. One that aborts is answered
+/// 00h where the unit is there.
+pub fn refused_management_aborts_nothing()
+    ensures nothing { (s : State) (lun function meant code : ℕ) → code ≢ 0x00 → carried_out s lun function meant code ≡ s }
+    ensures heard { (s : State) (lun tag function meant : ℕ) (c : Option Cdb) → service s lun function meant ≢ 0x00 →
+        heard s (message.TaskRequest lun tag function meant) c
+        ≡ with_short s (short_reply tag (message.TaskResponse lun tag (service s lun function meant))) }
+    ensures no_unit { (s : State) (lun function meant : ℕ) → lun_of (numbers_of s) lun ≡ None →
+        service_of s lun function meant ≡ 0x09 }
+    ensures aborts { (s : State) (lun function meant : ℕ) (unit : Lun) → lun_of (numbers_of s) lun ≡ Some unit →
+        aborts function ≡ true → service_of s lun function meant ≡ 0x00 }
+{}
+
+/// What is heard is of a kind that a host sends, and what is read without a fault of a kind that there is.
+pub fn heard_kinds_are_a_hosts()
+    ensures heard { (bytes : List ℕ) (m : Message) (c : Option Cdb) → IsHeard bytes (Spelled m c) →
+        IsAmong host_codes (code_of bytes) }
+    ensures read { (bytes : List ℕ) → read_fault_of bytes ≡ None → IsAmong known_codes (code_of bytes) }
 {}
 
 /// Bytes are heard as one fault at most, or as one message with one command at most, and never as both.

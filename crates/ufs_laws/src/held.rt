@@ -27,8 +27,8 @@ pub fn acknowledged_commands_are_held()
     ensures told { (t : Translation) (n : ℕ) → (moved t (Tell n)).ledger.held ≡ max t.ledger.held n }
 {}
 
-/// Along a life no acknowledged command is taken back, and each accepted command keeps its place. Once the answer of a task
-/// or a short exchange that waits for n commands is handed out, these n are held from then on.
+/// Along a life no acknowledged command is taken back, and each accepted command keeps its place. Once the answer of a
+/// task or a short exchange that waits for n commands is handed out, these n are held from then on.
 pub fn held_commands_stay_held()
     ensures held { (s t : State) (es : List Event) (os : List Output) → Life s es os t → held s ≤ held t }
     ensures accepted { (s t : State) (es : List Event) (os : List Output) → Life s es os t →
@@ -37,6 +37,7 @@ pub fn held_commands_stay_held()
         task_of (tag_in m) s.tasks ≡ Some task → task.deed ≡ Awaiting n →
         Life (observe s Ask (Replies (Some m))) es os t → n ≤ held t }
     ensures short { (s t : State) (m : Message) (short : Short) (n : ℕ) (es : List Event) (os : List Output) →
-        task_of (tag_in m) s.tasks ≡ None → find (is_short_of (tag_in m)) s.shorts ≡ Some short → short.awaits ≡ Some n →
+        task_of (tag_in m) s.tasks ≡ None → find (is_short_of (tag_in m)) s.shorts ≡ Some short →
+        short.awaits ≡ Some n →
         Life (observe s Ask (Replies (Some m))) es os t → n ≤ held t }
 {}

@@ -9,6 +9,7 @@ mod exchange;
 mod held;
 mod rows;
 mod runs;
+mod table;
 mod tables;
 
 pub use arrays::{
@@ -23,8 +24,12 @@ pub use calls::{
 pub use contents::{
     command_replaces_its_keys, commands_keep_plain, new_device_is_zero, plain_state_is_its_contents,
 };
-pub use exchange::{a_command_is_never_unknown_once_taken, every_byte_string_is_heard};
+pub use exchange::{
+    a_command_is_never_unknown_once_taken, a_read_sends_its_blocks, data_are_asked_for_in_order,
+    every_byte_string_is_heard, nothing_of_an_aborted_tag_follows,
+};
 pub use held::{acknowledged_commands_are_held, held_commands_stay_held};
 pub use rows::{gap_keeps_the_first_write, write_after_the_gap_is_kept};
 pub use runs::{a_refused_read_says_why, a_written_block_is_read};
+pub use table::{each_line_of_the_table_counts, lines_that_never_meet};
 pub use tables::{failed_request_accepts_nothing, worked_queries};

@@ -8,7 +8,7 @@ ghost use Rattle.ufs_spec.specs.Cdbs.{read_10};
 ghost use Rattle.ufs_spec.specs.Keys.{IsBlock};
 ghost use Rattle.ufs_spec.specs.Lives.{held};
 ghost use Rattle.ufs_spec.specs.Machine.{Ask, Finishes, Give, Gives, Host, Replies, Spelled, Step, Steps};
-ghost use Rattle.ufs_spec.specs.Steps.{State, mended};
+ghost use Rattle.ufs_spec.specs.Steps.{State, mended, well_known};
 
 /// A new device programs its first mark, is mended, writes a block with FUA and reads it again: each call gets the answer
 /// that it should, and no other.
@@ -51,7 +51,7 @@ pub fn a_written_block_is_read()
 {}
 
 /// A COMMAND that is refused is answered at once with why, whether the device is mended or locked or not: blocks past the
-/// unit's end, too many blocks, a unit that is not there, and a CDB that spells no command.
+/// unit's end, too many blocks, a LUN that is neither a unit's nor a well-known one, and a CDB that spells no command.
 pub fn a_refused_read_says_why()
     ensures idle_device { (s : State) × IsIdle s × (mended s ≡ true) }
     ensures past_the_end { (s : State) (forced : Bool) (tag : ℕ) → IsIdle s →
@@ -59,7 +59,7 @@ pub fn a_refused_read_says_why()
     ensures too_many_blocks { (s : State) (address : ℕ) (forced : Bool) (tag : ℕ) → IsIdle s →
         IsAnswered s (read_of address 33 forced tag 0x21000) (refused 0 tag 0x21000 0x24) }
     ensures not_a_unit { (s : State) (flags lun tag expected : ℕ) (bytes : List ℕ) (c : Option Cdb) → IsIdle s → 3 ≤ lun →
-        0 < expected → IsAnswered s (Spelled (message.Command flags lun tag expected bytes) c) (refused lun tag expected 0x25) }
+        well_known lun ≡ None → 0 < expected → IsAnswered s (Spelled (message.Command flags lun tag expected bytes) c) (refused lun tag expected 0x25) }
     ensures no_command { (s : State) (flags tag expected : ℕ) (rest : List ℕ) → IsIdle s → 0 < expected →
         IsAnswered s (Spelled (message.Command flags 0 tag expected (read_10 ∷ rest)) None) (refused 0 tag expected 0x24) }
 {}

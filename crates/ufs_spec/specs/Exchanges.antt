@@ -1,7 +1,7 @@
 -- What is open between a host and the device: tasks, short exchanges, and what lasts until the next power cycle
 -- (JESD220, 10.7 UPIUs, 12.4 RPMB; SAM, tasks).
 use Rattle.std.specs.Prelude.{ℕ, ◌-◌, ◌*◌, ◌==◌, ◌&&◌, min, not, Bool, true, false, if◌then◌else◌, List, [], ◌∷◌, filter, find, length, take, Option, Some, None}
-use Rattle.ufs_spec.specs.Cdbs.{Residual, fixed_sense, residual_of}
+use Rattle.ufs_spec.specs.Cdbs.{Residual, carried, fixed_sense, residual_of}
 use Rattle.ufs_spec.specs.Frames.{Frame}
 use Rattle.ufs_spec.specs.declared.messages.Message.{Message}
 use Rattle.ufs_spec.specs.declared.messages.Message.TheVariants as message
@@ -196,7 +196,7 @@ without_short tag shorts = filter (λ short. not (is_short_of tag short)) shorts
 
 -- the bytes of a command that are sent: no more than the host expects
 abbrev pub bytes_sent : Task → ℕ
-bytes_sent task = min task.expected task.length
+bytes_sent task = carried task.expected task.length
 
 -- how many bytes the transfer at an offset has: a block, or the rest
 abbrev pub count_at : ℕ → ℕ → ℕ
@@ -218,7 +218,10 @@ block_message task sent body = data_message task (4096 * sent) (take (count_at (
 abbrev pub is_asked_in : Task → ℕ → ℕ → ℕ → Deed → Bool
 is_asked_in task lun offset count (Gathering purpose gathered asked) =
     asked && (task.lun == lun) && (offset == length gathered) && (count == count_at task.length (length gathered))
-is_asked_in task lun offset count deed = false
+is_asked_in task lun offset count (Sending blocks sent) = false
+is_asked_in task lun offset count (Telling bytes) = false
+is_asked_in task lun offset count (Awaiting commands) = false
+is_asked_in task lun offset count (Answering status carried) = false
 
 abbrev pub is_asked_of : Option Task → ℕ → ℕ → ℕ → Bool
 is_asked_of None lun offset count = false

@@ -61,14 +61,16 @@ AreLeftovers s lefts =
 abbrev pub IsLawfulLeftover : State → Leftover → Type 0
 IsLawfulLeftover s l =
     (p : Place) (page : Page) → page_left l p page →
-    (intended : Cell) × Touches (s.translation.disk.flights p.die) p intended × MayBeLeft (s.array p) (page_of intended) page
+    (intended : Cell) × Touches (s.translation.disk.flights p.die) p intended
+    × MayBeLeft (s.array p) (page_of intended) page
 
 -- ## Events
 
 -- how a job ends that the die did well
 abbrev pub ended_well : Flight → Ending
 ended_well (Reading reader place) = ReadRight
-ended_well flight = WentWell
+ended_well (Programming place cell) = WentWell
+ended_well (Erasing spot) = WentWell
 
 -- how a job ends that failed: a read leaves nothing; a program or an erase leaves what an interruption may
 abbrev pub IsFailure : State → ℕ → Option Flight → Option Leftover → Ending → Array → Type 0
@@ -97,13 +99,17 @@ IsCall s (event.Stop lefts) call = ⊥
 -- what an answer shows: a job as the die is told it, a reply as its one spelling
 abbrev pub IsShown : Answer → Output → Type 0
 IsShown (Hears result) (output.Host shown) = shown ≡ result
+IsShown (Hears result) shown = ⊥
 IsShown (Gives flight) (output.Take job) = job ≡ option_map job_of flight
+IsShown (Gives flight) shown = ⊥
 IsShown (Finishes known) output.Ended = known ≡ true
+IsShown (Finishes known) shown = ⊥
 IsShown (Steps due) (output.Turn shown) = shown ≡ due
+IsShown (Steps due) shown = ⊥
 IsShown (Replies None) (output.Reply shown) = shown ≡ None
 IsShown (Replies (Some m)) (output.Reply None) = ⊥
 IsShown (Replies (Some m)) (output.Reply (Some bytes)) = bytes.items ≡ spelling m
-IsShown answer shown = ⊥
+IsShown (Replies reply) shown = ⊥
 
 -- the event may show this, and leads to the second state
 pub record Leads (s : State) (e : Event) (o : Output) (t : State) : Type 0 where

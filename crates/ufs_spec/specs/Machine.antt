@@ -1,29 +1,29 @@
 -- The specification machine: which answers to the five calls are right, and what each call makes of the state. It is a
 -- function of the state but where the device may choose: which of several replies goes first, and which of several reads
 -- (JESD220, 10.7 and 10.8; this profile).
-use Rattle.std.specs.Prelude.{◌≡◌, ◌⊎◌, ℕ, zero, suc, ◌+◌, ◌-◌, ◌*◌, ◌==◌, ◌&&◌, ◌||◌, min, nat_le, nat_lt, not, Bool, true, false, if◌then◌else◌, is_none, List, [], ◌∷◌, ◌++◌, drop, filter, find, fold, length, map, slice_get, take, slice_set, Option, Some, None, Result, Ok, Err}
+use Rattle.std.specs.Prelude.{◌≡◌, ◌⊎◌, ℕ, zero, suc, ◌+◌, ◌-◌, ◌*◌, ◌==◌, ◌&&◌, ◌||◌, nat_le, nat_lt, not, Bool, true, false, if◌then◌else◌, is_none, List, [], ◌∷◌, ◌++◌, drop, filter, find, fold, length, map, slice_get, take, slice_set, Option, Some, None, Result, Ok, Err}
 use Rattle.std.specs.List.{flat_map, list_any}
 use Rattle.byteorder.specs.Endian.{big_bytes}
 use Rattle.std.specs.Int.{div_ceil}
-use Rattle.ufs_spec.specs.Cdbs.{SpellsCdb, length_of}
+use Rattle.ufs_spec.specs.Cdbs.{SpellsCdb, carried, length_of}
 use Rattle.ufs_spec.specs.Cells.{Array, Shows}
 use Rattle.ufs_spec.specs.Commands.{Command}
 use Rattle.ufs_spec.specs.Commands as command
 use Rattle.ufs_spec.specs.Dies.{blank_page}
-use Rattle.ufs_spec.specs.Disk.{Crash, Erasing, Flight, ForTask, Programming, Reader, Reading, Spot, at_place, flight_alone, page_of, same_spot, spot_of}
+use Rattle.ufs_spec.specs.Disk.{Crash, Erasing, Flight, ForNobody, ForRest, ForStep, ForTask, Programming, Reader, Reading, Spot, at_place, flight_alone, page_of, same_spot, spot_of}
 use Rattle.ufs_spec.specs.Exchanges.{Answering, Awaiting, Deed, Registers, empty_registers, ForFrames, ForUnmap, ForWrite, Gathering, Good, NotRead, Purpose, ReadBlock, ReadState, Sending, Short, Status, Task, TaskSetFull, Telling, Unread, WasRead, block_message, bytes_sent, data_message, filled, invalid_operation, is_asked_of, is_good, is_short_of, is_task_of, is_unfilled, read_error, ready_message, response, short_reply, task_of, with_deed, without_short, without_task, write_error}
 use Rattle.ufs_spec.specs.Keys.{below, data_key, group_of}
-use Rattle.ufs_spec.specs.Ledger.{Looked, OnPage, before_accepted, look}
+use Rattle.ufs_spec.specs.Ledger.{InSlot, Looked, OnPage, Unwritten, before_accepted, look}
 use Rattle.ufs_spec.specs.Messages.{Spells, host_fault_of, is_among, zeros}
 use Rattle.ufs_spec.specs.Moves.{Accept, Claim, End, Ending, Keep, LetGo, LetGoAll, Move, ReadRight, ReadWrong, Release, Take, Tell, Turn, WantPage, WentWell, WentWrong, is_pin_of, moved}
 use Rattle.ufs_spec.specs.Plain.{block_at}
 use Rattle.ufs_spec.specs.Stages.{manages_tasks, most_tasks}
 use Rattle.ufs_spec.specs.Steps.{Request, State, locked, lun_of, numbers_of, sends_frames, plain_now, refusal, slots_needed, spec_of, unit_of_request}
-use Rattle.ufs_spec.specs.Translation.{MayTake, Pin, is_step_due}
+use Rattle.ufs_spec.specs.Translation.{MayTake, Pin, Rest, is_rest_of, is_step_due}
 use Rattle.ufs_spec.specs.declared.configs.Numbers.{Numbers}
 use Rattle.ufs_spec.specs.declared.configs.UnitSpec.{UnitSpec}
 use Rattle.ufs_spec.specs.declared.faults.HostFault.{HostFault}
-use Rattle.ufs_spec.specs.declared.faults.HostFault.TheVariants.{Backlog, NotAskedFor, Reserved, TagInUse}
+use Rattle.ufs_spec.specs.declared.faults.HostFault.TheVariants.{Backlog, Code, NotAskedFor, Reserved, TagInUse}
 use Rattle.ufs_spec.specs.declared.flash.Place.{Place}
 use Rattle.ufs_spec.specs.declared.messages.Asked.{Asked}
 use Rattle.ufs_spec.specs.declared.messages.Message.{Message}
@@ -77,14 +77,15 @@ pub data Answer : Type 0 where
 abbrev pub durable : State → ℕ
 durable s = s.translation.ledger.frontier - before_accepted s.translation.ledger
 
--- what was looked up lies in a slot or was never written, so that no read is needed
-abbrev pub needs_no_read : Looked → Bool
-needs_no_read (OnPage name place) = false
-needs_no_read looked = true
+-- what was looked up was never written or lies in a slot that has its content, so that no read is needed
+abbrev pub needs_no_read : List Rest → Looked → Bool
+needs_no_read rests Unwritten = true
+needs_no_read rests (InSlot name) = not (list_any (is_rest_of name) rests)
+needs_no_read rests (OnPage name place) = false
 
-abbrev pub is_at_hand : Option Pin → Bool
-is_at_hand None = true
-is_at_hand (Some pin) = needs_no_read pin.looked
+abbrev pub is_at_hand : List Rest → Option Pin → Bool
+is_at_hand rests None = true
+is_at_hand rests (Some pin) = needs_no_read rests pin.looked
 
 -- what the task keeps for one of its blocks
 abbrev pub pin_of : State → Task → ℕ → Option Pin
@@ -98,7 +99,7 @@ block_reply task sent body Unread at_hand = if at_hand then Some (block_message 
 
 abbrev pub next_block_reply : State → Task → ℕ → Option ReadBlock → Option Message
 next_block_reply s task sent None = None
-next_block_reply s task sent (Some block) = block_reply task sent block.body block.state (is_at_hand (pin_of s task sent))
+next_block_reply s task sent (Some block) = block_reply task sent block.body block.state (is_at_hand s.translation.work.rests (pin_of s task sent))
 
 -- the next reply of a task, if it is due
 abbrev pub deed_reply : State → Task → Deed → Option Message
@@ -117,7 +118,9 @@ is_durable s (Some commands) = nat_le commands (durable s)
 abbrev pub MayLeave : State → ℕ → Ending → Array → Type 0
 MayLeave s die (WentWrong cells) left =
     Crash s.array (flight_alone s.translation.disk.flights die) left × Shows left cells
-MayLeave s die ending left = Unit {0}
+MayLeave s die ReadRight left = Unit {0}
+MayLeave s die ReadWrong left = Unit {0}
+MayLeave s die WentWell left = Unit {0}
 
 -- a reply that is due: which of several goes first is free
 abbrev pub Due : State → Message → Type 0
@@ -135,7 +138,7 @@ abbrev pub opens_short : State → Message → Bool
 opens_short s (message.Command flags lun tag expected bytes) = nat_le most_tasks (length s.tasks)
 opens_short s m = true
 
--- an exchange is opened with a tag that is free, and at most 32 short ones are open
+-- an exchange is opened with a tag that is free, and at most 32 short ones are open (this profile)
 abbrev pub opening_fault : State → ℕ → Bool → Option HostFault
 opening_fault s tag short =
     if in_use s tag then Some TagInUse
@@ -146,7 +149,7 @@ abbrev pub asked_fault : Bool → Option HostFault
 asked_fault true = None
 asked_fault false = Some NotAskedFor
 
--- why a message is not taken; data must be those that a READY TO TRANSFER asked for
+-- why a message is not taken: data must be those that a READY TO TRANSFER asked for, and no host sends what a device sends
 abbrev pub message_fault : State → Message → Option HostFault
 message_fault s (message.DataOut lun tag offset «data») =
     asked_fault (is_asked_of (task_of tag s.tasks) lun offset (length «data».items))
@@ -155,7 +158,12 @@ message_fault s (message.Command flags lun tag expected bytes) =
     opening_fault s tag (opens_short s (message.Command flags lun tag expected bytes))
 message_fault s (message.TaskRequest lun tag function meant) = opening_fault s tag true
 message_fault s (message.QueryRequest tag function asked size value «data») = opening_fault s tag true
-message_fault s other = None
+message_fault s (message.NopIn tag) = Some Code
+message_fault s (message.Response flags lun tag response status residual sense) = Some Code
+message_fault s (message.DataIn lun tag offset «data») = Some Code
+message_fault s (message.TaskResponse lun tag answer) = Some Code
+message_fault s (message.ReadyToTransfer lun tag offset count) = Some Code
+message_fault s (message.QueryResponse tag function response asked size value «data») = Some Code
 
 abbrev pub result_of : Option HostFault → Result Unit HostFault
 result_of None = Ok tt
@@ -165,27 +173,35 @@ abbrev pub MayHear : State → Heard → Result Unit HostFault → Type 0
 MayHear s (Spelled m c) result = result ≡ result_of (message_fault s m)
 MayHear s (Faulty fault) result = result ≡ Err fault
 
+-- a read ends so; a program and an erase otherwise
+abbrev pub ends_read : Ending → Bool
+ends_read ReadRight = true
+ends_read ReadWrong = true
+ends_read WentWell = false
+ends_read (WentWrong left) = false
+
 abbrev pub fits : Option Flight → Ending → Bool
-fits (Some (Reading reader place)) ReadRight = true
-fits (Some (Reading reader place)) ReadWrong = true
-fits (Some (Programming place cell)) WentWell = true
-fits (Some (Programming place cell)) (WentWrong left) = true
-fits (Some (Erasing spot)) WentWell = true
-fits (Some (Erasing spot)) (WentWrong left) = true
-fits flight ending = false
+fits None ending = false
+fits (Some (Reading reader place)) ending = ends_read ending
+fits (Some (Programming place cell)) ending = not (ends_read ending)
+fits (Some (Erasing spot)) ending = not (ends_read ending)
 
 abbrev pub MayReply : State → Option Message → Type 0
 MayReply s (Some m) = Due s m
 MayReply s None = (m : Message) → Due s m → ⊥
 
--- the answer to the call is right
+-- the answer to the call is right; the answer to another call never is
 abbrev pub Allowed : State → Call → Answer → Type 0
 Allowed s (Host heard) (Hears result) = MayHear s heard result
+Allowed s (Host heard) answer = ⊥
 Allowed s (Give die) (Gives flight) = MayTake s.translation die flight
+Allowed s (Give die) answer = ⊥
 Allowed s (Finish die ending left) (Finishes known) = known ≡ fits (s.translation.disk.flights die) ending
+Allowed s (Finish die ending left) answer = ⊥
 Allowed s Step (Steps due) = due ≡ is_step_due s.translation
+Allowed s Step answer = ⊥
 Allowed s Ask (Replies reply) = MayReply s reply
-Allowed s call answer = ⊥
+Allowed s Ask answer = ⊥
 
 -- ## What a message makes of the state
 
@@ -217,7 +233,7 @@ abbrev pub keeps : State → ℕ → ℕ → ℕ → ℕ → List Move
 keeps s tag unit address n = map (λ i. Keep (data_key unit (address + i)) (kept_at s tag unit address i)) (below n)
 
 abbrev pub blocks_expected : Request → ℕ → ℕ
-blocks_expected r n = div_ceil (min r.expected n) 4096
+blocks_expected r n = div_ceil (carried r.expected n) 4096
 
 abbrev pub sending : List ReadBlock → ℕ → Deed
 sending [] n = Answering Good n
@@ -244,7 +260,7 @@ flush_begun s r command immediate =
 
 -- data that are sent at once
 abbrev pub telling : Request → List ℕ → Deed
-telling r bytes = if min r.expected (length bytes) == 0 then Answering Good (length bytes) else Telling bytes
+telling r bytes = if carried r.expected (length bytes) == 0 then Answering Good (length bytes) else Telling bytes
 
 abbrev pub told : State → Request → Cdb → List ℕ → State
 told s r command bytes = with_task s r (Some command) (length bytes) (telling r bytes)
@@ -280,7 +296,11 @@ begun s r unit (cdb.Write10 address blocks forced) =
 begun s r unit (cdb.SynchronizeCache10 address blocks immediate) =
     flush_begun s r (cdb.SynchronizeCache10 address blocks immediate) immediate
 begun s r unit cdb.ReadCapacity10 = told s r cdb.ReadCapacity10 (capacity_bytes (spec_of s r))
-begun s r unit command = not_begun s r command
+begun s r unit (cdb.Inquiry allocation) = not_begun s r (cdb.Inquiry allocation)
+begun s r unit (cdb.Unmap list) = not_begun s r (cdb.Unmap list)
+begun s r unit (cdb.ReportLuns select allocation) = not_begun s r (cdb.ReportLuns select allocation)
+begun s r unit (cdb.SecurityIn n) = not_begun s r (cdb.SecurityIn n)
+begun s r unit (cdb.SecurityOut n) = not_begun s r (cdb.SecurityOut n)
 
 abbrev pub begun_with : State → Request → Option Cdb → State
 begun_with s r None = s
@@ -311,7 +331,7 @@ set_deed s tag deed = record s { tasks = map (with_deed tag deed) s.tasks }
 -- a command is accepted: its group stands in place of claimed slots
 abbrev pub accepts : State → Command → ℕ → State
 accepts s c claimed =
-    record (with_moves s (Accept claimed (group_of (plain_now s) c) [] ∷ [])) { accepted = s.accepted ++ c ∷ [] }
+    record (with_moves s (Accept claimed (group_of (plain_now s) c) ∷ [])) { accepted = s.accepted ++ c ∷ [] }
 
 -- the answer of a WRITE whose command has this position: with FUA once it is durable, else at once
 abbrev pub write_deed : Bool → ℕ → ℕ → Deed
@@ -340,7 +360,10 @@ gathered_more s task purpose bytes =
 
 abbrev pub data_for : State → Task → Deed → List ℕ → State
 data_for s task (Gathering purpose gathered asked) bytes = gathered_more s task purpose (gathered ++ bytes)
-data_for s task deed bytes = s
+data_for s task (Sending blocks sent) bytes = s
+data_for s task (Telling told_bytes) bytes = s
+data_for s task (Awaiting commands) bytes = s
+data_for s task (Answering status carried) bytes = s
 
 abbrev pub data_heard : State → Option Task → List ℕ → State
 data_heard s None bytes = s
@@ -350,8 +373,12 @@ data_heard s (Some task) bytes = data_for s task task.deed bytes
 
 -- how many slots a task has claimed that still gathers its data
 abbrev pub claimed_by : Deed → Option Cdb → ℕ
+claimed_by (Gathering purpose gathered asked) None = 0
 claimed_by (Gathering purpose gathered asked) (Some c) = slots_needed c
-claimed_by deed command = 0
+claimed_by (Sending blocks sent) command = 0
+claimed_by (Telling bytes) command = 0
+claimed_by (Awaiting commands) command = 0
+claimed_by (Answering status carried) command = 0
 
 abbrev pub is_named : ℕ → ℕ → Task → Bool
 is_named lun meant task = (task.lun == lun) && (task.tag == meant)
@@ -364,19 +391,21 @@ abbrev pub is_aborted : ℕ → ℕ → ℕ → Task → Bool
 is_aborted lun function meant task =
     aborts function && (task.lun == lun) && (not (function == 0x01) || (task.tag == meant))
 
--- 04h not supported, 09h no such unit, 08h succeeded (a task is there), 00h complete
+-- the service response: 09h no such unit, 00h complete, 08h succeeded (a task is there), 04h not supported
 abbrev pub found : Bool → ℕ
 found true = 0x08
 found false = 0x00
 
-abbrev pub service : State → ℕ → ℕ → ℕ → ℕ
-service s lun function meant =
-    if not manages_tasks then 0x04
-    else if is_none (lun_of (numbers_of s) lun) then 0x09
+abbrev pub service_of : State → ℕ → ℕ → ℕ → ℕ
+service_of s lun function meant =
+    if is_none (lun_of (numbers_of s) lun) then 0x09
     else if aborts function then 0x00
     else if function == 0x80 then found (list_any (is_named lun meant) s.tasks)
     else if function == 0x81 then found (list_any (λ (task : Task). task.lun == lun) s.tasks)
     else 0x04
+
+abbrev pub service : State → ℕ → ℕ → ℕ → ℕ
+service s lun function meant = if manages_tasks then service_of s lun function meant else 0x04
 
 -- an aborted task gives back its claims and lets go of all that it keeps; what it had accepted stays accepted
 abbrev pub abort_moves : Task → List Move
@@ -393,10 +422,14 @@ without_tasks s is =
       registers = registers_behind (filter is s.tasks) s.registers;
     }
 
-abbrev pub managed : State → ℕ → ℕ → ℕ → State
-managed s lun function meant = if manages_tasks then without_tasks s (is_aborted lun function meant) else s
+-- a request with another service response than 00h aborts nothing
+abbrev pub carried_out : State → ℕ → ℕ → ℕ → ℕ → State
+carried_out s lun function meant code = if code == 0x00 then without_tasks s (is_aborted lun function meant) else s
 
--- until queries are built each is answered FEh, parameter not supported
+abbrev pub managed : State → ℕ → ℕ → ℕ → State
+managed s lun function meant = carried_out s lun function meant (service s lun function meant)
+
+-- until queries are built each is answered FEh, invalid opcode (JESD220, 10.7.9)
 abbrev pub query_unanswered : ℕ → ℕ → Asked → Message
 query_unanswered tag function asked =
     message.QueryResponse tag function 0xFE asked 0 0 (record { items = [] })
@@ -412,16 +445,25 @@ heard s (message.TaskRequest lun tag function meant) c =
     with_short (managed s lun function meant) (short_reply tag (message.TaskResponse lun tag (service s lun function meant)))
 heard s (message.QueryRequest tag function asked size value «data») c =
     with_short s (short_reply tag (query_unanswered tag function asked))
-heard s other c = s
+heard s (message.NopIn tag) c = s
+heard s (message.Response flags lun tag response status residual sense) c = s
+heard s (message.DataIn lun tag offset «data») c = s
+heard s (message.TaskResponse lun tag answer) c = s
+heard s (message.ReadyToTransfer lun tag offset count) c = s
+heard s (message.QueryResponse tag function response asked size value «data») c = s
 
 abbrev pub hears : State → Heard → State
 hears s (Spelled m c) = heard s m c
 hears s (Faulty fault) = s
 
+abbrev pub deed_behind_sent : Task → List ReadBlock → ℕ → Deed
+deed_behind_sent task blocks sent =
+    if nat_lt (sent + 1) (length blocks) then Sending blocks (sent + 1) else Answering Good task.length
+
 abbrev pub deed_behind_state : Task → List ReadBlock → ℕ → ReadState → Option Deed
+deed_behind_state task blocks sent Unread = Some (deed_behind_sent task blocks sent)
+deed_behind_state task blocks sent WasRead = Some (deed_behind_sent task blocks sent)
 deed_behind_state task blocks sent NotRead = None
-deed_behind_state task blocks sent state =
-    Some (if nat_lt (sent + 1) (length blocks) then Sending blocks (sent + 1) else Answering Good task.length)
 
 -- behind the last block a READ answers GOOD; behind one that could not be read it has answered
 abbrev pub deed_behind_block : Task → List ReadBlock → ℕ → Option ReadBlock → Option Deed
@@ -439,9 +481,11 @@ deed_behind task (Answering status carried) = None
 
 -- a block that was handed out is let go, and the next one is wanted; a durable command is told
 abbrev pub moves_behind : Task → Deed → List Move
+moves_behind task (Gathering purpose gathered asked) = []
 moves_behind task (Sending blocks sent) = LetGo task.tag sent ∷ WantPage task.tag (sent + 1) ∷ []
+moves_behind task (Telling bytes) = []
 moves_behind task (Awaiting commands) = Tell commands ∷ []
-moves_behind task deed = []
+moves_behind task (Answering status carried) = []
 
 abbrev pub task_behind : State → Task → Option Deed → State
 task_behind s task (Some deed) = set_deed s task.tag deed
@@ -459,13 +503,17 @@ short_replied s None = s
 short_replied s (Some short) = with_moves (record s { shorts = without_short short.tag s.shorts }) (tells short.awaits)
 
 abbrev pub tag_in : Message → ℕ
+tag_in (message.NopOut tag) = tag
+tag_in (message.Command flags lun tag expected bytes) = tag
+tag_in (message.DataOut lun tag offset «data») = tag
+tag_in (message.TaskRequest lun tag function meant) = tag
+tag_in (message.QueryRequest tag function asked size value «data») = tag
 tag_in (message.NopIn tag) = tag
 tag_in (message.Response flags lun tag response status residual sense) = tag
 tag_in (message.DataIn lun tag offset «data») = tag
 tag_in (message.TaskResponse lun tag service) = tag
 tag_in (message.ReadyToTransfer lun tag offset count) = tag
 tag_in (message.QueryResponse tag function response asked size value «data») = tag
-tag_in other = 0
 
 abbrev pub replied_by : State → ℕ → Option Task → State
 replied_by s tag (Some task) = task_replied s task
@@ -484,8 +532,11 @@ with_block blocks index state None = blocks
 with_block blocks index state (Some block) = slice_set blocks index (set_state state block)
 
 abbrev pub deed_read : ℕ → ReadState → Deed → Deed
+deed_read index state (Gathering purpose gathered asked) = Gathering purpose gathered asked
 deed_read index state (Sending blocks sent) = Sending (with_block blocks index state (slice_get blocks index)) sent
-deed_read index state deed = deed
+deed_read index state (Telling bytes) = Telling bytes
+deed_read index state (Awaiting commands) = Awaiting commands
+deed_read index state (Answering status carried) = Answering status carried
 
 abbrev pub task_read : ℕ → ℕ → ReadState → Task → Task
 task_read tag index state task =
@@ -493,22 +544,32 @@ task_read tag index state task =
 
 abbrev pub reader_told : State → Reader → ReadState → State
 reader_told s (ForTask tag index) state = record s { tasks = map (task_read tag index state) s.tasks }
-reader_told s reader state = s
+reader_told s ForStep state = s
+reader_told s (ForRest number index) state = s
+reader_told s ForNobody state = s
 
 abbrev pub in_block : Numbers → Spot → Place → Bool
 in_block n spot p = same_spot (spot_of p) spot && nat_lt p.page n.pages
 
 -- what the dies hold behind a job
+abbrev pub array_done : State → Flight → Array
+array_done s (Reading reader place) = s.array
+array_done s (Programming place cell) = at_place s.array place (page_of cell)
+array_done s (Erasing spot) = λ p. if in_block (numbers_of s) spot p then blank_page else s.array p
+
 abbrev pub array_behind : State → Flight → Ending → Array → Array
-array_behind s (Programming place cell) WentWell left = at_place s.array place (page_of cell)
-array_behind s (Erasing spot) WentWell left = λ p. if in_block (numbers_of s) spot p then blank_page else s.array p
+array_behind s flight ReadRight left = s.array
+array_behind s flight ReadWrong left = s.array
+array_behind s flight WentWell left = array_done s flight
 array_behind s flight (WentWrong cells) left = left
-array_behind s flight ending left = s.array
 
 abbrev pub told_behind : State → Flight → Ending → State
 told_behind s (Reading reader place) ReadRight = reader_told s reader WasRead
 told_behind s (Reading reader place) ReadWrong = reader_told s reader NotRead
-told_behind s flight ending = s
+told_behind s (Reading reader place) WentWell = s
+told_behind s (Reading reader place) (WentWrong left) = s
+told_behind s (Programming place cell) ending = s
+told_behind s (Erasing spot) ending = s
 
 abbrev pub ends_with : State → ℕ → Option Flight → Ending → Array → State
 ends_with s die None ending left = s
@@ -556,9 +617,12 @@ fills s =
 
 -- a lock ends what waits for commands that are not durable: a task with MEDIUM ERROR, write error
 abbrev pub deed_locked : State → Task → Deed → Deed
+deed_locked s task (Gathering purpose gathered asked) = Gathering purpose gathered asked
+deed_locked s task (Sending blocks sent) = Sending blocks sent
+deed_locked s task (Telling bytes) = Telling bytes
 deed_locked s task (Awaiting commands) =
     if nat_le commands (durable s) then Awaiting commands else Answering write_error task.length
-deed_locked s task deed = deed
+deed_locked s task (Answering status carried) = Answering status carried
 
 abbrev pub task_locked : State → Task → Task
 task_locked s task = record task { deed = deed_locked s task task.deed }
@@ -573,11 +637,15 @@ lock_told s =
 
 abbrev pub behind : State → Call → Answer → State
 behind s (Host h) (Hears (Ok done)) = hears s h
+behind s (Host h) answer = s
 behind s (Give die) (Gives flight) = given s die flight
+behind s (Give die) answer = s
 behind s (Finish die ending left) (Finishes true) = ends_with s die (s.translation.disk.flights die) ending left
+behind s (Finish die ending left) answer = s
 behind s Step (Steps due) = with_moves s (Turn ∷ [])
+behind s Step answer = s
 behind s Ask (Replies (Some m)) = replied s m
-behind s call answer = s
+behind s Ask answer = s
 
 -- what a call and its answer make of the state. What became due fills its register, also if the lock begins in the same
 -- call; then the lock, if it is there, is told

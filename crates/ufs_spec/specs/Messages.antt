@@ -3,6 +3,7 @@
 use Rattle.std.specs.Prelude.{◌⊎◌, ◌≡◌, ◌≢◌, ◌<◌, ◌≤◌, ◌+◌, ◌-◌, ◌%◌, ◌^◌, ◌==◌, ◌&&◌, ◌||◌, not, ℕ, Bool, true, false, IsTrue, List, [], ◌∷◌, ◌++◌, length, replicate, slice_index, bit_and, nat_lt, if◌then◌else◌, Option, Some, None}
 use Rattle.byteorder.specs.Endian.{big_bytes}
 use Rattle.ufs_spec.specs.Fields.{field_at}
+use Rattle.ufs_spec.specs.Stages.{heard_codes, read_codes}
 use Rattle.ufs_spec.specs.declared.messages.Asked.{Asked}
 use Rattle.ufs_spec.specs.declared.messages.Message.{Message}
 use Rattle.ufs_spec.specs.declared.messages.Message.TheVariants.{NopOut, Command, DataOut, TaskRequest, QueryRequest, NopIn, Response, DataIn, TaskResponse, ReadyToTransfer, QueryResponse}
@@ -187,20 +188,32 @@ has_digest bytes = not (bit_and (slice_index bytes 0) 0xC0 == 0)
 abbrev pub has_extra_header : List ℕ → Bool
 has_extra_header bytes = not (slice_index bytes 8 == 0)
 
--- the limit of the first stage: of the kinds that a host sends, COMMAND and DATA OUT are taken
-abbrev pub stage_codes : List ℕ
-stage_codes = 0x01 ∷ 0x02 ∷ []
+-- the transaction codes of all kinds, and those of the kinds that a host sends (JESD220, 10.5)
+abbrev pub known_codes : List ℕ
+known_codes =
+    0x00 ∷ 0x01 ∷ 0x02 ∷ 0x04 ∷ 0x16 ∷ 0x20 ∷ 0x21 ∷ 0x22 ∷ 0x24 ∷ 0x31 ∷ 0x36 ∷ []
 
--- a transaction code that no message from a host has
-abbrev pub has_other_code : List ℕ → Bool
-has_other_code bytes = not (is_among stage_codes (code_of bytes))
+abbrev pub host_codes : List ℕ
+host_codes = 0x00 ∷ 0x01 ∷ 0x02 ∷ 0x04 ∷ 0x16 ∷ []
 
--- the first of these faults
-abbrev pub host_fault_of : List ℕ → Option HostFault
-host_fault_of bytes =
+-- a transaction code that is none of these
+abbrev pub has_other_code : List ℕ → List ℕ → Bool
+has_other_code codes bytes = not (is_among codes (code_of bytes))
+
+-- the first of these faults, if messages of these codes are taken
+abbrev pub fault_among : List ℕ → List ℕ → Option HostFault
+fault_among codes bytes =
     if is_short bytes then Some Short
     else if has_wrong_length bytes then Some Length
     else if has_digest bytes then Some Digest
     else if has_extra_header bytes then Some Ehs
-    else if has_other_code bytes then Some Code
+    else if has_other_code codes bytes then Some Code
     else None
+
+-- what is wrong with bytes for whoever reads messages of all kinds
+abbrev pub read_fault_of : List ℕ → Option HostFault
+read_fault_of bytes = fault_among read_codes bytes
+
+-- what is wrong with bytes from a host
+abbrev pub host_fault_of : List ℕ → Option HostFault
+host_fault_of bytes = fault_among heard_codes bytes

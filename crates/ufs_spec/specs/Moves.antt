@@ -1,12 +1,11 @@
 -- The moves of the translation layer: which may come, and what each makes of it (this profile).
 use Rattle.std.specs.Prelude.{◌≡◌, ℕ, ◌+◌, ◌-◌, ◌≤◌, ◌==◌, ◌&&◌, not, Bool, true, false, if◌then◌else◌, List, [], ◌∷◌, ◌++◌, All, filter, length, map, max, slice_get, Option, Some, None}
-use Rattle.std.specs.List.{list_any}
 use Rattle.ufs_spec.specs.Cells.{Cell, Cells, GroupPage, IsCell, Mark, MarkPage, Nothing, Opens, key_of}
 use Rattle.ufs_spec.specs.Disk.{BlockState, Bad, CellCrash, Disk, Erasing, Flight, ForNobody, ForRest, ForStep, ForTask, Free, Programming, Reader, Reading, at_spot, ended, erase_failed, erased, flight_alone, program_failed, programmed}
 use Rattle.ufs_spec.specs.Keys.{Group, IsBlock, IsKey, IsSettingsBody, Item}
 use Rattle.ufs_spec.specs.Ledger.{Ledger, Name, before_accepted, look, page_stands, same_name, settled_look}
 use Rattle.ufs_spec.specs.Plain.{shape_of_numbers}
-use Rattle.ufs_spec.specs.Translation.{CopyStep, FromPage, FromSlot, MarkStep, MayTake, Mended, Mending, Pin, Plan, RepairStep, Repairing, Rest, Source, Step, StepKind, Translation, Unmarked, free_slots, has_mark_number, has_number, is_mended, mark_ordered, name_of, taken, turned, is_rest_of}
+use Rattle.ufs_spec.specs.Translation.{CopyStep, MarkStep, MayTake, Mended, Mending, Pin, Plan, RepairStep, Repairing, Rest, Step, StepKind, Translation, Unmarked, awaits, free_slots, has_mark_number, has_number, is_mended, mark_ordered, name_of, rests_of, taken, turned}
 use Rattle.ufs_spec.specs.declared.flash.Fence.{Fence}
 use Rattle.ufs_spec.specs.declared.flash.Key.{Key}
 use Rattle.ufs_spec.specs.declared.flash.Outcome.{Outcome}
@@ -98,17 +97,9 @@ abbrev pub step_there : Option Step → Option Step
 step_there None = None
 step_there (Some step) = Some (record step { there = true })
 
--- a page that takes its rest from a slot waits for that slot's content
-abbrev pub still_waits : List Rest → Source → Bool
-still_waits before (FromPage place) = true
-still_waits before (FromSlot name) = list_any (is_rest_of name) before
-
-abbrev pub settled_rests : List Rest → List Rest → List Rest
-settled_rests before [] = before
-settled_rests before (r ∷ rs) = settled_rests (if still_waits before r.source then before ++ r ∷ [] else before) rs
-
+-- what waited for the read of the name has its content
 abbrev pub rests_without : Name → List Rest → List Rest
-rests_without name rests = settled_rests [] (filter (λ r. not (is_rest_of name r)) rests)
+rests_without name rests = filter (λ (rest : Rest). not (same_name (awaits rest.name rest.source) name)) rests
 
 -- the page that was wanted was read; for nobody, nothing follows
 abbrev pub read_right : Translation → Reader → Translation
@@ -157,11 +148,11 @@ MayEnd d die (Some (Erasing spot)) WentWell = Unit {0}
 MayEnd d die (Some (Erasing spot)) (WentWrong left) = CellCrash d.cells (flight_alone d.flights die) left
 MayEnd d die flight ending = ⊥
 
--- the page is none of that group's page with this key, whatever it records
+-- the page is none of that group's page with this key, whatever it records; a group's page is what each read is of
 abbrev pub IsAnother : Page → Cell → Type 0
 IsAnother page (GroupPage tag body) =
     (other : Tag) (bytes : List ℕ) → Opens page other bytes → key_of other ≡ key_of tag → other.number ≡ tag.number → ⊥
-IsAnother page cell = Unit {0}
+IsAnother page cell = ⊥
 
 -- how a job ends by what its die reports: a read ends well where the page is the one that was wanted
 abbrev pub IsEndingOf : Cells → Option Flight → Outcome → Ending → Type 0
@@ -190,8 +181,8 @@ pub data Move : Type 0 where
   -- a task claims slots, or gives them back
   Claim : (count : ℕ) → Move
   Release : (count : ℕ) → Move
-  -- a group is accepted, in place of so many claimed slots; these of its pages take their rest from elsewhere
-  Accept : (claimed : ℕ) → (group : Group) → (rests : List Rest) → Move
+  -- a group is accepted, in place of so many claimed slots
+  Accept : (claimed : ℕ) → (group : Group) → Move
   -- so many accepted commands are acknowledged as durable
   Tell : (count : ℕ) → Move
   -- a task keeps what it looked up of a key, wants one of its pages read, or lets go of one or of all it keeps
@@ -224,7 +215,7 @@ pub record IsGroup (t : Translation) (g : Group) : Type 0 where
 abbrev pub IsAllowedMove : Translation → Move → Type 0
 IsAllowedMove t (Claim count) = count ≤ free_slots t
 IsAllowedMove t (Release count) = count ≤ t.claims
-IsAllowedMove t (Accept claimed g rests) =
+IsAllowedMove t (Accept claimed g) =
     (is_mended t.work.mending ≡ true) × (has_number t ≡ true) × (length g ≤ claimed) × (claimed ≤ t.claims) × IsGroup t g
 IsAllowedMove t (Tell count) = before_accepted t.ledger + count ≤ t.ledger.frontier
 IsAllowedMove t (Keep key pin) = IsKey (shape_of_numbers t.numbers) key × (pin.looked ≡ look t.ledger key)
@@ -259,10 +250,10 @@ end_flight t die (Some flight) ending = job_ended t die flight ending
 abbrev pub moved : Translation → Move → Translation
 moved t (Claim count) = record t { claims = t.claims + count }
 moved t (Release count) = record t { claims = t.claims - count }
-moved t (Accept claimed g rests) =
+moved t (Accept claimed g) =
     record t {
       ledger = record t.ledger { groups = t.ledger.groups ++ g ∷ [] };
-      work = record t.work { rests = t.work.rests ++ rests };
+      work = record t.work { rests = t.work.rests ++ rests_of t g };
       claims = t.claims - claimed;
     }
 moved t (Tell count) = record t { ledger = record t.ledger { held = max t.ledger.held count } }

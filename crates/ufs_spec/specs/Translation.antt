@@ -1,11 +1,11 @@
 -- The translation layer of one life: what it owes to each die, when a step of mending or collection is due, and what each
 -- of its calls makes of it (this profile).
-use Rattle.std.specs.Prelude.{◌≡◌, ◌⊎◌, ℕ, ◌+◌, ◌-◌, ◌*◌, ◌^◌, ◌==◌, ◌&&◌, ◌||◌, nat_le, nat_lt, not, Bool, true, false, if◌then◌else◌, is_none, is_some, List, [], ◌∷◌, ◌++◌, count_by, filter, filter_map, find, length, map, sum_by, Option, Some, None, option_map, Contains}
+use Rattle.std.specs.Prelude.{◌≡◌, ◌⊎◌, ℕ, ◌+◌, ◌-◌, ◌*◌, ◌^◌, ◌==◌, ◌&&◌, ◌||◌, nat_le, nat_lt, not, Bool, true, false, if◌then◌else◌, is_none, is_some, List, [], ◌∷◌, ◌++◌, count_by, filter, filter_map, find, length, map, sum_by, Option, Some, None, option_map, Contains, slice_get, option_and_then}
 use Rattle.std.specs.List.{flat_map, list_any}
 use Rattle.ufs_spec.specs.Cells.{Cell, GroupPage, MarkPage, Nothing, key_of}
 use Rattle.ufs_spec.specs.Disk.{BlockState, Bad, Closed, Disk, Erasing, Filling, Flight, ForRest, ForStep, ForTask, Free, Programming, Reader, Reading, Spot, begun, place_in, same_spot, spot_of}
-use Rattle.ufs_spec.specs.Keys.{Group, below}
-use Rattle.ufs_spec.specs.Ledger.{Entry, Ledger, Looked, Name, OnPage, accepted_groups, before_accepted, entry_of, is_name, is_standing, latest_durable, next_number, pending, same_name}
+use Rattle.ufs_spec.specs.Keys.{Group, below, Item}
+use Rattle.ufs_spec.specs.Ledger.{Entry, Ledger, Looked, Name, OnPage, accepted_groups, before_accepted, entry_of, is_name, is_standing, latest_durable, next_number, pending, same_name, InSlot, Unwritten, look}
 use Rattle.ufs_spec.specs.Stages.{collects, most_bad}
 use Rattle.ufs_spec.specs.declared.configs.Numbers.{Numbers}
 use Rattle.ufs_spec.specs.declared.flash.Fence.{Fence}
@@ -39,7 +39,8 @@ pub record Step : Type 0 where
   pub kind : StepKind
   pub there : Bool
 
--- where the rest of a page comes from that a command has in part
+-- where the rest of a page comes from that a command has in part: from a page that is to be read, or, with that of a
+-- slot whose content is still owed, from the read that the page of this name waits for
 pub data Source : Type 0 where
   FromPage : (place : Place) → Source
   FromSlot : (name : Name) → Source
@@ -92,9 +93,15 @@ abbrev pub looks_into : Spot → Looked → Bool
 looks_into s (OnPage name place) = same_spot (spot_of place) s
 looks_into s _ = false
 
--- a page of the block is kept for a task
+abbrev pub reads_from : Spot → Source → Bool
+reads_from s (FromPage place) = same_spot (spot_of place) s
+reads_from s (FromSlot name) = false
+
+-- a page of the block is kept for a task, or the rest of a page is still to be read from it
 abbrev pub is_pinned : Translation → Spot → Bool
-is_pinned t s = list_any (λ (pin : Pin). looks_into s pin.looked) t.pins
+is_pinned t s =
+    list_any (λ (pin : Pin). looks_into s pin.looked) t.pins
+    || list_any (λ (rest : Rest). reads_from s rest.source) t.work.rests
 
 -- the lock: too many blocks are bad, or no number is left
 abbrev pub is_locked : Translation → Bool
@@ -314,6 +321,35 @@ waiting_step t (Some step) = if step.there && not (step_flies t step.kind) then 
 
 abbrev pub is_rest_of : Name → Rest → Bool
 is_rest_of name rest = same_name rest.name name
+
+-- the name of the page whose read the rest waits for: its own, or that of the slot
+abbrev pub awaits : Name → Source → Name
+awaits name (FromPage place) = name
+awaits name (FromSlot other) = other
+
+-- where the rest of a page comes from that was looked up: nothing is owed of what was never written, nor of a slot that has
+-- its content
+abbrev pub source_of : List Rest → Looked → Option Source
+source_of rests Unwritten = None
+source_of rests (OnPage name place) = Some (FromPage place)
+source_of rests (InSlot name) = option_map (λ (rest : Rest). FromSlot (awaits rest.name rest.source)) (find (is_rest_of name) rests)
+
+-- only a page of the RPMB area is had in part: a command has at most 8 of its 16 blocks
+abbrev pub is_in_part : Key → Bool
+is_in_part k = k.kind == 2
+
+abbrev pub rest_of_item : Translation → Name → Item → Option Rest
+rest_of_item t name item =
+    if is_in_part item.key
+    then option_map (λ source. record { name = name; source = source }) (source_of t.work.rests (look t.ledger item.key))
+    else None
+
+abbrev pub rest_at : Translation → Group → ℕ → Option Rest
+rest_at t g i = option_and_then (rest_of_item t (record { number = next_number t.ledger; index = i })) (slice_get g i)
+
+-- the rests of a group that is accepted now
+abbrev pub rests_of : Translation → Group → List Rest
+rests_of t g = filter_map (rest_at t g) (below (length g))
 
 abbrev pub names_of : ℕ → Group → List Name
 names_of n g = map (λ i. record { number = n; index = i }) (below (length g))

@@ -1,5 +1,5 @@
 //! Numbers of two, four and eight bytes inside a row of bytes, the highest byte first. All numbers
-//! of UPIUs, CDBs and pages are written so (JESD220, 10.5; SPC, 3.5).
+//! of UPIUs, CDBs and pages are written so (JESD220, 10.5; SPC, bit and byte ordering).
 ghost use Rattle.std.specs.Prelude.{◌≡◌, ◌+◌, ◌≤◌, length};
 ghost use Rattle.ufs_spec.specs.Fields.{field_at, with_field};
 

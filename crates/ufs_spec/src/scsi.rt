@@ -1,6 +1,6 @@
 //! SCSI commands and sense data (SPC, SBC).
 
-/// A command as its CDB gives it (SPC, 4.3).
+/// A command as its CDB gives it (SPC, command descriptor block).
 #[derive(Clone, Copy, Debug, PartialEq, Eq)]
 pub enum Cdb {
     /// SPC, TEST UNIT READY.
@@ -65,7 +65,7 @@ pub enum Cdb {
     },
 }
 
-/// What went wrong: the sense key, the additional sense code and its qualifier (SPC, 4.5).
+/// What went wrong: the sense key, the additional sense code and its qualifier (SPC, sense data).
 #[derive(Clone, Copy, Debug, Default, PartialEq, Eq)]
 pub struct Sense {
     pub key: u8,
@@ -74,7 +74,7 @@ pub struct Sense {
 }
 
 impl Sense {
-    /// ILLEGAL REQUEST, parameter list length error (SPC, 4.5.6).
+    /// ILLEGAL REQUEST, parameter list length error (SPC, sense key and additional sense code definitions).
     pub const LIST_LENGTH: Sense = Sense {
         key: 0x05,
         asc: 0x1A,

@@ -6,7 +6,8 @@ use Rattle.std.proofs.Math.ListN.{drop_of_length-le}
 use Rattle.arrayvec.specs.ArrayVec.{ArrayVec}
 use Rattle.byteorder.specs.Numbers.{big_from-lt, big_number-reads_back}
 use Rattle.ufs_spec.specs.Fields.{field_at}
-use Rattle.ufs_spec.specs.Messages.{IsAmong, Spells, code_of, has_digest, has_extra_header, has_other_code, has_wrong_length, header_of, host_fault_of, is_among, is_short, may_have, padding, segment_length, spelling, stage_codes, zeros}
+use Rattle.ufs_spec.specs.Messages.{IsAmong, Spells, code_of, has_digest, has_extra_header, has_other_code, has_wrong_length, header_of, read_fault_of, is_among, is_short, may_have, padding, segment_length, spelling, zeros}
+use Rattle.ufs_spec.specs.Stages.{read_codes}
 use Rattle.ufs_spec.specs.declared.faults.HostFault.{HostFault}
 use Rattle.ufs_spec.specs.declared.faults.HostFault.TheVariants.{Short, Length, Digest, Ehs, Code}
 use Rattle.ufs_spec.specs.declared.messages.Message.{Message}
@@ -19,13 +20,13 @@ not_told true fault rest h = let no : ⊥ = cc in absurd no
 not_told false fault rest h = (refl, h)
 
 -- bytes of which no early fault is told
-pub passes : (bytes : List ℕ) → host_fault_of bytes ≡ None → Passes bytes
+pub passes : (bytes : List ℕ) → read_fault_of bytes ≡ None → Passes bytes
 passes bytes h =
     let short = not_told (is_short bytes) Short _ h in
     let long = not_told (has_wrong_length bytes) Length _ short.1 in
     let digest = not_told (has_digest bytes) Digest _ long.1 in
     let extra = not_told (has_extra_header bytes) Ehs _ digest.1 in
-    let other = not_told (has_other_code bytes) Code _ extra.1 in
+    let other = not_told (has_other_code read_codes bytes) Code _ extra.1 in
     let parts = or_parts (nat_lt 4096 (segment_length bytes) || not (may_have (code_of bytes) bytes (segment_length bytes))) _ long.0 in
     let first = or_parts (nat_lt 4096 (segment_length bytes)) _ parts.0 in
     record {
@@ -142,17 +143,17 @@ data_out_named lun tag offset «data» fits most =
     }
 
 -- bytes without these faults have none
-none_told : (bytes : List ℕ) → Passes bytes → has_digest bytes ≡ false → has_extra_header bytes ≡ false → host_fault_of bytes ≡ None
+none_told : (bytes : List ℕ) → Passes bytes → has_digest bytes ≡ false → has_extra_header bytes ≡ false → read_fault_of bytes ≡ None
 none_told bytes p digest extra =
     let short : is_short bytes ≡ false = le-ltb (length bytes) 32 (omega (arith, p.total)) in
     let most : nat_lt 4096 (segment_length bytes) ≡ false = le-ltb 4096 (segment_length bytes) p.segment in
     let fits : not (may_have (code_of bytes) bytes (segment_length bytes)) ≡ false = ap not p.may in
     let total : not (length bytes == 32 + segment_length bytes + padding (segment_length bytes)) ≡ false = ap not (eq-eqb _ _ p.total) in
     let long : has_wrong_length bytes ≡ false = or_from _ _ (or_from _ _ most fits) total in
-    let code : has_other_code bytes ≡ false = ap not p.code in
+    let code : has_other_code read_codes bytes ≡ false = ap not p.code in
     cond-false _ _ _ short ∙ cond-false _ _ _ long ∙ cond-false _ _ _ digest ∙ cond-false _ _ _ extra ∙ cond-false _ _ _ code
 
-command_clear : (flags lun tag expected : ℕ) (cdb : List ℕ) → length cdb ≡ 16 → host_fault_of (spelling (Command flags lun tag expected cdb)) ≡ None
+command_clear : (flags lun tag expected : ℕ) (cdb : List ℕ) → length cdb ≡ 16 → read_fault_of (spelling (Command flags lun tag expected cdb)) ≡ None
 command_clear flags lun tag expected cdb sixteen =
     let bytes : List ℕ = spelling (Command flags lun tag expected cdb) in
     let rest : length (cdb ++ [] ++ []) ≡ 16 = ap length (append-nil (cdb ++ []) ∙ append-nil cdb) ∙ sixteen in
@@ -160,7 +161,7 @@ command_clear flags lun tag expected cdb sixteen =
     none_told bytes (record { segment = omega arith; may = refl; total = total; code = refl }) refl refl
 
 data_out_clear : (lun tag offset : ℕ) («data» : ArrayVec ℕ) → 1 ≤ length «data».items → length «data».items ≤ 4096
-    → host_fault_of (spelling (DataOut lun tag offset «data»)) ≡ None
+    → read_fault_of (spelling (DataOut lun tag offset «data»)) ≡ None
 data_out_clear lun tag offset «data» least most =
     let bytes : List ℕ = spelling (DataOut lun tag offset «data») in
     let n : ℕ = length «data».items in
@@ -181,14 +182,14 @@ data_out_clear lun tag offset «data» least most =
     refl refl
 
 -- bytes of a code that is taken spell no message of another kind
-other_kind : {P : Type 0} (bytes : List ℕ) (message : Message) → IsAmong stage_codes (code_of bytes) → bytes ≡ spelling message
-    → is_among stage_codes (code_of (spelling message)) ≡ false → P
+other_kind : {P : Type 0} (bytes : List ℕ) (message : Message) → IsAmong read_codes (code_of bytes) → bytes ≡ spelling message
+    → is_among read_codes (code_of (spelling message)) ≡ false → P
 other_kind bytes message taken e other =
-    let here : is_among stage_codes (code_of (spelling message)) ≡ true = ap (λ (b : List ℕ). is_among stage_codes (code_of b)) (sym e) ∙ taken in
+    let here : is_among read_codes (code_of (spelling message)) ≡ true = ap (λ (b : List ℕ). is_among read_codes (code_of b)) (sym e) ∙ taken in
     absurd (false≢true (sym other ∙ here))
 
 -- the message that bytes spell, of a code that is taken
-pub named : (bytes : List ℕ) (message : Message) → IsAmong stage_codes (code_of bytes) → Spells message bytes → Named message bytes
+pub named : (bytes : List ℕ) (message : Message) → IsAmong read_codes (code_of bytes) → Spells message bytes → Named message bytes
 named bytes (NopOut tag) taken (h, e) = other_kind bytes (NopOut tag) taken e refl
 named bytes (Command flags lun tag expected cdb) taken (h, e) =
     subst (Named (Command flags lun tag expected cdb)) (sym e) (command_named flags lun tag expected cdb h.3 h.4)
@@ -229,10 +230,10 @@ spelled_from bytes small p message e flags rest begins pad =
     ]
 
 -- what spells a message of a code that is taken has no early fault
-pub clear : (bytes : List ℕ) (message : Message) → IsAmong stage_codes (code_of bytes) → Spells message bytes → host_fault_of bytes ≡ None
+pub clear : (bytes : List ℕ) (message : Message) → IsAmong read_codes (code_of bytes) → Spells message bytes → read_fault_of bytes ≡ None
 clear bytes (NopOut tag) taken (h, e) = other_kind bytes (NopOut tag) taken e refl
-clear bytes (Command flags lun tag expected cdb) taken (h, e) = ap host_fault_of e ∙ command_clear flags lun tag expected cdb h.4
-clear bytes (DataOut lun tag offset «data») taken (h, e) = ap host_fault_of e ∙ data_out_clear lun tag offset «data» h.3.0 h.3.1
+clear bytes (Command flags lun tag expected cdb) taken (h, e) = ap read_fault_of e ∙ command_clear flags lun tag expected cdb h.4
+clear bytes (DataOut lun tag offset «data») taken (h, e) = ap read_fault_of e ∙ data_out_clear lun tag offset «data» h.3.0 h.3.1
 clear bytes (TaskRequest lun tag function meant) taken (h, e) = other_kind bytes (TaskRequest lun tag function meant) taken e refl
 clear bytes (QueryRequest tag function asked size value «data») taken (h, e) =
     other_kind bytes (QueryRequest tag function asked size value «data») taken e refl

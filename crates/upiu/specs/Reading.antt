@@ -1,7 +1,8 @@
 -- What the fields of a message's bytes name, whether or not the bytes spell it.
 use Rattle.std.specs.Prelude.{◌≡◌, ◌≤◌, true, length, ◌==◌, ◌+◌, ℕ, List, slice_index, slice_range, if◌then◌else◌}
 use Rattle.ufs_spec.specs.Fields.{field_at}
-use Rattle.ufs_spec.specs.Messages.{AreFlags, code_of, is_among, may_have, padding, stage_codes, segment_length}
+use Rattle.ufs_spec.specs.Messages.{AreFlags, code_of, is_among, may_have, padding, segment_length}
+use Rattle.ufs_spec.specs.Stages.{read_codes}
 use Rattle.ufs_spec.specs.declared.messages.Message.{Message}
 use Rattle.ufs_spec.specs.declared.messages.Message.TheVariants.{Command, DataOut}
 
@@ -30,4 +31,4 @@ pub record Passes (bytes : List ℕ) : Type 0 where
   pub segment : segment_length bytes ≤ 4096
   pub may : may_have (code_of bytes) bytes (segment_length bytes) ≡ true
   pub total : length bytes ≡ 32 + segment_length bytes + padding (segment_length bytes)
-  pub code : is_among stage_codes (code_of bytes) ≡ true
+  pub code : is_among read_codes (code_of bytes) ≡ true

@@ -1,6 +1,6 @@
 //! What is wrong with the bytes of a message, before its fields are read.
 ghost use Rattle.std.specs.Prelude.{◌≡◌, ◌≤◌, length};
-ghost use Rattle.ufs_spec.specs.Messages.{code_of, has_wrong_length, host_fault_of, may_have, segment_length};
+ghost use Rattle.ufs_spec.specs.Messages.{code_of, has_wrong_length, may_have, read_fault_of, segment_length};
 
 use ufs_spec::{HostFault, read_u16, read_u32};
 
@@ -22,7 +22,7 @@ const DIGEST_BITS: u8 = 0xC0;
 /// The first fault that the bytes have, of those that come before a message's fields: too short, a
 /// wrong length, a digest, an extra header segment, a code that is not taken.
 pub fn first_fault(bytes: &[u8]) -> Option<HostFault>
-    ensures { result ≡ host_fault_of bytes.now }
+    ensures { result ≡ read_fault_of bytes.now }
 {
     if bytes.len() < HEADER {
         Some(HostFault::Short)

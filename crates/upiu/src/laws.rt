@@ -1,6 +1,6 @@
 //! What holds of the grammar itself. The functions do nothing: their contracts are laws.
 ghost use Rattle.std.specs.Prelude.{◌≡◌, ◌∷◌, ◌++◌, []};
-ghost use Rattle.ufs_spec.specs.Messages.{host_fault_of, spelling, zeros, IsMessage};
+ghost use Rattle.ufs_spec.specs.Messages.{host_fault_of, read_fault_of, spelling, zeros, IsMessage};
 ghost use Rattle.ufs_spec.specs.declared.HostFault.{HostFault};
 ghost use Rattle.ufs_spec.specs.declared.Message.{Message};
 ghost use Rattle.ufs_spec.specs.declared.Message.TheVariants.{Command, ReadyToTransfer, Response};
@@ -24,11 +24,12 @@ pub fn worked_messages()
         ≡ (0x21 ∷ 0x20 ∷ 0 ∷ 1 ∷ 0 ∷ 0 ∷ 1 ∷ 2 ∷ 0 ∷ 0 ∷ 0 ∷ 0x14 ∷ 0 ∷ 2 ∷ 0x10 ∷ 0 ∷ zeros 16) ++ sense }
 {}
 
-/// The faults of some bytes: 31 zeros, 33 zeros, a NOP OUT with HD set, and one without, which this
-/// stage does not take.
+/// The faults of some bytes: 31 zeros, 33 zeros, a NOP OUT with HD set, one without, which this
+/// stage does not take, and a code that no kind has.
 pub fn worked_faults()
     ensures short { host_fault_of (zeros 31) ≡ Some HostFault.Short }
     ensures long { host_fault_of (zeros 33) ≡ Some HostFault.Length }
     ensures digest { host_fault_of (0x80 ∷ 0 ∷ 0 ∷ 5 ∷ zeros 28) ≡ Some HostFault.Digest }
     ensures code { host_fault_of (0 ∷ 0 ∷ 0 ∷ 5 ∷ zeros 28) ≡ Some HostFault.Code }
+    ensures no_kind { read_fault_of (0x3F ∷ 0 ∷ 0 ∷ 5 ∷ zeros 28) ≡ Some HostFault.Code }
 {}

@@ -1,6 +1,7 @@
 //! Reading a message.
 ghost use Rattle.std.specs.Prelude.{◌≡◌, ◌≤◌, ◌+◌, ◌↔◌, drop, length, IfErr, IfOk, IsTrue};
-ghost use Rattle.ufs_spec.specs.Messages.{code_of, host_fault_of, padding, segment_length, stage_codes, zeros, IsAmong, Spells};
+ghost use Rattle.ufs_spec.specs.Messages.{code_of, read_fault_of, padding, segment_length, zeros, IsAmong, Spells};
+ghost use Rattle.ufs_spec.specs.Stages.{read_codes};
 ghost use Rattle.ufs_spec.specs.declared.HostFault.{HostFault};
 ghost use Rattle.ufs_spec.specs.declared.Message.{Message};
 ghost use Rattle.upiu.specs.Reading.{named_command, named_data_out, named_message, HasFlags, Passes};
@@ -17,12 +18,12 @@ use ufs_spec::{Data, HostFault, Message, read_u32};
 /// [`HostFault::Reserved`] where they have none of these and spell no message.
 pub fn read(bytes: &[u8]) -> Result<Message, HostFault>
     // What is read has no fault and is spelled so, each byte of it.
-    ensures read { IfOk result (λ message. (host_fault_of bytes.now ≡ None) × Spells message bytes.now) }
+    ensures read { IfOk result (λ message. (read_fault_of bytes.now ≡ None) × Spells message bytes.now) }
     // What is spelled so is read.
-    ensures taken { (message : Message) → IsAmong stage_codes (code_of bytes.now) → Spells message bytes.now →
+    ensures taken { (message : Message) → IsAmong read_codes (code_of bytes.now) → Spells message bytes.now →
         result ≡ Ok message }
-    ensures first { (fault : HostFault) → host_fault_of bytes.now ≡ Some fault → result ≡ Err fault }
-    ensures reserved { IfErr result (λ fault. host_fault_of bytes.now ≡ None →
+    ensures first { (fault : HostFault) → read_fault_of bytes.now ≡ Some fault → result ≡ Err fault }
+    ensures reserved { IfErr result (λ fault. read_fault_of bytes.now ≡ None →
         (fault ≡ HostFault.Reserved) × ((message : Message) → Spells message bytes.now → ⊥)) }
 {
     match first_fault(bytes) {

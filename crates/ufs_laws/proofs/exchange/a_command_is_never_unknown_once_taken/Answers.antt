@@ -16,4 +16,4 @@ pub returns-clause-call : goal.returns-clause-call
 returns-clause-call c = call_known
 
 pub returns-clause-life : goal.returns-clause-life
-returns-clause-life c = life_keeps AllKnown (λ s call answer spoken right all. call_known s call answer spoken all)
+returns-clause-life c = life_keeps AllKnown call_known

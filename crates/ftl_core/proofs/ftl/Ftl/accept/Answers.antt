@@ -9,7 +9,7 @@ use Rattle.ftl_core.proofs.ftl.Ftl.accept.Goals as goal
 pub returns-clause-described : goal.returns-clause-described
 returns-clause-described c =
     λ t h kind unit may.
-    carried (λ (x : Core). Describes x (moved t (Accept 1 (record { key = c.args.key; body = c.args.body.now } ∷ []) []))) c.add_group.new.self _ c.add_group.ensures
+    carried (λ (x : Core). Describes x (moved t (Accept 1 (record { key = c.args.key; body = c.args.body.now } ∷ [])))) c.add_group.new.self _ c.add_group.ensures
     (accepts_right c.args.self.now t c.args.key c.args.body.now h kind unit may)
 
 pub returns-clause-described_number : goal.returns-clause-described_number

@@ -1,0 +1,173 @@
+-- Elements of lists, and lists in an order: the spots of all dies are counted die by die.
+use Rattle.std.proofs.Common.{◌≡◌, ℕ, zero, suc, ◌<◌, ◌⊎◌, Bool, true, List, [], ◌∷◌, ◌++◌, map, refl, sym, ap, ◌∙◌, subst, inl, inr, ⊎_elim, arith}
+use Rattle.std.specs.Prelude.{Contains, filter}
+use Rattle.std.specs.List.{flat_map}
+use Rattle.std.proofs.lemmas.Grind.{flat_map-append}
+use Rattle.ufs_spec.specs.Disk.{Spot}
+use Rattle.ufs_spec.specs.Keys.{below}
+use Rattle.ufs_spec.specs.Translation.{spots}
+use Rattle.ufs_spec.specs.declared.configs.Numbers.{Numbers}
+use Rattle.power_loss.specs.Collection.{IsBefore}
+use Rattle.power_loss.specs.Exchange.{IsSpot}
+use Rattle.power_loss.proofs.OneMore.{if_false, if_true, two_ways}
+
+-- Elements
+
+abbrev pub IsIn : {A : Type 0} → A → List A → Type 0
+IsIn x [] = ⊥
+IsIn x (y ∷ ys) = (y ≡ x) ⊎ IsIn x ys
+
+pub contained_in : {A : Type 0} (x : A) (xs : List A) → Contains xs x → IsIn x xs
+contained_in x [] h = let low = h.1 in absurd (omega arith)
+contained_in x (y ∷ ys) (zero, low, e) = inl e
+contained_in x (y ∷ ys) (suc k, low, e) = inr (contained_in x ys (k, (omega arith), e))
+
+pub in_left : {A : Type 0} (x : A) (xs ys : List A) → IsIn x xs → IsIn x (xs ++ ys)
+in_left x [] ys h = absurd h
+in_left x (z ∷ zs) ys (inl h) = inl h
+in_left x (z ∷ zs) ys (inr h) = inr (in_left x zs ys h)
+
+pub in_right : {A : Type 0} (x : A) (xs ys : List A) → IsIn x ys → IsIn x (xs ++ ys)
+in_right x [] ys h = h
+in_right x (z ∷ zs) ys h = inr (in_right x zs ys h)
+
+pub in_either : {A : Type 0} (x : A) (xs ys : List A) → IsIn x (xs ++ ys) → IsIn x xs ⊎ IsIn x ys
+in_either x [] ys h = inr h
+in_either x (z ∷ zs) ys (inl h) = inl (inl h)
+in_either x (z ∷ zs) ys (inr h) = ⊎_elim (λ k. inl (inr k)) (λ k. inr k) (in_either x zs ys h)
+
+pub in_map : {A B : Type 0} (f : A → B) (x : A) (xs : List A) → IsIn x xs → IsIn (f x) (map f xs)
+in_map f x [] h = absurd h
+in_map f x (y ∷ ys) (inl h) = inl (ap f h)
+in_map f x (y ∷ ys) (inr h) = inr (in_map f x ys h)
+
+pub map_in : {A B : Type 0} (f : A → B) (z : B) (xs : List A) → IsIn z (map f xs) → (x : A) × IsIn x xs × (f x ≡ z)
+map_in f z [] h = absurd h
+map_in f z (y ∷ ys) (inl h) = (y, inl refl, h)
+map_in f z (y ∷ ys) (inr h) = let r = map_in f z ys h in (r.0, inr r.1, r.2)
+
+pub in_flat : {A B : Type 0} (f : A → List B) (x : A) (z : B) (xs : List A) → IsIn x xs → IsIn z (f x) → IsIn z (flat_map f xs)
+in_flat f x z [] h k = absurd h
+in_flat f x z (y ∷ ys) (inl h) k = in_left z (f y) (flat_map f ys) (subst (λ w. IsIn z (f w)) (sym h) k)
+in_flat f x z (y ∷ ys) (inr h) k = in_right z (f y) (flat_map f ys) (in_flat f x z ys h k)
+
+pub flat_in : {A B : Type 0} (f : A → List B) (z : B) (xs : List A) → IsIn z (flat_map f xs) → (x : A) × IsIn x xs × IsIn z (f x)
+flat_in f z [] h = absurd h
+flat_in f z (y ∷ ys) h =
+    ⊎_elim (λ k. (y, inl refl, k)) (λ k. let r = flat_in f z ys k in (r.0, inr r.1, r.2)) (in_either z (f y) (flat_map f ys) h)
+
+pub kept_in : {A : Type 0} (p : A → Bool) (x : A) (xs : List A) → IsIn x xs → p x ≡ true → IsIn x (filter p xs)
+kept_in p x [] h e = absurd h
+kept_in p x (y ∷ ys) (inl h) e = subst (IsIn x) (sym (if_true (p y) (y ∷ filter p ys) (filter p ys) (ap p h ∙ e))) (inl h)
+kept_in {A} p x (y ∷ ys) (inr h) e =
+    ⊎_elim
+    (λ k. subst (λ (zs : List A). IsIn x zs) (sym (if_true (p y) (y ∷ filter p ys) (filter p ys) k)) (inr (kept_in p x ys h e)))
+    (λ k. subst (λ (zs : List A). IsIn x zs) (sym (if_false (p y) (y ∷ filter p ys) (filter p ys) k)) (kept_in p x ys h e))
+    (two_ways (p y))
+
+pub filter_in : {A : Type 0} (p : A → Bool) (x : A) (xs : List A) → IsIn x (filter p xs) → IsIn x xs × (p x ≡ true)
+filter_in p x [] h = absurd h
+filter_in {A} p x (y ∷ ys) h =
+    ⊎_elim
+    (λ k. here k (λ z. filter_in p x ys z) (subst (λ (zs : List A). IsIn x zs) (if_true (p y) (y ∷ filter p ys) (filter p ys) k) h))
+    (λ k. more (filter_in p x ys (subst (λ (zs : List A). IsIn x zs) (if_false (p y) (y ∷ filter p ys) (filter p ys) k) h)))
+    (two_ways (p y))
+  where
+    more : IsIn x ys × (p x ≡ true) → IsIn x (y ∷ ys) × (p x ≡ true)
+    more r = (inr r.0, r.1)
+
+    here : p y ≡ true → (IsIn x (filter p ys) → IsIn x ys × (p x ≡ true)) → IsIn x (y ∷ filter p ys) → IsIn x (y ∷ ys) × (p x ≡ true)
+    here k rest (inl e) = (inl e, ap p (sym e) ∙ k)
+    here k rest (inr z) = more (rest z)
+
+pub in_below : (n i : ℕ) → i < n → IsIn i (below n)
+in_below zero i l = absurd (omega arith)
+in_below (suc n) i l =
+    ⊎_elim
+    (λ (u : i < n). in_left i (below n) (n ∷ []) (in_below n i u))
+    (λ (u : i ≡ n). in_right i (below n) (n ∷ []) (inl (sym u)))
+    (order i n l)
+  where
+    order : (i n : ℕ) → i < suc n → (i < n) ⊎ (i ≡ n)
+    order i n l = grind arith
+
+pub below_in : (n i : ℕ) → IsIn i (below n) → i < n
+below_in zero i h = absurd h
+below_in (suc n) i h =
+    ⊎_elim
+    (λ k. let l = below_in n i k in omega arith)
+    (λ (k : (n ≡ i) ⊎ ⊥). ⊎_elim (λ (e : n ≡ i). omega arith) (λ e. absurd e) k)
+    (in_either i (below n) (n ∷ []) h)
+
+-- Order
+
+abbrev pub IsOrdered : {A : Type 0} → (A → A → Type 0) → List A → Type 0
+IsOrdered R [] = Unit {0}
+IsOrdered {A} R (x ∷ xs) = ((y : A) → IsIn y xs → R x y) × IsOrdered R xs
+
+pub ordered_append : {A : Type 0} (R : A → A → Type 0) (xs ys : List A) → IsOrdered R xs → IsOrdered R ys →
+    ((x y : A) → IsIn x xs → IsIn y ys → R x y) → IsOrdered R (xs ++ ys)
+ordered_append R [] ys h k l = k
+ordered_append R (x ∷ xs) ys h k l =
+    (λ y i. ⊎_elim (λ u. h.0 y u) (λ u. l x y (inl refl) u) (in_either y xs ys i), ordered_append R xs ys h.1 k (λ a y i j. l a y (inr i) j))
+
+pub ordered_map : {A B : Type 0} (R : A → A → Type 0) (S : B → B → Type 0) (f : A → B) (xs : List A) → ((x y : A) → R x y → S (f x) (f y)) →
+    IsOrdered R xs → IsOrdered S (map f xs)
+ordered_map R S f [] h k = tt
+ordered_map R S f (x ∷ xs) h k =
+    (λ z i. let r = map_in f z xs i in subst (S (f x)) r.2 (h x r.0 (k.0 r.0 r.1)), ordered_map R S f xs h k.1)
+
+pub ordered_filter : {A : Type 0} (R : A → A → Type 0) (p : A → Bool) (xs : List A) → IsOrdered R xs → IsOrdered R (filter p xs)
+ordered_filter R p [] h = tt
+ordered_filter {A} R p (x ∷ xs) h =
+    ⊎_elim
+    (λ k. subst (λ (zs : List A). IsOrdered R zs) (sym (if_true (p x) (x ∷ filter p xs) (filter p xs) k))
+    (λ y i. h.0 y (filter_in p y xs i).0, ordered_filter R p xs h.1))
+    (λ k. subst (λ (zs : List A). IsOrdered R zs) (sym (if_false (p x) (x ∷ filter p xs) (filter p xs) k)) (ordered_filter R p xs h.1))
+    (two_ways (p x))
+
+ordered_below : (n : ℕ) → IsOrdered (λ i j. i < j) (below n)
+ordered_below zero = tt
+ordered_below (suc n) =
+    ordered_append (λ i j. i < j) (below n) (n ∷ []) (ordered_below n) (λ y i. absurd i, tt)
+    (λ x y i j. let l = below_in n x i in ⊎_elim (λ (e : n ≡ y). omega arith) (λ e. absurd e) j)
+
+-- The blocks of all dies
+
+abbrev die_spots : ℕ → ℕ → List Spot
+die_spots blocks die = map (λ block. record { die = die; block = block }) (below blocks)
+
+pub in_spots : (n : Numbers) (s : Spot) → IsSpot n s → IsIn s (spots n)
+in_spots n s is =
+    in_flat (die_spots n.blocks) s.die s (below n.dies) (in_below n.dies s.die is.die)
+    (in_map (λ block. record { die = s.die; block = block }) s.block (below n.blocks) (in_below n.blocks s.block is.block))
+
+pub spots_in : (n : Numbers) (s : Spot) → IsIn s (spots n) → IsSpot n s
+spots_in n s h =
+    let r = flat_in (die_spots n.blocks) s (below n.dies) h in
+    let m = map_in (λ block. record { die = r.0; block = block }) s (below n.blocks) r.2 in
+    subst (IsSpot n) m.2 (record { die = below_in n.dies r.0 r.1; block = below_in n.blocks m.0 m.1 })
+
+dies_ordered : (blocks dies : ℕ) → IsOrdered IsBefore (flat_map (die_spots blocks) (below dies))
+dies_ordered blocks zero = tt
+dies_ordered blocks (suc dies) =
+    subst (λ (zs : List Spot). IsOrdered IsBefore zs) (sym (flat_map-append (die_spots blocks) (below dies) (dies ∷ [])))
+    (ordered_append IsBefore (flat_map (die_spots blocks) (below dies)) (die_spots blocks dies ++ []) (dies_ordered blocks dies)
+    (ordered_append IsBefore (die_spots blocks dies) []
+    (ordered_map (λ i j. i < j) IsBefore (λ block. record { die = dies; block = block }) (below blocks) (λ x y l. inr (refl, l)) (ordered_below blocks))
+    tt (λ x y i j. absurd j))
+    (λ x y i j. inl (apart x y i j)))
+  where
+    apart : (x y : Spot) → IsIn x (flat_map (die_spots blocks) (below dies)) → IsIn y (die_spots blocks dies ++ []) → x.die < y.die
+    apart x y i j =
+        let r = flat_in (die_spots blocks) x (below dies) i in
+        let m = map_in (λ block. record { die = r.0; block = block }) x (below blocks) r.2 in
+        let w = ⊎_elim (λ k. k) (λ k. absurd k) (in_either y (die_spots blocks dies) [] j) in
+        let o = map_in (λ block. record { die = dies; block = block }) y (below blocks) w in
+        let l = below_in dies r.0 r.1 in
+        let e = ap (λ (z : Spot). z.die) m.2 in
+        let f = ap (λ (z : Spot). z.die) o.2 in
+        omega arith
+
+pub spots_ordered : (n : Numbers) → IsOrdered IsBefore (spots n)
+spots_ordered n = dies_ordered n.blocks n.dies

@@ -1,0 +1,277 @@
+-- A write of one block, stopped inside its program: the life, its stops and what opens after them.
+use Rattle.std.proofs.Common.{◌≡◌, ◌≢◌, ◌⊎◌, ◌++◌, ℕ, Bool, true, false, if◌then◌else◌, List, [], ◌∷◌, length, replicate, take, Option, Some, refl, sym, ap, ◌∙◌, subst, inl, inr, ⊎_elim, arith}
+use Rattle.std.proofs.lemmas.List.Elements.{All-cons, All-nil}
+use Rattle.std.specs.Global.{Vec}
+use Rattle.std.specs.Prelude.{Contains}
+use Rattle.ufs_laws.proofs.Crashes.{page_left as crash_of_page}
+use Rattle.ufs_laws.proofs.NewDevice.{new_plain, new_zeros}
+use Rattle.ufs_laws.proofs.NewLife.{Open, open_in}
+use Rattle.ufs_laws.proofs.NewOpens.{new_opens}
+use Rattle.ufs_laws.proofs.NewRun.{flies_15, is_15}
+use Rattle.ufs_laws.proofs.One.{plain_one}
+use Rattle.ufs_laws.proofs.OneCell.{one_cell}
+use Rattle.ufs_laws.proofs.RunLife.{write_life}
+use Rattle.ufs_laws.proofs.RunStates.{block_written, erased_array, marked_array, writing}
+use Rattle.ufs_laws.proofs.Stands.{new_sound, new_stands_for_zero, new_suits}
+use Rattle.ufs_laws.proofs.States.{same_contents}
+use Rattle.ufs_laws.specs.GapRows.{write_page}
+use Rattle.ufs_laws.specs.Runs.{IsNew, data_program, place_of, row, state_15, the_data, the_write, write_events, write_outputs}
+use Rattle.ufs_spec.proofs.PlainFacts.{new_shape}
+use Rattle.ufs_spec.specs.Cells.{Array, Cell, Cells, IsCell, Nothing, Shows}
+use Rattle.ufs_spec.specs.Commands.{Command, Write}
+use Rattle.ufs_spec.specs.Configs.{IsConfig}
+use Rattle.ufs_spec.specs.Disk.{Flight, Programming, Spot, at_place, page_of}
+use Rattle.ufs_spec.specs.Keys.{CanApplyAll, IsData, IsKey, data_key}
+use Rattle.ufs_spec.specs.Kept.{CellsStandFor}
+use Rattle.ufs_spec.specs.Lives.{IsLeft, IsLeftoverOf, IsOpened, Leads, Life, Runs, Stops, bad_in, die_of, held, page_left}
+use Rattle.ufs_spec.specs.Machine.{IsHeard}
+use Rattle.ufs_spec.specs.Pages.{IsCheckRight, MayBeLeft, check_of}
+use Rattle.ufs_spec.specs.Plain.{Plain, after, apply, block_at, shape_of_numbers, zero, zero_block}
+use Rattle.ufs_spec.specs.Steps.{State, numbers_of}
+use Rattle.ufs_spec.specs.declared.configs.Numbers.{Numbers}
+use Rattle.ufs_spec.specs.declared.events.Event.{Event}
+use Rattle.ufs_spec.specs.declared.events.Event.TheVariants as event
+use Rattle.ufs_spec.specs.declared.events.Leftover.{Leftover}
+use Rattle.ufs_spec.specs.declared.events.Leftover.TheVariants as leftover
+use Rattle.ufs_spec.specs.declared.events.Output.{Output}
+use Rattle.ufs_spec.specs.declared.events.Output.TheVariants as output
+use Rattle.ufs_spec.specs.declared.flash.Page.{Page}
+use Rattle.ufs_spec.specs.declared.flash.Place.{Place}
+use Rattle.power_loss.specs.Exchange.{ValidState}
+use Rattle.power_loss.specs.Runs.{MayBeOpened}
+use Rattle.power_loss.specs.StoppedWrites.{IsStoppedWrite}
+use Rattle.power_loss.proofs.AnyOpens.{any_opens}
+use Rattle.power_loss.proofs.Crashes.{opened_check}
+use Rattle.power_loss.proofs.EachLeftover.{none_left}
+use Rattle.power_loss.proofs.Given.{event_keeps_many, opened_valid}
+use Rattle.power_loss.proofs.LeftoverLists.{first_contained, one_apart, only_contained}
+use Rattle.power_loss.proofs.OneMore.{at_place_cases}
+use Rattle.power_loss.proofs.RunLives.{more}
+use Rattle.power_loss.proofs.RunStops.{run_leaves}
+use Rattle.power_loss.proofs.StoppedPages.{marked_cells, marked_stands, put_cells, unwritten, writing_cells, written_cells, written_stands}
+
+-- A stop while one page is programmed
+
+module _ (s : State) (p : Place) (cell : Cell) (page : Page)
+    (flies : s.translation.disk.flights p.die ≡ Some (Programming p cell))
+    (may : MayBeLeft (s.array p) (page_of cell) page) where
+  names_it : (l : Leftover) (q : Place) (x : Page) → Contains (leftover.Page p page ∷ []) l → page_left l q x → p ≡ q
+  names_it l q x there names =
+      (subst (λ (m : Leftover). page_left m q x) (only_contained (leftover.Page p page) l there) names).0
+
+  pub one_page_left : IsLeft s.array (leftover.Page p page ∷ []) (at_place s.array p page)
+  one_page_left q =
+      ⊎_elim
+      (λ h. inl (leftover.Page p page, first_contained (leftover.Page p page) [], (sym h.0, h.1)))
+      (λ h. inr ((λ l x there names. h.0 (sym (names_it l q x there names))), h.1))
+      (at_place_cases s.array p page q)
+
+  pub page_stops : Stops s (leftover.Page p page ∷ []) (at_place s.array p page)
+  page_stops = record {
+    fit = (
+      All-cons (λ l. IsLeftoverOf (numbers_of s) (s.translation.disk.flights (die_of l)) l) (leftover.Page p page) []
+          (subst (λ f. IsLeftoverOf (numbers_of s) f (leftover.Page p page)) (sym flies) refl) (All-nil _),
+      one_apart (leftover.Page p page),
+    );
+    is_left = one_page_left;
+    crash = crash_of_page s.array s.translation.disk.flights p cell page flies may;
+  }
+
+-- What pages show
+
+put_shown : (array : Array) (cells : Cells) (p : Place) (page : Page) (x : Cell) → Shows array cells → IsCell page x →
+    Shows (at_place array p page) (at_place cells p x)
+put_shown array cells p page x shown is q = by _
+  where
+    by : (b : Bool) → IsCell (if b then page else array q) (if b then x else cells q)
+    by true = is
+    by false = shown q
+
+-- a page that does not open may stand where nothing stood
+torn_shown : (array : Array) (cells : Cells) (p : Place) (page : Page) → Shows array cells → cells p ≡ Nothing →
+    (IsCheckRight page → ⊥) →
+    Shows (at_place array p page) cells
+torn_shown array cells p page shown none wrong q =
+    ⊎_elim
+    (λ h. subst (λ (x : Page). IsCell x (cells q)) (sym h.1)
+    (subst (IsCell page) (sym (ap cells h.0 ∙ none)) (λ tag body o hold. wrong (opened_check page tag body o))))
+    (λ h. subst (λ (x : Page). IsCell x (cells q)) (sym h.1) (shown q))
+    (at_place_cases array p page q)
+
+-- The life
+
+life_runs : (n : Numbers) (s t : State) (es : List Event) (os : List Output) → Life s es os t → Runs n s es os t
+life_runs n s t [] [] life = life
+life_runs n s t (e ∷ es) (o ∷ os) life = (life.0, inl life.1, life_runs n life.0 t es os life.2)
+life_runs n s t [] (o ∷ os) life = absurd life
+life_runs n s t (e ∷ es) [] life = absurd life
+
+row_is : IsConfig row
+row_is = refl
+
+abbrev the_command : List ℕ → Command
+the_command body = Write 0 0xFF (body ∷ [])
+
+module _ (body : List ℕ) (long : length body ≡ 4096) (write block : Vec ℕ) (w : IsHeard write.items the_write)
+    (b : IsHeard block.items (the_data body))
+    (s : State) (n : IsNew s) where
+  t : State
+  t = state_15 s body
+
+  o : Open
+  o = marked_array (erased_array (open_in s))
+
+  is : t ≡ writing o body
+  unfolding t o
+  is = is_15 s n body long
+
+  flies : t.translation.disk.flights 0 ≡ Some (data_program body)
+  unfolding t
+  flies = flies_15 s n body long
+
+  lived : Life s (write_events write block) (write_outputs body) t
+  unfolding t
+  lived = write_life s n body long write block w b
+
+  may : MayBeOpened row n.array
+  may = record { inside = λ p out. n.blank p; sound = new_sound n.array n.blank; suits = new_suits row n.array n.blank }
+
+  pub write_valid : ValidState (state_15 s body)
+  write_valid =
+      event_keeps_many s (state_15 s body) (write_events write block) (write_outputs body)
+      (opened_valid row n.array n.bad s row_is may.inside may.sound n.opened) (write_life s n body long write block w b)
+
+  valid : ValidState t
+  unfolding t
+  valid = write_valid
+
+  -- what is known at the stop
+
+  start_zero : s.base ≡ zero row
+  start_zero =
+      plain_one one_cell same_contents row n.array s.base (zero row) may.sound n.opened.stands
+      (new_stands_for_zero new_shape new_plain new_zeros row n.array n.blank)
+
+  same_base : (writing o body).base ≡ s.base
+  unfolding writing o marked_array erased_array
+  same_base = refl
+
+  base : t.base ≡ zero row
+  base = ap (λ (x : State). x.base) is ∙ same_base ∙ start_zero
+
+  accepted : t.accepted ≡ the_command body ∷ []
+  unfolding writing
+  accepted = ap (λ (x : State). x.accepted) is
+
+  none_held : held t ≡ 0
+  unfolding writing
+  none_held = ap held is
+
+  can : CanApplyAll (zero row) (the_command body ∷ [])
+  can = subst (λ (p : Plain). CanApplyAll p (the_command body ∷ [])) base
+      (subst (CanApplyAll t.base) accepted valid.tied.commands)
+
+  cells : t.translation.disk.cells ≡ marked_cells
+  cells = ap (λ (x : State). x.translation.disk.cells) is ∙ writing_cells o body
+
+  shown : Shows t.array marked_cells
+  shown = subst (Shows t.array) cells valid.tied.shown
+
+  -- with these leftovers, where the pages that are left show cells that stand for a plain state
+  module _ (lefts : Vec Leftover) (left : Array → Array) (stops : Stops t lefts.items (left t.array)) (c : Cells)
+      (p : Plain)
+      (shows : Shows (left t.array) c) (stands : CellsStandFor row c p) (k : ℕ)
+      (is_prefix : p ≡ after t.base (take k t.accepted))
+      (found : List ℕ) (has : block_at 0 0xFF p ≡ found) where
+    leaves : MayBeOpened row (left t.array)
+    leaves =
+        run_leaves row n.array n.bad s t (write_events write block) (write_outputs body) row_is may n.opened
+        (life_runs row s t (write_events write block) (write_outputs body) lived) lefts.items (left t.array) stops
+
+    next : (u : State) × IsOpened row (left t.array) (bad_in t) u
+    next = any_opens row (left t.array) (bad_in t) leaves.inside leaves.sound leaves.suits
+
+    base_is : (u : State) (bad : Spot → Bool) → IsOpened row (left t.array) bad u → u.base ≡ p
+    base_is u bad opened =
+        plain_one one_cell same_contents row (left t.array) u.base p leaves.sound opened.stands (c, shows, stands)
+
+    stopped : IsStoppedWrite body write block lefts left k found
+    stopped = record {
+      start = s;
+      is_new = n;
+      now = t;
+      life = lived;
+      flies = flies;
+      base = base;
+      accepted = accepted;
+      none_held = none_held;
+      stops = stops;
+      next = next.0;
+      opened = next.1;
+      runs = more row s t next.0 (write_events write block) (write_outputs body) (event.Stop lefts) output.Stopped
+          (life_runs row s t (write_events write block) (write_outputs body) lived) (inr (left t.array, stops, next.1));
+      prefix = λ u bad opened. base_is u bad opened ∙ is_prefix;
+      block_found = ap (block_at 0 0xFF) (base_is next.0 (bad_in t) next.1) ∙ has;
+    }
+
+  -- the block of a new device
+  zero_found : block_at 0 0xFF (zero row) ≡ zero_block
+  zero_found = new_zeros row (data_key 0 0xFF) (IsData 0 0xFF (omega arith) (omega arith))
+
+  abbrev intended : Cell
+  intended = write_page 1 0xFF 0 body
+
+  abbrev with_page : Page → Array → Array
+  with_page page array = at_place array (place_of 1) page
+
+  abbrev LeftAs : List Leftover → (Array → Array) → Type 0
+  LeftAs lefts left = Stops t lefts (left t.array)
+
+  pub stopped_old : (lefts : Vec Leftover) → lefts.items ≡ [] →
+      IsStoppedWrite body write block lefts (λ array. array) 0 zero_block
+  stopped_old lefts e =
+      stopped lefts (λ array. array)
+      (subst (λ (ls : List Leftover). LeftAs ls (λ array. array)) (sym e) (none_left t)) marked_cells
+      (zero row) shown marked_stands 0 (sym base) zero_block zero_found
+
+  module _ (page : Page) (lefts : Vec Leftover) (e : lefts.items ≡ leftover.Page (place_of 1) page ∷ []) where
+    page_is_left : MayBeLeft (t.array (place_of 1)) (page_of intended) page → LeftAs lefts.items (with_page page)
+    page_is_left left =
+        subst (λ (ls : List Leftover). LeftAs ls (with_page page)) (sym e)
+        (page_stops t (place_of 1) intended page flies left)
+
+    pub stopped_torn : (IsCheckRight page → ⊥) → IsStoppedWrite body write block lefts (with_page page) 0 zero_block
+    stopped_torn wrong =
+        stopped lefts (with_page page) (page_is_left (inr (inr wrong))) marked_cells (zero row)
+        (torn_shown t.array marked_cells (place_of 1) page shown unwritten wrong) marked_stands 0
+        (sym base) zero_block zero_found
+
+  write_taken : apply (zero row) (the_command body) ≡ after t.base (take 1 t.accepted)
+  write_taken =
+      sym (ap (λ (cs : List Command). after t.base (take 1 cs)) accepted
+      ∙ ap (λ (p : Plain). apply p (the_command body)) base)
+
+  pub stopped_new : (lefts : Vec Leftover) → lefts.items ≡ leftover.Page (place_of 1) (page_of intended) ∷ [] →
+      IsStoppedWrite body write block lefts (with_page (page_of intended)) 1 body
+  stopped_new lefts e =
+      stopped lefts (with_page (page_of intended)) (page_is_left (page_of intended) lefts e (inr (inl refl)))
+      (written_cells body) (apply (zero row) (the_command body))
+      (subst (Shows (with_page (page_of intended) t.array)) (put_cells body)
+      (put_shown t.array marked_cells (place_of 1) (page_of intended) intended shown
+      (valid.tied.flights 0 (place_of 1) intended flies)))
+      (written_stands body can) 1 write_taken body (block_written (zero row) body (new_shape row))
+
+-- There are torn pages: of two pages that differ in their last bytes one has a wrong check
+
+with_check : List ℕ → Page
+with_check check = record { body = zero_block; spare = replicate 64 0 ++ check }
+
+two_checks : (a b : List ℕ) → a ≡ b → ([] ≡ a → ⊥) ⊎ ((1 ∷ []) ≡ b → ⊥)
+two_checks [] b e = inr (λ h. let z : [] ≡ 1 ∷ [] = e ∙ sym h in cc)
+two_checks (x ∷ xs) b e = inl (λ h. let z : [] ≡ x ∷ xs = h in cc)
+
+pub some_torn : (torn : Page) × (IsCheckRight torn → ⊥)
+unfolding with_check
+some_torn =
+    ⊎_elim (λ h. (with_check [], h)) (λ h. (with_check (1 ∷ []), h))
+    (two_checks (check_of zero_block (replicate 64 0)) (check_of zero_block (replicate 64 0)) refl)

@@ -1,0 +1,7 @@
+use Rattle.ufs_laws.proofs.NewOpens.{new_opens}
+use Rattle.power_loss.proofs.FailedWrite.{failed_write}
+use Rattle.power_loss.proofs.runs.a_failed_write_is_answered.Goals as goal
+
+pub returns : goal.returns
+returns c = λ body write block page long w b may.
+    let s = new_opens in failed_write body long write block w b s.0 s.1 page may

@@ -1,0 +1,45 @@
+-- Which block is to be collected, and when.
+use Rattle.std.specs.Prelude.{◌≡◌, ◌⊎◌, ◌+◌, ◌*◌, ◌<◌, ◌≤◌, true, false, None}
+use Rattle.ufs_spec.specs.Disk.{Bad, Closed, Spot}
+use Rattle.ufs_spec.specs.Stages.{collects}
+use Rattle.ufs_spec.specs.Translation.{Translation, count_blocks, has_mark_number, is_free, is_mended, is_pinned, live_count}
+use Rattle.power_loss.specs.Exchange.{IsSpot}
+
+-- no task keeps a page of the block, and to collect it gains room: it is closed and not wholly live, or bad with live
+-- pages
+pub record CanBeCollected (t : Translation) (s : Spot) : Type 0 where
+  pub inside : IsSpot t.numbers s
+  pub unpinned : is_pinned t s ≡ false
+  pub gain : ((t.disk.blocks s ≡ Closed) × (live_count t s < t.numbers.pages))
+      ⊎ ((t.disk.blocks s ≡ Bad) × (0 < live_count t s))
+
+-- blocks are counted die by die
+abbrev pub IsBefore : Spot → Spot → Type 0
+IsBefore a b = (a.die < b.die) ⊎ ((a.die ≡ b.die) × (a.block < b.block))
+
+-- of the blocks that can be collected it has the fewest live pages, and it is the lowest of several
+pub record IsVictim (t : Translation) (s : Spot) : Type 0 where
+  pub can : CanBeCollected t s
+  pub least : (a : Spot) → CanBeCollected t a → live_count t s ≤ live_count t a
+  pub lowest : (a : Spot) → CanBeCollected t a → live_count t a ≡ live_count t s → IsBefore a s → ⊥
+
+-- a bad block holds live pages, and no task keeps a page of it
+pub record IsBadWithLive (t : Translation) (s : Spot) : Type 0 where
+  pub inside : IsSpot t.numbers s
+  pub bad : t.disk.blocks s ≡ Bad
+  pub unpinned : is_pinned t s ≡ false
+  pub live : 0 < live_count t s
+
+-- few blocks are free, or a bad block holds live pages
+abbrev pub IsRoomScarce : Translation → Type 0
+IsRoomScarce t = (count_blocks t is_free < 2 * t.numbers.dies + 4) ⊎ ((s : Spot) × IsBadWithLive t s)
+
+-- collection is due: the device is mended, nothing is under way, a block can be collected and room is scarce
+pub record IsCollectionDue (t : Translation) : Type 0 where
+  pub collecting : collects ≡ true
+  pub mended : is_mended t.work.mending ≡ true
+  pub no_step : t.work.step ≡ None
+  pub no_plan : t.work.plan ≡ None
+  pub number : has_mark_number t ≡ true
+  pub some : (s : Spot) × CanBeCollected t s
+  pub scarce : IsRoomScarce t

@@ -1,0 +1,78 @@
+-- Worked lives of a new device that is told to write one block with FUA: it is stopped while the block's page is
+-- programmed, or the program fails.
+use Rattle.std.specs.Prelude.{◌≡◌, ℕ, Bool, true, List, [], ◌∷◌, ◌++◌, take, Some}
+use Rattle.std.specs.Global.{Vec}
+use Rattle.ufs_laws.specs.GapRows.{write_page}
+use Rattle.ufs_laws.specs.Runs.{Gets, IsNew, data_program, place_of, row, told, write_events, write_outputs}
+use Rattle.ufs_spec.specs.Cdbs.{fixed_sense}
+use Rattle.ufs_spec.specs.Cells.{Array}
+use Rattle.ufs_spec.specs.Commands.{Write}
+use Rattle.ufs_spec.specs.Disk.{Spot, at_place, page_of, spot_of}
+use Rattle.ufs_spec.specs.Exchanges.{sense}
+use Rattle.ufs_spec.specs.Lives.{IsOpened, Leads, Life, Runs, Stops, bad_in, held}
+use Rattle.ufs_spec.specs.Machine.{Ask, Replies}
+use Rattle.ufs_spec.specs.Plain.{after, block_at, zero}
+use Rattle.ufs_spec.specs.Steps.{State, locked}
+use Rattle.ufs_spec.specs.declared.events.Event.TheVariants as event
+use Rattle.ufs_spec.specs.declared.events.Leftover.TheVariants as leftover
+use Rattle.ufs_spec.specs.declared.events.Leftover.{Leftover}
+use Rattle.ufs_spec.specs.declared.events.Output.TheVariants as output
+use Rattle.ufs_spec.specs.declared.flash.Page.{Page}
+use Rattle.ufs_spec.specs.declared.messages.Message.TheVariants as message
+use Rattle.ufs_spec.specs.declared.messages.Message.{Message}
+
+-- the page of the block
+abbrev pub written_page : List ℕ → Page
+written_page body = page_of (write_page 1 0xFF 0 body)
+
+-- with these leftovers the stop leaves that array, and the next life has the first k accepted commands, so that it finds
+-- this block
+pub record IsStoppedWrite (body : List ℕ) (write block : Vec ℕ) (lefts : Vec Leftover) (left : Array → Array) (k : ℕ)
+    (found : List ℕ) : Type 0 where
+  -- the life of a new device up to the stop
+  pub start : State
+  pub is_new : IsNew start
+  pub now : State
+  pub life : Life start (write_events write block) (write_outputs body) now
+  pub flies : now.translation.disk.flights 0 ≡ Some (data_program body)
+  -- one command is accepted and none is acknowledged as durable
+  pub base : now.base ≡ zero row
+  pub accepted : now.accepted ≡ Write 0 0xFF (body ∷ []) ∷ []
+  pub none_held : held now ≡ 0
+  -- the stop, and the device that opens after it
+  pub stops : Stops now lefts.items (left now.array)
+  pub next : State
+  pub opened : IsOpened row (left now.array) (bad_in now) next
+  pub runs : Runs row start (write_events write block ++ event.Stop lefts ∷ [])
+      (write_outputs body ++ output.Stopped ∷ []) next
+  -- each device that opens over what the stop left has the same base
+  pub prefix : (other : State) (bad : Spot → Bool) → IsOpened row (left now.array) bad other →
+      other.base ≡ after now.base (take k now.accepted)
+  pub block_found : block_at 0 0xFF next.base ≡ found
+
+-- CHECK CONDITION with MEDIUM ERROR, write error (3/0C), and no residual
+abbrev pub write_failed : Message
+write_failed = message.Response 0x00 0 7 0x01 0x02 0 (Some (0 ∷ 0x12 ∷ fixed_sense (sense 0x03 0x0C)))
+
+-- the program of the block's page fails and leaves this page
+pub record IsFailedWrite (body : List ℕ) (write block : Vec ℕ) (page : Page) : Type 0 where
+  -- the life of a new device up to the program
+  pub start : State
+  pub is_new : IsNew start
+  pub before : State
+  pub life : Life start (write_events write block) (write_outputs body) before
+  -- the job fails: the block of the die is bad, and the device is locked
+  pub failed : State
+  pub fails : Leads before (event.Fail 0 (Some (leftover.Page (place_of 1) page))) output.Ended failed
+  pub array : failed.array ≡ at_place before.array (place_of 1) page
+  pub bad : bad_in failed (spot_of (place_of 1)) ≡ true
+  pub is_locked : locked failed ≡ true
+  -- the WRITE is answered with a write error, and by nothing else
+  pub answered : Gets failed Ask (Replies (Some write_failed))
+  pub now : State
+  pub told_so : Leads failed event.Reply (told write_failed) now
+  -- its command stays accepted and is not acknowledged; no task is open
+  pub accepted : now.accepted ≡ Write 0 0xFF (body ∷ []) ∷ []
+  pub none_held : held now ≡ 0
+  pub none_open : now.tasks ≡ []
+  pub still_locked : locked now ≡ true

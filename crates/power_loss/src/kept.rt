@@ -1,0 +1,56 @@
+//! The laws of what is kept: what a task looked up, and where the rest of a page comes from that a command has in part.
+ghost use Rattle.std.specs.Prelude.{◌≡◌, ◌≢◌, ◌<◌, ℕ, Bool, true, false, All, Contains, List, [], Option, Some, slice_get};
+ghost use Rattle.ufs_spec.specs.Cells.{GroupPage, key_of};
+ghost use Rattle.ufs_spec.specs.Disk.{Erasing, ForRest, ForTask, Reading, Spot, spot_of};
+ghost use Rattle.ufs_spec.specs.Keys.{Group, Item};
+ghost use Rattle.ufs_spec.specs.Ledger.{Entry, InSlot, Name, OnPage, entry_of, look, next_number};
+ghost use Rattle.ufs_spec.specs.Translation.{FromPage, MayTake, Pin, Rest, Source, Translation, is_in_part, rests_of, source_of};
+ghost use Rattle.ufs_spec.specs.declared.flash.Place.{Place};
+ghost use Rattle.ufs_spec.specs.declared.flash.Tag.{Tag};
+ghost use Rattle.power_loss.specs.Invariant.{IsGroupPage, Valid};
+ghost use Rattle.power_loss.specs.Rests.{IsRestOf};
+
+/// A group that is accepted has rests for its pages of the RPMB area alone, each from where the page's key is looked up
+/// then, and for each of these whose content is not at hand.
+pub fn rests_are_found_at_the_accept()
+    ensures none { (t : Translation) (g : Group) → All (λ (item : Item). is_in_part item.key ≡ false) g → rests_of t g ≡ [] }
+    ensures each { (t : Translation) (g : Group) (rest : Rest) → Contains (rests_of t g) rest → IsRestOf t g rest }
+    ensures all { (t : Translation) (g : Group) (i : ℕ) (item : Item) (source : Source) →
+        slice_get g i ≡ Some item → is_in_part item.key ≡ true → source_of t.work.rests (look t.ledger item.key) ≡ Some source →
+        Contains (rests_of t g) (record { name = record { number = next_number t.ledger; index = i }; source = source }) }
+{}
+
+/// What a task keeps stays there: a page is the finished page of its name, in a block that is not being erased and is not
+/// given to be, and has what is known under the name; a slot is of a group above the frontier.
+pub fn kept_pages_stay()
+    ensures page { (t : Translation) (pin : Pin) (name : Name) (place : Place) →
+        Valid t → Contains t.pins pin → pin.looked ≡ OnPage name place →
+        IsGroupPage t.disk.cells t.disk.finished t.disk.erasing name place }
+    ensures content { (t : Translation) (name : Name) (place : Place) →
+        Valid t → (g : IsGroupPage t.disk.cells t.disk.finished t.disk.erasing name place) →
+        entry_of t.ledger name ≡ Some (record { item = record { key = key_of g.tag; body = g.body }; size = g.tag.size }) }
+    ensures slot { (t : Translation) (pin : Pin) (name : Name) → Valid t → Contains t.pins pin → pin.looked ≡ InSlot name →
+        (t.ledger.frontier < name.number) × ((e : Entry) × (entry_of t.ledger name ≡ Some e)) }
+    ensures not_erased { (t : Translation) (die : ℕ) (s : Spot) (pin : Pin) (name : Name) (place : Place) →
+        Valid t → MayTake t die (Some (Erasing s)) → Contains t.pins pin → pin.looked ≡ OnPage name place → spot_of place ≢ s }
+{}
+
+/// A page that the rest of another is still to be read from is a group's finished page, in a block that is not being erased
+/// and is not given to be.
+pub fn a_rest_keeps_its_page()
+    ensures page { (t : Translation) (rest : Rest) (place : Place) →
+        Valid t → Contains t.work.rests rest → rest.source ≡ FromPage place →
+        (name : Name) × IsGroupPage t.disk.cells t.disk.finished t.disk.erasing name place }
+    ensures not_erased { (t : Translation) (die : ℕ) (s : Spot) (rest : Rest) (place : Place) →
+        Valid t → MayTake t die (Some (Erasing s)) → Contains t.work.rests rest → rest.source ≡ FromPage place → spot_of place ≢ s }
+{}
+
+/// A read that a die may be given for a task, or for the rest of a page, is of a page of a group.
+pub fn a_page_that_is_read_is_a_groups()
+    ensures task { (t : Translation) (die tag index : ℕ) (place : Place) →
+        Valid t → MayTake t die (Some (Reading (ForTask tag index) place)) →
+        (page : Tag) × (body : List ℕ) × (t.disk.cells place ≡ GroupPage page body) }
+    ensures rest { (t : Translation) (die number index : ℕ) (place : Place) →
+        Valid t → MayTake t die (Some (Reading (ForRest number index) place)) →
+        (page : Tag) × (body : List ℕ) × (t.disk.cells place ≡ GroupPage page body) }
+{}

@@ -1,0 +1,40 @@
+//! The laws of owed jobs: what a die may be given while others work.
+ghost use Rattle.std.specs.Prelude.{◌≡◌, ◌≢◌, ◌⊎◌, ◌<◌, ℕ, Bool, false, true, List, Option, Some, None};
+ghost use Rattle.ufs_spec.specs.Cells.{GroupPage, Mark, MarkPage};
+ghost use Rattle.ufs_spec.specs.Disk.{ForStep, Programming, Reader, Reading};
+ghost use Rattle.ufs_spec.specs.Ledger.{Name};
+ghost use Rattle.ufs_spec.specs.Moves.{End, Move, ReadRight, moved};
+ghost use Rattle.ufs_spec.specs.Translation.{CopyStep, MayTake, Translation, name_of, turned};
+ghost use Rattle.ufs_spec.specs.declared.flash.Place.{Place};
+ghost use Rattle.ufs_spec.specs.declared.flash.Tag.{Tag};
+ghost use Rattle.power_loss.specs.OwedJobs.{IsFirstProgram, IsStepsPage};
+
+/// While a die programs a page, a copy or a mark, no die is given the same; and while a die does a wanted read, no die is
+/// given a read for the same reader.
+pub fn one_die_each()
+    ensures page { (t : Translation) (die other : ℕ) (p q : Place) (tag flying : Tag) (body bytes : List ℕ) →
+        MayTake t die (Some (Programming p (GroupPage tag body))) → other < t.numbers.dies →
+        t.disk.flights other ≡ Some (Programming q (GroupPage flying bytes)) → name_of flying ≢ name_of tag }
+    ensures mark { (t : Translation) (die other : ℕ) (p q : Place) (m flying : Mark) →
+        MayTake t die (Some (Programming p (MarkPage m))) → other < t.numbers.dies →
+        t.disk.flights other ≡ Some (Programming q (MarkPage flying)) → ⊥ }
+    ensures read { (t : Translation) (die other : ℕ) (reader : Reader) (p q : Place) →
+        MayTake t die (Some (Reading reader p)) → other < t.numbers.dies → t.disk.flights other ≡ Some (Reading reader q) → ⊥ }
+{}
+
+/// A page is programmed for the first time, or it is the page of the step under way and its content is there. A copy begins
+/// without its content, and only the end of the read of its page brings it.
+pub fn a_copy_is_programmed_after_its_read()
+    ensures given { (t : Translation) (die : ℕ) (p : Place) (tag : Tag) (body : List ℕ) →
+        MayTake t die (Some (Programming p (GroupPage tag body))) →
+        IsFirstProgram t (name_of tag) ⊎ IsStepsPage t (name_of tag) }
+    ensures begun { (t : Translation) (name : Name) (from : Place) (there : Bool) → t.work.step ≡ None →
+        (turned t).work.step ≡ Some (record { kind = CopyStep name from; there = there }) → there ≡ false }
+    ensures brought { (t : Translation) (move : Move) (name : Name) (from : Place) →
+        t.work.step ≡ Some (record { kind = CopyStep name from; there = false }) →
+        (moved t move).work.step ≡ Some (record { kind = CopyStep name from; there = true }) →
+        (die : ℕ) × (place : Place) × (move ≡ End die ReadRight) × (t.disk.flights die ≡ Some (Reading ForStep place)) }
+    ensures its_page { (t : Translation) (die : ℕ) (place : Place) (name : Name) (from : Place) (there : Bool) →
+        t.work.step ≡ Some (record { kind = CopyStep name from; there = there }) → MayTake t die (Some (Reading ForStep place)) →
+        (there ≡ false) × (place ≡ from) }
+{}

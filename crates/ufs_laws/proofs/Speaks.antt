@@ -1,0 +1,290 @@
+-- Each task that a call opens or changes fits what it needs for its replies.
+use Rattle.std.proofs.Common.{◌≡◌, ◌≢◌, ℕ, zero, suc, ◌+◌, ◌-◌, ◌*◌, ◌≤◌, ◌<◌, ◌^◌, ◌/◌, ◌%◌, ◌==◌, ◌&&◌, Bool, true, false, min, not, nat_le, nat_lt, if◌then◌else◌, List, [], ◌∷◌, ◌++◌, length, map, get_or, Option, Some, None, refl, sym, ap, ◌∙◌, subst, arith}
+use Rattle.std.specs.Prelude.{slice_get, slice_set}
+use Rattle.std.proofs.lemmas.Grind.{div_ceil_times}
+use Rattle.std.proofs.lemmas.List.{length-map, length-set}
+use Rattle.std.proofs.lemmas.Option.{get_or_from_slice_get}
+use Rattle.ufs_laws.proofs.KnownTasks.{Past, passes, past}
+use Rattle.ufs_laws.proofs.Parts.{get_or-made, length-made}
+use Rattle.ufs_laws.proofs.TaskWalk.{Any, IsTaskLaw, OneMore, task_for}
+use Rattle.ufs_laws.specs.Exchange.{Every, IsRequest}
+use Rattle.ufs_laws.specs.Replies.{DeedSpeaks, IsStatus, TaskSpeaks}
+use Rattle.ufs_spec.proofs.Facts.{eqb-false, ltb-true, same_Some}
+use Rattle.ufs_spec.specs.Cdbs.{IsCdb, SpellsCdb, operation_of, taken_operations}
+use Rattle.ufs_spec.specs.Exchanges.{filled, Answering, Awaiting, Busy, Deed, ForWrite, Gathering, Good, NotRead, Purpose, ReadBlock, ReadState, Sending, Status, Task, Telling, Unread, WasRead, bytes_sent, invalid_field, invalid_operation, is_task_of, list_length_error, no_unit, not_ready, out_of_range, sequence_error, task_of, with_deed, write_error, write_protected}
+use Rattle.ufs_spec.specs.Keys.{IsBlock, below}
+use Rattle.ufs_spec.specs.Machine.{IsCdbIn, begun, blocks_expected, deed_behind, deed_behind_block, deed_behind_state, deed_locked, deed_read, durable, read_begun, read_blocks, sending, is_to_fill, set_state, task_filled, task_locked, task_read, unit_or_first, with_block, write_begun, write_deed}
+use Rattle.ufs_spec.specs.Messages.{IsAmong}
+use Rattle.ufs_spec.specs.Plain.{block_at}
+use Rattle.ufs_spec.specs.Steps.{Line, Request, State, first_line, lacks_unit, line, lines_behind, lun_of, not_taken, numbers_of, plain_now, refusal, unit_of_request}
+use Rattle.ufs_spec.specs.declared.scsi.Cdb.{Cdb}
+use Rattle.ufs_spec.specs.declared.scsi.Cdb.TheVariants as cdb
+
+-- ## Statuses of the table
+
+abbrev AllStatus : List Line → Type 0
+AllStatus [] = Unit {0}
+AllStatus (l ∷ ls) = IsStatus l.status × AllStatus ls
+
+line_status : (ls : List Line) (status : Status) → AllStatus ls → first_line ls ≡ Some status → IsStatus status
+line_status [] status all e = let none : None ≡ Some status = e in cc
+line_status (l ∷ ls) status all e = by l.applies e (λ k. line_status ls status all.1 k)
+  where
+    by : (b : Bool) → (if b then Some l.status else first_line ls) ≡ Some status → (first_line ls ≡ Some status → IsStatus status) → IsStatus status
+    by true k rest = subst IsStatus (same_Some l.status status k) all.0
+    by false k rest = rest k
+
+is_field : IsStatus invalid_field
+is_field = (omega arith, omega arith, omega arith)
+
+later_status : (s : State) (r : Request) (c : Option Cdb) → AllStatus (lines_behind s r c)
+later_status s r None = (is_field, tt)
+later_status s r (Some c) = (
+  is_field,
+  (
+    (omega arith, omega arith, omega arith),
+    (
+      is_field,
+      (
+        (omega arith, omega arith, omega arith),
+        (
+          (omega arith, omega arith, omega arith),
+          ((omega arith, omega arith, omega arith), ((omega arith, omega arith, omega arith), (is_field, (tt, tt)))),
+        ),
+      ),
+    ),
+  ),
+)
+
+pub table_status : (s : State) (r : Request) (status : Status) → refusal s r ≡ Some status → IsStatus status
+table_status s r status e =
+    line_status
+    (line (lacks_unit s r (lun_of (numbers_of s) r.lun)) no_unit ∷ line (not_taken r (lun_of (numbers_of s) r.lun)) invalid_operation ∷ lines_behind s r r.cdb)
+    status ((omega arith, omega arith, omega arith), ((omega arith, omega arith, omega arith), later_status s r r.cdb)) e
+
+write_error_is : IsStatus write_error
+write_error_is = (omega arith, omega arith, omega arith)
+
+invalid_operation_is : IsStatus invalid_operation
+invalid_operation_is = (omega arith, omega arith, omega arith)
+
+-- ## Tasks
+
+-- the frame of a task
+pub speaks : (task : Task) (deed : Deed) → TaskSpeaks task → DeedSpeaks task.length (bytes_sent task) deed → TaskSpeaks (record task { deed = deed })
+speaks task deed h d = record { lun = h.lun; tag = h.tag; expected = h.expected; length = h.length; deed = d }
+
+asked_for : (r : Request) (c : Option Cdb) (n : ℕ) (deed : Deed) → IsRequest r → n < 2 ^ 32 → DeedSpeaks n (min r.expected n) deed → TaskSpeaks (task_for r c n deed)
+asked_for r c n deed is few d = let m = is.1.0.0 in record { lun = m.1; tag = m.2; expected = m.3; length = few; deed = d }
+
+-- blocks of a READ
+
+made_block : (f : ℕ → List ℕ) (n k : ℕ) (block : ReadBlock) → k < n → slice_get (map (λ i. record { body = f i; state = Unread }) (below n)) k ≡ Some block → block.body ≡ f k
+made_block f n k block low e =
+    let make : ℕ → ReadBlock = λ i. record { body = f i; state = Unread } in
+    let there : get_or (map make (below n)) k block ≡ block = get_or_from_slice_get (map make (below n)) k block block e in
+    ap (λ (b : ReadBlock). b.body) (sym there ∙ get_or-made make n k block low)
+
+there_below : {X : Type 0} (xs : List X) (k : ℕ) (x : X) → slice_get xs k ≡ Some x → k < length xs
+there_below [] k x e = let none : None ≡ Some x = e in cc
+there_below (y ∷ ys) zero x e = omega arith
+there_below (y ∷ ys) (suc k) x e = let low = there_below ys k x e in omega arith
+
+abbrev pub BlocksFit : State → Request → ℕ → ℕ → ℕ → Type 0
+BlocksFit s r unit address blocks = (i : ℕ) → i < blocks → IsBlock (block_at unit (address + i) (plain_now s))
+
+few_blocks : (expected blocks : ℕ) → (4096 * (min expected (4096 * blocks) / 4096 + min 1 (min expected (4096 * blocks) % 4096)) < min expected (4096 * blocks) + 4096)
+few_blocks expected blocks = let h = div_ceil_times (min expected (4096 * blocks)) 4096 (omega arith) in let last = h.1 in omega arith
+
+read_speaks : (s : State) (r : Request) (c : Cdb) (unit address blocks : ℕ) → IsRequest r → blocks < 2 ^ 16 → BlocksFit s r unit address blocks →
+    OneMore TaskSpeaks s.tasks (read_begun s r c unit address (4096 * blocks)).tasks
+read_speaks s r c unit address blocks is few fit = (
+  task_for r (Some c) (4096 * blocks) (sending (read_blocks s unit address count) (4096 * blocks)),
+  refl,
+  asked_for r (Some c) (4096 * blocks) (sending (read_blocks s unit address count) (4096 * blocks)) is (omega arith)
+      (sends (read_blocks s unit address count) refl (length-made _ count)),
+)
+  where
+    count : ℕ
+    count = blocks_expected r (4096 * blocks)
+
+    enough : count ≤ blocks
+    enough =
+        let h = few_blocks r.expected blocks in
+        let low : min r.expected (4096 * blocks) ≤ 4096 * blocks = grind arith in
+        omega arith
+
+    sends : (made : List ReadBlock) → made ≡ read_blocks s unit address count → length made ≡ count →
+        DeedSpeaks (4096 * blocks) (min r.expected (4096 * blocks)) (sending made (4096 * blocks))
+    sends [] same long = (tt, omega arith)
+    sends (b ∷ bs) same long = (omega arith, (let h = few_blocks r.expected blocks in omega arith), each)
+      where
+        each : (k : ℕ) (block : ReadBlock) → slice_get (b ∷ bs) k ≡ Some block → IsBlock block.body
+        each k block e =
+            let low : k < length (b ∷ bs) = there_below (b ∷ bs) k block e in
+            let here : k < count = omega arith in
+            let body : block.body ≡ block_at unit (address + k) (plain_now s) =
+            made_block (λ i. block_at unit (address + i) (plain_now s)) count k block here (ap (λ (xs : List ReadBlock). slice_get xs k) (sym same) ∙ e) in
+            subst IsBlock (sym body) (fit k (omega arith))
+
+more_if : (P : Task → Type 0) (tasks : List Task) (t u : State) (b : Bool) → OneMore P tasks t.tasks → OneMore P tasks u.tasks → OneMore P tasks (if b then t else u).tasks
+more_if P tasks t u true h k = h
+more_if P tasks t u false h k = k
+
+if_else : (P : Task → Type 0) (tasks : List Task) (t u : State) (b : Bool) → OneMore P tasks t.tasks → (b ≡ false → OneMore P tasks u.tasks) → OneMore P tasks (if b then t else u).tasks
+if_else P tasks t u true h k = h
+if_else P tasks t u false h k = k refl
+
+write_speaks : (s : State) (r : Request) (c : Cdb) (unit address blocks : ℕ) (forced : Bool) → IsRequest r → blocks < 2 ^ 16 →
+    OneMore TaskSpeaks s.tasks (write_begun s r c unit address blocks forced).tasks
+write_speaks s r c unit address blocks forced is few =
+    if_else TaskSpeaks s.tasks _ _ (blocks == 0)
+    (task_for r (Some c) 0 (Answering Good 0), refl, asked_for r (Some c) 0 (Answering Good 0) is (omega arith) (tt, omega arith))
+    (λ some. (
+      task_for r (Some c) (4096 * blocks) (Gathering (ForWrite unit address blocks forced) [] false),
+      refl,
+      asked_for r (Some c) (4096 * blocks) (Gathering (ForWrite unit address blocks forced) [] false) is (omega arith) (missing some),
+    ))
+  where
+    missing : (blocks == 0) ≡ false → 0 < 4096 * blocks
+    missing e = let differ = eqb-false blocks 0 e in more blocks differ
+      where
+        more : (n : ℕ) → n ≢ 0 → 0 < 4096 * n
+        more zero h = absurd (h refl)
+        more (suc n) h = omega arith
+
+-- what may be read is what was looked up
+abbrev pub ReadsFit : State → Type 0
+ReadsFit s = (r : Request) (address blocks : ℕ) (forced : Bool) → r.cdb ≡ Some (cdb.Read10 address blocks forced) → refusal s r ≡ None →
+    BlocksFit s r (unit_or_first (unit_of_request s r)) address blocks
+
+begins_speaking : (s : State) (r : Request) (c : Cdb) (unit : ℕ) → IsRequest r → IsCdb c → IsAmong taken_operations (operation_of c) →
+    ((address blocks : ℕ) (forced : Bool) → c ≡ cdb.Read10 address blocks forced → BlocksFit s r unit address blocks) → OneMore TaskSpeaks s.tasks (begun s r unit c).tasks
+begins_speaking s r (cdb.Read10 address blocks forced) unit is fits taken reads =
+    read_speaks s r (cdb.Read10 address blocks forced) unit address blocks is fits.1 (reads address blocks forced refl)
+begins_speaking s r (cdb.Write10 address blocks forced) unit is fits taken reads = write_speaks s r (cdb.Write10 address blocks forced) unit address blocks forced is fits.1
+begins_speaking s r cdb.TestUnitReady unit is fits taken reads = cc
+begins_speaking s r (cdb.RequestSense allocation) unit is fits taken reads = cc
+begins_speaking s r (cdb.Read6 address blocks) unit is fits taken reads = cc
+begins_speaking s r (cdb.Write6 address blocks) unit is fits taken reads = cc
+begins_speaking s r (cdb.Inquiry allocation) unit is fits taken reads = cc
+begins_speaking s r cdb.ReadCapacity10 unit is fits taken reads = cc
+begins_speaking s r (cdb.SynchronizeCache10 address blocks immediate) unit is fits taken reads = cc
+begins_speaking s r (cdb.Unmap list) unit is fits taken reads = cc
+begins_speaking s r (cdb.ReportLuns select allocation) unit is fits taken reads = cc
+begins_speaking s r (cdb.SecurityIn length) unit is fits taken reads = cc
+begins_speaking s r (cdb.SecurityOut length) unit is fits taken reads = cc
+
+spelled_cdb : (r : Request) (c : Cdb) → IsRequest r → r.cdb ≡ Some c → IsCdb c
+spelled_cdb r c is e = (subst (IsCdbIn (Some r.bytes)) e is.1.2).0
+
+-- ## What tasks do next
+
+goes_state : (task : Task) (h : TaskSpeaks task) (blocks : List ReadBlock) (sent : ℕ) (state : ReadState) (deed : Deed) →
+    DeedSpeaks task.length (bytes_sent task) (Sending blocks sent) → deed_behind_state task blocks sent state ≡ Some deed → DeedSpeaks task.length (bytes_sent task) deed
+goes_state task h blocks sent state deed d e = by state e
+  where
+    next : (b : Bool) → nat_lt (sent + 1) (length blocks) ≡ b → DeedSpeaks task.length (bytes_sent task) (if b then Sending blocks (sent + 1) else Answering Good task.length)
+    next true k = (ltb-true (sent + 1) (length blocks) k, d.1, d.2)
+    next false k = (tt, h.length)
+
+    by : (state : ReadState) → deed_behind_state task blocks sent state ≡ Some deed → DeedSpeaks task.length (bytes_sent task) deed
+    by NotRead k = let none : None ≡ Some deed = k in cc
+    by Unread k = subst (DeedSpeaks task.length (bytes_sent task)) (same_Some _ deed k) (next (nat_lt (sent + 1) (length blocks)) refl)
+    by WasRead k = subst (DeedSpeaks task.length (bytes_sent task)) (same_Some _ deed k) (next (nat_lt (sent + 1) (length blocks)) refl)
+
+goes_block : (task : Task) (h : TaskSpeaks task) (blocks : List ReadBlock) (sent : ℕ) (block : Option ReadBlock) (deed : Deed) →
+    DeedSpeaks task.length (bytes_sent task) (Sending blocks sent) → deed_behind_block task blocks sent block ≡ Some deed → DeedSpeaks task.length (bytes_sent task) deed
+goes_block task h blocks sent None deed d e = let none : None ≡ Some deed = e in cc
+goes_block task h blocks sent (Some block) deed d e = goes_state task h blocks sent block.state deed d e
+
+goes_on : (task : Task) (h : TaskSpeaks task) (before deed : Deed) → DeedSpeaks task.length (bytes_sent task) before → deed_behind task before ≡ Some deed → DeedSpeaks task.length (bytes_sent task) deed
+goes_on task h (Gathering purpose gathered asked) deed d e = subst (DeedSpeaks task.length (bytes_sent task)) (same_Some _ deed e) d
+goes_on task h (Sending blocks sent) deed d e = goes_block task h blocks sent (slice_get blocks sent) deed d e
+goes_on task h (Telling bytes) deed d e = subst (DeedSpeaks task.length (bytes_sent task)) (same_Some _ deed e) (tt, h.length)
+goes_on task h (Awaiting commands) deed d e = let none : None ≡ Some deed = e in cc
+goes_on task h (Answering status carried) deed d e = let none : None ≡ Some deed = e in cc
+
+locked_speaks : (u : State) (task : Task) (h : TaskSpeaks task) (deed : Deed) → DeedSpeaks task.length (bytes_sent task) deed → DeedSpeaks task.length (bytes_sent task) (deed_locked u task deed)
+locked_speaks u task h (Gathering purpose gathered asked) d = d
+locked_speaks u task h (Sending blocks sent) d = d
+locked_speaks u task h (Telling bytes) d = d
+locked_speaks u task h (Awaiting commands) d = by (nat_le commands (durable u))
+  where
+    by : (b : Bool) → DeedSpeaks task.length (bytes_sent task) (if b then Awaiting commands else Answering write_error task.length)
+    by true = tt
+    by false = (write_error_is, h.length)
+locked_speaks u task h (Answering status carried) d = d
+
+-- a block that was read has its body
+set_at : (blocks : List ReadBlock) (index k : ℕ) (state : ReadState) (old block : ReadBlock) → slice_get blocks index ≡ Some old → slice_get (slice_set blocks index (set_state state old)) k ≡ Some block →
+    (before : ReadBlock) × (slice_get blocks k ≡ Some before) × (block.body ≡ before.body)
+set_at [] index k state old block there e = let none : None ≡ Some old = there in cc
+set_at (b ∷ bs) zero zero state old block there e =
+    (b, refl, ap (λ (x : ReadBlock). x.body) (sym (same_Some (set_state state old) block e)) ∙ ap (λ (x : ReadBlock). x.body) (sym (same_Some b old there)))
+set_at (b ∷ bs) zero (suc k) state old block there e = (block, e, refl)
+set_at (b ∷ bs) (suc index) zero state old block there e = (block, e, refl)
+set_at (b ∷ bs) (suc index) (suc k) state old block there e = set_at bs index k state old block there e
+
+read_speaks_again : (total sent_bytes : ℕ) (blocks : List ReadBlock) (sent index : ℕ) (state : ReadState) → DeedSpeaks total sent_bytes (Sending blocks sent) →
+    DeedSpeaks total sent_bytes (Sending (with_block blocks index state (slice_get blocks index)) sent)
+read_speaks_again total sent_bytes blocks sent index state d = by (slice_get blocks index) refl
+  where
+    by : (o : Option ReadBlock) → slice_get blocks index ≡ o → DeedSpeaks total sent_bytes (Sending (with_block blocks index state o) sent)
+    by None e = d
+    by (Some old) e =
+        let long : length (slice_set blocks index (set_state state old)) ≡ length blocks = length-set blocks index (set_state state old) in
+        let inside = d.0 in
+        let bound = d.1 in
+        (omega arith, omega arith, λ k block there. (let b = set_at blocks index k state old block e there in subst IsBlock (sym b.2) (d.2 k b.0 b.1)))
+
+deed_read_speaks : (total sent_bytes index : ℕ) (state : ReadState) (deed : Deed) → DeedSpeaks total sent_bytes deed → DeedSpeaks total sent_bytes (deed_read index state deed)
+deed_read_speaks total sent_bytes index state (Gathering purpose gathered asked) d = d
+deed_read_speaks total sent_bytes index state (Sending blocks sent) d = read_speaks_again total sent_bytes blocks sent index state d
+deed_read_speaks total sent_bytes index state (Telling bytes) d = d
+deed_read_speaks total sent_bytes index state (Awaiting commands) d = d
+deed_read_speaks total sent_bytes index state (Answering status carried) d = d
+
+task_read_speaks : (tag index : ℕ) (state : ReadState) (task : Task) → TaskSpeaks task → TaskSpeaks (task_read tag index state task)
+task_read_speaks tag index state task h = by (is_task_of tag task)
+  where
+    by : (b : Bool) → TaskSpeaks (if b then record task { deed = deed_read index state task.deed } else task)
+    by true = speaks task (deed_read index state task.deed) h (deed_read_speaks task.length (bytes_sent task) index state task.deed h.deed)
+    by false = h
+
+write_deed_speaks : (total sent_bytes position : ℕ) (forced : Bool) → total < 2 ^ 32 → DeedSpeaks total sent_bytes (write_deed forced position total)
+write_deed_speaks total sent_bytes position true few = tt
+write_deed_speaks total sent_bytes position false few = (tt, few)
+
+-- a register that is filled leaves what is said
+filled_speaks : (u : State) (task : Task) → TaskSpeaks task → TaskSpeaks (task_filled u task)
+filled_speaks u task h = by (is_to_fill u task)
+  where
+    by : (b : Bool) → TaskSpeaks (if b then record task { request = filled task.request } else task)
+    by true = record { lun = h.lun; tag = h.tag; expected = h.expected; length = h.length; deed = h.deed }
+    by false = h
+
+-- tags of tasks are apart
+abbrev pub SetsOne : State → Type 0
+SetsOne s = (task : Task) (deed : Deed) → task_of task.tag s.tasks ≡ Some task → Every TaskSpeaks s.tasks → TaskSpeaks (record task { deed = deed }) →
+    Every TaskSpeaks (map (with_deed task.tag deed) s.tasks)
+
+pub speaks_law : (s : State) → SetsOne s → ReadsFit s → IsTaskLaw TaskSpeaks (λ task deed. TaskSpeaks (record task { deed = deed })) Any s
+speaks_law s sets reads = record {
+  set = sets;
+  refused = λ r status is asks free e. asked_for r None 0 (Answering status 0) is (omega arith) (table_status s r status e, omega arith);
+  begins = λ r c is asks free e passed.
+      let p = passes s r is passed in
+      let same : p.0 ≡ c = same_Some p.0 c (sym p.1 ∙ e) in
+      begins_speaking s r c (unit_or_first (unit_of_request s r)) is (spelled_cdb r c is e) (subst (λ (x : Cdb). IsAmong taken_operations (operation_of x)) same p.2)
+      (λ address blocks forced k. reads r address blocks forced (e ∙ ap Some k) passed);
+  gathers = λ task purpose gathered bytes asked e h next more. speaks task (Gathering purpose (gathered ++ bytes) false) h (ltb-true _ task.length more);
+  meets_lock = λ task unit address blocks forced gathered asked e h. speaks task (Answering write_error task.length) h (write_error_is, h.length);
+  writes = λ task unit address blocks forced gathered asked position e h. speaks task (write_deed forced position task.length) h (write_deed_speaks task.length (bytes_sent task) position forced h.length);
+  unmaps = λ task unit gathered asked e h. speaks task (Answering invalid_operation task.length) h (invalid_operation_is, h.length);
+  frames = λ task gathered asked e h. speaks task (Answering invalid_operation task.length) h (invalid_operation_is, h.length);
+  goes = λ task deed e h. speaks task deed h (goes_on task h task.deed deed h.deed e);
+  fills = filled_speaks;
+  locks = λ u task h. speaks task (deed_locked u task task.deed) h (locked_speaks u task h task.deed h.deed);
+  reads = task_read_speaks;
+}

@@ -1,0 +1,160 @@
+-- The line of the table that stands first decides.
+use Rattle.std.proofs.Common.{◌≡◌, ℕ, ◌≤◌, ◌==◌, ◌||◌, nat_le, nat_lt, not, Bool, true, false, if◌then◌else◌, List, [], ◌∷◌, length, Option, Some, None, refl, ap, subst, arith}
+use Rattle.std.proofs.lemmas.Bool.{le-leb, le-ltb, lt-ltb}
+use Rattle.ufs_laws.proofs.Refused.{answers, idle_is, idle_state, lacks}
+use Rattle.ufs_laws.specs.Runs.{IsIdle}
+use Rattle.ufs_laws.specs.Table.{IsRefused, asks, read_at, spells_none, write_at}
+use Rattle.ufs_spec.specs.Exchanges.{Busy, Status, TaskSetFull, invalid_field, invalid_operation, list_length_error, no_unit, not_ready, out_of_range, response, sequence_error, short_reply, write_protected}
+use Rattle.ufs_spec.specs.Machine.{command_heard, opened_with, with_short}
+use Rattle.ufs_spec.specs.Messages.{is_among}
+use Rattle.ufs_spec.specs.Stages.{most_blocks, most_tasks}
+use Rattle.ufs_spec.specs.Steps.{BootUnit, is_boot_read, not_taken, operations_of, Request, State, first_line, has_other_response, has_wrong_list, is_crowded, is_past, is_refused_write, is_too_long, lacks_response, lines_for, locked, mended, refusal, spec_of}
+use Rattle.ufs_spec.specs.Translation.{free_slots}
+use Rattle.ufs_spec.specs.declared.configs.UnitSpec.{UnitSpec}
+use Rattle.ufs_spec.specs.declared.scsi.Cdb.{Cdb}
+use Rattle.ufs_spec.specs.declared.scsi.Cdb.TheVariants as cdb
+
+-- ## Lines
+
+-- a line that applies decides, and one that does not leaves it to the rest
+decides : (b : Bool) (status : Status) (rest : Option Status) → b ≡ true → (if b then Some status else rest) ≡ Some status
+decides true status rest e = refl
+decides false status rest e = cc
+
+leaves : (b : Bool) (status other : Status) (rest : Option Status) → b ≡ false → rest ≡ Some other → (if b then Some status else rest) ≡ Some other
+leaves true status other rest e k = cc
+leaves false status other rest e k = k
+
+if_some : (b : Bool) (t u : State) → b ≡ true → (if b then t else u) ≡ t
+if_some true t u e = refl
+if_some false t u e = cc
+
+pub full : (s : State) (r : Request) (status : Status) → most_tasks ≤ length s.tasks → refusal s r ≡ Some status →
+    command_heard s r ≡ with_short s (short_reply r.tag (response r.lun r.tag r.expected 0 TaskSetFull))
+full s r status many e = if_some (nat_le most_tasks (length s.tasks)) _ (opened_with s r (refusal s r)) (le-leb most_tasks (length s.tasks) many)
+
+refused_idle : (s : State) (r : Request) (status : Status) → IsIdle s → refusal (idle_state s) r ≡ Some status → IsRefused s r status
+refused_idle s r status h e = answers s r status h e
+
+-- what holds of an idle state holds of its form
+mended_idle : (s : State) (b : Bool) → mended s ≡ b → mended (idle_state s) ≡ b
+mended_idle s b e = e
+
+locked_idle : (s : State) (b : Bool) → IsIdle s → locked s ≡ b → locked (idle_state s) ≡ b
+locked_idle s b h e = subst (λ (t : State). locked t ≡ b) (idle_is s h) e
+
+slots_idle : (s : State) → IsIdle s → free_slots s.translation ≡ 0 → free_slots (idle_state s).translation ≡ 0
+slots_idle s h e = subst (λ (t : State). free_slots t.translation ≡ 0) (idle_is s h) e
+
+-- ## Through the table
+
+pub unit : (s : State) (tag : ℕ) (bytes : List ℕ) → IsIdle s → IsRefused s (spells_none 0x40 3 tag bytes) no_unit
+unit s tag bytes h = refused_idle s (spells_none 0x40 3 tag bytes) no_unit h (lacks s (spells_none 0x40 3 tag bytes) (omega arith) refl)
+
+pub operation : (s : State) (tag : ℕ) (rest : List ℕ) → IsIdle s → IsRefused s (spells_none 0x40 0 tag (0xFF ∷ rest)) invalid_operation
+operation s tag rest h = refused_idle s (spells_none 0x40 0 tag (0xFF ∷ rest)) invalid_operation h refl
+
+pub blocks : (s : State) (tag : ℕ) → IsIdle s → IsRefused s (asks 0x40 0 tag (read_at 256 33)) invalid_field
+blocks s tag h = refused_idle s (asks 0x40 0 tag (read_at 256 33)) invalid_field h refl
+
+pub list : (s : State) (tag : ℕ) → first_line (lines_for s (asks 0x00 0 tag (cdb.Unmap 16)) (cdb.Unmap 16)) ≡ Some list_length_error
+list s tag = refl
+
+pub flag : (s : State) (tag : ℕ) → IsIdle s → IsRefused s (asks 0x00 0 tag (read_at 256 1)) invalid_field
+flag s tag h = refused_idle s (asks 0x00 0 tag (read_at 256 1)) invalid_field h refl
+
+pub past : (s : State) (tag : ℕ) → IsIdle s → mended s ≡ false → IsRefused s (asks 0x40 0 tag (read_at 256 1)) out_of_range
+past s tag h e = refused_idle s (asks 0x40 0 tag (read_at 256 1)) out_of_range h refl
+
+not_told : (b c : Bool) → b ≡ c → not b ≡ not c
+not_told b c e = ap not e
+
+or_false : (b c : Bool) → b ≡ c → (b || false) ≡ c
+or_false true c e = e
+or_false false c e = e
+
+pub ready : (s : State) (tag : ℕ) → IsIdle s → mended s ≡ false → locked s ≡ true → IsRefused s (asks 0x20 0 tag (write_at 0)) not_ready
+ready s tag h e k = refused_idle s (asks 0x20 0 tag (write_at 0)) not_ready h (decides (not (mended (idle_state s))) not_ready _ (not_told _ false e))
+
+pub protected : (s : State) (tag : ℕ) → IsIdle s → mended s ≡ true → locked s ≡ true → free_slots s.translation ≡ 0 → IsRefused s (asks 0x20 0 tag (write_at 0)) write_protected
+protected s tag h e k none = refused_idle s (asks 0x20 0 tag (write_at 0)) write_protected h
+    (leaves (not (mended (idle_state s))) not_ready write_protected _ (not_told _ true e)
+    (decides (locked (idle_state s) || false) write_protected _ (or_false _ true (locked_idle s true h k))))
+
+pub crowded : (s : State) (tag : ℕ) → IsIdle s → mended s ≡ true → locked s ≡ false → free_slots s.translation ≡ 0 → IsRefused s (asks 0x20 0 tag (write_at 0)) Busy
+crowded s tag h e k none = refused_idle s (asks 0x20 0 tag (write_at 0)) Busy h
+    (leaves (not (mended (idle_state s))) not_ready Busy _ (not_told _ true e)
+    (leaves (locked (idle_state s) || false) write_protected Busy _ (or_false _ false (locked_idle s false h k))
+    (decides (nat_lt (free_slots (idle_state s).translation) 1) Busy _ (lt-ltb (free_slots (idle_state s).translation) 1 (let few = slots_idle s h none in omega arith)))))
+
+-- ## Past the limits of today
+
+-- a command without blocks lies within any unit
+within : (s : State) (r : Request) (n : ℕ) → is_past (cdb.SecurityIn n) (spec_of s r) ≡ false
+within s r n = by (spec_of s r)
+  where
+    by : (u : Option UnitSpec) → is_past (cdb.SecurityIn n) u ≡ false
+    by None = refl
+    by (Some u) = le-ltb u.blocks 0 (omega arith)
+
+abbrev reads_response : ℕ → Request
+reads_response tag = asks 0x40 0xC4 tag (cdb.SecurityIn 512)
+
+pub ready_first : (s : State) (tag : ℕ) → mended s ≡ false → s.registers.response ≡ [] →
+    first_line (lines_for s (reads_response tag) (cdb.SecurityIn 512)) ≡ Some not_ready
+ready_first s tag e none =
+    leaves (is_past (cdb.SecurityIn 512) (spec_of s (reads_response tag))) out_of_range not_ready _ (within s (reads_response tag) 512)
+    (decides (not (mended s)) not_ready _ (not_told _ false e))
+
+pub response_first : (s : State) (tag : ℕ) → mended s ≡ true → s.registers.response ≡ [] →
+    first_line (lines_for s (reads_response tag) (cdb.SecurityIn 512)) ≡ Some sequence_error
+response_first s tag e none =
+    leaves (is_past (cdb.SecurityIn 512) (spec_of s (reads_response tag))) out_of_range sequence_error _ (within s (reads_response tag) 512)
+    (leaves (not (mended s)) not_ready sequence_error _ (not_told _ true e)
+    (decides (length s.registers.response == 0) sequence_error _ (ap (λ (frames : List (List ℕ)). length frames == 0) none)))
+
+-- ## Lines that never meet
+
+pub unit_or_operation : (r : Request) → not_taken r None ≡ false
+unit_or_operation r = refl
+
+pub boot_or_operation : (operation : ℕ) → is_boot_read operation ≡ true → is_among (operations_of BootUnit) operation ≡ true
+boot_or_operation operation e = later (operation == 0x00) (operation == 0x03) (operation == 0x12) (is_boot_read operation) e
+  where
+    later : (a b c d : Bool) → d ≡ true → (a || (b || (c || d))) ≡ true
+    later true b c d e = refl
+    later false true c d e = refl
+    later false false true d e = refl
+    later false false false d e = e
+
+few : (n : ℕ) → n ≡ 0 → nat_lt most_blocks n ≡ true → ⊥
+few n e k = let other : nat_lt most_blocks 0 ≡ true = subst (λ (m : ℕ). nat_lt most_blocks m ≡ true) e k in cc
+
+pub blocks_or_list : (c : Cdb) → is_too_long c ≡ true → has_wrong_list c ≡ false
+blocks_or_list (cdb.Unmap size) e = absurd (few 0 refl e)
+blocks_or_list c e = refl
+
+no_write : (s : State) (u : Option UnitSpec) (n : ℕ) → is_refused_write s u (cdb.SecurityIn n) ≡ true → ⊥
+no_write s u n e = let none : false ≡ true = e in cc
+
+pub write_or_response : (s : State) (u : Option UnitSpec) (c : Cdb) → is_refused_write s u c ≡ true → lacks_response s c ≡ false
+write_or_response s u (cdb.SecurityIn n) e = absurd (no_write s u n e)
+write_or_response s u c e = refl
+
+pub write_or_other_response : (s : State) (u : Option UnitSpec) (c : Cdb) → is_refused_write s u c ≡ true → has_other_response s c ≡ false
+write_or_other_response s u (cdb.SecurityIn n) e = absurd (no_write s u n e)
+write_or_other_response s u c e = refl
+
+uncrowded : (s : State) (n : ℕ) → is_crowded s (cdb.SecurityIn n) ≡ false
+uncrowded s n = le-ltb (free_slots s.translation) 0 (omega arith)
+
+no_response : false ≡ true → ⊥
+no_response e = cc
+
+pub response_or_slots : (s : State) (c : Cdb) → lacks_response s c ≡ true → is_crowded s c ≡ false
+response_or_slots s (cdb.SecurityIn n) e = uncrowded s n
+response_or_slots s c e = absurd (no_response e)
+
+pub other_response_or_slots : (s : State) (c : Cdb) → has_other_response s c ≡ true → is_crowded s c ≡ false
+other_response_or_slots s (cdb.SecurityIn n) e = uncrowded s n
+other_response_or_slots s c e = absurd (no_response e)

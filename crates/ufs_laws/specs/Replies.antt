@@ -1,0 +1,29 @@
+-- What a task needs so that each of its replies is a message of the grammar.
+use Rattle.std.specs.Prelude.{◌≡◌, ◌<◌, ◌+◌, ◌*◌, ◌^◌, ℕ, List, length, slice_get, take, Some}
+use Rattle.ufs_spec.specs.Exchanges.{Answering, Awaiting, CheckCondition, Deed, Gathering, ReadBlock, Sending, Status, Task, Telling, bytes_sent}
+use Rattle.ufs_spec.specs.Keys.{IsBlock}
+use Rattle.ufs_spec.specs.Messages.{IsByte, IsTransferred}
+
+-- the sense data are bytes
+abbrev pub IsStatus : Status → Type 0
+IsStatus (CheckCondition sense) = IsByte sense.key × IsByte sense.asc × IsByte sense.ascq
+IsStatus status = Unit {0}
+
+-- what it does, of a command of so many bytes of which so many are sent: it asks for bytes that are missing; it sends no
+-- block past the last byte that is sent, and each is 4096 bytes
+abbrev pub DeedSpeaks : ℕ → ℕ → Deed → Type 0
+DeedSpeaks total sent_bytes (Gathering purpose gathered asked) = length gathered < total
+DeedSpeaks total sent_bytes (Sending blocks sent) =
+    (sent < length blocks) × (4096 * length blocks < sent_bytes + 4096)
+    × ((k : ℕ) (block : ReadBlock) → slice_get blocks k ≡ Some block → IsBlock block.body)
+DeedSpeaks total sent_bytes (Telling bytes) = IsTransferred (take sent_bytes bytes)
+DeedSpeaks total sent_bytes (Awaiting commands) = Unit {0}
+DeedSpeaks total sent_bytes (Answering status carried) = IsStatus status × (carried < 2 ^ 32)
+
+-- its LUN and tag are bytes, and its numbers fit their fields
+pub record TaskSpeaks (task : Task) : Type 0 where
+  pub lun : IsByte task.lun
+  pub tag : IsByte task.tag
+  pub expected : task.expected < 2 ^ 32
+  pub length : task.length < 2 ^ 32
+  pub deed : DeedSpeaks task.length (bytes_sent task) task.deed

@@ -1,0 +1,32 @@
+-- Requests that more than one line of the table refuses.
+use Rattle.std.specs.Prelude.{ℕ, true, false, List, Some, None}
+use Rattle.ufs_laws.specs.Runs.{IsAnswered}
+use Rattle.ufs_spec.specs.Cdbs.{cdb_bytes}
+use Rattle.ufs_spec.specs.Exchanges.{Status, response}
+use Rattle.ufs_spec.specs.Machine.{Heard, Spelled}
+use Rattle.ufs_spec.specs.Steps.{Request, State}
+use Rattle.ufs_spec.specs.declared.messages.Message.TheVariants as message
+use Rattle.ufs_spec.specs.declared.scsi.Cdb.{Cdb}
+use Rattle.ufs_spec.specs.declared.scsi.Cdb.TheVariants as cdb
+
+-- a request of 4096 bytes: flags, LUN, task tag, and the command that its CDB spells
+abbrev pub asks : ℕ → ℕ → ℕ → Cdb → Request
+asks flags lun tag c = record { flags = flags; lun = lun; tag = tag; expected = 4096; bytes = cdb_bytes c; cdb = Some c }
+
+-- one with a CDB that spells none
+abbrev pub spells_none : ℕ → ℕ → ℕ → List ℕ → Request
+spells_none flags lun tag bytes = record { flags = flags; lun = lun; tag = tag; expected = 4096; bytes = bytes; cdb = None }
+
+-- READ(10) of so many blocks from an address on, and WRITE(10) with FUA of one block
+abbrev pub read_at : ℕ → ℕ → Cdb
+read_at address blocks = cdb.Read10 address blocks false
+
+abbrev pub write_at : ℕ → Cdb
+write_at address = cdb.Write10 address 1 true
+
+abbrev pub heard_as : Request → Heard
+heard_as r = Spelled (message.Command r.flags r.lun r.tag r.expected r.bytes) r.cdb
+
+-- the request is taken, and its one reply is a RESPONSE of this status, with no data carried
+abbrev pub IsRefused : State → Request → Status → Type 0
+IsRefused s r status = IsAnswered s (heard_as r) (response r.lun r.tag r.expected 0 status)
