@@ -84,8 +84,8 @@ def lifted(copy, limit):
             text = imported(text, name)
     copy.write(path, text)
     for file, old, new in limit.mends:
-        if not copy.change(file, old, new):
-            print(f"{limit.name}: the text to be mended does not stand once in {file}")
+        if not copy.mend(file, old, new):
+            print(f"{limit.name}: the text to be mended does not stand in {file}")
     return True
 
 

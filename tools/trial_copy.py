@@ -13,7 +13,8 @@ import tempfile
 from typing import NamedTuple, Tuple
 
 ROOT = pathlib.Path(__file__).resolve().parent.parent
-# These crates hold laws and lemmas alone, so a part of them can be cut out. The lowest crate holds the definitions.
+# These crates hold laws and lemmas only, so a part of them can be cut out. Of any other crate below, as that of the
+# definitions, only lemmas can be cut, as long as its functions are proved.
 CRATES_OF_LAWS = ("ufs_laws", "power_loss")
 # So many times a copy is cut before a try is given up.
 MOST_CUTS = 12
@@ -85,6 +86,13 @@ class Said(NamedTuple):
                 break
             fault = below[0]
         return fault
+
+
+def can_be_cut(said):
+    """Whether what fell in a crate are laws and lemmas only."""
+    if said.crate in CRATES_OF_LAWS:
+        return True
+    return bool(said.faults) and not said.fallen() and all(fault.file.startswith("proofs/") for fault in said.faults)
 
 
 def read_faults(text, folder):
@@ -160,6 +168,15 @@ class TrialCopy:
         self.write(path, text.replace(old, new))
         return True
 
+    def mend(self, file, old, new):
+        """Puts a new text in the place of each old one; says whether there was one."""
+        path = self.path(file)
+        text = path.read_text(encoding="utf-8") if path.exists() else ""
+        if old not in text:
+            return False
+        self.write(path, text.replace(old, new))
+        return True
+
     def undo(self):
         """Makes the copy what it was."""
         for path, text in self.before.items():
@@ -189,7 +206,7 @@ class TrialCopy:
         laws, lemmas = [], []
         for _ in range(MOST_CUTS):
             said = self.check(crate)
-            if said.crate == crate or said.crate not in CRATES_OF_LAWS:
+            if said.crate == crate or not can_be_cut(said):
                 break
             new_laws, new_lemmas = self.cut(said)
             if not new_laws and not new_lemmas:
@@ -203,13 +220,18 @@ class TrialCopy:
     def cut(self, said):
         """Takes out of a crate of laws the laws that fell, and the lemmas that fell."""
         laws = [law for law in said.fallen() if self.cut_law(said.crate, law)]
-        self.drop_unused(said.crate)
+        if said.crate in CRATES_OF_LAWS:
+            self.drop_unused(said.crate)
         lemmas = []
         for fault in said.faults:
             path = self.path(f"{said.crate}/{fault.file}")
             if not path.exists():
                 continue
             text = path.read_text(encoding="utf-8")
+            if not fault.fell and drops_where(text, fault.line) != text:
+                self.write(path, drops_where(text, fault.line))
+                lemmas.append("where")
+                continue
             names = fault.fell or (declared_at(text, fault.line),)
             for name in (*names, *(citing(text, names) if fault.perhaps else ())):
                 if name and self.cut_lemma(path, name):
@@ -290,6 +312,20 @@ def declares(line):
     if not found and indent(line) == 0:
         found = re.match(r"(?:(?:pub|data|record) )+([^\s(:]+) [^:=]*: ", line)
     return found[1] if found else None
+
+
+def drops_where(text, number):
+    """A file without a block that declares nothing: the head of a module goes, of a declaration only its `where`."""
+    lines = text.splitlines(keepends=True)
+    first = number - 1
+    if first < len(lines) and lines[first].lstrip().startswith("module _"):
+        last = first
+        while last + 1 < len(lines) and not re.search(r"\bwhere$", lines[last].rstrip()):
+            last += 1
+        del lines[first : last + 1]
+    elif first < len(lines) and lines[first].rstrip().endswith("where"):
+        lines[first] = lines[first].rstrip()[: -len("where")] + "\n"
+    return "".join(lines)
 
 
 def citing(text, names):

@@ -28,7 +28,7 @@ def refused(rule, said, laws, lemmas, mended):
     crate, law = rule.law.split("::")
     notes = [f"skipped {name}" for name in laws]
     notes += [f"cut {len(lemmas)} lemmas below"] if lemmas else []
-    notes += [f"mended {file}" for file in mended]
+    notes += [f"mended {file}" for file in dict.fromkeys(mended)]
     if said.crate != crate:
         fault = f" at {said.faults[0].place()}" if said.faults else ""
         return False, f"the check came to {said.crate}, not to {crate}{fault}", notes
@@ -52,8 +52,8 @@ def tried(copy, rule):
             if not copy.change(file, old, new):
                 return False, f"a text to be changed does not stand once in {file}: {old.strip()[:60]}", []
         for file, old, new in rule.mends:
-            if not copy.change(file, old, new):
-                return False, f"a text to be mended does not stand once in {file}: {old.strip()[:60]}", []
+            if not copy.mend(file, old, new):
+                return False, f"a text to be mended does not stand in {file}: {old.strip()[:60]}", []
         said, laws, lemmas = copy.reach(crate)
         return refused(rule, said, laws, lemmas, [file for file, _, _ in rule.mends])
     finally:

@@ -1,8 +1,8 @@
 """The wrong rules that turn_rules.py tries: each is a rule of the specification, turned around.
 
 A rule names the law that is to refuse it, as crate::function: one that speaks of this rule. Each change is an old text,
-that stands in the file once, and a new one. A proof that only quotes an old text is mended: a file, an old text and a
-new one.
+that stands in the file once, and a new one. A proof that only quotes an old text is mended: a file, an old text that may
+stand there several times, and a new one.
 """
 from typing import NamedTuple, Tuple
 
@@ -363,11 +363,24 @@ RULES = (
 
     # Answers, durability and the lock
     rule(
+        "flush_waits_for_one_less",
+        "A flush waits for all but the last command that was accepted before it.",
+        "ufs_laws::acknowledged_commands_are_held", MACHINE,
+        ("(if immediate then Answering Good 0 else Awaiting (length s.accepted))",
+         "(if immediate then Answering Good 0 else Awaiting (length s.accepted - 1))"),
+    ),
+    rule(
         "met_lock_answered_good",
         "A write that meets the lock at its last data is answered GOOD.",
         "power_loss::good_promises_durability", MACHINE,
         ("(with_moves s (Release blocks ∷ [])) task.tag (Answering write_error task.length)",
          "(with_moves s (Release blocks ∷ [])) task.tag (Answering Good task.length)"),
+        mends=(("power_loss/proofs/HostData.antt", "Answering write_error task.length", "Answering Good task.length"),
+               ("power_loss/proofs/HostData.antt", "task_of, write_error}", "task_of, Good}"),
+               ("power_loss/proofs/Tracked.antt", "task.tag (Answering write_error task.length)",
+                "task.tag (Answering Good task.length)"),
+               ("power_loss/proofs/Tracked.antt", "bytes task (Answering write_error task.length)",
+                "bytes task (Answering Good task.length)")),
     ),
     rule(
         "setting_answered_and_not_held",
@@ -576,10 +589,11 @@ RULES = (
         "A command is not refused though its unit does not take its operation code.",
         "    ∷ line (not_taken r (lun_of (numbers_of s) r.lun)) invalid_operation\n",
     ),
-    line_off(
+    rule(
         "line_no_command",
         "A CDB that spells no command is not refused.",
-        "lines_behind s r None = line true invalid_field ∷ []", "lines_behind s r None = []",
+        "ufs_laws::a_refused_read_says_why", STEPS,
+        ("lines_behind s r None = line true invalid_field ∷ []", "lines_behind s r None = []"),
     ),
     line_off(
         "line_too_long",
@@ -701,7 +715,7 @@ RULES = (
     rule(
         "forced_writes_look_unforced",
         "FUA has no bit in a CDB.",
-        "ufs_laws::a_written_block_is_read", CDBS,
+        "ufs_laws::messages_are_heard_once", CDBS,
         ("forced_bit forced = if forced then 0x08 else 0x00", "forced_bit forced = if forced then 0x00 else 0x00"),
     ),
     rule(
@@ -761,10 +775,15 @@ RULES = (
          "carried_out s lun function meant code = without_tasks s (is_aborted lun function meant)"),
     ),
     rule(
-        "unknown_function_aborts",
-        "Every task management function aborts.",
+        "other_kinds_heard",
+        "The kinds that only a device sends are heard, too.",
+        "ufs_laws::heard_kinds_are_a_hosts", MESSAGES,
+        ("host_fault_of bytes = fault_among heard_codes bytes", "host_fault_of bytes = fault_among known_codes bytes"),
+    ),
+    rule(
+        "aborting_is_refused",
+        "A request that aborts is answered as one with an unknown function.",
         "ufs_laws::refused_management_aborts_nothing", MACHINE,
-        ("aborts function = is_among (0x01 ∷ 0x02 ∷ 0x04 ∷ 0x08 ∷ []) function",
-         "aborts function = not (is_among (0x80 ∷ 0x81 ∷ []) function)"),
+        ("    else if aborts function then 0x00\n", "    else if aborts function then 0x04\n"),
     ),
 )

@@ -107,7 +107,7 @@ read_right s r command unit address n v free keys =
 pub record Passed (s : State) (r : Request) (command : Cdb) : Type 0 where
   pub unit : lacks_unit s r (lun_of (numbers_of s) r.lun) ≡ false
   pub taken : not_taken r (lun_of (numbers_of s) r.lun) ≡ false
-  pub not_long : is_too_long command ≡ false
+  pub not_long : is_too_long (numbers_of s) command ≡ false
   pub within : is_past command (spec_of s r) ≡ false
   pub ready : (needs_mended (operation_of command) && not (mended s)) ≡ false
   pub room : is_crowded s command ≡ false
@@ -145,7 +145,7 @@ pub passed : (s : State) (r : Request) (command : Cdb) → r.cdb ≡ Some comman
 passed s r command e h =
     let lines : first_line (line (lacks_unit s r (lun_of (numbers_of s) r.lun)) no_unit ∷ line (not_taken r (lun_of (numbers_of s) r.lun)) invalid_operation ∷ lines_behind s r (Some command)) ≡ None =
     subst (λ (c : Option Cdb). first_line (line (lacks_unit s r (lun_of (numbers_of s) r.lun)) no_unit ∷ line (not_taken r (lun_of (numbers_of s) r.lun)) invalid_operation ∷ lines_behind s r c) ≡ None) e h in
-    let none = none_applies (lacks_unit s r (lun_of (numbers_of s) r.lun)) (not_taken r (lun_of (numbers_of s) r.lun)) (is_too_long command) (has_wrong_list command)
+    let none = none_applies (lacks_unit s r (lun_of (numbers_of s) r.lun)) (not_taken r (lun_of (numbers_of s) r.lun)) (is_too_long (numbers_of s) command) (has_wrong_list command)
     (lacks_data r (direction_of command) (length_in s command)) (is_past command (spec_of s r)) (needs_mended (operation_of command) && not (mended s))
     no_unit invalid_operation invalid_field list_length_error invalid_field out_of_range not_ready
     (line (is_refused_write s (spec_of s r) command) write_protected ∷ line (lacks_response s command) sequence_error
@@ -224,7 +224,7 @@ no_spec : UnitSpec
 no_spec = record { blocks = 0; boot = 0; protect = 0 }
 
 -- the blocks lie within the unit
-lies_within : (s : State) (r : Request) (command : Cdb) → UnitTold s r → is_past command (spec_of s r) ≡ false →
+pub lies_within : (s : State) (r : Request) (command : Cdb) → UnitTold s r → is_past command (spec_of s r) ≡ false →
     address_of command + blocks_of command ≤ get_or (map (λ (u : UnitSpec). u.blocks) (numbers_of s).units.items) r.lun 0
 lies_within s r command told h =
     let units = (numbers_of s).units.items in
@@ -244,7 +244,7 @@ ready_now s command needs h = by (needs_mended (operation_of command)) (is_mende
     by false b e k = cc
 
 claimed_right : (s : State) (r : Request) (command : Cdb) (unit blocks : ℕ) (forced : Bool) → IsTied s → IsFree s r.tag → Passed s r command → UnitTold s r → unit ≡ r.lun →
-    slots_needed command ≡ blocks → blocks_of command ≡ blocks → needs_mended (operation_of command) ≡ true → is_too_long command ≡ nat_lt most_blocks (blocks_of command) → 1 ≤ blocks →
+    slots_needed command ≡ blocks → blocks_of command ≡ blocks → needs_mended (operation_of command) ≡ true → is_too_long (numbers_of s) command ≡ nat_lt (most_blocks (numbers_of s)) (blocks_of command) → 1 ≤ blocks →
     Right s (with_task (with_moves s (Claim blocks ∷ [])) r (Some command) (4096 * blocks) (Gathering (ForWrite unit (address_of command) blocks forced) [] false))
 claimed_right s r command unit blocks forced v free p told same slots size needs long some =
     let t = s.translation in
@@ -252,7 +252,7 @@ claimed_right s r command unit blocks forced v free p told same slots size needs
     let m = is_mended t.work.mending in
     let deed : Deed = Gathering (ForWrite unit (address_of command) blocks forced) [] false in
     let task : Task = record { lun = r.lun; tag = r.tag; expected = r.expected; command = Some command; length = 4096 * blocks; deed = deed; request = None } in
-    let few = ltb-false most_blocks (blocks_of command) (sym long ∙ p.not_long) in
+    let few = ltb-false (most_blocks (numbers_of s)) (blocks_of command) (sym long ∙ p.not_long) in
     let lies = lies_within s r command told p.within in
     let count = length-map units (λ (x : UnitSpec). x.blocks) in
     let here : get_or (map (λ (x : UnitSpec). x.blocks) units) unit 0 ≡ get_or (map (λ (x : UnitSpec). x.blocks) units) r.lun 0 =
@@ -280,7 +280,7 @@ claimed_right s r command unit blocks forced v free p told same slots size needs
     }))
 
 write_right : (s : State) (r : Request) (command : Cdb) (blocks : ℕ) (forced : Bool) → IsTied s → IsFree s r.tag → Passed s r command → TakenByUnits (operation_in r) →
-    slots_needed command ≡ blocks → blocks_of command ≡ blocks → needs_mended (operation_of command) ≡ true → is_too_long command ≡ nat_lt most_blocks (blocks_of command) →
+    slots_needed command ≡ blocks → blocks_of command ≡ blocks → needs_mended (operation_of command) ≡ true → is_too_long (numbers_of s) command ≡ nat_lt (most_blocks (numbers_of s)) (blocks_of command) →
     Right s (write_begun s r command (unit_or_first (unit_of_request s r)) (address_of command) blocks forced)
 write_right s r command blocks forced v free p units slots size needs long = by (blocks == 0) refl
   where

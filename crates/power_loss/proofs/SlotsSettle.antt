@@ -5,7 +5,7 @@ use Rattle.std.proofs.lemmas.Option.{slice_get-map}
 use Rattle.ufs_spec.proofs.Facts.{ltb-true}
 use Rattle.ufs_spec.specs.Cells.{GroupPage}
 use Rattle.ufs_spec.specs.Disk.{Programming}
-use Rattle.ufs_spec.specs.Ledger.{InSlot, Ledger, Looked, Name, OnPage, Unwritten, looked_at, looked_on, page_stands, settled_look}
+use Rattle.ufs_spec.specs.Ledger.{InSlot, Ledger, Looked, Name, OnPage, Unwritten, looked_on, page_stands, settled_look}
 use Rattle.ufs_spec.specs.Moves.{End, WentWell, end_flight, moved, settled_pin}
 use Rattle.ufs_spec.specs.Translation.{Pin, Translation, name_of}
 use Rattle.ufs_spec.specs.declared.flash.Place.{Place}

@@ -2,22 +2,20 @@
 use Rattle.std.proofs.Common.{◌≡◌, ◌≢◌, ℕ, zero, suc, ◌+◌, ◌<◌, ◌≤◌, ◌⊎◌, true, false, List, Option, Some, None, refl, sym, ap, ◌∙◌, subst, inl, inr, ⊎_elim, arith}
 use Rattle.ufs_spec.specs.Cells.{AreWithin, Cell, Cells, GroupPage, Mark, MarkPage, Nothing, key_of}
 use Rattle.ufs_spec.specs.Disk.{CellCrash, Disk, IsNewestFinished, IsReplaced, MayErase, SpentBy, Spot, Touches, at_spot, spot_of, with_erasing}
-use Rattle.ufs_spec.specs.Kept.{HasPage, IsFenced, IsKept, IsNewestMark, recorded_in}
+use Rattle.ufs_spec.specs.Kept.{HasPage, IsFenced, IsNewestMark, recorded_in}
 use Rattle.ufs_spec.specs.Ledger.{Entry}
-use Rattle.ufs_spec.specs.Sound.{CellsSound, CellsSuit}
 use Rattle.ufs_spec.specs.Translation.{Mended, Mending, Repairing, Translation, Unmarked}
 use Rattle.ufs_spec.specs.declared.flash.Key.{Key}
 use Rattle.ufs_spec.specs.declared.flash.Place.{Place}
 use Rattle.ufs_spec.specs.declared.flash.Tag.{Tag}
 use Rattle.power_loss.specs.Book.{IsLostNumber, IsOverwritten, IsPageAt, IsPlainMark, IsWritten, book}
-use Rattle.power_loss.specs.Invariant.{IsPrefix, IsSecure, MendingRight, Valid}
+use Rattle.power_loss.specs.Invariant.{IsSecure, MendingRight, Valid}
 use Rattle.power_loss.specs.Losing.{LosesIn, is_marked}
 use Rattle.power_loss.proofs.LivePages.{newest_is}
 use Rattle.power_loss.proofs.OneMore.{at_spot_cases}
 use Rattle.power_loss.proofs.Spents.{entry_for, fenced_none, known_one, lost_or_not, old_page}
 use Rattle.power_loss.proofs.StopCells.{stays, within}
 use Rattle.power_loss.proofs.StopKept.{Finished, Image, IsRepairing, IsShown, all_repairs, finished_parts, image, newest_stays}
-use Rattle.power_loss.proofs.StopSound.{image_prefix, image_sound, image_suits}
 
 -- Pages that are gone stood on the disk
 

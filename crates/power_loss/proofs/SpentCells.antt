@@ -1,8 +1,8 @@
 -- Sound cells that lose pages which may go by their newest mark are sound and have the same contents.
-use Rattle.std.proofs.Common.{◌≡◌, ◌≢◌, ℕ, suc, ◌<◌, ◌≤◌, ◌⊎◌, List, Option, Some, None, refl, sym, ap, ◌∙◌, subst, inl, inr, ⊎_elim, arith}
+use Rattle.std.proofs.Common.{◌≡◌, ℕ, suc, ◌<◌, ◌≤◌, ◌⊎◌, List, Option, Some, None, refl, sym, ◌∙◌, subst, inl, inr, ⊎_elim, arith}
 use Rattle.ufs_spec.proofs.Facts.{at_most}
-use Rattle.ufs_spec.specs.Cells.{Cell, Cells, GroupPage, Mark, MarkPage, Nothing, key_of}
-use Rattle.ufs_spec.specs.Kept.{Counts, HasPage, Holds, IsFenced, IsKept, IsNewest, IsRecorded, IsWhole}
+use Rattle.ufs_spec.specs.Cells.{Cells, GroupPage, Mark, MarkPage, key_of}
+use Rattle.ufs_spec.specs.Kept.{Counts, HasPage, Holds, IsFenced, IsKept, IsRecorded, IsWhole}
 use Rattle.ufs_spec.specs.Sound.{CellsSound, CellsSuit, SamePage}
 use Rattle.ufs_spec.specs.declared.configs.Numbers.{Numbers}
 use Rattle.ufs_spec.specs.declared.flash.Fence.{Fence}

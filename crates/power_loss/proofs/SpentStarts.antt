@@ -1,9 +1,8 @@
 -- A block of which each page may go loses its pages, at any moment of a life.
-use Rattle.std.proofs.Common.{◌≡◌, ◌≢◌, ℕ, suc, ◌<◌, ◌≤◌, ◌⊎◌, Bool, true, false, List, [], take, length, Option, Some, None, refl, sym, ap, ◌∙◌, subst, inl, inr, ⊎_elim, arith}
-use Rattle.ufs_spec.specs.Cells.{AreWithin, Cell, Cells, GroupPage, Mark, MarkPage, Nothing}
+use Rattle.std.proofs.Common.{◌≡◌, ℕ, suc, ◌<◌, ◌≤◌, true, false, List, length, Option, Some, None, refl, sym, ap, ◌∙◌, subst, inl, inr, ⊎_elim, arith}
+use Rattle.ufs_spec.specs.Cells.{Cell, Cells, GroupPage, Mark, MarkPage, Nothing}
 use Rattle.ufs_spec.specs.Disk.{CellCrash, IsNewestFinished, MayErase, SpentBy, Spot, spot_of, with_erasing}
-use Rattle.ufs_spec.specs.Kept.{HoldAll, Holds, IsFenced, IsKept, IsNewestMark, IsRecorded, fence_in, recorded_in}
-use Rattle.ufs_spec.specs.Ledger.{Entry}
+use Rattle.ufs_spec.specs.Kept.{Holds, IsFenced, IsKept, IsNewestMark, fence_in, recorded_in}
 use Rattle.ufs_spec.specs.Openings.{number_of}
 use Rattle.ufs_spec.specs.Sound.{CellsSound, CellsSuit}
 use Rattle.ufs_spec.specs.Translation.{Mended, Mending, Repairing, Translation, Unmarked}
@@ -14,7 +13,7 @@ use Rattle.power_loss.specs.Book.{IsLostNumber, book}
 use Rattle.power_loss.specs.Invariant.{IsPrefix, MendingRight, Valid}
 use Rattle.power_loss.specs.Losing.{IsStartRight, LosesIn, StartsRight, is_marked}
 use Rattle.power_loss.proofs.OneMore.{two_ways}
-use Rattle.power_loss.proofs.SpentBlocks.{ImageLeft, IsGone, Judged, image_left, left_image, mark_left, marked, newest_was, outside, restored, restored_crash, restored_gone, spent, was}
+use Rattle.power_loss.proofs.SpentBlocks.{ImageLeft, IsGone, Judged, image_left, left_image, marked, newest_was, outside, restored, restored_crash, restored_gone, spent, was}
 use Rattle.power_loss.proofs.SpentCells.{Loss, MayGo, holds_less, kept_less, less_sound, less_suits}
 use Rattle.power_loss.proofs.StopCells.{same_mark, stays}
 use Rattle.power_loss.proofs.StopKept.{Changed, Own, Started, Unchanged, disk_mark, outcome}

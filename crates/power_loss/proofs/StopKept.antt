@@ -179,7 +179,7 @@ own_same t fence m other a b n = λ i. record {
   numbers = (a.numbers ∙ sym b.numbers) i;
 }
 
-opened_below : (c : Cells) (newest : Option Mark) (p : Place) (m : Mark) → IsNewestMark c newest → c p ≡ MarkPage m → m.number ≤ number_of newest
+pub opened_below : (c : Cells) (newest : Option Mark) (p : Place) (m : Mark) → IsNewestMark c newest → c p ≡ MarkPage m → m.number ≤ number_of newest
 opened_below c None p m n h = absurd (n p m h)
 opened_below c (Some newest) p m n h = n.1 p m h
 

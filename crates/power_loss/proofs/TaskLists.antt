@@ -107,7 +107,7 @@ tasks_kept s a m c f tasks shorts k h = record {
 
 -- One task changes
 
-none_changed : (tag : ℕ) (deed : Deed) (tasks : List Task) → list_any (is_task_of tag) tasks ≡ false → map (with_deed tag deed) tasks ≡ tasks
+pub none_changed : (tag : ℕ) (deed : Deed) (tasks : List Task) → list_any (is_task_of tag) tasks ≡ false → map (with_deed tag deed) tasks ≡ tasks
 none_changed tag deed [] h = refl
 none_changed tag deed (t ∷ ts) h =
     let both = or_parts (is_task_of tag t) (list_any (is_task_of tag) ts) h in

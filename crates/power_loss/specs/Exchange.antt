@@ -11,6 +11,7 @@ use Rattle.ufs_spec.specs.Keys.{CanApplyAll, IsBlock, IsKey, IsPlain, IsSettings
 use Rattle.ufs_spec.specs.Ledger.{Entry, accepted_groups, before_accepted}
 use Rattle.ufs_spec.specs.Machine.{Call, Finish, Host, IsHeard, MayLeave, claimed_by, tag_in}
 use Rattle.ufs_spec.specs.Messages.{AreBytes}
+use Rattle.ufs_spec.specs.Pages.{group_bound}
 use Rattle.ufs_spec.specs.Plain.{Shape, shape_of, shape_of_numbers}
 use Rattle.ufs_spec.specs.Steps.{State, numbers_of}
 use Rattle.ufs_spec.specs.Translation.{is_mended}
@@ -22,11 +23,11 @@ use Rattle.power_loss.specs.Invariant.{Valid}
 
 -- Pages as they are sealed
 
--- what an entry may hold: a block, of the settings one in their ranges, in a group of at most 32 pages
+-- what an entry may hold: a block, of the settings one in their ranges, in a group that its tag can say
 pub record EntryFits (e : Entry) (index : ℕ) : Type 0 where
   pub block : IsBlock e.item.body
   pub settings : e.item.key.kind ≡ 3 → IsSettingsBody e.item.body
-  pub size : e.size ≤ 32
+  pub size : e.size ≤ group_bound
   pub inside : index < e.size
 
 pub record BookFits (b : Book) : Type 0 where

@@ -13,6 +13,7 @@ mod pending;
 mod promises;
 mod runs;
 mod settled_slots;
+mod spellings;
 
 ghost use Rattle.std.specs.Prelude.{◌≡◌, ◌≢◌, ◌+◌, ◌≤◌, ℕ, Bool, true, false, List, Option, Some};
 ghost use Rattle.ufs_spec.specs.Cells.{AreWithin, Cells, GroupPage, Mark, Nothing};
@@ -52,6 +53,7 @@ pub use runs::{
     one_array_is_left,
 };
 pub use settled_slots::a_durable_slot_becomes_its_page;
+pub use spellings::replies_can_be_spelled;
 
 /// Opening over a sound array gives a valid life.
 pub fn opening_is_valid()

@@ -22,7 +22,7 @@ settings_body p plain = record {
   bytes = refl;
 }
 
-content_is_block : (p : Plain) → IsPlain p → (k : Key) → IsKey (shape_of p) k → IsBlock (content p k)
+pub content_is_block : (p : Plain) → IsPlain p → (k : Key) → IsKey (shape_of p) k → IsBlock (content p k)
 content_is_block p plain k (IsData unit address there within) =
     let lt : unit < length p.units = omega (arith, length-map p.units length) in
     let size = get_or-map length p.units unit [] 0 lt in

@@ -7,6 +7,8 @@ use Rattle.ufs_laws.specs.Table.{IsRefused, asks, read_at, spells_none, write_at
 use Rattle.ufs_spec.specs.Exchanges.{Busy, Status, TaskSetFull, invalid_field, invalid_operation, list_length_error, no_unit, not_ready, out_of_range, response, sequence_error, short_reply, write_protected}
 use Rattle.ufs_spec.specs.Machine.{command_heard, opened_with, with_short}
 use Rattle.ufs_spec.specs.Messages.{is_among}
+use Rattle.std.proofs.lemmas.Bool.{ltb-true}
+use Rattle.ufs_spec.specs.declared.configs.Numbers.{Numbers}
 use Rattle.ufs_spec.specs.Stages.{most_blocks, most_tasks}
 use Rattle.ufs_spec.specs.Steps.{BootUnit, is_boot_read, not_taken, operations_of, Request, State, first_line, has_other_response, has_wrong_list, is_crowded, is_past, is_refused_write, is_too_long, lacks_response, lines_for, locked, mended, refusal, spec_of}
 use Rattle.ufs_spec.specs.Translation.{free_slots}
@@ -127,12 +129,12 @@ boot_or_operation operation e = later (operation == 0x00) (operation == 0x03) (o
     later false false true d e = refl
     later false false false d e = e
 
-few : (n : ℕ) → n ≡ 0 → nat_lt most_blocks n ≡ true → ⊥
-few n e k = let other : nat_lt most_blocks 0 ≡ true = subst (λ (m : ℕ). nat_lt most_blocks m ≡ true) e k in cc
+few : (most n : ℕ) → n ≡ 0 → nat_lt most n ≡ true → ⊥
+few most n e k = let l = ltb-true most n k in omega arith
 
-pub blocks_or_list : (c : Cdb) → is_too_long c ≡ true → has_wrong_list c ≡ false
-blocks_or_list (cdb.Unmap size) e = absurd (few 0 refl e)
-blocks_or_list c e = refl
+pub blocks_or_list : (n : Numbers) (c : Cdb) → is_too_long n c ≡ true → has_wrong_list c ≡ false
+blocks_or_list n (cdb.Unmap size) e = absurd (few (most_blocks n) 0 refl e)
+blocks_or_list n c e = refl
 
 no_write : (s : State) (u : Option UnitSpec) (n : ℕ) → is_refused_write s u (cdb.SecurityIn n) ≡ true → ⊥
 no_write s u n e = let none : false ≡ true = e in cc

@@ -3,6 +3,7 @@ ghost use Rattle.std.specs.Prelude.{◌≡◌, ◌≤◌, ◌∷◌, [], ℕ, Li
 ghost use Rattle.ufs_laws.specs.Runs.{IsIdle};
 ghost use Rattle.ufs_laws.specs.Table.{IsRefused, asks, read_at, spells_none, write_at};
 ghost use Rattle.ufs_spec.specs.declared.Cdb.{Cdb};
+ghost use Rattle.ufs_spec.specs.declared.Numbers.{Numbers};
 ghost use Rattle.ufs_spec.specs.declared.Cdb.TheVariants as cdb;
 ghost use Rattle.ufs_spec.specs.declared.UnitSpec.{UnitSpec};
 ghost use Rattle.ufs_spec.specs.Cdbs.{inquiry};
@@ -53,7 +54,7 @@ pub fn each_line_of_the_table_counts()
 pub fn lines_that_never_meet()
     ensures unit_or_operation { (r : Request) → not_taken r None ≡ false }
     ensures boot_or_operation { (operation : ℕ) → is_boot_read operation ≡ true → is_among (operations_of BootUnit) operation ≡ true }
-    ensures blocks_or_list { (c : Cdb) → is_too_long c ≡ true → has_wrong_list c ≡ false }
+    ensures blocks_or_list { (n : Numbers) (c : Cdb) → is_too_long n c ≡ true → has_wrong_list c ≡ false }
     ensures write_or_response { (s : State) (u : Option UnitSpec) (c : Cdb) → is_refused_write s u c ≡ true → lacks_response s c ≡ false }
     ensures write_or_other_response { (s : State) (u : Option UnitSpec) (c : Cdb) → is_refused_write s u c ≡ true →
         has_other_response s c ≡ false }

@@ -35,6 +35,10 @@ in_range n =
     && is_between 64 1024 n.slots
     && is_between 0 (n.dies * n.blocks) n.spare
 
+-- how many blocks a command may have once all stages are built, each of them a page of its group
+abbrev pub command_blocks : Numbers → ℕ
+command_blocks n = 32
+
 -- Room
 
 -- the blocks of all units

@@ -1,6 +1,7 @@
 -- The moves of the translation layer: which may come, and what each makes of it (this profile).
 use Rattle.std.specs.Prelude.{◌≡◌, ℕ, ◌+◌, ◌-◌, ◌≤◌, ◌==◌, ◌&&◌, not, Bool, true, false, if◌then◌else◌, List, [], ◌∷◌, ◌++◌, All, filter, length, map, max, slice_get, Option, Some, None}
 use Rattle.ufs_spec.specs.Cells.{Cell, Cells, GroupPage, IsCell, Mark, MarkPage, Nothing, Opens, key_of}
+use Rattle.ufs_spec.specs.Configs.{command_blocks}
 use Rattle.ufs_spec.specs.Disk.{BlockState, Bad, CellCrash, Disk, Erasing, Flight, ForNobody, ForRest, ForStep, ForTask, Free, Programming, Reader, Reading, at_spot, ended, erase_failed, erased, flight_alone, program_failed, programmed}
 use Rattle.ufs_spec.specs.Keys.{Group, IsBlock, IsKey, IsSettingsBody, Item}
 use Rattle.ufs_spec.specs.Ledger.{Ledger, Name, before_accepted, look, page_stands, same_name, settled_look}
@@ -205,10 +206,10 @@ pub record IsItem (t : Translation) (item : Item) : Type 0 where
   pub block : IsBlock item.body
   pub settings : item.key.kind ≡ 3 → IsSettingsBody item.body
 
--- 1 to 32 pages of different keys
+-- one page or more of different keys, no more than a command has blocks
 pub record IsGroup (t : Translation) (g : Group) : Type 0 where
   pub some : 1 ≤ length g
-  pub not_long : length g ≤ 32
+  pub not_long : length g ≤ command_blocks t.numbers
   pub differ : KeysDiffer g
   pub items : All (IsItem t) g
 

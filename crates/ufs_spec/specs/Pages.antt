@@ -32,6 +32,10 @@ tag_in s = record {
   frontier = field_at 8 24 s;
 }
 
+-- how many pages a group may have as its tags say it, whatever the configuration
+abbrev pub group_bound : ℕ
+group_bound = 32
+
 -- the ranges of a tag: kind 1 is data, 2 the RPMB area, 3 settings and 4 a mark
 pub record IsTag (t : Tag) : Type 0 where
   pub kind_known : (1 ≤ t.kind) × (t.kind ≤ 4)
@@ -40,7 +44,7 @@ pub record IsTag (t : Tag) : Type 0 where
   pub address_fits : t.address < 2 ^ 32
   pub address_of_blocks_alone : 3 ≤ t.kind → t.address ≡ 0
   pub number_given : (1 ≤ t.number) × (t.number ≤ 2 ^ 62)
-  pub group_not_long : (1 ≤ t.size) × (t.size ≤ 32)
+  pub group_not_long : (1 ≤ t.size) × (t.size ≤ group_bound)
   pub index_in_group : t.index < t.size
   pub mark_alone : t.kind ≡ 4 → (t.index ≡ 0) × (t.size ≡ 1)
   pub frontier_fits : t.frontier ≤ 2 ^ 62

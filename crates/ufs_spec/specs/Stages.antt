@@ -11,9 +11,9 @@ read_codes = 0x01 ∷ 0x02 ∷ []
 abbrev pub heard_codes : List ℕ
 heard_codes = 0x01 ∷ 0x02 ∷ []
 
--- until commands of up to 32 blocks are built: how many blocks a command may have
-abbrev pub most_blocks : ℕ
-most_blocks = 1
+-- until commands of more blocks are built: how many blocks a command may have, at last `command_blocks` (Configs)
+abbrev pub most_blocks : Numbers → ℕ
+most_blocks n = 1
 
 -- until 32 tasks are built, as many as this profile has: how many tasks may be open
 abbrev pub most_tasks : ℕ

@@ -152,10 +152,10 @@ not_taken r (Some lun) = not (takes lun (operation_in r))
 abbrev pub is_frames : ℕ → Bool
 is_frames n = nat_le 512 n && nat_le n 4096 && (n % 512 == 0)
 
-abbrev pub is_too_long : Cdb → Bool
-is_too_long (cdb.SecurityIn n) = not (is_frames n)
-is_too_long (cdb.SecurityOut n) = not (is_frames n)
-is_too_long command = nat_lt most_blocks (blocks_of command)
+abbrev pub is_too_long : Numbers → Cdb → Bool
+is_too_long n (cdb.SecurityIn size) = not (is_frames size)
+is_too_long n (cdb.SecurityOut size) = not (is_frames size)
+is_too_long n command = nat_lt (most_blocks n) (blocks_of command)
 
 -- 5: UNMAP's list is not of 0, 8 or 24 bytes
 abbrev pub has_wrong_list : Cdb → Bool
@@ -244,7 +244,7 @@ first_line (l ∷ ls) = if l.applies then Some l.status else first_line ls
 -- the lines for a CDB that spells a command
 abbrev pub lines_for : State → Request → Cdb → List Line
 lines_for s r command =
-    line (is_too_long command) invalid_field
+    line (is_too_long (numbers_of s) command) invalid_field
     ∷ line (has_wrong_list command) list_length_error
     ∷ line (lacks_data r (direction_of command) (length_in s command)) invalid_field
     ∷ line (is_past command (spec_of s r)) out_of_range

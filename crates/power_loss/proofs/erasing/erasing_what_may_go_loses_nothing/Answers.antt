@@ -1,5 +1,6 @@
 use Rattle.power_loss.proofs.SpentBlocks.{left_within}
 use Rattle.power_loss.proofs.SpentStarts.{fine}
+use Rattle.power_loss.proofs.StartKeeps.{move_start, opened_start}
 use Rattle.power_loss.proofs.erasing.erasing_what_may_go_loses_nothing.Goals as goal
 
 pub returns-clause-within : goal.returns-clause-within
@@ -13,3 +14,9 @@ returns-clause-suits c = λ t s crashed left m v st may crash loses n. (fine t s
 
 pub returns-clause-prefix : goal.returns-clause-prefix
 returns-clause-prefix c = λ t s crashed left m kept v st may crash loses n. (fine t s crashed left m v st may crash loses n).prefix kept
+
+pub returns-clause-opened : goal.returns-clause-opened
+returns-clause-opened c = opened_start
+
+pub returns-clause-keeps : goal.returns-clause-keeps
+returns-clause-keeps c = move_start

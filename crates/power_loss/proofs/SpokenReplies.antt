@@ -1,0 +1,111 @@
+-- In a state that is tied to its dies and commands each call keeps what tasks need for their replies.
+use Rattle.std.proofs.Common.{◌≡◌, ℕ, ◌+◌, ◌*◌, ◌<◌, ◌≤◌, Bool, true, false, List, [], ◌∷◌, length, map, get_or, Option, Some, None, refl, sym, ap, ◌∙◌, subst, arith}
+use Rattle.std.specs.Prelude.{if◌then◌else◌, nat_lt}
+use Rattle.std.specs.List.{list_any}
+use Rattle.std.proofs.lemmas.List.{length-map}
+use Rattle.ufs_laws.proofs.Commands.{all_kept_plain}
+use Rattle.ufs_laws.proofs.Speaks.{BlocksFit, ReadsFit, SetsOne, speaks_law}
+use Rattle.ufs_laws.proofs.States.{content_is_block}
+use Rattle.ufs_laws.proofs.TaskWalk.{Any, any_asks, tasks_kept}
+use Rattle.ufs_laws.specs.Exchange.{Every, IsSpoken}
+use Rattle.ufs_laws.specs.Replies.{TaskSpeaks}
+use Rattle.ufs_spec.proofs.Facts.{ltb-true, same_Some}
+use Rattle.ufs_spec.specs.Exchanges.{Deed, Task, is_task_of, task_of, with_deed}
+use Rattle.ufs_spec.specs.Keys.{IsBlock, IsData, IsKey, data_key}
+use Rattle.ufs_laws.proofs.SpokenCalls.{spoken}
+use Rattle.ufs_spec.specs.Cells.{Array}
+use Rattle.ufs_spec.specs.Disk.{Spot}
+use Rattle.ufs_spec.specs.Lives.{IsOpened, Leads, Life}
+use Rattle.ufs_spec.specs.declared.events.Event.{Event}
+use Rattle.ufs_spec.specs.declared.events.Output.{Output}
+use Rattle.ufs_spec.specs.Machine.{Allowed, Answer, Call, observe, unit_or_first}
+use Rattle.ufs_spec.specs.Plain.{Shape, block_at, shape_of, shape_of_numbers}
+use Rattle.ufs_spec.specs.Steps.{Lun, Request, State, UnitOf, lacks_unit, lun_of, numbers_of, plain_now, refusal, unit_in, unit_of_request}
+use Rattle.ufs_spec.specs.declared.configs.Numbers.{Numbers}
+use Rattle.ufs_spec.specs.declared.configs.UnitSpec.{UnitSpec}
+use Rattle.ufs_spec.specs.declared.scsi.Cdb.TheVariants as cdb
+use Rattle.power_loss.specs.Exchange.{IsTied, TasksDiffer, ValidState}
+use Rattle.power_loss.proofs.HostCommands.{Passed, UnitTold, lies_within, passed}
+use Rattle.power_loss.proofs.OneMore.{eq_told, if_false, if_true}
+use Rattle.power_loss.proofs.RightChanges.{shape_after}
+use Rattle.power_loss.proofs.TaskLists.{none_changed}
+
+-- One task changes
+
+every_set : (P : Task → Type 0) (task : Task) (deed : Deed) (tasks : List Task) → TasksDiffer tasks → task_of task.tag tasks ≡ Some task → Every P tasks →
+    P (record task { deed = deed }) → Every P (map (with_deed task.tag deed) tasks)
+every_set P task deed [] differ found all p = tt
+every_set P task deed (t ∷ ts) differ found all p = by (is_task_of task.tag t) refl found (λ k. every_set P task deed ts differ.1 k all.1 p)
+  where
+    by : (b : Bool) → is_task_of task.tag t ≡ b → (if b then Some t else task_of task.tag ts) ≡ Some task → (task_of task.tag ts ≡ Some task → Every P (map (with_deed task.tag deed) ts)) →
+        Every P (map (with_deed task.tag deed) (t ∷ ts))
+    by true e k rest =
+        let same : t ≡ task = same_Some t task k in
+        let none : list_any (is_task_of task.tag) ts ≡ false = subst (λ (x : ℕ). list_any (is_task_of x) ts ≡ false) (eq_told t.tag task.tag e) differ.0 in
+        let first : record task { deed = deed } ≡ with_deed task.tag deed t =
+        ap (λ (x : Task). record x { deed = deed }) (sym same) ∙ sym (if_true (is_task_of task.tag t) (record t { deed = deed }) t e) in
+        (subst P first p, subst (Every P) (sym (none_changed task.tag deed ts none)) all.1)
+    by false e k rest = (subst P (sym (if_false (is_task_of task.tag t) (record t { deed = deed }) t e)) all.0, rest k)
+
+sets_one : (s : State) → IsTied s → SetsOne s
+sets_one s v task deed found all p = every_set TaskSpeaks task deed s.tasks v.tasks.tasks_differ found all p
+
+-- What is read
+
+-- while no well-known unit takes commands, each unit is one of the configuration
+ordinary : (n : Numbers) (byte : ℕ) (lun : Lun) → lun_of n byte ≡ Some lun → (byte < length n.units.items) × (lun ≡ UnitOf byte)
+ordinary n byte lun h = by (nat_lt byte (length n.units.items)) refl h
+  where
+    by : (b : Bool) → nat_lt byte (length n.units.items) ≡ b → (if b then Some (UnitOf byte) else None) ≡ Some lun → (byte < length n.units.items) × (lun ≡ UnitOf byte)
+    by true e k = (ltb-true byte (length n.units.items) e, sym (same_Some (UnitOf byte) lun k))
+    by false e k = let none : None ≡ Some lun = k in cc
+
+read_unit : (s : State) (r : Request) → lacks_unit s r (lun_of (numbers_of s) r.lun) ≡ false → UnitTold s r
+read_unit s r h = by (lun_of (numbers_of s) r.lun) refl h
+  where
+    by : (x : Option Lun) → lun_of (numbers_of s) r.lun ≡ x → lacks_unit s r x ≡ false → UnitTold s r
+    by None e lacks = let no : true ≡ false = lacks in cc
+    by (Some lun) e lacks =
+        let o = ordinary (numbers_of s) r.lun lun e in
+        record { there = o.0; is = ap (unit_in s r) (e ∙ ap Some o.1) }
+
+reads_fit : (s : State) → IsTied s → ReadsFit s
+reads_fit s v r address blocks forced e refused i low =
+    subst (λ (unit : ℕ). IsBlock (block_at unit (address + i) (plain_now s))) (sym (ap unit_or_first told.is))
+    (content_is_block (plain_now s) (all_kept_plain s.base s.accepted v.base.0 v.commands) (data_key r.lun (address + i))
+    (subst (λ (z : Shape). IsKey z (data_key r.lun (address + i))) (sym (shape_after s.base s.accepted v.commands ∙ v.base.1)) key))
+  where
+    p : Passed s r (cdb.Read10 address blocks forced)
+    p = passed s r (cdb.Read10 address blocks forced) e refused
+
+    told : UnitTold s r
+    told = read_unit s r p.unit
+
+    key : IsKey (shape_of_numbers (numbers_of s)) (data_key r.lun (address + i))
+    key =
+        let units = (numbers_of s).units.items in
+        let lies = lies_within s r (cdb.Read10 address blocks forced) told p.within in
+        let there = told.there in
+        let count = length-map units (λ (x : UnitSpec). x.blocks) in
+        IsData r.lun (address + i) (omega arith) (omega arith)
+
+-- Every call
+
+pub each_speaks : (s : State) (call : Call) (answer : Answer) → IsTied s → IsSpoken call → Allowed s call answer → Every TaskSpeaks s.tasks → Every TaskSpeaks (observe s call answer).tasks
+each_speaks s call answer v is may all =
+    tasks_kept TaskSpeaks (λ task deed. TaskSpeaks (record task { deed = deed })) Any s (speaks_law s (sets_one s v) (reads_fit s v)) all call answer is (any_asks call) may
+
+pub event_speaks : (s t : State) (e : Event) (o : Output) → ValidState s → Leads s e o t → Every TaskSpeaks s.tasks → Every TaskSpeaks t.tasks
+event_speaks s t e o v l all =
+    subst (λ (u : State). Every TaskSpeaks u.tasks) (sym l.next) (each_speaks s l.call l.answer v.tied (spoken s e l.call l.is_call) l.right all)
+
+pub life_speaks : ((s t : State) (e : Event) (o : Output) → ValidState s → Leads s e o t → ValidState t) → (s : State) (es : List Event) (os : List Output) (t : State) →
+    ValidState s → Every TaskSpeaks s.tasks → Life s es os t → Every TaskSpeaks t.tasks
+life_speaks keeps s [] [] t v all life = subst (λ (u : State). Every TaskSpeaks u.tasks) (sym life) all
+life_speaks keeps s (e ∷ es) (o ∷ os) t v all life =
+    life_speaks keeps life.0 es os t (keeps s life.0 e o v life.1) (event_speaks s life.0 e o v life.1 all) life.2
+life_speaks keeps s [] (o ∷ os) t v all life = absurd life
+life_speaks keeps s (e ∷ es) [] t v all life = absurd life
+
+pub opened_speaks : (n : Numbers) (array : Array) (bad : Spot → Bool) (s : State) → IsOpened n array bad s → Every TaskSpeaks s.tasks
+opened_speaks n array bad s h = subst (Every TaskSpeaks) (sym h.no_tasks) tt
