@@ -22,7 +22,7 @@ OPENINGS = "ufs_spec/specs/Openings.antt"
 QUERIES = "ufs_spec/specs/Queries.antt"
 RPMB = "ufs_spec/specs/Rpmb.antt"
 SOUND = "ufs_spec/specs/Sound.antt"
-STEPS = "ufs_spec/specs/Steps.antt"
+REFUSALS = "ufs_spec/specs/Refusals.antt"
 TRANSLATION = "ufs_spec/specs/Translation.antt"
 INVARIANT = "power_loss/specs/Invariant.antt"
 
@@ -43,7 +43,7 @@ def rule(name, says, law, file, *changes, mends=()):
 
 def line_off(name, says, old, new=""):
     """A line of the table of refusals, turned off."""
-    return rule(name, says, "ufs_laws::each_line_of_the_table_counts", STEPS, (old, new))
+    return rule(name, says, "ufs_laws::each_line_of_the_table_counts", REFUSALS, (old, new))
 
 
 RULES = (
@@ -114,13 +114,13 @@ RULES = (
         "first_mark_without_the_old_fence",
         "What is lost begins behind the kept number, and the old fence's first number is forgotten.",
         "power_loss::opening_is_valid", OPENINGS,
-        ("first_lost (Some f) kept = f.first", "first_lost (Some f) kept = suc kept"),
+        ("lost_from (Some f) kept = f.first", "lost_from (Some f) kept = suc kept"),
     ),
     rule(
         "first_lost_group_not_fenced",
         "What is lost begins one number late.",
         "power_loss::opening_is_valid", OPENINGS,
-        ("first_lost None kept = suc kept", "first_lost None kept = suc (suc kept)"),
+        ("lost_from None kept = suc kept", "lost_from None kept = suc (suc kept)"),
     ),
     rule(
         "lost_key_without_a_repair",
@@ -172,21 +172,21 @@ RULES = (
         "mark_records_more_than_the_frontier",
         "A mark without a fence records the last group that was accepted.",
         "power_loss::each_move_keeps", TRANSLATION,
-        ("records_now l None = l.frontier", "records_now l None = l.top + length l.groups"),
+        ("records_now l None = l.frontier", "records_now l None = l.greatest_seen + length l.groups"),
     ),
     rule(
         "page_records_more_than_the_frontier",
         "A page records the last group that was accepted.",
         "power_loss::each_move_keeps", TRANSLATION,
         ("cell_now l name = cell_of_entry name (entry_of l name) l.frontier",
-         "cell_now l name = cell_of_entry name (entry_of l name) (l.top + length l.groups)"),
+         "cell_now l name = cell_of_entry name (entry_of l name) (l.greatest_seen + length l.groups)"),
     ),
     rule(
         "acknowledged_before_earlier_groups",
         "A command may be acknowledged as durable while the group before it is open.",
         "power_loss::each_move_keeps", MOVES,
-        ("(Tell count) = before_accepted t.ledger + count ≤ t.ledger.frontier",
-         "(Tell count) = before_accepted t.ledger + count ≤ t.ledger.frontier + 1"),
+        ("(Acknowledge count) = before_accepted t.ledger + count ≤ t.ledger.frontier",
+         "(Acknowledge count) = before_accepted t.ledger + count ≤ t.ledger.frontier + 1"),
     ),
     rule(
         "accepted_before_mended",
@@ -211,7 +211,7 @@ RULES = (
         "group_number_used_twice",
         "A new group has the number of the last one.",
         "power_loss::each_move_keeps", LEDGER,
-        ("next_number l = l.top + length l.groups + 1", "next_number l = l.top + length l.groups"),
+        ("next_number l = l.greatest_seen + length l.groups + 1", "next_number l = l.greatest_seen + length l.groups"),
     ),
     rule(
         "moved_page_renumbered",
@@ -248,7 +248,7 @@ RULES = (
         "newest_mark_erased",
         "A block without live pages is free without a mark, also where the newest mark stands in it.",
         "power_loss::each_move_keeps", TRANSLATION,
-        ("Spot, begun, place_in, same_spot, spot_of}", "Spot, at_spot, begun, place_in, same_spot, spot_of}"),
+        ("Spot, job_begun, place_in, same_spot, spot_of}", "Spot, at_spot, job_begun, place_in, same_spot, spot_of}"),
         ("ordered t (OrderPlanMark victim) = mark_ordered (with_plan t victim []) None",
          "ordered t (OrderPlanMark victim) = record t { disk = record t.disk { blocks = at_spot t.disk.blocks "
          "victim Free } }"),
@@ -386,8 +386,8 @@ RULES = (
         "setting_answered_and_not_held",
         "A setting's command is not held once its answer was handed out.",
         "ufs_laws::held_commands_stay_held", MACHINE,
-        ("tells (Some commands) = Tell commands ∷ []", "tells (Some commands) = []"),
-        mends=(("ufs_laws/proofs/Changed.antt", "tells_small s (Some commands) = one_move (Tell commands) tt",
+        ("acknowledges (Some commands) = Acknowledge commands ∷ []", "acknowledges (Some commands) = []"),
+        mends=(("ufs_laws/proofs/Changed.antt", "tells_small s (Some commands) = one_move (Acknowledge commands) tt",
                 "tells_small s (Some commands) = Still"),),
     ),
     rule(
@@ -406,13 +406,13 @@ RULES = (
     rule(
         "writes_past_the_slots",
         "A write is taken also if fewer slots are free than it needs.",
-        "power_loss::each_event_keeps", STEPS,
+        "power_loss::each_event_keeps", REFUSALS,
         ("\n    || nat_lt (free_slots s.translation) (slots_needed command)", ""),
     ),
     rule(
         "write_needs_no_slots",
         "A WRITE(10) is taken as if it needed no slot.",
-        "power_loss::each_event_keeps", STEPS,
+        "power_loss::each_event_keeps", REFUSALS,
         ("slots_needed (cdb.Write10 address blocks forced) = blocks", "slots_needed (cdb.Write10 address blocks forced) = 0"),
     ),
 
@@ -574,8 +574,8 @@ RULES = (
         "retries_not_counted",
         "A die's count of failures never rises while a job ends well.",
         "nand_model::work", DIES,
-        ("(after ≡ programmed before place.block place.page page) × (failed ≤ now)",
-         "(after ≡ programmed before place.block place.page page) × (now ≡ failed)"),
+        ("(after ≡ die_programmed before place.block place.page page) × (failed ≤ now)",
+         "(after ≡ die_programmed before place.block place.page page) × (now ≡ failed)"),
     ),
 
     # The table of refusals, a line at a time
@@ -592,7 +592,7 @@ RULES = (
     rule(
         "line_no_command",
         "A CDB that spells no command is not refused.",
-        "ufs_laws::a_refused_read_says_why", STEPS,
+        "ufs_laws::a_refused_read_says_why", REFUSALS,
         ("lines_behind s r None = line true invalid_field ∷ []", "lines_behind s r None = []"),
     ),
     line_off(
@@ -659,14 +659,14 @@ RULES = (
     rule(
         "last_block_out_of_range",
         "The last block of a unit is past its end.",
-        "ufs_laws::a_written_block_is_read", STEPS,
+        "ufs_laws::a_written_block_is_read", REFUSALS,
         ("is_past command (Some u) = nat_lt u.blocks (address_of command + blocks_of command)",
          "is_past command (Some u) = nat_le u.blocks (address_of command + blocks_of command)"),
     ),
     rule(
         "write_before_mended",
         "WRITE(10) does not need that the device is mended.",
-        "power_loss::each_event_keeps", STEPS,
+        "power_loss::each_event_keeps", REFUSALS,
         ("read_10 ∷ write_6 ∷ write_10 ∷ unmap ∷ synchronize_cache_10 ∷ security_in",
          "read_10 ∷ write_6 ∷ unmap ∷ synchronize_cache_10 ∷ security_in"),
     ),

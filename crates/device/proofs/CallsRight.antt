@@ -12,10 +12,10 @@ use Rattle.ufs_spec.specs.Disk.{CellCrash, Erasing, Flight, Programming, Reading
 use Rattle.ufs_spec.specs.Exchanges as exchange
 use Rattle.ufs_spec.specs.Keys.{below}
 use Rattle.ufs_spec.specs.Lives.{IsOpened, bad_of}
-use Rattle.ufs_spec.specs.Machine.{Finish, Finishes, Give, Gives, MayLeave, Step, Steps, behind, lock_told, observe, short_locked, task_locked}
-use Rattle.ufs_spec.specs.Moves.{End, Ending, IsEndingOf, MayEnd, ReadRight, ReadWrong, Take, Turn, WentWell, WentWrong, moved}
+use Rattle.ufs_spec.specs.Machine.{Done, OfDone, Take, OfTake, MayLeave, Turn, OfTurn, behind, lock_applied, observe, short_locked, task_locked}
+use Rattle.ufs_spec.specs.Moves.{EndJob, Ending, IsEndingOf, MayEnd, ReadRight, ReadWrong, GiveJob, TakeStep, WentWell, WentWrong, moved}
 use Rattle.ufs_spec.specs.Plain.{Plain, after as after_all}
-use Rattle.ufs_spec.specs.Steps.{State, locked}
+use Rattle.ufs_spec.specs.Refusals.{State, locked}
 use Rattle.ufs_spec.specs.Translation.{Mended, Mending, OrderMark, Plan, Translation, due_order, has_mark_number, next_order, spots, stepped}
 use Rattle.ufs_spec.specs.declared.configs.Numbers.{Numbers}
 use Rattle.ufs_spec.specs.declared.flash.Job.{Job}
@@ -47,16 +47,16 @@ use Rattle.device.proofs.Unfilled.{settles}
 
 -- A job is given
 
-given_leaves : (s : State) (die : ℕ) (flight : Flight) → Leaves s.translation (moved s.translation (Take die flight))
+given_leaves : (s : State) (die : ℕ) (flight : Flight) → Leaves s.translation (moved s.translation (GiveJob die flight))
 given_leaves s die flight = record { became = all_stay s.translation.ledger s.translation.ledger s.translation.pins (λ name. refl); before = refl; frontier = refl; lock = refl }
 
 same_leaves : (s : State) → Leaves s.translation s.translation
 same_leaves s = record { became = all_stay s.translation.ledger s.translation.ledger s.translation.pins (λ name. refl); before = refl; frontier = refl; lock = refl }
 
 gives : (d : DeviceCore) (s : State) (die : ℕ) (flight : Option Flight) (after : Core) → Describes d s → layer_kept.Describes after (layer_kept.given s.translation die flight) →
-    IsTied (lock_told (behind s (Give die) (Gives flight))) → Describes (record d { ftl = after }) (lock_told (behind s (Give die) (Gives flight)))
+    IsTied (lock_applied (behind s (Take die) (OfTake flight))) → Describes (record d { ftl = after }) (lock_applied (behind s (Take die) (OfTake flight)))
 gives d s die None after h layer tied = described d after s s.translation h layer.kept (same_leaves s) tied
-gives d s die (Some flight) after h layer tied = described d after s (moved s.translation (Take die flight)) h layer.kept (given_leaves s die flight) tied
+gives d s die (Some flight) after h layer tied = described d after s (moved s.translation (GiveJob die flight)) h layer.kept (given_leaves s die flight) tied
 
 pub gives_right : (d : DeviceCore) (s : State) (die : ℕ) (job : Option Job) (after : Core) → Describes d s → layer_kept.IsTaken s.translation die job after →
     IsGiven s die job (record d { ftl = after })
@@ -66,8 +66,8 @@ gives_right d s die job after h taken = record {
   answered = record {
     right = taken.right;
     describes =
-        settles (record d { ftl = after }) s (Give die) (Gives taken.job)
-        (gives d s die taken.job after h taken.describes (unfilled_keeps s (Give die) (Gives taken.job) h.tied tt taken.right));
+        settles (record d { ftl = after }) s (Take die) (OfTake taken.job)
+        (gives d s die taken.job after h taken.describes (unfilled_keeps s (Take die) (OfTake taken.job) h.tied tt taken.right));
   };
 }
 
@@ -104,8 +104,8 @@ may_end d s die o ending left h is leaves = ends_may s die (s.translation.disk.f
 
 pub ends_right : (d : DeviceCore) (s : State) (die : ℕ) (o : Outcome) (ending : Ending) (left : Array) (after : Core) (e : Ended) → Describes d s →
     IsEndingOf s.translation.disk.cells (s.translation.disk.flights die) o ending → MayLeave s die ending left →
-    layer_kept.Describes after (moved s.translation (End die ending)) → IsTold s.translation.disk.cells (s.translation.disk.flights die) ending e →
-    IsAnswered s (Finish die ending left) (Finishes true) (waiting_ended (told (record d { ftl = after }) e))
+    layer_kept.Describes after (moved s.translation (EndJob die ending)) → IsTold s.translation.disk.cells (s.translation.disk.flights die) ending e →
+    IsAnswered s (Done die ending left) (OfDone true) (waiting_ended (told (record d { ftl = after }) e))
 ends_right = ends_answered
 
 -- A step
@@ -133,7 +133,7 @@ due_is c t kept = by (is_none t.work.step)
     by true = order
     by false = inl refl
 
-turn_leaves : (t : Translation) → (due_order t ≡ None) ⊎ (due_order t ≡ Some (OrderMark None)) → Leaves t (moved t Turn)
+turn_leaves : (t : Translation) → (due_order t ≡ None) ⊎ (due_order t ≡ Some (OrderMark None)) → Leaves t (moved t TakeStep)
 turn_leaves t (inl e) =
     subst (λ (u : Translation). Leaves t u) (sym (ap (stepped t) e))
     (record { became = all_stay t.ledger t.ledger t.pins (λ name. refl); before = refl; frontier = refl; lock = refl })
@@ -146,17 +146,17 @@ turned_core d c true = refl
 turned_core d c false = refl
 
 pub turns_right : (d : DeviceCore) (s : State) → Describes d s →
-    IsAnswered s Step (Steps (is_turn_due d.ftl)) (if is_turn_due d.ftl then record d { ftl = mark_ordered d.ftl } else d)
+    IsAnswered s Turn (OfTurn (is_turn_due d.ftl)) (if is_turn_due d.ftl then record d { ftl = mark_ordered d.ftl } else d)
 turns_right d s h =
     let layer : layer_kept.Describes d.ftl s.translation = record { valid = h.tied.valid; kept = h.ftl_kept } in
     let due = turns_due d.ftl s.translation layer in
     record {
       right = due;
       describes =
-          subst (λ (core : DeviceCore). Describes core (observe s Step (Steps (is_turn_due d.ftl)))) (sym (turned_core d (mark_ordered d.ftl) (is_turn_due d.ftl)))
-          (settles (record d { ftl = if is_turn_due d.ftl then mark_ordered d.ftl else d.ftl }) s Step (Steps (is_turn_due d.ftl))
-          (described d (if is_turn_due d.ftl then mark_ordered d.ftl else d.ftl) s (moved s.translation Turn) h (its_layer.turns_right d.ftl s.translation layer).kept
-          (turn_leaves s.translation (due_is d.ftl s.translation h.ftl_kept)) (unfilled_keeps s Step (Steps (is_turn_due d.ftl)) h.tied tt due)));
+          subst (λ (core : DeviceCore). Describes core (observe s Turn (OfTurn (is_turn_due d.ftl)))) (sym (turned_core d (mark_ordered d.ftl) (is_turn_due d.ftl)))
+          (settles (record d { ftl = if is_turn_due d.ftl then mark_ordered d.ftl else d.ftl }) s Turn (OfTurn (is_turn_due d.ftl))
+          (described d (if is_turn_due d.ftl then mark_ordered d.ftl else d.ftl) s (moved s.translation TakeStep) h (its_layer.turns_right d.ftl s.translation layer).kept
+          (turn_leaves s.translation (due_is d.ftl s.translation h.ftl_kept)) (unfilled_keeps s Turn (OfTurn (is_turn_due d.ftl)) h.tied tt due)));
     }
 
 -- Blocks that are bad
@@ -184,7 +184,7 @@ bad_listed n dies all =
 
 -- A new device
 
-told_nothing : (s : State) → s.tasks ≡ [] → s.shorts ≡ [] → lock_told s ≡ s
+told_nothing : (s : State) → s.tasks ≡ [] → s.shorts ≡ [] → lock_applied s ≡ s
 told_nothing s tasks shorts = by (locked s)
   where
     by : (b : Bool) → (if b then record s { tasks = map (task_locked s) s.tasks; shorts = map (short_locked s) s.shorts } else s) ≡ s
@@ -206,7 +206,7 @@ opens_right n array bad s config blank opened =
           subst (λ (us : List exchange.Task). TasksKept (new_device n (map bad (spots n))) t.ledger t.pins [] us) (sym opened.no_tasks)
           (record { pins = refl; loaded = refl });
       shorts = opened.no_shorts;
-      lock_was_told = told_nothing s opened.no_tasks opened.no_shorts;
+      lock_was_applied = told_nothing s opened.no_tasks opened.no_shorts;
       power_off = opened.power_off;
       unprotected =
           ap (λ (commands : List Command). (after_all s.base commands).permanent) opened.none_accepted

@@ -10,11 +10,11 @@ use Rattle.ufs_spec.specs.Exchanges as exchange
 use Rattle.ufs_spec.specs.Exchanges.{Answering, Deed, ForWrite, Gathering, Good, ReadBlock, Sending, Status, Unread}
 use Rattle.ufs_spec.specs.Keys.{IsData, IsKey, data_key}
 use Rattle.ufs_spec.specs.Ledger.{Ledger, look}
-use Rattle.ufs_spec.specs.Machine.{begun_with, blocks_expected, deed_locked, keeps, lock_told, opened_with, read_blocks, sending, task_locked, unit_or_first, with_moves, write_begun}
+use Rattle.ufs_spec.specs.Machine.{begun_with, blocks_expected, deed_locked, keeps, lock_applied, opened_with, read_blocks, sending, task_locked, unit_or_first, with_moves, write_begun}
 use Rattle.ufs_spec.specs.Machine as machine
 use Rattle.ufs_spec.specs.Moves.{Claim, Keep}
 use Rattle.ufs_spec.specs.Plain.{block_at, shape_of_numbers}
-use Rattle.ufs_spec.specs.Steps.{Request, State, locked, numbers_of, plain_now, unit_of_request}
+use Rattle.ufs_spec.specs.Refusals.{Request, State, locked, numbers_of, plain_now, unit_of_request}
 use Rattle.ufs_spec.specs.Translation as layer
 use Rattle.ufs_spec.specs.Translation.{Mended}
 use Rattle.ufs_spec.specs.declared.configs.UnitSpec.{UnitSpec}
@@ -48,8 +48,8 @@ use Rattle.device.proofs.Layer.{claims_right, pins_right}
 -- What is kept
 
 -- what is kept describes a state, if the lock changes nothing there
-pub describes_told : (d : DeviceCore) (u : State) → IsTied (lock_told u) → Kept d.ftl u.translation → TasksKept d u.translation.ledger u.translation.pins d.tasks u.tasks →
-    u.shorts ≡ map short_kept d.refused → (locked u ≡ true → map (task_locked u) u.tasks ≡ u.tasks) → u.power_on ≡ false → (plain_now u).permanent ≡ false → Describes d (lock_told u)
+pub describes_told : (d : DeviceCore) (u : State) → IsTied (lock_applied u) → Kept d.ftl u.translation → TasksKept d u.translation.ledger u.translation.pins d.tasks u.tasks →
+    u.shorts ≡ map short_kept d.refused → (locked u ≡ true → map (task_locked u) u.tasks ≡ u.tasks) → u.power_on ≡ false → (plain_now u).permanent ≡ false → Describes d (lock_applied u)
 describes_told d u tied kept tasks shorts stay power_off unprotected =
     let e = lock_stays u d.refused shorts stay in
     subst (Describes d) (sym e) (record {
@@ -57,7 +57,7 @@ describes_told d u tied kept tasks shorts stay power_off unprotected =
       ftl_kept = kept;
       tasks_kept = tasks;
       shorts = shorts;
-      lock_was_told = e;
+      lock_was_applied = e;
       power_off = power_off;
       unprotected = unprotected;
     })
@@ -79,10 +79,10 @@ abbrev opened : Request → Option Cdb → ℕ → Deed → exchange.Task
 opened r command n deed = record { lun = r.lun; tag = r.tag; expected = r.expected; command = command; length = n; deed = deed; request = None }
 
 -- one task is opened where none is
-one_opened : (d : DeviceCore) (v : State) (r : Request) (command : Option Cdb) (n : ℕ) (deed : Deed) (a : Task) → IsTied (lock_told (machine.with_task v r command n deed)) →
+one_opened : (d : DeviceCore) (v : State) (r : Request) (command : Option Cdb) (n : ℕ) (deed : Deed) (a : Task) → IsTied (lock_applied (machine.with_task v r command n deed)) →
     Kept d.ftl v.translation → d.tasks ≡ a ∷ [] → v.tasks ≡ [] → TaskKept d v.translation.ledger v.translation.pins a (opened r command n deed) →
     v.shorts ≡ map short_kept d.refused → v.power_on ≡ false → (plain_now v).permanent ≡ false →
-    ((w : State) (task : exchange.Task) → deed_locked w task deed ≡ deed) → Describes d (lock_told (machine.with_task v r command n deed))
+    ((w : State) (task : exchange.Task) → deed_locked w task deed ≡ deed) → Describes d (lock_applied (machine.with_task v r command n deed))
 one_opened d v r command n deed a tied kept tasks none task shorts power_off unprotected still =
     describes_told d u tied kept
     (subst (λ (xs : List Task). TasksKept d v.translation.ledger v.translation.pins xs u.tasks) (sym tasks)
@@ -171,8 +171,8 @@ module _ (d : DeviceCore) (s : State) (r : Request) (h : Describes d s) (none : 
 
   -- a task that answers at once
   answer_opened : (command : Option Cdb) (n carried : ℕ) (answer : Status) (told : kept_status.Status) (m : ℕ) → answer ≡ status_kept told → carried ≡ m →
-      IsTied (lock_told (machine.with_task s r command n (Answering answer carried))) →
-      Describes (with_task d (answer_of told m)) (lock_told (machine.with_task s r command n (Answering answer carried)))
+      IsTied (lock_applied (machine.with_task s r command n (Answering answer carried))) →
+      Describes (with_task d (answer_of told m)) (lock_applied (machine.with_task s r command n (Answering answer carried)))
   answer_opened command n carried answer told m same count tied =
       one_opened (with_task d (answer_of told m)) s r command n (Answering answer carried) (answer_of told m) tied h.ftl_kept
       (ap (λ (xs : List Task). xs ++ answer_of told m ∷ []) none) idle.0
@@ -205,7 +205,7 @@ module _ (d : DeviceCore) (s : State) (r : Request) (h : Describes d s) (none : 
   reading command n address = reading_at command n r.lun address
 
   read_opened : (command : Cdb) (n address : ℕ) → n ≡ 4096 → 1 ≤ r.expected → IsKey (shape_of_numbers (numbers_of s)) (data_key r.lun address) → s.translation.work.mending ≡ Mended →
-      IsTied (lock_told (reading command n address)) → Describes (reader_core address) (lock_told (reading command n address))
+      IsTied (lock_applied (reading command n address)) → Describes (reader_core address) (lock_applied (reading command n address))
   read_opened command n address size some key mended tied =
       one_opened (reader_core address) (with_moves s (Keep (data_key r.lun address) (kept_block address) ∷ [])) r (Some command) n (Sending (block_now address ∷ []) 0) reader_task tied
       (pins_right d.ftl s.translation (data_key r.lun address) r.tag layer_now key refl no_pin).kept
@@ -247,7 +247,7 @@ module _ (d : DeviceCore) (s : State) (r : Request) (h : Describes d s) (none : 
   writing command address =
       machine.with_task (with_moves s (Claim 1 ∷ [])) r (Some command) 4096 (Gathering (ForWrite r.lun address 1 true) [] false)
 
-  write_opened : (command : Cdb) (address : ℕ) → nat_lt 0 (free_slots d.ftl) ≡ true → IsTied (lock_told (writing command address)) → Describes (writer_core address) (lock_told (writing command address))
+  write_opened : (command : Cdb) (address : ℕ) → nat_lt 0 (free_slots d.ftl) ≡ true → IsTied (lock_applied (writing command address)) → Describes (writer_core address) (lock_applied (writing command address))
   write_opened command address room tied =
       one_opened (writer_core address) (with_moves s (Claim 1 ∷ [])) r (Some command) 4096 (Gathering (ForWrite r.lun address 1 true) [] false) (writer_task address) tied
       (claims_right d.ftl s.translation layer_now room).kept
@@ -272,7 +272,7 @@ module _ (d : DeviceCore) (s : State) (r : Request) (h : Describes d s) (none : 
   -- What the table lets through
 
   abbrev now : Option Status → State
-  now x = lock_told (opened_with s r x)
+  now x = lock_applied (opened_with s r x)
 
   refused_begins : (refused : Status) (told : kept_status.Status) → refused ≡ status_kept told → IsTied (now (Some refused)) →
       Describes (task_begun d r.lun r.tag r.expected (Err told)) (now (Some refused))
@@ -303,18 +303,18 @@ module _ (d : DeviceCore) (s : State) (r : Request) (h : Describes d s) (none : 
       else machine.with_task (with_moves s (Claim blocks ∷ [])) r (Some command) (4096 * blocks) (Gathering (ForWrite unit address blocks true) [] false)
 
   -- what holds of an equal state
-  elsewhere : (e : DeviceCore) (u v : State) → u ≡ v → (IsTied (lock_told v) → Describes e (lock_told v)) → IsTied (lock_told u) → Describes e (lock_told u)
+  elsewhere : (e : DeviceCore) (u v : State) → u ≡ v → (IsTied (lock_applied v) → Describes e (lock_applied v)) → IsTied (lock_applied u) → Describes e (lock_applied u)
   elsewhere e u v same described tied =
-      subst (λ (x : State). Describes e (lock_told x)) (sym same) (described (subst (λ (x : State). IsTied (lock_told x)) same tied))
+      subst (λ (x : State). Describes e (lock_applied x)) (sym same) (described (subst (λ (x : State). IsTied (lock_applied x)) same tied))
 
   zero_more : (n : ℕ) → n + 0 ≡ n
   zero_more n = omega arith
 
   read_begins : (unit : UnitSpec) (command : Cdb) (address blocks : ℕ) → slice_get (numbers_of s).units.items r.lun ≡ Some unit → (u : ℕ) → u ≡ r.lun →
       Checks d.ftl unit (read_of address blocks) → (b : Bool) → ((blocks == 0) || (r.expected == 0)) ≡ b →
-      IsTied (lock_told (read_at command u address (4096 * blocks) (blocks_expected r (4096 * blocks)))) →
+      IsTied (lock_applied (read_at command u address (4096 * blocks) (blocks_expected r (4096 * blocks)))) →
       Describes (task_begun d r.lun r.tag r.expected (Ok (if b then plan.Nothing (blocks * 4096) else plan.Read (data_key r.lun address))))
-      (lock_told (read_at command u address (4096 * blocks) (blocks_expected r (4096 * blocks))))
+      (lock_applied (read_at command u address (4096 * blocks) (blocks_expected r (4096 * blocks))))
   read_begins unit command address blocks there u same checks true e tied =
       elsewhere (with_task d (answer_of status.Good (blocks * 4096))) (read_at command u address n (blocks_expected r n)) (machine.with_task s r (Some command) n (Answering Good n))
       (ap (read_at command u address n) (none_expected r.expected blocks e))
@@ -323,7 +323,7 @@ module _ (d : DeviceCore) (s : State) (r : Request) (h : Describes d s) (none : 
       n : ℕ
       n = 4096 * blocks
   read_begins unit command address blocks there u same checks false e tied =
-      subst (λ (x : DeviceCore). Describes x (lock_told (read_at command u address n (blocks_expected r n)))) (sym core)
+      subst (λ (x : DeviceCore). Describes x (lock_applied (read_at command u address n (blocks_expected r n)))) (sym core)
       (elsewhere (reader_core address) (read_at command u address n (blocks_expected r n)) (reading command n address) state
       (read_opened command n address (size some) more (key_told address unit there (inside some)) (mended_told checks.mended)) tied)
     where
@@ -356,12 +356,12 @@ module _ (d : DeviceCore) (s : State) (r : Request) (h : Describes d s) (none : 
           (record { tag = r.tag; lun = r.lun; expected = r.expected; phase = if room i then phase.SendBlock else phase.Answer status.Busy 0 })
 
   write_begins : (command : Cdb) (address blocks : ℕ) (u : ℕ) → u ≡ r.lun → (unit : UnitSpec) → Checks d.ftl unit (write_of address blocks) → (b : Bool) → (blocks == 0) ≡ b →
-      IsTied (lock_told (write_at command u address blocks b)) →
-      Describes (task_begun d r.lun r.tag r.expected (Ok (if b || false then plan.Nothing (blocks * 4096) else plan.Write (data_key r.lun address)))) (lock_told (write_at command u address blocks b))
+      IsTied (lock_applied (write_at command u address blocks b)) →
+      Describes (task_begun d r.lun r.tag r.expected (Ok (if b || false then plan.Nothing (blocks * 4096) else plan.Write (data_key r.lun address)))) (lock_applied (write_at command u address blocks b))
   write_begins command address blocks u same unit checks true e tied =
       answer_opened (Some command) 0 0 Good status.Good (blocks * 4096) refl (let z = eq_told blocks 0 e in omega arith) tied
   write_begins command address blocks u same unit checks false e tied =
-      subst (λ (x : DeviceCore). Describes x (lock_told (write_at command u address blocks false))) (sym core)
+      subst (λ (x : DeviceCore). Describes x (lock_applied (write_at command u address blocks false))) (sym core)
       (elsewhere (writer_core address) (write_at command u address blocks false) (writing command address)
       (λ i. machine.with_task (with_moves s (Claim (one i) ∷ [])) r (Some command) (4096 * one i) (Gathering (ForWrite (same i) address (one i) true) [] false))
       (write_opened command address room) tied)
@@ -384,17 +384,17 @@ module _ (d : DeviceCore) (s : State) (r : Request) (h : Describes d s) (none : 
 
   -- a command that passed begins
   command_begins : (unit : UnitSpec) (command : Cdb) (t : Transfer) → Does command t → slice_get (numbers_of s).units.items r.lun ≡ Some unit → unit_of_request s r ≡ Some r.lun →
-      Checks d.ftl unit t → IsTied (lock_told (begun_with s r (Some command))) →
-      Describes (task_begun d r.lun r.tag r.expected (Ok (plan_of t (data_key r.lun t.address) r.expected))) (lock_told (begun_with s r (Some command)))
+      Checks d.ftl unit t → IsTied (lock_applied (begun_with s r (Some command))) →
+      Describes (task_begun d r.lun r.tag r.expected (Ok (plan_of t (data_key r.lun t.address) r.expected))) (lock_applied (begun_with s r (Some command)))
   command_begins unit (cdb.Read10 address blocks forced) t does there is checks tied =
-      subst (λ (x : Transfer). Describes (task_begun d r.lun r.tag r.expected (Ok (plan_of x (data_key r.lun x.address) r.expected))) (lock_told (begun_with s r (Some (cdb.Read10 address blocks forced)))))
+      subst (λ (x : Transfer). Describes (task_begun d r.lun r.tag r.expected (Ok (plan_of x (data_key r.lun x.address) r.expected))) (lock_applied (begun_with s r (Some (cdb.Read10 address blocks forced)))))
       (sym does)
       (read_begins unit (cdb.Read10 address blocks forced) address blocks there (unit_or_first (unit_of_request s r)) (ap unit_or_first is) (subst (Checks d.ftl unit) does checks)
       ((blocks == 0) || (r.expected == 0)) refl tied)
   command_begins unit (cdb.Write10 address blocks forced) t does there is checks tied =
       elsewhere (task_begun d r.lun r.tag r.expected (Ok (plan_of t (data_key r.lun t.address) r.expected))) (write_begun s r command u address blocks forced) (write_begun s r command u address blocks true)
       (ap (write_begun s r command u address blocks) does.0)
-      (λ w. subst (λ (x : Transfer). Describes (task_begun d r.lun r.tag r.expected (Ok (plan_of x (data_key r.lun x.address) r.expected))) (lock_told (write_begun s r command u address blocks true)))
+      (λ w. subst (λ (x : Transfer). Describes (task_begun d r.lun r.tag r.expected (Ok (plan_of x (data_key r.lun x.address) r.expected))) (lock_applied (write_begun s r command u address blocks true)))
       (sym does.1)
       (write_begins command address blocks u (ap unit_or_first is) unit (subst (Checks d.ftl unit) does.1 checks) (blocks == 0) refl w))
       tied
@@ -419,7 +419,7 @@ module _ (d : DeviceCore) (s : State) (r : Request) (h : Describes d s) (none : 
   passes_begin : (todo : Plan) → Passes d.ftl s r todo → IsTied (now None) → Describes (task_begun d r.lun r.tag r.expected (Ok todo)) (now None)
   passes_begin todo p tied =
       elsewhere (task_begun d r.lun r.tag r.expected (Ok todo)) (begun_with s r r.cdb) (begun_with s r (Some p.command)) (ap (begun_with s r) p.is)
-      (λ w. subst (λ (x : Plan). Describes (task_begun d r.lun r.tag r.expected (Ok x)) (lock_told (begun_with s r (Some p.command)))) (sym p.plan_is)
+      (λ w. subst (λ (x : Plan). Describes (task_begun d r.lun r.tag r.expected (Ok x)) (lock_applied (begun_with s r (Some p.command)))) (sym p.plan_is)
       (command_begins p.unit p.command p.transfer p.does p.there p.unit_is (checks_told d.ftl p.unit r.flags r.expected p.transfer p.none) w))
       tied
 

@@ -10,7 +10,7 @@ use Rattle.ufs_spec.specs.Exchanges.{Busy, Status, invalid_field, invalid_operat
 use Rattle.ufs_spec.specs.Exchanges as exchange
 use Rattle.ufs_spec.specs.Keys.{data_key}
 use Rattle.ufs_spec.specs.Messages.{is_among}
-use Rattle.ufs_spec.specs.Steps.{Line, Lun, Request, State, UnitOf, all_but_security, first_line, is_past, is_protected, is_refused_write, lacks_unit, line, lines_behind, lines_for, locked, lun_of, mended, not_taken, numbers_of, operation_in, plain_now, refusal, spec_at, spec_of, takes, unit_in, unit_of_request}
+use Rattle.ufs_spec.specs.Refusals.{Line, Lun, Request, State, UnitOf, all_but_security, first_line, is_past, is_protected, is_refused_write, lacks_unit, line, lines_behind, lines_for, locked, lun_of, mended, not_taken, numbers_of, operation_in, plain_now, refusal, spec_at, spec_of, takes, unit_in, unit_of_request}
 use Rattle.ufs_spec.specs.Translation as layer
 use Rattle.ufs_spec.specs.declared.configs.Numbers.{Numbers}
 use Rattle.ufs_spec.specs.declared.configs.UnitSpec.{UnitSpec}

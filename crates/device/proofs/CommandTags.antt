@@ -5,10 +5,10 @@ use Rattle.std.specs.List.{list_any}
 use Rattle.std.proofs.lemmas.Bool.Decides.{nat_tests}
 use Rattle.std.proofs.lemmas.List.{length-map}
 use Rattle.ufs_spec.specs.Exchanges as exchange
-use Rattle.ufs_spec.specs.Exchanges.{Answering, Awaiting, Deed, Gathering, Sending, Short, Telling, is_short_of}
+use Rattle.ufs_spec.specs.Exchanges.{Answering, Awaiting, Deed, Gathering, Sending, Short, SendingBytes, is_short_of}
 use Rattle.ufs_spec.specs.Ledger.{Ledger}
-use Rattle.ufs_spec.specs.Machine.{in_use, lock_told, opening_fault, result_of, short_locked, task_locked}
-use Rattle.ufs_spec.specs.Steps.{State, locked}
+use Rattle.ufs_spec.specs.Machine.{in_use, lock_applied, opening_fault, result_of, short_locked, task_locked}
+use Rattle.ufs_spec.specs.Refusals.{State, locked}
 use Rattle.ufs_spec.specs.Translation as layer
 use Rattle.ufs_spec.specs.declared.faults.HostFault.TheVariants.{Backlog, TagInUse}
 use Rattle.ufs_spec.specs.declared.flash.Key.{Key}
@@ -91,7 +91,7 @@ shorts_stay u [] = refl
 shorts_stay u (r ∷ rs) = ap (λ (xs : List Short). short_kept r ∷ xs) (shorts_stay u rs)
 
 -- where the lock was told to the tasks, it was told
-pub lock_stays : (u : State) (rs : List Refused) → u.shorts ≡ map short_kept rs → (locked u ≡ true → map (task_locked u) u.tasks ≡ u.tasks) → lock_told u ≡ u
+pub lock_stays : (u : State) (rs : List Refused) → u.shorts ≡ map short_kept rs → (locked u ≡ true → map (task_locked u) u.tasks ≡ u.tasks) → lock_applied u ≡ u
 lock_stays u rs shorts tasks = by (locked u) refl
   where
     by : (b : Bool) → locked u ≡ b → (if b then record u { tasks = map (task_locked u) u.tasks; shorts = map (short_locked u) u.shorts } else u) ≡ u
@@ -101,7 +101,7 @@ lock_stays u rs shorts tasks = by (locked u) refl
     by false e = refl
 
 -- what was told of the lock
-pub tasks_told : (s : State) → lock_told s ≡ s → locked s ≡ true → map (task_locked s) s.tasks ≡ s.tasks
+pub tasks_told : (s : State) → lock_applied s ≡ s → locked s ≡ true → map (task_locked s) s.tasks ≡ s.tasks
 tasks_told s told e =
     sym (ap (λ (b : Bool). (if b then record s { tasks = map (task_locked s) s.tasks; shorts = map (short_locked s) s.shorts } else s).tasks) e)
     ∙ ap (λ (u : State). u.tasks) told
@@ -150,23 +150,23 @@ doing_stays d e l qs a b (phase.Answer told n) (Sending blocks sent) pins loaded
   over = h.over;
 }
 doing_stays d e l qs a b (phase.AskData key) (Sending blocks sent) pins loaded h = absurd h
-doing_stays d e l qs a b (phase.AskData key) (Telling bytes) pins loaded h = absurd h
+doing_stays d e l qs a b (phase.AskData key) (SendingBytes bytes) pins loaded h = absurd h
 doing_stays d e l qs a b (phase.AskData key) (Awaiting commands) pins loaded h = absurd h
 doing_stays d e l qs a b (phase.AskData key) (Answering s carried) pins loaded h = absurd h
 doing_stays d e l qs a b (phase.AwaitData key) (Sending blocks sent) pins loaded h = absurd h
-doing_stays d e l qs a b (phase.AwaitData key) (Telling bytes) pins loaded h = absurd h
+doing_stays d e l qs a b (phase.AwaitData key) (SendingBytes bytes) pins loaded h = absurd h
 doing_stays d e l qs a b (phase.AwaitData key) (Awaiting commands) pins loaded h = absurd h
 doing_stays d e l qs a b (phase.AwaitData key) (Answering s carried) pins loaded h = absurd h
 doing_stays d e l qs a b (phase.AwaitFrontier n) (Gathering purpose gathered asked) pins loaded h = absurd h
 doing_stays d e l qs a b (phase.AwaitFrontier n) (Sending blocks sent) pins loaded h = absurd h
-doing_stays d e l qs a b (phase.AwaitFrontier n) (Telling bytes) pins loaded h = absurd h
+doing_stays d e l qs a b (phase.AwaitFrontier n) (SendingBytes bytes) pins loaded h = absurd h
 doing_stays d e l qs a b (phase.AwaitFrontier n) (Answering s carried) pins loaded h = absurd h
 doing_stays d e l qs a b phase.SendBlock (Gathering purpose gathered asked) pins loaded h = absurd h
-doing_stays d e l qs a b phase.SendBlock (Telling bytes) pins loaded h = absurd h
+doing_stays d e l qs a b phase.SendBlock (SendingBytes bytes) pins loaded h = absurd h
 doing_stays d e l qs a b phase.SendBlock (Awaiting commands) pins loaded h = absurd h
 doing_stays d e l qs a b phase.SendBlock (Answering s carried) pins loaded h = absurd h
 doing_stays d e l qs a b (phase.Answer told n) (Gathering purpose gathered asked) pins loaded h = absurd h
-doing_stays d e l qs a b (phase.Answer told n) (Telling bytes) pins loaded h = absurd h
+doing_stays d e l qs a b (phase.Answer told n) (SendingBytes bytes) pins loaded h = absurd h
 doing_stays d e l qs a b (phase.Answer told n) (Awaiting commands) pins loaded h = absurd h
 
 pub tasks_stay : (d e : DeviceCore) (l : Ledger) (qs : List layer.Pin) (kept : List Task) (tasks : List exchange.Task) → d.ftl.pins ≡ e.ftl.pins → d.loaded ≡ e.loaded →

@@ -3,8 +3,8 @@ use Rattle.std.proofs.Common.{◌≡◌, ◌∙◌, ℕ, suc, ◌<◌, Bool, tru
 use Rattle.std.specs.Prelude.{if◌then◌else◌, nat_lt, nat_le, Result, Ok, Err}
 use Rattle.std.proofs.lemmas.Bool.{leb-false}
 use Rattle.ufs_spec.specs.Exchanges.{Short, TaskSetFull, response, short_reply}
-use Rattle.ufs_spec.specs.Machine.{Call, Hears, Host, IsHeard, Spelled, behind, command_heard, lock_told, observe, opened_with, opening_fault, result_of, with_short}
-use Rattle.ufs_spec.specs.Steps.{Request, State, refusal}
+use Rattle.ufs_spec.specs.Machine.{Call, OfHost, Host, IsHeard, Spelled, behind, command_heard, lock_applied, observe, opened_with, opening_fault, result_of, with_short}
+use Rattle.ufs_spec.specs.Refusals.{Request, State, refusal}
 use Rattle.ufs_spec.specs.Translation.{is_mended}
 use Rattle.ufs_spec.specs.declared.faults.HostFault.TheVariants.{Backlog, TagInUse}
 use Rattle.ufs_spec.specs.declared.messages.Message.TheVariants as message
@@ -42,18 +42,18 @@ facts d s h =
     }
 
 -- nothing is changed, and the lock was told
-stays : (d : DeviceCore) (s : State) → Describes d s → Describes d (lock_told s)
-stays d s h = subst (Describes d) (sym h.lock_was_told) h
+stays : (d : DeviceCore) (s : State) → Describes d s → Describes d (lock_applied s)
+stays d s h = subst (Describes d) (sym h.lock_was_applied) h
 
 -- where a task is open, the command is refused with TASK SET FULL
 full_right : (d : DeviceCore) (s : State) (lun tag expected : ℕ) → Describes d s →
-    IsTied (lock_told (with_short s (short_reply tag (response lun tag expected 0 TaskSetFull)))) →
-    Describes (with_refused d (record { tag = tag; lun = lun; expected = expected })) (lock_told (with_short s (short_reply tag (response lun tag expected 0 TaskSetFull))))
+    IsTied (lock_applied (with_short s (short_reply tag (response lun tag expected 0 TaskSetFull)))) →
+    Describes (with_refused d (record { tag = tag; lun = lun; expected = expected })) (lock_applied (with_short s (short_reply tag (response lun tag expected 0 TaskSetFull))))
 full_right d s lun tag expected h tied =
     describes_told e (with_short s (short_kept r)) tied h.ftl_kept
     (tasks_stay d e s.translation.ledger s.translation.pins d.tasks s.tasks refl refl h.tasks_kept)
     (ap (λ (xs : List Short). xs ++ short_kept r ∷ []) h.shorts ∙ one_kept d.refused)
-    (tasks_told s h.lock_was_told) h.power_off h.unprotected
+    (tasks_told s h.lock_was_applied) h.power_off h.unprotected
   where
     r : Refused
     r = record { tag = tag; lun = lun; expected = expected }
@@ -74,13 +74,13 @@ no_task (t ∷ ts) h = absurd (none (length ts) h)
 
 pub commands_right : (d : DeviceCore) (s : State) (flags lun tag expected : ℕ) (cdb_bytes whole : List ℕ) (taken : Result Cdb Sense) → Describes d s → IsCdbRead cdb_bytes taken →
     IsHeard whole (Spelled (message.Command flags lun tag expected cdb_bytes) (cdb_taken taken)) →
-    IsAnswered s (Host (Spelled (message.Command flags lun tag expected cdb_bytes) (cdb_taken taken))) (Hears (command_result d tag)) (command_core d flags lun tag expected taken)
+    IsAnswered s (Host (Spelled (message.Command flags lun tag expected cdb_bytes) (cdb_taken taken))) (OfHost (command_result d tag)) (command_core d flags lun tag expected taken)
 commands_right d s flags lun tag expected cdb_bytes whole taken h is heard =
     record {
       right = right;
       describes =
-          settles (command_core d flags lun tag expected taken) s call (Hears (command_result d tag))
-          (by (uses d tag) (nat_le 1 (length d.tasks)) refl (unfilled_keeps s call (Hears (command_result d tag)) h.tied (whole, heard) right));
+          settles (command_core d flags lun tag expected taken) s call (OfHost (command_result d tag))
+          (by (uses d tag) (nat_le 1 (length d.tasks)) refl (unfilled_keeps s call (OfHost (command_result d tag)) h.tied (whole, heard) right));
     }
   where
     call : Call
@@ -103,21 +103,21 @@ commands_right d s flags lun tag expected cdb_bytes whole taken h is heard =
         command_heard s r ≡ (if b then with_short s (short_reply tag (response lun tag expected 0 TaskSetFull)) else opened_with s r (refusal s r))
     opened b e = ap (λ (x : Bool). if x then with_short s (short_reply tag (response lun tag expected 0 TaskSetFull)) else opened_with s r (refusal s r)) (many b e)
 
-    elsewhere : (e : DeviceCore) (u v : State) → u ≡ v → (IsTied (lock_told v) → Describes e (lock_told v)) → IsTied (lock_told u) → Describes e (lock_told u)
+    elsewhere : (e : DeviceCore) (u v : State) → u ≡ v → (IsTied (lock_applied v) → Describes e (lock_applied v)) → IsTied (lock_applied u) → Describes e (lock_applied u)
     elsewhere e u v same described tied =
-        subst (λ (x : State). Describes e (lock_told x)) (sym same) (described (subst (λ (x : State). IsTied (lock_told x)) same tied))
+        subst (λ (x : State). Describes e (lock_applied x)) (sym same) (described (subst (λ (x : State). IsTied (lock_applied x)) same tied))
 
-    full : (b : Bool) → nat_le 1 (length d.tasks) ≡ true → IsTied (lock_told (behind s call (Hears (if b then Ok tt else Err Backlog)))) →
-        Describes (if b then with_refused d refused else d) (lock_told (behind s call (Hears (if b then Ok tt else Err Backlog))))
+    full : (b : Bool) → nat_le 1 (length d.tasks) ≡ true → IsTied (lock_applied (behind s call (OfHost (if b then Ok tt else Err Backlog)))) →
+        Describes (if b then with_refused d refused else d) (lock_applied (behind s call (OfHost (if b then Ok tt else Err Backlog))))
     full true e tied =
         elsewhere (with_refused d refused) (command_heard s r) (with_short s (short_reply tag (response lun tag expected 0 TaskSetFull))) (opened true e)
         (full_right d s lun tag expected h) tied
     full false e tied = stays d s h
 
     by : (used many : Bool) → nat_le 1 (length d.tasks) ≡ many →
-        IsTied (lock_told (behind s call (Hears (if used then Err TagInUse else if many then refused_result d else Ok tt)))) →
+        IsTied (lock_applied (behind s call (OfHost (if used then Err TagInUse else if many then refused_result d else Ok tt)))) →
         Describes (if used then d else if many then refused_more d refused else task_opened d flags lun tag expected taken)
-        (lock_told (behind s call (Hears (if used then Err TagInUse else if many then refused_result d else Ok tt))))
+        (lock_applied (behind s call (OfHost (if used then Err TagInUse else if many then refused_result d else Ok tt))))
     by true many e tied = stays d s h
     by false true e tied = full (nat_lt (length d.refused) 32) e tied
     by false false e tied =

@@ -5,7 +5,7 @@ use Rattle.std.proofs.lemmas.Bool.{ltb-false}
 use Rattle.ufs_spec.specs.Keys.{Contents, Group, IsKey, Item, content, data_key, groups_of, put_group, put_groups, same_key}
 use Rattle.ufs_spec.specs.Ledger.{Entry, Ledger, Name, entry_of, latest, look, looked_at, looked_on, InSlot}
 use Rattle.ufs_spec.specs.Plain.{Shape, block_at, shape_of_numbers, zero_block}
-use Rattle.ufs_spec.specs.Steps.{State, numbers_of, plain_now}
+use Rattle.ufs_spec.specs.Refusals.{State, numbers_of, plain_now}
 use Rattle.ufs_spec.specs.Translation.{Mended, Translation}
 use Rattle.ufs_spec.specs.declared.flash.Key.{Key}
 use Rattle.ufs_spec.specs.declared.flash.Place.{Place}
@@ -133,10 +133,10 @@ first_content t k m (Some name) v plain none first base = (first.0, page, body)
     lost at =
         let w = plain.repaired name.number name.index first.0 at first.1 in
         let p = page_new (book t) w.number w.index w.page w.new w.is in
-        absurd (none (w.number - t.ledger.top - 1) w.index p.group w.page.item p.is p.item (w.key ∙ first.2))
+        absurd (none (w.number - t.ledger.greatest_seen - 1) w.index p.group w.page.item p.is p.item (w.key ∙ first.2))
 
     last : BaseAt (book t) k ⊎ BaseNone (book t) k →
-        (name.number < t.ledger.low) × ((n i : ℕ) (e : Entry) → t.ledger.old n i ≡ Some e → e.item.key ≡ k → n < t.ledger.low → n ≤ name.number) →
+        (name.number < t.ledger.first_lost) × ((n i : ℕ) (e : Entry) → t.ledger.entries_before n i ≡ Some e → e.item.key ≡ k → n < t.ledger.first_lost → n ≤ name.number) →
         first.0.item.body ≡ t.ledger.base k
     last (inr zeros) r = absurd (zeros.none name.number name.index first.0 first.1 first.2 r.0)
     last (inl at) r =
@@ -154,17 +154,17 @@ first_content t k m (Some name) v plain none first base = (first.0, page, body)
     body = ⊎_elim lost (last base) first.3
 
 -- the last item of the key is the page of the last name
-last_content : (t : Translation) (k : Key) (o : Option Name) (body : List ℕ) → Valid t → IsLastOf k t.ledger.top t.ledger.groups o → IsPut k t.ledger.groups body →
+last_content : (t : Translation) (k : Key) (o : Option Name) (body : List ℕ) → Valid t → IsLastOf k t.ledger.greatest_seen t.ledger.groups o → IsPut k t.ledger.groups body →
     HasContent t.ledger o body
 last_content t k o body v r p = subst (λ (x : Option Name). HasContent t.ledger x body) (sym r.is) (e, page, same)
   where
     e : Entry
     e = record { item = r.item; size = length r.group }
 
-    new : t.ledger.top < r.name.number
+    new : t.ledger.greatest_seen < r.name.number
     new = let z = r.number in omega arith
 
-    at : r.name.number - t.ledger.top - 1 ≡ r.at
+    at : r.name.number - t.ledger.greatest_seen - 1 ≡ r.at
     at = let z = r.number in omega arith
 
     page : IsPageAt (book t) r.name.number r.name.index e
@@ -196,12 +196,12 @@ last_content t k o body v r p = subst (λ (x : Option Name). HasContent t.ledger
 
 latest_has : (t : Translation) (k : Key) → Valid t → t.work.mending ≡ Mended → IsKey (shape_of_numbers t.numbers) k →
     HasContent t.ledger (latest t.ledger k) (put_groups t.ledger.base t.ledger.groups k)
-latest_has t k v mended is = by (latest_cases k t.ledger.top t.ledger.groups (t.ledger.first k)) (put_cases t.ledger.base k t.ledger.groups)
+latest_has t k v mended is = by (latest_cases k t.ledger.greatest_seen t.ledger.groups (t.ledger.first_page k)) (put_cases t.ledger.base k t.ledger.groups)
   where
     marked : MendingRight (book t) t.disk t.ledger t.work.plan t.work.step Mended
     marked = subst (MendingRight (book t) t.disk t.ledger t.work.plan t.work.step) mended v.mending
 
-    by : IsLastOf k t.ledger.top t.ledger.groups (latest t.ledger k) ⊎ ((latest t.ledger k ≡ t.ledger.first k) × NoneOf k t.ledger.groups) →
+    by : IsLastOf k t.ledger.greatest_seen t.ledger.groups (latest t.ledger k) ⊎ ((latest t.ledger k ≡ t.ledger.first_page k) × NoneOf k t.ledger.groups) →
         IsPut k t.ledger.groups (put_groups t.ledger.base t.ledger.groups k) ⊎ (NoneOf k t.ledger.groups × (put_groups t.ledger.base t.ledger.groups k ≡ t.ledger.base k)) →
         HasContent t.ledger (latest t.ledger k) (put_groups t.ledger.base t.ledger.groups k)
     by (inl r) (inl p) = last_content t k (latest t.ledger k) (put_groups t.ledger.base t.ledger.groups k) v r p
@@ -209,8 +209,8 @@ latest_has t k v mended is = by (latest_cases k t.ledger.top t.ledger.groups (t.
     by (inr r) (inl p) = absurd (r.1 p.at p.index p.group p.item p.there p.has p.key)
     by (inr r) (inr p) =
         subst (λ (o : Option Name). HasContent t.ledger o (put_groups t.ledger.base t.ledger.groups k)) (sym r.0)
-        (subst (HasContent t.ledger (t.ledger.first k)) (sym p.1)
-        (first_content t k marked.mark (t.ledger.first k) v marked.more r.1 (v.book_right.first k is) (v.book_right.base k is)))
+        (subst (HasContent t.ledger (t.ledger.first_page k)) (sym p.1)
+        (first_content t k marked.mark (t.ledger.first_page k) v marked.more r.1 (v.book_right.first_page k is) (v.book_right.base k is)))
 
 -- Looks
 

@@ -5,14 +5,14 @@ use Rattle.std.proofs.lemmas.Bool.{and_from, eq-eqb, le-ltb, lt-ltb, not-false, 
 use Rattle.std.proofs.lemmas.List.{length-map}
 use Rattle.arrayvec.specs.ArrayVec.{ArrayVec}
 use Rattle.ufs_spec.specs.Exchanges as exchange
-use Rattle.ufs_spec.specs.Exchanges.{Answering, Awaiting, ForFrames, ForUnmap, ForWrite, Gathering, Sending, Telling, is_asked_of, task_of, with_deed}
+use Rattle.ufs_spec.specs.Exchanges.{Answering, Awaiting, ForFrames, ForUnmap, ForWrite, Gathering, Sending, SendingBytes, is_asked_of, task_of, with_deed}
 use Rattle.ufs_spec.specs.Keys.{Group, data_key, group_of}
 use Rattle.ufs_spec.specs.Ledger.{Ledger, before_accepted}
-use Rattle.ufs_spec.specs.Machine.{Allowed, Call, Hears, Host, IsHeard, Spelled, accepts, asked_fault, behind, data_for, data_heard, lock_told, observe, result_of, set_deed, with_moves, write_complete}
+use Rattle.ufs_spec.specs.Machine.{Allowed, Call, OfHost, Host, IsHeard, Spelled, accepts, asked_fault, behind, data_for, data_heard, lock_applied, observe, result_of, set_deed, with_moves, write_complete}
 use Rattle.ufs_spec.specs.Messages.{AreBytes}
 use Rattle.ufs_spec.specs.Moves.{Accept, Release, moved}
 use Rattle.ufs_spec.specs.Plain.{shape_of_numbers}
-use Rattle.ufs_spec.specs.Steps.{State, locked, numbers_of, plain_now}
+use Rattle.ufs_spec.specs.Refusals.{State, locked, numbers_of, plain_now}
 use Rattle.ufs_spec.specs.Translation as layer
 use Rattle.ufs_spec.specs.Translation.{is_mended}
 use Rattle.ufs_spec.specs.declared.configs.UnitSpec.{UnitSpec}
@@ -69,7 +69,7 @@ gathers_one d l qs a b key (Gathering (ForWrite unit address blocks forced) gath
 gathers_one d l qs a b key (Gathering (ForUnmap unit) gathered asked) h = absurd h.0.write
 gathers_one d l qs a b key (Gathering ForFrames gathered asked) h = absurd h.0.write
 gathers_one d l qs a b key (Sending blocks sent) h = absurd h
-gathers_one d l qs a b key (Telling bytes) h = absurd h
+gathers_one d l qs a b key (SendingBytes bytes) h = absurd h
 gathers_one d l qs a b key (Awaiting commands) h = absurd h
 gathers_one d l qs a b key (Answering s carried) h = absurd h
 
@@ -115,7 +115,7 @@ layer_of d s h = record { valid = h.tied.valid; kept = h.ftl_kept }
 
 -- a locked device gives the slot back, and the task ends
 refused_right : (d : DeviceCore) (s : State) (a : Task) (b : exchange.Task) (unit address : ℕ) (bytes : List ℕ) → Describes d s → IsWritten d s a b unit address bytes →
-    IsTied (lock_told (released s b)) → Describes (waiting_ended (core_behind d (data_key unit address) bytes false)) (lock_told (released s b))
+    IsTied (lock_applied (released s b)) → Describes (waiting_ended (core_behind d (data_key unit address) bytes false)) (lock_applied (released s b))
 refused_right d s a b unit address bytes h w tied =
     told_describes (core_behind d (data_key unit address) bytes false) (released s b) tied (releases_right d.ftl s.translation (layer_of d s h)).kept
     (one_task (core_behind d (data_key unit address) bytes false) s.translation.ledger s.translation.pins d.tasks s.tasks a b
@@ -125,7 +125,7 @@ refused_right d s a b unit address bytes h w tied =
 
 -- any other accepts the block, and the task waits for it
 accepted_right : (d : DeviceCore) (s : State) (a : Task) (b : exchange.Task) (unit address : ℕ) (bytes : List ℕ) → Describes d s → IsWritten d s a b unit address bytes → locked s ≡ false →
-    IsTied (lock_told (written s b unit address bytes)) → Describes (waiting_ended (core_behind d (data_key unit address) bytes true)) (lock_told (written s b unit address bytes))
+    IsTied (lock_applied (written s b unit address bytes)) → Describes (waiting_ended (core_behind d (data_key unit address) bytes true)) (lock_applied (written s b unit address bytes))
 accepted_right d s a b unit address bytes h w free tied =
     told_describes (core_behind d (data_key unit address) bytes true) (written s b unit address bytes) tied layer_right
     (one_task (core_behind d (data_key unit address) bytes true) (written s b unit address bytes).translation.ledger s.translation.pins d.tasks s.tasks a b
@@ -165,15 +165,15 @@ taken_where d s h claimed = by (is_locked d.ftl) refl ∙ ap not (locks_right d.
 
 -- the data complete the WRITE
 completes_right : (d : DeviceCore) (s : State) (a : Task) (b : exchange.Task) (key : Key) (unit address : ℕ) (bytes : List ℕ) → Describes d s → IsWritten d s a b unit address bytes →
-    key ≡ data_key unit address → IsTied (lock_told (write_complete s b unit address 1 true bytes)) →
-    Describes (waiting_ended (task_set (block_accepted d key bytes) 0 (phase_accepted d key))) (lock_told (write_complete s b unit address 1 true bytes))
+    key ≡ data_key unit address → IsTied (lock_applied (write_complete s b unit address 1 true bytes)) →
+    Describes (waiting_ended (task_set (block_accepted d key bytes) 0 (phase_accepted d key))) (lock_applied (write_complete s b unit address 1 true bytes))
 completes_right d s a b key unit address bytes h w key_is tied =
-    subst (λ (k : Key). Describes (waiting_ended (core_behind d k bytes (is_taken d))) (lock_told (write_complete s b unit address 1 true bytes))) (sym key_is)
-    (subst (λ (taken : Bool). Describes (waiting_ended (core_behind d (data_key unit address) bytes taken)) (lock_told (write_complete s b unit address 1 true bytes))) (sym (taken_where d s h w.claimed))
+    subst (λ (k : Key). Describes (waiting_ended (core_behind d k bytes (is_taken d))) (lock_applied (write_complete s b unit address 1 true bytes))) (sym key_is)
+    (subst (λ (taken : Bool). Describes (waiting_ended (core_behind d (data_key unit address) bytes taken)) (lock_applied (write_complete s b unit address 1 true bytes))) (sym (taken_where d s h w.claimed))
     (by (locked s) refl tied))
   where
-    by : (k : Bool) → locked s ≡ k → IsTied (lock_told (cond k (released s b) (written s b unit address bytes))) →
-        Describes (waiting_ended (core_behind d (data_key unit address) bytes (not k))) (lock_told (cond k (released s b) (written s b unit address bytes)))
+    by : (k : Bool) → locked s ≡ k → IsTied (lock_applied (cond k (released s b) (written s b unit address bytes))) →
+        Describes (waiting_ended (core_behind d (data_key unit address) bytes (not k))) (lock_applied (cond k (released s b) (written s b unit address bytes)))
     by true e is = refused_right d s a b unit address bytes h w is
     by false e is = accepted_right d s a b unit address bytes h w e is
 
@@ -200,19 +200,19 @@ call_of lun tag offset «data» = Host (Spelled (message.DataOut lun tag offset 
 
 -- data that the one task asked for are taken
 taken_right : (d : DeviceCore) (s : State) (lun tag offset : ℕ) («data» : ArrayVec ℕ) (whole : List ℕ) (asked : Option AskedFor) (is : Bool) → Describes d s →
-    IsHeard whole (Spelled (message.DataOut lun tag offset «data») None) → Allowed s (call_of lun tag offset «data») (Hears (Ok tt)) →
+    IsHeard whole (Spelled (message.DataOut lun tag offset «data») None) → Allowed s (call_of lun tag offset «data») (OfHost (Ok tt)) →
     (x : HasAsked d s.translation.ledger s.translation.pins d.tasks s.tasks tag (length «data».items) asked is) → GathersOne d x.b x.key x.b.deed →
-    IsAnswered s (call_of lun tag offset «data») (Hears (Ok tt)) (data_core d «data».items (Some (record { index = 0; key = x.key })))
+    IsAnswered s (call_of lun tag offset «data») (OfHost (Ok tt)) (data_core d «data».items (Some (record { index = 0; key = x.key })))
 taken_right d s lun tag offset «data» whole asked is h heard right x g = record {
   right = right;
   describes =
-      settles (waiting_ended (task_set (block_accepted d x.key «data».items) 0 (phase_accepted d x.key))) s (call_of lun tag offset «data») (Hears (Ok tt))
-      (subst (λ (y : State). Describes (waiting_ended (task_set (block_accepted d x.key «data».items) 0 (phase_accepted d x.key))) (lock_told y)) (sym done)
-      (completes_right d s x.a x.b x.key g.unit g.address «data».items h known g.key_is (subst (λ (y : State). IsTied (lock_told y)) done tied)));
+      settles (waiting_ended (task_set (block_accepted d x.key «data».items) 0 (phase_accepted d x.key))) s (call_of lun tag offset «data») (OfHost (Ok tt))
+      (subst (λ (y : State). Describes (waiting_ended (task_set (block_accepted d x.key «data».items) 0 (phase_accepted d x.key))) (lock_applied y)) (sym done)
+      (completes_right d s x.a x.b x.key g.unit g.address «data».items h known g.key_is (subst (λ (y : State). IsTied (lock_applied y)) done tied)));
 }
   where
-    tied : IsTied (lock_told (behind s (call_of lun tag offset «data») (Hears (Ok tt))))
-    tied = unfilled_keeps s (call_of lun tag offset «data») (Hears (Ok tt)) h.tied (whole, heard) right
+    tied : IsTied (lock_applied (behind s (call_of lun tag offset «data») (OfHost (Ok tt))))
+    tied = unfilled_keeps s (call_of lun tag offset «data») (OfHost (Ok tt)) h.tied (whole, heard) right
 
     done : data_heard s (task_of tag s.tasks) «data».items ≡ write_complete s x.b g.unit g.address 1 true «data».items
     done = heard_completes s x.b tag g.unit g.address «data».items x.theirs (x.kept.tag ∙ x.tag_is) g.deed_is g.length_is x.count_is
@@ -240,18 +240,18 @@ taken_right d s lun tag offset «data» whole asked is h heard right x g = recor
 each_right : (d : DeviceCore) (s : State) (lun tag offset : ℕ) («data» : ArrayVec ℕ) (whole : List ℕ) (asked : Option AskedFor) (is : Bool) → Describes d s →
     IsHeard whole (Spelled (message.DataOut lun tag offset «data») None) → is_asked_of (task_of tag s.tasks) lun offset (length «data».items) ≡ is →
     AreAsked d s.translation.ledger s.translation.pins d.tasks s.tasks tag (length «data».items) asked is →
-    IsAnswered s (call_of lun tag offset «data») (Hears (data_result asked)) (data_core d «data».items asked)
+    IsAnswered s (call_of lun tag offset «data») (OfHost (data_result asked)) (data_core d «data».items asked)
 each_right d s lun tag offset «data» whole asked is h heard is_is (inl (none, not_asked)) =
-    subst (λ (x : Option AskedFor). IsAnswered s (call_of lun tag offset «data») (Hears (data_result x)) (data_core d «data».items x)) (sym none)
+    subst (λ (x : Option AskedFor). IsAnswered s (call_of lun tag offset «data») (OfHost (data_result x)) (data_core d «data».items x)) (sym none)
     (record { right = ap (λ (b : Bool). result_of (asked_fault b)) (sym (is_is ∙ not_asked)); describes = still d s h })
 each_right d s lun tag offset «data» whole asked is h heard is_is (inr x) =
-    subst (λ (y : Option AskedFor). IsAnswered s (call_of lun tag offset «data») (Hears (data_result y)) (data_core d «data».items y)) (sym x.asked_is)
+    subst (λ (y : Option AskedFor). IsAnswered s (call_of lun tag offset «data») (OfHost (data_result y)) (data_core d «data».items y)) (sym x.asked_is)
     (taken_right d s lun tag offset «data» whole asked is h heard (ap (λ (b : Bool). result_of (asked_fault b)) (sym (is_is ∙ x.right))) x
     (gathers_one d s.translation.ledger s.translation.pins x.a x.b x.key x.b.deed
     (subst (λ (p : Phase). IsDoing d s.translation.ledger s.translation.pins x.a x.b p x.b.deed) x.phase_is x.kept.doing)))
 
 pub data_right : (d : DeviceCore) (s : State) (lun tag offset : ℕ) («data» : _) (whole : List ℕ) → Describes d s → IsHeard whole (Spelled (message.DataOut lun tag offset «data») None) →
-    IsAnswered s (Host (Spelled (message.DataOut lun tag offset «data») None)) (Hears (data_result (asked_for d lun tag offset (length «data».items))))
+    IsAnswered s (Host (Spelled (message.DataOut lun tag offset «data») None)) (OfHost (data_result (asked_for d lun tag offset (length «data».items))))
     (data_core d «data».items (asked_for d lun tag offset (length «data».items)))
 data_right d s lun tag offset «data» whole h heard =
     each_right d s lun tag offset «data» whole (asked_for d lun tag offset (length «data».items)) (is_asked_of (task_of tag s.tasks) lun offset (length «data».items)) h heard refl

@@ -6,7 +6,7 @@ use Rattle.std.proofs.lemmas.Bool.Decides.{eqb_tells}
 use Rattle.std.proofs.lemmas.List.{get_or-set_other, get_or-set_same, get_or_past, length-set, set-get_or}
 use Rattle.std.proofs.lemmas.List.Elements.{All-get_or, All-set}
 use Rattle.ufs_spec.specs.Cells.{IsPlace}
-use Rattle.ufs_spec.specs.Dies.{DieState, IsOfSize, after_job, blank_page, erased, is_bad_block, new_die, page_at, pages_of, programmed, ready_page}
+use Rattle.ufs_spec.specs.Dies.{DieState, IsOfSize, after_job, blank_page, die_erased, is_bad_block, new_die, page_at, pages_of, die_programmed, ready_page}
 use Rattle.ufs_spec.specs.DieLaws.{after_job_size, erased_blank, erased_next, erased_next_elsewhere, has_page, pages_in, programmed_next, programmed_next_elsewhere, with_block_elsewhere, with_page_elsewhere_in_block, with_page_there}
 use Rattle.ufs_spec.specs.Disk.{BlockState, Bad, Closed, Filling, Flight, Spot, at_die, at_place, at_spot, job_of, same_spot, spot_of, state_behind}
 use Rattle.ufs_spec.specs.Lives.{Fit, array_of}
@@ -138,47 +138,47 @@ not_bad state next e h = cc
 
 pub program_blocks : (n : Numbers) (dies : List DieState) (blocks : Spot → BlockState) (p : Place) (content : Page) → Fit n dies → p.die < length dies → IsPlace n p →
     blocks (spot_of p) ≡ Filling p.page → BlocksFit n dies blocks →
-    BlocksFit n (slice_set dies p.die (programmed (die_at dies p.die) p.block p.page content)) (at_spot blocks (spot_of p) (state_behind n.pages p.page))
+    BlocksFit n (slice_set dies p.die (die_programmed (die_at dies p.die) p.block p.page content)) (at_spot blocks (spot_of p) (state_behind n.pages p.page))
 program_blocks n dies blocks p content fit l place fills h =
     let size = die_size n dies p.die fit l in
     let long : length (die_at dies p.die).ready ≡ n.blocks = size.2 in
     let within = place.block in
     let inside : p.block < length (die_at dies p.die).ready = omega arith in
-    put_blocks n dies blocks (spot_of p) (state_behind n.pages p.page) (programmed (die_at dies p.die) p.block p.page content) l refl (not_bad (blocks (spot_of p)) p.page fills)
+    put_blocks n dies blocks (spot_of p) (state_behind n.pages p.page) (die_programmed (die_at dies p.die) p.block p.page content) l refl (not_bad (blocks (spot_of p)) p.page fills)
     (λ next e. programmed_next (die_at dies p.die) p.block p.page content inside ∙ behind_next n.pages p.page next e)
     (λ c differ. programmed_next_elsewhere (die_at dies p.die) p.block p.page c content differ) h
 
 pub program_pages : (n : Numbers) (dies : List DieState) (p : Place) (content : Page) → Fit n dies → p.die < length dies → IsPlace n p →
-    at_place (array_of dies) p content ≡ array_of (slice_set dies p.die (programmed (die_at dies p.die) p.block p.page content))
+    at_place (array_of dies) p content ≡ array_of (slice_set dies p.die (die_programmed (die_at dies p.die) p.block p.page content))
 program_pages n dies p content fit l place = λ i q. at q i
   where
-    in_its_block : (q : Place) → q ≢ p → spot_of q ≡ spot_of p → array_of dies q ≡ array_of (slice_set dies p.die (programmed (die_at dies p.die) p.block p.page content)) q
+    in_its_block : (q : Place) → q ≢ p → spot_of q ≡ spot_of p → array_of dies q ≡ array_of (slice_set dies p.die (die_programmed (die_at dies p.die) p.block p.page content)) q
     in_its_block q differ same =
         let die : q.die ≡ p.die = ap (λ (z : Spot). z.die) same in
         let block : q.block ≡ p.block = ap (λ (z : Spot). z.block) same in
         ap (λ (z : Spot). page_at (die_at dies z.die) z.block q.page) same
         ∙ sym (with_page_elsewhere_in_block (die_at dies p.die) p.block p.page q.page content (λ e. differ (place_is q p die block e)))
-        ∙ sym (put_here (λ s c. page_at s c q.page) dies (spot_of p) (programmed (die_at dies p.die) p.block p.page content) (spot_of q) l same)
+        ∙ sym (put_here (λ s c. page_at s c q.page) dies (spot_of p) (die_programmed (die_at dies p.die) p.block p.page content) (spot_of q) l same)
 
-    elsewhere : (q : Place) → q ≢ p → array_of dies q ≡ array_of (slice_set dies p.die (programmed (die_at dies p.die) p.block p.page content)) q
+    elsewhere : (q : Place) → q ≢ p → array_of dies q ≡ array_of (slice_set dies p.die (die_programmed (die_at dies p.die) p.block p.page content)) q
     elsewhere q differ =
         ⊎_elim
         (λ (h : (same_spot (spot_of q) (spot_of p) ≡ true) × (spot_of q ≡ spot_of p)). in_its_block q differ h.1)
         (λ (h : (same_spot (spot_of q) (spot_of p) ≡ false) × (spot_of q ≢ spot_of p)).
-        sym (put_elsewhere (λ s c. page_at s c q.page) dies (spot_of p) (programmed (die_at dies p.die) p.block p.page content) (spot_of q) l h.1
+        sym (put_elsewhere (λ s c. page_at s c q.page) dies (spot_of p) (die_programmed (die_at dies p.die) p.block p.page content) (spot_of q) l h.1
         (λ c other. with_block_elsewhere (die_at dies p.die) p.block c q.page _ other)))
         (spot_cases (spot_of q) (spot_of p))
 
-    there : content ≡ array_of (slice_set dies p.die (programmed (die_at dies p.die) p.block p.page content)) p
+    there : content ≡ array_of (slice_set dies p.die (die_programmed (die_at dies p.die) p.block p.page content)) p
     there =
-        sym (put_here (λ s c. page_at s c p.page) dies (spot_of p) (programmed (die_at dies p.die) p.block p.page content) (spot_of p) l refl
+        sym (put_here (λ s c. page_at s c p.page) dies (spot_of p) (die_programmed (die_at dies p.die) p.block p.page content) (spot_of p) l refl
         ∙ with_page_there (die_at dies p.die) p.block p.page content (has_page (die_at dies p.die) p.block p.page n.blocks n.pages place.block place.page (die_size n dies p.die fit l)))
 
-    at : (q : Place) → at_place (array_of dies) p content q ≡ array_of (slice_set dies p.die (programmed (die_at dies p.die) p.block p.page content)) q
+    at : (q : Place) → at_place (array_of dies) p content q ≡ array_of (slice_set dies p.die (die_programmed (die_at dies p.die) p.block p.page content)) q
     at q =
         ⊎_elim
         (λ (h : (q ≡ p) × (at_place (array_of dies) p content q ≡ content)).
-        h.1 ∙ there ∙ ap (array_of (slice_set dies p.die (programmed (die_at dies p.die) p.block p.page content))) (sym h.0))
+        h.1 ∙ there ∙ ap (array_of (slice_set dies p.die (die_programmed (die_at dies p.die) p.block p.page content))) (sym h.0))
         (λ (h : (q ≢ p) × (at_place (array_of dies) p content q ≡ array_of dies q)). h.1 ∙ elsewhere q h.0)
         (at_place_cases (array_of dies) p content q)
 
@@ -188,25 +188,25 @@ first_next : (next : ℕ) → Filling 0 ≡ Filling next → Some 0 ≡ Some nex
 first_next next e = cc
 
 pub erase_blocks : (n : Numbers) (dies : List DieState) (blocks : Spot → BlockState) (spot : Spot) → Fit n dies → spot.die < length dies → spot.block < n.blocks →
-    blocks spot ≢ Bad → BlocksFit n dies blocks → BlocksFit n (slice_set dies spot.die (erased (die_at dies spot.die) spot.block)) (at_spot blocks spot (Filling 0))
+    blocks spot ≢ Bad → BlocksFit n dies blocks → BlocksFit n (slice_set dies spot.die (die_erased (die_at dies spot.die) spot.block)) (at_spot blocks spot (Filling 0))
 erase_blocks n dies blocks spot fit l within was_good h =
     let size = die_size n dies spot.die fit l in
     let long : length (die_at dies spot.die).ready ≡ n.blocks = size.2 in
     let inside : spot.block < length (die_at dies spot.die).ready = omega arith in
-    put_blocks n dies blocks spot (Filling 0) (erased (die_at dies spot.die) spot.block) l refl was_good
+    put_blocks n dies blocks spot (Filling 0) (die_erased (die_at dies spot.die) spot.block) l refl was_good
     (λ next e. erased_next (die_at dies spot.die) spot.block inside ∙ first_next next e)
     (λ c differ. erased_next_elsewhere (die_at dies spot.die) spot.block c differ) h
 
 pub erase_pages : (n : Numbers) (dies : List DieState) (spot : Spot) → Fit n dies → spot.die < length dies → spot.block < n.blocks →
-    (λ (p : Place). if in_block n spot p then blank_page else array_of dies p) ≡ array_of (slice_set dies spot.die (erased (die_at dies spot.die) spot.block))
+    (λ (p : Place). if in_block n spot p then blank_page else array_of dies p) ≡ array_of (slice_set dies spot.die (die_erased (die_at dies spot.die) spot.block))
 erase_pages n dies spot fit l within = λ i q. at q i
   where
     inside : spot.block < length (die_at dies spot.die).blocks
     inside = let r = die_size n dies spot.die fit l in let long : length (die_at dies spot.die).blocks ≡ n.blocks = r.0 in omega arith
 
-    blank : (q : Place) → spot_of q ≡ spot → array_of (slice_set dies spot.die (erased (die_at dies spot.die) spot.block)) q ≡ blank_page
+    blank : (q : Place) → spot_of q ≡ spot → array_of (slice_set dies spot.die (die_erased (die_at dies spot.die) spot.block)) q ≡ blank_page
     blank q same =
-        put_here (λ s c. page_at s c q.page) dies spot (erased (die_at dies spot.die) spot.block) (spot_of q) l same
+        put_here (λ s c. page_at s c q.page) dies spot (die_erased (die_at dies spot.die) spot.block) (spot_of q) l same
         ∙ erased_blank (die_at dies spot.die) spot.block q.page inside
 
     past : (q : Place) → spot_of q ≡ spot → n.pages ≤ q.page → array_of dies q ≡ blank_page
@@ -215,12 +215,12 @@ erase_pages n dies spot fit l within = λ i q. at q i
         ap (λ (z : Spot). page_at (die_at dies z.die) z.block q.page) same
         ∙ get_or_past (pages_of (die_at dies spot.die) spot.block) q.page blank_page (omega arith)
 
-    elsewhere : (q : Place) → spot_of q ≢ spot → array_of dies q ≡ array_of (slice_set dies spot.die (erased (die_at dies spot.die) spot.block)) q
+    elsewhere : (q : Place) → spot_of q ≢ spot → array_of dies q ≡ array_of (slice_set dies spot.die (die_erased (die_at dies spot.die) spot.block)) q
     elsewhere q differ =
-        sym (put_elsewhere (λ s c. page_at s c q.page) dies spot (erased (die_at dies spot.die) spot.block) (spot_of q) l differ
+        sym (put_elsewhere (λ s c. page_at s c q.page) dies spot (die_erased (die_at dies spot.die) spot.block) (spot_of q) l differ
         (λ c other. with_block_elsewhere (die_at dies spot.die) spot.block c q.page _ other))
 
-    outside : (q : Place) → in_block n spot q ≡ false → array_of dies q ≡ array_of (slice_set dies spot.die (erased (die_at dies spot.die) spot.block)) q
+    outside : (q : Place) → in_block n spot q ≡ false → array_of dies q ≡ array_of (slice_set dies spot.die (die_erased (die_at dies spot.die) spot.block)) q
     outside q e =
         ⊎_elim
         (λ (h : (same_spot (spot_of q) spot ≡ true) × (spot_of q ≡ spot)).
@@ -231,7 +231,7 @@ erase_pages n dies spot fit l within = λ i q. at q i
         (λ (h : (same_spot (spot_of q) spot ≡ false) × (spot_of q ≢ spot)). elsewhere q h.1)
         (spot_cases (spot_of q) spot)
 
-    at : (q : Place) → (if in_block n spot q then blank_page else array_of dies q) ≡ array_of (slice_set dies spot.die (erased (die_at dies spot.die) spot.block)) q
+    at : (q : Place) → (if in_block n spot q then blank_page else array_of dies q) ≡ array_of (slice_set dies spot.die (die_erased (die_at dies spot.die) spot.block)) q
     at q =
         ⊎_elim
         (λ (h : in_block n spot q ≡ true).

@@ -7,10 +7,10 @@ use Rattle.ufs_spec.specs.DieLaws.{has_page}
 use Rattle.ufs_spec.specs.Dies.{CanDo, DieState, after_job, blank_page, outcome_of}
 use Rattle.ufs_spec.specs.Disk.{BlockState, Bad, Closed, Erasing, Filling, Flight, Free, Programming, Reader, Reading, Spot, at_die, at_place, job_of, page_of, spot_of}
 use Rattle.ufs_spec.specs.Lives.{Fit, IsOpened, array_of, bad_of, ended_well}
-use Rattle.ufs_spec.specs.Machine.{Ask, Finish, Finishes, Give, Gives, Heard, Hears, Host, Replies, Step, Steps, array_behind, given, hears, in_block, fills, lock_told, observe, replied, with_moves}
-use Rattle.ufs_spec.specs.Moves.{IsEndingOf, Turn}
+use Rattle.ufs_spec.specs.Machine.{Reply, Done, OfDone, Take, OfTake, Heard, OfHost, Host, OfReply, Turn, OfTurn, array_behind, given, hears, in_block, fills, lock_applied, observe, replied, with_moves}
+use Rattle.ufs_spec.specs.Moves.{IsEndingOf, TakeStep}
 use Rattle.ufs_spec.specs.Openings.{IsBlockState}
-use Rattle.ufs_spec.specs.Steps.{State}
+use Rattle.ufs_spec.specs.Refusals.{State}
 use Rattle.ufs_spec.specs.Translation.{MayTake, Translation}
 use Rattle.ufs_spec.specs.declared.configs.Numbers.{Numbers}
 use Rattle.ufs_spec.specs.declared.faults.HostFault.{HostFault}
@@ -96,22 +96,22 @@ stays dies jobs s u look same h =
 
 -- and so is what it is once registers were filled and the lock was told
 told_stays : (dies : List DieState) (jobs : List (Option Job)) (s u : State) → seen u ≡ seen s →
-    ((die : ℕ) → option_map job_of (u.translation.disk.flights die) ≡ option_map job_of (s.translation.disk.flights die)) → DiesFit dies jobs s → DiesFit dies jobs (lock_told (fills u))
-told_stays dies jobs s u look same h = stays dies jobs s (lock_told (fills u)) (told_same u ∙ look) (λ die. settled_jobs u die ∙ same die) h
+    ((die : ℕ) → option_map job_of (u.translation.disk.flights die) ≡ option_map job_of (s.translation.disk.flights die)) → DiesFit dies jobs s → DiesFit dies jobs (lock_applied (fills u))
+told_stays dies jobs s u look same h = stays dies jobs s (lock_applied (fills u)) (told_same u ∙ look) (λ die. settled_jobs u die ∙ same die) h
 
 -- what changes no job, no block and no page
 
 pub hears_fit : (dies : List DieState) (jobs : List (Option Job)) (s : State) (heard : Heard) (result : Result Unit HostFault) → DiesFit dies jobs s →
-    DiesFit dies jobs (observe s (Host heard) (Hears result))
+    DiesFit dies jobs (observe s (Host heard) (OfHost result))
 hears_fit dies jobs s heard (Ok done) h = told_stays dies jobs s (hears s heard) (hears_same s heard) (quiet.hears_same s heard) h
 hears_fit dies jobs s heard (Err fault) h = told_stays dies jobs s s refl (λ die. refl) h
 
-pub asks_fit : (dies : List DieState) (jobs : List (Option Job)) (s : State) (reply : Option Message) → DiesFit dies jobs s → DiesFit dies jobs (observe s Ask (Replies reply))
+pub asks_fit : (dies : List DieState) (jobs : List (Option Job)) (s : State) (reply : Option Message) → DiesFit dies jobs s → DiesFit dies jobs (observe s Reply (OfReply reply))
 asks_fit dies jobs s (Some m) h = told_stays dies jobs s (replied s m) (replied_same s m) (quiet.replied_same s m) h
 asks_fit dies jobs s None h = told_stays dies jobs s s refl (λ die. refl) h
 
-pub steps_fit : (dies : List DieState) (jobs : List (Option Job)) (s : State) (due : Bool) → DiesFit dies jobs s → DiesFit dies jobs (observe s Step (Steps due))
-steps_fit dies jobs s due h = told_stays dies jobs s (with_moves s (Turn ∷ [])) (step_same s) (quiet.step_same s) h
+pub steps_fit : (dies : List DieState) (jobs : List (Option Job)) (s : State) (due : Bool) → DiesFit dies jobs s → DiesFit dies jobs (observe s Turn (OfTurn due))
+steps_fit dies jobs s due h = told_stays dies jobs s (with_moves s (TakeStep ∷ [])) (step_same s) (quiet.step_same s) h
 
 -- a die is given a job
 
@@ -140,7 +140,7 @@ give d dies jobs s die flight h fit may =
     }
 
 pub gives_fit : (d : DeviceCore) (dies : List DieState) (jobs : List (Option Job)) (s : State) (die : ℕ) (flight : Option Flight) → Describes d s → DiesFit dies jobs s →
-    MayTake s.translation die flight → DiesFit dies (jobs_given jobs die (option_map job_of flight)) (observe s (Give die) (Gives flight))
+    MayTake s.translation die flight → DiesFit dies (jobs_given jobs die (option_map job_of flight)) (observe s (Take die) (OfTake flight))
 gives_fit d dies jobs s die None h fit may = told_stays dies jobs s s refl (λ other. refl) fit
 gives_fit d dies jobs s die (Some flight) h fit may =
     told_stays dies (slice_set jobs die (Some (job_of flight))) (given s die (Some flight)) (given s die (Some flight)) refl (λ other. refl)
@@ -244,7 +244,7 @@ are_behind d dies jobs s (Erasing spot) h fit flies =
 
 pub finish_fits : (d : DeviceCore) (dies : List DieState) (jobs : List (Option Job)) (s : State) (die : ℕ) (flight : Flight) → Describes d s → DiesFit dies jobs s →
     s.translation.disk.flights die ≡ Some flight →
-    DiesFit (slice_set dies die (after_job (die_at dies die) (job_of flight))) (slice_set jobs die None) (observe s (Finish die (ended_well flight) s.array) (Finishes true))
+    DiesFit (slice_set dies die (after_job (die_at dies die) (job_of flight))) (slice_set jobs die None) (observe s (Done die (ended_well flight) s.array) (OfDone true))
 finish_fits d dies jobs s die flight h fit flies =
     let n = s.translation.numbers in
     let flights = s.translation.disk.flights in
@@ -252,7 +252,7 @@ finish_fits d dies jobs s die flight h fit flies =
     let left = slice_set jobs die None in
     let array = array_behind s flight (ended_well flight) s.array in
     let blocks = blocks_behind s.translation flight in
-    let u = observe s (Finish die (ended_well flight) s.array) (Finishes true) in
+    let u = observe s (Done die (ended_well flight) s.array) (OfDone true) in
     let home = lies_home d.ftl s.translation die flight h.tied.valid h.ftl_kept flies in
     let l = is_inside d dies jobs s die flight h fit flies in
     let as_many = fit.as_many in

@@ -6,9 +6,9 @@ use Rattle.ufs_spec.specs.Cells.{Array, Cells, GroupPage}
 use Rattle.ufs_spec.specs.Disk.{Erasing, Flight, ForNobody, ForRest, ForStep, ForTask, Programming, Reading}
 use Rattle.ufs_spec.specs.Exchanges as exchange
 use Rattle.ufs_spec.specs.Exchanges.{NotRead, WasRead}
-use Rattle.ufs_spec.specs.Machine.{Finish, Finishes, MayLeave, array_behind, ends_with, fits, lock_told, task_read}
-use Rattle.ufs_spec.specs.Moves.{End, Ending, IsEndingOf, ReadRight, ReadWrong, WentWell, WentWrong, end_flight, job_ended, moved, with_wanted}
-use Rattle.ufs_spec.specs.Steps.{State}
+use Rattle.ufs_spec.specs.Machine.{Done, OfDone, MayLeave, array_behind, ends_with, fits, lock_applied, task_read}
+use Rattle.ufs_spec.specs.Moves.{EndJob, Ending, IsEndingOf, ReadRight, ReadWrong, WentWell, WentWrong, end_flight, job_ended, moved, with_wanted}
+use Rattle.ufs_spec.specs.Refusals.{State}
 use Rattle.ufs_spec.specs.Translation as layer
 use Rattle.ufs_spec.specs.Translation.{Translation}
 use Rattle.ufs_spec.specs.declared.flash.Outcome.{Outcome}
@@ -51,22 +51,22 @@ ending_fits cells x o ending h = absurd h
 
 -- The layer behind the job
 
-moved_is : (t : Translation) (die : ℕ) (flight : Flight) (ending : Ending) → t.disk.flights die ≡ Some flight → moved t (End die ending) ≡ job_ended t die flight ending
+moved_is : (t : Translation) (die : ℕ) (flight : Flight) (ending : Ending) → t.disk.flights die ≡ Some flight → moved t (EndJob die ending) ≡ job_ended t die flight ending
 moved_is t die flight ending e = ap (λ (x : Option Flight). end_flight t die x ending) e
 
-end_leaves : (t : Translation) (die : ℕ) (flight : Flight) (ending : Ending) → t.disk.flights die ≡ Some flight → IsForNone flight → Valid (moved t (End die ending)) →
-    EndLeaves t (moved t (End die ending))
+end_leaves : (t : Translation) (die : ℕ) (flight : Flight) (ending : Ending) → t.disk.flights die ≡ Some flight → IsForNone flight → Valid (moved t (EndJob die ending)) →
+    EndLeaves t (moved t (EndJob die ending))
 end_leaves t die flight ending e none v =
     let is = moved_is t die flight ending e in
     subst (EndLeaves t) (sym is) (job_leaves t die flight ending none (subst Valid is v))
 
 -- what the tasks are where nothing is told
 tasks_end : (d : DeviceCore) (after : Core) (s : State) (die : ℕ) (flight : Flight) (ending : Ending) → Describes d s → s.translation.disk.flights die ≡ Some flight → IsForNone flight →
-    layer_kept.Describes after (moved s.translation (End die ending)) →
-    TasksKept (record d { ftl = after }) (moved s.translation (End die ending)).ledger (moved s.translation (End die ending)).pins d.tasks s.tasks
+    layer_kept.Describes after (moved s.translation (EndJob die ending)) →
+    TasksKept (record d { ftl = after }) (moved s.translation (EndJob die ending)).ledger (moved s.translation (EndJob die ending)).pins d.tasks s.tasks
 tasks_end d after s die flight ending h e none layer =
     let leaves = end_leaves s.translation die flight ending e none layer.valid in
-    tasks_left d after s (moved s.translation (End die ending)) h layer.kept leaves.became leaves.before
+    tasks_left d after s (moved s.translation (EndJob die ending)) h layer.kept leaves.became leaves.before
 
 -- The state behind the job
 
@@ -75,7 +75,7 @@ record EndedAs (s v : State) (u : Translation) (tasks : List exchange.Task) : Ty
   is : v ≡ record s { tasks = tasks; array = array; translation = u }
 
 nothing_told : (s : State) (die : ℕ) (flight : Flight) (ending : Ending) (left : Array) → IsForNone flight →
-    EndedAs s (ends_with s die (Some flight) ending left) (moved s.translation (End die ending)) s.tasks
+    EndedAs s (ends_with s die (Some flight) ending left) (moved s.translation (EndJob die ending)) s.tasks
 nothing_told s die (Reading ForNobody place) ReadRight left none = record { array = array_behind s (Reading ForNobody place) ReadRight left; is = refl }
 nothing_told s die (Reading ForNobody place) ReadWrong left none = record { array = array_behind s (Reading ForNobody place) ReadWrong left; is = refl }
 nothing_told s die (Reading ForNobody place) WentWell left none = record { array = array_behind s (Reading ForNobody place) WentWell left; is = refl }
@@ -87,11 +87,11 @@ nothing_told s die (Programming place cell) ending left none = record { array = 
 nothing_told s die (Erasing spot) ending left none = record { array = array_behind s (Erasing spot) ending left; is = refl }
 
 right_told : (s : State) (die tag index : ℕ) (place : Place) (left : Array) →
-    EndedAs s (ends_with s die (Some (Reading (ForTask tag index) place)) ReadRight left) (moved s.translation (End die ReadRight)) (map (task_read tag index WasRead) s.tasks)
+    EndedAs s (ends_with s die (Some (Reading (ForTask tag index) place)) ReadRight left) (moved s.translation (EndJob die ReadRight)) (map (task_read tag index WasRead) s.tasks)
 right_told s die tag index place left = record { array = s.array; is = refl }
 
 wrong_told : (s : State) (die tag index : ℕ) (place : Place) (left : Array) →
-    EndedAs s (ends_with s die (Some (Reading (ForTask tag index) place)) ReadWrong left) (moved s.translation (End die ReadWrong)) (map (task_read tag index NotRead) s.tasks)
+    EndedAs s (ends_with s die (Some (Reading (ForTask tag index) place)) ReadWrong left) (moved s.translation (EndJob die ReadWrong)) (map (task_read tag index NotRead) s.tasks)
 wrong_told s die tag index place left = record { array = s.array; is = refl }
 
 -- What is kept then
@@ -107,8 +107,8 @@ record Behind (d : DeviceCore) (s : State) (after : Core) (v : State) (u : Trans
   kept : TasksKept core u.ledger u.pins core.tasks tasks
 
 nothing_behind : (d : DeviceCore) (s : State) (die : ℕ) (flight : Flight) (ending : Ending) (left : Array) (after : Core) (e : Ended) → Describes d s →
-    s.translation.disk.flights die ≡ Some flight → IsForNone flight → layer_kept.Describes after (moved s.translation (End die ending)) → e ≡ ended.Other →
-    Behind d s after (ends_with s die (Some flight) ending left) (moved s.translation (End die ending)) e
+    s.translation.disk.flights die ≡ Some flight → IsForNone flight → layer_kept.Describes after (moved s.translation (EndJob die ending)) → e ≡ ended.Other →
+    Behind d s after (ends_with s die (Some flight) ending left) (moved s.translation (EndJob die ending)) e
 nothing_behind d s die flight ending left after e h is none layer other = record {
   core = record d { ftl = after };
   tasks = s.tasks;
@@ -140,11 +140,11 @@ loads d after x none =
 
 right_behind : (d : DeviceCore) (s : State) (die tag : ℕ) (place : Place) (left : Array) (after : Core) (e : Ended) (page : Tag) (body : List ℕ) → Describes d s →
     s.translation.disk.flights die ≡ Some (Reading (ForTask tag 0) place) → list_any (is_reading tag place) d.ftl.pins ≡ true →
-    layer_kept.Describes after (moved s.translation (End die ReadRight)) → s.translation.disk.cells place ≡ GroupPage page body → e ≡ ended.Read tag (Some body) →
-    Behind d s after (ends_with s die (Some (Reading (ForTask tag 0) place)) ReadRight left) (moved s.translation (End die ReadRight)) e
+    layer_kept.Describes after (moved s.translation (EndJob die ReadRight)) → s.translation.disk.cells place ≡ GroupPage page body → e ≡ ended.Read tag (Some body) →
+    Behind d s after (ends_with s die (Some (Reading (ForTask tag 0) place)) ReadRight left) (moved s.translation (EndJob die ReadRight)) e
 right_behind d s die tag place left after e page body h is reads layer cell tells =
     let t = s.translation in
-    let u = moved t (End die ReadRight) in
+    let u = moved t (EndJob die ReadRight) in
     let same : u ≡ job_ended t die (Reading (ForTask tag 0) place) ReadRight = moved_is t die (Reading (ForTask tag 0) place) ReadRight is in
     let ends = ends_of d after s tag place u h reads layer.kept (ap (λ (z : Translation). z.pins) same) in
     let done = was_read d after t (map (with_wanted tag 0 false) t.pins) tag place page body d.tasks s.tasks ends cell h.tasks_kept in
@@ -162,11 +162,11 @@ right_behind d s die tag place left after e page body h is reads layer cell tell
 
 wrong_behind : (d : DeviceCore) (s : State) (die tag : ℕ) (place : Place) (left : Array) (after : Core) (e : Ended) → Describes d s →
     s.translation.disk.flights die ≡ Some (Reading (ForTask tag 0) place) → list_any (is_reading tag place) d.ftl.pins ≡ true →
-    layer_kept.Describes after (moved s.translation (End die ReadWrong)) → e ≡ ended.Read tag None →
-    Behind d s after (ends_with s die (Some (Reading (ForTask tag 0) place)) ReadWrong left) (moved s.translation (End die ReadWrong)) e
+    layer_kept.Describes after (moved s.translation (EndJob die ReadWrong)) → e ≡ ended.Read tag None →
+    Behind d s after (ends_with s die (Some (Reading (ForTask tag 0) place)) ReadWrong left) (moved s.translation (EndJob die ReadWrong)) e
 wrong_behind d s die tag place left after e h is reads layer tells =
     let t = s.translation in
-    let u = moved t (End die ReadWrong) in
+    let u = moved t (EndJob die ReadWrong) in
     let same : u ≡ job_ended t die (Reading (ForTask tag 0) place) ReadWrong = moved_is t die (Reading (ForTask tag 0) place) ReadWrong is in
     let ends = ends_of d after s tag place u h reads layer.kept (ap (λ (z : Translation). z.pins) same) in
     let lost = map (after_lost_read tag) d.tasks in
@@ -187,22 +187,22 @@ wrong_behind d s die tag place left after e h is reads layer tells =
 
 task_behind : (d : DeviceCore) (s : State) (die tag index : ℕ) (place : Place) (ending : Ending) (left : Array) (after : Core) (e : Ended) → Describes d s →
     s.translation.disk.flights die ≡ Some (Reading (ForTask tag index) place) → fits (Some (Reading (ForTask tag index) place)) ending ≡ true →
-    layer_kept.Describes after (moved s.translation (End die ending)) → IsTold s.translation.disk.cells (Some (Reading (ForTask tag index) place)) ending e →
-    Behind d s after (ends_with s die (Some (Reading (ForTask tag index) place)) ending left) (moved s.translation (End die ending)) e
+    layer_kept.Describes after (moved s.translation (EndJob die ending)) → IsTold s.translation.disk.cells (Some (Reading (ForTask tag index) place)) ending e →
+    Behind d s after (ends_with s die (Some (Reading (ForTask tag index) place)) ending left) (moved s.translation (EndJob die ending)) e
 task_behind d s die tag index place ReadRight left after e h is fit layer tells =
     let first = read_kept d.ftl s.translation die tag index place h.ftl_kept is in
-    subst (λ (k : ℕ). Behind d s after (ends_with s die (Some (Reading (ForTask tag k) place)) ReadRight left) (moved s.translation (End die ReadRight)) e) (sym first.0)
+    subst (λ (k : ℕ). Behind d s after (ends_with s die (Some (Reading (ForTask tag k) place)) ReadRight left) (moved s.translation (EndJob die ReadRight)) e) (sym first.0)
     (right_behind d s die tag place left after e tells.0 tells.1 h (is ∙ ap (λ (k : ℕ). Some (Reading (ForTask tag k) place)) first.0) first.1 layer tells.2 tells.3)
 task_behind d s die tag index place ReadWrong left after e h is fit layer tells =
     let first = read_kept d.ftl s.translation die tag index place h.ftl_kept is in
-    subst (λ (k : ℕ). Behind d s after (ends_with s die (Some (Reading (ForTask tag k) place)) ReadWrong left) (moved s.translation (End die ReadWrong)) e) (sym first.0)
+    subst (λ (k : ℕ). Behind d s after (ends_with s die (Some (Reading (ForTask tag k) place)) ReadWrong left) (moved s.translation (EndJob die ReadWrong)) e) (sym first.0)
     (wrong_behind d s die tag place left after e h (is ∙ ap (λ (k : ℕ). Some (Reading (ForTask tag k) place)) first.0) first.1 layer tells)
 task_behind d s die tag index place WentWell left after e h is fit layer tells = cc
 task_behind d s die tag index place (WentWrong cells) left after e h is fit layer tells = cc
 
 behind : (d : DeviceCore) (s : State) (die : ℕ) (x : Option Flight) (ending : Ending) (left : Array) (after : Core) (e : Ended) → Describes d s →
-    s.translation.disk.flights die ≡ x → fits x ending ≡ true → layer_kept.Describes after (moved s.translation (End die ending)) → IsTold s.translation.disk.cells x ending e →
-    Behind d s after (ends_with s die x ending left) (moved s.translation (End die ending)) e
+    s.translation.disk.flights die ≡ x → fits x ending ≡ true → layer_kept.Describes after (moved s.translation (EndJob die ending)) → IsTold s.translation.disk.cells x ending e →
+    Behind d s after (ends_with s die x ending left) (moved s.translation (EndJob die ending)) e
 behind d s die None ending left after e h is fit layer tells = cc
 behind d s die (Some (Reading (ForTask tag index) place)) ending left after e h is fit layer tells = task_behind d s die tag index place ending left after e h is fit layer tells
 behind d s die (Some (Reading ForNobody place)) ending left after e h is fit layer tells = nothing_behind d s die (Reading ForNobody place) ending left after e h is tt layer tells
@@ -215,27 +215,27 @@ behind d s die (Some (Erasing spot)) ending left after e h is fit layer tells = 
 -- The whole
 
 -- the core behind the job, once the lock is told, describes the state
-settled : (d : DeviceCore) (s : State) (after : Core) (v : State) (u : Translation) (e : Ended) → Describes d s → Behind d s after v u e → IsTied (lock_told v) →
-    layer_kept.Kept after u → Describes (waiting_ended (told (record d { ftl = after }) e)) (lock_told v)
+settled : (d : DeviceCore) (s : State) (after : Core) (v : State) (u : Translation) (e : Ended) → Describes d s → Behind d s after v u e → IsTied (lock_applied v) →
+    layer_kept.Kept after u → Describes (waiting_ended (told (record d { ftl = after }) e)) (lock_applied v)
 settled d s after v u e h b tied kept =
     let w : State = record s { tasks = b.tasks; array = b.ended.array; translation = u } in
-    let right : Describes (waiting_ended b.core) (lock_told w) =
-    told_describes b.core w (subst (λ (x : State). IsTied (lock_told x)) b.ended.is tied) (subst (λ (c : Core). Kept c u) (sym b.layer_is) kept) b.kept
+    let right : Describes (waiting_ended b.core) (lock_applied w) =
+    told_describes b.core w (subst (λ (x : State). IsTied (lock_applied x)) b.ended.is tied) (subst (λ (c : Core). Kept c u) (sym b.layer_is) kept) b.kept
     (subst (λ (rs : List Refused). s.shorts ≡ map short_kept rs) (sym b.refused) h.shorts) h.power_off h.unprotected in
-    subst (λ (core : DeviceCore). Describes (waiting_ended core) (lock_told v)) (sym b.core_is)
-    (subst (λ (x : State). Describes (waiting_ended b.core) (lock_told x)) (sym b.ended.is) right)
+    subst (λ (core : DeviceCore). Describes (waiting_ended core) (lock_applied v)) (sym b.core_is)
+    (subst (λ (x : State). Describes (waiting_ended b.core) (lock_applied x)) (sym b.ended.is) right)
 
 pub ends_answered : (d : DeviceCore) (s : State) (die : ℕ) (o : Outcome) (ending : Ending) (left : Array) (after : Core) (e : Ended) → Describes d s →
     IsEndingOf s.translation.disk.cells (s.translation.disk.flights die) o ending → MayLeave s die ending left →
-    layer_kept.Describes after (moved s.translation (End die ending)) → IsTold s.translation.disk.cells (s.translation.disk.flights die) ending e →
-    IsAnswered s (Finish die ending left) (Finishes true) (waiting_ended (told (record d { ftl = after }) e))
+    layer_kept.Describes after (moved s.translation (EndJob die ending)) → IsTold s.translation.disk.cells (s.translation.disk.flights die) ending e →
+    IsAnswered s (Done die ending left) (OfDone true) (waiting_ended (told (record d { ftl = after }) e))
 ends_answered d s die o ending left after e h is leaves layer tells =
     let fit = ending_fits s.translation.disk.cells (s.translation.disk.flights die) o ending is in
     let b = behind d s die (s.translation.disk.flights die) ending left after e h refl fit layer tells in
     record {
       right = sym fit;
       describes =
-          settles (waiting_ended (told (record d { ftl = after }) e)) s (Finish die ending left) (Finishes true)
-          (settled d s after (ends_with s die (s.translation.disk.flights die) ending left) (moved s.translation (End die ending)) e h b
-          (unfilled_keeps s (Finish die ending left) (Finishes true) h.tied leaves (sym fit)) layer.kept);
+          settles (waiting_ended (told (record d { ftl = after }) e)) s (Done die ending left) (OfDone true)
+          (settled d s after (ends_with s die (s.translation.disk.flights die) ending left) (moved s.translation (EndJob die ending)) e h b
+          (unfilled_keeps s (Done die ending left) (OfDone true) h.tied leaves (sym fit)) layer.kept);
     }

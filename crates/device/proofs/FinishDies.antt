@@ -4,9 +4,9 @@ use Rattle.ufs_spec.specs.Cells.{GroupPage, MarkPage, Nothing}
 use Rattle.ufs_spec.specs.Disk.{BlockState, Erasing, Filling, Flight, ForNobody, ForRest, ForStep, ForTask, Programming, Reader, Reading, Spot, at_die, at_spot, programmed, spot_of, state_behind}
 use Rattle.ufs_spec.specs.Exchanges.{ReadState, WasRead}
 use Rattle.ufs_spec.specs.Lives.{ended_well}
-use Rattle.ufs_spec.specs.Machine.{Finish, Finishes, array_behind, ends_with, fits, observe, reader_told, told_behind}
+use Rattle.ufs_spec.specs.Machine.{Done, OfDone, array_behind, ends_with, fits, observe, read_noted, read_noted_behind}
 use Rattle.ufs_spec.specs.Moves.{die_idle, end_flight, freed, job_ended, read_right}
-use Rattle.ufs_spec.specs.Steps.{State}
+use Rattle.ufs_spec.specs.Refusals.{State}
 use Rattle.ufs_spec.specs.Translation.{Plan, Translation}
 use Rattle.ufs_laws.proofs.Flying.{jobs_behind}
 use Rattle.ufs_laws.specs.Flights.{die_of_flight}
@@ -40,17 +40,17 @@ ended_layer t die (Programming p (MarkPage m)) none =
     layer_of u f = record { numbers = u.numbers; blocks = f }
 ended_layer t die (Erasing spot) none = refl
 
-told_keeps : (s : State) (reader : Reader) (read : ReadState) → (reader_told s reader read).translation ≡ s.translation
+told_keeps : (s : State) (reader : Reader) (read : ReadState) → (read_noted s reader read).translation ≡ s.translation
 told_keeps s (ForTask tag index) read = refl
 told_keeps s reader read = refl
 
-behind_keeps : (s : State) (flight : Flight) → (told_behind s flight (ended_well flight)).translation ≡ s.translation
+behind_keeps : (s : State) (flight : Flight) → (read_noted_behind s flight (ended_well flight)).translation ≡ s.translation
 behind_keeps s (Reading reader place) = told_keeps s reader WasRead
 behind_keeps s (Programming p cell) = refl
 behind_keeps s (Erasing spot) = refl
 
 pub seen_behind : (s : State) (die : ℕ) (flight : Flight) → s.translation.work.plan ≡ None → s.translation.disk.flights die ≡ Some flight →
-    seen (observe s (Finish die (ended_well flight) s.array) (Finishes true))
+    seen (observe s (Done die (ended_well flight) s.array) (OfDone true))
     ≡ seen_over (array_behind s flight (ended_well flight) s.array) (layer_behind s.translation flight)
 seen_behind s die flight none flies =
     let array = array_behind s flight (ended_well flight) s.array in
@@ -67,7 +67,7 @@ well_fits (Programming place cell) = refl
 well_fits (Erasing spot) = refl
 
 pub flights_behind : (s : State) (die : ℕ) (flight : Flight) → HaveNoRequest s.tasks → s.translation.disk.flights die ≡ Some flight → die_of_flight flight ≡ die →
-    (observe s (Finish die (ended_well flight) s.array) (Finishes true)).translation.disk.flights ≡ at_die s.translation.disk.flights die None
+    (observe s (Done die (ended_well flight) s.array) (OfDone true)).translation.disk.flights ≡ at_die s.translation.disk.flights die None
 flights_behind s die flight none flies home =
     jobs_behind s die flight (ended_well flight) s.array none flies home
     (well_fits flight ∙ ap (λ (o : Option Flight). fits o (ended_well flight)) (sym flies))

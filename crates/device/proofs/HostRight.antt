@@ -5,7 +5,7 @@ use Rattle.std.proofs.lemmas.Bool.{false≢true}
 use Rattle.ufs_spec.specs.Machine.{Faulty, IsCdbIn, IsHeard, Spelled}
 use Rattle.ufs_spec.specs.Messages.{Spells, code_of, host_fault_of, is_among, spelling}
 use Rattle.ufs_spec.specs.Stages.{heard_codes}
-use Rattle.ufs_spec.specs.Steps.{State}
+use Rattle.ufs_spec.specs.Refusals.{State}
 use Rattle.ufs_spec.specs.declared.faults.HostFault.{HostFault}
 use Rattle.ufs_spec.specs.declared.messages.Message.{Message}
 use Rattle.ufs_spec.specs.declared.messages.Message.TheVariants as message

@@ -6,7 +6,7 @@ use Rattle.ufs_spec.specs.Disk.{Spot}
 use Rattle.ufs_spec.specs.Keys.{IsKey}
 use Rattle.ufs_spec.specs.Ledger as ledger
 use Rattle.ufs_spec.specs.Ledger.{look}
-use Rattle.ufs_spec.specs.Moves.{Accept, Claim, IsAllowedMove, Keep, LetGo, LetGoAll, Release, Turn, WantPage, moved}
+use Rattle.ufs_spec.specs.Moves.{Accept, Claim, IsAllowedMove, Keep, LetGo, LetGoAll, Release, TakeStep, WantPage, moved}
 use Rattle.ufs_spec.specs.Openings.{IsOpenedTranslation}
 use Rattle.ufs_spec.specs.Plain.{shape_of_numbers}
 use Rattle.ufs_spec.specs.Translation as layer
@@ -63,7 +63,7 @@ releases_right = rests.releases_right
 pub turns_due : (c : Core) (t : Translation) → Describes c t → is_turn_due c ≡ is_step_due t
 turns_due = rests.turns_due
 
-pub turns_right : (c : Core) (t : Translation) → Describes c t → Describes (if is_turn_due c then mark_ordered c else c) (moved t Turn)
+pub turns_right : (c : Core) (t : Translation) → Describes c t → Describes (if is_turn_due c then mark_ordered c else c) (moved t TakeStep)
 turns_right = rests.turns_right
 
 pub opens_right : (n : Numbers) (cells : Cells) (bad : Spot → Bool) (t : Translation) → 1 ≤ n.pages → ((p : Place) → cells p ≡ Nothing) →

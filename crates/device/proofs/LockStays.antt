@@ -2,10 +2,10 @@
 use Rattle.std.proofs.Common.{◌≡◌, ◌∙◌, ℕ, Bool, true, false, cond, List, Option, Some, None, map, refl, sym, ap, subst}
 use Rattle.std.specs.Prelude.{◌-◌, nat_le}
 use Rattle.ufs_spec.specs.Exchanges as exchange
-use Rattle.ufs_spec.specs.Exchanges.{Answering, Awaiting, Deed, Gathering, Sending, Short, Telling}
+use Rattle.ufs_spec.specs.Exchanges.{Answering, Awaiting, Deed, Gathering, Sending, Short, SendingBytes}
 use Rattle.ufs_spec.specs.Ledger.{before_accepted}
-use Rattle.ufs_spec.specs.Machine.{deed_locked, durable, is_durable, lock_told, short_locked, task_locked}
-use Rattle.ufs_spec.specs.Steps.{State, locked}
+use Rattle.ufs_spec.specs.Machine.{deed_locked, durable, is_durable, lock_applied, short_locked, task_locked}
+use Rattle.ufs_spec.specs.Refusals.{State, locked}
 use Rattle.ufs_spec.specs.Translation as layer
 use Rattle.ufs_spec.specs.Translation.{Translation}
 use Rattle.power_loss.specs.Exchange.{IsTied}
@@ -26,7 +26,7 @@ with_layer s t = record s { translation = t }
 same_deed : (s u : State) (task : exchange.Task) (deed : Deed) → durable u ≡ durable s → deed_locked u task deed ≡ deed_locked s task deed
 same_deed s u task (Gathering purpose gathered asked) e = refl
 same_deed s u task (Sending blocks sent) e = refl
-same_deed s u task (Telling bytes) e = refl
+same_deed s u task (SendingBytes bytes) e = refl
 same_deed s u task (Awaiting commands) e = ap (λ (n : ℕ). cond (nat_le commands n) (Awaiting commands) (Answering exchange.write_error task.length)) e
 same_deed s u task (Answering status carried) e = refl
 
@@ -51,11 +51,11 @@ told_stays s t h e =
     ∙ ap (λ (x : State). record (with_layer s t) { tasks = x.tasks; shorts = x.shorts }) h)
 
 -- where the lock stands as it stood, and so many commands are durable as were, it was told already
-pub lock_stays : (s : State) (t : Translation) → lock_told s ≡ s → layer.is_locked t ≡ locked s → durable (with_layer s t) ≡ durable s →
-    lock_told (with_layer s t) ≡ with_layer s t
+pub lock_stays : (s : State) (t : Translation) → lock_applied s ≡ s → layer.is_locked t ≡ locked s → durable (with_layer s t) ≡ durable s →
+    lock_applied (with_layer s t) ≡ with_layer s t
 lock_stays s t h same e = by (locked s) same h
   where
-    by : (b : Bool) → layer.is_locked t ≡ b → cond b (told s) s ≡ s → lock_told (with_layer s t) ≡ with_layer s t
+    by : (b : Bool) → layer.is_locked t ≡ b → cond b (told s) s ≡ s → lock_applied (with_layer s t) ≡ with_layer s t
     by true is was = ap (λ (b : Bool). cond b (told (with_layer s t)) (with_layer s t)) is ∙ told_stays s t was e
     by false is was = ap (λ (b : Bool). cond b (told (with_layer s t)) (with_layer s t)) is
 
@@ -80,18 +80,18 @@ tasks_left d after s u h kept became before =
 
 -- so what is kept with the layer's new core describes the state with the new layer, which the lock leaves as it is
 pub described : (d : DeviceCore) (after : Core) (s : State) (u : Translation) → Describes d s → Kept after u → Leaves s.translation u →
-    IsTied (lock_told (with_layer s u)) → Describes (record d { ftl = after }) (lock_told (with_layer s u))
+    IsTied (lock_applied (with_layer s u)) → Describes (record d { ftl = after }) (lock_applied (with_layer s u))
 described d after s u h kept leaves tied =
     let same : durable (with_layer s u) ≡ durable s =
     ap (λ (n : ℕ). n - before_accepted u.ledger) leaves.frontier ∙ ap (λ (n : ℕ). s.translation.ledger.frontier - n) leaves.before in
-    let stays = lock_stays s u h.lock_was_told leaves.lock same in
+    let stays = lock_stays s u h.lock_was_applied leaves.lock same in
     subst (λ (x : State). Describes (record d { ftl = after }) x) (sym stays)
     (record {
       tied = subst IsTied stays tied;
       ftl_kept = kept;
       tasks_kept = tasks_left d after s u h kept leaves.became leaves.before;
       shorts = h.shorts;
-      lock_was_told = stays;
+      lock_was_applied = stays;
       power_off = h.power_off;
       unprotected = h.unprotected;
     })

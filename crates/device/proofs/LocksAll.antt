@@ -3,10 +3,10 @@ use Rattle.std.proofs.Common.{◌≡◌, ◌∙◌, ℕ, ◌+◌, ◌-◌, ◌�
 use Rattle.std.specs.Prelude.{nat_lt, nat_le}
 use Rattle.std.proofs.lemmas.Bool.{leb-false, leb-true, ltb-false, ltb-true}
 use Rattle.ufs_spec.specs.Exchanges as exchange
-use Rattle.ufs_spec.specs.Exchanges.{Answering, Awaiting, Deed, Gathering, Sending, Short, Telling}
+use Rattle.ufs_spec.specs.Exchanges.{Answering, Awaiting, Deed, Gathering, Sending, Short, SendingBytes}
 use Rattle.ufs_spec.specs.Ledger.{before_accepted}
-use Rattle.ufs_spec.specs.Machine.{deed_locked, durable, is_durable, lock_told, short_locked, task_locked}
-use Rattle.ufs_spec.specs.Steps.{State, locked, plain_now}
+use Rattle.ufs_spec.specs.Machine.{deed_locked, durable, is_durable, lock_applied, short_locked, task_locked}
+use Rattle.ufs_spec.specs.Refusals.{State, locked, plain_now}
 use Rattle.ufs_laws.proofs.Flying.{told_layer}
 use Rattle.power_loss.specs.Exchange.{IsTied}
 use Rattle.power_loss.specs.Invariant.{Valid}
@@ -37,7 +37,7 @@ awaits_twice s total task commands false e = refl
 deed_twice : (s : State) (task other : exchange.Task) (deed : Deed) → deed_locked s other (deed_locked s task deed) ≡ deed_locked s task deed
 deed_twice s task other (Gathering purpose gathered asked) = refl
 deed_twice s task other (Sending blocks sent) = refl
-deed_twice s task other (Telling bytes) = refl
+deed_twice s task other (SendingBytes bytes) = refl
 deed_twice s task other (Awaiting commands) = awaits_twice s task.length other commands (nat_le commands (durable s)) refl
 deed_twice s task other (Answering status carried) = refl
 
@@ -62,10 +62,10 @@ told_again s =
     ∙ ap (λ (ss : List Short). record (told s) { shorts = ss }) (map_twice (short_locked s) (short_twice s) s.shorts)
 
 -- to tell the lock again changes nothing
-pub told_twice : (s : State) → lock_told (lock_told s) ≡ lock_told s
+pub told_twice : (s : State) → lock_applied (lock_applied s) ≡ lock_applied s
 told_twice s = by (locked s) refl
   where
-    by : (b : Bool) → locked s ≡ b → lock_told (cond b (told s) s) ≡ cond b (told s) s
+    by : (b : Bool) → locked s ≡ b → lock_applied (cond b (told s) s) ≡ cond b (told s) s
     by true e = ap (λ (b : Bool). cond b (told (told s)) (told s)) e ∙ told_again s
     by false e = ap (λ (b : Bool). cond b (told s) s) e
 
@@ -166,9 +166,9 @@ shorts_told x (r ∷ rs) = ap (λ (ss : List Short). short_kept r ∷ ss) (short
 -- The whole
 
 -- what is kept without the lock being told describes, once both sides tell it, what the lock makes of the state
-pub told_describes : (d : DeviceCore) (x : State) → IsTied (lock_told x) → Kept d.ftl x.translation →
+pub told_describes : (d : DeviceCore) (x : State) → IsTied (lock_applied x) → Kept d.ftl x.translation →
     TasksKept d x.translation.ledger x.translation.pins d.tasks x.tasks → x.shorts ≡ map short_kept d.refused → x.power_on ≡ false →
-    (plain_now x).permanent ≡ false → Describes (waiting_ended d) (lock_told x)
+    (plain_now x).permanent ≡ false → Describes (waiting_ended d) (lock_applied x)
 told_describes d x tied kept tasks shorts power permanent = by (is_locked d.ftl) (locked x) same tied (told_twice x)
   where
     valid : Valid x.translation
@@ -183,18 +183,18 @@ told_describes d x tied kept tasks shorts power permanent = by (is_locked d.ftl)
         let none = kept.ledger_kept.repairs in
         omega arith
 
-    by : (k b : Bool) → k ≡ b → IsTied (cond b (told x) x) → lock_told (cond b (told x) x) ≡ cond b (told x) x →
+    by : (k b : Bool) → k ≡ b → IsTied (cond b (told x) x) → lock_applied (cond b (told x) x) ≡ cond b (told x) x →
         Describes (cond k (with_tasks d (map (after_lock d.ftl.frontier) d.tasks)) d) (cond b (told x) x)
     by true true eq is twice = record {
       tied = is;
       ftl_kept = kept;
       tasks_kept = tasks_told d x (map (after_lock d.ftl.frontier) d.tasks) d.tasks x.tasks low kept.ledger_kept.frontier tasks;
       shorts = ap (map (short_locked x)) shorts ∙ shorts_told x d.refused;
-      lock_was_told = twice;
+      lock_was_applied = twice;
       power_off = power;
       unprotected = permanent;
     }
     by false false eq is twice =
-        record { tied = is; ftl_kept = kept; tasks_kept = tasks; shorts = shorts; lock_was_told = twice; power_off = power; unprotected = permanent }
+        record { tied = is; ftl_kept = kept; tasks_kept = tasks; shorts = shorts; lock_was_applied = twice; power_off = power; unprotected = permanent }
     by true false eq is twice = let no : ⊥ = cc in absurd no
     by false true eq is twice = let no : ⊥ = cc in absurd no

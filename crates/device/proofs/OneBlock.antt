@@ -12,7 +12,7 @@ use Rattle.ufs_spec.specs.Machine.{blocks_in}
 use Rattle.ufs_spec.specs.Messages.{AreBytes}
 use Rattle.ufs_spec.specs.Moves.{Accept, IsAllowedMove, IsGroup}
 use Rattle.ufs_spec.specs.Plain.{CanApply, Plain, Shape, after, apply, shape_of, shape_of_numbers, with_part}
-use Rattle.ufs_spec.specs.Steps.{State, locked, numbers_of, plain_now}
+use Rattle.ufs_spec.specs.Refusals.{State, locked, numbers_of, plain_now}
 use Rattle.ufs_spec.specs.Translation.{Translation, has_number, is_locked, is_mended}
 use Rattle.ufs_spec.proofs.PlainFacts.{kept_shape}
 use Rattle.ufs_laws.proofs.Commands.{all_kept_plain}

@@ -6,7 +6,7 @@ use Rattle.ufs_spec.specs.Configs.{IsConfig}
 use Rattle.ufs_spec.specs.Dies.{DieState, is_bad_block}
 use Rattle.ufs_spec.specs.Keys.{below}
 use Rattle.ufs_spec.specs.Lives.{IsOpened, array_of, bad_of}
-use Rattle.ufs_spec.specs.Steps.{State}
+use Rattle.ufs_spec.specs.Refusals.{State}
 use Rattle.ufs_spec.specs.declared.configs.Numbers.{Numbers}
 use Rattle.device.specs.Describes.{Describes}
 use Rattle.device.specs.Kept.{DeviceCore, bad_in, new_device}

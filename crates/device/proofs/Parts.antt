@@ -1,6 +1,6 @@
 -- What is known of the layer of a device that is described.
 use Rattle.std.proofs.Common.{◌≡◌, subst, sym}
-use Rattle.ufs_spec.specs.Steps.{State}
+use Rattle.ufs_spec.specs.Refusals.{State}
 use Rattle.ftl_core.specs.Describes as layer_kept
 use Rattle.device.specs.Describes.{Describes}
 use Rattle.device.specs.Kept.{DeviceCore, WorldState}

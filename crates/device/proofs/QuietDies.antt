@@ -2,9 +2,9 @@
 use Rattle.std.proofs.Common.{◌≡◌, [], ◌∷◌, refl, ap, ◌∙◌}
 use Rattle.ufs_spec.specs.Cells.{Array}
 use Rattle.ufs_spec.specs.Disk.{BlockState, Spot}
-use Rattle.ufs_spec.specs.Machine.{Heard, fills, hears, lock_told, replied, with_moves}
-use Rattle.ufs_spec.specs.Moves.{End, Move, Take, Turn, moved}
-use Rattle.ufs_spec.specs.Steps.{State}
+use Rattle.ufs_spec.specs.Machine.{Heard, fills, hears, lock_applied, replied, with_moves}
+use Rattle.ufs_spec.specs.Moves.{EndJob, Move, GiveJob, TakeStep, moved}
+use Rattle.ufs_spec.specs.Refusals.{State}
 use Rattle.ufs_spec.specs.Translation.{Translation}
 use Rattle.ufs_spec.specs.declared.configs.Numbers.{Numbers}
 use Rattle.ufs_spec.specs.declared.messages.Message.{Message}
@@ -36,9 +36,9 @@ abbrev SameLayer : Translation → Translation → Type 0
 SameLayer t u = layer_seen u ≡ layer_seen t
 
 quiet_same : (t : Translation) (move : Move) → IsQuiet move → SameLayer t (moved t move)
-quiet_same t (Take other flight) q = absurd q
-quiet_same t (End other ending) q = absurd q
-quiet_same t Turn q = absurd q
+quiet_same t (GiveJob other flight) q = absurd q
+quiet_same t (EndJob other ending) q = absurd q
+quiet_same t TakeStep q = absurd q
 quiet_same t move q = refl
 
 -- States
@@ -55,10 +55,10 @@ small_same : {s u : State} → Small s u → Same s u
 small_same h = kept Same (record { self = λ s. refl; both = λ s t u h g. g ∙ h; one = small_one }) h
 
 -- to fill registers and to tell the lock are small changes
-pub told_same : (s : State) → Same s (lock_told (fills s))
+pub told_same : (s : State) → Same s (lock_applied (fills s))
 told_same s = small_same (settled_small s)
 
-pub step_same : (s : State) → Same s (with_moves s (Turn ∷ []))
+pub step_same : (s : State) → Same s (with_moves s (TakeStep ∷ []))
 step_same s = ap (λ (t : Translation). seen_over s.array (layer_seen t)) (turn_only s.translation).is
 
 pub hears_same : (s : State) (h : Heard) → Same s (hears s h)

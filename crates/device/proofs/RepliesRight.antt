@@ -6,8 +6,8 @@ use Rattle.std.specs.List.{list_any}
 use Rattle.ufs_spec.specs.Exchanges as exchange
 use Rattle.ufs_spec.specs.Exchanges.{Short, is_short_of, task_of, without_short}
 use Rattle.ufs_spec.specs.Ledger.{Ledger}
-use Rattle.ufs_spec.specs.Machine.{Ask, Replies, Due, deed_reply, replied, replied_by, short_replied, tag_in}
-use Rattle.ufs_spec.specs.Steps.{State}
+use Rattle.ufs_spec.specs.Machine.{Reply, OfReply, Due, deed_reply, replied, replied_by, short_replied, tag_in}
+use Rattle.ufs_spec.specs.Refusals.{State}
 use Rattle.ufs_spec.specs.Translation as layer
 use Rattle.ufs_spec.specs.declared.messages.Message.{Message}
 use Rattle.power_loss.specs.Exchange.{ShortsDiffer}
@@ -104,7 +104,7 @@ replied_task d s a b m is tag due =
     ap (replied_by s (tag_in m)) (task_found s.tasks b (tag_in m) is (reply_tag d a a.phase m due ∙ sym tag))
 
 task_right : (d : DeviceCore) (s : State) (a : Task) (b : exchange.Task) (m : Message) → Describes d s → d.tasks ≡ a ∷ [] → s.tasks ≡ b ∷ [] →
-    TaskKept d s.translation.ledger s.translation.pins a b → reply_of d a ≡ Some m → IsAnswered s Ask (Replies (Some m)) (moved_in d 0 a a.phase)
+    TaskKept d s.translation.ledger s.translation.pins a b → reply_of d a ≡ Some m → IsAnswered s Reply (OfReply (Some m)) (moved_in d 0 a a.phase)
 task_right d s a b m h is js doing due =
     answered d (moved_in d 0 a a.phase) s (task_does s b b.deed) m h
     (inl (0, b, ap (λ (us : List exchange.Task). slice_get us 0) js, same_in d s a b a.phase b.deed h doing.lun doing.tag doing.expected doing.doing ∙ due))
@@ -112,11 +112,11 @@ task_right d s a b m h is js doing due =
     (moves_on d s a b a.phase b.deed m h is js doing.lun doing.tag doing.expected doing.doing due)
 
 pub replies_right : (d : DeviceCore) (s : State) (k : ℕ) (task : Task) (m : Message) → Describes d s → slice_get d.tasks k ≡ Some task → reply_of d task ≡ Some m →
-    IsAnswered s Ask (Replies (Some m)) (moved_on d k)
+    IsAnswered s Reply (OfReply (Some m)) (moved_on d k)
 replies_right d s k task m h there due =
     let r = open_kept d s.translation.ledger s.translation.pins d.tasks s.tasks k task h.tasks_kept there in
-    subst (λ (x : Option Task). IsAnswered s Ask (Replies (Some m)) (moved_by d k x)) (sym there)
-    (subst (λ (n : ℕ). IsAnswered s Ask (Replies (Some m)) (moved_in d n task task.phase)) (sym r.1.first)
+    subst (λ (x : Option Task). IsAnswered s Reply (OfReply (Some m)) (moved_by d k x)) (sym there)
+    (subst (λ (n : ℕ). IsAnswered s Reply (OfReply (Some m)) (moved_in d n task task.phase)) (sym r.1.first)
     (task_right d s task r.0 m h r.1.kept r.1.tasks r.1.doing due))
 
 -- Replies to commands that were refused
@@ -147,10 +147,10 @@ short_behind d s r rs h is = record {
   kept = h.ftl_kept;
   tasks = tasks_of d (remove d.refused 0) s.translation.ledger s.translation.pins d.tasks s.tasks h.tasks_kept;
   stays = record { shorts = ap (map short_kept) (sym (ap (λ (xs : List Refused). remove xs 0) is)); power = h.power_off; free = h.unprotected };
-  told = lock_left_tasks s (map short_kept rs) h.lock_was_told (shorts_told s rs);
+  told = lock_left_tasks s (map short_kept rs) h.lock_was_applied (shorts_told s rs);
 }
 
-pub shorts_right : (d : DeviceCore) (s : State) (r : Refused) → Describes d s → slice_get d.refused 0 ≡ Some r → IsAnswered s Ask (Replies (Some (full_answer r))) (without_first d)
+pub shorts_right : (d : DeviceCore) (s : State) (r : Refused) → Describes d s → slice_get d.refused 0 ≡ Some r → IsAnswered s Reply (OfReply (Some (full_answer r))) (without_first d)
 shorts_right d s r h there =
     let rs = first_refused d.refused r there in
     let all : s.shorts ≡ short_kept r ∷ map short_kept rs.0 = h.shorts ∙ ap (map short_kept) rs.1 in
@@ -188,7 +188,7 @@ none_due d s h none empty m (inl due) =
     (none 0 r.0 (ap (λ (ts : List Task). slice_get ts 0) r.1.kept))
 none_due d s h none empty m (inr due) = none_refused d.refused s.shorts due.0 due.1 empty h.shorts due.2
 
-pub silence_right : (d : DeviceCore) (s : State) → Describes d s → OwesNone d → length d.refused ≡ 0 → IsAnswered s Ask (Replies None) d
+pub silence_right : (d : DeviceCore) (s : State) → Describes d s → OwesNone d → length d.refused ≡ 0 → IsAnswered s Reply (OfReply None) d
 silence_right d s h none empty = record {
   right = none_due d s h none empty;
   describes = still d s h;

@@ -1,7 +1,7 @@
 -- The commands that were refused say nothing of the tasks.
 use Rattle.std.proofs.Common.{ℕ, List, [], ◌∷◌}
 use Rattle.ufs_spec.specs.Exchanges as exchange
-use Rattle.ufs_spec.specs.Exchanges.{Answering, Awaiting, Deed, Gathering, Purpose, ReadBlock, Sending, Telling}
+use Rattle.ufs_spec.specs.Exchanges.{Answering, Awaiting, Deed, Gathering, Purpose, ReadBlock, Sending, SendingBytes}
 use Rattle.ufs_spec.specs.Ledger.{Ledger}
 use Rattle.ufs_spec.specs.Translation as layer
 use Rattle.ufs_spec.specs.declared.flash.Key.{Key}
@@ -61,28 +61,28 @@ doing_of : (d : DeviceCore) (rs : List Refused) (l : Ledger) (qs : List layer.Pi
     IsDoing (with_refusals d rs) l qs a b p deed
 doing_of d rs l qs a b (phase.AskData key) (Gathering purpose gathered asked) h = (gathering_of d rs b key purpose gathered h.0, h.1)
 doing_of d rs l qs a b (phase.AskData key) (Sending blocks sent) h = absurd h
-doing_of d rs l qs a b (phase.AskData key) (Telling bytes) h = absurd h
+doing_of d rs l qs a b (phase.AskData key) (SendingBytes bytes) h = absurd h
 doing_of d rs l qs a b (phase.AskData key) (Awaiting commands) h = absurd h
 doing_of d rs l qs a b (phase.AskData key) (Answering x n) h = absurd h
 doing_of d rs l qs a b (phase.AwaitData key) (Gathering purpose gathered asked) h = (gathering_of d rs b key purpose gathered h.0, h.1)
 doing_of d rs l qs a b (phase.AwaitData key) (Sending blocks sent) h = absurd h
-doing_of d rs l qs a b (phase.AwaitData key) (Telling bytes) h = absurd h
+doing_of d rs l qs a b (phase.AwaitData key) (SendingBytes bytes) h = absurd h
 doing_of d rs l qs a b (phase.AwaitData key) (Awaiting commands) h = absurd h
 doing_of d rs l qs a b (phase.AwaitData key) (Answering x n) h = absurd h
 doing_of d rs l qs a b (phase.AwaitFrontier n) (Awaiting commands) h = (h.0, h.1, nothing_of d rs h.2)
 doing_of d rs l qs a b (phase.AwaitFrontier n) (Gathering purpose gathered asked) h = absurd h
 doing_of d rs l qs a b (phase.AwaitFrontier n) (Sending blocks sent) h = absurd h
-doing_of d rs l qs a b (phase.AwaitFrontier n) (Telling bytes) h = absurd h
+doing_of d rs l qs a b (phase.AwaitFrontier n) (SendingBytes bytes) h = absurd h
 doing_of d rs l qs a b (phase.AwaitFrontier n) (Answering x m) h = absurd h
 doing_of d rs l qs a b phase.SendBlock (Sending blocks sent) h = sending_of d rs l qs a b blocks sent h
 doing_of d rs l qs a b phase.SendBlock (Gathering purpose gathered asked) h = absurd h
-doing_of d rs l qs a b phase.SendBlock (Telling bytes) h = absurd h
+doing_of d rs l qs a b phase.SendBlock (SendingBytes bytes) h = absurd h
 doing_of d rs l qs a b phase.SendBlock (Awaiting commands) h = absurd h
 doing_of d rs l qs a b phase.SendBlock (Answering x n) h = absurd h
 doing_of d rs l qs a b (phase.Answer told n) (Answering x carried) h = (h.0, h.1, nothing_of d rs h.2)
 doing_of d rs l qs a b (phase.Answer told n) (Sending blocks sent) h = lost_of d rs a blocks sent told n h
 doing_of d rs l qs a b (phase.Answer told n) (Gathering purpose gathered asked) h = absurd h
-doing_of d rs l qs a b (phase.Answer told n) (Telling bytes) h = absurd h
+doing_of d rs l qs a b (phase.Answer told n) (SendingBytes bytes) h = absurd h
 doing_of d rs l qs a b (phase.Answer told n) (Awaiting commands) h = absurd h
 
 -- tasks are kept whatever commands were refused

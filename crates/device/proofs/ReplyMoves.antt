@@ -5,11 +5,11 @@ use Rattle.std.proofs.lemmas.Bool.{leb-true}
 use Rattle.ufs_spec.specs.Cells.{Cells}
 use Rattle.ufs_spec.specs.Disk.{Reader, Spot}
 use Rattle.ufs_spec.specs.Exchanges as exchange
-use Rattle.ufs_spec.specs.Exchanges.{Answering, Awaiting, Deed, Gathering, Good, NotRead, Purpose, ReadBlock, Sending, Telling, Unread, WasRead}
+use Rattle.ufs_spec.specs.Exchanges.{Answering, Awaiting, Deed, Gathering, Good, NotRead, Purpose, ReadBlock, Sending, SendingBytes, Unread, WasRead}
 use Rattle.ufs_spec.specs.Ledger.{Ledger, before_accepted}
-use Rattle.ufs_spec.specs.Machine.{Ask, Due, Replies, deed_behind, deed_behind_state, lock_told, moves_behind, replied, short_locked, task_behind, task_locked, with_moves}
-use Rattle.ufs_spec.specs.Moves.{LetGo, LetGoAll, Tell, WantPage, moved}
-use Rattle.ufs_spec.specs.Steps.{State, plain_now}
+use Rattle.ufs_spec.specs.Machine.{Reply, Due, OfReply, deed_behind, deed_behind_state, lock_applied, moves_behind, replied, short_locked, task_behind, task_locked, with_moves}
+use Rattle.ufs_spec.specs.Moves.{LetGo, LetGoAll, Acknowledge, WantPage, moved}
+use Rattle.ufs_spec.specs.Refusals.{State, plain_now}
 use Rattle.ufs_spec.specs.Translation as layer
 use Rattle.ufs_spec.specs.Translation.{Translation}
 use Rattle.ufs_spec.specs.declared.flash.Key.{Key}
@@ -116,25 +116,25 @@ pub record IsBehind (e : DeviceCore) (u : State) : Type 0 where
   pub kept : Kept e.ftl u.translation
   pub tasks : TasksKept e u.translation.ledger u.translation.pins e.tasks u.tasks
   pub stays : Stays e.refused u
-  pub told : lock_told u ≡ u
+  pub told : lock_applied u ≡ u
 
-pub answered : (d e : DeviceCore) (s u : State) (m : Message) → Describes d s → Due s m → replied s m ≡ u → IsBehind e u → IsAnswered s Ask (Replies (Some m)) e
+pub answered : (d e : DeviceCore) (s u : State) (m : Message) → Describes d s → Due s m → replied s m ≡ u → IsBehind e u → IsAnswered s Reply (OfReply (Some m)) e
 answered d e s u m h due is k =
-    let path : lock_told (replied s m) ≡ u = ap lock_told is ∙ k.told in
+    let path : lock_applied (replied s m) ≡ u = ap lock_applied is ∙ k.told in
     record {
       right = due;
-      describes = settles e s Ask (Replies (Some m)) (subst (λ (x : State). Describes e x) (sym path) (record {
-        tied = subst IsTied path (unfilled_keeps s Ask (Replies (Some m)) h.tied tt due);
+      describes = settles e s Reply (OfReply (Some m)) (subst (λ (x : State). Describes e x) (sym path) (record {
+        tied = subst IsTied path (unfilled_keeps s Reply (OfReply (Some m)) h.tied tt due);
         ftl_kept = k.kept;
         tasks_kept = k.tasks;
         shorts = k.stays.shorts;
-        lock_was_told = k.told;
+        lock_was_applied = k.told;
         power_off = k.stays.power;
         unprotected = k.stays.free;
       }));
     }
 
-same_told : (u : State) (rs : List Refused) → u.shorts ≡ map short_kept rs → map (task_locked u) u.tasks ≡ u.tasks → lock_told u ≡ u
+same_told : (u : State) (rs : List Refused) → u.shorts ≡ map short_kept rs → map (task_locked u) u.tasks ≡ u.tasks → lock_applied u ≡ u
 same_told u rs is tasks = lock_changes_nothing u tasks (ap (map (short_locked u)) is ∙ (shorts_told u rs ∙ sym is))
 
 -- the task goes
@@ -177,9 +177,9 @@ none_kept l m cells erasing flies [] (q ∷ qs) is h = absurd h
 none_kept l m cells erasing flies (p ∷ ps) qs is h = cc
 
 tells_right : (c : Core) (t : Translation) (commands : ℕ) → layer_kept.Describes c t → c.pins ≡ [] → before_accepted t.ledger + commands ≤ t.ledger.frontier →
-    layer_kept.Describes c (moved t (Tell commands))
+    layer_kept.Describes c (moved t (Acknowledge commands))
 tells_right c t commands h none allowed = record {
-  valid = all_keep t (Tell commands) h.valid allowed;
+  valid = all_keep t (Acknowledge commands) h.valid allowed;
   kept = record {
     numbers = h.kept.numbers;
     blocks = h.kept.blocks;
@@ -194,7 +194,7 @@ tells_right c t commands h none allowed = record {
     };
     work = h.kept.work;
     claims = h.kept.claims;
-    pins = none_kept t.ledger (moved t (Tell commands)).ledger t.disk.cells t.disk.erasing _ c.pins t.pins none h.kept.pins;
+    pins = none_kept t.ledger (moved t (Acknowledge commands)).ledger t.disk.cells t.disk.erasing _ c.pins t.pins none h.kept.pins;
     differ = h.kept.differ;
   };
 }
@@ -292,7 +292,7 @@ awaits : (d : DeviceCore) (s : State) (a : Task) (b : exchange.Task) (n commands
 awaits d s a b n commands m h is js tag count nothing due =
     let low = leb-true n d.ftl.frontier (durable_told (nat_le n d.ftl.frontier) _ m due) in
     let same = h.ftl_kept.ledger_kept.frontier in
-    goes d (with_moves s (Tell commands ∷ [])) a b is js tag (tells_right d.ftl s.translation commands (layer_of d s h) nothing.pins (omega arith)) (nothing_left d a.tag nothing)
+    goes d (with_moves s (Acknowledge commands ∷ [])) a b is js tag (tells_right d.ftl s.translation commands (layer_of d s h) nothing.pins (omega arith)) (nothing_left d a.tag nothing)
     (record { shorts = h.shorts; power = h.power_off; free = h.unprotected })
 
 answers : (d : DeviceCore) (s : State) (a : Task) (b : exchange.Task) (x : exchange.Status) (carried : ℕ) → Describes d s → d.tasks ≡ a ∷ [] → s.tasks ≡ b ∷ [] → b.tag ≡ a.tag → KeepsNothing d →
@@ -308,22 +308,22 @@ pub moves_on : (d : DeviceCore) (s : State) (a : Task) (b : exchange.Task) (p : 
     IsBehind (moved_in d 0 a p) (task_does s b deed)
 moves_on d s a b (phase.AskData key) (Gathering purpose gathered asked) m h is js lun tag expected doing due = asks d s a b key purpose gathered asked h is js lun tag expected doing.0
 moves_on d s a b (phase.AskData key) (Sending blocks sent) m h is js lun tag expected doing due = absurd doing
-moves_on d s a b (phase.AskData key) (Telling bytes) m h is js lun tag expected doing due = absurd doing
+moves_on d s a b (phase.AskData key) (SendingBytes bytes) m h is js lun tag expected doing due = absurd doing
 moves_on d s a b (phase.AskData key) (Awaiting commands) m h is js lun tag expected doing due = absurd doing
 moves_on d s a b (phase.AskData key) (Answering x n) m h is js lun tag expected doing due = absurd doing
 moves_on d s a b (phase.AwaitData key) deed m h is js lun tag expected doing due = no_reply m due
 moves_on d s a b (phase.AwaitFrontier n) (Awaiting commands) m h is js lun tag expected doing due = awaits d s a b n commands m h is js tag doing.0 doing.2 due
 moves_on d s a b (phase.AwaitFrontier n) (Gathering purpose gathered asked) m h is js lun tag expected doing due = absurd doing
 moves_on d s a b (phase.AwaitFrontier n) (Sending blocks sent) m h is js lun tag expected doing due = absurd doing
-moves_on d s a b (phase.AwaitFrontier n) (Telling bytes) m h is js lun tag expected doing due = absurd doing
+moves_on d s a b (phase.AwaitFrontier n) (SendingBytes bytes) m h is js lun tag expected doing due = absurd doing
 moves_on d s a b (phase.AwaitFrontier n) (Answering x k) m h is js lun tag expected doing due = absurd doing
 moves_on d s a b phase.SendBlock (Sending blocks sent) m h is js lun tag expected doing due = sends d s a b blocks sent h is js lun tag expected doing
 moves_on d s a b phase.SendBlock (Gathering purpose gathered asked) m h is js lun tag expected doing due = absurd doing
-moves_on d s a b phase.SendBlock (Telling bytes) m h is js lun tag expected doing due = absurd doing
+moves_on d s a b phase.SendBlock (SendingBytes bytes) m h is js lun tag expected doing due = absurd doing
 moves_on d s a b phase.SendBlock (Awaiting commands) m h is js lun tag expected doing due = absurd doing
 moves_on d s a b phase.SendBlock (Answering x n) m h is js lun tag expected doing due = absurd doing
 moves_on d s a b (phase.Answer told n) (Answering x carried) m h is js lun tag expected doing due = answers d s a b x carried h is js tag doing.2
 moves_on d s a b (phase.Answer told n) (Sending blocks sent) m h is js lun tag expected doing due = loses d s a b blocks sent told n h is js tag doing
 moves_on d s a b (phase.Answer told n) (Gathering purpose gathered asked) m h is js lun tag expected doing due = absurd doing
-moves_on d s a b (phase.Answer told n) (Telling bytes) m h is js lun tag expected doing due = absurd doing
+moves_on d s a b (phase.Answer told n) (SendingBytes bytes) m h is js lun tag expected doing due = absurd doing
 moves_on d s a b (phase.Answer told n) (Awaiting commands) m h is js lun tag expected doing due = absurd doing

@@ -6,13 +6,13 @@ use Rattle.std.proofs.lemmas.Bool.Decides.{nat_tests}
 use Rattle.ufs_spec.specs.Cells.{Cells}
 use Rattle.ufs_spec.specs.Disk.{Reader, Spot}
 use Rattle.ufs_spec.specs.Exchanges as exchange
-use Rattle.ufs_spec.specs.Exchanges.{Answering, Awaiting, Deed, Gathering, Good, NotRead, ReadBlock, Sending, Telling, Unread, WasRead, count_at, ready_message, response}
+use Rattle.ufs_spec.specs.Exchanges.{Answering, Awaiting, Deed, Gathering, Good, NotRead, ReadBlock, Sending, SendingBytes, Unread, WasRead, count_at, ready_message, response}
 use Rattle.ufs_spec.specs.Ledger as ledger
 use Rattle.ufs_spec.specs.Ledger.{InSlot, Ledger, Name, OnPage, Unwritten, before_accepted, entry_of}
 use Rattle.ufs_spec.specs.Machine as machine
 use Rattle.ufs_spec.specs.Machine.{block_reply, deed_reply, is_at_hand, needs_no_read, next_block_reply}
 use Rattle.ufs_spec.specs.Moves as move
-use Rattle.ufs_spec.specs.Steps.{State}
+use Rattle.ufs_spec.specs.Refusals.{State}
 use Rattle.ufs_spec.specs.Translation as layer
 use Rattle.ufs_spec.specs.declared.flash.Key.{Key}
 use Rattle.ufs_spec.specs.declared.messages.Message.{Message}
@@ -199,28 +199,28 @@ pub same_in : (d : DeviceCore) (s : State) (a : Task) (b : exchange.Task) (p : P
     IsDoing d s.translation.ledger s.translation.pins a b p deed → deed_reply s b deed ≡ reply_in d a p
 same_in d s a b (phase.AskData key) (Gathering purpose gathered asked) h lun tag expected is = asking_same a b gathered asked lun tag is.0.none_gathered is.0.length_is is.1
 same_in d s a b (phase.AskData key) (Sending blocks sent) h lun tag expected is = absurd is
-same_in d s a b (phase.AskData key) (Telling bytes) h lun tag expected is = absurd is
+same_in d s a b (phase.AskData key) (SendingBytes bytes) h lun tag expected is = absurd is
 same_in d s a b (phase.AskData key) (Awaiting commands) h lun tag expected is = absurd is
 same_in d s a b (phase.AskData key) (Answering x n) h lun tag expected is = absurd is
 same_in d s a b (phase.AwaitData key) (Gathering purpose gathered asked) h lun tag expected is =
     ap (λ x. if x then None else Some (ready_message b gathered)) is.1
 same_in d s a b (phase.AwaitData key) (Sending blocks sent) h lun tag expected is = absurd is
-same_in d s a b (phase.AwaitData key) (Telling bytes) h lun tag expected is = absurd is
+same_in d s a b (phase.AwaitData key) (SendingBytes bytes) h lun tag expected is = absurd is
 same_in d s a b (phase.AwaitData key) (Awaiting commands) h lun tag expected is = absurd is
 same_in d s a b (phase.AwaitData key) (Answering x n) h lun tag expected is = absurd is
 same_in d s a b (phase.AwaitFrontier n) (Awaiting commands) h lun tag expected is = awaiting_same d s a b n commands h lun tag expected is.0 is.1
 same_in d s a b (phase.AwaitFrontier n) (Gathering purpose gathered asked) h lun tag expected is = absurd is
 same_in d s a b (phase.AwaitFrontier n) (Sending blocks sent) h lun tag expected is = absurd is
-same_in d s a b (phase.AwaitFrontier n) (Telling bytes) h lun tag expected is = absurd is
+same_in d s a b (phase.AwaitFrontier n) (SendingBytes bytes) h lun tag expected is = absurd is
 same_in d s a b (phase.AwaitFrontier n) (Answering x m) h lun tag expected is = absurd is
 same_in d s a b phase.SendBlock (Sending blocks sent) h lun tag expected is = sending_same d s a b blocks sent h lun tag expected is
 same_in d s a b phase.SendBlock (Gathering purpose gathered asked) h lun tag expected is = absurd is
-same_in d s a b phase.SendBlock (Telling bytes) h lun tag expected is = absurd is
+same_in d s a b phase.SendBlock (SendingBytes bytes) h lun tag expected is = absurd is
 same_in d s a b phase.SendBlock (Awaiting commands) h lun tag expected is = absurd is
 same_in d s a b phase.SendBlock (Answering x n) h lun tag expected is = absurd is
 same_in d s a b (phase.Answer told n) (Answering x carried) h lun tag expected is =
     ap (λ z. Some z) (answer_same a b carried n x (status_kept told) lun tag expected is.1 is.0)
 same_in d s a b (phase.Answer told n) (Sending blocks sent) h lun tag expected is = lost_same d s a b blocks sent told n lun tag expected is
 same_in d s a b (phase.Answer told n) (Gathering purpose gathered asked) h lun tag expected is = absurd is
-same_in d s a b (phase.Answer told n) (Telling bytes) h lun tag expected is = absurd is
+same_in d s a b (phase.Answer told n) (SendingBytes bytes) h lun tag expected is = absurd is
 same_in d s a b (phase.Answer told n) (Awaiting commands) h lun tag expected is = absurd is

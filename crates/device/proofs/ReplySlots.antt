@@ -44,12 +44,12 @@ entry_body g h e page is = ap (λ (x : Entry). x.item.body) (same (sym is ∙ ap
     same x = cc
 
 -- where a group of this life lies
-group_behind : (l : Ledger) (n : ℕ) (e : Entry) → l.top < n → entry_of l (name_at n) ≡ Some e →
-    (g : keys.Group) × (slice_get l.groups (n - l.top - 1) ≡ Some g) × (entry_in g 0 ≡ Some e)
+group_behind : (l : Ledger) (n : ℕ) (e : Entry) → l.greatest_seen < n → entry_of l (name_at n) ≡ Some e →
+    (g : keys.Group) × (slice_get l.groups (n - l.greatest_seen - 1) ≡ Some g) × (entry_in g 0 ≡ Some e)
 group_behind l n e new is =
-    let low = lt-leb n l.top new in
-    let r = found_entry (group_at l n) 0 e (sym (if_false (nat_le n l.top) (l.old n 0) (option_and_then (λ g. entry_in g 0) (group_at l n)) low) ∙ is) in
-    (r.0, sym (if_false (nat_le n l.top) None (slice_get l.groups (n - l.top - 1)) low) ∙ r.1, r.2)
+    let low = lt-leb n l.greatest_seen new in
+    let r = found_entry (group_at l n) 0 e (sym (if_false (nat_le n l.greatest_seen) (l.entries_before n 0) (option_and_then (λ g. entry_in g 0) (group_at l n)) low) ∙ is) in
+    (r.0, sym (if_false (nat_le n l.greatest_seen) None (slice_get l.groups (n - l.greatest_seen - 1)) low) ∙ r.1, r.2)
 
 slot_has : (gs : List Group) (frontier n : ℕ) (g : Group) → frontier < n → slice_get gs (n - frontier - 1) ≡ Some g →
     (if nat_le n frontier then None else option_map (λ (g : Group). g.body) (slice_get gs (n - frontier - 1))) ≡ Some g.body
@@ -63,9 +63,9 @@ pub slot_is : (c : Core) (t : Translation) (n : ℕ) (e : Entry) → layer_kept.
 slot_is c t n e h new is =
     let above = h.valid.frontier.above in
     let r = group_behind t.ledger n e (omega arith) is in
-    let at : slice_get (drop (t.ledger.frontier - t.ledger.top) t.ledger.groups) (n - t.ledger.frontier - 1) ≡ Some r.0 =
-    get_drop t.ledger.groups (t.ledger.frontier - t.ledger.top) (n - t.ledger.frontier - 1) ∙ (ap (slice_get t.ledger.groups) (back t.ledger.top t.ledger.frontier n above new) ∙ r.1) in
-    let k = kept_group t.ledger.standing _ t.ledger.frontier c.groups (drop (t.ledger.frontier - t.ledger.top) t.ledger.groups) (n - t.ledger.frontier - 1) r.0 h.kept.ledger_kept.groups at in
+    let at : slice_get (drop (t.ledger.frontier - t.ledger.greatest_seen) t.ledger.groups) (n - t.ledger.frontier - 1) ≡ Some r.0 =
+    get_drop t.ledger.groups (t.ledger.frontier - t.ledger.greatest_seen) (n - t.ledger.frontier - 1) ∙ (ap (slice_get t.ledger.groups) (back t.ledger.greatest_seen t.ledger.frontier n above new) ∙ r.1) in
+    let k = kept_group t.ledger.standing _ t.ledger.frontier c.groups (drop (t.ledger.frontier - t.ledger.greatest_seen) t.ledger.groups) (n - t.ledger.frontier - 1) r.0 h.kept.ledger_kept.groups at in
     subst (λ (z : ℕ). (if nat_le n z then None else option_map (λ (g : Group). g.body) (slice_get c.groups (n - z - 1))) ≡ Some e.item.body) (sym h.kept.ledger_kept.frontier)
     (slot_has c.groups t.ledger.frontier n k.group new k.is ∙ ap (λ z. Some z) (sym (entry_body k.group r.0 e k.page r.2)))
   where

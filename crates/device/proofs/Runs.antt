@@ -3,7 +3,7 @@ use Rattle.std.proofs.Common.{◌≡◌, ℕ, zero, suc, ◌+◌, ◌<◌, ◌�
 use Rattle.std.specs.Prelude.{slice_index_or, slice_get}
 use Rattle.ufs_spec.specs.Dies.{DieState}
 use Rattle.ufs_spec.specs.Lives.{IsOpened, Life, array_of, bad_of}
-use Rattle.ufs_spec.specs.Steps.{State}
+use Rattle.ufs_spec.specs.Refusals.{State}
 use Rattle.ufs_spec.specs.declared.configs.Numbers.{Numbers}
 use Rattle.device.specs.Kept.{WorldState}
 use Rattle.device.specs.Worlds.{AreBlank, Fits, IsBroken, IsLife, IsRefused, IsRunFault, IsUnderWay, Went}

@@ -5,9 +5,9 @@ use Rattle.ufs_spec.specs.Cells.{Array}
 use Rattle.ufs_spec.specs.Dies.{CanDo, after_job, outcome_of}
 use Rattle.ufs_spec.specs.Disk.{Flight, job_of}
 use Rattle.ufs_spec.specs.Lives.{IsCall, IsFinish, IsShown, ended_well}
-use Rattle.ufs_spec.specs.Machine.{Ask, Finish, Finishes, Give, Gives, Heard, Hears, Host, IsHeard, MayLeave, Replies, Step, Steps, observe}
+use Rattle.ufs_spec.specs.Machine.{Reply, Done, OfDone, Take, OfTake, Heard, OfHost, Host, IsHeard, MayLeave, OfReply, Turn, OfTurn, observe}
 use Rattle.ufs_spec.specs.Moves.{Ending, IsEndingOf}
-use Rattle.ufs_spec.specs.Steps.{State}
+use Rattle.ufs_spec.specs.Refusals.{State}
 use Rattle.ufs_spec.specs.declared.faults.HostFault.{HostFault}
 use Rattle.ufs_spec.specs.declared.flash.Job.{Job}
 use Rattle.ufs_spec.specs.declared.flash.Outcome.{Outcome}
@@ -31,32 +31,32 @@ pub heard_went : (w : WorldState) (after : DeviceCore) (s : State) (e : Event) (
     ((heard : Heard) → IsHeard bytes heard → IsCall s e (Host heard)) → Fits w s → IsHeardAs s bytes result after →
     Went s e (record w { core = after }) (Some (output.Host result))
 heard_went w after s e bytes result call fit h = (
-  observe s (Host h.heard) (Hears result),
-  record { call = Host h.heard; answer = Hears result; is_call = call h.heard h.is_heard; is_shown = refl; right = h.answered.right; next = refl },
+  observe s (Host h.heard) (OfHost result),
+  record { call = Host h.heard; answer = OfHost result; is_call = call h.heard h.is_heard; is_shown = refl; right = h.answered.right; next = refl },
   record { describes = h.answered.describes; dies_fit = hears_fit w.dies w.jobs s h.heard result fit.dies_fit },
 )
 
-pub stepped_went : (w : WorldState) (after : DeviceCore) (s : State) (due : Bool) → Fits w s → IsAnswered s Step (Steps due) after →
+pub stepped_went : (w : WorldState) (after : DeviceCore) (s : State) (due : Bool) → Fits w s → IsAnswered s Turn (OfTurn due) after →
     Went s event.Turn (record w { core = after }) (Some (output.Turn due))
 stepped_went w after s due fit h = (
-  observe s Step (Steps due),
-  record { call = Step; answer = Steps due; is_call = refl; is_shown = refl; right = h.right; next = refl },
+  observe s Turn (OfTurn due),
+  record { call = Turn; answer = OfTurn due; is_call = refl; is_shown = refl; right = h.right; next = refl },
   record { describes = h.describes; dies_fit = steps_fit w.dies w.jobs s due fit.dies_fit },
 )
 
-pub silent_went : (w : WorldState) (after : DeviceCore) (s : State) → Fits w s → IsAnswered s Ask (Replies None) after →
+pub silent_went : (w : WorldState) (after : DeviceCore) (s : State) → Fits w s → IsAnswered s Reply (OfReply None) after →
     Went s event.Reply (record w { core = after }) (Some (output.Reply None))
 silent_went w after s fit h = (
-  observe s Ask (Replies None),
-  record { call = Ask; answer = Replies None; is_call = refl; is_shown = refl; right = h.right; next = refl },
+  observe s Reply (OfReply None),
+  record { call = Reply; answer = OfReply None; is_call = refl; is_shown = refl; right = h.right; next = refl },
   record { describes = h.describes; dies_fit = asks_fit w.dies w.jobs s None fit.dies_fit },
 )
 
-pub replied_went : (w : WorldState) (after : DeviceCore) (s : State) (bytes : List ℕ) (o : Output) → ((m : Message) → bytes ≡ spelling m → IsShown (Replies (Some m)) o) →
+pub replied_went : (w : WorldState) (after : DeviceCore) (s : State) (bytes : List ℕ) (o : Output) → ((m : Message) → bytes ≡ spelling m → IsShown (OfReply (Some m)) o) →
     Fits w s → IsReplied s bytes after → Went s event.Reply (record w { core = after }) (Some o)
 replied_went w after s bytes o shows fit h = (
-  observe s Ask (Replies (Some h.reply)),
-  record { call = Ask; answer = Replies (Some h.reply); is_call = refl; is_shown = shows h.reply h.shown; right = h.answered.right; next = refl },
+  observe s Reply (OfReply (Some h.reply)),
+  record { call = Reply; answer = OfReply (Some h.reply); is_call = refl; is_shown = shows h.reply h.shown; right = h.answered.right; next = refl },
   record { describes = h.answered.describes; dies_fit = asks_fit w.dies w.jobs s (Some h.reply) fit.dies_fit },
 )
 
@@ -65,12 +65,12 @@ replied_went w after s bytes o shows fit h = (
 pub given_went : (w : WorldState) (after : DeviceCore) (s : State) (die : ℕ) (told : Option Job) → Fits w s → IsGiven s die told after →
     Went s (event.Take die) (record w { core = after; jobs = jobs_given w.jobs die told }) (Some (output.Take told))
 given_went w after s die told fit h = (
-  observe s (Give die) (Gives h.flight),
-  record { call = Give die; answer = Gives h.flight; is_call = refl; is_shown = h.shown; right = h.answered.right; next = refl },
+  observe s (Take die) (OfTake h.flight),
+  record { call = Take die; answer = OfTake h.flight; is_call = refl; is_shown = h.shown; right = h.answered.right; next = refl },
   record {
     describes = h.answered.describes;
     dies_fit =
-        subst (λ (j : Option Job). DiesFit w.dies (jobs_given w.jobs die j) (observe s (Give die) (Gives h.flight))) (sym h.shown)
+        subst (λ (j : Option Job). DiesFit w.dies (jobs_given w.jobs die j) (observe s (Take die) (OfTake h.flight))) (sym h.shown)
         (gives_fit w.core w.dies w.jobs s die h.flight fit.describes fit.dies_fit h.answered.right);
   },
 )
@@ -96,12 +96,12 @@ leaves_well s die (Reading who p) left = tt
 leaves_well s die (Programming p cell) left = tt
 leaves_well s die (Erasing spot) left = tt
 
-finish_call : (s : State) (die : ℕ) (flight : Flight) → s.translation.disk.flights die ≡ Some flight → IsCall s (event.Finish die) (Finish die (ended_well flight) s.array)
-finish_call s die flight flies = subst (λ (f : Option Flight). IsFinish s die f (Finish die (ended_well flight) s.array)) (sym flies) refl
+finish_call : (s : State) (die : ℕ) (flight : Flight) → s.translation.disk.flights die ≡ Some flight → IsCall s (event.Finish die) (Done die (ended_well flight) s.array)
+finish_call s die flight flies = subst (λ (f : Option Flight). IsFinish s die f (Done die (ended_well flight) s.array)) (sym flies) refl
 
 pub finish_went : (w : WorldState) (after : DeviceCore) (s : State) (die : ℕ) (j : Job) (o : Outcome) → Fits w s → job_at w.jobs die ≡ Some j → o ≡ outcome_of (die_at w.dies die) j →
     ((ending : Ending) (left : Array) → IsEndingOf s.translation.disk.cells (s.translation.disk.flights die) o ending → MayLeave s die ending left →
-    IsAnswered s (Finish die ending left) (Finishes true) after) →
+    IsAnswered s (Done die ending left) (OfDone true) after) →
     Went s (event.Finish die) (record w { core = after; jobs = slice_set w.jobs die None; dies = slice_set w.dies die (after_job (die_at w.dies die) j) }) (Some output.Ended)
 finish_went w after s die j o fit is out answered =
     let f = has_flight w s die j fit is in
@@ -109,12 +109,12 @@ finish_went w after s die j o fit is out answered =
     let same : outcome_of (die_at w.dies die) (job_of f.0) ≡ o = ap (outcome_of (die_at w.dies die)) f.2 ∙ sym out in
     let a = answered (ended_well f.0) s.array
     (subst (λ (x : Outcome). IsEndingOf s.translation.disk.cells (s.translation.disk.flights die) x (ended_well f.0)) same ending) (leaves_well s die f.0 s.array) in (
-      observe s (Finish die (ended_well f.0) s.array) (Finishes true),
-      record { call = Finish die (ended_well f.0) s.array; answer = Finishes true; is_call = finish_call s die f.0 f.1; is_shown = refl; right = a.right; next = refl },
+      observe s (Done die (ended_well f.0) s.array) (OfDone true),
+      record { call = Done die (ended_well f.0) s.array; answer = OfDone true; is_call = finish_call s die f.0 f.1; is_shown = refl; right = a.right; next = refl },
       record {
         describes = a.describes;
         dies_fit =
-            subst (λ (x : Job). DiesFit (slice_set w.dies die (after_job (die_at w.dies die) x)) (slice_set w.jobs die None) (observe s (Finish die (ended_well f.0) s.array) (Finishes true))) f.2
+            subst (λ (x : Job). DiesFit (slice_set w.dies die (after_job (die_at w.dies die) x)) (slice_set w.jobs die None) (observe s (Done die (ended_well f.0) s.array) (OfDone true))) f.2
             (finish_fits w.core w.dies w.jobs s die f.0 fit.describes fit.dies_fit f.1);
       },
     )

@@ -7,10 +7,10 @@ use Rattle.ufs_spec.specs.Exchanges.{Answering, Awaiting, Deed, ForWrite, Gather
 use Rattle.ufs_spec.specs.Keys.{data_key}
 use Rattle.ufs_spec.specs.Ledger as ledger
 use Rattle.ufs_spec.specs.Ledger.{Entry, InSlot, Ledger, Name, OnPage, Unwritten, before_accepted, entry_of}
-use Rattle.ufs_spec.specs.Machine.{Allowed, Answer, Ask, Call, Give, Gives, Heard, Hears, Host, IsHeard, Replies, lock_told, observe}
+use Rattle.ufs_spec.specs.Machine.{Allowed, Answer, Reply, Call, Take, OfTake, Heard, OfHost, Host, IsHeard, OfReply, lock_applied, observe}
 use Rattle.ufs_spec.specs.Messages.{spelling}
 use Rattle.ufs_spec.specs.Plain.{zero_block}
-use Rattle.ufs_spec.specs.Steps.{State, plain_now}
+use Rattle.ufs_spec.specs.Refusals.{State, plain_now}
 use Rattle.ufs_spec.specs.Translation as layer
 use Rattle.ufs_spec.specs.declared.faults.HostFault.{HostFault}
 use Rattle.ufs_spec.specs.declared.flash.Job.{Job}
@@ -136,8 +136,8 @@ pub record Describes (d : DeviceCore) (s : State) : Type 0 where
   pub ftl_kept : Kept d.ftl s.translation
   pub tasks_kept : TasksKept d s.translation.ledger s.translation.pins d.tasks s.tasks
   pub shorts : s.shorts ≡ map short_kept d.refused
-  -- wherever the lock stands, it was told
-  pub lock_was_told : lock_told s ≡ s
+  -- wherever the lock stands, it was applied
+  pub lock_was_applied : lock_applied s ≡ s
   pub power_off : s.power_on ≡ false
   pub unprotected : (plain_now s).permanent ≡ false
 
@@ -152,19 +152,19 @@ pub record IsAnswered (s : State) (call : Call) (answer : Answer) (after : Devic
 pub record IsGiven (s : State) (die : ℕ) (told : Option Job) (after : DeviceCore) : Type 0 where
   pub flight : Option Flight
   pub shown : told ≡ option_map job_of flight
-  pub answered : IsAnswered s (Give die) (Gives flight) after
+  pub answered : IsAnswered s (Take die) (OfTake flight) after
 
 -- the bytes are heard as a message or as a fault
 pub record IsHeardAs (s : State) (bytes : List ℕ) (result : Result Unit HostFault) (after : DeviceCore) : Type 0 where
   pub heard : Heard
   pub is_heard : IsHeard bytes heard
-  pub answered : IsAnswered s (Host heard) (Hears result) after
+  pub answered : IsAnswered s (Host heard) (OfHost result) after
 
 -- a reply is handed out that is due
 pub record IsReplied (s : State) (bytes : List ℕ) (after : DeviceCore) : Type 0 where
   pub reply : Message
   pub shown : bytes ≡ spelling reply
-  pub answered : IsAnswered s Ask (Replies (Some reply)) after
+  pub answered : IsAnswered s Reply (OfReply (Some reply)) after
 
 -- What is heard
 

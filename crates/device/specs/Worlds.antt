@@ -5,7 +5,7 @@ use Rattle.ufs_spec.specs.Dies.{DieState, blank_page, is_bad_block, new_die, rea
 use Rattle.ufs_spec.specs.Disk.{Bad, Filling, Reader, Reading, Spot, job_of}
 use Rattle.ufs_spec.specs.Lives.{Fit, IsOpened, Leads, Life, array_of, bad_of}
 use Rattle.ufs_spec.specs.Stages.{takes_failures}
-use Rattle.ufs_spec.specs.Steps.{State, numbers_of}
+use Rattle.ufs_spec.specs.Refusals.{State, numbers_of}
 use Rattle.ufs_spec.specs.declared.configs.Numbers.{Numbers}
 use Rattle.ufs_spec.specs.declared.events.Event.{Event}
 use Rattle.ufs_spec.specs.declared.events.Event.TheVariants as event

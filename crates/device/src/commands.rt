@@ -4,7 +4,7 @@ ghost use Rattle.std.specs.List.{list_any};
 ghost use Rattle.device.specs.Calls.{begun, block_accepted, phase_accepted, phase_begun, waiting_ended};
 ghost use Rattle.device.specs.Hears.{asked_by, asked_for, asked_of, command_core, command_result, data_core, data_result, heard_core, heard_result, is_refused_of, key_asked, refused_more, refused_result, task_opened, task_set, uses, with_task};
 ghost use Rattle.device.specs.Tasks.{is_task_of};
-ghost use Rattle.ufs_spec.specs.Steps.{State};
+ghost use Rattle.ufs_spec.specs.Refusals.{State};
 ghost use Rattle.device.specs.Describes.{Describes, IsHeardAs};
 
 use crate::checks::taken_of;

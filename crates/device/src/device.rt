@@ -9,9 +9,9 @@ ghost use Rattle.std.specs.List.{flat_map};
 ghost use Rattle.ufs_spec.specs.Cells.{Array};
 ghost use Rattle.ufs_spec.specs.Configs.{IsConfig};
 ghost use Rattle.ufs_spec.specs.Lives.{IsOpened, array_of, bad_of};
-ghost use Rattle.ufs_spec.specs.Machine.{Finish, Finishes, MayLeave, Step, Steps};
+ghost use Rattle.ufs_spec.specs.Machine.{Done, OfDone, MayLeave, Turn, OfTurn};
 ghost use Rattle.ufs_spec.specs.Moves.{Ending, IsEndingOf, suits};
-ghost use Rattle.ufs_spec.specs.Steps.{State};
+ghost use Rattle.ufs_spec.specs.Refusals.{State};
 ghost use Rattle.device.specs.Describes.{Describes, IsAnswered, IsGiven};
 ghost use Rattle.device.specs.Kept.{bad_in, new_device};
 ghost use Rattle.device.specs.Worlds.{AreBlank};
@@ -146,7 +146,7 @@ impl Device {
         // However the job ended: what is kept then describes what this end makes of the specified device.
         ensures ended { (s : State) (ending : Ending) (left : Array) → Describes self.old s →
             IsEndingOf s.translation.disk.cells (s.translation.disk.flights die) outcome.now ending → MayLeave s die ending left →
-            (result ≡ true) × IsAnswered s (Finish die ending left) (Finishes true) self.new }
+            (result ≡ true) × IsAnswered s (Done die ending left) (OfDone true) self.new }
     {
         let Some(ended) = self.ftl.done(die, outcome) else {
             return false;
@@ -171,7 +171,7 @@ impl Device {
         ensures due { result ≡ is_turn_due self.old.ftl }
         ensures after { self.new ≡ (if result then record self.old { ftl = mark_ordered self.old.ftl } else self.old) }
         // True exactly where a step is due.
-        ensures stepped { (s : State) → Describes self.old s → IsAnswered s Step (Steps result) self.new }
+        ensures stepped { (s : State) → Describes self.old s → IsAnswered s Turn (OfTurn result) self.new }
     {
         self.ftl.turn()
     }

@@ -7,8 +7,8 @@ ghost use Rattle.ufs_spec.specs.Messages.{AreFlags, IsAmong, IsMessage, spelling
 ghost use Rattle.ufs_spec.specs.Plain.{zero_block};
 ghost use Rattle.ufs_spec.specs.declared.Message.{Message};
 ghost use Rattle.device.specs.Replies.{answer_of, block_in, loaded_of, loaded_without, block_kept, block_message, count_of, full_answer, is_loaded_for, let_go, moved_on, reply_of, status_kept, without_first, without_task};
-ghost use Rattle.ufs_spec.specs.Machine.{Ask, Replies};
-ghost use Rattle.ufs_spec.specs.Steps.{State};
+ghost use Rattle.ufs_spec.specs.Machine.{Reply, OfReply};
+ghost use Rattle.ufs_spec.specs.Refusals.{State};
 ghost use Rattle.device.specs.Describes.{Describes, IsAnswered, IsReplied};
 
 use crate::device::Device;
@@ -193,7 +193,7 @@ impl Device {
         ensures nothing { result ≡ false → (self.new ≡ self.old) × (into.new ≡ into.old) }
         // What is handed out is a reply that is due, in its one spelling; and false says that none is.
         ensures replied { (s : State) → Describes self.old s → result ≡ true → IsReplied s into.new.items self.new }
-        ensures silent { (s : State) → Describes self.old s → result ≡ false → IsAnswered s Ask (Replies None) self.new }
+        ensures silent { (s : State) → Describes self.old s → result ≡ false → IsAnswered s Reply (OfReply None) self.new }
     {
         if let Some(due) = self.due() {
             upiu::write(&due.message, into);

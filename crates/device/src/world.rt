@@ -5,7 +5,7 @@ ghost use Rattle.ufs_spec.specs.Dies.{CanDo, after_job, outcome_of};
 ghost use Rattle.std.specs.List.{All};
 ghost use Rattle.ufs_spec.specs.Dies.{IsOfSize};
 ghost use Rattle.ufs_spec.specs.Lives.{Fit, IsOpened, array_of, bad_of};
-ghost use Rattle.ufs_spec.specs.Steps.{State};
+ghost use Rattle.ufs_spec.specs.Refusals.{State};
 ghost use Rattle.device.specs.Describes.{Describes};
 ghost use Rattle.device.specs.Kept.{IsNewDevice};
 ghost use Rattle.device.specs.Worlds.{AreBlank, Fits, IsLife, IsOpeningFault, IsRunFault, Played, Stepped, Went, die_at, job_at, jobs_given};

@@ -9,7 +9,7 @@ use Rattle.ufs_spec.specs.declared.flash.Tag.{Tag}
 use Rattle.ufs_spec.specs.Disk as disk
 use Rattle.ufs_spec.specs.Disk.{Spot, at_place, spot_of, state_behind}
 use Rattle.ufs_spec.specs.Ledger.{Name}
-use Rattle.ufs_spec.specs.Moves.{End, MayEnd, WentWell, WentWrong, cell_failed, end_flight, freed, mark_again, mark_written as layer_written, mending_behind, moved}
+use Rattle.ufs_spec.specs.Moves.{EndJob, MayEnd, WentWell, WentWrong, cell_failed, end_flight, freed, mark_again, mark_written as layer_written, mending_behind, moved}
 use Rattle.ufs_spec.specs.Translation as layer
 use Rattle.ufs_spec.specs.Translation.{MarkStep, Plan, Step, StepKind, Translation, flies_mark, flies_name, flies_reader, is_bad, name_of}
 use Rattle.power_loss.specs.Invariant.{EraseRight, ProgramRight, Valid}
@@ -211,7 +211,7 @@ module _ (c : Core) (t : Translation) (die : ℕ) (b : Book) (o : OpenBlock) (m 
 
 pub mark_is_written : (c : Core) (t : Translation) (die : ℕ) (b : Book) (place p : Place) (m : Mark) → Describes c t →
     slice_get c.books die ≡ Some b → b.flight ≡ Some (flight.Mark place) → t.disk.flights die ≡ Some (disk.Programming p (MarkPage m)) →
-    Kept (mark_ended c die b place true) (moved t (End die WentWell))
+    Kept (mark_ended c die b place true) (moved t (EndJob die WentWell))
 mark_is_written c t die b place p m h there job flies =
     let k = job_kept c t die b (Some (flight.Mark place)) (Some (disk.Programming p (MarkPage m))) h there job flies in
     let at : t.disk.flights die ≡ Some (disk.Programming (next_place die k.1.0) (MarkPage m)) =
@@ -220,7 +220,7 @@ mark_is_written c t die b place p m h there job flies =
 
 pub mark_has_failed : (c : Core) (t : Translation) (die : ℕ) (b : Book) (place p : Place) (m : Mark) (left : Cells) → Describes c t →
     slice_get c.books die ≡ Some b → b.flight ≡ Some (flight.Mark place) → t.disk.flights die ≡ Some (disk.Programming p (MarkPage m)) →
-    MayEnd t.disk die (t.disk.flights die) (WentWrong left) → Kept (mark_ended c die b place false) (moved t (End die (WentWrong left)))
+    MayEnd t.disk die (t.disk.flights die) (WentWrong left) → Kept (mark_ended c die b place false) (moved t (EndJob die (WentWrong left)))
 mark_has_failed c t die b place p m left h there job flies may =
     let k = job_kept c t die b (Some (flight.Mark place)) (Some (disk.Programming p (MarkPage m))) h there job flies in
     let at : t.disk.flights die ≡ Some (disk.Programming (next_place die k.1.0) (MarkPage m)) =
@@ -281,7 +281,7 @@ module _ (c : Core) (t : Translation) (die : ℕ) (b : Book) (o : OpenBlock) (nu
     groups = groups_wait t.ledger.standing (λ (name : Name). flew t (flies_name name)) (λ (name : Name). flies_still t die (flies_name name)) number
         (sym (ap (λ (z : Name). t.ledger.standing z.number z.index) named) ∙ not_there) (name_over (name_at number) (sym named))
         (λ other apart. name_same (name_at other) (λ e. apart (ap (λ (z : Name). z.number) e ∙ is_number)))
-        (number - c.frontier - 1) t.ledger.frontier c.groups (drop (t.ledger.frontier - t.ledger.top) t.ledger.groups)
+        (number - c.frontier - 1) t.ledger.frontier c.groups (drop (t.ledger.frontier - t.ledger.greatest_seen) t.ledger.groups)
         (let e = h.kept.ledger_kept.frontier in let l = pending in omega arith) h.kept.ledger_kept.groups;
     not_standing = λ name k. ⊎_elim
         (λ e. absurd (true_is_not_false (flies_still t die (flies_name name)) k (name_over name e.1)))
@@ -361,7 +361,7 @@ module _ (c : Core) (t : Translation) (die : ℕ) (b : Book) (block : ℕ) (h : 
 
 pub group_has_failed : (c : Core) (t : Translation) (die : ℕ) (b : Book) (place : Place) (number : ℕ) (p : Place) (tag : Tag) (body : List ℕ) (left : Cells) → Describes c t →
     slice_get c.books die ≡ Some b → b.flight ≡ Some (flight.Group place number) → t.disk.flights die ≡ Some (disk.Programming p (GroupPage tag body)) →
-    MayEnd t.disk die (t.disk.flights die) (WentWrong left) → Kept (group_ended c die b place number false) (moved t (End die (WentWrong left)))
+    MayEnd t.disk die (t.disk.flights die) (WentWrong left) → Kept (group_ended c die b place number false) (moved t (EndJob die (WentWrong left)))
 group_has_failed c t die b place number p tag body left h there job flies may =
     let k = job_kept c t die b (Some (flight.Group place number)) (Some (disk.Programming p (GroupPage tag body))) h there job flies in
     let at : t.disk.flights die ≡ Some (disk.Programming (next_place die k.1.0) (GroupPage tag body)) =
@@ -372,7 +372,7 @@ group_has_failed c t die b place number p tag body left h there job flies may =
 
 pub block_is_erased : (c : Core) (t : Translation) (die : ℕ) (b : Book) (block : ℕ) (s : Spot) → Describes c t →
     slice_get c.books die ≡ Some b → b.flight ≡ Some (flight.Erase block) → t.disk.flights die ≡ Some (disk.Erasing s) →
-    Kept (erase_ended c die block true) (moved t (End die WentWell))
+    Kept (erase_ended c die block true) (moved t (EndJob die WentWell))
 block_is_erased c t die b block s h there job flies =
     let k = job_kept c t die b (Some (flight.Erase block)) (Some (disk.Erasing s)) h there job flies in
     let at : t.disk.flights die ≡ Some (disk.Erasing (spot_at die block)) = flies ∙ ap (λ (a : Spot). Some (disk.Erasing a)) k.0 in
@@ -380,7 +380,7 @@ block_is_erased c t die b block s h there job flies =
 
 pub erase_has_failed : (c : Core) (t : Translation) (die : ℕ) (b : Book) (block : ℕ) (s : Spot) (left : Cells) → Describes c t →
     slice_get c.books die ≡ Some b → b.flight ≡ Some (flight.Erase block) → t.disk.flights die ≡ Some (disk.Erasing s) →
-    MayEnd t.disk die (t.disk.flights die) (WentWrong left) → Kept (erase_ended c die block false) (moved t (End die (WentWrong left)))
+    MayEnd t.disk die (t.disk.flights die) (WentWrong left) → Kept (erase_ended c die block false) (moved t (EndJob die (WentWrong left)))
 erase_has_failed c t die b block s left h there job flies may =
     let k = job_kept c t die b (Some (flight.Erase block)) (Some (disk.Erasing s)) h there job flies in
     let at : t.disk.flights die ≡ Some (disk.Erasing (spot_at die block)) = flies ∙ ap (λ (a : Spot). Some (disk.Erasing a)) k.0 in

@@ -4,7 +4,7 @@ use Rattle.std.specs.Prelude.{is_some, slice_get, option_map}
 use Rattle.ufs_spec.specs.Cells.{Cells, GroupPage, Mark, MarkPage, Nothing, Cell}
 use Rattle.ufs_spec.specs.Disk as disk
 use Rattle.ufs_spec.specs.Disk.{Reader, Spot}
-use Rattle.ufs_spec.specs.Moves.{End, Ending, IsEndingOf, MayEnd, ReadRight, ReadWrong, WentWell, WentWrong, moved, suits}
+use Rattle.ufs_spec.specs.Moves.{EndJob, Ending, IsEndingOf, MayEnd, ReadRight, ReadWrong, WentWell, WentWrong, moved, suits}
 use Rattle.ufs_spec.specs.Translation.{Translation}
 use Rattle.ufs_spec.specs.declared.configs.Numbers.{Numbers}
 use Rattle.ufs_spec.specs.declared.flash.Outcome.{Outcome}
@@ -100,42 +100,42 @@ job_cases n pins die filling P none reads marks groups erases (Some (flight.Eras
 
 kept_then : (c : Core) (t : Translation) (die : ℕ) (o : Outcome) (ending : Ending) (b : Book) → Describes c t → slice_get c.books die ≡ Some b →
     IsEndingOf t.disk.cells (t.disk.flights die) o ending → MayEnd t.disk die (t.disk.flights die) ending →
-    Kept (flight_after c die b b.flight o) (moved t (End die ending))
+    Kept (flight_after c die b b.flight o) (moved t (EndJob die ending))
 kept_then c t die o ending b h there is may =
     job_cases t.numbers c.pins die b.filling Goal (λ job flies now. absurd now) reads marks groups erases b.flight (t.disk.flights die) (h.kept.dies.each die b there).job refl refl is
   where
     Goal : Option Flight → Option disk.Flight → Type 0
-    Goal f g = b.flight ≡ f → t.disk.flights die ≡ g → IsEndingOf t.disk.cells g o ending → Kept (flight_after c die b f o) (moved t (End die ending))
+    Goal f g = b.flight ≡ f → t.disk.flights die ≡ g → IsEndingOf t.disk.cells g o ending → Kept (flight_after c die b f o) (moved t (EndJob die ending))
 
     reads : (place : Place) (reader : ℕ) (who : Reader) (p : Place) → Goal (Some (flight.Read place reader)) (Some (disk.Reading who p))
     reads place reader who p job flies now =
         let r = read_ended c t die b place reader who p o ending h there job flies is in
-        subst (λ (d : Bool). Kept (read_after c die b place reader d) (moved t (End die ending))) (sym r.0) r.1
+        subst (λ (d : Bool). Kept (read_after c die b place reader d) (moved t (EndJob die ending))) (sym r.0) r.1
 
     marks : (place p : Place) (m : Mark) → Goal (Some (flight.Mark place)) (Some (disk.Programming p (MarkPage m)))
     marks place p m job flies now =
-        program_ends (λ out e. MayEnd t.disk die (t.disk.flights die) e → Kept (flight_after c die b (Some (flight.Mark place)) out) (moved t (End die e))) t.disk.cells p (MarkPage m)
+        program_ends (λ out e. MayEnd t.disk die (t.disk.flights die) e → Kept (flight_after c die b (Some (flight.Mark place)) out) (moved t (EndJob die e))) t.disk.cells p (MarkPage m)
         (λ ends. mark_is_written c t die b place p m h there job flies)
         (λ left ends. mark_has_failed c t die b place p m left h there job flies ends)
         o ending now may
 
     groups : (place : Place) (number : ℕ) (p : Place) (tag : Tag) (body : List ℕ) → Goal (Some (flight.Group place number)) (Some (disk.Programming p (GroupPage tag body)))
     groups place number p tag body job flies now =
-        program_ends (λ out e. MayEnd t.disk die (t.disk.flights die) e → Kept (flight_after c die b (Some (flight.Group place number)) out) (moved t (End die e))) t.disk.cells p (GroupPage tag body)
+        program_ends (λ out e. MayEnd t.disk die (t.disk.flights die) e → Kept (flight_after c die b (Some (flight.Group place number)) out) (moved t (EndJob die e))) t.disk.cells p (GroupPage tag body)
         (λ ends. group_written c t die b place number p tag body h there job flies)
         (λ left ends. group_has_failed c t die b place number p tag body left h there job flies ends)
         o ending now may
 
     erases : (block : ℕ) (s : Spot) → Goal (Some (flight.Erase block)) (Some (disk.Erasing s))
     erases block s job flies now =
-        erase_ends (λ out e. MayEnd t.disk die (t.disk.flights die) e → Kept (flight_after c die b (Some (flight.Erase block)) out) (moved t (End die e))) t.disk.cells s
+        erase_ends (λ out e. MayEnd t.disk die (t.disk.flights die) e → Kept (flight_after c die b (Some (flight.Erase block)) out) (moved t (EndJob die e))) t.disk.cells s
         (λ ends. block_is_erased c t die b block s h there job flies)
         (λ left ends. erase_has_failed c t die b block s left h there job flies ends)
         o ending now may
 
 kept_of : (c : Core) (t : Translation) (die : ℕ) (o : Outcome) (ending : Ending) (book : Option Book) → Describes c t → slice_get c.books die ≡ book →
     IsEndingOf t.disk.cells (t.disk.flights die) o ending → MayEnd t.disk die (t.disk.flights die) ending →
-    Kept (book_after c die book o) (moved t (End die ending))
+    Kept (book_after c die book o) (moved t (EndJob die ending))
 kept_of c t die o ending None h there is may =
     absurd (subst (λ (g : Option disk.Flight). IsEndingOf t.disk.cells g o ending) (no_book c t die h there) is)
 kept_of c t die o ending (Some b) h there is may = kept_then c t die o ending b h there is may
@@ -143,9 +143,9 @@ kept_of c t die o ending (Some b) h there is may = kept_then c t die o ending b 
 -- what is kept once a job ended so describes the layer in which it did
 pub ends_right : (c : Core) (t : Translation) (die : ℕ) (o : Outcome) (ending : Ending) → Describes c t →
     IsEndingOf t.disk.cells (t.disk.flights die) o ending → MayEnd t.disk die (t.disk.flights die) ending →
-    Describes (core_ended c die o) (moved t (End die ending))
+    Describes (core_ended c die o) (moved t (EndJob die ending))
 ends_right c t die o ending h is may = record {
-  valid = all_keep t (End die ending) h.valid may;
+  valid = all_keep t (EndJob die ending) h.valid may;
   kept = kept_of c t die o ending (slice_get c.books die) h refl is may;
 }
 

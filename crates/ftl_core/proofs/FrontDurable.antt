@@ -36,7 +36,7 @@ abbrev pub raised_to : Translation → ℕ → Translation
 raised_to u f = record u { ledger = at_frontier u.ledger f; pins = map (settled_pin (at_frontier u.ledger f)) u.pins }
 
 abbrev pub climbed_to : Translation → ℕ
-climbed_to u = climbed (is_standing u.ledger) u.ledger.frontier (drop (u.ledger.frontier - u.ledger.top) u.ledger.groups)
+climbed_to u = climbed (is_standing u.ledger) u.ledger.frontier (drop (u.ledger.frontier - u.ledger.greatest_seen) u.ledger.groups)
 
 -- with its frontier over all groups that are wholly there
 abbrev pub climbed_of : Translation → Translation
@@ -46,7 +46,7 @@ climbed_of u = moves.settled (record u { ledger = climbs u.ledger })
 pub record MayClimb (u : Translation) : Type 0 where
   pub from : ℕ
   pub low : from ≤ u.ledger.frontier
-  pub top : u.ledger.top ≤ u.ledger.frontier
+  pub top : u.ledger.greatest_seen ≤ u.ledger.frontier
   pub readable : AreReadable u.ledger u.disk.cells u.disk.erasing from
   pub are_keys : AreKeys u.numbers u.ledger
 
@@ -95,9 +95,9 @@ next_of c u p h m f = record {
     number : c.frontier + 1 ≡ suc u.ledger.frontier
     number = let e = h.ledger_kept.frontier in omega arith
 
-    both : IsFrontKept u.ledger.standing (name_flies u) u.ledger.frontier f.first f.rest (drop (u.ledger.frontier - u.ledger.top) u.ledger.groups)
-    both = front_kept u.ledger.standing (name_flies u) u.ledger.frontier f.first f.rest (drop (u.ledger.frontier - u.ledger.top) u.ledger.groups)
-        (subst (λ (z : List Group). GroupsKept u.ledger.standing (name_flies u) u.ledger.frontier z (drop (u.ledger.frontier - u.ledger.top) u.ledger.groups)) f.is h.ledger_kept.groups)
+    both : IsFrontKept u.ledger.standing (name_flies u) u.ledger.frontier f.first f.rest (drop (u.ledger.frontier - u.ledger.greatest_seen) u.ledger.groups)
+    both = front_kept u.ledger.standing (name_flies u) u.ledger.frontier f.first f.rest (drop (u.ledger.frontier - u.ledger.greatest_seen) u.ledger.groups)
+        (subst (λ (z : List Group). GroupsKept u.ledger.standing (name_flies u) u.ledger.frontier z (drop (u.ledger.frontier - u.ledger.greatest_seen) u.ledger.groups)) f.is h.ledger_kept.groups)
 
     so_far : (o : Option Place) (b : Bool) (x : GroupState) → x ≡ group.Written p → IsSoFar o b x → o ≡ Some p
     so_far o b x e k = subst (λ (y : GroupState). IsSoFar o b y) e k
@@ -150,7 +150,7 @@ goes_on standing flies n g y hs p h written =
 ends_there : (c : Core) (u : Translation) → Kept c u → front_written c ≡ None → climbed_of u ≡ u
 ends_there c u h e =
     let still : climbed_to u ≡ u.ledger.frontier =
-    stops u.ledger.standing (name_flies u) u.ledger.frontier c.groups (drop (u.ledger.frontier - u.ledger.top) u.ledger.groups) h.ledger_kept.groups e in
+    stops u.ledger.standing (name_flies u) u.ledger.frontier c.groups (drop (u.ledger.frontier - u.ledger.greatest_seen) u.ledger.groups) h.ledger_kept.groups e in
     let same = pins_settled u.ledger u.disk.cells u.disk.erasing (reader_flies u) c.pins u.pins h.pins in
     ap (raised_to u) still ∙ (λ i. record u { pins = same i })
 
@@ -159,25 +159,25 @@ raised_twice u a b le = let same = pins_twice u.ledger a b u.pins le in λ i. re
 
 climbs_more : (c : Core) (u : Translation) (p : Place) → Kept c u → MayClimb u → front_written c ≡ Some p → climbed_of (raised_to u (suc u.ledger.frontier)) ≡ climbed_of u
 climbs_more c u p h m e =
-    raised_twice u (suc u.ledger.frontier) (climbed (is_standing u.ledger) (suc u.ledger.frontier) (drop (suc u.ledger.frontier - u.ledger.top) u.ledger.groups))
-    (climb (is_standing u.ledger) (suc u.ledger.frontier) (drop (suc u.ledger.frontier - u.ledger.top) u.ledger.groups)).from
+    raised_twice u (suc u.ledger.frontier) (climbed (is_standing u.ledger) (suc u.ledger.frontier) (drop (suc u.ledger.frontier - u.ledger.greatest_seen) u.ledger.groups))
+    (climb (is_standing u.ledger) (suc u.ledger.frontier) (drop (suc u.ledger.frontier - u.ledger.greatest_seen) u.ledger.groups)).from
     ∙ ap (raised_to u) to
   where
     f : IsFront c.groups p
     f = front c.groups p e
 
-    both : IsFrontKept u.ledger.standing (name_flies u) u.ledger.frontier f.first f.rest (drop (u.ledger.frontier - u.ledger.top) u.ledger.groups)
-    both = front_kept u.ledger.standing (name_flies u) u.ledger.frontier f.first f.rest (drop (u.ledger.frontier - u.ledger.top) u.ledger.groups)
-        (subst (λ (z : List Group). GroupsKept u.ledger.standing (name_flies u) u.ledger.frontier z (drop (u.ledger.frontier - u.ledger.top) u.ledger.groups)) f.is h.ledger_kept.groups)
+    both : IsFrontKept u.ledger.standing (name_flies u) u.ledger.frontier f.first f.rest (drop (u.ledger.frontier - u.ledger.greatest_seen) u.ledger.groups)
+    both = front_kept u.ledger.standing (name_flies u) u.ledger.frontier f.first f.rest (drop (u.ledger.frontier - u.ledger.greatest_seen) u.ledger.groups)
+        (subst (λ (z : List Group). GroupsKept u.ledger.standing (name_flies u) u.ledger.frontier z (drop (u.ledger.frontier - u.ledger.greatest_seen) u.ledger.groups)) f.is h.ledger_kept.groups)
 
     one_more : (a b : ℕ) → a ≤ b → suc b - a ≡ suc (b - a)
     one_more a b le = omega arith
 
-    behind : drop (suc u.ledger.frontier - u.ledger.top) u.ledger.groups ≡ both.rest
-    behind = ap (λ (k : ℕ). drop k u.ledger.groups) (one_more u.ledger.top u.ledger.frontier m.top)
-        ∙ (drop_next u.ledger.groups (u.ledger.frontier - u.ledger.top) both.first both.rest both.is).0
+    behind : drop (suc u.ledger.frontier - u.ledger.greatest_seen) u.ledger.groups ≡ both.rest
+    behind = ap (λ (k : ℕ). drop k u.ledger.groups) (one_more u.ledger.greatest_seen u.ledger.frontier m.top)
+        ∙ (drop_next u.ledger.groups (u.ledger.frontier - u.ledger.greatest_seen) both.first both.rest both.is).0
 
-    to : climbed (is_standing u.ledger) (suc u.ledger.frontier) (drop (suc u.ledger.frontier - u.ledger.top) u.ledger.groups) ≡ climbed_to u
+    to : climbed (is_standing u.ledger) (suc u.ledger.frontier) (drop (suc u.ledger.frontier - u.ledger.greatest_seen) u.ledger.groups) ≡ climbed_to u
     to = ap (climbed (is_standing u.ledger) (suc u.ledger.frontier)) behind
         ∙ sym (goes_on u.ledger.standing (name_flies u) u.ledger.frontier f.first both.first both.rest p both.kept f.written)
         ∙ sym (ap (climbed (is_standing u.ledger) u.ledger.frontier) both.is)

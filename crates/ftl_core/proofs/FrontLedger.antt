@@ -130,24 +130,24 @@ front_stored c p = record { place = p; number = c.frontier + 1 }
 
 -- the position of the first pending group among the groups of the ledger
 abbrev pending : Ledger → ℕ
-pending l = l.frontier - l.top
+pending l = l.frontier - l.greatest_seen
 
-durable_next : (l : Ledger) (h : keys.Group) (hs : List keys.Group) (k : Key) → l.top ≤ l.frontier → drop (l.frontier - l.top) l.groups ≡ h ∷ hs →
+durable_next : (l : Ledger) (h : keys.Group) (hs : List keys.Group) (k : Key) → l.greatest_seen ≤ l.frontier → drop (l.frontier - l.greatest_seen) l.groups ≡ h ∷ hs →
     latest_durable (at_frontier l (suc l.frontier)) k ≡ name_or (suc l.frontier) (index_in k h) (latest_durable l k)
 durable_next l h hs k low e =
     let r = drop_next l.groups (pending l) h hs e in
-    let one_more : suc l.frontier - l.top ≡ suc (pending l) = omega arith in
-    let back : l.top + length (take (pending l) l.groups) ≡ l.frontier = sum l.top l.frontier (length (take (pending l) l.groups)) low r.2 in
-    ap (λ (m : ℕ). latest_in k l.top (take m l.groups) (l.first k)) one_more
-    ∙ ap (λ (gs : List keys.Group). latest_in k l.top gs (l.first k)) r.1
-    ∙ latest_more k l.top (take (pending l) l.groups) h (l.first k)
+    let one_more : suc l.frontier - l.greatest_seen ≡ suc (pending l) = omega arith in
+    let back : l.greatest_seen + length (take (pending l) l.groups) ≡ l.frontier = sum l.greatest_seen l.frontier (length (take (pending l) l.groups)) low r.2 in
+    ap (λ (m : ℕ). latest_in k l.greatest_seen (take m l.groups) (l.first_page k)) one_more
+    ∙ ap (λ (gs : List keys.Group). latest_in k l.greatest_seen gs (l.first_page k)) r.1
+    ∙ latest_more k l.greatest_seen (take (pending l) l.groups) h (l.first_page k)
     ∙ ap (λ (m : ℕ). name_or (suc m) (index_in k h) (latest_durable l k)) back
   where
     sum : (a b n : ℕ) → a ≤ b → n ≡ b - a → a + n ≡ b
     sum a b n le e = omega arith
 
 -- what is kept of groups and places is what the ledger has then
-pub ledger_next : (c : Core) (l : Ledger) (flies : Name → Bool) (p : Place) (g : Group) (gs : List Group) → LedgerKept c l flies → l.top ≤ l.frontier → AreKeys c.numbers l →
+pub ledger_next : (c : Core) (l : Ledger) (flies : Name → Bool) (p : Place) (g : Group) (gs : List Group) → LedgerKept c l flies → l.greatest_seen ≤ l.frontier → AreKeys c.numbers l →
     c.groups ≡ g ∷ gs → g.state ≡ group.Written p → LedgerKept (group_durable c (front_stored c p) (Some g)) (at_frontier l (suc l.frontier)) flies
 ledger_next c l flies p g gs h low are_keys is written = record {
   frontier = let e = h.frontier in omega arith;
@@ -165,15 +165,15 @@ ledger_next c l flies p g gs h low are_keys is written = record {
     item : Item
     item = record { key = g.key; body = g.body }
 
-    both : IsFrontKept l.standing flies l.frontier g gs (drop (l.frontier - l.top) l.groups)
-    both = front_kept l.standing flies l.frontier g gs (drop (l.frontier - l.top) l.groups)
-        (subst (λ (z : List Group). GroupsKept l.standing flies l.frontier z (drop (l.frontier - l.top) l.groups)) is h.groups)
+    both : IsFrontKept l.standing flies l.frontier g gs (drop (l.frontier - l.greatest_seen) l.groups)
+    both = front_kept l.standing flies l.frontier g gs (drop (l.frontier - l.greatest_seen) l.groups)
+        (subst (λ (z : List Group). GroupsKept l.standing flies l.frontier z (drop (l.frontier - l.greatest_seen) l.groups)) is h.groups)
 
     rest : remove c.groups 0 ≡ gs
     rest = ap (λ (z : List Group). remove z 0) is
 
-    behind : drop (suc l.frontier - l.top) l.groups ≡ both.rest
-    behind = ap (λ (m : ℕ). drop m l.groups) (one_more l.top l.frontier low) ∙ (drop_next l.groups (pending l) both.first both.rest both.is).0
+    behind : drop (suc l.frontier - l.greatest_seen) l.groups ≡ both.rest
+    behind = ap (λ (m : ℕ). drop m l.groups) (one_more l.greatest_seen l.frontier low) ∙ (drop_next l.groups (pending l) both.first both.rest both.is).0
       where
         one_more : (a b : ℕ) → a ≤ b → suc b - a ≡ suc (b - a)
         one_more a b le = omega arith

@@ -4,7 +4,7 @@ use Rattle.std.specs.Prelude.{slice_get, slice_set}
 use Rattle.ufs_spec.specs.Cells.{GroupPage}
 use Rattle.ufs_spec.specs.Disk as disk
 use Rattle.ufs_spec.specs.Moves as moves
-use Rattle.ufs_spec.specs.Moves.{End, WentWell, end_flight, moved}
+use Rattle.ufs_spec.specs.Moves.{EndJob, WentWell, end_flight, moved}
 use Rattle.ufs_spec.specs.Translation.{Translation}
 use Rattle.ufs_spec.specs.declared.flash.Place.{Place}
 use Rattle.ufs_spec.specs.declared.flash.Tag.{Tag}
@@ -81,7 +81,7 @@ agree c t die b place number p tag body h there job flies = told k
 -- what is kept goes on to describe the layer where the program of a group's page ended well
 pub group_written : (c : Core) (t : Translation) (die : ℕ) (b : Book) (place : Place) (number : ℕ) (p : Place) (tag : Tag) (body : List ℕ) → Describes c t →
     slice_get c.books die ≡ Some b → b.flight ≡ Some (flight.Group place number) → t.disk.flights die ≡ Some (disk.Programming p (GroupPage tag body)) →
-    Kept (group_ended c die b place number true) (moved t (End die WentWell))
+    Kept (group_ended c die b place number true) (moved t (EndJob die WentWell))
 group_written c t die b place number p tag body h there job flies =
     let w = agree c t die b place number p tag body h there job flies in
     subst (λ (z : Place × ℕ × Translation). Kept (group_ended c die b z.0 z.1 true) z.2)

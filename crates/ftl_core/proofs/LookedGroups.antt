@@ -49,35 +49,35 @@ on_page l (Some s) (Some name) frontier r within =
 
 module _ (c : Core) (t : Translation) (h : Describes c t) where
   -- as many groups are kept as are behind the frontier
-  pub groups_left : c.frontier + length c.groups ≡ t.ledger.top + length t.ledger.groups
+  pub groups_left : c.frontier + length c.groups ≡ t.ledger.greatest_seen + length t.ledger.groups
   groups_left =
       let f = h.kept.ledger_kept.frontier in
       let above = h.valid.frontier.above in
       let within = h.valid.frontier.within in
-      let e = kept_length t.ledger.standing (name_flies t) t.ledger.frontier c.groups (drop (t.ledger.frontier - t.ledger.top) t.ledger.groups) h.kept.ledger_kept.groups in
-      omega (arith, length-drop (t.ledger.frontier - t.ledger.top) t.ledger.groups)
+      let e = kept_length t.ledger.standing (name_flies t) t.ledger.frontier c.groups (drop (t.ledger.frontier - t.ledger.greatest_seen) t.ledger.groups) h.kept.ledger_kept.groups in
+      omega (arith, length-drop (t.ledger.frontier - t.ledger.greatest_seen) t.ledger.groups)
 
   -- the layer looks up what the ledger has
   pub looks : (k : Key) → IsKey (shape_of_numbers t.numbers) k → k.kind ≡ 1 → IsLookedAt (look_of c k) (look t.ledger k)
   looks k is kind =
       subst (λ o. IsLookedAt (look_of c k) (ledger.looked_at t.ledger o)) (sym (latest_splits t.ledger k h.valid.frontier.above h.valid.frontier.within))
-      (⊎_elim pending stored (latest_cases k t.ledger.frontier (drop (t.ledger.frontier - t.ledger.top) t.ledger.groups) (latest_durable t.ledger k)))
+      (⊎_elim pending stored (latest_cases k t.ledger.frontier (drop (t.ledger.frontier - t.ledger.greatest_seen) t.ledger.groups) (latest_durable t.ledger k)))
     where
-      pending : IsLastOf k t.ledger.frontier (drop (t.ledger.frontier - t.ledger.top) t.ledger.groups) (latest_in k t.ledger.frontier (drop (t.ledger.frontier - t.ledger.top) t.ledger.groups) (latest_durable t.ledger k)) →
-          IsLookedAt (look_of c k) (ledger.looked_at t.ledger (latest_in k t.ledger.frontier (drop (t.ledger.frontier - t.ledger.top) t.ledger.groups) (latest_durable t.ledger k)))
+      pending : IsLastOf k t.ledger.frontier (drop (t.ledger.frontier - t.ledger.greatest_seen) t.ledger.groups) (latest_in k t.ledger.frontier (drop (t.ledger.frontier - t.ledger.greatest_seen) t.ledger.groups) (latest_durable t.ledger k)) →
+          IsLookedAt (look_of c k) (ledger.looked_at t.ledger (latest_in k t.ledger.frontier (drop (t.ledger.frontier - t.ledger.greatest_seen) t.ledger.groups) (latest_durable t.ledger k)))
       pending l =
-          let r = last_kept t.ledger.standing (name_flies t) t.ledger.frontier c.groups (drop (t.ledger.frontier - t.ledger.top) t.ledger.groups) h.kept.ledger_kept.groups k
-          (latest_in k t.ledger.frontier (drop (t.ledger.frontier - t.ledger.top) t.ledger.groups) (latest_durable t.ledger k)) l in
+          let r = last_kept t.ledger.standing (name_flies t) t.ledger.frontier c.groups (drop (t.ledger.frontier - t.ledger.greatest_seen) t.ledger.groups) h.kept.ledger_kept.groups k
+          (latest_in k t.ledger.frontier (drop (t.ledger.frontier - t.ledger.greatest_seen) t.ledger.groups) (latest_durable t.ledger k)) l in
           subst (λ o. IsLookedAt (look_of c k) (ledger.looked_at t.ledger o)) (sym l.is)
           (in_slot t.ledger l.name (last_of k c.groups) (stored_of c k) c.frontier l.at r.0 h.kept.ledger_kept.frontier l.number r.1)
 
-      stored : (latest_in k t.ledger.frontier (drop (t.ledger.frontier - t.ledger.top) t.ledger.groups) (latest_durable t.ledger k) ≡ latest_durable t.ledger k)
-          × NoneOf k (drop (t.ledger.frontier - t.ledger.top) t.ledger.groups) →
-          IsLookedAt (look_of c k) (ledger.looked_at t.ledger (latest_in k t.ledger.frontier (drop (t.ledger.frontier - t.ledger.top) t.ledger.groups) (latest_durable t.ledger k)))
+      stored : (latest_in k t.ledger.frontier (drop (t.ledger.frontier - t.ledger.greatest_seen) t.ledger.groups) (latest_durable t.ledger k) ≡ latest_durable t.ledger k)
+          × NoneOf k (drop (t.ledger.frontier - t.ledger.greatest_seen) t.ledger.groups) →
+          IsLookedAt (look_of c k) (ledger.looked_at t.ledger (latest_in k t.ledger.frontier (drop (t.ledger.frontier - t.ledger.greatest_seen) t.ledger.groups) (latest_durable t.ledger k)))
       stored r =
           subst (λ o. IsLookedAt (look_of c k) (ledger.looked_at t.ledger o)) (sym r.0)
           (subst (λ o. IsLookedAt (looked_at o (stored_of c k) c.frontier) (ledger.looked_at t.ledger (latest_durable t.ledger k)))
-          (sym (none_kept t.ledger.standing (name_flies t) t.ledger.frontier c.groups (drop (t.ledger.frontier - t.ledger.top) t.ledger.groups) h.kept.ledger_kept.groups k r.1))
+          (sym (none_kept t.ledger.standing (name_flies t) t.ledger.frontier c.groups (drop (t.ledger.frontier - t.ledger.greatest_seen) t.ledger.groups) h.kept.ledger_kept.groups k r.1))
           (on_page t.ledger (stored_of c k) (latest_durable t.ledger k) c.frontier
           (h.kept.ledger_kept.places k (subst (λ (n : Numbers). IsKey (shape_of_numbers n) k) (sym h.kept.numbers) is) kind)
           (λ name e. durable_within t k name c.mended h.valid h.kept.work.mending is e)))

@@ -65,7 +65,7 @@ behind_there : (t : Translation) (k : Key) (name : Name) → Valid t → HasKey 
     IsThere t.ledger t.disk.cells t.disk.erasing k (InSlot name)
 behind_there t k name v has e behind =
     ⊎_elim
-    (λ (l : IsLastOf k t.ledger.top t.ledger.groups (latest t.ledger k)). (
+    (λ (l : IsLastOf k t.ledger.greatest_seen t.ledger.groups (latest t.ledger k)). (
       behind,
       (
         record { item = l.item; size = length l.group },
@@ -74,12 +74,12 @@ behind_there t k name v has e behind =
         l.key,
       ),
     ))
-    (λ (r : (latest t.ledger k ≡ t.ledger.first k) × NoneOf k t.ledger.groups).
-    let first = subst (FirstRight (book t) k) (sym r.0 ∙ e) (v.book_right.first k has) in
+    (λ (r : (latest t.ledger k ≡ t.ledger.first_page k) × NoneOf k t.ledger.groups).
+    let first = subst (FirstRight (book t) k) (sym r.0 ∙ e) (v.book_right.first_page k has) in
     let w = v.book_right.old_within name.number name.index first.0 first.1 in
     let a = v.frontier.above in
     absurd (omega arith))
-    (latest_cases k t.ledger.top t.ledger.groups (t.ledger.first k))
+    (latest_cases k t.ledger.greatest_seen t.ledger.groups (t.ledger.first_page k))
 
 look_there : (t : Translation) (k : Key) (o : Option Name) → Valid t → IsSettled t → HasKey (book t) k → latest t.ledger k ≡ o →
     IsThere t.ledger t.disk.cells t.disk.erasing k (looked_at t.ledger o)

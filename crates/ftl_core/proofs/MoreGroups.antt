@@ -54,8 +54,8 @@ abbrev pub with_group : Ledger → keys.Group → Ledger
 with_group l g = record l { groups = l.groups ++ g ∷ [] }
 
 -- at the frontier nothing changes
-durable_same : (l : Ledger) (g : keys.Group) (k : Key) → l.frontier - l.top ≤ length l.groups → latest_durable l k ≡ latest_durable (with_group l g) k
-durable_same l g k w = ap (λ (gs : List keys.Group). latest_in k l.top gs (l.first k)) (sym (take-append-le (l.frontier - l.top) l.groups (g ∷ []) w))
+durable_same : (l : Ledger) (g : keys.Group) (k : Key) → l.frontier - l.greatest_seen ≤ length l.groups → latest_durable l k ≡ latest_durable (with_group l g) k
+durable_same l g k w = ap (λ (gs : List keys.Group). latest_in k l.greatest_seen gs (l.first_page k)) (sym (take-append-le (l.frontier - l.greatest_seen) l.groups (g ∷ []) w))
 
 abbrev pub one_page : Key → List ℕ → keys.Group
 one_page k body = record { key = k; body = body } ∷ []
@@ -67,14 +67,14 @@ ledger_more c t k body h data_page = record {
   repairs = h.kept.ledger_kept.repairs;
   not_standing = h.kept.ledger_kept.not_standing;
   groups = subst (GroupsKept t.ledger.standing (name_flies t) t.ledger.frontier (c.groups ++ pending ∷ []))
-      (sym (drop-append-le (t.ledger.frontier - t.ledger.top) t.ledger.groups (one_page k body ∷ []) within))
-      (kept_more t.ledger.standing (name_flies t) t.ledger.frontier c.groups (drop (t.ledger.frontier - t.ledger.top) t.ledger.groups) pending (one_page k body) h.kept.ledger_kept.groups
+      (sym (drop-append-le (t.ledger.frontier - t.ledger.greatest_seen) t.ledger.groups (one_page k body ∷ []) within))
+      (kept_more t.ledger.standing (name_flies t) t.ledger.frontier c.groups (drop (t.ledger.frontier - t.ledger.greatest_seen) t.ledger.groups) pending (one_page k body) h.kept.ledger_kept.groups
       (record { page = refl; data_page = data_page; so_far = (never_stood t number 0 (t.ledger.standing number 0) h.valid new refl, not_flying t (name_at number) h.valid new) }));
   addresses = h.kept.ledger_kept.addresses;
   places = λ j is kind. subst (IsStored t.ledger.standing (stored_of c j)) (durable_same t.ledger (one_page k body) j within) (h.kept.ledger_kept.places j is kind);
 }
   where
-    within : t.ledger.frontier - t.ledger.top ≤ length t.ledger.groups
+    within : t.ledger.frontier - t.ledger.greatest_seen ≤ length t.ledger.groups
     within = let a = h.valid.frontier.above in let w = h.valid.frontier.within in omega arith
 
     pending : Group

@@ -53,9 +53,9 @@ same_marks c t die b job h at idle none =
 -- where no name is in flight that was not, the groups are as they were
 groups_same : (c : Core) (t : Translation) (die : ℕ) (b : Book) (job : disk.Flight) → Describes c t → slice_get c.books die ≡ Some b → b.flight ≡ None →
     ((name : Name) → flies_name name (Some job) ≡ false) →
-    GroupsKept t.ledger.standing (name_flies (taken t die job)) t.ledger.frontier c.groups (drop (t.ledger.frontier - t.ledger.top) t.ledger.groups)
+    GroupsKept t.ledger.standing (name_flies (taken t die job)) t.ledger.frontier c.groups (drop (t.ledger.frontier - t.ledger.greatest_seen) t.ledger.groups)
 groups_same c t die b job h at idle none =
-    subst (λ (z : Name → Bool). GroupsKept t.ledger.standing z t.ledger.frontier c.groups (drop (t.ledger.frontier - t.ledger.top) t.ledger.groups))
+    subst (λ (z : Name → Bool). GroupsKept t.ledger.standing z t.ledger.frontier c.groups (drop (t.ledger.frontier - t.ledger.greatest_seen) t.ledger.groups))
     (λ i name. sym (same_names c t die b job h at idle name (none name)) i) h.kept.ledger_kept.groups
 
 -- A mark
@@ -151,7 +151,7 @@ group_begun c t die b o k g h at idle open_block there waits =
     (refl, (o, open_block, refl), refl, refl)
     (λ reader. refl)
     alone
-    (groups_begun t.ledger.standing (name_flies t) (name_flies (taken t die job)) t.ledger.frontier c.groups (drop (t.ledger.frontier - t.ledger.top) t.ledger.groups) k g
+    (groups_begun t.ledger.standing (name_flies t) (name_flies (taken t die job)) t.ledger.frontier c.groups (drop (t.ledger.frontier - t.ledger.greatest_seen) t.ledger.groups) k g
     h.kept.ledger_kept.groups there waits (subst (λ z. name_flies (taken t die job) (name_at (z + k + 1)) ≡ true) h.kept.ledger_kept.frontier now)
     (λ m other. same_names c t die b job h at idle (name_at m) (name_apart m (c.frontier + k + 1) (λ e. other (e ∙ ap (λ z. z + k + 1) h.kept.ledger_kept.frontier)))))
     h.kept.work.step
@@ -168,7 +168,7 @@ group_begun c t die b o k g h at idle open_block there waits =
 
     its : (t.ledger.standing (t.ledger.frontier + k + 1) 0 ≡ None) × (name_flies t (name_at (t.ledger.frontier + k + 1)) ≡ false)
     its =
-        let r = kept_at t.ledger.standing (name_flies t) t.ledger.frontier c.groups (drop (t.ledger.frontier - t.ledger.top) t.ledger.groups) k g h.kept.ledger_kept.groups there in
+        let r = kept_at t.ledger.standing (name_flies t) t.ledger.frontier c.groups (drop (t.ledger.frontier - t.ledger.greatest_seen) t.ledger.groups) k g h.kept.ledger_kept.groups there in
         group_waits g (t.ledger.standing (t.ledger.frontier + k + 1) 0) (name_flies t (name_at (t.ledger.frontier + k + 1))) waits r.2.so_far
 
     alone : (name : Name) → flies_name name (Some job) ≡ true → (name_flies t name ≡ false) × (t.ledger.standing name.number name.index ≡ None)

@@ -153,12 +153,12 @@ item_at (x ∷ xs) (suc i) l = item_at xs i (omega arith)
 
 -- a page of a group of this life is known
 page_there : (t : Translation) (j i : ℕ) (g : keys.Group) → slice_get t.ledger.groups j ≡ Some g → i < length g →
-    (e : Entry) × IsPageAt (book t) (t.ledger.top + suc j) i e
+    (e : Entry) × IsPageAt (book t) (t.ledger.greatest_seen + suc j) i e
 page_there t j i g at u =
     let x = item_at g i u in (
       record { item = x.0; size = length g },
-      new_page (book t) (t.ledger.top + suc j) i (record { item = x.0; size = length g }) (omega arith)
-          (record { group = g; is = ap (slice_get t.ledger.groups) (back t.ledger.top j) ∙ at; item = x.1; size = refl }),
+      new_page (book t) (t.ledger.greatest_seen + suc j) i (record { item = x.0; size = length g }) (omega arith)
+          (record { group = g; is = ap (slice_get t.ledger.groups) (back t.ledger.greatest_seen j) ∙ at; item = x.1; size = refl }),
     )
   where
     back : (top j : ℕ) → top + suc j - top - 1 ≡ j
@@ -176,11 +176,11 @@ and_nothing false b test xs h = refl
 pub next_name : (c : Core) (t : Translation) → Describes c t →
     waiting_name t ≡ option_map (λ k. name_at (c.frontier + k + 1)) (position is_waiting c.groups)
 next_name c t h =
-    ap (λ z. find (layer.waits t) (names_behind (t.ledger.top + z) (drop z t.ledger.groups))) h.kept.ledger_kept.repairs
-    ∙ ap (λ z. find (layer.waits t) (names_behind z t.ledger.groups)) (no_more t.ledger.top)
-    ∙ skips_names (layer.waits t) (t.ledger.frontier - t.ledger.top) t.ledger.top t.ledger.groups standing_below
-    ∙ ap (λ z. find (layer.waits t) (names_behind z (drop (t.ledger.frontier - t.ledger.top) t.ledger.groups))) (up t.ledger.top t.ledger.frontier h.valid.frontier.above)
-    ∙ found_name t.ledger.standing (name_flies t) (layer.waits t) t.ledger.frontier c.groups (drop (t.ledger.frontier - t.ledger.top) t.ledger.groups) no_rest h.kept.ledger_kept.groups
+    ap (λ z. find (layer.waits t) (names_behind (t.ledger.greatest_seen + z) (drop z t.ledger.groups))) h.kept.ledger_kept.repairs
+    ∙ ap (λ z. find (layer.waits t) (names_behind z t.ledger.groups)) (no_more t.ledger.greatest_seen)
+    ∙ skips_names (layer.waits t) (t.ledger.frontier - t.ledger.greatest_seen) t.ledger.greatest_seen t.ledger.groups standing_below
+    ∙ ap (λ z. find (layer.waits t) (names_behind z (drop (t.ledger.frontier - t.ledger.greatest_seen) t.ledger.groups))) (up t.ledger.greatest_seen t.ledger.frontier h.valid.frontier.above)
+    ∙ found_name t.ledger.standing (name_flies t) (layer.waits t) t.ledger.frontier c.groups (drop (t.ledger.frontier - t.ledger.greatest_seen) t.ledger.groups) no_rest h.kept.ledger_kept.groups
     ∙ ap (λ (z : ℕ). option_map (λ k. name_at (z + k + 1)) (position is_waiting c.groups)) (sym h.kept.ledger_kept.frontier)
   where
     no_more : (n : ℕ) → n + 0 ≡ n
@@ -193,9 +193,9 @@ next_name c t h =
     no_rest name =
         and_nothing (not (is_some (t.ledger.standing name.number name.index))) (not (name_flies t name)) (is_rest_of name) t.work.rests h.kept.work.no_rests
 
-    standing_below : (j i : ℕ) (g : keys.Group) → j < t.ledger.frontier - t.ledger.top → slice_get t.ledger.groups j ≡ Some g → i < length g →
-        layer.waits t (record { number = t.ledger.top + suc j; index = i }) ≡ false
+    standing_below : (j i : ℕ) (g : keys.Group) → j < t.ledger.frontier - t.ledger.greatest_seen → slice_get t.ledger.groups j ≡ Some g → i < length g →
+        layer.waits t (record { number = t.ledger.greatest_seen + suc j; index = i }) ≡ false
     standing_below j i g l at u =
         let e = page_there t j i g at u in
-        let p = h.valid.frontier.stand (t.ledger.top + suc j) i e.0 (omega arith) e.1 in
-        no_rest (record { number = t.ledger.top + suc j; index = i }) ∙ stands_there (t.ledger.standing (t.ledger.top + suc j) i) p.0 p.1 (name_flies t (record { number = t.ledger.top + suc j; index = i }))
+        let p = h.valid.frontier.stand (t.ledger.greatest_seen + suc j) i e.0 (omega arith) e.1 in
+        no_rest (record { number = t.ledger.greatest_seen + suc j; index = i }) ∙ stands_there (t.ledger.standing (t.ledger.greatest_seen + suc j) i) p.0 p.1 (name_flies t (record { number = t.ledger.greatest_seen + suc j; index = i }))

@@ -34,14 +34,14 @@ kept_at standing flies n (x ∷ gs) (h ∷ hs) (suc k) g is at =
     next n k = omega arith
 
 -- the entry of the name of a group of one page
-one_entry : (t : Translation) (k : ℕ) (g : Group) (h : keys.Group) → t.ledger.top ≤ t.ledger.frontier →
-    slice_get (drop (t.ledger.frontier - t.ledger.top) t.ledger.groups) k ≡ Some h → h ≡ record { key = g.key; body = g.body } ∷ [] →
+one_entry : (t : Translation) (k : ℕ) (g : Group) (h : keys.Group) → t.ledger.greatest_seen ≤ t.ledger.frontier →
+    slice_get (drop (t.ledger.frontier - t.ledger.greatest_seen) t.ledger.groups) k ≡ Some h → h ≡ record { key = g.key; body = g.body } ∷ [] →
     IsPageAt (book t) (t.ledger.frontier + k + 1) 0 (record { item = record { key = g.key; body = g.body }; size = 1 })
 one_entry t k g h above at page =
     new_page (book t) (t.ledger.frontier + k + 1) 0 (record { item = record { key = g.key; body = g.body }; size = 1 }) (omega arith)
     (record {
       group = h;
-      is = ap (slice_get t.ledger.groups) (back t.ledger.top t.ledger.frontier k above) ∙ sym (get_drop t.ledger.groups (t.ledger.frontier - t.ledger.top) k) ∙ at;
+      is = ap (slice_get t.ledger.groups) (back t.ledger.greatest_seen t.ledger.frontier k above) ∙ sym (get_drop t.ledger.groups (t.ledger.frontier - t.ledger.greatest_seen) k) ∙ at;
       item = ap (λ (z : keys.Group). slice_get z 0) page;
       size = sym (ap (λ (z : keys.Group). length z) page);
     })
@@ -53,6 +53,6 @@ one_entry t k g h above at page =
 pub page_of_pending : (c : Core) (t : Translation) (k : ℕ) (g : Group) → Describes c t → slice_get c.groups k ≡ Some g →
     cell_now t.ledger (name_at (c.frontier + k + 1)) ≡ GroupPage (single_tag g.key (c.frontier + k + 1) c.frontier) g.body
 page_of_pending c t k g h at =
-    let r = kept_at t.ledger.standing _ t.ledger.frontier c.groups (drop (t.ledger.frontier - t.ledger.top) t.ledger.groups) k g h.kept.ledger_kept.groups at in
+    let r = kept_at t.ledger.standing _ t.ledger.frontier c.groups (drop (t.ledger.frontier - t.ledger.greatest_seen) t.ledger.groups) k g h.kept.ledger_kept.groups at in
     subst (λ (z : ℕ). cell_now t.ledger (name_at (z + k + 1)) ≡ GroupPage (single_tag g.key (z + k + 1) z) g.body) (sym h.kept.ledger_kept.frontier)
     (ap (λ z. cell_of_entry (name_at (t.ledger.frontier + k + 1)) z t.ledger.frontier) (one_entry t k g r.0 h.valid.frontier.above r.1 r.2.page))

@@ -113,7 +113,7 @@ pub kept_begun : (c : Core) (t : Translation) (die : ℕ) (b : Book) (f : Flight
     IsFlight t.numbers c.pins die b.filling (Some f) (Some job) →
     ((reader : Reader) → flies_reader reader (Some job) ≡ false) →
     ((name : Name) → flies_name name (Some job) ≡ true → (name_flies t name ≡ false) × (t.ledger.standing name.number name.index ≡ None)) →
-    GroupsKept t.ledger.standing (name_flies (taken t die job)) t.ledger.frontier gs (drop (t.ledger.frontier - t.ledger.top) t.ledger.groups) →
+    GroupsKept t.ledger.standing (name_flies (taken t die job)) t.ledger.frontier gs (drop (t.ledger.frontier - t.ledger.greatest_seen) t.ledger.groups) →
     t.work.step ≡ step_kept m → some_flight (taken t die job) flies_mark ≡ is_mark_flying m →
     PinsKept t.ledger t.disk.cells (erasing_begun t.disk job) (reader_flies t) c.pins t.pins →
     Kept (started (record c { groups = gs; mark = m }) die b f) (taken t die job)

@@ -12,7 +12,7 @@ use Rattle.ufs_spec.specs.Disk.{Reader, Spot}
 use Rattle.ufs_spec.specs.Keys as keys
 use Rattle.ufs_spec.specs.Keys.{below}
 use Rattle.ufs_spec.specs.Ledger as ledger
-use Rattle.ufs_spec.specs.Openings.{AreLost, IsBlockState, IsFirst, IsMendingAt, IsOpenedLedger, IsOpenedTranslation, IsTop, StandsAt, first_lost, number_of}
+use Rattle.ufs_spec.specs.Openings.{AreLost, IsBlockState, IsFirst, IsMendingAt, IsOpenedLedger, IsOpenedTranslation, IsTop, StandsAt, lost_from, number_of}
 use Rattle.ufs_spec.specs.Translation as layer
 use Rattle.ufs_spec.specs.Translation.{Mended, Mending, Repairing, Translation, Unmarked, flies_name, is_bad, spots}
 use Rattle.ufs_spec.specs.declared.configs.Numbers.{Numbers}
@@ -188,27 +188,27 @@ groups_new standing flies n k gs none = subst (λ (hs : List keys.Group). Groups
     of_none : (m : ℕ) → GroupsKept standing flies n [] (drop m [])
     of_none m = subst (λ (hs : List keys.Group). GroupsKept standing flies n [] hs) (sym (drop_all m [] (omega arith))) tt
 
-latest_new : (l : ledger.Ledger) (k : Key) → l.groups ≡ [] → l.first k ≡ None → ledger.latest_durable l k ≡ None
+latest_new : (l : ledger.Ledger) (k : Key) → l.groups ≡ [] → l.first_page k ≡ None → ledger.latest_durable l k ≡ None
 latest_new l k none first =
-    (λ i. ledger.latest_in k l.top (taken_none i) (first i))
+    (λ i. ledger.latest_in k l.greatest_seen (taken_none i) (first i))
   where
-    taken_none : take (l.frontier - l.top) l.groups ≡ []
-    taken_none = ap (take (l.frontier - l.top)) none ∙ take_all (l.frontier - l.top) [] (omega arith)
+    taken_none : take (l.frontier - l.greatest_seen) l.groups ≡ []
+    taken_none = ap (take (l.frontier - l.greatest_seen)) none ∙ take_all (l.frontier - l.greatest_seen) [] (omega arith)
 
 ledger_new : (n : Numbers) (cells : Cells) (bad : List Bool) (l : ledger.Ledger) (flies : Name → Bool) → ((p : Place) → cells p ≡ Nothing) → l.newest ≡ None →
     IsOpenedLedger n cells l → LedgerKept (fresh n bad) l flies
 ledger_new n cells bad l flies blank unmarked_yet o =
-    let top = no_top cells blank l.top (subst (λ (x : Option Mark). IsTop cells x l.top) unmarked_yet o.top) in
+    let top = no_top cells blank l.greatest_seen (subst (λ (x : Option Mark). IsTop cells x l.greatest_seen) unmarked_yet o.greatest_seen) in
     record {
       frontier = sym (o.frontier ∙ top);
       repairs = o.none_repaired;
-      groups = groups_new l.standing flies l.frontier (l.frontier - l.top) l.groups o.none_new;
+      groups = groups_new l.standing flies l.frontier (l.frontier - l.greatest_seen) l.groups o.none_new;
       not_standing = λ name h. none_stands cells blank name (l.standing name.number name.index) (o.standing name.number name.index);
       addresses = length-replicate _ None;
       places = λ k key kind.
           stored_new l.standing (stored_of (fresh n bad) k) (ledger.latest_durable l k)
           (nowhere (fresh n bad).places (position_of n k) (λ p x at. all_of_one _ None p x at))
-          (latest_new l k o.none_new (none_first cells blank l.newest o.kept k (l.first k) (o.first k key)));
+          (latest_new l k o.none_new (none_first cells blank l.newest o.kept k (l.first_page k) (o.first_page k key)));
     }
 
 work_new : (c : Core) (w : layer.Work) (cells : Cells) (low top kept marks : ℕ) (flies : Bool) → ((p : Place) → cells p ≡ Nothing) →
@@ -238,9 +238,9 @@ pub opens_right : (n : Numbers) (cells : Cells) (bad : Spot → Bool) (t : Trans
 opens_right n cells bad t pages blank opened =
     let l = opened.ledger in
     let none = no_newest cells blank t.ledger.newest l.newest in
-    let top = no_top cells blank t.ledger.top (subst (λ (x : Option Mark). IsTop cells x t.ledger.top) none l.top) in
-    let mending = subst (λ (x : Option Mark). IsMendingAt cells x t.ledger.low t.ledger.top t.work.mending) none opened.mending in
-    let low : t.ledger.low ≡ suc l.kept = l.low ∙ ap (λ (x : Option Mark). first_lost (fence_in x) l.kept) none in
+    let top = no_top cells blank t.ledger.greatest_seen (subst (λ (x : Option Mark). IsTop cells x t.ledger.greatest_seen) none l.greatest_seen) in
+    let mending = subst (λ (x : Option Mark). IsMendingAt cells x t.ledger.first_lost t.ledger.greatest_seen t.work.mending) none opened.mending in
+    let low : t.ledger.first_lost ≡ suc l.kept = l.first_lost ∙ ap (λ (x : Option Mark). lost_from (fence_in x) l.kept) none in
     let marks : t.ledger.marks ≡ 0 = l.marks ∙ ap number_of none in
     let filling = λ (s : Spot) (next : ℕ) (e : t.disk.blocks s ≡ disk.Filling next). no_filling cells bad s (t.disk.blocks s) next (opened.disk.blocks s) e in
     record {
@@ -253,7 +253,7 @@ opens_right n cells bad t pages blank opened =
         dies = dies_new n t.numbers t.disk.blocks t.disk.flights (sym opened.numbers) opened.disk.idle filling;
         ledger_kept = ledger_new n cells (map bad (spots n)) t.ledger (name_flies t) blank none l;
         work =
-            work_new (fresh n (map bad (spots n))) t.work cells t.ledger.low t.ledger.top l.kept t.ledger.marks (layer.some_flight t layer.flies_mark) blank
+            work_new (fresh n (map bad (spots n))) t.work cells t.ledger.first_lost t.ledger.greatest_seen l.kept t.ledger.marks (layer.some_flight t layer.flies_mark) blank
             refl refl refl top low mending opened.no_step opened.no_plan opened.no_rests marks no_mark_flies;
         claims = sym opened.no_claims;
         pins = pins_new t.ledger t.disk.cells t.disk.erasing (reader_flies t) t.pins opened.no_pins;

@@ -30,7 +30,7 @@ recorded_low t die p tag body v flies = ways t.work.mending v.mending
     ways Mended m = subst (λ (o : Option Mark). recorded_in o ≤ t.ledger.frontier) (sym m.is) m.right.within
 
 -- above what the newest mark records, the page of each name that stands is read
-pub readable_above : (t : Translation) (from : ℕ) → Valid t → recorded_in t.ledger.newest ≤ from → t.ledger.top ≤ from →
+pub readable_above : (t : Translation) (from : ℕ) → Valid t → recorded_in t.ledger.newest ≤ from → t.ledger.greatest_seen ≤ from →
     AreReadable t.ledger t.disk.cells t.disk.erasing from
 readable_above t from v recorded top name e q above is stands = ⊎_elim
     secure
@@ -55,9 +55,9 @@ readable_above t from v recorded top name e q above is stands = ⊎_elim
 pub are_keys : (t : Translation) → Valid t → AreKeys t.numbers t.ledger
 are_keys t v j i g x at item =
     let e : Entry = record { item = x; size = length g } in
-    v.book_right.keys (suc (t.ledger.top + j)) i e
-    (new_page (book t) (suc (t.ledger.top + j)) i e (omega arith)
-    (record { group = g; is = subst (λ (m : ℕ). slice_get t.ledger.groups m ≡ Some g) (position t.ledger.top j) at; item = item; size = refl }))
+    v.book_right.keys (suc (t.ledger.greatest_seen + j)) i e
+    (new_page (book t) (suc (t.ledger.greatest_seen + j)) i e (omega arith)
+    (record { group = g; is = subst (λ (m : ℕ). slice_get t.ledger.groups m ≡ Some g) (position t.ledger.greatest_seen j) at; item = item; size = refl }))
   where
     position : (a b : ℕ) → b ≡ suc (a + b) - a - 1
     position a b = omega arith

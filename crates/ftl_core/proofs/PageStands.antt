@@ -99,7 +99,7 @@ pub ledger_written : (c : Core) (l : Ledger) (flies now : Name → Bool) (states
 ledger_written c l flies now states books name p j g h is flown at same ended = record {
   frontier = h.frontier;
   repairs = h.repairs;
-  groups = groups_put l.standing (at_name l.standing name (Some p)) flies now (group.Written p) l.frontier j c.groups (drop (l.frontier - l.top) l.groups) g
+  groups = groups_put l.standing (at_name l.standing name (Some p)) flies now (group.Written p) l.frontier j c.groups (drop (l.frontier - l.greatest_seen) l.groups) g
       (λ m e. at_other l.standing name (name_at m) p (away m e))
       (λ m e. same (name_at m) (away m e))
       (at_here l.standing name (name_at (suc (l.frontier + j))) p (sym is))

@@ -68,7 +68,7 @@ flown_pending c t die b o tag body h f =
     let to = page_within (book t) tag.number tag.index _ known in
     let low = h.valid.frontier.above in
     let long = groups_length t.ledger.standing (name_flies t) t.ledger.frontier c.groups _ h.kept.ledger_kept.groups in
-    let behind = length-drop (t.ledger.frontier - t.ledger.top) t.ledger.groups in
+    let behind = length-drop (t.ledger.frontier - t.ledger.greatest_seen) t.ledger.groups in
     let within = h.valid.frontier.within in
     is_pending c tag.number (omega (arith, frontier, up)) (omega (arith, frontier, to, low, long, behind, within))
   where

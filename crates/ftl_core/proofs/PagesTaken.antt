@@ -144,7 +144,7 @@ group_taken c t die b k g (Some o) h there idle no_step w first at waits is =
   where
     page : group_job c (next_place die o) k (slice_get c.groups k) ≡ Some (page_of_group c (next_place die o) k g)
     page =
-        let r = kept_at t.ledger.standing (name_flies t) t.ledger.frontier c.groups (drop (t.ledger.frontier - t.ledger.top) t.ledger.groups) k g h.kept.ledger_kept.groups at in
+        let r = kept_at t.ledger.standing (name_flies t) t.ledger.frontier c.groups (drop (t.ledger.frontier - t.ledger.greatest_seen) t.ledger.groups) k g h.kept.ledger_kept.groups at in
         ap (group_job c (next_place die o) k) at ∙ if_true (is_data g) (Some (page_of_group c (next_place die o) k g)) None r.2.data_page
 
 -- no mark waits

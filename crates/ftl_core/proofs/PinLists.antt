@@ -378,7 +378,7 @@ kept_after c t books pins flights qs k names mark dies kept differ = record {
   ledger_kept = record {
     frontier = k.ledger_kept.frontier;
     repairs = k.ledger_kept.repairs;
-    groups = subst (λ (f : Name → Bool). GroupsKept t.ledger.standing f t.ledger.frontier c.groups (drop (t.ledger.frontier - t.ledger.top) t.ledger.groups))
+    groups = subst (λ (f : Name → Bool). GroupsKept t.ledger.standing f t.ledger.frontier c.groups (drop (t.ledger.frontier - t.ledger.greatest_seen) t.ledger.groups))
         (λ i name. sym (names name) i) k.ledger_kept.groups;
     not_standing = λ name f. k.ledger_kept.not_standing name (sym (names name) ∙ f);
     addresses = k.ledger_kept.addresses;

@@ -8,7 +8,7 @@ use Rattle.ufs_spec.specs.Disk as disk
 use Rattle.ufs_spec.specs.Disk.{ForNobody, ForRest, ForStep, ForTask, Reader, Spot, at_die}
 use Rattle.ufs_spec.specs.Keys.{below}
 use Rattle.ufs_spec.specs.Ledger.{Name}
-use Rattle.ufs_spec.specs.Moves.{End, Ending, IsAnother, IsEndingOf, ReadRight, ReadWrong, WentWell, WentWrong, end_flight, moved, with_wanted}
+use Rattle.ufs_spec.specs.Moves.{EndJob, Ending, IsAnother, IsEndingOf, ReadRight, ReadWrong, WentWell, WentWrong, end_flight, moved, with_wanted}
 use Rattle.ufs_spec.specs.Translation as layer
 use Rattle.ufs_spec.specs.Translation.{Translation, flies_mark, flies_name, flies_reader, same_reader}
 use Rattle.ufs_spec.specs.declared.configs.Numbers.{Numbers}
@@ -221,7 +221,7 @@ nobody_ended t die p ending h =
 pub read_ended : (c : Core) (t : Translation) (die : ℕ) (b : Book) (place : Place) (reader : ℕ) (who : Reader) (p : Place) (o : Outcome) (ending : Ending) → Describes c t →
     slice_get c.books die ≡ Some b → b.flight ≡ Some (flight.Read place reader) → t.disk.flights die ≡ Some (disk.Reading who p) →
     IsEndingOf t.disk.cells (t.disk.flights die) o ending →
-    (is_read o ≡ true) × Kept (read_after c die b place reader true) (moved t (End die ending))
+    (is_read o ≡ true) × Kept (read_after c die b place reader true) (moved t (EndJob die ending))
 read_ended c t die b place reader who p o ending h there job flies is = (
   ends.0,
   subst (λ (f : Option disk.Flight). Kept (read_after c die b place reader true) (end_flight t die f ending)) (sym flies) (⊎_elim for_task for_nobody (who_cases c.pins reader place who told.2)),

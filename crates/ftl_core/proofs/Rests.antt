@@ -14,7 +14,7 @@ use Rattle.ufs_spec.specs.Keys.{below}
 use Rattle.ufs_spec.specs.Ledger as ledger
 use Rattle.ufs_spec.specs.Ledger.{Ledger, Name}
 use Rattle.ufs_spec.specs.Moves as moves
-use Rattle.ufs_spec.specs.Moves.{Claim, LetGo, LetGoAll, Release, Turn, WantPage, is_for, is_for_task, moved, with_wanted, without_reader}
+use Rattle.ufs_spec.specs.Moves.{Claim, LetGo, LetGoAll, Release, TakeStep, WantPage, is_for, is_for_task, moved, with_wanted, without_reader}
 use Rattle.ufs_spec.specs.Translation as layer
 use Rattle.ufs_spec.specs.Translation.{Mending, Translation, due_order, is_bad, is_step_due, spots}
 use Rattle.ufs_spec.specs.declared.flash.Key.{Key}
@@ -58,11 +58,11 @@ lock_same a b x y most e f = (λ i. e i || numbers i)
     numbers = grind (arith, nat_tests)
 
 -- the numbers behind the frontier are those of the groups that are kept
-last_same : (c : Core) (t : Translation) → Describes c t → c.frontier + length c.groups ≡ t.ledger.top + length t.ledger.groups
+last_same : (c : Core) (t : Translation) → Describes c t → c.frontier + length c.groups ≡ t.ledger.greatest_seen + length t.ledger.groups
 last_same c t h =
     let l = h.kept.ledger_kept in
-    let long = same_length t.ledger.standing (name_flies t) t.ledger.frontier c.groups (drop (t.ledger.frontier - t.ledger.top) t.ledger.groups) l.groups in
-    let rest = length-drop (t.ledger.frontier - t.ledger.top) t.ledger.groups in
+    let long = same_length t.ledger.standing (name_flies t) t.ledger.frontier c.groups (drop (t.ledger.frontier - t.ledger.greatest_seen) t.ledger.groups) l.groups in
+    let rest = length-drop (t.ledger.frontier - t.ledger.greatest_seen) t.ledger.groups in
     let above = h.valid.frontier.above in
     let within = h.valid.frontier.within in
     let same = l.frontier in
@@ -86,8 +86,8 @@ none_repaired top frontier repairs gs e = (λ i. drop (frontier - before i) (res
 pub slots_right : (c : Core) (t : Translation) → Describes c t → free_slots c ≡ layer.free_slots t
 slots_right c t h =
     let l = h.kept.ledger_kept in
-    let pages = one_page_each t.ledger.standing (name_flies t) t.ledger.frontier c.groups (drop (t.ledger.frontier - t.ledger.top) t.ledger.groups) l.groups in
-    let none = none_repaired t.ledger.top t.ledger.frontier t.ledger.repairs t.ledger.groups l.repairs in
+    let pages = one_page_each t.ledger.standing (name_flies t) t.ledger.frontier c.groups (drop (t.ledger.frontier - t.ledger.greatest_seen) t.ledger.groups) l.groups in
+    let none = none_repaired t.ledger.greatest_seen t.ledger.frontier t.ledger.repairs t.ledger.groups l.repairs in
     let pending = pages ∙ ap (λ (gs : List keys.Group). sum_by (λ (g : keys.Group). length g) gs) none in
     (λ i. (h.kept.numbers i).slots - pending i - h.kept.claims i)
 
@@ -110,7 +110,7 @@ kept_on c t reader k = record {
   ledger_kept = record {
     frontier = k.ledger_kept.frontier;
     repairs = k.ledger_kept.repairs;
-    groups = subst (λ (flies : Name → Bool). GroupsKept t.ledger.standing flies t.ledger.frontier c.groups (drop (t.ledger.frontier - t.ledger.top) t.ledger.groups)) (sym names) k.ledger_kept.groups;
+    groups = subst (λ (flies : Name → Bool). GroupsKept t.ledger.standing flies t.ledger.frontier c.groups (drop (t.ledger.frontier - t.ledger.greatest_seen) t.ledger.groups)) (sym names) k.ledger_kept.groups;
     not_standing = λ name flies. k.ledger_kept.not_standing name (sym (λ i. names i name) ∙ flies);
     addresses = k.ledger_kept.addresses;
     places = k.ledger_kept.places;
@@ -338,7 +338,7 @@ none_due : (o : Option layer.Order) → is_some o ≡ false → o ≡ None
 none_due None e = refl
 none_due (Some x) e = cc
 
-turned_by : (c : Core) (t : Translation) → Describes c t → (due : Bool) → is_turn_due c ≡ due → Kept (if due then mark_ordered c else c) (moved t Turn)
+turned_by : (c : Core) (t : Translation) → Describes c t → (due : Bool) → is_turn_due c ≡ due → Kept (if due then mark_ordered c else c) (moved t TakeStep)
 turned_by c t h false e =
     let none = none_due (due_order t) (sym (turns_due c t h) ∙ e) in
     subst (λ (o : Option layer.Order). Kept c (layer.stepped t o)) (sym none) h.kept
@@ -350,5 +350,5 @@ turned_by c t h true e =
     (subst (λ (b : Bool). Kept (if b then record c { mark = mark.Waiting c.next_mark; next_mark = c.next_mark + 1 } else record c { mark = mark.Idle }) (layer.mark_ordered t None))
     (sym due.left) (mark_waits c t c.next_mark (t.ledger.marks + 1) h.kept due.idle same))
 
-pub turns_right : (c : Core) (t : Translation) → Describes c t → Describes (if is_turn_due c then mark_ordered c else c) (moved t Turn)
-turns_right c t h = record { valid = all_keep t Turn h.valid tt; kept = turned_by c t h (is_turn_due c) refl }
+pub turns_right : (c : Core) (t : Translation) → Describes c t → Describes (if is_turn_due c then mark_ordered c else c) (moved t TakeStep)
+turns_right c t h = record { valid = all_keep t TakeStep h.valid tt; kept = turned_by c t h (is_turn_due c) refl }

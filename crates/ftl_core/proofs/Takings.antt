@@ -4,7 +4,7 @@ use Rattle.std.specs.Prelude.{◌&&◌, Contains, nat_lt, slice_get, option_map}
 use Rattle.std.proofs.lemmas.Option.{slice_get_cases, slice_get_within}
 use Rattle.ufs_spec.specs.Disk as disk
 use Rattle.ufs_spec.specs.Disk.{ForTask, job_of}
-use Rattle.ufs_spec.specs.Moves.{Take}
+use Rattle.ufs_spec.specs.Moves.{GiveJob}
 use Rattle.ufs_spec.specs.Translation.{MayTake, Translation, Want, next_flight, want_at, wants_on, is_idle}
 use Rattle.ufs_spec.specs.declared.configs.Numbers.{Numbers}
 use Rattle.ufs_spec.specs.declared.flash.Job.{Job}
@@ -101,7 +101,7 @@ next_is c t die told after None h idle none next shown kept =
     record { job = None; right = inr (none, next); shown = shown; describes = record { valid = h.valid; kept = kept } }
 next_is c t die told after (Some f) h idle none next shown kept =
     let may = next_may t die f idle none next in
-    record { job = Some f; right = may; shown = shown; describes = record { valid = all_keep t (Take die f) h.valid may; kept = kept } }
+    record { job = Some f; right = may; shown = shown; describes = record { valid = all_keep t (GiveJob die f) h.valid may; kept = kept } }
 
 -- a read that is owed, and what waits where none is
 owed_is : (c : Core) (t : Translation) (die : ℕ) (b : Book) (k : Option ℕ) → Describes c t → slice_get c.books die ≡ Some b → b.flight ≡ None →
@@ -117,7 +117,7 @@ owed_is c t die b (Some k) h there idle free owed =
       job = Some (disk.Reading (ForTask r.reader 0) r.place);
       right = may;
       shown = r.job;
-      describes = record { valid = all_keep t (Take die (disk.Reading (ForTask r.reader 0) r.place)) h.valid may; kept = r.kept };
+      describes = record { valid = all_keep t (GiveJob die (disk.Reading (ForTask r.reader 0) r.place)) h.valid may; kept = r.kept };
     }
 
 -- nothing to a die that has a job

@@ -9,7 +9,7 @@ use Rattle.ufs_spec.specs.Keys as keys
 use Rattle.ufs_spec.specs.Keys.{IsKey}
 use Rattle.ufs_spec.specs.Ledger as ledger
 use Rattle.ufs_spec.specs.Ledger.{Entry, InSlot, Ledger, Name, OnPage, Unwritten, entry_of, latest_durable}
-use Rattle.ufs_spec.specs.Moves.{Ending, ReadRight, ReadWrong, Take, moved}
+use Rattle.ufs_spec.specs.Moves.{Ending, ReadRight, ReadWrong, GiveJob, moved}
 use Rattle.ufs_spec.specs.Plain.{shape_of_numbers}
 use Rattle.ufs_spec.specs.Translation as layer
 use Rattle.ufs_spec.specs.Translation.{MarkStep, MayTake, Mended, Mending, Step, Translation, Unmarked, Work, flies_mark, flies_name, flies_reader, is_bad, name_of, some_flight, spots}
@@ -141,7 +141,7 @@ IsStored standing s name = ⊥
 pub record LedgerKept (c : Core) (l : Ledger) (flies : Name → Bool) : Type 0 where
   pub frontier : c.frontier ≡ l.frontier
   pub repairs : l.repairs ≡ 0
-  pub groups : GroupsKept l.standing flies l.frontier c.groups (drop (l.frontier - l.top) l.groups)
+  pub groups : GroupsKept l.standing flies l.frontier c.groups (drop (l.frontier - l.greatest_seen) l.groups)
   -- the page of a name in flight does not stand yet
   pub not_standing : (name : Name) → flies name ≡ true → l.standing name.number name.index ≡ None
   pub addresses : length c.places ≡ sum_by (λ (u : UnitSpec). u.blocks) c.numbers.units.items
@@ -249,7 +249,7 @@ pub record Describes (c : Core) (t : Translation) : Type 0 where
 -- the layer once the die was given the job, if it was given one
 abbrev pub given : Translation → ℕ → Option disk.Flight → Translation
 given t die None = t
-given t die (Some job) = moved t (Take die job)
+given t die (Some job) = moved t (GiveJob die job)
 
 -- the job is one that is owed to the die, or none where none is, and what is kept then describes what that makes of the layer
 pub record IsTaken (t : Translation) (die : ℕ) (told : Option Job) (after : Core) : Type 0 where

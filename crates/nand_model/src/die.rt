@@ -1,6 +1,6 @@
 //! What the device asks of a flash die.
 ghost use Rattle.std.specs.Prelude.{◌≡◌, ℕ, ◌<◌, ◌≤◌, length, OnOk, OnErr};
-ghost use Rattle.ufs_spec.specs.Dies.{DieState, IsOfSize, HasPage, CanProgram, CanErase, page_at, is_bad_block, programmed, erased, IsFailedProgram, IsFailedErase};
+ghost use Rattle.ufs_spec.specs.Dies.{DieState, IsOfSize, LiesOnDie, CanProgram, CanErase, page_at, is_bad_block, die_programmed, die_erased, IsFailedProgram, IsFailedErase};
 
 use thiserror::Error;
 use ufs_spec::Page;
@@ -30,7 +30,7 @@ pub trait Die {
 
     /// Reads a page, of a bad block too. After an `Err` the die is as before, and `into` may hold anything.
     fn read(&mut self, block: u16, page: u16, into: &mut Page) -> Result<(), DieFault>
-        requires { HasPage (state self.old) block page }
+        requires { LiesOnDie (state self.old) block page }
         ensures same { state self.new ≡ state self.old }
         ensures found { OnOk result (into.new ≡ page_at (state self.old) block page) }
         ensures counted_ok { OnOk result (failed self.old ≤ failed self.new) }
@@ -40,7 +40,7 @@ pub trait Die {
     /// content or bytes whose check does not match, and the block is bad.
     fn program(&mut self, block: u16, page: u16, content: &Page) -> Result<(), DieFault>
         requires { CanProgram (state self.old) block page }
-        ensures done { OnOk result (state self.new ≡ programmed (state self.old) block page content.now) }
+        ensures done { OnOk result (state self.new ≡ die_programmed (state self.old) block page content.now) }
         ensures left { OnErr result (IsFailedProgram (state self.old) block page content.now (state self.new)) }
         ensures counted_ok { OnOk result (failed self.old ≤ failed self.new) }
         ensures counted_err { OnErr result (failed self.old < failed self.new) };
@@ -49,7 +49,7 @@ pub trait Die {
     /// held, FFh alone or bytes whose check does not match, and the block is bad.
     fn erase(&mut self, block: u16) -> Result<(), DieFault>
         requires { CanErase (state self.old) block }
-        ensures done { OnOk result (state self.new ≡ erased (state self.old) block) }
+        ensures done { OnOk result (state self.new ≡ die_erased (state self.old) block) }
         ensures left { OnErr result (IsFailedErase (state self.old) block (state self.new)) }
         ensures counted_ok { OnOk result (failed self.old ≤ failed self.new) }
         ensures counted_err { OnErr result (failed self.old < failed self.new) };

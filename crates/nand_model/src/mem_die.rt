@@ -1,6 +1,6 @@
 //! A die whose pages are kept in memory.
 ghost use Rattle.std.specs.Prelude.{◌≡◌, ◌<◌, ◌↔◌, IfOk, IsOk, IsTrue, length, replicate, slice_set, slice_index_or};
-ghost use Rattle.ufs_spec.specs.Dies.{DieState, HasPage, CanProgram, CanErase, CanDo, page_at, is_bad_block, with_page, with_bad, programmed, erased, power_cycle_ended, blank_page, IsNewDie, IsOfSize};
+ghost use Rattle.ufs_spec.specs.Dies.{DieState, LiesOnDie, CanProgram, CanErase, CanDo, page_at, is_bad_block, with_page, with_bad, die_programmed, die_erased, power_cycle_ended, blank_page, IsNewDie, IsOfSize};
 
 use crate::die::{Die, DieFault};
 use std::alloc::Global;
@@ -123,7 +123,7 @@ impl MemDie {
 
     /// What the page holds.
     pub fn page_at(&self, block: u16, page: u16) -> &Page
-        requires { HasPage self.now block page }
+        requires { LiesOnDie self.now block page }
         ensures { result.now ≡ page_at self.now block page }
     {
         self.blocks[block as usize].page(page as usize)
@@ -131,7 +131,7 @@ impl MemDie {
 
     /// Writes the page, as a stop, a failure or an image leaves it. All else stays.
     pub fn set_page(&mut self, block: u16, page: u16, left: &Page)
-        requires { HasPage self.old block page }
+        requires { LiesOnDie self.old block page }
         ensures { self.new ≡ with_page self.old block page left.now }
     {
         self.blocks[block as usize].set_page(page as usize, left);
@@ -154,7 +154,7 @@ impl MemDie {
     }
 
     fn has_page(&self, block: u16, page: u16) -> bool
-        ensures { IsTrue result ↔ HasPage self.now block page }
+        ensures { IsTrue result ↔ LiesOnDie self.now block page }
     {
         (block as usize) < self.blocks.len() && page < self.pages()
     }
@@ -195,7 +195,7 @@ impl Die for MemDie {
     }
 
     fn read(&mut self, block: u16, page: u16, into: &mut Page) -> Result<(), DieFault>
-        requires { HasPage self.old block page }
+        requires { LiesOnDie self.old block page }
         ensures never_fails { IsOk result }
         ensures same { self.new ≡ self.old }
         ensures found { into.new ≡ page_at self.old block page }
@@ -207,7 +207,7 @@ impl Die for MemDie {
     fn program(&mut self, block: u16, page: u16, content: &Page) -> Result<(), DieFault>
         requires { CanProgram self.old block page }
         ensures never_fails { IsOk result }
-        ensures done { self.new ≡ programmed self.old block page content.now }
+        ensures done { self.new ≡ die_programmed self.old block page content.now }
     {
         self.blocks[block as usize].set_page(page as usize, content);
         self.ready[block as usize] = Some(page + 1);
@@ -217,7 +217,7 @@ impl Die for MemDie {
     fn erase(&mut self, block: u16) -> Result<(), DieFault>
         requires { CanErase self.old block }
         ensures never_fails { IsOk result }
-        ensures done { self.new ≡ erased self.old block }
+        ensures done { self.new ≡ die_erased self.old block }
     {
         self.blocks[block as usize].erase();
         self.ready[block as usize] = Some(0);

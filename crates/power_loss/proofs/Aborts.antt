@@ -6,7 +6,7 @@ use Rattle.ufs_spec.specs.Exchanges.{Task, is_task_of}
 use Rattle.ufs_spec.specs.Machine.{abort_moves, is_aborted, managed, registers_behind, service, with_moves, without_tasks}
 use Rattle.ufs_spec.specs.Moves.{LetGoAll, Release}
 use Rattle.ufs_spec.specs.Plain.{shape_of_numbers}
-use Rattle.ufs_spec.specs.Steps.{State, numbers_of}
+use Rattle.ufs_spec.specs.Refusals.{State, numbers_of}
 use Rattle.ufs_spec.specs.Translation.{is_mended}
 use Rattle.power_loss.specs.Exchange.{IsTied, claim_of, claims_of}
 use Rattle.power_loss.proofs.HostCommands.{IsFree}

@@ -2,7 +2,7 @@
 use Rattle.std.proofs.Common.{◌≡◌, ℕ, Option, Some, None, refl}
 use Rattle.ufs_spec.specs.Cells.{GroupPage, MarkPage, Nothing}
 use Rattle.ufs_spec.specs.Disk.{Erasing, Flight, Programming, Reading}
-use Rattle.ufs_spec.specs.Moves.{Accept, Claim, End, Ending, IsAllowedMove, Keep, LetGo, LetGoAll, MayEnd, Move, ReadRight, ReadWrong, Release, Take, Tell, Turn, WantPage, WentWell, WentWrong, end_flight, moved}
+use Rattle.ufs_spec.specs.Moves.{Accept, Claim, EndJob, Ending, IsAllowedMove, Keep, LetGo, LetGoAll, MayEnd, Move, ReadRight, ReadWrong, Release, GiveJob, Acknowledge, TakeStep, WantPage, WentWell, WentWrong, end_flight, moved}
 use Rattle.ufs_spec.specs.Translation.{MayTake, Translation, taken}
 use Rattle.power_loss.specs.Invariant.{Valid}
 use Rattle.power_loss.proofs.Accepts.{accepts}
@@ -43,11 +43,11 @@ pub all_keep : (t : Translation) (move : Move) → Valid t → IsAllowedMove t m
 all_keep t (Claim count) v may = claims t count may v
 all_keep t (Release count) v may = releases t count v
 all_keep t (Accept claimed g) v may = accepts t claimed g v may
-all_keep t (Tell count) v may = tells t count v may
+all_keep t (Acknowledge count) v may = tells t count v may
 all_keep t (Keep key pin) v may = keeps t key pin may.0 may.1 v
 all_keep t (WantPage tag index) v may = wants_page t tag index v
 all_keep t (LetGo tag index) v may = lets_go t tag index v
 all_keep t (LetGoAll tag) v may = lets_go_all t tag v
-all_keep t (Take die flight) v may = takes t die flight v may
-all_keep t (End die ending) v may = ends t die (t.disk.flights die) ending v refl may
-all_keep t Turn v may = turns t v
+all_keep t (GiveJob die flight) v may = takes t die flight v may
+all_keep t (EndJob die ending) v may = ends t die (t.disk.flights die) ending v refl may
+all_keep t TakeStep v may = turns t v

@@ -13,10 +13,10 @@ use Rattle.ufs_spec.specs.Keys.{content}
 use Rattle.ufs_spec.specs.Kept.{HoldAll, IsKept, IsNewestMark, StandsFor, fence_in}
 use Rattle.ufs_spec.specs.Ledger.{Ledger}
 use Rattle.ufs_spec.specs.Lives.{IsOpened}
-use Rattle.ufs_spec.specs.Openings.{IsOpenedDisk, IsOpenedLedger, IsOpenedTranslation, IsTop, first_lost, number_of}
+use Rattle.ufs_spec.specs.Openings.{IsOpenedDisk, IsOpenedLedger, IsOpenedTranslation, IsTop, lost_from, number_of}
 use Rattle.ufs_spec.specs.Plain.{Plain}
 use Rattle.ufs_spec.specs.Sound.{CellsSound, CellsSuit, Sound, Suits}
-use Rattle.ufs_spec.specs.Steps.{State}
+use Rattle.ufs_spec.specs.Refusals.{State}
 use Rattle.ufs_spec.specs.Translation.{Translation}
 use Rattle.ufs_spec.specs.declared.configs.Numbers.{Numbers}
 use Rattle.ufs_spec.specs.declared.flash.Fence.{Fence}
@@ -37,12 +37,12 @@ module _ (n : Numbers) (c : Cells) (within : AreWithin n c) (bad : Spot → Bool
   last_is = (some_top n c within m).1
 
   low : ℕ
-  low = first_lost (fence_in m) kept
+  low = lost_from (fence_in m) kept
 
   wide : (f : Fence) → fence_in m ≡ Some f → low ≤ last
   unfolding low
   wide f e =
-      let first : low ≡ f.first = ap (λ (x : Option Fence). first_lost x kept) e in
+      let first : low ≡ f.first = ap (λ (x : Option Fence). lost_from x kept) e in
       let a = ordered f e in
       let b = last_is.0.fence f e in
       omega arith
@@ -59,11 +59,11 @@ module _ (n : Numbers) (c : Cells) (within : AreWithin n c) (bad : Spot → Bool
   ledger : Ledger
   ledger = record {
     base = content base;
-    old = λ number index. (is_entry n c within (record { number = number; index = index })).0;
-    first = λ k. (first_of n c within m kept k (holds n c within m (suc kept) k).0
+    entries_before = λ number index. (is_entry n c within (record { number = number; index = index })).0;
+    first_page = λ k. (first_of n c within m kept k (holds n c within m (suc kept) k).0
         (holds n c within m (suc kept) k).1).0;
-    top = last;
-    low = low;
+    greatest_seen = last;
+    first_lost = low;
     groups = [];
     repairs = 0;
     standing = λ number index. (stands_at n c within (record { number = number; index = index })).0;
@@ -100,11 +100,11 @@ module _ (n : Numbers) (c : Cells) (within : AreWithin n c) (bad : Spot → Bool
     kept = kept;
     is_kept = is_kept;
     holds = holds_base;
-    top = last_is;
-    low = refl;
-    old = λ number index. (is_entry n c within (record { number = number; index = index })).1;
+    greatest_seen = last_is;
+    first_lost = refl;
+    entries_before = λ number index. (is_entry n c within (record { number = number; index = index })).1;
     standing = λ number index. (stands_at n c within (record { number = number; index = index })).1;
-    first = λ k key. (first_of n c within m kept k (holds n c within m (suc kept) k).0
+    first_page = λ k key. (first_of n c within m kept k (holds n c within m (suc kept) k).0
         (holds n c within m (suc kept) k).1).1;
     none_new = refl;
     none_repaired = refl;

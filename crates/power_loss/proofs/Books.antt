@@ -73,27 +73,27 @@ found_from : (groups : List Group) (j i : ℕ) (e : Entry) → IsNewPage groups 
 found_from groups j i e p = ap (option_and_then (λ g. entry_in g i)) p.is ∙ entry_from p.group i e p.item p.size
 
 -- a page of an earlier life
-pub page_old : (b : Book) (n i : ℕ) → n ≤ b.top → page_at b (record { number = n; index = i }) ≡ b.old n i
-page_old b n i l = rw (le-leb n b.top l)
+pub page_old : (b : Book) (n i : ℕ) → n ≤ b.greatest_seen → page_at b (record { number = n; index = i }) ≡ b.entries_before n i
+page_old b n i l = rw (le-leb n b.greatest_seen l)
 
-later : (b : Book) (n i : ℕ) → b.top < n →
-    page_at b (record { number = n; index = i }) ≡ option_and_then (λ g. entry_in g i) (slice_get b.groups (n - b.top - 1))
-later b n i l = rw (above n b.top l)
+later : (b : Book) (n i : ℕ) → b.greatest_seen < n →
+    page_at b (record { number = n; index = i }) ≡ option_and_then (λ g. entry_in g i) (slice_get b.groups (n - b.greatest_seen - 1))
+later b n i l = rw (above n b.greatest_seen l)
   where
     above : (n top : ℕ) → top < n → nat_le n top ≡ false
     above n top l = ⊎_elim (λ h. absurd (omega (arith, h.1))) (λ h. h.0) (leb_tells n top)
 
-pub old_page : (b : Book) (n i : ℕ) (e : Entry) → n ≤ b.top → b.old n i ≡ Some e → IsPageAt b n i e
+pub old_page : (b : Book) (n i : ℕ) (e : Entry) → n ≤ b.greatest_seen → b.entries_before n i ≡ Some e → IsPageAt b n i e
 old_page b n i e l h = page_old b n i l ∙ h
 
-pub is_old : (b : Book) (n i : ℕ) (e : Entry) → n ≤ b.top → IsPageAt b n i e → b.old n i ≡ Some e
+pub is_old : (b : Book) (n i : ℕ) (e : Entry) → n ≤ b.greatest_seen → IsPageAt b n i e → b.entries_before n i ≡ Some e
 is_old b n i e l h = sym (page_old b n i l) ∙ h
 
-pub page_new : (b : Book) (n i : ℕ) (e : Entry) → b.top < n → IsPageAt b n i e → IsNewPage b.groups (n - b.top - 1) i e
-page_new b n i e l h = found_told b.groups (n - b.top - 1) i (slice_get b.groups (n - b.top - 1)) e refl (sym (later b n i l) ∙ h)
+pub page_new : (b : Book) (n i : ℕ) (e : Entry) → b.greatest_seen < n → IsPageAt b n i e → IsNewPage b.groups (n - b.greatest_seen - 1) i e
+page_new b n i e l h = found_told b.groups (n - b.greatest_seen - 1) i (slice_get b.groups (n - b.greatest_seen - 1)) e refl (sym (later b n i l) ∙ h)
 
-pub new_page : (b : Book) (n i : ℕ) (e : Entry) → b.top < n → IsNewPage b.groups (n - b.top - 1) i e → IsPageAt b n i e
-new_page b n i e l p = later b n i l ∙ found_from b.groups (n - b.top - 1) i e p
+pub new_page : (b : Book) (n i : ℕ) (e : Entry) → b.greatest_seen < n → IsNewPage b.groups (n - b.greatest_seen - 1) i e → IsPageAt b n i e
+new_page b n i e l p = later b n i l ∙ found_from b.groups (n - b.greatest_seen - 1) i e p
 
 -- two entries of one name are equal
 pub page_one : (b : Book) (n i : ℕ) (e f : Entry) → IsPageAt b n i e → IsPageAt b n i f → e ≡ f
@@ -104,7 +104,7 @@ pub page_same : (b : Book) (n i m j : ℕ) (e : Entry) → n ≡ m → i ≡ j �
 page_same b n i m j e x y h = subst (λ (z : ℕ × ℕ). IsPageAt b z.0 z.1 e) (λ q. (x q, y q)) h
 
 pub page_within : (b : Book) (n i : ℕ) (e : Entry) → IsPageAt b n i e → n ≤ last_number b
-page_within b n i e h = ⊎_elim (λ l. omega arith) (λ l. let p = page_new b n i e l h in let w = slice_get_within b.groups (n - b.top - 1) p.group p.is in omega arith) (at_most n b.top)
+page_within b n i e h = ⊎_elim (λ l. omega arith) (λ l. let p = page_new b n i e l h in let w = slice_get_within b.groups (n - b.greatest_seen - 1) p.group p.is in omega arith) (at_most n b.greatest_seen)
 
 -- One group more
 
@@ -115,15 +115,15 @@ pub last_grows : (b : Book) (g : Group) → last_number (grown b g) ≡ suc (las
 last_grows b g = let e = grown_length b.groups g in omega arith
 
 pub page_grows : (b : Book) (g : Group) (n i : ℕ) (e : Entry) → IsPageAt b n i e → IsPageAt (grown b g) n i e
-page_grows b g n i e h = ⊎_elim old new (at_most n b.top)
+page_grows b g n i e h = ⊎_elim old new (at_most n b.greatest_seen)
   where
-    old : n ≤ b.top → IsPageAt (grown b g) n i e
+    old : n ≤ b.greatest_seen → IsPageAt (grown b g) n i e
     old l = old_page (grown b g) n i e l (is_old b n i e l h)
 
-    new : b.top < n → IsPageAt (grown b g) n i e
+    new : b.greatest_seen < n → IsPageAt (grown b g) n i e
     new l =
         let p = page_new b n i e l h in
-        new_page (grown b g) n i e l (record { group = p.group; is = get_grows b.groups g (n - b.top - 1) p.group p.is; item = p.item; size = p.size })
+        new_page (grown b g) n i e l (record { group = p.group; is = get_grows b.groups g (n - b.greatest_seen - 1) p.group p.is; item = p.item; size = p.size })
 
 -- a page of the group that is added
 pub record IsAdded (b : Book) (g : Group) (n i : ℕ) (e : Entry) : Type 0 where
@@ -132,20 +132,20 @@ pub record IsAdded (b : Book) (g : Group) (n i : ℕ) (e : Entry) : Type 0 where
   pub size : e.size ≡ length g
 
 pub page_splits : (b : Book) (g : Group) (n i : ℕ) (e : Entry) → IsPageAt (grown b g) n i e → IsPageAt b n i e ⊎ IsAdded b g n i e
-page_splits b g n i e h = ⊎_elim (λ l. inl (old l)) new (at_most n b.top)
+page_splits b g n i e h = ⊎_elim (λ l. inl (old l)) new (at_most n b.greatest_seen)
   where
-    old : n ≤ b.top → IsPageAt b n i e
+    old : n ≤ b.greatest_seen → IsPageAt b n i e
     old l = old_page b n i e l (is_old (grown b g) n i e l h)
 
-    new : b.top < n → IsPageAt b n i e ⊎ IsAdded b g n i e
+    new : b.greatest_seen < n → IsPageAt b n i e ⊎ IsAdded b g n i e
     new l =
         let p = page_new (grown b g) n i e l h in
         ⊎_elim
         (λ k. inl (new_page b n i e l (record { group = p.group; is = k; item = p.item; size = p.size })))
-        (λ (k : (n - b.top - 1 ≡ length b.groups) × (p.group ≡ g)).
+        (λ (k : (n - b.greatest_seen - 1 ≡ length b.groups) × (p.group ≡ g)).
         let at = k.0 in
         inr (record { last = omega arith; item = ap (λ (z : Group). slice_get z i) (sym k.1) ∙ p.item; size = p.size ∙ ap (λ (z : Group). length z) k.1 }))
-        (get_splits b.groups g (n - b.top - 1) p.group p.is)
+        (get_splits b.groups g (n - b.greatest_seen - 1) p.group p.is)
 
 pub added_page : (b : Book) (g : Group) (n i : ℕ) (e : Entry) → IsAdded b g n i e → IsPageAt (grown b g) n i e
 added_page b g n i e a =
@@ -263,7 +263,7 @@ book_grows b g may r = record {
   differ = λ n i j e f h k. differ_grows b g n i j e f r may (page_splits b g n i e h) (page_splits b g n j f k);
   some = λ j x h. ⊎_elim (λ p. r.some j x p) (λ (a : (j ≡ length b.groups) × (x ≡ g)). subst (λ (z : Group). 0 < length z) (sym a.1) may.some) (get_splits b.groups g j x h);
   old_within = r.old_within;
-  low = r.low;
+  first_lost = r.first_lost;
   base = λ k h. base_grows b g k (r.base k h);
-  first = λ k h. first_grows b g k (b.first k) (r.first k h);
+  first_page = λ k h. first_grows b g k (b.first_page k) (r.first_page k h);
 }

@@ -4,9 +4,9 @@ use Rattle.ufs_spec.specs.Cells.{Array, Cell}
 use Rattle.ufs_spec.specs.Dies.{blank_page}
 use Rattle.ufs_spec.specs.Disk.{Crash, Erasing, Flight, Programming, Reading, Spot, at_place, flight_alone, page_of}
 use Rattle.ufs_spec.specs.Lives.{IsCall, IsFailure, IsFinish, IsLeft, IsLeftoverOf, Leads, ended_well}
-use Rattle.ufs_spec.specs.Machine.{Ask, Call, Finish, Give, Host, Step, in_block, observe}
+use Rattle.ufs_spec.specs.Machine.{Reply, Call, Done, Take, Host, Turn, in_block, observe}
 use Rattle.ufs_spec.specs.Moves.{Ending, ReadRight, ReadWrong, WentWell, WentWrong}
-use Rattle.ufs_spec.specs.Steps.{State, numbers_of}
+use Rattle.ufs_spec.specs.Refusals.{State, numbers_of}
 use Rattle.ufs_spec.specs.declared.events.Event.{Event}
 use Rattle.ufs_spec.specs.declared.events.Event.TheVariants as event
 use Rattle.ufs_spec.specs.declared.events.Leftover.{Leftover}
@@ -24,11 +24,11 @@ LeavesAs Q WentWell left = Unit {0}
 
 -- it holds of what the call leaves, where a job failed
 abbrev CallLeaves : (Array → Type 0) → Call → Type 0
-CallLeaves Q (Finish die ending left) = LeavesAs Q ending left
+CallLeaves Q (Done die ending left) = LeavesAs Q ending left
 CallLeaves Q (Host heard) = Unit {0}
-CallLeaves Q (Give die) = Unit {0}
-CallLeaves Q Step = Unit {0}
-CallLeaves Q Ask = Unit {0}
+CallLeaves Q (Take die) = Unit {0}
+CallLeaves Q Turn = Unit {0}
+CallLeaves Q Reply = Unit {0}
 
 well_leaves : (Q : Array → Type 0) (flight : Flight) (left : Array) → LeavesAs Q (ended_well flight) left
 well_leaves Q (Reading reader place) left = tt
@@ -101,12 +101,12 @@ module _ (s : State) (Q : Array → Type 0) (k : IsKeptByJobs s Q) where
   call_leaves (event.Stop lefts) call h = absurd h
 
   behind_call : (call : Call) (array : Array) → CallLeaves Q call → Leaves s call array → Q array
-  behind_call (Finish die ending left) array is (inl e) = subst Q (sym e) k.now
-  behind_call (Finish die ending left) array is (inr e) = subst Q (sym e) (ended die (s.translation.disk.flights die) refl ending left is)
+  behind_call (Done die ending left) array is (inl e) = subst Q (sym e) k.now
+  behind_call (Done die ending left) array is (inr e) = subst Q (sym e) (ended die (s.translation.disk.flights die) refl ending left is)
   behind_call (Host heard) array is e = subst Q (sym e) k.now
-  behind_call (Give die) array is e = subst Q (sym e) k.now
-  behind_call Step array is e = subst Q (sym e) k.now
-  behind_call Ask array is e = subst Q (sym e) k.now
+  behind_call (Take die) array is e = subst Q (sym e) k.now
+  behind_call Turn array is e = subst Q (sym e) k.now
+  behind_call Reply array is e = subst Q (sym e) k.now
 
   -- it holds behind each event
   pub behind_event : (t : State) (e : Event) (o : Output) → Leads s e o t → Q t.array

@@ -3,11 +3,11 @@ use Rattle.std.proofs.Common.{List, None, Option, Some, ap, refl, subst, sym, tr
 use Rattle.ufs_spec.proofs.Facts.{false≢true}
 use Rattle.std.specs.Prelude.{Err, Ok, Result, slice_index}
 use Rattle.ufs_spec.specs.Cdbs.{SpellsCdb, cdb_bytes, operation_of}
-use Rattle.ufs_spec.specs.Machine.{Allowed, Answer, Ask, Call, Faulty, Finish, Finishes, Give, Gives, Heard, Hears, Host, IsCdbIn, IsHeard, MayHear, MayLeave, Replies, Spelled, Step, Steps, behind, cdb_of, fits, heard, lock_told, managed, message_fault, observe, opens_short, query_unanswered, result_of, service}
+use Rattle.ufs_spec.specs.Machine.{Allowed, Answer, Reply, Call, Faulty, Done, OfDone, Take, OfTake, Heard, OfHost, Host, IsCdbIn, IsHeard, MayHear, MayLeave, OfReply, Spelled, Turn, OfTurn, behind, cdb_of, fits, heard, lock_applied, managed, message_fault, observe, opens_short, query_unanswered, result_of, service}
 use Rattle.ufs_spec.specs.Messages.{Spells}
-use Rattle.ufs_spec.specs.Moves.{Ending, ReadRight, ReadWrong, Take, WentWell, WentWrong}
+use Rattle.ufs_spec.specs.Moves.{Ending, ReadRight, ReadWrong, GiveJob, WentWell, WentWrong}
 use Rattle.ufs_spec.specs.Cells.{Array}
-use Rattle.ufs_spec.specs.Steps.{State}
+use Rattle.ufs_spec.specs.Refusals.{State}
 use Rattle.ufs_spec.specs.declared.faults.HostFault.{HostFault}
 use Rattle.ufs_spec.specs.declared.messages.Message.{Message}
 use Rattle.ufs_spec.specs.declared.scsi.Cdb.{Cdb}
@@ -51,9 +51,9 @@ ending_keeps s die (Some (Erasing spot)) ReadRight left v e fit may = absurd (fa
 ending_keeps s die (Some (Erasing spot)) ReadWrong left v e fit may = absurd (false≢true fit)
 
 first_keeps : (s : State) (call : Call) (answer : Answer) → IsTied s → MayCome s call → Allowed s call answer → IsTied (first s call answer)
-first_keeps s (Give die) (Gives (Some flight)) v may right = one_move s (Take die flight) v right (record { groups = refl; claims = refl }) refl
-first_keeps s (Finish die ending left) (Finishes true) v may right = ending_keeps s die (s.translation.disk.flights die) ending left v refl (sym right) may
-first_keeps s Step (Steps due) v may right = step_keeps s v
+first_keeps s (Take die) (OfTake (Some flight)) v may right = one_move s (GiveJob die flight) v right (record { groups = refl; claims = refl }) refl
+first_keeps s (Done die ending left) (OfDone true) v may right = ending_keeps s die (s.translation.disk.flights die) ending left v refl (sym right) may
+first_keeps s Turn (OfTurn due) v may right = step_keeps s v
 first_keeps s call answer v may right = v
 
 -- Messages
@@ -105,7 +105,7 @@ no_fault (Some fault) done h = absurd (other h)
     other : Ok done ≡ Err fault → ⊥
     other e = cc
 
-host_right : (s : State) (h : Heard) (result : Result (Unit {0}) HostFault) (bytes : List ℕ) → IsTied s → IsHeard bytes h → MayHear s h result → Right s (behind s (Host h) (Hears result))
+host_right : (s : State) (h : Heard) (result : Result (Unit {0}) HostFault) (bytes : List ℕ) → IsTied s → IsHeard bytes h → MayHear s h result → Right s (behind s (Host h) (OfHost result))
 host_right s h (Err fault) bytes v is may = Still
 host_right s (Faulty fault) (Ok done) bytes v is may = Still
 host_right s (Spelled m c) (Ok done) bytes v is may = heard_right s m c bytes v is.0 is.2 (no_fault (message_fault s m) done may)
@@ -113,13 +113,13 @@ host_right s (Spelled m c) (Ok done) bytes v is may = heard_right s m c bytes v 
 -- Calls
 
 behind_right : (s : State) (call : Call) (answer : Answer) → IsTied s → MayCome s call → Allowed s call answer → Right (first s call answer) (behind s call answer)
-behind_right s (Host h) (Hears result) v may right = host_right s h result may.0 v may.1 right
-behind_right s (Give die) (Gives None) v may right = Still
-behind_right s (Give die) (Gives (Some flight)) v may right = Still
-behind_right s (Finish die ending left) (Finishes true) v may right =
-    ends_right s die (s.translation.disk.flights die) ending left (first_keeps s (Finish die ending left) (Finishes true) v may right)
-behind_right s Step (Steps due) v may right = Still
-behind_right s Ask (Replies (Some m)) v may right = replies_right s m v right
+behind_right s (Host h) (OfHost result) v may right = host_right s h result may.0 v may.1 right
+behind_right s (Take die) (OfTake None) v may right = Still
+behind_right s (Take die) (OfTake (Some flight)) v may right = Still
+behind_right s (Done die ending left) (OfDone true) v may right =
+    ends_right s die (s.translation.disk.flights die) ending left (first_keeps s (Done die ending left) (OfDone true) v may right)
+behind_right s Turn (OfTurn due) v may right = Still
+behind_right s Reply (OfReply (Some m)) v may right = replies_right s m v right
 behind_right s call answer v may right = Still
 
 -- behind what it does first, each call makes changes that may come
@@ -132,7 +132,7 @@ pub call_keeps : (s : State) (call : Call) (answer : Answer) → IsTied s → Ma
 call_keeps s call answer v may right = right_keeps (call_right s call answer v may right) (first_keeps s call answer v may right)
 
 -- and so does what is behind it, with the lock told, before registers are filled
-pub unfilled_keeps : (s : State) (call : Call) (answer : Answer) → IsTied s → MayCome s call → Allowed s call answer → IsTied (lock_told (behind s call answer))
+pub unfilled_keeps : (s : State) (call : Call) (answer : Answer) → IsTied s → MayCome s call → Allowed s call answer → IsTied (lock_applied (behind s call answer))
 unfilled_keeps s call answer v may right =
     let h = behind_right s call answer v may right in
     let tied = right_keeps h (first_keeps s call answer v may right) in

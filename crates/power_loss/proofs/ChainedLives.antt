@@ -13,7 +13,7 @@ use Rattle.ufs_spec.specs.Lives.{Chain, IsLeft, IsLeftoverOf, IsLived, IsOpened,
 use Rattle.ufs_spec.specs.Machine.{in_block}
 use Rattle.ufs_spec.specs.Plain.{Plain, after}
 use Rattle.ufs_spec.specs.Sound.{Sound}
-use Rattle.ufs_spec.specs.Steps.{State, numbers_of}
+use Rattle.ufs_spec.specs.Refusals.{State, numbers_of}
 use Rattle.ufs_spec.specs.declared.configs.Numbers.{Numbers}
 use Rattle.ufs_spec.specs.declared.events.Event.{Event}
 use Rattle.ufs_spec.specs.declared.events.Leftover.{Leftover}

@@ -4,7 +4,7 @@ use Rattle.ufs_spec.proofs.Facts.{false≢true}
 use Rattle.ufs_spec.specs.Cells.{Cell, GroupPage, MarkPage, Nothing}
 use Rattle.ufs_spec.specs.Disk.{Erasing, Flight, ForNobody, ForRest, ForStep, ForTask, Programming, Reader, Reading, Spot, program_failed}
 use Rattle.ufs_spec.specs.Ledger.{Name}
-use Rattle.ufs_spec.specs.Moves.{Accept, Claim, End, Ending, Keep, LetGo, LetGoAll, Move, ReadRight, ReadWrong, Release, Take, Tell, Turn, WantPage, WentWell, WentWrong, die_idle, end_flight, is_kind_of, mark_again, moved, read_right, read_wrong, step_behind}
+use Rattle.ufs_spec.specs.Moves.{Accept, Claim, EndJob, Ending, Keep, LetGo, LetGoAll, Move, ReadRight, ReadWrong, Release, GiveJob, Acknowledge, TakeStep, WantPage, WentWell, WentWrong, die_idle, end_flight, is_kind_of, mark_again, moved, read_right, read_wrong, step_behind}
 use Rattle.ufs_spec.specs.Translation.{CopyStep, MarkStep, MayTake, Mended, Mending, Order, OrderMark, OrderPlanMark, OrderRepair, Plan, RepairStep, Repairing, Step, Translation, Unmarked, Want, copy_begun, has_mark_number, has_number, live_places, mark_ordered, name_of, next_order, plan_order, stepped, turned, victim, victim_order, want_at, wants_collection, wants_of_step, with_plan}
 use Rattle.ufs_spec.specs.declared.flash.Fence.{Fence}
 use Rattle.ufs_spec.specs.declared.flash.Key.{Key}
@@ -109,7 +109,7 @@ turn_brings t = go t.work.step refl
     go (Some s) is = same_step t.work.step
 
 abbrev IsItsRead : Translation → Move → Type 0
-IsItsRead t move = (die : ℕ) × (place : Place) × (move ≡ End die ReadRight) × (t.disk.flights die ≡ Some (Reading ForStep place))
+IsItsRead t move = (die : ℕ) × (place : Place) × (move ≡ EndJob die ReadRight) × (t.disk.flights die ≡ Some (Reading ForStep place))
 
 abbrev Brings : Translation → Move → Option Step → Type 0
 Brings t move now = (name : Name) (from : Place) → t.work.step ≡ Some (copy_of name from false) → now ≡ Some (copy_of name from true) → IsItsRead t move
@@ -118,50 +118,50 @@ unbrought : (t : Translation) (move : Move) (now : Option Step) → IsNotBrought
 unbrought t move now h name from a b = absurd (h name from a b)
 
 read_brings : (t : Translation) (die : ℕ) (reader : Reader) (place : Place) → t.disk.flights die ≡ Some (Reading reader place) →
-    Brings t (End die ReadRight) (read_right (die_idle t die) reader).work.step
+    Brings t (EndJob die ReadRight) (read_right (die_idle t die) reader).work.step
 read_brings t die ForStep place is = λ name from a b. (die, place, refl, is)
-read_brings t die ForNobody place is = unbrought t (End die ReadRight) t.work.step (same_step t.work.step)
-read_brings t die (ForTask tag index) place is = unbrought t (End die ReadRight) t.work.step (same_step t.work.step)
-read_brings t die (ForRest number index) place is = unbrought t (End die ReadRight) t.work.step (same_step t.work.step)
+read_brings t die ForNobody place is = unbrought t (EndJob die ReadRight) t.work.step (same_step t.work.step)
+read_brings t die (ForTask tag index) place is = unbrought t (EndJob die ReadRight) t.work.step (same_step t.work.step)
+read_brings t die (ForRest number index) place is = unbrought t (EndJob die ReadRight) t.work.step (same_step t.work.step)
 
-wrong_brings : (t : Translation) (die : ℕ) (reader : Reader) → Brings t (End die ReadWrong) (read_wrong (die_idle t die) reader).work.step
-wrong_brings t die ForStep = unbrought t (End die ReadWrong) t.work.step (same_step t.work.step)
-wrong_brings t die ForNobody = unbrought t (End die ReadWrong) t.work.step (same_step t.work.step)
-wrong_brings t die (ForTask tag index) = unbrought t (End die ReadWrong) t.work.step (same_step t.work.step)
-wrong_brings t die (ForRest number index) = unbrought t (End die ReadWrong) t.work.step (same_step t.work.step)
+wrong_brings : (t : Translation) (die : ℕ) (reader : Reader) → Brings t (EndJob die ReadWrong) (read_wrong (die_idle t die) reader).work.step
+wrong_brings t die ForStep = unbrought t (EndJob die ReadWrong) t.work.step (same_step t.work.step)
+wrong_brings t die ForNobody = unbrought t (EndJob die ReadWrong) t.work.step (same_step t.work.step)
+wrong_brings t die (ForTask tag index) = unbrought t (EndJob die ReadWrong) t.work.step (same_step t.work.step)
+wrong_brings t die (ForRest number index) = unbrought t (EndJob die ReadWrong) t.work.step (same_step t.work.step)
 
-end_brings : (t : Translation) (die : ℕ) (flight : Option Flight) (ending : Ending) → t.disk.flights die ≡ flight → Brings t (End die ending) (end_flight t die flight ending).work.step
+end_brings : (t : Translation) (die : ℕ) (flight : Option Flight) (ending : Ending) → t.disk.flights die ≡ flight → Brings t (EndJob die ending) (end_flight t die flight ending).work.step
 end_brings t die (Some (Reading reader place)) ReadRight is = read_brings t die reader place is
 end_brings t die (Some (Reading reader place)) ReadWrong is = wrong_brings t die reader
-end_brings t die (Some (Programming p (GroupPage tag body))) WentWell is = unbrought t (End die WentWell) _ (behind (name_of tag) t.work.step)
-end_brings t die (Some (Programming p (MarkPage m))) WentWell is = unbrought t (End die WentWell) None (over t.work.step)
+end_brings t die (Some (Programming p (GroupPage tag body))) WentWell is = unbrought t (EndJob die WentWell) _ (behind (name_of tag) t.work.step)
+end_brings t die (Some (Programming p (MarkPage m))) WentWell is = unbrought t (EndJob die WentWell) None (over t.work.step)
 end_brings t die (Some (Programming p (MarkPage m))) (WentWrong left) is =
-    unbrought t (End die (WentWrong left)) _ (again (record t { disk = program_failed t.disk p left }) m.fence)
-end_brings t die (Some (Programming p Nothing)) WentWell is = unbrought t (End die WentWell) t.work.step (same_step t.work.step)
-end_brings t die (Some (Programming p Nothing)) (WentWrong left) is = unbrought t (End die (WentWrong left)) t.work.step (same_step t.work.step)
-end_brings t die (Some (Programming p (GroupPage tag body))) (WentWrong left) is = unbrought t (End die (WentWrong left)) t.work.step (same_step t.work.step)
-end_brings t die (Some (Erasing s)) WentWell is = unbrought t (End die WentWell) t.work.step (same_step t.work.step)
-end_brings t die (Some (Erasing s)) (WentWrong left) is = unbrought t (End die (WentWrong left)) t.work.step (same_step t.work.step)
-end_brings t die None ending is = unbrought t (End die ending) t.work.step (same_step t.work.step)
-end_brings t die (Some (Reading reader place)) WentWell is = unbrought t (End die WentWell) t.work.step (same_step t.work.step)
-end_brings t die (Some (Reading reader place)) (WentWrong left) is = unbrought t (End die (WentWrong left)) t.work.step (same_step t.work.step)
-end_brings t die (Some (Programming p cell)) ReadRight is = unbrought t (End die ReadRight) t.work.step (same_step t.work.step)
-end_brings t die (Some (Programming p cell)) ReadWrong is = unbrought t (End die ReadWrong) t.work.step (same_step t.work.step)
-end_brings t die (Some (Erasing s)) ReadRight is = unbrought t (End die ReadRight) t.work.step (same_step t.work.step)
-end_brings t die (Some (Erasing s)) ReadWrong is = unbrought t (End die ReadWrong) t.work.step (same_step t.work.step)
+    unbrought t (EndJob die (WentWrong left)) _ (again (record t { disk = program_failed t.disk p left }) m.fence)
+end_brings t die (Some (Programming p Nothing)) WentWell is = unbrought t (EndJob die WentWell) t.work.step (same_step t.work.step)
+end_brings t die (Some (Programming p Nothing)) (WentWrong left) is = unbrought t (EndJob die (WentWrong left)) t.work.step (same_step t.work.step)
+end_brings t die (Some (Programming p (GroupPage tag body))) (WentWrong left) is = unbrought t (EndJob die (WentWrong left)) t.work.step (same_step t.work.step)
+end_brings t die (Some (Erasing s)) WentWell is = unbrought t (EndJob die WentWell) t.work.step (same_step t.work.step)
+end_brings t die (Some (Erasing s)) (WentWrong left) is = unbrought t (EndJob die (WentWrong left)) t.work.step (same_step t.work.step)
+end_brings t die None ending is = unbrought t (EndJob die ending) t.work.step (same_step t.work.step)
+end_brings t die (Some (Reading reader place)) WentWell is = unbrought t (EndJob die WentWell) t.work.step (same_step t.work.step)
+end_brings t die (Some (Reading reader place)) (WentWrong left) is = unbrought t (EndJob die (WentWrong left)) t.work.step (same_step t.work.step)
+end_brings t die (Some (Programming p cell)) ReadRight is = unbrought t (EndJob die ReadRight) t.work.step (same_step t.work.step)
+end_brings t die (Some (Programming p cell)) ReadWrong is = unbrought t (EndJob die ReadWrong) t.work.step (same_step t.work.step)
+end_brings t die (Some (Erasing s)) ReadRight is = unbrought t (EndJob die ReadRight) t.work.step (same_step t.work.step)
+end_brings t die (Some (Erasing s)) ReadWrong is = unbrought t (EndJob die ReadWrong) t.work.step (same_step t.work.step)
 
 brings : (t : Translation) (move : Move) → Brings t move (moved t move).work.step
 brings t (Claim count) = unbrought t (Claim count) t.work.step (same_step t.work.step)
 brings t (Release count) = unbrought t (Release count) t.work.step (same_step t.work.step)
 brings t (Accept claimed g) = unbrought t (Accept claimed g) t.work.step (same_step t.work.step)
-brings t (Tell count) = unbrought t (Tell count) t.work.step (same_step t.work.step)
+brings t (Acknowledge count) = unbrought t (Acknowledge count) t.work.step (same_step t.work.step)
 brings t (Keep key pin) = unbrought t (Keep key pin) t.work.step (same_step t.work.step)
 brings t (WantPage tag index) = unbrought t (WantPage tag index) t.work.step (same_step t.work.step)
 brings t (LetGo tag index) = unbrought t (LetGo tag index) t.work.step (same_step t.work.step)
 brings t (LetGoAll tag) = unbrought t (LetGoAll tag) t.work.step (same_step t.work.step)
-brings t (Take die flight) = unbrought t (Take die flight) t.work.step (same_step t.work.step)
-brings t (End die ending) = end_brings t die (t.disk.flights die) ending refl
-brings t Turn = unbrought t Turn (turned t).work.step (turn_brings t)
+brings t (GiveJob die flight) = unbrought t (GiveJob die flight) t.work.step (same_step t.work.step)
+brings t (EndJob die ending) = end_brings t die (t.disk.flights die) ending refl
+brings t TakeStep = unbrought t TakeStep (turned t).work.step (turn_brings t)
 
 pub brought : (t : Translation) (move : Move) (name : Name) (from : Place) → t.work.step ≡ Some (copy_of name from false) →
     (moved t move).work.step ≡ Some (copy_of name from true) → IsItsRead t move

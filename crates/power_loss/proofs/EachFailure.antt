@@ -5,10 +5,10 @@ use Rattle.ufs_laws.proofs.SomeCell.{some_cell}
 use Rattle.ufs_spec.specs.Cells.{Array, Cell, Cells, Shows}
 use Rattle.ufs_spec.specs.Disk.{Crash, Erasing, Flight, Programming, Reader, Reading, Spot, Touches, flight_alone, page_of}
 use Rattle.ufs_spec.specs.Lives.{IsFailure, IsLawfulLeftover, IsLeft, IsLeftoverOf, Leads, die_of, page_left}
-use Rattle.ufs_spec.specs.Machine.{Finish, Finishes, fits, observe}
+use Rattle.ufs_spec.specs.Machine.{Done, OfDone, fits, observe}
 use Rattle.ufs_spec.specs.Moves.{Ending, ReadWrong, WentWrong}
 use Rattle.ufs_spec.specs.Pages.{MayBeLeft}
-use Rattle.ufs_spec.specs.Steps.{State, numbers_of}
+use Rattle.ufs_spec.specs.Refusals.{State, numbers_of}
 use Rattle.ufs_spec.specs.declared.events.Event.TheVariants as event
 use Rattle.ufs_spec.specs.declared.events.Leftover.{Leftover}
 use Rattle.ufs_spec.specs.declared.events.Leftover.TheVariants as leftover
@@ -92,10 +92,10 @@ module _ (s : State) (v : ValidState s) (die : ℕ) (l : Leftover) where
 pub failure_leads : (s : State) (die : ℕ) (flight : Flight) (l : Option Leftover) (ending : Ending) (left : Array) →
     s.translation.disk.flights die ≡ Some flight → fits (Some flight) ending ≡ true →
     IsFailure s die (Some flight) l ending left →
-    Leads s (event.Fail die l) output.Ended (observe s (Finish die ending left) (Finishes true))
+    Leads s (event.Fail die l) output.Ended (observe s (Done die ending left) (OfDone true))
 failure_leads s die flight l ending left flies fit h = record {
-  call = Finish die ending left;
-  answer = Finishes true;
+  call = Done die ending left;
+  answer = OfDone true;
   is_call = (ending, left, subst (λ (f : Option Flight). IsFailure s die f l ending left) (sym flies) h, refl);
   is_shown = refl;
   right = sym (ap (λ (f : Option Flight). fits f ending) flies ∙ fit);

@@ -8,7 +8,7 @@ use Rattle.ufs_spec.specs.Cells.{Array, Cell, Nothing}
 use Rattle.ufs_spec.specs.Disk.{Crash, Erasing, Flight, Programming, Reading, Touches, page_of, spot_of}
 use Rattle.ufs_spec.specs.Lives.{AreLeftovers, IsLawfulLeftover, IsLeft, IsLeftoverOf, Stops, die_of, page_left}
 use Rattle.ufs_spec.specs.Pages.{MayBeLeft}
-use Rattle.ufs_spec.specs.Steps.{State, numbers_of}
+use Rattle.ufs_spec.specs.Refusals.{State, numbers_of}
 use Rattle.ufs_spec.specs.declared.configs.Numbers.{Numbers}
 use Rattle.ufs_spec.specs.declared.events.Leftover.{Leftover}
 use Rattle.ufs_spec.specs.declared.events.Leftover.TheVariants as leftover

@@ -3,7 +3,7 @@ use Rattle.std.proofs.Common.{◌≡◌, ℕ, suc, ◌+◌, ◌-◌, ◌==◌, �
 use Rattle.ufs_spec.specs.Cells.{Cell, GroupPage, Mark, MarkPage}
 use Rattle.ufs_spec.specs.Disk.{Disk, Erasing, Flight, Programming, Reader, Reading, ForTask, ForStep, ForRest, ForNobody, Spot, at_die}
 use Rattle.ufs_spec.specs.Ledger.{Ledger, before_accepted, look}
-use Rattle.ufs_spec.specs.Moves.{Claim, Keep, LetGo, LetGoAll, ReadRight, ReadWrong, Release, Tell, WantPage, die_idle, is_for, is_for_task, is_pin_of, let_go, without_reader, job_ended, moved, read_right, read_wrong, step_there}
+use Rattle.ufs_spec.specs.Moves.{Claim, Keep, LetGo, LetGoAll, ReadRight, ReadWrong, Release, Acknowledge, WantPage, die_idle, is_for, is_for_task, is_pin_of, let_go, without_reader, job_ended, moved, read_right, read_wrong, step_there}
 use Rattle.ufs_spec.specs.Translation.{CopyStep, MarkStep, Mending, Mended, Pin, Plan, RepairStep, Repairing, Rest, Step, StepKind, Translation, Unmarked, free_slots, is_mended, pending_pages, taken}
 use Rattle.ufs_spec.specs.declared.flash.Key.{Key}
 use Rattle.ufs_spec.specs.declared.flash.Place.{Place}
@@ -68,7 +68,7 @@ mending_is b d l held plan step (Repairing left) m = record { mark = m.mark; is 
 mending_is b d l held plan step Mended m = record { mark = m.mark; is = m.is; right = m.right; more = m.more }
 
 held_history : (b : Book) (repairs held frontier count : ℕ) (mended : Bool) → frontier ≤ last_number b →
-    HistoryRight b repairs held frontier mended → b.top + repairs + count ≤ frontier → HistoryRight b repairs (max held count) frontier mended
+    HistoryRight b repairs held frontier mended → b.greatest_seen + repairs + count ≤ frontier → HistoryRight b repairs (max held count) frontier mended
 held_history b repairs held frontier count mended up h l = record {
   within = h.within;
   contents = h.contents;
@@ -76,7 +76,7 @@ held_history b repairs held frontier count mended up h l = record {
   durable = ⊎_elim (λ m. ⊎_elim (λ z. inl (omega arith)) (λ z. inr (omega arith)) h.durable) (λ m. inr (omega arith)) (max_is held count);
 }
 
-pub tells : (t : Translation) (count : ℕ) → Valid t → before_accepted t.ledger + count ≤ t.ledger.frontier → Valid (moved t (Tell count))
+pub tells : (t : Translation) (count : ℕ) → Valid t → before_accepted t.ledger + count ≤ t.ledger.frontier → Valid (moved t (Acknowledge count))
 tells t count v l = record {
   book_right = v.book_right;
   frontier = v.frontier;

@@ -5,12 +5,12 @@ use Rattle.std.proofs.lemmas.Bool.{ltb-false}
 use Rattle.ufs_spec.specs.Cells.{Array, Cell, Cells, GroupPage, IsCell, IsPlace, MarkPage, Nothing, Shows, same_place}
 use Rattle.ufs_spec.specs.Dies.{blank_page}
 use Rattle.ufs_spec.specs.Disk.{CellCrash, Crash, Disk, Erasing, Flight, ForNobody, ForRest, ForStep, ForTask, Programming, Reader, Reading, Spot, Touches, at_place, flight_alone, page_of, program_failed, programmed, same_spot, spot_of}
-use Rattle.ufs_spec.specs.Exchanges.{Answering, Awaiting, Deed, Gathering, NotRead, ReadState, Sending, Task, Telling, WasRead, is_task_of}
-use Rattle.ufs_spec.specs.Machine.{array_behind, claimed_by, deed_read, ends_with, in_block, reader_told, task_read, with_moves}
-use Rattle.ufs_spec.specs.Moves.{End, Ending, MayEnd, ReadRight, ReadWrong, WentWell, WentWrong, die_idle, end_flight, freed, moved, read_right, read_wrong}
+use Rattle.ufs_spec.specs.Exchanges.{Answering, Awaiting, Deed, Gathering, NotRead, ReadState, Sending, Task, SendingBytes, WasRead, is_task_of}
+use Rattle.ufs_spec.specs.Machine.{array_behind, claimed_by, deed_read, ends_with, in_block, read_noted, task_read, with_moves}
+use Rattle.ufs_spec.specs.Moves.{EndJob, Ending, MayEnd, ReadRight, ReadWrong, WentWell, WentWrong, die_idle, end_flight, freed, moved, read_right, read_wrong}
 use Rattle.ufs_spec.specs.Pages.{MayBeLeft}
 use Rattle.ufs_spec.specs.Plain.{Shape, shape_of_numbers}
-use Rattle.ufs_spec.specs.Steps.{State, numbers_of}
+use Rattle.ufs_spec.specs.Refusals.{State, numbers_of}
 use Rattle.ufs_spec.specs.Translation.{Plan, Translation, has_mark_number, is_mended, mark_ordered}
 use Rattle.ufs_spec.specs.declared.flash.Fence.{Fence}
 use Rattle.ufs_spec.specs.declared.flash.Page.{Page}
@@ -31,14 +31,14 @@ read_fits : (sh : Shape) (a : ℕ) (m : Bool) (index : ℕ) (state : ReadState) 
     DeedFits sh a m (claimed_by (deed_read index state deed) task.command) task.length (deed_read index state deed)
 read_fits sh a m index state task (Gathering purpose gathered asked) h = h
 read_fits sh a m index state task (Sending blocks sent) h = tt
-read_fits sh a m index state task (Telling bytes) h = h
+read_fits sh a m index state task (SendingBytes bytes) h = h
 read_fits sh a m index state task (Awaiting commands) h = h
 read_fits sh a m index state task (Answering status carried) h = h
 
 read_claims : (index : ℕ) (state : ReadState) (task : Task) (deed : Deed) → claimed_by (deed_read index state deed) task.command ≤ claimed_by deed task.command
 read_claims index state task (Gathering purpose gathered asked) = omega arith
 read_claims index state task (Sending blocks sent) = omega arith
-read_claims index state task (Telling bytes) = omega arith
+read_claims index state task (SendingBytes bytes) = omega arith
 read_claims index state task (Awaiting commands) = omega arith
 read_claims index state task (Answering status carried) = omega arith
 
@@ -70,9 +70,9 @@ reader_right s tag index state v =
       tasks = tasks_kept sh (length s.accepted) m s.translation.claims (task_read tag index state) s.tasks s.shorts (read_keeps sh (length s.accepted) m tag index state) v.tasks;
     })
 
-told_right : (s : State) (die : ℕ) (reader : Reader) (state : ReadState) (ending : Ending) (array : Array) → IsTied (record (with_moves s (End die ending ∷ [])) { array = array }) →
-    Right (record (with_moves s (End die ending ∷ [])) { array = array }) (with_moves (record (reader_told s reader state) { array = array }) (End die ending ∷ []))
-told_right s die (ForTask tag index) state ending array v = reader_right (record (with_moves s (End die ending ∷ [])) { array = array }) tag index state v
+told_right : (s : State) (die : ℕ) (reader : Reader) (state : ReadState) (ending : Ending) (array : Array) → IsTied (record (with_moves s (EndJob die ending ∷ [])) { array = array }) →
+    Right (record (with_moves s (EndJob die ending ∷ [])) { array = array }) (with_moves (record (read_noted s reader state) { array = array }) (EndJob die ending ∷ []))
+told_right s die (ForTask tag index) state ending array v = reader_right (record (with_moves s (EndJob die ending ∷ [])) { array = array }) tag index state v
 told_right s die ForStep state ending array v = Still
 told_right s die (ForRest number index) state ending array v = Still
 told_right s die ForNobody state ending array v = Still
@@ -98,15 +98,15 @@ pub over_keeps : (s : State) (die : ℕ) (flight : Flight) (ending : Ending) (le
     EndsRight s die flight ending left → IsTied (job_over s die (Some flight) ending left)
 over_keeps s die flight ending left v e r =
     let t = s.translation in
-    let u = moved t (End die ending) in
-    let stays = move_stays t (End die ending) in
+    let u = moved t (EndJob die ending) in
+    let stays = move_stays t (EndJob die ending) in
     let leaves = end_leaves t die (t.disk.flights die) ending in
     let shown : Shows (array_behind s flight ending left) u.disk.cells =
     subst (λ (x : Option Flight). Shows (array_behind s flight ending left) (end_flight t die x ending).disk.cells) (sym e) r.shown in
     let may : MayEnd t.disk die (t.disk.flights die) ending = subst (λ (x : Option Flight). MayEnd t.disk die x ending) (sym e) r.may in
     let claims = leaves.claims in
     whole (job_over s die (Some flight) ending left)
-    (move_fits t (End die ending) (fits_of s v) may)
+    (move_fits t (EndJob die ending) (fits_of s v) may)
     (ties_stay s.array (array_behind s flight ending left) s.base s.accepted t u (ties_of s v) stays shown leaves.groups)
     (tasks_stay s s.accepted u stays (omega arith) (omega arith) v.tasks)
 

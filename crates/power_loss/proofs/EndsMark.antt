@@ -76,7 +76,7 @@ unmarked_ends : (t : Translation) (die : ℕ) (p : Place) (m : Mark) (fence : Op
     UnmarkedRight (book t) t.ledger.frontier t.ledger.marks t.ledger.newest t.disk.cells t.disk.blocks t.disk.erasing t.disk.flights t.work.plan fence lost →
     t.disk.flights die ≡ Some (Programming p (MarkPage m)) → MarkEnds t m
 unmarked_ends t die p m fence lost v u job = record {
-  marked = let r = recorded_within u.opening t.ledger.newest t.ledger.top u.opened.is_newest u.opened.marks in let e = own.records in omega (arith, r, e);
+  marked = let r = recorded_within u.opening t.ledger.newest t.ledger.greatest_seen u.opened.is_newest u.opened.marks in let e = own.records in omega (arith, r, e);
   within = let e = own.records in let a = v.frontier.above in omega (arith, a, e);
   whole = λ n l h. absurd (let e = own.records in omega (arith, e, l, h));
   others = λ q other h. let a = v.frontier.above in ⊎_elim
@@ -222,7 +222,7 @@ abbrev marked_disk : Translation → Place → Mark → (Spot → BlockState) �
 marked_disk t p m after = record (programmed t.numbers.pages t.disk p (MarkPage m)) { blocks = after }
 
 -- nothing is lost
-plain_unlost : (b : Book) (m : Mark) → m.fence ≡ None → b.top < b.low → IsPlainMark b m
+plain_unlost : (b : Book) (m : Mark) → m.fence ≡ None → b.greatest_seen < b.first_lost → IsPlainMark b m
 plain_unlost b m e l = record {
   none = e;
   repaired = λ n i x lost h. absurd (let f = lost.from in let u = lost.to in omega (arith, f, u, l));

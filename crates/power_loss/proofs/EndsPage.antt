@@ -139,7 +139,7 @@ page_frontier t p tag body v known =
 -- Mending
 
 -- the repair of the last group goes on, or it stands wholly
-repair_under_way : (b : Book) (standing : Standing) (frontier : ℕ) (name : Name) (p : Place) (step : Option Step) → b.top ≤ frontier →
+repair_under_way : (b : Book) (standing : Standing) (frontier : ℕ) (name : Name) (p : Place) (step : Option Step) → b.greatest_seen ≤ frontier →
     climbed_to b (at_name standing name (Some p)) frontier ≤ last_number b → ((j : ℕ) (g : Group) → slice_get b.groups j ≡ Some g → length g ≡ 1) →
     (frontier ≡ last_number b) ⊎ ((suc frontier ≡ last_number b) × IsLastRepair b step) →
     (climbed_to b (at_name standing name (Some p)) frontier ≡ last_number b)

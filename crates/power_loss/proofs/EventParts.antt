@@ -8,9 +8,9 @@ use Rattle.ufs_spec.specs.Disk.{Erasing, Flight, ForNobody, ForRest, ForStep, Fo
 use Rattle.ufs_spec.specs.Keys.{CanApplyAll, Contents, Group, IsArea, IsBlock, IsData, IsKey, IsPlain, IsSettings, IsSettingsBody, content, groups_of}
 use Rattle.ufs_spec.specs.Ledger.{accepted_groups}
 use Rattle.ufs_spec.specs.Machine.{with_moves}
-use Rattle.ufs_spec.specs.Moves.{Ending, IsAllowedMove, Move, ReadRight, ReadWrong, Turn, WentWell, WentWrong, die_idle, end_flight, moved, read_right, read_wrong}
+use Rattle.ufs_spec.specs.Moves.{Ending, IsAllowedMove, Move, ReadRight, ReadWrong, TakeStep, WentWell, WentWrong, die_idle, end_flight, moved, read_right, read_wrong}
 use Rattle.ufs_spec.specs.Plain.{Plain, Shape, shape_of, shape_of_numbers}
-use Rattle.ufs_spec.specs.Steps.{State, numbers_of}
+use Rattle.ufs_spec.specs.Refusals.{State, numbers_of}
 use Rattle.ufs_spec.specs.Translation.{Order, OrderCopy, OrderMark, OrderPlanMark, OrderRepair, Translation, copy_begun, due_order, has_mark_number, is_mended, mark_ordered, ordered, stepped, turned, with_plan}
 use Rattle.ufs_spec.specs.declared.configs.Numbers.{Numbers}
 use Rattle.ufs_spec.specs.declared.flash.Fence.{Fence}
@@ -191,7 +191,7 @@ one_move s move v may leaves cells =
 
 -- A step
 
-pub step_keeps : (s : State) → IsTied s → IsTied (with_moves s (Turn ∷ []))
+pub step_keeps : (s : State) → IsTied s → IsTied (with_moves s (TakeStep ∷ []))
 step_keeps s v =
     let l = turn_leaves s.translation v.valid in
-    one_move s Turn v tt l.leaves l.cells
+    one_move s TakeStep v tt l.leaves l.cells

@@ -14,10 +14,10 @@ use Rattle.ufs_spec.specs.Dies.{blank_page}
 use Rattle.ufs_spec.specs.Disk.{at_place, page_of, spot_of}
 use Rattle.ufs_spec.specs.Exchanges.{Answering, write_error}
 use Rattle.ufs_spec.specs.Lives.{IsFailure, IsLawfulLeftover, Leads, Life, bad_in, held}
-use Rattle.ufs_spec.specs.Machine.{Ask, Finish, Finishes, IsHeard, Replies, observe}
+use Rattle.ufs_spec.specs.Machine.{Reply, Done, OfDone, IsHeard, OfReply, observe}
 use Rattle.ufs_spec.specs.Moves.{WentWrong}
 use Rattle.ufs_spec.specs.Pages.{MayBeLeft}
-use Rattle.ufs_spec.specs.Steps.{State, locked}
+use Rattle.ufs_spec.specs.Refusals.{State, locked}
 use Rattle.ufs_spec.specs.declared.events.Event.TheVariants as event
 use Rattle.ufs_spec.specs.declared.events.Leftover.TheVariants as leftover
 use Rattle.ufs_spec.specs.declared.events.Leftover.{Leftover}
@@ -35,10 +35,10 @@ use Rattle.power_loss.proofs.StoppedWrite.{one_page_left, page_stops, write_vali
 
 module _ (o : Open) (body : List ℕ) (c : Cells) (left : Array) where
   failed : State
-  failed = observe (writing o body) (Finish 0 (WentWrong c) left) (Finishes true)
+  failed = observe (writing o body) (Done 0 (WentWrong c) left) (OfDone true)
 
   replied : State
-  replied = observe failed Ask (Replies (Some write_failed))
+  replied = observe failed Reply (OfReply (Some write_failed))
 
   failed_array : failed.array ≡ left
   unfolding failed writing
@@ -52,7 +52,7 @@ module _ (o : Open) (body : List ℕ) (c : Cells) (left : Array) where
   unfolding failed writing
   failed_locked = refl
 
-  failed_answers : Gets failed Ask (Replies (Some write_failed))
+  failed_answers : Gets failed Reply (OfReply (Some write_failed))
   unfolding failed writing
   failed_answers = reply_gets failed (write_task (Answering write_error 4096)) write_failed refl refl refl
 
@@ -132,21 +132,21 @@ module _ (body : List ℕ) (long : length body ≡ 4096) (write block : Vec ℕ)
       (one_page_left t (place_of 1) intended page flies here)
 
   v : State
-  v = observe t (Finish 0 (WentWrong c) left) (Finishes true)
+  v = observe t (Done 0 (WentWrong c) left) (OfDone true)
 
   v_is : v ≡ failed o body c left
   unfolding v failed
-  v_is = ap (λ (x : State). observe x (Finish 0 (WentWrong c) left) (Finishes true)) is
+  v_is = ap (λ (x : State). observe x (Done 0 (WentWrong c) left) (OfDone true)) is
 
   u : State
-  u = observe v Ask (Replies (Some write_failed))
+  u = observe v Reply (OfReply (Some write_failed))
 
   u_is : u ≡ replied o body c left
   unfolding u replied
-  u_is = ap (λ (x : State). observe x Ask (Replies (Some write_failed))) v_is
+  u_is = ap (λ (x : State). observe x Reply (OfReply (Some write_failed))) v_is
 
-  v_answers : Gets v Ask (Replies (Some write_failed))
-  v_answers = subst (λ (x : State). Gets x Ask (Replies (Some write_failed))) (sym v_is) (failed_answers o body c left)
+  v_answers : Gets v Reply (OfReply (Some write_failed))
+  v_answers = subst (λ (x : State). Gets x Reply (OfReply (Some write_failed))) (sym v_is) (failed_answers o body c left)
 
   lived : Life s (write_events write block) (write_outputs body) t
   unfolding t
@@ -159,8 +159,8 @@ module _ (body : List ℕ) (long : length body ≡ 4096) (write block : Vec ℕ)
   told_so : Leads v event.Reply (told write_failed) u
   unfolding u
   told_so = record {
-    call = Ask;
-    answer = Replies (Some write_failed);
+    call = Reply;
+    answer = OfReply (Some write_failed);
     is_call = refl;
     is_shown = refl;
     right = v_answers.right;

@@ -2,7 +2,7 @@
 use Rattle.std.proofs.Common.{◌≡◌, ℕ, suc, ◌+◌, ◌==◌, is_none, if◌then◌else◌, true, List, [], ◌∷◌, Option, Some, None, refl, sym, ap, ◌∙◌, subst, ⊎_elim, arith}
 use Rattle.ufs_spec.specs.Cells.{Mark, MarkPage}
 use Rattle.ufs_spec.specs.Disk.{Programming}
-use Rattle.ufs_spec.specs.Moves.{End, WentWell, end_flight, mending_behind, moved}
+use Rattle.ufs_spec.specs.Moves.{EndJob, WentWell, end_flight, mending_behind, moved}
 use Rattle.ufs_spec.specs.Openings.{IsFirstFence}
 use Rattle.ufs_spec.specs.Translation.{MarkStep, MayTake, Mended, Mending, OrderMark, Repairing, Step, StepKind, Translation, Unmarked, due_order, has_mark_number, is_mended, next_order, stepped, taken, turned}
 use Rattle.ufs_spec.specs.declared.flash.Fence.{Fence}
@@ -18,7 +18,7 @@ use Rattle.power_loss.proofs.Takes.{takes_program}
 -- A mark that flies
 
 -- nothing is lost where the first mark has no fence
-none_lost : (t : Translation) (fence : Option Fence) (m : Mark) → fence ≡ None → m.fence ≡ None → IsFirstFence t.ledger.newest t.ledger.low t.ledger.top fence →
+none_lost : (t : Translation) (fence : Option Fence) (m : Mark) → fence ≡ None → m.fence ≡ None → IsFirstFence t.ledger.newest t.ledger.first_lost t.ledger.greatest_seen fence →
     IsPlainMark (book t) m
 none_lost t None m e none f = record { none = none; repaired = λ n i page l is. absurd (let x = l.from in let y = l.to in let z = f.1 in omega arith) }
 none_lost t (Some fence) m e none f = absurd (none_some fence (sym e))
@@ -77,6 +77,6 @@ ended t (Repairing left) die p m u job none = refl
 ended t Mended die p m u job none = refl
 
 pub ends : (t : Translation) (die : ℕ) (p : Place) (m : Mark) → Valid t → t.disk.flights die ≡ Some (Programming p (MarkPage m)) → m.fence ≡ None →
-    is_mended (moved t (End die WentWell)).work.mending ≡ true
+    is_mended (moved t (EndJob die WentWell)).work.mending ≡ true
 ends t die p m v job none =
     ap (λ f. is_mended (end_flight t die f WentWell).work.mending) job ∙ ended t t.work.mending die p m v.mending job none

@@ -9,7 +9,7 @@ use Rattle.ufs_spec.specs.Configs.{IsConfig}
 use Rattle.ufs_spec.specs.Disk.{Disk, Erasing, Flight, ForNobody, ForRest, ForStep, ForTask, Programming, Reader, Reading, Spot, at_die, page_of, program_failed, programmed}
 use Rattle.ufs_spec.specs.Keys.{Contents, Group, IsBlock, IsKey, IsSettingsBody, Item}
 use Rattle.ufs_spec.specs.Ledger.{Entry, Ledger, Name, all_stand, at_name, before_accepted, climbs, climbed, next_number, entry_in, entry_of, is_standing}
-use Rattle.ufs_spec.specs.Moves.{Accept, Claim, End, Ending, IsAllowedMove, Keep, LetGo, LetGoAll, MayEnd, Move, ReadRight, ReadWrong, Release, Take, Tell, Turn, WantPage, WentWell, WentWrong, die_idle, end_flight, freed, mark_written, mending_behind, moved, read_right, read_wrong, without_reader}
+use Rattle.ufs_spec.specs.Moves.{Accept, Claim, EndJob, Ending, IsAllowedMove, Keep, LetGo, LetGoAll, MayEnd, Move, ReadRight, ReadWrong, Release, GiveJob, Acknowledge, TakeStep, WantPage, WentWell, WentWrong, die_idle, end_flight, freed, mark_written, mending_behind, moved, read_right, read_wrong, without_reader}
 use Rattle.ufs_spec.specs.Openings.{IsFirstFence}
 use Rattle.ufs_spec.specs.Plain.{shape_of_numbers}
 use Rattle.ufs_spec.specs.Translation.{CopyStep, MarkStep, Mended, Mending, MayTake, Order, OrderCopy, OrderMark, OrderPlanMark, OrderRepair, Plan, Repairing, RepairStep, Step, StepKind, Translation, Unmarked, due_order, flight_at, has_mark_number, cell_now, flight_for, is_mended, copy_begun, has_number, live_places, mark_ordered, name_of, plan_order, repair_ordered, victim, victim_order, wants_collection, with_plan, may_open, next_place, waiting_name, IsOwed, Rest, step_flies, next_order, ordered, records_now, step_cell, stepped, taken, turned, waiting_step}
@@ -126,23 +126,23 @@ in_group groups g j i e (Some found) at h =
     (slice_get_more groups g j found at)
 
 page_more : (b : Book) (g : Group) (n i : ℕ) (e : Entry) → IsPageAt (with_group b g) n i e →
-    IsPageAt b n i e ⊎ ((b.top < n) × (entry_in g i ≡ Some e))
-page_more b g n i e is = ⊎_elim old new (two_ways (nat_le n b.top))
+    IsPageAt b n i e ⊎ ((b.greatest_seen < n) × (entry_in g i ≡ Some e))
+page_more b g n i e is = ⊎_elim old new (two_ways (nat_le n b.greatest_seen))
   where
-    old : nat_le n b.top ≡ true → IsPageAt b n i e ⊎ ((b.top < n) × (entry_in g i ≡ Some e))
-    old h = inl (if_true (nat_le n b.top) (b.old n i) _ h ∙ (sym (if_true (nat_le n b.top) (b.old n i) _ h) ∙ is))
+    old : nat_le n b.greatest_seen ≡ true → IsPageAt b n i e ⊎ ((b.greatest_seen < n) × (entry_in g i ≡ Some e))
+    old h = inl (if_true (nat_le n b.greatest_seen) (b.entries_before n i) _ h ∙ (sym (if_true (nat_le n b.greatest_seen) (b.entries_before n i) _ h) ∙ is))
 
-    new : nat_le n b.top ≡ false → IsPageAt b n i e ⊎ ((b.top < n) × (entry_in g i ≡ Some e))
+    new : nat_le n b.greatest_seen ≡ false → IsPageAt b n i e ⊎ ((b.greatest_seen < n) × (entry_in g i ≡ Some e))
     new h =
-        let at : option_and_then (λ (x : Group). entry_in x i) (slice_get (b.groups ++ g ∷ []) (n - b.top - 1)) ≡ Some e =
-        ap (λ x. option_and_then (λ (y : Group). entry_in y i) x) (sym (if_false (nat_le n b.top) None (slice_get (b.groups ++ g ∷ []) (n - b.top - 1)) h))
-        ∙ (sym (if_false (nat_le n b.top) (b.old n i) _ h) ∙ is) in
+        let at : option_and_then (λ (x : Group). entry_in x i) (slice_get (b.groups ++ g ∷ []) (n - b.greatest_seen - 1)) ≡ Some e =
+        ap (λ x. option_and_then (λ (y : Group). entry_in y i) x) (sym (if_false (nat_le n b.greatest_seen) None (slice_get (b.groups ++ g ∷ []) (n - b.greatest_seen - 1)) h))
+        ∙ (sym (if_false (nat_le n b.greatest_seen) (b.entries_before n i) _ h) ∙ is) in
         ⊎_elim
-        (λ (k : option_and_then (λ (x : Group). entry_in x i) (slice_get b.groups (n - b.top - 1)) ≡ Some e).
-        inl (if_false (nat_le n b.top) (b.old n i) _ h
-        ∙ (ap (λ x. option_and_then (λ (y : Group). entry_in y i) x) (if_false (nat_le n b.top) None (slice_get b.groups (n - b.top - 1)) h) ∙ k)))
-        (λ (k : entry_in g i ≡ Some e). inr (leb-false n b.top h, k))
-        (in_group b.groups g (n - b.top - 1) i e (slice_get (b.groups ++ g ∷ []) (n - b.top - 1)) refl at)
+        (λ (k : option_and_then (λ (x : Group). entry_in x i) (slice_get b.groups (n - b.greatest_seen - 1)) ≡ Some e).
+        inl (if_false (nat_le n b.greatest_seen) (b.entries_before n i) _ h
+        ∙ (ap (λ x. option_and_then (λ (y : Group). entry_in y i) x) (if_false (nat_le n b.greatest_seen) None (slice_get b.groups (n - b.greatest_seen - 1)) h) ∙ k)))
+        (λ (k : entry_in g i ≡ Some e). inr (leb-false n b.greatest_seen h, k))
+        (in_group b.groups g (n - b.greatest_seen - 1) i e (slice_get (b.groups ++ g ∷ []) (n - b.greatest_seen - 1)) refl at)
 
 abbrev pub ItemsFit : Group → Type 0
 ItemsFit g = (i : ℕ) (item : Item) → slice_get g i ≡ Some item → IsBlock item.body × (item.key.kind ≡ 3 → IsSettingsBody item.body)
@@ -165,7 +165,7 @@ group_fits b g f few items fit = record {
   entries = λ n i e is.
       ⊎_elim
       (λ (h : IsPageAt b n i e). f.entries n i e h)
-      (λ (h : (b.top < n) × (entry_in g i ≡ Some e)). (entry_fits g i e few items (slice_get g i) refl h.1, omega (arith, h.0)))
+      (λ (h : (b.greatest_seen < n) × (entry_in g i ≡ Some e)). (entry_fits g i e few items (slice_get g i) refl h.1, omega (arith, h.0)))
       (page_more b g n i e is);
   last = omega (arith, length-append b.groups (g ∷ []));
   lost = f.lost;
@@ -210,9 +210,9 @@ cell_now_fits t name f =
 
 -- the fence of a mark that is ordered covers what is lost
 fence_bounds : (b : Book) (d : Disk) (l : Ledger) (plan : Option Plan) (step : Option Step) (w : Mending) (fence : Option Fence) →
-    MendingRight b d l plan step w → FenceRight w fence → (f : Fence) → fence ≡ Some f → (f.first ≡ b.low) × (f.last ≡ b.top) × (b.low ≤ b.top)
+    MendingRight b d l plan step w → FenceRight w fence → (f : Fence) → fence ≡ Some f → (f.first ≡ b.first_lost) × (f.last ≡ b.greatest_seen) × (b.first_lost ≤ b.greatest_seen)
 fence_bounds b d l plan step (Unmarked first lost) fence m r f e =
-    subst (λ (x : Option Fence). IsFirstFence l.newest b.low b.top x) (sym r ∙ e) m.fence_right
+    subst (λ (x : Option Fence). IsFirstFence l.newest b.first_lost b.greatest_seen x) (sym r ∙ e) m.fence_right
 fence_bounds b d l plan step (Repairing left) fence m r f e = absurd (no (sym r.0 ∙ e))
   where
     no : None ≡ Some f → ⊥
@@ -222,7 +222,7 @@ fence_bounds b d l plan step Mended fence m r f e = absurd (no (sym r ∙ e))
     no : None ≡ Some f → ⊥
     no h = cc
 
-fence_fits : (b : Book) (f : Fence) → BookFits b → (f.first ≡ b.low) × (f.last ≡ b.top) × (b.low ≤ b.top) → IsFence f
+fence_fits : (b : Book) (f : Fence) → BookFits b → (f.first ≡ b.first_lost) × (f.last ≡ b.greatest_seen) × (b.first_lost ≤ b.greatest_seen) → IsFence f
 fence_fits b f fits h =
     let some = fits.lost h.2 in
     let last = fits.last in
@@ -232,7 +232,7 @@ fence_fits b f fits h =
     record { ordered = omega arith; some = omega arith; fits = omega arith }
 
 records_fit : (t : Translation) (fence : Option Fence) → Fits t →
-    ((f : Fence) → fence ≡ Some f → (f.first ≡ t.ledger.low) × (f.last ≡ t.ledger.top) × (t.ledger.low ≤ t.ledger.top)) → records_now t.ledger fence ≤ 2 ^ 62
+    ((f : Fence) → fence ≡ Some f → (f.first ≡ t.ledger.first_lost) × (f.last ≡ t.ledger.greatest_seen) × (t.ledger.first_lost ≤ t.ledger.greatest_seen)) → records_now t.ledger fence ≤ 2 ^ 62
 records_fit t None f h = let w = f.valid.frontier.within in let l = f.book_fits.last in omega arith
 records_fit t (Some fence) f h = let l = f.book_fits.last in let e = (h fence refl).1 in omega arith
 
@@ -267,7 +267,7 @@ owed_fits t die None None p cell f e h = cc
 
 takes_fit : (t : Translation) (die : ℕ) (flight : Flight) → Fits t → MayTake t die (Some flight) → Fits (taken t die flight)
 takes_fit t die flight f may =
-    light t (taken t die flight) f (all_keep t (Take die flight) f.valid may) refl refl (begun_programs t.disk.flights die flight new f.programs) f.marks f.repaired refl
+    light t (taken t die flight) f (all_keep t (GiveJob die flight) f.valid may) refl refl (begun_programs t.disk.flights die flight new f.programs) f.marks f.repaired refl
   where
     new : (p : Place) (cell : Cell) → flight ≡ Programming p cell → IsFit cell
     new p cell e =
@@ -285,7 +285,7 @@ climbed_up stands n (g ∷ gs) = by (all_stand (stands (suc n)) (length g)) (cli
     by false h = omega arith
 
 climbs_up : (l : Ledger) → l.frontier ≤ (climbs l).frontier
-climbs_up l = climbed_up (is_standing l) l.frontier (drop (l.frontier - l.top) l.groups)
+climbs_up l = climbed_up (is_standing l) l.frontier (drop (l.frontier - l.greatest_seen) l.groups)
 
 -- behind a mark each repair is durable
 mark_repaired : (t : Translation) (w : Mending) (m : Mark) → Valid t → MarkFlightRight t.numbers t.ledger.marks t.work.step m →
@@ -474,7 +474,7 @@ orders_fit t (OrderPlanMark s) f told v =
     light t _ f v refl refl f.programs (omega arith) f.repaired refl
 
 turns_fit : (t : Translation) → Fits t → Fits (turned t)
-turns_fit t f = by (due_order t) refl (all_keep t Turn f.valid tt)
+turns_fit t f = by (due_order t) refl (all_keep t TakeStep f.valid tt)
   where
     by : (x : Option Order) → due_order t ≡ x → Valid (stepped t x) → Fits (stepped t x)
     by None e v = f
@@ -484,16 +484,16 @@ pub move_fits : (t : Translation) (move : Move) → Fits t → IsAllowedMove t m
 move_fits t (Claim count) f may = light t (moved t (Claim count)) f (all_keep t (Claim count) f.valid may) refl refl f.programs f.marks f.repaired refl
 move_fits t (Release count) f may = light t (moved t (Release count)) f (all_keep t (Release count) f.valid may) refl refl f.programs f.marks f.repaired refl
 move_fits t (Accept claimed g) f may = accepts_fit t claimed g f may
-move_fits t (Tell count) f may = light t (moved t (Tell count)) f (all_keep t (Tell count) f.valid may) refl refl f.programs f.marks f.repaired refl
+move_fits t (Acknowledge count) f may = light t (moved t (Acknowledge count)) f (all_keep t (Acknowledge count) f.valid may) refl refl f.programs f.marks f.repaired refl
 move_fits t (Keep key pin) f may = light t (moved t (Keep key pin)) f (all_keep t (Keep key pin) f.valid may) refl refl f.programs f.marks f.repaired refl
 move_fits t (WantPage tag index) f may = light t (moved t (WantPage tag index)) f (all_keep t (WantPage tag index) f.valid may) refl refl f.programs f.marks f.repaired refl
 move_fits t (LetGo tag index) f may =
     light t (moved t (LetGo tag index)) f (all_keep t (LetGo tag index) f.valid may) refl refl (gone_programs t.disk.flights _ f.programs) f.marks f.repaired refl
 move_fits t (LetGoAll tag) f may =
     light t (moved t (LetGoAll tag)) f (all_keep t (LetGoAll tag) f.valid may) refl refl (gone_programs t.disk.flights _ f.programs) f.marks f.repaired refl
-move_fits t (Take die flight) f may = takes_fit t die flight f may
-move_fits t (End die ending) f may = ends_fit t die (t.disk.flights die) ending f refl may (all_keep t (End die ending) f.valid may)
-move_fits t Turn f may = turns_fit t f
+move_fits t (GiveJob die flight) f may = takes_fit t die flight f may
+move_fits t (EndJob die ending) f may = ends_fit t die (t.disk.flights die) ending f refl may (all_keep t (EndJob die ending) f.valid may)
+move_fits t TakeStep f may = turns_fit t f
 
 -- the mending never goes back
 
@@ -571,11 +571,11 @@ pub move_stays : (t : Translation) (move : Move) → Stays t (moved t move)
 move_stays t (Claim count) = record { numbers = refl; base = refl; mended = λ h. h }
 move_stays t (Release count) = record { numbers = refl; base = refl; mended = λ h. h }
 move_stays t (Accept claimed g) = record { numbers = refl; base = refl; mended = λ h. h }
-move_stays t (Tell count) = record { numbers = refl; base = refl; mended = λ h. h }
+move_stays t (Acknowledge count) = record { numbers = refl; base = refl; mended = λ h. h }
 move_stays t (Keep key pin) = record { numbers = refl; base = refl; mended = λ h. h }
 move_stays t (WantPage tag index) = record { numbers = refl; base = refl; mended = λ h. h }
 move_stays t (LetGo tag index) = record { numbers = refl; base = refl; mended = λ h. h }
 move_stays t (LetGoAll tag) = record { numbers = refl; base = refl; mended = λ h. h }
-move_stays t (Take die flight) = record { numbers = refl; base = refl; mended = λ h. h }
-move_stays t (End die ending) = end_stays t die (t.disk.flights die) ending
-move_stays t Turn = turn_stays t
+move_stays t (GiveJob die flight) = record { numbers = refl; base = refl; mended = λ h. h }
+move_stays t (EndJob die ending) = end_stays t die (t.disk.flights die) ending
+move_stays t TakeStep = turn_stays t

@@ -23,10 +23,10 @@ item_of None size e h = cc
 item_of (Some item) size e h = (item, refl)
 
 -- a page of this life is one of a group
-pub in_group : (b : Book) (n i : ℕ) (e : Entry) → b.top < n → IsPageAt b n i e →
-    (g : Group) × (slice_get b.groups (n - b.top - 1) ≡ Some g) × (i < length g)
+pub in_group : (b : Book) (n i : ℕ) (e : Entry) → b.greatest_seen < n → IsPageAt b n i e →
+    (g : Group) × (slice_get b.groups (n - b.greatest_seen - 1) ≡ Some g) × (i < length g)
 in_group b n i e l is =
-    let s = slot_of (nat_le n b.top) (b.old n i) (slice_get b.groups (n - b.top - 1)) i e (lt-leb n b.top l) is in
+    let s = slot_of (nat_le n b.greatest_seen) (b.entries_before n i) (slice_get b.groups (n - b.greatest_seen - 1)) i e (lt-leb n b.greatest_seen l) is in
     let x = item_of (slice_get s.0 i) (length s.0) e s.2 in
     (s.0, s.1, slice_get_within s.0 i x.0 x.1)
 
@@ -111,21 +111,21 @@ stood standing name p n i q h =
 
 -- the frontier behind a page of the name
 abbrev pub climbed_to : Book → Standing → ℕ → ℕ
-climbed_to b standing frontier = climbed (λ n i. is_some (standing n i)) frontier (drop (frontier - b.top) b.groups)
+climbed_to b standing frontier = climbed (λ n i. is_some (standing n i)) frontier (drop (frontier - b.greatest_seen) b.groups)
 
 pub climbs_up : (b : Book) (standing : Standing) (frontier : ℕ) → frontier ≤ climbed_to b standing frontier
-climbs_up b standing frontier = (climb (λ n i. is_some (standing n i)) frontier (drop (frontier - b.top) b.groups)).from
+climbs_up b standing frontier = (climb (λ n i. is_some (standing n i)) frontier (drop (frontier - b.greatest_seen) b.groups)).from
 
-pub climbs_within : (b : Book) (standing : Standing) (frontier : ℕ) → b.top ≤ frontier → frontier ≤ last_number b → climbed_to b standing frontier ≤ last_number b
-climbs_within b standing frontier l u = let c = (climb (λ n i. is_some (standing n i)) frontier (drop (frontier - b.top) b.groups)).within in omega (arith, length-drop (frontier - b.top) b.groups, c)
+pub climbs_within : (b : Book) (standing : Standing) (frontier : ℕ) → b.greatest_seen ≤ frontier → frontier ≤ last_number b → climbed_to b standing frontier ≤ last_number b
+climbs_within b standing frontier l u = let c = (climb (λ n i. is_some (standing n i)) frontier (drop (frontier - b.greatest_seen) b.groups)).within in omega (arith, length-drop (frontier - b.greatest_seen) b.groups, c)
 
 -- above the old frontier and up to the new one each page stands
-climbs_stand : (b : Book) (standing : Standing) (frontier n i : ℕ) (e : Entry) → b.top ≤ frontier → frontier < n → n ≤ climbed_to b standing frontier → IsPageAt b n i e →
+climbs_stand : (b : Book) (standing : Standing) (frontier n i : ℕ) (e : Entry) → b.greatest_seen ≤ frontier → frontier < n → n ≤ climbed_to b standing frontier → IsPageAt b n i e →
     (p : Place) × (standing n i ≡ Some p)
 climbs_stand b standing frontier n i e low l u is =
     let g = in_group b n i e (omega arith) is in
-    let c = climb (λ n i. is_some (standing n i)) frontier (drop (frontier - b.top) b.groups) in
-    let at = get_drop b.groups (frontier - b.top) (n - frontier - 1) ∙ ap (slice_get b.groups) (index b.top frontier n low l) ∙ g.1 in
+    let c = climb (λ n i. is_some (standing n i)) frontier (drop (frontier - b.greatest_seen) b.groups) in
+    let at = get_drop b.groups (frontier - b.greatest_seen) (n - frontier - 1) ∙ ap (slice_get b.groups) (index b.greatest_seen frontier n low l) ∙ g.1 in
     some_place (standing n i) (ap (λ z. is_some (standing z i)) (back frontier n l) ∙ c.all (n - frontier - 1) i g.0 at (subst (λ z. z ≤ climbed_to b standing frontier) (back frontier n l) u) g.2)
   where
     index : (top frontier n : ℕ) → top ≤ frontier → frontier < n → frontier - top + (n - frontier - 1) ≡ n - top - 1
@@ -154,10 +154,10 @@ climbs_right b standing frontier name p x f is = record {
     order n m = grind arith
 
 -- over the last group alone, of one page that stands, it climbs to the end
-pub climbs_last : (b : Book) (standing : Standing) (frontier : ℕ) → b.top ≤ frontier → suc frontier ≡ last_number b →
+pub climbs_last : (b : Book) (standing : Standing) (frontier : ℕ) → b.greatest_seen ≤ frontier → suc frontier ≡ last_number b →
     ((j : ℕ) (g : Group) → slice_get b.groups j ≡ Some g → length g ≡ 1) → is_some (standing (suc frontier) 0) ≡ true → suc frontier ≤ climbed_to b standing frontier
 climbs_last b standing frontier low e singles there =
-    let r = drop_last b.groups (frontier - b.top) (omega arith) in
+    let r = drop_last b.groups (frontier - b.greatest_seen) (omega arith) in
     subst (λ (z : List Group). suc frontier ≤ climbed (λ n i. is_some (standing n i)) frontier z) (sym r.1)
     (climb_one (λ n i. is_some (standing n i)) frontier r.0 []
-    (ap (all_stand (λ i. is_some (standing (suc frontier) i))) (singles (frontier - b.top) r.0 r.2) ∙ rw there refl))
+    (ap (all_stand (λ i. is_some (standing (suc frontier) i))) (singles (frontier - b.greatest_seen) r.0 r.2) ∙ rw there refl))

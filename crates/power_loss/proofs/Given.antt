@@ -6,7 +6,7 @@ use Rattle.ufs_spec.specs.Disk.{CellCrash, Spot}
 use Rattle.ufs_spec.specs.Kept.{IsKept, IsNewestMark}
 use Rattle.ufs_spec.specs.Lives.{IsOpened, Life}
 use Rattle.ufs_spec.specs.Sound.{CellsSound, CellsSuit, Sound}
-use Rattle.ufs_spec.specs.Steps.{State}
+use Rattle.ufs_spec.specs.Refusals.{State}
 use Rattle.ufs_spec.specs.Translation.{Translation}
 use Rattle.ufs_spec.specs.declared.configs.Numbers.{Numbers}
 use Rattle.ufs_spec.specs.declared.events.Event.{Event}

@@ -7,14 +7,14 @@ use Rattle.std.proofs.lemmas.Bool.{ltb-false, ltb-true, or_parts}
 use Rattle.std.proofs.lemmas.List.{get_or-map, length-map}
 use Rattle.std.proofs.lemmas.Option.{slice_get-get_or}
 use Rattle.ufs_spec.specs.Cdbs.{address_of, blocks_of, direction_of, length_of, operation_of, write_10, write_6}
-use Rattle.ufs_spec.specs.Exchanges.{Answering, Awaiting, Busy, Deed, ForWrite, Gathering, Good, ReadBlock, Sending, Short, Status, Task, TaskSetFull, Telling, invalid_field, invalid_operation, list_length_error, no_unit, not_ready, out_of_range, sequence_error, write_protected, is_short_of, is_task_of, response, short_reply}
+use Rattle.ufs_spec.specs.Exchanges.{Answering, Awaiting, Busy, Deed, ForWrite, Gathering, Good, ReadBlock, Sending, Short, Status, Task, TaskSetFull, SendingBytes, invalid_field, invalid_operation, list_length_error, no_unit, not_ready, out_of_range, sequence_error, write_protected, is_short_of, is_task_of, response, short_reply}
 use Rattle.ufs_spec.specs.Keys.{IsKey, below, data_key}
-use Rattle.ufs_spec.specs.Machine.{begun, begun_with, blocks_expected, capacity_bytes, claimed_by, command_heard, flush_begun, in_use, keeps, kept_at, no_sense, opened_with, opening_fault, read_begun, read_blocks, sending, tag_in, told, unit_or_first, with_moves, with_short, with_task, write_begun}
+use Rattle.ufs_spec.specs.Machine.{begun, begun_with, blocks_expected, capacity_bytes, claimed_by, command_heard, flush_begun, in_use, keeps, kept_at, no_sense, opened_with, opening_fault, read_begun, read_blocks, sending, tag_in, data_begun, unit_or_first, with_moves, with_short, with_task, write_begun}
 use Rattle.ufs_spec.specs.Messages.{is_among}
 use Rattle.ufs_spec.specs.Moves.{Claim}
 use Rattle.ufs_spec.specs.Plain.{shape_of_numbers}
 use Rattle.ufs_spec.specs.Stages.{most_blocks, most_tasks, taken_luns}
-use Rattle.ufs_spec.specs.Steps.{BootUnit, DeviceUnit, ReportLunsUnit, RpmbUnit, operation_in, takes, well_known, Lun, has_other_response, has_wrong_list, is_crowded, is_refused_write, lacks_data, lacks_response, length_in, spec_at, Line, Request, State, UnitOf, first_line, is_past, is_too_long, lacks_unit, line, lines_behind, lun_of, mended, needs_mended, not_taken, numbers_of, refusal, slots_needed, spec_of, unit_in, unit_of_request}
+use Rattle.ufs_spec.specs.Refusals.{BootUnit, DeviceUnit, ReportLunsUnit, RpmbUnit, operation_in, takes, well_known, Lun, has_other_response, has_wrong_list, is_crowded, is_refused_write, lacks_data, lacks_response, length_in, spec_at, Line, Request, State, UnitOf, first_line, is_past, is_too_long, lacks_unit, line, lines_behind, lun_of, mended, needs_mended, not_taken, numbers_of, refusal, slots_needed, spec_of, unit_in, unit_of_request}
 use Rattle.ufs_spec.specs.Translation.{free_slots, is_mended}
 use Rattle.ufs_spec.specs.declared.configs.Numbers.{Numbers}
 use Rattle.ufs_spec.specs.declared.configs.UnitSpec.{UnitSpec}
@@ -76,12 +76,12 @@ task_right s r command n deed v free fits none =
 answer_right : (s : State) (r : Request) (command : Option Cdb) (n : ℕ) (status : Status) (carried : ℕ) → IsTied s → IsFree s r.tag → Right s (with_task s r command n (Answering status carried))
 answer_right s r command n status carried v free = task_right s r command n (Answering status carried) v free tt refl
 
-telling_right : (s : State) (r : Request) (command : Cdb) (bytes : List ℕ) → IsTied s → IsFree s r.tag → Right s (told s r command bytes)
+telling_right : (s : State) (r : Request) (command : Cdb) (bytes : List ℕ) → IsTied s → IsFree s r.tag → Right s (data_begun s r command bytes)
 telling_right s r command bytes v free = by (min r.expected (length bytes) == 0)
   where
-    by : (b : Bool) → Right s (with_task s r (Some command) (length bytes) (if b then Answering Good (length bytes) else Telling bytes))
+    by : (b : Bool) → Right s (with_task s r (Some command) (length bytes) (if b then Answering Good (length bytes) else SendingBytes bytes))
     by true = answer_right s r (Some command) (length bytes) Good (length bytes) v free
-    by false = task_right s r (Some command) (length bytes) (Telling bytes) v free tt refl
+    by false = task_right s r (Some command) (length bytes) (SendingBytes bytes) v free tt refl
 
 -- READ
 
@@ -217,8 +217,8 @@ unit_told s r units h k = by (lun_of (numbers_of s) r.lun) refl h k
     by (Some lun) e lacks taken =
         let unit = units lun (yes (takes lun (operation_in r)) taken) in
         let is : lun_of (numbers_of s) r.lun ≡ Some (UnitOf unit.0) = e ∙ ap Some unit.1 in
-        let told = lun_told (numbers_of s) r.lun unit.0 is in
-        record { there = told.0; is = ap (unit_in s r) is ∙ ap Some told.1 }
+        let data_begun = lun_told (numbers_of s) r.lun unit.0 is in
+        record { there = data_begun.0; is = ap (unit_in s r) is ∙ ap Some data_begun.1 }
 
 no_spec : UnitSpec
 no_spec = record { blocks = 0; boot = 0; protect = 0 }
@@ -226,13 +226,13 @@ no_spec = record { blocks = 0; boot = 0; protect = 0 }
 -- the blocks lie within the unit
 pub lies_within : (s : State) (r : Request) (command : Cdb) → UnitTold s r → is_past command (spec_of s r) ≡ false →
     address_of command + blocks_of command ≤ get_or (map (λ (u : UnitSpec). u.blocks) (numbers_of s).units.items) r.lun 0
-lies_within s r command told h =
+lies_within s r command data_begun h =
     let units = (numbers_of s).units.items in
-    let found = slice_get-get_or units r.lun no_spec told.there in
-    let spec : spec_of s r ≡ Some (get_or units r.lun no_spec) = ap (spec_at (numbers_of s)) told.is ∙ found in
+    let found = slice_get-get_or units r.lun no_spec data_begun.there in
+    let spec : spec_of s r ≡ Some (get_or units r.lun no_spec) = ap (spec_at (numbers_of s)) data_begun.is ∙ found in
     let past : is_past command (Some (get_or units r.lun no_spec)) ≡ false = subst (λ (u : Option UnitSpec). is_past command u ≡ false) spec h in
     let bound = ltb-false (get_or units r.lun no_spec).blocks (address_of command + blocks_of command) past in
-    let same = get_or-map (λ (u : UnitSpec). u.blocks) units r.lun no_spec 0 told.there in
+    let same = get_or-map (λ (u : UnitSpec). u.blocks) units r.lun no_spec 0 data_begun.there in
     omega arith
 
 ready_now : (s : State) (command : Cdb) → needs_mended (operation_of command) ≡ true → (needs_mended (operation_of command) && not (mended s)) ≡ false → is_mended s.translation.work.mending ≡ true
@@ -246,18 +246,18 @@ ready_now s command needs h = by (needs_mended (operation_of command)) (is_mende
 claimed_right : (s : State) (r : Request) (command : Cdb) (unit blocks : ℕ) (forced : Bool) → IsTied s → IsFree s r.tag → Passed s r command → UnitTold s r → unit ≡ r.lun →
     slots_needed command ≡ blocks → blocks_of command ≡ blocks → needs_mended (operation_of command) ≡ true → is_too_long (numbers_of s) command ≡ nat_lt (most_blocks (numbers_of s)) (blocks_of command) → 1 ≤ blocks →
     Right s (with_task (with_moves s (Claim blocks ∷ [])) r (Some command) (4096 * blocks) (Gathering (ForWrite unit (address_of command) blocks forced) [] false))
-claimed_right s r command unit blocks forced v free p told same slots size needs long some =
+claimed_right s r command unit blocks forced v free p data_begun same slots size needs long some =
     let t = s.translation in
     let units = (numbers_of s).units.items in
     let m = is_mended t.work.mending in
     let deed : Deed = Gathering (ForWrite unit (address_of command) blocks forced) [] false in
     let task : Task = record { lun = r.lun; tag = r.tag; expected = r.expected; command = Some command; length = 4096 * blocks; deed = deed; request = None } in
     let few = ltb-false (most_blocks (numbers_of s)) (blocks_of command) (sym long ∙ p.not_long) in
-    let lies = lies_within s r command told p.within in
+    let lies = lies_within s r command data_begun p.within in
     let count = length-map units (λ (x : UnitSpec). x.blocks) in
     let here : get_or (map (λ (x : UnitSpec). x.blocks) units) unit 0 ≡ get_or (map (λ (x : UnitSpec). x.blocks) units) r.lun 0 =
     ap (λ (x : ℕ). get_or (map (λ (y : UnitSpec). y.blocks) units) x 0) same in
-    let there = told.there in
+    let there = data_begun.there in
     let fits : WriteFits (shape_of_numbers (numbers_of s)) m unit (address_of command) blocks (4096 * blocks) [] (slots_needed command) = record {
       unit_in = omega arith;
       some = some;
@@ -292,8 +292,8 @@ write_right s r command blocks forced v free p units slots size needs long = by 
         else with_task (with_moves s (Claim blocks ∷ [])) r (Some command) (4096 * blocks) (Gathering (ForWrite (unit_or_first (unit_of_request s r)) (address_of command) blocks forced) [] false))
     by true h = answer_right s r (Some command) 0 Good 0 v free
     by false h =
-        let told = unit_told s r units p.unit p.taken in
-        claimed_right s r command (unit_or_first (unit_of_request s r)) blocks forced v free p told (ap unit_or_first told.is) slots size needs long (some h)
+        let data_begun = unit_told s r units p.unit p.taken in
+        claimed_right s r command (unit_or_first (unit_of_request s r)) blocks forced v free p data_begun (ap unit_or_first data_begun.is) slots size needs long (some h)
 
 flush_right : (s : State) (r : Request) (address blocks : ℕ) (immediate : Bool) → IsTied s → IsFree s r.tag → Passed s r (cdb.SynchronizeCache10 address blocks immediate) →
     Right s (flush_begun s r (cdb.SynchronizeCache10 address blocks immediate) immediate)

@@ -6,13 +6,13 @@ use Rattle.std.proofs.lemmas.List.{length-append, length-drop, length-map, lengt
 use Rattle.std.proofs.lemmas.Option.{get_or_from_slice_get, slice_get-get_or, slice_get-map, slice_get_within}
 use Rattle.ufs_spec.specs.Commands.{Command}
 use Rattle.ufs_spec.specs.Commands as command
-use Rattle.ufs_spec.specs.Exchanges.{Answering, Awaiting, Deed, ForFrames, ForUnmap, ForWrite, Gathering, Purpose, Sending, Task, Telling, count_at, invalid_operation, is_asked_in, is_asked_of, task_of, write_error}
+use Rattle.ufs_spec.specs.Exchanges.{Answering, Awaiting, Deed, ForFrames, ForUnmap, ForWrite, Gathering, Purpose, Sending, Task, SendingBytes, count_at, invalid_operation, is_asked_in, is_asked_of, task_of, write_error}
 use Rattle.ufs_spec.specs.Keys.{IsBlock, IsCommand, IsData, IsKey, IsPlain, Item, below, content, data_key, group_of}
 use Rattle.ufs_spec.specs.Machine.{accepts, asked_fault, blocks_in, claimed_by, complete, data_for, data_heard, gathered_more, set_deed, with_moves, write_complete, write_deed}
 use Rattle.ufs_spec.specs.Messages.{AreBytes}
 use Rattle.ufs_spec.specs.Moves.{Accept, IsAllowedMove, IsGroup, IsItem, KeysDiffer, Release}
 use Rattle.ufs_spec.specs.Plain.{CanApply, Plain, Shape, apply, shape_of, shape_of_numbers}
-use Rattle.ufs_spec.specs.Steps.{State, locked, numbers_of, plain_now}
+use Rattle.ufs_spec.specs.Refusals.{State, locked, numbers_of, plain_now}
 use Rattle.ufs_spec.specs.Translation.{Translation, has_number, is_locked, is_mended}
 use Rattle.ufs_spec.specs.declared.flash.Key.{Key}
 use Rattle.ufs_spec.proofs.PlainFacts.{kept_shape}
@@ -308,7 +308,7 @@ data_for_right s task (Gathering purpose gathered asked) lun offset bytes v ther
         let joined = length-append gathered bytes in
         omega arith
 data_for_right s task (Sending blocks sent) lun offset bytes v there few claim h is_asked is = Still
-data_for_right s task (Telling more) lun offset bytes v there few claim h is_asked is = Still
+data_for_right s task (SendingBytes more) lun offset bytes v there few claim h is_asked is = Still
 data_for_right s task (Awaiting commands) lun offset bytes v there few claim h is_asked is = Still
 data_for_right s task (Answering status carried) lun offset bytes v there few claim h is_asked is = Still
 

@@ -14,7 +14,7 @@ use Rattle.ufs_spec.specs.Ledger.{Ledger, look}
 use Rattle.ufs_spec.specs.Machine.{blocks_expected, unit_or_first, with_moves}
 use Rattle.ufs_spec.specs.Moves.{Keep}
 use Rattle.ufs_spec.specs.Plain.{shape_of_numbers}
-use Rattle.ufs_spec.specs.Steps.{BootUnit, DeviceUnit, Lun, ReportLunsUnit, Request, RpmbUnit, State, UnitOf, boot_unit, is_boot_read, is_past, lacks_unit, lun_of, not_taken, numbers_of, operation_in, plain_now, spec_at, spec_of, takes, unit_in, unit_of_request}
+use Rattle.ufs_spec.specs.Refusals.{BootUnit, DeviceUnit, Lun, ReportLunsUnit, Request, RpmbUnit, State, UnitOf, boot_unit, is_boot_read, is_past, lacks_unit, lun_of, not_taken, numbers_of, operation_in, plain_now, spec_at, spec_of, takes, unit_in, unit_of_request}
 use Rattle.ufs_spec.specs.Translation.{Pin}
 use Rattle.ufs_spec.specs.declared.configs.Numbers.{Numbers}
 use Rattle.ufs_spec.specs.declared.configs.UnitSpec.{UnitSpec}

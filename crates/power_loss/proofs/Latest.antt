@@ -160,14 +160,14 @@ latest_name t n i e name f v h is page key free within l = ⊎_elim same newer (
         inl (ap (is_name (record { number = n; index = i })) is ∙ subst (λ (z : Name). same_name z name ≡ true) (name_is name (record { number = n; index = i }) at index) (name_self name))
 
 -- no group of this life at or under the frontier has the key
-none_written : (t : Translation) (n i : ℕ) (e : Entry) (k : Key) → NoneOf k (take (t.ledger.frontier - t.ledger.top) t.ledger.groups) →
-    IsPageAt (book t) n i e → e.item.key ≡ k → t.ledger.top < n → n ≤ t.ledger.frontier → ⊥
+none_written : (t : Translation) (n i : ℕ) (e : Entry) (k : Key) → NoneOf k (take (t.ledger.frontier - t.ledger.greatest_seen) t.ledger.groups) →
+    IsPageAt (book t) n i e → e.item.key ≡ k → t.ledger.greatest_seen < n → n ≤ t.ledger.frontier → ⊥
 none_written t n i e k none h key new l =
     let p = page_new (book t) n i e new h in
-    none (n - t.ledger.top - 1) i p.group e.item (take_get (t.ledger.frontier - t.ledger.top) t.ledger.groups (n - t.ledger.top - 1) p.group (omega arith) p.is) p.item key
+    none (n - t.ledger.greatest_seen - 1) i p.group e.item (take_get (t.ledger.frontier - t.ledger.greatest_seen) t.ledger.groups (n - t.ledger.greatest_seen - 1) p.group (omega arith) p.is) p.item key
 
 latest_group : (t : Translation) (n i : ℕ) (e : Entry) → Valid t → IsPageAt (book t) n i e → n ≤ t.ledger.frontier →
-    IsLastOf e.item.key t.ledger.top (take (t.ledger.frontier - t.ledger.top) t.ledger.groups) (latest_durable t.ledger e.item.key) → Latest t n i e
+    IsLastOf e.item.key t.ledger.greatest_seen (take (t.ledger.frontier - t.ledger.greatest_seen) t.ledger.groups) (latest_durable t.ledger e.item.key) → Latest t n i e
 latest_group t n i e v h l r =
     latest_name t n i e r.name (record { item = r.item; size = length r.group }) v h r.is
     (new_page (book t) r.name.number r.name.index (record { item = r.item; size = length r.group }) (let z = r.number in omega arith)
@@ -180,25 +180,25 @@ latest_group t n i e v h l r =
     r.key
     (λ lost. let z = r.number in let up = lost.to in omega arith)
     (let z = r.number in let u = there.0 in omega arith)
-    (⊎_elim (λ old. let z = r.number in omega arith) after (at_most n t.ledger.top))
+    (⊎_elim (λ old. let z = r.number in omega arith) after (at_most n t.ledger.greatest_seen))
   where
-    there : (r.at < t.ledger.frontier - t.ledger.top) × (slice_get t.ledger.groups r.at ≡ Some r.group)
-    there = get_take (t.ledger.frontier - t.ledger.top) t.ledger.groups r.at r.group r.there
+    there : (r.at < t.ledger.frontier - t.ledger.greatest_seen) × (slice_get t.ledger.groups r.at ≡ Some r.group)
+    there = get_take (t.ledger.frontier - t.ledger.greatest_seen) t.ledger.groups r.at r.group r.there
 
-    after : t.ledger.top < n → n ≤ r.name.number
+    after : t.ledger.greatest_seen < n → n ≤ r.name.number
     after new =
         let p = page_new (book t) n i e new h in
-        let last = r.last (n - t.ledger.top - 1) i p.group e.item (take_get (t.ledger.frontier - t.ledger.top) t.ledger.groups (n - t.ledger.top - 1) p.group (omega arith) p.is) p.item refl in
+        let last = r.last (n - t.ledger.greatest_seen - 1) i p.group e.item (take_get (t.ledger.frontier - t.ledger.greatest_seen) t.ledger.groups (n - t.ledger.greatest_seen - 1) p.group (omega arith) p.is) p.item refl in
         let z = r.number in
         omega arith
 
 -- an old number that is not lost is below those that are
-under : (b : Book) (n : ℕ) → (IsLostNumber b n → ⊥) → n ≤ b.top → n < b.low
-under b n free old = ⊎_elim (λ l. absurd (free (record { from = l; to = old }))) (λ l. l) (at_most b.low n)
+under : (b : Book) (n : ℕ) → (IsLostNumber b n → ⊥) → n ≤ b.greatest_seen → n < b.first_lost
+under b n free old = ⊎_elim (λ l. absurd (free (record { from = l; to = old }))) (λ l. l) (at_most b.first_lost n)
 
 latest_first : (t : Translation) (n i : ℕ) (e : Entry) (o : Option Name) (m : Mark) → Valid t → IsPlainMark (book t) m → m.records ≤ t.ledger.frontier →
-    IsPageAt (book t) n i e → (IsLostNumber (book t) n → ⊥) → n ≤ t.ledger.top →
-    NoneOf e.item.key (take (t.ledger.frontier - t.ledger.top) t.ledger.groups) → latest_durable t.ledger e.item.key ≡ o →
+    IsPageAt (book t) n i e → (IsLostNumber (book t) n → ⊥) → n ≤ t.ledger.greatest_seen →
+    NoneOf e.item.key (take (t.ledger.frontier - t.ledger.greatest_seen) t.ledger.groups) → latest_durable t.ledger e.item.key ≡ o →
     FirstRight (book t) e.item.key o → Latest t n i e
 latest_first t n i e None m v plain marked h free old none is first =
     absurd (first n i e (is_old (book t) n i e old h) refl (under (book t) n free old))
@@ -210,9 +210,9 @@ latest_first t n i e (Some name) m v plain marked h free old none is first = ⊎
         let u = w.within in
         absurd (none_written t w.number w.index w.page e.item.key none w.is (w.key ∙ first.2) w.new (omega arith))
 
-    last : (name.number < t.ledger.low) × ((k j : ℕ) (f : Entry) → t.ledger.old k j ≡ Some f → f.item.key ≡ e.item.key → k < t.ledger.low → k ≤ name.number) → Latest t n i e
+    last : (name.number < t.ledger.first_lost) × ((k j : ℕ) (f : Entry) → t.ledger.entries_before k j ≡ Some f → f.item.key ≡ e.item.key → k < t.ledger.first_lost → k ≤ name.number) → Latest t n i e
     last r =
-        let low = v.book_right.low in
+        let low = v.book_right.first_lost in
         let below = r.0 in
         let above = v.frontier.above in
         latest_name t n i e name first.0 v h is (old_page (book t) name.number name.index first.0 (omega arith) first.1) first.2
@@ -225,14 +225,14 @@ pub latest_or_overwritten : (t : Translation) (n i : ℕ) (e : Entry) → Valid 
     (IsLostNumber (book t) n → ⊥) → n ≤ t.ledger.frontier →
     (is_name (record { number = n; index = i }) (latest_durable t.ledger e.item.key) ≡ true) ⊎ IsOverwritten (book t) n e.item.key t.ledger.frontier
 latest_or_overwritten t n i e v mended h free l =
-    ⊎_elim (latest_group t n i e v h l) none (latest_cases e.item.key t.ledger.top (take (t.ledger.frontier - t.ledger.top) t.ledger.groups) (t.ledger.first e.item.key))
+    ⊎_elim (latest_group t n i e v h l) none (latest_cases e.item.key t.ledger.greatest_seen (take (t.ledger.frontier - t.ledger.greatest_seen) t.ledger.groups) (t.ledger.first_page e.item.key))
   where
     marked : MendingRight (book t) t.disk t.ledger t.work.plan t.work.step Mended
     marked = subst (MendingRight (book t) t.disk t.ledger t.work.plan t.work.step) mended v.mending
 
-    none : (latest_durable t.ledger e.item.key ≡ t.ledger.first e.item.key) × NoneOf e.item.key (take (t.ledger.frontier - t.ledger.top) t.ledger.groups) → Latest t n i e
+    none : (latest_durable t.ledger e.item.key ≡ t.ledger.first_page e.item.key) × NoneOf e.item.key (take (t.ledger.frontier - t.ledger.greatest_seen) t.ledger.groups) → Latest t n i e
     none r =
         ⊎_elim
-        (λ old. latest_first t n i e (t.ledger.first e.item.key) marked.mark v marked.more marked.right.within h free old r.1 r.0 (v.book_right.first e.item.key (v.book_right.keys n i e h)))
+        (λ old. latest_first t n i e (t.ledger.first_page e.item.key) marked.mark v marked.more marked.right.within h free old r.1 r.0 (v.book_right.first_page e.item.key (v.book_right.keys n i e h)))
         (λ new. absurd (none_written t n i e e.item.key r.1 h refl new l))
-        (at_most n t.ledger.top)
+        (at_most n t.ledger.greatest_seen)

@@ -99,19 +99,19 @@ taken_at (suc n) (y ∷ ys) (suc j) x l h = taken_at n ys j x (omega arith) h
 
 pub record IsNewPage (b : Book) (n i : ℕ) (x : Entry) : Type 0 where
   pub group : Group
-  pub at : slice_get b.groups (n - b.top - 1) ≡ Some group
+  pub at : slice_get b.groups (n - b.greatest_seen - 1) ≡ Some group
   pub item : slice_get group i ≡ Some x.item
 
 le_false : (m n : ℕ) → n < m → nat_le m n ≡ false
 le_false m n l = grind (arith, nat_tests)
 
-new_page : (b : Book) (n i : ℕ) (x : Entry) → b.top < n → IsPageAt b n i x → IsNewPage b n i x
-new_page b n i x l h = told (slice_get b.groups (n - b.top - 1)) refl
-    (sym (if_false (nat_le n b.top) (b.old n i) (option_and_then (λ g. entry_in g i) (if nat_le n b.top then None else slice_get b.groups (n - b.top - 1))) no
-    ∙ ap (option_and_then (λ g. entry_in g i)) (if_false (nat_le n b.top) None (slice_get b.groups (n - b.top - 1)) no)) ∙ h)
+new_page : (b : Book) (n i : ℕ) (x : Entry) → b.greatest_seen < n → IsPageAt b n i x → IsNewPage b n i x
+new_page b n i x l h = told (slice_get b.groups (n - b.greatest_seen - 1)) refl
+    (sym (if_false (nat_le n b.greatest_seen) (b.entries_before n i) (option_and_then (λ g. entry_in g i) (if nat_le n b.greatest_seen then None else slice_get b.groups (n - b.greatest_seen - 1))) no
+    ∙ ap (option_and_then (λ g. entry_in g i)) (if_false (nat_le n b.greatest_seen) None (slice_get b.groups (n - b.greatest_seen - 1)) no)) ∙ h)
   where
-    no : nat_le n b.top ≡ false
-    no = le_false n b.top l
+    no : nat_le n b.greatest_seen ≡ false
+    no = le_false n b.greatest_seen l
 
     inside : (g : Group) (o : Option Item) → option_map (λ item. record { item = item; size = length g }) o ≡ Some x → o ≡ Some x.item
     inside g None e = absurd (none e)
@@ -120,7 +120,7 @@ new_page b n i x l h = told (slice_get b.groups (n - b.top - 1)) refl
         none e = cc
     inside g (Some item) e = ap (λ (z : Entry). Some z.item) (some_is (record { item = item; size = length g }) x e)
 
-    told : (o : Option Group) → slice_get b.groups (n - b.top - 1) ≡ o → option_and_then (λ g. entry_in g i) o ≡ Some x → IsNewPage b n i x
+    told : (o : Option Group) → slice_get b.groups (n - b.greatest_seen - 1) ≡ o → option_and_then (λ g. entry_in g i) o ≡ Some x → IsNewPage b n i x
     told None e k = absurd (none k)
       where
         none : None ≡ Some x → ⊥
@@ -182,16 +182,16 @@ same_name_number found a b e f = ap (λ (z : Name). z.number) (some_is a b (sym 
 module _ (t : Translation) (v : Valid t) (m : Mark) (is : t.ledger.newest ≡ Some m) (plain : IsPlainMark (book t) m) (under : m.records ≤ t.ledger.frontier) (tag : Tag) (body : List ℕ) (known : IsKnown (book t) tag body)
     (durable : latest_durable t.ledger (key_of tag) ≡ Some (name_of tag)) where
   -- none of this life
-  new_behind : (n i : ℕ) (x : Entry) → IsPageAt (book t) n i x → x.item.key ≡ key_of tag → n ≤ t.ledger.frontier → t.ledger.top < n → n ≤ tag.number
+  new_behind : (n i : ℕ) (x : Entry) → IsPageAt (book t) n i x → x.item.key ≡ key_of tag → n ≤ t.ledger.frontier → t.ledger.greatest_seen < n → n ≤ tag.number
   new_behind n i x h key l new =
       let g = new_page (book t) n i x new h in
-      let at = taken_at (t.ledger.frontier - t.ledger.top) t.ledger.groups (n - t.ledger.top - 1) g.group (omega arith) g.at in
-      let r = group_latest (key_of tag) t.ledger.top (take (t.ledger.frontier - t.ledger.top) t.ledger.groups) (t.ledger.first (key_of tag)) (n - t.ledger.top - 1) i g.group x.item at g.item key in
+      let at = taken_at (t.ledger.frontier - t.ledger.greatest_seen) t.ledger.groups (n - t.ledger.greatest_seen - 1) g.group (omega arith) g.at in
+      let r = group_latest (key_of tag) t.ledger.greatest_seen (take (t.ledger.frontier - t.ledger.greatest_seen) t.ledger.groups) (t.ledger.first_page (key_of tag)) (n - t.ledger.greatest_seen - 1) i g.group x.item at g.item key in
       let z = r.2 in
       let e = same_name_number (latest_durable t.ledger (key_of tag)) r.0 (name_of tag) r.1 durable in
       omega arith
 
-  written_behind : IsWritten (book t) (key_of tag) m.records → t.ledger.top < tag.number
+  written_behind : IsWritten (book t) (key_of tag) m.records → t.ledger.greatest_seen < tag.number
   written_behind w =
       let new = w.new in
       let within = w.within in
@@ -206,25 +206,25 @@ module _ (t : Translation) (v : Valid t) (m : Mark) (is : t.ledger.newest ≡ So
       omega arith
 
   -- the one that the key began with is the last of its key below what is lost
-  first_behind : FirstRight (book t) (key_of tag) (Some (name_of tag)) → (n i : ℕ) (x : Entry) → (book t).old n i ≡ Some x → x.item.key ≡ key_of tag → n < t.ledger.low → n ≤ tag.number
+  first_behind : FirstRight (book t) (key_of tag) (Some (name_of tag)) → (n i : ℕ) (x : Entry) → (book t).entries_before n i ≡ Some x → x.item.key ≡ key_of tag → n < t.ledger.first_lost → n ≤ tag.number
   first_behind f n i x h key l = ⊎_elim
       (λ lost. absurd (never_lost lost))
-      (λ (o : (tag.number < t.ledger.low) × ((n i : ℕ) (e : Entry) → (book t).old n i ≡ Some e → e.item.key ≡ key_of tag → n < t.ledger.low → n ≤ tag.number)). o.1 n i x h key l)
+      (λ (o : (tag.number < t.ledger.first_lost) × ((n i : ℕ) (e : Entry) → (book t).entries_before n i ≡ Some e → e.item.key ≡ key_of tag → n < t.ledger.first_lost → n ≤ tag.number)). o.1 n i x h key l)
       f.3
 
-  old_behind : (n i : ℕ) (x : Entry) → IsPageAt (book t) n i x → x.item.key ≡ key_of tag → n ≤ t.ledger.top → (IsLostNumber (book t) n → ⊥) → n ≤ tag.number
+  old_behind : (n i : ℕ) (x : Entry) → IsPageAt (book t) n i x → x.item.key ≡ key_of tag → n ≤ t.ledger.greatest_seen → (IsLostNumber (book t) n → ⊥) → n ≤ tag.number
   old_behind n i x h key l kept = ⊎_elim
       (λ e. first_behind
-      (subst (FirstRight (book t) (key_of tag)) (sym e ∙ durable) (v.book_right.first (key_of tag) (v.book_right.keys tag.number tag.index (entry_for tag body) known)))
+      (subst (FirstRight (book t) (key_of tag)) (sym e ∙ durable) (v.book_right.first_page (key_of tag) (v.book_right.keys tag.number tag.index (entry_for tag body) known)))
       n i x (old_page (book t) n i x l h) key (below n l kept))
-      (λ (r : IsFrom (suc t.ledger.top) (latest_durable t.ledger (key_of tag))).
+      (λ (r : IsFrom (suc t.ledger.greatest_seen) (latest_durable t.ledger (key_of tag))).
       let z = r.2 in
       let e = same_name_number (latest_durable t.ledger (key_of tag)) r.0 (name_of tag) r.1 durable in
       omega arith)
-      (older_latest (key_of tag) t.ledger.top (take (t.ledger.frontier - t.ledger.top) t.ledger.groups) (t.ledger.first (key_of tag)))
+      (older_latest (key_of tag) t.ledger.greatest_seen (take (t.ledger.frontier - t.ledger.greatest_seen) t.ledger.groups) (t.ledger.first_page (key_of tag)))
     where
-      below : (n : ℕ) → n ≤ t.ledger.top → (IsLostNumber (book t) n → ⊥) → n < t.ledger.low
-      below n l kept = ⊎_elim (λ (o : t.ledger.low ≤ n). absurd (kept record { from = o; to = l })) (λ k. k) (split t.ledger.low n)
+      below : (n : ℕ) → n ≤ t.ledger.greatest_seen → (IsLostNumber (book t) n → ⊥) → n < t.ledger.first_lost
+      below n l kept = ⊎_elim (λ (o : t.ledger.first_lost ≤ n). absurd (kept record { from = o; to = l })) (λ k. k) (split t.ledger.first_lost n)
         where
           split : (m n : ℕ) → (m ≤ n) ⊎ (n < m)
           split m n = grind arith
@@ -238,9 +238,9 @@ module _ (t : Translation) (v : Valid t) (m : Mark) (is : t.ledger.newest ≡ So
 
   durable_newest : (n i : ℕ) (x : Entry) → IsPageAt (book t) n i x → x.item.key ≡ key_of tag → n ≤ t.ledger.frontier → n ≤ tag.number
   durable_newest n i x h key l = ⊎_elim
-      (λ (o : n ≤ t.ledger.top). ⊎_elim (λ lost. lost_behind n i x h key lost) (λ kept. old_behind n i x h key o kept) (lost_or_not (book t) n))
-      (λ (o : t.ledger.top < n). new_behind n i x h key l o)
-      (split n t.ledger.top)
+      (λ (o : n ≤ t.ledger.greatest_seen). ⊎_elim (λ lost. lost_behind n i x h key lost) (λ kept. old_behind n i x h key o kept) (lost_or_not (book t) n))
+      (λ (o : t.ledger.greatest_seen < n). new_behind n i x h key l o)
+      (split n t.ledger.greatest_seen)
     where
       split : (m n : ℕ) → (m ≤ n) ⊎ (n < m)
       split m n = grind arith

@@ -30,21 +30,21 @@ latest_append k n (x ∷ xs) ys older =
     more n m = omega arith
 
 -- the page of the key after all groups is found among those behind the frontier, else it is the one at the frontier
-pub latest_splits : (l : Ledger) (k : Key) → l.top ≤ l.frontier → l.frontier ≤ l.top + length l.groups →
-    latest l k ≡ latest_in k l.frontier (drop (l.frontier - l.top) l.groups) (latest_durable l k)
+pub latest_splits : (l : Ledger) (k : Key) → l.greatest_seen ≤ l.frontier → l.frontier ≤ l.greatest_seen + length l.groups →
+    latest l k ≡ latest_in k l.frontier (drop (l.frontier - l.greatest_seen) l.groups) (latest_durable l k)
 latest_splits l k low high =
-    ap (λ (gs : List Group). latest_in k l.top gs (l.first k)) (sym (take-append-drop (l.frontier - l.top) l.groups))
-    ∙ latest_append k l.top (take (l.frontier - l.top) l.groups) (drop (l.frontier - l.top) l.groups) (l.first k)
-    ∙ ap (λ z. latest_in k z (drop (l.frontier - l.top) l.groups) (latest_durable l k)) (at_frontier (length-take-le (l.frontier - l.top) l.groups (omega arith)))
+    ap (λ (gs : List Group). latest_in k l.greatest_seen gs (l.first_page k)) (sym (take-append-drop (l.frontier - l.greatest_seen) l.groups))
+    ∙ latest_append k l.greatest_seen (take (l.frontier - l.greatest_seen) l.groups) (drop (l.frontier - l.greatest_seen) l.groups) (l.first_page k)
+    ∙ ap (λ z. latest_in k z (drop (l.frontier - l.greatest_seen) l.groups) (latest_durable l k)) (at_frontier (length-take-le (l.frontier - l.greatest_seen) l.groups (omega arith)))
   where
-    at_frontier : length (take (l.frontier - l.top) l.groups) ≡ l.frontier - l.top → l.top + length (take (l.frontier - l.top) l.groups) ≡ l.frontier
+    at_frontier : length (take (l.frontier - l.greatest_seen) l.groups) ≡ l.frontier - l.greatest_seen → l.greatest_seen + length (take (l.frontier - l.greatest_seen) l.groups) ≡ l.frontier
     at_frontier e = omega arith
 
 -- What is lost is written again, and marks record no more than the frontier
 
 -- each key with a lost page is written again in this life, at or under the frontier
 abbrev pub AreRewritten : Translation → Type 0
-AreRewritten t = (n i : ℕ) (e : Entry) → IsLostNumber (book t) n → t.ledger.old n i ≡ Some e → IsWritten (book t) e.item.key t.ledger.frontier
+AreRewritten t = (n i : ℕ) (e : Entry) → IsLostNumber (book t) n → t.ledger.entries_before n i ≡ Some e → IsWritten (book t) e.item.key t.ledger.frontier
 
 -- and what the newest finished mark records, or every number, is at or under the frontier
 abbrev pub IsSettled : Translation → Type 0
@@ -70,7 +70,7 @@ pub record IsLatest (t : Translation) (k : Key) (name : Name) : Type 0 where
   pub newest : (n i : ℕ) (e : Entry) → IsPageAt (book t) n i e → e.item.key ≡ k → (IsLostNumber (book t) n → ⊥) → n ≤ t.ledger.frontier → n ≤ name.number
 
 -- the last of some groups from the first on that has the key has a page of it
-pub last_page : (b : Book) (k : Key) (gs : List keys.Group) (o : Option Name) (l : IsLastOf k b.top gs o) → slice_get b.groups l.at ≡ Some l.group →
+pub last_page : (b : Book) (k : Key) (gs : List keys.Group) (o : Option Name) (l : IsLastOf k b.greatest_seen gs o) → slice_get b.groups l.at ≡ Some l.group →
     IsPageAt b l.name.number l.name.index (record { item = l.item; size = length l.group })
 last_page b k gs o l at =
     let z = l.number in
@@ -78,37 +78,37 @@ last_page b k gs o l at =
     (record { group = l.group; is = ap (slice_get b.groups) (omega arith) ∙ at; item = l.has; size = refl })
 
 -- where no group at or under the frontier has the key, no page of this life there is of it
-none_new : (t : Translation) (k : Key) → NoneOf k (take (t.ledger.frontier - t.ledger.top) t.ledger.groups) →
-    (n i : ℕ) (e : Entry) → IsPageAt (book t) n i e → e.item.key ≡ k → t.ledger.top < n → n ≤ t.ledger.frontier → ⊥
+none_new : (t : Translation) (k : Key) → NoneOf k (take (t.ledger.frontier - t.ledger.greatest_seen) t.ledger.groups) →
+    (n i : ℕ) (e : Entry) → IsPageAt (book t) n i e → e.item.key ≡ k → t.ledger.greatest_seen < n → n ≤ t.ledger.frontier → ⊥
 none_new t k none n i e h key new l =
     let p = page_new (book t) n i e new h in
-    none (n - t.ledger.top - 1) i p.group e.item (take_get (t.ledger.frontier - t.ledger.top) t.ledger.groups (n - t.ledger.top - 1) p.group (omega arith) p.is) p.item key
+    none (n - t.ledger.greatest_seen - 1) i p.group e.item (take_get (t.ledger.frontier - t.ledger.greatest_seen) t.ledger.groups (n - t.ledger.greatest_seen - 1) p.group (omega arith) p.is) p.item key
 
-latest_of_group : (t : Translation) (k : Key) (o : Option Name) (l : IsLastOf k t.ledger.top (take (t.ledger.frontier - t.ledger.top) t.ledger.groups) o) → IsLatest t k l.name
+latest_of_group : (t : Translation) (k : Key) (o : Option Name) (l : IsLastOf k t.ledger.greatest_seen (take (t.ledger.frontier - t.ledger.greatest_seen) t.ledger.groups) o) → IsLatest t k l.name
 latest_of_group t k o l = record {
   entry = record { item = l.item; size = length l.group };
-  is = last_page (book t) k (take (t.ledger.frontier - t.ledger.top) t.ledger.groups) o l there.1;
+  is = last_page (book t) k (take (t.ledger.frontier - t.ledger.greatest_seen) t.ledger.groups) o l there.1;
   key = l.key;
   free = λ lost. let z = l.number in let u = lost.to in omega arith;
   within = let z = l.number in let u = there.0 in omega arith;
   newest = newest;
 }
   where
-    there : (l.at < t.ledger.frontier - t.ledger.top) × (slice_get t.ledger.groups l.at ≡ Some l.group)
-    there = get_take (t.ledger.frontier - t.ledger.top) t.ledger.groups l.at l.group l.there
+    there : (l.at < t.ledger.frontier - t.ledger.greatest_seen) × (slice_get t.ledger.groups l.at ≡ Some l.group)
+    there = get_take (t.ledger.frontier - t.ledger.greatest_seen) t.ledger.groups l.at l.group l.there
 
     newest : (n i : ℕ) (e : Entry) → IsPageAt (book t) n i e → e.item.key ≡ k → (IsLostNumber (book t) n → ⊥) → n ≤ t.ledger.frontier → n ≤ l.name.number
-    newest n i e h key free u = ⊎_elim (λ old. let z = l.number in omega arith) after (at_most n t.ledger.top)
+    newest n i e h key free u = ⊎_elim (λ old. let z = l.number in omega arith) after (at_most n t.ledger.greatest_seen)
       where
-        after : t.ledger.top < n → n ≤ l.name.number
+        after : t.ledger.greatest_seen < n → n ≤ l.name.number
         after new =
             let p = page_new (book t) n i e new h in
-            let last = l.last (n - t.ledger.top - 1) i p.group e.item (take_get (t.ledger.frontier - t.ledger.top) t.ledger.groups (n - t.ledger.top - 1) p.group (omega arith) p.is) p.item key in
+            let last = l.last (n - t.ledger.greatest_seen - 1) i p.group e.item (take_get (t.ledger.frontier - t.ledger.greatest_seen) t.ledger.groups (n - t.ledger.greatest_seen - 1) p.group (omega arith) p.is) p.item key in
             let z = l.number in
             omega arith
 
 latest_of_first : (t : Translation) (k : Key) (name : Name) → Valid t → AreRewritten t → FirstRight (book t) k (Some name) →
-    NoneOf k (take (t.ledger.frontier - t.ledger.top) t.ledger.groups) → IsLatest t k name
+    NoneOf k (take (t.ledger.frontier - t.ledger.greatest_seen) t.ledger.groups) → IsLatest t k name
 latest_of_first t k name v again first none = record {
   entry = first.0;
   is = old_page (book t) name.number name.index first.0 within first.1;
@@ -117,15 +117,15 @@ latest_of_first t k name v again first none = record {
   within = let a = v.frontier.above in let w = within in omega arith;
   newest = λ n i e h key kept u. ⊎_elim
       (λ lost. absurd (free lost))
-      (λ (o : (name.number < t.ledger.low) × ((n i : ℕ) (e : Entry) → t.ledger.old n i ≡ Some e → e.item.key ≡ k → n < t.ledger.low → n ≤ name.number)).
+      (λ (o : (name.number < t.ledger.first_lost) × ((n i : ℕ) (e : Entry) → t.ledger.entries_before n i ≡ Some e → e.item.key ≡ k → n < t.ledger.first_lost → n ≤ name.number)).
       ⊎_elim
       (λ old. o.1 n i e (is_old (book t) n i e old h) key (under n kept old))
       (λ new. absurd (none_new t k none n i e h key new u))
-      (at_most n t.ledger.top))
+      (at_most n t.ledger.greatest_seen))
       first.3;
 }
   where
-    within : name.number ≤ t.ledger.top
+    within : name.number ≤ t.ledger.greatest_seen
     within = v.book_right.old_within name.number name.index first.0 first.1
 
     -- where it is lost the key is written again
@@ -134,17 +134,17 @@ latest_of_first t k name v again first none = record {
         let w = again name.number name.index first.0 lost first.1 in
         none_new t k none w.number w.index w.page w.is (w.key ∙ first.2) w.new w.within
 
-    under : (n : ℕ) → (IsLostNumber (book t) n → ⊥) → n ≤ t.ledger.top → n < t.ledger.low
-    under n kept old = ⊎_elim (λ l. absurd (kept (record { from = l; to = old }))) (λ l. l) (at_most t.ledger.low n)
+    under : (n : ℕ) → (IsLostNumber (book t) n → ⊥) → n ≤ t.ledger.greatest_seen → n < t.ledger.first_lost
+    under n kept old = ⊎_elim (λ l. absurd (kept (record { from = l; to = old }))) (λ l. l) (at_most t.ledger.first_lost n)
 
 pub latest_right : (t : Translation) (k : Key) (name : Name) → Valid t → AreRewritten t → HasKey (book t) k → latest_durable t.ledger k ≡ Some name → IsLatest t k name
 latest_right t k name v again has e =
     ⊎_elim
-    (λ (l : IsLastOf k t.ledger.top (take (t.ledger.frontier - t.ledger.top) t.ledger.groups) (latest_durable t.ledger k)).
+    (λ (l : IsLastOf k t.ledger.greatest_seen (take (t.ledger.frontier - t.ledger.greatest_seen) t.ledger.groups) (latest_durable t.ledger k)).
     subst (IsLatest t k) (some_is l.name name (sym l.is ∙ e)) (latest_of_group t k (latest_durable t.ledger k) l))
-    (λ (r : (latest_durable t.ledger k ≡ t.ledger.first k) × NoneOf k (take (t.ledger.frontier - t.ledger.top) t.ledger.groups)).
-    latest_of_first t k name v again (subst (FirstRight (book t) k) (sym r.0 ∙ e) (v.book_right.first k has)) r.1)
-    (latest_cases k t.ledger.top (take (t.ledger.frontier - t.ledger.top) t.ledger.groups) (t.ledger.first k))
+    (λ (r : (latest_durable t.ledger k ≡ t.ledger.first_page k) × NoneOf k (take (t.ledger.frontier - t.ledger.greatest_seen) t.ledger.groups)).
+    latest_of_first t k name v again (subst (FirstRight (book t) k) (sym r.0 ∙ e) (v.book_right.first_page k has)) r.1)
+    (latest_cases k t.ledger.greatest_seen (take (t.ledger.frontier - t.ledger.greatest_seen) t.ledger.groups) (t.ledger.first_page k))
 
 -- It is there
 
@@ -167,14 +167,14 @@ latest_secure t k name p v s l e = ⊎_elim (λ h. h) (λ h. absurd (never h.by)
 pub latest_is_durable : (t : Translation) (k : Key) (name : Name) → Valid t → latest t.ledger k ≡ Some name → name.number ≤ t.ledger.frontier → latest_durable t.ledger k ≡ Some name
 latest_is_durable t k name v e l =
     ⊎_elim
-    (λ (last : IsLastOf k t.ledger.frontier (drop (t.ledger.frontier - t.ledger.top) t.ledger.groups) (latest_in k t.ledger.frontier (drop (t.ledger.frontier - t.ledger.top) t.ledger.groups) (latest_durable t.ledger k))).
+    (λ (last : IsLastOf k t.ledger.frontier (drop (t.ledger.frontier - t.ledger.greatest_seen) t.ledger.groups) (latest_in k t.ledger.frontier (drop (t.ledger.frontier - t.ledger.greatest_seen) t.ledger.groups) (latest_durable t.ledger k))).
     let z = last.number in
     let same = ap (λ (x : Name). x.number) (some_is last.name name (sym last.is ∙ sym splits ∙ e)) in
     absurd (omega arith))
     (λ r. sym r.0 ∙ sym splits ∙ e)
-    (latest_cases k t.ledger.frontier (drop (t.ledger.frontier - t.ledger.top) t.ledger.groups) (latest_durable t.ledger k))
+    (latest_cases k t.ledger.frontier (drop (t.ledger.frontier - t.ledger.greatest_seen) t.ledger.groups) (latest_durable t.ledger k))
   where
-    splits : latest t.ledger k ≡ latest_in k t.ledger.frontier (drop (t.ledger.frontier - t.ledger.top) t.ledger.groups) (latest_durable t.ledger k)
+    splits : latest t.ledger k ≡ latest_in k t.ledger.frontier (drop (t.ledger.frontier - t.ledger.greatest_seen) t.ledger.groups) (latest_durable t.ledger k)
     splits = latest_splits t.ledger k v.frontier.above v.frontier.within
 
 -- What is looked up
@@ -201,17 +201,17 @@ in_slot : (t : Translation) (k : Key) (name : Name) → Valid t → HasKey (book
     (e : Entry) × IsPageAt (book t) name.number name.index e
 in_slot t k name v has e behind =
     ⊎_elim
-    (λ (l : IsLastOf k t.ledger.top t.ledger.groups (latest t.ledger k)). (
+    (λ (l : IsLastOf k t.ledger.greatest_seen t.ledger.groups (latest t.ledger k)). (
       record { item = l.item; size = length l.group },
       subst (λ (z : Name). IsPageAt (book t) z.number z.index (record { item = l.item; size = length l.group })) (some_is l.name name (sym l.is ∙ e))
           (last_page (book t) k t.ledger.groups (latest t.ledger k) l l.there),
     ))
-    (λ (r : (latest t.ledger k ≡ t.ledger.first k) × NoneOf k t.ledger.groups).
-    let first = subst (FirstRight (book t) k) (sym r.0 ∙ e) (v.book_right.first k has) in
+    (λ (r : (latest t.ledger k ≡ t.ledger.first_page k) × NoneOf k t.ledger.groups).
+    let first = subst (FirstRight (book t) k) (sym r.0 ∙ e) (v.book_right.first_page k has) in
     let w = v.book_right.old_within name.number name.index first.0 first.1 in
     let a = v.frontier.above in
     absurd (omega arith))
-    (latest_cases k t.ledger.top t.ledger.groups (t.ledger.first k))
+    (latest_cases k t.ledger.greatest_seen t.ledger.groups (t.ledger.first_page k))
 
 stands_secure : (t : Translation) (k : Key) (name : Name) (p : Place) → Valid t → HasKey (book t) k → latest t.ledger k ≡ Some name → name.number ≤ t.ledger.frontier →
     t.ledger.standing name.number name.index ≡ Some p → IsSecure t.ledger.standing t.disk.cells t.disk.finished t.disk.blocks t.disk.erasing name.number name.index

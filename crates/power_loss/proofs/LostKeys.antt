@@ -81,15 +81,15 @@ turns_at c m low top lost (Repairing left) more x y = absurd y
 turns_at c m low top lost Mended more x y = omega arith
 
 pub turns_at_opening : (n : Numbers) (c : Cells) (bad : Spot → Bool) (t : Translation) (lost : List Key) →
-    IsOpenedTranslation n c bad t → AreLost c t.ledger.low t.ledger.top lost → turns_left t ≤ length lost + 2
+    IsOpenedTranslation n c bad t → AreLost c t.ledger.first_lost t.ledger.greatest_seen lost → turns_left t ≤ length lost + 2
 turns_at_opening n c bad t lost o x =
-    let l = turns_at c t.ledger.newest t.ledger.low t.ledger.top lost t.work.mending (has_mark_number t) x o.mending in
+    let l = turns_at c t.ledger.newest t.ledger.first_lost t.ledger.greatest_seen lost t.work.mending (has_mark_number t) x o.mending in
     let e = ap (λ s. turns_of t.work.mending (is_marking s) (has_mark_number t)) o.no_step in
     omega arith
 
 pub life_turns : Keeps → (n : Numbers) (c : Cells) (bad : Spot → Bool) (t : Translation) (lost : List Key) (moves : List Move) →
     1 ≤ n.pages → CellsRight c → AreWithin n c → CellsSound c t.ledger.newest → IsOpenedTranslation n c bad t →
-    AreLost c t.ledger.low t.ledger.top lost → AreAllowedMoves t moves → mending_turns t moves ≤ length lost + 2
+    AreLost c t.ledger.first_lost t.ledger.greatest_seen lost → AreAllowedMoves t moves → mending_turns t moves ≤ length lost + 2
 life_turns keep n c bad t lost moves pages right within sound start x may =
     let l = all_counted keep t moves (opening_valid n c bad t pages right within sound start) may in
     let r = turns_at_opening n c bad t lost start x in

@@ -3,7 +3,7 @@ use Rattle.std.proofs.Common.{◌≡◌, ◌⊎◌, ℕ, zero, suc, ◌<◌, sym
 use Rattle.std.proofs.lemmas.Bool.{cases_order}
 use Rattle.ufs_laws.proofs.Search.{Decided, is_place, split}
 use Rattle.ufs_spec.specs.Cells.{AreWithin, Cell, Cells, IsPlace, Nothing}
-use Rattle.ufs_spec.specs.Openings.{IsLower}
+use Rattle.ufs_spec.specs.Openings.{IsNotHigher}
 use Rattle.ufs_spec.specs.declared.configs.Numbers.{Numbers}
 use Rattle.ufs_spec.specs.declared.flash.Place.{Place}
 
@@ -56,7 +56,7 @@ module _ (n : Numbers) (c : Cells) (within : AreWithin n c) (P : Cell → Type 0
   inside q h = ⊎_elim (λ i. i) (λ out. absurd (none (subst P (within q out) h))) (is_place n q)
 
   module _ (x : Least OnDie n.dies) (y : Least (InBlock x.at) n.blocks) (z : Least (OnPage x.at y.at) n.pages) where
-    by_page : (q : Place) → P (c q) → IsPlace n q → x.at ≡ q.die → y.at ≡ q.block → IsLower (at x.at y.at z.at) q
+    by_page : (q : Place) → P (c q) → IsPlace n q → x.at ≡ q.die → y.at ≡ q.block → IsNotHigher (at x.at y.at z.at) q
     by_page q h i e f =
         inr (inr (
           e,
@@ -67,14 +67,14 @@ module _ (n : Numbers) (c : Cells) (within : AreWithin n c) (P : Cell → Type 0
               (subst (λ block. OnPage q.die block q.page) (sym f) h)))) (split z.at q.page),
         ))
 
-    by_block : (q : Place) → P (c q) → IsPlace n q → x.at ≡ q.die → IsLower (at x.at y.at z.at) q
+    by_block : (q : Place) → P (c q) → IsPlace n q → x.at ≡ q.die → IsNotHigher (at x.at y.at z.at) q
     by_block q h i e =
         ⊎_elim (by_page q h i e)
         (⊎_elim (λ l. inr (inl (e, l)))
         (λ l. absurd (y.least q.block l (subst (λ die. InBlock die q.block) (sym e) (q.page, i.page, h)))))
         (cases_order y.at q.block)
 
-    lower : (q : Place) → P (c q) → IsLower (at x.at y.at z.at) q
+    lower : (q : Place) → P (c q) → IsNotHigher (at x.at y.at z.at) q
     lower q h =
         let i = inside q h in
         ⊎_elim (by_block q h i)
@@ -82,7 +82,7 @@ module _ (n : Numbers) (c : Cells) (within : AreWithin n c) (P : Cell → Type 0
         (cases_order x.at q.die)
 
   abbrev IsLowest : Place → Type 0
-  IsLowest p = P (c p) × ((q : Place) → P (c q) → IsLower p q)
+  IsLowest p = P (c p) × ((q : Place) → P (c q) → IsNotHigher p q)
 
   pub lowest : ((p : Place) × IsLowest p) ⊎ ((p : Place) → P (c p) → ⊥)
   lowest =

@@ -2,7 +2,7 @@
 use Rattle.std.proofs.Common.{if◌then◌else◌, ◌≡◌, ℕ, Bool, true, false, List, [], ◌∷◌, Option, Some, None, fold, refl, ap, sym, ◌∙◌, ⊎_elim}
 use Rattle.ufs_spec.specs.Cells.{Cell, GroupPage, MarkPage, Nothing}
 use Rattle.ufs_spec.specs.Disk.{Disk, Erasing, Flight, ForNobody, ForRest, ForStep, ForTask, Programming, Reader, Reading, Spot, at_die, programmed}
-use Rattle.ufs_spec.specs.Moves.{Accept, Claim, End, Ending, die_idle, freed, is_for, is_for_task, without_reader, Keep, LetGo, LetGoAll, Move, ReadRight, ReadWrong, Release, Take, Tell, Turn, WantPage, WentWell, WentWrong, cell_failed, cell_written, end_flight, job_ended, moved, read_right, read_wrong}
+use Rattle.ufs_spec.specs.Moves.{Accept, Claim, EndJob, Ending, die_idle, freed, is_for, is_for_task, without_reader, Keep, LetGo, LetGoAll, Move, ReadRight, ReadWrong, Release, GiveJob, Acknowledge, TakeStep, WantPage, WentWell, WentWrong, cell_failed, cell_written, end_flight, job_ended, moved, read_right, read_wrong}
 use Rattle.ufs_spec.specs.Translation.{Plan, Translation}
 use Rattle.ufs_spec.specs.declared.flash.Place.{Place}
 use Rattle.power_loss.proofs.OneMore.{at_die_is}
@@ -17,14 +17,14 @@ pub move_numbers : (t : Translation) (move : Move) → SameNumbers t (moved t mo
 move_numbers t (Claim count) = refl
 move_numbers t (Release count) = refl
 move_numbers t (Accept claimed g) = refl
-move_numbers t (Tell count) = refl
+move_numbers t (Acknowledge count) = refl
 move_numbers t (Keep key pin) = refl
 move_numbers t (WantPage tag index) = refl
 move_numbers t (LetGo tag index) = refl
 move_numbers t (LetGoAll tag) = refl
-move_numbers t (Take die flight) = refl
-move_numbers t (End die ending) = ap (λ (u : Translation). u.numbers) (end_only t die ending).is
-move_numbers t Turn = ap (λ (u : Translation). u.numbers) (turn_only t).is
+move_numbers t (GiveJob die flight) = refl
+move_numbers t (EndJob die ending) = ap (λ (u : Translation). u.numbers) (end_only t die ending).is
+move_numbers t TakeStep = ap (λ (u : Translation). u.numbers) (turn_only t).is
 
 pub moves_numbers : (t : Translation) (moves : List Move) → SameNumbers t (fold moved t moves)
 moves_numbers t [] = refl
@@ -107,30 +107,30 @@ flight_erases t die (Some flight) ending = ended_erases t die flight ending
 
 -- the move is no take
 abbrev pub IsNoTake : Move → Type 0
-IsNoTake (Take die flight) = ⊥
+IsNoTake (GiveJob die flight) = ⊥
 IsNoTake (Claim count) = Unit {0}
 IsNoTake (Release count) = Unit {0}
 IsNoTake (Accept claimed g) = Unit {0}
-IsNoTake (Tell count) = Unit {0}
+IsNoTake (Acknowledge count) = Unit {0}
 IsNoTake (Keep key pin) = Unit {0}
 IsNoTake (WantPage tag index) = Unit {0}
 IsNoTake (LetGo tag index) = Unit {0}
 IsNoTake (LetGoAll tag) = Unit {0}
-IsNoTake (End die ending) = Unit {0}
-IsNoTake Turn = Unit {0}
+IsNoTake (EndJob die ending) = Unit {0}
+IsNoTake TakeStep = Unit {0}
 
 pub move_erases : (t : Translation) (move : Move) → IsNoTake move → NoMore t (moved t move)
-move_erases t (Take die flight) free = absurd free
+move_erases t (GiveJob die flight) free = absurd free
 move_erases t (Claim count) free = λ other spot e. e
 move_erases t (Release count) free = λ other spot e. e
 move_erases t (Accept claimed g) free = λ other spot e. e
-move_erases t (Tell count) free = λ other spot e. e
+move_erases t (Acknowledge count) free = λ other spot e. e
 move_erases t (Keep key pin) free = λ other spot e. e
 move_erases t (WantPage tag index) free = λ other spot e. e
 move_erases t (LetGo tag index) free = λ other spot e. unread_erases (is_for tag index) (t.disk.flights other) spot e
 move_erases t (LetGoAll tag) free = λ other spot e. unread_erases (is_for_task tag) (t.disk.flights other) spot e
-move_erases t (End die ending) free = flight_erases t die (t.disk.flights die) ending
-move_erases t Turn free = λ other spot e. sym (ap (λ (u : Translation). u.disk.flights other) (turn_only t).is) ∙ e
+move_erases t (EndJob die ending) free = flight_erases t die (t.disk.flights die) ending
+move_erases t TakeStep free = λ other spot e. sym (ap (λ (u : Translation). u.disk.flights other) (turn_only t).is) ∙ e
 
 abbrev pub NoTakes : List Move → Type 0
 NoTakes [] = Unit {0}

@@ -20,7 +20,7 @@ use Rattle.ufs_spec.specs.Lives.{IsLeft, IsLeftoverOf, IsOpened, Stops, die_of, 
 use Rattle.ufs_spec.specs.Machine.{durable}
 use Rattle.ufs_spec.specs.Plain.{Plain, Shape, after, apply, shape_of, shape_of_numbers}
 use Rattle.ufs_spec.specs.Sound.{Sound, Suits}
-use Rattle.ufs_spec.specs.Steps.{State, numbers_of}
+use Rattle.ufs_spec.specs.Refusals.{State, numbers_of}
 use Rattle.ufs_spec.specs.declared.configs.Numbers.{Numbers}
 use Rattle.ufs_spec.specs.declared.events.Leftover.{Leftover}
 use Rattle.ufs_spec.specs.declared.events.Leftover.TheVariants as leftover

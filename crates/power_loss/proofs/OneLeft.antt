@@ -8,7 +8,7 @@ use Rattle.ufs_spec.specs.Cells.{Array, Cells, Shows}
 use Rattle.ufs_spec.specs.Disk.{Erasing, Flight, Programming, Reading, Spot}
 use Rattle.ufs_spec.specs.Lives.{IsFailure, IsLeft, die_of, page_left}
 use Rattle.ufs_spec.specs.Moves.{Ending, ReadWrong, WentWrong}
-use Rattle.ufs_spec.specs.Steps.{State}
+use Rattle.ufs_spec.specs.Refusals.{State}
 use Rattle.ufs_spec.specs.declared.events.Leftover.{Leftover}
 use Rattle.ufs_spec.specs.declared.events.Leftover.TheVariants as leftover
 use Rattle.ufs_spec.specs.declared.flash.Page.{Page}

@@ -7,7 +7,7 @@ use Rattle.ufs_spec.proofs.Facts.{false≢true}
 use Rattle.ufs_spec.specs.Exchanges.{Deed, ForFrames, ForUnmap, ForWrite, Gathering, Purpose, Short, Status, Task, TaskSetFull, is_task_of, response, short_reply, task_of, with_deed, without_task}
 use Rattle.ufs_spec.specs.Machine.{begun, begun_with, command_heard, complete, data_for, data_heard, deed_behind, moves_behind, opened_with, set_deed, task_behind, task_replied, with_moves, with_short, write_begun}
 use Rattle.ufs_spec.specs.Stages.{most_tasks}
-use Rattle.ufs_spec.specs.Steps.{Request, State, locked, refusal, slots_needed}
+use Rattle.ufs_spec.specs.Refusals.{Request, State, locked, refusal, slots_needed}
 use Rattle.ufs_spec.specs.declared.scsi.Cdb.{Cdb}
 use Rattle.ufs_spec.specs.declared.scsi.Cdb.TheVariants as cdb
 use Rattle.ufs_laws.proofs.Changed.{does}

@@ -87,22 +87,22 @@ module _ (array : Array) (bad : Spot → Bool) (t : Translation) (o : Opened bad
         omega arith,
       )
 
-  top_fits : t.ledger.top ≤ 2 ^ 62
-  top_fits = o.start.ledger.top.1 (2 ^ 62) (all_fit array t.disk.cells t.ledger.newest shows o.sound o.start.ledger.newest)
+  top_fits : t.ledger.greatest_seen ≤ 2 ^ 62
+  top_fits = o.start.ledger.greatest_seen.1 (2 ^ 62) (all_fit array t.disk.cells t.ledger.newest shows o.sound o.start.ledger.newest)
 
   last_fits : last_number (book t) ≤ 2 ^ 62
   last_fits =
       let none = ap length o.start.ledger.none_new in
-      let same : t.ledger.top ≡ last_number (book t) = omega arith in
+      let same : t.ledger.greatest_seen ≡ last_number (book t) = omega arith in
       subst (λ n. n ≤ 2 ^ 62) same top_fits
 
-  lost_some : t.ledger.low ≤ t.ledger.top → 1 ≤ t.ledger.top
+  lost_some : t.ledger.first_lost ≤ t.ledger.greatest_seen → 1 ≤ t.ledger.greatest_seen
   lost_some lost =
       ⊎_elim
-      (λ (z : (fence_in t.ledger.newest ≡ None) × (t.ledger.low ≡ suc o.start.ledger.kept)). let low = z.1 in omega arith)
-      (λ (z : (f : Fence) × (fence_in t.ledger.newest ≡ Some f) × (t.ledger.low ≡ f.first)).
+      (λ (z : (fence_in t.ledger.newest ≡ None) × (t.ledger.first_lost ≡ suc o.start.ledger.kept)). let low = z.1 in omega arith)
+      (λ (z : (f : Fence) × (fence_in t.ledger.newest ≡ Some f) × (t.ledger.first_lost ≡ f.first)).
       let some = fence_some array t.disk.cells t.ledger.newest z.0 shows o.start.ledger.newest z.1 in
-      let within = o.start.ledger.top.0.fence z.0 z.1 in
+      let within = o.start.ledger.greatest_seen.0.fence z.0 z.1 in
       omega arith)
       (low_cases bad t o)
 

@@ -13,7 +13,7 @@ use Rattle.ufs_spec.specs.Ledger.{accepted_groups, before_accepted}
 use Rattle.ufs_spec.specs.Lives.{IsOpened}
 use Rattle.ufs_spec.specs.Plain.{Shape, shape_of, shape_of_numbers}
 use Rattle.ufs_spec.specs.Sound.{CellsSound, Sound}
-use Rattle.ufs_spec.specs.Steps.{State, numbers_of}
+use Rattle.ufs_spec.specs.Refusals.{State, numbers_of}
 use Rattle.ufs_spec.specs.Translation.{is_mended}
 use Rattle.ufs_spec.specs.declared.configs.Numbers.{Numbers}
 use Rattle.ufs_spec.specs.declared.flash.Place.{Place}

@@ -6,7 +6,7 @@ use Rattle.ufs_spec.specs.Disk.{Spot}
 use Rattle.ufs_spec.specs.Keys.{Group}
 use Rattle.ufs_spec.specs.Kept.{Counts, IsKept, IsNewestMark, IsWhole, fence_in, recorded_in}
 use Rattle.ufs_spec.specs.Ledger.{Entry, Name, entry_in}
-use Rattle.ufs_spec.specs.Openings.{HasName, IsEntry, IsOpenedTranslation, StandsAt, first_lost}
+use Rattle.ufs_spec.specs.Openings.{HasName, IsEntry, IsOpenedTranslation, StandsAt, lost_from}
 use Rattle.ufs_spec.specs.Sound.{CellsSound, SamePage}
 use Rattle.ufs_spec.specs.Translation.{Translation}
 use Rattle.ufs_spec.specs.declared.configs.Numbers.{Numbers}
@@ -71,9 +71,9 @@ page_of_entry c n i e x = record {
   size = x.5;
 }
 
-pub old_page : (bad : Spot → Bool) (t : Translation) (n i : ℕ) (e : Entry) → Opened bad t → t.ledger.old n i ≡ Some e → OldPage t.disk.cells n i e
+pub old_page : (bad : Spot → Bool) (t : Translation) (n i : ℕ) (e : Entry) → Opened bad t → t.ledger.entries_before n i ≡ Some e → OldPage t.disk.cells n i e
 old_page bad t n i e o h =
-    page_of_entry t.disk.cells n i e (subst (IsEntry t.disk.cells (record { number = n; index = i })) h (o.start.ledger.old n i))
+    page_of_entry t.disk.cells n i e (subst (IsEntry t.disk.cells (record { number = n; index = i })) h (o.start.ledger.entries_before n i))
 
 -- what a page shows
 abbrev pub shown : Tag → List ℕ → Entry
@@ -81,11 +81,11 @@ shown tag body = record { item = record { key = key_of tag; body = body }; size 
 
 -- a page is the one that its name has
 pub page_is_old : (bad : Spot → Bool) (t : Translation) (p : Place) (tag : Tag) (body : List ℕ) → Opened bad t → t.disk.cells p ≡ GroupPage tag body →
-    t.ledger.old tag.number tag.index ≡ Some (shown tag body)
-page_is_old bad t p tag body o h = go (t.ledger.old tag.number tag.index) refl (o.start.ledger.old tag.number tag.index)
+    t.ledger.entries_before tag.number tag.index ≡ Some (shown tag body)
+page_is_old bad t p tag body o h = go (t.ledger.entries_before tag.number tag.index) refl (o.start.ledger.entries_before tag.number tag.index)
   where
-    go : (x : Option Entry) → t.ledger.old tag.number tag.index ≡ x → IsEntry t.disk.cells (record { number = tag.number; index = tag.index }) x →
-        t.ledger.old tag.number tag.index ≡ Some (shown tag body)
+    go : (x : Option Entry) → t.ledger.entries_before tag.number tag.index ≡ x → IsEntry t.disk.cells (record { number = tag.number; index = tag.index }) x →
+        t.ledger.entries_before tag.number tag.index ≡ Some (shown tag body)
     go None is x = absurd (x p (tag, body, h, refl))
     go (Some e) is x =
         let y = page_of_entry t.disk.cells tag.number tag.index e x in
@@ -93,10 +93,10 @@ page_is_old bad t p tag body o h = go (t.ledger.old tag.number tag.index) refl (
         is ∙ (λ j. Some (record { item = record { key = (y.key ∙ s.0) j; body = s.4 j }; size = (y.size ∙ s.3) j }))
 
 -- the numbers of pages that stood are at or under the top
-pub old_within : (bad : Spot → Bool) (t : Translation) (n i : ℕ) (e : Entry) → Opened bad t → t.ledger.old n i ≡ Some e → n ≤ t.ledger.top
+pub old_within : (bad : Spot → Bool) (t : Translation) (n i : ℕ) (e : Entry) → Opened bad t → t.ledger.entries_before n i ≡ Some e → n ≤ t.ledger.greatest_seen
 old_within bad t n i e o h =
     let y = old_page bad t n i e o h in
-    let z = o.start.ledger.top.0.numbers y.place y.tag e.item.body y.there in
+    let z = o.start.ledger.greatest_seen.0.numbers y.place y.tag e.item.body y.there in
     let w = y.number in
     omega arith
 
@@ -114,18 +114,18 @@ no_new None i e h k = cc
 no_new (Some g) i e h k = cc
 
 -- every page is of an earlier life
-pub only_old : (bad : Spot → Bool) (t : Translation) (n i : ℕ) (e : Entry) → Opened bad t → IsPageAt (book t) n i e → t.ledger.old n i ≡ Some e
+pub only_old : (bad : Spot → Bool) (t : Translation) (n i : ℕ) (e : Entry) → Opened bad t → IsPageAt (book t) n i e → t.ledger.entries_before n i ≡ Some e
 only_old bad t n i e o h =
     ⊎_elim
-    (λ l. sym (if_true (nat_le n t.ledger.top) (t.ledger.old n i) _ (le_told n t.ledger.top l)) ∙ h)
-    (λ l. absurd (no_new (slice_get t.ledger.groups (n - t.ledger.top - 1)) i e (ap (λ z. slice_get z (n - t.ledger.top - 1)) o.start.ledger.none_new)
-    (sym (if_false (nat_le n t.ledger.top) (t.ledger.old n i) _ (lt_told n t.ledger.top l)
-    ∙ ap (option_and_then (λ g. entry_in g i)) (if_false (nat_le n t.ledger.top) None (slice_get t.ledger.groups (n - t.ledger.top - 1)) (lt_told n t.ledger.top l))) ∙ h)))
-    (split n t.ledger.top)
+    (λ l. sym (if_true (nat_le n t.ledger.greatest_seen) (t.ledger.entries_before n i) _ (le_told n t.ledger.greatest_seen l)) ∙ h)
+    (λ l. absurd (no_new (slice_get t.ledger.groups (n - t.ledger.greatest_seen - 1)) i e (ap (λ z. slice_get z (n - t.ledger.greatest_seen - 1)) o.start.ledger.none_new)
+    (sym (if_false (nat_le n t.ledger.greatest_seen) (t.ledger.entries_before n i) _ (lt_told n t.ledger.greatest_seen l)
+    ∙ ap (option_and_then (λ g. entry_in g i)) (if_false (nat_le n t.ledger.greatest_seen) None (slice_get t.ledger.groups (n - t.ledger.greatest_seen - 1)) (lt_told n t.ledger.greatest_seen l))) ∙ h)))
+    (split n t.ledger.greatest_seen)
 
-pub from_old : (bad : Spot → Bool) (t : Translation) (n i : ℕ) (e : Entry) → Opened bad t → t.ledger.old n i ≡ Some e → IsPageAt (book t) n i e
+pub from_old : (bad : Spot → Bool) (t : Translation) (n i : ℕ) (e : Entry) → Opened bad t → t.ledger.entries_before n i ≡ Some e → IsPageAt (book t) n i e
 from_old bad t n i e o h =
-    if_true (nat_le n t.ledger.top) (t.ledger.old n i) _ (le_told n t.ledger.top (old_within bad t n i e o h)) ∙ h
+    if_true (nat_le n t.ledger.greatest_seen) (t.ledger.entries_before n i) _ (le_told n t.ledger.greatest_seen (old_within bad t n i e o h)) ∙ h
 
 pub is_known : (bad : Spot → Bool) (t : Translation) (p : Place) (tag : Tag) (body : List ℕ) → Opened bad t → t.disk.cells p ≡ GroupPage tag body → IsKnown (book t) tag body
 is_known bad t p tag body o h = from_old bad t tag.number tag.index (shown tag body) o (page_is_old bad t p tag body o h)
@@ -148,28 +148,28 @@ stands_there bad t n i p o h = (subst (StandsAt t.disk.cells (record { number = 
 -- The lost numbers
 
 -- the kept number is one that was seen
-pub kept_within : (bad : Spot → Bool) (t : Translation) → (o : Opened bad t) → o.start.ledger.kept ≤ t.ledger.top
+pub kept_within : (bad : Spot → Bool) (t : Translation) → (o : Opened bad t) → o.start.ledger.kept ≤ t.ledger.greatest_seen
 kept_within bad t o = ⊎_elim (λ l. let z = reached in omega arith) (λ l. at_whole (k.whole o.start.ledger.kept l (omega arith))) (split o.start.ledger.kept k.from)
   where
     k : IsKept t.disk.cells t.ledger.newest o.start.ledger.kept
     k = o.start.ledger.is_kept
 
-    reached : k.from ≤ t.ledger.top
+    reached : k.from ≤ t.ledger.greatest_seen
     reached =
         ⊎_elim
         (λ z. omega arith)
         (λ z. ⊎_elim
         (λ (w : (p : Place) × (tag : Tag) × (body : List ℕ) × Counts t.disk.cells t.ledger.newest p tag body × (tag.frontier ≡ k.from)).
-        let x = o.start.ledger.top.0.frontiers w.0 w.1 w.2 w.3.there in let y = w.4 in omega arith)
+        let x = o.start.ledger.greatest_seen.0.frontiers w.0 w.1 w.2 w.3.there in let y = w.4 in omega arith)
         (λ (w : (p : Place) × (other : Mark) × (t.disk.cells p ≡ MarkPage other) × (other.records ≡ k.from)).
-        let x = o.start.ledger.top.0.marks w.0 w.1 w.2 in let y = w.3 in omega arith)
+        let x = o.start.ledger.greatest_seen.0.marks w.0 w.1 w.2 in let y = w.3 in omega arith)
         z)
         k.recorded.reached
 
-    at_whole : IsWhole t.disk.cells o.start.ledger.kept → o.start.ledger.kept ≤ t.ledger.top
+    at_whole : IsWhole t.disk.cells o.start.ledger.kept → o.start.ledger.kept ≤ t.ledger.greatest_seen
     at_whole w =
         let x = w.each 0 w.some in
-        let y = o.start.ledger.top.0.numbers x.0 x.1 x.2 x.3 in
+        let y = o.start.ledger.greatest_seen.0.numbers x.0 x.1 x.2 x.3 in
         let z = x.4 in
         omega arith
 
@@ -187,15 +187,15 @@ recorded_kept bad t o = go t.ledger.newest refl o.start.ledger.newest
 
 -- the lost numbers begin behind the kept one, or with the fence of the newest mark
 pub low_cases : (bad : Spot → Bool) (t : Translation) → (o : Opened bad t) →
-    ((fence_in t.ledger.newest ≡ None) × (t.ledger.low ≡ suc o.start.ledger.kept))
-    ⊎ ((f : Fence) × (fence_in t.ledger.newest ≡ Some f) × (t.ledger.low ≡ f.first))
+    ((fence_in t.ledger.newest ≡ None) × (t.ledger.first_lost ≡ suc o.start.ledger.kept))
+    ⊎ ((f : Fence) × (fence_in t.ledger.newest ≡ Some f) × (t.ledger.first_lost ≡ f.first))
 low_cases bad t o = go (fence_in t.ledger.newest) refl
   where
     go : (x : Option Fence) → fence_in t.ledger.newest ≡ x →
-        ((fence_in t.ledger.newest ≡ None) × (t.ledger.low ≡ suc o.start.ledger.kept))
-        ⊎ ((f : Fence) × (fence_in t.ledger.newest ≡ Some f) × (t.ledger.low ≡ f.first))
-    go None is = inl (is, o.start.ledger.low ∙ ap (λ z. first_lost z o.start.ledger.kept) is)
-    go (Some f) is = inr (f, is, o.start.ledger.low ∙ ap (λ z. first_lost z o.start.ledger.kept) is)
+        ((fence_in t.ledger.newest ≡ None) × (t.ledger.first_lost ≡ suc o.start.ledger.kept))
+        ⊎ ((f : Fence) × (fence_in t.ledger.newest ≡ Some f) × (t.ledger.first_lost ≡ f.first))
+    go None is = inl (is, o.start.ledger.first_lost ∙ ap (λ z. lost_from z o.start.ledger.kept) is)
+    go (Some f) is = inr (f, is, o.start.ledger.first_lost ∙ ap (λ z. lost_from z o.start.ledger.kept) is)
 
 -- the ends of the newest mark's fence are in order
 pub fence_ordered : (bad : Spot → Bool) (t : Translation) (f : Fence) → (o : Opened bad t) → fence_in t.ledger.newest ≡ Some f → f.first ≤ f.last
@@ -205,12 +205,12 @@ fence_ordered bad t f o h = go t.ledger.newest o.start.ledger.newest h
     go None x e = cc
     go (Some m) x e = o.right.fences x.0.0 m f x.0.1 e
 
-pub low_within : (bad : Spot → Bool) (t : Translation) → (o : Opened bad t) → (t.ledger.low ≤ suc o.start.ledger.kept) × (t.ledger.low ≤ suc t.ledger.top)
+pub low_within : (bad : Spot → Bool) (t : Translation) → (o : Opened bad t) → (t.ledger.first_lost ≤ suc o.start.ledger.kept) × (t.ledger.first_lost ≤ suc t.ledger.greatest_seen)
 low_within bad t o =
     let k = kept_within bad t o in
     ⊎_elim
-    (λ (z : (fence_in t.ledger.newest ≡ None) × (t.ledger.low ≡ suc o.start.ledger.kept)). let e = z.1 in (omega arith, omega arith))
-    (λ (z : (f : Fence) × (fence_in t.ledger.newest ≡ Some f) × (t.ledger.low ≡ f.first)).
+    (λ (z : (fence_in t.ledger.newest ≡ None) × (t.ledger.first_lost ≡ suc o.start.ledger.kept)). let e = z.1 in (omega arith, omega arith))
+    (λ (z : (f : Fence) × (fence_in t.ledger.newest ≡ Some f) × (t.ledger.first_lost ≡ f.first)).
     let e = z.2 in
     let u = fence_ordered bad t z.0 o z.1 in
     let r = recorded_kept bad t o in

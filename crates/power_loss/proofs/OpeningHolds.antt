@@ -16,27 +16,27 @@ use Rattle.power_loss.specs.Book.{BaseAt, BaseNone, BookRight, FirstRight, HasKe
 use Rattle.power_loss.proofs.OpeningBook.{Opened, low_cases, low_within, no_group, old_page, old_within, only_old, page_is_old, shown, split}
 
 -- a page below the lost numbers counts
-below_counts : (bad : Spot → Bool) (t : Translation) (p : Place) (tag : Tag) (body : List ℕ) → Opened bad t → t.disk.cells p ≡ GroupPage tag body → tag.number < t.ledger.low →
+below_counts : (bad : Spot → Bool) (t : Translation) (p : Place) (tag : Tag) (body : List ℕ) → Opened bad t → t.disk.cells p ≡ GroupPage tag body → tag.number < t.ledger.first_lost →
     Counts t.disk.cells t.ledger.newest p tag body
 below_counts bad t p tag body o h l = record { there = h; free = free }
   where
     free : IsFenced (fence_in t.ledger.newest) tag.number → ⊥
     free x =
         ⊎_elim
-        (λ (z : (fence_in t.ledger.newest ≡ None) × (t.ledger.low ≡ suc o.start.ledger.kept)). subst (λ f. IsFenced f tag.number) z.0 x)
-        (λ (z : (f : Fence) × (fence_in t.ledger.newest ≡ Some f) × (t.ledger.low ≡ f.first)).
+        (λ (z : (fence_in t.ledger.newest ≡ None) × (t.ledger.first_lost ≡ suc o.start.ledger.kept)). subst (λ f. IsFenced f tag.number) z.0 x)
+        (λ (z : (f : Fence) × (fence_in t.ledger.newest ≡ Some f) × (t.ledger.first_lost ≡ f.first)).
         let y : (z.0.first ≤ tag.number) × (tag.number ≤ z.0.last) = subst (λ f. IsFenced f tag.number) z.1 x in let u = y.0 in let w = z.2 in omega arith)
         (low_cases bad t o)
 
 -- no page below the lost numbers is of the key
 abbrev NoneBelow : Translation → Key → Type 0
-NoneBelow t k = (n i : ℕ) (e : Entry) → t.ledger.old n i ≡ Some e → e.item.key ≡ k → n < t.ledger.low → ⊥
+NoneBelow t k = (n i : ℕ) (e : Entry) → t.ledger.entries_before n i ≡ Some e → e.item.key ≡ k → n < t.ledger.first_lost → ⊥
 
 -- none of them is above the number
 abbrev LastBelow : Translation → Key → ℕ → Type 0
-LastBelow t k number = (n i : ℕ) (e : Entry) → t.ledger.old n i ≡ Some e → e.item.key ≡ k → n < t.ledger.low → n ≤ number
+LastBelow t k number = (n i : ℕ) (e : Entry) → t.ledger.entries_before n i ≡ Some e → e.item.key ≡ k → n < t.ledger.first_lost → n ≤ number
 
-last_below : (bad : Spot → Bool) (t : Translation) (k : Key) (bound : ℕ) (p : Place) (tag : Tag) (body : List ℕ) → Opened bad t → t.ledger.low ≤ bound →
+last_below : (bad : Spot → Bool) (t : Translation) (k : Key) (bound : ℕ) (p : Place) (tag : Tag) (body : List ℕ) → Opened bad t → t.ledger.first_lost ≤ bound →
     IsNewest t.disk.cells t.ledger.newest bound k p tag body → LastBelow t k tag.number
 last_below bad t k bound p tag body o up x n i e h key low =
     let y = old_page bad t n i e o h in
@@ -45,7 +45,7 @@ last_below bad t k bound p tag body o up x n i e h key low =
     let z = x.greatest y.place y.tag e.item.body c (sym y.key ∙ key) (omega arith) in
     omega arith
 
-none_below : (bad : Spot → Bool) (t : Translation) (k : Key) (bound : ℕ) → Opened bad t → t.ledger.low ≤ bound → HasNone t.disk.cells t.ledger.newest bound k → NoneBelow t k
+none_below : (bad : Spot → Bool) (t : Translation) (k : Key) (bound : ℕ) → Opened bad t → t.ledger.first_lost ≤ bound → HasNone t.disk.cells t.ledger.newest bound k → NoneBelow t k
 none_below bad t k bound o up x n i e h key low =
     let y = old_page bad t n i e o h in
     let w = y.number in
@@ -55,8 +55,8 @@ none_below bad t k bound o up x n i e h key low =
 
 -- The base
 
-newest_base : (bad : Spot → Bool) (t : Translation) (k : Key) (bound : ℕ) (p : Place) (tag : Tag) → Opened bad t → t.ledger.low ≤ bound →
-    IsNewest t.disk.cells t.ledger.newest bound k p tag (t.ledger.base k) → tag.number < t.ledger.low → BaseAt (book t) k
+newest_base : (bad : Spot → Bool) (t : Translation) (k : Key) (bound : ℕ) (p : Place) (tag : Tag) → Opened bad t → t.ledger.first_lost ≤ bound →
+    IsNewest t.disk.cells t.ledger.newest bound k p tag (t.ledger.base k) → tag.number < t.ledger.first_lost → BaseAt (book t) k
 newest_base bad t k bound p tag o up x low = record {
   number = tag.number;
   index = tag.index;
@@ -66,22 +66,22 @@ newest_base bad t k bound p tag o up x low = record {
   last = last_below bad t k bound p tag (t.ledger.base k) o up x;
 }
 
-none_base : (bad : Spot → Bool) (t : Translation) (k : Key) (bound : ℕ) → Opened bad t → t.ledger.low ≤ bound → HasNone t.disk.cells t.ledger.newest bound k → t.ledger.base k ≡ zero_block → BaseNone (book t) k
+none_base : (bad : Spot → Bool) (t : Translation) (k : Key) (bound : ℕ) → Opened bad t → t.ledger.first_lost ≤ bound → HasNone t.disk.cells t.ledger.newest bound k → t.ledger.base k ≡ zero_block → BaseNone (book t) k
 none_base bad t k bound o up x zeros = record { none = none_below bad t k bound o up x; zeros = zeros }
 
 -- a page that counts above the lost numbers has the content of its key below them
 repaired_base : (bad : Spot → Bool) (t : Translation) (k : Key) (p : Place) (tag : Tag) → (o : Opened bad t) →
-    IsNewest t.disk.cells t.ledger.newest (suc o.start.ledger.kept) k p tag (t.ledger.base k) → t.ledger.low ≤ tag.number → BaseAt (book t) k ⊎ BaseNone (book t) k
+    IsNewest t.disk.cells t.ledger.newest (suc o.start.ledger.kept) k p tag (t.ledger.base k) → t.ledger.first_lost ≤ tag.number → BaseAt (book t) k ⊎ BaseNone (book t) k
 repaired_base bad t k p tag o x low =
     ⊎_elim
-    (λ (z : (fence_in t.ledger.newest ≡ None) × (t.ledger.low ≡ suc o.start.ledger.kept)). absurd (let u = x.within in let w = z.1 in omega arith))
-    (λ (z : (f : Fence) × (fence_in t.ledger.newest ≡ Some f) × (t.ledger.low ≡ f.first)). at_fence z.0 z.1 z.2)
+    (λ (z : (fence_in t.ledger.newest ≡ None) × (t.ledger.first_lost ≡ suc o.start.ledger.kept)). absurd (let u = x.within in let w = z.1 in omega arith))
+    (λ (z : (f : Fence) × (fence_in t.ledger.newest ≡ Some f) × (t.ledger.first_lost ≡ f.first)). at_fence z.0 z.1 z.2)
     (low_cases bad t o)
   where
-    above : (f : Fence) → fence_in t.ledger.newest ≡ Some f → t.ledger.low ≡ f.first → f.last < tag.number
+    above : (f : Fence) → fence_in t.ledger.newest ≡ Some f → t.ledger.first_lost ≡ f.first → f.last < tag.number
     above f is e = ⊎_elim (λ l. absurd (x.counts.free (subst (λ z. IsFenced z tag.number) (sym is) (omega arith, l)))) (λ l. l) (split tag.number f.last)
 
-    at_fence : (f : Fence) → fence_in t.ledger.newest ≡ Some f → t.ledger.low ≡ f.first → BaseAt (book t) k ⊎ BaseNone (book t) k
+    at_fence : (f : Fence) → fence_in t.ledger.newest ≡ Some f → t.ledger.first_lost ≡ f.first → BaseAt (book t) k ⊎ BaseNone (book t) k
     at_fence f is e =
         ⊎_elim
         (λ (r : (q : Place) × (u : Tag) × IsNewest t.disk.cells t.ledger.newest f.first k q u (t.ledger.base k)).
@@ -96,16 +96,16 @@ base_is bad t k o has =
     ⊎_elim
     (λ l. repaired_base bad t k x.0 x.1 o x.2 l)
     (λ l. inl (newest_base bad t k (suc o.start.ledger.kept) x.0 x.1 o (low_within bad t o).0 x.2 l))
-    (split t.ledger.low x.1.number))
+    (split t.ledger.first_lost x.1.number))
     (λ x. inr (none_base bad t k (suc o.start.ledger.kept) o (low_within bad t o).0 x.0 x.1))
     (o.start.ledger.holds k has)
 
 -- The name of a key's content
 
-first_is : (bad : Spot → Bool) (t : Translation) (k : Key) → Opened bad t → HasKey (book t) k → FirstRight (book t) k (t.ledger.first k)
-first_is bad t k o has = go (t.ledger.first k) (o.start.ledger.first k has)
+first_is : (bad : Spot → Bool) (t : Translation) (k : Key) → Opened bad t → HasKey (book t) k → FirstRight (book t) k (t.ledger.first_page k)
+first_is bad t k o has = go (t.ledger.first_page k) (o.start.ledger.first_page k has)
   where
-    up : t.ledger.low ≤ suc o.start.ledger.kept
+    up : t.ledger.first_lost ≤ suc o.start.ledger.kept
     up = (low_within bad t o).0
 
     go : (x : Option Name) → IsFirst t.disk.cells t.ledger.newest o.start.ledger.kept k x → FirstRight (book t) k x
@@ -115,9 +115,9 @@ first_is bad t k o has = go (t.ledger.first k) (o.start.ledger.first k has)
       page_is_old bad t p tag body o x.counts.there,
       x.key,
       ⊎_elim
-          (λ l. inl record { from = l; to = o.start.ledger.top.0.numbers p tag body x.counts.there })
+          (λ l. inl record { from = l; to = o.start.ledger.greatest_seen.0.numbers p tag body x.counts.there })
           (λ l. inr (l, last_below bad t k (suc o.start.ledger.kept) p tag body o up x))
-          (split t.ledger.low tag.number),
+          (split t.ledger.first_lost tag.number),
     )
 
 -- The book
@@ -142,7 +142,7 @@ book_is_right bad t o = record {
   differ = λ n i j e f h l key. differ bad t n i j e f o h l key;
   some = λ j g h. absurd (no_group bad t j g o h);
   old_within = λ n i e h. old_within bad t n i e o h;
-  low = (low_within bad t o).1;
+  first_lost = (low_within bad t o).1;
   base = λ k has. base_is bad t k o has;
-  first = λ k has. first_is bad t k o has;
+  first_page = λ k has. first_is bad t k o has;
 }

@@ -29,7 +29,7 @@ whole_is_old bad t n o w = record {
   one_size = λ i e h. let y = old_page bad t n i e o h in y.size ∙ w.one_size y.place y.tag e.item.body y.there y.number;
   each = λ i l.
       let x = w.each i l in
-      (shown x.1 x.2, sym (λ j. t.ledger.old (x.4 j) (x.5 j)) ∙ page_is_old bad t x.0 x.1 x.2 o x.3);
+      (shown x.1 x.2, sym (λ j. t.ledger.entries_before (x.4 j) (x.5 j)) ∙ page_is_old bad t x.0 x.1 x.2 o x.3);
 }
 
 -- above what the newest mark records all groups up to the kept number are whole
@@ -41,11 +41,11 @@ whole_above bad t n o low up =
     (λ l. o.start.ledger.is_kept.whole n l up)
     (split n o.start.ledger.is_kept.from))
 
-all_kept : (bad : Spot → Bool) (t : Translation) → (o : Opened bad t) → fence_in t.ledger.newest ≡ None → t.ledger.top < t.ledger.low → t.ledger.top ≤ o.start.ledger.kept
+all_kept : (bad : Spot → Bool) (t : Translation) → (o : Opened bad t) → fence_in t.ledger.newest ≡ None → t.ledger.greatest_seen < t.ledger.first_lost → t.ledger.greatest_seen ≤ o.start.ledger.kept
 all_kept bad t o none l =
     ⊎_elim
-    (λ (z : (fence_in t.ledger.newest ≡ None) × (t.ledger.low ≡ suc o.start.ledger.kept)). let e = z.1 in omega arith)
-    (λ (z : (f : Fence) × (fence_in t.ledger.newest ≡ Some f) × (t.ledger.low ≡ f.first)). absurd (apart z.0 (sym none ∙ z.1)))
+    (λ (z : (fence_in t.ledger.newest ≡ None) × (t.ledger.first_lost ≡ suc o.start.ledger.kept)). let e = z.1 in omega arith)
+    (λ (z : (f : Fence) × (fence_in t.ledger.newest ≡ Some f) × (t.ledger.first_lost ≡ f.first)). absurd (apart z.0 (sym none ∙ z.1)))
     (low_cases bad t o)
   where
     apart : (f : Fence) → None ≡ Some f → ⊥
@@ -62,7 +62,7 @@ mark_stands bad t m p o h = record {
 }
 
 marks_are_right : (bad : Spot → Bool) (t : Translation) (m : Mark) → Opened bad t → t.ledger.newest ≡ Some m → IsNewestMark t.disk.cells (Some m) →
-    fence_in t.ledger.newest ≡ None → t.ledger.top < t.ledger.low →
+    fence_in t.ledger.newest ≡ None → t.ledger.greatest_seen < t.ledger.first_lost →
     MarksRight (book t) t.ledger.frontier t.ledger.marks t.disk.cells t.disk.finished t.disk.blocks t.disk.erasing t.disk.flights m
 marks_are_right bad t m o is x none l =
     let f = o.start.ledger.frontier in
@@ -70,18 +70,18 @@ marks_are_right bad t m o is x none l =
     let k = all_kept bad t o none l in
     record {
       stands = mark_stands bad t m x.0.0 o x.0.1;
-      within = let z = o.start.ledger.top.0.marks x.0.0 m x.0.1 in omega arith;
+      within = let z = o.start.ledger.greatest_seen.0.marks x.0.0 m x.0.1 in omega arith;
       numbers = o.start.suits.config m is;
       whole = λ n low up. whole_above bad t n o (omega arith) (omega arith);
       ended = λ p other h ended. x.1 p other h;
-      known = λ p other h. inl (x.1 p other h, (let z = o.start.ledger.top.0.marks p other h in omega arith));
+      known = λ p other h. inl (x.1 p other h, (let z = o.start.ledger.greatest_seen.0.marks p other h in omega arith));
       same = λ p q a b h u e. o.sound.marks p q a b h u e;
       freed = λ p other h free. absurd (mark_not_free bad t p other o h free);
       flies = λ die p other h. absurd (none_flies bad t die (Programming p (MarkPage other)) o h);
     }
 
 mended : (bad : Spot → Bool) (t : Translation) (m : Option Mark) → Opened bad t → t.ledger.newest ≡ m → m ≢ None → IsNewestMark t.disk.cells m →
-    fence_in t.ledger.newest ≡ None → t.ledger.top < t.ledger.low → MendingRight (book t) t.disk t.ledger t.work.plan t.work.step Mended
+    fence_in t.ledger.newest ≡ None → t.ledger.greatest_seen < t.ledger.first_lost → MendingRight (book t) t.disk t.ledger t.work.plan t.work.step Mended
 mended bad t None o is some x none l = absurd (some refl)
 mended bad t (Some m) o is some x none l = record {
   mark = m;
@@ -95,7 +95,7 @@ mended bad t (Some m) o is some x none l = record {
 
 -- The first mark is due
 
-lost_is_right : (bad : Spot → Bool) (t : Translation) (lost : List Key) → Opened bad t → AreLost t.disk.cells t.ledger.low t.ledger.top lost → LostRight (book t) lost
+lost_is_right : (bad : Spot → Bool) (t : Translation) (lost : List Key) → Opened bad t → AreLost t.disk.cells t.ledger.first_lost t.ledger.greatest_seen lost → LostRight (book t) lost
 lost_is_right bad t lost o x = record {
   all = λ n i e l h.
       let y = old_page bad t n i e o h in
@@ -106,7 +106,7 @@ lost_is_right bad t lost o x = record {
   keys = λ j k h. let y = x.lost j k h in subst (HasKey (book t)) y.4 (o.start.suits.keys y.0 y.1 y.2 y.3);
 }
 
-mends : (bad : Spot → Bool) (t : Translation) (w : Mending) → Opened bad t → IsMendingAt t.disk.cells t.ledger.newest t.ledger.low t.ledger.top w →
+mends : (bad : Spot → Bool) (t : Translation) (w : Mending) → Opened bad t → IsMendingAt t.disk.cells t.ledger.newest t.ledger.first_lost t.ledger.greatest_seen w →
     MendingRight (book t) t.disk t.ledger t.work.plan t.work.step w
 mends bad t Mended o x = mended bad t t.ledger.newest o refl x.0 o.start.ledger.newest x.1 x.2
 mends bad t (Repairing left) o x = absurd x
@@ -119,7 +119,7 @@ mends bad t (Unmarked fence lost) o x = record {
     is_kept = o.start.ledger.is_kept;
     holds = o.start.ledger.holds;
     suits = o.start.suits;
-    marks = o.start.ledger.top.0.marks;
+    marks = o.start.ledger.greatest_seen.0.marks;
   };
   fence_right = x.1;
   lost_right = lost_is_right bad t lost o x.2;

@@ -79,7 +79,7 @@ page_there bad t n i p o h =
 standing_known : (bad : Spot → Bool) (t : Translation) (n i : ℕ) (p : Place) → Opened bad t → t.ledger.standing n i ≡ Some p → (e : Entry) × IsPageAt (book t) n i e
 standing_known bad t n i p o h =
     let x = page_there bad t n i p o h in
-    (shown x.tag x.body, from_old bad t n i (shown x.tag x.body) o (sym (λ j. t.ledger.old (x.number j) (x.index j)) ∙ page_is_old bad t p x.tag x.body o x.there))
+    (shown x.tag x.body, from_old bad t n i (shown x.tag x.body) o (sym (λ j. t.ledger.entries_before (x.number j) (x.index j)) ∙ page_is_old bad t p x.tag x.body o x.there))
 
 pub frontier_is_right : (bad : Spot → Bool) (t : Translation) → Opened bad t → FrontierRight (book t) t.ledger.standing t.ledger.frontier
 frontier_is_right bad t o =
@@ -95,7 +95,7 @@ pub pages_are_right : (bad : Spot → Bool) (t : Translation) → Opened bad t �
 pages_are_right bad t o = record {
   within = o.within;
   known = λ p tag body h. is_known bad t p tag body o h;
-  recorded = λ p tag body h. let f = o.start.ledger.frontier in let z = o.start.ledger.top.0.frontiers p tag body h in omega arith;
+  recorded = λ p tag body h. let f = o.start.ledger.frontier in let z = o.start.ledger.greatest_seen.0.frontiers p tag body h in omega arith;
   stands = λ p tag body h ended. stands bad t p tag body o h;
 }
 

@@ -260,15 +260,15 @@ repairs_ordered t k left v none m = record {
   frontier = frontier_grows (book t) (repair_group t.ledger.base k) t.ledger.standing t.ledger.frontier v.frontier;
   pages = pages_grow (book t) (repair_group t.ledger.base k) t.ledger.standing t.ledger.frontier t.disk.cells t.disk.finished v.pages;
   blocks = v.blocks;
-  flights = next_flights (grown (book t) (repair_group t.ledger.base k)) t.ledger.frontier t.ledger.marks t.ledger.marks t.disk t.work.step (Some (repair_step (next_number t.ledger) (standing_of t.ledger (t.ledger.first k)))) none
+  flights = next_flights (grown (book t) (repair_group t.ledger.base k)) t.ledger.frontier t.ledger.marks t.ledger.marks t.disk t.work.step (Some (repair_step (next_number t.ledger) (standing_of t.ledger (t.ledger.first_page k)))) none
       (flights_grow (book t) (repair_group t.ledger.base k) t.ledger.frontier t.ledger.marks t.disk t.work.step v.flights);
   safe = safe_grows (book t) (repair_group t.ledger.base k) (recorded_in t.ledger.newest) t.ledger.frontier t.ledger.standing t.disk v.frontier v.safe;
   numbered = v.numbered;
-  mending = repair_mending (book t) t.disk t.ledger (next_number t.ledger) t.work.plan t.work.step k left (standing_of t.ledger (t.ledger.first k)) none (omega arith) repairing;
+  mending = repair_mending (book t) t.disk t.ledger (next_number t.ledger) t.work.plan t.work.step k left (standing_of t.ledger (t.ledger.first_page k)) none (omega arith) repairing;
   step = record {
     kind = λ s h.
         subst (λ (z : Step). StepKindRight (grown (book t) (repair_group t.ledger.base k)) t.ledger.marks t.disk.cells (Repairing left) t.work.plan z.kind)
-        (some_is (repair_step (next_number t.ledger) (standing_of t.ledger (t.ledger.first k))) s h)
+        (some_is (repair_step (next_number t.ledger) (standing_of t.ledger (t.ledger.first_page k))) s h)
         (left, refl, (repair_entry t.ledger.base k, repair_page (book t) k (next_number t.ledger) (omega arith)));
   };
   plan = record {

@@ -7,7 +7,7 @@ use Rattle.ufs_spec.specs.Disk.{Flight, Programming, Spot, at_place, flight_alon
 use Rattle.ufs_spec.specs.Lives.{IsOpened, Leads}
 use Rattle.ufs_spec.specs.Machine.{in_block}
 use Rattle.ufs_spec.specs.Sound.{Sound}
-use Rattle.ufs_spec.specs.Steps.{State, numbers_of}
+use Rattle.ufs_spec.specs.Refusals.{State, numbers_of}
 use Rattle.ufs_spec.specs.declared.configs.Numbers.{Numbers}
 use Rattle.ufs_spec.specs.declared.events.Event.{Event}
 use Rattle.ufs_spec.specs.declared.events.Output.{Output}

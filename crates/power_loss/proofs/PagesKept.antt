@@ -199,7 +199,7 @@ pins_settle b frontier l c after f ended e erasing pins s settles h = record {
       (λ pin r. looked_settles b frontier l c after f ended e erasing pin.looked s settles r) pins h.each);
 }
 
-pub settles : (b : Book) (marked frontier : ℕ) (l : Ledger) (c : Cells) (f : Place → Bool) (blocks : Spot → BlockState) (e : Spot → Bool) → b.top ≤ frontier → FrontierRight b l.standing l.frontier →
+pub settles : (b : Book) (marked frontier : ℕ) (l : Ledger) (c : Cells) (f : Place → Bool) (blocks : Spot → BlockState) (e : Spot → Bool) → b.greatest_seen ≤ frontier → FrontierRight b l.standing l.frontier →
     SafeRight b marked l.standing c f blocks e → ((n i : ℕ) (x : Entry) → IsPageAt b n i x → frontier < n → marked ≤ frontier) → Settles b frontier l c f e
 settles b marked frontier l c f blocks e low fr safe under name x is above within =
     let at = fr.stand name.number name.index x within is in (

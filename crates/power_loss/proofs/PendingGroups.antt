@@ -57,18 +57,18 @@ front t move v may is = ⊎_elim none (λ x. ⊎_elim one page x) (effect t move
     page : WritesPage t move → Front t.ledger (moved t move).ledger
     page x =
         subst (Front t.ledger) (sym x.is)
-        (front_of t.ledger.base t.ledger.groups t.ledger.repairs t.ledger.top t.ledger.frontier (page_stands t.ledger (name_of x.tag) x.place).frontier v.history.contents
+        (front_of t.ledger.base t.ledger.groups t.ledger.repairs t.ledger.greatest_seen t.ledger.frontier (page_stands t.ledger (name_of x.tag) x.place).frontier v.history.contents
         (climbs_up (book t) (at_name t.ledger.standing (name_of x.tag) (Some x.place)) t.ledger.frontier))
 
 -- a page that stood already moves no frontier
-no_climb : (l : Ledger) (name : Name) (p : Place) → l.top ≤ l.frontier → FrontierStops l → is_standing l name.number name.index ≡ true →
+no_climb : (l : Ledger) (name : Name) (p : Place) → l.greatest_seen ≤ l.frontier → FrontierStops l → is_standing l name.number name.index ≡ true →
     (page_stands l name p).frontier ≡ l.frontier
 no_climb l name p low stops there =
-    climb_stays (λ n i. is_some (at_name l.standing name (Some p) n i)) l.frontier (drop (l.frontier - l.top) l.groups)
+    climb_stays (λ n i. is_some (at_name l.standing name (Some p) n i)) l.frontier (drop (l.frontier - l.greatest_seen) l.groups)
     (λ g h.
-    let zero : l.frontier - l.top + 0 ≡ l.frontier - l.top = omega arith in
+    let zero : l.frontier - l.greatest_seen + 0 ≡ l.frontier - l.greatest_seen = omega arith in
     let next : l.frontier + 1 ≡ suc l.frontier = omega arith in
-    let x = stops g (group_next l.top l.frontier l.groups low ∙ sym (ap (slice_get l.groups) zero) ∙ sym (get_drop l.groups (l.frontier - l.top) 0) ∙ h) in
+    let x = stops g (group_next l.greatest_seen l.frontier l.groups low ∙ sym (ap (slice_get l.groups) zero) ∙ sym (get_drop l.groups (l.frontier - l.greatest_seen) 0) ∙ h) in
     (x.0, x.1, ap (λ n. is_some (at_name l.standing name (Some p) n x.0)) (sym next) ∙ still x.0 x.2))
   where
     still : (i : ℕ) → l.standing (l.frontier + 1) i ≡ None → is_some (at_name l.standing name (Some p) (l.frontier + 1) i) ≡ false
@@ -81,7 +81,7 @@ no_climb l name p low stops there =
         apart : true ≡ false → ⊥
         apart z = cc
 
-same_stays : (l m : Ledger) → m.base ≡ l.base → m.top ≡ l.top → m.groups ≡ l.groups → m.repairs ≡ l.repairs → m.frontier ≡ l.frontier → PendingStays l m
+same_stays : (l m : Ledger) → m.base ≡ l.base → m.greatest_seen ≡ l.greatest_seen → m.groups ≡ l.groups → m.repairs ≡ l.repairs → m.frontier ≡ l.frontier → PendingStays l m
 same_stays l m b t g r f =
     (λ i. drop (f i - (t i + r i)) (drop (r i) (g i)), λ i. put_groups (b i) (take (f i - t i) (g i)))
 
@@ -115,25 +115,25 @@ stops t move v may was = ⊎_elim none (λ x. ⊎_elim one page x) (effect t mov
 
 pub opened : (n : Numbers) (c : Cells) (bad : Spot → Bool) (t : Translation) → IsOpenedTranslation n c bad t → FrontierStops t.ledger
 opened n c bad t o g h =
-    absurd (none_some g (sym (ap (λ (gs : List Group). slice_get gs (t.ledger.frontier - t.ledger.top)) o.ledger.none_new)
-    ∙ sym (group_next t.ledger.top t.ledger.frontier t.ledger.groups (let e = o.ledger.frontier in omega arith)) ∙ h))
+    absurd (none_some g (sym (ap (λ (gs : List Group). slice_get gs (t.ledger.frontier - t.ledger.greatest_seen)) o.ledger.none_new)
+    ∙ sym (group_next t.ledger.greatest_seen t.ledger.frontier t.ledger.groups (let e = o.ledger.frontier in omega arith)) ∙ h))
 
 pub first : (t : Translation) (g : Group) → Valid t → FrontierStops t.ledger → before_accepted t.ledger ≤ t.ledger.frontier → slice_get (pending t.ledger) 0 ≡ Some g →
     (i : ℕ) × (i < length g) × (t.ledger.standing (t.ledger.frontier + 1) i ≡ None)
 first t g v stops low h =
     stops g
-    (group_next t.ledger.top t.ledger.frontier t.ledger.groups v.frontier.above
-    ∙ sym (get_drop (drop t.ledger.repairs t.ledger.groups) (t.ledger.frontier - (t.ledger.top + t.ledger.repairs)) 0
-    ∙ get_drop t.ledger.groups t.ledger.repairs (t.ledger.frontier - (t.ledger.top + t.ledger.repairs) + 0)
+    (group_next t.ledger.greatest_seen t.ledger.frontier t.ledger.groups v.frontier.above
+    ∙ sym (get_drop (drop t.ledger.repairs t.ledger.groups) (t.ledger.frontier - (t.ledger.greatest_seen + t.ledger.repairs)) 0
+    ∙ get_drop t.ledger.groups t.ledger.repairs (t.ledger.frontier - (t.ledger.greatest_seen + t.ledger.repairs) + 0)
     ∙ ap (slice_get t.ledger.groups) index)
     ∙ h)
   where
-    index : t.ledger.repairs + (t.ledger.frontier - (t.ledger.top + t.ledger.repairs) + 0) ≡ t.ledger.frontier - t.ledger.top
+    index : t.ledger.repairs + (t.ledger.frontier - (t.ledger.greatest_seen + t.ledger.repairs) + 0) ≡ t.ledger.frontier - t.ledger.greatest_seen
     index = omega (arith, low)
 
 pub all : (t : Translation) → Valid t → put_groups (durable_contents t.ledger) (pending t.ledger) ≡ all_contents t.ledger
 all t v =
-    ap (λ f. put_groups f (drop m later)) (put_accepted base groups repairs (t.ledger.frontier - t.ledger.top) v.history.contents ∙ ap (λ n. put_groups base (take n later)) at)
+    ap (λ f. put_groups f (drop m later)) (put_accepted base groups repairs (t.ledger.frontier - t.ledger.greatest_seen) v.history.contents ∙ ap (λ n. put_groups base (take n later)) at)
     ∙ sym (put_more base (take m later) (drop m later))
     ∙ ap (put_groups base) (take-append-drop m later)
     ∙ ap (λ f. put_groups f later) (sym (after_none base groups repairs repairs v.history.contents (omega arith)))
@@ -153,7 +153,7 @@ all t v =
     later = drop t.ledger.repairs t.ledger.groups
 
     m : ℕ
-    m = t.ledger.frontier - (t.ledger.top + t.ledger.repairs)
+    m = t.ledger.frontier - (t.ledger.greatest_seen + t.ledger.repairs)
 
-    at : t.ledger.frontier - t.ledger.top - t.ledger.repairs ≡ t.ledger.frontier - (t.ledger.top + t.ledger.repairs)
+    at : t.ledger.frontier - t.ledger.greatest_seen - t.ledger.repairs ≡ t.ledger.frontier - (t.ledger.greatest_seen + t.ledger.repairs)
     at = omega arith

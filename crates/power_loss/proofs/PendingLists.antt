@@ -129,14 +129,14 @@ group_next top n gs l =
     if_false (nat_le (n + 1) top) None (slice_get gs (n + 1 - top - 1)) (lt-leb (n + 1) top (omega arith)) ∙ ap (slice_get gs) e
 
 -- after a page's program the frontier is where it stops
-pub page_stops : (l : Ledger) (name : Name) (p : Place) → l.top ≤ l.frontier → FrontierStops (page_stands l name p)
+pub page_stops : (l : Ledger) (name : Name) (p : Place) → l.greatest_seen ≤ l.frontier → FrontierStops (page_stands l name p)
 page_stops l name p low g h = (left.0, left.1, none_there (now (to + 1) left.0) (ap (λ z. is_some (now z left.0)) next ∙ left.2))
   where
     now : Standing
     now = at_name l.standing name (Some p)
 
     ahead : List Group
-    ahead = drop (l.frontier - l.top) l.groups
+    ahead = drop (l.frontier - l.greatest_seen) l.groups
 
     to : ℕ
     to = climbed (λ n i. is_some (now n i)) l.frontier ahead
@@ -147,11 +147,11 @@ page_stops l name p low g h = (left.0, left.1, none_there (now (to + 1) left.0) 
     up : l.frontier ≤ to
     up = (climb (λ n i. is_some (now n i)) l.frontier ahead).from
 
-    index : l.frontier - l.top + (to - l.frontier) ≡ to - l.top
+    index : l.frontier - l.greatest_seen + (to - l.frontier) ≡ to - l.greatest_seen
     index = omega (arith, up, low)
 
     at : slice_get ahead (to - l.frontier) ≡ Some g
-    at = get_drop l.groups (l.frontier - l.top) (to - l.frontier) ∙ ap (slice_get l.groups) index ∙ sym (group_next l.top to l.groups (omega (arith, up, low))) ∙ h
+    at = get_drop l.groups (l.frontier - l.greatest_seen) (to - l.frontier) ∙ ap (slice_get l.groups) index ∙ sym (group_next l.greatest_seen to l.groups (omega (arith, up, low))) ∙ h
 
     left : (i : ℕ) × (i < length g) × (is_some (now (suc to) i) ≡ false)
     left = some_left (λ i. is_some (now (suc to) i)) (length g) (climb_stops (λ n i. is_some (now n i)) l.frontier ahead g at)
@@ -167,7 +167,7 @@ beyond b standing frontier n i f l = go (standing n i) refl
     go (Some p) e =
         let k = f.known n i p e in
         let r = in_group b n i k.0 (omega arith) k.1 in
-        let w = slice_get_within b.groups (n - b.top - 1) r.0 r.1 in
+        let w = slice_get_within b.groups (n - b.greatest_seen - 1) r.0 r.1 in
         absurd (omega arith)
 
 -- it has a page that does not stand

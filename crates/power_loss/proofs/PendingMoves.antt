@@ -5,7 +5,7 @@ use Rattle.ufs_spec.specs.Cells.{Cell, GroupPage, MarkPage, Nothing}
 use Rattle.ufs_spec.specs.Disk.{Erasing, Flight, ForNobody, ForRest, ForStep, ForTask, Programming, Reader, Reading, Spot, program_failed}
 use Rattle.ufs_spec.specs.Keys.{Group, put_groups}
 use Rattle.ufs_spec.specs.Ledger.{Ledger, durable_contents, is_standing, page_stands, pending}
-use Rattle.ufs_spec.specs.Moves.{Accept, Claim, End, Ending, IsAllowedMove, Keep, LetGo, LetGoAll, MayEnd, Move, ReadRight, ReadWrong, Release, Take, Tell, Turn, WantPage, WentWell, WentWrong, die_idle, end_flight, mark_again, moved, read_right, read_wrong}
+use Rattle.ufs_spec.specs.Moves.{Accept, Claim, EndJob, Ending, IsAllowedMove, Keep, LetGo, LetGoAll, MayEnd, Move, ReadRight, ReadWrong, Release, GiveJob, Acknowledge, TakeStep, WantPage, WentWell, WentWrong, die_idle, end_flight, mark_again, moved, read_right, read_wrong}
 use Rattle.ufs_spec.specs.Translation.{Mended, Mending, Order, OrderMark, OrderPlanMark, OrderRepair, Plan, Repairing, Translation, Unmarked, copy_begun, has_mark_number, has_number, is_mended, live_places, mark_ordered, name_of, next_order, plan_order, stepped, turned, victim, victim_order, wants_collection, with_plan}
 use Rattle.ufs_spec.specs.declared.flash.Fence.{Fence}
 use Rattle.ufs_spec.specs.declared.flash.Key.{Key}
@@ -26,11 +26,11 @@ grows l g repairs = record l { groups = l.groups ++ g ∷ []; repairs = repairs 
 durable_grows : (t : Translation) (g : Group) (repairs : ℕ) → Valid t → durable_contents (grows t.ledger g repairs) ≡ durable_contents t.ledger
 durable_grows t g repairs v =
     let w = v.frontier.within in
-    ap (put_groups t.ledger.base) (take-append-le (t.ledger.frontier - t.ledger.top) t.ledger.groups (g ∷ []) (omega arith))
+    ap (put_groups t.ledger.base) (take-append-le (t.ledger.frontier - t.ledger.greatest_seen) t.ledger.groups (g ∷ []) (omega arith))
 
 stops_grows : (t : Translation) (g : Group) (repairs : ℕ) → Valid t → 0 < length g → FrontierStops t.ledger → FrontierStops (grows t.ledger g repairs)
 stops_grows t g repairs v some old =
-    stops_more t.ledger.top t.ledger.frontier t.ledger.groups g t.ledger.standing v.frontier.above some
+    stops_more t.ledger.greatest_seen t.ledger.frontier t.ledger.groups g t.ledger.standing v.frontier.above some
     (λ i e. let a = v.frontier.above in beyond (book t) t.ledger.standing t.ledger.frontier (t.ledger.frontier + 1) i v.frontier (omega arith))
     old
 
@@ -51,8 +51,8 @@ command_pends t g v =
     let r = v.history.within in
     let a = v.frontier.above in
     let w = v.frontier.within in
-    ap (drop (t.ledger.frontier - (t.ledger.top + t.ledger.repairs))) (drop-append-le t.ledger.repairs t.ledger.groups (g ∷ []) r)
-    ∙ drop-append-le (t.ledger.frontier - (t.ledger.top + t.ledger.repairs)) (drop t.ledger.repairs t.ledger.groups) (g ∷ [])
+    ap (drop (t.ledger.frontier - (t.ledger.greatest_seen + t.ledger.repairs))) (drop-append-le t.ledger.repairs t.ledger.groups (g ∷ []) r)
+    ∙ drop-append-le (t.ledger.frontier - (t.ledger.greatest_seen + t.ledger.repairs)) (drop t.ledger.repairs t.ledger.groups) (g ∷ [])
     (let d = length-drop t.ledger.repairs t.ledger.groups in omega arith)
 
 -- What a move does
@@ -146,15 +146,15 @@ again_stays t fence = go (has_mark_number t)
 
 -- what a job that ended leaves is what is left of the job in flight
 ended : (t : Translation) (die : ℕ) (ending : Ending) (flight : Option Flight) → t.disk.flights die ≡ flight →
-    StaysSo t.ledger (end_flight t die flight ending).ledger → StaysSo t.ledger (moved t (End die ending)).ledger
+    StaysSo t.ledger (end_flight t die flight ending).ledger → StaysSo t.ledger (moved t (EndJob die ending)).ledger
 ended t die ending flight is h = subst (λ f. StaysSo t.ledger (end_flight t die f ending).ledger) (sym is) h
 
-end_effect : (t : Translation) (die : ℕ) (flight : Option Flight) (ending : Ending) → t.disk.flights die ≡ flight → MayEnd t.disk die flight ending → Effect t (End die ending)
+end_effect : (t : Translation) (die : ℕ) (flight : Option Flight) (ending : Ending) → t.disk.flights die ≡ flight → MayEnd t.disk die flight ending → Effect t (EndJob die ending)
 end_effect t die None ending is may = absurd may
 end_effect t die (Some (Reading reader place)) ReadRight is may =
-    none_new t (End die ReadRight) refl (ended t die ReadRight (Some (Reading reader place)) is (right_stays (die_idle t die) reader))
+    none_new t (EndJob die ReadRight) refl (ended t die ReadRight (Some (Reading reader place)) is (right_stays (die_idle t die) reader))
 end_effect t die (Some (Reading reader place)) ReadWrong is may =
-    none_new t (End die ReadWrong) refl (ended t die ReadWrong (Some (Reading reader place)) is (wrong_stays (die_idle t die) reader))
+    none_new t (EndJob die ReadWrong) refl (ended t die ReadWrong (Some (Reading reader place)) is (wrong_stays (die_idle t die) reader))
 end_effect t die (Some (Programming p (GroupPage tag body))) WentWell is may =
     inr (inr (record {
       place = p;
@@ -164,20 +164,20 @@ end_effect t die (Some (Programming p (GroupPage tag body))) WentWell is may =
       new = ap (is_new_page t.ledger) is;
     }))
 end_effect t die (Some (Programming p Nothing)) WentWell is may =
-    none_new t (End die WentWell) refl (ended t die WentWell (Some (Programming p Nothing)) is ((refl, refl), λ s. s))
+    none_new t (EndJob die WentWell) refl (ended t die WentWell (Some (Programming p Nothing)) is ((refl, refl), λ s. s))
 end_effect t die (Some (Programming p (MarkPage m))) WentWell is may =
-    none_new t (End die WentWell) refl (ended t die WentWell (Some (Programming p (MarkPage m))) is ((refl, refl), λ s. s))
+    none_new t (EndJob die WentWell) refl (ended t die WentWell (Some (Programming p (MarkPage m))) is ((refl, refl), λ s. s))
 end_effect t die (Some (Programming p (GroupPage tag body))) (WentWrong left) is may =
-    none_new t (End die (WentWrong left)) refl (ended t die (WentWrong left) (Some (Programming p (GroupPage tag body))) is ((refl, refl), λ s. s))
+    none_new t (EndJob die (WentWrong left)) refl (ended t die (WentWrong left) (Some (Programming p (GroupPage tag body))) is ((refl, refl), λ s. s))
 end_effect t die (Some (Programming p Nothing)) (WentWrong left) is may =
-    none_new t (End die (WentWrong left)) refl (ended t die (WentWrong left) (Some (Programming p Nothing)) is ((refl, refl), λ s. s))
+    none_new t (EndJob die (WentWrong left)) refl (ended t die (WentWrong left) (Some (Programming p Nothing)) is ((refl, refl), λ s. s))
 end_effect t die (Some (Programming p (MarkPage m))) (WentWrong left) is may =
-    none_new t (End die (WentWrong left)) refl
+    none_new t (EndJob die (WentWrong left)) refl
     (ended t die (WentWrong left) (Some (Programming p (MarkPage m))) is (again_stays (record t { disk = program_failed t.disk p left }) m.fence))
 end_effect t die (Some (Erasing s)) WentWell is may =
-    none_new t (End die WentWell) refl (ended t die WentWell (Some (Erasing s)) is ((refl, refl), λ x. x))
+    none_new t (EndJob die WentWell) refl (ended t die WentWell (Some (Erasing s)) is ((refl, refl), λ x. x))
 end_effect t die (Some (Erasing s)) (WentWrong left) is may =
-    none_new t (End die (WentWrong left)) refl (ended t die (WentWrong left) (Some (Erasing s)) is ((refl, refl), λ x. x))
+    none_new t (EndJob die (WentWrong left)) refl (ended t die (WentWrong left) (Some (Erasing s)) is ((refl, refl), λ x. x))
 end_effect t die (Some (Reading reader place)) WentWell is may = absurd may
 end_effect t die (Some (Reading reader place)) (WentWrong left) is may = absurd may
 end_effect t die (Some (Programming p Nothing)) ReadRight is may = absurd may
@@ -206,11 +206,11 @@ pub effect : (t : Translation) (move : Move) → Valid t → IsAllowedMove t mov
 effect t (Claim count) v may = none_new t (Claim count) refl ((refl, refl), λ s. s)
 effect t (Release count) v may = none_new t (Release count) refl ((refl, refl), λ s. s)
 effect t (Accept claimed g) v may = one_more t (Accept claimed g) g v refl (let s = may.4.some in omega arith) refl
-effect t (Tell count) v may = none_new t (Tell count) refl ((refl, refl), λ s. s)
+effect t (Acknowledge count) v may = none_new t (Acknowledge count) refl ((refl, refl), λ s. s)
 effect t (Keep key pin) v may = none_new t (Keep key pin) refl ((refl, refl), λ s. s)
 effect t (WantPage tag index) v may = none_new t (WantPage tag index) refl ((refl, refl), λ s. s)
 effect t (LetGo tag index) v may = none_new t (LetGo tag index) refl ((refl, refl), λ s. s)
 effect t (LetGoAll tag) v may = none_new t (LetGoAll tag) refl ((refl, refl), λ s. s)
-effect t (Take die flight) v may = none_new t (Take die flight) refl ((refl, refl), λ s. s)
-effect t (End die ending) v may = end_effect t die (t.disk.flights die) ending refl may
-effect t Turn v may = none_new t Turn refl (turn_stays t v)
+effect t (GiveJob die flight) v may = none_new t (GiveJob die flight) refl ((refl, refl), λ s. s)
+effect t (EndJob die ending) v may = end_effect t die (t.disk.flights die) ending refl may
+effect t TakeStep v may = none_new t TakeStep refl (turn_stays t v)

@@ -5,12 +5,12 @@ use Rattle.std.specs.List.{list_any}
 use Rattle.std.proofs.lemmas.Bool.Decides.{nat_tests}
 use Rattle.ufs_spec.proofs.Facts.{false≢true, none-some, same_Some}
 use Rattle.ufs_spec.specs.Commands.{Command}
-use Rattle.ufs_spec.specs.Exchanges.{Answering, Awaiting, Busy, CheckCondition, Deed, ForWrite, Gathering, Good, Sending, Short, Status, Task, TaskSetFull, Telling, invalid_operation, is_task_of, no_unit, ready_message, response, short_reply, task_of}
+use Rattle.ufs_spec.specs.Exchanges.{Answering, Awaiting, Busy, CheckCondition, Deed, ForWrite, Gathering, Good, Sending, Short, Status, Task, TaskSetFull, SendingBytes, invalid_operation, is_task_of, no_unit, ready_message, response, short_reply, task_of}
 use Rattle.ufs_spec.specs.Lives.{Life, held}
-use Rattle.ufs_spec.specs.Machine.{Ask, Due, Hears, Host, IsCdbIn, Replies, begun_with, command_heard, deed_reply, message_fault, opened_with, opens_short, tag_in, unit_or_first, with_moves, with_short, with_task}
+use Rattle.ufs_spec.specs.Machine.{Reply, Due, OfHost, Host, IsCdbIn, OfReply, begun_with, command_heard, deed_reply, message_fault, opened_with, opens_short, tag_in, unit_or_first, with_moves, with_short, with_task}
 use Rattle.ufs_spec.specs.Moves.{Claim}
 use Rattle.ufs_spec.specs.Stages.{most_tasks}
-use Rattle.ufs_spec.specs.Steps.{Line, Request, State, first_line, lacks_unit, line, lines_behind, lun_of, not_taken, numbers_of, refusal, unit_of_request}
+use Rattle.ufs_spec.specs.Refusals.{Line, Request, State, first_line, lacks_unit, line, lines_behind, lun_of, not_taken, numbers_of, refusal, unit_of_request}
 use Rattle.ufs_spec.specs.Translation.{is_mended}
 use Rattle.ufs_spec.specs.declared.events.Event.{Event}
 use Rattle.ufs_spec.specs.declared.events.Event.TheVariants as event
@@ -98,7 +98,7 @@ taken_tracks p s t r taken later is still =
 taken_valid : (s t : State) (r : Request) → ValidState s → IsTaken s r t → ValidState t
 taken_valid s t r v taken = one_event s t (event.Host taken.bytes) (output.Host (Ok tt)) v (record {
   call = Host (heard_command r);
-  answer = Hears (Ok tt);
+  answer = OfHost (Ok tt);
   is_call = (heard_command r, taken.spelled, refl);
   is_shown = refl;
   right = taken.right;
@@ -169,7 +169,7 @@ good_waited : (p : Promise) (cs : List Command) (bytes : List ℕ) (s : State) (
 good_waited p cs bytes s task (Gathering purpose gathered true) m keeps reply good = no_reply m reply
 good_waited p cs bytes s task (Gathering purpose gathered false) m keeps reply good = absurd (subst IsGood (sym (same_Some (ready_message task gathered) m reply)) good)
 good_waited p cs bytes s task (Sending blocks sent) m keeps reply good = absurd keeps
-good_waited p cs bytes s task (Telling told) m keeps reply good = absurd keeps
+good_waited p cs bytes s task (SendingBytes told) m keeps reply good = absurd keeps
 good_waited p cs bytes s task (Awaiting n) m keeps reply good = record { commands = n; deed_is = refl; met = keeps }
 good_waited p cs bytes s task (Answering status n) m keeps reply good = bad_reply status task n m keeps reply good
 
@@ -227,7 +227,7 @@ pub write_held : (s t u : State) (r : Request) (bytes : List ℕ) (address block
 write_held s t u r bytes address blocks es os v e some a life =
     let p : Promise = OfWrite (length s.accepted) r.lun address blocks in
     let k = answered_kept p s t r bytes v a (omega arith) (write_promises s r address blocks e some a.taken.spelled.2) in
-    let one = accepted_grows a.ended Ask (Replies (Some a.answer)) in
+    let one = accepted_grows a.ended Reply (OfReply (Some a.answer)) in
     let first : t.accepted ≡ a.ended.accepted ++ one.0 = ap (λ (x : State). x.accepted) a.replied.next ∙ one.1 in
     let rest = life_grows t u es os life in
     let met = subst (λ (cs : List Command). IsMet p cs bytes k.commands) (sym rest.1)

@@ -2,11 +2,11 @@
 use Rattle.std.proofs.Common.{◌≡◌, ℕ, ◌+◌, ◌*◌, ◌≤◌, Bool, true, false, not, List, [], ◌∷◌, Option, Some, None, length, refl, sym, ap, ◌∙◌, subst, inl, inr, arith}
 use Rattle.std.specs.Prelude.{if◌then◌else◌, find, nat_le, nat_lt, slice_get}
 use Rattle.std.proofs.lemmas.Bool.{leb-true}
-use Rattle.ufs_spec.specs.Exchanges.{Answering, Awaiting, Deed, ForFrames, ForUnmap, ForWrite, Gathering, Good, NotRead, Purpose, ReadBlock, ReadState, Sending, Short, Task, Telling, Unread, WasRead, block_message, is_short_of, is_task_of, read_error, ready_message, response, task_of, without_short, without_task}
-use Rattle.ufs_spec.specs.Machine.{Due, block_reply, claimed_by, deed_behind, deed_behind_block, deed_behind_state, deed_reply, durable, is_at_hand, is_durable, moves_behind, next_block_reply, pin_of, replied, replied_by, set_deed, short_replied, tag_in, task_behind, tells, with_moves}
-use Rattle.ufs_spec.specs.Moves.{IsAllowedMove, LetGo, LetGoAll, Tell, WantPage}
+use Rattle.ufs_spec.specs.Exchanges.{Answering, Awaiting, Deed, ForFrames, ForUnmap, ForWrite, Gathering, Good, NotRead, Purpose, ReadBlock, ReadState, Sending, Short, Task, SendingBytes, Unread, WasRead, block_message, is_short_of, is_task_of, read_error, ready_message, response, task_of, without_short, without_task}
+use Rattle.ufs_spec.specs.Machine.{Due, block_reply, claimed_by, deed_behind, deed_behind_block, deed_behind_state, deed_reply, durable, is_at_hand, is_durable, moves_behind, next_block_reply, pin_of, replied, replied_by, set_deed, short_replied, tag_in, task_behind, acknowledges, with_moves}
+use Rattle.ufs_spec.specs.Moves.{IsAllowedMove, LetGo, LetGoAll, Acknowledge, WantPage}
 use Rattle.ufs_spec.specs.Plain.{shape_of_numbers}
-use Rattle.ufs_spec.specs.Steps.{State, numbers_of}
+use Rattle.ufs_spec.specs.Refusals.{State, numbers_of}
 use Rattle.ufs_spec.specs.Translation.{is_mended}
 use Rattle.ufs_spec.specs.declared.messages.Message.{Message}
 use Rattle.ufs_spec.specs.declared.scsi.Cdb.{Cdb}
@@ -46,15 +46,15 @@ removed_right s tag v =
 
 -- what may be told is durable
 tell_allowed : (s : State) (commands : ℕ) → IsTied s → AwaitsFit (length s.accepted) (is_mended s.translation.work.mending) commands →
-    nat_le commands (durable s) ≡ true → IsAllowedMove s.translation (Tell commands)
+    nat_le commands (durable s) ≡ true → IsAllowedMove s.translation (Acknowledge commands)
 tell_allowed s commands v fits h =
     let low = v.repaired fits.1 in
     let l = leb-true commands (durable s) h in
     omega arith
 
 told_right : (s : State) (commands : ℕ) → IsTied s → AwaitsFit (length s.accepted) (is_mended s.translation.work.mending) commands →
-    nat_le commands (durable s) ≡ true → Right s (with_moves s (Tell commands ∷ []))
-told_right s commands v fits h = right_move s (Tell commands) v tt (tell_allowed s commands v fits h) (omega arith)
+    nat_le commands (durable s) ≡ true → Right s (with_moves s (Acknowledge commands ∷ []))
+told_right s commands v fits h = right_move s (Acknowledge commands) v tt (tell_allowed s commands v fits h) (omega arith)
 
 -- The tag of a reply
 
@@ -81,7 +81,7 @@ pub reply_tag : (s : State) (task : Task) (deed : Deed) (m : Message) → deed_r
 reply_tag s task (Gathering purpose gathered true) m h = no_tag m h
 reply_tag s task (Gathering purpose gathered false) m h = one_tag (ready_message task gathered) m task.tag h refl
 reply_tag s task (Sending blocks sent) m h = next_tag s task sent (slice_get blocks sent) m h
-reply_tag s task (Telling bytes) m h = one_tag _ m task.tag h refl
+reply_tag s task (SendingBytes bytes) m h = one_tag _ m task.tag h refl
 reply_tag s task (Awaiting commands) m h = by (nat_le commands (durable s)) h
   where
     by : (b : Bool) → (if b then Some (response task.lun task.tag task.expected task.length Good) else None) ≡ Some m → tag_in m ≡ task.tag
@@ -144,15 +144,15 @@ deed_replies s task (Sending blocks sent) m v there fits claim h =
     Both one
     (Both two
     (block_right (with_moves s (LetGo task.tag sent ∷ WantPage task.tag (sent + 1) ∷ [])) task blocks sent (slice_get blocks sent) (right_keeps (Both one two) v) there))
-deed_replies s task (Telling bytes) m v there fits claim h = set_right s task (Answering Good task.length) v there tt (omega arith)
+deed_replies s task (SendingBytes bytes) m v there fits claim h = set_right s task (Answering Good task.length) v there tt (omega arith)
 deed_replies s task (Awaiting commands) m v there fits claim h =
     let told = told_right s commands v fits (awaited s task commands m h) in
-    Both told (removed_right (with_moves s (Tell commands ∷ [])) task.tag (right_keeps told v))
+    Both told (removed_right (with_moves s (Acknowledge commands ∷ [])) task.tag (right_keeps told v))
 deed_replies s task (Answering status carried) m v there fits claim h = removed_right s task.tag v
 
 -- The reply of a short exchange
 
-short_tells : (s : State) (x : Option ℕ) → IsTied s → ShortAwaits (length s.accepted) (is_mended s.translation.work.mending) x → is_durable s x ≡ true → Right s (with_moves s (tells x))
+short_tells : (s : State) (x : Option ℕ) → IsTied s → ShortAwaits (length s.accepted) (is_mended s.translation.work.mending) x → is_durable s x ≡ true → Right s (with_moves s (acknowledges x))
 short_tells s None v fits h = Still
 short_tells s (Some commands) v fits h = told_right s commands v fits h
 

@@ -3,13 +3,13 @@ use Rattle.std.proofs.Common.{Bool, List, None, [], ap, arith, drop, false, leng
 use Rattle.std.specs.Prelude.{if◌then◌else◌, filter, nat_le}
 use Rattle.ufs_spec.specs.Cells.{Shows}
 use Rattle.ufs_spec.specs.Commands.{Command}
-use Rattle.ufs_spec.specs.Exchanges.{Answering, Awaiting, Deed, Gathering, Sending, Short, Task, Telling, filled, write_error}
+use Rattle.ufs_spec.specs.Exchanges.{Answering, Awaiting, Deed, Gathering, Sending, Short, Task, SendingBytes, filled, write_error}
 use Rattle.ufs_spec.specs.Keys.{CanApplyAll, Group, IsCommand, group_of, groups_of}
 use Rattle.ufs_spec.specs.Ledger.{accepted_groups}
-use Rattle.ufs_spec.specs.Machine.{claimed_by, deed_locked, durable, fill_moves, fills, is_durable, is_to_fill, lock_told, short_locked, task_filled, task_locked, with_moves}
-use Rattle.ufs_spec.specs.Moves.{Accept, End, IsAllowedMove, LetGoAll, Move, Take, Turn, moved}
+use Rattle.ufs_spec.specs.Machine.{claimed_by, deed_locked, durable, fill_moves, fills, is_durable, is_to_fill, lock_applied, short_locked, task_filled, task_locked, with_moves}
+use Rattle.ufs_spec.specs.Moves.{Accept, EndJob, IsAllowedMove, LetGoAll, Move, GiveJob, TakeStep, moved}
 use Rattle.ufs_spec.specs.Plain.{CanApply, Plain, Shape, after, apply, shape_of, shape_of_numbers}
-use Rattle.ufs_spec.specs.Steps.{State, locked, numbers_of, plain_now}
+use Rattle.ufs_spec.specs.Refusals.{State, locked, numbers_of, plain_now}
 use Rattle.ufs_spec.specs.Translation.{Translation, is_mended}
 use Rattle.power_loss.specs.Exchange.{DeedFits, IsTied, ShortFits, TasksAreRight, TasksRight, claim_of}
 use Rattle.power_loss.proofs.FittingMoves.{move_fits, move_stays}
@@ -67,9 +67,9 @@ record LeavesGroups (t u : Translation) : Type 0 where
 
 small_leaves : (t : Translation) (move : Move) → IsSmallMove move → LeavesGroups t (moved t move)
 small_leaves t (Accept claimed g) is = absurd is
-small_leaves t (Take die flight) is = absurd is
-small_leaves t (End die ending) is = absurd is
-small_leaves t Turn is = absurd is
+small_leaves t (GiveJob die flight) is = absurd is
+small_leaves t (EndJob die ending) is = absurd is
+small_leaves t TakeStep is = absurd is
 small_leaves t move is = record { groups = refl; cells = refl }
 
 accepted_ties : (s : State) (c : Command) (claimed : ℕ) → IsTied s → IsCommand c → CanApply (plain_now s) c →
@@ -124,7 +124,7 @@ locked_fits : (s : State) (sh : Shape) (a : ℕ) (m : Bool) (task : Task) (deed 
     DeedFits sh a m (claimed_by (deed_locked s task deed) task.command) task.length (deed_locked s task deed)
 locked_fits s sh a m task (Gathering purpose gathered asked) h = h
 locked_fits s sh a m task (Sending blocks sent) h = h
-locked_fits s sh a m task (Telling bytes) h = h
+locked_fits s sh a m task (SendingBytes bytes) h = h
 locked_fits s sh a m task (Awaiting commands) h = by (nat_le commands (durable s))
   where
     by : (b : Bool) → DeedFits sh a m (claimed_by (if b then Awaiting commands else Answering write_error task.length) task.command) task.length (if b then Awaiting commands else Answering write_error task.length)
@@ -135,7 +135,7 @@ locked_fits s sh a m task (Answering status carried) h = h
 locked_claims : (s : State) (task : Task) (deed : Deed) → claimed_by (deed_locked s task deed) task.command ≤ claimed_by deed task.command
 locked_claims s task (Gathering purpose gathered asked) = omega arith
 locked_claims s task (Sending blocks sent) = omega arith
-locked_claims s task (Telling bytes) = omega arith
+locked_claims s task (SendingBytes bytes) = omega arith
 locked_claims s task (Awaiting commands) = by (nat_le commands (durable s))
   where
     by : (b : Bool) → claimed_by (if b then Awaiting commands else Answering write_error task.length) task.command ≤ claimed_by (Awaiting commands) task.command
@@ -150,7 +150,7 @@ short_fits s a m x h = by (is_durable s x.awaits)
     by true = h
     by false = record { awaits = tt; reply = h.locked_reply; locked_reply = h.locked_reply }
 
-pub lock_right : (s : State) → IsTied s → Right s (lock_told s)
+pub lock_right : (s : State) → IsTied s → Right s (lock_applied s)
 lock_right s v = by (locked s)
   where
     sh : Shape
@@ -217,5 +217,5 @@ fills_right s v =
     (One (SetsRegisters (fills s).registers) (record { small = tt; layer = tt; tasks = tasks })))
 
 -- and then the lock is told
-pub settled_right : (s : State) → IsTied s → Right s (lock_told (fills s))
+pub settled_right : (s : State) → IsTied s → Right s (lock_applied (fills s))
 settled_right s v = let h = fills_right s v in Both h (lock_right (fills s) (right_keeps h v))

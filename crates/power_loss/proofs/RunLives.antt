@@ -8,7 +8,7 @@ use Rattle.ufs_spec.specs.Dies.{DieState}
 use Rattle.ufs_spec.specs.Disk.{Spot}
 use Rattle.ufs_spec.specs.Lives.{Fit, GoesOn, Headline, IsLived, IsOpened, Leads, Life, Lived, Lives, Reopens, Runs, Stops, array_of, bad_in, bad_of}
 use Rattle.ufs_spec.specs.Sound.{Sound, Suits}
-use Rattle.ufs_spec.specs.Steps.{State, numbers_of}
+use Rattle.ufs_spec.specs.Refusals.{State, numbers_of}
 use Rattle.ufs_spec.specs.declared.configs.Numbers.{Numbers}
 use Rattle.ufs_spec.specs.declared.events.Event.{Event}
 use Rattle.ufs_spec.specs.declared.events.Event.TheVariants as event

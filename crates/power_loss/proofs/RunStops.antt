@@ -6,7 +6,7 @@ use Rattle.ufs_spec.specs.Cells.{Array, Cell}
 use Rattle.ufs_spec.specs.Configs.{IsConfig}
 use Rattle.ufs_spec.specs.Disk.{Flight, Spot, Touches}
 use Rattle.ufs_spec.specs.Lives.{GoesOn, IsOpened, Lived, Runs, Stops, bad_in}
-use Rattle.ufs_spec.specs.Steps.{State}
+use Rattle.ufs_spec.specs.Refusals.{State}
 use Rattle.ufs_spec.specs.declared.configs.Numbers.{Numbers}
 use Rattle.ufs_spec.specs.declared.events.Event.{Event}
 use Rattle.ufs_spec.specs.declared.events.Event.TheVariants as event

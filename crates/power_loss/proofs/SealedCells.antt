@@ -88,23 +88,23 @@ key_ranges n r k IsSettings = record {
 
 -- a page of the book has a number of the book
 pub number_within : (b : Book) (n i : ℕ) (e : Entry) → BookRight b → IsPageAt b n i e → n ≤ last_number b
-number_within b n i e r is = ⊎_elim old new (two_ways (nat_le n b.top))
+number_within b n i e r is = ⊎_elim old new (two_ways (nat_le n b.greatest_seen))
   where
-    old : nat_le n b.top ≡ true → n ≤ last_number b
-    old h = let l = leb-true n b.top h in omega arith
+    old : nat_le n b.greatest_seen ≡ true → n ≤ last_number b
+    old h = let l = leb-true n b.greatest_seen h in omega arith
 
     found : (x : Option Group) → option_and_then (λ (g : Group). entry_in g i) x ≡ Some e → (g : Group) × (x ≡ Some g)
     found None h = cc
     found (Some g) h = (g, refl)
 
-    new : nat_le n b.top ≡ false → n ≤ last_number b
+    new : nat_le n b.greatest_seen ≡ false → n ≤ last_number b
     new h =
-        let l = leb-false n b.top h in
-        let at : option_and_then (λ (g : Group). entry_in g i) (slice_get b.groups (n - b.top - 1)) ≡ Some e =
-        ap (λ x. option_and_then (λ (g : Group). entry_in g i) x) (sym (if_false (nat_le n b.top) None (slice_get b.groups (n - b.top - 1)) h))
-        ∙ (sym (if_false (nat_le n b.top) (b.old n i) _ h) ∙ is) in
-        let g = found (slice_get b.groups (n - b.top - 1)) at in
-        let w = slice_get_within b.groups (n - b.top - 1) g.0 g.1 in
+        let l = leb-false n b.greatest_seen h in
+        let at : option_and_then (λ (g : Group). entry_in g i) (slice_get b.groups (n - b.greatest_seen - 1)) ≡ Some e =
+        ap (λ x. option_and_then (λ (g : Group). entry_in g i) x) (sym (if_false (nat_le n b.greatest_seen) None (slice_get b.groups (n - b.greatest_seen - 1)) h))
+        ∙ (sym (if_false (nat_le n b.greatest_seen) (b.entries_before n i) _ h) ∙ is) in
+        let g = found (slice_get b.groups (n - b.greatest_seen - 1)) at in
+        let w = slice_get_within b.groups (n - b.greatest_seen - 1) g.0 g.1 in
         omega arith
 
 entry_tag : (n : Numbers) (name : Name) (e : Entry) (frontier last : ℕ) → InRange n → IsKey (shape_of_numbers n) e.item.key →

@@ -2,7 +2,7 @@
 use Rattle.std.proofs.Common.{◌≡◌, ◌≢◌, ℕ, ◌+◌, ◌≤◌, ◌==◌, Bool, true, false, ◌⊎◌, List, Option, Some, None, refl, sym, ap, ◌∙◌, subst, inl, inr, ⊎_elim, arith}
 use Rattle.std.proofs.lemmas.Bool.Decides.{eqb_tells}
 use Rattle.ufs_spec.specs.Cells.{Cell, Cells, GroupPage, Mark, MarkPage, Nothing}
-use Rattle.ufs_spec.specs.Disk.{BlockState, Bad, CellCrash, Closed, Disk, Erasing, Filling, Flight, Free, Programming, Spot, Touches, at_place, at_spot, begun, erase_failed, erased, flight_alone, program_failed, programmed, same_spot, spot_of, state_behind}
+use Rattle.ufs_spec.specs.Disk.{BlockState, Bad, CellCrash, Closed, Disk, Erasing, Filling, Flight, Free, Programming, Spot, Touches, at_place, at_spot, job_begun, erase_failed, erased, flight_alone, program_failed, programmed, same_spot, spot_of, state_behind}
 use Rattle.ufs_spec.specs.declared.flash.Key.{Key}
 use Rattle.ufs_spec.specs.declared.flash.Place.{Place}
 use Rattle.ufs_spec.specs.declared.flash.Tag.{Tag}
@@ -166,7 +166,7 @@ program_left d die p cell left e crash q = told (left_is d die (Programming p ce
 
 -- Each change of the disk
 
-pub keeps_erase_begun : (d : Disk) (die : ℕ) (s : Spot) → d.blocks s ≡ Free → Keeps d (begun d die (Erasing s))
+pub keeps_erase_begun : (d : Disk) (die : ℕ) (s : Spot) → d.blocks s ≡ Free → Keeps d (job_begun d die (Erasing s))
 keeps_erase_begun d die s free q some ended stays needed = record {
   there = refl;
   ended = ended;

@@ -8,10 +8,10 @@ use Rattle.ufs_spec.specs.Cells.{Array}
 use Rattle.ufs_spec.specs.Disk.{Erasing, Flight, ForNobody, ForRest, ForStep, ForTask, Programming, Reading}
 use Rattle.ufs_spec.specs.Exchanges.{Short, Task, is_short_of, is_task_of, short_reply, task_of, without_short}
 use Rattle.ufs_spec.specs.Lives.{Leads, Life, held}
-use Rattle.ufs_spec.specs.Machine.{Answer, Ask, Call, Due, Faulty, Finish, Finishes, Give, Gives, Hears, Host, Replies, Spelled, Step, Steps, behind, ends_with, given, heard, is_aborted, is_durable, lock_told, managed, observe, query_unanswered, replied_by, service, short_locked, short_replied, tag_in, task_locked, told_behind, without_tasks, fills}
+use Rattle.ufs_spec.specs.Machine.{Answer, Reply, Call, Due, Faulty, Done, OfDone, Take, OfTake, OfHost, Host, OfReply, Spelled, Turn, OfTurn, behind, ends_with, given, heard, is_aborted, is_durable, lock_applied, managed, observe, query_unanswered, replied_by, service, short_locked, short_replied, tag_in, task_locked, read_noted_behind, without_tasks, fills}
 use Rattle.ufs_spec.specs.Moves.{Ending, ReadRight, ReadWrong, WentWell, WentWrong}
 use Rattle.ufs_spec.specs.Stages.{manages_tasks}
-use Rattle.ufs_spec.specs.Steps.{State, locked}
+use Rattle.ufs_spec.specs.Refusals.{State, locked}
 use Rattle.ufs_spec.specs.Translation.{is_mended}
 use Rattle.ufs_spec.specs.declared.events.Event.{Event}
 use Rattle.ufs_spec.specs.declared.events.Output.{Output}
@@ -76,7 +76,7 @@ heard_leaves tag s other c = same_leaves tag s.shorts s.shorts refl
 
 -- Other calls
 
-told_shorts : (s : State) (flight : Flight) (ending : Ending) → (told_behind s flight ending).shorts ≡ s.shorts
+told_shorts : (s : State) (flight : Flight) (ending : Ending) → (read_noted_behind s flight ending).shorts ≡ s.shorts
 told_shorts s (Reading (ForTask tag index) place) ReadRight = refl
 told_shorts s (Reading ForStep place) ReadRight = refl
 told_shorts s (Reading (ForRest number index) place) ReadRight = refl
@@ -134,12 +134,12 @@ replied_leave tag s other None still = short_leaves tag s (find (is_short_of oth
 
 behind_leaves : (tag : ℕ) (s : State) (call : Call) (answer : Answer) →
     is_some (short_of tag (behind s call answer)) ≡ true → Leaves tag s.shorts (behind s call answer).shorts
-behind_leaves tag s (Host (Spelled m c)) (Hears (Ok done)) still = heard_leaves tag s m c
-behind_leaves tag s (Host (Faulty fault)) (Hears (Ok done)) still = same_leaves tag s.shorts s.shorts refl
-behind_leaves tag s (Give die) (Gives flight) still = same_leaves tag s.shorts _ (given_shorts s die flight)
-behind_leaves tag s (Finish die ending left) (Finishes true) still = same_leaves tag s.shorts _ (ends_shorts s die (s.translation.disk.flights die) ending left)
-behind_leaves tag s Step (Steps due) still = same_leaves tag s.shorts s.shorts refl
-behind_leaves tag s Ask (Replies (Some m)) still = replied_leave tag s (tag_in m) (task_of (tag_in m) s.tasks) still
+behind_leaves tag s (Host (Spelled m c)) (OfHost (Ok done)) still = heard_leaves tag s m c
+behind_leaves tag s (Host (Faulty fault)) (OfHost (Ok done)) still = same_leaves tag s.shorts s.shorts refl
+behind_leaves tag s (Take die) (OfTake flight) still = same_leaves tag s.shorts _ (given_shorts s die flight)
+behind_leaves tag s (Done die ending left) (OfDone true) still = same_leaves tag s.shorts _ (ends_shorts s die (s.translation.disk.flights die) ending left)
+behind_leaves tag s Turn (OfTurn due) still = same_leaves tag s.shorts s.shorts refl
+behind_leaves tag s Reply (OfReply (Some m)) still = replied_leave tag s (tag_in m) (task_of (tag_in m) s.tasks) still
 behind_leaves tag s call answer still = same_leaves tag s.shorts s.shorts refl
 
 -- The lock
@@ -157,7 +157,7 @@ lock_found : (s : State) (tag : ℕ) (x : Short) → find (is_short_of tag) s.sh
 lock_found s tag x h = found_map (is_short_of tag) (short_locked s) (λ y. ap (λ (n : ℕ). n == tag) (lock_short s y)) s.shorts x h
 
 lock_tracks : {P : Type 0} (s : State) (tag : ℕ) (short : Short) → (locked s ≡ true → P) →
-    Tracked tag short P s.shorts → Tracked tag short P (lock_told s).shorts
+    Tracked tag short P s.shorts → Tracked tag short P (lock_applied s).shorts
 lock_tracks {P} s tag short now h = by (locked s) refl
   where
     maps : P → Tracked tag short P (map (short_locked s) s.shorts)
@@ -176,7 +176,7 @@ lock_tracks {P} s tag short now h = by (locked s) refl
     by true e = maps (now e)
     by false e = h
 
-lock_same : (s : State) → locked (lock_told s) ≡ locked s
+lock_same : (s : State) → locked (lock_applied s) ≡ locked s
 lock_same s = by (locked s)
   where
     by : (b : Bool) →
@@ -184,7 +184,7 @@ lock_same s = by (locked s)
     by true = refl
     by false = refl
 
-unlocked_open : (tag : ℕ) (s : State) → is_some (short_of tag (lock_told s)) ≡ true → is_some (short_of tag s) ≡ true
+unlocked_open : (tag : ℕ) (s : State) → is_some (short_of tag (lock_applied s)) ≡ true → is_some (short_of tag s) ≡ true
 unlocked_open tag s h = by (locked s) h
   where
     by : (b : Bool) →

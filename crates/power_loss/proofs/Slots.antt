@@ -22,7 +22,7 @@ fewer_pages (g ∷ gs) (suc a) zero l = absurd (omega arith)
 fewer_pages (g ∷ gs) (suc a) (suc b) l = fewer_pages gs a b (omega arith)
 
 -- a group more has its pages
-pub more_pages : (l : Ledger) (g : Group) → l.repairs ≤ length l.groups → l.frontier ≤ l.top + length l.groups →
+pub more_pages : (l : Ledger) (g : Group) → l.repairs ≤ length l.groups → l.frontier ≤ l.greatest_seen + length l.groups →
     pending_pages (record l { groups = l.groups ++ g ∷ [] }) ≡ pending_pages l + length g
 more_pages l g repairs frontier =
     let left = l.frontier - before_accepted l in

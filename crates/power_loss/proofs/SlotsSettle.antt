@@ -6,7 +6,7 @@ use Rattle.ufs_spec.proofs.Facts.{ltb-true}
 use Rattle.ufs_spec.specs.Cells.{GroupPage}
 use Rattle.ufs_spec.specs.Disk.{Programming}
 use Rattle.ufs_spec.specs.Ledger.{InSlot, Ledger, Looked, Name, OnPage, Unwritten, looked_on, page_stands, settled_look}
-use Rattle.ufs_spec.specs.Moves.{End, WentWell, end_flight, moved, settled_pin}
+use Rattle.ufs_spec.specs.Moves.{EndJob, WentWell, end_flight, moved, settled_pin}
 use Rattle.ufs_spec.specs.Translation.{Pin, Translation, name_of}
 use Rattle.ufs_spec.specs.declared.flash.Place.{Place}
 use Rattle.ufs_spec.specs.declared.flash.Tag.{Tag}
@@ -39,11 +39,11 @@ mapped l None pin h = absurd (none_some pin h)
 mapped l (Some old) pin h = (old, ap (λ (z : Pin). z.looked) (some_is (settled_pin l old) pin h))
 
 module _ (t : Translation) (die : ℕ) (p : Place) (tag : Tag) (body : List ℕ) (job : t.disk.flights die ≡ Some (Programming p (GroupPage tag body))) where
-  ends : moved t (End die WentWell) ≡ end_flight t die (Some (Programming p (GroupPage tag body))) WentWell
+  ends : moved t (EndJob die WentWell) ≡ end_flight t die (Some (Programming p (GroupPage tag body))) WentWell
   ends = ap (λ f. end_flight t die f WentWell) job
 
-  pub slot : (j : ℕ) (pin : Pin) (name : Name) → slice_get (moved t (End die WentWell)).pins j ≡ Some pin → pin.looked ≡ InSlot name →
-      (moved t (End die WentWell)).ledger.frontier < name.number
+  pub slot : (j : ℕ) (pin : Pin) (name : Name) → slice_get (moved t (EndJob die WentWell)).pins j ≡ Some pin → pin.looked ≡ InSlot name →
+      (moved t (EndJob die WentWell)).ledger.frontier < name.number
   slot j pin name at h =
       let l = page_stands t.ledger (name_of tag) p in
       let got = sym (slice_get-map (settled_pin l) t.pins j) ∙ ap (λ (u : Translation). slice_get u.pins j) (sym ends) ∙ at in
@@ -51,8 +51,8 @@ module _ (t : Translation) (die : ℕ) (p : Place) (tag : Tag) (body : List ℕ)
       subst (λ (u : Translation). u.ledger.frontier < name.number) (sym ends) (slot_left l old.0.looked name (old.1 ∙ h))
 
   pub page : (q : Place) (j : ℕ) (pin : Pin) (name : Name) → slice_get t.pins j ≡ Some pin → pin.looked ≡ InSlot name →
-      name.number ≤ (moved t (End die WentWell)).ledger.frontier → (moved t (End die WentWell)).ledger.standing name.number name.index ≡ Some q →
-      slice_get (moved t (End die WentWell)).pins j ≡ Some (record pin { looked = OnPage name q })
+      name.number ≤ (moved t (EndJob die WentWell)).ledger.frontier → (moved t (EndJob die WentWell)).ledger.standing name.number name.index ≡ Some q →
+      slice_get (moved t (EndJob die WentWell)).pins j ≡ Some (record pin { looked = OnPage name q })
   page q j pin name at h low stands =
       let l = page_stands t.ledger (name_of tag) p in
       let under = subst (λ (u : Translation). name.number ≤ u.ledger.frontier) ends low in

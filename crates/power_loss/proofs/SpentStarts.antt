@@ -103,10 +103,10 @@ module _ (t : Translation) (s : Spot) (c left : Cells) (v : Valid t) (may : MayE
         let up = n.newest first.0.0 newest first_stands first_finished in
         u.1.opened.sound.marks n.stands.place first.0.0 m newest (mark_opened m n) first.0.1 (omega arith)
 
-    under : newest.records ≤ t.ledger.top
+    under : newest.records ≤ t.ledger.greatest_seen
     under = u.1.opened.marks first.0.0 newest first.0.1
 
-    ends_at : (f : Fence) → newest.fence ≡ Some f → (t.ledger.low ≡ f.first) × (newest.records ≡ f.last)
+    ends_at : (f : Fence) → newest.fence ≡ Some f → (t.ledger.first_lost ≡ f.first) × (newest.records ≡ f.last)
     ends_at f e = (st.fence f (ap fence_in is ∙ e), sym (ap recorded_in is) ∙ u.1.opened.sound.fence f (ap fence_in is ∙ e))
 
     fenced_lost : (o : Option Fence) (n : ℕ) → newest.fence ≡ o → IsFenced o n → IsLostNumber (book t) n
@@ -115,7 +115,7 @@ module _ (t : Translation) (s : Spot) (c left : Cells) (v : Valid t) (may : MayE
         let r = ends_at f e in let a = r.0 in let b = r.1 in let x = h.0 in let y = h.1 in let z = under in
         record { from = omega arith; to = omega arith }
 
-    none_else : (o : Option Fence) (n : ℕ) → newest.fence ≡ o → (IsFenced o n → ⊥) → t.ledger.low ≤ n → n ≤ newest.records → ⊥
+    none_else : (o : Option Fence) (n : ℕ) → newest.fence ≡ o → (IsFenced o n → ⊥) → t.ledger.first_lost ≤ n → n ≤ newest.records → ⊥
     none_else None n e free l far = let z = st.none (ap fence_in is ∙ e) in let w = ap recorded_in is in omega arith
     none_else (Some f) n e free l far = let r = ends_at f e in let a = r.0 in let b = r.1 in free (omega arith, omega arith)
 

@@ -31,18 +31,18 @@ pub known_one : (b : Book) (n i : ℕ) (x : Entry) (tag : Tag) (body : List ℕ)
 known_one b n i x tag body h k e f = some_entry x (entry_for tag body) (sym h ∙ sym (ap (page_at b) (λ j. record { number = e j; index = f j })) ∙ k)
 
 -- a number at or under the first of this life is of an earlier one
-pub old_page : (b : Book) (n i : ℕ) (x : Entry) → n ≤ b.top → IsPageAt b n i x → b.old n i ≡ Some x
+pub old_page : (b : Book) (n i : ℕ) (x : Entry) → n ≤ b.greatest_seen → IsPageAt b n i x → b.entries_before n i ≡ Some x
 old_page b n i x l h =
-    sym (if_true (nat_le n b.top) (b.old n i) (option_and_then (λ g. entry_in g i) (if nat_le n b.top then None else slice_get b.groups (n - b.top - 1))) (le_true n b.top l)) ∙ h
+    sym (if_true (nat_le n b.greatest_seen) (b.entries_before n i) (option_and_then (λ g. entry_in g i) (if nat_le n b.greatest_seen then None else slice_get b.groups (n - b.greatest_seen - 1))) (le_true n b.greatest_seen l)) ∙ h
   where
     le_true : (m n : ℕ) → m ≤ n → nat_le m n ≡ true
     le_true m n l = grind (arith, nat_tests)
 
 pub lost_or_not : (b : Book) (n : ℕ) → IsLostNumber b n ⊎ (IsLostNumber b n → ⊥)
 lost_or_not b n = ⊎_elim
-    (λ (l : b.low ≤ n). ⊎_elim (λ (k : n ≤ b.top). inl record { from = l; to = k }) (λ (k : b.top < n). inr (λ o. let z = o.to in omega arith)) (at_most n b.top))
-    (λ (l : n < b.low). inr (λ o. let z = o.from in omega arith))
-    (at_most b.low n)
+    (λ (l : b.first_lost ≤ n). ⊎_elim (λ (k : n ≤ b.greatest_seen). inl record { from = l; to = k }) (λ (k : b.greatest_seen < n). inr (λ o. let z = o.to in omega arith)) (at_most n b.greatest_seen))
+    (λ (l : n < b.first_lost). inr (λ o. let z = o.from in omega arith))
+    (at_most b.first_lost n)
 
 -- Copies and newer pages
 
@@ -105,7 +105,7 @@ module _ (t : Translation) (s : Spot) (v : Valid t) (free : t.disk.blocks s ≡ 
       subst (λ z. IsSafe (book t) z t.ledger.standing t.disk.cells t.disk.finished t.disk.blocks t.disk.erasing n i x.item.key) (ap recorded_in is)
       (v.safe.safe n i x q h k out)
 
-  written_spent : (tag : Tag) → tag.number ≤ t.ledger.top → IsWritten (book t) (key_of tag) m.records → IsReplaced (with_erasing t.disk s) m tag
+  written_spent : (tag : Tag) → tag.number ≤ t.ledger.greatest_seen → IsWritten (book t) (key_of tag) m.records → IsReplaced (with_erasing t.disk s) m tag
   written_spent tag l w =
       let new = w.new in
       let within = w.within in

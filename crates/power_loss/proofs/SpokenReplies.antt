@@ -20,7 +20,7 @@ use Rattle.ufs_spec.specs.declared.events.Event.{Event}
 use Rattle.ufs_spec.specs.declared.events.Output.{Output}
 use Rattle.ufs_spec.specs.Machine.{Allowed, Answer, Call, observe, unit_or_first}
 use Rattle.ufs_spec.specs.Plain.{Shape, block_at, shape_of, shape_of_numbers}
-use Rattle.ufs_spec.specs.Steps.{Lun, Request, State, UnitOf, lacks_unit, lun_of, numbers_of, plain_now, refusal, unit_in, unit_of_request}
+use Rattle.ufs_spec.specs.Refusals.{Lun, Request, State, UnitOf, lacks_unit, lun_of, numbers_of, plain_now, refusal, unit_in, unit_of_request}
 use Rattle.ufs_spec.specs.declared.configs.Numbers.{Numbers}
 use Rattle.ufs_spec.specs.declared.configs.UnitSpec.{UnitSpec}
 use Rattle.ufs_spec.specs.declared.scsi.Cdb.TheVariants as cdb

@@ -3,8 +3,8 @@ use Rattle.std.proofs.Common.{◌≡◌, ◌≢◌, ℕ, ◌<◌, ◌≤◌, ◌
 use Rattle.ufs_spec.specs.Cells.{Cell, Cells, GroupPage, Mark, MarkPage, Nothing}
 use Rattle.ufs_spec.specs.Disk.{Erasing, Flight, ForNobody, ForRest, ForStep, ForTask, Programming, Reader, Reading, Spot, at_place, erase_failed, erased, program_failed, spot_of}
 use Rattle.ufs_spec.specs.Kept.{IsKept, IsNewestMark, fence_in, recorded_in}
-use Rattle.ufs_spec.specs.Moves.{Accept, Claim, End, Ending, IsAllowedMove, Keep, LetGo, LetGoAll, MayEnd, Move, ReadRight, ReadWrong, Release, Take, Tell, Turn, WantPage, WentWell, WentWrong, die_idle, end_flight, mark_again, mending_behind, moved, read_right, read_wrong}
-use Rattle.ufs_spec.specs.Openings.{IsOpenedTranslation, first_lost, number_of}
+use Rattle.ufs_spec.specs.Moves.{Accept, Claim, EndJob, Ending, IsAllowedMove, Keep, LetGo, LetGoAll, MayEnd, Move, ReadRight, ReadWrong, Release, GiveJob, Acknowledge, TakeStep, WantPage, WentWell, WentWrong, die_idle, end_flight, mark_again, mending_behind, moved, read_right, read_wrong}
+use Rattle.ufs_spec.specs.Openings.{IsOpenedTranslation, lost_from, number_of}
 use Rattle.ufs_spec.specs.Translation.{Mended, Mending, Order, OrderMark, OrderPlanMark, OrderRepair, Plan, Repairing, Translation, Unmarked, copy_begun, has_mark_number, has_number, live_places, mark_ordered, next_order, plan_order, stepped, turned, victim, victim_order, wants_collection, with_plan}
 use Rattle.ufs_spec.specs.declared.configs.Numbers.{Numbers}
 use Rattle.ufs_spec.specs.declared.flash.Fence.{Fence}
@@ -30,8 +30,8 @@ pub opened_start : (n : Numbers) (c : Cells) (bad : Spot → Bool) (t : Translat
 opened_start n c bad t o unmarked = record {
   unfinished = λ p h. absurd (true_false (sym (o.disk.finished p) ∙ h));
   own = λ p m h newer. absurd (let l = opened_below c t.ledger.newest p m o.ledger.newest (ap (λ (x : Cells). x p) (sym o.disk.cells) ∙ h) in omega arith);
-  fence = λ f e. o.ledger.low ∙ ap (λ z. first_lost z o.ledger.kept) e;
-  none = λ e. let l = o.ledger.low ∙ ap (λ z. first_lost z o.ledger.kept) e in let k = recorded_under t.ledger.newest o.ledger.newest o.ledger.is_kept in omega arith;
+  fence = λ f e. o.ledger.first_lost ∙ ap (λ z. lost_from z o.ledger.kept) e;
+  none = λ e. let l = o.ledger.first_lost ∙ ap (λ z. lost_from z o.ledger.kept) e in let k = recorded_under t.ledger.newest o.ledger.newest o.ledger.is_kept in omega arith;
 }
   where
     recorded_under : (newest : Option Mark) → IsNewestMark c newest → IsKept c newest o.ledger.kept → recorded_in newest ≤ o.ledger.kept
@@ -43,7 +43,7 @@ opened_start n c bad t o unmarked = record {
 pub record IsNotMore (t u : Translation) : Type 0 where
   pub unmarked : is_marked u.work.mending ≡ false → is_marked t.work.mending ≡ false
   pub newest : u.ledger.newest ≡ t.ledger.newest
-  pub low : u.ledger.low ≡ t.ledger.low
+  pub low : u.ledger.first_lost ≡ t.ledger.first_lost
   pub finished : (p : Place) → u.disk.finished p ≡ t.disk.finished p
   pub cells : (p : Place) → (u.disk.cells p ≡ t.disk.cells p) ⊎ (u.disk.cells p ≡ Nothing)
 
@@ -227,12 +227,12 @@ end_start t die (Some (Erasing s)) ReadWrong v job may st = absurd may
 pub move_start : (t : Translation) (move : Move) → Valid t → IsAllowedMove t move → IsStartRight t → IsStartRight (moved t move)
 move_start t (Claim count) v may st = not_more t (moved t (Claim count)) (record { unmarked = λ h. h; newest = refl; low = refl; finished = λ p. refl; cells = λ p. inl refl }) st
 move_start t (Release count) v may st = not_more t (moved t (Release count)) (record { unmarked = λ h. h; newest = refl; low = refl; finished = λ p. refl; cells = λ p. inl refl }) st
-move_start t (Tell count) v may st = not_more t (moved t (Tell count)) (record { unmarked = λ h. h; newest = refl; low = refl; finished = λ p. refl; cells = λ p. inl refl }) st
+move_start t (Acknowledge count) v may st = not_more t (moved t (Acknowledge count)) (record { unmarked = λ h. h; newest = refl; low = refl; finished = λ p. refl; cells = λ p. inl refl }) st
 move_start t (WantPage tag index) v may st = not_more t (moved t (WantPage tag index)) (record { unmarked = λ h. h; newest = refl; low = refl; finished = λ p. refl; cells = λ p. inl refl }) st
 move_start t (LetGo tag index) v may st = not_more t (moved t (LetGo tag index)) (record { unmarked = λ h. h; newest = refl; low = refl; finished = λ p. refl; cells = λ p. inl refl }) st
 move_start t (LetGoAll tag) v may st = not_more t (moved t (LetGoAll tag)) (record { unmarked = λ h. h; newest = refl; low = refl; finished = λ p. refl; cells = λ p. inl refl }) st
-move_start t (Take die flight) v may st = not_more t (moved t (Take die flight)) (record { unmarked = λ h. h; newest = refl; low = refl; finished = λ p. refl; cells = λ p. inl refl }) st
-move_start t (End die ending) v may st = end_start t die (t.disk.flights die) ending v refl may st
-move_start t Turn v may st = not_more t (turned t) (turn_same t) st
+move_start t (GiveJob die flight) v may st = not_more t (moved t (GiveJob die flight)) (record { unmarked = λ h. h; newest = refl; low = refl; finished = λ p. refl; cells = λ p. inl refl }) st
+move_start t (EndJob die ending) v may st = end_start t die (t.disk.flights die) ending v refl may st
+move_start t TakeStep v may st = not_more t (turned t) (turn_same t) st
 move_start t (Accept claimed g) v may st = not_more t (moved t (Accept claimed g)) (record { unmarked = λ h. h; newest = refl; low = refl; finished = λ p. refl; cells = λ p. inl refl }) st
 move_start t (Keep key pin) v may st = not_more t (moved t (Keep key pin)) (record { unmarked = λ h. h; newest = refl; low = refl; finished = λ p. refl; cells = λ p. inl refl }) st

@@ -27,27 +27,27 @@ some_is x y e = cc
 
 -- Pages by name
 
-pub page_old : (b : Book) (n i : ℕ) → n ≤ b.top → page_at b (record { number = n; index = i }) ≡ b.old n i
-page_old b n i h = if_true (nat_le n b.top) (b.old n i) _ (le_told n b.top h)
+pub page_old : (b : Book) (n i : ℕ) → n ≤ b.greatest_seen → page_at b (record { number = n; index = i }) ≡ b.entries_before n i
+page_old b n i h = if_true (nat_le n b.greatest_seen) (b.entries_before n i) _ (le_told n b.greatest_seen h)
 
-pub is_old : (b : Book) (n i : ℕ) (e : Entry) → n ≤ b.top → IsPageAt b n i e → b.old n i ≡ Some e
+pub is_old : (b : Book) (n i : ℕ) (e : Entry) → n ≤ b.greatest_seen → IsPageAt b n i e → b.entries_before n i ≡ Some e
 is_old b n i e h p = sym (page_old b n i h) ∙ p
 
-pub from_old : (b : Book) (n i : ℕ) (e : Entry) → n ≤ b.top → b.old n i ≡ Some e → IsPageAt b n i e
+pub from_old : (b : Book) (n i : ℕ) (e : Entry) → n ≤ b.greatest_seen → b.entries_before n i ≡ Some e → IsPageAt b n i e
 from_old b n i e h p = page_old b n i h ∙ p
 
 -- the page is one of a group of this life
 pub record InGroup (b : Book) (n i : ℕ) (e : Entry) : Type 0 where
   pub group : Group
-  pub is : slice_get b.groups (n - b.top - 1) ≡ Some group
+  pub is : slice_get b.groups (n - b.greatest_seen - 1) ≡ Some group
   pub item : slice_get group i ≡ Some e.item
   pub size : e.size ≡ length group
 
-page_new : (b : Book) (n i : ℕ) → b.top < n →
-    page_at b (record { number = n; index = i }) ≡ option_and_then (λ g. entry_in g i) (slice_get b.groups (n - b.top - 1))
+page_new : (b : Book) (n i : ℕ) → b.greatest_seen < n →
+    page_at b (record { number = n; index = i }) ≡ option_and_then (λ g. entry_in g i) (slice_get b.groups (n - b.greatest_seen - 1))
 page_new b n i h =
-    if_false (nat_le n b.top) (b.old n i) _ (lt_told n b.top h)
-    ∙ ap (option_and_then (λ g. entry_in g i)) (if_false (nat_le n b.top) None (slice_get b.groups (n - b.top - 1)) (lt_told n b.top h))
+    if_false (nat_le n b.greatest_seen) (b.entries_before n i) _ (lt_told n b.greatest_seen h)
+    ∙ ap (option_and_then (λ g. entry_in g i)) (if_false (nat_le n b.greatest_seen) None (slice_get b.groups (n - b.greatest_seen - 1)) (lt_told n b.greatest_seen h))
 
 sized_item : (o : Option Item) (z : ℕ) (e : Entry) → option_map (λ item. record { item = item; size = z }) o ≡ Some e → (o ≡ Some e.item) × (e.size ≡ z)
 sized_item None z e h = cc
@@ -55,14 +55,14 @@ sized_item (Some x) z e h =
     let r = some_is (record { item = x; size = z }) e h in
     (ap (λ (y : Entry). Some y.item) r, sym (ap (λ (y : Entry). y.size) r))
 
-found_in : (b : Book) (n i : ℕ) (e : Entry) (o : Option Group) → slice_get b.groups (n - b.top - 1) ≡ o → option_and_then (λ g. entry_in g i) o ≡ Some e → InGroup b n i e
+found_in : (b : Book) (n i : ℕ) (e : Entry) (o : Option Group) → slice_get b.groups (n - b.greatest_seen - 1) ≡ o → option_and_then (λ g. entry_in g i) o ≡ Some e → InGroup b n i e
 found_in b n i e None is h = cc
 found_in b n i e (Some g) is h = let r = sized_item (slice_get g i) (length g) e h in record { group = g; is = is; item = r.0; size = r.1 }
 
-pub is_new : (b : Book) (n i : ℕ) (e : Entry) → b.top < n → IsPageAt b n i e → InGroup b n i e
-is_new b n i e up p = found_in b n i e (slice_get b.groups (n - b.top - 1)) refl (sym (page_new b n i up) ∙ p)
+pub is_new : (b : Book) (n i : ℕ) (e : Entry) → b.greatest_seen < n → IsPageAt b n i e → InGroup b n i e
+is_new b n i e up p = found_in b n i e (slice_get b.groups (n - b.greatest_seen - 1)) refl (sym (page_new b n i up) ∙ p)
 
-pub from_new : (b : Book) (n i : ℕ) (g : Group) (item : Item) → b.top < n → slice_get b.groups (n - b.top - 1) ≡ Some g → slice_get g i ≡ Some item →
+pub from_new : (b : Book) (n i : ℕ) (g : Group) (item : Item) → b.greatest_seen < n → slice_get b.groups (n - b.greatest_seen - 1) ≡ Some g → slice_get g i ≡ Some item →
     IsPageAt b n i (record { item = item; size = length g })
 from_new b n i g item up is there =
     page_new b n i up ∙ ap (option_and_then (λ h. entry_in h i)) is ∙ ap (option_map (λ (x : Item). record { item = x; size = length g })) there
@@ -77,8 +77,8 @@ pub page_within : (b : Book) (n i : ℕ) (e : Entry) → IsPageAt b n i e → n 
 page_within b n i e p =
     ⊎_elim
     (λ h. omega arith)
-    (λ h. let g = is_new b n i e h p in let l = slice_get_within b.groups (n - b.top - 1) g.group g.is in omega arith)
-    (split n b.top)
+    (λ h. let g = is_new b n i e h p in let l = slice_get_within b.groups (n - b.greatest_seen - 1) g.group g.is in omega arith)
+    (split n b.greatest_seen)
 
 -- A cell that a stop leaves
 

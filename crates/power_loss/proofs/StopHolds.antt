@@ -147,33 +147,33 @@ free_counts b frontier marked c m p t body x h free = record { there = h; free =
 
 -- a page that counts is not lost, or its key is written again at or under what the mark records
 free_or_written : (b : Book) (frontier marked : ℕ) (c : Cells) (m : Mark) (p : Place) (t : Tag) (body : List ℕ) → Image b frontier marked c m → Counts c (Some m) p t body →
-    t.number ≤ b.top → (t.number < b.low) ⊎ IsWritten b (key_of t) m.records
-free_or_written b frontier marked c m p t body x h old = ⊎_elim (λ l. inr (⊎_elim (by_fence l) (by_none l) x.good)) (λ l. inl l) (split b.low t.number)
+    t.number ≤ b.greatest_seen → (t.number < b.first_lost) ⊎ IsWritten b (key_of t) m.records
+free_or_written b frontier marked c m p t body x h old = ⊎_elim (λ l. inr (⊎_elim (by_fence l) (by_none l) x.good)) (λ l. inl l) (split b.first_lost t.number)
   where
     e : Entry
     e = record { item = record { key = key_of t; body = body }; size = t.size }
 
-    by_fence : b.low ≤ t.number → IsRepairing b m → IsWritten b (key_of t) m.records
+    by_fence : b.first_lost ≤ t.number → IsRepairing b m → IsWritten b (key_of t) m.records
     by_fence l r =
         let u = r.fence.first in
         let w = r.fence.last in
         absurd (h.free (subst (λ f. IsFenced f t.number) (sym r.fence.is) (omega arith, omega arith)))
 
-    by_none : b.low ≤ t.number → IsPlainMark b m → IsWritten b (key_of t) m.records
+    by_none : b.first_lost ≤ t.number → IsPlainMark b m → IsWritten b (key_of t) m.records
     by_none l r = r.repaired t.number t.index e record { from = l; to = old } (is_old b t.number t.index e old (x.known p t body h.there))
 
 -- a new page of the key has a number at or under the last write
-new_none : (b : Book) (from kept n i : ℕ) (k : Key) (e : Entry) → NoneFrom b.groups from (kept - b.top) k → IsPageAt b n i e → e.item.key ≡ k → b.top + from < n → n ≤ kept → ⊥
+new_none : (b : Book) (from kept n i : ℕ) (k : Key) (e : Entry) → NoneFrom b.groups from (kept - b.greatest_seen) k → IsPageAt b n i e → e.item.key ≡ k → b.greatest_seen + from < n → n ≤ kept → ⊥
 new_none b from kept n i k e none is key up far =
     let g = is_new b n i e (omega arith) is in
-    none (n - b.top - 1) i g.group e.item (omega arith) (omega arith) g.is g.item key
+    none (n - b.greatest_seen - 1) i g.group e.item (omega arith) (omega arith) g.is g.item key
 
 records_within : (b : Book) (frontier marked : ℕ) (c : Cells) (m : Mark) → Image b frontier marked c m → m.records ≤ frontier
 records_within b frontier marked c m x = x.marks x.place m x.there
 
 -- where no group of this life has the key, a page of it that counts is an old one that is not lost
 old_below : (b : Book) (frontier marked : ℕ) (c : Cells) (m : Mark) (kept : ℕ) (k : Key) (p : Place) (t : Tag) (body : List ℕ) → Image b frontier marked c m → frontier ≤ kept →
-    NoneFrom b.groups 0 (kept - b.top) k → Counts c (Some m) p t body → key_of t ≡ k → t.number ≤ kept → (t.number < b.low) × (t.number ≤ b.top)
+    NoneFrom b.groups 0 (kept - b.greatest_seen) k → Counts c (Some m) p t body → key_of t ≡ k → t.number ≤ kept → (t.number < b.first_lost) × (t.number ≤ b.greatest_seen)
 old_below b frontier marked c m kept k p t body x far none h key up =
     ⊎_elim
     (λ l. ⊎_elim
@@ -182,23 +182,23 @@ old_below b frontier marked c m kept k p t body x far none h key up =
     new_none b 0 kept w.number w.index k w.page none w.is (w.key ∙ key) (omega arith) (omega arith)))
     (free_or_written b frontier marked c m p t body x h l))
     (λ l. absurd (new_none b 0 kept t.number t.index k (record { item = record { key = key_of t; body = body }; size = t.size }) none (x.known p t body h.there) key (omega arith) up))
-    (split t.number b.top)
+    (split t.number b.greatest_seen)
 
 -- The content at the life's start
 
 -- what overwrites it is of this life
-overwritten_new : (b : Book) (k : Key) (bound : ℕ) (a : BaseAt b k) → (o : IsOverwritten b a.number k bound) → b.top < o.number
+overwritten_new : (b : Book) (k : Key) (bound : ℕ) (a : BaseAt b k) → (o : IsOverwritten b a.number k bound) → b.greatest_seen < o.number
 overwritten_new b k bound a o =
     ⊎_elim
     (λ l. ⊎_elim
     (λ low. absurd (o.free record { from = low; to = l }))
     (λ low. absurd (let z = a.last o.number o.index o.page (is_old b o.number o.index o.page l o.is) o.key low in let n = o.newer in omega arith))
-    (split b.low o.number))
+    (split b.first_lost o.number))
     (λ l. l)
-    (split o.number b.top)
+    (split o.number b.greatest_seen)
 
 base_is : (b : Book) (frontier marked : ℕ) (c : Cells) (m : Mark) (k : Key) (a : BaseAt b k) → Image b frontier marked c m →
-    (a.number ≤ b.top) × IsPageAt b a.number a.index (record { item = record { key = k; body = b.base k }; size = a.size })
+    (a.number ≤ b.greatest_seen) × IsPageAt b a.number a.index (record { item = record { key = k; body = b.base k }; size = a.size })
 base_is b frontier marked c m k a x =
     let l = x.right.old_within a.number a.index (record { item = record { key = k; body = b.base k }; size = a.size }) a.is in
     (l, from_old b a.number a.index (record { item = record { key = k; body = b.base k }; size = a.size }) l a.is)
@@ -232,38 +232,38 @@ base_holds b frontier marked c m k bound a x low h last =
     )
 
 -- while the fence stands, what is below it has the old contents
-pub base_stays : (b : Book) (frontier marked : ℕ) (c : Cells) (m : Mark) (k : Key) → Image b frontier marked c m → m.records ≡ b.top → HasKey b k → Holds c (Some m) b.low k (b.base k)
+pub base_stays : (b : Book) (frontier marked : ℕ) (c : Cells) (m : Mark) (k : Key) → Image b frontier marked c m → m.records ≡ b.greatest_seen → HasKey b k → Holds c (Some m) b.first_lost k (b.base k)
 base_stays b frontier marked c m k x fenced has = ⊎_elim at_base at_none (x.right.base k has)
   where
-    below : (p : Place) (t : Tag) (body : List ℕ) → Counts c (Some m) p t body → t.number < b.low →
-        b.old t.number t.index ≡ Some (record { item = record { key = key_of t; body = body }; size = t.size })
+    below : (p : Place) (t : Tag) (body : List ℕ) → Counts c (Some m) p t body → t.number < b.first_lost →
+        b.entries_before t.number t.index ≡ Some (record { item = record { key = key_of t; body = body }; size = t.size })
     below p t body h l =
-        let z = x.right.low in
+        let z = x.right.first_lost in
         is_old b t.number t.index (record { item = record { key = key_of t; body = body }; size = t.size }) (omega arith) (x.known p t body h.there)
 
-    at_base : BaseAt b k → Holds c (Some m) b.low k (b.base k)
+    at_base : BaseAt b k → Holds c (Some m) b.first_lost k (b.base k)
     at_base a =
-        base_holds b frontier marked c m k b.low a x a.below
+        base_holds b frontier marked c m k b.first_lost a x a.below
         (base_there b frontier marked c m k a x (λ o. let z = overwritten_new b k marked a o in let w = o.within in let y = x.above in omega arith))
         (λ p t body h key l. a.last t.number t.index (record { item = record { key = key_of t; body = body }; size = t.size }) (below p t body h l) key l)
 
-    at_none : BaseNone b k → Holds c (Some m) b.low k (b.base k)
+    at_none : BaseNone b k → Holds c (Some m) b.first_lost k (b.base k)
     at_none a = inr (
-      (λ p t body h key. ⊎_elim (λ l. l) (λ l. absurd (a.none t.number t.index (record { item = record { key = key_of t; body = body }; size = t.size }) (below p t body h l) key l)) (split b.low t.number)),
+      (λ p t body h key. ⊎_elim (λ l. l) (λ l. absurd (a.none t.number t.index (record { item = record { key = key_of t; body = body }; size = t.size }) (below p t body h l) key l)) (split b.first_lost t.number)),
       a.zeros,
     )
 
 -- The content at the kept number
 
-last_is : (b : Book) (kept : ℕ) (k : Key) (body : List ℕ) (l : LastWrite b.groups (kept - b.top) k body) →
-    IsPageAt b (suc (b.top + l.number)) l.index (record { item = l.item; size = length l.group })
+last_is : (b : Book) (kept : ℕ) (k : Key) (body : List ℕ) (l : LastWrite b.groups (kept - b.greatest_seen) k body) →
+    IsPageAt b (suc (b.greatest_seen + l.number)) l.index (record { item = l.item; size = length l.group })
 last_is b kept k body l =
-    let e : suc (b.top + l.number) - b.top - 1 ≡ l.number = omega arith in
-    from_new b (suc (b.top + l.number)) l.index l.group l.item (omega arith) (ap (slice_get b.groups) e ∙ l.is) l.there
+    let e : suc (b.greatest_seen + l.number) - b.greatest_seen - 1 ≡ l.number = omega arith in
+    from_new b (suc (b.greatest_seen + l.number)) l.index l.group l.item (omega arith) (ap (slice_get b.groups) e ∙ l.is) l.there
 
 -- nothing overwrites the page of the last write
 last_newest : (b : Book) (frontier marked : ℕ) (c : Cells) (m : Mark) (kept : ℕ) (k : Key) (body : List ℕ) → Image b frontier marked c m → frontier ≤ kept →
-    (l : LastWrite b.groups (kept - b.top) k body) → IsOverwritten b (suc (b.top + l.number)) l.item.key marked → ⊥
+    (l : LastWrite b.groups (kept - b.greatest_seen) k body) → IsOverwritten b (suc (b.greatest_seen + l.number)) l.item.key marked → ⊥
 last_newest b frontier marked c m kept k body x far l o =
     let n = o.newer in
     let w = o.within in
@@ -273,10 +273,10 @@ last_newest b frontier marked c m kept k body x far l o =
 
 -- it has the key's content, where it is there
 last_content : (b : Book) (frontier marked : ℕ) (c : Cells) (m : Mark) (kept : ℕ) (k : Key) (body : List ℕ) → Image b frontier marked c m →
-    (l : LastWrite b.groups (kept - b.top) k body) → HasPage c (suc (b.top + l.number)) l.index → Holds c (Some m) (suc kept) k body
+    (l : LastWrite b.groups (kept - b.greatest_seen) k body) → HasPage c (suc (b.greatest_seen + l.number)) l.index → Holds c (Some m) (suc kept) k body
 last_content b frontier marked c m kept k body x l h =
     let is = last_is b kept k body l in
-    let r = read_page b frontier marked c m (suc (b.top + l.number)) l.index (record { item = l.item; size = length l.group }) h.0 h.1 h.2 x is h.3 h.4 h.5 in
+    let r = read_page b frontier marked c m (suc (b.greatest_seen + l.number)) l.index (record { item = l.item; size = length l.group }) h.0 h.1 h.2 x is h.3 h.4 h.5 in
     let n = h.4 in
     let w = l.below in
     inl (
@@ -294,22 +294,22 @@ last_content b frontier marked c m kept k body x l h =
     )
 
 last_holds : (b : Book) (frontier marked : ℕ) (c : Cells) (m : Mark) (kept : ℕ) (k : Key) (body : List ℕ) → Image b frontier marked c m → IsKept c (Some m) kept →
-    LastWrite b.groups (kept - b.top) k body → Holds c (Some m) (suc kept) k body
+    LastWrite b.groups (kept - b.greatest_seen) k body → Holds c (Some m) (suc kept) k body
 last_holds b frontier marked c m kept k body x is_kept l =
     let w = l.below in
     ⊎_elim
     (λ h. last_content b frontier marked c m kept k body x l h)
-    (λ (h : (o : IsOverwritten b (suc (b.top + l.number)) l.item.key marked) × HasPage c o.number o.index).
+    (λ (h : (o : IsOverwritten b (suc (b.greatest_seen + l.number)) l.item.key marked) × HasPage c o.number o.index).
     absurd (last_newest b frontier marked c m kept k body x (kept_covers b frontier marked c m kept x is_kept) l h.0))
-    (shown_kept b frontier marked c m kept (suc (b.top + l.number)) l.index (record { item = l.item; size = length l.group }) x is_kept (omega arith)
+    (shown_kept b frontier marked c m kept (suc (b.greatest_seen + l.number)) l.index (record { item = l.item; size = length l.group }) x is_kept (omega arith)
     (last_is b kept k body l) (λ z. let u = z.to in omega arith))
 
 none_holds : (b : Book) (frontier marked : ℕ) (c : Cells) (m : Mark) (kept : ℕ) (k : Key) → Image b frontier marked c m → frontier ≤ kept → HasKey b k →
-    NoneFrom b.groups 0 (kept - b.top) k → Holds c (Some m) (suc kept) k (b.base k)
+    NoneFrom b.groups 0 (kept - b.greatest_seen) k → Holds c (Some m) (suc kept) k (b.base k)
 none_holds b frontier marked c m kept k x far has none = ⊎_elim at_base at_none (x.right.base k has)
   where
-    old : (p : Place) (t : Tag) (body : List ℕ) → Counts c (Some m) p t body → t.number ≤ b.top →
-        b.old t.number t.index ≡ Some (record { item = record { key = key_of t; body = body }; size = t.size })
+    old : (p : Place) (t : Tag) (body : List ℕ) → Counts c (Some m) p t body → t.number ≤ b.greatest_seen →
+        b.entries_before t.number t.index ≡ Some (record { item = record { key = key_of t; body = body }; size = t.size })
     old p t body h l = is_old b t.number t.index (record { item = record { key = key_of t; body = body }; size = t.size }) l (x.known p t body h.there)
 
     at_base : BaseAt b k → Holds c (Some m) (suc kept) k (b.base k)
@@ -336,12 +336,12 @@ none_holds b frontier marked c m kept k x far has none = ⊎_elim at_base at_non
 
 -- the cells hold what the groups up to the kept number leave
 pub holds_kept : (b : Book) (frontier marked : ℕ) (c : Cells) (m : Mark) (kept : ℕ) → Image b frontier marked c m → IsKept c (Some m) kept →
-    HoldAll b.numbers c (Some m) kept (put_groups b.base (take (kept - b.top) b.groups))
+    HoldAll b.numbers c (Some m) kept (put_groups b.base (take (kept - b.greatest_seen) b.groups))
 holds_kept b frontier marked c m kept x is_kept k has =
     ⊎_elim
-    (λ l. last_holds b frontier marked c m kept k (put_groups b.base (take (kept - b.top) b.groups) k) x is_kept l)
+    (λ l. last_holds b frontier marked c m kept k (put_groups b.base (take (kept - b.greatest_seen) b.groups) k) x is_kept l)
     (λ h. subst (Holds c (Some m) (suc kept) k) (sym h.1) (none_holds b frontier marked c m kept k x (kept_covers b frontier marked c m kept x is_kept) has h.0))
-    (after_cases b.base b.groups (kept - b.top) k)
+    (after_cases b.base b.groups (kept - b.greatest_seen) k)
 
 -- Repairs change no content
 

@@ -31,7 +31,7 @@ pub record IsRepairing (b : Book) (m : Mark) : Type 0 where
 -- the cells show the book up to the frontier, and m is their newest mark
 pub record Image (b : Book) (frontier marked : ℕ) (c : Cells) (m : Mark) : Type 0 where
   pub right : BookRight b
-  pub top : b.top ≤ frontier
+  pub top : b.greatest_seen ≤ frontier
   pub last : frontier ≤ last_number b
   pub known : (p : Place) (t : Tag) (body : List ℕ) → c p ≡ GroupPage t body → IsKnown b t body
   pub recorded : (p : Place) (t : Tag) (body : List ℕ) → c p ≡ GroupPage t body → t.frontier ≤ frontier
@@ -217,7 +217,7 @@ started_same t c fence u p q m other crash h l n = go (shown_mark t c fence u p 
     go (inr a) (inl b) = absurd (let x = opened_below u.1.opening t.ledger.newest q other u.1.opened.is_newest b in let y = a.newer in omega arith)
     go (inr a) (inr b) = own_same t fence m other a b n
 
-first_good : (b : Book) (newest : Option Mark) (fence : Option Fence) (m : Mark) → b.groups ≡ [] → IsFirstFence newest b.low b.top fence → m.fence ≡ fence → m.records ≡ b.top →
+first_good : (b : Book) (newest : Option Mark) (fence : Option Fence) (m : Mark) → b.groups ≡ [] → IsFirstFence newest b.first_lost b.greatest_seen fence → m.fence ≡ fence → m.records ≡ b.greatest_seen →
     IsRepairing b m ⊎ IsPlainMark b m
 first_good b newest None m none f e r = inr record { none = e; repaired = λ n i page l is. absurd (let x = l.from in let y = l.to in let z = f.1 in omega arith) }
 first_good b newest (Some fence) m none f e r = inl record {
@@ -228,10 +228,10 @@ first_good b newest (Some fence) m none f e r = inl record {
     no_group : (j : ℕ) (g : Group) → slice_get [] j ≡ Some g → ⊥
     no_group j g h = cc
 
-recorded_below : (t : Translation) (fence : Option Fence) (u : Started t fence) → recorded_in t.ledger.newest ≤ t.ledger.top
+recorded_below : (t : Translation) (fence : Option Fence) (u : Started t fence) → recorded_in t.ledger.newest ≤ t.ledger.greatest_seen
 recorded_below t fence u = go t.ledger.newest u.1.opened.is_newest
   where
-    go : (newest : Option Mark) → IsNewestMark u.1.opening newest → recorded_in newest ≤ t.ledger.top
+    go : (newest : Option Mark) → IsNewestMark u.1.opening newest → recorded_in newest ≤ t.ledger.greatest_seen
     go None h = omega arith
     go (Some m) h = u.1.opened.marks h.0.0 m h.0.1
 
@@ -347,7 +347,7 @@ there_above b frontier marked c m n i e x up far is =
     (λ (h : (o : IsOverwritten b n e.item.key marked) × HasPage c o.number o.index). absurd (let y = h.0.newer in let z = h.0.within in let a = x.above in omega arith))
     (x.shown n i e far is (free_above b frontier marked c m n i e x up is))
 
-whole_old : (b : Book) (frontier marked : ℕ) (c : Cells) (m : Mark) (n : ℕ) → Image b frontier marked c m → m.records < n → n ≤ b.top → IsWhole c n
+whole_old : (b : Book) (frontier marked : ℕ) (c : Cells) (m : Mark) (n : ℕ) → Image b frontier marked c m → m.records < n → n ≤ b.greatest_seen → IsWhole c n
 whole_old b frontier marked c m n x up low = record {
   size = w.size;
   some = w.some;
@@ -364,24 +364,24 @@ same_group : (b : Book) (j : ℕ) (g h : Group) → slice_get b.groups j ≡ Som
 same_group b j g h p q = ap length (some_is h g (sym q ∙ p))
 
 -- the size that a page of the group says
-size_said : (b : Book) (frontier marked : ℕ) (c : Cells) (m : Mark) (n : ℕ) (g : Group) → Image b frontier marked c m → b.top < n → slice_get b.groups (n - b.top - 1) ≡ Some g →
+size_said : (b : Book) (frontier marked : ℕ) (c : Cells) (m : Mark) (n : ℕ) (g : Group) → Image b frontier marked c m → b.greatest_seen < n → slice_get b.groups (n - b.greatest_seen - 1) ≡ Some g →
     (p : Place) (t : Tag) (body : List ℕ) → c p ≡ GroupPage t body → t.number ≡ n → t.size ≡ length g
 size_said b frontier marked c m n g x up is p t body h tn =
     let e : Entry = record { item = record { key = key_of t; body = body }; size = t.size } in
     let k = is_new b n t.index e up (page_moves b t.number t.index n t.index e tn refl (x.known p t body h)) in
-    k.size ∙ same_group b (n - b.top - 1) g k.group is k.is
+    k.size ∙ same_group b (n - b.greatest_seen - 1) g k.group is k.is
 
-whole_new : (b : Book) (frontier marked : ℕ) (c : Cells) (m : Mark) (n : ℕ) → Image b frontier marked c m → m.records < n → b.top < n → n ≤ frontier → IsWhole c n
+whole_new : (b : Book) (frontier marked : ℕ) (c : Cells) (m : Mark) (n : ℕ) → Image b frontier marked c m → m.records < n → b.greatest_seen < n → n ≤ frontier → IsWhole c n
 whole_new b frontier marked c m n x up high far =
     ⊎_elim
-    (λ (r : (g : Group) × ((n - b.top - 1) < length b.groups) × (slice_get b.groups (n - b.top - 1) ≡ Some g) × (get_or b.groups (n - b.top - 1) g ≡ g)). with_group r.0 r.2)
+    (λ (r : (g : Group) × ((n - b.greatest_seen - 1) < length b.groups) × (slice_get b.groups (n - b.greatest_seen - 1) ≡ Some g) × (get_or b.groups (n - b.greatest_seen - 1) g ≡ g)). with_group r.0 r.2)
     (λ r. absurd (let l = r.0 in let z = x.last in omega arith))
-    (slice_get_cases b.groups (n - b.top - 1)).1
+    (slice_get_cases b.groups (n - b.greatest_seen - 1)).1
   where
-    with_group : (g : Group) → slice_get b.groups (n - b.top - 1) ≡ Some g → IsWhole c n
+    with_group : (g : Group) → slice_get b.groups (n - b.greatest_seen - 1) ≡ Some g → IsWhole c n
     with_group g is = record {
       size = length g;
-      some = x.right.some (n - b.top - 1) g is;
+      some = x.right.some (n - b.greatest_seen - 1) g is;
       one_size = λ p t body h tn. size_said b frontier marked c m n g x high is p t body h tn;
       each = λ i l. ⊎_elim
           (λ (r : (item : Item) × (i < length g) × (slice_get g i ≡ Some item) × (get_or g i item ≡ item)).
@@ -393,7 +393,7 @@ whole_new b frontier marked c m n x up high far =
 -- each group above what the newest mark records, up to the frontier, is whole
 pub whole_up : (b : Book) (frontier marked : ℕ) (c : Cells) (m : Mark) (n : ℕ) → Image b frontier marked c m → m.records < n → n ≤ frontier → IsWhole c n
 whole_up b frontier marked c m n x up far =
-    ⊎_elim (λ l. whole_old b frontier marked c m n x up l) (λ l. whole_new b frontier marked c m n x up l far) (split n b.top)
+    ⊎_elim (λ l. whole_old b frontier marked c m n x up l) (λ l. whole_new b frontier marked c m n x up l far) (split n b.greatest_seen)
 
 -- The kept number of an image
 
@@ -428,7 +428,7 @@ kept_accepted b frontier marked c m kept x k =
     (split kept (last_number b))
 
 -- each page of a whole group of this life is there
-whole_has : (b : Book) (frontier marked : ℕ) (c : Cells) (m : Mark) (n i : ℕ) (e : Entry) → Image b frontier marked c m → b.top < n → IsWhole c n → IsPageAt b n i e → HasPage c n i
+whole_has : (b : Book) (frontier marked : ℕ) (c : Cells) (m : Mark) (n i : ℕ) (e : Entry) → Image b frontier marked c m → b.greatest_seen < n → IsWhole c n → IsPageAt b n i e → HasPage c n i
 whole_has b frontier marked c m n i e x up w is =
     let g = is_new b n i e up is in
     let l = slice_get_within g.group i e.item g.item in

@@ -44,18 +44,18 @@ is_repairing b m f (inr r) e = absurd (apart (sym r.none ∙ e))
     apart z = cc
 
 -- the ends of its fence
-fence_ends : (b : Book) (m : Mark) (f : Fence) → IsRepairing b m → m.fence ≡ Some f → (f.first ≡ b.low) × (f.last ≡ b.top)
+fence_ends : (b : Book) (m : Mark) (f : Fence) → IsRepairing b m → m.fence ≡ Some f → (f.first ≡ b.first_lost) × (f.last ≡ b.greatest_seen)
 fence_ends b m f r e =
     let z = some_is f r.fence.fence (sym e ∙ r.fence.is) in
     (ap (λ (y : Fence). y.first) z ∙ r.fence.first, ap (λ (y : Fence). y.last) z ∙ r.fence.last)
 
 repair_holds : (b : Book) (frontier marked : ℕ) (c : Cells) (m : Mark) (p : Place) (t : Tag) (body : List ℕ) → Image b frontier marked c m → IsRepairing b m →
-    c p ≡ GroupPage t body → b.top < t.number → Holds c (Some m) b.low (key_of t) body
+    c p ≡ GroupPage t body → b.greatest_seen < t.number → Holds c (Some m) b.first_lost (key_of t) body
 repair_holds b frontier marked c m p t body x r h up =
     let e : Entry = record { item = record { key = key_of t; body = body }; size = t.size } in
     let k = x.known p t body h in
     let g = is_new b t.number t.index e up k in
-    subst (Holds c (Some m) b.low (key_of t)) (sym (r.repairs (t.number - b.top - 1) t.index g.group e.item g.is g.item))
+    subst (Holds c (Some m) b.first_lost (key_of t)) (sym (r.repairs (t.number - b.greatest_seen - 1) t.index g.group e.item g.is g.item))
     (base_stays b frontier marked c m (key_of t) x r.fence.records (x.right.keys t.number t.index e k))
 
 pub image_sound : (b : Book) (frontier marked : ℕ) (c : Cells) (m : Mark) → Image b frontier marked c m → CellsSound c (Some m)
@@ -101,33 +101,33 @@ suits t c m v crash n = ⊎_elim same changed (outcome t c m v crash n)
 
 pub image_prefix : (t : Translation) (c : Cells) (m : Mark) (kept : ℕ) → Valid t → Image (book t) t.ledger.frontier (recorded_in t.ledger.newest) c m → IsKept c (Some m) kept →
     IsPrefix t c (Some m) kept
-image_prefix t c m kept v x k = ⊎_elim more less (split t.ledger.repairs (kept - t.ledger.top))
+image_prefix t c m kept v x k = ⊎_elim more less (split t.ledger.repairs (kept - t.ledger.greatest_seen))
   where
     far : t.ledger.frontier ≤ kept
     far = kept_covers (book t) t.ledger.frontier (recorded_in t.ledger.newest) c m kept x k
 
-    near : kept ≤ t.ledger.top + length t.ledger.groups
+    near : kept ≤ t.ledger.greatest_seen + length t.ledger.groups
     near = kept_accepted (book t) t.ledger.frontier (recorded_in t.ledger.newest) c m kept x k
 
-    here : HoldAll t.numbers c (Some m) kept (put_groups t.ledger.base (take (kept - t.ledger.top) t.ledger.groups))
+    here : HoldAll t.numbers c (Some m) kept (put_groups t.ledger.base (take (kept - t.ledger.greatest_seen) t.ledger.groups))
     here = holds_kept (book t) t.ledger.frontier (recorded_in t.ledger.newest) c m kept x k
 
-    more : t.ledger.repairs ≤ kept - t.ledger.top → IsPrefix t c (Some m) kept
+    more : t.ledger.repairs ≤ kept - t.ledger.greatest_seen → IsPrefix t c (Some m) kept
     more l = record {
-      count = kept - t.ledger.top - t.ledger.repairs;
+      count = kept - t.ledger.greatest_seen - t.ledger.repairs;
       held = ⊎_elim (λ e. omega arith) (λ e. omega (arith, far)) v.history.durable;
       durable = omega (arith, far);
       within = omega (arith, near, length-drop t.ledger.repairs t.ledger.groups);
-      holds = subst (HoldAll t.numbers c (Some m) kept) (after_same t.ledger.base t.ledger.groups t.ledger.repairs (kept - t.ledger.top) v.history.contents l) here;
+      holds = subst (HoldAll t.numbers c (Some m) kept) (after_same t.ledger.base t.ledger.groups t.ledger.repairs (kept - t.ledger.greatest_seen) v.history.contents l) here;
     }
 
-    less : kept - t.ledger.top < t.ledger.repairs → IsPrefix t c (Some m) kept
+    less : kept - t.ledger.greatest_seen < t.ledger.repairs → IsPrefix t c (Some m) kept
     less l = record {
       count = 0;
       held = ⊎_elim (λ e. omega arith) (λ e. let a = v.frontier.above in absurd (omega (arith, far))) v.history.durable;
       durable = let a = v.frontier.above in omega (arith, far);
       within = omega arith;
-      holds = subst (HoldAll t.numbers c (Some m) kept) (after_none t.ledger.base t.ledger.groups t.ledger.repairs (kept - t.ledger.top) v.history.contents (omega arith)) here;
+      holds = subst (HoldAll t.numbers c (Some m) kept) (after_none t.ledger.base t.ledger.groups t.ledger.repairs (kept - t.ledger.greatest_seen) v.history.contents (omega arith)) here;
     }
 
 -- the kept number is one

@@ -27,7 +27,7 @@ use Rattle.ufs_spec.specs.Lives.{IsLeft, IsLeftoverOf, IsOpened, Leads, Life, Ru
 use Rattle.ufs_spec.specs.Machine.{IsHeard}
 use Rattle.ufs_spec.specs.Pages.{IsCheckRight, MayBeLeft, check_of}
 use Rattle.ufs_spec.specs.Plain.{Plain, after, apply, block_at, shape_of_numbers, zero, zero_block}
-use Rattle.ufs_spec.specs.Steps.{State, numbers_of}
+use Rattle.ufs_spec.specs.Refusals.{State, numbers_of}
 use Rattle.ufs_spec.specs.declared.configs.Numbers.{Numbers}
 use Rattle.ufs_spec.specs.declared.events.Event.{Event}
 use Rattle.ufs_spec.specs.declared.events.Event.TheVariants as event

@@ -3,7 +3,7 @@ use Rattle.std.proofs.Common.{◌≡◌, ℕ, zero, suc, ◌<◌, ◌≤◌, ◌
 use Rattle.std.specs.List.{list_any}
 use Rattle.std.proofs.lemmas.List.Folds.{list_any-append}
 use Rattle.ufs_spec.specs.Cells.{Cell, Cells, GroupPage, Mark, MarkPage, Nothing}
-use Rattle.ufs_spec.specs.Disk.{Erasing, Flight, Programming, Spot, at_die, at_spot, begun, spot_of}
+use Rattle.ufs_spec.specs.Disk.{Erasing, Flight, Programming, Spot, at_die, at_spot, job_begun, spot_of}
 use Rattle.ufs_spec.specs.Keys.{below}
 use Rattle.ufs_spec.specs.Kept.{IsNewestMark}
 use Rattle.ufs_spec.specs.Ledger.{Entry, Name}
@@ -34,7 +34,7 @@ same_erase s a e = cc
 counted_more : (f : Spot → Bool) (s a : Spot) → f a ≡ true → at_spot f s true a ≡ true
 counted_more f s a h = ⊎_elim (λ k. at_spot_here f s true a k.1) (λ k. at_spot_other f s true a k.1 ∙ h) (spot_cases a s)
 
-erase_change : (t : Translation) (die : ℕ) (s : Spot) → Valid t → EraseOwed t die s → Change t (begun t.disk die (Erasing s))
+erase_change : (t : Translation) (die : ℕ) (s : Spot) → Valid t → EraseOwed t die s → Change t (job_begun t.disk die (Erasing s))
 erase_change t die s v o = record {
   keeps = keeps_erase_begun t.disk die s o.free;
   left = λ q. inl refl;
@@ -71,8 +71,8 @@ erase_change t die s v o = record {
 
 pub takes_erase : (t : Translation) (die : ℕ) (s : Spot) → Valid t → MayTake t die (Some (Erasing s)) → Valid (taken t die (Erasing s))
 takes_erase t die s v may =
-    lost_pages t (begun t.disk die (Erasing s)) v (erase_change t die s v (erase_owed t die s may)) (λ blank p h. h) (λ q. inl refl)
-    (held_begun t s (begun t.disk die (Erasing s)) v (erase_owed t die s may).unkept refl refl refl)
+    lost_pages t (job_begun t.disk die (Erasing s)) v (erase_change t die s v (erase_owed t die s may)) (λ blank p h. h) (λ q. inl refl)
+    (held_begun t s (job_begun t.disk die (Erasing s)) v (erase_owed t die s may).unkept refl refl refl)
 
 -- The page of a group
 
@@ -191,7 +191,7 @@ some_mark a b e = cc
 later_by : (t : Translation) (number : ℕ) (fence : Option Fence) (mark : Mark) →
     MarksRight (book t) t.ledger.frontier t.ledger.marks t.disk.cells t.disk.finished t.disk.blocks t.disk.erasing t.disk.flights mark →
     fence ≡ None → ((p : Place) (m : Mark) → t.disk.cells p ≡ MarkPage m → m.number < number) →
-    ((n i : ℕ) (x : Entry) → IsLostNumber (book t) n → (book t).old n i ≡ Some x → IsWritten (book t) x.item.key t.ledger.frontier) →
+    ((n i : ℕ) (x : Entry) → IsLostNumber (book t) n → (book t).entries_before n i ≡ Some x → IsWritten (book t) x.item.key t.ledger.frontier) →
     IsLaterMark (book t) t.ledger.frontier mark (step_mark t number fence)
 later_by t number fence mark right none above repaired =
     let records : records_now t.ledger fence ≡ t.ledger.frontier = ap (records_now t.ledger) none in
@@ -251,7 +251,7 @@ own_mark : (t : Translation) (number : ℕ) (fence first : Option Fence) (lost :
 own_mark t number fence first lost s u e = record {
   newer = newest_below (book t) t.ledger.newest t.ledger.marks number first u.opening t.disk.cells u.opened.is_newest u.same s.above s.given;
   within = let l = s.last in omega arith;
-  records = ap (records_now t.ledger) e ∙ records_top t t.ledger.newest t.ledger.low t.ledger.top first u.fence_right u.still;
+  records = ap (records_now t.ledger) e ∙ records_top t t.ledger.newest t.ledger.first_lost t.ledger.greatest_seen first u.fence_right u.still;
   fence_is = e;
   numbers = refl;
 }

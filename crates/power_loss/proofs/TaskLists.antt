@@ -4,7 +4,7 @@ use Rattle.std.specs.Prelude.{if◌then◌else◌, filter, find, slice_get}
 use Rattle.std.specs.List.{list_any}
 use Rattle.std.proofs.lemmas.Bool.{or_from, or_parts}
 use Rattle.std.proofs.lemmas.Bool.Decides.{nat_tests}
-use Rattle.ufs_spec.specs.Exchanges.{Answering, Awaiting, Deed, ForFrames, ForUnmap, ForWrite, Gathering, Sending, Short, Task, Telling, is_short_of, is_task_of, task_of, with_deed}
+use Rattle.ufs_spec.specs.Exchanges.{Answering, Awaiting, Deed, ForFrames, ForUnmap, ForWrite, Gathering, Sending, Short, Task, SendingBytes, is_short_of, is_task_of, task_of, with_deed}
 use Rattle.ufs_spec.specs.Machine.{claimed_by}
 use Rattle.ufs_spec.specs.Plain.{Shape}
 use Rattle.power_loss.specs.Exchange.{AreApart, AwaitsFit, DeedFits, DeedsFit, ShortAwaits, ShortFits, ShortsDiffer, ShortsFit, TasksDiffer, TasksRight, claim_of, claims_of}
@@ -34,7 +34,7 @@ deed_more s a b m w claimed total (Gathering (ForWrite unit address blocks force
 deed_more s a b m w claimed total (Gathering (ForUnmap unit) gathered asked) l up h = h
 deed_more s a b m w claimed total (Gathering ForFrames gathered asked) l up h = h
 deed_more s a b m w claimed total (Sending blocks sent) l up h = h
-deed_more s a b m w claimed total (Telling bytes) l up h = h
+deed_more s a b m w claimed total (SendingBytes bytes) l up h = h
 deed_more s a b m w claimed total (Awaiting commands) l up h = awaits_more a b m w commands l up h
 deed_more s a b m w claimed total (Answering status carried) l up h = h
 

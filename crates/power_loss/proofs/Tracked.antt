@@ -5,10 +5,10 @@ use Rattle.std.proofs.lemmas.List.{append-nil, append_assoc, length-append}
 use Rattle.std.proofs.lemmas.Bool.{ltb-false}
 use Rattle.ufs_spec.proofs.Facts.{false≢true}
 use Rattle.ufs_spec.specs.Commands.{Command, Write}
-use Rattle.ufs_spec.specs.Exchanges.{Answering, Awaiting, Deed, ForFrames, ForUnmap, ForWrite, Gathering, Good, Purpose, ReadState, Sending, Status, Task, Telling, count_at, is_asked_in, is_task_of, task_of, with_deed, write_error}
+use Rattle.ufs_spec.specs.Exchanges.{Answering, Awaiting, Deed, ForFrames, ForUnmap, ForWrite, Gathering, Good, Purpose, ReadState, Sending, Status, Task, SendingBytes, count_at, is_asked_in, is_task_of, task_of, with_deed, write_error}
 use Rattle.ufs_spec.specs.Machine.{accepts, blocks_in, data_for, deed_locked, deed_read, durable, set_deed, task_read, with_moves, write_complete, write_deed}
 use Rattle.ufs_spec.specs.Moves.{Release}
-use Rattle.ufs_spec.specs.Steps.{State, locked}
+use Rattle.ufs_spec.specs.Refusals.{State, locked}
 use Rattle.ufs_laws.proofs.Changed.{does}
 use Rattle.power_loss.proofs.Books.{get_grows, get_last}
 use Rattle.power_loss.proofs.Finds.{found_is, found_map}
@@ -79,7 +79,7 @@ keeps_more : (p : Promise) (cs more : List Command) (bytes : List ℕ) (deed : D
     KeepsTo p (cs ++ more) bytes deed
 keeps_more p cs more bytes (Gathering purpose gathered asked) h = h
 keeps_more p cs more bytes (Sending blocks sent) h = h
-keeps_more p cs more bytes (Telling told) h = h
+keeps_more p cs more bytes (SendingBytes told) h = h
 keeps_more p cs more bytes (Awaiting n) h = met_more p cs more bytes n h
 keeps_more p cs more bytes (Answering status carried) h = h
 
@@ -127,7 +127,7 @@ read_keeps : (p : Promise) (cs : List Command) (bytes : List ℕ) (index : ℕ) 
     KeepsTo p cs bytes deed → KeepsTo p cs bytes (deed_read index state deed)
 read_keeps p cs bytes index state (Gathering purpose gathered asked) h = h
 read_keeps p cs bytes index state (Sending blocks sent) h = absurd h
-read_keeps p cs bytes index state (Telling told) h = h
+read_keeps p cs bytes index state (SendingBytes told) h = h
 read_keeps p cs bytes index state (Awaiting n) h = h
 read_keeps p cs bytes index state (Answering status carried) h = h
 
@@ -144,7 +144,7 @@ pub lock_keeps : (p : Promise) (cs : List Command) (bytes : List ℕ) (s : State
     KeepsTo p cs bytes deed → KeepsTo p cs bytes (deed_locked s task deed)
 lock_keeps p cs bytes s task (Gathering purpose gathered asked) h = h
 lock_keeps p cs bytes s task (Sending blocks sent) h = h
-lock_keeps p cs bytes s task (Telling told) h = h
+lock_keeps p cs bytes s task (SendingBytes told) h = h
 lock_keeps p cs bytes s task (Awaiting n) h = by (nat_le n (durable s))
   where
     by : (b : Bool) → KeepsTo p cs bytes (if b then Awaiting n else Answering write_error task.length)
@@ -229,6 +229,6 @@ data_tracked (OfFlush first) s task (Gathering purpose gathered asked) lun offse
 data_tracked (OfWrite first u a b) s task (Gathering (ForUnmap unit) gathered asked) lun offset bytes more there keeps later fits is = absurd keeps.0
 data_tracked (OfWrite first u a b) s task (Gathering ForFrames gathered asked) lun offset bytes more there keeps later fits is = absurd keeps.0
 data_tracked p s task (Sending blocks sent) lun offset bytes more there keeps later fits is = absurd (false≢true is)
-data_tracked p s task (Telling told) lun offset bytes more there keeps later fits is = absurd (false≢true is)
+data_tracked p s task (SendingBytes told) lun offset bytes more there keeps later fits is = absurd (false≢true is)
 data_tracked p s task (Awaiting n) lun offset bytes more there keeps later fits is = absurd (false≢true is)
 data_tracked p s task (Answering status carried) lun offset bytes more there keeps later fits is = absurd (false≢true is)

@@ -7,11 +7,11 @@ use Rattle.ufs_spec.proofs.Facts.{false≢true, none-some, same_Some}
 use Rattle.ufs_spec.specs.Cells.{Array}
 use Rattle.ufs_spec.specs.Commands.{Command}
 use Rattle.ufs_spec.specs.Disk.{Erasing, Flight, ForNobody, ForRest, ForStep, ForTask, Programming, Reader, Reading}
-use Rattle.ufs_spec.specs.Exchanges.{Answering, Awaiting, Deed, Gathering, ReadState, NotRead, Sending, Short, Task, Telling, WasRead, is_asked_of, is_short_of, is_task_of, short_reply, task_of, with_deed, without_task, filled}
-use Rattle.ufs_spec.specs.Machine.{Allowed, Answer, Ask, Call, Faulty, Finish, Finishes, Give, Gives, Hears, Host, Replies, Spelled, Step, Steps, asked_fault, behind, data_heard, deed_behind, ends_with, given, heard, is_aborted, lock_told, managed, message_fault, moves_behind, observe, query_unanswered, reader_told, replied_by, service, short_locked, short_replied, tag_in, task_behind, task_locked, task_read, task_replied, told_behind, with_moves, with_short, without_tasks, fills, is_to_fill, task_filled}
+use Rattle.ufs_spec.specs.Exchanges.{Answering, Awaiting, Deed, Gathering, ReadState, NotRead, Sending, Short, Task, SendingBytes, WasRead, is_asked_of, is_short_of, is_task_of, short_reply, task_of, with_deed, without_task, filled}
+use Rattle.ufs_spec.specs.Machine.{Allowed, Answer, Reply, Call, Faulty, Done, OfDone, Take, OfTake, OfHost, Host, OfReply, Spelled, Turn, OfTurn, asked_fault, behind, data_heard, deed_behind, ends_with, given, heard, is_aborted, lock_applied, managed, message_fault, moves_behind, observe, query_unanswered, read_noted, replied_by, service, short_locked, short_replied, tag_in, task_behind, task_locked, task_read, task_replied, read_noted_behind, with_moves, with_short, without_tasks, fills, is_to_fill, task_filled}
 use Rattle.ufs_spec.specs.Moves.{Ending, ReadRight, ReadWrong, WentWell, WentWrong}
 use Rattle.ufs_spec.specs.Stages.{manages_tasks}
-use Rattle.ufs_spec.specs.Steps.{State, locked, numbers_of}
+use Rattle.ufs_spec.specs.Refusals.{State, locked, numbers_of}
 use Rattle.ufs_spec.specs.Plain.{shape_of_numbers}
 use Rattle.ufs_spec.specs.Translation.{is_mended}
 use Rattle.ufs_spec.specs.declared.events.Event.{Event}
@@ -131,7 +131,7 @@ heard_tracks p tag bytes s other c v fault grows still h = quiet h
 -- The ends of jobs
 
 read_tracks : (p : Promise) (tag : ℕ) (bytes : List ℕ) (s : State) (reader : Reader) (state : ReadState) →
-    TrackedIn p tag bytes s → TrackedIn p tag bytes (reader_told s reader state)
+    TrackedIn p tag bytes s → TrackedIn p tag bytes (read_noted s reader state)
 read_tracks p tag bytes s (ForTask other index) state h =
     map_tracked p tag bytes (task_read other index state) s.tasks s.accepted (λ task. (reads other index state task).tag) (task_read_keeps p s.accepted bytes other index state) h
 read_tracks p tag bytes s ForStep state h = h
@@ -139,7 +139,7 @@ read_tracks p tag bytes s (ForRest number index) state h = h
 read_tracks p tag bytes s ForNobody state h = h
 
 told_tracks : (p : Promise) (tag : ℕ) (bytes : List ℕ) (s : State) (flight : Flight) (ending : Ending) →
-    TrackedIn p tag bytes s → TrackedIn p tag bytes (told_behind s flight ending)
+    TrackedIn p tag bytes s → TrackedIn p tag bytes (read_noted_behind s flight ending)
 told_tracks p tag bytes s (Reading reader place) ReadRight h = read_tracks p tag bytes s reader WasRead h
 told_tracks p tag bytes s (Reading reader place) ReadWrong h = read_tracks p tag bytes s reader NotRead h
 told_tracks p tag bytes s (Reading reader place) WentWell h = h
@@ -169,7 +169,7 @@ own_reply p tag bytes s u task (Gathering purpose gathered asked) e f own keeps 
     (subst (λ (n : ℕ). Tracked p tag bytes (map (with_deed n (Gathering purpose gathered true)) s.tasks) s.accepted) (sym own)
     (set_tracked p tag bytes h.task (Gathering purpose gathered true) s.tasks s.accepted h.there keeps h.later)))
 own_reply p tag bytes s u task (Sending blocks sent) e f own keeps still h = absurd keeps
-own_reply p tag bytes s u task (Telling told) e f own keeps still h = absurd keeps
+own_reply p tag bytes s u task (SendingBytes told) e f own keeps still h = absurd keeps
 own_reply p tag bytes s u task (Awaiting n) e f own keeps still h =
     closed tag (without_task task.tag u.tasks) (ap (λ (n : ℕ). task_of tag (without_task n u.tasks)) own ∙ found_gone (is_task_of tag) u.tasks) still
 own_reply p tag bytes s u task (Answering status n) e f own keeps still h =
@@ -206,17 +206,17 @@ behind_tracks : (p : Promise) (tag : ℕ) (bytes : List ℕ) (s : State) (call :
     Allowed s call answer → Grows s (behind s call answer) →
     has_task tag (behind s call answer) ≡ true → TrackedIn p tag bytes s →
     TrackedIn p tag (bytes ++ data_of tag call answer) (behind s call answer)
-behind_tracks p tag bytes s (Host (Spelled m c)) (Hears (Ok done)) v right grows still h =
+behind_tracks p tag bytes s (Host (Spelled m c)) (OfHost (Ok done)) v right grows still h =
     heard_tracks p tag bytes s m c v (no_fault (message_fault s m) done right) grows still h
-behind_tracks p tag bytes s (Host (Faulty fault)) (Hears (Ok done)) v right grows still h = quiet h
-behind_tracks p tag bytes s (Give die) (Gives flight) v right grows still h = quiet (given_tracks p tag bytes s die flight h)
-behind_tracks p tag bytes s (Finish die ending left) (Finishes true) v right grows still h = quiet (ends_tracks p tag bytes s die (s.translation.disk.flights die) ending left h)
-behind_tracks p tag bytes s Step (Steps due) v right grows still h = quiet h
-behind_tracks p tag bytes s Ask (Replies (Some m)) v right grows still h = quiet (replied_tracks p tag bytes s (tag_in m) (task_of (tag_in m) s.tasks) refl grows still h)
+behind_tracks p tag bytes s (Host (Faulty fault)) (OfHost (Ok done)) v right grows still h = quiet h
+behind_tracks p tag bytes s (Take die) (OfTake flight) v right grows still h = quiet (given_tracks p tag bytes s die flight h)
+behind_tracks p tag bytes s (Done die ending left) (OfDone true) v right grows still h = quiet (ends_tracks p tag bytes s die (s.translation.disk.flights die) ending left h)
+behind_tracks p tag bytes s Turn (OfTurn due) v right grows still h = quiet h
+behind_tracks p tag bytes s Reply (OfReply (Some m)) v right grows still h = quiet (replied_tracks p tag bytes s (tag_in m) (task_of (tag_in m) s.tasks) refl grows still h)
 behind_tracks p tag bytes s call answer v right grows still h = quiet h
 
 lock_tracks : (p : Promise) (tag : ℕ) (bytes : List ℕ) (s : State) → TrackedIn p tag bytes s →
-    TrackedIn p tag bytes (lock_told s)
+    TrackedIn p tag bytes (lock_applied s)
 lock_tracks p tag bytes s h = by (locked s)
   where
     by : (b : Bool) →
@@ -234,15 +234,15 @@ fills_tracks p tag bytes s h = map_tracked p tag bytes (task_filled s) s.tasks s
     by task false k = k
 
 pub settled_tracks : (p : Promise) (tag : ℕ) (bytes : List ℕ) (s : State) → TrackedIn p tag bytes s →
-    TrackedIn p tag bytes (lock_told (fills s))
+    TrackedIn p tag bytes (lock_applied (fills s))
 settled_tracks p tag bytes s h = lock_tracks p tag bytes (fills s) (fills_tracks p tag bytes s h)
 
 -- a task that is open at the end of a call was open before the registers were filled and the lock was told
-pub settled_open : (tag : ℕ) (s : State) → has_task tag (lock_told (fills s)) ≡ true → has_task tag s ≡ true
+pub settled_open : (tag : ℕ) (s : State) → has_task tag (lock_applied (fills s)) ≡ true → has_task tag s ≡ true
 settled_open tag s h =
     sym (some_map (is_task_of tag) (task_filled s) (λ task. ap (λ (n : ℕ). n == tag) (fills_task s task).tag) s.tasks) ∙ unlocked (fills s) h
   where
-    unlocked : (u : State) → has_task tag (lock_told u) ≡ true → has_task tag u ≡ true
+    unlocked : (u : State) → has_task tag (lock_applied u) ≡ true → has_task tag u ≡ true
     unlocked u k = by (locked u) k
       where
         by : (b : Bool) →

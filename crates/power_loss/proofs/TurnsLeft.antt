@@ -3,7 +3,7 @@ use Rattle.std.proofs.Common.{◌≡◌, ℕ, suc, ◌+◌, ◌≤◌, ◌⊎◌
 use Rattle.ufs_spec.specs.Cells.{Cell, GroupPage, Mark, MarkPage, Nothing}
 use Rattle.ufs_spec.specs.Disk.{Erasing, Flight, ForNobody, ForRest, ForStep, ForTask, Programming, Reader, Reading, Spot, program_failed}
 use Rattle.ufs_spec.specs.Ledger.{Name, same_name}
-use Rattle.ufs_spec.specs.Moves.{Accept, Claim, End, Ending, IsAllowedMove, Keep, LetGo, LetGoAll, Move, ReadRight, ReadWrong, Release, Take, Tell, Turn, WantPage, WentWell, WentWrong, die_idle, end_flight, mark_again, mending_behind, moved, read_right, read_wrong, step_behind, step_there}
+use Rattle.ufs_spec.specs.Moves.{Accept, Claim, EndJob, Ending, IsAllowedMove, Keep, LetGo, LetGoAll, Move, ReadRight, ReadWrong, Release, GiveJob, Acknowledge, TakeStep, WantPage, WentWell, WentWrong, die_idle, end_flight, mark_again, mending_behind, moved, read_right, read_wrong, step_behind, step_there}
 use Rattle.ufs_spec.specs.Translation.{CopyStep, MarkStep, Mended, Mending, Order, OrderCopy, OrderMark, OrderPlanMark, OrderRepair, Plan, RepairStep, Repairing, Step, StepKind, Translation, Unmarked, copy_begun, due_order, has_mark_number, has_number, is_mended, is_step_due, mark_ordered, name_of, next_order, ordered, plan_order, stepped, turned, victim, victim_order, wants_collection, with_plan}
 use Rattle.ufs_spec.specs.declared.flash.Fence.{Fence}
 use Rattle.ufs_spec.specs.declared.flash.Key.{Key}
@@ -224,14 +224,14 @@ pub move_keeps_turns : (t : Translation) (move : Move) → Valid t → turns_lef
 move_keeps_turns t (Claim count) v = le_same (turns_left t) (turns_left t) refl
 move_keeps_turns t (Release count) v = le_same (turns_left t) (turns_left t) refl
 move_keeps_turns t (Accept claimed g) v = le_same (turns_left t) (turns_left t) refl
-move_keeps_turns t (Tell count) v = le_same (turns_left t) (turns_left t) refl
+move_keeps_turns t (Acknowledge count) v = le_same (turns_left t) (turns_left t) refl
 move_keeps_turns t (Keep key pin) v = le_same (turns_left t) (turns_left t) refl
 move_keeps_turns t (WantPage tag index) v = le_same (turns_left t) (turns_left t) refl
 move_keeps_turns t (LetGo tag index) v = le_same (turns_left t) (turns_left t) refl
 move_keeps_turns t (LetGoAll tag) v = le_same (turns_left t) (turns_left t) refl
-move_keeps_turns t (Take die flight) v = le_same (turns_left t) (turns_left t) refl
-move_keeps_turns t (End die ending) v = ends t die (t.disk.flights die) ending v refl
-move_keeps_turns t Turn v = turns t
+move_keeps_turns t (GiveJob die flight) v = le_same (turns_left t) (turns_left t) refl
+move_keeps_turns t (EndJob die ending) v = ends t die (t.disk.flights die) ending v refl
+move_keeps_turns t TakeStep v = turns t
 
 -- Moves in a row
 
@@ -243,14 +243,14 @@ counted : (t : Translation) (move : Move) → Valid t → (if is_mending_turn t 
 counted t (Claim count) v = uncounted _ _ (move_keeps_turns t (Claim count) v)
 counted t (Release count) v = uncounted _ _ (move_keeps_turns t (Release count) v)
 counted t (Accept claimed g) v = uncounted _ _ (move_keeps_turns t (Accept claimed g) v)
-counted t (Tell count) v = uncounted _ _ (move_keeps_turns t (Tell count) v)
+counted t (Acknowledge count) v = uncounted _ _ (move_keeps_turns t (Acknowledge count) v)
 counted t (Keep key pin) v = uncounted _ _ (move_keeps_turns t (Keep key pin) v)
 counted t (WantPage tag index) v = uncounted _ _ (move_keeps_turns t (WantPage tag index) v)
 counted t (LetGo tag index) v = uncounted _ _ (move_keeps_turns t (LetGo tag index) v)
 counted t (LetGoAll tag) v = uncounted _ _ (move_keeps_turns t (LetGoAll tag) v)
-counted t (Take die flight) v = uncounted _ _ (move_keeps_turns t (Take die flight) v)
-counted t (End die ending) v = uncounted _ _ (move_keeps_turns t (End die ending) v)
-counted t Turn v = go (is_step_due t && not (is_mended t.work.mending)) refl
+counted t (GiveJob die flight) v = uncounted _ _ (move_keeps_turns t (GiveJob die flight) v)
+counted t (EndJob die ending) v = uncounted _ _ (move_keeps_turns t (EndJob die ending) v)
+counted t TakeStep v = go (is_step_due t && not (is_mended t.work.mending)) refl
   where
     go : (b : Bool) → (is_step_due t && not (is_mended t.work.mending)) ≡ b → (if b then 1 else 0) + turns_left (turned t) ≤ turns_left t
     go true is = let r = and_true (is_step_due t) (not (is_mended t.work.mending)) is in counted_one _ _ (turn_takes t (not_true (is_mended t.work.mending) r.1) r.0)

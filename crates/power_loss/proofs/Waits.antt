@@ -60,16 +60,16 @@ le_false : (m n : ℕ) → n < m → nat_le m n ≡ false
 le_false m n l = grind (arith, nat_tests)
 
 -- a page of a group of this life has an entry
-new_entry : (l : Ledger) (name : Name) (j : ℕ) (g : Group) → name.number ≡ l.top + suc j → slice_get l.groups j ≡ Some g → name.index < length g →
+new_entry : (l : Ledger) (name : Name) (j : ℕ) (g : Group) → name.number ≡ l.greatest_seen + suc j → slice_get l.groups j ≡ Some g → name.index < length g →
     (e : Entry) × (entry_of l name ≡ Some e)
 new_entry l name j g e at in_g =
     let x = item_at g name.index in_g in
-    let no : nat_le name.number l.top ≡ false = le_false name.number l.top (omega arith) in
+    let no : nat_le name.number l.greatest_seen ≡ false = le_false name.number l.greatest_seen (omega arith) in
     let group : group_at l name.number ≡ Some g =
-    if_false (nat_le name.number l.top) None (slice_get l.groups (name.number - l.top - 1)) no
-    ∙ ap (slice_get l.groups) (place (name.number) l.top j e) ∙ at in (
+    if_false (nat_le name.number l.greatest_seen) None (slice_get l.groups (name.number - l.greatest_seen - 1)) no
+    ∙ ap (slice_get l.groups) (place (name.number) l.greatest_seen j e) ∙ at in (
       record { item = x.0; size = length g },
-      if_false (nat_le name.number l.top) (l.old name.number name.index) (option_and_then (λ g. entry_in g name.index) (group_at l name.number)) no
+      if_false (nat_le name.number l.greatest_seen) (l.entries_before name.number name.index) (option_and_then (λ g. entry_in g name.index) (group_at l name.number)) no
           ∙ ap (option_and_then (λ g. entry_in g name.index)) group
           ∙ ap (option_map (λ item. record { item = item; size = length g })) x.1,
     )

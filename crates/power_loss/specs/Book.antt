@@ -23,14 +23,14 @@ pub record CellsRight (c : Cells) : Type 0 where
 pub record Book : Type 0 where
   pub numbers : Numbers
   pub base : Contents
-  pub old : ℕ → ℕ → Option Entry
-  pub first : Key → Option Name
-  pub top : ℕ
-  pub low : ℕ
+  pub entries_before : ℕ → ℕ → Option Entry
+  pub first_page : Key → Option Name
+  pub greatest_seen : ℕ
+  pub first_lost : ℕ
   pub groups : List Group
 
 abbrev pub book_of : Numbers → Ledger → Book
-book_of n l = record { numbers = n; base = l.base; old = l.old; first = l.first; top = l.top; low = l.low; groups = l.groups }
+book_of n l = record { numbers = n; base = l.base; entries_before = l.entries_before; first_page = l.first_page; greatest_seen = l.greatest_seen; first_lost = l.first_lost; groups = l.groups }
 
 abbrev pub book : Translation → Book
 book t = book_of t.numbers t.ledger
@@ -42,20 +42,20 @@ HasKey b k = IsKey (shape_of_numbers b.numbers) k
 -- what the page of a name has; `entry_of` of a ledger reads the same
 abbrev pub page_at : Book → Name → Option Entry
 page_at b name =
-    if nat_le name.number b.top then b.old name.number name.index
-    else option_and_then (λ g. entry_in g name.index) (if nat_le name.number b.top then None else slice_get b.groups (name.number - b.top - 1))
+    if nat_le name.number b.greatest_seen then b.entries_before name.number name.index
+    else option_and_then (λ g. entry_in g name.index) (if nat_le name.number b.greatest_seen then None else slice_get b.groups (name.number - b.greatest_seen - 1))
 
 abbrev pub IsPageAt : Book → ℕ → ℕ → Entry → Type 0
 IsPageAt b n i e = page_at b (record { number = n; index = i }) ≡ Some e
 
 -- the number of the last group
 abbrev pub last_number : Book → ℕ
-last_number b = b.top + length b.groups
+last_number b = b.greatest_seen + length b.groups
 
 -- the number is lost
 pub record IsLostNumber (b : Book) (n : ℕ) : Type 0 where
-  pub from : b.low ≤ n
-  pub to : n ≤ b.top
+  pub from : b.first_lost ≤ n
+  pub to : n ≤ b.greatest_seen
 
 -- a page with this tag and body is the one that its name has
 abbrev pub IsKnown : Book → Tag → List ℕ → Type 0
@@ -68,7 +68,7 @@ pub record IsWritten (b : Book) (k : Key) (bound : ℕ) : Type 0 where
   pub page : Entry
   pub is : IsPageAt b number index page
   pub key : page.item.key ≡ k
-  pub new : b.top < number
+  pub new : b.greatest_seen < number
   pub within : number ≤ bound
 
 -- a page of the key that is not lost has a number above n, at or under the bound
@@ -89,26 +89,26 @@ pub record BaseAt (b : Book) (k : Key) : Type 0 where
   pub number : ℕ
   pub index : ℕ
   pub size : ℕ
-  pub is : b.old number index ≡ Some (record { item = record { key = k; body = b.base k }; size = size })
-  pub below : number < b.low
-  pub last : (n i : ℕ) (e : Entry) → b.old n i ≡ Some e → e.item.key ≡ k → n < b.low → n ≤ number
+  pub is : b.entries_before number index ≡ Some (record { item = record { key = k; body = b.base k }; size = size })
+  pub below : number < b.first_lost
+  pub last : (n i : ℕ) (e : Entry) → b.entries_before n i ≡ Some e → e.item.key ≡ k → n < b.first_lost → n ≤ number
 
 -- no page below the lost numbers is of the key
 pub record BaseNone (b : Book) (k : Key) : Type 0 where
-  pub none : (n i : ℕ) (e : Entry) → b.old n i ≡ Some e → e.item.key ≡ k → n < b.low → ⊥
+  pub none : (n i : ℕ) (e : Entry) → b.entries_before n i ≡ Some e → e.item.key ≡ k → n < b.first_lost → ⊥
   pub zeros : b.base k ≡ zero_block
 
 -- the page is lost, or the last of its key below the lost numbers
 abbrev pub IsLastOrLost : Book → Key → ℕ → Type 0
 IsLastOrLost b k number =
     IsLostNumber b number
-    ⊎ ((number < b.low) × ((n i : ℕ) (e : Entry) → b.old n i ≡ Some e → e.item.key ≡ k → n < b.low → n ≤ number))
+    ⊎ ((number < b.first_lost) × ((n i : ℕ) (e : Entry) → b.entries_before n i ≡ Some e → e.item.key ≡ k → n < b.first_lost → n ≤ number))
 
 -- the name that a key began with
 abbrev pub FirstRight : Book → Key → Option Name → Type 0
-FirstRight b k None = (n i : ℕ) (e : Entry) → b.old n i ≡ Some e → e.item.key ≡ k → n < b.low → ⊥
+FirstRight b k None = (n i : ℕ) (e : Entry) → b.entries_before n i ≡ Some e → e.item.key ≡ k → n < b.first_lost → ⊥
 FirstRight b k (Some name) =
-    (e : Entry) × (b.old name.number name.index ≡ Some e) × (e.item.key ≡ k) × IsLastOrLost b k name.number
+    (e : Entry) × (b.entries_before name.number name.index ≡ Some e) × (e.item.key ≡ k) × IsLastOrLost b k name.number
 
 -- What holds of the book
 
@@ -120,34 +120,34 @@ pub record BookRight (b : Book) : Type 0 where
   pub differ : (n i j : ℕ) (e f : Entry) → IsPageAt b n i e → IsPageAt b n j f → e.item.key ≡ f.item.key → i ≡ j
   -- a group of this life has a page
   pub some : (j : ℕ) (g : Group) → slice_get b.groups j ≡ Some g → 0 < length g
-  pub old_within : (n i : ℕ) (e : Entry) → b.old n i ≡ Some e → n ≤ b.top
-  pub low : b.low ≤ suc b.top
+  pub old_within : (n i : ℕ) (e : Entry) → b.entries_before n i ≡ Some e → n ≤ b.greatest_seen
+  pub first_lost : b.first_lost ≤ suc b.greatest_seen
   pub base : (k : Key) → HasKey b k → BaseAt b k ⊎ BaseNone b k
-  pub first : (k : Key) → HasKey b k → FirstRight b k (b.first k)
+  pub first_page : (k : Key) → HasKey b k → FirstRight b k (b.first_page k)
 
 -- the pages of a group that is wholly there have one size, and all indexes below it
 pub record IsWholeOld (b : Book) (n : ℕ) : Type 0 where
   pub size : ℕ
   pub some : 0 < size
-  pub one_size : (i : ℕ) (e : Entry) → b.old n i ≡ Some e → e.size ≡ size
-  pub each : (i : ℕ) → i < size → (e : Entry) × (b.old n i ≡ Some e)
+  pub one_size : (i : ℕ) (e : Entry) → b.entries_before n i ≡ Some e → e.size ≡ size
+  pub each : (i : ℕ) → i < size → (e : Entry) × (b.entries_before n i ≡ Some e)
 
 -- each group of earlier lives above the number is wholly there
 abbrev pub AreWholeAbove : Book → ℕ → Type 0
-AreWholeAbove b marked = (n : ℕ) → marked < n → n ≤ b.top → IsWholeOld b n
+AreWholeAbove b marked = (n : ℕ) → marked < n → n ≤ b.greatest_seen → IsWholeOld b n
 
 -- Marks
 
 -- the mark has no fence, and each key with a lost page is written in this life at or under what it records
 pub record IsPlainMark (b : Book) (m : Mark) : Type 0 where
   pub none : m.fence ≡ None
-  pub repaired : (n i : ℕ) (e : Entry) → IsLostNumber b n → b.old n i ≡ Some e → IsWritten b e.item.key m.records
+  pub repaired : (n i : ℕ) (e : Entry) → IsLostNumber b n → b.entries_before n i ≡ Some e → IsWritten b e.item.key m.records
 
 -- the mark's fence is what is lost
 pub record IsFenceMark (b : Book) (m : Mark) : Type 0 where
   pub fence : Fence
   pub is : m.fence ≡ Some fence
-  pub first : fence.first ≡ b.low
-  pub last : fence.last ≡ b.top
-  pub some : b.low ≤ b.top
-  pub records : m.records ≡ b.top
+  pub first : fence.first ≡ b.first_lost
+  pub last : fence.last ≡ b.greatest_seen
+  pub some : b.first_lost ≤ b.greatest_seen
+  pub records : m.records ≡ b.greatest_seen

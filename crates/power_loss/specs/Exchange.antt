@@ -9,11 +9,11 @@ use Rattle.ufs_spec.specs.Disk.{Erasing, Programming, Spot, page_of}
 use Rattle.ufs_spec.specs.Exchanges.{Awaiting, Deed, ForWrite, Gathering, Short, Task, is_short_of, is_task_of}
 use Rattle.ufs_spec.specs.Keys.{CanApplyAll, IsBlock, IsKey, IsPlain, IsSettingsBody, content, groups_of}
 use Rattle.ufs_spec.specs.Ledger.{Entry, accepted_groups, before_accepted}
-use Rattle.ufs_spec.specs.Machine.{Call, Finish, Host, IsHeard, MayLeave, claimed_by, tag_in}
+use Rattle.ufs_spec.specs.Machine.{Call, Done, Host, IsHeard, MayLeave, claimed_by, tag_in}
 use Rattle.ufs_spec.specs.Messages.{AreBytes}
 use Rattle.ufs_spec.specs.Pages.{group_bound}
 use Rattle.ufs_spec.specs.Plain.{Shape, shape_of, shape_of_numbers}
-use Rattle.ufs_spec.specs.Steps.{State, numbers_of}
+use Rattle.ufs_spec.specs.Refusals.{State, numbers_of}
 use Rattle.ufs_spec.specs.Translation.{is_mended}
 use Rattle.ufs_spec.specs.declared.configs.Numbers.{Numbers}
 use Rattle.ufs_spec.specs.declared.flash.Place.{Place}
@@ -34,7 +34,7 @@ pub record BookFits (b : Book) : Type 0 where
   pub entries : (n i : ℕ) (e : Entry) → IsPageAt b n i e → EntryFits e i × (1 ≤ n)
   pub last : last_number b ≤ 2 ^ 62
   -- where numbers are lost, the last of them is a number
-  pub lost : b.low ≤ b.top → 1 ≤ b.top
+  pub lost : b.first_lost ≤ b.greatest_seen → 1 ≤ b.greatest_seen
 
 -- Tasks
 
@@ -154,7 +154,7 @@ pub record ValidState (s : State) : Type 0 where
 -- a message of some bytes is heard, and a job that ends leaves what it may
 abbrev pub MayCome : State → Call → Type 0
 MayCome s (Host heard) = (bytes : List ℕ) × IsHeard bytes heard
-MayCome s (Finish die ending left) = MayLeave s die ending left
+MayCome s (Done die ending left) = MayLeave s die ending left
 MayCome s call = Unit {0}
 
 -- An array as a device may be opened over it

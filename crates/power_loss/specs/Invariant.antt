@@ -25,7 +25,7 @@ Flights = ℕ → Option Flight
 -- The frontier
 
 pub record FrontierRight (b : Book) (standing : Standing) (frontier : ℕ) : Type 0 where
-  pub above : b.top ≤ frontier
+  pub above : b.greatest_seen ≤ frontier
   pub within : frontier ≤ last_number b
   -- at or under the frontier each page stands
   pub stand : (n i : ℕ) (e : Entry) → n ≤ frontier → IsPageAt b n i e → (p : Place) × (standing n i ≡ Some p)
@@ -157,7 +157,7 @@ AreFreeBlank cells blocks erasing =
 pub record IsOwnMark (b : Book) (newest : Option Mark) (marks : ℕ) (fence : Option Fence) (m : Mark) : Type 0 where
   pub newer : number_of newest < m.number
   pub within : m.number ≤ marks
-  pub records : m.records ≡ b.top
+  pub records : m.records ≡ b.greatest_seen
   pub fence_is : m.fence ≡ fence
   pub numbers : m.numbers ≡ b.numbers
 
@@ -174,21 +174,21 @@ pub record OpeningRight (b : Book) (newest : Option Mark) (opening : Cells) : Ty
   pub is_kept : IsKept opening newest kept
   pub holds : HoldAll b.numbers opening newest kept b.base
   pub suits : CellsSuit b.numbers opening newest
-  pub marks : (p : Place) (m : Mark) → opening p ≡ MarkPage m → m.records ≤ b.top
+  pub marks : (p : Place) (m : Mark) → opening p ≡ MarkPage m → m.records ≤ b.greatest_seen
 
 -- each key with a lost page is in the list, and all of the list are keys of the device
 pub record LostRight (b : Book) (lost : List Key) : Type 0 where
-  pub all : (n i : ℕ) (e : Entry) → IsLostNumber b n → b.old n i ≡ Some e → (j : ℕ) × (slice_get lost j ≡ Some e.item.key)
+  pub all : (n i : ℕ) (e : Entry) → IsLostNumber b n → b.entries_before n i ≡ Some e → (j : ℕ) × (slice_get lost j ≡ Some e.item.key)
   pub keys : (j : ℕ) (k : Key) → slice_get lost j ≡ Some k → HasKey b k
 
 -- the first mark of the life is not finished
 pub record UnmarkedRight (b : Book) (frontier marks : ℕ) (newest : Option Mark) (cells : Cells) (blocks : Spot → BlockState) (erasing : Spot → Bool) (flights : Flights) (plan : Option Plan) (fence : Option Fence) (lost : List Key) : Type 0 where
   pub opening : Cells
   pub opened : OpeningRight b newest opening
-  pub fence_right : IsFirstFence newest b.low b.top fence
+  pub fence_right : IsFirstFence newest b.first_lost b.greatest_seen fence
   pub lost_right : LostRight b lost
   pub none_new : b.groups ≡ []
-  pub still : frontier ≡ b.top
+  pub still : frontier ≡ b.greatest_seen
   pub same : (p : Place) → IsOpenedOrOwn b newest marks fence (opening p) (cells p)
   pub flies : (die : ℕ) (p : Place) (cell : Cell) → flights die ≡ Some (Programming p cell) →
       (m : Mark) × (cell ≡ MarkPage m) × IsOwnMark b newest marks fence m
@@ -204,7 +204,7 @@ IsLastRepair b step =
 -- the first mark is finished, and these keys have no repair yet
 pub record RepairingRight (b : Book) (frontier : ℕ) (cells : Cells) (blocks : Spot → BlockState) (erasing : Spot → Bool) (newest : Mark) (plan : Option Plan) (step : Option Step) (left : List Key) : Type 0 where
   pub fence : IsFenceMark b newest
-  pub repaired : (n i : ℕ) (e : Entry) → IsLostNumber b n → b.old n i ≡ Some e →
+  pub repaired : (n i : ℕ) (e : Entry) → IsLostNumber b n → b.entries_before n i ≡ Some e →
       ((j : ℕ) × (slice_get left j ≡ Some e.item.key)) ⊎ IsWritten b e.item.key (last_number b)
   pub keys : (j : ℕ) (k : Key) → slice_get left j ≡ Some k → HasKey b k
   -- a repair is a group of one page
@@ -288,7 +288,7 @@ pub record HistoryRight (b : Book) (repairs held frontier : ℕ) (mended : Bool)
   pub within : repairs ≤ length b.groups
   pub contents : (j i : ℕ) (g : Group) (item : Item) → j < repairs → slice_get b.groups j ≡ Some g → slice_get g i ≡ Some item → item.body ≡ b.base item.key
   pub mending : mended ≡ false → (repairs ≡ length b.groups) × (held ≡ 0)
-  pub durable : (held ≡ 0) ⊎ (b.top + repairs + held ≤ frontier)
+  pub durable : (held ≡ 0) ⊎ (b.greatest_seen + repairs + held ≤ frontier)
 
 -- Pages that are needed still
 

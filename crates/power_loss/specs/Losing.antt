@@ -24,8 +24,8 @@ pub record StartsRight (t : Translation) : Type 0 where
   pub unfinished : (p : Place) → t.disk.finished p ≡ false →
       (t.disk.cells p ≡ Nothing) ⊎ ((m : Mark) × (t.disk.cells p ≡ MarkPage m) × (number_of t.ledger.newest < m.number))
   pub own : (p : Place) (m : Mark) → t.disk.cells p ≡ MarkPage m → number_of t.ledger.newest < m.number → t.disk.finished p ≡ false
-  pub fence : (f : Fence) → fence_in t.ledger.newest ≡ Some f → t.ledger.low ≡ f.first
-  pub none : fence_in t.ledger.newest ≡ None → recorded_in t.ledger.newest < t.ledger.low
+  pub fence : (f : Fence) → fence_in t.ledger.newest ≡ Some f → t.ledger.first_lost ≡ f.first
+  pub none : fence_in t.ledger.newest ≡ None → recorded_in t.ledger.newest < t.ledger.first_lost
 
 abbrev pub IsStartRight : Translation → Type 0
 IsStartRight t = is_marked t.work.mending ≡ false → StartsRight t

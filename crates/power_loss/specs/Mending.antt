@@ -1,6 +1,6 @@
 -- How many turns may still find a step due before the device is mended.
 use Rattle.std.specs.Prelude.{◌&&◌, ℕ, suc, ◌+◌, not, Bool, true, false, if◌then◌else◌, List, [], ◌∷◌, count_by, length, Option, Some, None}
-use Rattle.ufs_spec.specs.Moves.{IsAllowedMove, Move, Turn, moved}
+use Rattle.ufs_spec.specs.Moves.{IsAllowedMove, Move, TakeStep, moved}
 use Rattle.ufs_spec.specs.Translation.{MarkStep, Mended, Mending, Repairing, Step, StepKind, Translation, Unmarked, has_mark_number, is_mended, is_step_due}
 use Rattle.ufs_spec.specs.declared.events.Output.{Output}
 use Rattle.ufs_spec.specs.declared.events.Output.TheVariants as output
@@ -51,7 +51,7 @@ moved_by t (move ∷ moves) = moved_by (moved t move) moves
 
 -- a turn that finds a step due while the device is not mended
 abbrev pub is_mending_turn : Translation → Move → Bool
-is_mending_turn t Turn = is_step_due t && not (is_mended t.work.mending)
+is_mending_turn t TakeStep = is_step_due t && not (is_mended t.work.mending)
 is_mending_turn t move = false
 
 -- how many of the moves are such turns

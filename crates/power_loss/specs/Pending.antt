@@ -4,7 +4,7 @@ use Rattle.ufs_spec.specs.Cells.{GroupPage}
 use Rattle.ufs_spec.specs.Disk.{Flight, Programming}
 use Rattle.ufs_spec.specs.Keys.{Group}
 use Rattle.ufs_spec.specs.Ledger.{Ledger, durable_contents, group_at, is_standing, pending}
-use Rattle.ufs_spec.specs.Moves.{Accept, End, Move, WentWell}
+use Rattle.ufs_spec.specs.Moves.{Accept, EndJob, Move, WentWell}
 use Rattle.ufs_spec.specs.Translation.{Translation}
 
 -- the group that the move accepts
@@ -19,7 +19,7 @@ is_new_page l flight = false
 
 -- the move ends such a job well
 abbrev pub brings_page : Translation → Move → Bool
-brings_page t (End die WentWell) = is_new_page t.ledger (t.disk.flights die)
+brings_page t (EndJob die WentWell) = is_new_page t.ledger (t.disk.flights die)
 brings_page t move = false
 
 -- the group after the frontier has a page that does not stand

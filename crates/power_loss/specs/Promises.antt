@@ -5,8 +5,8 @@ use Rattle.std.specs.Global.{Vec}
 use Rattle.ufs_spec.specs.Commands.{Write}
 use Rattle.ufs_spec.specs.Exchanges.{Good, Short, is_short_of, status_byte, task_of}
 use Rattle.ufs_spec.specs.Lives.{Leads, Life, held}
-use Rattle.ufs_spec.specs.Machine.{Allowed, Answer, Ask, Call, Heard, Hears, Host, IsHeard, Replies, Spelled, blocks_in, observe, tag_in}
-use Rattle.ufs_spec.specs.Steps.{Request, State, locked}
+use Rattle.ufs_spec.specs.Machine.{Allowed, Answer, Reply, Call, Heard, OfHost, Host, IsHeard, OfReply, Spelled, blocks_in, observe, tag_in}
+use Rattle.ufs_spec.specs.Refusals.{Request, State, locked}
 use Rattle.ufs_spec.specs.declared.events.Event.{Event}
 use Rattle.ufs_spec.specs.declared.events.Output.{Output}
 use Rattle.ufs_spec.specs.declared.messages.Message.{Message}
@@ -25,8 +25,8 @@ heard_command r = Spelled (command_message r) r.cdb
 pub record IsTaken (s : State) (r : Request) (t : State) : Type 0 where
   pub bytes : Vec ℕ
   pub spelled : IsHeard bytes.items (heard_command r)
-  pub right : Allowed s (Host (heard_command r)) (Hears (Ok tt))
-  pub next : t ≡ observe s (Host (heard_command r)) (Hears (Ok tt))
+  pub right : Allowed s (Host (heard_command r)) (OfHost (Ok tt))
+  pub next : t ≡ observe s (Host (heard_command r)) (OfHost (Ok tt))
 
 -- Its data
 
@@ -41,7 +41,7 @@ data_in tag other = []
 
 -- and a call, if its message is taken
 abbrev pub data_of : ℕ → Call → Answer → List ℕ
-data_of tag (Host (Spelled m c)) (Hears (Ok done)) = data_in tag m
+data_of tag (Host (Spelled m c)) (OfHost (Ok done)) = data_in tag m
 data_of tag call answer = []
 
 -- a life in each of whose states a task of the tag is open, and the data that its DATA OUTs carry for it, in order
@@ -57,9 +57,9 @@ Carries tag s _ _ t bytes = ⊥
 
 -- a reply of the tag is handed out in the first state, and leads to the second
 pub record IsReplied (s : State) (tag : ℕ) (m : Message) (t : State) : Type 0 where
-  pub right : Allowed s Ask (Replies (Some m))
+  pub right : Allowed s Reply (OfReply (Some m))
   pub tag_is : tag_in m ≡ tag
-  pub next : t ≡ observe s Ask (Replies (Some m))
+  pub next : t ≡ observe s Reply (OfReply (Some m))
 
 -- a RESPONSE with status GOOD
 abbrev pub IsGood : Message → Type 0

@@ -7,7 +7,7 @@ use Rattle.ufs_spec.specs.Disk.{Spot}
 use Rattle.ufs_spec.specs.Lives.{IsLived, Life, Lived, Stops, bad_in}
 use Rattle.ufs_spec.specs.Openings.{AreLost}
 use Rattle.ufs_spec.specs.Sound.{Sound, Suits}
-use Rattle.ufs_spec.specs.Steps.{State, mended}
+use Rattle.ufs_spec.specs.Refusals.{State, mended}
 use Rattle.ufs_spec.specs.declared.configs.Numbers.{Numbers}
 use Rattle.ufs_spec.specs.declared.events.Event.{Event}
 use Rattle.ufs_spec.specs.declared.events.Leftover.{Leftover}
@@ -42,7 +42,7 @@ pub record LifeRight (n : Numbers) (array : Array) (bad : Spot → Bool) (l : Li
   -- up to each of its events that does not find it mended, at most two turns more than there are keys with a lost page
   -- were answered true
   pub mends : (lost : List Key) →
-      AreLost lived.0.cells l.start.translation.ledger.low l.start.translation.ledger.top lost →
+      AreLost lived.0.cells l.start.translation.ledger.first_lost l.start.translation.ledger.greatest_seen lost →
       (es : List Event) (os : List Output) (middle : State) → Life l.start es os middle → mended middle ≡ false →
       true_turns os ≤ length lost + 2
 

@@ -10,9 +10,9 @@ use Rattle.ufs_spec.specs.Commands.{Write}
 use Rattle.ufs_spec.specs.Disk.{Spot, at_place, page_of, spot_of}
 use Rattle.ufs_spec.specs.Exchanges.{sense}
 use Rattle.ufs_spec.specs.Lives.{IsOpened, Leads, Life, Runs, Stops, bad_in, held}
-use Rattle.ufs_spec.specs.Machine.{Ask, Replies}
+use Rattle.ufs_spec.specs.Machine.{Reply, OfReply}
 use Rattle.ufs_spec.specs.Plain.{after, block_at, zero}
-use Rattle.ufs_spec.specs.Steps.{State, locked}
+use Rattle.ufs_spec.specs.Refusals.{State, locked}
 use Rattle.ufs_spec.specs.declared.events.Event.TheVariants as event
 use Rattle.ufs_spec.specs.declared.events.Leftover.TheVariants as leftover
 use Rattle.ufs_spec.specs.declared.events.Leftover.{Leftover}
@@ -68,7 +68,7 @@ pub record IsFailedWrite (body : List ℕ) (write block : Vec ℕ) (page : Page)
   pub bad : bad_in failed (spot_of (place_of 1)) ≡ true
   pub is_locked : locked failed ≡ true
   -- the WRITE is answered with a write error, and by nothing else
-  pub answered : Gets failed Ask (Replies (Some write_failed))
+  pub answered : Gets failed Reply (OfReply (Some write_failed))
   pub now : State
   pub told_so : Leads failed event.Reply (told write_failed) now
   -- its command stays accepted and is not acknowledged; no task is open

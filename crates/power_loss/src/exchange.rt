@@ -8,7 +8,7 @@ ghost use Rattle.ufs_spec.specs.Lives.{Chain, IsOpened, Leads, Life, Lived, Live
 ghost use Rattle.ufs_spec.specs.Machine.{Allowed, Answer, Call, durable, observe};
 ghost use Rattle.ufs_spec.specs.Plain.{Plain, after};
 ghost use Rattle.ufs_spec.specs.Sound.{Sound, Suits};
-ghost use Rattle.ufs_spec.specs.Steps.{State, numbers_of};
+ghost use Rattle.ufs_spec.specs.Refusals.{State, numbers_of};
 ghost use Rattle.ufs_spec.specs.declared.Event.{Event};
 ghost use Rattle.ufs_spec.specs.declared.Leftover.{Leftover};
 ghost use Rattle.ufs_spec.specs.declared.Numbers.{Numbers};

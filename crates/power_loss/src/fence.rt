@@ -2,7 +2,7 @@
 ghost use Rattle.std.specs.Prelude.{◌≡◌, ◌+◌, ℕ, true, List, [], ◌∷◌, Option, Some, None};
 ghost use Rattle.ufs_spec.specs.Cells.{Mark, MarkPage};
 ghost use Rattle.ufs_spec.specs.Disk.{Programming};
-ghost use Rattle.ufs_spec.specs.Moves.{End, WentWell, moved};
+ghost use Rattle.ufs_spec.specs.Moves.{EndJob, WentWell, moved};
 ghost use Rattle.ufs_spec.specs.Translation.{MarkStep, MayTake, Repairing, Step, Translation, has_mark_number, is_mended, turned};
 ghost use Rattle.ufs_spec.specs.declared.flash.Fence.{Fence};
 ghost use Rattle.ufs_spec.specs.declared.flash.Key.{Key};
@@ -25,5 +25,5 @@ pub fn the_fence_falls_last()
         (turned t).work.step ≡ Some (record { kind = MarkStep (t.ledger.marks + 1) None; there = true }) }
     ensures ends { (t : Translation) (die : ℕ) (p : Place) (m : Mark) →
         Valid t → t.disk.flights die ≡ Some (Programming p (MarkPage m)) → m.fence ≡ None →
-        is_mended (moved t (End die WentWell)).work.mending ≡ true }
+        is_mended (moved t (EndJob die WentWell)).work.mending ≡ true }
 {}

@@ -3,7 +3,7 @@ ghost use Rattle.std.specs.Prelude.{◌≡◌, ◌≢◌, ◌⊎◌, ◌<◌, �
 ghost use Rattle.ufs_spec.specs.Cells.{GroupPage, Mark, MarkPage};
 ghost use Rattle.ufs_spec.specs.Disk.{ForStep, Programming, Reader, Reading};
 ghost use Rattle.ufs_spec.specs.Ledger.{Name};
-ghost use Rattle.ufs_spec.specs.Moves.{End, Move, ReadRight, moved};
+ghost use Rattle.ufs_spec.specs.Moves.{EndJob, Move, ReadRight, moved};
 ghost use Rattle.ufs_spec.specs.Translation.{CopyStep, MayTake, Translation, name_of, turned};
 ghost use Rattle.ufs_spec.specs.declared.flash.Place.{Place};
 ghost use Rattle.ufs_spec.specs.declared.flash.Tag.{Tag};
@@ -33,7 +33,7 @@ pub fn a_copy_is_programmed_after_its_read()
     ensures brought { (t : Translation) (move : Move) (name : Name) (from : Place) →
         t.work.step ≡ Some (record { kind = CopyStep name from; there = false }) →
         (moved t move).work.step ≡ Some (record { kind = CopyStep name from; there = true }) →
-        (die : ℕ) × (place : Place) × (move ≡ End die ReadRight) × (t.disk.flights die ≡ Some (Reading ForStep place)) }
+        (die : ℕ) × (place : Place) × (move ≡ EndJob die ReadRight) × (t.disk.flights die ≡ Some (Reading ForStep place)) }
     ensures its_page { (t : Translation) (die : ℕ) (place : Place) (name : Name) (from : Place) (there : Bool) →
         t.work.step ≡ Some (record { kind = CopyStep name from; there = there }) → MayTake t die (Some (Reading ForStep place)) →
         (there ≡ false) × (place ≡ from) }

@@ -2,7 +2,7 @@
 ghost use Rattle.std.specs.Prelude.{◌≡◌, ◌⊎◌, ◌≤◌, ℕ, true, false, List, Some, length};
 ghost use Rattle.ufs_spec.specs.Exchanges.{Short};
 ghost use Rattle.ufs_spec.specs.Lives.{Life, held};
-ghost use Rattle.ufs_spec.specs.Steps.{Request, State};
+ghost use Rattle.ufs_spec.specs.Refusals.{Request, State};
 ghost use Rattle.ufs_spec.specs.declared.Cdb.TheVariants as cdb;
 ghost use Rattle.ufs_spec.specs.declared.Event.{Event};
 ghost use Rattle.ufs_spec.specs.declared.Message.{Message};

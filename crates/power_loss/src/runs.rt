@@ -12,7 +12,7 @@ ghost use Rattle.ufs_spec.specs.Moves.{Ending};
 ghost use Rattle.ufs_spec.specs.Pages.{IsCheckRight, MayBeLeft};
 ghost use Rattle.ufs_spec.specs.Plain.{zero_block};
 ghost use Rattle.ufs_spec.specs.Sound.{Sound, Suits};
-ghost use Rattle.ufs_spec.specs.Steps.{State, numbers_of};
+ghost use Rattle.ufs_spec.specs.Refusals.{State, numbers_of};
 ghost use Rattle.ufs_spec.specs.declared.Event.TheVariants as event;
 ghost use Rattle.ufs_spec.specs.declared.Event.{Event};
 ghost use Rattle.ufs_spec.specs.declared.Leftover.TheVariants as leftover;

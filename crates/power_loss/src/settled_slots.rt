@@ -3,7 +3,7 @@ ghost use Rattle.std.specs.Prelude.{◌≡◌, ◌<◌, ◌≤◌, ℕ, List, Op
 ghost use Rattle.ufs_spec.specs.Cells.{GroupPage};
 ghost use Rattle.ufs_spec.specs.Disk.{Programming};
 ghost use Rattle.ufs_spec.specs.Ledger.{InSlot, Name, OnPage};
-ghost use Rattle.ufs_spec.specs.Moves.{End, WentWell, moved};
+ghost use Rattle.ufs_spec.specs.Moves.{EndJob, WentWell, moved};
 ghost use Rattle.ufs_spec.specs.Translation.{Pin, Translation};
 ghost use Rattle.ufs_spec.specs.declared.flash.Place.{Place};
 ghost use Rattle.ufs_spec.specs.declared.flash.Tag.{Tag};
@@ -13,11 +13,11 @@ ghost use Rattle.ufs_spec.specs.declared.flash.Tag.{Tag};
 pub fn a_durable_slot_becomes_its_page()
     ensures slot { (t : Translation) (die : ℕ) (p : Place) (tag : Tag) (body : List ℕ) (j : ℕ) (pin : Pin) (name : Name) →
         t.disk.flights die ≡ Some (Programming p (GroupPage tag body)) →
-        slice_get (moved t (End die WentWell)).pins j ≡ Some pin → pin.looked ≡ InSlot name →
-        (moved t (End die WentWell)).ledger.frontier < name.number }
+        slice_get (moved t (EndJob die WentWell)).pins j ≡ Some pin → pin.looked ≡ InSlot name →
+        (moved t (EndJob die WentWell)).ledger.frontier < name.number }
     ensures page { (t : Translation) (die : ℕ) (p q : Place) (tag : Tag) (body : List ℕ) (j : ℕ) (pin : Pin) (name : Name) →
         t.disk.flights die ≡ Some (Programming p (GroupPage tag body)) →
-        slice_get t.pins j ≡ Some pin → pin.looked ≡ InSlot name → name.number ≤ (moved t (End die WentWell)).ledger.frontier →
-        (moved t (End die WentWell)).ledger.standing name.number name.index ≡ Some q →
-        slice_get (moved t (End die WentWell)).pins j ≡ Some (record pin { looked = OnPage name q }) }
+        slice_get t.pins j ≡ Some pin → pin.looked ≡ InSlot name → name.number ≤ (moved t (EndJob die WentWell)).ledger.frontier →
+        (moved t (EndJob die WentWell)).ledger.standing name.number name.index ≡ Some q →
+        slice_get (moved t (EndJob die WentWell)).pins j ≡ Some (record pin { looked = OnPage name q }) }
 {}

@@ -8,7 +8,7 @@ ghost use Rattle.ufs_spec.specs.Exchanges.{Task};
 ghost use Rattle.ufs_spec.specs.Lives.{IsOpened, Life};
 ghost use Rattle.ufs_spec.specs.Machine.{Allowed, Answer, Call, deed_reply, observe};
 ghost use Rattle.ufs_spec.specs.Messages.{IsMessage, spelling};
-ghost use Rattle.ufs_spec.specs.Steps.{State};
+ghost use Rattle.ufs_spec.specs.Refusals.{State};
 ghost use Rattle.ufs_spec.specs.declared.Event.{Event};
 ghost use Rattle.ufs_spec.specs.declared.Message.{Message};
 ghost use Rattle.ufs_spec.specs.declared.Numbers.{Numbers};

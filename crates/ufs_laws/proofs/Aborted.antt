@@ -7,10 +7,10 @@ use Rattle.std.proofs.lemmas.List.Sums.{sum_by-cons}
 use Rattle.ufs_laws.proofs.TaskWalk.{IsTaskLaw, begun_task, every_mapped, task_for, tasks_kept}
 use Rattle.ufs_laws.specs.Exchange.{Asks, Every, HasOtherTag, IsSpoken, NoTask, Pinned}
 use Rattle.ufs_spec.proofs.Facts.{or_parts, same_Some, true≢false}
-use Rattle.ufs_spec.specs.Exchanges.{Answering, Awaiting, Deed, Gathering, Good, NotRead, ReadBlock, ReadState, Sending, Task, Telling, Unread, WasRead, response, filled, is_task_of, with_deed}
+use Rattle.ufs_spec.specs.Exchanges.{Answering, Awaiting, Deed, Gathering, Good, NotRead, ReadBlock, ReadState, Sending, Task, SendingBytes, Unread, WasRead, response, filled, is_task_of, with_deed}
 use Rattle.ufs_spec.specs.Machine.{Allowed, Answer, Call, abort_moves, block_reply, claimed_by, deed_reply, durable, is_at_hand, is_to_fill, next_block_reply, pin_of, tag_in, deed_read, observe, task_filled, task_locked, task_read, unit_or_first, without_tasks}
 use Rattle.ufs_spec.specs.Moves.{Move, moved}
-use Rattle.ufs_spec.specs.Steps.{Request, State, unit_of_request}
+use Rattle.ufs_spec.specs.Refusals.{Request, State, unit_of_request}
 use Rattle.ufs_spec.specs.declared.messages.Message.{Message}
 use Rattle.ufs_spec.specs.Translation.{Pin, Translation}
 
@@ -163,7 +163,7 @@ reply_tag : (s : State) (task : Task) (deed : Deed) (m : Message) → deed_reply
 reply_tag s task (Gathering purpose gathered true) m e = let none : None ≡ Some m = e in cc
 reply_tag s task (Gathering purpose gathered false) m e = ap tag_in (sym (same_Some _ m e))
 reply_tag s task (Sending blocks sent) m e = next_tag s task sent (slice_get blocks sent) m e
-reply_tag s task (Telling bytes) m e = ap tag_in (sym (same_Some _ m e))
+reply_tag s task (SendingBytes bytes) m e = ap tag_in (sym (same_Some _ m e))
 reply_tag s task (Awaiting commands) m e = by (nat_le commands (durable s)) e
   where
     by : (b : Bool) → (if b then Some (response task.lun task.tag task.expected task.length Good) else None) ≡ Some m → tag_in m ≡ task.tag

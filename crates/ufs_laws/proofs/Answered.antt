@@ -5,10 +5,10 @@ use Rattle.ufs_laws.proofs.Replies.{heard, reply_due}
 use Rattle.ufs_spec.specs.Cells.{Array}
 use Rattle.ufs_spec.specs.Disk.{Erasing, Flight, Programming, Reading, job_of}
 use Rattle.ufs_spec.specs.Lives.{IsCall, IsFailure, IsFinish, IsShown, Leads, ended_well}
-use Rattle.ufs_spec.specs.Machine.{Allowed, Answer, Ask, Call, Due, Finish, Finishes, Give, Gives, Hears, Host, Replies, Step, Steps, fits, observe}
+use Rattle.ufs_spec.specs.Machine.{Allowed, Answer, Reply, Call, Due, Done, OfDone, Take, OfTake, OfHost, Host, OfReply, Turn, OfTurn, fits, observe}
 use Rattle.ufs_spec.specs.Messages.{spelling}
 use Rattle.ufs_spec.specs.Moves.{Ending, ReadWrong, WentWrong}
-use Rattle.ufs_spec.specs.Steps.{State}
+use Rattle.ufs_spec.specs.Refusals.{State}
 use Rattle.ufs_spec.specs.Translation.{MayTake, is_step_due}
 use Rattle.ufs_spec.specs.declared.events.Event.{Event}
 use Rattle.ufs_spec.specs.declared.events.Event.TheVariants as event
@@ -30,8 +30,8 @@ take_leads : (s : State) (die : ℕ) → ((flight : Flight) × MayTake s.transla
 take_leads s die =
     ⊎_elim
     {C = Somewhere s (event.Take die)}
-    (λ job. leads s (event.Take die) (output.Take (Some (job_of job.0))) (Give die) (Gives (Some job.0)) refl refl job.1)
-    (λ none. leads s (event.Take die) (output.Take None) (Give die) (Gives None) refl refl none)
+    (λ job. leads s (event.Take die) (output.Take (Some (job_of job.0))) (Take die) (OfTake (Some job.0)) refl refl job.1)
+    (λ none. leads s (event.Take die) (output.Take None) (Take die) (OfTake None) refl refl none)
 
 well_fits : (flight : Flight) → fits (Some flight) (ended_well flight) ≡ true
 well_fits (Reading reader place) = refl
@@ -39,12 +39,12 @@ well_fits (Programming place cell) = refl
 well_fits (Erasing spot) = refl
 
 -- an end that fits the job is known
-known : (s : State) (e : Event) (die : ℕ) (ending : Ending) (left : Array) → IsCall s e (Finish die ending left)
+known : (s : State) (e : Event) (die : ℕ) (ending : Ending) (left : Array) → IsCall s e (Done die ending left)
     → fits (s.translation.disk.flights die) ending ≡ true → Somewhere s e
-known s e die ending left is_call fit = leads s e output.Ended (Finish die ending left) (Finishes true) is_call refl (sym fit)
+known s e die ending left is_call fit = leads s e output.Ended (Done die ending left) (OfDone true) is_call refl (sym fit)
 
 finish_fits : (s : State) (die : ℕ) (o : Option Flight) (call : Call) → IsFinish s die o call
-    → (ending : Ending) × (call ≡ Finish die ending s.array) × (fits o ending ≡ true)
+    → (ending : Ending) × (call ≡ Done die ending s.array) × (fits o ending ≡ true)
 finish_fits s die None call h = absurd h
 finish_fits s die (Some flight) call h = (ended_well flight, h, well_fits flight)
 
@@ -61,13 +61,13 @@ reply_leads : (s : State) → ((m : Message) × Due s m) ⊎ ((m : Message) → 
 reply_leads s =
     ⊎_elim
     {C = Somewhere s event.Reply}
-    (λ due. leads s event.Reply (output.Reply (Some (record { items = spelling due.0 }))) Ask (Replies (Some due.0)) refl refl due.1)
-    (λ none. leads s event.Reply (output.Reply None) Ask (Replies None) refl refl none)
+    (λ due. leads s event.Reply (output.Reply (Some (record { items = spelling due.0 }))) Reply (OfReply (Some due.0)) refl refl due.1)
+    (λ none. leads s event.Reply (output.Reply None) Reply (OfReply None) refl refl none)
 
 pub leads_somewhere : (s : State) (e : Event) (call : Call) → IsCall s e call → (o : Output) × (t : State) × Leads s e o t
 leads_somewhere s (event.Host bytes) call h =
     let answer = heard s h.0 in
-    leads s (event.Host bytes) (output.Host answer.0) (Host h.0) (Hears answer.0) (h.0, h.1, refl) refl answer.1
+    leads s (event.Host bytes) (output.Host answer.0) (Host h.0) (OfHost answer.0) (h.0, h.1, refl) refl answer.1
 leads_somewhere s event.Reply call h = reply_leads s (reply_due s)
 leads_somewhere s (event.Take die) call h = take_leads s die (given s.translation die)
 leads_somewhere s (event.Finish die) call h =
@@ -75,5 +75,5 @@ leads_somewhere s (event.Finish die) call h =
     known s (event.Finish die) die f.0 s.array (subst (IsFinish s die (s.translation.disk.flights die)) f.1 h) f.2
 leads_somewhere s (event.Fail die l) call h =
     known s (event.Fail die l) die h.0 h.1 (h.0, h.1, h.2, refl) (failure_fits s die (s.translation.disk.flights die) l h.0 h.1 h.2)
-leads_somewhere s event.Turn call h = leads s event.Turn (output.Turn (is_step_due s.translation)) Step (Steps (is_step_due s.translation)) refl refl refl
+leads_somewhere s event.Turn call h = leads s event.Turn (output.Turn (is_step_due s.translation)) Turn (OfTurn (is_step_due s.translation)) refl refl refl
 leads_somewhere s (event.Stop lefts) call h = absurd h

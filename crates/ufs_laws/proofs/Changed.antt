@@ -8,10 +8,10 @@ use Rattle.ufs_spec.specs.Commands.{Command}
 use Rattle.ufs_spec.specs.Disk.{Erasing, Flight, ForNobody, ForRest, ForStep, ForTask, Programming, Reader, Reading}
 use Rattle.ufs_spec.specs.Exchanges.{Answering, Awaiting, Deed, ForFrames, ForUnmap, ForWrite, Gathering, Purpose, ReadState, NotRead, Registers, Sending, Short, Status, Task, WasRead, filled, is_short_of, is_task_of, short_reply, task_of, with_deed}
 use Rattle.ufs_spec.specs.Keys.{below, data_key}
-use Rattle.ufs_spec.specs.Machine.{Answer, Ask, Call, Faulty, Finish, Finishes, Give, Gives, Heard, Hears, Host, Replies, Spelled, Step, Steps, abort_moves, accepts, array_behind, behind, begun, begun_with, blocks_expected, claimed_by, command_heard, complete, data_for, data_heard, deed_behind, ends_with, fill_moves, fills, heard, hears, is_aborted, is_to_fill, is_durable, kept_at, lock_told, managed, moves_behind, observe, opened_with, read_begun, reader_told, registers_behind, replied, replied_by, set_deed, short_locked, short_replied, tag_in, task_behind, task_filled, task_locked, task_read, tells, with_moves, with_short, with_task, without_tasks, write_begun, write_complete, service}
-use Rattle.ufs_spec.specs.Moves.{Accept, Claim, End, Ending, Keep, LetGo, LetGoAll, Move, ReadRight, ReadWrong, Release, Take, Tell, Turn, WantPage, WentWell, WentWrong, moved}
+use Rattle.ufs_spec.specs.Machine.{Answer, Reply, Call, Faulty, Done, OfDone, Take, OfTake, Heard, OfHost, Host, OfReply, Spelled, Turn, OfTurn, abort_moves, accepts, array_behind, behind, begun, begun_with, blocks_expected, claimed_by, command_heard, complete, data_for, data_heard, deed_behind, ends_with, fill_moves, fills, heard, hears, is_aborted, is_to_fill, is_durable, kept_at, lock_applied, managed, moves_behind, observe, opened_with, read_begun, read_noted, registers_behind, replied, replied_by, set_deed, short_locked, short_replied, tag_in, task_behind, task_filled, task_locked, task_read, acknowledges, with_moves, with_short, with_task, without_tasks, write_begun, write_complete, service}
+use Rattle.ufs_spec.specs.Moves.{Accept, Claim, EndJob, Ending, Keep, LetGo, LetGoAll, Move, ReadRight, ReadWrong, Release, GiveJob, Acknowledge, TakeStep, WantPage, WentWell, WentWrong, moved}
 use Rattle.ufs_spec.specs.Stages.{most_tasks}
-use Rattle.ufs_spec.specs.Steps.{Request, State, locked, plain_now, refusal}
+use Rattle.ufs_spec.specs.Refusals.{Request, State, locked, plain_now, refusal}
 use Rattle.ufs_spec.specs.Keys.{group_of}
 use Rattle.ufs_spec.specs.Translation.{Pin, Translation}
 use Rattle.ufs_spec.specs.declared.flash.Key.{Key}
@@ -53,16 +53,16 @@ changed s (SetsPowerOn on) = record s { power_on = on }
 
 -- neither the beginning nor the end of a job, nor a step
 abbrev pub IsQuiet : Move → Type 0
-IsQuiet (Take die flight) = ⊥
-IsQuiet (End die ending) = ⊥
-IsQuiet Turn = ⊥
+IsQuiet (GiveJob die flight) = ⊥
+IsQuiet (EndJob die ending) = ⊥
+IsQuiet TakeStep = ⊥
 IsQuiet move = Unit {0}
 
 -- and a group is accepted with its command alone
 abbrev pub IsSmallMove : Move → Type 0
-IsSmallMove (Take die flight) = ⊥
-IsSmallMove (End die ending) = ⊥
-IsSmallMove Turn = ⊥
+IsSmallMove (GiveJob die flight) = ⊥
+IsSmallMove (EndJob die ending) = ⊥
+IsSmallMove TakeStep = ⊥
 IsSmallMove (Accept claimed g) = ⊥
 IsSmallMove move = Unit {0}
 
@@ -116,15 +116,15 @@ pub record IsLayerKept (R : Translation → Translation → Type 0) : Type 0 whe
 pub small_quiet : (move : Move) → IsSmallMove move → IsQuiet move
 small_quiet (Claim count) is = tt
 small_quiet (Release count) is = tt
-small_quiet (Tell count) is = tt
+small_quiet (Acknowledge count) is = tt
 small_quiet (Keep key pin) is = tt
 small_quiet (WantPage tag index) is = tt
 small_quiet (LetGo tag index) is = tt
 small_quiet (LetGoAll tag) is = tt
 small_quiet (Accept claimed g) is = tt
-small_quiet (Take die flight) is = is
-small_quiet (End die ending) is = is
-small_quiet Turn is = is
+small_quiet (GiveJob die flight) is = is
+small_quiet (EndJob die ending) is = is
+small_quiet TakeStep is = is
 
 pub layer_kept : (R : Translation → Translation → Type 0) → IsLayerKept R → {s t : State} → Small s t → R s.translation t.translation
 layer_kept R k h = kept (λ (s t : State). R s.translation t.translation) (record {
@@ -256,16 +256,16 @@ hears_small s (Faulty fault) = Still
 
 behind_small : (s : State) (task : Task) (deed : Deed) → Small s (with_moves s (moves_behind task deed))
 behind_small s task (Sending blocks sent) = Both (one_move (LetGo task.tag sent) tt) (one_move (WantPage task.tag (sent + 1)) tt)
-behind_small s task (Awaiting commands) = one_move (Tell commands) tt
+behind_small s task (Awaiting commands) = one_move (Acknowledge commands) tt
 behind_small s task deed = Still
 
 task_behind_small : (s : State) (task : Task) (deed : Option Deed) → Small s (task_behind s task deed)
 task_behind_small s task (Some deed) = set task.tag deed
 task_behind_small s task None = Both (One (Closes (is_task_of task.tag)) tt) (one_move (LetGoAll task.tag) tt)
 
-tells_small : (s : State) (awaits : Option ℕ) → Small s (with_moves s (tells awaits))
+tells_small : (s : State) (awaits : Option ℕ) → Small s (with_moves s (acknowledges awaits))
 tells_small s None = Still
-tells_small s (Some commands) = one_move (Tell commands) tt
+tells_small s (Some commands) = one_move (Acknowledge commands) tt
 
 short_small : (s : State) (reply : Option Short) → Small s (short_replied s reply)
 short_small s None = Still
@@ -288,7 +288,7 @@ lock_short s x = by (is_durable s x.awaits)
     by true = refl
     by false = refl
 
-pub lock_small : (s : State) → Small s (lock_told s)
+pub lock_small : (s : State) → Small s (lock_applied s)
 lock_small s = small_if (locked s)
     (Both (One (Maps (task_locked s)) (λ task. record { lun = refl; tag = refl; expected = refl; command = refl; length = refl }))
     (One (MapsShorts (short_locked s)) (lock_short s)))
@@ -313,7 +313,7 @@ fills_small s =
     (Both (One (Maps (task_filled s)) (fills_task s)) (One (SetsRegisters (fills s).registers) tt))
 
 -- and then the lock is told
-pub settled_small : (s : State) → Small s (lock_told (fills s))
+pub settled_small : (s : State) → Small s (lock_applied (fills s))
 settled_small s = Both (fills_small s) (lock_small (fills s))
 
 -- The ends of jobs
@@ -328,14 +328,14 @@ reads tag index state task = by (is_task_of tag task) _
 -- the dies and the pages where a job is over
 abbrev pub job_over : State → ℕ → Option Flight → Ending → Array → State
 job_over s die None ending left = s
-job_over s die (Some flight) ending left = record (with_moves s (End die ending ∷ [])) { array = array_behind s flight ending left }
+job_over s die (Some flight) ending left = record (with_moves s (EndJob die ending ∷ [])) { array = array_behind s flight ending left }
 
-told_small : (s : State) (reader : Reader) (state : ReadState) → Small s (reader_told s reader state)
+told_small : (s : State) (reader : Reader) (state : ReadState) → Small s (read_noted s reader state)
 told_small s (ForTask tag index) state = One (Maps (task_read tag index state)) (reads tag index state)
 told_small s reader state = Still
 
 told_of : (s : State) (die : ℕ) (reader : Reader) (state : ReadState) (array : Array) (ending : Ending) →
-    Small (record (with_moves s (End die ending ∷ [])) { array = array }) (with_moves (record (reader_told s reader state) { array = array }) (End die ending ∷ []))
+    Small (record (with_moves s (EndJob die ending ∷ [])) { array = array }) (with_moves (record (read_noted s reader state) { array = array }) (EndJob die ending ∷ []))
 told_of s die (ForTask tag index) state array ending = One (Maps (task_read tag index state)) (reads tag index state)
 told_of s die ForStep state array ending = Still
 told_of s die (ForRest number index) state array ending = Still
@@ -354,18 +354,18 @@ ends_small s die (Some (Erasing spot)) ending left = Still
 
 -- what a call does first
 abbrev pub first : State → Call → Answer → State
-first s (Give die) (Gives (Some flight)) = with_moves s (Take die flight ∷ [])
-first s (Finish die ending left) (Finishes true) = job_over s die (s.translation.disk.flights die) ending left
-first s Step (Steps due) = with_moves s (Turn ∷ [])
+first s (Take die) (OfTake (Some flight)) = with_moves s (GiveJob die flight ∷ [])
+first s (Done die ending left) (OfDone true) = job_over s die (s.translation.disk.flights die) ending left
+first s Turn (OfTurn due) = with_moves s (TakeStep ∷ [])
 first s call answer = s
 
 pub behind_call : (s : State) (call : Call) (answer : Answer) → Small (first s call answer) (behind s call answer)
-behind_call s (Host h) (Hears (Ok done)) = hears_small s h
-behind_call s (Give die) (Gives None) = Still
-behind_call s (Give die) (Gives (Some flight)) = Still
-behind_call s (Finish die ending left) (Finishes true) = ends_small s die (s.translation.disk.flights die) ending left
-behind_call s Step (Steps due) = Still
-behind_call s Ask (Replies (Some m)) = replied_small s m
+behind_call s (Host h) (OfHost (Ok done)) = hears_small s h
+behind_call s (Take die) (OfTake None) = Still
+behind_call s (Take die) (OfTake (Some flight)) = Still
+behind_call s (Done die ending left) (OfDone true) = ends_small s die (s.translation.disk.flights die) ending left
+behind_call s Turn (OfTurn due) = Still
+behind_call s Reply (OfReply (Some m)) = replied_small s m
 behind_call s call answer = Still
 
 -- behind what it does first, each call makes small changes alone

@@ -7,9 +7,9 @@ use Rattle.ufs_laws.proofs.TaskWalk.{is_asked}
 use Rattle.ufs_laws.specs.Exchange.{AreAsked, WasAsked}
 use Rattle.ufs_spec.proofs.Facts.{and_parts, eqb-true}
 use Rattle.ufs_spec.specs.Commands.{Write}
-use Rattle.ufs_spec.specs.Exchanges.{Answering, Awaiting, Deed, ForWrite, Gathering, Purpose, Sending, Task, Telling, count_at, is_asked_in, is_asked_of, task_of}
+use Rattle.ufs_spec.specs.Exchanges.{Answering, Awaiting, Deed, ForWrite, Gathering, Purpose, Sending, Task, SendingBytes, count_at, is_asked_in, is_asked_of, task_of}
 use Rattle.ufs_spec.specs.Machine.{accepts, blocks_in, complete, data_for, message_fault, set_deed, write_complete, write_deed}
-use Rattle.ufs_spec.specs.Steps.{State, locked}
+use Rattle.ufs_spec.specs.Refusals.{State, locked}
 use Rattle.ufs_spec.specs.declared.messages.Message.TheVariants as message
 
 -- ## Data that are taken
@@ -28,7 +28,7 @@ in_deed task lun offset count (Gathering purpose gathered asked) e h =
       count_is = eqb-true count (count_at task.length (length gathered)) last.1;
     }
 in_deed task lun offset count (Sending blocks sent) e h = let no : false ≡ true = h in cc
-in_deed task lun offset count (Telling bytes) e h = let no : false ≡ true = h in cc
+in_deed task lun offset count (SendingBytes bytes) e h = let no : false ≡ true = h in cc
 in_deed task lun offset count (Awaiting commands) e h = let no : false ≡ true = h in cc
 in_deed task lun offset count (Answering status carried) e h = let no : false ≡ true = h in cc
 

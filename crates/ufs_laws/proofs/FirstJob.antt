@@ -13,10 +13,10 @@ use Rattle.ufs_spec.specs.Cells.{Array, Cells, Nothing}
 use Rattle.ufs_spec.specs.Disk.{BlockState, Bad, Closed, Erasing, Filling, Flight, Free, Spot}
 use Rattle.ufs_spec.specs.Keys.{below}
 use Rattle.ufs_spec.specs.Lives.{IsOpened}
-use Rattle.ufs_spec.specs.Machine.{Step, Steps, observe, with_moves}
-use Rattle.ufs_spec.specs.Moves.{Turn}
+use Rattle.ufs_spec.specs.Machine.{Turn, OfTurn, observe, with_moves}
+use Rattle.ufs_spec.specs.Moves.{TakeStep}
 use Rattle.ufs_spec.specs.Openings.{IsBlockState}
-use Rattle.ufs_spec.specs.Steps.{State}
+use Rattle.ufs_spec.specs.Refusals.{State}
 use Rattle.ufs_spec.specs.Translation.{MarkStep, MayTake, Translation, flies_mark, is_free, is_idle, mark_ordered, may_be_erased, next_flight, next_in, next_place, step_cell, waiting_step, wants_on}
 use Rattle.ufs_spec.specs.declared.configs.Numbers.{Numbers}
 use Rattle.ufs_spec.specs.declared.flash.Fence.{Fence}
@@ -113,14 +113,14 @@ erase_waits t number fence die block pins rests step idle none free there within
 
 pub first_job : (n : Numbers) (array : Array) (bad : Spot → Bool) (s : State) → AllBlank array → IsOpened n array bad s
     → (good : Spot) → good.die < n.dies → good.block < n.blocks → bad good ≡ false
-    → (spot : Spot) × MayTake (observe s Step (Steps true)).translation good.die (Some (Erasing spot))
+    → (spot : Spot) × MayTake (observe s Turn (OfTurn true)).translation good.die (Some (Erasing spot))
 first_job n array bad s blank h good there within right =
     let t = s.translation in
     let u = h.translation in
     let turn = opened_first_mark n array bad s blank h in
     let none = none_there n array bad s blank h in
-    let reached : (observe s Step (Steps true)).translation ≡ mark_ordered t turn.0 =
-    ap (λ (v : State). v.translation) (settled_is (with_moves s (Turn ∷ [])) (subst HaveNoRequest (sym h.no_tasks) tt)) ∙ told_layer (with_moves s (Turn ∷ [])) ∙ turn.1 in
+    let reached : (observe s Turn (OfTurn true)).translation ≡ mark_ordered t turn.0 =
+    ap (λ (v : State). v.translation) (settled_is (with_moves s (TakeStep ∷ [])) (subst HaveNoRequest (sym h.no_tasks) tt)) ∙ told_layer (with_moves s (TakeStep ∷ [])) ∙ turn.1 in
     let dies : good.die < t.numbers.dies = subst (λ (m : Numbers). good.die < m.dies) (sym u.numbers) there in
     let blocks : good.block < t.numbers.blocks = subst (λ (m : Numbers). good.block < m.blocks) (sym u.numbers) within in
     subst

@@ -16,7 +16,7 @@ use Rattle.ufs_spec.specs.Lives.{IsOpened}
 use Rattle.ufs_spec.specs.Machine.{Due}
 use Rattle.ufs_spec.specs.Openings.{number_of, IsAtMost, IsBlockState, IsMendingAt, IsOpenedDisk, IsOpenedLedger, IsOpenedTranslation}
 use Rattle.ufs_spec.specs.Plain.{zero as zero_state}
-use Rattle.ufs_spec.specs.Steps.{State, mended}
+use Rattle.ufs_spec.specs.Refusals.{State, mended}
 use Rattle.ufs_spec.specs.Translation.{MayTake, Mended, Mending, Plan, Repairing, Translation, Unmarked, OrderMark, mark_ordered, turned, has_mark_number, is_mended, is_step_due, next_flight, next_order, wants_on}
 use Rattle.ufs_spec.specs.declared.configs.Numbers.{Numbers}
 use Rattle.ufs_spec.specs.declared.flash.Fence.{Fence}
@@ -42,10 +42,10 @@ first_layer n bad =
       };
       ledger = record {
         base = content (zero_state n);
-        old = λ number index. None;
-        first = λ k. None;
-        top = 0;
-        low = 1;
+        entries_before = λ number index. None;
+        first_page = λ k. None;
+        greatest_seen = 0;
+        first_lost = 1;
         groups = [];
         repairs = 0;
         standing = λ number index. None;
@@ -102,11 +102,11 @@ ledger_opened n bad = record {
   kept = 0;
   is_kept = none_kept;
   holds = λ k key. inr ((λ p t body h e. absurd (no_page t body h.there)), new_zeros n k key);
-  top = (none_above 0, λ other h. omega arith);
-  low = refl;
-  old = λ number index p h. no_page h.0 h.1 h.2;
+  greatest_seen = (none_above 0, λ other h. omega arith);
+  first_lost = refl;
+  entries_before = λ number index p h. no_page h.0 h.1 h.2;
   standing = λ number index p h. no_page h.0 h.1 h.2;
-  first = λ k key p t body h e. absurd (no_page t body h.there);
+  first_page = λ k key p t body h e. absurd (no_page t body h.there);
   none_new = refl;
   none_repaired = refl;
   frontier = refl;

@@ -7,9 +7,9 @@ use Rattle.ufs_laws.specs.Requests.{HaveNoRequest}
 use Rattle.ufs_spec.specs.Cells.{Array, Cell, Cells, GroupPage, MarkPage, Nothing}
 use Rattle.ufs_spec.specs.Disk.{Disk, Flight, Erasing, ForNobody, ForRest, ForStep, ForTask, Programming, Reader, Reading, at_die, job_of, program_failed}
 use Rattle.ufs_spec.specs.Exchanges.{NotRead, ReadState, Task, WasRead, is_task_of}
-use Rattle.ufs_spec.specs.Machine.{Allowed, reader_told, Finish, Finishes, Give, Gives, deed_read, ends_with, fills, fits, given as given_job, lock_told, observe, short_locked, task_locked, task_read, told_behind}
+use Rattle.ufs_spec.specs.Machine.{Allowed, read_noted, Done, OfDone, Take, OfTake, deed_read, ends_with, fills, fits, given as given_job, lock_applied, observe, short_locked, task_locked, task_read, read_noted_behind}
 use Rattle.ufs_spec.specs.Moves.{end_flight, Ending, ReadRight, ReadWrong, WentWell, WentWrong, cell_failed, cell_written, freed, job_ended, mark_again, read_right, read_wrong}
-use Rattle.ufs_spec.specs.Steps.{State, locked}
+use Rattle.ufs_spec.specs.Refusals.{State, locked}
 use Rattle.ufs_spec.specs.Translation.{Plan, Translation, has_mark_number, mark_ordered}
 use Rattle.ufs_spec.specs.declared.flash.Fence.{Fence}
 use Rattle.ufs_spec.specs.declared.flash.Place.{Place}
@@ -23,33 +23,33 @@ pub at_other : (f : ℕ → Option Flight) (die : ℕ) (o : Option Flight) (othe
 at_other f die o other differ = rw (ne_eqb other die differ) refl
 
 -- to tell the lock leaves the translation as it is
-pub told_layer : (s : State) → (lock_told s).translation ≡ s.translation
+pub told_layer : (s : State) → (lock_applied s).translation ≡ s.translation
 told_layer s = by (locked s)
   where
     by : (b : Bool) → (cond b (record s { tasks = map (task_locked s) s.tasks; shorts = map (short_locked s) s.shorts }) s).translation ≡ s.translation
     by true = refl
     by false = refl
 
-pub own_job : (s : State) (die : ℕ) (flight : Flight) → option_map job_of ((observe s (Give die) (Gives (Some flight))).translation.disk.flights die) ≡ Some (job_of flight)
+pub own_job : (s : State) (die : ℕ) (flight : Flight) → option_map job_of ((observe s (Take die) (OfTake (Some flight))).translation.disk.flights die) ≡ Some (job_of flight)
 own_job s die flight = settled_jobs (given_job s die (Some flight)) die ∙ ap (option_map job_of) (at_its_die s.translation.disk.flights die (Some flight))
 
 pub other_job : (s : State) (die : ℕ) (flight : Flight) (other : ℕ) → other ≢ die
-    → option_map job_of ((observe s (Give die) (Gives (Some flight))).translation.disk.flights other) ≡ option_map job_of (s.translation.disk.flights other)
+    → option_map job_of ((observe s (Take die) (OfTake (Some flight))).translation.disk.flights other) ≡ option_map job_of (s.translation.disk.flights other)
 other_job s die flight other differ =
     settled_jobs (given_job s die (Some flight)) other ∙ ap (option_map job_of) (at_other s.translation.disk.flights die (Some flight) other differ)
 
-pub same_jobs : (s : State) (die other : ℕ) → option_map job_of ((observe s (Give die) (Gives None)).translation.disk.flights other) ≡ option_map job_of (s.translation.disk.flights other)
+pub same_jobs : (s : State) (die other : ℕ) → option_map job_of ((observe s (Take die) (OfTake None)).translation.disk.flights other) ≡ option_map job_of (s.translation.disk.flights other)
 same_jobs s die other = settled_jobs s other
 
 -- where no task has a request, for whom a read is stays as well
-settled_flights : (s : State) → HaveNoRequest s.tasks → (lock_told (fills s)).translation.disk.flights ≡ s.translation.disk.flights
+settled_flights : (s : State) → HaveNoRequest s.tasks → (lock_applied (fills s)).translation.disk.flights ≡ s.translation.disk.flights
 settled_flights s none = ap (λ (u : State). u.translation.disk.flights) (settled_is s none) ∙ ap (λ (t : Translation). t.disk.flights) (told_layer s)
 
 pub given_flights : (s : State) (die : ℕ) (flight : Flight) → HaveNoRequest s.tasks
-    → (observe s (Give die) (Gives (Some flight))).translation.disk.flights ≡ at_die s.translation.disk.flights die (Some flight)
+    → (observe s (Take die) (OfTake (Some flight))).translation.disk.flights ≡ at_die s.translation.disk.flights die (Some flight)
 given_flights s die flight none = settled_flights (given_job s die (Some flight)) none
 
-pub same_flights : (s : State) (die : ℕ) → HaveNoRequest s.tasks → (observe s (Give die) (Gives None)).translation.disk.flights ≡ s.translation.disk.flights
+pub same_flights : (s : State) (die : ℕ) → HaveNoRequest s.tasks → (observe s (Take die) (OfTake None)).translation.disk.flights ≡ s.translation.disk.flights
 same_flights s die none = settled_flights s none
 
 -- A job's end
@@ -99,18 +99,18 @@ end_frees t die (Erasing spot) WentWell here fit = ap (λ (d : ℕ). at_die t.di
 end_frees t die (Erasing spot) (WentWrong left) here fit = ap (λ (d : ℕ). at_die t.disk.flights d None) here
 end_frees t die flight ending here fit = absurd (true≢false (sym fit))
 
-told_keeps : (s : State) (reader : Reader) (read : ReadState) → (reader_told s reader read).translation ≡ s.translation
+told_keeps : (s : State) (reader : Reader) (read : ReadState) → (read_noted s reader read).translation ≡ s.translation
 told_keeps s (ForTask tag index) read = refl
 told_keeps s reader read = refl
 
-behind_keeps : (s : State) (flight : Flight) (ending : Ending) → (told_behind s flight ending).translation ≡ s.translation
+behind_keeps : (s : State) (flight : Flight) (ending : Ending) → (read_noted_behind s flight ending).translation ≡ s.translation
 behind_keeps s (Reading reader place) ReadRight = told_keeps s reader WasRead
 behind_keeps s (Reading reader place) ReadWrong = told_keeps s reader NotRead
 behind_keeps s flight ending = refl
 
 -- the jobs where one ended that the die has
 pub jobs_left : (s : State) (die : ℕ) (flight : Flight) (ending : Ending) (left : Array) → s.translation.disk.flights die ≡ Some flight
-    → die_of_flight flight ≡ die → Allowed s (Finish die ending left) (Finishes true)
+    → die_of_flight flight ≡ die → Allowed s (Done die ending left) (OfDone true)
     → (ends_with s die (s.translation.disk.flights die) ending left).translation.disk.flights ≡ at_die s.translation.disk.flights die None
 jobs_left s die flight ending left e here right =
     let t = s.translation in
@@ -121,8 +121,8 @@ jobs_left s die flight ending left e here right =
     ∙ end_frees t die flight ending here fit
 
 pub ended_flight : (s : State) (die : ℕ) (flight : Flight) (ending : Ending) (left : Array) → s.translation.disk.flights die ≡ Some flight
-    → die_of_flight flight ≡ die → Allowed s (Finish die ending left) (Finishes true)
-    → (observe s (Finish die ending left) (Finishes true)).translation.disk.flights die ≡ None
+    → die_of_flight flight ≡ die → Allowed s (Done die ending left) (OfDone true)
+    → (observe s (Done die ending left) (OfDone true)).translation.disk.flights die ≡ None
 ended_flight s die flight ending left e here right =
     no_job _
     (settled_jobs (ends_with s die (s.translation.disk.flights die) ending left) die
@@ -134,8 +134,8 @@ ended_flight s die flight ending left e here right =
     no_job (Some f) h = absurd (none-some _ (sym h))
 
 pub ended_others : (s : State) (die : ℕ) (flight : Flight) (ending : Ending) (left : Array) → s.translation.disk.flights die ≡ Some flight
-    → die_of_flight flight ≡ die → Allowed s (Finish die ending left) (Finishes true) → (other : ℕ) → other ≢ die
-    → option_map job_of ((observe s (Finish die ending left) (Finishes true)).translation.disk.flights other) ≡ option_map job_of (s.translation.disk.flights other)
+    → die_of_flight flight ≡ die → Allowed s (Done die ending left) (OfDone true) → (other : ℕ) → other ≢ die
+    → option_map job_of ((observe s (Done die ending left) (OfDone true)).translation.disk.flights other) ≡ option_map job_of (s.translation.disk.flights other)
 ended_others s die flight ending left e here right other differ =
     settled_jobs (ends_with s die (s.translation.disk.flights die) ending left) other
     ∙ ap (λ (f : ℕ → Option Flight). option_map job_of (f other)) (jobs_left s die flight ending left e here right)
@@ -150,11 +150,11 @@ read_requests tag index read (t ∷ ts) h = (by (is_task_of tag t) h.0, read_req
     by true none = none
     by false none = none
 
-reader_requests : (s : State) (reader : Reader) (read : ReadState) → HaveNoRequest s.tasks → HaveNoRequest (reader_told s reader read).tasks
+reader_requests : (s : State) (reader : Reader) (read : ReadState) → HaveNoRequest s.tasks → HaveNoRequest (read_noted s reader read).tasks
 reader_requests s (ForTask tag index) read none = read_requests tag index read s.tasks none
 reader_requests s reader read none = none
 
-told_behind_requests : (s : State) (flight : Flight) (ending : Ending) → HaveNoRequest s.tasks → HaveNoRequest (told_behind s flight ending).tasks
+told_behind_requests : (s : State) (flight : Flight) (ending : Ending) → HaveNoRequest s.tasks → HaveNoRequest (read_noted_behind s flight ending).tasks
 told_behind_requests s (Reading reader place) ReadRight none = reader_requests s reader WasRead none
 told_behind_requests s (Reading reader place) ReadWrong none = reader_requests s reader NotRead none
 told_behind_requests s flight ending none = none
@@ -164,8 +164,8 @@ ends_requests s die None ending left none = none
 ends_requests s die (Some flight) ending left none = told_behind_requests s flight ending none
 
 pub jobs_behind : (s : State) (die : ℕ) (flight : Flight) (ending : Ending) (left : Array) → HaveNoRequest s.tasks → s.translation.disk.flights die ≡ Some flight
-    → die_of_flight flight ≡ die → Allowed s (Finish die ending left) (Finishes true)
-    → (observe s (Finish die ending left) (Finishes true)).translation.disk.flights ≡ at_die s.translation.disk.flights die None
+    → die_of_flight flight ≡ die → Allowed s (Done die ending left) (OfDone true)
+    → (observe s (Done die ending left) (OfDone true)).translation.disk.flights ≡ at_die s.translation.disk.flights die None
 jobs_behind s die flight ending left none e here right =
     settled_flights (ends_with s die (s.translation.disk.flights die) ending left) (ends_requests s die (s.translation.disk.flights die) ending left none)
     ∙ jobs_left s die flight ending left e here right

@@ -4,7 +4,7 @@ use Rattle.ufs_spec.specs.Commands as command
 use Rattle.ufs_spec.specs.Exchanges.{Awaiting, Deed, Task}
 use Rattle.ufs_spec.specs.Lives.{held}
 use Rattle.ufs_spec.specs.Machine.{accepts, blocks_in, deed_behind, moves_behind, set_deed, task_behind, task_replied, with_moves, write_complete}
-use Rattle.ufs_spec.specs.Steps.{State, locked}
+use Rattle.ufs_spec.specs.Refusals.{State, locked}
 
 -- the first of two branches is not taken
 second : {A : Type 0} (b : Bool) (x y : A) → b ≡ false → (if b then x else y) ≡ y

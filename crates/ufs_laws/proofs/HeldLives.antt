@@ -6,8 +6,8 @@ use Rattle.std.proofs.lemmas.List.{append-nil, append_assoc}
 use Rattle.ufs_spec.specs.Commands.{Command}
 use Rattle.ufs_spec.specs.Exchanges.{Awaiting, Short, Task, is_short_of, task_of, without_short}
 use Rattle.ufs_spec.specs.Lives.{Life, held}
-use Rattle.ufs_spec.specs.Machine.{Ask, Replies, fills, lock_told, observe, replied_by, short_replied, tag_in, task_replied, tells, with_moves}
-use Rattle.ufs_spec.specs.Steps.{State}
+use Rattle.ufs_spec.specs.Machine.{Reply, OfReply, fills, lock_applied, observe, replied_by, short_replied, tag_in, task_replied, acknowledges, with_moves}
+use Rattle.ufs_spec.specs.Refusals.{State}
 use Rattle.ufs_spec.specs.declared.events.Event.{Event}
 use Rattle.ufs_spec.specs.declared.events.Output.{Output}
 use Rattle.ufs_spec.specs.declared.messages.Message.{Message}
@@ -45,13 +45,13 @@ life_grows s t (e ∷ es) [] life = absurd life
 at_least : (n a : ℕ) → n ≤ max a n
 at_least n a = grind (arith)
 
-settled_held : (s : State) → held s ≤ held (lock_told (fills s))
+settled_held : (s : State) → held s ≤ held (lock_applied (fills s))
 settled_held s = small_held (settled_small s)
 
 pub task_held : (s : State) (m : Message) (task : Task) (n : ℕ) → task_of (tag_in m) s.tasks ≡ Some task → task.deed ≡ Awaiting n →
-    n ≤ held (observe s Ask (Replies (Some m)))
+    n ≤ held (observe s Reply (OfReply (Some m)))
 task_held s m task n there waits =
-    let e = ap (λ (x : Option Task). held (lock_told (fills (replied_by s (tag_in m) x)))) there in
+    let e = ap (λ (x : Option Task). held (lock_applied (fills (replied_by s (tag_in m) x)))) there in
     let l = settled_held (task_replied s task) in
     let k = handed s task n waits in
     let g = at_least n (held s) in
@@ -59,13 +59,13 @@ task_held s m task n there waits =
 
 told : (s : State) (short : Short) (n : ℕ) → short.awaits ≡ Some n → held (short_replied s (Some short)) ≡ max (held s) n
 told s short n waits =
-    ap (λ (x : Option ℕ). held (with_moves (record s { shorts = without_short short.tag s.shorts }) (tells x))) waits
+    ap (λ (x : Option ℕ). held (with_moves (record s { shorts = without_short short.tag s.shorts }) (acknowledges x))) waits
 
 pub short_held : (s : State) (m : Message) (short : Short) (n : ℕ) → task_of (tag_in m) s.tasks ≡ None →
-    find (is_short_of (tag_in m)) s.shorts ≡ Some short → short.awaits ≡ Some n → n ≤ held (observe s Ask (Replies (Some m)))
+    find (is_short_of (tag_in m)) s.shorts ≡ Some short → short.awaits ≡ Some n → n ≤ held (observe s Reply (OfReply (Some m)))
 short_held s m short n none there waits =
-    let e = ap (λ (x : Option Task). held (lock_told (fills (replied_by s (tag_in m) x)))) none in
-    let d = ap (λ (x : Option Short). held (lock_told (fills (short_replied s x)))) there in
+    let e = ap (λ (x : Option Task). held (lock_applied (fills (replied_by s (tag_in m) x)))) none in
+    let d = ap (λ (x : Option Short). held (lock_applied (fills (short_replied s x)))) there in
     let l = settled_held (short_replied s (Some short)) in
     let k = told s short n waits in
     let g = at_least n (held s) in

@@ -1,7 +1,7 @@
 -- A life begins with its beginning: it is cut at any of its events, and two lives joined are one.
 use Rattle.std.proofs.Common.{◌≡◌, suc, List, [], ◌∷◌, ◌++◌, length, refl, ap, subst}
 use Rattle.ufs_spec.specs.Lives.{Leads, Life}
-use Rattle.ufs_spec.specs.Steps.{State}
+use Rattle.ufs_spec.specs.Refusals.{State}
 use Rattle.ufs_spec.specs.declared.events.Event.{Event}
 use Rattle.ufs_spec.specs.declared.events.Output.{Output}
 

@@ -9,10 +9,10 @@ use Rattle.ufs_spec.specs.Disk.{Spot}
 use Rattle.ufs_spec.specs.Lives.{IsOpened}
 use Rattle.ufs_spec.specs.declared.configs.Numbers.{Numbers}
 use Rattle.ufs_spec.specs.Cdbs.{cdb_bytes, operation_of, taken_operations}
-use Rattle.ufs_spec.specs.Exchanges.{Answering, Awaiting, CheckCondition, Deed, ForFrames, ForUnmap, ForWrite, Gathering, Good, NotRead, Purpose, ReadBlock, ReadState, Sending, Status, Task, Telling, Unread, WasRead, invalid_field, invalid_operation, is_task_of, no_unit, with_deed, write_error, filled}
+use Rattle.ufs_spec.specs.Exchanges.{Answering, Awaiting, CheckCondition, Deed, ForFrames, ForUnmap, ForWrite, Gathering, Good, NotRead, Purpose, ReadBlock, ReadState, Sending, Status, Task, SendingBytes, Unread, WasRead, invalid_field, invalid_operation, is_task_of, no_unit, with_deed, write_error, filled}
 use Rattle.ufs_spec.specs.Machine.{Answer, Call, IsCdbIn, begun, blocks_expected, deed_behind, deed_behind_block, deed_behind_state, deed_locked, deed_read, durable, is_to_fill, observe, read_begun, read_blocks, sending, task_filled, task_read, unit_or_first, write_begun, write_deed, Allowed}
 use Rattle.ufs_spec.specs.Messages.{IsAmong}
-use Rattle.ufs_spec.specs.Steps.{Lun, Request, State, first_line, lacks_unit, lines_behind, lun_of, not_taken, numbers_of, operation_in, refusal, unit_of_request}
+use Rattle.ufs_spec.specs.Refusals.{Lun, Request, State, first_line, lacks_unit, lines_behind, lun_of, not_taken, numbers_of, operation_in, refusal, unit_of_request}
 use Rattle.ufs_spec.specs.declared.scsi.Cdb.{Cdb}
 use Rattle.ufs_spec.specs.declared.scsi.Cdb.TheVariants as cdb
 
@@ -144,7 +144,7 @@ begins_known s r unit c is = let b = begins s r unit c is in (b.0, b.1, b.2, ans
 known_in : (c : Option Cdb) (deed : Deed) → IsKnownDeed deed → IsKnownTask c deed
 known_in None (Gathering purpose gathered asked) h = h
 known_in None (Sending blocks sent) h = h
-known_in None (Telling bytes) h = h
+known_in None (SendingBytes bytes) h = h
 known_in None (Awaiting commands) h = h
 known_in None (Answering status carried) h = tt
 known_in (Some command) deed h = h
@@ -188,7 +188,7 @@ behind_known : (task : Task) (before deed : Deed) → deed_behind task before �
 behind_known task (Gathering purpose gathered asked) deed e h =
     subst IsKnownDeed (same_Some _ deed e) (gathering_known purpose gathered gathered asked true (gathers_known (record task { deed = Gathering purpose gathered asked }) purpose gathered asked refl h))
 behind_known task (Sending blocks sent) deed e h = block_known task blocks sent (slice_get blocks sent) deed e
-behind_known task (Telling bytes) deed e h = subst IsKnownDeed (same_Some _ deed e) good_known
+behind_known task (SendingBytes bytes) deed e h = subst IsKnownDeed (same_Some _ deed e) good_known
 behind_known task (Awaiting commands) deed e h = let none : None ≡ Some deed = e in cc
 behind_known task (Answering status carried) deed e h = let none : None ≡ Some deed = e in cc
 
@@ -202,7 +202,7 @@ filled_known u task h = by (is_to_fill u task)
 locked_known : (u : State) (task : Task) (c : Option Cdb) (deed : Deed) → IsKnownTask c deed → IsKnownTask c (deed_locked u task deed)
 locked_known u task c (Gathering purpose gathered asked) h = h
 locked_known u task c (Sending blocks sent) h = h
-locked_known u task c (Telling bytes) h = h
+locked_known u task c (SendingBytes bytes) h = h
 locked_known u task c (Awaiting commands) h = by (nat_le commands (durable u))
   where
     by : (b : Bool) → IsKnownTask c (if b then Awaiting commands else Answering write_error task.length)
@@ -213,7 +213,7 @@ locked_known u task c (Answering status carried) h = h
 read_deed_known : (index : ℕ) (state : ReadState) (c : Option Cdb) (deed : Deed) → IsKnownTask c deed → IsKnownTask c (deed_read index state deed)
 read_deed_known index state c (Gathering purpose gathered asked) h = h
 read_deed_known index state c (Sending blocks sent) h = known_in c (deed_read index state (Sending blocks sent)) tt
-read_deed_known index state c (Telling bytes) h = h
+read_deed_known index state c (SendingBytes bytes) h = h
 read_deed_known index state c (Awaiting commands) h = h
 read_deed_known index state c (Answering status carried) h = h
 

@@ -5,10 +5,10 @@ use Rattle.std.specs.List.{list_all, list_any}
 use Rattle.std.proofs.lemmas.Bool.{and_parts, eqb-true, false≢true, not-false, or_cases}
 use Rattle.std.proofs.lemmas.Option.{none-some}
 use Rattle.ufs_spec.specs.Exchanges.{Task, short_reply}
-use Rattle.ufs_spec.specs.Machine.{IsHeard, Spelled, aborts, carried_out, found, heard, is_aborted, is_named, service, service_of, with_short, without_tasks}
+use Rattle.ufs_spec.specs.Machine.{IsHeard, Spelled, aborts, carried_out, service_found, heard, is_aborted, is_named, service, service_of, with_short, without_tasks}
 use Rattle.ufs_spec.specs.Messages.{IsAmong, code_of, fault_among, has_digest, has_extra_header, has_other_code, has_wrong_length, host_codes, is_among, is_short, known_codes, read_fault_of}
 use Rattle.ufs_spec.specs.Stages.{heard_codes, read_codes}
-use Rattle.ufs_spec.specs.Steps.{Lun, State, lun_of, numbers_of}
+use Rattle.ufs_spec.specs.Refusals.{Lun, State, lun_of, numbers_of}
 use Rattle.ufs_spec.specs.declared.faults.HostFault.{HostFault}
 use Rattle.ufs_spec.specs.declared.faults.HostFault.TheVariants as fault
 use Rattle.ufs_spec.specs.declared.messages.Message.{Message}
@@ -32,8 +32,8 @@ abbrev answer_of : State → ℕ → ℕ → ℕ → Option Lun → Bool → ℕ
 answer_of s lun function meant unit ends =
     if is_none unit then 0x09
     else if ends then 0x00
-    else if function == 0x80 then found (list_any (is_named lun meant) s.tasks)
-    else if function == 0x81 then found (list_any (λ (task : Task). task.lun == lun) s.tasks)
+    else if function == 0x80 then service_found (list_any (is_named lun meant) s.tasks)
+    else if function == 0x81 then service_found (list_any (λ (task : Task). task.lun == lun) s.tasks)
     else 0x04
 
 pub no_unit_answered : (s : State) (lun function meant : ℕ) → lun_of (numbers_of s) lun ≡ None → service_of s lun function meant ≡ 0x09

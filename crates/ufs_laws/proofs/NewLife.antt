@@ -10,9 +10,9 @@ use Rattle.ufs_spec.specs.Exchanges.{empty_registers}
 use Rattle.ufs_spec.specs.Keys.{Contents}
 use Rattle.ufs_spec.specs.Kept.{Counts, fence_in, IsKept, IsNewestMark, IsRecorded, IsWhole}
 use Rattle.ufs_spec.specs.Ledger.{Entry, Ledger, Name}
-use Rattle.ufs_spec.specs.Openings.{AreLost, number_of, IsAtMost, IsBlockState, IsEntry, IsFirstFence, IsMendingAt, IsTop, StandsAt, first_lost}
+use Rattle.ufs_spec.specs.Openings.{AreLost, number_of, IsAtMost, IsBlockState, IsEntry, IsFirstFence, IsMendingAt, IsTop, StandsAt, lost_from}
 use Rattle.ufs_spec.specs.Plain.{Plain}
-use Rattle.ufs_spec.specs.Steps.{State}
+use Rattle.ufs_spec.specs.Refusals.{State}
 use Rattle.ufs_spec.specs.Translation.{Mended, Mending, Repairing, Translation, Unmarked, Work}
 use Rattle.ufs_spec.specs.declared.flash.Fence.{Fence}
 use Rattle.ufs_spec.specs.declared.flash.Key.{Key}
@@ -31,7 +31,7 @@ open_in s = record {
   array = s.array;
   base = s.base;
   contents = s.translation.ledger.base;
-  first = s.translation.ledger.first;
+  first = s.translation.ledger.first_page;
 }
 
 abbrev pub new_disk : Disk
@@ -46,10 +46,10 @@ new_disk = record {
 abbrev pub new_ledger : Open → Ledger
 new_ledger o = record {
   base = o.contents;
-  old = λ number index. None;
-  first = o.first;
-  top = 0;
-  low = 1;
+  entries_before = λ number index. None;
+  first_page = o.first;
+  greatest_seen = 0;
+  first_lost = 1;
   groups = [];
   repairs = 0;
   standing = λ number index. None;
@@ -163,20 +163,20 @@ module _ (s : State) (n : IsNew s) where
   kept : n.opened.translation.ledger.kept ≡ 0
   kept = none_kept n.opened.cells empty s.translation.ledger.newest n.opened.translation.ledger.kept n.opened.translation.ledger.is_kept
 
-  top : s.translation.ledger.top ≡ 0
+  top : s.translation.ledger.greatest_seen ≡ 0
   top =
-      none_above n.opened.cells empty s.translation.ledger.top
-      (subst (λ m. IsTop n.opened.cells m s.translation.ledger.top) newest n.opened.translation.ledger.top)
+      none_above n.opened.cells empty s.translation.ledger.greatest_seen
+      (subst (λ m. IsTop n.opened.cells m s.translation.ledger.greatest_seen) newest n.opened.translation.ledger.greatest_seen)
 
-  low : s.translation.ledger.low ≡ 1
-  low = n.opened.translation.ledger.low ∙ (ap (λ m. first_lost (fence_in m) n.opened.translation.ledger.kept) newest ∙ ap suc kept)
+  low : s.translation.ledger.first_lost ≡ 1
+  low = n.opened.translation.ledger.first_lost ∙ (ap (λ m. lost_from (fence_in m) n.opened.translation.ledger.kept) newest ∙ ap suc kept)
 
   mending : s.translation.work.mending ≡ Unmarked None []
   mending =
       unmarked n.opened.cells empty s.translation.work.mending
       (subst (λ top. IsMendingAt n.opened.cells None 1 top s.translation.work.mending) top
-      (subst (λ low. IsMendingAt n.opened.cells None low s.translation.ledger.top s.translation.work.mending) low
-      (subst (λ m. IsMendingAt n.opened.cells m s.translation.ledger.low s.translation.ledger.top s.translation.work.mending) newest
+      (subst (λ low. IsMendingAt n.opened.cells None low s.translation.ledger.greatest_seen s.translation.work.mending) low
+      (subst (λ m. IsMendingAt n.opened.cells m s.translation.ledger.first_lost s.translation.ledger.greatest_seen s.translation.work.mending) newest
       n.opened.translation.mending)))
 
   disk_is : s.translation.disk ≡ new_disk
@@ -196,10 +196,10 @@ module _ (s : State) (n : IsNew s) where
       let c = n.opened.cells in
       record {
         base = s.translation.ledger.base;
-        old = λ number index. no_entry c empty (record { number = number; index = index }) (s.translation.ledger.old number index) (l.old number index) i;
-        first = s.translation.ledger.first;
-        top = top i;
-        low = low i;
+        entries_before = λ number index. no_entry c empty (record { number = number; index = index }) (s.translation.ledger.entries_before number index) (l.entries_before number index) i;
+        first_page = s.translation.ledger.first_page;
+        greatest_seen = top i;
+        first_lost = low i;
         groups = l.none_new i;
         repairs = l.none_repaired i;
         standing = λ number index. none_stands c empty (record { number = number; index = index }) (s.translation.ledger.standing number index) (l.standing number index) i;

@@ -14,7 +14,7 @@ use Rattle.ufs_spec.specs.Keys.{content}
 use Rattle.ufs_spec.specs.Kept.{IsKept, IsRecorded, IsWhole}
 use Rattle.ufs_spec.specs.Openings.{AreLost, IsAtMost, IsOpenedDisk, IsOpenedLedger, IsOpenedTranslation}
 use Rattle.ufs_spec.specs.Plain.{zero}
-use Rattle.ufs_spec.specs.Steps.{State, mended}
+use Rattle.ufs_spec.specs.Refusals.{State, mended}
 use Rattle.ufs_spec.specs.declared.flash.Tag.{Tag}
 
 -- the cells of new dies, and that none of their blocks is bad
@@ -89,11 +89,11 @@ ledger_opens = record {
   kept = 0;
   is_kept = none_kept;
   holds = λ k key. inr ((λ p t body h e. absurd (no_page t body h.there)), new_zeros row k key);
-  top = (none_at_most, λ other h. omega arith);
-  low = refl;
-  old = λ number index p h. no_page h.0 h.1 h.2;
+  greatest_seen = (none_at_most, λ other h. omega arith);
+  first_lost = refl;
+  entries_before = λ number index p h. no_page h.0 h.1 h.2;
   standing = λ number index p h. no_page h.0 h.1 h.2;
-  first = λ k key p t body h e. absurd (no_page t body h.there);
+  first_page = λ k key p t body h e. absurd (no_page t body h.there);
   none_new = refl;
   none_repaired = refl;
   frontier = refl;

@@ -4,10 +4,10 @@ use Rattle.ufs_laws.proofs.Jobs.{nothing_inside}
 use Rattle.ufs_laws.specs.Runs.{Gets}
 use Rattle.ufs_spec.specs.Disk.{Erasing, Flight, Programming, Reading}
 use Rattle.ufs_spec.specs.Exchanges.{Task}
-use Rattle.ufs_spec.specs.Machine.{Allowed, Answer, Ask, Due, Finish, Finishes, Give, Gives, Hears, Host, Replies, Spelled, Step, Steps, deed_reply, fits, message_fault, result_of}
+use Rattle.ufs_spec.specs.Machine.{Allowed, Answer, Reply, Due, Done, OfDone, Take, OfTake, OfHost, Host, OfReply, Spelled, Turn, OfTurn, deed_reply, fits, message_fault, result_of}
 use Rattle.ufs_spec.specs.Cells.{Array}
 use Rattle.ufs_spec.specs.Moves.{Ending}
-use Rattle.ufs_spec.specs.Steps.{State}
+use Rattle.ufs_spec.specs.Refusals.{State}
 use Rattle.ufs_spec.specs.Translation.{IsOwed, MayTake, Want, is_idle, is_step_due, next_flight, want_at, wants_on}
 use Rattle.ufs_spec.specs.declared.faults.HostFault.{HostFault}
 use Rattle.ufs_spec.specs.declared.flash.Place.{Place}
@@ -16,48 +16,48 @@ use Rattle.ufs_spec.specs.declared.scsi.Cdb.{Cdb}
 
 -- Steps, messages and ends of jobs
 
-only_step : (s : State) (due : Bool) → due ≡ is_step_due s.translation → (other : Answer) → Allowed s Step other → other ≡ Steps due
-only_step s due e (Steps d) h = ap Steps (h ∙ sym e)
-only_step s due e (Hears r) h = absurd h
-only_step s due e (Gives f) h = absurd h
-only_step s due e (Finishes k) h = absurd h
-only_step s due e (Replies r) h = absurd h
+only_step : (s : State) (due : Bool) → due ≡ is_step_due s.translation → (other : Answer) → Allowed s Turn other → other ≡ OfTurn due
+only_step s due e (OfTurn d) h = ap OfTurn (h ∙ sym e)
+only_step s due e (OfHost r) h = absurd h
+only_step s due e (OfTake f) h = absurd h
+only_step s due e (OfDone k) h = absurd h
+only_step s due e (OfReply r) h = absurd h
 
-pub step_gets : (s : State) (due : Bool) → due ≡ is_step_due s.translation → Gets s Step (Steps due)
+pub step_gets : (s : State) (due : Bool) → due ≡ is_step_due s.translation → Gets s Turn (OfTurn due)
 step_gets s due e = record { right = e; only = only_step s due e }
 
-only_heard : (s : State) (m : Message) (c : Option Cdb) (result : Result Unit HostFault) → result ≡ result_of (message_fault s m) → (other : Answer) → Allowed s (Host (Spelled m c)) other → other ≡ Hears result
-only_heard s m c result e (Hears r) h = ap Hears (h ∙ sym e)
-only_heard s m c result e (Steps d) h = absurd h
-only_heard s m c result e (Gives f) h = absurd h
-only_heard s m c result e (Finishes k) h = absurd h
-only_heard s m c result e (Replies r) h = absurd h
+only_heard : (s : State) (m : Message) (c : Option Cdb) (result : Result Unit HostFault) → result ≡ result_of (message_fault s m) → (other : Answer) → Allowed s (Host (Spelled m c)) other → other ≡ OfHost result
+only_heard s m c result e (OfHost r) h = ap OfHost (h ∙ sym e)
+only_heard s m c result e (OfTurn d) h = absurd h
+only_heard s m c result e (OfTake f) h = absurd h
+only_heard s m c result e (OfDone k) h = absurd h
+only_heard s m c result e (OfReply r) h = absurd h
 
-pub host_gets : (s : State) (m : Message) (c : Option Cdb) (result : Result Unit HostFault) → result ≡ result_of (message_fault s m) → Gets s (Host (Spelled m c)) (Hears result)
+pub host_gets : (s : State) (m : Message) (c : Option Cdb) (result : Result Unit HostFault) → result ≡ result_of (message_fault s m) → Gets s (Host (Spelled m c)) (OfHost result)
 host_gets s m c result e = record { right = e; only = only_heard s m c result e }
 
-only_finish : (s : State) (die : ℕ) (ending : Ending) (left : Array) (known : Bool) → known ≡ fits (s.translation.disk.flights die) ending → (other : Answer) → Allowed s (Finish die ending left) other → other ≡ Finishes known
-only_finish s die ending left known e (Finishes k) h = ap Finishes (h ∙ sym e)
-only_finish s die ending left known e (Hears r) h = absurd h
-only_finish s die ending left known e (Steps d) h = absurd h
-only_finish s die ending left known e (Gives f) h = absurd h
-only_finish s die ending left known e (Replies r) h = absurd h
+only_finish : (s : State) (die : ℕ) (ending : Ending) (left : Array) (known : Bool) → known ≡ fits (s.translation.disk.flights die) ending → (other : Answer) → Allowed s (Done die ending left) other → other ≡ OfDone known
+only_finish s die ending left known e (OfDone k) h = ap OfDone (h ∙ sym e)
+only_finish s die ending left known e (OfHost r) h = absurd h
+only_finish s die ending left known e (OfTurn d) h = absurd h
+only_finish s die ending left known e (OfTake f) h = absurd h
+only_finish s die ending left known e (OfReply r) h = absurd h
 
-pub finish_gets : (s : State) (die : ℕ) (ending : Ending) (left : Array) (known : Bool) → known ≡ fits (s.translation.disk.flights die) ending → Gets s (Finish die ending left) (Finishes known)
+pub finish_gets : (s : State) (die : ℕ) (ending : Ending) (left : Array) (known : Bool) → known ≡ fits (s.translation.disk.flights die) ending → Gets s (Done die ending left) (OfDone known)
 finish_gets s die ending left known e = record { right = e; only = only_finish s die ending left known e }
 
 -- Jobs
 
 -- a die that is not idle gets none
-only_busy : (s : State) (die : ℕ) → is_idle s.translation die ≡ false → (other : Answer) → Allowed s (Give die) other → other ≡ Gives None
-only_busy s die e (Gives None) h = refl
-only_busy s die e (Gives (Some flight)) h = absurd (let g : false ≡ true = sym e ∙ h.0 in cc)
-only_busy s die e (Hears r) h = absurd h
-only_busy s die e (Steps d) h = absurd h
-only_busy s die e (Finishes k) h = absurd h
-only_busy s die e (Replies r) h = absurd h
+only_busy : (s : State) (die : ℕ) → is_idle s.translation die ≡ false → (other : Answer) → Allowed s (Take die) other → other ≡ OfTake None
+only_busy s die e (OfTake None) h = refl
+only_busy s die e (OfTake (Some flight)) h = absurd (let g : false ≡ true = sym e ∙ h.0 in cc)
+only_busy s die e (OfHost r) h = absurd h
+only_busy s die e (OfTurn d) h = absurd h
+only_busy s die e (OfDone k) h = absurd h
+only_busy s die e (OfReply r) h = absurd h
 
-pub busy_gets : (s : State) (die : ℕ) → is_idle s.translation die ≡ false → Gets s (Give die) (Gives None)
+pub busy_gets : (s : State) (die : ℕ) → is_idle s.translation die ≡ false → Gets s (Take die) (OfTake None)
 busy_gets s die e = record { right = inl e; only = only_busy s die e }
 
 -- where no read is owed, the next program or erase
@@ -69,19 +69,19 @@ one_flight s die flight (Reading reader place) none e h = absurd (none_found s d
 one_flight s die flight (Programming place cell) none e h = sym h.1 ∙ e
 one_flight s die flight (Erasing spot) none e h = sym h.1 ∙ e
 
-only_flight : (s : State) (die : ℕ) (flight : Flight) → MayTake s.translation die (Some flight) → wants_on s.translation die ≡ [] → next_flight s.translation die ≡ Some flight → (other : Answer) → Allowed s (Give die) other → other ≡ Gives (Some flight)
-only_flight s die flight right none e (Gives None) h =
+only_flight : (s : State) (die : ℕ) (flight : Flight) → MayTake s.translation die (Some flight) → wants_on s.translation die ≡ [] → next_flight s.translation die ≡ Some flight → (other : Answer) → Allowed s (Take die) other → other ≡ OfTake (Some flight)
+only_flight s die flight right none e (OfTake None) h =
     absurd (⊎_elim
     (λ idle. (let g : true ≡ false = sym right.0 ∙ idle in cc))
     (λ (l : (wants_on s.translation die ≡ []) × (next_flight s.translation die ≡ None)). (let g : Some flight ≡ None = sym e ∙ l.1 in cc))
     h)
-only_flight s die flight right none e (Gives (Some other)) h = ap Gives (one_flight s die flight other none e h.1)
-only_flight s die flight right none e (Hears r) h = absurd h
-only_flight s die flight right none e (Steps d) h = absurd h
-only_flight s die flight right none e (Finishes k) h = absurd h
-only_flight s die flight right none e (Replies r) h = absurd h
+only_flight s die flight right none e (OfTake (Some other)) h = ap OfTake (one_flight s die flight other none e h.1)
+only_flight s die flight right none e (OfHost r) h = absurd h
+only_flight s die flight right none e (OfTurn d) h = absurd h
+only_flight s die flight right none e (OfDone k) h = absurd h
+only_flight s die flight right none e (OfReply r) h = absurd h
 
-pub flight_gets : (s : State) (die : ℕ) (flight : Flight) → MayTake s.translation die (Some flight) → wants_on s.translation die ≡ [] → next_flight s.translation die ≡ Some flight → Gets s (Give die) (Gives (Some flight))
+pub flight_gets : (s : State) (die : ℕ) (flight : Flight) → MayTake s.translation die (Some flight) → wants_on s.translation die ≡ [] → next_flight s.translation die ≡ Some flight → Gets s (Take die) (OfTake (Some flight))
 flight_gets s die flight right none e = record { right = right; only = only_flight s die flight right none e }
 
 -- where nothing is owed, none
@@ -90,15 +90,15 @@ not_owed s die (Reading reader place) none e h = none_found s die (want_at reade
 not_owed s die (Programming place cell) none e h = (let g : None ≡ Some (Programming place cell) = sym e ∙ h.1 in cc)
 not_owed s die (Erasing spot) none e h = (let g : None ≡ Some (Erasing spot) = sym e ∙ h.1 in cc)
 
-only_no_flight : (s : State) (die : ℕ) → wants_on s.translation die ≡ [] → next_flight s.translation die ≡ None → (other : Answer) → Allowed s (Give die) other → other ≡ Gives None
-only_no_flight s die none e (Gives None) h = refl
-only_no_flight s die none e (Gives (Some flight)) h = absurd (not_owed s die flight none e h.1)
-only_no_flight s die none e (Hears r) h = absurd h
-only_no_flight s die none e (Steps d) h = absurd h
-only_no_flight s die none e (Finishes k) h = absurd h
-only_no_flight s die none e (Replies r) h = absurd h
+only_no_flight : (s : State) (die : ℕ) → wants_on s.translation die ≡ [] → next_flight s.translation die ≡ None → (other : Answer) → Allowed s (Take die) other → other ≡ OfTake None
+only_no_flight s die none e (OfTake None) h = refl
+only_no_flight s die none e (OfTake (Some flight)) h = absurd (not_owed s die flight none e h.1)
+only_no_flight s die none e (OfHost r) h = absurd h
+only_no_flight s die none e (OfTurn d) h = absurd h
+only_no_flight s die none e (OfDone k) h = absurd h
+only_no_flight s die none e (OfReply r) h = absurd h
 
-pub no_flight_gets : (s : State) (die : ℕ) → wants_on s.translation die ≡ [] → next_flight s.translation die ≡ None → Gets s (Give die) (Gives None)
+pub no_flight_gets : (s : State) (die : ℕ) → wants_on s.translation die ≡ [] → next_flight s.translation die ≡ None → Gets s (Take die) (OfTake None)
 no_flight_gets s die none e = record { right = inr (none, e); only = only_no_flight s die none e }
 
 -- where one read is owed, that read
@@ -113,19 +113,19 @@ one_read s die want (Reading reader place) one h =
 one_read s die want (Programming place cell) one h = absurd (let g : want ∷ [] ≡ [] = sym one ∙ h.0 in cc)
 one_read s die want (Erasing spot) one h = absurd (let g : want ∷ [] ≡ [] = sym one ∙ h.0 in cc)
 
-only_read : (s : State) (die : ℕ) (want : Want) → is_idle s.translation die ≡ true → wants_on s.translation die ≡ want ∷ [] → (other : Answer) → Allowed s (Give die) other → other ≡ Gives (Some (Reading want.reader want.place))
-only_read s die want idle one (Gives None) h =
+only_read : (s : State) (die : ℕ) (want : Want) → is_idle s.translation die ≡ true → wants_on s.translation die ≡ want ∷ [] → (other : Answer) → Allowed s (Take die) other → other ≡ OfTake (Some (Reading want.reader want.place))
+only_read s die want idle one (OfTake None) h =
     absurd (⊎_elim
     (λ e. (let g : true ≡ false = sym idle ∙ e in cc))
     (λ (l : (wants_on s.translation die ≡ []) × (next_flight s.translation die ≡ None)). (let g : want ∷ [] ≡ [] = sym one ∙ l.0 in cc))
     h)
-only_read s die want idle one (Gives (Some other)) h = ap (λ f. Gives (Some f)) (one_read s die want other one h.1)
-only_read s die want idle one (Hears r) h = absurd h
-only_read s die want idle one (Steps d) h = absurd h
-only_read s die want idle one (Finishes k) h = absurd h
-only_read s die want idle one (Replies r) h = absurd h
+only_read s die want idle one (OfTake (Some other)) h = ap (λ f. OfTake (Some f)) (one_read s die want other one h.1)
+only_read s die want idle one (OfHost r) h = absurd h
+only_read s die want idle one (OfTurn d) h = absurd h
+only_read s die want idle one (OfDone k) h = absurd h
+only_read s die want idle one (OfReply r) h = absurd h
 
-pub read_gets : (s : State) (die : ℕ) (want : Want) → is_idle s.translation die ≡ true → wants_on s.translation die ≡ want ∷ [] → Gets s (Give die) (Gives (Some (Reading want.reader want.place)))
+pub read_gets : (s : State) (die : ℕ) (want : Want) → is_idle s.translation die ≡ true → wants_on s.translation die ≡ want ∷ [] → Gets s (Take die) (OfTake (Some (Reading want.reader want.place)))
 read_gets s die want idle one = record {
   right = (idle, subst (λ ws. Contains ws want) (sym one) (0, omega arith, refl));
   only = only_read s die want idle one;
@@ -147,31 +147,31 @@ one_due s task tasks shorts m (inl (k, other, there, due)) = in_list k (subst (�
     in_list (suc k) e = cc
 one_due s task tasks shorts m (inr (k, short, there, durable, same)) = absurd (let e = subst (λ ts. slice_get ts k ≡ Some short) shorts there in cc)
 
-only_none : (s : State) → ((m : Message) → Due s m → ⊥) → (other : Answer) → Allowed s Ask other → other ≡ Replies None
-only_none s none (Replies None) h = refl
-only_none s none (Replies (Some m)) h = absurd (none m h)
-only_none s none (Hears r) h = absurd h
-only_none s none (Steps d) h = absurd h
-only_none s none (Gives f) h = absurd h
-only_none s none (Finishes k) h = absurd h
+only_none : (s : State) → ((m : Message) → Due s m → ⊥) → (other : Answer) → Allowed s Reply other → other ≡ OfReply None
+only_none s none (OfReply None) h = refl
+only_none s none (OfReply (Some m)) h = absurd (none m h)
+only_none s none (OfHost r) h = absurd h
+only_none s none (OfTurn d) h = absurd h
+only_none s none (OfTake f) h = absurd h
+only_none s none (OfDone k) h = absurd h
 
-only_reply : (s : State) (reply : Message) → Due s reply → ((m : Message) → Due s m → Some reply ≡ Some m) → (other : Answer) → Allowed s Ask other → other ≡ Replies (Some reply)
-only_reply s reply due one (Replies None) h = absurd (h reply due)
-only_reply s reply due one (Replies (Some m)) h = ap Replies (sym (one m h))
-only_reply s reply due one (Hears r) h = absurd h
-only_reply s reply due one (Steps d) h = absurd h
-only_reply s reply due one (Gives f) h = absurd h
-only_reply s reply due one (Finishes k) h = absurd h
+only_reply : (s : State) (reply : Message) → Due s reply → ((m : Message) → Due s m → Some reply ≡ Some m) → (other : Answer) → Allowed s Reply other → other ≡ OfReply (Some reply)
+only_reply s reply due one (OfReply None) h = absurd (h reply due)
+only_reply s reply due one (OfReply (Some m)) h = ap OfReply (sym (one m h))
+only_reply s reply due one (OfHost r) h = absurd h
+only_reply s reply due one (OfTurn d) h = absurd h
+only_reply s reply due one (OfTake f) h = absurd h
+only_reply s reply due one (OfDone k) h = absurd h
 
-pub nothing_gets : (s : State) → s.tasks ≡ [] → s.shorts ≡ [] → Gets s Ask (Replies None)
+pub nothing_gets : (s : State) → s.tasks ≡ [] → s.shorts ≡ [] → Gets s Reply (OfReply None)
 nothing_gets s tasks shorts = record { right = none_due s tasks shorts; only = only_none s (none_due s tasks shorts) }
 
-pub waiting_gets : (s : State) (task : Task) → s.tasks ≡ task ∷ [] → s.shorts ≡ [] → deed_reply s task task.deed ≡ None → Gets s Ask (Replies None)
+pub waiting_gets : (s : State) (task : Task) → s.tasks ≡ task ∷ [] → s.shorts ≡ [] → deed_reply s task task.deed ≡ None → Gets s Reply (OfReply None)
 waiting_gets s task tasks shorts none =
     let not_due : (m : Message) → Due s m → ⊥ = λ m due. (let e : None ≡ Some m = sym none ∙ one_due s task tasks shorts m due in cc) in
     record { right = not_due; only = only_none s not_due }
 
-pub reply_gets : (s : State) (task : Task) (reply : Message) → s.tasks ≡ task ∷ [] → s.shorts ≡ [] → deed_reply s task task.deed ≡ Some reply → Gets s Ask (Replies (Some reply))
+pub reply_gets : (s : State) (task : Task) (reply : Message) → s.tasks ≡ task ∷ [] → s.shorts ≡ [] → deed_reply s task task.deed ≡ Some reply → Gets s Reply (OfReply (Some reply))
 reply_gets s task reply tasks shorts e =
     let due : Due s reply = inl (0, task, ap (λ ts. slice_get ts 0) tasks, e) in
     record { right = due; only = only_reply s reply due (λ m h. sym e ∙ one_due s task tasks shorts m h) }

@@ -7,11 +7,11 @@ use Rattle.ufs_laws.proofs.Parts.{joined_next, length-joined, length-made}
 use Rattle.ufs_laws.proofs.TaskWalk.{Any, any_asks, IsTaskLaw, begun_task, every_mapped, task_for, tasks_kept}
 use Rattle.ufs_laws.specs.Exchange.{Every, IsSpoken, SendsThese, TagSends}
 use Rattle.ufs_spec.proofs.Facts.{at_most, eqb-true, same_Some, true≢false}
-use Rattle.ufs_spec.specs.Exchanges.{Answering, Awaiting, Deed, Gathering, Good, NotRead, Purpose, ReadBlock, ReadState, Sending, Task, Telling, Unread, WasRead, block_message, count_at, is_task_of, read_error, response, with_deed, filled}
+use Rattle.ufs_spec.specs.Exchanges.{Answering, Awaiting, Deed, Gathering, Good, NotRead, Purpose, ReadBlock, ReadState, Sending, Task, SendingBytes, Unread, WasRead, block_message, count_at, is_task_of, read_error, response, with_deed, filled}
 use Rattle.ufs_spec.specs.Keys.{below}
 use Rattle.ufs_spec.specs.Machine.{Allowed, Answer, Call, block_reply, blocks_expected, deed_behind, deed_behind_block, deed_behind_state, deed_locked, deed_read, deed_reply, in_use, is_at_hand, next_block_reply, observe, pin_of, read_begun, read_blocks, sending, set_state, task_read, unit_or_first, with_block, is_to_fill, task_filled}
 use Rattle.ufs_spec.specs.Plain.{block_at}
-use Rattle.ufs_spec.specs.Steps.{Request, State, plain_now, unit_of_request}
+use Rattle.ufs_spec.specs.Refusals.{Request, State, plain_now, unit_of_request}
 use Rattle.ufs_spec.specs.declared.messages.Message.{Message}
 use Rattle.ufs_spec.specs.declared.scsi.Cdb.{Cdb}
 
@@ -149,21 +149,21 @@ module _ (tag : ℕ) (bodies : List (List ℕ)) where
   goes_sending : (task : Task) (before deed : Deed) → deed_behind task before ≡ Some deed → SendsThese bodies before → SendsThese bodies deed
   goes_sending task (Gathering purpose gathered asked) deed e h = absurd h
   goes_sending task (Sending blocks sent) deed e h = block_goes task blocks sent (slice_get blocks sent) deed h e
-  goes_sending task (Telling bytes) deed e h = absurd h
+  goes_sending task (SendingBytes bytes) deed e h = absurd h
   goes_sending task (Awaiting commands) deed e h = absurd h
   goes_sending task (Answering status carried) deed e h = let none : None ≡ Some deed = e in cc
 
   locked_sends : (u : State) (task : Task) (deed : Deed) → SendsThese bodies deed → SendsThese bodies (deed_locked u task deed)
   locked_sends u task (Gathering purpose gathered asked) h = absurd h
   locked_sends u task (Sending blocks sent) h = h
-  locked_sends u task (Telling bytes) h = absurd h
+  locked_sends u task (SendingBytes bytes) h = absurd h
   locked_sends u task (Awaiting commands) h = absurd h
   locked_sends u task (Answering status carried) h = h
 
   read_sends : (index : ℕ) (state : ReadState) (deed : Deed) → SendsThese bodies deed → SendsThese bodies (deed_read index state deed)
   read_sends index state (Gathering purpose gathered asked) h = absurd h
   read_sends index state (Sending blocks sent) h = fixed blocks index state ∙ h
-  read_sends index state (Telling bytes) h = absurd h
+  read_sends index state (SendingBytes bytes) h = absurd h
   read_sends index state (Awaiting commands) h = absurd h
   read_sends index state (Answering status carried) h = h
 

@@ -5,10 +5,10 @@ use Rattle.ufs_laws.proofs.OnlyAnswers.{host_gets, reply_gets}
 use Rattle.ufs_laws.specs.Runs.{Gets, IsAnswered, IsIdle, heard, read_of, refused, row}
 use Rattle.ufs_spec.specs.Cdbs.{Residual, cdb_bytes, read_10, residual_of}
 use Rattle.ufs_spec.specs.Exchanges.{Answering, Status, Task, check, invalid_field, invalid_operation, no_unit, out_of_range, response, response_message}
-use Rattle.ufs_spec.specs.Machine.{Ask, Heard, Host, Replies, Spelled, fills, lock_told, observe, opened_with, short_locked, task_locked, with_task}
+use Rattle.ufs_spec.specs.Machine.{Reply, Heard, Host, OfReply, Spelled, fills, lock_applied, observe, opened_with, short_locked, task_locked, with_task}
 use Rattle.ufs_spec.specs.Messages.{is_among}
 use Rattle.ufs_spec.specs.Stages.{taken_luns}
-use Rattle.ufs_spec.specs.Steps.{Request, State, UnitOf, first_line, lacks_unit, line, lines_behind, locked, lun_of, not_taken, refusal, well_known}
+use Rattle.ufs_spec.specs.Refusals.{Request, State, UnitOf, first_line, lacks_unit, line, lines_behind, locked, lun_of, not_taken, refusal, well_known}
 use Rattle.ufs_spec.specs.declared.messages.Message.{Message}
 use Rattle.ufs_spec.specs.declared.messages.Message.TheVariants as message
 use Rattle.ufs_spec.specs.declared.scsi.Cdb.{Cdb}
@@ -51,20 +51,20 @@ answer_of r status = response r.lun r.tag r.expected 0 status
 abbrev behind : State → Request → Status → State
 behind s r status = with_task (idle_state s) r None 0 (Answering status 0)
 
-behind_reply : (s : State) (r : Request) (status : Status) → Gets (lock_told (behind s r status)) Ask (Replies (Some (answer_of r status)))
+behind_reply : (s : State) (r : Request) (status : Status) → Gets (lock_applied (behind s r status)) Reply (OfReply (Some (answer_of r status)))
 behind_reply s r status =
     let t = with_task (idle_state s) r None 0 (Answering status 0) in
-    reply_gets (lock_told t) (refused_task r status) (answer_of r status)
+    reply_gets (lock_applied t) (refused_task r status) (answer_of r status)
     (told_tasks t r status (locked t) refl) (told_shorts t (locked t) refl) refl
 
 is_behind : (s : State) (r : Request) (status : Status) → refusal (idle_state s) r ≡ Some status
-    → observe (idle_state s) (Host (heard_as r)) heard ≡ lock_told (behind s r status)
-is_behind s r status e = ap (λ o. lock_told (fills (opened_with (idle_state s) r o))) e
+    → observe (idle_state s) (Host (heard_as r)) heard ≡ lock_applied (behind s r status)
+is_behind s r status e = ap (λ o. lock_applied (fills (opened_with (idle_state s) r o))) e
 
 idle_answers : (s : State) (r : Request) (status : Status) → refusal (idle_state s) r ≡ Some status → IsAnswered (idle_state s) (heard_as r) (answer_of r status)
 idle_answers s r status e = record {
   taken = host_gets (idle_state s) (message.Command r.flags r.lun r.tag r.expected r.bytes) r.cdb (Ok tt) refl;
-  reply = subst (λ t. Gets t Ask (Replies (Some (answer_of r status)))) (sym (is_behind s r status e)) (behind_reply s r status);
+  reply = subst (λ t. Gets t Reply (OfReply (Some (answer_of r status)))) (sym (is_behind s r status e)) (behind_reply s r status);
 }
 
 pub answers : (s : State) (r : Request) (status : Status) → IsIdle s → refusal (idle_state s) r ≡ Some status → IsAnswered s (heard_as r) (answer_of r status)

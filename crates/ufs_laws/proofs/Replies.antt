@@ -2,9 +2,9 @@
 use Rattle.std.proofs.Common.{◌≡◌, ◌⊎◌, ℕ, zero, suc, Bool, true, false, List, [], ◌∷◌, slice_get, Option, Some, None, Result, Err, refl, sym, ap, ◌∙◌, inl, inr, ⊎_elim, true≢false}
 use Rattle.ufs_spec.specs.Cells.{Array}
 use Rattle.ufs_spec.specs.Exchanges.{Short, Task}
-use Rattle.ufs_spec.specs.Machine.{Allowed, Answer, Ask, Call, Due, Faulty, Finish, Finishes, Give, Gives, Heard, Hears, Host, Replies, Spelled, Step, Steps, deed_reply, fits, is_durable, message_fault, result_of}
+use Rattle.ufs_spec.specs.Machine.{Allowed, Answer, Reply, Call, Due, Faulty, Done, OfDone, Take, OfTake, Heard, OfHost, Host, OfReply, Spelled, Turn, OfTurn, deed_reply, fits, is_durable, message_fault, result_of}
 use Rattle.ufs_spec.specs.Moves.{Ending}
-use Rattle.ufs_spec.specs.Steps.{State}
+use Rattle.ufs_spec.specs.Refusals.{State}
 use Rattle.ufs_spec.specs.Translation.{is_step_due}
 use Rattle.ufs_spec.specs.declared.faults.HostFault.{HostFault}
 use Rattle.ufs_spec.specs.declared.messages.Message.{Message}
@@ -82,57 +82,57 @@ right_result : State → Heard → Result Unit HostFault
 right_result s (Spelled m c) = result_of (message_fault s m)
 right_result s (Faulty fault) = Err fault
 
-right_heard : (s : State) (h : Heard) → Allowed s (Host h) (Hears (right_result s h))
+right_heard : (s : State) (h : Heard) → Allowed s (Host h) (OfHost (right_result s h))
 unfolding right_result
 right_heard s (Spelled m c) = refl
 right_heard s (Faulty fault) = refl
 
-pub heard : (s : State) (h : Heard) → (result : Result Unit HostFault) × Allowed s (Host h) (Hears result)
+pub heard : (s : State) (h : Heard) → (result : Result Unit HostFault) × Allowed s (Host h) (OfHost result)
 heard s h = (right_result s h, right_heard s h)
 
 pub answered : (s : State) (call : Call) → (answer : Answer) × Allowed s call answer
-answered s (Host h) = (Hears (right_result s h), right_heard s h)
-answered s (Give die) =
+answered s (Host h) = (OfHost (right_result s h), right_heard s h)
+answered s (Take die) =
     ⊎_elim
-    {C = (answer : Answer) × Allowed s (Give die) answer}
-    (λ job. (Gives (Some job.0), job.1))
-    (λ none. (Gives None, none))
+    {C = (answer : Answer) × Allowed s (Take die) answer}
+    (λ job. (OfTake (Some job.0), job.1))
+    (λ none. (OfTake None, none))
     (given s.translation die)
-answered s (Finish die ending left) = (Finishes (fits (s.translation.disk.flights die) ending), refl)
-answered s Step = (Steps (is_step_due s.translation), refl)
-answered s Ask =
+answered s (Done die ending left) = (OfDone (fits (s.translation.disk.flights die) ending), refl)
+answered s Turn = (OfTurn (is_step_due s.translation), refl)
+answered s Reply =
     ⊎_elim
-    {C = (answer : Answer) × Allowed s Ask answer}
-    (λ reply. (Replies (Some reply.0), reply.1))
-    (λ none. (Replies None, none))
+    {C = (answer : Answer) × Allowed s Reply answer}
+    (λ reply. (OfReply (Some reply.0), reply.1))
+    (λ none. (OfReply None, none))
     (reply_due s)
 
 -- No two answers
 
-is_result : (s : State) (h : Heard) (result : Result Unit HostFault) → Allowed s (Host h) (Hears result) → result ≡ right_result s h
+is_result : (s : State) (h : Heard) (result : Result Unit HostFault) → Allowed s (Host h) (OfHost result) → result ≡ right_result s h
 unfolding right_result
 is_result s (Spelled m c) result e = e
 is_result s (Faulty fault) result e = e
 
-is_heard : (s : State) (h : Heard) (a : Answer) → Allowed s (Host h) a → a ≡ Hears (right_result s h)
-is_heard s h (Hears result) e = ap Hears (is_result s h result e)
+is_heard : (s : State) (h : Heard) (a : Answer) → Allowed s (Host h) a → a ≡ OfHost (right_result s h)
+is_heard s h (OfHost result) e = ap OfHost (is_result s h result e)
 is_heard s h a e = absurd e
 
 pub one_heard : (s : State) (h : Heard) (a b : Answer) → Allowed s (Host h) a → Allowed s (Host h) b → a ≡ b
 one_heard s h a b p q = is_heard s h a p ∙ sym (is_heard s h b q)
 
-is_end : (s : State) (die : ℕ) (ending : Ending) (left : Array) (a : Answer) → Allowed s (Finish die ending left) a
-    → a ≡ Finishes (fits (s.translation.disk.flights die) ending)
-is_end s die ending left (Finishes known) e = ap Finishes e
+is_end : (s : State) (die : ℕ) (ending : Ending) (left : Array) (a : Answer) → Allowed s (Done die ending left) a
+    → a ≡ OfDone (fits (s.translation.disk.flights die) ending)
+is_end s die ending left (OfDone known) e = ap OfDone e
 is_end s die ending left a e = absurd e
 
-pub one_end : (s : State) (die : ℕ) (ending : Ending) (left : Array) (a b : Answer) → Allowed s (Finish die ending left) a
-    → Allowed s (Finish die ending left) b → a ≡ b
+pub one_end : (s : State) (die : ℕ) (ending : Ending) (left : Array) (a b : Answer) → Allowed s (Done die ending left) a
+    → Allowed s (Done die ending left) b → a ≡ b
 one_end s die ending left a b p q = is_end s die ending left a p ∙ sym (is_end s die ending left b q)
 
-is_step : (s : State) (a : Answer) → Allowed s Step a → a ≡ Steps (is_step_due s.translation)
-is_step s (Steps due) e = ap Steps e
+is_step : (s : State) (a : Answer) → Allowed s Turn a → a ≡ OfTurn (is_step_due s.translation)
+is_step s (OfTurn due) e = ap OfTurn e
 is_step s a e = absurd e
 
-pub one_step : (s : State) (a b : Answer) → Allowed s Step a → Allowed s Step b → a ≡ b
+pub one_step : (s : State) (a b : Answer) → Allowed s Turn a → Allowed s Turn b → a ≡ b
 one_step s a b p q = is_step s a p ∙ sym (is_step s b q)

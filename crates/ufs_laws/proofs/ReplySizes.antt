@@ -6,10 +6,10 @@ use Rattle.std.proofs.lemmas.List.{get_or-take, get_or_past, length-append, leng
 use Rattle.ufs_laws.specs.Replies.{DeedSpeaks, IsStatus, TaskSpeaks}
 use Rattle.ufs_spec.proofs.Facts.{same_Some}
 use Rattle.ufs_spec.specs.Cdbs.{Residual, fixed_sense, residual_of}
-use Rattle.ufs_spec.specs.Exchanges.{Answering, Awaiting, Busy, CheckCondition, Deed, Gathering, Good, NotRead, ReadBlock, ReadState, Sending, Status, Task, TaskSetFull, Telling, Unread, WasRead, block_message, bytes_sent, count_at, data_message, read_error, ready_message, response, response_byte, sense_data, status_byte}
+use Rattle.ufs_spec.specs.Exchanges.{Answering, Awaiting, Busy, CheckCondition, Deed, Gathering, Good, NotRead, ReadBlock, ReadState, Sending, Status, Task, TaskSetFull, SendingBytes, Unread, WasRead, block_message, bytes_sent, count_at, data_message, read_error, ready_message, response, response_byte, sense_data, status_byte}
 use Rattle.ufs_spec.specs.Machine.{block_reply, deed_reply, durable, is_at_hand, next_block_reply, pin_of}
 use Rattle.ufs_spec.specs.Messages.{AreBytes, AreFlags, IsAmong, IsByte, IsMessage, IsSense, IsTransferred, header_of, padding, segment_of, sense_of, spelling, zeros}
-use Rattle.ufs_spec.specs.Steps.{State}
+use Rattle.ufs_spec.specs.Refusals.{State}
 use Rattle.ufs_spec.specs.declared.messages.Message.{Message}
 use Rattle.ufs_spec.specs.declared.messages.Message.TheVariants as message
 
@@ -161,7 +161,7 @@ module _ (s : State) (task : Task) (h : TaskSpeaks task) (m : Message) where
       let here : IsMessage (ready_message task gathered) = (h.lun, h.tag, omega arith, omega arith) in
       subst IsMessage (same_Some _ m e) here
   deed_speaks (Sending blocks sent) d e = next_speaks blocks sent (slice_get blocks sent) refl d e
-  deed_speaks (Telling bytes) d e =
+  deed_speaks (SendingBytes bytes) d e =
       let here : IsMessage (data_message task 0 (take (bytes_sent task) bytes)) = (h.lun, h.tag, omega arith, d) in
       subst IsMessage (same_Some _ m e) here
   deed_speaks (Awaiting commands) d e = by (nat_le commands (durable s)) e

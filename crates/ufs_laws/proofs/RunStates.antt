@@ -10,14 +10,14 @@ use Rattle.ufs_spec.specs.Cdbs.{cdb_bytes}
 use Rattle.ufs_spec.specs.Cells.{MarkPage}
 use Rattle.ufs_spec.specs.Commands as command
 use Rattle.ufs_spec.specs.Dies.{blank_page}
-use Rattle.ufs_spec.specs.Disk.{Disk, Flight, ForTask, Spot, at_die, at_place, begun, ended, erased, page_of, programmed}
+use Rattle.ufs_spec.specs.Disk.{Disk, Flight, ForTask, Spot, at_die, at_place, job_begun, ended, erased, page_of, programmed}
 use Rattle.ufs_spec.specs.Exchanges.{Answering, Awaiting, Deed, ForWrite, Gathering, Good, Purpose, ReadState, Sending, Task, Unread, WasRead, data_message, is_asked_of}
 use Rattle.ufs_spec.specs.Keys.{Item, data_key}
 use Rattle.ufs_spec.specs.Ledger.{Ledger, Name, OnPage, at_name}
-use Rattle.ufs_spec.specs.Machine.{Ask, Host, Finishes, Give, Gives, Replies, Step, Steps, accepts, asked_fault, complete, gathered_more, in_block, fills, lock_told, observe, result_of, set_deed}
+use Rattle.ufs_spec.specs.Machine.{Reply, Host, OfDone, Take, OfTake, OfReply, Turn, OfTurn, accepts, asked_fault, complete, gathered_more, in_block, fills, lock_applied, observe, result_of, set_deed}
 use Rattle.ufs_spec.specs.Moves.{ReadRight, WentWell}
 use Rattle.ufs_spec.specs.Plain.{Plain, apply, block_at, shape_of, shape_of_numbers, with_part}
-use Rattle.ufs_spec.specs.Steps.{State}
+use Rattle.ufs_spec.specs.Refusals.{State}
 use Rattle.ufs_spec.specs.Translation.{MarkStep, Mended, Pin, Work, want_at}
 use Rattle.ufs_spec.specs.declared.messages.Message.TheVariants as message
 use Rattle.ufs_spec.specs.declared.scsi.Cdb.TheVariants as cdb
@@ -71,13 +71,13 @@ marking o d =
     }
 
 abbrev erasing_disk : Disk
-erasing_disk = begun new_disk 0 erase
+erasing_disk = job_begun new_disk 0 erase
 
 abbrev erased_disk : Disk
 erased_disk = record (erased erasing_disk first_spot) { flights = no_flights }
 
 abbrev marking_disk : Disk
-marking_disk = begun erased_disk 0 mark_program
+marking_disk = job_begun erased_disk 0 mark_program
 
 abbrev marked_disk : Disk
 marked_disk = record (programmed 64 marking_disk (place_of 0) (MarkPage (first_mark row))) { flights = no_flights }
@@ -120,66 +120,66 @@ erased_array o = record o { array = λ p. if in_block row first_spot p then blan
 unfoldable pub marked_array : Open → Open
 marked_array o = record o { array = at_place o.array (place_of 0) (page_of (MarkPage (first_mark row))) }
 
-pub step_1 : (o : Open) → observe (new_state o) Step (Steps true) ≡ ordered o
+pub step_1 : (o : Open) → observe (new_state o) Turn (OfTurn true) ≡ ordered o
 unfolding ordered
 step_1 o = refl
 
-pub gets_1 : (o : Open) → Gets (new_state o) Step (Steps true)
+pub gets_1 : (o : Open) → Gets (new_state o) Turn (OfTurn true)
 gets_1 o = step_gets (new_state o) true refl
 
-pub gets_2 : (o : Open) → Gets (ordered o) Step (Steps false)
+pub gets_2 : (o : Open) → Gets (ordered o) Turn (OfTurn false)
 unfolding ordered
 gets_2 o = step_gets (marking o new_disk) false refl
 
-pub step_2 : (o : Open) → observe (ordered o) Step (Steps false) ≡ ordered o
+pub step_2 : (o : Open) → observe (ordered o) Turn (OfTurn false) ≡ ordered o
 unfolding ordered
 step_2 o = refl
 
-pub gets_3 : (o : Open) → Gets (ordered o) (Give 0) (Gives (Some erase))
+pub gets_3 : (o : Open) → Gets (ordered o) (Take 0) (OfTake (Some erase))
 unfolding ordered
 gets_3 o = flight_gets (marking o new_disk) 0 erase (refl, (refl, refl)) refl refl
 
-pub step_3 : (o : Open) → observe (ordered o) (Give 0) (Gives (Some erase)) ≡ erasing o
+pub step_3 : (o : Open) → observe (ordered o) (Take 0) (OfTake (Some erase)) ≡ erasing o
 unfolding ordered erasing
 step_3 o = refl
 
-pub gets_4 : (o : Open) → Gets (erasing o) (Give 0) (Gives None)
+pub gets_4 : (o : Open) → Gets (erasing o) (Take 0) (OfTake None)
 unfolding erasing
 gets_4 o = busy_gets (marking o erasing_disk) 0 refl
 
-pub step_4 : (o : Open) → observe (erasing o) (Give 0) (Gives None) ≡ erasing o
+pub step_4 : (o : Open) → observe (erasing o) (Take 0) (OfTake None) ≡ erasing o
 unfolding erasing
 step_4 o = refl
 
-pub gets_5 : (o : Open) → Gets (erasing o) (program_ends (erasing o)) (Finishes true)
+pub gets_5 : (o : Open) → Gets (erasing o) (program_ends (erasing o)) (OfDone true)
 unfolding erasing
 gets_5 o = finish_gets (marking o erasing_disk) 0 WentWell o.array true refl
 
-pub step_5 : (o : Open) → observe (erasing o) (program_ends (erasing o)) (Finishes true) ≡ erased_first (erased_array o)
+pub step_5 : (o : Open) → observe (erasing o) (program_ends (erasing o)) (OfDone true) ≡ erased_first (erased_array o)
 unfolding erasing erased_first erased_array
 step_5 o = ap (λ f. marking (erased_array o) (record (erased erasing_disk first_spot) { flights = f })) (none_again erase)
 
-pub gets_6 : (o : Open) → Gets (erased_first o) (Give 0) (Gives (Some mark_program))
+pub gets_6 : (o : Open) → Gets (erased_first o) (Take 0) (OfTake (Some mark_program))
 unfolding erased_first
 gets_6 o = flight_gets (marking o erased_disk) 0 mark_program (refl, (refl, refl)) refl refl
 
-pub step_6 : (o : Open) → observe (erased_first o) (Give 0) (Gives (Some mark_program)) ≡ programming o
+pub step_6 : (o : Open) → observe (erased_first o) (Take 0) (OfTake (Some mark_program)) ≡ programming o
 unfolding erased_first programming
 step_6 o = refl
 
-pub gets_7 : (o : Open) → Gets (programming o) (program_ends (programming o)) (Finishes true)
+pub gets_7 : (o : Open) → Gets (programming o) (program_ends (programming o)) (OfDone true)
 unfolding programming
 gets_7 o = finish_gets (marking o marking_disk) 0 WentWell o.array true refl
 
-pub step_7 : (o : Open) → observe (programming o) (program_ends (programming o)) (Finishes true) ≡ marked (marked_array o)
+pub step_7 : (o : Open) → observe (programming o) (program_ends (programming o)) (OfDone true) ≡ marked (marked_array o)
 unfolding programming marked marked_array
 step_7 o = ap (λ f. marked_with (marked_array o) (record (programmed 64 marking_disk (place_of 0) (MarkPage (first_mark row))) { flights = f })) (none_again mark_program)
 
-pub gets_8 : (o : Open) → Gets (marked o) Step (Steps false)
+pub gets_8 : (o : Open) → Gets (marked o) Turn (OfTurn false)
 unfolding marked
 gets_8 o = step_gets (marked_state o) false refl
 
-pub step_8 : (o : Open) → observe (marked o) Step (Steps false) ≡ marked o
+pub step_8 : (o : Open) → observe (marked o) Turn (OfTurn false) ≡ marked o
 unfolding marked
 step_8 o = refl
 
@@ -231,7 +231,7 @@ unfoldable pub pending : Open → List ℕ → State
 pending o body = behind_write o body marked_disk (pending_ledger o body) [] (awaiting ∷ [])
 
 abbrev writing_disk : List ℕ → Disk
-writing_disk body = begun marked_disk 0 (data_program body)
+writing_disk body = job_begun marked_disk 0 (data_program body)
 
 abbrev written_disk : List ℕ → Disk
 written_disk body = record (programmed 64 (writing_disk body) (place_of 1) (write_page 1 0xFF 0 body)) { flights = no_flights }
@@ -273,19 +273,19 @@ pub step_9 : (o : Open) → observe (marked o) (Host the_write) heard ≡ gather
 unfolding marked gathering
 step_9 o = refl
 
-pub gets_10 : (o : Open) → Gets (gathering o) Ask ready
+pub gets_10 : (o : Open) → Gets (gathering o) Reply ready
 unfolding gathering
 gets_10 o = reply_gets (gathering_state o false) (write_task (gathering_data false)) (message.ReadyToTransfer 0 7 0 4096) refl refl refl
 
-pub step_10 : (o : Open) → observe (gathering o) Ask ready ≡ asked o
+pub step_10 : (o : Open) → observe (gathering o) Reply ready ≡ asked o
 unfolding gathering asked
 step_10 o = refl
 
-pub gets_11 : (o : Open) → Gets (asked o) Ask (Replies None)
+pub gets_11 : (o : Open) → Gets (asked o) Reply (OfReply None)
 unfolding asked
 gets_11 o = waiting_gets (gathering_state o true) (write_task (gathering_data true)) refl refl refl
 
-pub step_11 : (o : Open) → observe (asked o) Ask (Replies None) ≡ asked o
+pub step_11 : (o : Open) → observe (asked o) Reply (OfReply None) ≡ asked o
 unfolding asked
 step_11 o = refl
 
@@ -302,50 +302,50 @@ step_12 o body long shape =
     let s = gathering_state o true in
     let task = write_task (gathering_data true) in
     let purpose = ForWrite 0 0xFF 1 true in
-    ap (λ (t : State). lock_told (fills t)) (gathered_all s task purpose body (omega arith))
-    ∙ (ap (λ b. lock_told (fills (set_deed (accepts s (command.Write 0 0xFF (b ∷ [])) 1) 7 (Awaiting 1)))) (take_all 4096 body (omega arith))
+    ap (λ (t : State). lock_applied (fills t)) (gathered_all s task purpose body (omega arith))
+    ∙ (ap (λ b. lock_applied (fills (set_deed (accepts s (command.Write 0 0xFF (b ∷ [])) 1) 7 (Awaiting 1)))) (take_all 4096 body (omega arith))
     ∙ ap (pending_with o body) (block_written o.base body shape))
 
-pub gets_13 : (o : Open) (body : List ℕ) → Gets (pending o body) Ask (Replies None)
+pub gets_13 : (o : Open) (body : List ℕ) → Gets (pending o body) Reply (OfReply None)
 unfolding pending
 gets_13 o body = waiting_gets (pending_with o body body) awaiting refl refl refl
 
-pub step_13 : (o : Open) (body : List ℕ) → observe (pending o body) Ask (Replies None) ≡ pending o body
+pub step_13 : (o : Open) (body : List ℕ) → observe (pending o body) Reply (OfReply None) ≡ pending o body
 unfolding pending
 step_13 o body = refl
 
-pub gets_14 : (o : Open) (body : List ℕ) → Gets (pending o body) (Give 0) (Gives (Some (data_program body)))
+pub gets_14 : (o : Open) (body : List ℕ) → Gets (pending o body) (Take 0) (OfTake (Some (data_program body)))
 unfolding pending
 gets_14 o body = flight_gets (pending_with o body body) 0 (data_program body) (refl, (refl, refl)) refl refl
 
-pub step_14 : (o : Open) (body : List ℕ) → observe (pending o body) (Give 0) (Gives (Some (data_program body))) ≡ writing o body
+pub step_14 : (o : Open) (body : List ℕ) → observe (pending o body) (Take 0) (OfTake (Some (data_program body))) ≡ writing o body
 unfolding pending writing
 step_14 o body = refl
 
-pub gets_15 : (o : Open) (body : List ℕ) → Gets (writing o body) Ask (Replies None)
+pub gets_15 : (o : Open) (body : List ℕ) → Gets (writing o body) Reply (OfReply None)
 unfolding writing
 gets_15 o body = waiting_gets (writing_state o body) awaiting refl refl refl
 
-pub step_15 : (o : Open) (body : List ℕ) → observe (writing o body) Ask (Replies None) ≡ writing o body
+pub step_15 : (o : Open) (body : List ℕ) → observe (writing o body) Reply (OfReply None) ≡ writing o body
 unfolding writing
 step_15 o body = refl
 
-pub gets_16 : (o : Open) (body : List ℕ) → Gets (writing o body) (program_ends (writing o body)) (Finishes true)
+pub gets_16 : (o : Open) (body : List ℕ) → Gets (writing o body) (program_ends (writing o body)) (OfDone true)
 unfolding writing
 gets_16 o body = finish_gets (writing_state o body) 0 WentWell o.array true refl
 
 pub step_16 : (o : Open) (body : List ℕ)
-    → observe (writing o body) (program_ends (writing o body)) (Finishes true) ≡ written (written_array o body) body
+    → observe (writing o body) (program_ends (writing o body)) (OfDone true) ≡ written (written_array o body) body
 unfolding writing written written_array
 step_16 o body =
     ap (λ f. behind_write (written_array o body) body (record (programmed 64 (writing_disk body) (place_of 1) (write_page 1 0xFF 0 body)) { flights = f }) (written_ledger (written_array o body) body 0) [] (awaiting ∷ []))
     (none_again (data_program body))
 
-pub gets_17 : (o : Open) (body : List ℕ) → Gets (written o body) Ask (good 7)
+pub gets_17 : (o : Open) (body : List ℕ) → Gets (written o body) Reply (good 7)
 unfolding written
 gets_17 o body = reply_gets (written_state o body) awaiting (message.Response 0 0 7 0 0 0 None) refl refl refl
 
-pub step_17 : (o : Open) (body : List ℕ) → observe (written o body) Ask (good 7) ≡ told o body
+pub step_17 : (o : Open) (body : List ℕ) → observe (written o body) Reply (good 7) ≡ told o body
 unfolding written told
 step_17 o body = refl
 
@@ -372,7 +372,7 @@ unfoldable pub reading : Open → List ℕ → State
 reading o body = reading_with o body (written_disk body) true (sending_block body Unread)
 
 abbrev reading_disk : List ℕ → Disk
-reading_disk body = begun (written_disk body) 0 data_read
+reading_disk body = job_begun (written_disk body) 0 data_read
 
 abbrev read_disk : List ℕ → Disk
 read_disk body = record (ended (reading_disk body) 0) { flights = no_flights }
@@ -401,66 +401,66 @@ pub step_18 : (o : Open) (body : List ℕ) → shape_of o.base ≡ shape_of_numb
 unfolding told reading
 step_18 o body shape = ap (reading_block o body) (block_written o.base body shape)
 
-pub gets_19 : (o : Open) (body : List ℕ) → Gets (reading o body) Ask (Replies None)
+pub gets_19 : (o : Open) (body : List ℕ) → Gets (reading o body) Reply (OfReply None)
 unfolding reading
 gets_19 o body = waiting_gets (reading_block o body body) (read_task (sending_block body Unread)) refl refl refl
 
-pub step_19 : (o : Open) (body : List ℕ) → observe (reading o body) Ask (Replies None) ≡ reading o body
+pub step_19 : (o : Open) (body : List ℕ) → observe (reading o body) Reply (OfReply None) ≡ reading o body
 unfolding reading
 step_19 o body = refl
 
-pub gets_20 : (o : Open) (body : List ℕ) → Gets (reading o body) (Give 0) (Gives (Some data_read))
+pub gets_20 : (o : Open) (body : List ℕ) → Gets (reading o body) (Take 0) (OfTake (Some data_read))
 unfolding reading
 gets_20 o body = read_gets (reading_block o body body) 0 (want_at (ForTask 8 0) (place_of 1)) refl refl
 
-pub step_20 : (o : Open) (body : List ℕ) → observe (reading o body) (Give 0) (Gives (Some data_read)) ≡ in_flight o body
+pub step_20 : (o : Open) (body : List ℕ) → observe (reading o body) (Take 0) (OfTake (Some data_read)) ≡ in_flight o body
 unfolding reading in_flight
 step_20 o body = refl
 
-pub gets_21 : (o : Open) (body : List ℕ) → Gets (in_flight o body) (read_ends (in_flight o body)) (Finishes true)
+pub gets_21 : (o : Open) (body : List ℕ) → Gets (in_flight o body) (read_ends (in_flight o body)) (OfDone true)
 unfolding in_flight
 gets_21 o body = finish_gets (reading_with o body (reading_disk body) true (sending_block body Unread)) 0 ReadRight o.array true refl
 
-pub step_21 : (o : Open) (body : List ℕ) → observe (in_flight o body) (read_ends (in_flight o body)) (Finishes true) ≡ was_read o body
+pub step_21 : (o : Open) (body : List ℕ) → observe (in_flight o body) (read_ends (in_flight o body)) (OfDone true) ≡ was_read o body
 unfolding in_flight was_read
 step_21 o body =
     ap (λ f. reading_with o body (record (ended (reading_disk body) 0) { flights = f }) false (sending_block body WasRead))
     (none_again data_read)
 
-pub gets_22 : (o : Open) (body : List ℕ) → length body ≡ 4096 → Gets (was_read o body) Ask (data_in body)
+pub gets_22 : (o : Open) (body : List ℕ) → length body ≡ 4096 → Gets (was_read o body) Reply (data_in body)
 unfolding was_read
 gets_22 o body long =
     reply_gets (reading_with o body (read_disk body) false (sending_block body WasRead)) (read_task (sending_block body WasRead))
     (message.DataIn 0 8 0 (record { items = body })) refl refl
     (ap (λ b. Some (data_message (read_task (sending_block body WasRead)) 0 b)) (take_all 4096 body (omega arith)))
 
-pub step_22 : (o : Open) (body : List ℕ) → observe (was_read o body) Ask (data_in body) ≡ sent o body
+pub step_22 : (o : Open) (body : List ℕ) → observe (was_read o body) Reply (data_in body) ≡ sent o body
 unfolding was_read sent
 step_22 o body = refl
 
-pub gets_23 : (o : Open) (body : List ℕ) → Gets (sent o body) Ask (good 8)
+pub gets_23 : (o : Open) (body : List ℕ) → Gets (sent o body) Reply (good 8)
 unfolding sent
 gets_23 o body = reply_gets (sent_state o body) (read_task (Answering Good 4096)) (message.Response 0 0 8 0 0 0 None) refl refl refl
 
-pub step_23 : (o : Open) (body : List ℕ) → observe (sent o body) Ask (good 8) ≡ answered o body
+pub step_23 : (o : Open) (body : List ℕ) → observe (sent o body) Reply (good 8) ≡ answered o body
 unfolding sent answered
 step_23 o body = refl
 
-pub gets_24 : (o : Open) (body : List ℕ) → Gets (answered o body) Ask (Replies None)
+pub gets_24 : (o : Open) (body : List ℕ) → Gets (answered o body) Reply (OfReply None)
 unfolding answered
 gets_24 o body = nothing_gets (behind_write o body (read_disk body) (written_ledger o body 1) [] []) refl refl
 
 -- No job is owed
 
-pub marked_owes_none : (o : Open) → Gets (marked o) (Give 0) (Gives None)
+pub marked_owes_none : (o : Open) → Gets (marked o) (Take 0) (OfTake None)
 unfolding marked
 marked_owes_none o = no_flight_gets (marked_state o) 0 refl refl
 
-pub told_owes_none : (o : Open) (body : List ℕ) → Gets (told o body) (Give 0) (Gives None)
+pub told_owes_none : (o : Open) (body : List ℕ) → Gets (told o body) (Take 0) (OfTake None)
 unfolding told
 told_owes_none o body = no_flight_gets (behind_write o body (written_disk body) (written_ledger o body 1) [] []) 0 refl refl
 
-pub was_read_owes_none : (o : Open) (body : List ℕ) → Gets (was_read o body) (Give 0) (Gives None)
+pub was_read_owes_none : (o : Open) (body : List ℕ) → Gets (was_read o body) (Take 0) (OfTake None)
 unfolding was_read
 was_read_owes_none o body =
     no_flight_gets (reading_with o body (read_disk body) false (sending_block body WasRead)) 0 refl refl

@@ -5,10 +5,10 @@ use Rattle.ufs_laws.proofs.Changed.{settled_small}
 use Rattle.ufs_laws.proofs.Quiet.{SameJobs, small_same}
 use Rattle.ufs_laws.specs.Requests.{HaveNoRequest}
 use Rattle.ufs_spec.specs.Exchanges.{Registers, RpmbRequest, Task, filled, is_unfilled}
-use Rattle.ufs_spec.specs.Machine.{deed_locked, fill_moves, filled_registers, fills, is_good_due, is_to_fill, lock_told, short_locked, task_filled, task_locked, with_moves}
-use Rattle.ufs_spec.specs.Steps.{State, locked}
+use Rattle.ufs_spec.specs.Machine.{deed_locked, fill_moves, filled_registers, fills, is_good_due, is_to_fill, lock_applied, short_locked, task_filled, task_locked, with_moves}
+use Rattle.ufs_spec.specs.Refusals.{State, locked}
 
-pub settled_jobs : (s : State) → SameJobs s.translation (lock_told (fills s)).translation
+pub settled_jobs : (s : State) → SameJobs s.translation (lock_applied (fills s)).translation
 settled_jobs s = small_same (settled_small s)
 
 -- No request
@@ -46,7 +46,7 @@ requests_before s [] h = tt
 requests_before s (t ∷ ts) h = (h.0, requests_before s ts h.1)
 
 -- to tell the lock changes no request
-pub told_requests : (s : State) → HaveNoRequest (lock_told s).tasks → HaveNoRequest s.tasks
+pub told_requests : (s : State) → HaveNoRequest (lock_applied s).tasks → HaveNoRequest s.tasks
 told_requests s h = by (locked s) h
   where
     by : (b : Bool) → HaveNoRequest (cond b (record s { tasks = map (task_locked s) s.tasks; shorts = map (short_locked s) s.shorts }) s).tasks → HaveNoRequest s.tasks
@@ -54,5 +54,5 @@ told_requests s h = by (locked s) h
     by false none = none
 
 -- so what is behind a call is the same with the lock told
-pub settled_is : (s : State) → HaveNoRequest s.tasks → lock_told (fills s) ≡ lock_told s
-settled_is s none = ap lock_told (no_request_fills_nothing s none)
+pub settled_is : (s : State) → HaveNoRequest s.tasks → lock_applied (fills s) ≡ lock_applied s
+settled_is s none = ap lock_applied (no_request_fills_nothing s none)

@@ -11,12 +11,12 @@ use Rattle.ufs_laws.specs.Exchange.{Every, IsRequest}
 use Rattle.ufs_laws.specs.Replies.{DeedSpeaks, IsStatus, TaskSpeaks}
 use Rattle.ufs_spec.proofs.Facts.{eqb-false, ltb-true, same_Some}
 use Rattle.ufs_spec.specs.Cdbs.{IsCdb, SpellsCdb, operation_of, taken_operations}
-use Rattle.ufs_spec.specs.Exchanges.{filled, Answering, Awaiting, Busy, Deed, ForWrite, Gathering, Good, NotRead, Purpose, ReadBlock, ReadState, Sending, Status, Task, Telling, Unread, WasRead, bytes_sent, invalid_field, invalid_operation, is_task_of, list_length_error, no_unit, not_ready, out_of_range, sequence_error, task_of, with_deed, write_error, write_protected}
+use Rattle.ufs_spec.specs.Exchanges.{filled, Answering, Awaiting, Busy, Deed, ForWrite, Gathering, Good, NotRead, Purpose, ReadBlock, ReadState, Sending, Status, Task, SendingBytes, Unread, WasRead, bytes_sent, invalid_field, invalid_operation, is_task_of, list_length_error, no_unit, not_ready, out_of_range, sequence_error, task_of, with_deed, write_error, write_protected}
 use Rattle.ufs_spec.specs.Keys.{IsBlock, below}
 use Rattle.ufs_spec.specs.Machine.{IsCdbIn, begun, blocks_expected, deed_behind, deed_behind_block, deed_behind_state, deed_locked, deed_read, durable, read_begun, read_blocks, sending, is_to_fill, set_state, task_filled, task_locked, task_read, unit_or_first, with_block, write_begun, write_deed}
 use Rattle.ufs_spec.specs.Messages.{IsAmong}
 use Rattle.ufs_spec.specs.Plain.{block_at}
-use Rattle.ufs_spec.specs.Steps.{Line, Request, State, first_line, lacks_unit, line, lines_behind, lun_of, not_taken, numbers_of, plain_now, refusal, unit_of_request}
+use Rattle.ufs_spec.specs.Refusals.{Line, Request, State, first_line, lacks_unit, line, lines_behind, lun_of, not_taken, numbers_of, plain_now, refusal, unit_of_request}
 use Rattle.ufs_spec.specs.declared.scsi.Cdb.{Cdb}
 use Rattle.ufs_spec.specs.declared.scsi.Cdb.TheVariants as cdb
 
@@ -201,14 +201,14 @@ goes_block task h blocks sent (Some block) deed d e = goes_state task h blocks s
 goes_on : (task : Task) (h : TaskSpeaks task) (before deed : Deed) → DeedSpeaks task.length (bytes_sent task) before → deed_behind task before ≡ Some deed → DeedSpeaks task.length (bytes_sent task) deed
 goes_on task h (Gathering purpose gathered asked) deed d e = subst (DeedSpeaks task.length (bytes_sent task)) (same_Some _ deed e) d
 goes_on task h (Sending blocks sent) deed d e = goes_block task h blocks sent (slice_get blocks sent) deed d e
-goes_on task h (Telling bytes) deed d e = subst (DeedSpeaks task.length (bytes_sent task)) (same_Some _ deed e) (tt, h.length)
+goes_on task h (SendingBytes bytes) deed d e = subst (DeedSpeaks task.length (bytes_sent task)) (same_Some _ deed e) (tt, h.length)
 goes_on task h (Awaiting commands) deed d e = let none : None ≡ Some deed = e in cc
 goes_on task h (Answering status carried) deed d e = let none : None ≡ Some deed = e in cc
 
 locked_speaks : (u : State) (task : Task) (h : TaskSpeaks task) (deed : Deed) → DeedSpeaks task.length (bytes_sent task) deed → DeedSpeaks task.length (bytes_sent task) (deed_locked u task deed)
 locked_speaks u task h (Gathering purpose gathered asked) d = d
 locked_speaks u task h (Sending blocks sent) d = d
-locked_speaks u task h (Telling bytes) d = d
+locked_speaks u task h (SendingBytes bytes) d = d
 locked_speaks u task h (Awaiting commands) d = by (nat_le commands (durable u))
   where
     by : (b : Bool) → DeedSpeaks task.length (bytes_sent task) (if b then Awaiting commands else Answering write_error task.length)
@@ -241,7 +241,7 @@ read_speaks_again total sent_bytes blocks sent index state d = by (slice_get blo
 deed_read_speaks : (total sent_bytes index : ℕ) (state : ReadState) (deed : Deed) → DeedSpeaks total sent_bytes deed → DeedSpeaks total sent_bytes (deed_read index state deed)
 deed_read_speaks total sent_bytes index state (Gathering purpose gathered asked) d = d
 deed_read_speaks total sent_bytes index state (Sending blocks sent) d = read_speaks_again total sent_bytes blocks sent index state d
-deed_read_speaks total sent_bytes index state (Telling bytes) d = d
+deed_read_speaks total sent_bytes index state (SendingBytes bytes) d = d
 deed_read_speaks total sent_bytes index state (Awaiting commands) d = d
 deed_read_speaks total sent_bytes index state (Answering status carried) d = d
 

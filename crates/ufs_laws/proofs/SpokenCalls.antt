@@ -4,7 +4,7 @@ use Rattle.ufs_laws.specs.Exchange.{IsSpoken}
 use Rattle.ufs_spec.specs.Disk.{Flight}
 use Rattle.ufs_spec.specs.Lives.{IsCall, IsFinish, Life}
 use Rattle.ufs_spec.specs.Machine.{Allowed, Answer, Call, observe}
-use Rattle.ufs_spec.specs.Steps.{State}
+use Rattle.ufs_spec.specs.Refusals.{State}
 use Rattle.ufs_spec.specs.declared.events.Event.{Event}
 use Rattle.ufs_spec.specs.declared.events.Event.TheVariants as event
 use Rattle.ufs_spec.specs.declared.events.Output.{Output}

@@ -9,9 +9,9 @@ use Rattle.ufs_laws.specs.Flights.{JobsLieOnTheirDies, die_of_flight}
 use Rattle.ufs_spec.specs.Cells.{Array}
 use Rattle.ufs_spec.specs.Disk.{Erasing, Flight, Programming, Reading, Spot, at_die, job_of}
 use Rattle.ufs_spec.specs.Lives.{IsOpened, Life}
-use Rattle.ufs_spec.specs.Machine.{Allowed, Answer, Ask, Call, Finish, Finishes, Give, Gives, Heard, Hears, Host, Replies, Step, Steps, behind, ends_with, fills, given, hears, lock_told, observe, replied, with_moves}
-use Rattle.ufs_spec.specs.Moves.{Ending, Turn}
-use Rattle.ufs_spec.specs.Steps.{State}
+use Rattle.ufs_spec.specs.Machine.{Allowed, Answer, Reply, Call, Done, OfDone, Take, OfTake, Heard, OfHost, Host, OfReply, Turn, OfTurn, behind, ends_with, fills, given, hears, lock_applied, observe, replied, with_moves}
+use Rattle.ufs_spec.specs.Moves.{Ending, TakeStep}
+use Rattle.ufs_spec.specs.Refusals.{State}
 use Rattle.ufs_spec.specs.Translation.{MayTake, Translation}
 use Rattle.ufs_spec.specs.declared.configs.Numbers.{Numbers}
 use Rattle.ufs_spec.specs.declared.events.Event.{Event}
@@ -72,41 +72,41 @@ gives_stay s die None right h = h
 gives_stay s die (Some flight) right h = stay_at s.translation.disk.flights die (Some flight) h (λ f e. job_here s.translation die f (subst (MayTake s.translation die) e right))
 
 ends_stay : (s : State) (die : ℕ) (ending : Ending) (left : Array) (o : Option Flight) → s.translation.disk.flights die ≡ o
-    → Allowed s (Finish die ending left) (Finishes true) → JobsLieOnTheirDies s → JobsLieOnTheirDies (observe s (Finish die ending left) (Finishes true))
+    → Allowed s (Done die ending left) (OfDone true) → JobsLieOnTheirDies s → JobsLieOnTheirDies (observe s (Done die ending left) (OfDone true))
 ends_stay s die ending left None e right h =
-    told_stay s (Finish die ending left) (Finishes true)
+    told_stay s (Done die ending left) (OfDone true)
     (same_stay s.translation.disk.flights _ (ap (λ (o : Option Flight). (ends_with s die o ending left).translation.disk.flights) e) h)
 ends_stay s die ending left (Some flight) e right h =
-    told_stay s (Finish die ending left) (Finishes true)
+    told_stay s (Done die ending left) (OfDone true)
     (same_stay _ _ (jobs_left s die flight ending left e (h die flight e) right)
     (stay_at s.translation.disk.flights die None h (λ f e. absurd (let two : None ≡ Some f = e in cc))))
 
 pub stays : (s : State) (call : Call) (answer : Answer) → Allowed s call answer → JobsLieOnTheirDies s → JobsLieOnTheirDies (observe s call answer)
-stays s (Host h) (Hears (Ok done)) right home = told_stay s (Host h) (Hears (Ok done)) (jobs_stay s.translation.disk.flights _ (hears_same s h) home)
-stays s (Host h) (Hears (Err fault)) right home = told_stay s (Host h) (Hears (Err fault)) home
-stays s (Give die) (Gives flight) right home = told_stay s (Give die) (Gives flight) (gives_stay s die flight right home)
-stays s (Finish die ending left) (Finishes true) right home = ends_stay s die ending left (s.translation.disk.flights die) refl right home
-stays s (Finish die ending left) (Finishes false) right home = told_stay s (Finish die ending left) (Finishes false) home
-stays s Step (Steps due) right home = told_stay s Step (Steps due) (jobs_stay s.translation.disk.flights _ (step_same s) home)
-stays s Ask (Replies (Some m)) right home = told_stay s Ask (Replies (Some m)) (jobs_stay s.translation.disk.flights _ (replied_same s m) home)
-stays s Ask (Replies None) right home = told_stay s Ask (Replies None) home
+stays s (Host h) (OfHost (Ok done)) right home = told_stay s (Host h) (OfHost (Ok done)) (jobs_stay s.translation.disk.flights _ (hears_same s h) home)
+stays s (Host h) (OfHost (Err fault)) right home = told_stay s (Host h) (OfHost (Err fault)) home
+stays s (Take die) (OfTake flight) right home = told_stay s (Take die) (OfTake flight) (gives_stay s die flight right home)
+stays s (Done die ending left) (OfDone true) right home = ends_stay s die ending left (s.translation.disk.flights die) refl right home
+stays s (Done die ending left) (OfDone false) right home = told_stay s (Done die ending left) (OfDone false) home
+stays s Turn (OfTurn due) right home = told_stay s Turn (OfTurn due) (jobs_stay s.translation.disk.flights _ (step_same s) home)
+stays s Reply (OfReply (Some m)) right home = told_stay s Reply (OfReply (Some m)) (jobs_stay s.translation.disk.flights _ (replied_same s m) home)
+stays s Reply (OfReply None) right home = told_stay s Reply (OfReply None) home
 stays s call answer right home = absurd right
 
 -- no other call than the beginning and the end of a job changes what a die does
 abbrev Does : State → ℕ → Option Job
 Does s die = option_map job_of (s.translation.disk.flights die)
 
-told_same : (s : State) (die : ℕ) → Does (lock_told (fills s)) die ≡ Does s die
+told_same : (s : State) (die : ℕ) → Does (lock_applied (fills s)) die ≡ Does s die
 told_same s die = settled_jobs s die
 
-pub host_same : (s : State) (h : Heard) (result : Result Unit HostFault) (die : ℕ) → Does (observe s (Host h) (Hears result)) die ≡ Does s die
+pub host_same : (s : State) (h : Heard) (result : Result Unit HostFault) (die : ℕ) → Does (observe s (Host h) (OfHost result)) die ≡ Does s die
 host_same s h (Ok done) die = told_same (hears s h) die ∙ hears_same s h die
 host_same s h (Err fault) die = told_same s die
 
-pub turn_same : (s : State) (due : Bool) (die : ℕ) → Does (observe s Step (Steps due)) die ≡ Does s die
-turn_same s due die = told_same (with_moves s (Turn ∷ [])) die ∙ step_same s die
+pub turn_same : (s : State) (due : Bool) (die : ℕ) → Does (observe s Turn (OfTurn due)) die ≡ Does s die
+turn_same s due die = told_same (with_moves s (TakeStep ∷ [])) die ∙ step_same s die
 
-pub ask_same : (s : State) (reply : Option Message) (die : ℕ) → Does (observe s Ask (Replies reply)) die ≡ Does s die
+pub ask_same : (s : State) (reply : Option Message) (die : ℕ) → Does (observe s Reply (OfReply reply)) die ≡ Does s die
 ask_same s (Some m) die = told_same (replied s m) die ∙ replied_same s m die
 ask_same s None die = told_same s die
 

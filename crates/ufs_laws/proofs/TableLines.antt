@@ -10,7 +10,7 @@ use Rattle.ufs_spec.specs.Messages.{is_among}
 use Rattle.std.proofs.lemmas.Bool.{ltb-true}
 use Rattle.ufs_spec.specs.declared.configs.Numbers.{Numbers}
 use Rattle.ufs_spec.specs.Stages.{most_blocks, most_tasks}
-use Rattle.ufs_spec.specs.Steps.{BootUnit, is_boot_read, not_taken, operations_of, Request, State, first_line, has_other_response, has_wrong_list, is_crowded, is_past, is_refused_write, is_too_long, lacks_response, lines_for, locked, mended, refusal, spec_of}
+use Rattle.ufs_spec.specs.Refusals.{BootUnit, is_boot_read, not_taken, operations_of, Request, State, first_line, has_other_response, has_wrong_list, is_crowded, is_past, is_refused_write, is_too_long, lacks_response, lines_for, locked, mended, refusal, spec_of}
 use Rattle.ufs_spec.specs.Translation.{free_slots}
 use Rattle.ufs_spec.specs.declared.configs.UnitSpec.{UnitSpec}
 use Rattle.ufs_spec.specs.declared.scsi.Cdb.{Cdb}

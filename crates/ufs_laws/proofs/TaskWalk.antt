@@ -8,11 +8,11 @@ use Rattle.ufs_spec.proofs.Facts.{and_parts, eqb-true, none-some, same_Some}
 use Rattle.ufs_laws.specs.Exchange.{Asks, Every, IsAskedBy, IsAskedIn, IsRequest, IsSpoken}
 use Rattle.ufs_spec.specs.Cells.{Array}
 use Rattle.ufs_spec.specs.Disk.{Erasing, Flight, ForNobody, ForRest, ForStep, ForTask, Programming, Reader, Reading}
-use Rattle.ufs_spec.specs.Exchanges.{Answering, Awaiting, Deed, ForFrames, ForUnmap, ForWrite, Gathering, Purpose, ReadState, NotRead, Sending, Short, Status, Task, Telling, WasRead, invalid_operation, is_short_of, is_task_of, task_of, with_deed, write_error, count_at, is_asked_in, is_asked_of, Good}
-use Rattle.ufs_spec.specs.Machine.{Answer, Ask, Call, Faulty, Finish, Finishes, Give, Gives, Heard, Hears, Host, IsHeard, Replies, Spelled, Step, Steps, begun, begun_with, command_heard, complete, data_for, data_heard, deed_behind, ends_with, heard, hears, is_aborted, fills, observe, behind, opened_with, reader_told, replied_by, short_replied, tag_in, task_behind, task_filled, task_locked, task_read, unit_or_first, without_tasks, write_complete, write_deed, Allowed, MayHear, asked_fault, in_use, message_fault, opening_fault, result_of, write_begun}
+use Rattle.ufs_spec.specs.Exchanges.{Answering, Awaiting, Deed, ForFrames, ForUnmap, ForWrite, Gathering, Purpose, ReadState, NotRead, Sending, Short, Status, Task, SendingBytes, WasRead, invalid_operation, is_short_of, is_task_of, task_of, with_deed, write_error, count_at, is_asked_in, is_asked_of, Good}
+use Rattle.ufs_spec.specs.Machine.{Answer, Reply, Call, Faulty, Done, OfDone, Take, OfTake, Heard, OfHost, Host, IsHeard, OfReply, Spelled, Turn, OfTurn, begun, begun_with, command_heard, complete, data_for, data_heard, deed_behind, ends_with, heard, hears, is_aborted, fills, observe, behind, opened_with, read_noted, replied_by, short_replied, tag_in, task_behind, task_filled, task_locked, task_read, unit_or_first, without_tasks, write_complete, write_deed, Allowed, MayHear, asked_fault, in_use, message_fault, opening_fault, result_of, write_begun}
 use Rattle.ufs_spec.specs.Moves.{Ending, ReadRight, ReadWrong, WentWell, WentWrong}
 use Rattle.ufs_spec.specs.Stages.{manages_tasks, most_tasks}
-use Rattle.ufs_spec.specs.Steps.{Request, State, locked, refusal, slots_needed, unit_of_request}
+use Rattle.ufs_spec.specs.Refusals.{Request, State, locked, refusal, slots_needed, unit_of_request}
 use Rattle.ufs_spec.specs.declared.messages.Message.{Message}
 use Rattle.ufs_spec.specs.declared.messages.Message.TheVariants as message
 use Rattle.ufs_spec.specs.declared.scsi.Cdb.{Cdb}
@@ -46,10 +46,10 @@ any_in (message.QueryResponse tag function response asked size value «data») c
 pub any_asks : (call : Call) → Asks Any call
 any_asks (Host (Spelled m c)) = any_in m c
 any_asks (Host (Faulty fault)) = tt
-any_asks (Give die) = tt
-any_asks (Finish die ending left) = tt
-any_asks Step = tt
-any_asks Ask = tt
+any_asks (Take die) = tt
+any_asks (Done die ending left) = tt
+any_asks Turn = tt
+any_asks Reply = tt
 
 pub record IsTaskLaw (P : Task → Type 0) (May : Task → Deed → Type 0) (Asked : Request → Type 0) (s : State) : Type 0 where
   -- a task that does something else keeps the law, and so do all
@@ -133,7 +133,7 @@ IsNext task count deed = Unit {0}
 asked_next : (task : Task) (lun offset count : ℕ) (deed : Deed) → is_asked_in task lun offset count deed ≡ true → IsNext task count deed
 asked_next task lun offset count (Gathering purpose gathered asked) e = eqb-true count (count_at task.length (length gathered)) (and_parts _ _ e).1
 asked_next task lun offset count (Sending blocks sent) e = tt
-asked_next task lun offset count (Telling bytes) e = tt
+asked_next task lun offset count (SendingBytes bytes) e = tt
 asked_next task lun offset count (Awaiting commands) e = tt
 asked_next task lun offset count (Answering status carried) e = tt
 
@@ -233,7 +233,7 @@ module _ (P : Task → Type 0) (May : Task → Deed → Type 0) (Asked : Request
       (λ more. set_kept tag task _ found (k.gathers task purpose gathered bytes asked e (found_kept tag task found) next more))
       (λ over. complete_kept tag task purpose gathered (gathered ++ bytes) asked found e)
   data_kept tag task (Sending blocks sent) bytes found e next = all
-  data_kept tag task (Telling told) bytes found e next = all
+  data_kept tag task (SendingBytes told) bytes found e next = all
   data_kept tag task (Awaiting commands) bytes found e next = all
   data_kept tag task (Answering status carried) bytes found e next = all
 
@@ -284,7 +284,7 @@ module _ (P : Task → Type 0) (May : Task → Deed → Type 0) (Asked : Request
 
   -- Jobs that end
 
-  told_kept : (reader : Reader) (state : ReadState) → Every P (reader_told s reader state).tasks
+  told_kept : (reader : Reader) (state : ReadState) → Every P (read_noted s reader state).tasks
   told_kept (ForTask tag index) state = every_mapped P (task_read tag index state) (k.reads tag index state) s.tasks all
   told_kept ForStep state = all
   told_kept (ForRest number index) state = all
@@ -302,12 +302,12 @@ module _ (P : Task → Type 0) (May : Task → Deed → Type 0) (Asked : Request
   -- Calls
 
   call_kept : (call : Call) (answer : Answer) → IsSpoken call → Asks Asked call → Allowed s call answer → Every P (behind s call answer).tasks
-  call_kept (Host h) (Hears (Ok done)) is asks may = hears_kept h is asks done may
-  call_kept (Give die) (Gives None) is asks may = all
-  call_kept (Give die) (Gives (Some flight)) is asks may = all
-  call_kept (Finish die ending left) (Finishes true) is asks may = ends_kept die (s.translation.disk.flights die) ending left
-  call_kept Step (Steps due) is asks may = all
-  call_kept Ask (Replies (Some m)) is asks may = replied_kept (tag_in m) (task_of (tag_in m) s.tasks) refl
+  call_kept (Host h) (OfHost (Ok done)) is asks may = hears_kept h is asks done may
+  call_kept (Take die) (OfTake None) is asks may = all
+  call_kept (Take die) (OfTake (Some flight)) is asks may = all
+  call_kept (Done die ending left) (OfDone true) is asks may = ends_kept die (s.translation.disk.flights die) ending left
+  call_kept Turn (OfTurn due) is asks may = all
+  call_kept Reply (OfReply (Some m)) is asks may = replied_kept (tag_in m) (task_of (tag_in m) s.tasks) refl
   call_kept call answer is asks may = all
 
   pub tasks_kept : (call : Call) (answer : Answer) → IsSpoken call → Asks Asked call → Allowed s call answer → Every P (observe s call answer).tasks

@@ -3,7 +3,7 @@ use Rattle.std.specs.Prelude.{◌≡◌, ◌≢◌, ℕ, ◌+◌, ◌-◌, ◌==
 use Rattle.std.specs.List.{list_any}
 use Rattle.ufs_spec.specs.Exchanges.{Answering, Deed, ForFrames, ForUnmap, Gathering, Purpose, Sending, Task, count_at, invalid_operation}
 use Rattle.ufs_spec.specs.Machine.{Call, Faulty, Heard, Host, IsHeard, Spelled}
-use Rattle.ufs_spec.specs.Steps.{Request, State}
+use Rattle.ufs_spec.specs.Refusals.{Request, State}
 use Rattle.ufs_spec.specs.Translation.{Pin}
 use Rattle.ufs_spec.specs.declared.messages.Message.{Message}
 use Rattle.ufs_spec.specs.declared.messages.Message.TheVariants as message

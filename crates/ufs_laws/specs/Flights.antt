@@ -1,7 +1,7 @@
 -- Where jobs lie.
 use Rattle.std.specs.Prelude.{◌≡◌, ℕ, Some}
 use Rattle.ufs_spec.specs.Disk.{Erasing, Flight, Programming, Reading}
-use Rattle.ufs_spec.specs.Steps.{State}
+use Rattle.ufs_spec.specs.Refusals.{State}
 
 -- the die of the page or block that it is about
 abbrev pub die_of_flight : Flight → ℕ

@@ -1,6 +1,6 @@
 -- What a task needs so that each of its replies is a message of the grammar.
 use Rattle.std.specs.Prelude.{◌≡◌, ◌<◌, ◌+◌, ◌*◌, ◌^◌, ℕ, List, length, slice_get, take, Some}
-use Rattle.ufs_spec.specs.Exchanges.{Answering, Awaiting, CheckCondition, Deed, Gathering, ReadBlock, Sending, Status, Task, Telling, bytes_sent}
+use Rattle.ufs_spec.specs.Exchanges.{Answering, Awaiting, CheckCondition, Deed, Gathering, ReadBlock, Sending, Status, Task, SendingBytes, bytes_sent}
 use Rattle.ufs_spec.specs.Keys.{IsBlock}
 use Rattle.ufs_spec.specs.Messages.{IsByte, IsTransferred}
 
@@ -16,7 +16,7 @@ DeedSpeaks total sent_bytes (Gathering purpose gathered asked) = length gathered
 DeedSpeaks total sent_bytes (Sending blocks sent) =
     (sent < length blocks) × (4096 * length blocks < sent_bytes + 4096)
     × ((k : ℕ) (block : ReadBlock) → slice_get blocks k ≡ Some block → IsBlock block.body)
-DeedSpeaks total sent_bytes (Telling bytes) = IsTransferred (take sent_bytes bytes)
+DeedSpeaks total sent_bytes (SendingBytes bytes) = IsTransferred (take sent_bytes bytes)
 DeedSpeaks total sent_bytes (Awaiting commands) = Unit {0}
 DeedSpeaks total sent_bytes (Answering status carried) = IsStatus status × (carried < 2 ^ 32)
 

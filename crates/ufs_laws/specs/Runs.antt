@@ -10,11 +10,11 @@ use Rattle.ufs_spec.specs.Dies.{blank_page}
 use Rattle.ufs_spec.specs.Disk.{job_of, Erasing, Flight, ForTask, Programming, Reading, Spot}
 use Rattle.ufs_spec.specs.Exchanges.{sense}
 use Rattle.ufs_spec.specs.Lives.{IsOpened, Life}
-use Rattle.ufs_spec.specs.Machine.{Allowed, Answer, Ask, Call, Finish, Finishes, Give, Gives, Heard, Hears, Host, IsHeard, Replies, Spelled, Step, Steps, observe}
+use Rattle.ufs_spec.specs.Machine.{Allowed, Answer, Reply, Call, Done, OfDone, Take, OfTake, Heard, OfHost, Host, IsHeard, OfReply, Spelled, Turn, OfTurn, observe}
 use Rattle.ufs_spec.specs.Messages.{spelling}
 use Rattle.ufs_spec.specs.Moves.{ReadRight, WentWell}
-use Rattle.ufs_spec.specs.Steps.{State}
-use Rattle.ufs_spec.specs.Steps as step
+use Rattle.ufs_spec.specs.Refusals.{State}
+use Rattle.ufs_spec.specs.Refusals as step
 use Rattle.ufs_spec.specs.declared.configs.Numbers.{Numbers}
 use Rattle.ufs_spec.specs.declared.configs.UnitSpec.{UnitSpec}
 use Rattle.ufs_spec.specs.declared.events.Event.{Event}
@@ -91,59 +91,59 @@ abbrev pub IsSaid : Heard → Type 0
 IsSaid h = (bytes : List ℕ) × IsHeard bytes h
 
 abbrev pub heard : Answer
-heard = Hears (Ok tt)
+heard = OfHost (Ok tt)
 
 abbrev pub ready_message : Message
 ready_message = message.ReadyToTransfer 0 7 0 4096
 
 abbrev pub ready : Answer
-ready = Replies (Some ready_message)
+ready = OfReply (Some ready_message)
 
 abbrev pub data_message : List ℕ → Message
 data_message body = message.DataIn 0 8 0 (record { items = body })
 
 abbrev pub data_in : List ℕ → Answer
-data_in body = Replies (Some (data_message body))
+data_in body = OfReply (Some (data_message body))
 
 -- RESPONSE with status GOOD and no residual count
 abbrev pub good_message : ℕ → Message
 good_message tag = message.Response 0x00 0 tag 0x00 0x00 0 None
 
 abbrev pub good : ℕ → Answer
-good tag = Replies (Some (good_message tag))
+good tag = OfReply (Some (good_message tag))
 
 -- the job of die 0 ends well
 abbrev pub program_ends : State → Call
-program_ends s = Finish 0 WentWell s.array
+program_ends s = Done 0 WentWell s.array
 
 abbrev pub read_ends : State → Call
-read_ends s = Finish 0 ReadRight s.array
+read_ends s = Done 0 ReadRight s.array
 
 -- The first mark
 
 unfoldable pub state_1 : State → State
-state_1 s = observe s Step (Steps true)
+state_1 s = observe s Turn (OfTurn true)
 
 unfoldable pub state_2 : State → State
-state_2 s = observe (state_1 s) Step (Steps false)
+state_2 s = observe (state_1 s) Turn (OfTurn false)
 
 unfoldable pub state_3 : State → State
-state_3 s = observe (state_2 s) (Give 0) (Gives (Some erase))
+state_3 s = observe (state_2 s) (Take 0) (OfTake (Some erase))
 
 unfoldable pub state_4 : State → State
-state_4 s = observe (state_3 s) (Give 0) (Gives None)
+state_4 s = observe (state_3 s) (Take 0) (OfTake None)
 
 unfoldable pub state_5 : State → State
-state_5 s = observe (state_4 s) (program_ends (state_4 s)) (Finishes true)
+state_5 s = observe (state_4 s) (program_ends (state_4 s)) (OfDone true)
 
 unfoldable pub state_6 : State → State
-state_6 s = observe (state_5 s) (Give 0) (Gives (Some mark_program))
+state_6 s = observe (state_5 s) (Take 0) (OfTake (Some mark_program))
 
 unfoldable pub state_7 : State → State
-state_7 s = observe (state_6 s) (program_ends (state_6 s)) (Finishes true)
+state_7 s = observe (state_6 s) (program_ends (state_6 s)) (OfDone true)
 
 unfoldable pub state_8 : State → State
-state_8 s = observe (state_7 s) Step (Steps false)
+state_8 s = observe (state_7 s) Turn (OfTurn false)
 
 -- A block is written
 
@@ -151,28 +151,28 @@ unfoldable pub state_9 : State → State
 state_9 s = observe (state_8 s) (Host the_write) heard
 
 unfoldable pub state_10 : State → State
-state_10 s = observe (state_9 s) Ask ready
+state_10 s = observe (state_9 s) Reply ready
 
 unfoldable pub state_11 : State → State
-state_11 s = observe (state_10 s) Ask (Replies None)
+state_11 s = observe (state_10 s) Reply (OfReply None)
 
 unfoldable pub state_12 : State → List ℕ → State
 state_12 s body = observe (state_11 s) (Host (the_data body)) heard
 
 unfoldable pub state_13 : State → List ℕ → State
-state_13 s body = observe (state_12 s body) Ask (Replies None)
+state_13 s body = observe (state_12 s body) Reply (OfReply None)
 
 unfoldable pub state_14 : State → List ℕ → State
-state_14 s body = observe (state_13 s body) (Give 0) (Gives (Some (data_program body)))
+state_14 s body = observe (state_13 s body) (Take 0) (OfTake (Some (data_program body)))
 
 unfoldable pub state_15 : State → List ℕ → State
-state_15 s body = observe (state_14 s body) Ask (Replies None)
+state_15 s body = observe (state_14 s body) Reply (OfReply None)
 
 unfoldable pub state_16 : State → List ℕ → State
-state_16 s body = observe (state_15 s body) (program_ends (state_15 s body)) (Finishes true)
+state_16 s body = observe (state_15 s body) (program_ends (state_15 s body)) (OfDone true)
 
 unfoldable pub state_17 : State → List ℕ → State
-state_17 s body = observe (state_16 s body) Ask (good 7)
+state_17 s body = observe (state_16 s body) Reply (good 7)
 
 -- It is read
 
@@ -180,22 +180,22 @@ unfoldable pub state_18 : State → List ℕ → State
 state_18 s body = observe (state_17 s body) (Host the_read) heard
 
 unfoldable pub state_19 : State → List ℕ → State
-state_19 s body = observe (state_18 s body) Ask (Replies None)
+state_19 s body = observe (state_18 s body) Reply (OfReply None)
 
 unfoldable pub state_20 : State → List ℕ → State
-state_20 s body = observe (state_19 s body) (Give 0) (Gives (Some data_read))
+state_20 s body = observe (state_19 s body) (Take 0) (OfTake (Some data_read))
 
 unfoldable pub state_21 : State → List ℕ → State
-state_21 s body = observe (state_20 s body) (read_ends (state_20 s body)) (Finishes true)
+state_21 s body = observe (state_20 s body) (read_ends (state_20 s body)) (OfDone true)
 
 unfoldable pub state_22 : State → List ℕ → State
-state_22 s body = observe (state_21 s body) Ask (data_in body)
+state_22 s body = observe (state_21 s body) Reply (data_in body)
 
 unfoldable pub state_23 : State → List ℕ → State
-state_23 s body = observe (state_22 s body) Ask (good 8)
+state_23 s body = observe (state_22 s body) Reply (good 8)
 
 unfoldable pub state_24 : State → List ℕ → State
-state_24 s body = observe (state_23 s body) Ask (Replies None)
+state_24 s body = observe (state_23 s body) Reply (OfReply None)
 
 -- The run as events and outputs
 
@@ -260,7 +260,7 @@ pub record IsIdle (s : State) : Type 0 where
 -- a COMMAND is taken, and this RESPONSE is the one reply
 pub record IsAnswered (s : State) (h : Heard) (m : Message) : Type 0 where
   pub taken : Gets s (Host h) heard
-  pub reply : Gets (observe s (Host h) heard) Ask (Replies (Some m))
+  pub reply : Gets (observe s (Host h) heard) Reply (OfReply (Some m))
 
 -- RESPONSE with CHECK CONDITION and ILLEGAL REQUEST: underflow, of all that was expected
 abbrev pub refused : ℕ → ℕ → ℕ → ℕ → Message

@@ -4,7 +4,7 @@ use Rattle.ufs_laws.specs.Runs.{IsAnswered}
 use Rattle.ufs_spec.specs.Cdbs.{cdb_bytes}
 use Rattle.ufs_spec.specs.Exchanges.{Status, response}
 use Rattle.ufs_spec.specs.Machine.{Heard, Spelled}
-use Rattle.ufs_spec.specs.Steps.{Request, State}
+use Rattle.ufs_spec.specs.Refusals.{Request, State}
 use Rattle.ufs_spec.specs.declared.messages.Message.TheVariants as message
 use Rattle.ufs_spec.specs.declared.scsi.Cdb.{Cdb}
 use Rattle.ufs_spec.specs.declared.scsi.Cdb.TheVariants as cdb

@@ -15,25 +15,25 @@ ghost use Rattle.ufs_spec.specs.Cells.{Array, Cell, Cells, IsCell, Nothing, Show
 ghost use Rattle.ufs_spec.specs.Dies.{blank_page};
 ghost use Rattle.ufs_spec.specs.Disk.{CellCrash, Crash, Erasing, Flight, Programming, Reader, Reading, Spot, Touches, at_place, job_of, page_of, same_spot, spot_of, at_die};
 ghost use Rattle.ufs_spec.specs.Lives.{IsCall, IsOpened, Leads, Life};
-ghost use Rattle.ufs_spec.specs.Machine.{Allowed, Answer, Ask, Call, Due, Faulty, Finish, Finishes, Give, Gives, Heard, Hears, Host, IsHeard, Replies, Spelled, Step, Steps, aborts, carried_out, fills, heard, in_block, observe, service, service_of, with_short};
+ghost use Rattle.ufs_spec.specs.Machine.{Allowed, Answer, Reply, Call, Due, Faulty, Done, OfDone, Take, OfTake, Heard, OfHost, Host, IsHeard, OfReply, Spelled, Turn, OfTurn, aborts, carried_out, fills, heard, in_block, observe, service, service_of, with_short};
 ghost use Rattle.ufs_spec.specs.Exchanges.{short_reply};
 ghost use Rattle.ufs_spec.specs.Messages.{IsAmong, code_of, host_codes, known_codes, read_fault_of};
 ghost use Rattle.ufs_spec.specs.Moves.{Ending};
 ghost use Rattle.ufs_spec.specs.Pages.{IsCheckRight};
 ghost use Rattle.ufs_spec.specs.Plain.{zero};
-ghost use Rattle.ufs_spec.specs.Steps.{Lun, State, lun_of, mended, numbers_of};
+ghost use Rattle.ufs_spec.specs.Refusals.{Lun, State, lun_of, mended, numbers_of};
 ghost use Rattle.ufs_spec.specs.Translation.{MayTake, Translation, Want, is_idle, is_step_due, want_at, wants_on};
 
 /// In every state each of the five calls has a right answer: to a die a job or none, and to a host a reply that is due or
 /// none. So an event that is a call leads somewhere.
 pub fn every_call_has_an_answer()
     ensures each { (s : State) (call : Call) → (answer : Answer) × Allowed s call answer }
-    ensures host { (s : State) (heard : Heard) → (result : Result Unit HostFault) × Allowed s (Host heard) (Hears result) }
+    ensures host { (s : State) (heard : Heard) → (result : Result Unit HostFault) × Allowed s (Host heard) (OfHost result) }
     ensures give { (s : State) (die : ℕ) →
         ((flight : Flight) × MayTake s.translation die (Some flight)) ⊎ MayTake s.translation die None }
     ensures finish { (s : State) (die : ℕ) (ending : Ending) (left : Array) →
-        (known : Bool) × Allowed s (Finish die ending left) (Finishes known) }
-    ensures step { (s : State) → (due : Bool) × Allowed s Step (Steps due) }
+        (known : Bool) × Allowed s (Done die ending left) (OfDone known) }
+    ensures step { (s : State) → (due : Bool) × Allowed s Turn (OfTurn due) }
     ensures ask { (s : State) → ((m : Message) × Due s m) ⊎ ((m : Message) → Due s m → ⊥) }
     ensures event { (s : State) (e : Event) (call : Call) → IsCall s e call → (o : Output) × (t : State) × Leads s e o t }
 {}
@@ -42,13 +42,13 @@ pub fn every_call_has_an_answer()
 pub fn one_answer()
     ensures host { (s : State) (heard : Heard) (a b : Answer) → Allowed s (Host heard) a → Allowed s (Host heard) b → a ≡ b }
     ensures finish { (s : State) (die : ℕ) (ending : Ending) (left : Array) (a b : Answer) →
-        Allowed s (Finish die ending left) a → Allowed s (Finish die ending left) b → a ≡ b }
-    ensures step { (s : State) (a b : Answer) → Allowed s Step a → Allowed s Step b → a ≡ b }
+        Allowed s (Done die ending left) a → Allowed s (Done die ending left) b → a ≡ b }
+    ensures step { (s : State) (a b : Answer) → Allowed s Turn a → Allowed s Turn b → a ≡ b }
     ensures job { (s : State) (die : ℕ) (f g : Flight) → wants_on s.translation die ≡ [] →
-        Allowed s (Give die) (Gives (Some f)) → Allowed s (Give die) (Gives (Some g)) → f ≡ g }
+        Allowed s (Take die) (OfTake (Some f)) → Allowed s (Take die) (OfTake (Some g)) → f ≡ g }
     ensures job_or_none { (s : State) (die : ℕ) (flight : Flight) →
-        Allowed s (Give die) (Gives None) → Allowed s (Give die) (Gives (Some flight)) → ⊥ }
-    ensures reply_or_none { (s : State) (m : Message) → Allowed s Ask (Replies None) → Allowed s Ask (Replies (Some m)) → ⊥ }
+        Allowed s (Take die) (OfTake None) → Allowed s (Take die) (OfTake (Some flight)) → ⊥ }
+    ensures reply_or_none { (s : State) (m : Message) → Allowed s Reply (OfReply None) → Allowed s Reply (OfReply (Some m)) → ⊥ }
 {}
 
 /// A die is given a job only where it is one of the device's and has none; the job lies on it and is its own until it
@@ -58,30 +58,30 @@ pub fn one_job_a_die()
     ensures there { (t : Translation) (die : ℕ) (flight : Flight) → MayTake t die (Some flight) → die < t.numbers.dies }
     ensures here { (t : Translation) (die : ℕ) (flight : Flight) → MayTake t die (Some flight) → die_of_flight flight ≡ die }
     ensures own { (s : State) (die : ℕ) (flight : Flight) →
-        option_map job_of ((observe s (Give die) (Gives (Some flight))).translation.disk.flights die) ≡ Some (job_of flight) }
+        option_map job_of ((observe s (Take die) (OfTake (Some flight))).translation.disk.flights die) ≡ Some (job_of flight) }
     ensures others { (s : State) (die : ℕ) (flight : Flight) (other : ℕ) → other ≢ die →
-        option_map job_of ((observe s (Give die) (Gives (Some flight))).translation.disk.flights other)
+        option_map job_of ((observe s (Take die) (OfTake (Some flight))).translation.disk.flights other)
         ≡ option_map job_of (s.translation.disk.flights other) }
     ensures none { (s : State) (die other : ℕ) →
-        option_map job_of ((observe s (Give die) (Gives None)).translation.disk.flights other)
+        option_map job_of ((observe s (Take die) (OfTake None)).translation.disk.flights other)
         ≡ option_map job_of (s.translation.disk.flights other) }
     ensures ends { (s : State) (die : ℕ) (flight : Flight) (ending : Ending) (left : Array) →
         s.translation.disk.flights die ≡ Some flight → die_of_flight flight ≡ die →
-        Allowed s (Finish die ending left) (Finishes true) →
-        (observe s (Finish die ending left) (Finishes true)).translation.disk.flights die ≡ None }
+        Allowed s (Done die ending left) (OfDone true) →
+        (observe s (Done die ending left) (OfDone true)).translation.disk.flights die ≡ None }
     ensures ends_alone { (s : State) (die : ℕ) (flight : Flight) (ending : Ending) (left : Array) →
         s.translation.disk.flights die ≡ Some flight → die_of_flight flight ≡ die →
-        Allowed s (Finish die ending left) (Finishes true) → (other : ℕ) → other ≢ die →
-        option_map job_of ((observe s (Finish die ending left) (Finishes true)).translation.disk.flights other)
+        Allowed s (Done die ending left) (OfDone true) → (other : ℕ) → other ≢ die →
+        option_map job_of ((observe s (Done die ending left) (OfDone true)).translation.disk.flights other)
         ≡ option_map job_of (s.translation.disk.flights other) }
     ensures host { (s : State) (heard : Heard) (result : Result Unit HostFault) (die : ℕ) →
-        option_map job_of ((observe s (Host heard) (Hears result)).translation.disk.flights die)
+        option_map job_of ((observe s (Host heard) (OfHost result)).translation.disk.flights die)
         ≡ option_map job_of (s.translation.disk.flights die) }
     ensures step { (s : State) (due : Bool) (die : ℕ) →
-        option_map job_of ((observe s Step (Steps due)).translation.disk.flights die)
+        option_map job_of ((observe s Turn (OfTurn due)).translation.disk.flights die)
         ≡ option_map job_of (s.translation.disk.flights die) }
     ensures ask { (s : State) (reply : Option Message) (die : ℕ) →
-        option_map job_of ((observe s Ask (Replies reply)).translation.disk.flights die)
+        option_map job_of ((observe s Reply (OfReply reply)).translation.disk.flights die)
         ≡ option_map job_of (s.translation.disk.flights die) }
 {}
 
@@ -97,14 +97,14 @@ pub fn any_owed_read_may_go()
 pub fn no_request_fills_nothing()
     ensures nothing { (s : State) → HaveNoRequest s.tasks → fills s ≡ s }
     ensures given { (s : State) (die : ℕ) (flight : Flight) → HaveNoRequest s.tasks →
-        (observe s (Give die) (Gives (Some flight))).translation.disk.flights
+        (observe s (Take die) (OfTake (Some flight))).translation.disk.flights
         ≡ at_die s.translation.disk.flights die (Some flight) }
     ensures not_given { (s : State) (die : ℕ) → HaveNoRequest s.tasks →
-        (observe s (Give die) (Gives None)).translation.disk.flights ≡ s.translation.disk.flights }
+        (observe s (Take die) (OfTake None)).translation.disk.flights ≡ s.translation.disk.flights }
     ensures ended { (s : State) (die : ℕ) (flight : Flight) (ending : Ending) (left : Array) → HaveNoRequest s.tasks →
         s.translation.disk.flights die ≡ Some flight → die_of_flight flight ≡ die →
-        Allowed s (Finish die ending left) (Finishes true) →
-        (observe s (Finish die ending left) (Finishes true)).translation.disk.flights
+        Allowed s (Done die ending left) (OfDone true) →
+        (observe s (Done die ending left) (OfDone true)).translation.disk.flights
         ≡ at_die s.translation.disk.flights die None }
 {}
 
@@ -175,7 +175,7 @@ pub fn new_dies_open()
         Due s m → ⊥ }
     ensures first_job { (n : Numbers) (array : Array) (bad : Spot → Bool) (s : State) → ((p : Place) → array p ≡ blank_page) →
         IsOpened n array bad s → (good : Spot) → good.die < n.dies → good.block < n.blocks → bad good ≡ false →
-        (spot : Spot) × MayTake (observe s Step (Steps true)).translation good.die (Some (Erasing spot)) }
+        (spot : Spot) × MayTake (observe s Turn (OfTurn true)).translation good.die (Some (Erasing spot)) }
 {}
 
 /// A task management request that is answered other than 00h changes no task, nor anything else but its own answer: one

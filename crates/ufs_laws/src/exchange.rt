@@ -18,7 +18,7 @@ ghost use Rattle.ufs_spec.specs.Lives.{IsOpened, Life};
 ghost use Rattle.ufs_spec.specs.Machine.{Allowed, Answer, Call, Heard, IsHeard, begun, blocks_expected, blocks_in, claimed_by, data_for, deed_behind, deed_reply, in_use, message_fault, observe, read_begun, read_blocks, set_deed, tag_in, without_tasks};
 ghost use Rattle.ufs_spec.specs.Messages.{IsAmong};
 ghost use Rattle.ufs_spec.specs.Plain.{block_at};
-ghost use Rattle.ufs_spec.specs.Steps.{Request, State, locked, plain_now, refusal};
+ghost use Rattle.ufs_spec.specs.Refusals.{Request, State, locked, plain_now, refusal};
 
 /// Every list of bytes is heard, as a message with its command or none, or as a fault; and as one thing alone.
 pub fn every_byte_string_is_heard()

@@ -4,9 +4,9 @@ ghost use Rattle.ufs_spec.specs.Commands.{Command};
 ghost use Rattle.ufs_spec.specs.Commands as command;
 ghost use Rattle.ufs_spec.specs.Exchanges.{Awaiting, Short, Task, is_short_of, task_of};
 ghost use Rattle.ufs_spec.specs.Lives.{Life, held};
-ghost use Rattle.ufs_spec.specs.Machine.{Ask, Replies, accepts, blocks_in, flush_begun, observe, set_deed, tag_in, task_replied, with_task, write_complete};
-ghost use Rattle.ufs_spec.specs.Moves.{Tell, moved};
-ghost use Rattle.ufs_spec.specs.Steps.{Request, State, locked};
+ghost use Rattle.ufs_spec.specs.Machine.{Reply, OfReply, accepts, blocks_in, flush_begun, observe, set_deed, tag_in, task_replied, with_task, write_complete};
+ghost use Rattle.ufs_spec.specs.Moves.{Acknowledge, moved};
+ghost use Rattle.ufs_spec.specs.Refusals.{Request, State, locked};
 ghost use Rattle.ufs_spec.specs.Translation.{Translation};
 ghost use Rattle.ufs_spec.specs.declared.Cdb.{Cdb};
 ghost use Rattle.ufs_spec.specs.declared.Event.{Event};
@@ -24,7 +24,7 @@ pub fn acknowledged_commands_are_held()
         flush_begun s r c false ≡ with_task s r (Some c) 0 (Awaiting (length s.accepted)) }
     ensures handed_out { (s : State) (task : Task) (n : ℕ) → task.deed ≡ Awaiting n →
         held (task_replied s task) ≡ max (held s) n }
-    ensures told { (t : Translation) (n : ℕ) → (moved t (Tell n)).ledger.held ≡ max t.ledger.held n }
+    ensures told { (t : Translation) (n : ℕ) → (moved t (Acknowledge n)).ledger.held ≡ max t.ledger.held n }
 {}
 
 /// Along a life no acknowledged command is taken back, and each accepted command keeps its place. Once the answer of a
@@ -35,9 +35,9 @@ pub fn held_commands_stay_held()
         (more : List Command) × (t.accepted ≡ s.accepted ++ more) }
     ensures task { (s t : State) (m : Message) (task : Task) (n : ℕ) (es : List Event) (os : List Output) →
         task_of (tag_in m) s.tasks ≡ Some task → task.deed ≡ Awaiting n →
-        Life (observe s Ask (Replies (Some m))) es os t → n ≤ held t }
+        Life (observe s Reply (OfReply (Some m))) es os t → n ≤ held t }
     ensures short { (s t : State) (m : Message) (short : Short) (n : ℕ) (es : List Event) (os : List Output) →
         task_of (tag_in m) s.tasks ≡ None → find (is_short_of (tag_in m)) s.shorts ≡ Some short →
         short.awaits ≡ Some n →
-        Life (observe s Ask (Replies (Some m))) es os t → n ≤ held t }
+        Life (observe s Reply (OfReply (Some m))) es os t → n ≤ held t }
 {}

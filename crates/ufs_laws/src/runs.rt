@@ -7,46 +7,46 @@ ghost use Rattle.ufs_spec.specs.declared.Message.TheVariants as message;
 ghost use Rattle.ufs_spec.specs.Cdbs.{read_10};
 ghost use Rattle.ufs_spec.specs.Keys.{IsBlock};
 ghost use Rattle.ufs_spec.specs.Lives.{held};
-ghost use Rattle.ufs_spec.specs.Machine.{Ask, Finishes, Give, Gives, Host, Replies, Spelled, Step, Steps};
-ghost use Rattle.ufs_spec.specs.Steps.{State, mended, well_known};
+ghost use Rattle.ufs_spec.specs.Machine.{Reply, OfDone, Take, OfTake, Host, OfReply, Spelled, Turn, OfTurn};
+ghost use Rattle.ufs_spec.specs.Refusals.{State, mended, well_known};
 
 /// A new device programs its first mark, is mended, writes a block with FUA and reads it again: each call gets the answer
 /// that it should, and no other.
 pub fn a_written_block_is_read()
     ensures new_device { (s : State) × IsNew s }
-    ensures mark_is_ordered { (s : State) → IsNew s → Gets s Step (Steps true) }
-    ensures no_other_step { (s : State) → IsNew s → Gets (state_1 s) Step (Steps false) }
-    ensures block_is_erased { (s : State) → IsNew s → Gets (state_2 s) (Give 0) (Gives (Some erase)) }
-    ensures die_is_busy { (s : State) → IsNew s → Gets (state_3 s) (Give 0) (Gives None) }
-    ensures erase_ends { (s : State) → IsNew s → Gets (state_4 s) (program_ends (state_4 s)) (Finishes true) }
-    ensures mark_is_programmed { (s : State) → IsNew s → Gets (state_5 s) (Give 0) (Gives (Some mark_program)) }
-    ensures mark_ends { (s : State) → IsNew s → Gets (state_6 s) (program_ends (state_6 s)) (Finishes true) }
+    ensures mark_is_ordered { (s : State) → IsNew s → Gets s Turn (OfTurn true) }
+    ensures no_other_step { (s : State) → IsNew s → Gets (state_1 s) Turn (OfTurn false) }
+    ensures block_is_erased { (s : State) → IsNew s → Gets (state_2 s) (Take 0) (OfTake (Some erase)) }
+    ensures die_is_busy { (s : State) → IsNew s → Gets (state_3 s) (Take 0) (OfTake None) }
+    ensures erase_ends { (s : State) → IsNew s → Gets (state_4 s) (program_ends (state_4 s)) (OfDone true) }
+    ensures mark_is_programmed { (s : State) → IsNew s → Gets (state_5 s) (Take 0) (OfTake (Some mark_program)) }
+    ensures mark_ends { (s : State) → IsNew s → Gets (state_6 s) (program_ends (state_6 s)) (OfDone true) }
     ensures is_mended { (s : State) → IsNew s → mended (state_7 s) ≡ true }
-    ensures no_job_behind_the_mark { (s : State) → IsNew s → Gets (state_7 s) (Give 0) (Gives None) }
-    ensures no_more_steps { (s : State) → IsNew s → Gets (state_7 s) Step (Steps false) }
+    ensures no_job_behind_the_mark { (s : State) → IsNew s → Gets (state_7 s) (Take 0) (OfTake None) }
+    ensures no_more_steps { (s : State) → IsNew s → Gets (state_7 s) Turn (OfTurn false) }
     ensures write_can_be_said { IsSaid the_write }
     ensures write_is_taken { (s : State) → IsNew s → Gets (state_8 s) (Host the_write) heard }
-    ensures data_are_asked_for { (s : State) → IsNew s → Gets (state_9 s) Ask ready }
-    ensures once { (s : State) → IsNew s → Gets (state_10 s) Ask (Replies None) }
+    ensures data_are_asked_for { (s : State) → IsNew s → Gets (state_9 s) Reply ready }
+    ensures once { (s : State) → IsNew s → Gets (state_10 s) Reply (OfReply None) }
     ensures data_can_be_said { (body : List ℕ) → IsBlock body → IsSaid (the_data body) }
     ensures data_are_taken { Always (λ s body. Gets (state_11 s) (Host (the_data body)) heard) }
-    ensures no_answer_before_the_program { Always (λ s body. Gets (state_12 s body) Ask (Replies None)) }
-    ensures block_is_programmed { Always (λ s body. Gets (state_13 s body) (Give 0) (Gives (Some (data_program body)))) }
-    ensures no_answer_in_the_program { Always (λ s body. Gets (state_14 s body) Ask (Replies None)) }
-    ensures program_is_done { Always (λ s body. Gets (state_15 s body) (program_ends (state_15 s body)) (Finishes true)) }
-    ensures write_is_answered { Always (λ s body. Gets (state_16 s body) Ask (good 7)) }
+    ensures no_answer_before_the_program { Always (λ s body. Gets (state_12 s body) Reply (OfReply None)) }
+    ensures block_is_programmed { Always (λ s body. Gets (state_13 s body) (Take 0) (OfTake (Some (data_program body)))) }
+    ensures no_answer_in_the_program { Always (λ s body. Gets (state_14 s body) Reply (OfReply None)) }
+    ensures program_is_done { Always (λ s body. Gets (state_15 s body) (program_ends (state_15 s body)) (OfDone true)) }
+    ensures write_is_answered { Always (λ s body. Gets (state_16 s body) Reply (good 7)) }
     ensures write_is_held { Always (λ s body. held (state_17 s body) ≡ 1) }
     ensures no_task_is_open { Always (λ s body. (state_17 s body).tasks ≡ []) }
-    ensures no_job_behind_the_write { Always (λ s body. Gets (state_17 s body) (Give 0) (Gives None)) }
+    ensures no_job_behind_the_write { Always (λ s body. Gets (state_17 s body) (Take 0) (OfTake None)) }
     ensures read_can_be_said { IsSaid the_read }
     ensures read_is_taken { Always (λ s body. Gets (state_17 s body) (Host the_read) heard) }
-    ensures no_data_before_the_read { Always (λ s body. Gets (state_18 s body) Ask (Replies None)) }
-    ensures page_is_read { Always (λ s body. Gets (state_19 s body) (Give 0) (Gives (Some data_read))) }
-    ensures read_is_done { Always (λ s body. Gets (state_20 s body) (read_ends (state_20 s body)) (Finishes true)) }
-    ensures page_is_read_once { Always (λ s body. Gets (state_21 s body) (Give 0) (Gives None)) }
-    ensures block_is_sent { Always (λ s body. Gets (state_21 s body) Ask (data_in body)) }
-    ensures read_is_answered { Always (λ s body. Gets (state_22 s body) Ask (good 8)) }
-    ensures nothing_more { Always (λ s body. Gets (state_23 s body) Ask (Replies None)) }
+    ensures no_data_before_the_read { Always (λ s body. Gets (state_18 s body) Reply (OfReply None)) }
+    ensures page_is_read { Always (λ s body. Gets (state_19 s body) (Take 0) (OfTake (Some data_read))) }
+    ensures read_is_done { Always (λ s body. Gets (state_20 s body) (read_ends (state_20 s body)) (OfDone true)) }
+    ensures page_is_read_once { Always (λ s body. Gets (state_21 s body) (Take 0) (OfTake None)) }
+    ensures block_is_sent { Always (λ s body. Gets (state_21 s body) Reply (data_in body)) }
+    ensures read_is_answered { Always (λ s body. Gets (state_22 s body) Reply (good 8)) }
+    ensures nothing_more { Always (λ s body. Gets (state_23 s body) Reply (OfReply None)) }
     ensures life { Always IsRunOf }
 {}
 

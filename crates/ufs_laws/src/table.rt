@@ -11,7 +11,7 @@ ghost use Rattle.ufs_spec.specs.Exchanges.{Busy, Status, TaskSetFull, invalid_fi
 ghost use Rattle.ufs_spec.specs.Machine.{command_heard, with_short};
 ghost use Rattle.ufs_spec.specs.Messages.{is_among};
 ghost use Rattle.ufs_spec.specs.Stages.{most_tasks};
-ghost use Rattle.ufs_spec.specs.Steps.{BootUnit, Request, State, first_line, has_other_response, has_wrong_list, is_boot_read, is_crowded, is_refused_write, is_too_long, lacks_response, lines_for, locked, mended, not_taken, operations_of, refusal};
+ghost use Rattle.ufs_spec.specs.Refusals.{BootUnit, Request, State, first_line, has_other_response, has_wrong_list, is_boot_read, is_crowded, is_refused_write, is_too_long, lacks_response, lines_for, locked, mended, not_taken, operations_of, refusal};
 ghost use Rattle.ufs_spec.specs.Translation.{free_slots};
 
 /// If two lines of the table apply, the one that stands first decides: for each line a request that a later line would

@@ -1,7 +1,7 @@
 -- What a host can change on a device (JESD220, 10.8 logical units, 12.4 RPMB; the commands are this profile's).
 use Rattle.std.specs.Prelude.{ℕ, List}
 use Rattle.ufs_spec.specs.declared.commands.Cmd.{Cmd}
-use Rattle.ufs_spec.specs.declared.commands.Cmd.TheVariants as held
+use Rattle.ufs_spec.specs.declared.commands.Cmd.TheVariants as cmd
 
 pub data Command : Type 0 where
   -- 1 to 32 blocks are written to a unit, from an address on
@@ -19,9 +19,9 @@ pub data Command : Type 0 where
 
 -- the command that a value of the code is
 abbrev pub command_of : Cmd → Command
-command_of (held.Write unit address blocks) = Write unit address blocks.items
-command_of (held.Zero unit address count) = Zero unit address count
-command_of (held.Key key) = SetKey key
-command_of (held.RpmbWrite address bytes) = RpmbWrite address bytes.items
-command_of (held.SetBoot boot) = SetBoot boot
-command_of held.SetPermanent = SetPermanent
+command_of (cmd.Write unit address blocks) = Write unit address blocks.items
+command_of (cmd.Zero unit address count) = Zero unit address count
+command_of (cmd.Key key) = SetKey key
+command_of (cmd.RpmbWrite address bytes) = RpmbWrite address bytes.items
+command_of (cmd.SetBoot boot) = SetBoot boot
+command_of cmd.SetPermanent = SetPermanent

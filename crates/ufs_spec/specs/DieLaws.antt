@@ -6,7 +6,7 @@ use Rattle.ufs_spec.specs.declared.flash.Job.{Job}
 use Rattle.ufs_spec.specs.declared.flash.Job.TheVariants as job
 use Rattle.ufs_spec.specs.declared.flash.Outcome.{Outcome}
 use Rattle.ufs_spec.specs.declared.flash.Outcome.TheVariants as outcome
-use Rattle.ufs_spec.specs.Dies.{DieState, IsOfSize, HasPage, page_at, pages_of, ready_page, is_bad_block, blank_page, with_block, with_page, with_bad, programmed, erased, IsFailedProgram, IsFailedErase, power_cycle_ended, new_die, Did, after_job, outcome_of}
+use Rattle.ufs_spec.specs.Dies.{DieState, IsOfSize, LiesOnDie, page_at, pages_of, ready_page, is_bad_block, blank_page, with_block, with_page, with_bad, die_programmed, die_erased, IsFailedProgram, IsFailedErase, power_cycle_ended, new_die, Did, after_job, outcome_of}
 
 -- a new die has its size, and each of its pages is blank
 
@@ -24,7 +24,7 @@ new_die_waits blocks pages b = grind (arith, common_steps)
 
 -- a page written is the one that stands there, and no other page changes
 
-pub with_page_there : (s : DieState) (b p : ℕ) (x : Page) → HasPage s b p → page_at (with_page s b p x) b p ≡ x
+pub with_page_there : (s : DieState) (b p : ℕ) (x : Page) → LiesOnDie s b p → page_at (with_page s b p x) b p ≡ x
 with_page_there s b p x h = grind (arith, common_steps)
 
 pub with_page_elsewhere_in_block : (s : DieState) (b p q : ℕ) (x : Page) → q ≢ p → page_at (with_page s b p x) b q ≡ page_at s b q
@@ -39,7 +39,7 @@ with_block_elsewhere s b c q x h = grind (arith, common_steps)
 pub pages_in : (s : DieState) (b blocks pages : ℕ) → b < blocks → IsOfSize blocks pages s → length (pages_of s b) ≡ pages
 pages_in s b blocks pages less h = grind (arith, common_steps)
 
-pub has_page : (s : DieState) (b p blocks pages : ℕ) → b < blocks → p < pages → IsOfSize blocks pages s → HasPage s b p
+pub has_page : (s : DieState) (b p blocks pages : ℕ) → b < blocks → p < pages → IsOfSize blocks pages s → LiesOnDie s b p
 has_page s b p blocks pages b_in p_in h =
     let e : length (pages_of s b) ≡ pages = pages_in s b blocks pages b_in h in
     (omega arith, omega arith)
@@ -53,13 +53,13 @@ with_page_size s b p blocks pages x h = grind (arith, common_steps)
 pub with_bad_size : (s : DieState) (b blocks pages : ℕ) → IsOfSize blocks pages s → IsOfSize blocks pages (with_bad s b)
 with_bad_size s b blocks pages h = grind (arith, common_steps)
 
-pub programmed_size : (s : DieState) (b p blocks pages : ℕ) (x : Page) → IsOfSize blocks pages s → IsOfSize blocks pages (programmed s b p x)
+pub programmed_size : (s : DieState) (b p blocks pages : ℕ) (x : Page) → IsOfSize blocks pages s → IsOfSize blocks pages (die_programmed s b p x)
 programmed_size s b p blocks pages x h = grind (arith, common_steps)
 
-pub erased_size : (s : DieState) (b blocks pages : ℕ) → IsOfSize blocks pages s → IsOfSize blocks pages (erased s b)
+pub erased_size : (s : DieState) (b blocks pages : ℕ) → IsOfSize blocks pages s → IsOfSize blocks pages (die_erased s b)
 erased_size s b blocks pages h = grind (arith, common_steps)
 
-pub erased_blank : (s : DieState) (b p : ℕ) → b < length s.blocks → page_at (erased s b) b p ≡ blank_page
+pub erased_blank : (s : DieState) (b p : ℕ) → b < length s.blocks → page_at (die_erased s b) b p ≡ blank_page
 erased_blank s b p h = grind (arith, common_steps)
 
 pub power_cycle_size : (s : DieState) (blocks pages : ℕ) → IsOfSize blocks pages s → IsOfSize blocks pages (power_cycle_ended s)
@@ -75,16 +75,16 @@ failed_erase_size s t b blocks pages less h z =
 
 -- which page may be programmed next
 
-pub programmed_next : (s : DieState) (b p : ℕ) (x : Page) → b < length s.ready → ready_page (programmed s b p x) b ≡ Some (p + 1)
+pub programmed_next : (s : DieState) (b p : ℕ) (x : Page) → b < length s.ready → ready_page (die_programmed s b p x) b ≡ Some (p + 1)
 programmed_next s b p x h = grind (arith, common_steps)
 
-pub programmed_next_elsewhere : (s : DieState) (b p c : ℕ) (x : Page) → c ≢ b → ready_page (programmed s b p x) c ≡ ready_page s c
+pub programmed_next_elsewhere : (s : DieState) (b p c : ℕ) (x : Page) → c ≢ b → ready_page (die_programmed s b p x) c ≡ ready_page s c
 programmed_next_elsewhere s b p c x h = grind (arith, common_steps)
 
-pub erased_next : (s : DieState) (b : ℕ) → b < length s.ready → ready_page (erased s b) b ≡ Some 0
+pub erased_next : (s : DieState) (b : ℕ) → b < length s.ready → ready_page (die_erased s b) b ≡ Some 0
 erased_next s b h = grind (arith, common_steps)
 
-pub erased_next_elsewhere : (s : DieState) (b c : ℕ) → c ≢ b → ready_page (erased s b) c ≡ ready_page s c
+pub erased_next_elsewhere : (s : DieState) (b c : ℕ) → c ≢ b → ready_page (die_erased s b) c ≡ ready_page s c
 erased_next_elsewhere s b c h = grind (arith, common_steps)
 
 pub power_cycle_waits : (s : DieState) (b : ℕ) → ready_page (power_cycle_ended s) b ≡ None

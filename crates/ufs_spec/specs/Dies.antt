@@ -48,13 +48,13 @@ IsOfSize blocks pages state =
 -- What may be asked
 
 -- the page lies on the die
-abbrev pub HasPage : DieState → ℕ → ℕ → Type 0
-HasPage state block page = (block < length state.blocks) × (page < length (pages_of state block))
+abbrev pub LiesOnDie : DieState → ℕ → ℕ → Type 0
+LiesOnDie state block page = (block < length state.blocks) × (page < length (pages_of state block))
 
 -- the page may be programmed: its block is not bad, and the page is the next one since an erase in this power cycle
 abbrev pub CanProgram : DieState → ℕ → ℕ → Type 0
 CanProgram state block page =
-    HasPage state block page × (is_bad_block state block ≡ false) × (ready_page state block ≡ Some page)
+    LiesOnDie state block page × (is_bad_block state block ≡ false) × (ready_page state block ≡ Some page)
 
 -- the block may be erased
 abbrev pub CanErase : DieState → ℕ → Type 0
@@ -62,7 +62,7 @@ CanErase state block = (block < length state.blocks) × (is_bad_block state bloc
 
 -- the job may be asked of the die
 abbrev pub CanDo : DieState → Job → Type 0
-CanDo state (job.Read place) = HasPage state place.block place.page
+CanDo state (job.Read place) = LiesOnDie state place.block place.page
 CanDo state (job.Program place page) = CanProgram state place.block place.page
 CanDo state (job.Erase die block) = CanErase state block
 
@@ -82,13 +82,13 @@ with_bad state block =
     record state { ready = slice_set state.ready block None; bad = slice_set state.bad block true }
 
 -- a finished program: the page has its content, and the one behind it is next
-abbrev pub programmed : DieState → ℕ → ℕ → Page → DieState
-programmed state block page content =
+abbrev pub die_programmed : DieState → ℕ → ℕ → Page → DieState
+die_programmed state block page content =
     record (with_page state block page content) { ready = slice_set state.ready block (Some (page + 1)) }
 
 -- a finished erase: the block's pages are blank, and its first page is next
-abbrev pub erased : DieState → ℕ → DieState
-erased state block =
+abbrev pub die_erased : DieState → ℕ → DieState
+die_erased state block =
     record (with_block state block (replicate (length (pages_of state block)) blank_page)) {
       ready = slice_set state.ready block (Some 0);
     }
@@ -111,8 +111,8 @@ IsFailedErase before block after =
 -- the die after a finished job
 abbrev pub after_job : DieState → Job → DieState
 after_job state (job.Read place) = state
-after_job state (job.Program place page) = programmed state place.block place.page page
-after_job state (job.Erase die block) = erased state block
+after_job state (job.Program place page) = die_programmed state place.block place.page page
+after_job state (job.Erase die block) = die_erased state block
 
 -- how a finished job ended
 abbrev pub outcome_of : DieState → Job → Outcome
@@ -127,10 +127,10 @@ Did failed now before (job.Read place) (outcome.Read page) after =
     (page ≡ page_at before place.block place.page) × (after ≡ before) × (failed ≤ now)
 Did failed now before (job.Read place) outcome.ReadFailed after = (after ≡ before) × (failed < now)
 Did failed now before (job.Program place page) outcome.Done after =
-    (after ≡ programmed before place.block place.page page) × (failed ≤ now)
+    (after ≡ die_programmed before place.block place.page page) × (failed ≤ now)
 Did failed now before (job.Program place page) outcome.Failed after =
     IsFailedProgram before place.block place.page page after × (failed < now)
-Did failed now before (job.Erase die block) outcome.Done after = (after ≡ erased before block) × (failed ≤ now)
+Did failed now before (job.Erase die block) outcome.Done after = (after ≡ die_erased before block) × (failed ≤ now)
 Did failed now before (job.Erase die block) outcome.Failed after = IsFailedErase before block after × (failed < now)
 Did failed now before _ _ after = ⊥
 

@@ -96,8 +96,8 @@ erasing_begun d (Erasing s) = at_spot d.erasing s true
 erasing_begun d _ = d.erasing
 
 -- the die has a job
-abbrev pub begun : Disk → ℕ → Flight → Disk
-begun d die flight = record d { flights = at_die d.flights die (Some flight); erasing = erasing_begun d flight }
+abbrev pub job_begun : Disk → ℕ → Flight → Disk
+job_begun d die flight = record d { flights = at_die d.flights die (Some flight); erasing = erasing_begun d flight }
 
 -- the die has none
 abbrev pub ended : Disk → ℕ → Disk

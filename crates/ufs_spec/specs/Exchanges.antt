@@ -118,7 +118,7 @@ pub data Deed : Type 0 where
   -- it sends the blocks of a READ, so many of which were handed out
   Sending : (blocks : List ReadBlock) → (sent : ℕ) → Deed
   -- it sends these bytes in one DATA IN
-  Telling : (bytes : List ℕ) → Deed
+  SendingBytes : (bytes : List ℕ) → Deed
   -- its GOOD is due once so many accepted commands are durable
   Awaiting : (commands : ℕ) → Deed
   -- its answer is due, and so many bytes are the command's or were carried
@@ -219,7 +219,7 @@ abbrev pub is_asked_in : Task → ℕ → ℕ → ℕ → Deed → Bool
 is_asked_in task lun offset count (Gathering purpose gathered asked) =
     asked && (task.lun == lun) && (offset == length gathered) && (count == count_at task.length (length gathered))
 is_asked_in task lun offset count (Sending blocks sent) = false
-is_asked_in task lun offset count (Telling bytes) = false
+is_asked_in task lun offset count (SendingBytes bytes) = false
 is_asked_in task lun offset count (Awaiting commands) = false
 is_asked_in task lun offset count (Answering status carried) = false
 

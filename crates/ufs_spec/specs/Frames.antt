@@ -6,7 +6,7 @@ use Rattle.ufs_spec.specs.Messages.{AreBytes}
 -- a frame of 512 bytes: 196 stuff bytes, the key or the MAC of 32, 256 of data, a nonce of 16, and five numbers
 pub record Frame : Type 0 where
   pub stuff : List ℕ
-  pub mac : List ℕ
+  pub key_or_mac : List ℕ
   pub payload : List ℕ
   pub nonce : List ℕ
   pub counter : ℕ
@@ -23,12 +23,12 @@ covered_bytes f =
 
 -- the 512 bytes of a frame
 abbrev pub frame_bytes : Frame → List ℕ
-frame_bytes f = f.stuff ++ f.mac ++ covered_bytes f
+frame_bytes f = f.stuff ++ f.key_or_mac ++ covered_bytes f
 
 -- the parts of a frame have their lengths and widths
 pub record IsFrame (f : Frame) : Type 0 where
   pub stuff : (length f.stuff ≡ 196) × AreBytes f.stuff
-  pub mac : (length f.mac ≡ 32) × AreBytes f.mac
+  pub key_or_mac : (length f.key_or_mac ≡ 32) × AreBytes f.key_or_mac
   pub payload : (length f.payload ≡ 256) × AreBytes f.payload
   pub nonce : (length f.nonce ≡ 16) × AreBytes f.nonce
   pub counter : f.counter < 2 ^ 32

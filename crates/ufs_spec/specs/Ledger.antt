@@ -24,12 +24,12 @@ pub record Ledger : Type 0 where
   -- the contents at the life's start
   pub base : Contents
   -- the pages that stood then, by name, and of each key the one that had its content
-  pub old : ℕ → ℕ → Option Entry
-  pub first : Key → Option Name
-  -- the greatest number seen then; numbers from `low` to it are lost, none where `low` is above it
-  pub top : ℕ
-  pub low : ℕ
-  -- the groups of this life, numbered from top + 1 on: repairs, and then those of accepted commands
+  pub entries_before : ℕ → ℕ → Option Entry
+  pub first_page : Key → Option Name
+  -- the greatest number seen then; numbers from `first_lost` to it are lost, none if `first_lost` is above it
+  pub greatest_seen : ℕ
+  pub first_lost : ℕ
+  -- the groups of this life, numbered from greatest_seen + 1 on: repairs, and then those of accepted commands
   pub groups : List Group
   pub repairs : ℕ
   -- where the page of a name stands, or stood before its block was erased: the copy whose program ended last
@@ -45,7 +45,7 @@ pub record Ledger : Type 0 where
 -- Groups by number
 
 abbrev pub group_at : Ledger → ℕ → Option Group
-group_at l n = if nat_le n l.top then None else slice_get l.groups (n - l.top - 1)
+group_at l n = if nat_le n l.greatest_seen then None else slice_get l.groups (n - l.greatest_seen - 1)
 
 -- a page of a group of this life
 abbrev pub entry_in : Group → ℕ → Option Entry
@@ -54,19 +54,19 @@ entry_in g i = option_map (λ item. record { item = item; size = length g }) (sl
 -- a page of an earlier life or of this one
 abbrev pub entry_of : Ledger → Name → Option Entry
 entry_of l name =
-    if nat_le name.number l.top then l.old name.number name.index
+    if nat_le name.number l.greatest_seen then l.entries_before name.number name.index
     else option_and_then (λ g. entry_in g name.index) (group_at l name.number)
 
 -- the number of the next group
 abbrev pub next_number : Ledger → ℕ
-next_number l = l.top + length l.groups + 1
+next_number l = l.greatest_seen + length l.groups + 1
 
 -- the groups of accepted commands, and the number before the first of them
 abbrev pub accepted_groups : Ledger → List Group
 accepted_groups l = drop l.repairs l.groups
 
 abbrev pub before_accepted : Ledger → ℕ
-before_accepted l = l.top + l.repairs
+before_accepted l = l.greatest_seen + l.repairs
 
 -- the groups that are accepted and not durable, in order of number
 abbrev pub pending : Ledger → List Group
@@ -74,7 +74,7 @@ pending l = drop (l.frontier - before_accepted l) (accepted_groups l)
 
 -- the contents after the groups that are durable, and after all groups
 abbrev pub durable_contents : Ledger → Contents
-durable_contents l = put_groups l.base (take (l.frontier - l.top) l.groups)
+durable_contents l = put_groups l.base (take (l.frontier - l.greatest_seen) l.groups)
 
 abbrev pub all_contents : Ledger → Contents
 all_contents l = put_groups l.base l.groups
@@ -100,7 +100,7 @@ at_name f name x n i = if (n == name.number) && (i == name.index) then x else f 
 
 -- the frontier climbs over the groups that are wholly there
 abbrev pub climbs : Ledger → Ledger
-climbs l = record l { frontier = climbed (is_standing l) l.frontier (drop (l.frontier - l.top) l.groups) }
+climbs l = record l { frontier = climbed (is_standing l) l.frontier (drop (l.frontier - l.greatest_seen) l.groups) }
 
 -- a page's program ended well
 abbrev pub page_stands : Ledger → Name → Place → Ledger
@@ -122,10 +122,10 @@ latest_in k n (g ∷ gs) older = latest_in k (suc n) gs (name_or (suc n) (index_
 
 -- the page with the key's content at the frontier, and after all groups
 abbrev pub latest_durable : Ledger → Key → Option Name
-latest_durable l k = latest_in k l.top (take (l.frontier - l.top) l.groups) (l.first k)
+latest_durable l k = latest_in k l.greatest_seen (take (l.frontier - l.greatest_seen) l.groups) (l.first_page k)
 
 abbrev pub latest : Ledger → Key → Option Name
-latest l k = latest_in k l.top l.groups (l.first k)
+latest l k = latest_in k l.greatest_seen l.groups (l.first_page k)
 
 abbrev pub is_name : Name → Option Name → Bool
 is_name name None = false

@@ -19,8 +19,8 @@ pub mod Openings
 pub mod Pages
 pub mod Plain
 pub mod Queries
+pub mod Refusals
 pub mod Rpmb
 pub mod Sound
 pub mod Stages
-pub mod Steps
 pub mod Translation

@@ -8,13 +8,13 @@ use Rattle.ufs_spec.specs.Disk.{Crash, Erasing, Flight, Programming, Reading, Sp
 use Rattle.ufs_spec.specs.Exchanges.{empty_registers}
 use Rattle.ufs_spec.specs.Keys.{IsKey, content}
 use Rattle.ufs_spec.specs.Kept.{StandsFor}
-use Rattle.ufs_spec.specs.Machine.{Allowed, Answer, Ask, Call, Finish, Finishes, Give, Gives, Heard, Hears, Host, IsHeard, Replies, Step, Steps, observe}
+use Rattle.ufs_spec.specs.Machine.{Allowed, Answer, Reply, Call, Done, OfDone, Take, OfTake, Heard, OfHost, Host, IsHeard, OfReply, Turn, OfTurn, observe}
 use Rattle.ufs_spec.specs.Messages.{spelling}
 use Rattle.ufs_spec.specs.Moves.{Ending, ReadRight, ReadWrong, WentWell, WentWrong}
 use Rattle.ufs_spec.specs.Openings.{IsOpenedTranslation}
 use Rattle.ufs_spec.specs.Pages.{MayBeLeft}
 use Rattle.ufs_spec.specs.Plain.{Plain, after, shape_of_numbers}
-use Rattle.ufs_spec.specs.Steps.{State, numbers_of}
+use Rattle.ufs_spec.specs.Refusals.{State, numbers_of}
 use Rattle.ufs_spec.specs.Translation.{is_bad}
 use Rattle.ufs_spec.specs.declared.configs.Numbers.{Numbers}
 use Rattle.ufs_spec.specs.declared.events.Event.{Event}
@@ -82,34 +82,34 @@ IsFailure s die flight l ending left = ⊥
 
 abbrev pub IsFinish : State → ℕ → Option Flight → Call → Type 0
 IsFinish s die None call = ⊥
-IsFinish s die (Some flight) call = call ≡ Finish die (ended_well flight) s.array
+IsFinish s die (Some flight) call = call ≡ Done die (ended_well flight) s.array
 
 -- the call that an event is; a stop is none
 abbrev pub IsCall : State → Event → Call → Type 0
 IsCall s (event.Host bytes) call = (heard : Heard) × IsHeard bytes.items heard × (call ≡ Host heard)
-IsCall s event.Reply call = call ≡ Ask
-IsCall s (event.Take die) call = call ≡ Give die
+IsCall s event.Reply call = call ≡ Reply
+IsCall s (event.Take die) call = call ≡ Take die
 IsCall s (event.Finish die) call = IsFinish s die (s.translation.disk.flights die) call
 IsCall s (event.Fail die l) call =
     (ending : Ending) × (left : Array)
-    × IsFailure s die (s.translation.disk.flights die) l ending left × (call ≡ Finish die ending left)
-IsCall s event.Turn call = call ≡ Step
+    × IsFailure s die (s.translation.disk.flights die) l ending left × (call ≡ Done die ending left)
+IsCall s event.Turn call = call ≡ Turn
 IsCall s (event.Stop lefts) call = ⊥
 
 -- what an answer shows: a job as the die is told it, a reply as its one spelling
 abbrev pub IsShown : Answer → Output → Type 0
-IsShown (Hears result) (output.Host shown) = shown ≡ result
-IsShown (Hears result) shown = ⊥
-IsShown (Gives flight) (output.Take job) = job ≡ option_map job_of flight
-IsShown (Gives flight) shown = ⊥
-IsShown (Finishes known) output.Ended = known ≡ true
-IsShown (Finishes known) shown = ⊥
-IsShown (Steps due) (output.Turn shown) = shown ≡ due
-IsShown (Steps due) shown = ⊥
-IsShown (Replies None) (output.Reply shown) = shown ≡ None
-IsShown (Replies (Some m)) (output.Reply None) = ⊥
-IsShown (Replies (Some m)) (output.Reply (Some bytes)) = bytes.items ≡ spelling m
-IsShown (Replies reply) shown = ⊥
+IsShown (OfHost result) (output.Host shown) = shown ≡ result
+IsShown (OfHost result) shown = ⊥
+IsShown (OfTake flight) (output.Take job) = job ≡ option_map job_of flight
+IsShown (OfTake flight) shown = ⊥
+IsShown (OfDone known) output.Ended = known ≡ true
+IsShown (OfDone known) shown = ⊥
+IsShown (OfTurn due) (output.Turn shown) = shown ≡ due
+IsShown (OfTurn due) shown = ⊥
+IsShown (OfReply None) (output.Reply shown) = shown ≡ None
+IsShown (OfReply (Some m)) (output.Reply None) = ⊥
+IsShown (OfReply (Some m)) (output.Reply (Some bytes)) = bytes.items ≡ spelling m
+IsShown (OfReply reply) shown = ⊥
 
 -- the event may show this, and leads to the second state
 pub record Leads (s : State) (e : Event) (o : Output) (t : State) : Type 0 where

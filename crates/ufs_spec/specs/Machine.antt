@@ -11,14 +11,14 @@ use Rattle.ufs_spec.specs.Commands.{Command}
 use Rattle.ufs_spec.specs.Commands as command
 use Rattle.ufs_spec.specs.Dies.{blank_page}
 use Rattle.ufs_spec.specs.Disk.{Crash, Erasing, Flight, ForNobody, ForRest, ForStep, ForTask, Programming, Reader, Reading, Spot, at_place, flight_alone, page_of, same_spot, spot_of}
-use Rattle.ufs_spec.specs.Exchanges.{Answering, Awaiting, Deed, Registers, empty_registers, ForFrames, ForUnmap, ForWrite, Gathering, Good, NotRead, Purpose, ReadBlock, ReadState, Sending, Short, Status, Task, TaskSetFull, Telling, Unread, WasRead, block_message, bytes_sent, data_message, filled, invalid_operation, is_asked_of, is_good, is_short_of, is_task_of, is_unfilled, read_error, ready_message, response, short_reply, task_of, with_deed, without_short, without_task, write_error}
+use Rattle.ufs_spec.specs.Exchanges.{Answering, Awaiting, Deed, Registers, empty_registers, ForFrames, ForUnmap, ForWrite, Gathering, Good, NotRead, Purpose, ReadBlock, ReadState, Sending, Short, Status, Task, TaskSetFull, SendingBytes, Unread, WasRead, block_message, bytes_sent, data_message, filled, invalid_operation, is_asked_of, is_good, is_short_of, is_task_of, is_unfilled, read_error, ready_message, response, short_reply, task_of, with_deed, without_short, without_task, write_error}
 use Rattle.ufs_spec.specs.Keys.{below, data_key, group_of}
 use Rattle.ufs_spec.specs.Ledger.{InSlot, Looked, OnPage, Unwritten, before_accepted, look}
 use Rattle.ufs_spec.specs.Messages.{Spells, host_fault_of, is_among, zeros}
-use Rattle.ufs_spec.specs.Moves.{Accept, Claim, End, Ending, Keep, LetGo, LetGoAll, Move, ReadRight, ReadWrong, Release, Take, Tell, Turn, WantPage, WentWell, WentWrong, is_pin_of, moved}
+use Rattle.ufs_spec.specs.Moves.{Accept, Claim, EndJob, Ending, Keep, LetGo, LetGoAll, Move, ReadRight, ReadWrong, Release, GiveJob, Acknowledge, TakeStep, WantPage, WentWell, WentWrong, is_pin_of, moved}
 use Rattle.ufs_spec.specs.Plain.{block_at}
 use Rattle.ufs_spec.specs.Stages.{manages_tasks, most_tasks}
-use Rattle.ufs_spec.specs.Steps.{Request, State, locked, lun_of, numbers_of, sends_frames, plain_now, refusal, slots_needed, spec_of, unit_of_request}
+use Rattle.ufs_spec.specs.Refusals.{Request, State, locked, lun_of, numbers_of, sends_frames, plain_now, refusal, slots_needed, spec_of, unit_of_request}
 use Rattle.ufs_spec.specs.Translation.{MayTake, Pin, Rest, is_rest_of, is_step_due}
 use Rattle.ufs_spec.specs.declared.configs.Numbers.{Numbers}
 use Rattle.ufs_spec.specs.declared.configs.UnitSpec.{UnitSpec}
@@ -58,18 +58,18 @@ IsHeard bytes (Faulty fault) =
 -- the five calls, with what went in. A job that fails leaves an array, a program or an erase that ends well its own
 pub data Call : Type 0 where
   Host : (heard : Heard) → Call
-  Give : (die : ℕ) → Call
-  Finish : (die : ℕ) → (ending : Ending) → (left : Array) → Call
-  Step : Call
-  Ask : Call
+  Take : (die : ℕ) → Call
+  Done : (die : ℕ) → (ending : Ending) → (left : Array) → Call
+  Turn : Call
+  Reply : Call
 
 -- and what came out
 pub data Answer : Type 0 where
-  Hears : (result : Result Unit HostFault) → Answer
-  Gives : (flight : Option Flight) → Answer
-  Finishes : (known : Bool) → Answer
-  Steps : (due : Bool) → Answer
-  Replies : (reply : Option Message) → Answer
+  OfHost : (result : Result Unit HostFault) → Answer
+  OfTake : (flight : Option Flight) → Answer
+  OfDone : (known : Bool) → Answer
+  OfTurn : (due : Bool) → Answer
+  OfReply : (reply : Option Message) → Answer
 
 -- ## Replies that are due
 
@@ -105,7 +105,7 @@ next_block_reply s task sent (Some block) = block_reply task sent block.body blo
 abbrev pub deed_reply : State → Task → Deed → Option Message
 deed_reply s task (Gathering purpose gathered asked) = if asked then None else Some (ready_message task gathered)
 deed_reply s task (Sending blocks sent) = next_block_reply s task sent (slice_get blocks sent)
-deed_reply s task (Telling bytes) = Some (data_message task 0 (take (bytes_sent task) bytes))
+deed_reply s task (SendingBytes bytes) = Some (data_message task 0 (take (bytes_sent task) bytes))
 deed_reply s task (Awaiting commands) =
     if nat_le commands (durable s) then Some (response task.lun task.tag task.expected task.length Good) else None
 deed_reply s task (Answering status carried) = Some (response task.lun task.tag task.expected carried status)
@@ -192,16 +192,16 @@ MayReply s None = (m : Message) → Due s m → ⊥
 
 -- the answer to the call is right; the answer to another call never is
 abbrev pub Allowed : State → Call → Answer → Type 0
-Allowed s (Host heard) (Hears result) = MayHear s heard result
+Allowed s (Host heard) (OfHost result) = MayHear s heard result
 Allowed s (Host heard) answer = ⊥
-Allowed s (Give die) (Gives flight) = MayTake s.translation die flight
-Allowed s (Give die) answer = ⊥
-Allowed s (Finish die ending left) (Finishes known) = known ≡ fits (s.translation.disk.flights die) ending
-Allowed s (Finish die ending left) answer = ⊥
-Allowed s Step (Steps due) = due ≡ is_step_due s.translation
-Allowed s Step answer = ⊥
-Allowed s Ask (Replies reply) = MayReply s reply
-Allowed s Ask answer = ⊥
+Allowed s (Take die) (OfTake flight) = MayTake s.translation die flight
+Allowed s (Take die) answer = ⊥
+Allowed s (Done die ending left) (OfDone known) = known ≡ fits (s.translation.disk.flights die) ending
+Allowed s (Done die ending left) answer = ⊥
+Allowed s Turn (OfTurn due) = due ≡ is_step_due s.translation
+Allowed s Turn answer = ⊥
+Allowed s Reply (OfReply reply) = MayReply s reply
+Allowed s Reply answer = ⊥
 
 -- ## What a message makes of the state
 
@@ -259,11 +259,11 @@ flush_begun s r command immediate =
     with_task s r (Some command) 0 (if immediate then Answering Good 0 else Awaiting (length s.accepted))
 
 -- data that are sent at once
-abbrev pub telling : Request → List ℕ → Deed
-telling r bytes = if carried r.expected (length bytes) == 0 then Answering Good (length bytes) else Telling bytes
+abbrev pub sending_bytes : Request → List ℕ → Deed
+sending_bytes r bytes = if carried r.expected (length bytes) == 0 then Answering Good (length bytes) else SendingBytes bytes
 
-abbrev pub told : State → Request → Cdb → List ℕ → State
-told s r command bytes = with_task s r (Some command) (length bytes) (telling r bytes)
+abbrev pub data_begun : State → Request → Cdb → List ℕ → State
+data_begun s r command bytes = with_task s r (Some command) (length bytes) (sending_bytes r bytes)
 
 -- REQUEST SENSE answers that there is none (SPC); READ CAPACITY(10) the last address and the length of a block (SBC)
 abbrev pub no_sense : List ℕ
@@ -284,7 +284,7 @@ not_begun s r command = with_task s r None 0 (Answering invalid_operation 0)
 -- a command that is not refused begins
 abbrev pub begun : State → Request → ℕ → Cdb → State
 begun s r unit cdb.TestUnitReady = with_task s r (Some cdb.TestUnitReady) 0 (Answering Good 0)
-begun s r unit (cdb.RequestSense allocation) = told s r (cdb.RequestSense allocation) (take allocation no_sense)
+begun s r unit (cdb.RequestSense allocation) = data_begun s r (cdb.RequestSense allocation) (take allocation no_sense)
 begun s r unit (cdb.Read6 address blocks) =
     read_begun s r (cdb.Read6 address blocks) unit address (length_of 0 (cdb.Read6 address blocks))
 begun s r unit (cdb.Read10 address blocks forced) =
@@ -295,7 +295,7 @@ begun s r unit (cdb.Write10 address blocks forced) =
     write_begun s r (cdb.Write10 address blocks forced) unit address blocks forced
 begun s r unit (cdb.SynchronizeCache10 address blocks immediate) =
     flush_begun s r (cdb.SynchronizeCache10 address blocks immediate) immediate
-begun s r unit cdb.ReadCapacity10 = told s r cdb.ReadCapacity10 (capacity_bytes (spec_of s r))
+begun s r unit cdb.ReadCapacity10 = data_begun s r cdb.ReadCapacity10 (capacity_bytes (spec_of s r))
 begun s r unit (cdb.Inquiry allocation) = not_begun s r (cdb.Inquiry allocation)
 begun s r unit (cdb.Unmap list) = not_begun s r (cdb.Unmap list)
 begun s r unit (cdb.ReportLuns select allocation) = not_begun s r (cdb.ReportLuns select allocation)
@@ -361,7 +361,7 @@ gathered_more s task purpose bytes =
 abbrev pub data_for : State → Task → Deed → List ℕ → State
 data_for s task (Gathering purpose gathered asked) bytes = gathered_more s task purpose (gathered ++ bytes)
 data_for s task (Sending blocks sent) bytes = s
-data_for s task (Telling told_bytes) bytes = s
+data_for s task (SendingBytes told_bytes) bytes = s
 data_for s task (Awaiting commands) bytes = s
 data_for s task (Answering status carried) bytes = s
 
@@ -376,7 +376,7 @@ abbrev pub claimed_by : Deed → Option Cdb → ℕ
 claimed_by (Gathering purpose gathered asked) None = 0
 claimed_by (Gathering purpose gathered asked) (Some c) = slots_needed c
 claimed_by (Sending blocks sent) command = 0
-claimed_by (Telling bytes) command = 0
+claimed_by (SendingBytes bytes) command = 0
 claimed_by (Awaiting commands) command = 0
 claimed_by (Answering status carried) command = 0
 
@@ -392,16 +392,16 @@ is_aborted lun function meant task =
     aborts function && (task.lun == lun) && (not (function == 0x01) || (task.tag == meant))
 
 -- the service response: 09h no such unit, 00h complete, 08h succeeded (a task is there), 04h not supported
-abbrev pub found : Bool → ℕ
-found true = 0x08
-found false = 0x00
+abbrev pub service_found : Bool → ℕ
+service_found true = 0x08
+service_found false = 0x00
 
 abbrev pub service_of : State → ℕ → ℕ → ℕ → ℕ
 service_of s lun function meant =
     if is_none (lun_of (numbers_of s) lun) then 0x09
     else if aborts function then 0x00
-    else if function == 0x80 then found (list_any (is_named lun meant) s.tasks)
-    else if function == 0x81 then found (list_any (λ (task : Task). task.lun == lun) s.tasks)
+    else if function == 0x80 then service_found (list_any (is_named lun meant) s.tasks)
+    else if function == 0x81 then service_found (list_any (λ (task : Task). task.lun == lun) s.tasks)
     else 0x04
 
 abbrev pub service : State → ℕ → ℕ → ℕ → ℕ
@@ -475,16 +475,16 @@ abbrev pub deed_behind : Task → Deed → Option Deed
 deed_behind task (Gathering purpose gathered asked) = Some (Gathering purpose gathered true)
 deed_behind task (Sending blocks sent) =
     deed_behind_block task blocks sent (slice_get blocks sent)
-deed_behind task (Telling bytes) = Some (Answering Good task.length)
+deed_behind task (SendingBytes bytes) = Some (Answering Good task.length)
 deed_behind task (Awaiting commands) = None
 deed_behind task (Answering status carried) = None
 
--- a block that was handed out is let go, and the next one is wanted; a durable command is told
+-- a block that was handed out is let go, and the next one is wanted; a durable command is acknowledged
 abbrev pub moves_behind : Task → Deed → List Move
 moves_behind task (Gathering purpose gathered asked) = []
 moves_behind task (Sending blocks sent) = LetGo task.tag sent ∷ WantPage task.tag (sent + 1) ∷ []
-moves_behind task (Telling bytes) = []
-moves_behind task (Awaiting commands) = Tell commands ∷ []
+moves_behind task (SendingBytes bytes) = []
+moves_behind task (Awaiting commands) = Acknowledge commands ∷ []
 moves_behind task (Answering status carried) = []
 
 abbrev pub task_behind : State → Task → Option Deed → State
@@ -494,13 +494,13 @@ task_behind s task None = with_moves (record s { tasks = without_task task.tag s
 abbrev pub task_replied : State → Task → State
 task_replied s task = task_behind (with_moves s (moves_behind task task.deed)) task (deed_behind task task.deed)
 
-abbrev pub tells : Option ℕ → List Move
-tells None = []
-tells (Some commands) = Tell commands ∷ []
+abbrev pub acknowledges : Option ℕ → List Move
+acknowledges None = []
+acknowledges (Some commands) = Acknowledge commands ∷ []
 
 abbrev pub short_replied : State → Option Short → State
 short_replied s None = s
-short_replied s (Some short) = with_moves (record s { shorts = without_short short.tag s.shorts }) (tells short.awaits)
+short_replied s (Some short) = with_moves (record s { shorts = without_short short.tag s.shorts }) (acknowledges short.awaits)
 
 abbrev pub tag_in : Message → ℕ
 tag_in (message.NopOut tag) = tag
@@ -534,7 +534,7 @@ with_block blocks index state (Some block) = slice_set blocks index (set_state s
 abbrev pub deed_read : ℕ → ReadState → Deed → Deed
 deed_read index state (Gathering purpose gathered asked) = Gathering purpose gathered asked
 deed_read index state (Sending blocks sent) = Sending (with_block blocks index state (slice_get blocks index)) sent
-deed_read index state (Telling bytes) = Telling bytes
+deed_read index state (SendingBytes bytes) = SendingBytes bytes
 deed_read index state (Awaiting commands) = Awaiting commands
 deed_read index state (Answering status carried) = Answering status carried
 
@@ -542,11 +542,11 @@ abbrev pub task_read : ℕ → ℕ → ReadState → Task → Task
 task_read tag index state task =
     if is_task_of tag task then record task { deed = deed_read index state task.deed } else task
 
-abbrev pub reader_told : State → Reader → ReadState → State
-reader_told s (ForTask tag index) state = record s { tasks = map (task_read tag index state) s.tasks }
-reader_told s ForStep state = s
-reader_told s (ForRest number index) state = s
-reader_told s ForNobody state = s
+abbrev pub read_noted : State → Reader → ReadState → State
+read_noted s (ForTask tag index) state = record s { tasks = map (task_read tag index state) s.tasks }
+read_noted s ForStep state = s
+read_noted s (ForRest number index) state = s
+read_noted s ForNobody state = s
 
 abbrev pub in_block : Numbers → Spot → Place → Bool
 in_block n spot p = same_spot (spot_of p) spot && nat_lt p.page n.pages
@@ -563,22 +563,22 @@ array_behind s flight ReadWrong left = s.array
 array_behind s flight WentWell left = array_done s flight
 array_behind s flight (WentWrong cells) left = left
 
-abbrev pub told_behind : State → Flight → Ending → State
-told_behind s (Reading reader place) ReadRight = reader_told s reader WasRead
-told_behind s (Reading reader place) ReadWrong = reader_told s reader NotRead
-told_behind s (Reading reader place) WentWell = s
-told_behind s (Reading reader place) (WentWrong left) = s
-told_behind s (Programming place cell) ending = s
-told_behind s (Erasing spot) ending = s
+abbrev pub read_noted_behind : State → Flight → Ending → State
+read_noted_behind s (Reading reader place) ReadRight = read_noted s reader WasRead
+read_noted_behind s (Reading reader place) ReadWrong = read_noted s reader NotRead
+read_noted_behind s (Reading reader place) WentWell = s
+read_noted_behind s (Reading reader place) (WentWrong left) = s
+read_noted_behind s (Programming place cell) ending = s
+read_noted_behind s (Erasing spot) ending = s
 
 abbrev pub ends_with : State → ℕ → Option Flight → Ending → Array → State
 ends_with s die None ending left = s
 ends_with s die (Some flight) ending left =
-    with_moves (record (told_behind s flight ending) { array = array_behind s flight ending left }) (End die ending ∷ [])
+    with_moves (record (read_noted_behind s flight ending) { array = array_behind s flight ending left }) (EndJob die ending ∷ [])
 
 abbrev pub given : State → ℕ → Option Flight → State
 given s die None = s
-given s die (Some flight) = with_moves s (Take die flight ∷ [])
+given s die (Some flight) = with_moves s (GiveJob die flight ∷ [])
 
 -- ## Requests that fill a register (JESD220, 12.4)
 
@@ -590,7 +590,7 @@ filled_registers s task registers = registers
 abbrev pub is_good_due : State → Deed → Bool
 is_good_due s (Gathering purpose gathered asked) = false
 is_good_due s (Sending blocks sent) = false
-is_good_due s (Telling bytes) = false
+is_good_due s (SendingBytes bytes) = false
 is_good_due s (Awaiting commands) = nat_le commands (durable s)
 is_good_due s (Answering status carried) = is_good status
 
@@ -619,7 +619,7 @@ fills s =
 abbrev pub deed_locked : State → Task → Deed → Deed
 deed_locked s task (Gathering purpose gathered asked) = Gathering purpose gathered asked
 deed_locked s task (Sending blocks sent) = Sending blocks sent
-deed_locked s task (Telling bytes) = Telling bytes
+deed_locked s task (SendingBytes bytes) = SendingBytes bytes
 deed_locked s task (Awaiting commands) =
     if nat_le commands (durable s) then Awaiting commands else Answering write_error task.length
 deed_locked s task (Answering status carried) = Answering status carried
@@ -631,23 +631,23 @@ abbrev pub short_locked : State → Short → Short
 short_locked s short =
     if is_durable s short.awaits then short else record short { awaits = None; reply = short.locked_reply }
 
-abbrev pub lock_told : State → State
-lock_told s =
+abbrev pub lock_applied : State → State
+lock_applied s =
     if locked s then record s { tasks = map (task_locked s) s.tasks; shorts = map (short_locked s) s.shorts } else s
 
 abbrev pub behind : State → Call → Answer → State
-behind s (Host h) (Hears (Ok done)) = hears s h
+behind s (Host h) (OfHost (Ok done)) = hears s h
 behind s (Host h) answer = s
-behind s (Give die) (Gives flight) = given s die flight
-behind s (Give die) answer = s
-behind s (Finish die ending left) (Finishes true) = ends_with s die (s.translation.disk.flights die) ending left
-behind s (Finish die ending left) answer = s
-behind s Step (Steps due) = with_moves s (Turn ∷ [])
-behind s Step answer = s
-behind s Ask (Replies (Some m)) = replied s m
-behind s Ask answer = s
+behind s (Take die) (OfTake flight) = given s die flight
+behind s (Take die) answer = s
+behind s (Done die ending left) (OfDone true) = ends_with s die (s.translation.disk.flights die) ending left
+behind s (Done die ending left) answer = s
+behind s Turn (OfTurn due) = with_moves s (TakeStep ∷ [])
+behind s Turn answer = s
+behind s Reply (OfReply (Some m)) = replied s m
+behind s Reply answer = s
 
 -- what a call and its answer make of the state. What became due fills its register, also if the lock begins in the same
 -- call; then the lock, if it is there, is told
 abbrev pub observe : State → Call → Answer → State
-observe s call answer = lock_told (fills (behind s call answer))
+observe s call answer = lock_applied (fills (behind s call answer))

@@ -33,8 +33,8 @@ abbrev pub transfer : ℕ → ℕ → List ℕ
 transfer offset count = big_bytes 4 offset ++ big_bytes 4 count ++ zeros 12
 
 -- the fields of a query: what is asked, a length and a value
-abbrev pub query : Asked → ℕ → ℕ → List ℕ
-query asked size value =
+abbrev pub query_fields : Asked → ℕ → ℕ → List ℕ
+query_fields asked size value =
     (asked.opcode ∷ asked.idn ∷ asked.index ∷ asked.selector ∷ 0 ∷ 0 ∷ [])
     ++ big_bytes 2 size ++ big_bytes 4 value ++ zeros 8
 
@@ -61,7 +61,7 @@ header_of (DataOut lun tag offset «data») =
 header_of (TaskRequest lun tag function meant) =
     header 0x04 0 lun tag function 0 0 0 (zeros 3 ++ (lun ∷ []) ++ zeros 3 ++ (meant ∷ []) ++ zeros 12)
 header_of (QueryRequest tag function asked size value «data») =
-    header 0x16 0 0 tag function 0 0 (length «data».items) (query asked size value)
+    header 0x16 0 0 tag function 0 0 (length «data».items) (query_fields asked size value)
 header_of (NopIn tag) = header 0x20 0 0 tag 0 0 0 0 (zeros 20)
 header_of (Response flags lun tag response status residual sense) =
     header 0x21 flags lun tag 0 response status (length (sense_of sense)) (big_bytes 4 residual ++ zeros 16)
@@ -71,7 +71,7 @@ header_of (TaskResponse lun tag service) =
     header 0x24 0 lun tag 0 0 0 0 (zeros 3 ++ (service ∷ []) ++ zeros 16)
 header_of (ReadyToTransfer lun tag offset count) = header 0x31 0 lun tag 0 0 0 0 (transfer offset count)
 header_of (QueryResponse tag function response asked size value «data») =
-    header 0x36 0 0 tag function response 0 (length «data».items) (query asked size value)
+    header 0x36 0 0 tag function response 0 (length «data».items) (query_fields asked size value)
 
 -- the one spelling of a message: its header, and its data segment, padded with zeros to a multiple of four
 abbrev pub spelling : Message → List ℕ

@@ -185,16 +185,16 @@ pub data Move : Type 0 where
   -- a group is accepted, in place of so many claimed slots
   Accept : (claimed : ℕ) → (group : Group) → Move
   -- so many accepted commands are acknowledged as durable
-  Tell : (count : ℕ) → Move
+  Acknowledge : (count : ℕ) → Move
   -- a task keeps what it looked up of a key, wants one of its pages read, or lets go of one or of all it keeps
   Keep : (key : Key) → (pin : Pin) → Move
   WantPage : (tag index : ℕ) → Move
   LetGo : (tag index : ℕ) → Move
   LetGoAll : (tag : ℕ) → Move
   -- a die is given a job; its job ends; a step of mending or collection
-  Take : (die : ℕ) → (flight : Flight) → Move
-  End : (die : ℕ) → (ending : Ending) → Move
-  Turn : Move
+  GiveJob : (die : ℕ) → (flight : Flight) → Move
+  EndJob : (die : ℕ) → (ending : Ending) → Move
+  TakeStep : Move
 
 -- no key stands twice in a group
 abbrev pub KeysDiffer : Group → Type 0
@@ -218,10 +218,10 @@ IsAllowedMove t (Claim count) = count ≤ free_slots t
 IsAllowedMove t (Release count) = count ≤ t.claims
 IsAllowedMove t (Accept claimed g) =
     (is_mended t.work.mending ≡ true) × (has_number t ≡ true) × (length g ≤ claimed) × (claimed ≤ t.claims) × IsGroup t g
-IsAllowedMove t (Tell count) = before_accepted t.ledger + count ≤ t.ledger.frontier
+IsAllowedMove t (Acknowledge count) = before_accepted t.ledger + count ≤ t.ledger.frontier
 IsAllowedMove t (Keep key pin) = IsKey (shape_of_numbers t.numbers) key × (pin.looked ≡ look t.ledger key)
-IsAllowedMove t (Take die flight) = MayTake t die (Some flight)
-IsAllowedMove t (End die ending) = MayEnd t.disk die (t.disk.flights die) ending
+IsAllowedMove t (GiveJob die flight) = MayTake t die (Some flight)
+IsAllowedMove t (EndJob die ending) = MayEnd t.disk die (t.disk.flights die) ending
 IsAllowedMove t move = Unit {0}
 
 -- the task is gone, or its block was handed out: a read for it that a die does is for nobody
@@ -257,11 +257,11 @@ moved t (Accept claimed g) =
       work = record t.work { rests = t.work.rests ++ rests_of t g };
       claims = t.claims - claimed;
     }
-moved t (Tell count) = record t { ledger = record t.ledger { held = max t.ledger.held count } }
+moved t (Acknowledge count) = record t { ledger = record t.ledger { held = max t.ledger.held count } }
 moved t (Keep key pin) = record t { pins = t.pins ++ pin ∷ [] }
 moved t (WantPage tag index) = record t { pins = map (with_wanted tag index true) t.pins }
 moved t (LetGo tag index) = let_go t (is_pin_of tag index) (is_for tag index)
 moved t (LetGoAll tag) = let_go t (λ pin. pin.tag == tag) (is_for_task tag)
-moved t (Take die flight) = taken t die flight
-moved t (End die ending) = end_flight t die (t.disk.flights die) ending
-moved t Turn = turned t
+moved t (GiveJob die flight) = taken t die flight
+moved t (EndJob die ending) = end_flight t die (t.disk.flights die) ending
+moved t TakeStep = turned t

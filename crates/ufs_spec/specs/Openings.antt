@@ -29,9 +29,9 @@ abbrev pub IsTop : Cells → Option Mark → ℕ → Type 0
 IsTop c m top = IsAtMost c m top × ((other : ℕ) → IsAtMost c m other → top ≤ other)
 
 -- the first number that is lost: that of the old fence, else the one behind the kept number
-abbrev pub first_lost : Option Fence → ℕ → ℕ
-first_lost None kept = suc kept
-first_lost (Some f) kept = f.first
+abbrev pub lost_from : Option Fence → ℕ → ℕ
+lost_from None kept = suc kept
+lost_from (Some f) kept = f.first
 
 -- Keys in order
 
@@ -57,8 +57,8 @@ pub record AreLost (c : Cells) (low top : ℕ) (keys : List Key) : Type 0 where
 -- Pages by name
 
 -- no later in the order by die, then by block, then by page
-abbrev pub IsLower : Place → Place → Type 0
-IsLower p q =
+abbrev pub IsNotHigher : Place → Place → Type 0
+IsNotHigher p q =
     (p.die < q.die)
     ⊎ (((p.die ≡ q.die) × (p.block < q.block))
     ⊎ ((p.die ≡ q.die) × (p.block ≡ q.block) × (p.page ≤ q.page)))
@@ -69,7 +69,7 @@ HasName c name p = (t : Tag) × (body : List ℕ) × (c p ≡ GroupPage t body) 
 -- the lowest of the places that hold the page of this name
 abbrev pub StandsAt : Cells → Name → Option Place → Type 0
 StandsAt c name None = (p : Place) → HasName c name p → ⊥
-StandsAt c name (Some p) = HasName c name p × ((q : Place) → HasName c name q → IsLower p q)
+StandsAt c name (Some p) = HasName c name p × ((q : Place) → HasName c name q → IsNotHigher p q)
 
 -- what the page of the name has
 abbrev pub IsEntry : Cells → Name → Option Entry → Type 0
@@ -130,14 +130,14 @@ pub record IsOpenedLedger (n : Numbers) (c : Cells) (l : Ledger) : Type 0 where
   pub kept : ℕ
   pub is_kept : IsKept c l.newest kept
   pub holds : HoldAll n c l.newest kept l.base
-  pub top : IsTop c l.newest l.top
-  pub low : l.low ≡ first_lost (fence_in l.newest) kept
-  pub old : (number index : ℕ) → IsEntry c (record { number = number; index = index }) (l.old number index)
+  pub greatest_seen : IsTop c l.newest l.greatest_seen
+  pub first_lost : l.first_lost ≡ lost_from (fence_in l.newest) kept
+  pub entries_before : (number index : ℕ) → IsEntry c (record { number = number; index = index }) (l.entries_before number index)
   pub standing : (number index : ℕ) → StandsAt c (record { number = number; index = index }) (l.standing number index)
-  pub first : (k : Key) → IsKey (shape_of_numbers n) k → IsFirst c l.newest kept k (l.first k)
+  pub first_page : (k : Key) → IsKey (shape_of_numbers n) k → IsFirst c l.newest kept k (l.first_page k)
   pub none_new : l.groups ≡ []
   pub none_repaired : l.repairs ≡ 0
-  pub frontier : l.frontier ≡ l.top
+  pub frontier : l.frontier ≡ l.greatest_seen
   pub marks : l.marks ≡ number_of l.newest
   pub none_held : l.held ≡ 0
 
@@ -147,7 +147,7 @@ pub record IsOpenedTranslation (n : Numbers) (c : Cells) (bad : Spot → Bool) (
   pub suits : CellsSuit n c t.ledger.newest
   pub disk : IsOpenedDisk c bad t.disk
   pub ledger : IsOpenedLedger n c t.ledger
-  pub mending : IsMendingAt c t.ledger.newest t.ledger.low t.ledger.top t.work.mending
+  pub mending : IsMendingAt c t.ledger.newest t.ledger.first_lost t.ledger.greatest_seen t.work.mending
   pub no_plan : t.work.plan ≡ None
   pub no_step : t.work.step ≡ None
   pub no_rests : t.work.rests ≡ []

@@ -68,8 +68,8 @@ pub record Check : Type 0 where
   pub fails : Bool
   pub result : ℕ
 
-abbrev pub unless : Bool → ℕ → Check
-unless fails result = record { fails = fails; result = result }
+abbrev pub fails_if : Bool → ℕ → Check
+fails_if fails result = record { fails = fails; result = result }
 
 abbrev pub first_failed : List Check → Option ℕ
 first_failed [] = None
@@ -88,7 +88,7 @@ is_past_area p f = nat_lt (length p.area) (256 * (f.address + f.count))
 
 -- the MAC in the last frame
 abbrev pub last_mac : Frame → List Frame → List ℕ
-last_mac f [] = f.mac
+last_mac f [] = f.key_or_mac
 last_mac f (g ∷ gs) = last_mac g gs
 
 -- whether two lists of bytes are equal
@@ -105,18 +105,18 @@ has_wrong_mac (Some key) f fs = not (same_bytes (last_mac f fs) (frames_mac key 
 -- failure (5), address failure (4), authentication failure (2), counter failure (3) (JESD220, 12.4.3)
 abbrev pub checks : Plain → Bool → Frame → List Frame → List Check
 checks p locked f fs =
-    if f.kind == program_key then unless (has_key p) 1 ∷ unless locked 5 ∷ []
+    if f.kind == program_key then fails_if (has_key p) 1 ∷ fails_if locked 5 ∷ []
     else if f.kind == write_data then
-    unless (not (has_key p)) 7 ∷ unless (p.counter == counter_end) 5 ∷ unless (is_past_area p f) 4
-    ∷ unless (has_wrong_mac p.key f fs) 2 ∷ unless (not (f.counter == p.counter)) 3 ∷ unless locked 5 ∷ []
-    else if f.kind == read_data then unless (not (has_key p)) 7 ∷ unless (is_past_area p f) 4 ∷ []
-    else if f.kind == read_counter then unless (not (has_key p)) 7 ∷ []
+    fails_if (not (has_key p)) 7 ∷ fails_if (p.counter == counter_end) 5 ∷ fails_if (is_past_area p f) 4
+    ∷ fails_if (has_wrong_mac p.key f fs) 2 ∷ fails_if (not (f.counter == p.counter)) 3 ∷ fails_if locked 5 ∷ []
+    else if f.kind == read_data then fails_if (not (has_key p)) 7 ∷ fails_if (is_past_area p f) 4 ∷ []
+    else if f.kind == read_counter then fails_if (not (has_key p)) 7 ∷ []
     else []
 
 -- the command of a request that passes its checks
 abbrev pub command_in : Frame → List Frame → Option Command
 command_in f fs =
-    if f.kind == program_key then Some (SetKey f.mac)
+    if f.kind == program_key then Some (SetKey f.key_or_mac)
     else if f.kind == write_data then Some (RpmbWrite f.address (flat_map (λ (g : Frame). g.payload) (f ∷ fs)))
     else None
 

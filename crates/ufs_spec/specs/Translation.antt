@@ -3,7 +3,7 @@
 use Rattle.std.specs.Prelude.{◌≡◌, ◌⊎◌, ℕ, ◌+◌, ◌-◌, ◌*◌, ◌^◌, ◌==◌, ◌&&◌, ◌||◌, nat_le, nat_lt, not, Bool, true, false, if◌then◌else◌, is_none, is_some, List, [], ◌∷◌, ◌++◌, count_by, filter, filter_map, find, length, map, sum_by, Option, Some, None, option_map, Contains, slice_get, option_and_then}
 use Rattle.std.specs.List.{flat_map, list_any}
 use Rattle.ufs_spec.specs.Cells.{Cell, GroupPage, MarkPage, Nothing, key_of}
-use Rattle.ufs_spec.specs.Disk.{BlockState, Bad, Closed, Disk, Erasing, Filling, Flight, ForRest, ForStep, ForTask, Free, Programming, Reader, Reading, Spot, begun, place_in, same_spot, spot_of}
+use Rattle.ufs_spec.specs.Disk.{BlockState, Bad, Closed, Disk, Erasing, Filling, Flight, ForRest, ForStep, ForTask, Free, Programming, Reader, Reading, Spot, job_begun, place_in, same_spot, spot_of}
 use Rattle.ufs_spec.specs.Keys.{Group, below, Item}
 use Rattle.ufs_spec.specs.Ledger.{Entry, Ledger, Looked, Name, OnPage, accepted_groups, before_accepted, entry_of, is_name, is_standing, latest_durable, next_number, pending, same_name, InSlot, Unwritten, look}
 use Rattle.ufs_spec.specs.Stages.{collects, most_bad}
@@ -241,8 +241,8 @@ abbrev pub repair_ordered : Translation → Key → List Key → Translation
 repair_ordered t k left =
     with_step
     (record t { ledger = with_repair t.ledger k; work = record t.work { mending = Repairing left } })
-    (RepairStep (record { number = next_number t.ledger; index = 0 }) (standing_of t.ledger (t.ledger.first k)))
-    (is_none (standing_of t.ledger (t.ledger.first k)))
+    (RepairStep (record { number = next_number t.ledger; index = 0 }) (standing_of t.ledger (t.ledger.first_page k)))
+    (is_none (standing_of t.ledger (t.ledger.first_page k)))
 
 abbrev pub with_plan : Translation → Spot → List Place → Translation
 with_plan t victim copies = record t { work = record t.work { plan = Some (record { victim = victim; copies = copies }) } }
@@ -487,4 +487,4 @@ MayTake t die (Some flight) = (is_idle t die ≡ true) × IsOwed t die flight
 MayTake t die None = (is_idle t die ≡ false) ⊎ ((wants_on t die ≡ []) × (next_flight t die ≡ None))
 
 abbrev pub taken : Translation → ℕ → Flight → Translation
-taken t die flight = record t { disk = begun t.disk die flight }
+taken t die flight = record t { disk = job_begun t.disk die flight }

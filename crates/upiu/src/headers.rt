@@ -1,6 +1,6 @@
 //! The 32 bytes of a message's header, and its data segment (JESD220, 10.6.2 and 10.7).
 ghost use Rattle.std.specs.Prelude.{◌≡◌, ◌≤◌, ◌∷◌, ◌++◌, [], drop, length, slice_index, take};
-ghost use Rattle.ufs_spec.specs.Messages.{header, header_of, query, segment_of, transfer, zeros};
+ghost use Rattle.ufs_spec.specs.Messages.{header, header_of, query_fields, segment_of, transfer, zeros};
 ghost use Rattle.byteorder.specs.Endian.{big_bytes};
 
 use ufs_spec::{Asked, Message, write_u16, write_u32};
@@ -155,7 +155,7 @@ fn task_fields(first: u8, second: u8) -> [u8; 20]
 
 // What a query asks for, its length and its value.
 fn query_fields(asked: &Asked, size: u16, value: u32) -> [u8; 20]
-    ensures { result ≡ query asked.now size value }
+    ensures { result ≡ query_fields asked.now size value }
 {
     let mut fields = [0; 20];
     fields[0] = asked.opcode;

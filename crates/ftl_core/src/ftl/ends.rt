@@ -7,7 +7,7 @@ ghost use Rattle.ftl_core.specs.Done.{IsEnded, JobEnds, core_ended, job_after};
 ghost use Rattle.ftl_core.specs.Moves.{is_turn_due, moved_pin, erased, mark_failed, mark_ordered, mark_written, page_written, went_bad};
 ghost use Rattle.ufs_spec.specs.Keys.{IsBlock};
 ghost use Rattle.std.specs.Prelude.{is_some, Some};
-ghost use Rattle.ufs_spec.specs.Moves.{End, Ending, IsEndingOf, MayEnd, Turn, moved, suits};
+ghost use Rattle.ufs_spec.specs.Moves.{EndJob, Ending, IsEndingOf, MayEnd, TakeStep, moved, suits};
 ghost use Rattle.ufs_spec.specs.Translation.{Translation, is_step_due};
 ghost use Rattle.ftl_core.specs.Describes.{Describes, IsTold};
 ghost use Rattle.ftl_core.specs.declared.ftl.Ended.{Ended};
@@ -446,7 +446,7 @@ impl Ftl {
         // What is kept then describes what the end makes of the layer, and the answer tells what it gave.
         ensures described { (t : Translation) (ending : Ending) → Describes self.old t →
             IsEndingOf t.disk.cells (t.disk.flights die) outcome.now ending → MayEnd t.disk die (t.disk.flights die) ending →
-            Describes self.new (moved t (End die ending)) }
+            Describes self.new (moved t (EndJob die ending)) }
         ensures told { (t : Translation) (ending : Ending) → Describes self.old t →
             IsEndingOf t.disk.cells (t.disk.flights die) outcome.now ending →
             (e : Ended) × (result ≡ Some e) × IsTold t.disk.cells (t.disk.flights die) ending e }
@@ -470,7 +470,7 @@ impl Ftl {
         ensures due { result ≡ is_turn_due self.old }
         ensures after { self.new ≡ (if result then mark_ordered self.old else self.old) }
         ensures described_due { (t : Translation) → Describes self.old t → result ≡ is_step_due t }
-        ensures described { (t : Translation) → Describes self.old t → Describes self.new (moved t Turn) }
+        ensures described { (t : Translation) → Describes self.old t → Describes self.new (moved t TakeStep) }
     {
         self.order_step()
     }

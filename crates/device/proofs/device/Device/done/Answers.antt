@@ -1,5 +1,5 @@
 use Rattle.std.proofs.Common.{◌∙◌, true, refl, sym, subst, ap}
-use Rattle.ufs_spec.specs.Machine.{Finish, Finishes}
+use Rattle.ufs_spec.specs.Machine.{Done, OfDone}
 use Rattle.device.specs.Describes.{Describes, IsAnswered}
 use Rattle.device.specs.Kept.{DeviceCore}
 use Rattle.device.specs.Rooms.{core_of}
@@ -37,7 +37,7 @@ returns-clause-ended c =
     let d : Describes (core_of c.self.inside) s = same_core (core_of c.self.inside) c.args.self.now s c.self.view_is h in
     let t = c.done.ensures.told s.translation ending (layer_is (core_of c.self.inside) s d) is in (
       refl,
-      subst (λ (x : DeviceCore). IsAnswered s (Finish c.args.die ending left) (Finishes true) x) (sym (c.end_waiting.ensures ∙ ap waiting_ended c.tell.ensures))
+      subst (λ (x : DeviceCore). IsAnswered s (Done c.args.die ending left) (OfDone true) x) (sym (c.end_waiting.ensures ∙ ap waiting_ended c.tell.ensures))
           (ends_right (core_of c.self.inside) s c.args.die c.args.outcome.now ending left c.done.new.self c.in-Some.ended d is leaves
           (c.done.ensures.described s.translation ending (layer_is (core_of c.self.inside) s d) is (may_end (core_of c.self.inside) s c.args.die c.args.outcome.now ending left d is leaves))
           (subst (λ (e : Ended). IsTold s.translation.disk.cells (s.translation.disk.flights c.args.die) ending e) (some_is t.0 c.in-Some.ended (sym t.1 ∙ c.in-Some.is)) t.2)),

@@ -1,4 +1,4 @@
-use Rattle.ufs_spec.specs.Moves.{End, moved}
+use Rattle.ufs_spec.specs.Moves.{EndJob, moved}
 use Rattle.ftl_core.specs.Core.{Core}
 use Rattle.ftl_core.specs.Describes.{Describes}
 use Rattle.ftl_core.proofs.Carried.{carried}
@@ -10,7 +10,7 @@ returns-clause-known c = λ t h. ends_known c.args.self.now t c.args.die c.args.
 
 pub returns-clause-described : goal.returns-clause-described
 returns-clause-described c =
-    λ t ending h is may. carried (λ (x : Core). Describes x (moved t (End c.args.die ending))) c.end_job.new.self _ c.end_job.ensures.after
+    λ t ending h is may. carried (λ (x : Core). Describes x (moved t (EndJob c.args.die ending))) c.end_job.new.self _ c.end_job.ensures.after
     (ends_right c.args.self.now t c.args.die c.args.outcome.now ending h is may)
 
 pub returns-clause-told : goal.returns-clause-told

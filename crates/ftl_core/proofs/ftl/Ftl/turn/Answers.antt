@@ -1,5 +1,5 @@
 use Rattle.std.proofs.Common.{◌∙◌, Bool, ap, if◌then◌else◌}
-use Rattle.ufs_spec.specs.Moves.{Turn, moved}
+use Rattle.ufs_spec.specs.Moves.{TakeStep, moved}
 use Rattle.ftl_core.specs.Core.{Core}
 use Rattle.ftl_core.specs.Describes.{Describes}
 use Rattle.ftl_core.specs.Moves.{mark_ordered}
@@ -12,6 +12,6 @@ returns-clause-described_due c = λ t h. c.order_step.ensures.due ∙ turns_due 
 
 pub returns-clause-described : goal.returns-clause-described
 returns-clause-described c =
-    λ t h. carried (λ (x : Core). Describes x (moved t Turn)) c.order_step.new.self _
+    λ t h. carried (λ (x : Core). Describes x (moved t TakeStep)) c.order_step.new.self _
     (c.order_step.ensures.after ∙ ap (λ (b : Bool). if b then mark_ordered c.args.self.now else c.args.self.now) c.order_step.ensures.due)
     (turns_right c.args.self.now t h)
