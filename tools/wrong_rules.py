@@ -232,7 +232,7 @@ RULES = (
         "waiting_page_not_live",
         "A page of a group that is not durable yet is not live.",
         "power_loss::each_move_keeps", TRANSLATION,
-        ("(nat_lt l.frontier name.number || is_name name", "(nat_lt name.number 0 || is_name name"),
+        ("is_needed l name k = nat_lt l.frontier name.number ||", "is_needed l name k = nat_lt name.number 0 ||"),
     ),
     rule(
         "erased_past_recorded_frontier",

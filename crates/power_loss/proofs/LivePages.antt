@@ -3,17 +3,17 @@ use Rattle.std.proofs.Common.{◌≡◌, ◌≢◌, ℕ, zero, suc, ◌+◌, ◌
 use Rattle.std.specs.List.{position_or_len, prefix_len}
 use Rattle.std.proofs.lemmas.Bool.Decides.{nat_tests}
 use Rattle.ufs_spec.specs.Cells.{Cell, GroupPage, Mark, MarkPage, Nothing, key_of}
-use Rattle.ufs_spec.specs.Disk.{Erasing, Free, IsNewestFinished, IsReplaced, SpentBy, Spot, same_spot, spot_of, HasCopy, Spent, with_erasing}
+use Rattle.ufs_spec.specs.Disk.{Erasing, Free, IsNewestFinished, IsReplaced, SpentBy, Spot, spot_of, HasCopy, Spent, with_erasing}
 use Rattle.ufs_spec.specs.Keys.{Group, Item, same_key}
 use Rattle.ufs_spec.specs.Kept.{recorded_in}
 use Rattle.ufs_spec.specs.Ledger.{Entry, Ledger, Name, entry_in, index_in, is_name, latest_durable, latest_in, name_or}
-use Rattle.ufs_spec.specs.Translation.{MayTake, Mended, Mending, Repairing, Translation, Unmarked, is_live, is_live_as, is_live_cell, is_mended, name_of}
+use Rattle.ufs_spec.specs.Translation.{MayTake, Mended, Mending, Repairing, Translation, Unmarked, is_live, is_live_cell, is_mended, is_needed, name_of, stands_there}
 use Rattle.ufs_spec.specs.declared.flash.Key.{Key}
 use Rattle.ufs_spec.specs.declared.flash.Place.{Place}
 use Rattle.ufs_spec.specs.declared.flash.Tag.{Tag}
 use Rattle.power_loss.specs.Book.{Book, FirstRight, IsKnown, IsLostNumber, IsPageAt, IsPlainMark, IsWritten, book}
 use Rattle.power_loss.specs.Invariant.{IsSecure, IsSecurelyOverwritten, MarksRight, MendingRight, Valid}
-use Rattle.power_loss.proofs.OneMore.{and_true, eq_self, eq_told, if_false, if_true, name_told, place_is, spot_told, two_ways}
+use Rattle.power_loss.proofs.OneMore.{and_true, eq_self, if_false, if_true, name_told, place_told, two_ways}
 use Rattle.power_loss.proofs.Owed.{erase_owed, lt_told, some_is}
 use Rattle.power_loss.proofs.Spents.{entry_for, fenced_none, lost_or_not, old_page}
 
@@ -142,19 +142,21 @@ named : (name : Name) (o : Option Name) → is_name name o ≡ true → o ≡ So
 named name None h = cc
 named name (Some other) h = ap (λ z. Some z) (sym (name_told name other h))
 
-live_as : (l : Ledger) (p : Place) (name : Name) (k : Key) (standing : Option Place) → is_live_as l p name k standing ≡ true → LiveAs l p name k standing
-live_as l p name k None h = cc
-live_as l p name k (Some at) h =
-    let a = and_true (same_spot (spot_of at) (spot_of p) && (at.page == p.page)) (nat_lt l.frontier name.number || is_name name (latest_durable l k)) h in
-    let s = and_true (same_spot (spot_of at) (spot_of p)) (at.page == p.page) a.0 in
-    let e = spot_told (spot_of at) (spot_of p) s.0 in
-    record {
-      known = ap (λ z. Some z) (place_is at p (ap (λ (z : Spot). z.die) e) (ap (λ (z : Spot). z.block) e) (eq_told at.page p.page s.1));
-      latest = ⊎_elim
-          (λ b. inl (lt_told l.frontier name.number b))
-          (λ b. inr (named name (latest_durable l k) b))
-          (or_true (nat_lt l.frontier name.number) (is_name name (latest_durable l k)) a.1);
-    }
+stands_told : (p : Place) (standing : Option Place) → stands_there p standing ≡ true → standing ≡ Some p
+stands_told p None h = cc
+stands_told p (Some at) h = ap (λ z. Some z) (place_told at p h)
+
+needed_told : (l : Ledger) (name : Name) (k : Key) → is_needed l name k ≡ true → (l.frontier < name.number) ⊎ (latest_durable l k ≡ Some name)
+needed_told l name k h =
+    ⊎_elim
+    (λ b. inl (lt_told l.frontier name.number b))
+    (λ b. inr (named name (latest_durable l k) b))
+    (or_true (nat_lt l.frontier name.number) (is_name name (latest_durable l k)) h)
+
+live_as : (l : Ledger) (p : Place) (name : Name) (k : Key) (standing : Option Place) → (stands_there p standing && is_needed l name k) ≡ true → LiveAs l p name k standing
+live_as l p name k standing h =
+    let a = and_true (stands_there p standing) (is_needed l name k) h in
+    record { known = stands_told p standing a.0; latest = needed_told l name k a.1 }
 
 pub live_page : (t : Translation) (p : Place) (tag : Tag) (body : List ℕ) → t.disk.cells p ≡ GroupPage tag body → is_live t p ≡ true →
     LiveAs t.ledger p (name_of tag) (key_of tag) (t.ledger.standing tag.number tag.index)

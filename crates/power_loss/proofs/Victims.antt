@@ -3,10 +3,10 @@ use Rattle.std.proofs.Common.{◌≡◌, ℕ, zero, suc, ◌<◌, ◌⊎◌, ◌
 use Rattle.std.specs.Prelude.{filter, option_map}
 use Rattle.std.proofs.lemmas.Option.{slice_get-map}
 use Rattle.ufs_spec.specs.Cells.{GroupPage, IsPlace, Nothing, key_of}
-use Rattle.ufs_spec.specs.Disk.{BlockState, Bad, Closed, Filling, Free, Spot, place_in, same_spot, spot_of}
+use Rattle.ufs_spec.specs.Disk.{BlockState, Bad, Closed, Filling, Free, Spot, place_in, spot_of}
 use Rattle.ufs_spec.specs.Keys.{below}
 use Rattle.ufs_spec.specs.Ledger.{Entry, Ledger, Name, is_name, latest_durable}
-use Rattle.ufs_spec.specs.Translation.{Mended, Translation, gains, is_live, is_live_as, is_live_cell, is_pinned, least_of, live_count, live_places, may_be_victim, name_of, spots, victim}
+use Rattle.ufs_spec.specs.Translation.{Mended, Translation, gains, is_live, is_live_cell, is_needed, is_pinned, least_of, live_count, live_places, may_be_victim, name_of, spots, stands_there, victim}
 use Rattle.ufs_spec.specs.declared.flash.Key.{Key}
 use Rattle.ufs_spec.specs.declared.flash.Place.{Place}
 use Rattle.ufs_spec.specs.declared.flash.Tag.{Tag}
@@ -14,7 +14,7 @@ use Rattle.power_loss.specs.Book.{IsOverwritten, IsPageAt, book}
 use Rattle.power_loss.specs.Invariant.{OnePlanRight, StandsIn, Valid}
 use Rattle.power_loss.proofs.Books.{at_most, false_true, get_grows, get_last, grown_length, none_some, page_one, some_is}
 use Rattle.power_loss.proofs.Latest.{latest_or_overwritten}
-use Rattle.power_loss.proofs.OneMore.{and_true, eq_self, if_false, if_true, spot_self, two_ways}
+use Rattle.power_loss.proofs.OneMore.{and_true, if_false, if_true, place_self, two_ways}
 use Rattle.power_loss.proofs.Orders.{HoldsName, no_mark, plan_with, stands_holds}
 
 -- Lists
@@ -96,15 +96,13 @@ or_right : (a b : Bool) → b ≡ true → (a || b) ≡ true
 or_right true b h = refl
 or_right false b h = h
 
-both : (a b c : Bool) → a ≡ true → b ≡ true → c ≡ true → (a && b && c) ≡ true
-both true b c h k l = subst (λ z. (z && c) ≡ true) (sym k) l
-both false b c h k l = absurd (false_true h)
+both : (a b : Bool) → a ≡ true → b ≡ true → (a && b) ≡ true
+both true b h k = k
+both false b h k = absurd (false_true h)
 
-live_as : (l : Ledger) (p : Place) (name : Name) (k : Key) (o : Option Place) → o ≡ Some p →
-    (nat_lt l.frontier name.number || is_name name (latest_durable l k)) ≡ true → is_live_as l p name k o ≡ true
-live_as l p name k o e h =
-    ap (is_live_as l p name k) e
-    ∙ both (same_spot (spot_of p) (spot_of p)) (p.page == p.page) (nat_lt l.frontier name.number || is_name name (latest_durable l k)) (spot_self (spot_of p)) (eq_self p.page) h
+live_as : (l : Ledger) (p : Place) (name : Name) (k : Key) (o : Option Place) → o ≡ Some p → is_needed l name k ≡ true →
+    (stands_there p o && is_needed l name k) ≡ true
+live_as l p name k o e h = both (stands_there p o) (is_needed l name k) (ap (stands_there p) e ∙ place_self p) h
 
 -- a page that stands there is live, where its group is pending or it has its key's content
 live_page : (t : Translation) (n i : ℕ) (e : Entry) (p : Place) → Valid t → IsPageAt (book t) n i e → t.ledger.standing n i ≡ Some p → HoldsName t.disk.cells n i p →

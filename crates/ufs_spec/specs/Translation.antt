@@ -2,7 +2,7 @@
 -- of its calls makes of it (this profile).
 use Rattle.std.specs.Prelude.{◌≡◌, ◌⊎◌, ℕ, ◌+◌, ◌-◌, ◌*◌, ◌^◌, ◌==◌, ◌&&◌, ◌||◌, nat_le, nat_lt, not, Bool, true, false, if◌then◌else◌, is_none, is_some, List, [], ◌∷◌, ◌++◌, count_by, filter, filter_map, find, length, map, sum_by, Option, Some, None, option_map, Contains, slice_get, option_and_then}
 use Rattle.std.specs.List.{flat_map, list_any}
-use Rattle.ufs_spec.specs.Cells.{Cell, GroupPage, MarkPage, Nothing, key_of}
+use Rattle.ufs_spec.specs.Cells.{Cell, GroupPage, MarkPage, Nothing, key_of, same_place}
 use Rattle.ufs_spec.specs.Disk.{BlockState, Bad, Closed, Disk, Erasing, Filling, Flight, ForRest, ForStep, ForTask, Free, Programming, Reader, Reading, Spot, job_begun, place_in, same_spot, spot_of}
 use Rattle.ufs_spec.specs.Keys.{Group, below, Item}
 use Rattle.ufs_spec.specs.Ledger.{Entry, Ledger, Looked, Name, OnPage, accepted_groups, before_accepted, entry_of, is_name, is_standing, latest_durable, next_number, pending, same_name, InSlot, Unwritten, look}
@@ -126,18 +126,22 @@ is_mended _ = false
 
 -- Live pages
 
--- a page that is the one standing under its name, and has its key's content at the frontier or is of a pending group
-abbrev pub is_live_as : Ledger → Place → Name → Key → Option Place → Bool
-is_live_as l p name k None = false
-is_live_as l p name k (Some at) =
-    same_spot (spot_of at) (spot_of p) && (at.page == p.page)
-    && (nat_lt l.frontier name.number || is_name name (latest_durable l k))
+-- the page stands there
+abbrev pub stands_there : Place → Option Place → Bool
+stands_there p None = false
+stands_there p (Some at) = same_place at p
+
+-- the page of the name is needed if its group is not durable yet, or if it has its key's content at the frontier
+abbrev pub is_needed : Ledger → Name → Key → Bool
+is_needed l name k = nat_lt l.frontier name.number || is_name name (latest_durable l k)
 
 abbrev pub name_of : Tag → Name
 name_of t = record { number = t.number; index = t.index }
 
+-- a page of a group is live if it is the one that stands under its name, and is needed
 abbrev pub is_live_cell : Ledger → Place → Cell → Bool
-is_live_cell l p (GroupPage tag body) = is_live_as l p (name_of tag) (key_of tag) (l.standing tag.number tag.index)
+is_live_cell l p (GroupPage tag body) =
+    stands_there p (l.standing tag.number tag.index) && is_needed l (name_of tag) (key_of tag)
 is_live_cell l p cell = false
 
 abbrev pub is_live : Translation → Place → Bool
