@@ -8,12 +8,12 @@ use Rattle.ufs_spec.specs.Cells.{Array, Cell, Cells, IsCell}
 use Rattle.ufs_spec.specs.Commands.{Command}
 use Rattle.ufs_spec.specs.Configs.{IsConfig}
 use Rattle.ufs_spec.specs.Dies.{DieState, blank_page, is_bad_block, new_die}
-use Rattle.ufs_spec.specs.Disk.{CellCrash, Erasing, Flight, Programming, Reading, Spot, flight_alone, page_of}
+use Rattle.ufs_spec.specs.Disk.{CellCrash, Flight, Programming, Spot, flight_alone, page_of}
 use Rattle.ufs_spec.specs.Exchanges as exchange
 use Rattle.ufs_spec.specs.Keys.{below}
 use Rattle.ufs_spec.specs.Lives.{IsOpened, bad_of}
 use Rattle.ufs_spec.specs.Machine.{Done, OfDone, Take, OfTake, MayLeave, Turn, OfTurn, behind, lock_applied, observe, short_locked, task_locked}
-use Rattle.ufs_spec.specs.Moves.{EndJob, Ending, IsEndingOf, MayEnd, ReadRight, ReadWrong, GiveJob, TakeStep, WentWell, WentWrong, moved}
+use Rattle.ufs_spec.specs.Moves.{EndJob, Ending, GiveJob, IsEndingOf, MayEnd, MayLeaveCells, ReadRight, ReadWrong, TakeStep, WentWell, WentWrong, moved}
 use Rattle.ufs_spec.specs.Plain.{Plain, after as after_all}
 use Rattle.ufs_spec.specs.Refusals.{State, locked}
 use Rattle.ufs_spec.specs.Translation.{Mended, Mending, OrderMark, Plan, Translation, due_order, has_mark_number, next_order, spots, stepped}
@@ -38,7 +38,7 @@ use Rattle.ftl_core.specs.Moves.{is_turn_due, mark_ordered}
 use Rattle.device.specs.Calls.{told, waiting_ended}
 use Rattle.device.specs.Describes.{Describes, IsAnswered, IsGiven, TasksKept}
 use Rattle.device.specs.Kept.{DeviceCore, new_device}
-use Rattle.device.proofs.EndsTold.{ends_answered}
+use Rattle.device.proofs.EndsTold.{ending_fits, ends_answered}
 use Rattle.device.proofs.Layer as its_layer
 use Rattle.device.proofs.Layer.{turns_due}
 use Rattle.device.proofs.LockStays.{Leaves, described}
@@ -85,22 +85,18 @@ crash_may s die cells left tied leaves =
     cell_crash s.array left s.translation.disk.cells cells (flight_alone s.translation.disk.flights die) tied.shown leaves.1 leaves.0
     (λ other place cell e. alone_shown s die other place cell tied (other == die) e)
 
-ends_may : (s : State) (die : ℕ) (x : Option Flight) (o : Outcome) (ending : Ending) (left : Array) → IsTied s →
-    IsEndingOf s.translation.disk.cells x o ending → MayLeave s die ending left → MayEnd s.translation.disk die x ending
-ends_may s die (Some (Reading reader place)) (outcome.Read page) ReadRight left tied is leaves = tt
-ends_may s die (Some (Reading reader place)) (outcome.Read page) ReadWrong left tied is leaves = tt
-ends_may s die (Some (Reading reader place)) outcome.ReadFailed ReadWrong left tied is leaves = tt
-ends_may s die (Some (Programming place cell)) outcome.Done WentWell left tied is leaves = tt
-ends_may s die (Some (Programming place cell)) outcome.Failed (WentWrong cells) left tied is leaves = crash_may s die cells left tied leaves
-ends_may s die (Some (Erasing spot)) outcome.Done WentWell left tied is leaves = tt
-ends_may s die (Some (Erasing spot)) outcome.Failed (WentWrong cells) left tied is leaves = crash_may s die cells left tied leaves
-ends_may s die x o ending left tied is leaves = absurd is
+leaves_cells : (s : State) (die : ℕ) (ending : Ending) (left : Array) → IsTied s → MayLeave s die ending left → MayLeaveCells s.translation.disk die ending
+leaves_cells s die ReadRight left tied leaves = tt
+leaves_cells s die ReadWrong left tied leaves = tt
+leaves_cells s die WentWell left tied leaves = tt
+leaves_cells s die (WentWrong cells) left tied leaves = crash_may s die cells left tied leaves
 
 -- what a job that ends leaves of the pages it leaves of what they are
 pub may_end : (d : DeviceCore) (s : State) (die : ℕ) (o : Outcome) (ending : Ending) (left : Array) → Describes d s →
     IsEndingOf s.translation.disk.cells (s.translation.disk.flights die) o ending → MayLeave s die ending left →
     MayEnd s.translation.disk die (s.translation.disk.flights die) ending
-may_end d s die o ending left h is leaves = ends_may s die (s.translation.disk.flights die) o ending left h.tied is leaves
+may_end d s die o ending left h is leaves =
+    (ending_fits s.translation.disk.cells (s.translation.disk.flights die) o ending is, leaves_cells s die ending left h.tied leaves)
 
 pub ends_right : (d : DeviceCore) (s : State) (die : ℕ) (o : Outcome) (ending : Ending) (left : Array) (after : Core) (e : Ended) → Describes d s →
     IsEndingOf s.translation.disk.cells (s.translation.disk.flights die) o ending → MayLeave s die ending left →

@@ -199,9 +199,9 @@ can_finish d dies jobs s die flight h fit flies =
 -- what the die tells of its job is how a job ends that went well
 ends_as : (d : DeviceCore) (dies : List DieState) (jobs : List (Option Job)) (s : State) (flight : Flight) → Describes d s → DiesFit dies jobs s →
     IsEndingOf s.translation.disk.cells (Some flight) (outcome_of (die_at dies (die_of_flight flight)) (job_of flight)) (ended_well flight)
-ends_as d dies jobs s (Reading who p) h fit = subst (λ (array : Array). IsCell (array p) (s.translation.disk.cells p)) fit.pages (h.tied.shown p)
-ends_as d dies jobs s (Programming p cell) h fit = tt
-ends_as d dies jobs s (Erasing spot) h fit = tt
+ends_as d dies jobs s (Reading who p) h fit = (refl, subst (λ (array : Array). IsCell (array p) (s.translation.disk.cells p)) fit.pages (h.tied.shown p))
+ends_as d dies jobs s (Programming p cell) h fit = (refl, tt)
+ends_as d dies jobs s (Erasing spot) h fit = (refl, tt)
 
 pub finish_ending : (d : DeviceCore) (dies : List DieState) (jobs : List (Option Job)) (s : State) (die : ℕ) (flight : Flight) → Describes d s → DiesFit dies jobs s →
     s.translation.disk.flights die ≡ Some flight →

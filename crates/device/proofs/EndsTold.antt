@@ -2,12 +2,12 @@
 use Rattle.std.proofs.Common.{◌≡◌, ◌∙◌, ℕ, true, false, List, [], ◌∷◌, ◌++◌, length, map, Option, Some, None, refl, sym, ap, subst}
 use Rattle.std.specs.Prelude.{if◌then◌else◌, nat_lt}
 use Rattle.std.specs.List.{list_any}
-use Rattle.ufs_spec.specs.Cells.{Array, Cells, GroupPage}
+use Rattle.ufs_spec.specs.Cells.{Array, Cell, Cells, GroupPage}
 use Rattle.ufs_spec.specs.Disk.{Erasing, Flight, ForNobody, ForRest, ForStep, ForTask, Programming, Reading}
 use Rattle.ufs_spec.specs.Exchanges as exchange
 use Rattle.ufs_spec.specs.Exchanges.{NotRead, WasRead}
-use Rattle.ufs_spec.specs.Machine.{Done, OfDone, MayLeave, array_behind, ends_with, fits, lock_applied, task_read}
-use Rattle.ufs_spec.specs.Moves.{EndJob, Ending, IsEndingOf, ReadRight, ReadWrong, WentWell, WentWrong, end_flight, job_ended, moved, with_wanted}
+use Rattle.ufs_spec.specs.Machine.{Done, OfDone, MayLeave, array_behind, ends_with, lock_applied, task_read}
+use Rattle.ufs_spec.specs.Moves.{EndJob, Ending, IsEndingOf, Means, ReadRight, ReadWrong, WentWell, WentWrong, agree, cell_read, end_flight, fits, is_read_ending, is_read_job, is_read_outcome, job_ended, moved, with_wanted}
 use Rattle.ufs_spec.specs.Refusals.{State}
 use Rattle.ufs_spec.specs.Translation as layer
 use Rattle.ufs_spec.specs.Translation.{Translation}
@@ -39,15 +39,19 @@ use Rattle.device.proofs.Unfilled.{settles}
 
 -- An ending that may come fits the job
 
+-- an outcome that means an ending is of a read exactly if the ending is
+means_same : (cell : Cell) (o : Outcome) (ending : Ending) → Means cell o ending → is_read_outcome o ≡ is_read_ending ending
+means_same cell (outcome.Read page) ReadRight h = refl
+means_same cell (outcome.Read page) ReadWrong h = refl
+means_same cell outcome.ReadFailed ReadWrong h = refl
+means_same cell outcome.Done WentWell h = refl
+means_same cell outcome.Failed (WentWrong left) h = refl
+means_same cell o ending h = absurd h
+
 pub ending_fits : (cells : Cells) (x : Option Flight) (o : Outcome) (ending : Ending) → IsEndingOf cells x o ending → fits x ending ≡ true
-ending_fits cells (Some (Reading reader place)) (outcome.Read page) ReadRight h = refl
-ending_fits cells (Some (Reading reader place)) (outcome.Read page) ReadWrong h = refl
-ending_fits cells (Some (Reading reader place)) outcome.ReadFailed ReadWrong h = refl
-ending_fits cells (Some (Programming place cell)) outcome.Done WentWell h = refl
-ending_fits cells (Some (Programming place cell)) outcome.Failed (WentWrong left) h = refl
-ending_fits cells (Some (Erasing spot)) outcome.Done WentWell h = refl
-ending_fits cells (Some (Erasing spot)) outcome.Failed (WentWrong left) h = refl
-ending_fits cells x o ending h = absurd h
+ending_fits cells None o ending h = h.0
+ending_fits cells (Some flight) o ending h =
+    ap (agree (is_read_job flight)) (sym (means_same (cell_read cells (Some flight)) o ending h.1)) ∙ h.0
 
 -- The layer behind the job
 

@@ -4,8 +4,8 @@ use Rattle.ufs_spec.specs.Cells.{GroupPage, MarkPage, Nothing}
 use Rattle.ufs_spec.specs.Disk.{BlockState, Erasing, Filling, Flight, ForNobody, ForRest, ForStep, ForTask, Programming, Reader, Reading, Spot, at_die, at_spot, programmed, spot_of, state_behind}
 use Rattle.ufs_spec.specs.Exchanges.{ReadState, WasRead}
 use Rattle.ufs_spec.specs.Lives.{ended_well}
-use Rattle.ufs_spec.specs.Machine.{Done, OfDone, array_behind, ends_with, fits, observe, read_noted, read_noted_behind}
-use Rattle.ufs_spec.specs.Moves.{die_idle, end_flight, freed, job_ended, read_right}
+use Rattle.ufs_spec.specs.Machine.{Done, OfDone, array_behind, ends_with, observe, read_noted, read_noted_behind}
+use Rattle.ufs_spec.specs.Moves.{die_idle, end_flight, fits, freed, job_ended, read_right}
 use Rattle.ufs_spec.specs.Refusals.{State}
 use Rattle.ufs_spec.specs.Translation.{Plan, Translation}
 use Rattle.ufs_laws.proofs.Flying.{jobs_behind}

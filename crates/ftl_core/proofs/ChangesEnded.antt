@@ -165,7 +165,7 @@ module _ (c : Core) (t : Translation) (die : ℕ) (b : Book) (o : OpenBlock) (m 
     (there : slice_get c.books die ≡ Some b) (fills : b.filling ≡ Some o)
     (flies : t.disk.flights die ≡ Some (disk.Programming (next_place die o) (MarkPage m))) (may : MayEnd t.disk die (t.disk.flights die) (WentWrong left)) where
   left_by : (q : Place) → (left q ≡ t.disk.cells q) ⊎ ((q ≡ next_place die o) × ((left q ≡ MarkPage m) ⊎ (left q ≡ Nothing)))
-  left_by = program_left t.disk die (next_place die o) (MarkPage m) left flies (subst (λ (f : Option disk.Flight). MayEnd t.disk die f (WentWrong left)) flies may)
+  left_by = program_left t.disk die (next_place die o) (MarkPage m) left flies (subst (λ (f : Option disk.Flight). MayEnd t.disk die f (WentWrong left)) flies may).1
 
   failed_filling : IsFilling t.numbers t.disk.blocks die (Some o)
   failed_filling = filling_kept c t die b (Some o) h there fills
@@ -236,7 +236,7 @@ module _ (c : Core) (t : Translation) (die : ℕ) (b : Book) (o : OpenBlock) (nu
     (is_number : tag.number ≡ number) (first : tag.index ≡ 0)
     (flies : t.disk.flights die ≡ Some (disk.Programming (next_place die o) (GroupPage tag body))) (may : MayEnd t.disk die (t.disk.flights die) (WentWrong left)) where
   group_left : (q : Place) → (left q ≡ t.disk.cells q) ⊎ ((q ≡ next_place die o) × ((left q ≡ GroupPage tag body) ⊎ (left q ≡ Nothing)))
-  group_left = program_left t.disk die (next_place die o) (GroupPage tag body) left flies (subst (λ (f : Option disk.Flight). MayEnd t.disk die f (WentWrong left)) flies may)
+  group_left = program_left t.disk die (next_place die o) (GroupPage tag body) left flies (subst (λ (f : Option disk.Flight). MayEnd t.disk die f (WentWrong left)) flies may).1
 
   group_filling : IsFilling t.numbers t.disk.blocks die (Some o)
   group_filling = filling_kept c t die b (Some o) h there fills
@@ -357,7 +357,7 @@ module _ (c : Core) (t : Translation) (die : ℕ) (b : Book) (block : ℕ) (h : 
       (λ place tag body is stays. (⊎_elim (λ k. k) (λ k. absurd (not_inside place stays k.0)) (by place) ∙ is, stays))
     where
       by : (q : Place) → (left q ≡ t.disk.cells q) ⊎ ((spot_of q ≡ spot_at die block) × (left q ≡ Nothing))
-      by = erase_left t.disk die (spot_at die block) left flies (subst (λ (f : Option disk.Flight). MayEnd t.disk die f (WentWrong left)) flies may)
+      by = erase_left t.disk die (spot_at die block) left flies (subst (λ (f : Option disk.Flight). MayEnd t.disk die f (WentWrong left)) flies may).1
 
 pub group_has_failed : (c : Core) (t : Translation) (die : ℕ) (b : Book) (place : Place) (number : ℕ) (p : Place) (tag : Tag) (body : List ℕ) (left : Cells) → Describes c t →
     slice_get c.books die ≡ Some b → b.flight ≡ Some (flight.Group place number) → t.disk.flights die ≡ Some (disk.Programming p (GroupPage tag body)) →

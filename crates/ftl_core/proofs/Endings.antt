@@ -1,6 +1,7 @@
 -- The end of a die's job is the one that the definitions say.
 use Rattle.std.proofs.Common.{◌≡◌, ◌∙◌, ℕ, Bool, true, false, List, Option, Some, None, refl, sym, ap, subst}
 use Rattle.std.specs.Prelude.{is_some, slice_get, option_map}
+use Rattle.ufs_spec.proofs.Facts.{false≢true}
 use Rattle.ufs_spec.specs.Cells.{Cells, GroupPage, Mark, MarkPage, Nothing, Cell}
 use Rattle.ufs_spec.specs.Disk as disk
 use Rattle.ufs_spec.specs.Disk.{Reader, Spot}
@@ -35,29 +36,29 @@ use Rattle.ftl_core.proofs.ReadsEnded.{read_ended, read_told}
 program_ends : (P : Outcome → Ending → Type 0) (cells : Cells) (p : Place) (cell : Cell) → P outcome.Done WentWell → ((left : Cells) → P outcome.Failed (WentWrong left)) →
     (o : Outcome) (ending : Ending) → IsEndingOf cells (Some (disk.Programming p cell)) o ending → P o ending
 program_ends P cells p cell well wrong outcome.Done WentWell is = well
-program_ends P cells p cell well wrong outcome.Done ReadRight is = absurd is
-program_ends P cells p cell well wrong outcome.Done ReadWrong is = absurd is
-program_ends P cells p cell well wrong outcome.Done (WentWrong left) is = absurd is
+program_ends P cells p cell well wrong outcome.Done ReadRight is = absurd is.1
+program_ends P cells p cell well wrong outcome.Done ReadWrong is = absurd is.1
+program_ends P cells p cell well wrong outcome.Done (WentWrong left) is = absurd is.1
 program_ends P cells p cell well wrong outcome.Failed (WentWrong left) is = wrong left
-program_ends P cells p cell well wrong outcome.Failed ReadRight is = absurd is
-program_ends P cells p cell well wrong outcome.Failed ReadWrong is = absurd is
-program_ends P cells p cell well wrong outcome.Failed WentWell is = absurd is
-program_ends P cells p cell well wrong (outcome.Read page) ending is = absurd is
-program_ends P cells p cell well wrong outcome.ReadFailed ending is = absurd is
+program_ends P cells p cell well wrong outcome.Failed ReadRight is = absurd is.1
+program_ends P cells p cell well wrong outcome.Failed ReadWrong is = absurd is.1
+program_ends P cells p cell well wrong outcome.Failed WentWell is = absurd is.1
+program_ends P cells p cell well wrong (outcome.Read page) ending is = absurd (false≢true is.0)
+program_ends P cells p cell well wrong outcome.ReadFailed ending is = absurd (false≢true is.0)
 
 -- and so does an erase
 erase_ends : (P : Outcome → Ending → Type 0) (cells : Cells) (s : Spot) → P outcome.Done WentWell → ((left : Cells) → P outcome.Failed (WentWrong left)) →
     (o : Outcome) (ending : Ending) → IsEndingOf cells (Some (disk.Erasing s)) o ending → P o ending
 erase_ends P cells s well wrong outcome.Done WentWell is = well
-erase_ends P cells s well wrong outcome.Done ReadRight is = absurd is
-erase_ends P cells s well wrong outcome.Done ReadWrong is = absurd is
-erase_ends P cells s well wrong outcome.Done (WentWrong left) is = absurd is
+erase_ends P cells s well wrong outcome.Done ReadRight is = absurd is.1
+erase_ends P cells s well wrong outcome.Done ReadWrong is = absurd is.1
+erase_ends P cells s well wrong outcome.Done (WentWrong left) is = absurd is.1
 erase_ends P cells s well wrong outcome.Failed (WentWrong left) is = wrong left
-erase_ends P cells s well wrong outcome.Failed ReadRight is = absurd is
-erase_ends P cells s well wrong outcome.Failed ReadWrong is = absurd is
-erase_ends P cells s well wrong outcome.Failed WentWell is = absurd is
-erase_ends P cells s well wrong (outcome.Read page) ending is = absurd is
-erase_ends P cells s well wrong outcome.ReadFailed ending is = absurd is
+erase_ends P cells s well wrong outcome.Failed ReadRight is = absurd is.1
+erase_ends P cells s well wrong outcome.Failed ReadWrong is = absurd is.1
+erase_ends P cells s well wrong outcome.Failed WentWell is = absurd is.1
+erase_ends P cells s well wrong (outcome.Read page) ending is = absurd (false≢true is.0)
+erase_ends P cells s well wrong outcome.ReadFailed ending is = absurd (false≢true is.0)
 
 -- a die without a book has no job
 no_book : (c : Core) (t : Translation) (die : ℕ) → Describes c t → slice_get c.books die ≡ None → t.disk.flights die ≡ None
@@ -102,7 +103,7 @@ kept_then : (c : Core) (t : Translation) (die : ℕ) (o : Outcome) (ending : End
     IsEndingOf t.disk.cells (t.disk.flights die) o ending → MayEnd t.disk die (t.disk.flights die) ending →
     Kept (flight_after c die b b.flight o) (moved t (EndJob die ending))
 kept_then c t die o ending b h there is may =
-    job_cases t.numbers c.pins die b.filling Goal (λ job flies now. absurd now) reads marks groups erases b.flight (t.disk.flights die) (h.kept.dies.each die b there).job refl refl is
+    job_cases t.numbers c.pins die b.filling Goal (λ job flies now. absurd (false≢true now.0)) reads marks groups erases b.flight (t.disk.flights die) (h.kept.dies.each die b there).job refl refl is
   where
     Goal : Option Flight → Option disk.Flight → Type 0
     Goal f g = b.flight ≡ f → t.disk.flights die ≡ g → IsEndingOf t.disk.cells g o ending → Kept (flight_after c die b f o) (moved t (EndJob die ending))
@@ -137,7 +138,7 @@ kept_of : (c : Core) (t : Translation) (die : ℕ) (o : Outcome) (ending : Endin
     IsEndingOf t.disk.cells (t.disk.flights die) o ending → MayEnd t.disk die (t.disk.flights die) ending →
     Kept (book_after c die book o) (moved t (EndJob die ending))
 kept_of c t die o ending None h there is may =
-    absurd (subst (λ (g : Option disk.Flight). IsEndingOf t.disk.cells g o ending) (no_book c t die h there) is)
+    absurd (false≢true (subst (λ (g : Option disk.Flight). IsEndingOf t.disk.cells g o ending) (no_book c t die h there) is).0)
 kept_of c t die o ending (Some b) h there is may = kept_then c t die o ending b h there is may
 
 -- what is kept once a job ended so describes the layer in which it did
@@ -155,7 +156,7 @@ told_then : (c : Core) (t : Translation) (die : ℕ) (o : Outcome) (ending : End
     IsEndingOf t.disk.cells (t.disk.flights die) o ending → FlightEnds c b.flight o r →
     (e : Ended) × (r ≡ Some e) × IsTold t.disk.cells (t.disk.flights die) ending e
 told_then c t die o ending r b h there is answer =
-    job_cases t.numbers c.pins die b.filling Goal (λ job flies now told. absurd now) reads marks groups erases b.flight (t.disk.flights die) (h.kept.dies.each die b there).job refl refl is answer
+    job_cases t.numbers c.pins die b.filling Goal (λ job flies now told. absurd (false≢true now.0)) reads marks groups erases b.flight (t.disk.flights die) (h.kept.dies.each die b there).job refl refl is answer
   where
     Goal : Option Flight → Option disk.Flight → Type 0
     Goal f g = b.flight ≡ f → t.disk.flights die ≡ g → IsEndingOf t.disk.cells g o ending → FlightEnds c f o r →
@@ -190,7 +191,7 @@ told_of : (c : Core) (t : Translation) (die : ℕ) (o : Outcome) (ending : Endin
     IsEndingOf t.disk.cells (t.disk.flights die) o ending → BookEnds c book o r →
     (e : Ended) × (r ≡ Some e) × IsTold t.disk.cells (t.disk.flights die) ending e
 told_of c t die o ending r None h there is answer =
-    absurd (subst (λ (g : Option disk.Flight). IsEndingOf t.disk.cells g o ending) (no_book c t die h there) is)
+    absurd (false≢true (subst (λ (g : Option disk.Flight). IsEndingOf t.disk.cells g o ending) (no_book c t die h there) is).0)
 told_of c t die o ending r (Some b) h there is answer = told_then c t die o ending r b h there is answer
 
 -- the end of a job is told as the definitions say

@@ -1,4 +1,5 @@
 -- A read ends.
+use Rattle.ufs_spec.proofs.Facts.{false≢true}
 use Rattle.ufs_spec.proofs.Facts.{key_is}
 use Rattle.std.proofs.Common.{◌≡◌, ◌≢◌, ◌∙◌, ◌⊎◌, ℕ, ◌<◌, ◌≤◌, Bool, true, false, List, Option, Some, None, length, map, refl, sym, ap, subst, inl, inr, ⊎_elim, arith}
 use Rattle.std.specs.Prelude.{◌&&◌, ◌==◌, slice_get, slice_set}
@@ -47,7 +48,9 @@ ends_read : (cells : Cells) (who : Reader) (p : Place) (o : Outcome) (ending : E
 ends_read cells who p (outcome.Read page) ReadRight h = (refl, inl refl)
 ends_read cells who p (outcome.Read page) ReadWrong h = (refl, inr refl)
 ends_read cells who p outcome.ReadFailed ReadWrong h = (refl, inr refl)
-ends_read cells who p o ending h = absurd h
+ends_read cells who p outcome.Done ending h = absurd (false≢true h.0)
+ends_read cells who p outcome.Failed ending h = absurd (false≢true h.0)
+ends_read cells who p o ending h = absurd h.1
 
 -- the read in flight of the die, for whoever it is
 flight_told : (c : Core) (t : Translation) (die : ℕ) (b : Book) (place : Place) (reader : ℕ) (who : Reader) (p : Place) → Kept c t → slice_get c.books die ≡ Some b →
@@ -317,11 +320,13 @@ task_told : (cells : Cells) (reader : ℕ) (place : Place) (o : Outcome) (ending
     IsPageOf cells place x.key s.number → IsEndingOf cells (Some (disk.Reading (ForTask reader 0) place)) o ending → GivesTo o reader (Some x) e →
     IsTold cells (Some (disk.Reading (ForTask reader 0) place)) ending e
 task_told cells reader place (outcome.Read page) ReadRight e x s looks w is gives =
-    (w.tag, w.body, w.there, gives.2 ∙ ap (ended.Read reader) (right_body page cells place x.key s.number gives.0 w is (subst (λ (l : Looked). IsBodyLooked page x.key l gives.0) looks gives.1)))
+    (w.tag, w.body, w.there, gives.2 ∙ ap (ended.Read reader) (right_body page cells place x.key s.number gives.0 w is.1 (subst (λ (l : Looked). IsBodyLooked page x.key l gives.0) looks gives.1)))
 task_told cells reader place (outcome.Read page) ReadWrong e x s looks w is gives =
-    gives.2 ∙ ap (ended.Read reader) (wrong_body page cells place x.key s.number gives.0 w is (subst (λ (l : Looked). IsBodyLooked page x.key l gives.0) looks gives.1))
+    gives.2 ∙ ap (ended.Read reader) (wrong_body page cells place x.key s.number gives.0 w is.1 (subst (λ (l : Looked). IsBodyLooked page x.key l gives.0) looks gives.1))
 task_told cells reader place outcome.ReadFailed ReadWrong e x s looks w is gives = gives.2 ∙ ap (ended.Read reader) gives.1
-task_told cells reader place o ending e x s looks w is gives = absurd is
+task_told cells reader place outcome.Done ending e x s looks w is gives = absurd (false≢true is.0)
+task_told cells reader place outcome.Failed ending e x s looks w is gives = absurd (false≢true is.0)
+task_told cells reader place o ending e x s looks w is gives = absurd is.1
 
 nobody_told : (cells : Cells) (p : Place) (ending : Ending) (e : Ended) → e ≡ ended.Other → IsTold cells (Some (disk.Reading ForNobody p)) ending e
 nobody_told cells p ReadRight e h = h

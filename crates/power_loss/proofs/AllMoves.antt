@@ -1,5 +1,6 @@
 -- Each move keeps a life valid.
 use Rattle.std.proofs.Common.{◌≡◌, ℕ, Option, Some, None, refl}
+use Rattle.ufs_spec.proofs.Facts.{false≢true}
 use Rattle.ufs_spec.specs.Cells.{GroupPage, MarkPage, Nothing}
 use Rattle.ufs_spec.specs.Disk.{Erasing, Flight, Programming, Reading}
 use Rattle.ufs_spec.specs.Moves.{Accept, Claim, EndJob, Ending, IsAllowedMove, Keep, LetGo, LetGoAll, MayEnd, Move, ReadRight, ReadWrong, Release, GiveJob, Acknowledge, TakeStep, WantPage, WentWell, WentWrong, end_flight, moved}
@@ -18,21 +19,21 @@ ends : (t : Translation) (die : ℕ) (flight : Option Flight) (ending : Ending) 
 ends t die None ending v e may = v
 ends t die (Some (Reading reader place)) ReadRight v e may = ends_read_right t die reader place v
 ends t die (Some (Reading reader place)) ReadWrong v e may = ends_read_wrong t die reader place v
-ends t die (Some (Reading reader place)) WentWell v e may = absurd may
-ends t die (Some (Reading reader place)) (WentWrong left) v e may = absurd may
+ends t die (Some (Reading reader place)) WentWell v e may = absurd (false≢true may.0)
+ends t die (Some (Reading reader place)) (WentWrong left) v e may = absurd (false≢true may.0)
 ends t die (Some (Programming p Nothing)) ending v e may = absurd (v.flights.something die p e)
-ends t die (Some (Programming p (GroupPage tag body))) ReadRight v e may = absurd may
-ends t die (Some (Programming p (GroupPage tag body))) ReadWrong v e may = absurd may
+ends t die (Some (Programming p (GroupPage tag body))) ReadRight v e may = absurd (false≢true may.0)
+ends t die (Some (Programming p (GroupPage tag body))) ReadWrong v e may = absurd (false≢true may.0)
 ends t die (Some (Programming p (GroupPage tag body))) WentWell v e may = ends_page t die p tag body v e
-ends t die (Some (Programming p (GroupPage tag body))) (WentWrong left) v e may = fails_page t die p tag body left v e may
-ends t die (Some (Programming p (MarkPage m))) ReadRight v e may = absurd may
-ends t die (Some (Programming p (MarkPage m))) ReadWrong v e may = absurd may
+ends t die (Some (Programming p (GroupPage tag body))) (WentWrong left) v e may = fails_page t die p tag body left v e may.1
+ends t die (Some (Programming p (MarkPage m))) ReadRight v e may = absurd (false≢true may.0)
+ends t die (Some (Programming p (MarkPage m))) ReadWrong v e may = absurd (false≢true may.0)
 ends t die (Some (Programming p (MarkPage m))) WentWell v e may = ends_mark t die p m v e
-ends t die (Some (Programming p (MarkPage m))) (WentWrong left) v e may = fails_mark t die p m left v e may
-ends t die (Some (Erasing s)) ReadRight v e may = absurd may
-ends t die (Some (Erasing s)) ReadWrong v e may = absurd may
+ends t die (Some (Programming p (MarkPage m))) (WentWrong left) v e may = fails_mark t die p m left v e may.1
+ends t die (Some (Erasing s)) ReadRight v e may = absurd (false≢true may.0)
+ends t die (Some (Erasing s)) ReadWrong v e may = absurd (false≢true may.0)
 ends t die (Some (Erasing s)) WentWell v e may = ends_erase t die s v e
-ends t die (Some (Erasing s)) (WentWrong left) v e may = fails_erase t die s left v e may
+ends t die (Some (Erasing s)) (WentWrong left) v e may = fails_erase t die s left v e may.1
 
 takes : (t : Translation) (die : ℕ) (flight : Flight) → Valid t → MayTake t die (Some flight) → Valid (taken t die flight)
 takes t die (Reading reader place) v may = takes_read t die reader place v

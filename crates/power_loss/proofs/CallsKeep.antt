@@ -3,9 +3,9 @@ use Rattle.std.proofs.Common.{List, None, Option, Some, ap, refl, subst, sym, tr
 use Rattle.ufs_spec.proofs.Facts.{false≢true}
 use Rattle.std.specs.Prelude.{Err, Ok, Result, slice_index}
 use Rattle.ufs_spec.specs.Cdbs.{SpellsCdb, cdb_bytes, operation_of}
-use Rattle.ufs_spec.specs.Machine.{Allowed, Answer, Reply, Call, Faulty, Done, OfDone, Take, OfTake, Heard, OfHost, Host, IsCdbIn, IsHeard, MayHear, MayLeave, OfReply, Spelled, Turn, OfTurn, behind, cdb_of, fits, heard, lock_applied, managed, message_fault, observe, opens_short, query_unanswered, result_of, service}
+use Rattle.ufs_spec.specs.Machine.{Allowed, Answer, Reply, Call, Faulty, Done, OfDone, Take, OfTake, Heard, OfHost, Host, IsCdbIn, IsHeard, MayHear, MayLeave, OfReply, Spelled, Turn, OfTurn, behind, cdb_of, heard, lock_applied, managed, message_fault, observe, opens_short, query_unanswered, result_of, service}
 use Rattle.ufs_spec.specs.Messages.{Spells}
-use Rattle.ufs_spec.specs.Moves.{Ending, ReadRight, ReadWrong, GiveJob, WentWell, WentWrong}
+use Rattle.ufs_spec.specs.Moves.{Ending, GiveJob, ReadRight, ReadWrong, WentWell, WentWrong, fits}
 use Rattle.ufs_spec.specs.Cells.{Array}
 use Rattle.ufs_spec.specs.Refusals.{State}
 use Rattle.ufs_spec.specs.declared.faults.HostFault.{HostFault}
@@ -32,17 +32,17 @@ ending_keeps : (s : State) (die : ℕ) (flight : Option Flight) (ending : Ending
     fits flight ending ≡ true → MayLeave s die ending left → IsTied (job_over s die flight ending left)
 ending_keeps s die None ending left v e fit may = v
 ending_keeps s die (Some (Reading reader place)) ReadRight left v e fit may =
-    over_keeps s die (Reading reader place) ReadRight left v e (record { may = tt; shown = right_shown s die reader v.shown })
+    over_keeps s die (Reading reader place) ReadRight left v e (record { may = (refl, tt); shown = right_shown s die reader v.shown })
 ending_keeps s die (Some (Reading reader place)) ReadWrong left v e fit may =
-    over_keeps s die (Reading reader place) ReadWrong left v e (record { may = tt; shown = wrong_shown s die reader v.shown })
+    over_keeps s die (Reading reader place) ReadWrong left v e (record { may = (refl, tt); shown = wrong_shown s die reader v.shown })
 ending_keeps s die (Some (Programming p cell)) WentWell left v e fit may =
-    over_keeps s die (Programming p cell) WentWell left v e (record { may = tt; shown = written_shown s die p cell left v e })
+    over_keeps s die (Programming p cell) WentWell left v e (record { may = (refl, tt); shown = written_shown s die p cell left v e })
 ending_keeps s die (Some (Programming p cell)) (WentWrong cells) left v e fit may =
-    failed_keeps s die (Programming p cell) cells left v e may.0 may.1 (λ crash. record { may = crash; shown = left_shown s die p cell left cells may.1 })
+    failed_keeps s die (Programming p cell) cells left v e may.0 may.1 (λ crash. record { may = (refl, crash); shown = left_shown s die p cell left cells may.1 })
 ending_keeps s die (Some (Erasing spot)) WentWell left v e fit may =
-    over_keeps s die (Erasing spot) WentWell left v e (record { may = tt; shown = erased_shown s spot v })
+    over_keeps s die (Erasing spot) WentWell left v e (record { may = (refl, tt); shown = erased_shown s spot v })
 ending_keeps s die (Some (Erasing spot)) (WentWrong cells) left v e fit may =
-    failed_keeps s die (Erasing spot) cells left v e may.0 may.1 (λ crash. record { may = crash; shown = may.1 })
+    failed_keeps s die (Erasing spot) cells left v e may.0 may.1 (λ crash. record { may = (refl, crash); shown = may.1 })
 ending_keeps s die (Some (Reading reader place)) WentWell left v e fit may = absurd (false≢true fit)
 ending_keeps s die (Some (Reading reader place)) (WentWrong cells) left v e fit may = absurd (false≢true fit)
 ending_keeps s die (Some (Programming p cell)) ReadRight left v e fit may = absurd (false≢true fit)

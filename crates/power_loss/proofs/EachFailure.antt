@@ -5,8 +5,8 @@ use Rattle.ufs_laws.proofs.SomeCell.{some_cell}
 use Rattle.ufs_spec.specs.Cells.{Array, Cell, Cells, Shows}
 use Rattle.ufs_spec.specs.Disk.{Crash, Erasing, Flight, Programming, Reader, Reading, Spot, Touches, flight_alone, page_of}
 use Rattle.ufs_spec.specs.Lives.{IsFailure, IsLawfulLeftover, IsLeft, IsLeftoverOf, Leads, die_of, page_left}
-use Rattle.ufs_spec.specs.Machine.{Done, OfDone, fits, observe}
-use Rattle.ufs_spec.specs.Moves.{Ending, ReadWrong, WentWrong}
+use Rattle.ufs_spec.specs.Machine.{Done, OfDone, observe}
+use Rattle.ufs_spec.specs.Moves.{Ending, ReadWrong, WentWrong, fits}
 use Rattle.ufs_spec.specs.Pages.{MayBeLeft}
 use Rattle.ufs_spec.specs.Refusals.{State, numbers_of}
 use Rattle.ufs_spec.specs.declared.events.Event.TheVariants as event

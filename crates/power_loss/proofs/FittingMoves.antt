@@ -4,6 +4,7 @@ use Rattle.std.specs.Prelude.{if◌then◌else◌, is_none, nat_le, option_and_t
 use Rattle.std.proofs.lemmas.Bool.{leb-true, leb-false, ltb-true}
 use Rattle.std.proofs.lemmas.List.{length-append}
 use Rattle.std.proofs.lemmas.Option.{get_or_from_slice_get, slice_get_within}
+use Rattle.ufs_spec.proofs.Facts.{false≢true}
 use Rattle.ufs_spec.specs.Cells.{Cell, GroupPage, IsCell, IsFence, Mark, MarkPage, Nothing}
 use Rattle.ufs_spec.specs.Configs.{IsConfig}
 use Rattle.ufs_spec.specs.Disk.{Disk, Erasing, Flight, ForNobody, ForRest, ForStep, ForTask, Programming, Reader, Reading, Spot, at_die, page_of, program_failed, programmed}
@@ -343,8 +344,8 @@ ends_fit : (t : Translation) (die : ℕ) (flight : Option Flight) (ending : Endi
 ends_fit t die None ending f e may v = f
 ends_fit t die (Some (Reading reader place)) ReadRight f e may v = reads_fit t die reader f v
 ends_fit t die (Some (Reading reader place)) ReadWrong f e may v = wrong_fits t die reader f v
-ends_fit t die (Some (Reading reader place)) WentWell f e may v = absurd may
-ends_fit t die (Some (Reading reader place)) (WentWrong left) f e may v = absurd may
+ends_fit t die (Some (Reading reader place)) WentWell f e may v = absurd (false≢true may.0)
+ends_fit t die (Some (Reading reader place)) (WentWrong left) f e may v = absurd (false≢true may.0)
 ends_fit t die (Some (Programming p Nothing)) ending f e may v = absurd (f.valid.flights.something die p e)
 ends_fit t die (Some (Programming p (GroupPage tag body))) WentWell f e may v =
     let up = climbs_up (record t.ledger { standing = at_name t.ledger.standing (name_of tag) (Some p) }) in
@@ -356,14 +357,14 @@ ends_fit t die (Some (Programming p (GroupPage tag body))) (WentWrong left) f e 
 ends_fit t die (Some (Programming p (MarkPage m))) (WentWrong left) f e may v =
     again_fits t (record t { disk = program_failed t.disk p left }) m.fence (has_mark_number t) refl f refl refl
     (idle_programs t.disk.flights p.die f.programs) refl refl v
-ends_fit t die (Some (Programming p (GroupPage tag body))) ReadRight f e may v = absurd may
-ends_fit t die (Some (Programming p (GroupPage tag body))) ReadWrong f e may v = absurd may
-ends_fit t die (Some (Programming p (MarkPage m))) ReadRight f e may v = absurd may
-ends_fit t die (Some (Programming p (MarkPage m))) ReadWrong f e may v = absurd may
+ends_fit t die (Some (Programming p (GroupPage tag body))) ReadRight f e may v = absurd (false≢true may.0)
+ends_fit t die (Some (Programming p (GroupPage tag body))) ReadWrong f e may v = absurd (false≢true may.0)
+ends_fit t die (Some (Programming p (MarkPage m))) ReadRight f e may v = absurd (false≢true may.0)
+ends_fit t die (Some (Programming p (MarkPage m))) ReadWrong f e may v = absurd (false≢true may.0)
 ends_fit t die (Some (Erasing s)) WentWell f e may v = light t _ f v refl refl (idle_programs t.disk.flights s.die f.programs) f.marks f.repaired refl
 ends_fit t die (Some (Erasing s)) (WentWrong left) f e may v = light t _ f v refl refl (idle_programs t.disk.flights s.die f.programs) f.marks f.repaired refl
-ends_fit t die (Some (Erasing s)) ReadRight f e may v = absurd may
-ends_fit t die (Some (Erasing s)) ReadWrong f e may v = absurd may
+ends_fit t die (Some (Erasing s)) ReadRight f e may v = absurd (false≢true may.0)
+ends_fit t die (Some (Erasing s)) ReadWrong f e may v = absurd (false≢true may.0)
 
 -- Steps that are ordered
 

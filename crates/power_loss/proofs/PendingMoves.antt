@@ -1,6 +1,7 @@
 -- What each move does to the pending groups and to the durable contents.
 use Rattle.std.proofs.Common.{◌⊎◌, inl, inr, subst, ◌≡◌, ℕ, ◌+◌, ◌-◌, ◌<◌, ◌&&◌, not, Bool, true, false, if◌then◌else◌, List, [], ◌∷◌, ◌++◌, drop, length, Option, Some, None, refl, sym, ap, ◌∙◌, is_none, arith}
 use Rattle.std.proofs.lemmas.List.{drop-append-le, drop_all, length-drop, take-append-le}
+use Rattle.ufs_spec.proofs.Facts.{false≢true}
 use Rattle.ufs_spec.specs.Cells.{Cell, GroupPage, MarkPage, Nothing}
 use Rattle.ufs_spec.specs.Disk.{Erasing, Flight, ForNobody, ForRest, ForStep, ForTask, Programming, Reader, Reading, Spot, program_failed}
 use Rattle.ufs_spec.specs.Keys.{Group, put_groups}
@@ -150,7 +151,7 @@ ended : (t : Translation) (die : ℕ) (ending : Ending) (flight : Option Flight)
 ended t die ending flight is h = subst (λ f. StaysSo t.ledger (end_flight t die f ending).ledger) (sym is) h
 
 end_effect : (t : Translation) (die : ℕ) (flight : Option Flight) (ending : Ending) → t.disk.flights die ≡ flight → MayEnd t.disk die flight ending → Effect t (EndJob die ending)
-end_effect t die None ending is may = absurd may
+end_effect t die None ending is may = absurd (false≢true may.0)
 end_effect t die (Some (Reading reader place)) ReadRight is may =
     none_new t (EndJob die ReadRight) refl (ended t die ReadRight (Some (Reading reader place)) is (right_stays (die_idle t die) reader))
 end_effect t die (Some (Reading reader place)) ReadWrong is may =
@@ -178,16 +179,16 @@ end_effect t die (Some (Erasing s)) WentWell is may =
     none_new t (EndJob die WentWell) refl (ended t die WentWell (Some (Erasing s)) is ((refl, refl), λ x. x))
 end_effect t die (Some (Erasing s)) (WentWrong left) is may =
     none_new t (EndJob die (WentWrong left)) refl (ended t die (WentWrong left) (Some (Erasing s)) is ((refl, refl), λ x. x))
-end_effect t die (Some (Reading reader place)) WentWell is may = absurd may
-end_effect t die (Some (Reading reader place)) (WentWrong left) is may = absurd may
-end_effect t die (Some (Programming p Nothing)) ReadRight is may = absurd may
-end_effect t die (Some (Programming p Nothing)) ReadWrong is may = absurd may
-end_effect t die (Some (Programming p (GroupPage tag body))) ReadRight is may = absurd may
-end_effect t die (Some (Programming p (GroupPage tag body))) ReadWrong is may = absurd may
-end_effect t die (Some (Programming p (MarkPage m))) ReadRight is may = absurd may
-end_effect t die (Some (Programming p (MarkPage m))) ReadWrong is may = absurd may
-end_effect t die (Some (Erasing s)) ReadRight is may = absurd may
-end_effect t die (Some (Erasing s)) ReadWrong is may = absurd may
+end_effect t die (Some (Reading reader place)) WentWell is may = absurd (false≢true may.0)
+end_effect t die (Some (Reading reader place)) (WentWrong left) is may = absurd (false≢true may.0)
+end_effect t die (Some (Programming p Nothing)) ReadRight is may = absurd (false≢true may.0)
+end_effect t die (Some (Programming p Nothing)) ReadWrong is may = absurd (false≢true may.0)
+end_effect t die (Some (Programming p (GroupPage tag body))) ReadRight is may = absurd (false≢true may.0)
+end_effect t die (Some (Programming p (GroupPage tag body))) ReadWrong is may = absurd (false≢true may.0)
+end_effect t die (Some (Programming p (MarkPage m))) ReadRight is may = absurd (false≢true may.0)
+end_effect t die (Some (Programming p (MarkPage m))) ReadWrong is may = absurd (false≢true may.0)
+end_effect t die (Some (Erasing s)) ReadRight is may = absurd (false≢true may.0)
+end_effect t die (Some (Erasing s)) ReadWrong is may = absurd (false≢true may.0)
 
 -- Each move
 

@@ -5,9 +5,9 @@ use Rattle.ufs_laws.proofs.Replies.{heard, reply_due}
 use Rattle.ufs_spec.specs.Cells.{Array}
 use Rattle.ufs_spec.specs.Disk.{Erasing, Flight, Programming, Reading, job_of}
 use Rattle.ufs_spec.specs.Lives.{IsCall, IsFailure, IsFinish, IsShown, Leads, ended_well}
-use Rattle.ufs_spec.specs.Machine.{Allowed, Answer, Reply, Call, Due, Done, OfDone, Take, OfTake, OfHost, Host, OfReply, Turn, OfTurn, fits, observe}
+use Rattle.ufs_spec.specs.Machine.{Allowed, Answer, Reply, Call, Due, Done, OfDone, Take, OfTake, OfHost, Host, OfReply, Turn, OfTurn, observe}
 use Rattle.ufs_spec.specs.Messages.{spelling}
-use Rattle.ufs_spec.specs.Moves.{Ending, ReadWrong, WentWrong}
+use Rattle.ufs_spec.specs.Moves.{Ending, ReadWrong, WentWrong, fits}
 use Rattle.ufs_spec.specs.Refusals.{State}
 use Rattle.ufs_spec.specs.Translation.{MayTake, is_step_due}
 use Rattle.ufs_spec.specs.declared.events.Event.{Event}

@@ -7,8 +7,8 @@ use Rattle.ufs_laws.specs.Requests.{HaveNoRequest}
 use Rattle.ufs_spec.specs.Cells.{Array, Cell, Cells, GroupPage, MarkPage, Nothing}
 use Rattle.ufs_spec.specs.Disk.{Disk, Flight, Erasing, ForNobody, ForRest, ForStep, ForTask, Programming, Reader, Reading, at_die, job_of, program_failed}
 use Rattle.ufs_spec.specs.Exchanges.{NotRead, ReadState, Task, WasRead, is_task_of}
-use Rattle.ufs_spec.specs.Machine.{Allowed, read_noted, Done, OfDone, Take, OfTake, deed_read, ends_with, fills, fits, given as given_job, lock_applied, observe, short_locked, task_locked, task_read, read_noted_behind}
-use Rattle.ufs_spec.specs.Moves.{end_flight, Ending, ReadRight, ReadWrong, WentWell, WentWrong, cell_failed, cell_written, freed, job_ended, mark_again, read_right, read_wrong}
+use Rattle.ufs_spec.specs.Machine.{Allowed, read_noted, Done, OfDone, Take, OfTake, deed_read, ends_with, fills, given as given_job, lock_applied, observe, short_locked, task_locked, task_read, read_noted_behind}
+use Rattle.ufs_spec.specs.Moves.{Ending, ReadRight, ReadWrong, WentWell, WentWrong, cell_failed, cell_written, end_flight, fits, freed, job_ended, mark_again, read_right, read_wrong}
 use Rattle.ufs_spec.specs.Refusals.{State, locked}
 use Rattle.ufs_spec.specs.Translation.{Plan, Translation, has_mark_number, mark_ordered}
 use Rattle.ufs_spec.specs.declared.flash.Fence.{Fence}

@@ -4,9 +4,9 @@ use Rattle.ufs_laws.proofs.Jobs.{nothing_inside}
 use Rattle.ufs_laws.specs.Runs.{Gets}
 use Rattle.ufs_spec.specs.Disk.{Erasing, Flight, Programming, Reading}
 use Rattle.ufs_spec.specs.Exchanges.{Task}
-use Rattle.ufs_spec.specs.Machine.{Allowed, Answer, Reply, Due, Done, OfDone, Take, OfTake, OfHost, Host, OfReply, Spelled, Turn, OfTurn, deed_reply, fits, message_fault, result_of}
+use Rattle.ufs_spec.specs.Machine.{Allowed, Answer, Reply, Due, Done, OfDone, Take, OfTake, OfHost, Host, OfReply, Spelled, Turn, OfTurn, deed_reply, message_fault, result_of}
 use Rattle.ufs_spec.specs.Cells.{Array}
-use Rattle.ufs_spec.specs.Moves.{Ending}
+use Rattle.ufs_spec.specs.Moves.{Ending, fits}
 use Rattle.ufs_spec.specs.Refusals.{State}
 use Rattle.ufs_spec.specs.Translation.{IsOwed, MayTake, Want, is_idle, is_step_due, next_flight, want_at, wants_on}
 use Rattle.ufs_spec.specs.declared.faults.HostFault.{HostFault}

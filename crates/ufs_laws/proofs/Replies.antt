@@ -2,8 +2,8 @@
 use Rattle.std.proofs.Common.{◌≡◌, ◌⊎◌, ℕ, zero, suc, Bool, true, false, List, [], ◌∷◌, slice_get, Option, Some, None, Result, Err, refl, sym, ap, ◌∙◌, inl, inr, ⊎_elim, true≢false}
 use Rattle.ufs_spec.specs.Cells.{Array}
 use Rattle.ufs_spec.specs.Exchanges.{Short, Task}
-use Rattle.ufs_spec.specs.Machine.{Allowed, Answer, Reply, Call, Due, Faulty, Done, OfDone, Take, OfTake, Heard, OfHost, Host, OfReply, Spelled, Turn, OfTurn, deed_reply, fits, is_durable, message_fault, result_of}
-use Rattle.ufs_spec.specs.Moves.{Ending}
+use Rattle.ufs_spec.specs.Machine.{Allowed, Answer, Reply, Call, Due, Faulty, Done, OfDone, Take, OfTake, Heard, OfHost, Host, OfReply, Spelled, Turn, OfTurn, deed_reply, is_durable, message_fault, result_of}
+use Rattle.ufs_spec.specs.Moves.{Ending, fits}
 use Rattle.ufs_spec.specs.Refusals.{State}
 use Rattle.ufs_spec.specs.Translation.{is_step_due}
 use Rattle.ufs_spec.specs.declared.faults.HostFault.{HostFault}

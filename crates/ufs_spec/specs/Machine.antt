@@ -15,7 +15,7 @@ use Rattle.ufs_spec.specs.Exchanges.{Answering, Awaiting, Deed, Registers, empty
 use Rattle.ufs_spec.specs.Keys.{below, data_key, group_of}
 use Rattle.ufs_spec.specs.Ledger.{InSlot, Looked, OnPage, Unwritten, before_accepted, look}
 use Rattle.ufs_spec.specs.Messages.{Spells, host_fault_of, is_among, zeros}
-use Rattle.ufs_spec.specs.Moves.{Accept, Claim, EndJob, Ending, Keep, LetGo, LetGoAll, Move, ReadRight, ReadWrong, Release, GiveJob, Acknowledge, TakeStep, WantPage, WentWell, WentWrong, is_pin_of, moved}
+use Rattle.ufs_spec.specs.Moves.{Accept, Claim, EndJob, Ending, Keep, LetGo, LetGoAll, Move, ReadRight, ReadWrong, Release, GiveJob, Acknowledge, TakeStep, WantPage, WentWell, WentWrong, fits, is_pin_of, moved}
 use Rattle.ufs_spec.specs.Plain.{block_at}
 use Rattle.ufs_spec.specs.Stages.{manages_tasks, most_tasks}
 use Rattle.ufs_spec.specs.Refusals.{Request, State, locked, lun_of, numbers_of, sends_frames, plain_now, refusal, slots_needed, spec_of, unit_of_request}
@@ -172,19 +172,6 @@ result_of (Some fault) = Err fault
 abbrev pub MayHear : State → Heard → Result Unit HostFault → Type 0
 MayHear s (Spelled m c) result = result ≡ result_of (message_fault s m)
 MayHear s (Faulty fault) result = result ≡ Err fault
-
--- a read ends so; a program and an erase otherwise
-abbrev pub ends_read : Ending → Bool
-ends_read ReadRight = true
-ends_read ReadWrong = true
-ends_read WentWell = false
-ends_read (WentWrong left) = false
-
-abbrev pub fits : Option Flight → Ending → Bool
-fits None ending = false
-fits (Some (Reading reader place)) ending = ends_read ending
-fits (Some (Programming place cell)) ending = not (ends_read ending)
-fits (Some (Erasing spot)) ending = not (ends_read ending)
 
 abbrev pub MayReply : State → Option Message → Type 0
 MayReply s (Some m) = Due s m

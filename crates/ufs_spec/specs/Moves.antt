@@ -139,15 +139,50 @@ job_ended t die (Erasing spot) WentWell = record t { disk = erased t.disk spot }
 job_ended t die (Erasing spot) (WentWrong left) = record t { disk = erase_failed t.disk spot left }
 job_ended t die flight ending = t
 
--- the ending is of the job's kind, and a failed one leaves what an interruption may
+-- Which endings and which outcomes a job can have: a read those of reads, a program and an erase the others
+
+abbrev pub is_read_job : Flight → Bool
+is_read_job (Reading reader place) = true
+is_read_job (Programming place cell) = false
+is_read_job (Erasing spot) = false
+
+abbrev pub is_read_ending : Ending → Bool
+is_read_ending ReadRight = true
+is_read_ending ReadWrong = true
+is_read_ending WentWell = false
+is_read_ending (WentWrong left) = false
+
+abbrev pub is_read_outcome : Outcome → Bool
+is_read_outcome (outcome.Read page) = true
+is_read_outcome outcome.ReadFailed = true
+is_read_outcome outcome.Done = false
+is_read_outcome outcome.Failed = false
+
+abbrev pub agree : Bool → Bool → Bool
+agree a b = if a then b else not b
+
+-- the ending is one that the job of a die can have
+abbrev pub fits : Option Flight → Ending → Bool
+fits None ending = false
+fits (Some flight) ending = agree (is_read_job flight) (is_read_ending ending)
+
+-- the outcome is one that the job of a die can have
+abbrev pub suits : Option Flight → Outcome → Bool
+suits None outcome = false
+suits (Some flight) outcome = agree (is_read_job flight) (is_read_outcome outcome)
+
+-- a job that failed leaves what an interruption of it may
+abbrev pub MayLeaveCells : Disk → ℕ → Ending → Type 0
+MayLeaveCells d die ReadRight = Unit {0}
+MayLeaveCells d die ReadWrong = Unit {0}
+MayLeaveCells d die WentWell = Unit {0}
+MayLeaveCells d die (WentWrong left) = CellCrash d.cells (flight_alone d.flights die) left
+
+-- the job of a die may end so: the ending is one that it can have, and leaves what it may
 abbrev pub MayEnd : Disk → ℕ → Option Flight → Ending → Type 0
-MayEnd d die (Some (Reading reader place)) ReadRight = Unit {0}
-MayEnd d die (Some (Reading reader place)) ReadWrong = Unit {0}
-MayEnd d die (Some (Programming place cell)) WentWell = Unit {0}
-MayEnd d die (Some (Programming place cell)) (WentWrong left) = CellCrash d.cells (flight_alone d.flights die) left
-MayEnd d die (Some (Erasing spot)) WentWell = Unit {0}
-MayEnd d die (Some (Erasing spot)) (WentWrong left) = CellCrash d.cells (flight_alone d.flights die) left
-MayEnd d die flight ending = ⊥
+MayEnd d die flight ending = (fits flight ending ≡ true) × MayLeaveCells d die ending
+
+-- How a job ends by what its die reports
 
 -- the page is none of that group's page with this key, whatever it records; a group's page is what each read is of
 abbrev pub IsAnother : Page → Cell → Type 0
@@ -155,26 +190,25 @@ IsAnother page (GroupPage tag body) =
     (other : Tag) (bytes : List ℕ) → Opens page other bytes → key_of other ≡ key_of tag → other.number ≡ tag.number → ⊥
 IsAnother page cell = ⊥
 
--- how a job ends by what its die reports: a read ends well where the page is the one that was wanted
-abbrev pub IsEndingOf : Cells → Option Flight → Outcome → Ending → Type 0
-IsEndingOf cells (Some (Reading reader place)) (outcome.Read page) ReadRight = IsCell page (cells place)
-IsEndingOf cells (Some (Reading reader place)) (outcome.Read page) ReadWrong = IsAnother page (cells place)
-IsEndingOf cells (Some (Reading reader place)) outcome.ReadFailed ReadWrong = Unit {0}
-IsEndingOf cells (Some (Programming place cell)) outcome.Done WentWell = Unit {0}
-IsEndingOf cells (Some (Programming place cell)) outcome.Failed (WentWrong left) = Unit {0}
-IsEndingOf cells (Some (Erasing spot)) outcome.Done WentWell = Unit {0}
-IsEndingOf cells (Some (Erasing spot)) outcome.Failed (WentWrong left) = Unit {0}
-IsEndingOf cells flight outcome ending = ⊥
+-- the cell that the job of a die is to read; nothing, if it is no read
+abbrev pub cell_read : Cells → Option Flight → Cell
+cell_read cells None = Nothing
+cell_read cells (Some (Reading reader place)) = cells place
+cell_read cells (Some (Programming place cell)) = Nothing
+cell_read cells (Some (Erasing spot)) = Nothing
 
--- whether the outcome is of the job's kind
-abbrev pub suits : Option Flight → Outcome → Bool
-suits (Some (Reading reader place)) (outcome.Read page) = true
-suits (Some (Reading reader place)) outcome.ReadFailed = true
-suits (Some (Programming place cell)) outcome.Done = true
-suits (Some (Programming place cell)) outcome.Failed = true
-suits (Some (Erasing spot)) outcome.Done = true
-suits (Some (Erasing spot)) outcome.Failed = true
-suits flight outcome = false
+-- the outcome means the ending: a read ends well if its page is the one that was to be read
+abbrev pub Means : Cell → Outcome → Ending → Type 0
+Means cell (outcome.Read page) ReadRight = IsCell page cell
+Means cell (outcome.Read page) ReadWrong = IsAnother page cell
+Means cell outcome.ReadFailed ReadWrong = Unit {0}
+Means cell outcome.Done WentWell = Unit {0}
+Means cell outcome.Failed (WentWrong left) = Unit {0}
+Means cell outcome ending = ⊥
+
+-- the outcome is one that the job can have, and means the ending
+abbrev pub IsEndingOf : Cells → Option Flight → Outcome → Ending → Type 0
+IsEndingOf cells flight outcome ending = (suits flight outcome ≡ true) × Means (cell_read cells flight) outcome ending
 
 -- Moves
 

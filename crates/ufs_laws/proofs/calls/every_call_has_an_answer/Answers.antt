@@ -1,5 +1,5 @@
 use Rattle.std.proofs.Common.{refl}
-use Rattle.ufs_spec.specs.Machine.{fits}
+use Rattle.ufs_spec.specs.Moves.{fits}
 use Rattle.ufs_spec.specs.Translation.{is_step_due}
 use Rattle.ufs_laws.proofs.Answered.{leads_somewhere}
 use Rattle.ufs_laws.proofs.Jobs.{given}
