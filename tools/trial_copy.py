@@ -222,18 +222,15 @@ class TrialCopy:
         laws = [law for law in said.fallen() if self.cut_law(said.crate, law)]
         if said.crate in CRATES_OF_LAWS:
             self.drop_unused(said.crate)
-        lemmas = []
+        # A fault's line is one of the text as it was checked.
+        lemmas, texts = [], {}
         for fault in said.faults:
             path = self.path(f"{said.crate}/{fault.file}")
             if not path.exists():
                 continue
-            text = path.read_text(encoding="utf-8")
-            if not fault.fell and drops_where(text, fault.line) != text:
-                self.write(path, drops_where(text, fault.line))
-                lemmas.append("where")
-                continue
-            names = fault.fell or (declared_at(text, fault.line),)
-            for name in (*names, *(citing(text, names) if fault.perhaps else ())):
+            texts.setdefault(path, path.read_text(encoding="utf-8"))
+            names = fault.fell or (declared_at(texts[path], fault.line),)
+            for name in (*names, *(citing(texts[path], names) if fault.perhaps else ())):
                 if name and self.cut_lemma(path, name):
                     self.forget(said.crate, fault.file, name)
                     lemmas.append(name)
@@ -275,7 +272,7 @@ class TrialCopy:
         self.write(proofs / "Lib.antt", listed)
 
     def cut_lemma(self, path, name):
-        """Takes a declaration out of a file: its signature, and the deeper lines and equations that follow."""
+        """Takes a declaration out of a file: its signature, the deeper lines and equations that follow, an empty block."""
         text = path.read_text(encoding="utf-8")
         kept, depth = [], None
         for line in text.splitlines(keepends=True):
@@ -287,7 +284,7 @@ class TrialCopy:
                 kept.append(line)
         if "".join(kept) == text:
             return False
-        self.write(path, "".join(kept))
+        self.write(path, drops_where("".join(kept)))
         return True
 
     def forget(self, crate, file, name):
@@ -314,18 +311,28 @@ def declares(line):
     return found[1] if found else None
 
 
-def drops_where(text, number):
-    """A file without a block that declares nothing: the head of a module goes, of a declaration only its `where`."""
+def drops_where(text):
+    """A file without empty blocks: the head of a module goes, and the `where` of a declaration."""
     lines = text.splitlines(keepends=True)
-    first = number - 1
-    if first < len(lines) and lines[first].lstrip().startswith("module _"):
-        last = first
-        while last + 1 < len(lines) and not re.search(r"\bwhere$", lines[last].rstrip()):
-            last += 1
-        del lines[first : last + 1]
-    elif first < len(lines) and lines[first].rstrip().endswith("where"):
-        lines[first] = lines[first].rstrip()[: -len("where")] + "\n"
+    for last in range(len(lines) - 1, -1, -1):
+        first = last if lines[last].strip() == "where" else head_of_module(lines, last)
+        if first is None:
+            continue
+        below = next((line for line in lines[last + 1 :] if line.strip() and not line.lstrip().startswith("--")), "")
+        if indent(below) <= indent(lines[first]):
+            del lines[first : last + 1]
     return "".join(lines)
+
+
+def head_of_module(lines, last):
+    """The first line of the head of a module that ends with this line's `where`, if there is one."""
+    for first in range(last, -1, -1):
+        ends = re.search(r"\bwhere$", lines[first].rstrip()) is not None
+        if ends != (first == last) or not lines[first].strip():
+            return None
+        if lines[first].lstrip().startswith("module _"):
+            return first
+    return None
 
 
 def citing(text, names):

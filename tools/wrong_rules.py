@@ -407,13 +407,13 @@ RULES = (
         "writes_past_the_slots",
         "A write is taken also if fewer slots are free than it needs.",
         "power_loss::each_event_keeps", REFUSALS,
-        ("\n    || nat_lt (free_slots s.translation) (slots_needed command)", ""),
+        ("\n    || nat_lt (free_slots s.translation) (slots_needed (numbers_of s) command)", ""),
     ),
     rule(
         "write_needs_no_slots",
         "A WRITE(10) is taken as if it needed no slot.",
         "power_loss::each_event_keeps", REFUSALS,
-        ("slots_needed (cdb.Write10 address blocks forced) = blocks", "slots_needed (cdb.Write10 address blocks forced) = 0"),
+        ("slots_needed n (cdb.Write10 address blocks forced) = blocks", "slots_needed n (cdb.Write10 address blocks forced) = 0"),
     ),
 
     # Stops, failures and lives
@@ -598,7 +598,7 @@ RULES = (
     line_off(
         "line_too_long",
         "A command may have any number of blocks.",
-        "    line (is_too_long command) invalid_field\n    ∷ line (has_wrong_list", "    line (has_wrong_list",
+        "    line (is_too_long (numbers_of s) command) invalid_field\n    ∷ line (has_wrong_list", "    line (has_wrong_list",
     ),
     line_off(
         "line_list_length",
@@ -680,7 +680,7 @@ RULES = (
         "data_past_the_expected",
         "A READ sends more bytes than the host expects.",
         "ufs_laws::a_read_sends_its_blocks", EXCHANGES,
-        ("bytes_sent task = min task.expected task.length", "bytes_sent task = task.length"),
+        ("bytes_sent task = carried task.expected task.length", "bytes_sent task = task.length"),
     ),
     rule(
         "good_told_as_failure",
@@ -691,13 +691,13 @@ RULES = (
     rule(
         "busy_that_is_no_status",
         "BUSY is told by a byte that is no status.",
-        "ufs_laws::replies_can_be_spelled", EXCHANGES,
+        "power_loss::replies_can_be_spelled", EXCHANGES,
         ("status_byte Busy = 0x08", "status_byte Busy = 0x18"),
     ),
     rule(
         "no_overflow",
         "A message may not have the flag of a READ, which in a RESPONSE tells an overflow.",
-        "ufs_laws::replies_can_be_spelled", MESSAGES,
+        "power_loss::replies_can_be_spelled", MESSAGES,
         ("AreFlags flags = IsAmong (0x00 ∷ 0x20 ∷ 0x40 ∷ []) flags", "AreFlags flags = IsAmong (0x00 ∷ 0x20 ∷ []) flags"),
     ),
     rule(
@@ -727,7 +727,7 @@ RULES = (
     rule(
         "sense_code_in_another_byte",
         "The additional sense code stands in byte 11.",
-        "ufs_laws::a_refused_read_says_why", CDBS,
+        "ufs_laws::worked_sense", CDBS,
         ("++ replicate 4 0 ++ (sense.asc ∷ sense.ascq ∷ [])", "++ replicate 3 0 ++ (sense.asc ∷ sense.ascq ∷ 0 ∷ [])"),
     ),
     rule(

@@ -226,7 +226,7 @@ module _ (d : DeviceCore) (s : State) (r : Request) (h : Describes d s) (none : 
           reader = refl;
           kept = kept_block address;
           keeps = ap (λ (xs : List layer.Pin). xs ++ kept_block address ∷ []) (no_pins _ _ _ _ d.ftl.pins s.translation.pins h.ftl_kept.pins idle.1.pins);
-          content = latest_content s r.lun address h.tied mended h.ftl_kept.ledger_kept.repairs key;
+          content = latest_content s r.lun address h.tied mended key;
           so_far = (refl, idle.1.loaded);
         };
       })

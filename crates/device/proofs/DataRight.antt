@@ -181,10 +181,10 @@ completes_right d s a b key unit address bytes h w key_is tied =
 
 -- what the WRITE gathers fits
 gathering_fits : (s : State) (b : exchange.Task) (unit address : ℕ) → IsTied s → s.tasks ≡ b ∷ [] → b.deed ≡ Gathering (ForWrite unit address 1 true) [] true →
-    WriteFits (shape_of_numbers (numbers_of s)) (is_mended s.translation.work.mending) unit address 1 b.length [] (claim_of b)
+    WriteFits (numbers_of s) (is_mended s.translation.work.mending) unit address 1 b.length [] (claim_of (numbers_of s) b)
 gathering_fits s b unit address v theirs deed_is =
-    subst (DeedFits (shape_of_numbers (numbers_of s)) (length s.accepted) (is_mended s.translation.work.mending) (claim_of b) b.length) deed_is
-    (subst (DeedsFit (shape_of_numbers (numbers_of s)) (length s.accepted) (is_mended s.translation.work.mending)) theirs v.tasks.deeds).0
+    subst (DeedFits (numbers_of s) (length s.accepted) (is_mended s.translation.work.mending) (claim_of (numbers_of s) b) b.length) deed_is
+    (subst (DeedsFit (numbers_of s) (length s.accepted) (is_mended s.translation.work.mending)) theirs v.tasks.deeds).0
 
 -- the data are the rest of what the task gathers
 heard_completes : (s : State) (b : exchange.Task) (tag unit address : ℕ) (bytes : List ℕ) → s.tasks ≡ b ∷ [] → b.tag ≡ tag → b.deed ≡ Gathering (ForWrite unit address 1 true) [] true →
@@ -220,7 +220,7 @@ taken_right d s lun tag offset «data» whole asked is h heard right x g = recor
     known : IsWritten d s x.a x.b g.unit g.address «data».items
     known =
         let fits = gathering_fits s x.b g.unit g.address h.tied x.theirs g.deed_is in
-        let claims : claims_of (x.b ∷ []) ≤ s.translation.claims = subst (λ (bs : List exchange.Task). claims_of bs ≤ s.translation.claims) x.theirs h.tied.tasks.claimed in
+        let claims : claims_of (numbers_of s) (x.b ∷ []) ≤ s.translation.claims = subst (λ (bs : List exchange.Task). claims_of (numbers_of s) bs ≤ s.translation.claims) x.theirs h.tied.tasks.claimed in
         let one = fits.claimed_is in
         record {
           ours = x.ours;

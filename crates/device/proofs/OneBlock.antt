@@ -11,7 +11,7 @@ use Rattle.ufs_spec.specs.Ledger.{before_accepted, next_number}
 use Rattle.ufs_spec.specs.Machine.{blocks_in}
 use Rattle.ufs_spec.specs.Messages.{AreBytes}
 use Rattle.ufs_spec.specs.Moves.{Accept, IsAllowedMove, IsGroup}
-use Rattle.ufs_spec.specs.Plain.{CanApply, Plain, Shape, after, apply, shape_of, shape_of_numbers, with_part}
+use Rattle.ufs_spec.specs.Plain.{CanApply, Plain, Shape, after, apply, greatest_command, shape_of, shape_of_numbers, with_part}
 use Rattle.ufs_spec.specs.Refusals.{State, locked, numbers_of, plain_now}
 use Rattle.ufs_spec.specs.Translation.{Translation, has_number, is_locked, is_mended}
 use Rattle.ufs_spec.proofs.PlainFacts.{kept_shape}
@@ -65,7 +65,7 @@ shape_now s v = shape_then s.base s.accepted v.commands ∙ v.base.1
 pub can_write_one : (s : State) (unit address : ℕ) (bytes : List ℕ) → IsTied s → unit < length (shape_of_numbers (numbers_of s)).blocks →
     address + 1 ≤ slice_index_or (shape_of_numbers (numbers_of s)).blocks unit 0 → CanApply (plain_now s) (write_one unit address bytes)
 can_write_one s unit address bytes v there within = (
-  subst (λ (x : Shape). (unit < length x.blocks) × (1 ≤ 1) × (1 ≤ 32) × (address + 1 ≤ slice_index_or x.blocks unit 0)) (sym (shape_now s v))
+  subst (λ (x : Shape). (unit < length x.blocks) × (1 ≤ 1) × (1 ≤ greatest_command) × (address + 1 ≤ slice_index_or x.blocks unit 0)) (sym (shape_now s v))
       (there, omega arith, omega arith, within),
   tt,
 )
@@ -99,7 +99,7 @@ accepts_one s unit address bytes v there within long are mended few free = (mend
     group : IsGroup s.translation (one_block unit address bytes)
     group =
         subst (IsGroup s.translation) (group_one (plain_now s) unit address bytes long can)
-        (write_group s.translation (plain_now s) unit address (blocks_in 1 bytes) (shape_now s v) (all_kept_plain s.base s.accepted v.base.0 v.commands) (is_write_one bytes long are) can)
+        (write_group s.translation (plain_now s) unit address (blocks_in 1 bytes) (shape_now s v) (all_kept_plain s.base s.accepted v.base.0 v.commands) (is_write_one bytes long are) can (omega arith))
 
 -- What it leaves
 

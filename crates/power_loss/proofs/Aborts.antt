@@ -5,9 +5,9 @@ use Rattle.std.specs.List.{flat_map}
 use Rattle.ufs_spec.specs.Exchanges.{Task, is_task_of}
 use Rattle.ufs_spec.specs.Machine.{abort_moves, is_aborted, managed, registers_behind, service, with_moves, without_tasks}
 use Rattle.ufs_spec.specs.Moves.{LetGoAll, Release}
-use Rattle.ufs_spec.specs.Plain.{shape_of_numbers}
 use Rattle.ufs_spec.specs.Refusals.{State, numbers_of}
 use Rattle.ufs_spec.specs.Translation.{is_mended}
+use Rattle.ufs_spec.specs.declared.configs.Numbers.{Numbers}
 use Rattle.power_loss.specs.Exchange.{IsTied, claim_of, claims_of}
 use Rattle.power_loss.proofs.HostCommands.{IsFree}
 use Rattle.power_loss.proofs.TaskLists.{any_fewer, tasks_fewer}
@@ -15,20 +15,20 @@ use Rattle.power_loss.proofs.RightChanges.{Right, right_keeps, right_move}
 use Rattle.ufs_laws.proofs.Changed.{Both, Closes, Moves, One, SetsRegisters, Still}
 
 -- each claim is one of a task that goes or of one that stays
-claims_split : (is : Task → Bool) (tasks : List Task) → claims_of (filter is tasks) + claims_of (filter (λ task. not (is task)) tasks) ≡ claims_of tasks
-claims_split is [] = refl
-claims_split is (t ∷ ts) = by (is t) (claims_split is ts)
+claims_split : (n : Numbers) (is : Task → Bool) (tasks : List Task) → claims_of n (filter is tasks) + claims_of n (filter (λ task. not (is task)) tasks) ≡ claims_of n tasks
+claims_split n is [] = refl
+claims_split n is (t ∷ ts) = by (is t) (claims_split n is ts)
   where
-    by : (b : Bool) → claims_of (filter is ts) + claims_of (filter (λ task. not (is task)) ts) ≡ claims_of ts →
-        claims_of (cond b (t ∷ filter is ts) (filter is ts)) + claims_of (cond (not b) (t ∷ filter (λ task. not (is task)) ts) (filter (λ task. not (is task)) ts)) ≡ claims_of (t ∷ ts)
+    by : (b : Bool) → claims_of n (filter is ts) + claims_of n (filter (λ task. not (is task)) ts) ≡ claims_of n ts →
+        claims_of n (cond b (t ∷ filter is ts) (filter is ts)) + claims_of n (cond (not b) (t ∷ filter (λ task. not (is task)) ts) (filter (λ task. not (is task)) ts)) ≡ claims_of n (t ∷ ts)
     by true e = omega arith
     by false e = omega arith
 
 -- what they claimed comes back, and what they kept is let go
-aborted : (s : State) (tasks : List Task) → IsTied s → claims_of s.tasks + claims_of tasks ≤ s.translation.claims → Right s (with_moves s (flat_map abort_moves tasks))
-aborted s [] v few = Still
-aborted s (task ∷ tasks) v few =
-    let release : Right s (with_moves s (Release (claim_of task) ∷ [])) = One (Moves (Release (claim_of task))) (record {
+aborted : (s : State) (n : Numbers) (tasks : List Task) → IsTied s → claims_of (numbers_of s) s.tasks + claims_of n tasks ≤ s.translation.claims → Right s (with_moves s (flat_map (abort_moves n) tasks))
+aborted s n [] v few = Still
+aborted s n (task ∷ tasks) v few =
+    let release : Right s (with_moves s (Release (claim_of n task) ∷ [])) = One (Moves (Release (claim_of n task))) (record {
       small = tt;
       layer = omega arith;
       tasks = record {
@@ -41,21 +41,21 @@ aborted s (task ∷ tasks) v few =
       };
     }) in
     let freed = right_keeps release v in
-    let go = right_move (with_moves s (Release (claim_of task) ∷ [])) (LetGoAll task.tag) freed tt tt (omega arith) in
-    Both release (Both go (aborted (with_moves s (abort_moves task)) tasks (right_keeps go freed) (omega arith)))
+    let go = right_move (with_moves s (Release (claim_of n task) ∷ [])) (LetGoAll task.tag) freed tt tt (omega arith) in
+    Both release (Both go (aborted (with_moves s (abort_moves n task)) n tasks (right_keeps go freed) (omega arith)))
 
 pub aborts_right : (s : State) (is : Task → Bool) → IsTied s → Right s (without_tasks s is)
 aborts_right s is v =
     let u : State = record s { tasks = filter (λ (task : Task). not (is task)) s.tasks } in
-    let split = claims_split is s.tasks in
+    let split = claims_split (numbers_of s) is s.tasks in
     let claimed = v.tasks.claimed in
     let gone : Right s u = One (Closes is) (record {
       small = tt;
       layer = tt;
-      tasks = tasks_fewer (shape_of_numbers (numbers_of s)) (length s.accepted) (is_mended s.translation.work.mending) s.translation.claims (λ (task : Task). not (is task))
+      tasks = tasks_fewer (numbers_of s) (length s.accepted) (is_mended s.translation.work.mending) s.translation.claims (λ (task : Task). not (is task))
           s.tasks s.shorts v.tasks;
     }) in
-    let back = aborted u (filter is s.tasks) (right_keeps gone v) (omega arith) in
+    let back = aborted u (numbers_of s) (filter is s.tasks) (right_keeps gone v) (omega arith) in
     Both gone
     (Both back
     (One (SetsRegisters (registers_behind (filter is s.tasks) s.registers)) (record { small = tt; layer = tt; tasks = (right_keeps back (right_keeps gone v)).tasks })))

@@ -101,4 +101,6 @@ accepts t claimed g v may = record {
         (All-weaker (IsRestOf t g) (λ (rest : Rest). SourceRight t.disk.cells t.disk.finished t.disk.erasing rest.source) (λ rest h. rest_there t g rest v may.4 h) (rests_of t g)
         (each_rest t g (below (length g))));
   };
+  reads = v.reads;
+  to_read = v.to_read;
 }

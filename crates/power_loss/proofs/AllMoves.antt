@@ -36,7 +36,7 @@ ends t die (Some (Erasing s)) WentWell v e may = ends_erase t die s v e
 ends t die (Some (Erasing s)) (WentWrong left) v e may = fails_erase t die s left v e may.1
 
 takes : (t : Translation) (die : ℕ) (flight : Flight) → Valid t → MayTake t die (Some flight) → Valid (taken t die flight)
-takes t die (Reading reader place) v may = takes_read t die reader place v
+takes t die (Reading reader place) v may = takes_read t die reader place v may
 takes t die (Programming p cell) v may = takes_program t die p cell v may
 takes t die (Erasing s) v may = takes_erase t die s v may
 

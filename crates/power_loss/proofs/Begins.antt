@@ -11,6 +11,7 @@ use Rattle.ufs_spec.specs.declared.flash.Tag.{Tag}
 use Rattle.power_loss.specs.Book.{IsKnown, IsOverwritten, book}
 use Rattle.power_loss.specs.Invariant.{FlightsRight, IsLaterMark, IsOwnMark, MarkFlightRight, MarksRight, MendingRight, PlanRight, ProgramRight, StandsIn, Valid}
 use Rattle.power_loss.proofs.OneMore.{at_die_is}
+use Rattle.power_loss.proofs.ReadsKept.{program_reads, reads_fewer}
 
 -- it is not mending, or does no longer wait for its first mark
 abbrev pub IsMarkedOnce : Mending → Type 0
@@ -139,4 +140,6 @@ module _ (t : Translation) (die : ℕ) (p : Place) (cell : Cell) (v : Valid t) (
     unmended = v.unmended;
     pins = v.pins;
     rests = v.rests;
+    reads = reads_fewer t.disk.cells t.disk.finished t.disk.erasing t.disk.flights (at_die t.disk.flights die (Some (Programming p cell))) (program_reads t.disk.flights die p cell) v.reads;
+    to_read = v.to_read;
   }

@@ -50,7 +50,7 @@ ending_keeps s die (Some (Programming p cell)) ReadWrong left v e fit may = absu
 ending_keeps s die (Some (Erasing spot)) ReadRight left v e fit may = absurd (false≢true fit)
 ending_keeps s die (Some (Erasing spot)) ReadWrong left v e fit may = absurd (false≢true fit)
 
-first_keeps : (s : State) (call : Call) (answer : Answer) → IsTied s → MayCome s call → Allowed s call answer → IsTied (first s call answer)
+pub first_keeps : (s : State) (call : Call) (answer : Answer) → IsTied s → MayCome s call → Allowed s call answer → IsTied (first s call answer)
 first_keeps s (Take die) (OfTake (Some flight)) v may right = one_move s (GiveJob die flight) v right (record { groups = refl; claims = refl }) refl
 first_keeps s (Done die ending left) (OfDone true) v may right = ending_keeps s die (s.translation.disk.flights die) ending left v refl (sym right) may
 first_keeps s Turn (OfTurn due) v may right = step_keeps s v

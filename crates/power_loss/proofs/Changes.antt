@@ -1,18 +1,20 @@
 -- A change of the disk that keeps what stands safely keeps a life valid: each page is as it was, or nothing, or left by
 -- a program that failed; and what is in flight was in flight.
-use Rattle.std.proofs.Common.{◌≡◌, ℕ, suc, ◌<◌, ◌≤◌, Bool, true, false, ◌⊎◌, List, Option, Some, sym, ap, ◌∙◌, subst, inl, inr, ⊎_elim, arith}
+use Rattle.std.proofs.Common.{◌≡◌, ℕ, suc, ◌<◌, ◌≤◌, Bool, true, false, ◌⊎◌, All, List, [], Option, Some, refl, sym, ap, ◌∙◌, subst, inl, inr, ⊎_elim, arith}
+use Rattle.std.proofs.lemmas.List.Elements.{All-nil}
 use Rattle.ufs_spec.specs.Cells.{Cell, GroupPage, Mark, MarkPage, Nothing}
 use Rattle.ufs_spec.specs.Disk.{Bad, Closed, Disk, Erasing, Flight, Free, Programming, Spot, spot_of}
 use Rattle.ufs_spec.specs.Ledger.{Name}
-use Rattle.ufs_spec.specs.Translation.{CopyStep, MarkStep, Mended, Mending, RepairStep, Repairing, Step, StepKind, Translation, Unmarked}
+use Rattle.ufs_spec.specs.Translation.{CopyStep, MarkStep, Mended, Mending, RepairStep, Repairing, Step, StepKind, Translation, Unmarked, Want, wants_of_step}
 use Rattle.ufs_spec.specs.declared.flash.Fence.{Fence}
 use Rattle.ufs_spec.specs.declared.flash.Key.{Key}
 use Rattle.ufs_spec.specs.declared.flash.Place.{Place}
 use Rattle.ufs_spec.specs.declared.flash.Tag.{Tag}
 use Rattle.power_loss.specs.Book.{book, last_number}
-use Rattle.power_loss.specs.Invariant.{AreFreeBlank, AreNumbered, BlocksRight, EraseRight, FlightsRight, IsLastRepair, IsOpenedOrOwn, IsOwnMark, IsToCopy, MarkFlightRight, MarksRight, MendingRight, PagesRight, PlanRight, ProgramRight, StepKindRight, StepRight, UnmarkedRight, Valid}
+use Rattle.power_loss.specs.Invariant.{AreFreeBlank, AreNumbered, BlocksRight, EraseRight, FlightsRight, IsLastRepair, IsOpenedOrOwn, IsNeededPage, IsOwnMark, IsToCopy, MarkFlightRight, MarksRight, MendingRight, PagesRight, PlanRight, ProgramRight, ReadsRight, StepKindRight, StepRight, ToReadRight, UnmarkedRight, Valid}
 use Rattle.power_loss.proofs.Secures.{Keeps, all_safe, free_is_not_bad, mark_stands_moves, secure_moves, true_is_not_false}
 use Rattle.power_loss.proofs.PagesKept.{HeldStay}
+use Rattle.power_loss.proofs.ReadsKept.{needed_keeps, to_read_stay}
 
 -- a program that failed left its page there
 pub record IsFresh (t : Translation) (e : Disk) (q : Place) : Type 0 where
@@ -37,6 +39,7 @@ pub record Change (t : Translation) (e : Disk) : Type 0 where
   pub freed : (s : Spot) → e.blocks s ≡ Free → t.disk.blocks s ≡ Free
   pub spent : (s : Spot) → e.erasing s ≡ true → (t.disk.blocks s ≡ Free) ⊎ (t.disk.erasing s ≡ true)
   pub victims : (s : Spot) → (t.disk.blocks s ≡ Closed) ⊎ (t.disk.blocks s ≡ Bad) → (e.blocks s ≡ Closed) ⊎ (e.blocks s ≡ Bad)
+  pub reads : ReadsRight e.cells e.finished e.erasing e.flights
 
 -- the step under way behind it, and the greatest mark number
 pub record Follows (t : Translation) (e : Disk) (marks : ℕ) (step : Option Step) : Type 0 where
@@ -46,6 +49,8 @@ pub record Follows (t : Translation) (e : Disk) (marks : ℕ) (step : Option Ste
   pub repair : IsLastRepair (book t) t.work.step → IsLastRepair (book t) step
   pub copy : (name : Name) (p : Place) (there : Bool) → t.work.step ≡ Some (record { kind = CopyStep name p; there = there }) →
       step ≡ Some (record { kind = CopyStep name p; there = there })
+  -- it needs no other read
+  pub wants : (wants_of_step step ≡ wants_of_step t.work.step) ⊎ (wants_of_step step ≡ [])
 
 -- What a page is behind it
 
@@ -238,6 +243,19 @@ module _ (t : Translation) (e : Disk) (v : Valid t) (c : Change t e) where
         };
   }
 
+  to_read_change : (marks : ℕ) (step : Option Step) → Follows t e marks step → ToReadRight e.cells e.finished e.blocks e.erasing step t.work.plan
+  to_read_change marks step f = record {
+    wanted = ⊎_elim (λ h. subst (All IsThere) (sym h) old.wanted) (λ h. subst (All IsThere) (sym h) (All-nil IsThere)) f.wants;
+    copied = old.copied;
+  }
+    where
+      IsThere : Want → Type 0
+      IsThere w = IsNeededPage e.cells e.finished e.blocks e.erasing w.place
+
+      old : ToReadRight e.cells e.finished e.blocks e.erasing t.work.step t.work.plan
+      old = to_read_stay t.disk.cells e.cells t.disk.finished e.finished t.disk.blocks e.blocks t.disk.erasing e.erasing t.work.step t.work.plan
+          (λ p h. needed_keeps t.disk e p c.keeps h) v.to_read
+
   numbered_more : (marks : ℕ) → t.ledger.marks ≤ marks → AreNumbered marks e.cells
   numbered_more marks l p m h = let z = numbered_change p m h in omega arith
 
@@ -263,6 +281,8 @@ changed t e marks step v c gone f held = record {
   unmended = record { stand = λ un n i p h. secure_moves t.disk e t.ledger.standing n i c.keeps (v.unmended.stand un n i p h) };
   pins = held.0;
   rests = held.1;
+  reads = c.reads;
+  to_read = to_read_change t e v c marks step f;
 }
 
 -- The same step
@@ -291,6 +311,7 @@ same_step t e v c old = record {
   mark = λ die p m h. v.flights.mark die p m (c.flew die p (MarkPage m) h);
   repair = λ r. r;
   copy = λ name p there h. h;
+  wants = inl refl;
 }
 
 -- a change that only loses pages

@@ -39,7 +39,7 @@ failure_comes s die flight l ReadRight left h = tt
 failure_comes s die flight l ReadWrong left h = tt
 failure_comes s die flight l WentWell left h = tt
 
-event_comes : (s : State) (e : Event) (call : Call) → IsCall s e call → MayCome s call
+pub event_comes : (s : State) (e : Event) (call : Call) → IsCall s e call → MayCome s call
 event_comes s (event.Host bytes) call h = subst (MayCome s) (sym h.2) (bytes.items, h.1)
 event_comes s event.Reply call h = subst (MayCome s) (sym h) tt
 event_comes s (event.Take die) call h = subst (MayCome s) (sym h) tt

@@ -1,19 +1,22 @@
 -- Moves that leave pages and groups as they are.
 use Rattle.std.proofs.Common.{◌≡◌, ℕ, suc, ◌+◌, ◌-◌, ◌==◌, ◌≤◌, ◌⊎◌, Bool, true, false, List, max, Option, Some, None, refl, sym, ap, subst, inl, inr, ⊎_elim, arith}
+use Rattle.ufs_laws.proofs.Homes.{read_here}
 use Rattle.ufs_spec.specs.Cells.{Cell, GroupPage, Mark, MarkPage}
 use Rattle.ufs_spec.specs.Disk.{Disk, Erasing, Flight, Programming, Reader, Reading, ForTask, ForStep, ForRest, ForNobody, Spot, at_die}
 use Rattle.ufs_spec.specs.Ledger.{Ledger, before_accepted, look}
 use Rattle.ufs_spec.specs.Moves.{Claim, Keep, LetGo, LetGoAll, ReadRight, ReadWrong, Release, Acknowledge, WantPage, die_idle, is_for, is_for_task, is_pin_of, let_go, without_reader, job_ended, moved, read_right, read_wrong, step_there}
-use Rattle.ufs_spec.specs.Translation.{CopyStep, MarkStep, Mending, Mended, Pin, Plan, RepairStep, Repairing, Rest, Step, StepKind, Translation, Unmarked, free_slots, is_mended, pending_pages, taken}
+use Rattle.ufs_spec.specs.Translation.{CopyStep, MarkStep, MayTake, Mending, Mended, Pin, Plan, RepairStep, Repairing, Rest, Step, StepKind, Translation, Unmarked, Want, free_slots, is_mended, pending_pages, taken}
 use Rattle.ufs_spec.specs.declared.flash.Key.{Key}
 use Rattle.ufs_spec.specs.declared.flash.Place.{Place}
 use Rattle.power_loss.specs.Book.{Book, HasKey, book, last_number}
-use Rattle.power_loss.specs.Invariant.{FlightsRight, Flights, FrontierRight, HistoryRight, IsLastRepair, IsMarked, IsToCopy, LookedRight, MarkFlightRight, MarksRight, MendingRight, OnePlanRight, PinsRight, PlanRight, RepairingRight, RestsRight, SlotsRight, SourceRight, StandsIn, StepRight, UnmarkedRight, Valid}
+use Rattle.power_loss.specs.Invariant.{FlightsRight, Flights, FrontierRight, HistoryRight, IsLastRepair, IsMarked, IsNeededPage, IsToCopy, LookedRight, MarkFlightRight, MarksRight, MendingRight, OnePlanRight, PinsRight, PlanRight, ReadsRight, RepairingRight, RestsRight, SlotsRight, SourceRight, StandsIn, StepRight, UnmarkedRight, Valid}
 use Rattle.power_loss.proofs.OneMore.{at_die_is}
 use Rattle.std.proofs.lemmas.List.Elements.{All-filter, All-push}
 use Rattle.power_loss.proofs.LookedKeys.{look_right}
 use Rattle.power_loss.proofs.PagesKept.{pins_wanted}
+use Rattle.power_loss.proofs.ReadsKept.{gone_reads, idle_reads, reads_begun, reads_fewer, there_wants}
 use Rattle.power_loss.proofs.Slots.{slots_claimed, slots_fewer}
+use Rattle.power_loss.proofs.WantedPages.{read_page}
 
 -- what tasks hold does not matter
 pub other_holds : (t : Translation) (claims : ℕ) (pins : List Pin) → SlotsRight t.numbers.slots (pending_pages t.ledger) claims →
@@ -34,6 +37,8 @@ other_holds t claims pins slots kept v = record {
   unmended = v.unmended;
   pins = kept;
   rests = v.rests;
+  reads = v.reads;
+  to_read = v.to_read;
 }
 
 -- nor does what pages wait for
@@ -54,6 +59,8 @@ other_rests t rests kept v = record {
   unmended = v.unmended;
   pins = v.pins;
   rests = kept;
+  reads = v.reads;
+  to_read = v.to_read;
 }
 
 -- Acknowledgements
@@ -93,6 +100,8 @@ tells t count v l = record {
   unmended = v.unmended;
   pins = v.pins;
   rests = v.rests;
+  reads = v.reads;
+  to_read = v.to_read;
 }
 
 -- Jobs that are reads
@@ -156,8 +165,9 @@ fewer_plan b frontier standing t g step pl l r = record {
 }
 
 -- reads may begin and end
-pub other_reads : (t : Translation) (g : Flights) → Valid t → IsFewer t.disk.flights g → Valid (record t { disk = record t.disk { flights = g } })
-other_reads t g v l = record {
+pub other_reads : (t : Translation) (g : Flights) → Valid t → IsFewer t.disk.flights g → ReadsRight t.disk.cells t.disk.finished t.disk.erasing g →
+    Valid (record t { disk = record t.disk { flights = g } })
+other_reads t g v l r = record {
   book_right = v.book_right;
   frontier = v.frontier;
   pages = v.pages;
@@ -176,6 +186,8 @@ other_reads t g v l = record {
   unmended = v.unmended;
   pins = v.pins;
   rests = v.rests;
+  reads = r;
+  to_read = v.to_read;
 }
 
 -- a read instead of no job
@@ -200,11 +212,15 @@ idle_fewer f die = record {
     some : (flight : Flight) → None ≡ Some flight → ⊥
     some flight e = cc
 
-pub takes_read : (t : Translation) (die : ℕ) (reader : Reader) (place : Place) → Valid t → Valid (taken t die (Reading reader place))
-takes_read t die reader place v = other_reads t (at_die t.disk.flights die (Some (Reading reader place))) v (read_begun t die reader place)
+pub takes_read : (t : Translation) (die : ℕ) (reader : Reader) (place : Place) → Valid t → MayTake t die (Some (Reading reader place)) → Valid (taken t die (Reading reader place))
+takes_read t die reader place v may =
+    other_reads t (at_die t.disk.flights die (Some (Reading reader place))) v (read_begun t die reader place)
+    (reads_begun t.disk.cells t.disk.finished t.disk.erasing t.disk.flights die reader place (read_here t die reader place may) (read_page t die reader place v may) v.reads)
 
 idle : (t : Translation) (die : ℕ) → Valid t → Valid (die_idle t die)
-idle t die v = other_reads t (at_die t.disk.flights die None) v (idle_fewer t.disk.flights die)
+idle t die v =
+    other_reads t (at_die t.disk.flights die None) v (idle_fewer t.disk.flights die)
+    (reads_fewer t.disk.cells t.disk.finished t.disk.erasing t.disk.flights (at_die t.disk.flights die None) (idle_reads t.disk.flights die) v.reads)
 
 -- The step's content is there
 
@@ -285,6 +301,11 @@ content_there t v = record {
   unmended = v.unmended;
   pins = v.pins;
   rests = v.rests;
+  reads = v.reads;
+  to_read = record {
+    wanted = there_wants (λ (w : Want). IsNeededPage t.disk.cells t.disk.finished t.disk.blocks t.disk.erasing w.place) t.work.step;
+    copied = v.to_read.copied;
+  };
 }
 
 pub reads_right : (t : Translation) (reader : Reader) → Valid t → Valid (read_right t reader)
@@ -354,7 +375,8 @@ gone t held reads v =
     (record {
       each = All-filter _ (λ (x : Pin). LookedRight (book t) t.ledger.frontier t.disk.cells t.disk.finished t.disk.erasing x.looked) t.pins v.pins.each;
     })
-    (other_reads t (λ die. without_reader reads (t.disk.flights die)) v (gone_fewer t.disk.flights reads))
+    (other_reads t (λ die. without_reader reads (t.disk.flights die)) v (gone_fewer t.disk.flights reads)
+    (reads_fewer t.disk.cells t.disk.finished t.disk.erasing t.disk.flights (λ die. without_reader reads (t.disk.flights die)) (gone_reads t.disk.flights reads) v.reads))
 
 pub lets_go : (t : Translation) (tag index : ℕ) → Valid t → Valid (moved t (LetGo tag index))
 lets_go t tag index v = gone t (is_pin_of tag index) (is_for tag index) v

@@ -9,9 +9,9 @@ use Rattle.ufs_spec.specs.Exchanges.{Answering, Awaiting, Deed, Gathering, NotRe
 use Rattle.ufs_spec.specs.Machine.{array_behind, claimed_by, deed_read, ends_with, in_block, read_noted, task_read, with_moves}
 use Rattle.ufs_spec.specs.Moves.{EndJob, Ending, MayEnd, ReadRight, ReadWrong, WentWell, WentWrong, die_idle, end_flight, freed, moved, read_right, read_wrong}
 use Rattle.ufs_spec.specs.Pages.{MayBeLeft}
-use Rattle.ufs_spec.specs.Plain.{Shape, shape_of_numbers}
 use Rattle.ufs_spec.specs.Refusals.{State, numbers_of}
 use Rattle.ufs_spec.specs.Translation.{Plan, Translation, has_mark_number, is_mended, mark_ordered}
+use Rattle.ufs_spec.specs.declared.configs.Numbers.{Numbers}
 use Rattle.ufs_spec.specs.declared.flash.Fence.{Fence}
 use Rattle.ufs_spec.specs.declared.flash.Page.{Page}
 use Rattle.ufs_spec.specs.declared.flash.Place.{Place}
@@ -27,47 +27,47 @@ use Rattle.ufs_laws.proofs.Changed.{Maps, One, Still, job_over, reads}
 
 -- What tasks are told
 
-read_fits : (sh : Shape) (a : ℕ) (m : Bool) (index : ℕ) (state : ReadState) (task : Task) (deed : Deed) → DeedFits sh a m (claimed_by deed task.command) task.length deed →
-    DeedFits sh a m (claimed_by (deed_read index state deed) task.command) task.length (deed_read index state deed)
-read_fits sh a m index state task (Gathering purpose gathered asked) h = h
-read_fits sh a m index state task (Sending blocks sent) h = tt
-read_fits sh a m index state task (SendingBytes bytes) h = h
-read_fits sh a m index state task (Awaiting commands) h = h
-read_fits sh a m index state task (Answering status carried) h = h
+read_fits : (n : Numbers) (a : ℕ) (m : Bool) (index : ℕ) (state : ReadState) (task : Task) (deed : Deed) → DeedFits n a m (claimed_by n deed task.command) task.length deed →
+    DeedFits n a m (claimed_by n (deed_read index state deed) task.command) task.length (deed_read index state deed)
+read_fits n a m index state task (Gathering purpose gathered asked) h = h
+read_fits n a m index state task (Sending blocks sent) h = tt
+read_fits n a m index state task (SendingBytes bytes) h = h
+read_fits n a m index state task (Awaiting commands) h = h
+read_fits n a m index state task (Answering status carried) h = h
 
-read_claims : (index : ℕ) (state : ReadState) (task : Task) (deed : Deed) → claimed_by (deed_read index state deed) task.command ≤ claimed_by deed task.command
-read_claims index state task (Gathering purpose gathered asked) = omega arith
-read_claims index state task (Sending blocks sent) = omega arith
-read_claims index state task (SendingBytes bytes) = omega arith
-read_claims index state task (Awaiting commands) = omega arith
-read_claims index state task (Answering status carried) = omega arith
+read_claims : (n : Numbers) (index : ℕ) (state : ReadState) (task : Task) (deed : Deed) → claimed_by n (deed_read index state deed) task.command ≤ claimed_by n deed task.command
+read_claims n index state task (Gathering purpose gathered asked) = omega arith
+read_claims n index state task (Sending blocks sent) = omega arith
+read_claims n index state task (SendingBytes bytes) = omega arith
+read_claims n index state task (Awaiting commands) = omega arith
+read_claims n index state task (Answering status carried) = omega arith
 
-read_keeps : (sh : Shape) (a : ℕ) (m : Bool) (tag index : ℕ) (state : ReadState) → KeepsTasks sh a m (task_read tag index state)
-read_keeps sh a m tag index state = record { tag = λ t. same t (is_task_of tag t); fits = λ t h. fits t h (is_task_of tag t); claim = λ t. claim t (is_task_of tag t) }
+read_keeps : (n : Numbers) (a : ℕ) (m : Bool) (tag index : ℕ) (state : ReadState) → KeepsTasks n a m (task_read tag index state)
+read_keeps n a m tag index state = record { tag = λ t. same t (is_task_of tag t); fits = λ t h. fits t h (is_task_of tag t); claim = λ t. claim t (is_task_of tag t) }
   where
     same : (t : Task) (b : Bool) → (if b then record t { deed = deed_read index state t.deed } else t).tag ≡ t.tag
     same t true = refl
     same t false = refl
 
-    fits : (t : Task) → DeedFits sh a m (claim_of t) t.length t.deed → (b : Bool) →
-        DeedFits sh a m (claim_of (if b then record t { deed = deed_read index state t.deed } else t)) (if b then record t { deed = deed_read index state t.deed } else t).length
+    fits : (t : Task) → DeedFits n a m (claim_of n t) t.length t.deed → (b : Bool) →
+        DeedFits n a m (claim_of n (if b then record t { deed = deed_read index state t.deed } else t)) (if b then record t { deed = deed_read index state t.deed } else t).length
         (if b then record t { deed = deed_read index state t.deed } else t).deed
-    fits t h true = read_fits sh a m index state t t.deed h
+    fits t h true = read_fits n a m index state t t.deed h
     fits t h false = h
 
-    claim : (t : Task) (b : Bool) → claim_of (if b then record t { deed = deed_read index state t.deed } else t) ≤ claim_of t
-    claim t true = read_claims index state t t.deed
+    claim : (t : Task) (b : Bool) → claim_of n (if b then record t { deed = deed_read index state t.deed } else t) ≤ claim_of n t
+    claim t true = read_claims n index state t t.deed
     claim t false = omega arith
 
 -- the task that a read was for is told of it
 reader_right : (s : State) (tag index : ℕ) (state : ReadState) → IsTied s → Right s (record s { tasks = map (task_read tag index state) s.tasks })
 reader_right s tag index state v =
-    let sh = shape_of_numbers (numbers_of s) in
+    let n = numbers_of s in
     let m = is_mended s.translation.work.mending in
     One (Maps (task_read tag index state)) (record {
       small = reads tag index state;
       layer = tt;
-      tasks = tasks_kept sh (length s.accepted) m s.translation.claims (task_read tag index state) s.tasks s.shorts (read_keeps sh (length s.accepted) m tag index state) v.tasks;
+      tasks = tasks_kept n (length s.accepted) m s.translation.claims (task_read tag index state) s.tasks s.shorts (read_keeps n (length s.accepted) m tag index state) v.tasks;
     })
 
 told_right : (s : State) (die : ℕ) (reader : Reader) (state : ReadState) (ending : Ending) (array : Array) → IsTied (record (with_moves s (EndJob die ending ∷ [])) { array = array }) →

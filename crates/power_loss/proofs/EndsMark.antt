@@ -1,5 +1,6 @@
 -- The program of a mark ended well: the block of the plan is freed, and the mending moves on.
 use Rattle.std.proofs.Common.{◌≡◌, ◌≢◌, ℕ, ◌<◌, ◌≤◌, ◌⊎◌, true, false, List, [], length, Option, Some, None, slice_get, refl, sym, ap, ◌∙◌, subst, inl, inr, ⊎_elim, arith}
+use Rattle.std.proofs.lemmas.List.Elements.{All-nil}
 use Rattle.ufs_spec.specs.Cells.{Cells, GroupPage, IsPlace, Mark, MarkPage, Nothing}
 use Rattle.ufs_spec.specs.Disk.{BlockState, Bad, Closed, Disk, Erasing, Flight, Free, Programming, Spot, at_die, at_place, at_spot, programmed, spot_of, state_behind}
 use Rattle.ufs_spec.specs.Keys.{Group}
@@ -15,6 +16,7 @@ use Rattle.power_loss.specs.Book.{AreWholeAbove, Book, IsPlainMark, book}
 use Rattle.power_loss.specs.Invariant.{FlightsRight, IsLaterMark, IsOwnMark, MarksRight, MendingRight, OnePlanRight, PagesRight, RepairingRight, UnmarkedRight, Valid}
 use Rattle.power_loss.proofs.UnmendedStands.{mark_stands}
 use Rattle.power_loss.proofs.PagesKept.{StayThere, pins_stay, rests_stay, stay_written}
+use Rattle.power_loss.proofs.ReadsKept.{idle_reads, reads_stay}
 use Rattle.power_loss.proofs.OneMore.{at_place_cases, at_place_is, at_spot_cases}
 use Rattle.power_loss.proofs.Written.{AreOverwritten, Frees, GoesTo, blank_programmed, blocks_behind, blocks_freed, blocks_programmed, erase_goes_on, firm_now, frees_none, frees_one, goes_to, not_there, other_flight, program_goes_on, safe_freed, safe_marked}
 
@@ -333,6 +335,9 @@ mark_valid t die p m after IsVictim v job g frees out of flown = record {
   pins = pins_stay (book t) (book t) t.ledger.frontier t.disk.cells (at_place t.disk.cells p (MarkPage m)) t.disk.finished (at_place t.disk.finished p true) t.disk.erasing t.disk.erasing t.pins
       (λ n i e h. h) stay v.pins;
   rests = rests_stay t.disk.cells (at_place t.disk.cells p (MarkPage m)) t.disk.finished (at_place t.disk.finished p true) t.disk.erasing t.disk.erasing t.work.rests stay v.rests;
+  reads = reads_stay t.disk.cells (at_place t.disk.cells p (MarkPage m)) t.disk.finished (at_place t.disk.finished p true) t.disk.erasing t.disk.erasing
+      t.disk.flights (at_die t.disk.flights p.die None) stay (idle_reads t.disk.flights p.die) v.reads;
+  to_read = record { wanted = All-nil _; copied = λ pl e. absurd (no_plan pl e) };
   history = record {
     within = v.history.within;
     contents = v.history.contents;

@@ -6,12 +6,13 @@ use Rattle.ufs_spec.specs.Keys.{Group}
 use Rattle.ufs_spec.specs.Kept.{recorded_in}
 use Rattle.ufs_spec.specs.Ledger.{Entry, Name, accepted_groups, at_name, before_accepted, page_stands, same_name}
 use Rattle.ufs_spec.specs.Moves.{WentWell, is_kind_of, job_ended, step_behind}
-use Rattle.ufs_spec.specs.Translation.{CopyStep, MarkStep, Mended, Mending, Plan, RepairStep, Repairing, Step, StepKind, Translation, Unmarked, is_mended, name_of, pending_pages}
+use Rattle.ufs_spec.specs.Translation.{CopyStep, MarkStep, Mended, Mending, Plan, RepairStep, Repairing, Step, StepKind, Translation, Unmarked, Want, is_mended, name_of, pending_pages}
 use Rattle.ufs_spec.specs.declared.flash.Place.{Place}
 use Rattle.ufs_spec.specs.declared.flash.Tag.{Tag}
 use Rattle.power_loss.specs.Book.{Book, IsKnown, IsPageAt, book, last_number}
-use Rattle.power_loss.specs.Invariant.{FlightsRight, FrontierRight, HistoryRight, IsLastRepair, IsLaterMark, IsToCopy, MarksRight, MendingRight, OnePlanRight, PagesRight, Standing, StandsIn, StepKindRight, Valid}
+use Rattle.power_loss.specs.Invariant.{FlightsRight, FrontierRight, HistoryRight, IsLastRepair, IsLaterMark, IsNeededPage, IsToCopy, MarksRight, MendingRight, OnePlanRight, PagesRight, Standing, StandsIn, StepKindRight, ToReadRight, Valid}
 use Rattle.power_loss.proofs.Frontiers.{climbed_to, climbs_last, climbs_right, climbs_up, stands_more, stands_now, stood}
+use Rattle.power_loss.proofs.ReadsKept.{behind_wants, idle_reads, needed_written, reads_stay, to_read_stay}
 use Rattle.power_loss.proofs.OneMore.{at_place_cases, at_place_is, at_spot_cases, if_false, if_true, name_cases, two_ways}
 use Rattle.power_loss.proofs.Books.{page_within}
 use Rattle.power_loss.proofs.PagesKept.{StayThere, pins_settle, rests_stay, settles, stay_written}
@@ -310,6 +311,13 @@ ends_page t die p tag body v job = record {
       (λ n i x is above. recorded_under t n i x v t.work.mending v.mending is above))
       v.pins;
   rests = rests_stay t.disk.cells (at_place t.disk.cells p (GroupPage tag body)) t.disk.finished (at_place t.disk.finished p true) t.disk.erasing t.disk.erasing t.work.rests stay v.rests;
+  reads = reads_stay t.disk.cells (at_place t.disk.cells p (GroupPage tag body)) t.disk.finished (at_place t.disk.finished p true) t.disk.erasing t.disk.erasing
+      t.disk.flights (at_die t.disk.flights p.die None) stay (idle_reads t.disk.flights p.die) v.reads;
+  to_read = record {
+    wanted = behind_wants (λ (w : Want). IsNeededPage (at_place t.disk.cells p (GroupPage tag body)) (at_place t.disk.finished p true) (blocks_behind t.numbers.pages t.disk.blocks p) t.disk.erasing w.place)
+        (name_of tag) t.work.step still.wanted;
+    copied = still.copied;
+  };
 }
   where
     g : GoesTo t.numbers t.disk.cells t.disk.blocks t.disk.erasing p
@@ -320,6 +328,13 @@ ends_page t die p tag body v job = record {
 
     stay : StayThere t.disk.cells t.disk.finished t.disk.erasing (at_place t.disk.cells p (GroupPage tag body)) (at_place t.disk.finished p true) t.disk.erasing
     stay = stay_written t.disk.cells t.disk.finished t.disk.erasing p (GroupPage tag body) g.blank
+
+    still : ToReadRight (at_place t.disk.cells p (GroupPage tag body)) (at_place t.disk.finished p true) (blocks_behind t.numbers.pages t.disk.blocks p) t.disk.erasing t.work.step t.work.plan
+    still = to_read_stay t.disk.cells (at_place t.disk.cells p (GroupPage tag body)) t.disk.finished (at_place t.disk.finished p true) t.disk.blocks (blocks_behind t.numbers.pages t.disk.blocks p)
+        t.disk.erasing t.disk.erasing t.work.step t.work.plan
+        (λ q h. needed_written t.disk.cells (at_place t.disk.cells p (GroupPage tag body)) t.disk.finished (at_place t.disk.finished p true) t.disk.blocks t.disk.erasing t.disk.erasing
+        (spot_of p) t.numbers.pages p.page q stay h)
+        v.to_read
 
     to : ℕ
     to = climbed_to (book t) (at_name t.ledger.standing (name_of tag) (Some p)) t.ledger.frontier

@@ -8,6 +8,7 @@ use Rattle.ufs_spec.specs.declared.flash.Place.{Place}
 use Rattle.power_loss.specs.Invariant.{BlocksRight, EraseRight, ProgramRight, Valid}
 use Rattle.power_loss.proofs.Changes.{Change, lost_pages}
 use Rattle.power_loss.proofs.Easy.{idle_fewer}
+use Rattle.power_loss.proofs.ReadsKept.{idle_reads, reads_stay}
 use Rattle.power_loss.proofs.PagesKept.{held_stay, stay_erased, stay_unerased}
 use Rattle.power_loss.proofs.OneMore.{at_die_is, at_spot_is, spot_cases}
 use Rattle.power_loss.proofs.Secures.{at_spot_here, at_spot_other, erase_left, erased_here, erased_other, keeps_erase_failed, keeps_erased, true_is_not_false}
@@ -107,6 +108,8 @@ erased_change t s v free erasing = record {
       (λ k. inr k.1)
       (at_spot_is t.disk.erasing s false a true h);
   victims = λ a h. victim_stays t.disk.blocks s a (Filling 0) free h;
+  reads = reads_stay t.disk.cells (erased t.disk s).cells t.disk.finished t.disk.finished t.disk.erasing (at_spot t.disk.erasing s false) t.disk.flights (at_die t.disk.flights s.die None)
+      (stay_erased t.disk s erasing) (idle_reads t.disk.flights s.die) v.reads;
 }
 
 pub ends_erase : (t : Translation) (die : ℕ) (s : Spot) → Valid t → t.disk.flights die ≡ Some (Erasing s) → Valid (job_ended t die (Erasing s) WentWell)
@@ -157,6 +160,8 @@ failed_change t s left v free erasing less = record {
       (at_spot_is t.disk.blocks s Bad a Free h);
   spent = λ a h. inr h;
   victims = λ a h. victim_stays t.disk.blocks s a Bad free h;
+  reads = reads_stay t.disk.cells left t.disk.finished t.disk.finished t.disk.erasing t.disk.erasing t.disk.flights (at_die t.disk.flights s.die None)
+      (stay_unerased t.disk.cells left t.disk.finished t.disk.erasing s (λ q. left q ≡ Nothing) erasing less) (idle_reads t.disk.flights s.die) v.reads;
 }
 
 pub fails_erase : (t : Translation) (die : ℕ) (s : Spot) (left : Cells) → Valid t → t.disk.flights die ≡ Some (Erasing s) →

@@ -171,10 +171,10 @@ turn_leaves t v = by (due_order t) refl
     by (Some o) e = order_leaves t o v (due_told t o e)
 
 pub tasks_stay : (s : State) (accepted : List Command) (u : Translation) → Stays s.translation u → s.translation.claims ≤ u.claims → length s.accepted ≤ length accepted → TasksAreRight s →
-    TasksRight (shape_of_numbers u.numbers) (length accepted) (is_mended u.work.mending) u.claims s.tasks s.shorts
+    TasksRight u.numbers (length accepted) (is_mended u.work.mending) u.claims s.tasks s.shorts
 tasks_stay s accepted u stays claims l h =
-    subst (λ (n : Numbers). TasksRight (shape_of_numbers n) (length accepted) (is_mended u.work.mending) u.claims s.tasks s.shorts) (sym stays.numbers)
-    (tasks_more (shape_of_numbers (numbers_of s)) (length s.accepted) (length accepted) (is_mended s.translation.work.mending) (is_mended u.work.mending)
+    subst (λ (n : Numbers). TasksRight n (length accepted) (is_mended u.work.mending) u.claims s.tasks s.shorts) (sym stays.numbers)
+    (tasks_more (numbers_of s) (length s.accepted) (length accepted) (is_mended s.translation.work.mending) (is_mended u.work.mending)
     s.translation.claims u.claims s.tasks s.shorts l stays.mended claims h)
 
 -- Moves that change nothing but the translation layer, and leave cells, accepted groups and claims

@@ -11,6 +11,7 @@ use Rattle.power_loss.specs.Invariant.{BlocksRight, EraseRight, MarkStepRight, P
 use Rattle.power_loss.proofs.PagesKept.{HeldStay, held_stay, stay_failed}
 use Rattle.power_loss.proofs.Changes.{Change, Follows, HasNoMore, IsGone, IsLeft, changed, numbered_change, same_step}
 use Rattle.power_loss.proofs.Easy.{idle_fewer}
+use Rattle.power_loss.proofs.ReadsKept.{idle_reads, reads_stay}
 use Rattle.power_loss.proofs.OneMore.{at_die_is, at_place_is, at_spot_is, if_false, if_true, spot_cases, two_ways}
 use Rattle.power_loss.proofs.Secures.{at_place_here, at_spot_here, at_spot_other, filling_is_not_bad, free_is_not_filling, keeps_program_failed, program_left}
 use Rattle.power_loss.proofs.Takes.{mark_no_copy, mark_no_repair}
@@ -151,6 +152,9 @@ module _ (t : Translation) (die : ℕ) (p : Place) (cell : Cell) (left : Cells) 
         (at_spot_is t.disk.blocks (spot_of p) Bad a Free h);
     spent = λ a h. inr h;
     victims = victim_stays;
+    reads = reads_stay t.disk.cells left t.disk.finished (at_place t.disk.finished p false) t.disk.erasing t.disk.erasing t.disk.flights (at_die t.disk.flights p.die None)
+        (stay_failed t.disk.cells left t.disk.finished t.disk.erasing p (λ q. (left q ≡ cell) ⊎ (left q ≡ Nothing)) (program_blank t die p v (v.flights.programs die p cell e)) by)
+        (idle_reads t.disk.flights p.die) v.reads;
   }
 
   pub program_gone : IsGone t (program_failed t.disk p left)
@@ -230,6 +234,7 @@ module _ (t : Translation) (die : ℕ) (p : Place) (m : Mark) (left : Cells) (v 
     mark = λ d q other h. absurd (none_flies t die p m v e d q other h);
     repair = λ r. absurd (let f = v.flights.mark die p m e in mark_no_repair (book t) t.work.step m.number m.fence f.there f.step_is r);
     copy = λ name q there h. absurd (let f = v.flights.mark die p m e in mark_no_copy t.work.step m.number m.fence f.there there name q f.step_is h);
+    wants = inr refl;
   }
 
   no_more : Follows t (program_failed t.disk p left) t.ledger.marks None
@@ -239,6 +244,7 @@ module _ (t : Translation) (die : ℕ) (p : Place) (m : Mark) (left : Cells) (v 
     mark = λ d q other h. absurd (none_flies t die p m v e d q other h);
     repair = λ r. absurd (let f = v.flights.mark die p m e in mark_no_repair (book t) t.work.step m.number m.fence f.there f.step_is r);
     copy = λ name q there h. absurd (let f = v.flights.mark die p m e in mark_no_copy t.work.step m.number m.fence f.there there name q f.step_is h);
+    wants = inr refl;
   }
 
 pub fails_mark : (t : Translation) (die : ℕ) (p : Place) (m : Mark) (left : Cells) → Valid t → t.disk.flights die ≡ Some (Programming p (MarkPage m)) →

@@ -174,7 +174,7 @@ none_told : {A : Type 0} (o : Option A) → is_none o ≡ true → o ≡ None
 none_told None h = refl
 none_told (Some x) h = cc
 
-mended_told : (w : Mending) → is_mended w ≡ true → w ≡ Mended
+pub mended_told : (w : Mending) → is_mended w ≡ true → w ≡ Mended
 mended_told (Unmarked fence lost) h = cc
 mended_told (Repairing left) h = cc
 mended_told Mended h = refl

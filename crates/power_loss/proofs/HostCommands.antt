@@ -53,7 +53,7 @@ short_right s short v free fits =
     One (OpensShort short) (record {
       small = tt;
       layer = tt;
-      tasks = short_opened (shape_of_numbers (numbers_of s)) (length s.accepted) m s.translation.claims s.tasks s.shorts short free.no_task free.no_short fits v.tasks;
+      tasks = short_opened (numbers_of s) (length s.accepted) m s.translation.claims s.tasks s.shorts short free.no_task free.no_short fits v.tasks;
     })
 
 pub reply_right : (s : State) (tag : ℕ) (reply : Message) → IsTied s → IsFree s tag → tag_in reply ≡ tag → Right s (with_short s (short_reply tag reply))
@@ -61,7 +61,7 @@ reply_right s tag reply v free same = short_right s (short_reply tag reply) v fr
 
 -- a task that has claimed nothing
 task_right : (s : State) (r : Request) (command : Option Cdb) (n : ℕ) (deed : Deed) → IsTied s → IsFree s r.tag →
-    DeedFits (shape_of_numbers (numbers_of s)) (length s.accepted) (is_mended s.translation.work.mending) (claimed_by deed command) n deed → claimed_by deed command ≡ 0 →
+    DeedFits (numbers_of s) (length s.accepted) (is_mended s.translation.work.mending) (claimed_by (numbers_of s) deed command) n deed → claimed_by (numbers_of s) deed command ≡ 0 →
     Right s (with_task s r command n deed)
 task_right s r command n deed v free fits none =
     let m = is_mended s.translation.work.mending in
@@ -69,7 +69,7 @@ task_right s r command n deed v free fits none =
     One (Opens task) (record {
       small = tt;
       layer = tt;
-      tasks = task_opened (shape_of_numbers (numbers_of s)) (length s.accepted) m s.translation.claims s.translation.claims s.tasks s.shorts task free.no_task free.no_short
+      tasks = task_opened (numbers_of s) (length s.accepted) m s.translation.claims s.translation.claims s.tasks s.shorts task free.no_task free.no_short
           fits (omega arith) v.tasks;
     })
 
@@ -90,7 +90,7 @@ sending_right s r command n [] v free = answer_right s r (Some command) n Good n
 sending_right s r command n (b ∷ bs) v free = task_right s r (Some command) n (Sending (b ∷ bs) 0) v free tt refl
 
 -- each block that the host expects is a key of the device
-abbrev KeysOfDevice : State → ℕ → ℕ → ℕ → Type 0
+abbrev pub KeysOfDevice : State → ℕ → ℕ → ℕ → Type 0
 KeysOfDevice s unit address n = All (λ i. IsKey (shape_of_numbers (numbers_of s)) (data_key unit (address + i))) (below n)
 
 read_right : (s : State) (r : Request) (command : Cdb) (unit address n : ℕ) → IsTied s → IsFree s r.tag → KeysOfDevice s unit address (blocks_expected r n) →
@@ -175,7 +175,7 @@ well_known_none byte unit h = by (byte == 0x81) (byte == 0xB0) (byte == 0xC4) (b
     by false false false true e = cc
     by false false false false e = cc
 
-lun_told : (n : Numbers) (byte unit : ℕ) → lun_of n byte ≡ Some (UnitOf unit) → (byte < length n.units.items) × (unit ≡ byte)
+pub lun_told : (n : Numbers) (byte unit : ℕ) → lun_of n byte ≡ Some (UnitOf unit) → (byte < length n.units.items) × (unit ≡ byte)
 lun_told n byte unit h = by (nat_lt byte (length n.units.items)) (is_among taken_luns byte) refl h
   where
     other : (c : Bool) → (if c then well_known byte else None) ≡ Some (UnitOf unit) → ⊥
@@ -235,7 +235,7 @@ lies_within s r command data_begun h =
     let same = get_or-map (λ (u : UnitSpec). u.blocks) units r.lun no_spec 0 data_begun.there in
     omega arith
 
-ready_now : (s : State) (command : Cdb) → needs_mended (operation_of command) ≡ true → (needs_mended (operation_of command) && not (mended s)) ≡ false → is_mended s.translation.work.mending ≡ true
+pub ready_now : (s : State) (command : Cdb) → needs_mended (operation_of command) ≡ true → (needs_mended (operation_of command) && not (mended s)) ≡ false → is_mended s.translation.work.mending ≡ true
 ready_now s command needs h = by (needs_mended (operation_of command)) (is_mended s.translation.work.mending) needs h
   where
     by : (a b : Bool) → a ≡ true → (a && not b) ≡ false → b ≡ true
@@ -244,7 +244,7 @@ ready_now s command needs h = by (needs_mended (operation_of command)) (is_mende
     by false b e k = cc
 
 claimed_right : (s : State) (r : Request) (command : Cdb) (unit blocks : ℕ) (forced : Bool) → IsTied s → IsFree s r.tag → Passed s r command → UnitTold s r → unit ≡ r.lun →
-    slots_needed command ≡ blocks → blocks_of command ≡ blocks → needs_mended (operation_of command) ≡ true → is_too_long (numbers_of s) command ≡ nat_lt (most_blocks (numbers_of s)) (blocks_of command) → 1 ≤ blocks →
+    slots_needed (numbers_of s) command ≡ blocks → blocks_of command ≡ blocks → needs_mended (operation_of command) ≡ true → is_too_long (numbers_of s) command ≡ nat_lt (most_blocks (numbers_of s)) (blocks_of command) → 1 ≤ blocks →
     Right s (with_task (with_moves s (Claim blocks ∷ [])) r (Some command) (4096 * blocks) (Gathering (ForWrite unit (address_of command) blocks forced) [] false))
 claimed_right s r command unit blocks forced v free p data_begun same slots size needs long some =
     let t = s.translation in
@@ -258,7 +258,7 @@ claimed_right s r command unit blocks forced v free p data_begun same slots size
     let here : get_or (map (λ (x : UnitSpec). x.blocks) units) unit 0 ≡ get_or (map (λ (x : UnitSpec). x.blocks) units) r.lun 0 =
     ap (λ (x : ℕ). get_or (map (λ (y : UnitSpec). y.blocks) units) x 0) same in
     let there = data_begun.there in
-    let fits : WriteFits (shape_of_numbers (numbers_of s)) m unit (address_of command) blocks (4096 * blocks) [] (slots_needed command) = record {
+    let fits : WriteFits (numbers_of s) m unit (address_of command) blocks (4096 * blocks) [] (slots_needed (numbers_of s) command) = record {
       unit_in = omega arith;
       some = some;
       not_long = omega arith;
@@ -269,18 +269,18 @@ claimed_right s r command unit blocks forced v free p data_begun same slots size
       claimed_is = slots;
       is_mended = ready_now s command needs p.ready;
     } in
-    let crowded = or_parts _ (nat_lt (free_slots t) (slots_needed command)) p.room in
-    let room = ltb-false (free_slots t) (slots_needed command) crowded.1 in
+    let crowded = or_parts _ (nat_lt (free_slots t) (slots_needed (numbers_of s) command)) p.room in
+    let room = ltb-false (free_slots t) (slots_needed (numbers_of s) command) crowded.1 in
     Both (right_move s (Claim blocks) v tt (omega arith) (omega arith))
     (One (Opens task) (record {
       small = tt;
       layer = tt;
-      tasks = task_opened (shape_of_numbers (numbers_of s)) (length s.accepted) m t.claims (t.claims + blocks) s.tasks s.shorts task free.no_task free.no_short fits
+      tasks = task_opened (numbers_of s) (length s.accepted) m t.claims (t.claims + blocks) s.tasks s.shorts task free.no_task free.no_short fits
           (omega arith) v.tasks;
     }))
 
 write_right : (s : State) (r : Request) (command : Cdb) (blocks : ℕ) (forced : Bool) → IsTied s → IsFree s r.tag → Passed s r command → TakenByUnits (operation_in r) →
-    slots_needed command ≡ blocks → blocks_of command ≡ blocks → needs_mended (operation_of command) ≡ true → is_too_long (numbers_of s) command ≡ nat_lt (most_blocks (numbers_of s)) (blocks_of command) →
+    slots_needed (numbers_of s) command ≡ blocks → blocks_of command ≡ blocks → needs_mended (operation_of command) ≡ true → is_too_long (numbers_of s) command ≡ nat_lt (most_blocks (numbers_of s)) (blocks_of command) →
     Right s (write_begun s r command (unit_or_first (unit_of_request s r)) (address_of command) blocks forced)
 write_right s r command blocks forced v free p units slots size needs long = by (blocks == 0) refl
   where
@@ -324,7 +324,7 @@ begins s r (cdb.Read10 address blocks forced) v free p op =
     read_right s r (cdb.Read10 address blocks forced) (unit_or_first (unit_of_request s r)) address (4096 * blocks) v free
     (keys_read s r (cdb.Read10 address blocks forced) (4096 * blocks) (omega arith) (inr op) (λ unit e. lun_told (numbers_of s) r.lun unit e) p.unit p.taken p.within)
 begins s r (cdb.Write6 address blocks) v free p op =
-    write_right s r (cdb.Write6 address blocks) (slots_needed (cdb.Write6 address blocks)) false v free p (subst TakenByUnits (sym op) units_take_6) refl refl refl refl
+    write_right s r (cdb.Write6 address blocks) (slots_needed (numbers_of s) (cdb.Write6 address blocks)) false v free p (subst TakenByUnits (sym op) units_take_6) refl refl refl refl
 begins s r (cdb.Write10 address blocks forced) v free p op = write_right s r (cdb.Write10 address blocks forced) blocks forced v free p (subst TakenByUnits (sym op) units_take_10) refl refl refl refl
 begins s r (cdb.SynchronizeCache10 address blocks immediate) v free p op = flush_right s r address blocks immediate v free p
 begins s r cdb.ReadCapacity10 v free p op = telling_right s r cdb.ReadCapacity10 (capacity_bytes (spec_of s r)) v free

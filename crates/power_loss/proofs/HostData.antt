@@ -11,9 +11,11 @@ use Rattle.ufs_spec.specs.Keys.{IsBlock, IsCommand, IsData, IsKey, IsPlain, Item
 use Rattle.ufs_spec.specs.Machine.{accepts, asked_fault, blocks_in, claimed_by, complete, data_for, data_heard, gathered_more, set_deed, with_moves, write_complete, write_deed}
 use Rattle.ufs_spec.specs.Messages.{AreBytes}
 use Rattle.ufs_spec.specs.Moves.{Accept, IsAllowedMove, IsGroup, IsItem, KeysDiffer, Release}
-use Rattle.ufs_spec.specs.Plain.{CanApply, Plain, Shape, apply, shape_of, shape_of_numbers}
+use Rattle.ufs_spec.specs.Configs.{command_blocks}
+use Rattle.ufs_spec.specs.Plain.{CanApply, Plain, Shape, apply, greatest_command, shape_of, shape_of_numbers}
 use Rattle.ufs_spec.specs.Refusals.{State, locked, numbers_of, plain_now}
 use Rattle.ufs_spec.specs.Translation.{Translation, has_number, is_locked, is_mended}
+use Rattle.ufs_spec.specs.declared.configs.Numbers.{Numbers}
 use Rattle.ufs_spec.specs.declared.flash.Key.{Key}
 use Rattle.ufs_spec.proofs.PlainFacts.{kept_shape}
 use Rattle.ufs_laws.proofs.Bytes.{bytes-append, bytes-drop, bytes-take}
@@ -82,10 +84,10 @@ group_length p unit address blocks =
     omega arith
 
 pub write_group : (t : Translation) (p : Plain) (unit address : ℕ) (blocks : List (List ℕ)) → shape_of p ≡ shape_of_numbers t.numbers → IsPlain p →
-    IsCommand (command.Write unit address blocks) → CanApply p (command.Write unit address blocks) → IsGroup t (group_of p (command.Write unit address blocks))
-write_group t p unit address blocks shape plain is can = record {
+    IsCommand (command.Write unit address blocks) → CanApply p (command.Write unit address blocks) → length blocks ≤ command_blocks t.numbers → IsGroup t (group_of p (command.Write unit address blocks))
+write_group t p unit address blocks shape plain is can few = record {
   some = let count = group_length p unit address blocks in let s = can.0.1 in omega arith;
-  not_long = let count = group_length p unit address blocks in let s = can.0.2 in omega arith;
+  not_long = let count = group_length p unit address blocks in omega arith;
   differ = differ;
   items = λ k d lt. item k (get_or (group_of p (command.Write unit address blocks)) k d) (slice_get-get_or (group_of p (command.Write unit address blocks)) k d lt);
 }
@@ -138,11 +140,11 @@ not_locked t h = let both = or_parts _ _ h in le-leb _ _ (ltb-false _ _ both.1)
 
 pub record MayAccept (s : State) (task : Task) (unit address blocks : ℕ) (bytes : List ℕ) : Type 0 where
   pub there : task_of task.tag s.tasks ≡ Some task
-  pub claim : claim_of task ≡ blocks
+  pub claim : claim_of (numbers_of s) task ≡ blocks
   pub few : blocks ≤ s.translation.claims
   pub unit_in : unit < length (shape_of_numbers (numbers_of s)).blocks
   pub some : 1 ≤ blocks
-  pub not_long : blocks ≤ 32
+  pub not_long : blocks ≤ command_blocks (numbers_of s)
   pub within : address + blocks ≤ get_or (shape_of_numbers (numbers_of s)).blocks unit 0
   pub long : length bytes ≡ 4096 * blocks
   pub are_bytes : AreBytes bytes
@@ -156,7 +158,7 @@ can_write s unit address blocks bytes task v a =
     let some = a.some in
     let most = a.not_long in
     let room = a.within in (
-      subst (λ (x : Shape). (unit < length x.blocks) × (1 ≤ length (blocks_in blocks bytes)) × (length (blocks_in blocks bytes) ≤ 32) × (address + length (blocks_in blocks bytes) ≤ get_or x.blocks unit 0)) (sym shape)
+      subst (λ (x : Shape). (unit < length x.blocks) × (1 ≤ length (blocks_in blocks bytes)) × (length (blocks_in blocks bytes) ≤ greatest_command) × (address + length (blocks_in blocks bytes) ≤ get_or x.blocks unit 0)) (sym shape)
           (a.unit_in, omega arith, omega arith, omega arith),
       tt,
     )
@@ -175,10 +177,10 @@ release_right s task unit address blocks bytes v a =
     }))
     (One (Moves (Release blocks)) (record { small = tt; layer = a.few; tasks = set (t.claims - blocks) (omega arith) }))
   where
-    set : (d : ℕ) → s.translation.claims ≤ d + claim_of task →
-        TasksRight (shape_of_numbers (numbers_of s)) (length s.accepted) (is_mended s.translation.work.mending) d (map (with_deed task.tag (Answering write_error task.length)) s.tasks) s.shorts
+    set : (d : ℕ) → s.translation.claims ≤ d + claim_of (numbers_of s) task →
+        TasksRight (numbers_of s) (length s.accepted) (is_mended s.translation.work.mending) d (map (with_deed task.tag (Answering write_error task.length)) s.tasks) s.shorts
     set d l =
-        task_set (shape_of_numbers (numbers_of s)) (length s.accepted) (length s.accepted) (is_mended s.translation.work.mending) (is_mended s.translation.work.mending)
+        task_set (numbers_of s) (length s.accepted) (length s.accepted) (is_mended s.translation.work.mending) (is_mended s.translation.work.mending)
         s.translation.claims d task task.tag (Answering write_error task.length) s.tasks s.shorts (omega arith) (λ h. h) a.there tt (omega arith) v.tasks
 
 abbrev write_of : ℕ → ℕ → ℕ → List ℕ → Command
@@ -195,18 +197,19 @@ accept_allowed s task unit address blocks bytes v a free =
       not_locked s.translation free,
       omega arith,
       a.few,
-      write_group s.translation (plain_now s) unit address (blocks_in blocks bytes) shape plain (are_blocks blocks bytes a.long a.are_bytes) (can_write s unit address blocks bytes task v a),
+      write_group s.translation (plain_now s) unit address (blocks_in blocks bytes) shape plain (are_blocks blocks bytes a.long a.are_bytes) (can_write s unit address blocks bytes task v a)
+          (let most = a.not_long in omega arith),
     )
 
 write_answers : (s : State) (task : Task) (forced : Bool) (more : List Command) → length more ≡ length s.accepted + 1 → is_mended s.translation.work.mending ≡ true →
-    DeedFits (shape_of_numbers (numbers_of s)) (length more) (is_mended s.translation.work.mending) (claimed_by (write_deed forced (length s.accepted + 1) task.length) task.command) task.length
+    DeedFits (numbers_of s) (length more) (is_mended s.translation.work.mending) (claimed_by (numbers_of s) (write_deed forced (length s.accepted + 1) task.length) task.command) task.length
     (write_deed forced (length s.accepted + 1) task.length)
 write_answers s task true more long m = (omega arith, m)
 write_answers s task false more long m = tt
 
-write_claims : (task : Task) (forced : Bool) (position : ℕ) → claimed_by (write_deed forced position task.length) task.command ≡ 0
-write_claims task true position = refl
-write_claims task false position = refl
+write_claims : (n : Numbers) (task : Task) (forced : Bool) (position : ℕ) → claimed_by n (write_deed forced position task.length) task.command ≡ 0
+write_claims n task true position = refl
+write_claims n task false position = refl
 
 accept_right : (s : State) (task : Task) (unit address blocks : ℕ) (forced : Bool) (bytes : List ℕ) → IsTied s → MayAccept s task unit address blocks bytes → locked s ≡ false →
     Right s (set_deed (accepts s (command.Write unit address (blocks_in blocks bytes)) blocks) task.tag (write_deed forced (length s.accepted + 1) task.length))
@@ -217,7 +220,7 @@ accept_right s task unit address blocks forced bytes v a free =
     let more : List Command = s.accepted ++ write_of unit address blocks bytes ∷ [] in
     let long : length more ≡ length s.accepted + 1 = length-append s.accepted (write_of unit address blocks bytes ∷ []) in
     let claim = a.claim in
-    let none = write_claims task forced (length s.accepted + 1) in
+    let none = write_claims (numbers_of s) task forced (length s.accepted + 1) in
     One (Accepts (write_of unit address blocks bytes) blocks (with_deed task.tag deed)) (record {
       small = does task.tag deed;
       layer = (
@@ -225,7 +228,7 @@ accept_right s task unit address blocks forced bytes v a free =
         can_write s unit address blocks bytes task v a,
         accept_allowed s task unit address blocks bytes v a free,
       );
-      tasks = task_set (shape_of_numbers (numbers_of s)) (length s.accepted) (length more) m m t.claims (t.claims - blocks) task task.tag deed s.tasks s.shorts
+      tasks = task_set (numbers_of s) (length s.accepted) (length more) m m t.claims (t.claims - blocks) task task.tag deed s.tasks s.shorts
           (omega arith) (λ h. h) a.there (write_answers s task forced more long a.mended) (omega arith) v.tasks;
     })
 
@@ -254,14 +257,14 @@ more_fits s task (ForWrite unit address blocks forced) gathered asked all h l is
   total_is = h.total_is;
   short = l;
   bytes = is h.bytes;
-  claimed_is = claim_same (ForWrite unit address blocks forced) (ForWrite unit address blocks forced) all gathered false asked task.command ∙ h.claimed_is;
+  claimed_is = claim_same (numbers_of s) (ForWrite unit address blocks forced) (ForWrite unit address blocks forced) all gathered false asked task.command ∙ h.claimed_is;
   is_mended = h.is_mended;
 }
 more_fits s task (ForUnmap unit) gathered asked all h l is = tt
 more_fits s task ForFrames gathered asked all h l is = tt
 
-completes : (s : State) (task : Task) (purpose : Purpose) (gathered : List ℕ) (asked : Bool) (all : List ℕ) → IsTied s → task_of task.tag s.tasks ≡ Some task → claim_of task ≤ s.translation.claims →
-    claim_of task ≡ claimed_by (Gathering purpose gathered asked) task.command → FitsIn s task (Gathering purpose gathered asked) → (length gathered < task.length → length all ≡ task.length) → (AreBytes gathered → AreBytes all) →
+completes : (s : State) (task : Task) (purpose : Purpose) (gathered : List ℕ) (asked : Bool) (all : List ℕ) → IsTied s → task_of task.tag s.tasks ≡ Some task → claim_of (numbers_of s) task ≤ s.translation.claims →
+    claim_of (numbers_of s) task ≡ claimed_by (numbers_of s) (Gathering purpose gathered asked) task.command → FitsIn s task (Gathering purpose gathered asked) → (length gathered < task.length → length all ≡ task.length) → (AreBytes gathered → AreBytes all) →
     Right s (complete s task purpose all)
 completes s task (ForWrite unit address blocks forced) gathered asked all v there few claim h long is =
     let claimed = h.claimed_is in
@@ -282,21 +285,21 @@ completes s task (ForWrite unit address blocks forced) gathered asked all v ther
 completes s task (ForUnmap unit) gathered asked all v there few claim h long is = set_right s task (Answering invalid_operation task.length) v there tt (omega arith)
 completes s task ForFrames gathered asked all v there few claim h long is = set_right s task (Answering invalid_operation task.length) v there tt (omega arith)
 
-gathers : (s : State) (task : Task) (purpose : Purpose) (gathered : List ℕ) (asked : Bool) (all : List ℕ) → IsTied s → task_of task.tag s.tasks ≡ Some task → claim_of task ≤ s.translation.claims →
-    claim_of task ≡ claimed_by (Gathering purpose gathered asked) task.command → FitsIn s task (Gathering purpose gathered asked) → (length gathered < task.length → length all ≤ task.length) → (AreBytes gathered → AreBytes all) →
+gathers : (s : State) (task : Task) (purpose : Purpose) (gathered : List ℕ) (asked : Bool) (all : List ℕ) → IsTied s → task_of task.tag s.tasks ≡ Some task → claim_of (numbers_of s) task ≤ s.translation.claims →
+    claim_of (numbers_of s) task ≡ claimed_by (numbers_of s) (Gathering purpose gathered asked) task.command → FitsIn s task (Gathering purpose gathered asked) → (length gathered < task.length → length all ≤ task.length) → (AreBytes gathered → AreBytes all) →
     Right s (gathered_more s task purpose all)
 gathers s task purpose gathered asked all v there few claim h long is = by (nat_lt (length all) task.length) refl
   where
     by : (b : Bool) → nat_lt (length all) task.length ≡ b → Right s (if b then set_deed s task.tag (Gathering purpose all false) else complete s task purpose all)
     by true e =
         set_right s task (Gathering purpose all false) v there (more_fits s task purpose gathered asked all h (ltb-true (length all) task.length e) is)
-        (let c = claim_same purpose purpose all gathered false asked task.command in omega arith)
+        (let c = claim_same (numbers_of s) purpose purpose all gathered false asked task.command in omega arith)
     by false e =
         let l = ltb-false (length all) task.length e in
         completes s task purpose gathered asked all v there few claim h (λ short. let most = long short in omega arith) is
 
-data_for_right : (s : State) (task : Task) (deed : Deed) (lun offset : ℕ) (bytes : List ℕ) → IsTied s → task_of task.tag s.tasks ≡ Some task → claim_of task ≤ s.translation.claims →
-    claim_of task ≡ claimed_by deed task.command → FitsIn s task deed → is_asked_in task lun offset (length bytes) deed ≡ true → AreBytes bytes →
+data_for_right : (s : State) (task : Task) (deed : Deed) (lun offset : ℕ) (bytes : List ℕ) → IsTied s → task_of task.tag s.tasks ≡ Some task → claim_of (numbers_of s) task ≤ s.translation.claims →
+    claim_of (numbers_of s) task ≡ claimed_by (numbers_of s) deed task.command → FitsIn s task deed → is_asked_in task lun offset (length bytes) deed ≡ true → AreBytes bytes →
     Right s (data_for s task deed bytes)
 data_for_right s task (Gathering purpose gathered asked) lun offset bytes v there few claim h is_asked is =
     gathers s task purpose gathered asked (gathered ++ bytes) v there few claim h room (λ h. bytes-append gathered bytes h is)
@@ -319,7 +322,7 @@ data_right s lun tag offset bytes v h is = by (task_of tag s.tasks) refl (no_off
     by : (x : Option Task) → task_of tag s.tasks ≡ x → is_asked_of x lun offset (length bytes) ≡ true → Right s (data_heard s x bytes)
     by None e asked = Still
     by (Some task) e asked =
-        let found = found_fits (shape_of_numbers (numbers_of s)) (length s.accepted) (is_mended s.translation.work.mending) tag s.tasks task v.tasks.deeds e in
+        let found = found_fits (numbers_of s) (length s.accepted) (is_mended s.translation.work.mending) tag s.tasks task v.tasks.deeds e in
         let claimed = v.tasks.claimed in
         let few = found.2 in
         data_for_right s task task.deed lun offset bytes v (ap (λ (x : ℕ). task_of x s.tasks) found.1 ∙ e) (omega arith) refl found.0 asked is

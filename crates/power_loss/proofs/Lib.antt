@@ -6,6 +6,7 @@ pub mod Begins
 pub mod Books
 pub mod CallPages
 pub mod CallsKeep
+pub mod CallsShow
 pub mod ChainedLives
 pub mod Changes
 pub mod CopiesRead
@@ -38,11 +39,15 @@ pub mod Latest
 pub mod LeftoverLists
 pub mod LifeTurns
 pub mod ListOrders
+pub mod LiveNeeded
 pub mod LivePages
+pub mod LivesShow
 pub mod LookedKeys
+pub mod LooksShow
 pub mod LostKeys
 pub mod LowestPlaces
 pub mod MovesStay
+pub mod MovesShow
 pub mod NextLife
 pub mod OneDieEach
 pub mod OneLeft
@@ -59,10 +64,11 @@ pub mod Orders
 pub mod Owed
 pub mod PagesHold
 pub mod PagesKept
-pub mod PromiseEnds
 pub mod PendingGroups
 pub mod PendingLists
 pub mod PendingMoves
+pub mod PinsShow
+pub mod ReadsKept
 pub mod Replies
 pub mod RestsFound
 pub mod RightChanges
@@ -85,12 +91,14 @@ pub mod StopCells
 pub mod StopHolds
 pub mod StopKept
 pub mod StopSound
+pub mod StoppedLives
 pub mod StoppedPages
 pub mod StoppedWrite
 pub mod Takes
 pub mod TaskLists
 pub mod Tracked
 pub mod TrackedCalls
+pub mod TornTwice
 pub mod Turns
 pub mod TurnsLeft
 pub mod UnmendedStands
@@ -98,3 +106,5 @@ pub mod Victims
 pub mod Waits
 pub mod WantedPages
 pub mod Written
+pub mod PromiseEnds
+pub mod ReadsShow

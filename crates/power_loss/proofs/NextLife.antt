@@ -56,7 +56,7 @@ put_group_same : (f g : Contents) (items : Group) (k : Key) → f k ≡ g k → 
 put_group_same f g [] k h = h
 put_group_same f g (item ∷ items) k h = ap (λ (rest : List ℕ). cond (same_key item.key k) item.body rest) (put_group_same f g items k h)
 
-put_groups_same : (f g : Contents) (gs : List Group) (k : Key) → f k ≡ g k → put_groups f gs k ≡ put_groups g gs k
+pub put_groups_same : (f g : Contents) (gs : List Group) (k : Key) → f k ≡ g k → put_groups f gs k ≡ put_groups g gs k
 put_groups_same f g [] k h = h
 put_groups_same f g (items ∷ gs) k h = put_groups_same (put_group f items) (put_group g items) gs k (put_group_same f g items k h)
 

@@ -7,7 +7,7 @@ use Rattle.ufs_spec.proofs.Facts.{false≢true}
 use Rattle.ufs_spec.specs.Exchanges.{Deed, ForFrames, ForUnmap, ForWrite, Gathering, Purpose, Short, Status, Task, TaskSetFull, is_task_of, response, short_reply, task_of, with_deed, without_task}
 use Rattle.ufs_spec.specs.Machine.{begun, begun_with, command_heard, complete, data_for, data_heard, deed_behind, moves_behind, opened_with, set_deed, task_behind, task_replied, with_moves, with_short, write_begun}
 use Rattle.ufs_spec.specs.Stages.{most_tasks}
-use Rattle.ufs_spec.specs.Refusals.{Request, State, locked, refusal, slots_needed}
+use Rattle.ufs_spec.specs.Refusals.{Request, State, locked, numbers_of, refusal, slots_needed}
 use Rattle.ufs_spec.specs.declared.scsi.Cdb.{Cdb}
 use Rattle.ufs_spec.specs.declared.scsi.Cdb.TheVariants as cdb
 use Rattle.ufs_laws.proofs.Changed.{does}
@@ -40,7 +40,7 @@ write_adds : (s : State) (r : Request) (c : Cdb) (unit address blocks : ℕ) (fo
 write_adds s r c unit address blocks forced = adds_if s _ _ (blocks == 0) (adds_task _ refl refl) (adds_task _ refl refl)
 
 begun_adds : (s : State) (r : Request) (unit : ℕ) (c : Cdb) → Adds s (begun s r unit c)
-begun_adds s r unit (cdb.Write6 address blocks) = write_adds s r (cdb.Write6 address blocks) unit address (slots_needed (cdb.Write6 address blocks)) false
+begun_adds s r unit (cdb.Write6 address blocks) = write_adds s r (cdb.Write6 address blocks) unit address (slots_needed (numbers_of s) (cdb.Write6 address blocks)) false
 begun_adds s r unit (cdb.Write10 address blocks forced) = write_adds s r (cdb.Write10 address blocks forced) unit address blocks forced
 begun_adds s r unit c = adds_task _ refl refl
 

@@ -11,7 +11,7 @@ use Rattle.ufs_spec.specs.Keys.{CanApplyAll, Group, IsKey, IsPlain, content, gro
 use Rattle.ufs_spec.specs.Kept.{IsNewestMark}
 use Rattle.ufs_spec.specs.Ledger.{accepted_groups, before_accepted}
 use Rattle.ufs_spec.specs.Lives.{IsOpened}
-use Rattle.ufs_spec.specs.Plain.{Shape, shape_of, shape_of_numbers}
+use Rattle.ufs_spec.specs.Plain.{shape_of, shape_of_numbers}
 use Rattle.ufs_spec.specs.Sound.{CellsSound, Sound}
 use Rattle.ufs_spec.specs.Refusals.{State, numbers_of}
 use Rattle.ufs_spec.specs.Translation.{is_mended}
@@ -28,9 +28,9 @@ use Rattle.power_loss.proofs.Stays.{opened_inside}
 
 -- No tasks
 
-no_tasks : (shape : Shape) (accepted : ℕ) (mended : Bool) (claims : ℕ) (tasks : List Task) (shorts : List Short) →
-    tasks ≡ [] → shorts ≡ [] → TasksRight shape accepted mended claims tasks shorts
-no_tasks shape accepted mended claims [] [] e f = record {
+no_tasks : (n : Numbers) (accepted : ℕ) (mended : Bool) (claims : ℕ) (tasks : List Task) (shorts : List Short) →
+    tasks ≡ [] → shorts ≡ [] → TasksRight n accepted mended claims tasks shorts
+no_tasks n accepted mended claims [] [] e f = record {
   deeds = tt;
   waits = tt;
   tasks_differ = tt;
@@ -38,11 +38,11 @@ no_tasks shape accepted mended claims [] [] e f = record {
   apart = tt;
   claimed = omega arith;
 }
-no_tasks shape accepted mended claims (task ∷ tasks) shorts e f = absurd (apart e)
+no_tasks n accepted mended claims (task ∷ tasks) shorts e f = absurd (apart e)
   where
     apart : task ∷ tasks ≡ [] → ⊥
     apart e = cc
-no_tasks shape accepted mended claims [] (short ∷ shorts) e f = absurd (apart f)
+no_tasks n accepted mended claims [] (short ∷ shorts) e f = absurd (apart f)
   where
     apart : short ∷ shorts ≡ [] → ⊥
     apart e = cc
@@ -125,7 +125,7 @@ module _ (n : Numbers) (array : Array) (bad : Spot → Bool) (s : State) (config
 
   tasks_is : TasksAreRight s
   tasks_is =
-      no_tasks (shape_of_numbers (numbers_of s)) (length s.accepted) (is_mended s.translation.work.mending) s.translation.claims s.tasks s.shorts
+      no_tasks (numbers_of s) (length s.accepted) (is_mended s.translation.work.mending) s.translation.claims s.tasks s.shorts
       h.no_tasks h.no_shorts
 
   marks_is : s.translation.ledger.marks ≤ 2 ^ 62

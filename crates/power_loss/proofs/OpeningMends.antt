@@ -1,17 +1,17 @@
 -- An opened translation layer is valid: the mending that is due, and all of it.
 use Rattle.std.proofs.Common.{◌≡◌, ◌≢◌, ℕ, suc, ◌<◌, ◌≤◌, ◌-◌, All, Bool, List, [], drop, length, Option, Some, None, refl, sym, ap, ◌∙◌, subst, inl, ⊎_elim, arith}
 use Rattle.ufs_spec.specs.Cells.{AreWithin, Cells, Mark, MarkPage}
-use Rattle.ufs_spec.specs.Disk.{Programming, Spot, spot_of}
+use Rattle.ufs_spec.specs.Disk.{Programming, Reading, Spot, spot_of}
 use Rattle.ufs_spec.specs.Kept.{IsNewestMark, IsWhole, fence_in, recorded_in}
 use Rattle.ufs_spec.specs.Openings.{AreLost, IsMendingAt, IsOpenedTranslation}
 use Rattle.ufs_spec.specs.Sound.{CellsSound}
-use Rattle.ufs_spec.specs.Translation.{Mended, Mending, Pin, Repairing, Rest, Translation, Unmarked, is_mended}
+use Rattle.ufs_spec.specs.Translation.{Mended, Mending, Pin, Repairing, Rest, Step, Translation, Unmarked, Want, is_mended, wants_of_step}
 use Rattle.ufs_spec.specs.declared.configs.Numbers.{Numbers}
 use Rattle.ufs_spec.specs.declared.flash.Fence.{Fence}
 use Rattle.ufs_spec.specs.declared.flash.Key.{Key}
 use Rattle.ufs_spec.specs.declared.flash.Place.{Place}
 use Rattle.power_loss.specs.Book.{CellsRight, HasKey, IsWholeOld, book}
-use Rattle.power_loss.specs.Invariant.{HistoryRight, LookedRight, LostRight, MarkStands, MarksRight, MendingRight, SourceRight, Valid}
+use Rattle.power_loss.specs.Invariant.{HistoryRight, IsNeededPage, LookedRight, LostRight, MarkStands, MarksRight, MendingRight, SourceRight, Valid}
 use Rattle.std.proofs.lemmas.List.{drop_all}
 use Rattle.std.proofs.lemmas.List.Elements.{All-nil}
 use Rattle.ufs_spec.specs.Ledger.{accepted_groups, before_accepted}
@@ -175,6 +175,14 @@ valid bad t o = record {
   unmended = record { stand = λ un n i p h. stands_secure bad t n i p o h };
   pins = record { each = subst (All (λ (pin : Pin). LookedRight (book t) t.ledger.frontier t.disk.cells t.disk.finished t.disk.erasing pin.looked)) (sym o.start.no_pins) (All-nil _) };
   rests = record { each = subst (All (λ (rest : Rest). SourceRight t.disk.cells t.disk.finished t.disk.erasing rest.source)) (sym o.start.no_rests) (All-nil _) };
+  reads = record {
+    at_home = λ die reader p h. absurd (none_flies bad t die (Reading reader p) o h);
+    page = λ die reader p h. absurd (none_flies bad t die (Reading reader p) o h);
+  };
+  to_read = record {
+    wanted = subst (λ (s : Option Step). All (λ (w : Want). IsNeededPage t.disk.cells t.disk.finished t.disk.blocks t.disk.erasing w.place) (wants_of_step s)) (sym o.start.no_step) (All-nil _);
+    copied = λ pl e. absurd (none_is t.work.plan pl o.start.no_plan e);
+  };
 }
 
 pub opening_valid : (n : Numbers) (c : Cells) (bad : Spot → Bool) (t : Translation) →

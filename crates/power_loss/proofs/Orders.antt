@@ -6,16 +6,18 @@ use Rattle.ufs_spec.specs.Disk.{Disk, Programming, Spot}
 use Rattle.ufs_spec.specs.Keys.{Contents, Group, Item}
 use Rattle.ufs_spec.specs.Kept.{recorded_in}
 use Rattle.ufs_spec.specs.Ledger.{Entry, Ledger, accepted_groups, before_accepted, next_number}
-use Rattle.ufs_spec.specs.Translation.{CopyStep, MarkStep, Mended, Mending, Plan, RepairStep, Repairing, Step, Translation, Unmarked, copy_begun, is_mended, mark_ordered, name_of, pending_pages, repair_ordered, standing_of, with_plan, with_repair}
+use Rattle.ufs_spec.specs.Translation.{CopyStep, MarkStep, Mended, Mending, Plan, RepairStep, Repairing, Step, Translation, Unmarked, Want, copy_begun, is_mended, mark_ordered, name_of, pending_pages, repair_ordered, standing_of, with_plan, with_repair}
 use Rattle.ufs_spec.specs.declared.flash.Fence.{Fence}
 use Rattle.ufs_spec.specs.declared.flash.Key.{Key}
 use Rattle.ufs_spec.specs.declared.flash.Place.{Place}
 use Rattle.ufs_spec.specs.declared.flash.Tag.{Tag}
 use Rattle.power_loss.specs.Book.{Book, HasKey, IsLostNumber, IsOverwritten, IsPageAt, IsWritten, book, last_number}
-use Rattle.power_loss.specs.Invariant.{FenceRight, FlightsRight, HistoryRight, IsLastRepair, IsOpenedOrOwn, IsOwnMark, IsSafe, IsToCopy, MarkStepRight, MarksRight, MendingRight, OnePlanRight, RepairingRight, Standing, StandsIn, StepKindRight, StepRight, Valid}
+use Rattle.power_loss.specs.Invariant.{FenceRight, FlightsRight, HistoryRight, IsLastRepair, IsNeededPage, IsOpenedOrOwn, IsOwnMark, IsSafe, IsToCopy, MarkStepRight, MarksRight, MendingRight, OnePlanRight, RepairingRight, Standing, StandsIn, StepKindRight, StepRight, ToReadRight, Valid}
 use Rattle.power_loss.proofs.Books.{MayAdd, added_page, book_grows, fence_grows, get_splits, grown, grown_length, last_grows, lost_before, none_some, overwritten_more, page_grows, some_is, written_grows, written_more}
 use Rattle.std.proofs.lemmas.List.{drop_all}
+use Rattle.std.proofs.lemmas.List.Elements.{All-nil}
 use Rattle.power_loss.proofs.PagesKept.{pins_stay}
+use Rattle.power_loss.proofs.ReadsKept.{copy_read, copy_wants, repair_wants, stands_needed}
 use Rattle.power_loss.proofs.Slots.{no_pages, slots_fewer}
 use Rattle.power_loss.proofs.Grows.{flights_grow, frontier_grows, marks_grow, pages_grow, safe_grows}
 
@@ -151,6 +153,8 @@ marks_ordered t fence v e right behind = record {
   unmended = v.unmended;
   pins = v.pins;
   rests = v.rests;
+  reads = v.reads;
+  to_read = record { wanted = All-nil _; copied = v.to_read.copied };
 }
   where
     mark_right : MarkStepRight (t.ledger.marks + 1) t.disk.cells t.work.mending t.work.plan (t.ledger.marks + 1) fence
@@ -282,6 +286,12 @@ repairs_ordered t k left v none m = record {
   pins = pins_stay (book t) (grown (book t) (repair_group t.ledger.base k)) t.ledger.frontier t.disk.cells t.disk.cells t.disk.finished t.disk.finished t.disk.erasing t.disk.erasing t.pins
       (λ n i e h. page_grows (book t) (repair_group t.ledger.base k) n i e h) (λ q some ended stays. record { there = refl; ended = ended; stays = stays }) v.pins;
   rests = v.rests;
+  reads = v.reads;
+  to_read = record {
+    wanted = repair_wants (λ (w : Want). IsNeededPage t.disk.cells t.disk.finished t.disk.blocks t.disk.erasing w.place) (record { number = next_number t.ledger; index = 0 }) (standing_of t.ledger (t.ledger.first_page k))
+        (λ p e. stands_needed t (t.ledger.first_page k) p v (ap is_mended m) e);
+    copied = v.to_read.copied;
+  };
 }
   where
     repairing : MendingRight (book t) t.disk t.ledger t.work.plan t.work.step (Repairing (k ∷ left))
@@ -319,8 +329,9 @@ with_both t plan step = record t { work = record t.work { plan = plan; step = st
 -- a plan and a step of it
 pub plans : (t : Translation) (pl : Plan) (next : Option Step) → Valid t → t.work.step ≡ None → t.work.mending ≡ Mended →
     OnePlanRight (book t) t.ledger.frontier t.ledger.standing t.disk.blocks t.disk.flights next pl →
-    StepRight (book t) t.ledger.marks t.disk.cells t.work.mending (Some pl) next → Valid (with_both t (Some pl) next)
-plans t pl next v none mended r s = record {
+    StepRight (book t) t.ledger.marks t.disk.cells t.work.mending (Some pl) next →
+    ToReadRight t.disk.cells t.disk.finished t.disk.blocks t.disk.erasing next (Some pl) → Valid (with_both t (Some pl) next)
+plans t pl next v none mended r s reads = record {
   book_right = v.book_right;
   frontier = v.frontier;
   pages = v.pages;
@@ -339,6 +350,8 @@ plans t pl next v none mended r s = record {
   unmended = v.unmended;
   pins = v.pins;
   rests = v.rests;
+  reads = v.reads;
+  to_read = reads;
 }
 
 -- What stands in the victim
@@ -432,14 +445,17 @@ copy_of t s p ps (GroupPage tag body) v none mended is at =
           (some_is (copy_step tag p) x h)
           (mended, (record { item = record { key = key_of tag; body = body }; size = tag.size }, v.pages.known p tag body at));
     })
+    (copy_read t s p ps (Some (copy_step tag p)) v is (λ h. copy_wants (λ (w : Want). IsNeededPage t.disk.cells t.disk.finished t.disk.blocks t.disk.erasing w.place) (name_of tag) p h))
 copy_of t s p ps Nothing v none mended is at =
     plans t (plan_with s ps) t.work.step v none mended
     (copies_right t s (p ∷ ps) ps t.work.step v none mended is (λ n i q. copies_past ps p t.work.step t.disk.cells n i q none (λ tag body e. group_nothing tag body (sym at ∙ e))))
     (record { kind = λ x h. absurd (no_step t.work.step x none h) })
+    (copy_read t s p ps t.work.step v is (λ h. v.to_read.wanted))
 copy_of t s p ps (MarkPage m) v none mended is at =
     plans t (plan_with s ps) t.work.step v none mended
     (copies_right t s (p ∷ ps) ps t.work.step v none mended is (λ n i q. copies_past ps p t.work.step t.disk.cells n i q none (λ tag body e. group_mark tag body m (sym at ∙ e))))
     (record { kind = λ x h. absurd (no_step t.work.step x none h) })
+    (copy_read t s p ps t.work.step v is (λ h. v.to_read.wanted))
 
 -- a copy is ordered
 pub copies_ordered : (t : Translation) (s : Spot) (p : Place) (ps : List Place) → Valid t → t.work.step ≡ None → t.work.mending ≡ Mended →

@@ -115,7 +115,7 @@ none_in test (x ∷ xs) h =
     let both = or_parts (test x) (list_any test xs) h in
     All-cons (λ y. test y ≡ false) x xs both.0 (none_in test xs both.1)
 
-page_begun : (c : Cells) (f : Place → Bool) (e : Spot → Bool) (s : Spot) (name : Name) (p : Place) → same_spot (spot_of p) s ≡ false → IsGroupPage c f e name p → IsGroupPage c f (at_spot e s true) name p
+pub page_begun : (c : Cells) (f : Place → Bool) (e : Spot → Bool) (s : Spot) (name : Name) (p : Place) → same_spot (spot_of p) s ≡ false → IsGroupPage c f e name p → IsGroupPage c f (at_spot e s true) name p
 page_begun c f e s name p out h = record {
   tag = h.tag;
   body = h.body;

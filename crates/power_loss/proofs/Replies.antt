@@ -5,9 +5,9 @@ use Rattle.std.proofs.lemmas.Bool.{leb-true}
 use Rattle.ufs_spec.specs.Exchanges.{Answering, Awaiting, Deed, ForFrames, ForUnmap, ForWrite, Gathering, Good, NotRead, Purpose, ReadBlock, ReadState, Sending, Short, Task, SendingBytes, Unread, WasRead, block_message, is_short_of, is_task_of, read_error, ready_message, response, task_of, without_short, without_task}
 use Rattle.ufs_spec.specs.Machine.{Due, block_reply, claimed_by, deed_behind, deed_behind_block, deed_behind_state, deed_reply, durable, is_at_hand, is_durable, moves_behind, next_block_reply, pin_of, replied, replied_by, set_deed, short_replied, tag_in, task_behind, acknowledges, with_moves}
 use Rattle.ufs_spec.specs.Moves.{IsAllowedMove, LetGo, LetGoAll, Acknowledge, WantPage}
-use Rattle.ufs_spec.specs.Plain.{shape_of_numbers}
 use Rattle.ufs_spec.specs.Refusals.{State, numbers_of}
 use Rattle.ufs_spec.specs.Translation.{is_mended}
+use Rattle.ufs_spec.specs.declared.configs.Numbers.{Numbers}
 use Rattle.ufs_spec.specs.declared.messages.Message.{Message}
 use Rattle.ufs_spec.specs.declared.scsi.Cdb.{Cdb}
 use Rattle.power_loss.specs.Exchange.{AwaitsFit, DeedFits, ShortAwaits, ShortFits, IsTied, claim_of}
@@ -19,17 +19,17 @@ use Rattle.ufs_spec.specs.Exchanges.{with_deed}
 -- whether the deed fits a task of the state
 abbrev pub FitsIn : State → Task → Deed → Type 0
 FitsIn s task deed =
-    DeedFits (shape_of_numbers (numbers_of s)) (length s.accepted) (is_mended s.translation.work.mending) (claimed_by deed task.command) task.length deed
+    DeedFits (numbers_of s) (length s.accepted) (is_mended s.translation.work.mending) (claimed_by (numbers_of s) deed task.command) task.length deed
 
 -- a task does something else that claims no more
-pub set_right : (s : State) (task : Task) (deed : Deed) → IsTied s → task_of task.tag s.tasks ≡ Some task → FitsIn s task deed → claimed_by deed task.command ≤ claim_of task →
+pub set_right : (s : State) (task : Task) (deed : Deed) → IsTied s → task_of task.tag s.tasks ≡ Some task → FitsIn s task deed → claimed_by (numbers_of s) deed task.command ≤ claim_of (numbers_of s) task →
     Right s (set_deed s task.tag deed)
 set_right s task deed v there fits few =
     let m = is_mended s.translation.work.mending in
     One (Maps (with_deed task.tag deed)) (record {
       small = does task.tag deed;
       layer = tt;
-      tasks = task_set (shape_of_numbers (numbers_of s)) (length s.accepted) (length s.accepted) m m s.translation.claims s.translation.claims task task.tag deed s.tasks
+      tasks = task_set (numbers_of s) (length s.accepted) (length s.accepted) m m s.translation.claims s.translation.claims task task.tag deed s.tasks
           s.shorts (omega arith) (λ h. h) there fits (omega arith) v.tasks;
     })
 
@@ -40,7 +40,7 @@ removed_right s tag v =
     let gone : Right s (record s { tasks = without_task tag s.tasks }) = One (Closes (is_task_of tag)) (record {
       small = tt;
       layer = tt;
-      tasks = tasks_fewer (shape_of_numbers (numbers_of s)) (length s.accepted) m s.translation.claims (λ (task : Task). not (is_task_of tag task)) s.tasks s.shorts v.tasks;
+      tasks = tasks_fewer (numbers_of s) (length s.accepted) m s.translation.claims (λ (task : Task). not (is_task_of tag task)) s.tasks s.shorts v.tasks;
     }) in
     Both gone (right_move (record s { tasks = without_task tag s.tasks }) (LetGoAll tag) (right_keeps gone v) tt tt (omega arith))
 
@@ -91,9 +91,9 @@ reply_tag s task (Answering status carried) m h = one_tag (response task.lun tas
 
 -- The reply of a task
 
-pub claim_same : (p q : Purpose) (g h : List ℕ) (a b : Bool) (c : Option Cdb) → claimed_by (Gathering p g a) c ≡ claimed_by (Gathering q h b) c
-claim_same p q g h a b None = refl
-claim_same p q g h a b (Some c) = refl
+pub claim_same : (n : Numbers) (p q : Purpose) (g h : List ℕ) (a b : Bool) (c : Option Cdb) → claimed_by n (Gathering p g a) c ≡ claimed_by n (Gathering q h b) c
+claim_same n p q g h a b None = refl
+claim_same n p q g h a b (Some c) = refl
 
 asked_fits : (s : State) (task : Task) (purpose : Purpose) (gathered : List ℕ) (asked : Bool) → FitsIn s task (Gathering purpose gathered asked) → FitsIn s task (Gathering purpose gathered true)
 asked_fits s task (ForWrite unit address blocks forced) gathered asked h = record {
@@ -104,7 +104,7 @@ asked_fits s task (ForWrite unit address blocks forced) gathered asked h = recor
   total_is = h.total_is;
   short = h.short;
   bytes = h.bytes;
-  claimed_is = claim_same (ForWrite unit address blocks forced) (ForWrite unit address blocks forced) gathered gathered true asked task.command ∙ h.claimed_is;
+  claimed_is = claim_same (numbers_of s) (ForWrite unit address blocks forced) (ForWrite unit address blocks forced) gathered gathered true asked task.command ∙ h.claimed_is;
   is_mended = h.is_mended;
 }
 asked_fits s task (ForUnmap unit) gathered asked h = tt
@@ -133,11 +133,11 @@ awaited s task commands m h = by (nat_le commands (durable s)) h
     by true e = refl
     by false e = no_tag m e
 
-deed_replies : (s : State) (task : Task) (deed : Deed) (m : Message) → IsTied s → task_of task.tag s.tasks ≡ Some task → FitsIn s task deed → claim_of task ≡ claimed_by deed task.command →
+deed_replies : (s : State) (task : Task) (deed : Deed) (m : Message) → IsTied s → task_of task.tag s.tasks ≡ Some task → FitsIn s task deed → claim_of (numbers_of s) task ≡ claimed_by (numbers_of s) deed task.command →
     deed_reply s task deed ≡ Some m → Right s (task_behind (with_moves s (moves_behind task deed)) task (deed_behind task deed))
 deed_replies s task (Gathering purpose gathered asked) m v there fits claim h =
     set_right s task (Gathering purpose gathered true) v there (asked_fits s task purpose gathered asked fits)
-    (let e = claim_same purpose purpose gathered gathered true asked task.command in omega arith)
+    (let e = claim_same (numbers_of s) purpose purpose gathered gathered true asked task.command in omega arith)
 deed_replies s task (Sending blocks sent) m v there fits claim h =
     let one = right_move s (LetGo task.tag sent) v tt tt (omega arith) in
     let two = right_move (with_moves s (LetGo task.tag sent ∷ [])) (WantPage task.tag (sent + 1)) (right_keeps one v) tt tt (omega arith) in
@@ -163,7 +163,7 @@ short_replies s short v fits h =
     let gone : Right s (record s { shorts = without_short short.tag s.shorts }) = One (ClosesShorts (is_short_of short.tag)) (record {
       small = tt;
       layer = tt;
-      tasks = shorts_fewer (shape_of_numbers (numbers_of s)) (length s.accepted) m s.translation.claims (λ (x : Short). not (is_short_of short.tag x)) s.tasks s.shorts v.tasks;
+      tasks = shorts_fewer (numbers_of s) (length s.accepted) m s.translation.claims (λ (x : Short). not (is_short_of short.tag x)) s.tasks s.shorts v.tasks;
     }) in
     Both gone (short_tells (record s { shorts = without_short short.tag s.shorts }) short.awaits (right_keeps gone v) fits.awaits h)
 
@@ -177,7 +177,7 @@ replies_right s m v (inl h) = task_due h.0 h.1 h.2 h.3
         let found = found_task s.tasks k task v.tasks.tasks_differ at in
         let tag = reply_tag s task task.deed m reply in
         let here : task_of (tag_in m) s.tasks ≡ Some task = ap (λ (x : ℕ). task_of x s.tasks) tag ∙ found in
-        let fits = task_fits_at (shape_of_numbers (numbers_of s)) (length s.accepted) (is_mended s.translation.work.mending) s.tasks k task v.tasks.deeds at in
+        let fits = task_fits_at (numbers_of s) (length s.accepted) (is_mended s.translation.work.mending) s.tasks k task v.tasks.deeds at in
         subst (λ (x : Option Task). Right s (replied_by s (tag_in m) x)) (sym here) (deed_replies s task task.deed m v found fits refl reply)
 replies_right s m v (inr h) = short_due h.0 h.1 h.2 h.3 h.4
   where

@@ -8,9 +8,10 @@ use Rattle.ufs_spec.specs.Keys.{CanApplyAll, Group, IsCommand, group_of, groups_
 use Rattle.ufs_spec.specs.Ledger.{accepted_groups}
 use Rattle.ufs_spec.specs.Machine.{claimed_by, deed_locked, durable, fill_moves, fills, is_durable, is_to_fill, lock_applied, short_locked, task_filled, task_locked, with_moves}
 use Rattle.ufs_spec.specs.Moves.{Accept, EndJob, IsAllowedMove, LetGoAll, Move, GiveJob, TakeStep, moved}
-use Rattle.ufs_spec.specs.Plain.{CanApply, Plain, Shape, after, apply, shape_of, shape_of_numbers}
+use Rattle.ufs_spec.specs.Plain.{CanApply, Plain, after, apply, shape_of}
 use Rattle.ufs_spec.specs.Refusals.{State, locked, numbers_of, plain_now}
 use Rattle.ufs_spec.specs.Translation.{Translation, is_mended}
+use Rattle.ufs_spec.specs.declared.configs.Numbers.{Numbers}
 use Rattle.power_loss.specs.Exchange.{DeedFits, IsTied, ShortFits, TasksAreRight, TasksRight, claim_of}
 use Rattle.power_loss.proofs.FittingMoves.{move_fits, move_stays}
 use Rattle.power_loss.proofs.TaskLists.{KeepsTasks, shorts_kept, tasks_kept}
@@ -120,28 +121,28 @@ right_move s move v small may claims = One (Moves move) (record {
 
 -- The lock
 
-locked_fits : (s : State) (sh : Shape) (a : ℕ) (m : Bool) (task : Task) (deed : Deed) → DeedFits sh a m (claimed_by deed task.command) task.length deed →
-    DeedFits sh a m (claimed_by (deed_locked s task deed) task.command) task.length (deed_locked s task deed)
-locked_fits s sh a m task (Gathering purpose gathered asked) h = h
-locked_fits s sh a m task (Sending blocks sent) h = h
-locked_fits s sh a m task (SendingBytes bytes) h = h
-locked_fits s sh a m task (Awaiting commands) h = by (nat_le commands (durable s))
+locked_fits : (s : State) (n : Numbers) (a : ℕ) (m : Bool) (task : Task) (deed : Deed) → DeedFits n a m (claimed_by n deed task.command) task.length deed →
+    DeedFits n a m (claimed_by n (deed_locked s task deed) task.command) task.length (deed_locked s task deed)
+locked_fits s n a m task (Gathering purpose gathered asked) h = h
+locked_fits s n a m task (Sending blocks sent) h = h
+locked_fits s n a m task (SendingBytes bytes) h = h
+locked_fits s n a m task (Awaiting commands) h = by (nat_le commands (durable s))
   where
-    by : (b : Bool) → DeedFits sh a m (claimed_by (if b then Awaiting commands else Answering write_error task.length) task.command) task.length (if b then Awaiting commands else Answering write_error task.length)
+    by : (b : Bool) → DeedFits n a m (claimed_by n (if b then Awaiting commands else Answering write_error task.length) task.command) task.length (if b then Awaiting commands else Answering write_error task.length)
     by true = h
     by false = tt
-locked_fits s sh a m task (Answering status carried) h = h
+locked_fits s n a m task (Answering status carried) h = h
 
-locked_claims : (s : State) (task : Task) (deed : Deed) → claimed_by (deed_locked s task deed) task.command ≤ claimed_by deed task.command
-locked_claims s task (Gathering purpose gathered asked) = omega arith
-locked_claims s task (Sending blocks sent) = omega arith
-locked_claims s task (SendingBytes bytes) = omega arith
-locked_claims s task (Awaiting commands) = by (nat_le commands (durable s))
+locked_claims : (n : Numbers) (s : State) (task : Task) (deed : Deed) → claimed_by n (deed_locked s task deed) task.command ≤ claimed_by n deed task.command
+locked_claims n s task (Gathering purpose gathered asked) = omega arith
+locked_claims n s task (Sending blocks sent) = omega arith
+locked_claims n s task (SendingBytes bytes) = omega arith
+locked_claims n s task (Awaiting commands) = by (nat_le commands (durable s))
   where
-    by : (b : Bool) → claimed_by (if b then Awaiting commands else Answering write_error task.length) task.command ≤ claimed_by (Awaiting commands) task.command
+    by : (b : Bool) → claimed_by n (if b then Awaiting commands else Answering write_error task.length) task.command ≤ claimed_by n (Awaiting commands) task.command
     by true = omega arith
     by false = omega arith
-locked_claims s task (Answering status carried) = omega arith
+locked_claims n s task (Answering status carried) = omega arith
 
 short_fits : (s : State) (a : ℕ) (m : Bool) (x : Short) → ShortFits a m x → ShortFits a m (short_locked s x)
 short_fits s a m x h = by (is_durable s x.awaits)
@@ -153,8 +154,8 @@ short_fits s a m x h = by (is_durable s x.awaits)
 pub lock_right : (s : State) → IsTied s → Right s (lock_applied s)
 lock_right s v = by (locked s)
   where
-    sh : Shape
-    sh = shape_of_numbers (numbers_of s)
+    n : Numbers
+    n = numbers_of s
 
     a : ℕ
     a = length s.accepted
@@ -162,9 +163,9 @@ lock_right s v = by (locked s)
     m : Bool
     m = is_mended s.translation.work.mending
 
-    tasks : TasksRight sh a m s.translation.claims (map (task_locked s) s.tasks) s.shorts
-    tasks = tasks_kept sh a m s.translation.claims (task_locked s) s.tasks s.shorts
-        (record { tag = λ t. refl; fits = λ t h. locked_fits s sh a m t t.deed h; claim = λ t. locked_claims s t t.deed })
+    tasks : TasksRight n a m s.translation.claims (map (task_locked s) s.tasks) s.shorts
+    tasks = tasks_kept n a m s.translation.claims (task_locked s) s.tasks s.shorts
+        (record { tag = λ t. refl; fits = λ t h. locked_fits s n a m t t.deed h; claim = λ t. locked_claims n s t t.deed })
         v.tasks
 
     by : (b : Bool) → Right s (if b then record s { tasks = map (task_locked s) s.tasks; shorts = map (short_locked s) s.shorts } else s)
@@ -173,7 +174,7 @@ lock_right s v = by (locked s)
         (One (MapsShorts (short_locked s)) (record {
           small = lock_short s;
           layer = tt;
-          tasks = shorts_kept sh a m s.translation.claims (short_locked s) (map (task_locked s) s.tasks) s.shorts
+          tasks = shorts_kept n a m s.translation.claims (short_locked s) (map (task_locked s) s.tasks) s.shorts
               (record { tag = lock_short s; fits = short_fits s a m }) tasks;
         }))
     by false = Still
@@ -187,20 +188,20 @@ filling_right s (task ∷ tasks) v =
     Both go (filling_right (with_moves s (LetGoAll task.tag ∷ [])) tasks (right_keeps go v))
 
 -- a task that fills a register stays the same but for its request
-filled_keeps : (s : State) (sh : Shape) (a : ℕ) (m : Bool) → KeepsTasks sh a m (task_filled s)
-filled_keeps s sh a m = record { tag = λ t. tag t (is_to_fill s t); fits = λ t. fits t (is_to_fill s t); claim = λ t. claim t (is_to_fill s t) }
+filled_keeps : (s : State) (n : Numbers) (a : ℕ) (m : Bool) → KeepsTasks n a m (task_filled s)
+filled_keeps s n a m = record { tag = λ t. tag t (is_to_fill s t); fits = λ t. fits t (is_to_fill s t); claim = λ t. claim t (is_to_fill s t) }
   where
     tag : (t : Task) (b : Bool) → (if b then record t { request = filled t.request } else t).tag ≡ t.tag
     tag t true = refl
     tag t false = refl
 
-    fits : (t : Task) (b : Bool) → DeedFits sh a m (claim_of t) t.length t.deed →
-        DeedFits sh a m (claim_of (if b then record t { request = filled t.request } else t)) (if b then record t { request = filled t.request } else t).length
+    fits : (t : Task) (b : Bool) → DeedFits n a m (claim_of n t) t.length t.deed →
+        DeedFits n a m (claim_of n (if b then record t { request = filled t.request } else t)) (if b then record t { request = filled t.request } else t).length
         (if b then record t { request = filled t.request } else t).deed
     fits t true h = h
     fits t false h = h
 
-    claim : (t : Task) (b : Bool) → claim_of (if b then record t { request = filled t.request } else t) ≤ claim_of t
+    claim : (t : Task) (b : Bool) → claim_of n (if b then record t { request = filled t.request } else t) ≤ claim_of n t
     claim t true = omega arith
     claim t false = omega arith
 
@@ -210,8 +211,8 @@ fills_right s v =
     let u : State = with_moves s (fill_moves (filter (is_to_fill s) s.tasks)) in
     let tied = right_keeps go v in
     let tasks =
-    tasks_kept (shape_of_numbers (numbers_of u)) (length u.accepted) (is_mended u.translation.work.mending) u.translation.claims (task_filled s) u.tasks u.shorts
-    (filled_keeps s (shape_of_numbers (numbers_of u)) (length u.accepted) (is_mended u.translation.work.mending)) tied.tasks in
+    tasks_kept (numbers_of u) (length u.accepted) (is_mended u.translation.work.mending) u.translation.claims (task_filled s) u.tasks u.shorts
+    (filled_keeps s (numbers_of u) (length u.accepted) (is_mended u.translation.work.mending)) tied.tasks in
     Both go
     (Both (One (Maps (task_filled s)) (record { small = fills_task s; layer = tt; tasks = tasks }))
     (One (SetsRegisters (fills s).registers) (record { small = tt; layer = tt; tasks = tasks })))

@@ -10,7 +10,6 @@ use Rattle.ufs_spec.specs.Exchanges.{Short, Task, is_short_of, is_task_of, short
 use Rattle.ufs_spec.specs.Lives.{Leads, Life, held}
 use Rattle.ufs_spec.specs.Machine.{Answer, Reply, Call, Due, Faulty, Done, OfDone, Take, OfTake, OfHost, Host, OfReply, Spelled, Turn, OfTurn, behind, ends_with, given, heard, is_aborted, is_durable, lock_applied, managed, observe, query_unanswered, replied_by, service, short_locked, short_replied, tag_in, task_locked, read_noted_behind, without_tasks, fills}
 use Rattle.ufs_spec.specs.Moves.{Ending, ReadRight, ReadWrong, WentWell, WentWrong}
-use Rattle.ufs_spec.specs.Stages.{manages_tasks}
 use Rattle.ufs_spec.specs.Refusals.{State, locked}
 use Rattle.ufs_spec.specs.Translation.{is_mended}
 use Rattle.ufs_spec.specs.declared.events.Event.{Event}
@@ -52,7 +51,7 @@ adds_leaves tag s t adds = record { same = λ x h. ap (find (is_short_of tag)) a
 -- Messages
 
 managed_shorts : (s : State) (lun function meant : ℕ) → (managed s lun function meant).shorts ≡ s.shorts
-managed_shorts s lun function meant = by manages_tasks
+managed_shorts s lun function meant = by (service s lun function meant == 0x00)
   where
     by : (b : Bool) → (if b then without_tasks s (is_aborted lun function meant) else s).shorts ≡ s.shorts
     by true = refl

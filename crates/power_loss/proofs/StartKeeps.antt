@@ -1,5 +1,6 @@
 -- Until the first mark of a life is finished, exactly what the life wrote is not finished.
 use Rattle.std.proofs.Common.{◌≡◌, ◌≢◌, ℕ, ◌<◌, ◌≤◌, ◌⊎◌, ◌&&◌, is_none, if◌then◌else◌, Bool, true, false, List, [], ◌∷◌, Option, Some, None, refl, sym, ap, ◌∙◌, inl, inr, ⊎_elim, arith}
+use Rattle.ufs_spec.proofs.Facts.{false≢true}
 use Rattle.ufs_spec.specs.Cells.{Cell, Cells, GroupPage, Mark, MarkPage, Nothing}
 use Rattle.ufs_spec.specs.Disk.{Erasing, Flight, ForNobody, ForRest, ForStep, ForTask, Programming, Reader, Reading, Spot, at_place, erase_failed, erased, program_failed, spot_of}
 use Rattle.ufs_spec.specs.Kept.{IsKept, IsNewestMark, fence_in, recorded_in}
@@ -196,7 +197,7 @@ less_start t die s left job by = record {
 
 end_start : (t : Translation) (die : ℕ) (flight : Option Flight) (ending : Ending) → Valid t → t.disk.flights die ≡ flight → MayEnd t.disk die flight ending → IsStartRight t →
     IsStartRight (end_flight t die flight ending)
-end_start t die None ending v job may st = absurd may
+end_start t die None ending v job may st = absurd (false≢true may.0)
 end_start t die (Some (Reading reader place)) ReadRight v job may st = not_more t (read_right (die_idle t die) reader) (right_same t die reader) st
 end_start t die (Some (Reading reader place)) ReadWrong v job may st = not_more t (read_wrong (die_idle t die) reader) (wrong_same t die reader) st
 end_start t die (Some (Programming p Nothing)) ending v job may st = absurd (v.flights.something die p job)
@@ -206,23 +207,23 @@ end_start t die (Some (Programming p (GroupPage tag body))) WentWell v job may s
     page_mark : (tag : Tag) (body : List ℕ) (m : Mark) → GroupPage tag body ≡ MarkPage m → ⊥
     page_mark tag body m e = cc
 end_start t die (Some (Programming p (GroupPage tag body))) (WentWrong left) v job may st =
-    failed_start t die p (GroupPage tag body) left v job (program_left t.disk die p (GroupPage tag body) left job may) st
+    failed_start t die p (GroupPage tag body) left v job (program_left t.disk die p (GroupPage tag body) left job may.1) st
 end_start t die (Some (Programming p (MarkPage m))) WentWell v job may st = λ unmarked.
     absurd (true_false (sym (marked_behind t.work.mending) ∙ unmarked))
 end_start t die (Some (Programming p (MarkPage m))) (WentWrong left) v job may st =
     again_start (record t { disk = program_failed t.disk p left }) m.fence
-    (failed_start t die p (MarkPage m) left v job (program_left t.disk die p (MarkPage m) left job may) st)
+    (failed_start t die p (MarkPage m) left v job (program_left t.disk die p (MarkPage m) left job may.1) st)
 end_start t die (Some (Erasing s)) WentWell v job may st = not_more t (record t { disk = erased t.disk s }) (erased_same t s) st
 end_start t die (Some (Erasing s)) (WentWrong left) v job may st =
-    not_more t (record t { disk = erase_failed t.disk s left }) (less_start t die s left job (erase_left t.disk die s left job may)) st
-end_start t die (Some (Reading reader place)) WentWell v job may st = absurd may
-end_start t die (Some (Reading reader place)) (WentWrong left) v job may st = absurd may
-end_start t die (Some (Programming p (GroupPage tag body))) ReadRight v job may st = absurd may
-end_start t die (Some (Programming p (GroupPage tag body))) ReadWrong v job may st = absurd may
-end_start t die (Some (Programming p (MarkPage m))) ReadRight v job may st = absurd may
-end_start t die (Some (Programming p (MarkPage m))) ReadWrong v job may st = absurd may
-end_start t die (Some (Erasing s)) ReadRight v job may st = absurd may
-end_start t die (Some (Erasing s)) ReadWrong v job may st = absurd may
+    not_more t (record t { disk = erase_failed t.disk s left }) (less_start t die s left job (erase_left t.disk die s left job may.1)) st
+end_start t die (Some (Reading reader place)) WentWell v job may st = absurd (false≢true may.0)
+end_start t die (Some (Reading reader place)) (WentWrong left) v job may st = absurd (false≢true may.0)
+end_start t die (Some (Programming p (GroupPage tag body))) ReadRight v job may st = absurd (false≢true may.0)
+end_start t die (Some (Programming p (GroupPage tag body))) ReadWrong v job may st = absurd (false≢true may.0)
+end_start t die (Some (Programming p (MarkPage m))) ReadRight v job may st = absurd (false≢true may.0)
+end_start t die (Some (Programming p (MarkPage m))) ReadWrong v job may st = absurd (false≢true may.0)
+end_start t die (Some (Erasing s)) ReadRight v job may st = absurd (false≢true may.0)
+end_start t die (Some (Erasing s)) ReadWrong v job may st = absurd (false≢true may.0)
 
 pub move_start : (t : Translation) (move : Move) → Valid t → IsAllowedMove t move → IsStartRight t → IsStartRight (moved t move)
 move_start t (Claim count) v may st = not_more t (moved t (Claim count)) (record { unmarked = λ h. h; newest = refl; low = refl; finished = λ p. refl; cells = λ p. inl refl }) st

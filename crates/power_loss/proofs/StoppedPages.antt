@@ -33,23 +33,32 @@ marked_pages = mark_there ∷ []
 abbrev written_pages : List ℕ → List Standing
 written_pages body = at 0 0 1 (write_page 1 0xFF 0 body) ∷ marked_pages
 
-pub marked_cells : Cells
+unfoldable pub marked_cells : Cells
 marked_cells = cells_of marked_pages
 
 pub written_cells : List ℕ → Cells
 written_cells body = cells_of (written_pages body)
 
-turned_place : (p q : Place) → same_place p q ≡ same_place q p
+pub turned_place : (p q : Place) → same_place p q ≡ same_place q p
 turned_place p q =
     ⊎_elim
     (λ h. ap (λ (r : Place). same_place r q) h.1 ∙ ap (same_place q) (sym h.1))
     (λ h. h.0 ∙ sym (⊎_elim (λ k. absurd (h.1 (sym k.1))) (λ k. k.0) (place_cases q p)))
     (place_cases p q)
 
-marked_either : (b d : Bool) (x : Cell) → (if b then x else if d then Nothing else Nothing) ≡ (if b then x else Nothing)
+pub marked_either : (b d : Bool) (x : Cell) → (if b then x else if d then Nothing else Nothing) ≡ (if b then x else Nothing)
 marked_either true d x = refl
 marked_either false true x = refl
 marked_either false false x = refl
+
+-- nothing stands outside the mark's page
+pub outside_mark : (p : Place) → (p.die ≡ 0 → ⊥) → marked_cells p ≡ Nothing
+unfolding marked_cells
+outside_mark p other =
+    ⊎_elim
+    (λ h. absurd (other (sym (ap (λ (q : Place). q.die) h.1))))
+    (λ h. ap (λ (b : Bool). if b then MarkPage (first_mark row) else Nothing) h.0)
+    (place_cases (place_of 0) p)
 
 pub unwritten : marked_cells (place_of 1) ≡ Nothing
 unfolding marked_cells

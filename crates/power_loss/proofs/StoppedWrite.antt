@@ -48,6 +48,7 @@ use Rattle.power_loss.proofs.LeftoverLists.{first_contained, one_apart, only_con
 use Rattle.power_loss.proofs.OneMore.{at_place_cases}
 use Rattle.power_loss.proofs.RunLives.{more}
 use Rattle.power_loss.proofs.RunStops.{run_leaves}
+use Rattle.power_loss.proofs.StoppedLives.{base_after, opens_after, put_shown, run_after, start_zero, torn_shown, valid_after, zero_found}
 use Rattle.power_loss.proofs.StoppedPages.{marked_cells, marked_stands, put_cells, unwritten, writing_cells, written_cells, written_stands}
 
 -- A stop while one page is programmed
@@ -77,37 +78,7 @@ module _ (s : State) (p : Place) (cell : Cell) (page : Page)
     crash = crash_of_page s.array s.translation.disk.flights p cell page flies may;
   }
 
--- What pages show
-
-put_shown : (array : Array) (cells : Cells) (p : Place) (page : Page) (x : Cell) → Shows array cells → IsCell page x →
-    Shows (at_place array p page) (at_place cells p x)
-put_shown array cells p page x shown is q = by _
-  where
-    by : (b : Bool) → IsCell (if b then page else array q) (if b then x else cells q)
-    by true = is
-    by false = shown q
-
--- a page that does not open may stand where nothing stood
-torn_shown : (array : Array) (cells : Cells) (p : Place) (page : Page) → Shows array cells → cells p ≡ Nothing →
-    (IsCheckRight page → ⊥) →
-    Shows (at_place array p page) cells
-torn_shown array cells p page shown none wrong q =
-    ⊎_elim
-    (λ h. subst (λ (x : Page). IsCell x (cells q)) (sym h.1)
-    (subst (IsCell page) (sym (ap cells h.0 ∙ none)) (λ tag body o hold. wrong (opened_check page tag body o))))
-    (λ h. subst (λ (x : Page). IsCell x (cells q)) (sym h.1) (shown q))
-    (at_place_cases array p page q)
-
 -- The life
-
-life_runs : (n : Numbers) (s t : State) (es : List Event) (os : List Output) → Life s es os t → Runs n s es os t
-life_runs n s t [] [] life = life
-life_runs n s t (e ∷ es) (o ∷ os) life = (life.0, inl life.1, life_runs n life.0 t es os life.2)
-life_runs n s t [] (o ∷ os) life = absurd life
-life_runs n s t (e ∷ es) [] life = absurd life
-
-row_is : IsConfig row
-row_is = refl
 
 abbrev the_command : List ℕ → Command
 the_command body = Write 0 0xFF (body ∷ [])
@@ -133,13 +104,9 @@ module _ (body : List ℕ) (long : length body ≡ 4096) (write block : Vec ℕ)
   unfolding t
   lived = write_life s n body long write block w b
 
-  may : MayBeOpened row n.array
-  may = record { inside = λ p out. n.blank p; sound = new_sound n.array n.blank; suits = new_suits row n.array n.blank }
-
   pub write_valid : ValidState (state_15 s body)
   write_valid =
-      event_keeps_many s (state_15 s body) (write_events write block) (write_outputs body)
-      (opened_valid row n.array n.bad s row_is may.inside may.sound n.opened) (write_life s n body long write block w b)
+      valid_after s n (state_15 s body) (write_events write block) (write_outputs body) (write_life s n body long write block w b)
 
   valid : ValidState t
   unfolding t
@@ -147,17 +114,12 @@ module _ (body : List ℕ) (long : length body ≡ 4096) (write block : Vec ℕ)
 
   -- what is known at the stop
 
-  start_zero : s.base ≡ zero row
-  start_zero =
-      plain_one one_cell same_contents row n.array s.base (zero row) may.sound n.opened.stands
-      (new_stands_for_zero new_shape new_plain new_zeros row n.array n.blank)
-
   same_base : (writing o body).base ≡ s.base
   unfolding writing o marked_array erased_array
   same_base = refl
 
   base : t.base ≡ zero row
-  base = ap (λ (x : State). x.base) is ∙ same_base ∙ start_zero
+  base = ap (λ (x : State). x.base) is ∙ same_base ∙ start_zero s n
 
   accepted : t.accepted ≡ the_command body ∷ []
   unfolding writing
@@ -183,17 +145,11 @@ module _ (body : List ℕ) (long : length body ≡ 4096) (write block : Vec ℕ)
       (shows : Shows (left t.array) c) (stands : CellsStandFor row c p) (k : ℕ)
       (is_prefix : p ≡ after t.base (take k t.accepted))
       (found : List ℕ) (has : block_at 0 0xFF p ≡ found) where
-    leaves : MayBeOpened row (left t.array)
-    leaves =
-        run_leaves row n.array n.bad s t (write_events write block) (write_outputs body) row_is may n.opened
-        (life_runs row s t (write_events write block) (write_outputs body) lived) lefts.items (left t.array) stops
-
     next : (u : State) × IsOpened row (left t.array) (bad_in t) u
-    next = any_opens row (left t.array) (bad_in t) leaves.inside leaves.sound leaves.suits
+    next = opens_after s n t (write_events write block) (write_outputs body) lived lefts (left t.array) stops
 
     base_is : (u : State) (bad : Spot → Bool) → IsOpened row (left t.array) bad u → u.base ≡ p
-    base_is u bad opened =
-        plain_one one_cell same_contents row (left t.array) u.base p leaves.sound opened.stands (c, shows, stands)
+    base_is = base_after s n t (write_events write block) (write_outputs body) lived lefts (left t.array) stops c p shows stands
 
     stopped : IsStoppedWrite body write block lefts left k found
     stopped = record {
@@ -208,15 +164,10 @@ module _ (body : List ℕ) (long : length body ≡ 4096) (write block : Vec ℕ)
       stops = stops;
       next = next.0;
       opened = next.1;
-      runs = more row s t next.0 (write_events write block) (write_outputs body) (event.Stop lefts) output.Stopped
-          (life_runs row s t (write_events write block) (write_outputs body) lived) (inr (left t.array, stops, next.1));
+      runs = run_after s n t (write_events write block) (write_outputs body) lived lefts (left t.array) stops next.0 next.1;
       prefix = λ u bad opened. base_is u bad opened ∙ is_prefix;
       block_found = ap (block_at 0 0xFF) (base_is next.0 (bad_in t) next.1) ∙ has;
     }
-
-  -- the block of a new device
-  zero_found : block_at 0 0xFF (zero row) ≡ zero_block
-  zero_found = new_zeros row (data_key 0 0xFF) (IsData 0 0xFF (omega arith) (omega arith))
 
   abbrev intended : Cell
   intended = write_page 1 0xFF 0 body

@@ -20,6 +20,7 @@ use Rattle.power_loss.proofs.Begins.{CellRight, IsMarkedOnce, begins}
 use Rattle.power_loss.proofs.Changes.{Change, lost_pages}
 use Rattle.power_loss.proofs.OneMore.{at_die_is, at_spot_is, spot_cases}
 use Rattle.power_loss.proofs.Owed.{EraseOwed, erase_owed, idle_below, place_owed, program_owed}
+use Rattle.power_loss.proofs.ReadsKept.{reads_erase_begun}
 use Rattle.power_loss.proofs.Secures.{at_spot_here, at_spot_other, keeps_erase_begun}
 use Rattle.power_loss.proofs.Waits.{MarkWaits, PageWaits, name_cell_waits, step_cell_waits}
 
@@ -60,6 +61,7 @@ erase_change t die s v o = record {
   freed = λ a h. h;
   spent = λ a h. ⊎_elim (λ k. inl (ap t.disk.blocks k.0 ∙ o.free)) (λ k. inr k.1) (at_spot_is t.disk.erasing s true a true h);
   victims = λ a h. h;
+  reads = reads_erase_begun t.disk.cells t.disk.finished t.disk.erasing t.disk.flights die s o.inside.at_home v.reads;
 }
   where
     flew : (other : ℕ) (p : Place) (cell : Cell) → at_die t.disk.flights die (Some (Erasing s)) other ≡ Some (Programming p cell) →

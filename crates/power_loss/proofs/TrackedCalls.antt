@@ -10,9 +10,7 @@ use Rattle.ufs_spec.specs.Disk.{Erasing, Flight, ForNobody, ForRest, ForStep, Fo
 use Rattle.ufs_spec.specs.Exchanges.{Answering, Awaiting, Deed, Gathering, ReadState, NotRead, Sending, Short, Task, SendingBytes, WasRead, is_asked_of, is_short_of, is_task_of, short_reply, task_of, with_deed, without_task, filled}
 use Rattle.ufs_spec.specs.Machine.{Allowed, Answer, Reply, Call, Faulty, Done, OfDone, Take, OfTake, OfHost, Host, OfReply, Spelled, Turn, OfTurn, asked_fault, behind, data_heard, deed_behind, ends_with, given, heard, is_aborted, lock_applied, managed, message_fault, moves_behind, observe, query_unanswered, read_noted, replied_by, service, short_locked, short_replied, tag_in, task_behind, task_locked, task_read, task_replied, read_noted_behind, with_moves, with_short, without_tasks, fills, is_to_fill, task_filled}
 use Rattle.ufs_spec.specs.Moves.{Ending, ReadRight, ReadWrong, WentWell, WentWrong}
-use Rattle.ufs_spec.specs.Stages.{manages_tasks}
 use Rattle.ufs_spec.specs.Refusals.{State, locked, numbers_of}
-use Rattle.ufs_spec.specs.Plain.{shape_of_numbers}
 use Rattle.ufs_spec.specs.Translation.{is_mended}
 use Rattle.ufs_spec.specs.declared.events.Event.{Event}
 use Rattle.ufs_spec.specs.declared.events.Output.{Output}
@@ -79,7 +77,7 @@ left_same tag q (x ∷ xs) task differ still h = by (is_task_of tag x) (q x) ref
 managed_same : (s : State) (lun function meant tag : ℕ) (task : Task) → TasksDiffer s.tasks →
     is_some (task_of tag (managed s lun function meant).tasks) ≡ true → task_of tag s.tasks ≡ Some task →
     task_of tag (managed s lun function meant).tasks ≡ Some task
-managed_same s lun function meant tag task differ still h = by manages_tasks still
+managed_same s lun function meant tag task differ still h = by (service s lun function meant == 0x00) still
   where
     is : Task → Bool
     is = is_aborted lun function meant
@@ -107,7 +105,7 @@ data_comes p tag bytes s lun other offset more v fault grows h = by (other == ta
         let at : task_of other s.tasks ≡ Some h.task = ap (λ (n : ℕ). task_of n s.tasks) same ∙ h.there in
         let own : h.task.tag ≡ tag = eq_told h.task.tag tag (found_is (is_task_of tag) s.tasks h.task h.there) in
         let here : task_of h.task.tag s.tasks ≡ Some h.task = ap (λ (n : ℕ). task_of n s.tasks) own ∙ h.there in
-        let fits = (found_fits (shape_of_numbers (numbers_of s)) (length s.accepted) m tag s.tasks h.task v.tasks.deeds h.there).0 in
+        let fits = (found_fits (numbers_of s) (length s.accepted) m tag s.tasks h.task v.tasks.deeds h.there).0 in
         let is = subst (λ (x : Option Task). is_asked_of x lun offset (length more) ≡ true) at (no_offence (is_asked_of (task_of other s.tasks) lun offset (length more)) fault) in
         subst (λ (x : Option Task). TrackedIn p tag (bytes ++ more) (data_heard s x more)) (sym at)
         (subst (λ (n : ℕ). TrackedIn p n (bytes ++ more) (data_heard s (Some h.task) more)) own

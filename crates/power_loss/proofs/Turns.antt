@@ -1,12 +1,13 @@
 -- A step of mending or of collection that is ordered keeps a life valid.
-use Rattle.std.proofs.Common.{◌≡◌, ◌&&◌, if◌then◌else◌, is_none, Bool, true, false, List, [], ◌∷◌, Option, Some, None, refl, sym, ap, ◌∙◌, subst}
+use Rattle.std.proofs.Common.{◌≡◌, ◌&&◌, if◌then◌else◌, is_none, All, Bool, true, false, List, [], ◌∷◌, Option, Some, None, refl, sym, ap, ◌∙◌, subst}
 use Rattle.ufs_spec.specs.Disk.{Spot}
 use Rattle.ufs_spec.specs.Translation.{Mended, Mending, Order, OrderMark, OrderPlanMark, OrderRepair, Plan, Repairing, Step, Translation, Unmarked, has_mark_number, has_number, live_places, next_order, plan_order, stepped, turned, victim, victim_order, wants_collection, with_plan}
 use Rattle.ufs_spec.specs.declared.flash.Fence.{Fence}
 use Rattle.ufs_spec.specs.declared.flash.Key.{Key}
 use Rattle.ufs_spec.specs.declared.flash.Place.{Place}
-use Rattle.power_loss.specs.Invariant.{FenceRight, Valid}
+use Rattle.power_loss.specs.Invariant.{FenceRight, IsNeededPage, Valid}
 use Rattle.power_loss.proofs.Books.{none_some, some_is}
+use Rattle.power_loss.proofs.LiveNeeded.{live_needed}
 use Rattle.power_loss.proofs.Orders.{copies_ordered, marks_ordered, plan_with, plans, repairs_ordered}
 use Rattle.power_loss.proofs.Victims.{victim_plan}
 
@@ -45,7 +46,11 @@ victim_steps : (t : Translation) (o : Option Spot) → Valid t → t.work.step �
 victim_steps t None v none mended is = v
 victim_steps t (Some s) v none mended is =
     plan_steps t s (live_places t s) v
-    (plans t (plan_with s (live_places t s)) t.work.step v none mended (victim_plan t s v none mended is) (record { kind = λ x h. absurd (none_some x (sym none ∙ h)) }))
+    (plans t (plan_with s (live_places t s)) t.work.step v none mended (victim_plan t s v none mended is) (record { kind = λ x h. absurd (none_some x (sym none ∙ h)) })
+    (record {
+      wanted = v.to_read.wanted;
+      copied = λ pl e. subst (λ (x : Plan). All (IsNeededPage t.disk.cells t.disk.finished t.disk.blocks t.disk.erasing) x.copies) (some_is (plan_with s (live_places t s)) pl e) (live_needed t s v mended);
+    }))
     none mended
 
 -- a plan may begin whatever collection waits for

@@ -3,7 +3,7 @@
 use Rattle.std.specs.Prelude.{◌≡◌, ℕ, ◌+◌, ◌*◌, ◌<◌, ◌≤◌, ◌^◌, Bool, true, false, List, [], ◌∷◌, length, Option, Some, None, slice_index_or}
 use Rattle.std.specs.List.{list_any}
 use Rattle.ufs_spec.specs.Cells.{Array, Cell, DataHold, IsCell, IsPlace, Opens, Shows}
-use Rattle.ufs_spec.specs.Configs.{IsConfig}
+use Rattle.ufs_spec.specs.Configs.{IsConfig, command_blocks}
 use Rattle.ufs_spec.specs.Dies.{blank_page}
 use Rattle.ufs_spec.specs.Disk.{Erasing, Programming, Spot, page_of}
 use Rattle.ufs_spec.specs.Exchanges.{Awaiting, Deed, ForWrite, Gathering, Short, Task, is_short_of, is_task_of}
@@ -12,7 +12,7 @@ use Rattle.ufs_spec.specs.Ledger.{Entry, accepted_groups, before_accepted}
 use Rattle.ufs_spec.specs.Machine.{Call, Done, Host, IsHeard, MayLeave, claimed_by, tag_in}
 use Rattle.ufs_spec.specs.Messages.{AreBytes}
 use Rattle.ufs_spec.specs.Pages.{group_bound}
-use Rattle.ufs_spec.specs.Plain.{Shape, shape_of, shape_of_numbers}
+use Rattle.ufs_spec.specs.Plain.{shape_of, shape_of_numbers}
 use Rattle.ufs_spec.specs.Refusals.{State, numbers_of}
 use Rattle.ufs_spec.specs.Translation.{is_mended}
 use Rattle.ufs_spec.specs.declared.configs.Numbers.{Numbers}
@@ -40,11 +40,11 @@ pub record BookFits (b : Book) : Type 0 where
 
 -- a WRITE that gathers its data lies within its unit, and has less than its length; it is there once the device is
 -- mended alone, and has claimed a slot for each block
-pub record WriteFits (s : Shape) (mended : Bool) (unit address blocks total : ℕ) (gathered : List ℕ) (claimed : ℕ) : Type 0 where
-  pub unit_in : unit < length s.blocks
+pub record WriteFits (n : Numbers) (mended : Bool) (unit address blocks total : ℕ) (gathered : List ℕ) (claimed : ℕ) : Type 0 where
+  pub unit_in : unit < length (shape_of_numbers n).blocks
   pub some : 1 ≤ blocks
-  pub not_long : blocks ≤ 32
-  pub within : address + blocks ≤ slice_index_or s.blocks unit 0
+  pub not_long : blocks ≤ command_blocks n
+  pub within : address + blocks ≤ slice_index_or (shape_of_numbers n).blocks unit 0
   pub total_is : total ≡ 4096 * blocks
   pub short : length gathered < total
   pub bytes : AreBytes gathered
@@ -55,19 +55,19 @@ pub record WriteFits (s : Shape) (mended : Bool) (unit address blocks total : �
 abbrev pub AwaitsFit : ℕ → Bool → ℕ → Type 0
 AwaitsFit accepted mended commands = (commands ≤ accepted) × (mended ≡ true)
 
-abbrev pub DeedFits : Shape → ℕ → Bool → ℕ → ℕ → Deed → Type 0
-DeedFits s accepted mended claimed total (Gathering (ForWrite unit address blocks forced) gathered asked) =
-    WriteFits s mended unit address blocks total gathered claimed
-DeedFits s accepted mended claimed total (Awaiting commands) = AwaitsFit accepted mended commands
-DeedFits s accepted mended claimed total deed = Unit {0}
+abbrev pub DeedFits : Numbers → ℕ → Bool → ℕ → ℕ → Deed → Type 0
+DeedFits n accepted mended claimed total (Gathering (ForWrite unit address blocks forced) gathered asked) =
+    WriteFits n mended unit address blocks total gathered claimed
+DeedFits n accepted mended claimed total (Awaiting commands) = AwaitsFit accepted mended commands
+DeedFits n accepted mended claimed total deed = Unit {0}
 
-abbrev pub claim_of : Task → ℕ
-claim_of task = claimed_by task.deed task.command
+abbrev pub claim_of : Numbers → Task → ℕ
+claim_of n task = claimed_by n task.deed task.command
 
-abbrev pub DeedsFit : Shape → ℕ → Bool → List Task → Type 0
-DeedsFit s accepted mended [] = Unit {0}
-DeedsFit s accepted mended (task ∷ tasks) =
-    DeedFits s accepted mended (claim_of task) task.length task.deed × DeedsFit s accepted mended tasks
+abbrev pub DeedsFit : Numbers → ℕ → Bool → List Task → Type 0
+DeedsFit n accepted mended [] = Unit {0}
+DeedsFit n accepted mended (task ∷ tasks) =
+    DeedFits n accepted mended (claim_of n task) task.length task.deed × DeedsFit n accepted mended tasks
 
 abbrev pub ShortAwaits : ℕ → Bool → Option ℕ → Type 0
 ShortAwaits accepted mended None = Unit {0}
@@ -97,22 +97,22 @@ AreApart shorts [] = Unit {0}
 AreApart shorts (task ∷ tasks) = (list_any (is_short_of task.tag) shorts ≡ false) × AreApart shorts tasks
 
 -- how many slots the tasks have claimed
-abbrev pub claims_of : List Task → ℕ
-claims_of [] = 0
-claims_of (task ∷ tasks) = claim_of task + claims_of tasks
+abbrev pub claims_of : Numbers → List Task → ℕ
+claims_of n [] = 0
+claims_of n (task ∷ tasks) = claim_of n task + claims_of n tasks
 
-pub record TasksRight (shape : Shape) (accepted : ℕ) (mended : Bool) (claims : ℕ) (tasks : List Task) (shorts : List Short) : Type 0 where
-  pub deeds : DeedsFit shape accepted mended tasks
+pub record TasksRight (n : Numbers) (accepted : ℕ) (mended : Bool) (claims : ℕ) (tasks : List Task) (shorts : List Short) : Type 0 where
+  pub deeds : DeedsFit n accepted mended tasks
   pub waits : ShortsFit accepted mended shorts
   pub tasks_differ : TasksDiffer tasks
   pub shorts_differ : ShortsDiffer shorts
   pub apart : AreApart shorts tasks
   -- what tasks have claimed is claimed
-  pub claimed : claims_of tasks ≤ claims
+  pub claimed : claims_of n tasks ≤ claims
 
 abbrev pub TasksAreRight : State → Type 0
 TasksAreRight s =
-    TasksRight (shape_of_numbers (numbers_of s)) (length s.accepted) (is_mended s.translation.work.mending)
+    TasksRight (numbers_of s) (length s.accepted) (is_mended s.translation.work.mending)
     s.translation.claims s.tasks s.shorts
 
 -- The translation layer is valid, its cells are what the pages show, and its groups are those of the accepted commands

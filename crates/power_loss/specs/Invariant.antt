@@ -2,13 +2,13 @@
 -- leaves these fields keeps the record as it is.
 use Rattle.std.specs.Prelude.{◌≡◌, ◌≢◌, ◌⊎◌, ℕ, suc, ◌+◌, ◌<◌, ◌≤◌, Bool, true, false, All, List, [], length, take, Option, Some, None, slice_get}
 use Rattle.ufs_spec.specs.Cells.{AreWithin, Cell, Cells, GroupPage, IsPlace, Mark, MarkPage, Nothing}
-use Rattle.ufs_spec.specs.Disk.{BlockState, Bad, Closed, Disk, Erasing, Filling, Flight, Free, Programming, Spot, spot_of}
+use Rattle.ufs_spec.specs.Disk.{BlockState, Bad, Closed, Disk, Erasing, Filling, Flight, Free, Programming, Reader, Reading, Spot, spot_of}
 use Rattle.ufs_spec.specs.Keys.{Group, Item, put_groups}
 use Rattle.ufs_spec.specs.Kept.{HoldAll, IsKept, IsNewestMark, recorded_in}
 use Rattle.ufs_spec.specs.Ledger.{Entry, InSlot, Ledger, Looked, Name, OnPage, Unwritten, accepted_groups, before_accepted}
 use Rattle.ufs_spec.specs.Openings.{IsFirstFence, number_of}
 use Rattle.ufs_spec.specs.Sound.{CellsSound, CellsSuit}
-use Rattle.ufs_spec.specs.Translation.{CopyStep, FromPage, FromSlot, MarkStep, Mended, Mending, Pin, Plan, RepairStep, Repairing, Rest, Source, Step, StepKind, Translation, Unmarked, is_mended, name_of, pending_pages}
+use Rattle.ufs_spec.specs.Translation.{CopyStep, FromPage, FromSlot, MarkStep, Mended, Mending, Pin, Plan, RepairStep, Repairing, Rest, Source, Step, StepKind, Translation, Unmarked, Want, is_mended, name_of, pending_pages, wants_of_step}
 use Rattle.ufs_spec.specs.declared.configs.Numbers.{Numbers}
 use Rattle.ufs_spec.specs.declared.flash.Fence.{Fence}
 use Rattle.ufs_spec.specs.declared.flash.Key.{Key}
@@ -320,6 +320,23 @@ SourceRight cells finished erasing (FromSlot name) = Unit {0}
 pub record RestsRight (cells : Cells) (finished : Place → Bool) (erasing : Spot → Bool) (rests : List Rest) : Type 0 where
   pub each : All (λ (rest : Rest). SourceRight cells finished erasing rest.source) rests
 
+-- a read in flight is of a group's page, on its own die
+pub record ReadsRight (cells : Cells) (finished : Place → Bool) (erasing : Spot → Bool) (flights : Flights) : Type 0 where
+  pub at_home : (die : ℕ) (reader : Reader) (place : Place) → flights die ≡ Some (Reading reader place) → place.die ≡ die
+  pub page : (die : ℕ) (reader : Reader) (place : Place) → flights die ≡ Some (Reading reader place) →
+      (name : Name) × IsGroupPage cells finished erasing name place
+
+-- a group's page is there, in a block that is not free
+pub record IsNeededPage (cells : Cells) (finished : Place → Bool) (blocks : Spot → BlockState) (erasing : Spot → Bool) (place : Place) : Type 0 where
+  pub name : Name
+  pub page : IsGroupPage cells finished erasing name place
+  pub needed : blocks (spot_of place) ≢ Free
+
+-- the page that the step under way is still to be read from is there, and so are those that its plan still copies
+pub record ToReadRight (cells : Cells) (finished : Place → Bool) (blocks : Spot → BlockState) (erasing : Spot → Bool) (step : Option Step) (plan : Option Plan) : Type 0 where
+  pub wanted : All (λ (want : Want). IsNeededPage cells finished blocks erasing want.place) (wants_of_step step)
+  pub copied : (pl : Plan) → plan ≡ Some pl → All (IsNeededPage cells finished blocks erasing) pl.copies
+
 -- until the device is mended no page that stands goes
 pub record UnmendedRight (mended : Bool) (standing : Standing) (cells : Cells) (finished : Place → Bool) (blocks : Spot → BlockState) (erasing : Spot → Bool) : Type 0 where
   pub stand : mended ≡ false → (n i : ℕ) (p : Place) → standing n i ≡ Some p → IsSecure standing cells finished blocks erasing n i
@@ -348,6 +365,8 @@ pub record Valid (t : Translation) : Type 0 where
   pub unmended : UnmendedRight (is_mended t.work.mending) t.ledger.standing t.disk.cells t.disk.finished t.disk.blocks t.disk.erasing
   pub pins : PinsRight (book t) t.ledger.frontier t.disk.cells t.disk.finished t.disk.erasing t.pins
   pub rests : RestsRight t.disk.cells t.disk.finished t.disk.erasing t.work.rests
+  pub reads : ReadsRight t.disk.cells t.disk.finished t.disk.erasing t.disk.flights
+  pub to_read : ToReadRight t.disk.cells t.disk.finished t.disk.blocks t.disk.erasing t.work.step t.work.plan
 
 -- What a stop leaves
 

@@ -10,3 +10,4 @@ pub mod Runs
 pub mod OwedJobs
 pub mod Pending
 pub mod StoppedWrites
+pub mod Shown

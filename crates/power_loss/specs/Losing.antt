@@ -18,12 +18,13 @@ is_marked (Unmarked fence lost) = false
 is_marked (Repairing left) = true
 is_marked Mended = true
 
--- until the first mark of the life is finished: exactly what this life wrote is not finished, and of the numbers that the
--- newest mark records those in its fence are lost, and no others
+-- until the first mark of the life is finished: exactly what this life wrote is not finished, and of the numbers that
+-- the newest mark records those in its fence are lost, and no others
 pub record StartsRight (t : Translation) : Type 0 where
   pub unfinished : (p : Place) → t.disk.finished p ≡ false →
       (t.disk.cells p ≡ Nothing) ⊎ ((m : Mark) × (t.disk.cells p ≡ MarkPage m) × (number_of t.ledger.newest < m.number))
-  pub own : (p : Place) (m : Mark) → t.disk.cells p ≡ MarkPage m → number_of t.ledger.newest < m.number → t.disk.finished p ≡ false
+  pub own : (p : Place) (m : Mark) → t.disk.cells p ≡ MarkPage m → number_of t.ledger.newest < m.number →
+      t.disk.finished p ≡ false
   pub fence : (f : Fence) → fence_in t.ledger.newest ≡ Some f → t.ledger.first_lost ≡ f.first
   pub none : fence_in t.ledger.newest ≡ None → recorded_in t.ledger.newest < t.ledger.first_lost
 

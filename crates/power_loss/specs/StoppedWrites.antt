@@ -1,17 +1,20 @@
 -- Worked lives of a new device that is told to write one block with FUA: it is stopped while the block's page is
--- programmed, or the program fails.
-use Rattle.std.specs.Prelude.{◌≡◌, ℕ, Bool, true, List, [], ◌∷◌, ◌++◌, take, Some}
+-- programmed, or while another die erases a block too, or the program fails.
+use Rattle.std.specs.Prelude.{◌≡◌, ◌⊎◌, ℕ, Bool, true, List, [], ◌∷◌, ◌++◌, take, Some}
 use Rattle.std.specs.Global.{Vec}
+use Rattle.std.specs.List.{All}
 use Rattle.ufs_laws.specs.GapRows.{write_page}
-use Rattle.ufs_laws.specs.Runs.{Gets, IsNew, data_program, place_of, row, told, write_events, write_outputs}
+use Rattle.ufs_laws.specs.Runs.{Gets, IsNew, begins, data_program, pending_events, pending_outputs, place_of, row, told, write_events, write_outputs}
 use Rattle.ufs_spec.specs.Cdbs.{fixed_sense}
 use Rattle.ufs_spec.specs.Cells.{Array}
 use Rattle.ufs_spec.specs.Commands.{Write}
-use Rattle.ufs_spec.specs.Disk.{Spot, at_place, page_of, spot_of}
+use Rattle.ufs_spec.specs.Dies.{blank_page}
+use Rattle.ufs_spec.specs.Disk.{Erasing, Flight, Spot, at_place, page_of, spot_of}
 use Rattle.ufs_spec.specs.Exchanges.{sense}
 use Rattle.ufs_spec.specs.Lives.{IsOpened, Leads, Life, Runs, Stops, bad_in, held}
 use Rattle.ufs_spec.specs.Machine.{Reply, OfReply}
-use Rattle.ufs_spec.specs.Plain.{after, block_at, zero}
+use Rattle.ufs_spec.specs.Pages.{IsCheckRight}
+use Rattle.ufs_spec.specs.Plain.{after, block_at, zero, zero_block}
 use Rattle.ufs_spec.specs.Refusals.{State, locked}
 use Rattle.ufs_spec.specs.declared.events.Event.TheVariants as event
 use Rattle.ufs_spec.specs.declared.events.Leftover.TheVariants as leftover
@@ -76,3 +79,34 @@ pub record IsFailedWrite (body : List ℕ) (write block : Vec ℕ) (page : Page)
   pub none_held : held now ≡ 0
   pub none_open : now.tasks ≡ []
   pub still_locked : locked now ≡ true
+
+-- the erase of a block of another die, which waits for the same page
+abbrev pub other_erase : Flight
+other_erase = Erasing (record { die = 1; block = 0 })
+
+-- each of the pages is blank or torn
+abbrev pub AreTorn : List Page → Type 0
+AreTorn pages = All (λ page. (page ≡ blank_page) ⊎ (IsCheckRight page → ⊥)) pages
+
+-- two dies are busy at the stop: one programs the block's page and the other erases a block
+pub record IsTornTwice (body : List ℕ) (write block : Vec ℕ) (lefts : Vec Leftover) : Type 0 where
+  pub start : State
+  pub is_new : IsNew start
+  pub now : State
+  pub life : Life start (pending_events write block ++ event.Take 1 ∷ event.Take 0 ∷ [])
+      (pending_outputs ++ begins other_erase ∷ begins (data_program body) ∷ []) now
+  pub programs : now.translation.disk.flights 0 ≡ Some (data_program body)
+  pub erases : now.translation.disk.flights 1 ≡ Some other_erase
+  pub base : now.base ≡ zero row
+  pub accepted : now.accepted ≡ Write 0 0xFF (body ∷ []) ∷ []
+  pub none_held : held now ≡ 0
+  -- the stop, and the device that opens after it: none of the accepted commands is kept
+  pub left : Array
+  pub stops : Stops now lefts.items left
+  pub next : State
+  pub opened : IsOpened row left (bad_in now) next
+  pub runs : Runs row start ((pending_events write block ++ event.Take 1 ∷ event.Take 0 ∷ []) ++ event.Stop lefts ∷ [])
+      ((pending_outputs ++ begins other_erase ∷ begins (data_program body) ∷ []) ++ output.Stopped ∷ []) next
+  pub prefix : (other : State) (bad : Spot → Bool) → IsOpened row left bad other →
+      other.base ≡ after now.base (take 0 now.accepted)
+  pub block_found : block_at 0 0xFF next.base ≡ zero_block

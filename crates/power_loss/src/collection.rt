@@ -6,8 +6,8 @@ ghost use Rattle.ufs_spec.specs.Stages.{most_bad};
 ghost use Rattle.ufs_spec.specs.Translation.{Plan, Translation, count_blocks, is_bad, is_locked, is_mended, is_step_due, turned, victim};
 ghost use Rattle.power_loss.specs.Collection.{CanBeCollected, IsCollectionDue, IsVictim};
 
-/// The victim is the block that has the fewest live pages of all that can be collected, the lowest of several, and there is
-/// none only if no block can be collected.
+/// The victim is the block that has the fewest live pages of all that can be collected, the lowest of several, and
+/// there is none only if no block can be collected.
 pub fn the_victim_has_the_fewest_live_pages()
     ensures is { (t : Translation) (s : Spot) → victim t ≡ Some s → IsVictim t s }
     ensures none { (t : Translation) (s : Spot) → victim t ≡ None → CanBeCollected t s → ⊥ }
@@ -16,7 +16,8 @@ pub fn the_victim_has_the_fewest_live_pages()
 /// A collection begins exactly when it is due, and it begins with the victim.
 pub fn collection_is_due_when_it_should()
     ensures due { (t : Translation) → IsCollectionDue t → is_step_due t ≡ true }
-    ensures only { (t : Translation) → is_mended t.work.mending ≡ true → t.work.plan ≡ None → is_step_due t ≡ true → IsCollectionDue t }
+    ensures only { (t : Translation) → is_mended t.work.mending ≡ true → t.work.plan ≡ None → is_step_due t ≡ true →
+        IsCollectionDue t }
     ensures begins { (t : Translation) → IsCollectionDue t →
         (plan : Plan) × ((turned t).work.plan ≡ Some plan) × IsVictim t plan.victim }
 {}

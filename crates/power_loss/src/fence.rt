@@ -11,13 +11,14 @@ ghost use Rattle.power_loss.specs.Book.{IsPlainMark, book, last_number};
 ghost use Rattle.power_loss.specs.Invariant.{Valid};
 
 /// A mark without a fence is given to a die only if each key with a lost page has a repair at or under what the mark
-/// records, and it is ordered at last: once no key is left to repair, each repair is durable and the next turn orders it.
-/// With its program mending ends.
+/// records, and it is ordered at last: once no key is left to repair, each repair is durable and the next turn orders
+/// it. With its program mending ends.
 pub fn the_fence_falls_last()
     ensures given { (t : Translation) (die : ℕ) (p : Place) (m : Mark) →
         Valid t → MayTake t die (Some (Programming p (MarkPage m))) → m.fence ≡ None → IsPlainMark (book t) m }
     ensures not_before { (t : Translation) (key : Key) (left : List Key) (number : ℕ) (fence : Option Fence) (step : Step) →
-        Valid t → t.work.mending ≡ Repairing (key ∷ left) → t.work.step ≡ Some step → step.kind ≡ MarkStep number fence → ⊥ }
+        Valid t → t.work.mending ≡ Repairing (key ∷ left) → t.work.step ≡ Some step →
+        step.kind ≡ MarkStep number fence → ⊥ }
     ensures durable { (t : Translation) →
         Valid t → t.work.mending ≡ Repairing [] → t.work.step ≡ None → t.ledger.frontier ≡ last_number (book t) }
     ensures ordered { (t : Translation) →

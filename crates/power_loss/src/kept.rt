@@ -1,10 +1,13 @@
 //! The laws of what is kept: what a task looked up, and where the rest of a page comes from that a command has in part.
 ghost use Rattle.std.specs.Prelude.{◌≡◌, ◌≢◌, ◌<◌, ℕ, Bool, true, false, All, Contains, List, [], Option, Some, slice_get};
-ghost use Rattle.ufs_spec.specs.Cells.{GroupPage, key_of};
-ghost use Rattle.ufs_spec.specs.Disk.{Erasing, ForRest, ForTask, Reading, Spot, spot_of};
+ghost use Rattle.ufs_spec.specs.Cells.{GroupPage, IsCell, Opens, key_of};
+ghost use Rattle.ufs_spec.specs.Disk.{Erasing, ForRest, ForStep, ForTask, Reader, Reading, Spot, spot_of};
 ghost use Rattle.ufs_spec.specs.Keys.{Group, Item};
 ghost use Rattle.ufs_spec.specs.Ledger.{Entry, InSlot, Name, OnPage, entry_of, look, next_number};
+ghost use Rattle.ufs_spec.specs.Moves.{IsEndingOf, ReadRight, ReadWrong};
 ghost use Rattle.ufs_spec.specs.Translation.{FromPage, MayTake, Pin, Rest, Source, Translation, is_in_part, rests_of, source_of};
+ghost use Rattle.ufs_spec.specs.declared.flash.Outcome.TheVariants as outcome;
+ghost use Rattle.ufs_spec.specs.declared.flash.Page.{Page};
 ghost use Rattle.ufs_spec.specs.declared.flash.Place.{Place};
 ghost use Rattle.ufs_spec.specs.declared.flash.Tag.{Tag};
 ghost use Rattle.power_loss.specs.Invariant.{IsGroupPage, Valid};
@@ -45,7 +48,8 @@ pub fn a_rest_keeps_its_page()
         Valid t → MayTake t die (Some (Erasing s)) → Contains t.work.rests rest → rest.source ≡ FromPage place → spot_of place ≢ s }
 {}
 
-/// A read that a die may be given for a task, or for the rest of a page, is of a page of a group.
+/// A read that a die may be given, or does, is of a group's page: so it ends if it gives this page or none of its
+/// key and number, or fails.
 pub fn a_page_that_is_read_is_a_groups()
     ensures task { (t : Translation) (die tag index : ℕ) (place : Place) →
         Valid t → MayTake t die (Some (Reading (ForTask tag index) place)) →
@@ -53,4 +57,26 @@ pub fn a_page_that_is_read_is_a_groups()
     ensures rest { (t : Translation) (die number index : ℕ) (place : Place) →
         Valid t → MayTake t die (Some (Reading (ForRest number index) place)) →
         (page : Tag) × (body : List ℕ) × (t.disk.cells place ≡ GroupPage page body) }
+    ensures step { (t : Translation) (die : ℕ) (place : Place) →
+        Valid t → MayTake t die (Some (Reading ForStep place)) →
+        (page : Tag) × (body : List ℕ) × (t.disk.cells place ≡ GroupPage page body) }
+    ensures flying { (t : Translation) (die : ℕ) (reader : Reader) (place : Place) →
+        Valid t → t.disk.flights die ≡ Some (Reading reader place) →
+        (page : Tag) × (body : List ℕ) × (t.disk.cells place ≡ GroupPage page body) }
+    ensures at_home { (t : Translation) (die : ℕ) (reader : Reader) (place : Place) →
+        Valid t → t.disk.flights die ≡ Some (Reading reader place) → place.die ≡ die }
+    ensures not_erased { (t : Translation) (die other : ℕ) (reader : Reader) (place : Place) (s : Spot) →
+        Valid t → t.disk.flights die ≡ Some (Reading reader place) → MayTake t other (Some (Erasing s)) →
+        spot_of place ≢ s }
+    ensures wanted { (t : Translation) (die : ℕ) (reader : Reader) (place : Place) (page : Page) →
+        t.disk.flights die ≡ Some (Reading reader place) → IsCell page (t.disk.cells place) →
+        IsEndingOf t.disk.cells (t.disk.flights die) (outcome.Read page) ReadRight }
+    ensures another { (t : Translation) (die : ℕ) (reader : Reader) (place : Place) (page : Page) →
+        Valid t → t.disk.flights die ≡ Some (Reading reader place) →
+        ((tag other : Tag) (body bytes : List ℕ) → t.disk.cells place ≡ GroupPage tag body → Opens page other bytes →
+        key_of other ≡ key_of tag → other.number ≡ tag.number → ⊥) →
+        IsEndingOf t.disk.cells (t.disk.flights die) (outcome.Read page) ReadWrong }
+    ensures failed { (t : Translation) (die : ℕ) (reader : Reader) (place : Place) →
+        t.disk.flights die ≡ Some (Reading reader place) →
+        IsEndingOf t.disk.cells (t.disk.flights die) outcome.ReadFailed ReadWrong }
 {}

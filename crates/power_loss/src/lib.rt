@@ -13,6 +13,7 @@ mod pending;
 mod promises;
 mod runs;
 mod settled_slots;
+mod shown;
 mod spellings;
 
 ghost use Rattle.std.specs.Prelude.{◌≡◌, ◌≢◌, ◌+◌, ◌≤◌, ℕ, Bool, true, false, List, Option, Some};
@@ -50,9 +51,10 @@ pub use promises::good_promises_durability;
 pub use runs::{
     a_failed_write_is_answered, a_job_may_fail_at_any_moment, a_run_keeps_the_promise,
     a_stop_may_come_at_any_moment, a_stopped_write_opens, any_sound_array_opens, new_dies_fit,
-    one_array_is_left,
+    one_array_is_left, two_dies_torn_at_once_open,
 };
 pub use settled_slots::a_durable_slot_becomes_its_page;
+pub use shown::kept_content_is_what_is_sent;
 pub use spellings::replies_can_be_spelled;
 
 /// Opening over a sound array gives a valid life.

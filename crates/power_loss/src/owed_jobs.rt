@@ -9,8 +9,8 @@ ghost use Rattle.ufs_spec.specs.declared.flash.Place.{Place};
 ghost use Rattle.ufs_spec.specs.declared.flash.Tag.{Tag};
 ghost use Rattle.power_loss.specs.OwedJobs.{IsFirstProgram, IsStepsPage};
 
-/// While a die programs a page, a copy or a mark, no die is given the same; and while a die does a wanted read, no die is
-/// given a read for the same reader.
+/// While a die programs a page, a copy or a mark, no die is given the same; and while a die does a wanted read, no
+/// die is given a read for the same reader.
 pub fn one_die_each()
     ensures page { (t : Translation) (die other : ℕ) (p q : Place) (tag flying : Tag) (body bytes : List ℕ) →
         MayTake t die (Some (Programming p (GroupPage tag body))) → other < t.numbers.dies →
@@ -19,11 +19,12 @@ pub fn one_die_each()
         MayTake t die (Some (Programming p (MarkPage m))) → other < t.numbers.dies →
         t.disk.flights other ≡ Some (Programming q (MarkPage flying)) → ⊥ }
     ensures read { (t : Translation) (die other : ℕ) (reader : Reader) (p q : Place) →
-        MayTake t die (Some (Reading reader p)) → other < t.numbers.dies → t.disk.flights other ≡ Some (Reading reader q) → ⊥ }
+        MayTake t die (Some (Reading reader p)) → other < t.numbers.dies →
+        t.disk.flights other ≡ Some (Reading reader q) → ⊥ }
 {}
 
-/// A page is programmed for the first time, or it is the page of the step under way and its content is there. A copy begins
-/// without its content, and only the end of the read of its page brings it.
+/// A page is programmed for the first time, or it is the page of the step under way and its content is there. A copy
+/// begins without its content, and only the end of the read of its page brings it.
 pub fn a_copy_is_programmed_after_its_read()
     ensures given { (t : Translation) (die : ℕ) (p : Place) (tag : Tag) (body : List ℕ) →
         MayTake t die (Some (Programming p (GroupPage tag body))) →
@@ -35,6 +36,7 @@ pub fn a_copy_is_programmed_after_its_read()
         (moved t move).work.step ≡ Some (record { kind = CopyStep name from; there = true }) →
         (die : ℕ) × (place : Place) × (move ≡ EndJob die ReadRight) × (t.disk.flights die ≡ Some (Reading ForStep place)) }
     ensures its_page { (t : Translation) (die : ℕ) (place : Place) (name : Name) (from : Place) (there : Bool) →
-        t.work.step ≡ Some (record { kind = CopyStep name from; there = there }) → MayTake t die (Some (Reading ForStep place)) →
+        t.work.step ≡ Some (record { kind = CopyStep name from; there = there }) →
+        MayTake t die (Some (Reading ForStep place)) →
         (there ≡ false) × (place ≡ from) }
 {}

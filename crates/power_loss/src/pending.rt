@@ -11,11 +11,12 @@ ghost use Rattle.ufs_spec.specs.declared.configs.Numbers.{Numbers};
 ghost use Rattle.power_loss.specs.Invariant.{Valid};
 ghost use Rattle.power_loss.specs.Pending.{FrontierStops, PendingStays, accepted_by, brings_page};
 
-/// An accepted group is pending, after all others. A move makes a front of the pending groups durable, in their order, and
-/// only if it ends well the program of a page that stood nowhere: any other move, as a turn, a copy, a read or a failed
-/// job, leaves what is pending and what is durable.
+/// An accepted group is pending, after all others. A move makes a front of the pending groups durable, in their
+/// order, and only if it ends well the program of a page that stood nowhere: any other move, as a turn, a copy, a
+/// read or a failed job, leaves what is pending and what is durable.
 pub fn pending_groups_become_durable_in_order()
-    ensures accept { (t : Translation) (move : Move) (g : Group) → Valid t → IsAllowedMove t move → accepted_by move ≡ Some g →
+    ensures accept { (t : Translation) (move : Move) (g : Group) → Valid t → IsAllowedMove t move →
+        accepted_by move ≡ Some g →
         (pending (moved t move).ledger ≡ pending t.ledger ++ g ∷ [])
         × (durable_contents (moved t move).ledger ≡ durable_contents t.ledger) }
     ensures front { (t : Translation) (move : Move) → Valid t → IsAllowedMove t move → accepted_by move ≡ None →
@@ -27,10 +28,12 @@ pub fn pending_groups_become_durable_in_order()
     // are durable.
     ensures stops { (t : Translation) (move : Move) → Valid t → IsAllowedMove t move → FrontierStops t.ledger →
         FrontierStops (moved t move).ledger }
-    ensures opened { (n : Numbers) (c : Cells) (bad : Spot → Bool) (t : Translation) → IsOpenedTranslation n c bad t → FrontierStops t.ledger }
+    ensures opened { (n : Numbers) (c : Cells) (bad : Spot → Bool) (t : Translation) →
+        IsOpenedTranslation n c bad t → FrontierStops t.ledger }
     ensures first { (t : Translation) (g : Group) → Valid t → FrontierStops t.ledger →
         before_accepted t.ledger ≤ t.ledger.frontier → slice_get (pending t.ledger) 0 ≡ Some g →
         (i : ℕ) × (i < length g) × (t.ledger.standing (t.ledger.frontier + 1) i ≡ None) }
     // What is durable and what is pending are all there is.
-    ensures all { (t : Translation) → Valid t → put_groups (durable_contents t.ledger) (pending t.ledger) ≡ all_contents t.ledger }
+    ensures all { (t : Translation) → Valid t →
+        put_groups (durable_contents t.ledger) (pending t.ledger) ≡ all_contents t.ledger }
 {}

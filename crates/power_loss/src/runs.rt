@@ -24,7 +24,7 @@ ghost use Rattle.ufs_spec.specs.declared.Page.{Page};
 ghost use Rattle.ufs_spec.specs.declared.Place.{Place};
 ghost use Rattle.power_loss.specs.Exchange.{IsArrayOf, ValidState};
 ghost use Rattle.power_loss.specs.Runs.{AreNewDies, IsNewDie, LivesRight, MayBeOpened, last_state};
-ghost use Rattle.power_loss.specs.StoppedWrites.{IsFailedWrite, IsStoppedWrite, written_page};
+ghost use Rattle.power_loss.specs.StoppedWrites.{AreTorn, IsFailedWrite, IsStoppedWrite, IsTornTwice, written_page};
 
 /// A stop with these leftovers leaves one array at most, and so does a failed job with its leftover: each page that a
 /// leftover names is as it says, and every other page is as it was.
@@ -46,7 +46,8 @@ pub fn any_sound_array_opens()
         (s : State) × IsOpened n array bad s }
 {}
 
-/// A device may be opened over new dies, bad blocks or not, and outside dies that fit the configuration nothing stands.
+/// A device may be opened over new dies, bad blocks or not, and outside dies that fit the configuration nothing
+/// stands.
 pub fn new_dies_fit()
     ensures new_die { (n : Numbers) → IsNewDie n (new_die n.blocks n.pages) }
     ensures fit { (n : Numbers) (dies : List DieState) → AreNewDies n dies → Fit n dies }
@@ -56,8 +57,8 @@ pub fn new_dies_fit()
     ensures inside { (n : Numbers) (dies : List DieState) → Fit n dies → IsArrayOf n (array_of dies) }
 {}
 
-/// A stop may come at any moment of a run. It leaves each lawful leftover of the jobs in flight and no other; the device
-/// opens over what it leaves, and the run goes on. Right after an opening a stop changes nothing.
+/// A stop may come at any moment of a run. It leaves each lawful leftover of the jobs in flight and no other; the
+/// device opens over what it leaves, and the run goes on. Right after an opening a stop changes nothing.
 pub fn a_stop_may_come_at_any_moment()
     ensures leaves { (n : Numbers) (array : Array) (bad : Spot → Bool) (s t : State) (es : List Event)
         (os : List Output) → IsConfig n → MayBeOpened n array → IsOpened n array bad s → Runs n s es os t →
@@ -77,7 +78,8 @@ pub fn a_stop_may_come_at_any_moment()
         (left : Array) → IsOpened n array bad s → Stops s lefts left → left ≡ array }
 {}
 
-/// A program or an erase may fail at any moment. It leaves each lawful leftover of it and no other; a read may fail too.
+/// A program or an erase may fail at any moment. It leaves each lawful leftover of it and no other; a read may fail
+/// too.
 pub fn a_job_may_fail_at_any_moment()
     ensures each { (s : State) (die : ℕ) (flight : Flight) (l : Leftover) → ValidState s →
         s.translation.disk.flights die ≡ Some flight → IsLeftoverOf (numbers_of s) (Some flight) l →
@@ -90,9 +92,9 @@ pub fn a_job_may_fail_at_any_moment()
         (t : State) × Leads s (event.Fail die None) output.Ended t }
 {}
 
-/// A run goes on event by event, over any number of stops. It is lives one after another, and each of them is right: it
-/// begins over an array that a device may be opened over, its end is valid, a device may be opened over whatever a stop
-/// leaves of it, and it is mended soon. So a run over dies that fit keeps the promise.
+/// A run goes on event by event, over any number of stops. It is lives one after another, and each of them is right:
+/// it begins over an array that a device may be opened over, its end is valid, a device may be opened over whatever a
+/// stop leaves of it, and it is mended soon. So a run over dies that fit keeps the promise.
 pub fn a_run_keeps_the_promise()
     ensures more { (n : Numbers) (s t u : State) (es : List Event) (os : List Output) (e : Event) (o : Output) →
         Runs n s es os t → GoesOn n t e o u → Runs n s (es ++ e ∷ []) (os ++ o ∷ []) u }
@@ -107,9 +109,9 @@ pub fn a_run_keeps_the_promise()
         Runs n s es os t → Headline n dies es os }
 {}
 
-/// A write of one block with FUA is stopped inside its program. If the page is as it was, or torn, the one accepted command
-/// is not kept, and the next life finds zeros. If the page is the new one, the command is kept, though it was not
-/// acknowledged.
+/// A write of one block with FUA is stopped inside its program. If the page is as it was, or torn, the one accepted
+/// command is not kept, and the next life finds zeros. If the page is the new one, the command is kept, though it was
+/// not acknowledged.
 pub fn a_stopped_write_opens()
     ensures old { (body : List ℕ) (write block : Vec ℕ) (lefts : Vec Leftover) → length body ≡ 4096 →
         IsHeard write.items the_write → IsHeard block.items (the_data body) → lefts.items ≡ [] →
@@ -125,10 +127,20 @@ pub fn a_stopped_write_opens()
     ensures torn_page { (torn : Page) × (IsCheckRight torn → ⊥) }
 {}
 
-/// The program of the same write fails; it leaves the page as it was, the new one, or a torn one. The bad block locks the
-/// device, the write is answered with a write error, and nothing is acknowledged.
+/// The program of the same write fails; it leaves the page as it was, the new one, or a torn one. The bad block locks
+/// the device, the write is answered with a write error, and nothing is acknowledged.
 pub fn a_failed_write_is_answered()
     ensures { (body : List ℕ) (write block : Vec ℕ) (page : Page) → length body ≡ 4096 →
         IsHeard write.items the_write → IsHeard block.items (the_data body) →
         MayBeLeft blank_page (written_page body) page → IsFailedWrite body write block page }
+{}
+
+/// A stop comes while one die programs the block's page and another erases a block, and both are torn: the one accepted
+/// command is not kept, and the next life finds zeros.
+pub fn two_dies_torn_at_once_open()
+    ensures { (body : List ℕ) (write block : Vec ℕ) (lefts : Vec Leftover) (torn : Page) (pages : Vec Page) →
+        length body ≡ 4096 → IsHeard write.items the_write → IsHeard block.items (the_data body) →
+        (IsCheckRight torn → ⊥) → length pages.items ≡ 64 → AreTorn pages.items →
+        lefts.items ≡ leftover.Page (place_of 1) torn ∷ leftover.Block 1 0 pages ∷ [] →
+        IsTornTwice body write block lefts }
 {}

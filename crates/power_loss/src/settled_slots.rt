@@ -17,7 +17,8 @@ pub fn a_durable_slot_becomes_its_page()
         (moved t (EndJob die WentWell)).ledger.frontier < name.number }
     ensures page { (t : Translation) (die : ℕ) (p q : Place) (tag : Tag) (body : List ℕ) (j : ℕ) (pin : Pin) (name : Name) →
         t.disk.flights die ≡ Some (Programming p (GroupPage tag body)) →
-        slice_get t.pins j ≡ Some pin → pin.looked ≡ InSlot name → name.number ≤ (moved t (EndJob die WentWell)).ledger.frontier →
+        slice_get t.pins j ≡ Some pin → pin.looked ≡ InSlot name →
+        name.number ≤ (moved t (EndJob die WentWell)).ledger.frontier →
         (moved t (EndJob die WentWell)).ledger.standing name.number name.index ≡ Some q →
         slice_get (moved t (EndJob die WentWell)).pins j ≡ Some (record pin { looked = OnPage name q }) }
 {}

@@ -15,14 +15,17 @@ ghost use Rattle.ufs_spec.specs.declared.Numbers.{Numbers};
 ghost use Rattle.ufs_spec.specs.declared.Output.{Output};
 ghost use Rattle.power_loss.specs.Exchange.{IsTied, ValidState};
 
-/// A message is spelled in at most 4128 bytes. Each reply of a task is one, from the opening of a device to the end of its
-/// life: the task's LUN, tag and numbers fit their fields, and each block that it sends is 4096 bytes.
+/// A message is spelled in at most 4128 bytes. Each reply of a task is one, from the opening of a device to the end
+/// of its life: the task's LUN, tag and numbers fit their fields, and each block that it sends is 4096 bytes.
 pub fn replies_can_be_spelled()
     ensures size { (m : Message) → IsMessage m → length (spelling m) ≤ 4128 }
-    ensures task { (s : State) (task : Task) (m : Message) → TaskSpeaks task → deed_reply s task task.deed ≡ Some m → IsMessage m }
-    ensures open { (n : Numbers) (array : Array) (bad : Spot → Bool) (s : State) → IsOpened n array bad s → Every TaskSpeaks s.tasks }
+    ensures task { (s : State) (task : Task) (m : Message) → TaskSpeaks task → deed_reply s task task.deed ≡ Some m →
+        IsMessage m }
+    ensures open { (n : Numbers) (array : Array) (bad : Spot → Bool) (s : State) → IsOpened n array bad s →
+        Every TaskSpeaks s.tasks }
     ensures call { (s : State) (call : Call) (answer : Answer) → IsTied s → IsSpoken call → Allowed s call answer →
         Every TaskSpeaks s.tasks → Every TaskSpeaks (observe s call answer).tasks }
-    ensures life { (s : State) (es : List Event) (os : List Output) (t : State) → ValidState s → Every TaskSpeaks s.tasks →
+    ensures life { (s : State) (es : List Event) (os : List Output) (t : State) → ValidState s →
+        Every TaskSpeaks s.tasks →
         Life s es os t → Every TaskSpeaks t.tasks }
 {}

@@ -10,7 +10,8 @@ use Rattle.ufs_spec.proofs.Facts.{or_parts, same_Some, true≢false}
 use Rattle.ufs_spec.specs.Exchanges.{Answering, Awaiting, Deed, Gathering, Good, NotRead, ReadBlock, ReadState, Sending, Task, SendingBytes, Unread, WasRead, response, filled, is_task_of, with_deed}
 use Rattle.ufs_spec.specs.Machine.{Allowed, Answer, Call, abort_moves, block_reply, claimed_by, deed_reply, durable, is_at_hand, is_to_fill, next_block_reply, pin_of, tag_in, deed_read, observe, task_filled, task_locked, task_read, unit_or_first, without_tasks}
 use Rattle.ufs_spec.specs.Moves.{Move, moved}
-use Rattle.ufs_spec.specs.Refusals.{Request, State, unit_of_request}
+use Rattle.ufs_spec.specs.Refusals.{Request, State, numbers_of, unit_of_request}
+use Rattle.ufs_spec.specs.declared.configs.Numbers.{Numbers}
 use Rattle.ufs_spec.specs.declared.messages.Message.{Message}
 use Rattle.ufs_spec.specs.Translation.{Pin, Translation}
 
@@ -32,18 +33,18 @@ none_left is (t ∷ ts) k task e = by (is t) refl e (λ j. none_left is ts j tas
 pub gone : (s : State) (is : Task → Bool) (k : ℕ) (task : Task) → slice_get (without_tasks s is).tasks k ≡ Some task → is task ≡ false
 gone s is k task e = none_left is s.tasks k task e
 
-abbrev claim : Task → ℕ
-claim task = claimed_by task.deed task.command
+abbrev claim : Numbers → Task → ℕ
+claim n task = claimed_by n task.deed task.command
 
-released : (t : Translation) (tasks : List Task) → (fold moved t (flat_map abort_moves tasks)).claims ≡ t.claims - sum_by claim tasks
-released t [] = omega arith
-released t (task ∷ tasks) =
-    let sum : sum_by claim (task ∷ tasks) ≡ claim task + sum_by claim tasks = sum_by-cons claim task tasks in
-    let rest : (fold moved t (flat_map abort_moves (task ∷ tasks))).claims ≡ t.claims - claim task - sum_by claim tasks = released (fold moved t (abort_moves task)) tasks in
+released : (n : Numbers) (t : Translation) (tasks : List Task) → (fold moved t (flat_map (abort_moves n) tasks)).claims ≡ t.claims - sum_by (claim n) tasks
+released n t [] = omega arith
+released n t (task ∷ tasks) =
+    let sum : sum_by (claim n) (task ∷ tasks) ≡ claim n task + sum_by (claim n) tasks = sum_by-cons (claim n) task tasks in
+    let rest : (fold moved t (flat_map (abort_moves n) (task ∷ tasks))).claims ≡ t.claims - claim n task - sum_by (claim n) tasks = released n (fold moved t (abort_moves n task)) tasks in
     omega arith
 
-pub claims : (s : State) (is : Task → Bool) → (without_tasks s is).translation.claims ≡ s.translation.claims - sum_by claim (filter is s.tasks)
-claims s is = released s.translation (filter is s.tasks)
+pub claims : (s : State) (is : Task → Bool) → (without_tasks s is).translation.claims ≡ s.translation.claims - sum_by (claim (numbers_of s)) (filter is s.tasks)
+claims s is = released (numbers_of s) s.translation (filter is s.tasks)
 
 -- what is not there is not there when less is
 fewer : (p q : Pin → Bool) (pins : List Pin) → list_any p pins ≡ false → list_any p (filter q pins) ≡ false
@@ -62,21 +63,21 @@ without p (x ∷ xs) = by (p x) refl (without p xs)
     by true e rest = rest
     by false e rest = or_from (p x) (list_any p (filter (λ pin. not (p pin)) xs)) e rest
 
-still_unpinned : (tag : ℕ) (t : Translation) (tasks : List Task) → Pinned tag t.pins ≡ false → Pinned tag (fold moved t (flat_map abort_moves tasks)).pins ≡ false
-still_unpinned tag t [] none = none
-still_unpinned tag t (task ∷ tasks) none =
-    still_unpinned tag (fold moved t (abort_moves task)) tasks (fewer (λ pin. pin.tag == tag) (λ pin. not (pin.tag == task.tag)) t.pins none)
+still_unpinned : (n : Numbers) (tag : ℕ) (t : Translation) (tasks : List Task) → Pinned tag t.pins ≡ false → Pinned tag (fold moved t (flat_map (abort_moves n) tasks)).pins ≡ false
+still_unpinned n tag t [] none = none
+still_unpinned n tag t (task ∷ tasks) none =
+    still_unpinned n tag (fold moved t (abort_moves n task)) tasks (fewer (λ pin. pin.tag == tag) (λ pin. not (pin.tag == task.tag)) t.pins none)
 
-unpinned : (t : Translation) (tasks : List Task) (k : ℕ) (task : Task) → slice_get tasks k ≡ Some task → Pinned task.tag (fold moved t (flat_map abort_moves tasks)).pins ≡ false
-unpinned t [] k task e = let none : None ≡ Some task = e in cc
-unpinned t (x ∷ xs) zero task e =
+unpinned : (n : Numbers) (t : Translation) (tasks : List Task) (k : ℕ) (task : Task) → slice_get tasks k ≡ Some task → Pinned task.tag (fold moved t (flat_map (abort_moves n) tasks)).pins ≡ false
+unpinned n t [] k task e = let none : None ≡ Some task = e in cc
+unpinned n t (x ∷ xs) zero task e =
     let same : x ≡ task = same_Some x task e in
-    still_unpinned task.tag (fold moved t (abort_moves x)) xs
-    (ap (λ (y : Task). Pinned y.tag (fold moved t (abort_moves x)).pins) (sym same) ∙ without (λ pin. pin.tag == x.tag) t.pins)
-unpinned t (x ∷ xs) (suc k) task e = unpinned (fold moved t (abort_moves x)) xs k task e
+    still_unpinned n task.tag (fold moved t (abort_moves n x)) xs
+    (ap (λ (y : Task). Pinned y.tag (fold moved t (abort_moves n x)).pins) (sym same) ∙ without (λ pin. pin.tag == x.tag) t.pins)
+unpinned n t (x ∷ xs) (suc k) task e = unpinned n (fold moved t (abort_moves n x)) xs k task e
 
 pub pins : (s : State) (is : Task → Bool) (k : ℕ) (task : Task) → slice_get (filter is s.tasks) k ≡ Some task → Pinned task.tag (without_tasks s is).translation.pins ≡ false
-pins s is k task e = unpinned s.translation (filter is s.tasks) k task e
+pins s is k task e = unpinned (numbers_of s) s.translation (filter is s.tasks) k task e
 
 -- ## Later
 

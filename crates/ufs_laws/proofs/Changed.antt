@@ -11,9 +11,10 @@ use Rattle.ufs_spec.specs.Keys.{below, data_key}
 use Rattle.ufs_spec.specs.Machine.{Answer, Reply, Call, Faulty, Done, OfDone, Take, OfTake, Heard, OfHost, Host, OfReply, Spelled, Turn, OfTurn, abort_moves, accepts, array_behind, behind, begun, begun_with, blocks_expected, claimed_by, command_heard, complete, data_for, data_heard, deed_behind, ends_with, fill_moves, fills, heard, hears, is_aborted, is_to_fill, is_durable, kept_at, lock_applied, managed, moves_behind, observe, opened_with, read_begun, read_noted, registers_behind, replied, replied_by, set_deed, short_locked, short_replied, tag_in, task_behind, task_filled, task_locked, task_read, acknowledges, with_moves, with_short, with_task, without_tasks, write_begun, write_complete, service}
 use Rattle.ufs_spec.specs.Moves.{Accept, Claim, EndJob, Ending, Keep, LetGo, LetGoAll, Move, ReadRight, ReadWrong, Release, GiveJob, Acknowledge, TakeStep, WantPage, WentWell, WentWrong, moved}
 use Rattle.ufs_spec.specs.Stages.{most_tasks}
-use Rattle.ufs_spec.specs.Refusals.{Request, State, locked, plain_now, refusal}
+use Rattle.ufs_spec.specs.Refusals.{Request, State, locked, numbers_of, plain_now, refusal}
 use Rattle.ufs_spec.specs.Keys.{group_of}
 use Rattle.ufs_spec.specs.Translation.{Pin, Translation}
+use Rattle.ufs_spec.specs.declared.configs.Numbers.{Numbers}
 use Rattle.ufs_spec.specs.declared.flash.Key.{Key}
 use Rattle.ufs_spec.specs.declared.messages.Message.{Message}
 use Rattle.ufs_spec.specs.declared.messages.Message.TheVariants as message
@@ -226,15 +227,15 @@ data_heard_small s (Some task) bytes = data_small s task task.deed bytes
 
 -- Messages
 
-aborts_small : (s : State) (tasks : List Task) → Small s (with_moves s (flat_map abort_moves tasks))
-aborts_small s [] = Still
-aborts_small s (task ∷ tasks) =
-    Both (one_move (Release (claimed_by task.deed task.command)) tt)
-    (Both (one_move (LetGoAll task.tag) tt) (aborts_small (with_moves s (abort_moves task)) tasks))
+aborts_small : (s : State) (n : Numbers) (tasks : List Task) → Small s (with_moves s (flat_map (abort_moves n) tasks))
+aborts_small s n [] = Still
+aborts_small s n (task ∷ tasks) =
+    Both (one_move (Release (claimed_by n task.deed task.command)) tt)
+    (Both (one_move (LetGoAll task.tag) tt) (aborts_small (with_moves s (abort_moves n task)) n tasks))
 
 without_small : (s : State) (is : Task → Bool) → Small s (without_tasks s is)
 without_small s is =
-    Both (aborts_small s (filter is s.tasks)) (Both (One (Closes is) tt) (One (SetsRegisters (registers_behind (filter is s.tasks) s.registers)) tt))
+    Both (aborts_small s (numbers_of s) (filter is s.tasks)) (Both (One (Closes is) tt) (One (SetsRegisters (registers_behind (filter is s.tasks) s.registers)) tt))
 
 managed_small : (s : State) (lun function meant : ℕ) → Small s (managed s lun function meant)
 managed_small s lun function meant = small_if (service s lun function meant == 0x00) (without_small s (is_aborted lun function meant)) Still

@@ -13,7 +13,7 @@ use Rattle.ufs_spec.specs.declared.flash.Place.{Place}
 
 -- Reads
 
-read_here : (t : Translation) (die : ℕ) (reader : Reader) (place : Place) → MayTake t die (Some (Reading reader place)) → place.die ≡ die
+pub read_here : (t : Translation) (die : ℕ) (reader : Reader) (place : Place) → MayTake t die (Some (Reading reader place)) → place.die ≡ die
 read_here t die reader place h =
     eqb-true place.die die
     (All-contains (λ (w : Want). is_of_die die w ≡ true) (wants_on t die) (want_at reader place) (filter_passes (is_of_die die) (wants t)) h.1)

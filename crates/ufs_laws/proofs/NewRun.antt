@@ -147,7 +147,7 @@ module _ (s : State) (n : IsNew s) where
     pub right_13 : Gets (state_12 s body) Reply (OfReply None)
     right_13 = at Reply (OfReply None) is_12 (gets_13 behind_mark body)
 
-    is_13 : state_13 s body ≡ pending behind_mark body
+    pub is_13 : state_13 s body ≡ pending behind_mark body
     unfolding state_13
     is_13 = led Reply (OfReply None) is_12 (step_13 behind_mark body)
 

@@ -1,8 +1,9 @@
 -- The run of a new device is a life: each event is a call, and each output shows its answer.
-use Rattle.std.proofs.Common.{◌≡◌, ℕ, true, false, List, length, Some, None, Ok, refl, sym, subst}
+use Rattle.std.proofs.Common.{◌≡◌, ℕ, true, false, List, [], ◌∷◌, length, Some, None, Ok, refl, sym, subst}
 use Rattle.std.specs.Global.{Vec}
+use Rattle.ufs_laws.proofs.Joined.{join}
 use Rattle.ufs_laws.proofs.NewRun.{flies_4, flies_6, flies_15, flies_20, right_1, right_2, right_3, right_4, right_5, right_6, right_7, right_8, right_9, right_10, right_11, right_12, right_13, right_14, right_15, right_16, right_17, right_18, right_19, right_20, right_21, right_22, right_23, right_24}
-use Rattle.ufs_laws.specs.Runs.{Gets, IsNew, begins, data_in, data_message, data_program, data_read, erase, good, good_message, heard, mark_program, program_ends, read_ends, ready, ready_message, run_events, run_outputs, the_data, the_read, the_write, told, write_events, write_outputs, state_1, state_2, state_3, state_4, state_5, state_6, state_7, state_8, state_9, state_10, state_11, state_12, state_13, state_14, state_15, state_16, state_17, state_18, state_19, state_20, state_21, state_22, state_23, state_24}
+use Rattle.ufs_laws.specs.Runs.{Gets, IsNew, begins, data_in, data_message, data_program, data_read, erase, good, good_message, heard, mark_program, pending_events, pending_outputs, program_ends, read_ends, ready, ready_message, run_events, run_outputs, the_data, the_read, the_write, told, write_events, write_outputs, state_1, state_2, state_3, state_4, state_5, state_6, state_7, state_8, state_9, state_10, state_11, state_12, state_13, state_14, state_15, state_16, state_17, state_18, state_19, state_20, state_21, state_22, state_23, state_24}
 use Rattle.ufs_spec.specs.Disk.{Flight}
 use Rattle.ufs_spec.specs.Lives.{IsCall, IsFinish, IsShown, Leads, Life, ended_well}
 use Rattle.ufs_spec.specs.Machine.{Answer, Reply, Call, Done, OfDone, Take, OfTake, Host, IsHeard, OfReply, Turn, OfTurn, observe}
@@ -118,10 +119,10 @@ module _ (s : State) (n : IsNew s) where
     unfolding state_24
     leads_24 = leads (state_23 s body) event.Reply (output.Reply None) (state_24 s body) Reply (OfReply None) refl refl (right_24 s n body long) refl
 
-    -- up to the block's program
-    pub write_life : (write block : Vec ℕ) → IsHeard write.items the_write → IsHeard block.items (the_data body) →
-        Life s (write_events write block) (write_outputs body) (state_15 s body)
-    write_life write block w b = (
+    -- up to the block that waits
+    pub pending_life : (write block : Vec ℕ) → IsHeard write.items the_write → IsHeard block.items (the_data body) →
+        Life s (pending_events write block) pending_outputs (state_13 s body)
+    pending_life write block w b = (
       state_1 s,
       leads_1,
       (
@@ -151,23 +152,7 @@ module _ (s : State) (n : IsNew s) where
                       (
                         state_10 s,
                         leads_10,
-                        (
-                          state_11 s,
-                          leads_11,
-                          (
-                            state_12 s body,
-                            leads_12 block b,
-                            (
-                              state_13 s body,
-                              leads_13,
-                              (
-                                state_14 s body,
-                                leads_14,
-                                (state_15 s body, leads_15, refl),
-                              ),
-                            ),
-                          ),
-                        ),
+                        (state_11 s, leads_11, (state_12 s body, leads_12 block b, (state_13 s body, leads_13, refl))),
                       ),
                     ),
                   ),
@@ -178,6 +163,14 @@ module _ (s : State) (n : IsNew s) where
         ),
       ),
     )
+
+    -- up to the block's program
+    pub write_life : (write block : Vec ℕ) → IsHeard write.items the_write → IsHeard block.items (the_data body) →
+        Life s (write_events write block) (write_outputs body) (state_15 s body)
+    write_life write block w b =
+        join s (pending_events write block) (event.Take 0 ∷ event.Reply ∷ []) pending_outputs
+        (begins (data_program body) ∷ output.Reply None ∷ []) (state_13 s body) (state_15 s body) (pending_life write block w b)
+        (state_14 s body, leads_14, (state_15 s body, leads_15, refl))
 
     pub life : (write block read : Vec ℕ) → IsHeard write.items the_write → IsHeard block.items (the_data body) → IsHeard read.items the_read → Life s (run_events write block read) (run_outputs body) (state_24 s body)
     life write block read w b r =

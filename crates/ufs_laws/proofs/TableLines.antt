@@ -1,5 +1,5 @@
 -- The line of the table that stands first decides.
-use Rattle.std.proofs.Common.{◌≡◌, ℕ, ◌≤◌, ◌==◌, ◌||◌, nat_le, nat_lt, not, Bool, true, false, if◌then◌else◌, List, [], ◌∷◌, length, Option, Some, None, refl, ap, subst, arith}
+use Rattle.std.proofs.Common.{◌≡◌, ℕ, ◌*◌, ◌≤◌, ◌==◌, ◌||◌, nat_le, nat_lt, not, Bool, true, false, if◌then◌else◌, List, [], ◌∷◌, length, Option, Some, None, refl, ap, subst, arith}
 use Rattle.std.proofs.lemmas.Bool.{le-leb, le-ltb, lt-ltb}
 use Rattle.ufs_laws.proofs.Refused.{answers, idle_is, idle_state, lacks}
 use Rattle.ufs_laws.specs.Runs.{IsIdle}
@@ -114,6 +114,15 @@ response_first s tag e none =
     leaves (is_past (cdb.SecurityIn 512) (spec_of s (reads_response tag))) out_of_range sequence_error _ (within s (reads_response tag) 512)
     (leaves (not (mended s)) not_ready sequence_error _ (not_told _ true e)
     (decides (length s.registers.response == 0) sequence_error _ (ap (λ (frames : List (List ℕ)). length frames == 0) none)))
+
+pub other_response : (s : State) (tag : ℕ) (a b : List ℕ) → mended s ≡ true → s.registers.response ≡ a ∷ b ∷ [] →
+    first_line (lines_for s (reads_response tag) (cdb.SecurityIn 512)) ≡ Some invalid_field
+other_response s tag a b e two =
+    leaves (is_past (cdb.SecurityIn 512) (spec_of s (reads_response tag))) out_of_range invalid_field _ (within s (reads_response tag) 512)
+    (leaves (not (mended s)) not_ready invalid_field _ (not_told _ true e)
+    (leaves (length s.registers.response == 0) sequence_error invalid_field _ (ap (λ (frames : List (List ℕ)). length frames == 0) two)
+    (decides (not (512 == 512 * length s.registers.response)) invalid_field _
+    (ap (λ (frames : List (List ℕ)). not (512 == 512 * length frames)) two))))
 
 -- ## Lines that never meet
 

@@ -9,10 +9,10 @@ use Rattle.ufs_laws.specs.Exchange.{Asks, Every, IsAskedBy, IsAskedIn, IsRequest
 use Rattle.ufs_spec.specs.Cells.{Array}
 use Rattle.ufs_spec.specs.Disk.{Erasing, Flight, ForNobody, ForRest, ForStep, ForTask, Programming, Reader, Reading}
 use Rattle.ufs_spec.specs.Exchanges.{Answering, Awaiting, Deed, ForFrames, ForUnmap, ForWrite, Gathering, Purpose, ReadState, NotRead, Sending, Short, Status, Task, SendingBytes, WasRead, invalid_operation, is_short_of, is_task_of, task_of, with_deed, write_error, count_at, is_asked_in, is_asked_of, Good}
-use Rattle.ufs_spec.specs.Machine.{Answer, Reply, Call, Faulty, Done, OfDone, Take, OfTake, Heard, OfHost, Host, IsHeard, OfReply, Spelled, Turn, OfTurn, begun, begun_with, command_heard, complete, data_for, data_heard, deed_behind, ends_with, heard, hears, is_aborted, fills, observe, behind, opened_with, read_noted, replied_by, short_replied, tag_in, task_behind, task_filled, task_locked, task_read, unit_or_first, without_tasks, write_complete, write_deed, Allowed, MayHear, asked_fault, in_use, message_fault, opening_fault, result_of, write_begun}
+use Rattle.ufs_spec.specs.Machine.{Answer, Reply, Call, Faulty, Done, OfDone, Take, OfTake, Heard, OfHost, Host, IsHeard, OfReply, Spelled, Turn, OfTurn, begun, begun_with, command_heard, complete, data_for, data_heard, deed_behind, ends_with, heard, hears, is_aborted, fills, observe, behind, opened_with, read_noted, replied_by, short_replied, tag_in, task_behind, task_filled, task_locked, task_read, unit_or_first, without_tasks, write_complete, write_deed, Allowed, MayHear, asked_fault, in_use, message_fault, opening_fault, result_of, write_begun, service}
 use Rattle.ufs_spec.specs.Moves.{Ending, ReadRight, ReadWrong, WentWell, WentWrong}
-use Rattle.ufs_spec.specs.Stages.{manages_tasks, most_tasks}
-use Rattle.ufs_spec.specs.Refusals.{Request, State, locked, refusal, slots_needed, unit_of_request}
+use Rattle.ufs_spec.specs.Stages.{most_tasks}
+use Rattle.ufs_spec.specs.Refusals.{Request, State, locked, numbers_of, refusal, slots_needed, unit_of_request}
 use Rattle.ufs_spec.specs.declared.messages.Message.{Message}
 use Rattle.ufs_spec.specs.declared.messages.Message.TheVariants as message
 use Rattle.ufs_spec.specs.declared.scsi.Cdb.{Cdb}
@@ -173,7 +173,7 @@ write_opens s r c unit address blocks forced =
     (task_for r (Some c) (4096 * blocks) (Gathering (ForWrite unit address blocks forced) [] false), refl, refl)
 
 pub begun_task : (s : State) (r : Request) (unit : ℕ) (c : Cdb) → OpensOne s (begun s r unit c) r.tag
-begun_task s r unit (cdb.Write6 address blocks) = write_opens s r (cdb.Write6 address blocks) unit address (slots_needed (cdb.Write6 address blocks)) false
+begun_task s r unit (cdb.Write6 address blocks) = write_opens s r (cdb.Write6 address blocks) unit address (slots_needed (numbers_of s) (cdb.Write6 address blocks)) false
 begun_task s r unit (cdb.Write10 address blocks forced) = write_opens s r (cdb.Write10 address blocks forced) unit address blocks forced
 begun_task s r unit cdb.TestUnitReady = opens_task s (begun s r unit cdb.TestUnitReady) r _ _ _ refl
 begun_task s r unit (cdb.RequestSense allocation) = opens_task s (begun s r unit (cdb.RequestSense allocation)) r _ _ _ refl
@@ -249,7 +249,7 @@ module _ (P : Task → Type 0) (May : Task → Deed → Type 0) (Asked : Request
       command_kept (record { flags = flags; lun = lun; tag = tag; expected = expected; bytes = bytes; cdb = c }) is asks (is_unused s tag _ may)
   heard_kept (message.DataOut lun tag offset «data») c is asks may = data_heard_kept tag lun offset (task_of tag s.tasks) «data».items refl (is_asked _ may)
   heard_kept (message.TaskRequest lun tag function meant) c is asks may =
-      every_if P manages_tasks (without_tasks s (is_aborted lun function meant)) s
+      every_if P (service s lun function meant == 0x00) (without_tasks s (is_aborted lun function meant)) s
       (λ e. every_filtered P (λ task. not (is_aborted lun function meant task)) s.tasks all)
       (λ e. all)
   heard_kept (message.NopOut tag) c is asks may = all

@@ -9,7 +9,8 @@ abbrev pub IsStatus : Status → Type 0
 IsStatus (CheckCondition sense) = IsByte sense.key × IsByte sense.asc × IsByte sense.ascq
 IsStatus status = Unit {0}
 
--- what it does, of a command of so many bytes of which so many are sent: it asks for bytes that are missing; it sends no
+-- what it does, of a command of so many bytes of which so many are sent: it asks for bytes that are missing; it sends
+-- no
 -- block past the last byte that is sent, and each is 4096 bytes
 abbrev pub DeedSpeaks : ℕ → ℕ → Deed → Type 0
 DeedSpeaks total sent_bytes (Gathering purpose gathered asked) = length gathered < total

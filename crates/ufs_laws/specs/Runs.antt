@@ -1,6 +1,6 @@
 -- A run of a new device from end to end: its first mark is programmed, a block is written with FUA, and it is read. Each
 -- call is listed with its answer, and each state is what the calls before it lead to.
-use Rattle.std.specs.Prelude.{◌≡◌, ℕ, Bool, true, false, List, [], ◌∷◌, length, Some, None, Ok}
+use Rattle.std.specs.Prelude.{◌≡◌, ℕ, Bool, true, false, List, [], ◌∷◌, ◌++◌, length, Some, None, Ok}
 use Rattle.std.specs.Global.{Vec}
 use Rattle.ufs_laws.specs.GapRows.{first_mark, write_page}
 use Rattle.ufs_spec.specs.Cdbs.{cdb_bytes, fixed_sense}
@@ -226,22 +226,29 @@ run_outputs body =
     ∷ told (good_message 8) ∷ output.Reply None
     ∷ []
 
--- its beginning, up to the program of the block, which is in flight then
-abbrev pub write_events : (write block : Vec ℕ) → List Event
-write_events write block =
+-- its beginning, up to the block that waits for a place
+abbrev pub pending_events : (write block : Vec ℕ) → List Event
+pending_events write block =
     event.Turn ∷ event.Turn
     ∷ event.Take 0 ∷ event.Take 0 ∷ event.Finish 0 ∷ event.Take 0 ∷ event.Finish 0 ∷ event.Turn
     ∷ event.Host write ∷ event.Reply ∷ event.Reply
-    ∷ event.Host block ∷ event.Reply ∷ event.Take 0 ∷ event.Reply
+    ∷ event.Host block ∷ event.Reply
     ∷ []
 
-abbrev pub write_outputs : List ℕ → List Output
-write_outputs body =
+abbrev pub pending_outputs : List Output
+pending_outputs =
     output.Turn true ∷ output.Turn false
     ∷ begins erase ∷ output.Take None ∷ output.Ended ∷ begins mark_program ∷ output.Ended ∷ output.Turn false
     ∷ output.Host (Ok tt) ∷ told ready_message ∷ output.Reply None
-    ∷ output.Host (Ok tt) ∷ output.Reply None ∷ begins (data_program body) ∷ output.Reply None
+    ∷ output.Host (Ok tt) ∷ output.Reply None
     ∷ []
+
+-- and up to the program of the block, which is in flight then
+abbrev pub write_events : (write block : Vec ℕ) → List Event
+write_events write block = pending_events write block ++ event.Take 0 ∷ event.Reply ∷ []
+
+abbrev pub write_outputs : List ℕ → List Output
+write_outputs body = pending_outputs ++ begins (data_program body) ∷ output.Reply None ∷ []
 
 -- with these outputs the events are a life
 abbrev pub IsRunOf : State → List ℕ → Type 0

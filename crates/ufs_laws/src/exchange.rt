@@ -18,7 +18,7 @@ ghost use Rattle.ufs_spec.specs.Lives.{IsOpened, Life};
 ghost use Rattle.ufs_spec.specs.Machine.{Allowed, Answer, Call, Heard, IsHeard, begun, blocks_expected, blocks_in, claimed_by, data_for, deed_behind, deed_reply, in_use, message_fault, observe, read_begun, read_blocks, set_deed, tag_in, without_tasks};
 ghost use Rattle.ufs_spec.specs.Messages.{IsAmong};
 ghost use Rattle.ufs_spec.specs.Plain.{block_at};
-ghost use Rattle.ufs_spec.specs.Refusals.{Request, State, locked, plain_now, refusal};
+ghost use Rattle.ufs_spec.specs.Refusals.{Request, State, locked, numbers_of, plain_now, refusal};
 
 /// Every list of bytes is heard, as a message with its command or none, or as a fault; and as one thing alone.
 pub fn every_byte_string_is_heard()
@@ -26,8 +26,8 @@ pub fn every_byte_string_is_heard()
     ensures once { (bytes : List ℕ) (h k : Heard) → IsHeard bytes h → IsHeard bytes k → h ≡ k }
 {}
 
-/// A command that the table does not refuse has an operation code that is taken, begins as a task of its own, and never
-/// ends with an invalid operation code, from the opening of a device to the end of its life.
+/// A command that the table does not refuse has an operation code that is taken, begins as a task of its own, and
+/// never ends with an invalid operation code, from the opening of a device to the end of its life.
 pub fn a_command_is_never_unknown_once_taken()
     ensures passes { (s : State) (r : Request) → IsRequest r → refusal s r ≡ None →
         (c : Cdb) × (r.cdb ≡ Some c) × IsAmong taken_operations (operation_of c) }
@@ -37,13 +37,15 @@ pub fn a_command_is_never_unknown_once_taken()
     ensures open { (n : Numbers) (array : Array) (bad : Spot → Bool) (s : State) → IsOpened n array bad s → AllKnown s }
     ensures call { (s : State) (call : Call) (answer : Answer) → IsSpoken call → Allowed s call answer →
         AllKnown s → AllKnown (observe s call answer) }
-    ensures life { (s : State) (es : List Event) (os : List Output) (t : State) → AllKnown s → Life s es os t → AllKnown t }
+    ensures life { (s : State) (es : List Event) (os : List Output) (t : State) → AllKnown s → Life s es os t →
+        AllKnown t }
 {}
 
-/// The data of a command are asked for one part after another, each once: at the offset of what came so far, as many bytes as
-/// are left but 4096 at most. No other data are taken, and what a WRITE accepts is all of them joined.
+/// The data of a command are asked for one part after another, each once: at the offset of what came so far, as many
+/// bytes as are left but 4096 at most. No other data are taken, and what a WRITE accepts is all of them joined.
 pub fn data_are_asked_for_in_order()
-    ensures asks { (s : State) (task : Task) (purpose : Purpose) (gathered : List ℕ) → deed_reply s task (Gathering purpose gathered false)
+    ensures asks { (s : State) (task : Task) (purpose : Purpose) (gathered : List ℕ) →
+        deed_reply s task (Gathering purpose gathered false)
         ≡ Some (message.ReadyToTransfer task.lun task.tag (length gathered) (min 4096 (task.length - length gathered))) }
     ensures asks_once { (s : State) (task : Task) (purpose : Purpose) (gathered : List ℕ) →
         deed_reply s task (Gathering purpose gathered true) ≡ None }
@@ -54,12 +56,14 @@ pub fn data_are_asked_for_in_order()
         (task : Task) × (task_of tag s.tasks ≡ Some task) × WasAsked task lun offset (length bytes) }
     ensures gathered { (s : State) (task : Task) (purpose : Purpose) (before bytes : List ℕ) →
         nat_lt (length (before ++ bytes)) task.length ≡ true →
-        data_for s task (Gathering purpose before true) bytes ≡ set_deed s task.tag (Gathering purpose (before ++ bytes) false) }
+        data_for s task (Gathering purpose before true) bytes
+        ≡ set_deed s task.tag (Gathering purpose (before ++ bytes) false) }
     ensures accepted { (s : State) (task : Task) (unit address blocks : ℕ) (forced : Bool) (before bytes : List ℕ) →
         locked s ≡ false → length (before ++ bytes) ≡ task.length →
         (data_for s task (Gathering (ForWrite unit address blocks forced) before true) bytes).accepted
         ≡ s.accepted ++ Write unit address (blocks_in blocks (before ++ bytes)) ∷ [] }
-    ensures all_bytes { (blocks : ℕ) (bytes : List ℕ) → length bytes ≡ 4096 * blocks → concat (blocks_in blocks bytes) ≡ bytes }
+    ensures all_bytes { (blocks : ℕ) (bytes : List ℕ) → length bytes ≡ 4096 * blocks →
+        concat (blocks_in blocks bytes) ≡ bytes }
     ensures within { (total offset : ℕ) (segments : List (List ℕ)) → offset ≤ total → AreAsked total offset segments →
         offset + length (concat segments) ≤ total }
     ensures offsets { (total : ℕ) (front : List (List ℕ)) (segment : List ℕ) (back : List (List ℕ)) →
@@ -67,8 +71,8 @@ pub fn data_are_asked_for_in_order()
         (length (concat front) ≡ 4096 * length front) × (length segment ≡ min 4096 (total - 4096 * length front)) }
 {}
 
-/// A READ fixes its blocks at its COMMAND and sends them one after another, at the offsets 0, 4096 and so on; joined, they are
-/// the first bytes of what these blocks held then, as many as the host expects, whatever is accepted later.
+/// A READ fixes its blocks at its COMMAND and sends them one after another, at the offsets 0, 4096 and so on; joined,
+/// they are the first bytes of what these blocks held then, as many as the host expects, whatever is accepted later.
 pub fn a_read_sends_its_blocks()
     ensures begins { (s : State) (r : Request) (c : Cdb) (unit address n : ℕ) → 1 ≤ blocks_expected r n →
         (read_begun s r c unit address n).tasks
@@ -90,31 +94,38 @@ pub fn a_read_sends_its_blocks()
     ensures message { (task : Task) (sent : ℕ) (body : List ℕ) → block_message task sent body
         ≡ message.DataIn task.lun task.tag (4096 * sent)
         (record { items = take (min 4096 (min task.expected task.length - 4096 * sent)) body }) }
-    ensures goes_on { (task : Task) (blocks : List ReadBlock) (sent : ℕ) (block : ReadBlock) → slice_get blocks sent ≡ Some block →
+    ensures goes_on { (task : Task) (blocks : List ReadBlock) (sent : ℕ) (block : ReadBlock) →
+        slice_get blocks sent ≡ Some block →
         block.state ≢ NotRead → deed_behind task (Sending blocks sent)
         ≡ Some (if nat_lt (sent + 1) (length blocks) then Sending blocks (sent + 1) else Answering Good task.length) }
     ensures stays { (s : State) (call : Call) (answer : Answer) (tag : ℕ) (bodies : List (List ℕ)) → IsSpoken call →
-        Allowed s call answer → in_use s tag ≡ true → TagSends tag bodies s → TagSends tag bodies (observe s call answer) }
+        Allowed s call answer → in_use s tag ≡ true → TagSends tag bodies s →
+        TagSends tag bodies (observe s call answer) }
     ensures joined { (total n : ℕ) (body : ℕ → List ℕ) → ((i : ℕ) → i < n → length (body i) ≡ 4096) →
         flat_map (λ i. take (min 4096 (total - 4096 * i)) (body i)) (below n) ≡ take total (flat_map body (below n)) }
 {}
 
-/// What task management aborts is gone at once, with its claims and all that it keeps; what it had accepted stays accepted, and
-/// all else stays as it was. No task has its tag until a COMMAND opens one again, so that no reply of it follows.
+/// What task management aborts is gone at once, with its claims and all that it keeps; what it had accepted stays
+/// accepted, and all else stays as it was. No task has its tag until a COMMAND opens one again, so that no reply of
+/// it follows.
 pub fn nothing_of_an_aborted_tag_follows()
     ensures gone { (s : State) (is : Task → Bool) (k : ℕ) (task : Task) →
         slice_get (without_tasks s is).tasks k ≡ Some task → is task ≡ false }
-    ensures others { (s : State) (is : Task → Bool) → (without_tasks s is).tasks ≡ filter (λ task. not (is task)) s.tasks }
+    ensures others { (s : State) (is : Task → Bool) →
+        (without_tasks s is).tasks ≡ filter (λ task. not (is task)) s.tasks }
     ensures shorts { (s : State) (is : Task → Bool) → (without_tasks s is).shorts ≡ s.shorts }
     ensures accepted { (s : State) (is : Task → Bool) → (without_tasks s is).accepted ≡ s.accepted }
     ensures claims { (s : State) (is : Task → Bool) → (without_tasks s is).translation.claims
-        ≡ s.translation.claims - sum_by (λ task. claimed_by task.deed task.command) (filter is s.tasks) }
+        ≡ s.translation.claims - sum_by (λ task. claimed_by (numbers_of s) task.deed task.command) (filter is s.tasks) }
     ensures pins { (s : State) (is : Task → Bool) (k : ℕ) (task : Task) → slice_get (filter is s.tasks) k ≡ Some task →
         Pinned task.tag (without_tasks s is).translation.pins ≡ false }
     ensures tag { (s : State) (is : Task → Bool) (tag : ℕ) → ((task : Task) → task.tag ≡ tag → is task ≡ true) →
         NoTask tag (without_tasks s is) }
-    ensures call { (s : State) (call : Call) (answer : Answer) (tag : ℕ) → IsSpoken call → Asks (λ r. r.tag ≢ tag) call →
+    ensures call { (s : State) (call : Call) (answer : Answer) (tag : ℕ) → IsSpoken call →
+        Asks (λ r. r.tag ≢ tag) call →
         Allowed s call answer → NoTask tag s → NoTask tag (observe s call answer) }
-    ensures no_reply { (s : State) (tag k : ℕ) (task : Task) → NoTask tag s → slice_get s.tasks k ≡ Some task → task.tag ≢ tag }
-    ensures reply_has_its_tag { (s : State) (task : Task) (m : Message) → deed_reply s task task.deed ≡ Some m → tag_in m ≡ task.tag }
+    ensures no_reply { (s : State) (tag k : ℕ) (task : Task) → NoTask tag s → slice_get s.tasks k ≡ Some task →
+        task.tag ≢ tag }
+    ensures reply_has_its_tag { (s : State) (task : Task) (m : Message) → deed_reply s task task.deed ≡ Some m →
+        tag_in m ≡ task.tag }
 {}

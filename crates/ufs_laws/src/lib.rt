@@ -32,4 +32,4 @@ pub use held::{acknowledged_commands_are_held, held_commands_stay_held};
 pub use rows::{gap_keeps_the_first_write, write_after_the_gap_is_kept};
 pub use runs::{a_refused_read_says_why, a_written_block_is_read};
 pub use table::{each_line_of_the_table_counts, lines_that_never_meet};
-pub use tables::{failed_request_accepts_nothing, worked_queries};
+pub use tables::{failed_request_accepts_nothing, worked_queries, worked_sense};

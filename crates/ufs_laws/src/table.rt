@@ -14,48 +14,62 @@ ghost use Rattle.ufs_spec.specs.Stages.{most_tasks};
 ghost use Rattle.ufs_spec.specs.Refusals.{BootUnit, Request, State, first_line, has_other_response, has_wrong_list, is_boot_read, is_crowded, is_refused_write, is_too_long, lacks_response, lines_for, locked, mended, not_taken, operations_of, refusal};
 ghost use Rattle.ufs_spec.specs.Translation.{free_slots};
 
-/// If two lines of the table apply, the one that stands first decides: for each line a request that a later line would
-/// refuse with another status. Of lines that no clause tells apart here, `lines_that_never_meet` says that never both apply.
+/// If two lines of the table apply, the one that stands first decides: for each line a request that a later line
+/// would refuse with another status. Of lines that no clause tells apart here, `lines_that_never_meet` says that
+/// never both apply.
 pub fn each_line_of_the_table_counts()
     // Too many tasks are open, and the command would be refused.
-    ensures full { (s : State) (r : Request) (status : Status) → most_tasks ≤ length s.tasks → refusal s r ≡ Some status →
+    ensures full { (s : State) (r : Request) (status : Status) → most_tasks ≤ length s.tasks →
+        refusal s r ≡ Some status →
         command_heard s r ≡ with_short s (short_reply r.tag (response r.lun r.tag r.expected 0 TaskSetFull)) }
     // There is no unit 3, and the CDB spells no command.
-    ensures unit { (s : State) (tag : ℕ) (bytes : List ℕ) → IsIdle s → IsRefused s (spells_none 0x40 3 tag bytes) no_unit }
+    ensures unit { (s : State) (tag : ℕ) (bytes : List ℕ) → IsIdle s →
+        IsRefused s (spells_none 0x40 3 tag bytes) no_unit }
     // An operation code that is not taken, in a CDB that spells no command.
     ensures operation { (s : State) (tag : ℕ) (rest : List ℕ) → IsIdle s →
         IsRefused s (spells_none 0x40 0 tag (0xFF ∷ rest)) invalid_operation }
     // 33 blocks, past the end of unit 0.
     ensures blocks { (s : State) (tag : ℕ) → IsIdle s → IsRefused s (asks 0x40 0 tag (read_at 256 33)) invalid_field }
     // UNMAP with a list of 16 bytes, and without the flag of its direction.
-    ensures list { (s : State) (tag : ℕ) → first_line (lines_for s (asks 0x00 0 tag (cdb.Unmap 16)) (cdb.Unmap 16)) ≡ Some list_length_error }
+    ensures list { (s : State) (tag : ℕ) → first_line (lines_for s (asks 0x00 0 tag (cdb.Unmap 16)) (cdb.Unmap 16))
+        ≡ Some list_length_error }
     // A READ past the end of unit 0, without the flag of its direction.
     ensures flag { (s : State) (tag : ℕ) → IsIdle s → IsRefused s (asks 0x00 0 tag (read_at 256 1)) invalid_field }
     // A READ past the end of unit 0, before the device is mended.
-    ensures past { (s : State) (tag : ℕ) → IsIdle s → mended s ≡ false → IsRefused s (asks 0x40 0 tag (read_at 256 1)) out_of_range }
+    ensures past { (s : State) (tag : ℕ) → IsIdle s → mended s ≡ false →
+        IsRefused s (asks 0x40 0 tag (read_at 256 1)) out_of_range }
     // A WRITE to a locked device, before it is mended.
     ensures ready { (s : State) (tag : ℕ) → IsIdle s → mended s ≡ false → locked s ≡ true →
         IsRefused s (asks 0x20 0 tag (write_at 0)) not_ready }
     // A WRITE to a locked device, without a free slot.
-    ensures protected { (s : State) (tag : ℕ) → IsIdle s → mended s ≡ true → locked s ≡ true → free_slots s.translation ≡ 0 →
+    ensures protected { (s : State) (tag : ℕ) → IsIdle s → mended s ≡ true → locked s ≡ true →
+        free_slots s.translation ≡ 0 →
         IsRefused s (asks 0x20 0 tag (write_at 0)) write_protected }
     // SECURITY PROTOCOL IN without a response, before the device is mended; and of 512 bytes, without a response.
     ensures ready_first { (s : State) (tag : ℕ) → mended s ≡ false → s.registers.response ≡ [] →
         first_line (lines_for s (asks 0x40 0xC4 tag (cdb.SecurityIn 512)) (cdb.SecurityIn 512)) ≡ Some not_ready }
     ensures response { (s : State) (tag : ℕ) → mended s ≡ true → s.registers.response ≡ [] →
         first_line (lines_for s (asks 0x40 0xC4 tag (cdb.SecurityIn 512)) (cdb.SecurityIn 512)) ≡ Some sequence_error }
+    // SECURITY PROTOCOL IN of 512 bytes if a response of two frames waits, and nothing else.
+    ensures other_response { (s : State) (tag : ℕ) (a b : List ℕ) → mended s ≡ true →
+        s.registers.response ≡ a ∷ b ∷ [] →
+        first_line (lines_for s (asks 0x40 0xC4 tag (cdb.SecurityIn 512)) (cdb.SecurityIn 512)) ≡ Some invalid_field }
     // A WRITE without a free slot, and nothing else.
-    ensures crowded { (s : State) (tag : ℕ) → IsIdle s → mended s ≡ true → locked s ≡ false → free_slots s.translation ≡ 0 →
+    ensures crowded { (s : State) (tag : ℕ) → IsIdle s → mended s ≡ true → locked s ≡ false →
+        free_slots s.translation ≡ 0 →
         IsRefused s (asks 0x20 0 tag (write_at 0)) Busy }
 {}
 
-/// No operation code is refused for a unit that is not there, and the boot unit takes all that a unit without it would miss;
-/// a command of too many blocks has no list; a write or flush reads no response; and what reads a response needs no slots.
+/// No operation code is refused for a unit that is not there, and the boot unit takes all that a unit without it
+/// would miss; a command of too many blocks has no list; a write or flush reads no response; and what reads a
+/// response needs no slots.
 pub fn lines_that_never_meet()
     ensures unit_or_operation { (r : Request) → not_taken r None ≡ false }
-    ensures boot_or_operation { (operation : ℕ) → is_boot_read operation ≡ true → is_among (operations_of BootUnit) operation ≡ true }
+    ensures boot_or_operation { (operation : ℕ) → is_boot_read operation ≡ true →
+        is_among (operations_of BootUnit) operation ≡ true }
     ensures blocks_or_list { (n : Numbers) (c : Cdb) → is_too_long n c ≡ true → has_wrong_list c ≡ false }
-    ensures write_or_response { (s : State) (u : Option UnitSpec) (c : Cdb) → is_refused_write s u c ≡ true → lacks_response s c ≡ false }
+    ensures write_or_response { (s : State) (u : Option UnitSpec) (c : Cdb) → is_refused_write s u c ≡ true →
+        lacks_response s c ≡ false }
     ensures write_or_other_response { (s : State) (u : Option UnitSpec) (c : Cdb) → is_refused_write s u c ≡ true →
         has_other_response s c ≡ false }
     ensures response_or_slots { (s : State) (c : Cdb) → lacks_response s c ≡ true → is_crowded s c ≡ false }

@@ -1,6 +1,7 @@
-//! The tables of queries and of RPMB requests.
+//! The tables of queries, of RPMB requests and of sense data.
 ghost use Rattle.std.specs.Prelude.{◌≡◌, ◌⊎◌, ◌∷◌, ◌++◌, [], ℕ, Bool, true, false, List, Some, replicate};
 ghost use Rattle.ufs_spec.specs.declared.Numbers.{Numbers};
+ghost use Rattle.ufs_spec.specs.Cdbs.{fixed_sense};
 ghost use Rattle.ufs_spec.specs.Commands.{Command};
 ghost use Rattle.ufs_spec.specs.Exchanges.{Registers};
 ghost use Rattle.ufs_spec.specs.Plain.{Plain};
@@ -28,4 +29,13 @@ pub fn worked_queries()
 pub fn failed_request_accepts_nothing()
     ensures { (p : Plain) (r : Registers) (locked : Bool) (frames : List Frame) (result : ℕ) (c : Command) →
         rpmb_outcome p r locked frames ≡ Results result (Some c) → (result ≡ 0) ⊎ (result ≡ 0x80) }
+{}
+
+/// The eighteen bytes of fixed sense data: 70h, the key in byte 2, 0Ah in byte 7, the code in byte 12 and its qualifier
+/// in byte 13, of an invalid field in the CDB and of a unit that becomes ready.
+pub fn worked_sense()
+    ensures invalid_field { fixed_sense (record { key = 5; asc = 0x24; ascq = 0 })
+        ≡ 0x70 ∷ 0 ∷ 5 ∷ 0 ∷ 0 ∷ 0 ∷ 0 ∷ 0x0A ∷ 0 ∷ 0 ∷ 0 ∷ 0 ∷ 0x24 ∷ 0 ∷ 0 ∷ 0 ∷ 0 ∷ 0 ∷ [] }
+    ensures becoming_ready { fixed_sense (record { key = 2; asc = 4; ascq = 1 })
+        ≡ 0x70 ∷ 0 ∷ 2 ∷ 0 ∷ 0 ∷ 0 ∷ 0 ∷ 0x0A ∷ 0 ∷ 0 ∷ 0 ∷ 0 ∷ 4 ∷ 1 ∷ 0 ∷ 0 ∷ 0 ∷ 0 ∷ [] }
 {}

@@ -3,6 +3,7 @@ use Rattle.std.specs.Prelude.{◌≡◌, ℕ, ◌+◌, ◌-◌, ◌*◌, ◌≤�
 use Rattle.std.specs.List.{list_all}
 use Rattle.std.specs.Int.{div_ceil}
 use Rattle.arrayvec.specs.ArrayVec.{array_vec_len}
+use Rattle.ufs_spec.specs.Plain.{greatest_command}
 use Rattle.ufs_spec.specs.declared.configs.UnitSpec.{UnitSpec}
 use Rattle.ufs_spec.specs.declared.configs.Numbers.{Numbers}
 use Rattle.ufs_spec.specs.declared.faults.ConfigFault.{ConfigFault}
@@ -35,9 +36,9 @@ in_range n =
     && is_between 64 1024 n.slots
     && is_between 0 (n.dies * n.blocks) n.spare
 
--- how many blocks a command may have once all stages are built, each of them a page of its group
+-- how many blocks a command may have in a configuration once all stages are built, each of them a page of its group
 abbrev pub command_blocks : Numbers → ℕ
-command_blocks n = 32
+command_blocks n = greatest_command
 
 -- Room
 

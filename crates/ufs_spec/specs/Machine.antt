@@ -277,7 +277,8 @@ begun s r unit (cdb.Read6 address blocks) =
 begun s r unit (cdb.Read10 address blocks forced) =
     read_begun s r (cdb.Read10 address blocks forced) unit address (4096 * blocks)
 begun s r unit (cdb.Write6 address blocks) =
-    write_begun s r (cdb.Write6 address blocks) unit address (slots_needed (cdb.Write6 address blocks)) false
+    write_begun s r (cdb.Write6 address blocks) unit address (slots_needed (numbers_of s) (cdb.Write6 address blocks))
+    false
 begun s r unit (cdb.Write10 address blocks forced) =
     write_begun s r (cdb.Write10 address blocks forced) unit address blocks forced
 begun s r unit (cdb.SynchronizeCache10 address blocks immediate) =
@@ -359,13 +360,13 @@ data_heard s (Some task) bytes = data_for s task task.deed bytes
 -- ## Task management (JESD220, 10.7.6)
 
 -- how many slots a task has claimed that still gathers its data
-abbrev pub claimed_by : Deed → Option Cdb → ℕ
-claimed_by (Gathering purpose gathered asked) None = 0
-claimed_by (Gathering purpose gathered asked) (Some c) = slots_needed c
-claimed_by (Sending blocks sent) command = 0
-claimed_by (SendingBytes bytes) command = 0
-claimed_by (Awaiting commands) command = 0
-claimed_by (Answering status carried) command = 0
+abbrev pub claimed_by : Numbers → Deed → Option Cdb → ℕ
+claimed_by n (Gathering purpose gathered asked) None = 0
+claimed_by n (Gathering purpose gathered asked) (Some c) = slots_needed n c
+claimed_by n (Sending blocks sent) command = 0
+claimed_by n (SendingBytes bytes) command = 0
+claimed_by n (Awaiting commands) command = 0
+claimed_by n (Answering status carried) command = 0
 
 abbrev pub is_named : ℕ → ℕ → Task → Bool
 is_named lun meant task = (task.lun == lun) && (task.tag == meant)
@@ -395,8 +396,8 @@ abbrev pub service : State → ℕ → ℕ → ℕ → ℕ
 service s lun function meant = if manages_tasks then service_of s lun function meant else 0x04
 
 -- an aborted task gives back its claims and lets go of all that it keeps; what it had accepted stays accepted
-abbrev pub abort_moves : Task → List Move
-abort_moves task = Release (claimed_by task.deed task.command) ∷ LetGoAll task.tag ∷ []
+abbrev pub abort_moves : Numbers → Task → List Move
+abort_moves n task = Release (claimed_by n task.deed task.command) ∷ LetGoAll task.tag ∷ []
 
 abbrev pub registers_behind : List Task → Registers → Registers
 registers_behind aborted registers =
@@ -404,7 +405,7 @@ registers_behind aborted registers =
 
 abbrev pub without_tasks : State → (Task → Bool) → State
 without_tasks s is =
-    record (with_moves s (flat_map abort_moves (filter is s.tasks))) {
+    record (with_moves s (flat_map (abort_moves (numbers_of s)) (filter is s.tasks))) {
       tasks = filter (λ task. not (is task)) s.tasks;
       registers = registers_behind (filter is s.tasks) s.registers;
     }

@@ -5,6 +5,7 @@ use Rattle.std.specs.List.{flat_map}
 use Rattle.byteorder.specs.Endian.{big_bytes}
 use Rattle.sha2.specs.Sha256.{sha256}
 use Rattle.ufs_spec.specs.Fields.{field_at}
+use Rattle.ufs_spec.specs.Plain.{greatest_command}
 use Rattle.ufs_spec.specs.declared.configs.Numbers.{Numbers}
 use Rattle.ufs_spec.specs.declared.configs.UnitSpec.{UnitSpec}
 use Rattle.ufs_spec.specs.declared.flash.Fence.{Fence}
@@ -32,9 +33,9 @@ tag_in s = record {
   frontier = field_at 8 24 s;
 }
 
--- how many pages a group may have as its tags say it, whatever the configuration
+-- how many pages a group may have as its tags say it, whatever the configuration: one for each block of a command
 abbrev pub group_bound : ℕ
-group_bound = 32
+group_bound = greatest_command
 
 -- the ranges of a tag: kind 1 is data, 2 the RPMB area, 3 settings and 4 a mark
 pub record IsTag (t : Tag) : Type 0 where

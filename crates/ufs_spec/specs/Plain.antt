@@ -86,10 +86,15 @@ shape_of_numbers n = record { blocks = map (λ u. u.blocks) n.units.items; area 
 abbrev pub shape_of : Plain → Shape
 shape_of p = record { blocks = map length p.units; area = length p.area }
 
--- 1 to 32 blocks of a unit
+-- how many blocks a command may have at most, whatever the configuration
+abbrev pub greatest_command : ℕ
+greatest_command = 32
+
+-- one to that many blocks of a unit
 abbrev pub IsBlocksOf : Shape → ℕ → ℕ → ℕ → Type 0
 IsBlocksOf s unit address count =
-    (unit < length s.blocks) × (1 ≤ count) × (count ≤ 32) × (address + count ≤ slice_index_or s.blocks unit 0)
+    (unit < length s.blocks) × (1 ≤ count) × (count ≤ greatest_command)
+    × (address + count ≤ slice_index_or s.blocks unit 0)
 
 -- 1 to 8 blocks of 256 bytes of the RPMB area
 abbrev pub IsAreaPart : Shape → ℕ → ℕ → Type 0

@@ -5,6 +5,7 @@ use Rattle.std.specs.List.{list_any}
 use Rattle.ufs_spec.specs.Cdbs.{Direction, NoData, ToDevice, ToHost, address_of, blocks_of, direction_of, inquiry, length_of, operation_of, read_10, read_6, read_capacity_10, report_luns, request_sense, security_in, security_out, synchronize_cache_10, taken_operations, test_unit_ready, unmap, write_10, write_6}
 use Rattle.ufs_spec.specs.Cells.{Array}
 use Rattle.ufs_spec.specs.Commands.{Command}
+use Rattle.ufs_spec.specs.Configs.{command_blocks}
 use Rattle.ufs_spec.specs.Exchanges.{Busy, Registers, Short, Status, Task, invalid_field, invalid_operation, list_length_error, no_unit, not_ready, out_of_range, sequence_error, write_protected}
 use Rattle.ufs_spec.specs.Messages.{is_among}
 use Rattle.ufs_spec.specs.Plain.{Plain, after}
@@ -208,12 +209,12 @@ has_other_response s (cdb.SecurityIn n) = not (n == 512 * length s.registers.res
 has_other_response s command = false
 
 -- 11: SECURITY PROTOCOL OUT while another is open, or too few free slots
-abbrev pub slots_needed : Cdb → ℕ
-slots_needed (cdb.Write6 address blocks) = blocks_of (cdb.Write6 address blocks)
-slots_needed (cdb.Write10 address blocks forced) = blocks
-slots_needed (cdb.Unmap list) = if list == 24 then 32 else 0
-slots_needed (cdb.SecurityOut n) = 3
-slots_needed command = 0
+abbrev pub slots_needed : Numbers → Cdb → ℕ
+slots_needed n (cdb.Write6 address blocks) = blocks_of (cdb.Write6 address blocks)
+slots_needed n (cdb.Write10 address blocks forced) = blocks
+slots_needed n (cdb.Unmap list) = if list == 24 then command_blocks n else 0
+slots_needed n (cdb.SecurityOut size) = 3
+slots_needed n command = 0
 
 abbrev pub is_security_out : Cdb → Bool
 is_security_out (cdb.SecurityOut n) = true
@@ -226,7 +227,7 @@ sends_frames (Some command) = is_security_out command
 abbrev pub is_crowded : State → Cdb → Bool
 is_crowded s command =
     (is_security_out command && list_any (λ (task : Task). sends_frames task.command) s.tasks)
-    || nat_lt (free_slots s.translation) (slots_needed command)
+    || nat_lt (free_slots s.translation) (slots_needed (numbers_of s) command)
 
 -- The table. Before it stands TASK SET FULL, where as many tasks are open as may be (Machine)
 

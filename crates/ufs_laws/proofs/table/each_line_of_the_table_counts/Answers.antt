@@ -1,4 +1,4 @@
-use Rattle.ufs_laws.proofs.TableLines.{blocks, crowded, flag, full, list, operation, past, protected, ready, ready_first, response_first, unit}
+use Rattle.ufs_laws.proofs.TableLines.{blocks, crowded, flag, full, list, operation, other_response, past, protected, ready, ready_first, response_first, unit}
 use Rattle.ufs_laws.proofs.table.each_line_of_the_table_counts.Goals as goal
 
 pub returns-clause-full : goal.returns-clause-full
@@ -33,6 +33,9 @@ returns-clause-ready_first c = ready_first
 
 pub returns-clause-response : goal.returns-clause-response
 returns-clause-response c = response_first
+
+pub returns-clause-other_response : goal.returns-clause-other_response
+returns-clause-other_response c = other_response
 
 pub returns-clause-crowded : goal.returns-clause-crowded
 returns-clause-crowded c = crowded

@@ -1,0 +1,21 @@
+use Rattle.power_loss.proofs.LivesShow.{call_shows, life_shows, opened_shows, page_body, page_sent}
+use Rattle.power_loss.proofs.LooksShow.{look_shows}
+use Rattle.power_loss.proofs.shown.kept_content_is_what_is_sent.Goals as goal
+
+pub returns-clause-looked : goal.returns-clause-looked
+returns-clause-looked c = look_shows
+
+pub returns-clause-opened : goal.returns-clause-opened
+returns-clause-opened c = opened_shows
+
+pub returns-clause-call : goal.returns-clause-call
+returns-clause-call c = call_shows
+
+pub returns-clause-life : goal.returns-clause-life
+returns-clause-life c = life_shows
+
+pub returns-clause-page : goal.returns-clause-page
+returns-clause-page c = page_body
+
+pub returns-clause-sent : goal.returns-clause-sent
+returns-clause-sent c = page_sent

@@ -1,0 +1,49 @@
+//! The laws of what is kept for a READ: it shows what the READ sends.
+ghost use Rattle.std.specs.Prelude.{◌≡◌, ℕ, Bool, true, Contains, List, Some, slice_get};
+ghost use Rattle.ufs_spec.specs.Cells.{Array};
+ghost use Rattle.ufs_spec.specs.Disk.{Spot};
+ghost use Rattle.ufs_spec.specs.Exchanges.{ReadBlock, Sending, Task, WasRead, block_message, task_of};
+ghost use Rattle.ufs_spec.specs.Keys.{IsKey, content};
+ghost use Rattle.ufs_spec.specs.Ledger.{Name, OnPage, look};
+ghost use Rattle.ufs_spec.specs.Lives.{IsOpened, Life};
+ghost use Rattle.ufs_spec.specs.Machine.{Allowed, Answer, Call, deed_reply, observe};
+ghost use Rattle.ufs_spec.specs.Plain.{shape_of_numbers};
+ghost use Rattle.ufs_spec.specs.Refusals.{State, numbers_of, plain_now};
+ghost use Rattle.ufs_spec.specs.Translation.{Pin, is_mended};
+ghost use Rattle.ufs_spec.specs.declared.configs.Numbers.{Numbers};
+ghost use Rattle.ufs_spec.specs.declared.events.Event.{Event};
+ghost use Rattle.ufs_spec.specs.declared.events.Output.{Output};
+ghost use Rattle.ufs_spec.specs.declared.flash.Key.{Key};
+ghost use Rattle.ufs_spec.specs.declared.flash.Place.{Place};
+ghost use Rattle.power_loss.specs.Exchange.{IsTied, MayCome, ValidState};
+ghost use Rattle.power_loss.specs.Invariant.{IsGroupPage};
+ghost use Rattle.power_loss.specs.Shown.{IsShown, ShowsReads};
+
+/// Once the device is mended, what is looked up of each of its keys shows the key's content now. Each pin is of an open
+/// task, and if the task is a READ, the pin shows the block of its index, at each moment of a life. So the page that is
+/// kept for a block has the bytes of its DATA IN.
+pub fn kept_content_is_what_is_sent()
+    ensures looked { (s : State) (k : Key) → IsTied s → is_mended s.translation.work.mending ≡ true →
+        IsKey (shape_of_numbers (numbers_of s)) k →
+        IsShown s.translation.ledger k (look s.translation.ledger k) (content (plain_now s) k) }
+    ensures opened { (n : Numbers) (array : Array) (bad : Spot → Bool) (s : State) →
+        IsOpened n array bad s → ShowsReads s }
+    ensures call { (s : State) (call : Call) (answer : Answer) →
+        IsTied s → MayCome s call → Allowed s call answer → ShowsReads s → ShowsReads (observe s call answer) }
+    ensures life { (s t : State) (es : List Event) (os : List Output) →
+        ValidState s → ShowsReads s → Life s es os t → ShowsReads t }
+    // The page of each block that is still to be sent has the block's body.
+    ensures page { (s : State) (pin : Pin) (task : Task) (blocks : List ReadBlock) (sent : ℕ) (block : ReadBlock)
+        (name : Name) (place : Place) → IsTied s → ShowsReads s → Contains s.translation.pins pin →
+        task_of pin.tag s.tasks ≡ Some task → task.deed ≡ Sending blocks sent →
+        slice_get blocks pin.index ≡ Some block → pin.looked ≡ OnPage name place →
+        (g : IsGroupPage s.translation.disk.cells s.translation.disk.finished s.translation.disk.erasing name place) →
+        g.body ≡ block.body }
+    // And once it was read, the next reply of its READ carries it.
+    ensures sent { (s : State) (pin : Pin) (task : Task) (blocks : List ReadBlock) (sent : ℕ) (block : ReadBlock)
+        (name : Name) (place : Place) → IsTied s → ShowsReads s → Contains s.translation.pins pin → pin.index ≡ sent →
+        task_of pin.tag s.tasks ≡ Some task → task.deed ≡ Sending blocks sent → slice_get blocks sent ≡ Some block →
+        block.state ≡ WasRead → pin.looked ≡ OnPage name place →
+        (g : IsGroupPage s.translation.disk.cells s.translation.disk.finished s.translation.disk.erasing name place) →
+        deed_reply s task task.deed ≡ Some (block_message task sent g.body) }
+{}
