@@ -272,7 +272,7 @@ class TrialCopy:
         self.write(proofs / "Lib.antt", listed)
 
     def cut_lemma(self, path, name):
-        """Takes a declaration out of a file: its signature, the deeper lines and equations that follow, an empty block."""
+        """Takes out a declaration: its signature, the deeper lines and equations that follow, and an emptied block."""
         text = path.read_text(encoding="utf-8")
         kept, depth = [], None
         for line in text.splitlines(keepends=True):

@@ -533,7 +533,7 @@ RULES = (
     rule(
         "kept_slot_never_a_page",
         "What was looked up in a slot stays there after its group is durable.",
-        "power_loss::kept_pages_stay", LEDGER,
+        "power_loss::a_durable_slot_becomes_its_page", LEDGER,
         ("settled_look l (InSlot name) = looked_at l (Some name)", "settled_look l (InSlot name) = InSlot name"),
     ),
     rule(
@@ -555,13 +555,13 @@ RULES = (
     rule(
         "owed_slot_at_hand",
         "A slot whose content is still owed is at hand.",
-        "power_loss::a_rest_keeps_its_page", MACHINE,
+        "ufs_laws::a_read_sends_its_blocks", MACHINE,
         ("needs_no_read rests (InSlot name) = not (list_any (is_rest_of name) rests)", "needs_no_read rests (InSlot name) = true"),
     ),
     rule(
         "rests_forgotten",
         "The rests of a group's pages are not taken over when it is accepted.",
-        "power_loss::a_rest_keeps_its_page", MOVES,
+        "power_loss::rests_are_found_at_the_accept", MOVES,
         ("rests = t.work.rests ++ rests_of t g", "rests = t.work.rests"),
     ),
     rule(

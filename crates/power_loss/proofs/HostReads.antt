@@ -116,15 +116,13 @@ expected_few expected blocks n e =
     least : (a b : ℕ) → min a b ≤ b
     least a b = grind arith
 
--- they are keys of the device
-pub keys_read : (s : State) (r : Request) (command : Cdb) (n : ℕ) → n ≡ blocks_of command * 4096 → Reads (operation_in r) →
+-- each of them is a key of the device
+pub key_read : (s : State) (r : Request) (command : Cdb) (n : ℕ) → n ≡ blocks_of command * 4096 → Reads (operation_in r) →
     ((unit : ℕ) → lun_of (numbers_of s) r.lun ≡ Some (UnitOf unit) → (r.lun < length (numbers_of s).units.items) × (unit ≡ r.lun)) →
     lacks_unit s r (lun_of (numbers_of s) r.lun) ≡ false → not_taken r (lun_of (numbers_of s) r.lun) ≡ false → is_past command (spec_of s r) ≡ false →
-    All (λ i. IsKey (shape_of_numbers (numbers_of s)) (data_key (unit_or_first (unit_of_request s r)) (address_of command + i))) (below (blocks_expected r n))
-keys_read s r command n size reads ordinary lacks taken past =
-    All-weaker (λ i. i < blocks_expected r n) (λ i. IsKey (shape_of_numbers (numbers_of s)) (data_key (unit_or_first (unit_of_request s r)) (address_of command + i)))
-    (λ i l. subst (λ (u : ℕ). IsKey (shape_of_numbers (numbers_of s)) (data_key u (address_of command + i))) (sym (ap unit_or_first u.is)) (IsData u.number (address_of command + i) inside (within i l)))
-    (below (blocks_expected r n)) (all_below (blocks_expected r n))
+    (i : ℕ) → i < blocks_expected r n → IsKey (shape_of_numbers (numbers_of s)) (data_key (unit_or_first (unit_of_request s r)) (address_of command + i))
+key_read s r command n size reads ordinary lacks taken past i l =
+    subst (λ (u : ℕ). IsKey (shape_of_numbers (numbers_of s)) (data_key u (address_of command + i))) (sym (ap unit_or_first u.is)) (IsData u.number (address_of command + i) inside within)
   where
     units : List UnitSpec
     units = (numbers_of s).units.items
@@ -145,5 +143,14 @@ keys_read s r command n size reads ordinary lacks taken past =
     blocks : get_or (map (λ (x : UnitSpec). x.blocks) units) u.number 0 ≡ u.spec.blocks
     blocks = get_or-map (λ (x : UnitSpec). x.blocks) units u.number no_spec 0 short ∙ ap (λ (x : UnitSpec). x.blocks) (get_or_from_slice_get units u.number u.spec no_spec u.there)
 
-    within : (i : ℕ) → i < blocks_expected r n → address_of command + i < get_or (map (λ (x : UnitSpec). x.blocks) units) u.number 0
-    within i l = let few = expected_few r.expected (blocks_of command) n size in omega (arith, l, few, room, blocks)
+    within : address_of command + i < get_or (map (λ (x : UnitSpec). x.blocks) units) u.number 0
+    within = let few = expected_few r.expected (blocks_of command) n size in omega (arith, l, few, room, blocks)
+
+-- and so are all
+pub keys_read : (s : State) (r : Request) (command : Cdb) (n : ℕ) → n ≡ blocks_of command * 4096 → Reads (operation_in r) →
+    ((unit : ℕ) → lun_of (numbers_of s) r.lun ≡ Some (UnitOf unit) → (r.lun < length (numbers_of s).units.items) × (unit ≡ r.lun)) →
+    lacks_unit s r (lun_of (numbers_of s) r.lun) ≡ false → not_taken r (lun_of (numbers_of s) r.lun) ≡ false → is_past command (spec_of s r) ≡ false →
+    All (λ i. IsKey (shape_of_numbers (numbers_of s)) (data_key (unit_or_first (unit_of_request s r)) (address_of command + i))) (below (blocks_expected r n))
+keys_read s r command n size reads ordinary lacks taken past =
+    All-weaker (λ i. i < blocks_expected r n) (λ i. IsKey (shape_of_numbers (numbers_of s)) (data_key (unit_or_first (unit_of_request s r)) (address_of command + i)))
+    (key_read s r command n size reads ordinary lacks taken past) (below (blocks_expected r n)) (all_below (blocks_expected r n))

@@ -86,6 +86,7 @@ pub mod SpentStarts
 pub mod Spents
 pub mod StartKeeps
 pub mod SpokenReplies
+pub mod SpokenShorts
 pub mod Stays
 pub mod StopCells
 pub mod StopHolds

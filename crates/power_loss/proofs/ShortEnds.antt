@@ -50,7 +50,7 @@ adds_leaves tag s t adds = record { same = λ x h. ap (find (is_short_of tag)) a
 
 -- Messages
 
-managed_shorts : (s : State) (lun function meant : ℕ) → (managed s lun function meant).shorts ≡ s.shorts
+pub managed_shorts : (s : State) (lun function meant : ℕ) → (managed s lun function meant).shorts ≡ s.shorts
 managed_shorts s lun function meant = by (service s lun function meant == 0x00)
   where
     by : (b : Bool) → (if b then without_tasks s (is_aborted lun function meant) else s).shorts ≡ s.shorts
@@ -89,12 +89,12 @@ told_shorts s (Reading reader place) (WentWrong left) = refl
 told_shorts s (Programming place cell) ending = refl
 told_shorts s (Erasing spot) ending = refl
 
-ends_shorts : (s : State) (die : ℕ) (flight : Option Flight) (ending : Ending) (left : Array) →
+pub ends_shorts : (s : State) (die : ℕ) (flight : Option Flight) (ending : Ending) (left : Array) →
     (ends_with s die flight ending left).shorts ≡ s.shorts
 ends_shorts s die None ending left = refl
 ends_shorts s die (Some flight) ending left = told_shorts s flight ending
 
-given_shorts : (s : State) (die : ℕ) (flight : Option Flight) → (given s die flight).shorts ≡ s.shorts
+pub given_shorts : (s : State) (die : ℕ) (flight : Option Flight) → (given s die flight).shorts ≡ s.shorts
 given_shorts s die None = refl
 given_shorts s die (Some flight) = refl
 

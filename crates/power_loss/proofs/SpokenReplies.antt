@@ -1,17 +1,17 @@
 -- In a state that is tied to its dies and commands each call keeps what tasks need for their replies.
-use Rattle.std.proofs.Common.{◌≡◌, ℕ, ◌+◌, ◌*◌, ◌<◌, ◌≤◌, Bool, true, false, List, [], ◌∷◌, length, map, get_or, Option, Some, None, refl, sym, ap, ◌∙◌, subst, arith}
-use Rattle.std.specs.Prelude.{if◌then◌else◌, nat_lt}
+use Rattle.std.proofs.Common.{◌≡◌, ◌⊎◌, ℕ, ◌+◌, Bool, true, false, List, [], ◌∷◌, map, Some, refl, sym, ap, ◌∙◌, subst, inl, inr}
+use Rattle.std.specs.Prelude.{if◌then◌else◌}
 use Rattle.std.specs.List.{list_any}
-use Rattle.std.proofs.lemmas.List.{length-map}
 use Rattle.ufs_laws.proofs.Commands.{all_kept_plain}
-use Rattle.ufs_laws.proofs.Speaks.{BlocksFit, ReadsFit, SetsOne, speaks_law}
+use Rattle.ufs_laws.proofs.Speaks.{ReadsFit, SetsOne, speaks_law}
 use Rattle.ufs_laws.proofs.States.{content_is_block}
 use Rattle.ufs_laws.proofs.TaskWalk.{Any, any_asks, tasks_kept}
 use Rattle.ufs_laws.specs.Exchange.{Every, IsSpoken}
 use Rattle.ufs_laws.specs.Replies.{TaskSpeaks}
-use Rattle.ufs_spec.proofs.Facts.{ltb-true, same_Some}
+use Rattle.ufs_spec.proofs.Facts.{same_Some}
+use Rattle.ufs_spec.specs.Cdbs.{address_of, operation_of, read_10, read_6}
 use Rattle.ufs_spec.specs.Exchanges.{Deed, Task, is_task_of, task_of, with_deed}
-use Rattle.ufs_spec.specs.Keys.{IsBlock, IsData, IsKey, data_key}
+use Rattle.ufs_spec.specs.Keys.{IsKey, data_key}
 use Rattle.ufs_laws.proofs.SpokenCalls.{spoken}
 use Rattle.ufs_spec.specs.Cells.{Array}
 use Rattle.ufs_spec.specs.Disk.{Spot}
@@ -19,13 +19,14 @@ use Rattle.ufs_spec.specs.Lives.{IsOpened, Leads, Life}
 use Rattle.ufs_spec.specs.declared.events.Event.{Event}
 use Rattle.ufs_spec.specs.declared.events.Output.{Output}
 use Rattle.ufs_spec.specs.Machine.{Allowed, Answer, Call, observe, unit_or_first}
-use Rattle.ufs_spec.specs.Plain.{Shape, block_at, shape_of, shape_of_numbers}
-use Rattle.ufs_spec.specs.Refusals.{Lun, Request, State, UnitOf, lacks_unit, lun_of, numbers_of, plain_now, refusal, unit_in, unit_of_request}
+use Rattle.ufs_spec.specs.Plain.{Shape, shape_of_numbers}
+use Rattle.ufs_spec.specs.Refusals.{Request, State, numbers_of, operation_in, plain_now, unit_of_request}
 use Rattle.ufs_spec.specs.declared.configs.Numbers.{Numbers}
-use Rattle.ufs_spec.specs.declared.configs.UnitSpec.{UnitSpec}
-use Rattle.ufs_spec.specs.declared.scsi.Cdb.TheVariants as cdb
+use Rattle.ufs_spec.specs.declared.scsi.Cdb.{Cdb}
 use Rattle.power_loss.specs.Exchange.{IsTied, TasksDiffer, ValidState}
-use Rattle.power_loss.proofs.HostCommands.{Passed, UnitTold, lies_within, passed}
+use Rattle.power_loss.proofs.CallsKeep.{operation_is}
+use Rattle.power_loss.proofs.HostCommands.{Passed, lun_told, passed}
+use Rattle.power_loss.proofs.HostReads.{Reads, key_read}
 use Rattle.power_loss.proofs.OneMore.{eq_told, if_false, if_true}
 use Rattle.power_loss.proofs.RightChanges.{shape_after}
 use Rattle.power_loss.proofs.TaskLists.{none_changed}
@@ -52,42 +53,25 @@ sets_one s v task deed found all p = every_set TaskSpeaks task deed s.tasks v.ta
 
 -- What is read
 
--- while no well-known unit takes commands, each unit is one of the configuration
-ordinary : (n : Numbers) (byte : ℕ) (lun : Lun) → lun_of n byte ≡ Some lun → (byte < length n.units.items) × (lun ≡ UnitOf byte)
-ordinary n byte lun h = by (nat_lt byte (length n.units.items)) refl h
-  where
-    by : (b : Bool) → nat_lt byte (length n.units.items) ≡ b → (if b then Some (UnitOf byte) else None) ≡ Some lun → (byte < length n.units.items) × (lun ≡ UnitOf byte)
-    by true e k = (ltb-true byte (length n.units.items) e, sym (same_Some (UnitOf byte) lun k))
-    by false e k = let none : None ≡ Some lun = k in cc
+-- a READ has the operation code of READ(6) or READ(10)
+reads_in : (r : Request) (c : Cdb) → operation_in r ≡ operation_of c → (operation_of c ≡ read_6) ⊎ (operation_of c ≡ read_10) → Reads (operation_in r)
+reads_in r c op (inl six) = inl (op ∙ six)
+reads_in r c op (inr ten) = inr (op ∙ ten)
 
-read_unit : (s : State) (r : Request) → lacks_unit s r (lun_of (numbers_of s) r.lun) ≡ false → UnitTold s r
-read_unit s r h = by (lun_of (numbers_of s) r.lun) refl h
-  where
-    by : (x : Option Lun) → lun_of (numbers_of s) r.lun ≡ x → lacks_unit s r x ≡ false → UnitTold s r
-    by None e lacks = let no : true ≡ false = lacks in cc
-    by (Some lun) e lacks =
-        let o = ordinary (numbers_of s) r.lun lun e in
-        record { there = o.0; is = ap (unit_in s r) (e ∙ ap Some o.1) }
-
+-- of the unit that is read, also if that is the boot unit
 reads_fit : (s : State) → IsTied s → ReadsFit s
-reads_fit s v r address blocks forced e refused i low =
-    subst (λ (unit : ℕ). IsBlock (block_at unit (address + i) (plain_now s))) (sym (ap unit_or_first told.is))
-    (content_is_block (plain_now s) (all_kept_plain s.base s.accepted v.base.0 v.commands) (data_key r.lun (address + i))
-    (subst (λ (z : Shape). IsKey z (data_key r.lun (address + i))) (sym (shape_after s.base s.accepted v.commands ∙ v.base.1)) key))
+reads_fit s v r c n is e refused reads size i low =
+    content_is_block (plain_now s) (all_kept_plain s.base s.accepted v.base.0 v.commands) (data_key (unit_or_first (unit_of_request s r)) (address_of c + i))
+    (subst (λ (z : Shape). IsKey z (data_key (unit_or_first (unit_of_request s r)) (address_of c + i))) (sym (shape_after s.base s.accepted v.commands ∙ v.base.1)) key)
   where
-    p : Passed s r (cdb.Read10 address blocks forced)
-    p = passed s r (cdb.Read10 address blocks forced) e refused
+    p : Passed s r c
+    p = passed s r c e refused
 
-    told : UnitTold s r
-    told = read_unit s r p.unit
+    op : operation_in r ≡ operation_of c
+    op = operation_is r.cdb c r.bytes is.1.2 e
 
-    key : IsKey (shape_of_numbers (numbers_of s)) (data_key r.lun (address + i))
-    key =
-        let units = (numbers_of s).units.items in
-        let lies = lies_within s r (cdb.Read10 address blocks forced) told p.within in
-        let there = told.there in
-        let count = length-map units (λ (x : UnitSpec). x.blocks) in
-        IsData r.lun (address + i) (omega arith) (omega arith)
+    key : IsKey (shape_of_numbers (numbers_of s)) (data_key (unit_or_first (unit_of_request s r)) (address_of c + i))
+    key = key_read s r c n size (reads_in r c op reads) (λ unit same. lun_told (numbers_of s) r.lun unit same) p.unit p.taken p.within i low
 
 -- Every call
 

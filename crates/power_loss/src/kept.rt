@@ -1,10 +1,10 @@
 //! The laws of what is kept: what a task looked up, and where the rest of a page comes from that a command has in part.
-ghost use Rattle.std.specs.Prelude.{◌≡◌, ◌≢◌, ◌<◌, ℕ, Bool, true, false, All, Contains, List, [], Option, Some, slice_get};
+ghost use Rattle.std.specs.Prelude.{◌≡◌, ◌≢◌, ◌<◌, ◌++◌, ℕ, Bool, true, false, All, Contains, List, [], Option, Some, slice_get};
 ghost use Rattle.ufs_spec.specs.Cells.{GroupPage, IsCell, Opens, key_of};
 ghost use Rattle.ufs_spec.specs.Disk.{Erasing, ForRest, ForStep, ForTask, Reader, Reading, Spot, spot_of};
 ghost use Rattle.ufs_spec.specs.Keys.{Group, Item};
 ghost use Rattle.ufs_spec.specs.Ledger.{Entry, InSlot, Name, OnPage, entry_of, look, next_number};
-ghost use Rattle.ufs_spec.specs.Moves.{IsEndingOf, ReadRight, ReadWrong};
+ghost use Rattle.ufs_spec.specs.Moves.{Accept, IsEndingOf, ReadRight, ReadWrong, moved};
 ghost use Rattle.ufs_spec.specs.Translation.{FromPage, MayTake, Pin, Rest, Source, Translation, is_in_part, rests_of, source_of};
 ghost use Rattle.ufs_spec.specs.declared.flash.Outcome.TheVariants as outcome;
 ghost use Rattle.ufs_spec.specs.declared.flash.Page.{Page};
@@ -17,6 +17,8 @@ ghost use Rattle.power_loss.specs.Rests.{IsRestOf};
 /// then, and for each of these whose content is not at hand.
 pub fn rests_are_found_at_the_accept()
     ensures none { (t : Translation) (g : Group) → All (λ (item : Item). is_in_part item.key ≡ false) g → rests_of t g ≡ [] }
+    ensures added { (t : Translation) (claimed : ℕ) (g : Group) →
+        (moved t (Accept claimed g)).work.rests ≡ t.work.rests ++ rests_of t g }
     ensures each { (t : Translation) (g : Group) (rest : Rest) → Contains (rests_of t g) rest → IsRestOf t g rest }
     ensures all { (t : Translation) (g : Group) (i : ℕ) (item : Item) (source : Source) →
         slice_get g i ≡ Some item → is_in_part item.key ≡ true → source_of t.work.rests (look t.ledger item.key) ≡ Some source →

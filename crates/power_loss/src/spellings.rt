@@ -1,12 +1,12 @@
 //! Every reply is a message of the grammar, of at most 4128 bytes.
-ghost use Rattle.std.specs.Prelude.{◌≡◌, ◌≤◌, ℕ, Bool, List, length, Some};
+ghost use Rattle.std.specs.Prelude.{◌≡◌, ◌≤◌, ℕ, Bool, List, length, slice_get, Some};
 ghost use Rattle.ufs_laws.specs.Exchange.{Every, IsSpoken};
-ghost use Rattle.ufs_laws.specs.Replies.{TaskSpeaks};
+ghost use Rattle.ufs_laws.specs.Replies.{ShortsSpeak, TaskSpeaks};
 ghost use Rattle.ufs_spec.specs.Cells.{Array};
 ghost use Rattle.ufs_spec.specs.Disk.{Spot};
-ghost use Rattle.ufs_spec.specs.Exchanges.{Task};
+ghost use Rattle.ufs_spec.specs.Exchanges.{Short, Task};
 ghost use Rattle.ufs_spec.specs.Lives.{IsOpened, Life};
-ghost use Rattle.ufs_spec.specs.Machine.{Allowed, Answer, Call, deed_reply, observe};
+ghost use Rattle.ufs_spec.specs.Machine.{Allowed, Answer, Call, Due, deed_reply, observe};
 ghost use Rattle.ufs_spec.specs.Messages.{IsMessage, spelling};
 ghost use Rattle.ufs_spec.specs.Refusals.{State};
 ghost use Rattle.ufs_spec.specs.declared.Event.{Event};
@@ -15,8 +15,9 @@ ghost use Rattle.ufs_spec.specs.declared.Numbers.{Numbers};
 ghost use Rattle.ufs_spec.specs.declared.Output.{Output};
 ghost use Rattle.power_loss.specs.Exchange.{IsTied, ValidState};
 
-/// A message is spelled in at most 4128 bytes. Each reply of a task is one, from the opening of a device to the end
-/// of its life: the task's LUN, tag and numbers fit their fields, and each block that it sends is 4096 bytes.
+/// A message is spelled in at most 4128 bytes. Each reply that is due is one, from the opening of a device to the end
+/// of its life: a task's LUN, tag and numbers fit their fields, and each block that it sends is 4096 bytes; the reply
+/// of a short exchange has its fields from the message that opened it.
 pub fn replies_can_be_spelled()
     ensures size { (m : Message) → IsMessage m → length (spelling m) ≤ 4128 }
     ensures task { (s : State) (task : Task) (m : Message) → TaskSpeaks task → deed_reply s task task.deed ≡ Some m →
@@ -28,4 +29,14 @@ pub fn replies_can_be_spelled()
     ensures life { (s : State) (es : List Event) (os : List Output) (t : State) → ValidState s →
         Every TaskSpeaks s.tasks →
         Life s es os t → Every TaskSpeaks t.tasks }
+    ensures short { (s : State) (k : ℕ) (short : Short) → ShortsSpeak s → slice_get s.shorts k ≡ Some short →
+        IsMessage short.reply }
+    ensures shorts_open { (n : Numbers) (array : Array) (bad : Spot → Bool) (s : State) → IsOpened n array bad s →
+        ShortsSpeak s }
+    ensures shorts_call { (s : State) (call : Call) (answer : Answer) → IsSpoken call → Allowed s call answer →
+        ShortsSpeak s → ShortsSpeak (observe s call answer) }
+    ensures shorts_life { (s : State) (es : List Event) (os : List Output) (t : State) → ShortsSpeak s →
+        Life s es os t → ShortsSpeak t }
+    ensures due { (s : State) (m : Message) → Every TaskSpeaks s.tasks → ShortsSpeak s → Due s m →
+        IsMessage m × (length (spelling m) ≤ 4128) }
 {}

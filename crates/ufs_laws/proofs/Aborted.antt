@@ -141,7 +141,7 @@ filtered_tag tag is all (t ∷ ts) = by (is t) refl (filtered_tag tag is all ts)
 pub no_tag : (s : State) (is : Task → Bool) (tag : ℕ) → ((task : Task) → task.tag ≡ tag → is task ≡ true) → NoTask tag (without_tasks s is)
 no_tag s is tag all = filtered_tag tag is all s.tasks
 
-every_at : (P : Task → Type 0) (tasks : List Task) (k : ℕ) (task : Task) → Every P tasks → slice_get tasks k ≡ Some task → P task
+pub every_at : (P : Task → Type 0) (tasks : List Task) (k : ℕ) (task : Task) → Every P tasks → slice_get tasks k ≡ Some task → P task
 every_at P [] k task h e = let none : None ≡ Some task = e in cc
 every_at P (t ∷ ts) zero task h e = subst P (same_Some t task e) h.0
 every_at P (t ∷ ts) (suc k) task h e = every_at P ts k task h.1 e

@@ -1,7 +1,7 @@
 -- A READ sends its blocks in order, as they were at its COMMAND.
-use Rattle.std.proofs.Common.{◌≡◌, ◌≢◌, ◌⊎◌, ℕ, zero, suc, ◌+◌, ◌-◌, ◌*◌, ◌≤◌, ◌<◌, Bool, true, false, min, nat_lt, if◌then◌else◌, List, [], ◌∷◌, ◌++◌, length, map, take, Option, Some, None, refl, sym, ap, ◌∙◌, subst, inl, inr, arith}
+use Rattle.std.proofs.Common.{◌≡◌, ◌≢◌, ◌⊎◌, ℕ, zero, suc, ◌+◌, ◌-◌, ◌*◌, ◌≤◌, ◌<◌, Bool, true, false, min, nat_lt, if◌then◌else◌, List, [], ◌∷◌, ◌++◌, length, map, take, Option, Some, None, refl, sym, ap, ◌∙◌, subst, inl, inr, arith, not}
 use Rattle.std.specs.Prelude.{slice_get, slice_set}
-use Rattle.std.specs.List.{flat_map}
+use Rattle.std.specs.List.{flat_map, list_any}
 use Rattle.std.proofs.lemmas.List.{take_all}
 use Rattle.ufs_laws.proofs.Parts.{joined_next, length-joined, length-made}
 use Rattle.ufs_laws.proofs.TaskWalk.{Any, any_asks, IsTaskLaw, begun_task, every_mapped, task_for, tasks_kept}
@@ -9,11 +9,13 @@ use Rattle.ufs_laws.specs.Exchange.{Every, IsSpoken, SendsThese, TagSends}
 use Rattle.ufs_spec.proofs.Facts.{at_most, eqb-true, same_Some, true≢false}
 use Rattle.ufs_spec.specs.Exchanges.{Answering, Awaiting, Deed, Gathering, Good, NotRead, Purpose, ReadBlock, ReadState, Sending, Task, SendingBytes, Unread, WasRead, block_message, count_at, is_task_of, read_error, response, with_deed, filled}
 use Rattle.ufs_spec.specs.Keys.{below}
-use Rattle.ufs_spec.specs.Machine.{Allowed, Answer, Call, block_reply, blocks_expected, deed_behind, deed_behind_block, deed_behind_state, deed_locked, deed_read, deed_reply, in_use, is_at_hand, next_block_reply, observe, pin_of, read_begun, read_blocks, sending, set_state, task_read, unit_or_first, with_block, is_to_fill, task_filled}
+use Rattle.ufs_spec.specs.Machine.{Allowed, Answer, Call, block_reply, blocks_expected, deed_behind, deed_behind_block, deed_behind_state, deed_locked, deed_read, deed_reply, in_use, is_at_hand, next_block_reply, observe, pin_of, read_begun, read_blocks, sending, set_state, task_read, unit_or_first, with_block, is_to_fill, task_filled, needs_no_read}
 use Rattle.ufs_spec.specs.Plain.{block_at}
 use Rattle.ufs_spec.specs.Refusals.{Request, State, plain_now, unit_of_request}
 use Rattle.ufs_spec.specs.declared.messages.Message.{Message}
 use Rattle.ufs_spec.specs.declared.scsi.Cdb.{Cdb}
+use Rattle.ufs_spec.specs.Ledger.{InSlot, Looked, Name}
+use Rattle.ufs_spec.specs.Translation.{Pin, is_rest_of}
 
 -- ## What is sent
 
@@ -93,6 +95,17 @@ sends s task blocks sent m e = by (slice_get blocks sent) refl e
     by : (o : Option ReadBlock) → slice_get blocks sent ≡ o → next_block_reply s task sent o ≡ Some m → IsNextReply task blocks sent m
     by None there k = let none : None ≡ Some m = k in cc
     by (Some block) there k = (block, there, block_sends task sent block.body block.state (is_at_hand s.translation.work.rests (pin_of s task sent)) m k)
+
+-- a block in a slot whose content is still owed waits
+pub owed : (s : State) (task : Task) (blocks : List ReadBlock) (sent : ℕ) (block : ReadBlock) (pin : Pin) (name : Name) → slice_get blocks sent ≡ Some block →
+    block.state ≡ Unread → pin_of s task sent ≡ Some pin → pin.looked ≡ InSlot name → list_any (is_rest_of name) s.translation.work.rests ≡ true →
+    deed_reply s task (Sending blocks sent) ≡ None
+owed s task blocks sent block pin name there unread kept slot awaited =
+    ap (next_block_reply s task sent) there
+    ∙ ap (λ (state : ReadState). block_reply task sent block.body state (is_at_hand s.translation.work.rests (pin_of s task sent))) unread
+    ∙ ap (λ (p : Option Pin). block_reply task sent block.body Unread (is_at_hand s.translation.work.rests p)) kept
+    ∙ ap (λ (looked : Looked). block_reply task sent block.body Unread (needs_no_read s.translation.work.rests looked)) slot
+    ∙ ap (λ (b : Bool). block_reply task sent block.body Unread (not b)) awaited
 
 pub goes_on : (task : Task) (blocks : List ReadBlock) (sent : ℕ) (block : ReadBlock) → slice_get blocks sent ≡ Some block → block.state ≢ NotRead →
     deed_behind task (Sending blocks sent) ≡ Some (if nat_lt (sent + 1) (length blocks) then Sending blocks (sent + 1) else Answering Good task.length)

@@ -1,22 +1,24 @@
 -- Each task that a call opens or changes fits what it needs for its replies.
-use Rattle.std.proofs.Common.{◌≡◌, ◌≢◌, ℕ, zero, suc, ◌+◌, ◌-◌, ◌*◌, ◌≤◌, ◌<◌, ◌^◌, ◌/◌, ◌%◌, ◌==◌, ◌&&◌, Bool, true, false, min, not, nat_le, nat_lt, if◌then◌else◌, List, [], ◌∷◌, ◌++◌, length, map, get_or, Option, Some, None, refl, sym, ap, ◌∙◌, subst, arith}
-use Rattle.std.specs.Prelude.{slice_get, slice_set}
+use Rattle.std.proofs.Common.{◌≡◌, ◌≢◌, ◌⊎◌, ℕ, zero, suc, ◌+◌, ◌-◌, ◌*◌, ◌≤◌, ◌<◌, ◌^◌, ◌/◌, ◌%◌, ◌==◌, Bool, true, false, min, not, nat_le, nat_lt, if◌then◌else◌, List, [], ◌∷◌, ◌++◌, length, map, get_or, Option, Some, None, refl, sym, ap, ◌∙◌, subst, inl, inr, arith}
+use Rattle.byteorder.specs.Endian.{big_bytes}
+use Rattle.std.specs.Prelude.{slice_get, slice_set, take}
 use Rattle.std.proofs.lemmas.Grind.{div_ceil_times}
-use Rattle.std.proofs.lemmas.List.{length-map, length-set}
-use Rattle.std.proofs.lemmas.Option.{get_or_from_slice_get}
-use Rattle.ufs_laws.proofs.KnownTasks.{Past, passes, past}
+use Rattle.std.proofs.lemmas.List.{length-set, length-take, length-take-le}
+use Rattle.std.proofs.lemmas.Option.{get_or_from_slice_get, slice_get_within}
+use Rattle.ufs_laws.proofs.Bytes.{bytes-append, bytes-cons, bytes-number, bytes-take, bytes-zeros}
 use Rattle.ufs_laws.proofs.Parts.{get_or-made, length-made}
 use Rattle.ufs_laws.proofs.TaskWalk.{Any, IsTaskLaw, OneMore, task_for}
 use Rattle.ufs_laws.specs.Exchange.{Every, IsRequest}
 use Rattle.ufs_laws.specs.Replies.{DeedSpeaks, IsStatus, TaskSpeaks}
 use Rattle.ufs_spec.proofs.Facts.{eqb-false, ltb-true, same_Some}
-use Rattle.ufs_spec.specs.Cdbs.{IsCdb, SpellsCdb, operation_of, taken_operations}
-use Rattle.ufs_spec.specs.Exchanges.{filled, Answering, Awaiting, Busy, Deed, ForWrite, Gathering, Good, NotRead, Purpose, ReadBlock, ReadState, Sending, Status, Task, SendingBytes, Unread, WasRead, bytes_sent, invalid_field, invalid_operation, is_task_of, list_length_error, no_unit, not_ready, out_of_range, sequence_error, task_of, with_deed, write_error, write_protected}
+use Rattle.ufs_spec.specs.Cdbs.{IsCdb, address_of, blocks_of, operation_of, read_10, read_6, six_blocks}
+use Rattle.ufs_spec.specs.Exchanges.{filled, Answering, Awaiting, Deed, ForWrite, Gathering, Good, NotRead, ReadBlock, ReadState, Sending, Status, Task, SendingBytes, Unread, WasRead, bytes_sent, invalid_field, invalid_operation, is_task_of, no_unit, task_of, with_deed, write_error}
 use Rattle.ufs_spec.specs.Keys.{IsBlock, below}
-use Rattle.ufs_spec.specs.Machine.{IsCdbIn, begun, blocks_expected, deed_behind, deed_behind_block, deed_behind_state, deed_locked, deed_read, durable, read_begun, read_blocks, sending, is_to_fill, set_state, task_filled, task_locked, task_read, unit_or_first, with_block, write_begun, write_deed}
-use Rattle.ufs_spec.specs.Messages.{IsAmong}
+use Rattle.ufs_spec.specs.Machine.{IsCdbIn, begun, blocks_expected, capacity_bytes, data_begun, deed_behind, deed_behind_block, deed_behind_state, deed_locked, deed_read, durable, flush_begun, no_sense, not_begun, read_begun, read_blocks, sending, sending_bytes, is_to_fill, set_state, task_filled, task_read, unit_or_first, with_block, write_begun, write_deed}
+use Rattle.ufs_spec.specs.Messages.{AreBytes, zeros}
 use Rattle.ufs_spec.specs.Plain.{block_at}
-use Rattle.ufs_spec.specs.Refusals.{Line, Request, State, first_line, lacks_unit, line, lines_behind, lun_of, not_taken, numbers_of, plain_now, refusal, unit_of_request}
+use Rattle.ufs_spec.specs.Refusals.{Line, Request, State, first_line, lacks_unit, line, lines_behind, lun_of, not_taken, numbers_of, plain_now, refusal, spec_of, unit_of_request}
+use Rattle.ufs_spec.specs.declared.configs.UnitSpec.{UnitSpec}
 use Rattle.ufs_spec.specs.declared.scsi.Cdb.{Cdb}
 use Rattle.ufs_spec.specs.declared.scsi.Cdb.TheVariants as cdb
 
@@ -85,47 +87,35 @@ made_block f n k block low e =
     let there : get_or (map make (below n)) k block ≡ block = get_or_from_slice_get (map make (below n)) k block block e in
     ap (λ (b : ReadBlock). b.body) (sym there ∙ get_or-made make n k block low)
 
-there_below : {X : Type 0} (xs : List X) (k : ℕ) (x : X) → slice_get xs k ≡ Some x → k < length xs
-there_below [] k x e = let none : None ≡ Some x = e in cc
-there_below (y ∷ ys) zero x e = omega arith
-there_below (y ∷ ys) (suc k) x e = let low = there_below ys k x e in omega arith
-
+-- of a READ of n bytes, each block that the host expects
 abbrev pub BlocksFit : State → Request → ℕ → ℕ → ℕ → Type 0
-BlocksFit s r unit address blocks = (i : ℕ) → i < blocks → IsBlock (block_at unit (address + i) (plain_now s))
+BlocksFit s r unit address n = (i : ℕ) → i < blocks_expected r n → IsBlock (block_at unit (address + i) (plain_now s))
 
-few_blocks : (expected blocks : ℕ) → (4096 * (min expected (4096 * blocks) / 4096 + min 1 (min expected (4096 * blocks) % 4096)) < min expected (4096 * blocks) + 4096)
-few_blocks expected blocks = let h = div_ceil_times (min expected (4096 * blocks)) 4096 (omega arith) in let last = h.1 in omega arith
+few_blocks : (expected n : ℕ) → (4096 * (min expected n / 4096 + min 1 (min expected n % 4096)) < min expected n + 4096)
+few_blocks expected n = let h = div_ceil_times (min expected n) 4096 (omega arith) in let last = h.1 in omega arith
 
-read_speaks : (s : State) (r : Request) (c : Cdb) (unit address blocks : ℕ) → IsRequest r → blocks < 2 ^ 16 → BlocksFit s r unit address blocks →
-    OneMore TaskSpeaks s.tasks (read_begun s r c unit address (4096 * blocks)).tasks
-read_speaks s r c unit address blocks is few fit = (
-  task_for r (Some c) (4096 * blocks) (sending (read_blocks s unit address count) (4096 * blocks)),
+read_speaks : (s : State) (r : Request) (c : Cdb) (unit address n : ℕ) → IsRequest r → n < 2 ^ 32 → BlocksFit s r unit address n →
+    OneMore TaskSpeaks s.tasks (read_begun s r c unit address n).tasks
+read_speaks s r c unit address n is few fit = (
+  task_for r (Some c) n (sending (read_blocks s unit address count) n),
   refl,
-  asked_for r (Some c) (4096 * blocks) (sending (read_blocks s unit address count) (4096 * blocks)) is (omega arith)
-      (sends (read_blocks s unit address count) refl (length-made _ count)),
+  asked_for r (Some c) n (sending (read_blocks s unit address count) n) is few (sends (read_blocks s unit address count) refl (length-made _ count)),
 )
   where
     count : ℕ
-    count = blocks_expected r (4096 * blocks)
+    count = blocks_expected r n
 
-    enough : count ≤ blocks
-    enough =
-        let h = few_blocks r.expected blocks in
-        let low : min r.expected (4096 * blocks) ≤ 4096 * blocks = grind arith in
-        omega arith
-
-    sends : (made : List ReadBlock) → made ≡ read_blocks s unit address count → length made ≡ count →
-        DeedSpeaks (4096 * blocks) (min r.expected (4096 * blocks)) (sending made (4096 * blocks))
-    sends [] same long = (tt, omega arith)
-    sends (b ∷ bs) same long = (omega arith, (let h = few_blocks r.expected blocks in omega arith), each)
+    sends : (made : List ReadBlock) → made ≡ read_blocks s unit address count → length made ≡ count → DeedSpeaks n (min r.expected n) (sending made n)
+    sends [] same long = (tt, few)
+    sends (b ∷ bs) same long = (omega arith, (let h = few_blocks r.expected n in omega arith), each)
       where
         each : (k : ℕ) (block : ReadBlock) → slice_get (b ∷ bs) k ≡ Some block → IsBlock block.body
         each k block e =
-            let low : k < length (b ∷ bs) = there_below (b ∷ bs) k block e in
+            let low : k < length (b ∷ bs) = slice_get_within (b ∷ bs) k block e in
             let here : k < count = omega arith in
             let body : block.body ≡ block_at unit (address + k) (plain_now s) =
             made_block (λ i. block_at unit (address + i) (plain_now s)) count k block here (ap (λ (xs : List ReadBlock). slice_get xs k) (sym same) ∙ e) in
-            subst IsBlock (sym body) (fit k (omega arith))
+            subst IsBlock (sym body) (fit k here)
 
 more_if : (P : Task → Type 0) (tasks : List Task) (t u : State) (b : Bool) → OneMore P tasks t.tasks → OneMore P tasks u.tasks → OneMore P tasks (if b then t else u).tasks
 more_if P tasks t u true h k = h
@@ -155,25 +145,92 @@ write_speaks s r c unit address blocks forced is few =
 
 -- what may be read is what was looked up
 abbrev pub ReadsFit : State → Type 0
-ReadsFit s = (r : Request) (address blocks : ℕ) (forced : Bool) → r.cdb ≡ Some (cdb.Read10 address blocks forced) → refusal s r ≡ None →
-    BlocksFit s r (unit_or_first (unit_of_request s r)) address blocks
+ReadsFit s = (r : Request) (c : Cdb) (n : ℕ) → IsRequest r → r.cdb ≡ Some c → refusal s r ≡ None → (operation_of c ≡ read_6) ⊎ (operation_of c ≡ read_10) →
+    n ≡ blocks_of c * 4096 → BlocksFit s r (unit_or_first (unit_of_request s r)) (address_of c) n
 
-begins_speaking : (s : State) (r : Request) (c : Cdb) (unit : ℕ) → IsRequest r → IsCdb c → IsAmong taken_operations (operation_of c) →
-    ((address blocks : ℕ) (forced : Bool) → c ≡ cdb.Read10 address blocks forced → BlocksFit s r unit address blocks) → OneMore TaskSpeaks s.tasks (begun s r unit c).tasks
-begins_speaking s r (cdb.Read10 address blocks forced) unit is fits taken reads =
-    read_speaks s r (cdb.Read10 address blocks forced) unit address blocks is fits.1 (reads address blocks forced refl)
-begins_speaking s r (cdb.Write10 address blocks forced) unit is fits taken reads = write_speaks s r (cdb.Write10 address blocks forced) unit address blocks forced is fits.1
-begins_speaking s r cdb.TestUnitReady unit is fits taken reads = cc
-begins_speaking s r (cdb.RequestSense allocation) unit is fits taken reads = cc
-begins_speaking s r (cdb.Read6 address blocks) unit is fits taken reads = cc
-begins_speaking s r (cdb.Write6 address blocks) unit is fits taken reads = cc
-begins_speaking s r (cdb.Inquiry allocation) unit is fits taken reads = cc
-begins_speaking s r cdb.ReadCapacity10 unit is fits taken reads = cc
-begins_speaking s r (cdb.SynchronizeCache10 address blocks immediate) unit is fits taken reads = cc
-begins_speaking s r (cdb.Unmap list) unit is fits taken reads = cc
-begins_speaking s r (cdb.ReportLuns select allocation) unit is fits taken reads = cc
-begins_speaking s r (cdb.SecurityIn length) unit is fits taken reads = cc
-begins_speaking s r (cdb.SecurityOut length) unit is fits taken reads = cc
+-- data that are sent at once
+
+data_speaks : (s : State) (r : Request) (c : Cdb) (bytes : List ℕ) → IsRequest r → length bytes ≤ 4096 → AreBytes bytes → OneMore TaskSpeaks s.tasks (data_begun s r c bytes).tasks
+data_speaks s r c bytes is few are = (
+  task_for r (Some c) (length bytes) (sending_bytes r bytes),
+  refl,
+  asked_for r (Some c) (length bytes) (sending_bytes r bytes) is (omega arith) (by (min r.expected (length bytes) == 0) refl),
+)
+  where
+    sent : ℕ
+    sent = min r.expected (length bytes)
+
+    some : (n : ℕ) → n ≢ 0 → 1 ≤ n
+    some zero h = absurd (h refl)
+    some (suc n) h = omega arith
+
+    by : (b : Bool) → (sent == 0) ≡ b → DeedSpeaks (length bytes) sent (if b then Answering Good (length bytes) else SendingBytes bytes)
+    by true e = (tt, omega arith)
+    by false e =
+        let low : sent ≤ length bytes = grind arith in
+        let size : length (take sent bytes) ≡ sent = length-take-le sent bytes low in
+        let first = some sent (eqb-false sent 0 e) in
+        (omega arith, omega arith, bytes-take sent bytes are)
+
+no_sense_bytes : AreBytes no_sense
+no_sense_bytes =
+    bytes-append (0x70 ∷ zeros 6) (0x0A ∷ zeros 10)
+    (bytes-cons 0x70 (zeros 6) (omega arith) (bytes-zeros 6))
+    (bytes-cons 0x0A (zeros 10) (omega arith) (bytes-zeros 10))
+
+sense_speaks : (s : State) (r : Request) (c : Cdb) (allocation : ℕ) → IsRequest r → OneMore TaskSpeaks s.tasks (data_begun s r c (take allocation no_sense)).tasks
+sense_speaks s r c allocation is =
+    let size : length (take allocation no_sense) ≡ min allocation 18 = length-take allocation no_sense in
+    let few : min allocation 18 ≤ 18 = grind arith in
+    data_speaks s r c (take allocation no_sense) is (omega arith) (bytes-take allocation no_sense no_sense_bytes)
+
+capacity_speaks : (s : State) (r : Request) (c : Cdb) (u : Option UnitSpec) → IsRequest r → OneMore TaskSpeaks s.tasks (data_begun s r c (capacity_bytes u)).tasks
+capacity_speaks s r c None is = data_speaks s r c (zeros 8) is (omega arith) (bytes-zeros 8)
+capacity_speaks s r c (Some u) is =
+    data_speaks s r c (capacity_bytes (Some u)) is (omega arith)
+    (bytes-append (big_bytes 4 (u.blocks - 1)) (big_bytes 4 4096) (bytes-number 4 (u.blocks - 1)) (bytes-number 4 4096))
+
+-- commands without data, and those that are not built
+
+flush_speaks : (s : State) (r : Request) (c : Cdb) (immediate : Bool) → IsRequest r → OneMore TaskSpeaks s.tasks (flush_begun s r c immediate).tasks
+flush_speaks s r c true is = (task_for r (Some c) 0 (Answering Good 0), refl, asked_for r (Some c) 0 (Answering Good 0) is (omega arith) (tt, omega arith))
+flush_speaks s r c false is =
+    (task_for r (Some c) 0 (Awaiting (length s.accepted)), refl, asked_for r (Some c) 0 (Awaiting (length s.accepted)) is (omega arith) tt)
+
+unbuilt_speaks : (s : State) (r : Request) (c : Cdb) → IsRequest r → OneMore TaskSpeaks s.tasks (not_begun s r c).tasks
+unbuilt_speaks s r c is =
+    (task_for r None 0 (Answering invalid_operation 0), refl, asked_for r None 0 (Answering invalid_operation 0) is (omega arith) (invalid_operation_is, omega arith))
+
+few_six : (blocks : ℕ) → blocks < 2 ^ 8 → six_blocks blocks < 2 ^ 16
+few_six blocks few = by (blocks == 0)
+  where
+    by : (b : Bool) → (if b then 256 else blocks) < 2 ^ 16
+    by true = omega arith
+    by false = omega arith
+
+abbrev BlocksOf : State → Request → ℕ → Cdb → Type 0
+BlocksOf s r unit c = (n : ℕ) → (operation_of c ≡ read_6) ⊎ (operation_of c ≡ read_10) → n ≡ blocks_of c * 4096 → BlocksFit s r unit (address_of c) n
+
+begins_speaking : (s : State) (r : Request) (c : Cdb) (unit : ℕ) → IsRequest r → IsCdb c → BlocksOf s r unit c → OneMore TaskSpeaks s.tasks (begun s r unit c).tasks
+begins_speaking s r (cdb.Read6 address blocks) unit is fits reads =
+    let few = few_six blocks fits.1 in
+    read_speaks s r (cdb.Read6 address blocks) unit address (six_blocks blocks * 4096) is (omega arith) (reads (six_blocks blocks * 4096) (inl refl) refl)
+begins_speaking s r (cdb.Read10 address blocks forced) unit is fits reads =
+    let few = fits.1 in
+    read_speaks s r (cdb.Read10 address blocks forced) unit address (4096 * blocks) is (omega arith) (reads (4096 * blocks) (inr refl) (omega arith))
+begins_speaking s r (cdb.Write6 address blocks) unit is fits reads =
+    write_speaks s r (cdb.Write6 address blocks) unit address (six_blocks blocks) false is (few_six blocks fits.1)
+begins_speaking s r (cdb.Write10 address blocks forced) unit is fits reads = write_speaks s r (cdb.Write10 address blocks forced) unit address blocks forced is fits.1
+begins_speaking s r cdb.TestUnitReady unit is fits reads =
+    (task_for r (Some cdb.TestUnitReady) 0 (Answering Good 0), refl, asked_for r (Some cdb.TestUnitReady) 0 (Answering Good 0) is (omega arith) (tt, omega arith))
+begins_speaking s r (cdb.RequestSense allocation) unit is fits reads = sense_speaks s r (cdb.RequestSense allocation) allocation is
+begins_speaking s r cdb.ReadCapacity10 unit is fits reads = capacity_speaks s r cdb.ReadCapacity10 (spec_of s r) is
+begins_speaking s r (cdb.SynchronizeCache10 address blocks immediate) unit is fits reads = flush_speaks s r (cdb.SynchronizeCache10 address blocks immediate) immediate is
+begins_speaking s r (cdb.Inquiry allocation) unit is fits reads = unbuilt_speaks s r (cdb.Inquiry allocation) is
+begins_speaking s r (cdb.Unmap list) unit is fits reads = unbuilt_speaks s r (cdb.Unmap list) is
+begins_speaking s r (cdb.ReportLuns select allocation) unit is fits reads = unbuilt_speaks s r (cdb.ReportLuns select allocation) is
+begins_speaking s r (cdb.SecurityIn length) unit is fits reads = unbuilt_speaks s r (cdb.SecurityIn length) is
+begins_speaking s r (cdb.SecurityOut length) unit is fits reads = unbuilt_speaks s r (cdb.SecurityOut length) is
 
 spelled_cdb : (r : Request) (c : Cdb) → IsRequest r → r.cdb ≡ Some c → IsCdb c
 spelled_cdb r c is e = (subst (IsCdbIn (Some r.bytes)) e is.1.2).0
@@ -274,10 +331,7 @@ speaks_law s sets reads = record {
   set = sets;
   refused = λ r status is asks free e. asked_for r None 0 (Answering status 0) is (omega arith) (table_status s r status e, omega arith);
   begins = λ r c is asks free e passed.
-      let p = passes s r is passed in
-      let same : p.0 ≡ c = same_Some p.0 c (sym p.1 ∙ e) in
-      begins_speaking s r c (unit_or_first (unit_of_request s r)) is (spelled_cdb r c is e) (subst (λ (x : Cdb). IsAmong taken_operations (operation_of x)) same p.2)
-      (λ address blocks forced k. reads r address blocks forced (e ∙ ap Some k) passed);
+      begins_speaking s r c (unit_or_first (unit_of_request s r)) is (spelled_cdb r c is e) (λ n read size. reads r c n is e passed read size);
   gathers = λ task purpose gathered bytes asked e h next more. speaks task (Gathering purpose (gathered ++ bytes) false) h (ltb-true _ task.length more);
   meets_lock = λ task unit address blocks forced gathered asked e h. speaks task (Answering write_error task.length) h (write_error_is, h.length);
   writes = λ task unit address blocks forced gathered asked position e h. speaks task (write_deed forced position task.length) h (write_deed_speaks task.length (bytes_sent task) position forced h.length);

@@ -1,8 +1,10 @@
--- What a task needs so that each of its replies is a message of the grammar.
+-- What a task and a short exchange need so that each of their replies is a message of the grammar.
+use Rattle.std.specs.List.{All}
 use Rattle.std.specs.Prelude.{◌≡◌, ◌<◌, ◌+◌, ◌*◌, ◌^◌, ℕ, List, length, slice_get, take, Some}
-use Rattle.ufs_spec.specs.Exchanges.{Answering, Awaiting, CheckCondition, Deed, Gathering, ReadBlock, Sending, Status, Task, SendingBytes, bytes_sent}
+use Rattle.ufs_spec.specs.Exchanges.{Answering, Awaiting, CheckCondition, Deed, Gathering, ReadBlock, Sending, Short, Status, Task, SendingBytes, bytes_sent}
 use Rattle.ufs_spec.specs.Keys.{IsBlock}
-use Rattle.ufs_spec.specs.Messages.{IsByte, IsTransferred}
+use Rattle.ufs_spec.specs.Messages.{IsByte, IsMessage, IsTransferred}
+use Rattle.ufs_spec.specs.Refusals.{State}
 
 -- the sense data are bytes
 abbrev pub IsStatus : Status → Type 0
@@ -10,8 +12,7 @@ IsStatus (CheckCondition sense) = IsByte sense.key × IsByte sense.asc × IsByte
 IsStatus status = Unit {0}
 
 -- what it does, of a command of so many bytes of which so many are sent: it asks for bytes that are missing; it sends
--- no
--- block past the last byte that is sent, and each is 4096 bytes
+-- no block past the last byte that is sent, and each is 4096 bytes
 abbrev pub DeedSpeaks : ℕ → ℕ → Deed → Type 0
 DeedSpeaks total sent_bytes (Gathering purpose gathered asked) = length gathered < total
 DeedSpeaks total sent_bytes (Sending blocks sent) =
@@ -28,3 +29,12 @@ pub record TaskSpeaks (task : Task) : Type 0 where
   pub expected : task.expected < 2 ^ 32
   pub length : task.length < 2 ^ 32
   pub deed : DeedSpeaks task.length (bytes_sent task) task.deed
+
+-- its reply is a message, and so is the one that a lock makes of it
+pub record ShortSpeaks (short : Short) : Type 0 where
+  pub reply : IsMessage short.reply
+  pub locked_reply : IsMessage short.locked_reply
+
+-- each short exchange that is open
+abbrev pub ShortsSpeak : State → Type 0
+ShortsSpeak s = All ShortSpeaks s.shorts

@@ -1,6 +1,6 @@
 //! The exchange between a host and a device: what is heard, what is asked for, what is sent.
 ghost use Rattle.std.specs.Prelude.{◌≡◌, ◌≢◌, ◌⊎◌, ◌<◌, ◌≤◌, ◌+◌, ◌-◌, ◌*◌, ◌++◌, ◌∷◌, [], ℕ, min, nat_lt, Bool, true, false, if◌then◌else◌, List, filter, length, map, not, sum_by, take, slice_get, Option, Some, None};
-ghost use Rattle.std.specs.List.{concat, flat_map};
+ghost use Rattle.std.specs.List.{concat, flat_map, list_any};
 ghost use Rattle.ufs_laws.specs.Exchange.{AllKnown, AreAsked, Asks, IsRequest, IsSpoken, NoTask, Pinned, TagSends, WasAsked};
 ghost use Rattle.ufs_spec.specs.declared.Cdb.{Cdb};
 ghost use Rattle.ufs_spec.specs.declared.Event.{Event};
@@ -12,13 +12,15 @@ ghost use Rattle.ufs_spec.specs.Cdbs.{operation_of, taken_operations};
 ghost use Rattle.ufs_spec.specs.Cells.{Array};
 ghost use Rattle.ufs_spec.specs.Commands.{Write};
 ghost use Rattle.ufs_spec.specs.Disk.{Spot};
-ghost use Rattle.ufs_spec.specs.Exchanges.{Answering, ForWrite, Gathering, Good, NotRead, Purpose, ReadBlock, Sending, Task, block_message, invalid_operation, read_error, response, task_of};
+ghost use Rattle.ufs_spec.specs.Exchanges.{Answering, ForWrite, Gathering, Good, NotRead, Purpose, ReadBlock, Sending, Task, Unread, block_message, invalid_operation, read_error, response, task_of};
 ghost use Rattle.ufs_spec.specs.Keys.{below};
+ghost use Rattle.ufs_spec.specs.Ledger.{InSlot, Name};
 ghost use Rattle.ufs_spec.specs.Lives.{IsOpened, Life};
-ghost use Rattle.ufs_spec.specs.Machine.{Allowed, Answer, Call, Heard, IsHeard, begun, blocks_expected, blocks_in, claimed_by, data_for, deed_behind, deed_reply, in_use, message_fault, observe, read_begun, read_blocks, set_deed, tag_in, without_tasks};
+ghost use Rattle.ufs_spec.specs.Machine.{Allowed, Answer, Call, Heard, IsHeard, begun, blocks_expected, blocks_in, claimed_by, data_for, deed_behind, deed_reply, in_use, message_fault, observe, pin_of, read_begun, read_blocks, set_deed, tag_in, without_tasks};
 ghost use Rattle.ufs_spec.specs.Messages.{IsAmong};
 ghost use Rattle.ufs_spec.specs.Plain.{block_at};
 ghost use Rattle.ufs_spec.specs.Refusals.{Request, State, locked, numbers_of, plain_now, refusal};
+ghost use Rattle.ufs_spec.specs.Translation.{Pin, is_rest_of};
 
 /// Every list of bytes is heard, as a message with its command or none, or as a fault; and as one thing alone.
 pub fn every_byte_string_is_heard()
@@ -91,6 +93,10 @@ pub fn a_read_sends_its_blocks()
         deed_reply s task (Sending blocks sent) ≡ Some m → (block : ReadBlock) × (slice_get blocks sent ≡ Some block)
         × ((m ≡ block_message task sent block.body)
         ⊎ ((block.state ≡ NotRead) × (m ≡ response task.lun task.tag task.expected (4096 * sent) read_error))) }
+    // A block in a slot whose content is still owed is not due.
+    ensures owed { (s : State) (task : Task) (blocks : List ReadBlock) (sent : ℕ) (block : ReadBlock) (pin : Pin) (name : Name) →
+        slice_get blocks sent ≡ Some block → block.state ≡ Unread → pin_of s task sent ≡ Some pin → pin.looked ≡ InSlot name →
+        list_any (is_rest_of name) s.translation.work.rests ≡ true → deed_reply s task (Sending blocks sent) ≡ None }
     ensures message { (task : Task) (sent : ℕ) (body : List ℕ) → block_message task sent body
         ≡ message.DataIn task.lun task.tag (4096 * sent)
         (record { items = take (min 4096 (min task.expected task.length - 4096 * sent)) body }) }

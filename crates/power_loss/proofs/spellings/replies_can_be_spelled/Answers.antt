@@ -1,5 +1,6 @@
 use Rattle.power_loss.proofs.EachEvent.{one_event}
 use Rattle.power_loss.proofs.SpokenReplies.{each_speaks, life_speaks, opened_speaks}
+use Rattle.power_loss.proofs.SpokenShorts.{call_speaks, due_spelled, short_message, shorts_life, shorts_open}
 use Rattle.ufs_laws.proofs.ReplySizes.{reply_speaks, size}
 use Rattle.power_loss.proofs.spellings.replies_can_be_spelled.Goals as goal
 
@@ -17,3 +18,18 @@ returns-clause-call c = each_speaks
 
 pub returns-clause-life : goal.returns-clause-life
 returns-clause-life c = life_speaks one_event
+
+pub returns-clause-short : goal.returns-clause-short
+returns-clause-short c = short_message
+
+pub returns-clause-shorts_open : goal.returns-clause-shorts_open
+returns-clause-shorts_open c = shorts_open
+
+pub returns-clause-shorts_call : goal.returns-clause-shorts_call
+returns-clause-shorts_call c = call_speaks
+
+pub returns-clause-shorts_life : goal.returns-clause-shorts_life
+returns-clause-shorts_life c = shorts_life
+
+pub returns-clause-due : goal.returns-clause-due
+returns-clause-due c = due_spelled

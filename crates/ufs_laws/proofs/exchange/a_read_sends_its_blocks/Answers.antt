@@ -1,4 +1,4 @@
-use Rattle.ufs_laws.proofs.ReadSends.{begins, contents, goes_on, joined, sends, stays}
+use Rattle.ufs_laws.proofs.ReadSends.{begins, contents, goes_on, joined, owed, sends, stays}
 use Rattle.std.proofs.Common.{refl}
 use Rattle.ufs_laws.proofs.exchange.a_read_sends_its_blocks.Goals as goal
 
@@ -10,6 +10,9 @@ returns-clause-contents c = contents
 
 pub returns-clause-sends : goal.returns-clause-sends
 returns-clause-sends c = sends
+
+pub returns-clause-owed : goal.returns-clause-owed
+returns-clause-owed c = owed
 
 pub returns-clause-message : goal.returns-clause-message
 returns-clause-message c = λ task sent body. refl
