@@ -4,19 +4,20 @@ PREFIX ?= /usr/local
 
 PROGRAM := crates/ufsim_main/out/ufsim_main
 
-.PHONY: help demo test install bench turned-rules lifted-limits
+.PHONY: help demo test install bench wrong-bodies turned-rules lifted-limits
 
 help:
 	@echo 'make demo                 proves and builds the program, and shows a write and a read step by step'
 	@echo 'make test                 proves everything from nothing, runs every test and compares the examples'
 	@echo 'make install PREFIX=DIR   copies the program to DIR/bin/ufsim (without PREFIX: $(PREFIX)/bin/ufsim)'
 	@echo 'make bench                times writes and reads'
+	@echo 'make wrong-bodies         tries the wrong bodies alone, and sees that the prover refuses each'
 	@echo 'make turned-rules         turns rules of the specification around, and sees that a law refuses each'
 	@echo 'make lifted-limits        lifts the limits of this stage in a copy, and proves the laws there'
 
 # Without the kit nothing can be proved or built. Under -q make runs nothing, adds no line of its own,
 # and ends with status 1.
-ifneq ($(filter demo test install bench turned-rules lifted-limits,$(MAKECMDGOALS)),)
+ifneq ($(filter demo test install bench wrong-bodies turned-rules lifted-limits,$(MAKECMDGOALS)),)
 ifeq ($(shell command -v rt 2>/dev/null),)
 $(shell echo "butcherford: the Rattle kit's command rt is not on the PATH; it is needed to prove and build" >&2)
 MAKEFLAGS += -q
@@ -38,6 +39,9 @@ install:
 
 bench:
 	@cd crates/bench && rt run
+
+wrong-bodies:
+	@python3 tools/wrong_bodies.py
 
 turned-rules:
 	@python3 tools/turn_rules.py

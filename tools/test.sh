@@ -1,31 +1,42 @@
 #!/bin/sh
 # Everything that has to pass: the gate, `rt ci`, which proves every crate from nothing, tries the must-fail
-# edits and runs programs and tests; then the scripts in examples/, each of which has to print what stands
-# in the file of its name with .stdout behind it, and to end with status 0; then the calls of the program in
-# tools/bad_calls/, each of which has to end with its status and to print nothing; then that the five calls of
-# a device take no memory. The last line is 'N passed, M failed' for all together. The status is 0 only where nothing failed.
+# edits and runs programs and tests; then the wrong bodies of wrong_bodies/, which tools/wrong_bodies.py tries
+# in rounds; then the scripts in examples/, each of which has to print what stands in the file of its name with
+# .stdout behind it, and to end with status 0; then the calls of the program in tools/bad_calls/, each of which
+# has to end with its status and to print nothing; then that the five calls of a device take no memory. The
+# last line is 'N passed, M failed' for all together. The status is 0 only where nothing failed.
 set -u
 cd "$(dirname "$0")/.." || exit 1
 work=$(mktemp -d) || exit 1
 trap 'rm -rf "$work"' EXIT
+passed=0
+failed=0
 
-echo 1 >"$work/status"
-{
-    rt ci
-    echo $? >"$work/status"
-} | tee "$work/gate"
-status=$(cat "$work/status")
-counts=$(sed -n 's/^\([0-9][0-9]*\) passed, \([0-9][0-9]*\) failed$/\1 \2/p' "$work/gate" | tail -n 1)
-if [ -z "$counts" ]; then
-    echo "the gate told no counts"
-    counts="0 1"
-fi
-passed=${counts% *}
-failed=${counts#* }
-if [ "$status" -ne 0 ] && [ "$failed" -eq 0 ]; then
-    echo "the gate ended with status $status"
-    failed=1
-fi
+# Runs a command whose output ends with its counts, and adds them; one that tells none failed, as does one
+# that ends with another status than 0 though it tells of no failure.
+counted() {
+    echo 1 >"$work/status"
+    {
+        "$@"
+        echo $? >"$work/status"
+    } | tee "$work/counted"
+    status=$(cat "$work/status")
+    counts=$(sed -n 's/^\([0-9][0-9]*\) passed, \([0-9][0-9]*\) failed$/\1 \2/p' "$work/counted" | tail -n 1)
+    if [ -z "$counts" ]; then
+        echo "$* told no counts"
+        counts="0 1"
+    fi
+    if [ "$status" -ne 0 ] && [ "${counts#* }" -eq 0 ]; then
+        echo "$* ended with status $status"
+        counts="${counts% *} 1"
+    fi
+    passed=$((passed + ${counts% *}))
+    failed=$((failed + ${counts#* }))
+}
+
+counted rt ci
+echo "== wrong bodies"
+counted python3 tools/wrong_bodies.py --after-gate
 
 # Builds once, without a proof, and prints a line 'case=NAME ..' for each script on standard error.
 echo "== examples"
@@ -82,4 +93,4 @@ else
 fi
 
 echo "$passed passed, $failed failed"
-[ "$status" -eq 0 ] && [ "$failed" -eq 0 ]
+[ "$failed" -eq 0 ]

@@ -3,7 +3,7 @@
 
 usage: turn_rules.py [--list] [--jobs N] [NAME..]
 
-Must-fail edits test the code; these edits test the definitions. They stand in wrong_rules.py. Each is made in a copy
+Wrong bodies test the code; these edits test the definitions. They stand in wrong_rules.py. Each is made in a copy
 of the crates and is undone after `rt check`. It is refused only if the law that it names falls: a law that speaks of
 the rule. A law of a lower crate that falls first is cut out of the copy, and the check goes on to the named one; a
 proof that only quotes the rule's text is mended, if the edit says how. The definitions themselves have to stay accepted.

@@ -4,10 +4,10 @@
 #![tactic(auto)]
 
 use anyhow::{Result, bail, ensure};
+use row_config::row_config;
 use std::alloc::Global;
 use std::io;
 use std::io::Write;
-use ufs_spec::{Config, UnitSpec};
 use workbench::{Workbench, new_dies};
 
 /// The COMMAND of a FUA write at address 255 of unit 0, the header of its DATA OUT, and the COMMAND of
@@ -28,24 +28,7 @@ const READ: [u8; 32] = [
 ];
 
 fn open(alloc: Global) -> Result<Workbench> {
-    let units = [
-        UnitSpec {
-            blocks: 256,
-            boot: 0,
-            protect: 0,
-        },
-        UnitSpec {
-            blocks: 64,
-            boot: 1,
-            protect: 0,
-        },
-        UnitSpec {
-            blocks: 64,
-            boot: 2,
-            protect: 0,
-        },
-    ];
-    let config = Config::new(4, 16, 64, &units, 1, 64, 4)?;
+    let config = row_config()?;
     let dies = new_dies(alloc, 4, 16, 64)?;
     Ok(Workbench::new(alloc, config, dies)?)
 }

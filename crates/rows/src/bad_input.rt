@@ -1,131 +1,79 @@
 //! Scripts and words that the program refuses.
-use crate::benches::{FIRST_LINES, Text, expect_run};
+use crate::scripts::{Text, expect_run};
+use std::alloc::Global;
 use std::io;
 use std::io::Write;
 use std::test::Fail;
 use ufsim::{Call, CallFault, call, run_text};
 
-/// Each script's first fault is told with its line and its word, after the output of the lines before.
+/// The first lines of a script with one unit of nine blocks.
+const NINE_BLOCKS: &str = "config 4 16 64 1 64 4\nunit 9 0 0\n";
+
+/// Each script whose first lines are wrong ends with a fault, which names the line and the word.
 #[test]
-fn faults_of_scripts(rt: HostRuntime) -> Result<(), Fail> {
+fn faults_of_first_lines(rt: HostRuntime) -> Result<(), Fail> {
     let alloc = rt.alloc();
     let cases = [
-        ("", "", "ufsim: line 1: word\n"),
-        ("config 4 16 64 1 64 4\n", "", "ufsim: line 2: word\n"),
-        ("config 4 16 64 1 64\n", "", "ufsim: line 1: word\n"),
-        (
-            "# a comment\n\nconfig 4 16 x 1 64 4\n",
-            "",
-            "ufsim: line 3: number\n",
-        ),
-        (
-            "config 4 16 64 1,1 64 4\nunit 1 0 0\n",
-            "",
-            "ufsim: line 1: number\n",
-        ),
+        ("", "1: word\n"),
+        ("config 4 16 64 1 64 4\n", "2: word\n"),
+        ("config 4 16 64 1 64\n", "1: word\n"),
+        ("# a comment\n\nconfig 4 16 x 1 64 4\n", "3: number\n"),
+        ("config 4 16 64 1,1 64 4\nunit 1 0 0\n", "1: number\n"),
         (
             "config 4 16 64 1 64 4294967296\nunit 1 0 0\n",
-            "",
-            "ufsim: line 1: number\n",
+            "1: number\n",
         ),
-        (
-            "config 4 16 64 1 64 4\nunit 0 0 0\n",
-            "",
-            "ufsim: line 2: config\n",
-        ),
+        ("config 4 16 64 1 64 4\nunit 0 0 0\n", "2: config\n"),
         (
             "config 4 16 64 1 64 4\nunit 256 1 0\nunit 64 1 0\n",
-            "",
-            "ufsim: line 3: config\n",
+            "3: config\n",
         ),
+        ("config 300 16 64 1 64 4\nunit 256 1 0\nturn", "2: config\n"),
+    ];
+    for (script, fault) in cases {
+        let fault = Text::new(alloc).with("ufsim: line ")?.with(fault)?;
+        expect_run(&rt, alloc, script.as_bytes(), b"", fault.bytes.as_slice())?;
+    }
+    Ok(())
+}
+
+/// Each of these lines after the first ones ends its script with a fault, which names the line and the word;
+/// what the lines before it print stands.
+#[test]
+fn faults_of_lines(rt: HostRuntime) -> Result<(), Fail> {
+    let alloc = rt.alloc();
+    let cases = [
+        ("turn\nunit 9 0 0", "turn yes\n", "4: word\n"),
+        ("turn\n \n", "turn yes\n", "4: word\n"),
+        ("turn\nturn\tnow\n", "turn yes\n", "4: word\n"),
+        ("  turn  \nhost 0\n", "turn yes\n", "4: hex\n"),
+        ("host 0g\n", "", "3: hex\n"),
+        ("fill 00 0 1\n", "", "3: hex\n"),
+        ("fill 0g 00 x\n", "", "3: hex\n"),
+        ("take -1\n", "", "3: number\n"),
+        ("done 0 ok\n", "", "3: event\n"),
+        ("done 0 maybe\n", "", "3: word\n"),
+        ("done x fail\n", "", "3: number\n"),
+        ("done 0 fail\n", "", "3: event\n"),
+        ("stop 0:odd\n", "", "3: word\n"),
+        ("stop x:old\n", "", "3: number\n"),
+        ("stop\n", "", "3: event\n"),
         (
-            "config 300 16 64 1 64 4\nunit 256 1 0\nturn",
-            "",
-            "ufsim: line 2: config\n",
-        ),
-        (
-            "config 4 16 64 1 64 4\nunit 9 0 0\nturn\nunit 9 0 0",
-            "turn yes\n",
-            "ufsim: line 4: word\n",
-        ),
-        (
-            "config 4 16 64 1 64 4\nunit 9 0 0\nturn\n \n",
-            "turn yes\n",
-            "ufsim: line 4: word\n",
-        ),
-        (
-            "config 4 16 64 1 64 4\nunit 9 0 0\nturn\nturn\tnow\n",
-            "turn yes\n",
-            "ufsim: line 4: word\n",
-        ),
-        (
-            "config 4 16 64 1 64 4\nunit 9 0 0\n  turn  \nhost 0\n",
-            "turn yes\n",
-            "ufsim: line 4: hex\n",
-        ),
-        (
-            "config 4 16 64 1 64 4\nunit 9 0 0\nhost 0g\n",
-            "",
-            "ufsim: line 3: hex\n",
-        ),
-        (
-            "config 4 16 64 1 64 4\nunit 9 0 0\nfill 00 0 1\n",
-            "",
-            "ufsim: line 3: hex\n",
-        ),
-        (
-            "config 4 16 64 1 64 4\nunit 9 0 0\nfill 0g 00 x\n",
-            "",
-            "ufsim: line 3: hex\n",
-        ),
-        (
-            "config 4 16 64 1 64 4\nunit 9 0 0\ntake -1\n",
-            "",
-            "ufsim: line 3: number\n",
-        ),
-        (
-            "config 4 16 64 1 64 4\nunit 9 0 0\ndone 0 ok\n",
-            "",
-            "ufsim: line 3: event\n",
-        ),
-        (
-            "config 4 16 64 1 64 4\nunit 9 0 0\ndone 0 maybe\n",
-            "",
-            "ufsim: line 3: word\n",
-        ),
-        (
-            "config 4 16 64 1 64 4\nunit 9 0 0\ndone x fail\n",
-            "",
-            "ufsim: line 3: number\n",
-        ),
-        (
-            "config 4 16 64 1 64 4\nunit 9 0 0\ndone 0 fail\n",
-            "",
-            "ufsim: line 3: event\n",
-        ),
-        (
-            "config 4 16 64 1 64 4\nunit 9 0 0\nstop 0:odd\n",
-            "",
-            "ufsim: line 3: word\n",
-        ),
-        (
-            "config 4 16 64 1 64 4\nunit 9 0 0\nstop x:old\n",
-            "",
-            "ufsim: line 3: number\n",
-        ),
-        (
-            "config 4 16 64 1 64 4\nunit 9 0 0\nstop\n",
-            "",
-            "ufsim: line 3: event\n",
-        ),
-        (
-            "config 4 16 64 1 64 4\nunit 9 0 0\nturn\ntake 0\ndone 0 fail\n",
+            "turn\ntake 0\ndone 0 fail\n",
             "turn yes\ntake 0 erase 0\n",
-            "ufsim: line 5: event\n",
+            "5: event\n",
         ),
     ];
-    for (script, output, fault) in cases {
-        expect_run(&rt, alloc, script.as_bytes(), output.as_bytes(), fault)?;
+    for (lines, output, fault) in cases {
+        let script = Text::new(alloc).with(NINE_BLOCKS)?.with(lines)?;
+        let fault = Text::new(alloc).with("ufsim: line ")?.with(fault)?;
+        expect_run(
+            &rt,
+            alloc,
+            script.bytes.as_slice(),
+            output.as_bytes(),
+            fault.bytes.as_slice(),
+        )?;
     }
     Ok(())
 }
@@ -139,7 +87,7 @@ fn long_fills(rt: HostRuntime) -> Result<(), Fail> {
         alloc,
         b"config 4 16 64 1 64 4\nunit 9 0 0\nfill 00 00 65536\nfill 00 00 70000\nfill 00 00 4294967295\n",
         b"host fault 2\nhost fault 2\nhost fault 2\n",
-        "",
+        b"",
     )
 }
 
@@ -152,7 +100,7 @@ fn junk(rt: HostRuntime) -> Result<(), Fail> {
         alloc,
         &[0xFF, 0x00, 0x80, 0x0A, 0x0A],
         b"",
-        "ufsim: line 1: word\n",
+        b"ufsim: line 1: word\n",
     )
 }
 
@@ -180,7 +128,7 @@ impl Write for Broken {
 #[test]
 fn output_that_fails(rt: HostRuntime) -> Result<(), Fail> {
     let alloc = rt.alloc();
-    let script = Text::new(alloc).with(FIRST_LINES)?.with("turn\nturn\n")?;
+    let script = Text::script(alloc)?.with("turn\nturn\n")?;
     let mut faults = Vec::new(alloc);
     let status = run_text(
         alloc,
@@ -197,22 +145,19 @@ fn output_that_fails(rt: HostRuntime) -> Result<(), Fail> {
 #[test]
 fn words_of_the_program(rt: HostRuntime) -> Result<(), Fail> {
     let alloc = rt.alloc();
-    assert_eq!(rt;
-        call(alloc, &["ufsim", "run", "a script"]),
-        Ok(Call::Run("a script"))
-    );
-    assert_eq!(rt; call(alloc, &["ufsim"]), Err(CallFault::Usage));
-    assert_eq!(rt; call(alloc, &["ufsim", "run"]), Err(CallFault::Usage));
-    assert_eq!(rt;
-        call(alloc, &["ufsim", "run", "a", "b"]),
-        Err(CallFault::Usage)
-    );
-    assert_eq!(rt; call(alloc, &["ufsim", "stress"]), Err(CallFault::Usage));
-    assert_eq!(rt; call(alloc, &["ufsim", "--help"]), Err(CallFault::Usage));
-    assert_eq!(rt; call(alloc, &["ufsim", "Run", "a"]), Err(CallFault::Usage));
-    assert_eq!(rt;
-        call(alloc, &["ufsim", "run", "--all", "a"]),
-        Err(CallFault::Usage)
-    );
+    let right = ["ufsim", "run", "a script"];
+    assert!(rt; matches!(call(alloc, &right), Ok(Call::Run("a script"))));
+    assert!(rt; is_usage(alloc, &["ufsim"]));
+    assert!(rt; is_usage(alloc, &["ufsim", "run"]));
+    assert!(rt; is_usage(alloc, &["ufsim", "run", "a", "b"]));
+    assert!(rt; is_usage(alloc, &["ufsim", "stress"]));
+    assert!(rt; is_usage(alloc, &["ufsim", "--help"]));
+    assert!(rt; is_usage(alloc, &["ufsim", "Run", "a"]));
+    assert!(rt; is_usage(alloc, &["ufsim", "run", "--all", "a"]));
     Ok(())
+}
+
+/// Whether these words are told as wrong.
+fn is_usage(alloc: Global, words: &[&str]) -> bool {
+    matches!(call(alloc, words), Err(CallFault::Usage))
 }

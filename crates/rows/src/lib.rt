@@ -1,18 +1,12 @@
-//! The worked rows, and the tests that cross crates. Expected bytes come from the device's papers and
-//! from the standards, never from its own output.
+//! The worked rows and wrong input, as scripts. Expected bytes come from the device's formats and from the
+//! standards, never from its own output.
 #![tactic(auto)]
 
 #[cfg(test)]
 mod bad_input;
 #[cfg(test)]
-mod benches;
-#[cfg(test)]
-mod crates_once;
-#[cfg(test)]
-mod locks;
-#[cfg(test)]
 mod messages;
 #[cfg(test)]
-mod plain_rows;
+mod scripts;
 #[cfg(test)]
 mod worked_rows;

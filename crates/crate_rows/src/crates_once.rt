@@ -1,15 +1,12 @@
 //! Each public function of the lower crates once, with values from the device's formats and from
 //! another implementation of SHA-256.
-use crate::benches::row_config;
-use device::{World, run};
 use nand_model::{Die, MemDie, work};
+use row_config::row_config;
 use std::test::Fail;
 use ufs_spec::{
-    Block, Cdb, Cmd, Config, ConfigFault, Event, Fence, Job, Outcome, Output, Page, Place,
-    PlainDevice, RunFaultKind, Sense, Tag, UnitSpec, read_u16, read_u32, read_u64, write_u16,
-    write_u32, write_u64,
+    Block, Cdb, Cmd, Config, ConfigFault, Fence, Job, Outcome, Page, Place, PlainDevice, Sense,
+    Tag, UnitSpec, read_u16, read_u32, read_u64, write_u16, write_u32, write_u64,
 };
-use workbench::new_dies;
 
 /// Fields are written and read with their highest byte first.
 #[test]
@@ -29,42 +26,33 @@ fn fields(rt: HostRuntime) {
 
 /// The three refusals of a configuration, the lowest first.
 #[test]
-fn configurations(rt: HostRuntime) {
-    let config = row_config(&rt);
+fn configurations(rt: HostRuntime) -> Result<(), Fail> {
+    let config = row_config()?;
     assert_eq!(rt; config.numbers().slots, 64);
     let unit = UnitSpec {
         blocks: 256,
         boot: 1,
         protect: 0,
     };
-    let none: [UnitSpec; 0] = [];
-    assert_eq!(rt;
-        Config::new(4, 16, 64, &none, 1, 64, 4).err(),
-        Some(ConfigFault::Range)
-    );
-    assert_eq!(rt;
-        Config::new(9, 16, 64, &[unit, unit], 1, 64, 4).err(),
-        Some(ConfigFault::Range)
-    );
-    assert_eq!(rt;
-        Config::new(1, 16, 16, &[unit, unit], 1, 64, 4).err(),
-        Some(ConfigFault::TooLittleSpare)
-    );
-    assert_eq!(rt;
-        Config::new(4, 16, 64, &[unit, unit], 1, 64, 4).err(),
-        Some(ConfigFault::TwoBootUnits)
-    );
+    let two = [unit, unit];
+    let no_unit = Config::new(4, 16, 64, &[], 1, 64, 4);
+    assert!(rt; matches!(no_unit, Err(ConfigFault::Range)));
+    let nine_dies = Config::new(9, 16, 64, &two, 1, 64, 4);
+    assert!(rt; matches!(nine_dies, Err(ConfigFault::Range)));
+    let one_die = Config::new(1, 16, 16, &two, 1, 64, 4);
+    assert!(rt; matches!(one_die, Err(ConfigFault::TooLittleSpare)));
+    let boot_twice = Config::new(4, 16, 64, &two, 1, 64, 4);
+    assert!(rt; matches!(boot_twice, Err(ConfigFault::TwoBootUnits)));
     assert_eq!(rt; ConfigFault::TwoBootUnits as u8, 3);
+    Ok(())
 }
 
 /// The plain device after one command of each kind.
 #[test]
 fn plain_device(rt: HostRuntime) -> Result<(), Fail> {
     let alloc = rt.alloc();
-    let config = row_config(&rt);
+    let config = row_config()?;
     let mut plain = PlainDevice::new(alloc, config.numbers())?;
-    let blocks = [[0x11u8; 4096]].to_vec(alloc)?;
-    let frame = [0x22u8; 256].to_vec(alloc)?;
     plain.apply(&Cmd::SetBoot(2));
     plain.apply(&Cmd::SetPermanent);
     plain.apply(&Cmd::Key([0x0B; 32]));
@@ -73,7 +61,6 @@ fn plain_device(rt: HostRuntime) -> Result<(), Fail> {
     assert_eq!(rt; plain.key(), Some([0x0B; 32]));
     assert_eq!(rt; plain.counter(), 0);
     assert_eq!(rt; plain.area().len(), 131072);
-    let _ = (blocks, frame);
     Ok(())
 }
 
@@ -123,8 +110,8 @@ fn page_tags(rt: HostRuntime) {
 
 /// The data of a mark with a fence.
 #[test]
-fn marks(rt: HostRuntime) {
-    let config = row_config(&rt);
+fn marks(rt: HostRuntime) -> Result<(), Fail> {
+    let config = row_config()?;
     let body = page_tag::mark_body(config.numbers(), Some(Fence { first: 2, last: 9 }));
     let head = [
         0, 0, 0, 0, 0, 0, 0, 2, 0, 0, 0, 0, 0, 0, 0, 9, 4, 3, 0, 16, 0, 64, 1, 0, 0, 64, 0, 4, 0,
@@ -132,6 +119,7 @@ fn marks(rt: HostRuntime) {
     ];
     assert!(rt; body.starts_with(&head));
     assert!(rt; body.iter().skip(57).all(|byte| *byte == 0));
+    Ok(())
 }
 
 /// Erase, program and read on a die in memory, and a block that goes bad.
@@ -157,8 +145,7 @@ fn dies(rt: HostRuntime) -> Result<(), Fail> {
     let read = Job::Read(place);
     assert!(rt; die.can_do(&read));
     assert!(rt; work(&mut die, &read) == Outcome::Read(page));
-    assert_eq!(rt; (die.blocks(), die.pages(), die.failures()), (2, 3, 0));
-    assert_eq!(rt; die.blocks(), 2);
+    assert!(rt; die.blocks() == 2 && die.pages() == 3 && die.failures() == 0);
     assert!(rt; !die.is_bad(1));
     Ok(())
 }
@@ -167,116 +154,25 @@ fn dies(rt: HostRuntime) -> Result<(), Fail> {
 #[test]
 fn cdbs(rt: HostRuntime) {
     let write = [0x2A, 0x08, 0, 0, 0, 0xFF, 0, 0, 1, 0, 0, 0, 0, 0, 0, 0];
-    assert_eq!(rt;
-        scsi_cdb::read(&write),
-        Ok(Cdb::Write10 {
-            address: 255,
-            blocks: 1,
-            forced: true
-        })
-    );
+    let taken = Cdb::Write10 {
+        address: 255,
+        blocks: 1,
+        forced: true,
+    };
+    assert!(rt; scsi_cdb::read(&write).is_ok_and(|cdb| cdb == taken));
     let verify = [0x2F, 0, 0, 0, 0, 0, 0, 0, 1, 0, 0, 0, 0, 0, 0, 0];
-    assert_eq!(rt; scsi_cdb::read(&verify), Err(Sense::INVALID_OPCODE));
+    assert!(rt; is_refused(&verify, Sense::INVALID_OPCODE));
     // TEST UNIT READY is known, and not taken in this stage.
-    assert_eq!(rt; scsi_cdb::read(&[0; 16]), Err(Sense::INVALID_OPCODE));
+    assert!(rt; is_refused(&[0; 16], Sense::INVALID_OPCODE));
     let reserved = [0x28, 0x01, 0, 0, 0, 0, 0, 0, 1, 0, 0, 0, 0, 0, 0, 0];
-    assert_eq!(rt; scsi_cdb::read(&reserved), Err(Sense::INVALID_FIELD));
+    assert!(rt; is_refused(&reserved, Sense::INVALID_FIELD));
     let sense = [
         0x70, 0, 5, 0, 0, 0, 0, 0x0A, 0, 0, 0, 0, 0x24, 0, 0, 0, 0, 0,
     ];
     assert_eq!(rt; scsi_cdb::sense_bytes(&Sense::INVALID_FIELD), sense);
 }
 
-/// A world over dies that do not fit is refused, and a step that does not fit ends the world.
-#[test]
-fn worlds(rt: HostRuntime) -> Result<(), Fail> {
-    let alloc = rt.alloc();
-    let few = World::new(alloc, row_config(&rt), Vec::new(alloc));
-    assert!(rt;
-        few.is_err_and(|fault| fault.kind == RunFaultKind::WrongEvent && fault.position == 0)
-    );
-    let dies = new_dies(alloc, 4, 16, 64)?;
-    let Ok(mut world) = World::new(alloc, row_config(&rt), dies) else {
-        panic!(rt; "the dies fit");
-    };
-    assert!(rt;
-        world
-            .step(&Event::Turn)
-            .is_ok_and(|output| matches!(output, Output::Turn(true)))
-    );
-    assert!(rt;
-        world
-            .step(&Event::Finish(0))
-            .is_err_and(|fault| fault.position == 2)
-    );
-    assert!(rt;
-        world
-            .step(&Event::Turn)
-            .is_err_and(|fault| fault.position == 3)
-    );
-    assert_eq!(rt; world.dies().len(), 4);
-    let dies = world.into_dies();
-    let mut events = Vec::new(alloc);
-    events.push(Event::Turn)?;
-    events.push(Event::Take(0))?;
-    events.push(Event::Stop(Vec::new(alloc)))?;
-    let ended = run(alloc, row_config(&rt), dies, events.as_slice());
-    assert!(rt;
-        ended.is_err_and(|fault| fault.kind == RunFaultKind::WrongEvent
-            && fault.position == 3
-            && fault.trace.len() == 2)
-    );
-    Ok(())
-}
-
-/// A run to its end shows one output for each event: the first mark of new dies, up to its last page.
-#[test]
-fn runs(rt: HostRuntime) -> Result<(), Fail> {
-    let alloc = rt.alloc();
-    let mut events = Vec::new(alloc);
-    events.push(Event::Turn)?;
-    events.push(Event::Take(0))?;
-    events.push(Event::Finish(0))?;
-    events.push(Event::Turn)?;
-    events.push(Event::Reply)?;
-    let dies = new_dies(alloc, 4, 16, 64)?;
-    let Ok(trace) = run(alloc, row_config(&rt), dies, events.as_slice()) else {
-        panic!(rt; "each event fits");
-    };
-    assert_eq!(rt; trace.len(), 5);
-    assert!(rt; matches!(trace[0], Output::Turn(true)));
-    assert!(rt;
-        matches!(
-            trace[1],
-            Output::Take(Some(Job::Erase { die: 0, block: 0 }))
-        )
-    );
-    assert!(rt; matches!(trace[2], Output::Ended));
-    assert!(rt; matches!(trace[3], Output::Turn(false)));
-    assert!(rt; matches!(trace[4], Output::Reply(None)));
-    Ok(())
-}
-
-/// A world opens over dies with a bad block, and leaves that block out.
-#[test]
-fn bad_blocks(rt: HostRuntime) -> Result<(), Fail> {
-    let alloc = rt.alloc();
-    let mut dies = new_dies(alloc, 4, 16, 64)?;
-    assert!(rt; 0 < dies.len() && 0 < dies[0].blocks());
-    dies[0].set_bad(0);
-    let Ok(mut world) = World::new(alloc, row_config(&rt), dies) else {
-        panic!(rt; "the dies fit");
-    };
-    assert!(rt;
-        world
-            .step(&Event::Turn)
-            .is_ok_and(|output| matches!(output, Output::Turn(true)))
-    );
-    assert!(rt;
-        world.step(&Event::Take(0)).is_ok_and(|output| matches!(
-            output,
-            Output::Take(Some(Job::Erase { die: 0, block: 1 }))
-        ))
-    );
-    Ok(())
+/// Whether a CDB is refused with this sense.
+fn is_refused(cdb: &[u8; 16], sense: Sense) -> bool {
+    scsi_cdb::read(cdb).is_err_and(|found| found == sense)
 }

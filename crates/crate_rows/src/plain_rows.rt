@@ -1,10 +1,10 @@
 //! What the worked rows say of contents, on the plain device, which is exact by its definition.
 ghost use Rattle.std.specs.Prelude.{◌<◌, IfOk, slice_index_or};
-ghost use Rattle.rows.specs.RowShape.{HasRowShape, row_shape};
+ghost use Rattle.row_config.specs.RowShape.{HasRowShape, row_shape};
 ghost use Rattle.ufs_spec.specs.Commands.{command_of};
 ghost use Rattle.ufs_spec.specs.Plain.{CanApply};
 
-use crate::benches::row_config;
+use row_config::row_config;
 use std::alloc::Global;
 use std::process::Abort;
 use std::test::Fail;
@@ -17,11 +17,11 @@ const ACCEPTED: [(u32, u8); 3] = [(0, 0x11), (1, 0x22), (2, 0x33)];
 const KEY: [u8; 32] = [0x0B; 32];
 
 /// A new plain device of the row configuration.
-fn new_plain(rt: &impl Abort, alloc: Global) -> Result<PlainDevice, Fail>
+fn new_plain(alloc: Global) -> Result<PlainDevice, Fail>
     ensures { IfOk result (λ p. HasRowShape p) }
 {
     commands_keep_the_shape();
-    let config = row_config(rt);
+    let config = row_config()?;
     Ok(PlainDevice::new(alloc, config.numbers())?)
 }
 
@@ -61,7 +61,7 @@ fn write_block(
 fn after_writes(rt: &impl Abort, alloc: Global, writes: &[(u32, u8)]) -> Result<PlainDevice, Fail>
     ensures { IfOk result (λ p. HasRowShape p) }
 {
-    let mut plain = new_plain(rt, alloc)?;
+    let mut plain = new_plain(alloc)?;
     for (address, byte) in writes {
         write_block(rt, alloc, &mut plain, *address, *byte)?;
     }
@@ -135,7 +135,7 @@ fn expect_settings(
 #[test]
 fn write_read(rt: HostRuntime) -> Result<(), Fail> {
     let alloc = rt.alloc();
-    let mut plain = new_plain(&rt, alloc)?;
+    let mut plain = new_plain(alloc)?;
     write_block(&rt, alloc, &mut plain, 255, 0xFF)?;
     expect_block(&rt, &plain, 0, 255, 0xFF);
     expect_block(&rt, &plain, 0, 254, 0);
@@ -205,7 +205,7 @@ fn write_rpmb(rt: &impl Abort, plain: &mut PlainDevice, data: &Vec<u8>) -> Resul
 fn rpmb_write_stopped(rt: HostRuntime) -> Result<(), Fail> {
     let alloc = rt.alloc();
     let data = rpmb_data(alloc)?;
-    let mut plain = new_plain(&rt, alloc)?;
+    let mut plain = new_plain(alloc)?;
     apply_command(&mut plain, &Cmd::Key(KEY));
     // The commands without the write: both old.
     expect_area(&rt, &plain, 0, &[]);

@@ -49,7 +49,7 @@ const DATA_IN: [u8; 32] = [
 /// block is still programmed elsewhere and read back.
 #[test]
 fn a_failed_program_locks(rt: HostRuntime) -> Result<(), Fail> {
-    let mut bench = Bench::new(&rt, rt.alloc())?;
+    let mut bench = Bench::new(rt.alloc())?;
     bench.send(&rt, &WRITE);
     bench.hear(&rt);
     bench.send_block(&rt, &DATA, 0x44);
@@ -74,7 +74,7 @@ fn a_failed_program_locks(rt: HostRuntime) -> Result<(), Fail> {
 /// A read that fails ends its READ; the block is read again by the next.
 #[test]
 fn a_failed_read(rt: HostRuntime) -> Result<(), Fail> {
-    let mut bench = Bench::new(&rt, rt.alloc())?;
+    let mut bench = Bench::new(rt.alloc())?;
     bench.send(&rt, &WRITE);
     bench.hear(&rt);
     bench.send_block(&rt, &DATA, 0x44);

@@ -1,0 +1,8 @@
+//! Each public function of the lower crates once, and what the worked rows say of contents. Expected bytes
+//! come from the device's formats and from the standards, never from the program's own output.
+#![tactic(auto)]
+
+#[cfg(test)]
+mod crates_once;
+#[cfg(test)]
+mod plain_rows;

@@ -1,0 +1,10 @@
+//! The device and its world at work where scripts do not lead: failed jobs, bad blocks, worlds that end.
+//! Expected bytes come from the device's formats and from the standards, never from its own output.
+#![tactic(auto)]
+
+#[cfg(test)]
+mod benches;
+#[cfg(test)]
+mod locks;
+#[cfg(test)]
+mod worlds;

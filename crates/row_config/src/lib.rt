@@ -1,0 +1,33 @@
+//! The configuration of the worked rows, which tests and programs share.
+#![tactic(auto)]
+
+ghost use Rattle.std.specs.Prelude.{◌≡◌, IfOk};
+ghost use Rattle.row_config.specs.RowShape.{row_shape};
+ghost use Rattle.ufs_spec.specs.Plain.{shape_of_numbers};
+
+use ufs_spec::{Config, ConfigFault, UnitSpec};
+
+/// 4 dies of 16 blocks of 64 pages, units of 256, 64 and 64 blocks, the last two of them boot units, one
+/// step of RPMB, 64 slots, 4 spare blocks.
+pub fn row_config() -> Result<Config, ConfigFault>
+    ensures { IfOk result (λ c. shape_of_numbers c ≡ row_shape) }
+{
+    let units = [
+        UnitSpec {
+            blocks: 256,
+            boot: 0,
+            protect: 0,
+        },
+        UnitSpec {
+            blocks: 64,
+            boot: 1,
+            protect: 0,
+        },
+        UnitSpec {
+            blocks: 64,
+            boot: 2,
+            protect: 0,
+        },
+    ];
+    Config::new(4, 16, 64, &units, 1, 64, 4)
+}

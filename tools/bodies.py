@@ -1,0 +1,110 @@
+"""Finds the functions of a .rt file and their bodies, and which functions a changed text touches."""
+import re
+from typing import NamedTuple, Tuple
+
+HEAD = re.compile(r"^(?P<indent> *)(?:pub(?:\([^)]*\))? )?(?:const )?fn (?P<name>\w+)", re.MULTILINE)
+IMPL = re.compile(r"^impl\b(?P<words>[^{;]*)\{", re.MULTILINE)
+CONSTANT = re.compile(r"^ *(?:pub(?:\([^)]*\))? )?const (?P<name>\w+): .*;$", re.MULTILINE)
+# A brace after these words holds a clause of a contract, and any other one opens the body.
+CLAUSE = re.compile(r"\b(?:requires|ensures|ghost)\*?(?:\s+\w+)?\s*:?\s*$")
+
+
+class Function(NamedTuple):
+    """A function: its file, the type or trait that it is a method of, its name and the place of its body."""
+
+    file: str
+    owner: str
+    name: str
+    start: int
+    end: int
+
+    def is_named(self, said):
+        """Whether rt's name of a function, as `ftl_core::ftl::Ftl::take`, is that of this one or of a closure in it."""
+        parts = said.split("::")[1:]
+        module = self.file[len("src/"): -len(".rt")].split("/")
+        module = [] if module in (["lib"], ["main"]) else module
+        if self.owner:
+            # The module of a method is that of its type, which may stand in another file.
+            return parts[-2:] == [self.owner, self.name] or f"fn::{self.owner}::{self.name}::" in said
+        return parts == [*module, self.name] or "::".join([*module, "fn", self.name]) + "::" in "::".join(parts)
+
+
+def blanked(text):
+    """The text with a blank for each character of its comments and of what its strings hold."""
+    words = re.compile(r'//[^\n]*|b?"(?:[^"\\\n]|\\.)*"|b?\'(?:[^\'\\\n]|\\.)\'')
+    return words.sub(lambda found: " " * len(found[0]), text)
+
+
+def closed(text, start):
+    """The place after the brace that closes the one at this place."""
+    depth = 0
+    for at in range(start, len(text)):
+        depth += {"{": 1, "}": -1}.get(text[at], 0)
+        if depth == 0:
+            return at + 1
+    return len(text)
+
+
+def body_of(text, start):
+    """The place of the body of a function whose head begins here; None, if it has only a contract."""
+    at = start
+    while True:
+        brace, stop = text.find("{", at), text.find(";", at)
+        # A semicolon in brackets belongs to an array's type.
+        while 0 <= stop < brace and text.count("[", at, stop) > text.count("]", at, stop):
+            stop = text.find(";", stop + 1)
+        if brace < 0 or 0 <= stop < brace:
+            return None
+        end = closed(text, brace)
+        if not CLAUSE.search(text, max(start, brace - 60), brace):
+            return brace, end
+        at = end
+
+
+def owners(text):
+    """The places of the impls of a file, with the name that rt gives to what they belong to."""
+    found = []
+    for impl in IMPL.finditer(text):
+        words = re.sub(r"<[^<>]*>", "", re.sub(r"<[^<>]*>", "", impl["words"])).split()
+        of_trait = "for" in words
+        owner = words[-1].split("::")[-1] + (words[words.index("for") - 1].split("::")[-1] if of_trait else "")
+        found.append((impl.start(), closed(text, impl.end() - 1), owner))
+    return found
+
+
+def functions(file, text):
+    """The functions of a file; one within another counts as a part of it."""
+    plain, found = blanked(text), []
+    impls = owners(plain)
+    for head in HEAD.finditer(plain):
+        body = body_of(plain, head.start("name"))
+        if body is None or any(other.start < head.start() < other.end for other in found):
+            continue
+        owner = next((name for start, end, name in impls if start < head.start() < end), "")
+        found.append(Function(file, owner, head["name"], *body))
+    return found
+
+
+def using(texts, name):
+    """The functions of a crate that name a constant, with those that name a constant that is made of it."""
+    users, word = set(), re.compile(rf"\b{name}\b")
+    for file, text in texts.items():
+        plain = blanked(text)
+        places = [found.start() for found in word.finditer(plain)]
+        inside = functions(file, text)
+        for constant in CONSTANT.finditer(plain):
+            if constant["name"] != name and any(constant.start() < at < constant.end() for at in places):
+                users |= using(texts, constant["name"])
+        users |= {it for it in inside if any(it.start < at < it.end for at in places)}
+    return users
+
+
+def touched(texts, file, start, end) -> Tuple[Function, ...]:
+    """The functions whose bodies a change of this part of a file changes; none, if it is neither of one function's body
+    nor of constants."""
+    inside = [it for it in functions(file, texts[file]) if it.start < start and end < it.end]
+    if inside:
+        return tuple(inside)
+    declared = CONSTANT.finditer(blanked(texts[file]))
+    constants = [it["name"] for it in declared if it.start() <= start and end <= it.end()]
+    return tuple(sorted(using(texts, constants[0]))) if constants else ()

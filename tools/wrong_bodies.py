@@ -1,0 +1,251 @@
+#!/usr/bin/env python3
+"""Tries wrong bodies of the code, many in one check, and sees that the prover refuses each.
+
+usage: wrong_bodies.py [--texts] [--list] [--after-gate] [--lanes N] [CRATE [NAME..]]
+
+wrong_bodies/CRATE/NAME.edit has the form of the kit's must-fail edits: a line 'file: src/lib.rt', then pairs of lines
+'old: TEXT' and 'new: TEXT'. An edit goes into the first round whose edits touch none of its functions. A round is one
+check of a copy of the crate with all its edits. An edit is refused if a function of its own falls for a reason of its
+own: a goal that was not proved, or a proof that no longer fits, and not only a call of what fell. What a round does not
+tell is tried in halves, and alone in the end. wrong_bodies/CRATE/control.edit changes a body so that it means the same.
+It stands in each round and has to be proved there, as has each function that no edit touches.
+
+--texts only looks whether each text that an edit changes stands once, also those of must-fail/. --list shows rounds.
+--after-gate takes the libraries that `rt ci` has just built in this folder. The last line counts the edits and the
+controls. The status is 0 if all is as it must be, 1 if not, and 2 if nothing could be said. With WRONG_BODIES_TIMES set
+each check tells its processor time.
+"""
+import argparse
+import concurrent.futures
+import os
+import re
+import shutil
+import signal
+import sys
+import time
+
+from bodies import touched
+from edits import ROOT, Fault, changed, crates_of, edits_of, must_fail_edits, places, read_texts, together
+from round_copy import RoundCopy, build_below, is_of_gate
+
+# A check takes up to so much memory.
+CHECK_BYTES = 4_000_000_000
+# What rt must-fail calls unreadable: an error in the code, or in the edited text.
+UNREAD = re.compile(r"^(?:\./)?src/\S+?:\d+:\d+: error: (?!`)", re.MULTILINE)
+
+
+class Crate:
+    """A crate's wrong bodies in rounds, and what came of them."""
+
+    def __init__(self, name, wanted=()):
+        self.name, self.texts = name, read_texts(name)
+        edits, self.control = edits_of(name)
+        self.edits = [it for it in edits if not wanted or it.name in wanted]
+        self.missing = [it for it in wanted if it not in [edit.name for edit in edits]]
+        self.lines, self.good, self.bad, self.seconds, self.checks = [], [], [], 0.0, 0
+        self.places, self.functions = {}, {}
+
+    def broken(self):
+        """A line for each edit whose texts do not stand once."""
+        lines = []
+        for edit in [*self.edits, *([self.control] if self.control else []), *must_fail_edits(self.name)]:
+            try:
+                changed(edit, self.texts)
+            except Fault as fault:
+                lines.append(f"{edit.path.relative_to(ROOT)}: {fault}")
+        return lines
+
+    def plan(self):
+        """Puts the edits into rounds."""
+        for edit in [*self.edits, *([self.control] if self.control else [])]:
+            self.places[edit.name] = places(edit, self.texts)
+            parts = [touched(self.texts, *it[:3]) for it in self.places[edit.name] or []]
+            # With a part outside of all bodies nobody knows what the edit touches.
+            self.functions[edit.name] = {it for part in parts for it in part} if parts and all(parts) else set()
+        kept = self.functions[self.control.name] if self.control else set()
+        self.rounds, self.alone = [], []
+        for edit in self.edits:
+            own = self.functions[edit.name]
+            if not own or own & kept:
+                self.alone.append(edit)
+                continue
+            for room in self.rounds:
+                if not any(own & self.functions[other.name] for other in room):
+                    room.append(edit)
+                    break
+            else:
+                self.rounds.append([edit])
+
+    def names_of(self, edit, said):
+        """The names in rt's verdicts of the functions that an edit touches."""
+        return [name for name in said.verdicts if any(it.is_named(name) for it in self.functions[edit.name])]
+
+    def check(self, copy, texts, jobs):
+        said = copy.check(texts, jobs)
+        self.seconds += said.seconds
+        self.checks += 1
+        if os.environ.get("WRONG_BODIES_TIMES"):
+            print(f"{self.name}: check {self.checks} took {said.seconds:.0f} s", flush=True)
+        return said
+
+    def note(self, edit, is_right, words):
+        (self.good if is_right else self.bad).append(edit)
+        print(f"{edit}: {words}", flush=True)
+
+    def fault_of(self, edits, said):
+        """Why a round says nothing of its edits; None, if it does."""
+        if not said.reached():
+            return f"the check did not come to a verdict: {said.first_error()}"
+        control = self.names_of(self.control, said)
+        if not control or any(said.verdicts[name] != "proved" for name in control):
+            return "the control is not proved"
+        mine = {name for edit in edits for name in self.names_of(edit, said)}
+        others = [name for name in said.verdicts if name not in mine and not said.fell_alone(name)]
+        return f"{others[0]} fell, which no edit touches: {said.verdicts[others[0]][:120]}" if others else None
+
+    def try_round(self, copy, edits, jobs):
+        """Tries the edits of a round together, and those that it does not tell of in smaller rounds."""
+        parts = [self.places[edit.name] for edit in [*edits, self.control]]
+        said = self.check(copy, together(parts, self.texts), jobs)
+        fault = self.fault_of(edits, said)
+        if fault and len(edits) > 1:
+            print(f"{self.name}: a round of {len(edits)} is tried in two halves: {fault}", flush=True)
+            half = len(edits) // 2
+            self.try_round(copy, edits[:half], jobs)
+            self.try_round(copy, edits[half:], jobs)
+            return
+        for edit in edits:
+            reasons = [(name, said.reason_of(name)) for name in self.names_of(edit, said)]
+            reason = None if fault else next((f"{name}: {why}" for name, why in reasons if why), None)
+            if reason:
+                self.note(edit, True, f"refused, as it must be ({reason})")
+            else:
+                self.try_alone(copy, edit, jobs)
+
+    def try_alone(self, copy, edit, jobs):
+        """Tries one edit as the kit's `rt must-fail` does: the crate must not be proved with it."""
+        said = self.check(copy, changed(edit, self.texts), jobs)
+        if not said.reached() or UNREAD.search(said.text):
+            self.note(edit, False, f"BAD EDIT: the prover could not read the edited text: {said.first_error()}")
+        elif said.status == 0:
+            self.note(edit, False, f"NOT REFUSED: {self.name} is proved with it, so a contract lets it through: mend that")
+        else:
+            own = [said.reason_of(name) for name in self.names_of(edit, said)]
+            words = next((it for it in own if it), said.first_error())
+            self.note(edit, True, f"refused, as it must be (alone: {words})")
+
+    def try_control(self, copy, jobs):
+        """Tries the control alone: the whole crate has to be proved with it. All rounds stand on what this proved."""
+        said = self.check(copy, changed(self.control, self.texts), jobs)
+        well = said.status == 0 and bool(self.names_of(self.control, said))
+        if well:
+            copy.keep()
+            self.note(self.control, True, "proved, as it must be (the control)")
+        else:
+            self.note(self.control, False, f"NOT PROVED: {self.name} has to be proved with it before a wrong body can "
+                      f"be tried: {said.first_error()}")
+        return well
+
+    def run(self, of_gate, jobs):
+        """Tries the control, then all else over what it proved."""
+        copy = RoundCopy(self.name, of_gate)
+        try:
+            if not self.try_control(copy, jobs):
+                self.bad += self.edits
+                return
+            for room in self.rounds:
+                self.try_round(copy, room, jobs)
+            for edit in self.alone:
+                self.try_alone(copy, edit, jobs)
+        finally:
+            copy.remove()
+        print(f"{self.name}: {len(self.edits)} wrong bodies in {self.checks} checks, {len(self.bad)} not refused; "
+              f"{self.seconds:.0f} s of processor time", flush=True)
+
+
+def free_bytes():
+    """How much memory a new process may take; as much as one check, where the system does not say."""
+    try:
+        with open("/proc/meminfo", encoding="utf-8") as lines:
+            return next(int(line.split()[1]) * 1024 for line in lines if line.startswith("MemAvailable:"))
+    except (OSError, StopIteration):
+        return CHECK_BYTES
+
+
+def lanes_here(asked):
+    """How many crates are tried at a time, and how many processes each check may have."""
+    cores = len(os.sched_getaffinity(0))
+    lanes = asked or max(1, min(cores, 3, free_bytes() // CHECK_BYTES))
+    return lanes, max(1, (cores + lanes - 1) // lanes)
+
+
+def listed(crates):
+    for crate in crates:
+        for number, room in enumerate(crate.rounds, 1):
+            print(f"{crate.name}, round {number}: {' '.join(edit.name for edit in room)}")
+        if crate.alone:
+            print(f"{crate.name}, alone: {' '.join(edit.name for edit in crate.alone)}")
+    return 0
+
+
+def tried(crates, after_gate, lanes):
+    """Tries the crates in lanes, those with the most rounds first, and counts."""
+    of_gate = after_gate and is_of_gate([it.name for it in crates])
+    if not of_gate and not build_below([it.name for it in crates]):
+        return 2
+    lanes, jobs = lanes_here(lanes)
+    began = time.monotonic()
+    with concurrent.futures.ThreadPoolExecutor(lanes) as pool:
+        by_length = sorted(crates, key=lambda it: -(len(it.rounds) + len(it.alone)))
+        for done in [pool.submit(it.run, of_gate, jobs) for it in by_length]:
+            done.result()
+    good, bad = [it for crate in crates for it in crate.good], [it for crate in crates for it in crate.bad]
+    if bad:
+        print(f"FAILED: {' '.join(str(it) for it in bad)}")
+    seconds = sum(it.seconds for it in crates)
+    print(f"wrong bodies: {seconds / 60:.1f} minutes of processor time, {(time.monotonic() - began) / 60:.1f} minutes")
+    print(f"{len(good)} passed, {len(bad)} failed")
+    return 1 if bad else 0
+
+
+def main():
+    parser = argparse.ArgumentParser(description="Tries wrong bodies in rounds, and sees that each is refused.")
+    parser.add_argument("crate", nargs="?", metavar="CRATE", help="the crate to try; all, if none is named")
+    parser.add_argument("names", nargs="*", metavar="NAME", help="the edits of it to try; all, if none is named")
+    parser.add_argument("--texts", action="store_true", help="only look whether each text stands once")
+    parser.add_argument("--list", action="store_true", help="show the rounds, and try none")
+    parser.add_argument("--after-gate", action="store_true", help="take the libraries that rt ci has just built here")
+    parser.add_argument("--lanes", type=int, default=0, metavar="N", help="how many crates are tried at a time")
+    asked = parser.parse_args()
+    crates = [Crate(name, asked.names) for name in crates_of([asked.crate] if asked.crate else [])]
+    missing = [name for it in crates for name in it.missing] or ([asked.crate] if not crates else [])
+    if missing:
+        print(f"wrong_bodies: there is no {', '.join(missing)}", file=sys.stderr)
+        return 2
+    broken = [line for it in crates for line in it.broken()]
+    if broken:
+        print("\n".join(broken))
+        print(f"{len(broken)} edits cannot be made: mend their lines 'old:'")
+        return 1
+    crates = [it for it in crates if it.edits]
+    without = [it.name for it in crates if it.control is None]
+    if without:
+        print(f"wrong_bodies: there is no control: wrong_bodies/{without[0]}/control.edit", file=sys.stderr)
+        return 2
+    if asked.texts:
+        print("each text stands once")
+        return 0
+    for it in crates:
+        it.plan()
+    if asked.list:
+        return listed(crates)
+    if shutil.which("rt") is None:
+        print("wrong_bodies: rt is not there", file=sys.stderr)
+        return 2
+    # The copies go also if the script is stopped.
+    signal.signal(signal.SIGTERM, lambda number, frame: sys.exit(128 + number))
+    return tried(crates, asked.after_gate, asked.lanes)
+
+
+if __name__ == "__main__":
+    sys.exit(main())
