@@ -48,12 +48,12 @@ LIMITS = (
     Limit("takes_failures", STAGES, "takes_failures = true"),
     Limit("taken_operations", CDBS, "taken_operations = known_operations"),
     Limit("IsTakenCdb", CDBS, "IsTakenCdb cdb = Unit {0}", (
-        ("ufs_laws/proofs/AllHeard.antt",
+        ("ufs_laws/proofs/exchanges/BytesHeard.antt",
          "is_taken (cdb.Read10 address blocks forced) = yes tt\n"
          "is_taken (cdb.Write10 address blocks forced) = is_true forced\n"
          "is_taken c = no (λ (h : ⊥). h)\n",
          "is_taken c = yes tt\n"),
-        ("ufs_laws/proofs/Said.antt",
+        ("ufs_laws/proofs/worked_run/MessagesSaid.antt",
          "    ((omega arith, omega arith), refl, refl),\n  ),\n)\n\npub read_said",
          "    ((omega arith, omega arith), tt, refl),\n  ),\n)\n\npub read_said"),
     )),

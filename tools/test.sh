@@ -1,7 +1,7 @@
 #!/bin/sh
 # Everything that has to pass: the gate, `rt ci`, which proves every crate from nothing, tries the must-fail
 # edits and runs programs and tests; then the wrong bodies of wrong_bodies/, which tools/wrong_bodies.py tries
-# in rounds; then the scripts in examples/, each of which has to print what stands in the file of its name with
+# in rounds; then the table of laws and files; then the scripts in examples/, each of which has to print what stands in the file of its name with
 # .stdout behind it, and to end with status 0; then the calls of the program in tools/bad_calls/, each of which
 # has to end with its status and to print nothing; then that the five calls of a device take no memory. The
 # last line is 'N passed, M failed' for all together. The status is 0 only where nothing failed.
@@ -37,6 +37,14 @@ counted() {
 counted rt ci
 echo "== wrong bodies"
 counted python3 tools/wrong_bodies.py --after-gate
+
+# The table of docs/ARCHITECTURE.md that says which files prove what has to be that of the sources.
+echo "== the table of laws and files"
+if python3 tools/proof_map.py --check; then
+    passed=$((passed + 1))
+else
+    failed=$((failed + 1))
+fi
 
 # Builds once, without a proof, and prints a line 'case=NAME ..' for each script on standard error.
 echo "== examples"

@@ -255,8 +255,9 @@ class TrialCopy:
 
     def drop_unused(self, crate):
         """Takes away the files of lemmas that no law cites any more, and no other crate."""
-        proofs, uses = self.path(crate) / "proofs", re.compile(rf"^use Rattle\.{crate}\.proofs\.(\w+)", re.MULTILINE)
-        files = {path.stem: path for path in proofs.glob("*.antt") if path.stem != "Lib"}
+        proofs = self.path(crate) / "proofs"
+        uses = re.compile(rf"^use Rattle\.{crate}\.proofs\.([\w.]+?)(?:\.\{{| as |$)", re.MULTILINE)
+        files = lemma_files(proofs)
         others = [path for path in (self.folder / "crates").glob("*/proofs/**/*.antt")
                   if path not in files.values()]
         wanted, left = set(), others
@@ -265,11 +266,12 @@ class TrialCopy:
             found = (found & files.keys()) - wanted
             wanted |= found
             left = [files[name] for name in found]
-        listed = (proofs / "Lib.antt").read_text(encoding="utf-8")
-        for name in files.keys() - wanted:
+        for name in sorted(files.keys() - wanted):
             self.write(files[name], None)
-            listed = re.sub(rf"^pub mod {name}\n", "", listed, flags=re.MULTILINE)
-        self.write(proofs / "Lib.antt", listed)
+            list_of = proofs / (name.split(".")[0] + ".antt" if "." in name else "Lib.antt")
+            listed = list_of.read_text(encoding="utf-8")
+            left = re.sub(rf"^pub mod {name.split('.')[-1]}\n", "", listed, flags=re.MULTILINE)
+            self.write(list_of, left)
 
     def cut_lemma(self, path, name):
         """Takes out a declaration: its signature, the deeper lines and equations that follow, and an emptied block."""
@@ -296,6 +298,15 @@ class TrialCopy:
             left = uses.sub(lambda use: without_name(use[0], name), text)
             if left != text:
                 self.write(path, left)
+
+
+def lemma_files(proofs):
+    """The files of lemmas below a folder of proofs, by the name of their module: those that a list of modules names."""
+    files = {path.stem: path for path in proofs.glob("*.antt") if path.stem[0].isupper() and path.stem != "Lib"}
+    for listing in proofs.glob("*.antt"):
+        if listing.stem[0].islower():
+            files.update((f"{listing.stem}.{path.stem}", path) for path in (proofs / listing.stem).glob("*.antt"))
+    return files
 
 
 def indent(line):

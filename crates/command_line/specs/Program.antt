@@ -1,6 +1,7 @@
 -- The words of the program, as `clap` reads them (this profile).
 use Rattle.std.specs.Prelude.{true, List, Option, Some, codes, option_and_then}
-use Rattle.clap.specs.Words.{App, Row, Rule, Text, first_of, new_app, new_rule, subcommand_of, with_rule, with_subcommand}
+use Rattle.clap.specs.Words.{App, Row, Rule, Text, first_of, new_app, new_rule, subcommand_of, with_rule}
+use Rattle.clap.specs.Words.{with_subcommand}
 use Rattle.clap.specs.declared.builder.action.ArgAction.TheVariants.{Set}
 use Rattle.command_line.specs.declared.asked.Call.{Call}
 use Rattle.command_line.specs.declared.asked.Call.TheVariants.{Run}

@@ -1,7 +1,9 @@
 -- What the calls make of what the device keeps.
-use Rattle.std.specs.Prelude.{ℕ, ◌+◌, ◌-◌, nat_lt, Bool, false, if◌then◌else◌, List, [], ◌∷◌, ◌++◌, length, map, Option, Some, None}
+use Rattle.std.specs.Prelude.{ℕ, ◌+◌, ◌-◌, nat_lt, Bool, false, if◌then◌else◌, List, [], ◌∷◌, ◌++◌, length, map, Option}
+use Rattle.std.specs.Prelude.{Some, None, true}
+use Rattle.ufs_spec.specs.Translation as layer
+use Rattle.ufs_spec.specs.Translation.{Translation}
 use Rattle.ufs_spec.specs.declared.flash.Key.{Key}
-use Rattle.ftl_core.specs.declared.books.ReadState.TheVariants as read
 use Rattle.ftl_core.specs.Moves.{accepted, can_accept, free_slots, is_locked, look_of, next_number, with_pin}
 use Rattle.ftl_core.specs.declared.ftl.Ended.{Ended}
 use Rattle.ftl_core.specs.declared.ftl.Ended.TheVariants as ended
@@ -24,7 +26,7 @@ abbrev pub begun : DeviceCore → ℕ → Plan → DeviceCore
 begun d tag (plan.Nothing n) = d
 begun d tag (plan.Read key) =
     if nat_lt (length d.ftl.pins) 32
-    then record d { ftl = with_pin d.ftl record { reader = tag; key = key; looked = look_of d.ftl key; read = read.Owed } }
+    then record d { ftl = with_pin d.ftl record { reader = tag; key = key; looked = look_of d.ftl key; wanted = true } }
     else d
 begun d tag (plan.Write key) =
     if nat_lt 0 (free_slots d.ftl) then record d { ftl = record d.ftl { claimed = d.ftl.claimed + 1 } } else d
@@ -35,14 +37,19 @@ is_taken d = if is_locked d.ftl then false else can_accept d.ftl
 
 abbrev pub phase_accepted : DeviceCore → Key → Phase
 phase_accepted d key =
-    if is_taken d then phase.AwaitFrontier (next_number d.ftl) else phase.Answer (status.CheckCondition write_error) 4096
+    if is_taken d then phase.AwaitFrontier (next_number d.ftl) else phase.Answer (status.CheckCondition write_error)
+    4096
 
 abbrev pub block_accepted : DeviceCore → Key → List ℕ → DeviceCore
 block_accepted d key body =
     if is_taken d then record d { ftl = accepted d.ftl key body }
     else record d { ftl = record d.ftl { claimed = d.ftl.claimed - 1 } }
 
--- a lock ends each task that waits for a block to become durable
+-- where the layer is locked, each task that waits for a block that is not durable ends
+abbrev pub lock_told : Translation → DeviceCore → DeviceCore
+lock_told t d = if layer.is_locked t then record d { tasks = map (after_lock t.ledger.frontier) d.tasks } else d
+
+-- the same by what the device keeps of its layer
 abbrev pub waiting_ended : DeviceCore → DeviceCore
 waiting_ended d = if is_locked d.ftl then record d { tasks = map (after_lock d.ftl.frontier) d.tasks } else d
 

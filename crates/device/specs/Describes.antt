@@ -1,30 +1,30 @@
--- How what the device keeps describes the specified device. In this stage at most one task is open, for one block, and
--- nothing sets a protection.
-use Rattle.std.specs.Prelude.{◌≡◌, ℕ, ◌+◌, ◌≤◌, true, false, List, [], ◌∷◌, map, Option, Some, None, option_map, Result, Ok, Err}
+-- How what the device keeps describes the specified device: one relation for each part of its state, each over the
+-- fields
+-- that it reads. A WRITE and a READ have one block so far, and nothing sets a protection.
+use Rattle.std.specs.Prelude.{◌≡◌, ℕ, ◌+◌, ◌≤◌, nat_le, true, false, All, List, [], ◌∷◌, filter, find, length, map}
+use Rattle.std.specs.Prelude.{slice_get, Bool, Option, Some, None, option_map, Result, Ok, Err}
 use Rattle.ufs_spec.specs.Disk.{Flight, job_of}
 use Rattle.ufs_spec.specs.Exchanges as exchange
-use Rattle.ufs_spec.specs.Exchanges.{Answering, Awaiting, Deed, ForWrite, Gathering, NotRead, Purpose, ReadBlock, Sending, Short, TaskSetFull, Unread, WasRead, response, short_reply}
+use Rattle.ufs_spec.specs.Exchanges.{Answering, Awaiting, Deed, ForWrite, Gathering, Purpose, ReadBlock, Sending, Short}
+use Rattle.ufs_spec.specs.Exchanges.{NotRead, Unread, WasRead, short_reply, task_of}
 use Rattle.ufs_spec.specs.Keys.{data_key}
-use Rattle.ufs_spec.specs.Ledger as ledger
-use Rattle.ufs_spec.specs.Ledger.{Entry, InSlot, Ledger, Name, OnPage, Unwritten, before_accepted, entry_of}
-use Rattle.ufs_spec.specs.Machine.{Allowed, Answer, Reply, Call, Take, OfTake, Heard, OfHost, Host, IsHeard, OfReply, lock_applied, observe}
+use Rattle.ufs_spec.specs.Ledger.{before_accepted}
+use Rattle.ufs_spec.specs.Machine.{Allowed, Answer, Call, Heard, Host, IsHeard, OfHost, OfReply, OfTake, Reply, Take}
+use Rattle.ufs_spec.specs.Machine.{durable, observe}
 use Rattle.ufs_spec.specs.Messages.{spelling}
-use Rattle.ufs_spec.specs.Plain.{zero_block}
-use Rattle.ufs_spec.specs.Refusals.{State, plain_now}
-use Rattle.ufs_spec.specs.Translation as layer
+use Rattle.ufs_spec.specs.Moves.{is_pin_of}
+use Rattle.ufs_spec.specs.Refusals.{State, locked, plain_now}
+use Rattle.ufs_spec.specs.Stages.{most_tasks}
+use Rattle.ufs_spec.specs.Translation.{Pin}
 use Rattle.ufs_spec.specs.declared.faults.HostFault.{HostFault}
 use Rattle.ufs_spec.specs.declared.flash.Job.{Job}
 use Rattle.ufs_spec.specs.declared.flash.Key.{Key}
 use Rattle.ufs_spec.specs.declared.messages.Message.{Message}
-use Rattle.ufs_spec.specs.declared.messages.Message.TheVariants as message
 use Rattle.ufs_spec.specs.declared.scsi.Cdb.{Cdb}
 use Rattle.ufs_spec.specs.declared.scsi.Sense.{Sense}
 use Rattle.power_loss.specs.Exchange.{IsTied}
-use Rattle.ftl_core.specs.declared.books.Looked.TheVariants as looked
-use Rattle.ftl_core.specs.declared.books.Pin.{Pin}
-use Rattle.ftl_core.specs.declared.books.ReadState.TheVariants as read
-use Rattle.ftl_core.specs.declared.books.Stored.{Stored}
-use Rattle.ftl_core.specs.Describes.{Kept, is_wanted}
+use Rattle.power_loss.specs.Shown.{ShowsReads}
+use Rattle.ftl_core.specs.Describes as layer
 use Rattle.device.specs.declared.tasks.Loaded.{Loaded}
 use Rattle.device.specs.declared.tasks.Phase.{Phase}
 use Rattle.device.specs.declared.tasks.Phase.TheVariants as phase
@@ -33,61 +33,8 @@ use Rattle.device.specs.declared.tasks.Status.{Status}
 use Rattle.device.specs.declared.tasks.Status.TheVariants as status
 use Rattle.device.specs.declared.tasks.Task.{Task}
 use Rattle.device.specs.Kept.{DeviceCore}
-use Rattle.device.specs.Replies.{full_answer, status_kept}
+use Rattle.device.specs.Replies.{body_of, full_answer, is_loaded_for, status_kept}
 use Rattle.device.specs.Tasks.{read_error}
-
--- Blocks of a READ
-
--- what was looked up has this content
-abbrev pub HasBody : Ledger → Name → List ℕ → Type 0
-HasBody l name body = (e : Entry) × (entry_of l name ≡ Some e) × (e.item.body ≡ body)
-
-abbrev pub IsContent : Ledger → ledger.Looked → List ℕ → Type 0
-IsContent l Unwritten body = body ≡ zero_block
-IsContent l (InSlot name) body = HasBody l name body
-IsContent l (OnPage name place) body = HasBody l name body
-
--- whether the block's page was read, and its bytes then
-abbrev pub IsRead : List Loaded → ℕ → Pin → List ℕ → exchange.ReadState → Type 0
-IsRead loaded tag pin body Unread = (is_wanted pin.read ≡ true) × (loaded ≡ [])
-IsRead loaded tag pin body WasRead =
-    (pin.read ≡ read.Over) × ((s : Stored) × (pin.looked ≡ looked.Page s)) × (loaded ≡ record { tag = tag; body = body } ∷ [])
-IsRead loaded tag pin body NotRead = ⊥
-
--- the block of a READ, not handed out yet
-pub record IsSending (d : DeviceCore) (l : Ledger) (qs : List layer.Pin) (a : Task) (b : exchange.Task) (blocks : List ReadBlock) (sent : ℕ) : Type 0 where
-  pub block : ReadBlock
-  pub one : blocks ≡ block ∷ []
-  pub none_sent : sent ≡ 0
-  pub length_is : b.length ≡ 4096
-  pub some : 1 ≤ a.expected
-  pub pin : Pin
-  pub pins : d.ftl.pins ≡ pin ∷ []
-  pub reader : pin.reader ≡ a.tag
-  pub kept : layer.Pin
-  pub keeps : qs ≡ kept ∷ []
-  pub content : IsContent l kept.looked block.body
-  pub so_far : IsRead d.loaded a.tag pin block.body block.state
-
--- the block of a READ that could not be read
-pub record IsLost (d : DeviceCore) (a : Task) (blocks : List ReadBlock) (sent : ℕ) (told : Status) (length : ℕ) : Type 0 where
-  pub block : ReadBlock
-  pub one : blocks ≡ block ∷ []
-  pub none_sent : sent ≡ 0
-  pub lost : block.state ≡ NotRead
-  pub told_is : told ≡ status.CheckCondition read_error
-  pub nothing : length ≡ 0
-  pub pin : Pin
-  pub pins : d.ftl.pins ≡ pin ∷ []
-  pub reader : pin.reader ≡ a.tag
-  -- its read is over
-  pub over : pin.read ≡ read.Over
-  pub none_loaded : d.loaded ≡ []
-
--- no block is kept
-pub record KeepsNothing (d : DeviceCore) : Type 0 where
-  pub pins : d.ftl.pins ≡ []
-  pub loaded : d.loaded ≡ []
 
 -- Tasks
 
@@ -97,49 +44,129 @@ IsWrite key (ForWrite unit address blocks forced) = (key ≡ data_key unit addre
 IsWrite key purpose = ⊥
 
 -- nothing was gathered yet
-pub record IsGathering (d : DeviceCore) (b : exchange.Task) (key : Key) (purpose : Purpose) (gathered : List ℕ) : Type 0 where
+pub record IsGathering (key : Key) (length : ℕ) (purpose : Purpose) (gathered : List ℕ) : Type 0 where
   pub write : IsWrite key purpose
   pub none_gathered : gathered ≡ []
-  pub length_is : b.length ≡ 4096
-  pub nothing : KeepsNothing d
+  pub length_is : length ≡ 4096
 
-abbrev pub IsDoing : DeviceCore → Ledger → List layer.Pin → Task → exchange.Task → Phase → Deed → Type 0
-IsDoing d l qs a b (phase.AskData key) (Gathering purpose gathered asked) = IsGathering d b key purpose gathered × (asked ≡ false)
-IsDoing d l qs a b (phase.AwaitData key) (Gathering purpose gathered asked) = IsGathering d b key purpose gathered × (asked ≡ true)
-IsDoing d l qs a b (phase.AwaitFrontier n) (Awaiting commands) =
-    (n ≡ before_accepted l + commands) × (b.length ≡ 4096) × KeepsNothing d
-IsDoing d l qs a b phase.SendBlock (Sending blocks sent) = IsSending d l qs a b blocks sent
-IsDoing d l qs a b (phase.Answer told length) (Answering s carried) = (s ≡ status_kept told) × (carried ≡ length) × KeepsNothing d
-IsDoing d l qs a b (phase.Answer told length) (Sending blocks sent) = IsLost d a blocks sent told length
-IsDoing d l qs a b kept deed = ⊥
+abbrev pub is_lost : exchange.ReadState → Bool
+is_lost Unread = false
+is_lost WasRead = false
+is_lost NotRead = true
 
-pub record TaskKept (d : DeviceCore) (l : Ledger) (qs : List layer.Pin) (a : Task) (b : exchange.Task) : Type 0 where
+-- the block of a READ was not handed out yet
+pub record IsSending (expected length : ℕ) (blocks : List ReadBlock) (sent : ℕ) : Type 0 where
+  pub block : ReadBlock
+  pub one : blocks ≡ block ∷ []
+  pub none_sent : sent ≡ 0
+  pub length_is : length ≡ 4096
+  pub some : 1 ≤ expected
+  pub readable : is_lost block.state ≡ false
+
+-- the block of a READ could not be read
+pub record IsLost (blocks : List ReadBlock) (sent : ℕ) (told : Status) (length : ℕ) : Type 0 where
+  pub block : ReadBlock
+  pub one : blocks ≡ block ∷ []
+  pub none_sent : sent ≡ 0
+  pub lost : block.state ≡ NotRead
+  pub told_is : told ≡ status.CheckCondition read_error
+  pub nothing : length ≡ 0
+
+-- what a phase of the device is to the specified one; a group's number counts from those before the accepted commands
+abbrev pub IsDoing : (before expected length : ℕ) → Phase → Deed → Type 0
+IsDoing before expected length (phase.AskData key) (Gathering purpose gathered asked) =
+    IsGathering key length purpose gathered × (asked ≡ false)
+IsDoing before expected length (phase.AwaitData key) (Gathering purpose gathered asked) =
+    IsGathering key length purpose gathered × (asked ≡ true)
+IsDoing before expected length (phase.AwaitFrontier n) (Awaiting commands) = (n ≡ before + commands) × (length ≡ 4096)
+IsDoing before expected length phase.SendBlock (Sending blocks sent) = IsSending expected length blocks sent
+IsDoing before expected length (phase.Answer told n) (Answering s carried) = (s ≡ status_kept told) × (carried ≡ n)
+IsDoing before expected length (phase.Answer told n) (Sending blocks sent) = IsLost blocks sent told n
+IsDoing before expected length kept deed = ⊥
+
+pub record TaskKept (before : ℕ) (a : Task) (b : exchange.Task) : Type 0 where
   pub lun : b.lun ≡ a.lun
   pub tag : b.tag ≡ a.tag
   pub expected : b.expected ≡ a.expected
   -- no SECURITY PROTOCOL OUT is taken yet
   pub request : b.request ≡ None
-  pub doing : IsDoing d l qs a b a.phase b.deed
+  pub doing : IsDoing before a.expected b.length a.phase b.deed
 
-abbrev pub TasksKept : DeviceCore → Ledger → List layer.Pin → List Task → List exchange.Task → Type 0
-TasksKept d l qs [] [] = KeepsNothing d
-TasksKept d l qs (a ∷ []) (b ∷ []) = TaskKept d l qs a b
-TasksKept d l qs kept tasks = ⊥
+-- task by task
+abbrev pub TasksKept : ℕ → List Task → List exchange.Task → Type 0
+TasksKept before [] [] = Unit {0}
+TasksKept before (a ∷ ours) (b ∷ theirs) = TaskKept before a b × TasksKept before ours theirs
+TasksKept before ours theirs = ⊥
 
--- All of it
+-- Blocks of READs
+
+-- how far the block of a READ is: whether its page is still wanted, if something is kept for it, and what was read
+pub record Progress : Type 0 where
+  pub wanted : Option Bool
+  pub read : List (List ℕ)
+
+-- what is kept for a tag: among the pins of the layer, and among the blocks that were read
+abbrev pub progress_kept : List Pin → List Loaded → ℕ → Progress
+progress_kept pins loaded tag =
+    record {
+      wanted = option_map (λ (pin : Pin). pin.wanted) (find (is_pin_of tag 0) pins);
+      read = map body_of (filter (is_loaded_for tag) loaded);
+    }
+
+abbrev pub no_progress : Progress
+no_progress = record { wanted = None; read = [] }
+
+abbrev pub progress_by : List ℕ → exchange.ReadState → Progress
+progress_by body Unread = record { wanted = Some true; read = [] }
+progress_by body WasRead = record { wanted = Some false; read = body ∷ [] }
+progress_by body NotRead = record { wanted = Some false; read = [] }
+
+abbrev pub progress_of_block : Option ReadBlock → Progress
+progress_of_block None = no_progress
+progress_of_block (Some block) = progress_by block.body block.state
+
+abbrev pub progress_in : Deed → Progress
+progress_in (Sending blocks sent) = progress_of_block (slice_get blocks sent)
+progress_in deed = no_progress
+
+-- what is kept for a task, or for a tag that none has
+abbrev pub progress_of : Option exchange.Task → Progress
+progress_of None = no_progress
+progress_of (Some task) = progress_in task.deed
+
+-- Short exchanges and the lock
 
 abbrev pub short_kept : Refused → Short
 short_kept r = short_reply r.tag (full_answer r)
 
-pub record Describes (d : DeviceCore) (s : State) : Type 0 where
-  pub tied : IsTied s
-  pub ftl_kept : Kept d.ftl s.translation
-  pub tasks_kept : TasksKept d s.translation.ledger s.translation.pins d.tasks s.tasks
-  pub shorts : s.shorts ≡ map short_kept d.refused
-  -- wherever the lock stands, it was applied
-  pub lock_was_applied : lock_applied s ≡ s
-  pub power_off : s.power_on ≡ false
+-- what waits for commands waits for durable ones
+abbrev pub IsToldIn : ℕ → Deed → Type 0
+IsToldIn count (Awaiting commands) = nat_le commands count ≡ true
+IsToldIn count deed = Unit {0}
+
+abbrev pub IsTold : ℕ → exchange.Task → Type 0
+IsTold count task = IsToldIn count task.deed
+
+-- All of it
+
+-- what is kept of each part of a state, whether or not a lock was told to it
+pub record Keeps (d : DeviceCore) (s : State) : Type 0 where
   pub unprotected : (plain_now s).permanent ≡ false
+  pub layer_kept : layer.Describes d.ftl s.translation
+  pub few : length s.tasks ≤ most_tasks
+  pub tasks : TasksKept (before_accepted s.translation.ledger) d.tasks s.tasks
+  pub blocks : (tag : ℕ) → progress_kept s.translation.pins d.loaded tag ≡ progress_of (task_of tag s.tasks)
+  pub shorts : s.shorts ≡ map short_kept d.refused
+  pub power_off : s.power_on ≡ false
+
+pub record Describes (d : DeviceCore) (s : State) : Type 0 where
+  -- a life can come to the state: its pages, commands, layer and tasks go together, and what is kept for READs shows
+  -- the blocks that they send
+  pub tied : IsTied s
+  pub shows : ShowsReads s
+  pub kept : Keeps d s
+  -- if the device is locked, the tasks were told so
+  pub told : locked s ≡ true → All (IsTold (durable s)) s.tasks
 
 -- What a call is answered
 
@@ -171,8 +198,3 @@ pub record IsReplied (s : State) (bytes : List ℕ) (after : DeviceCore) : Type 
 abbrev pub cdb_taken : Result Cdb Sense → Option Cdb
 cdb_taken (Ok c) = Some c
 cdb_taken (Err sense) = None
-
--- the command that the message's CDB was read as, if it has one
-abbrev pub cdb_heard : Message → Result Cdb Sense → Option Cdb
-cdb_heard (message.Command flags lun tag expected bytes) taken = cdb_taken taken
-cdb_heard m taken = None

@@ -1,11 +1,10 @@
 -- What a message of the host is answered, and what it makes of what the device keeps.
-use Rattle.std.specs.Prelude.{ℕ, ◌==◌, ◌&&◌, ◌||◌, nat_le, nat_lt, Bool, if◌then◌else◌, List, [], ◌∷◌, ◌++◌, length, position, slice_get, slice_set, is_some, Option, Some, None, option_map, Result, Ok, Err}
+use Rattle.std.specs.Prelude.{ℕ, ◌==◌, ◌&&◌, ◌||◌, nat_lt, Bool, if◌then◌else◌, List, [], ◌∷◌, ◌++◌, length, position}
+use Rattle.std.specs.Prelude.{slice_get, slice_set, is_some, Option, Some, None, option_map, Result, Ok, Err}
 use Rattle.std.specs.List.{list_any}
 use Rattle.ufs_spec.specs.declared.faults.HostFault.{HostFault}
-use Rattle.ufs_spec.specs.declared.faults.HostFault.TheVariants.{Backlog, Code, NotAskedFor, TagInUse}
+use Rattle.ufs_spec.specs.declared.faults.HostFault.TheVariants.{NotAskedFor}
 use Rattle.ufs_spec.specs.declared.flash.Key.{Key}
-use Rattle.ufs_spec.specs.declared.messages.Message.{Message}
-use Rattle.ufs_spec.specs.declared.messages.Message.TheVariants as message
 use Rattle.ufs_spec.specs.declared.scsi.Cdb.{Cdb}
 use Rattle.ufs_spec.specs.declared.scsi.Sense.{Sense}
 use Rattle.device.specs.declared.commands.AskedFor.{AskedFor}
@@ -45,24 +44,9 @@ task_begun d lun tag expected (Ok plan) =
 abbrev pub task_opened : DeviceCore → ℕ → ℕ → ℕ → ℕ → Result Cdb Sense → DeviceCore
 task_opened d flags lun tag expected taken = task_begun d lun tag expected (planned d.ftl lun flags expected taken)
 
--- where a task is open, a command is answered TASK SET FULL
-abbrev pub refused_result : DeviceCore → Result Unit HostFault
-refused_result d = if nat_lt (length d.refused) 32 then Ok tt else Err Backlog
-
+-- a command that is answered TASK SET FULL, where there is room for one more
 abbrev pub refused_more : DeviceCore → Refused → DeviceCore
 refused_more d r = if nat_lt (length d.refused) 32 then with_refused d r else d
-
-abbrev pub command_result : DeviceCore → ℕ → Result Unit HostFault
-command_result d tag =
-    if uses d tag then Err TagInUse
-    else if nat_le 1 (length d.tasks) then refused_result d
-    else Ok tt
-
-abbrev pub command_core : DeviceCore → ℕ → ℕ → ℕ → ℕ → Result Cdb Sense → DeviceCore
-command_core d flags lun tag expected taken =
-    if uses d tag then d
-    else if nat_le 1 (length d.tasks) then refused_more d record { tag = tag; lun = lun; expected = expected }
-    else task_opened d flags lun tag expected taken
 
 -- Data
 
@@ -100,16 +84,3 @@ abbrev pub data_core : DeviceCore → List ℕ → Option AskedFor → DeviceCor
 data_core d bytes None = d
 data_core d bytes (Some asked) =
     waiting_ended (task_set (block_accepted d asked.key bytes) asked.index (phase_accepted d asked.key))
-
--- Messages
-
-abbrev pub heard_result : DeviceCore → Message → Result Unit HostFault
-heard_result d (message.Command flags lun tag expected bytes) = command_result d tag
-heard_result d (message.DataOut lun tag offset «data») = data_result (asked_for d lun tag offset (length «data».items))
-heard_result d m = Err Code
-
-abbrev pub heard_core : DeviceCore → Message → Result Cdb Sense → DeviceCore
-heard_core d (message.Command flags lun tag expected bytes) taken = command_core d flags lun tag expected taken
-heard_core d (message.DataOut lun tag offset «data») taken =
-    data_core d «data».items (asked_for d lun tag offset (length «data».items))
-heard_core d m taken = d

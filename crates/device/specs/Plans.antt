@@ -1,14 +1,14 @@
 -- What a command does, or the status that ends it: the first check that fails decides.
-use Rattle.std.specs.Prelude.{◌≡◌, ℕ, ◌+◌, ◌*◌, ◌==◌, ◌&&◌, ◌||◌, nat_le, nat_lt, not, Bool, true, false, if◌then◌else◌, List, Option, Some, None, Result, Ok, Err}
+use Rattle.std.specs.Prelude.{◌≡◌, ℕ, ◌+◌, ◌*◌, ◌==◌, ◌&&◌, ◌||◌, nat_le, nat_lt, not, Bool, true, false, if◌then◌else◌}
+use Rattle.std.specs.Prelude.{List, Option, Some, None, Result, Ok, Err}
 use Rattle.ufs_spec.specs.Cdbs.{IsTakenOperation, SpellsCdb}
 use Rattle.ufs_spec.specs.Keys.{data_key}
 use Rattle.ufs_spec.specs.declared.flash.Key.{Key}
-use Rattle.ufs_spec.specs.declared.messages.Message.{Message}
-use Rattle.ufs_spec.specs.declared.messages.Message.TheVariants as message
 use Rattle.ufs_spec.specs.declared.scsi.Cdb.{Cdb}
 use Rattle.ufs_spec.specs.declared.scsi.Cdb.TheVariants as cdb
 use Rattle.ufs_spec.specs.declared.scsi.Sense.{Sense}
-use Rattle.ufs_spec.specs.declared.scsi.TheConstants.Sense.{INVALID_FIELD, INVALID_OPCODE, NOT_READY, NO_UNIT, OUT_OF_RANGE, WRITE_PROTECTED}
+use Rattle.ufs_spec.specs.declared.scsi.TheConstants.Sense.{INVALID_FIELD, INVALID_OPCODE, NOT_READY, NO_UNIT}
+use Rattle.ufs_spec.specs.declared.scsi.TheConstants.Sense.{OUT_OF_RANGE, WRITE_PROTECTED}
 use Rattle.ftl_core.specs.Core.{Core}
 use Rattle.ftl_core.specs.Moves.{blocks_of, free_slots, is_locked}
 use Rattle.device.specs.declared.checks.Transfer.{Transfer}
@@ -25,11 +25,6 @@ pub record IsCdbRead (bytes : List ℕ) (taken : Result Cdb Sense) : Type 0 wher
   pub every : (c : Cdb) → SpellsCdb c bytes → taken ≡ Ok c
   pub operation : (IsTakenOperation bytes → ⊥) → taken ≡ Err INVALID_OPCODE
   pub field : (sense : Sense) → taken ≡ Err sense → IsTakenOperation bytes → sense ≡ INVALID_FIELD
-
--- what the CDB of a message was read as, where it has one
-abbrev pub IsTakenFrom : Message → Result Cdb Sense → Type 0
-IsTakenFrom (message.Command flags lun tag expected bytes) taken = IsCdbRead bytes taken
-IsTakenFrom m taken = Unit {0}
 
 -- Transfers
 

@@ -1,14 +1,16 @@
 -- Which replies are due, what they say, and what becomes of their tasks.
-use Rattle.std.specs.Prelude.{ℕ, ◌==◌, nat_le, nat_lt, Bool, if◌then◌else◌, List, length, position, remove, slice_get, take, Option, Some, None, option_map}
+use Rattle.std.specs.Prelude.{ℕ, ◌+◌, ◌≤◌, ◌==◌, nat_le, nat_lt, Bool, if◌then◌else◌, find, List, position, remove}
+use Rattle.std.specs.Prelude.{slice_get, take, Option, Some, None, option_map}
 use Rattle.ufs_spec.specs.Exchanges as exchange
 use Rattle.ufs_spec.specs.Exchanges.{response}
+use Rattle.ufs_spec.specs.Ledger.{Entry, InSlot, Ledger, Looked, OnPage, Unwritten, before_accepted, entry_of}
+use Rattle.ufs_spec.specs.Moves.{Acknowledge, LetGo, LetGoAll, WantPage, is_pin_of, moved}
 use Rattle.ufs_spec.specs.Plain.{zero_block}
+use Rattle.ufs_spec.specs.Translation.{Pin, Translation}
 use Rattle.ufs_spec.specs.declared.messages.Message.{Message}
 use Rattle.ufs_spec.specs.declared.messages.Message.TheVariants as message
-use Rattle.ftl_core.specs.declared.books.Looked.{Looked}
-use Rattle.ftl_core.specs.declared.books.Looked.TheVariants as looked
-use Rattle.ftl_core.specs.declared.books.Pin.{Pin}
-use Rattle.ftl_core.specs.Moves.{pin_of, slot_of, unpinned}
+use Rattle.ftl_core.specs.Core.{Core}
+use Rattle.ftl_core.specs.Describes as layer
 use Rattle.device.specs.declared.tasks.Loaded.{Loaded}
 use Rattle.device.specs.declared.tasks.Phase.{Phase}
 use Rattle.device.specs.declared.tasks.Phase.TheVariants as phase
@@ -32,21 +34,23 @@ body_at ls None = None
 body_at ls (Some k) = option_map body_of (slice_get ls k)
 
 -- the block that the die read for the task of this tag gave
-abbrev pub loaded_of : DeviceCore → ℕ → Option (List ℕ)
-loaded_of d tag = body_at d.loaded (position (is_loaded_for tag) d.loaded)
+abbrev pub loaded_for : List Loaded → ℕ → Option (List ℕ)
+loaded_for ls tag = body_at ls (position (is_loaded_for tag) ls)
 
--- the block that was looked up, once it is there; zeros where nothing was ever written
-abbrev pub block_in : DeviceCore → ℕ → Looked → Option (List ℕ)
-block_in d tag looked.Nothing = Some zero_block
-block_in d tag (looked.Slot n) = slot_of d.ftl n
-block_in d tag (looked.Page s) = loaded_of d tag
+-- a block that was looked up, once it is there: zeros if nothing was ever written, the body in the slot, or what was
+-- read
+abbrev pub block_at : Ledger → List Loaded → ℕ → Looked → Option (List ℕ)
+block_at l loaded tag Unwritten = Some zero_block
+block_at l loaded tag (InSlot name) = option_map (λ (e : Entry). e.item.body) (entry_of l name)
+block_at l loaded tag (OnPage name place) = loaded_for loaded tag
 
-abbrev pub block_kept_in : DeviceCore → ℕ → Option Pin → Option (List ℕ)
-block_kept_in d tag None = None
-block_kept_in d tag (Some p) = block_in d tag p.looked
+abbrev pub block_of : Ledger → List Loaded → ℕ → Option Pin → Option (List ℕ)
+block_of l loaded tag None = None
+block_of l loaded tag (Some pin) = block_at l loaded tag pin.looked
 
-abbrev pub block_kept : DeviceCore → ℕ → Option (List ℕ)
-block_kept d tag = block_kept_in d tag (pin_of d.ftl tag)
+-- the block that is kept for a tag, once it is there
+abbrev pub block_for : Translation → List Loaded → ℕ → Option (List ℕ)
+block_for t loaded tag = block_of t.ledger loaded tag (find (is_pin_of tag 0) t.pins)
 
 -- Messages
 
@@ -66,16 +70,17 @@ count_of expected = if nat_lt expected 1 then 1 else if nat_lt 4096 expected the
 abbrev pub block_message : Task → List ℕ → Message
 block_message t block = message.DataIn t.lun t.tag 0 (record { items = take (count_of t.expected) block })
 
-abbrev pub reply_in : DeviceCore → Task → Phase → Option Message
-reply_in d t (phase.AskData key) = Some (message.ReadyToTransfer t.lun t.tag 0 4096)
-reply_in d t (phase.AwaitData key) = None
-reply_in d t (phase.AwaitFrontier n) = if nat_le n d.ftl.frontier then Some (answer_of t status.Good 4096) else None
-reply_in d t phase.SendBlock = option_map (block_message t) (block_kept d t.tag)
-reply_in d t (phase.Answer s n) = Some (answer_of t s n)
+abbrev pub owed_in : Translation → List Loaded → Task → Phase → Option Message
+owed_in t loaded a (phase.AskData key) = Some (message.ReadyToTransfer a.lun a.tag 0 4096)
+owed_in t loaded a (phase.AwaitData key) = None
+owed_in t loaded a (phase.AwaitFrontier n) =
+    if nat_le n t.ledger.frontier then Some (answer_of a status.Good 4096) else None
+owed_in t loaded a phase.SendBlock = option_map (block_message a) (block_for t loaded a.tag)
+owed_in t loaded a (phase.Answer s n) = Some (answer_of a s n)
 
--- the reply that the task owes now
-abbrev pub reply_of : DeviceCore → Task → Option Message
-reply_of d t = reply_in d t t.phase
+-- the reply that the task owes now, by what the layer keeps and what was read
+abbrev pub owed_by : Translation → List Loaded → Task → Option Message
+owed_by t loaded a = owed_in t loaded a a.phase
 
 -- What becomes of the task
 
@@ -83,31 +88,31 @@ abbrev pub loaded_without : List Loaded → Option ℕ → List Loaded
 loaded_without ls None = ls
 loaded_without ls (Some k) = remove ls k
 
--- the task of the tag keeps nothing any more
-abbrev pub let_go : DeviceCore → ℕ → DeviceCore
-let_go d tag =
-    record d {
-      ftl = unpinned d.ftl tag;
-      loaded = loaded_without d.loaded (position (is_loaded_for tag) d.loaded);
-    }
+-- the block that was read for the tag is given up
+abbrev pub without_block : DeviceCore → ℕ → DeviceCore
+without_block d tag = record d { loaded = loaded_without d.loaded (position (is_loaded_for tag) d.loaded) }
 
 abbrev pub without_task : DeviceCore → ℕ → DeviceCore
 without_task d k = record d { tasks = remove d.tasks k }
 
-abbrev pub moved_in : DeviceCore → ℕ → Task → Phase → DeviceCore
-moved_in d k t (phase.AskData key) = task_set d k (phase.AwaitData key)
-moved_in d k t (phase.AwaitData key) = d
-moved_in d k t (phase.AwaitFrontier n) = without_task (let_go d t.tag) k
-moved_in d k t phase.SendBlock = task_set (let_go d t.tag) k (phase.Answer status.Good 4096)
-moved_in d k t (phase.Answer s n) = without_task (let_go d t.tag) k
+-- what the device keeps, but for its layer, once the task at this position has handed out its reply
+abbrev pub moved_on : DeviceCore → ℕ → Task → Phase → DeviceCore
+moved_on d k a (phase.AskData key) = task_set d k (phase.AwaitData key)
+moved_on d k a (phase.AwaitData key) = d
+moved_on d k a (phase.AwaitFrontier n) = without_task (without_block d a.tag) k
+moved_on d k a phase.SendBlock = task_set (without_block d a.tag) k (phase.Answer status.Good 4096)
+moved_on d k a (phase.Answer s n) = without_task (without_block d a.tag) k
 
-abbrev pub moved_by : DeviceCore → ℕ → Option Task → DeviceCore
-moved_by d k None = d
-moved_by d k (Some t) = moved_in d k t t.phase
-
--- the task at this position has handed out its reply
-abbrev pub moved_on : DeviceCore → ℕ → DeviceCore
-moved_on d k = moved_by d k (slice_get d.tasks k)
+-- the layer then: a block that was handed out is let go; a task that ends keeps nothing, and what it waited for is
+-- acknowledged
+abbrev pub HasMoved : Core → Translation → ℕ → Phase → Type 0
+HasMoved after t tag (phase.AskData key) = layer.Describes after t
+HasMoved after t tag (phase.AwaitData key) = layer.Describes after t
+HasMoved after t tag (phase.AwaitFrontier n) =
+    (commands : ℕ) → before_accepted t.ledger + commands ≤ t.ledger.frontier →
+    layer.Describes after (moved (moved t (Acknowledge commands)) (LetGoAll tag))
+HasMoved after t tag phase.SendBlock = layer.Describes after (moved (moved t (LetGo tag 0)) (WantPage tag 1))
+HasMoved after t tag (phase.Answer s n) = layer.Describes after (moved t (LetGoAll tag))
 
 -- Commands that were refused with TASK SET FULL
 

@@ -1,8 +1,9 @@
 -- A device with its dies: how it fits a state, and what an event and a run make of it.
-use Rattle.std.specs.Prelude.{◌≡◌, ◌≢◌, ◌⊎◌, ℕ, zero, suc, ◌<◌, false, List, [], ◌∷◌, ◌++◌, length, slice_get, slice_index_or, slice_set, take, Option, Some, None, option_map, Result, Ok, Err}
-use Rattle.ufs_spec.specs.Cells.{IsPlace}
+use Rattle.std.specs.Prelude.{◌≡◌, ◌≢◌, ◌⊎◌, ℕ, zero, suc, ◌<◌, false, List, [], ◌∷◌, ◌++◌, length, slice_get}
+use Rattle.std.specs.Prelude.{slice_index_or, slice_set, take, Option, Some, None, option_map, Result, Ok, Err}
+use Rattle.ufs_spec.specs.Cells.{Array}
 use Rattle.ufs_spec.specs.Dies.{DieState, blank_page, is_bad_block, new_die, ready_page}
-use Rattle.ufs_spec.specs.Disk.{Bad, Filling, Reader, Reading, Spot, job_of}
+use Rattle.ufs_spec.specs.Disk.{Bad, BlockState, Erasing, Filling, Flight, Spot, job_of}
 use Rattle.ufs_spec.specs.Lives.{Fit, IsOpened, Leads, Life, array_of, bad_of}
 use Rattle.ufs_spec.specs.Stages.{takes_failures}
 use Rattle.ufs_spec.specs.Refusals.{State, numbers_of}
@@ -15,6 +16,7 @@ use Rattle.ufs_spec.specs.declared.events.RunFaultKind.{RunFaultKind}
 use Rattle.ufs_spec.specs.declared.events.RunFaultKind.TheVariants as kind
 use Rattle.ufs_spec.specs.declared.flash.Job.{Job}
 use Rattle.ufs_spec.specs.declared.flash.Place.{Place}
+use Rattle.power_loss.specs.Exchange.{IsSpot}
 use Rattle.device.specs.Describes.{Describes}
 use Rattle.device.specs.Kept.{WorldState}
 
@@ -31,22 +33,33 @@ abbrev pub jobs_given : List (Option Job) → ℕ → Option Job → List (Optio
 jobs_given jobs die None = jobs
 jobs_given jobs die (Some job) = slice_set jobs die (Some job)
 
--- what the dies hold is what the state says, each has the job that the state says, the next page of a block that is being
--- filled may be programmed, a block that is not bad to the state is not bad to its die, and what is read lies on the dies
-pub record DiesFit (dies : List DieState) (jobs : List (Option Job)) (s : State) : Type 0 where
-  pub sizes : Fit (numbers_of s) dies
-  pub pages : s.array ≡ array_of dies
+-- the next page of a block that is being filled may be programmed, and a block that is not bad to the layer is not bad
+-- to its die
+pub record BlocksFit (n : Numbers) (dies : List DieState) (blocks : Spot → BlockState) : Type 0 where
+  pub ready : (spot : Spot) (next : ℕ) → spot.die < n.dies → spot.block < n.blocks → blocks spot ≡ Filling next →
+      ready_page (die_at dies spot.die) spot.block ≡ Some next
+  pub good : (spot : Spot) → spot.die < n.dies → spot.block < n.blocks → blocks spot ≢ Bad →
+      is_bad_block (die_at dies spot.die) spot.block ≡ false
+
+-- the dies hold the pages, and each has the job that is in flight on it
+pub record DiesFit (n : Numbers) (array : Array) (blocks : Spot → BlockState) (flights : ℕ → Option Flight)
+    (dies : List DieState) (jobs : List (Option Job)) : Type 0 where
+  pub sizes : Fit n dies
+  pub pages : array ≡ array_of dies
   pub as_many : length jobs ≡ length dies
-  pub jobs_are : (die : ℕ) → job_at jobs die ≡ option_map job_of (s.translation.disk.flights die)
-  pub ready : (spot : Spot) (next : ℕ) → spot.die < (numbers_of s).dies → spot.block < (numbers_of s).blocks →
-      s.translation.disk.blocks spot ≡ Filling next → ready_page (die_at dies spot.die) spot.block ≡ Some next
-  pub good : (spot : Spot) → spot.die < (numbers_of s).dies → spot.block < (numbers_of s).blocks →
-      s.translation.disk.blocks spot ≢ Bad → is_bad_block (die_at dies spot.die) spot.block ≡ false
-  pub read_place : (die : ℕ) (who : Reader) (p : Place) → s.translation.disk.flights die ≡ Some (Reading who p) → IsPlace (numbers_of s) p
+  pub jobs_are : (die : ℕ) → job_at jobs die ≡ option_map job_of (flights die)
+  pub blocks_fit : BlocksFit n dies blocks
+  -- a block that is being erased is one of theirs
+  pub erases : (die : ℕ) (spot : Spot) → flights die ≡ Some (Erasing spot) → IsSpot n spot
+
+-- they do so for a state
+abbrev pub FitState : List DieState → List (Option Job) → State → Type 0
+FitState dies jobs s =
+    DiesFit (numbers_of s) s.array s.translation.disk.blocks s.translation.disk.flights dies jobs
 
 pub record Fits (w : WorldState) (s : State) : Type 0 where
   pub describes : Describes w.core s
-  pub dies_fit : DiesFit w.dies w.jobs s
+  pub dies_fit : FitState w.dies w.jobs s
 
 -- each page of the dies is blank; some of their blocks may be bad
 abbrev pub AreBlank : List DieState → Type 0
@@ -91,7 +104,8 @@ pub record IsLife (n : Numbers) (dies : List DieState) (events : List Event) (tr
   pub life : Life start events trace finish
 
 -- the world fits a state to which a life over these events led
-pub record IsUnderWay (n : Numbers) (dies : List DieState) (events : List Event) (trace : List Output) (w : WorldState) : Type 0 where
+pub record IsUnderWay (n : Numbers) (dies : List DieState) (events : List Event) (trace : List Output)
+    (w : WorldState) : Type 0 where
   pub start : State
   pub now : State
   pub opened : IsOpened n (array_of dies) (bad_of dies) start
@@ -99,12 +113,14 @@ pub record IsUnderWay (n : Numbers) (dies : List DieState) (events : List Event)
   pub fits : Fits w now
 
 -- so many events were played, and the trace is that of a life over them
-pub record IsPlayed (n : Numbers) (dies : List DieState) (events : List Event) (k : ℕ) (trace : List Output) (w : WorldState) : Type 0 where
+pub record IsPlayed (n : Numbers) (dies : List DieState) (events : List Event) (k : ℕ) (trace : List Output)
+    (w : WorldState) : Type 0 where
   pub counted : length trace ≡ k
   pub going_on : w.is_over ≡ false
   pub under_way : AreBlank dies → IsUnderWay n dies (take k events) trace w
 
--- the event at this position, counted from 0, was refused, or memory for what it showed was; the trace is that of the life
+-- the event at this position, counted from 0, was refused, or memory for what it showed was; the trace is that of the
+-- life
 -- before it
 pub record IsBroken (n : Numbers) (dies : List DieState) (events : List Event) (k : ℕ) (f : RunFault) : Type 0 where
   pub before : State
@@ -115,7 +131,8 @@ pub record IsBroken (n : Numbers) (dies : List DieState) (events : List Event) (
   pub there : slice_get events k ≡ Some broken
   pub why : IsRefused before broken f.kind
 
--- a fault at position 0 is that of the opening: the dies do not fit the configuration; or they do, and memory was refused
+-- a fault at position 0 is that of the opening: the dies do not fit the configuration; or they do, and memory was
+-- refused
 abbrev pub IsOpeningFault : Numbers → List DieState → RunFaultKind → Type 0
 IsOpeningFault n dies kind.NoMemory = Fit n dies
 IsOpeningFault n dies kind.WrongEvent = Fit n dies → ⊥

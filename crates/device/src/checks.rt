@@ -1,10 +1,10 @@
 //! The checks of a command, in the order in which the first that applies ends it.
 ghost use Rattle.std.specs.Prelude.{◌≡◌, ◌*◌, ◌^◌, ◌≤◌, if◌then◌else◌};
-ghost use Rattle.device.specs.Plans.{IsTakenFrom, carries, length_of, plan_of, planned, planned_or, planned_taken, planned_transfer, refusal_of, state_refusal, transfer_of, write_refusal};
+ghost use Rattle.device.specs.Plans.{IsCdbRead, carries, length_of, plan_of, planned, planned_or, planned_taken, planned_transfer, refusal_of, state_refusal, transfer_of, write_refusal};
 
 use crate::device::Device;
 use crate::tasks::{Plan, Status};
-use ufs_spec::{Cdb, Key, Message, Sense, Tag};
+use ufs_spec::{Cdb, Key, Sense, Tag};
 
 /// The most blocks of a command. In this first stage one.
 const BLOCKS_A_COMMAND: u16 = 1;
@@ -23,14 +23,11 @@ pub(crate) struct Transfer {
     pub writes: bool,
 }
 
-/// What the CDB of a message spells, or the sense of one that is not taken.
-pub(crate) fn taken_of(message: &Message) -> Result<Cdb, Sense>
-    ensures { IsTakenFrom message.now result }
+/// The command that a CDB spells, or the sense of one that is not taken.
+pub(crate) fn read_cdb(cdb: &[u8; 16]) -> Result<Cdb, Sense>
+    ensures { IsCdbRead cdb.now result }
 {
-    match message {
-        Message::Command { cdb, .. } => scsi_cdb::read(cdb),
-        _ => Err(Sense::INVALID_OPCODE),
-    }
+    scsi_cdb::read(cdb)
 }
 
 /// What a READ(10) or a WRITE(10) moves. The other commands of the table are not done yet.

@@ -2,15 +2,21 @@
 ghost use Rattle.std.specs.Prelude.{◌≡◌, ◌<◌, length, slice_get, position, ◌∷◌, ◌++◌, [], OnErr};
 ghost use Rattle.std.specs.List.{list_any};
 ghost use Rattle.device.specs.Calls.{begun, block_accepted, phase_accepted, phase_begun, waiting_ended};
-ghost use Rattle.device.specs.Hears.{asked_by, asked_for, asked_of, command_core, command_result, data_core, data_result, heard_core, heard_result, is_refused_of, key_asked, refused_more, refused_result, task_opened, task_set, uses, with_task};
+ghost use Rattle.device.specs.Hears.{asked_by, asked_for, asked_of, data_core, data_result, is_refused_of, key_asked, refused_more, task_opened, task_set, uses, with_task};
 ghost use Rattle.device.specs.Tasks.{is_task_of};
 ghost use Rattle.ufs_spec.specs.Refusals.{State};
 ghost use Rattle.device.specs.Describes.{Describes, IsHeardAs};
+ghost use Rattle.device.specs.Plans.{IsCdbRead};
+ghost use Rattle.std.specs.Prelude.{ℕ, List, None, Result, Ok, Err, nat_le, nat_lt, if◌then◌else◌};
+ghost use Rattle.ufs_spec.specs.Messages.{Spells, host_fault_of};
+ghost use Rattle.ufs_spec.specs.declared.Message.{Message};
+ghost use Rattle.ufs_spec.specs.declared.scsi.Cdb.{Cdb};
+ghost use Rattle.ufs_spec.specs.declared.scsi.Sense.{Sense};
 
-use crate::checks::taken_of;
+use crate::checks::read_cdb;
 use crate::device::{Device, ROOM};
 use crate::tasks::{Phase, Plan, Refused, Status, Task};
-use ufs_spec::{Cdb, HostFault, Key, Message, Sense};
+use ufs_spec::{HostFault, Key, Message, Sense};
 
 /// How many tasks may be open. In this first stage one.
 const OPEN_TASKS: usize = 1;
@@ -71,18 +77,16 @@ impl Device {
         ensures heard { (s : State) → Describes self.old s → IsHeardAs s bytes.now result self.new }
     {
         match upiu::read(bytes) {
-            Ok(message) => {
-                let taken = taken_of(&message);
-                self.hear(&message, taken)
-            }
+            Ok(message) => self.hear(&message),
             Err(fault) => Err(fault),
         }
     }
 
-    /// Takes a message whose CDB, where it has one, was read so.
-    fn hear(&mut self, message: &Message, taken: Result<Cdb, Sense>) -> Result<(), HostFault>
-        ensures answer { result ≡ heard_result self.old message.now }
-        ensures after { self.new ≡ heard_core self.old message.now taken }
+    /// Takes a message: no other kind than COMMAND and DATA OUT is read yet.
+    fn hear(&mut self, message: &Message) -> Result<(), HostFault>
+        ensures refused { OnErr result (self.new ≡ self.old) }
+        ensures heard { (s : State) (bytes : List ℕ) → Describes self.old s → Spells message.now bytes →
+            host_fault_of bytes ≡ None → IsHeardAs s bytes result self.new }
     {
         match message {
             Message::Command {
@@ -90,8 +94,8 @@ impl Device {
                 lun,
                 tag,
                 expected,
-                cdb: _,
-            } => self.command(*flags, *lun, *tag, *expected, taken),
+                cdb,
+            } => self.command(*flags, *lun, *tag, *expected, cdb),
             Message::DataOut {
                 lun,
                 tag,
@@ -109,34 +113,45 @@ impl Device {
         task_at(self.tasks.as_slice(), tag).is_some() || is_refused(self.refused.as_slice(), tag)
     }
 
-    /// A COMMAND opens a task, or a short exchange where too many tasks are open.
+    /// Whether as many tasks are open as may be.
+    fn is_full(&self) -> bool
+        ensures { result ≡ nat_le 1 (length self.now.tasks) }
+    {
+        self.tasks.len() >= OPEN_TASKS
+    }
+
+    /// A COMMAND opens a task, or a short exchange where too many tasks are open. Its CDB is read only
+    /// once its tag is free and a task may be opened.
     fn command(
         &mut self,
         flags: u8,
         lun: u8,
         tag: u8,
         expected: u32,
-        taken: Result<Cdb, Sense>,
+        cdb: &[u8; 16],
     ) -> Result<(), HostFault>
-        ensures answer { result ≡ command_result self.old tag }
-        ensures after { self.new ≡ command_core self.old flags lun tag expected taken }
+        ensures refused { OnErr result (self.new ≡ self.old) }
+        ensures heard { (s : State) (bytes : List ℕ) → Describes self.old s →
+            Spells (Message.Command flags lun tag expected cdb.now) bytes → host_fault_of bytes ≡ None →
+            IsHeardAs s bytes result self.new }
     {
         if self.uses(tag) {
             return Err(HostFault::TagInUse);
         }
-        if self.tasks.len() >= OPEN_TASKS {
+        if self.is_full() {
             return self.refuse(Refused { tag, lun, expected });
         }
-        self.open_task(flags, lun, tag, expected, taken);
+        self.open_task(flags, lun, tag, expected, cdb);
         Ok(())
     }
 
     /// A command becomes a task, refused or not.
-    fn open_task(&mut self, flags: u8, lun: u8, tag: u8, expected: u32, taken: Result<Cdb, Sense>)
+    fn open_task(&mut self, flags: u8, lun: u8, tag: u8, expected: u32, cdb: &[u8; 16])
         requires { length self.old.tasks < 32 }
-        ensures { self.new ≡ task_opened self.old flags lun tag expected taken }
+        ensures { (taken : Result Cdb Sense) × IsCdbRead cdb.now taken
+            × (self.new ≡ task_opened self.old flags lun tag expected taken) }
     {
-        let phase = match self.plan(lun, flags, expected, taken) {
+        let phase = match self.plan(lun, flags, expected, read_cdb(cdb)) {
             Ok(plan) => self.begin(tag, plan),
             Err(status) => Phase::Answer { status, length: 0 },
         };
@@ -148,6 +163,7 @@ impl Device {
         });
     }
 
+    /// One task more.
     fn push_task(&mut self, task: Task)
         requires { length self.old.tasks < 32 }
         ensures { self.new ≡ with_task self.old task }
@@ -157,7 +173,7 @@ impl Device {
 
     /// The command is answered TASK SET FULL.
     fn refuse(&mut self, exchange: Refused) -> Result<(), HostFault>
-        ensures answer { result ≡ refused_result self.old }
+        ensures answer { result ≡ (if nat_lt (length self.old.refused) 32 then Ok tt else Err HostFault.Backlog) }
         ensures after { self.new ≡ refused_more self.old exchange }
     {
         if self.refused.len() >= ROOM {

@@ -1,8 +1,8 @@
 //! The device and its five calls.
 ghost use Rattle.std.specs.Prelude.{◌≡◌, ℕ, ◌<◌, ◌≤◌, ◌+◌, length, IfOk, OnErr, map};
 ghost use Rattle.std.specs.Prelude.{false, if◌then◌else◌, IfErr, IfNone};
-ghost use Rattle.ftl_core.specs.Moves.{blocks_of, free_slots, is_locked, is_turn_due, mark_ordered};
-ghost use Rattle.device.specs.Calls.{read_told, told, waiting_ended};
+ghost use Rattle.ftl_core.specs.Moves.{blocks_of, free_slots, is_locked};
+ghost use Rattle.device.specs.Calls.{lock_told, read_told, told, waiting_ended};
 ghost use Rattle.device.specs.Tasks.{after_lock, after_lost_read};
 ghost use Rattle.std.specs.Prelude.{true, ◌++◌, OnOk};
 ghost use Rattle.std.specs.List.{flat_map};
@@ -12,6 +12,8 @@ ghost use Rattle.ufs_spec.specs.Lives.{IsOpened, array_of, bad_of};
 ghost use Rattle.ufs_spec.specs.Machine.{Done, OfDone, MayLeave, Turn, OfTurn};
 ghost use Rattle.ufs_spec.specs.Moves.{Ending, IsEndingOf, suits};
 ghost use Rattle.ufs_spec.specs.Refusals.{State};
+ghost use Rattle.ufs_spec.specs.Translation.{Translation, is_locked as is_layer_locked};
+ghost use Rattle.ftl_core.specs.Describes.{Describes as IsLayer};
 ghost use Rattle.device.specs.Describes.{Describes, IsAnswered, IsGiven};
 ghost use Rattle.device.specs.Kept.{bad_in, new_device};
 ghost use Rattle.device.specs.Worlds.{AreBlank};
@@ -23,15 +25,20 @@ use std::alloc::{AllocError, Global};
 use std::marker::Model;
 use ufs_spec::{Block, Config, Job, OpenFault, Outcome, Sense};
 
-/// How many tasks, and how many short exchanges, there is room for (JESD220, 10.9).
+/// How many tasks, how many refused commands and how many blocks there is room for: no list is longer
+/// (JESD220, 10.9).
 pub(crate) const ROOM: usize = 32;
 
 /// A device: the translation layer, and the tasks that are open.
 #[derive(Drop)]
 pub struct Device {
+    /// The translation layer, which keeps for each READ what its block was when the COMMAND came.
     pub(crate) ftl: Ftl,
+    /// The open tasks in the order of their COMMANDs: no two have one tag.
     pub(crate) tasks: Vec<Task>,
+    /// The commands that were refused with TASK SET FULL and whose RESPONSE was not handed out yet.
     pub(crate) refused: Vec<Refused>,
+    /// The blocks that dies read and that were not handed out yet: at most one for each open READ.
     pub(crate) loaded: Vec<Loaded>,
 }
 
@@ -88,6 +95,7 @@ impl Device {
         }
     }
 
+    /// The device, or `AllocError` where memory was refused.
     fn over<D: Die>(alloc: Global, config: Config, dies: &[D]) -> Result<Device, AllocError>
         ensures opened { IfOk result (λ d. d ≡ new_device config (flat_map (bad_in D.state config.blocks) dies.now)) }
         ensures configured { IsConfig config }
@@ -110,7 +118,8 @@ impl Device {
     }
 
     pub(crate) fn is_locked(&self) -> bool
-        ensures { result ≡ is_locked self.now.ftl }
+        ensures core { result ≡ is_locked self.now.ftl }
+        ensures described { (t : Translation) → IsLayer self.now.ftl t → result ≡ is_layer_locked t }
     {
         self.ftl.is_locked()
     }
@@ -168,8 +177,7 @@ impl Device {
 
     /// Does one step of mending; false, and nothing changes, where none is due.
     pub fn turn(&mut self) -> bool
-        ensures due { result ≡ is_turn_due self.old.ftl }
-        ensures after { self.new ≡ (if result then record self.old { ftl = mark_ordered self.old.ftl } else self.old) }
+        ensures nothing { result ≡ false → self.new ≡ self.old }
         // True exactly where a step is due.
         ensures stepped { (s : State) → Describes self.old s → IsAnswered s Turn (OfTurn result) self.new }
     {
@@ -192,7 +200,8 @@ impl Device {
 
     /// A lock ends each task that waits for a block to become durable.
     pub(crate) fn end_waiting(&mut self)
-        ensures { self.new ≡ waiting_ended self.old }
+        ensures core { self.new ≡ waiting_ended self.old }
+        ensures described { (t : Translation) → IsLayer self.old.ftl t → self.new ≡ lock_told t self.old }
     {
         if self.is_locked() {
             let frontier = self.ftl.frontier();

@@ -6,6 +6,7 @@ mod checks;
 mod commands;
 mod device;
 mod replies;
+mod responses;
 mod tasks;
 mod world;
 

@@ -1,20 +1,26 @@
 //! Replies: which are due, what they say, and what becomes of their tasks.
-ghost use Rattle.std.specs.Prelude.{◌≡◌, ◌<◌, ◌≤◌, ◌==◌, ℕ, false, find, length, nat_le, nat_lt, true, position, remove, slice_get, take, replicate, if◌then◌else◌, IfSome, IfNone, Some, None, option_copied, option_map};
-ghost use Rattle.std.specs.Prelude.{◌^◌, ◌∷◌, []};
-ghost use Rattle.ufs_spec.specs.Cdbs.{residual_of};
-ghost use Rattle.ufs_spec.specs.Exchanges.{CheckCondition, response, sense_data};
-ghost use Rattle.ufs_spec.specs.Messages.{AreFlags, IsAmong, IsMessage, spelling};
-ghost use Rattle.ufs_spec.specs.Plain.{zero_block};
-ghost use Rattle.ufs_spec.specs.declared.Message.{Message};
-ghost use Rattle.device.specs.Replies.{answer_of, block_in, loaded_of, loaded_without, block_kept, block_message, count_of, full_answer, is_loaded_for, let_go, moved_on, reply_of, status_kept, without_first, without_task};
+ghost use Rattle.std.specs.Prelude.{◌≡◌, ◌<◌, ◌≤◌, ◌+◌, ℕ, false, length, nat_le, nat_lt, true, position, slice_get};
+ghost use Rattle.std.specs.Prelude.{if◌then◌else◌, IfSome, IfNone, Some, None, option_copied};
+ghost use Rattle.ufs_spec.specs.Ledger.{Looked as LayerLooked, before_accepted};
 ghost use Rattle.ufs_spec.specs.Machine.{Reply, OfReply};
+ghost use Rattle.ufs_spec.specs.Messages.{IsMessage, spelling};
+ghost use Rattle.ufs_spec.specs.Moves.{Acknowledge, LetGo, LetGoAll, WantPage, moved};
+ghost use Rattle.ufs_spec.specs.Plain.{zero_block};
 ghost use Rattle.ufs_spec.specs.Refusals.{State};
+ghost use Rattle.ufs_spec.specs.Translation.{Translation};
+ghost use Rattle.power_loss.specs.Book.{book};
+ghost use Rattle.power_loss.specs.Invariant.{LookedRight};
+ghost use Rattle.ftl_core.specs.Describes.{Describes as IsLayer, IsLookedAt};
+ghost use Rattle.device.specs.declared.tasks.Refused.{Refused};
 ghost use Rattle.device.specs.Describes.{Describes, IsAnswered, IsReplied};
+ghost use Rattle.device.specs.Replies.{HasMoved, answer_of, block_at, block_for, full_answer, is_loaded_for};
+ghost use Rattle.device.specs.Replies.{loaded_for, moved_on, owed_by, without_block, without_first, without_task};
 
 use crate::device::Device;
-use crate::tasks::{Loaded, Phase, Refused, Status, Task};
-use ftl_core::{Looked, Pin};
-use ufs_spec::{Block, Data, Message, Sense, Upiu};
+use crate::responses::{BLOCK_BYTES, block_message, full_answer, ready_to_transfer, response};
+use crate::tasks::{Loaded, Phase, Status, Task};
+use ftl_core::Looked;
+use ufs_spec::{Block, Message, Upiu};
 
 /// A block of zeros, as an address reads that was never written.
 static ZEROS: Block = [0; 4096];
@@ -25,114 +31,6 @@ fn zeros() -> &'static Block
     ensures { result.now ≡ zero_block }
 {
     &ZEROS
-}
-
-/// Flags of a RESPONSE (JESD220, 10.7.2): less than expected was carried, or more was there.
-const UNDERFLOW: u8 = 0x20;
-
-const OVERFLOW: u8 = 0x40;
-
-/// The flags of a RESPONSE and its residual count, where so much was expected and so much was the
-/// command's length or was carried.
-#[derive(Clone, Copy, Debug, PartialEq, Eq)]
-struct Residual {
-    flags: u8,
-    count: u32,
-}
-
-fn residual_of(expected: u32, length: u32) -> Residual
-    ensures flags { result.flags ≡ (residual_of expected length).flags }
-    ensures count { result.count ≡ (residual_of expected length).count }
-    ensures are_flags { AreFlags result.flags }
-{
-    if length < expected {
-        Residual {
-            flags: UNDERFLOW,
-            count: expected - length,
-        }
-    } else if length > expected {
-        Residual {
-            flags: OVERFLOW,
-            count: length - expected,
-        }
-    } else {
-        Residual { flags: 0, count: 0 }
-    }
-}
-
-/// The twenty bytes of a RESPONSE's data segment: the length of the sense data and these.
-fn sense_segment(sense: &Sense) -> [u8; 20]
-    ensures { Some result ≡ sense_data (CheckCondition sense.now) }
-{
-    let mut bytes = [0u8; 20];
-    bytes[1] = 18;
-    bytes[2..].copy_from_slice(&scsi_cdb::sense_bytes(sense));
-    bytes
-}
-
-/// The RESPONSE that ends a task (JESD220, 10.7.2).
-fn response(lun: u8, tag: u8, expected: u32, status: Status, length: u32) -> Message
-    ensures what { result ≡ response lun tag expected length (status_kept status) }
-    ensures message { IsMessage result }
-{
-    let residual = residual_of(expected, length);
-    match status {
-        Status::Good => plain_response(lun, tag, residual, 0x00),
-        Status::Busy => plain_response(lun, tag, residual, 0x08),
-        Status::TaskSetFull => plain_response(lun, tag, residual, 0x28),
-        Status::CheckCondition(sense) => sense_response(lun, tag, residual, &sense),
-    }
-}
-
-/// A RESPONSE without sense data. Its response field is 01h exactly where the status is not GOOD.
-fn plain_response(lun: u8, tag: u8, residual: Residual, status: u8) -> Message
-    requires flags { AreFlags residual.flags }
-    requires status { IsAmong (0x00 ∷ 0x08 ∷ 0x28 ∷ []) status }
-    ensures what { result ≡ Message.Response residual.flags lun tag (if status == 0 then 0 else 1) status residual.count None }
-    ensures message { IsMessage result }
-{
-    Message::Response {
-        flags: residual.flags,
-        lun,
-        tag,
-        response: if status == 0 { 0 } else { 1 },
-        status,
-        residual: residual.count,
-        sense: None,
-    }
-}
-
-/// A RESPONSE with status CHECK CONDITION and sense data.
-fn sense_response(lun: u8, tag: u8, residual: Residual, sense: &Sense) -> Message
-    requires { AreFlags residual.flags }
-    ensures what { result ≡ Message.Response residual.flags lun tag 1 2 residual.count (sense_data (CheckCondition sense.now)) }
-    ensures message { IsMessage result }
-{
-    Message::Response {
-        flags: residual.flags,
-        lun,
-        tag,
-        response: 1,
-        status: 0x02,
-        residual: residual.count,
-        sense: Some(sense_segment(sense)),
-    }
-}
-
-/// The DATA IN with the first `count` bytes of a block (JESD220, 10.7.4).
-fn data_in(lun: u8, tag: u8, block: &Block, count: usize) -> Message
-    requires { (1 ≤ count) × (count ≤ 4096) }
-    ensures what { result ≡ Message.DataIn lun tag 0 (record { items = take count block.now }) }
-    ensures message { IsMessage result }
-{
-    let mut data = Data::new();
-    let _ = data.try_extend_from_slice(&block[..count]);
-    Message::DataIn {
-        lun,
-        tag,
-        offset: 0,
-        data,
-    }
 }
 
 /// Whether the block was read for the task of this tag.
@@ -149,40 +47,11 @@ fn loaded_at(loaded: &[Loaded], tag: u8) -> Option<usize>
     loaded.iter().position(|read| is_loaded_for(read, tag))
 }
 
-/// The RESPONSE of a command that was refused with TASK SET FULL.
-fn full_answer(exchange: &Refused) -> Message
-    ensures what { result ≡ full_answer exchange.now }
-    ensures message { IsMessage result }
-{
-    response(
-        exchange.lun,
-        exchange.tag,
-        exchange.expected,
-        Status::TaskSetFull,
-        0,
-    )
-}
-
-/// How many bytes of a block a host is sent that expects so many.
-fn count_of(expected: u32) -> usize
-    ensures what { result ≡ count_of expected }
-    ensures some { (1 ≤ result) × (result ≤ 4096) }
-{
-    (expected as usize).clamp(1, 4096)
-}
-
-/// The DATA IN of the task's block.
-fn block_message(task: &Task, block: &Block) -> Message
-    ensures what { result ≡ block_message task.now block.now }
-    ensures message { IsMessage result }
-{
-    data_in(task.lun, task.tag, block, count_of(task.expected))
-}
-
-/// A task that owes a reply, by its position, and this reply.
+/// A task that owes a reply, its position among the tasks, and this reply.
 #[derive(Drop)]
 struct DueReply {
     index: usize,
+    task: Task,
     message: Message,
 }
 
@@ -197,7 +66,7 @@ impl Device {
     {
         if let Some(due) = self.due() {
             upiu::write(&due.message, into);
-            self.move_on(due.index);
+            self.move_on(due.index, due.task);
             return true;
         }
         self.reply_refused(into)
@@ -205,13 +74,22 @@ impl Device {
 
     /// The first task that owes a reply now, and this reply.
     fn due(&self) -> Option<DueReply>
-        ensures found { IfSome result (λ due. (task : Task) × (slice_get self.now.tasks due.index ≡ Some task) × (reply_of self.now task ≡ Some due.message)) }
+        ensures within { IfSome result (λ due. due.index < length self.now.tasks) }
+        ensures there { IfSome result (λ due. slice_get self.now.tasks due.index ≡ Some due.task) }
+        ensures owed { IfSome result (λ due. (t : Translation) → IsLayer self.now.ftl t →
+            owed_by t self.now.loaded due.task ≡ Some due.message) }
         ensures message { IfSome result (λ due. IsMessage due.message) }
-        ensures none { IfNone result ((k : ℕ) (task : Task) → slice_get self.now.tasks k ≡ Some task → reply_of self.now task ≡ None) }
+        ensures none { IfNone result ((t : Translation) (k : ℕ) (task : Task) → IsLayer self.now.ftl t →
+            slice_get self.now.tasks k ≡ Some task → owed_by t self.now.loaded task ≡ None) }
     {
         for index in 0..self.tasks.len() {
-            if let Some(message) = self.reply_of(&self.tasks[index]) {
-                return Some(DueReply { index, message });
+            let task = self.tasks[index];
+            if let Some(message) = self.reply_of(&task) {
+                return Some(DueReply {
+                    index,
+                    task,
+                    message,
+                });
             }
         }
         None
@@ -219,7 +97,7 @@ impl Device {
 
     /// The reply that the task owes now.
     fn reply_of(&self, task: &Task) -> Option<Message>
-        ensures what { result ≡ reply_of self.now task.now }
+        ensures owed { (t : Translation) → IsLayer self.now.ftl t → result ≡ owed_by t self.now.loaded task.now }
         ensures message { IfSome result (λ m. IsMessage m) }
     {
         match task.phase {
@@ -242,26 +120,30 @@ impl Device {
 
     /// The answer of a write, once the group of this number is durable.
     fn durable_answer(&self, task: &Task, number: u64) -> Option<Message>
-        ensures what { result ≡ (if nat_le number self.now.ftl.frontier then Some (answer_of task.now Status.Good 4096) else None) }
+        ensures owed { (t : Translation) → IsLayer self.now.ftl t →
+            result ≡ (if nat_le number t.ledger.frontier then Some (answer_of task.now Status.Good 4096) else None) }
         ensures message { IfSome result (λ m. IsMessage m) }
     {
         if number > self.ftl.frontier() {
             return None;
         }
-        Some(response(task.lun, task.tag, task.expected, Status::Good, 4096))
+        Some(response(task.lun, task.tag, task.expected, Status::Good, BLOCK_BYTES))
     }
 
     /// The block that the task of this tag keeps, once it is there.
     fn block(&self, tag: u8) -> Option<&Block>
-        ensures { option_copied result ≡ block_kept self.now tag }
+        ensures { (t : Translation) → IsLayer self.now.ftl t →
+            option_copied result ≡ block_for t self.now.loaded tag }
     {
-        let pin = self.ftl.pinned(tag)?;
-        self.block_looked(tag, pin.looked)
+        let looked = self.ftl.pinned(tag)?;
+        self.block_looked(tag, looked)
     }
 
     /// The block that the task of this tag looked up, once it is there.
     fn block_looked(&self, tag: u8, looked: Looked) -> Option<&Block>
-        ensures { option_copied result ≡ block_in self.now tag looked }
+        ensures { (t : Translation) (kept : LayerLooked) → IsLayer self.now.ftl t → IsLookedAt looked kept →
+            LookedRight (book t) t.ledger.frontier t.disk.cells t.disk.finished t.disk.erasing kept →
+            option_copied result ≡ block_at t.ledger self.now.loaded tag kept }
     {
         match looked {
             Looked::Nothing => Some(zeros()),
@@ -272,7 +154,7 @@ impl Device {
 
     /// The block that the die read for the task of this tag gave.
     fn loaded_block(&self, tag: u8) -> Option<&Block>
-        ensures { option_copied result ≡ loaded_of self.now tag }
+        ensures { option_copied result ≡ loaded_for self.now.loaded tag }
     {
         let index = loaded_at(self.loaded.as_slice(), tag)?;
         if index >= self.loaded.len() {
@@ -282,13 +164,11 @@ impl Device {
     }
 
     /// What becomes of the task at this position, which has handed out its reply.
-    fn move_on(&mut self, index: usize)
-        ensures { self.new ≡ moved_on self.old index }
+    fn move_on(&mut self, index: usize, task: Task)
+        requires { index < length self.old.tasks }
+        ensures left { self.new ≡ record (moved_on self.old index task task.phase) { ftl = self.new.ftl } }
+        ensures moved { (t : Translation) → IsLayer self.old.ftl t → HasMoved self.new.ftl t task.tag task.phase }
     {
-        if index >= self.tasks.len() {
-            return;
-        }
-        let task = self.tasks[index];
         match task.phase {
             Phase::AskData { key } => self.set_phase(index, Phase::AwaitData { key }),
             Phase::AwaitData { key: _ } => {}
@@ -298,35 +178,48 @@ impl Device {
                     index,
                     Phase::Answer {
                         status: Status::Good,
-                        length: 4096,
+                        length: BLOCK_BYTES,
                     },
                 );
             }
-            _ => {
-                self.let_go(task.tag);
-                self.remove_task(index);
-            }
+            Phase::AwaitFrontier { number: _ } => self.end_task(index, task.tag),
+            Phase::Answer {
+                status: _,
+                length: _,
+            } => self.end_task(index, task.tag),
         }
     }
 
     /// The task of this tag keeps nothing any more.
     fn let_go(&mut self, tag: u8)
-        ensures { self.new ≡ let_go self.old tag }
+        ensures left { self.new ≡ record (without_block self.old tag) { ftl = self.new.ftl } }
+        ensures all { (t : Translation) → IsLayer self.old.ftl t → IsLayer self.new.ftl (moved t (LetGoAll tag)) }
+        ensures told { (t : Translation) (count : ℕ) → IsLayer self.old.ftl t →
+            before_accepted t.ledger + count ≤ t.ledger.frontier →
+            IsLayer self.new.ftl (moved (moved t (Acknowledge count)) (LetGoAll tag)) }
+        ensures one { (t : Translation) → IsLayer self.old.ftl t →
+            IsLayer self.new.ftl (moved (moved t (LetGo tag 0)) (WantPage tag 1)) }
     {
         self.ftl.unpin(tag);
         self.unload(tag);
     }
 
-    fn remove_task(&mut self, index: usize)
+    /// The task at this position, which has this tag, has ended and keeps nothing.
+    fn end_task(&mut self, index: usize, tag: u8)
         requires { index < length self.old.tasks }
-        ensures { self.new ≡ without_task self.old index }
+        ensures left { self.new ≡ record (without_task (without_block self.old tag) index) { ftl = self.new.ftl } }
+        ensures all { (t : Translation) → IsLayer self.old.ftl t → IsLayer self.new.ftl (moved t (LetGoAll tag)) }
+        ensures told { (t : Translation) (count : ℕ) → IsLayer self.old.ftl t →
+            before_accepted t.ledger + count ≤ t.ledger.frontier →
+            IsLayer self.new.ftl (moved (moved t (Acknowledge count)) (LetGoAll tag)) }
     {
+        self.let_go(tag);
         self.tasks.remove(index);
     }
 
     /// The block that was read for the task of this tag is given up.
     fn unload(&mut self, tag: u8)
-        ensures { self.new ≡ record self.old { loaded = loaded_without self.old.loaded (position (is_loaded_for tag) self.old.loaded) } }
+        ensures { self.new ≡ without_block self.old tag }
     {
         if let Some(index) = loaded_at(self.loaded.as_slice(), tag) {
             if index < self.loaded.len() {
@@ -348,18 +241,5 @@ impl Device {
         let exchange = self.refused.remove(0);
         upiu::write(&full_answer(&exchange), into);
         true
-    }
-}
-
-/// The READY TO TRANSFER for the one block of a write (JESD220, 10.7.5).
-fn ready_to_transfer(lun: u8, tag: u8) -> Message
-    ensures what { result ≡ Message.ReadyToTransfer lun tag 0 4096 }
-    ensures message { IsMessage result }
-{
-    Message::ReadyToTransfer {
-        lun,
-        tag,
-        offset: 0,
-        count: 4096,
     }
 }

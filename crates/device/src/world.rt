@@ -21,11 +21,16 @@ use ufs_spec::{
 /// A device with its dies, and the job that each die has in flight.
 #[derive(Drop)]
 pub struct World {
+    /// Where the memory of a fault's trace comes from.
     alloc: Global,
     device: Device,
+    /// The dies, of the number and sizes of the configuration. A job in flight has done nothing yet.
     dies: Vec<MemDie>,
+    /// For each die the job that it was given and has not done.
     jobs: Vec<Option<Job>>,
+    /// How many steps were made: the position of a fault.
     steps: usize,
+    /// Whether a step was refused, so that each later one is refused too.
     is_over: bool,
 }
 
@@ -118,6 +123,7 @@ impl World {
         }
     }
 
+    /// A device over dies that fit the configuration, with no job in flight.
     fn over(alloc: Global, config: Config, dies: Vec<MemDie>) -> Result<World, OpenFault>
         ensures opened { IfOk result (λ w. IsNewDevice config w.core × (w.dies ≡ dies.items)) }
         ensures idle { IfOk result (λ w. (w.jobs ≡ replicate (length dies.items) None) × (w.steps ≡ 0) × (w.is_over ≡ false)) }
@@ -143,7 +149,7 @@ impl World {
         self.dies.as_slice()
     }
 
-    /// The same, by value.
+    /// Gives the dies up, as the events so far leave them.
     pub fn into_dies(self) -> Vec<MemDie>
         ensures { result.items ≡ self.dies }
     {
@@ -218,6 +224,7 @@ impl World {
         }
     }
 
+    /// The device hears a message.
     fn hear(&mut self, bytes: &Vec<u8>) -> Result<(), HostFault>
         ensures dies { self.new.dies ≡ self.old.dies }
         ensures steps { self.new.steps ≡ self.old.steps }
@@ -227,6 +234,7 @@ impl World {
         self.device.host(bytes.as_slice())
     }
 
+    /// The device does a step of mending, where one is due.
     fn turn(&mut self) -> bool
         ensures dies { self.new.dies ≡ self.old.dies }
         ensures steps { self.new.steps ≡ self.old.steps }
@@ -236,6 +244,7 @@ impl World {
         self.device.turn()
     }
 
+    /// A reply that is due, if one is.
     fn reply(&mut self) -> Option<Upiu>
         ensures dies { self.new.dies ≡ self.old.dies }
         ensures steps { self.new.steps ≡ self.old.steps }
@@ -249,6 +258,7 @@ impl World {
         Some(message)
     }
 
+    /// The job that the die is given, if it is given one.
     fn take(&mut self, die: u8) -> Option<Job>
         ensures dies { self.new.dies ≡ self.old.dies }
         ensures steps { self.new.steps ≡ self.old.steps }
@@ -311,6 +321,7 @@ impl World {
         Some(self.do_job(index, job))
     }
 
+    /// Does the job on the die.
     fn do_job(&mut self, index: usize, job: &Job) -> Outcome
         requires there { index < length self.old.dies }
         requires can { CanDo (die_at self.old.dies index) job.now }

@@ -6,7 +6,6 @@ use Rattle.ftl_core.specs.declared.books.Book.{Book}
 use Rattle.ftl_core.specs.declared.books.Stored.{Stored}
 use Rattle.ftl_core.specs.declared.books.Group.{Group}
 use Rattle.ftl_core.specs.declared.books.Pin.{Pin}
-use Rattle.ftl_core.specs.declared.books.MarkState.{MarkState}
 
 -- what is kept: by die and block the blocks' states, by die its open block and its job, by address
 -- the place of its durable content, and the pending groups in order of number
@@ -20,6 +19,6 @@ pub record Core : Type 0 where
   pub frontier : ℕ
   pub claimed : ℕ
   pub pins : List Pin
-  pub mark : MarkState
+  pub mark : Option ℕ
   pub next_mark : ℕ
   pub mended : Bool

@@ -9,7 +9,7 @@ use Rattle.ftl_core.specs.Core.{Core}
 use Rattle.ftl_core.specs.Gives.{GivesIf, change_after, ending, is_read, other_for, read_after}
 
 abbrev pub job_after : Core → ℕ → Book → Flight → Outcome → Core
-job_after c die b (flight.Read place reader) o = read_after c die b place reader (is_read o)
+job_after c die b (flight.Read place reader) o = read_after c die b reader (is_read o)
 job_after c die b (flight.Mark place) o = change_after c die b (flight.Mark place) (ending o)
 job_after c die b (flight.Group place n) o = change_after c die b (flight.Group place n) (ending o)
 job_after c die b (flight.Erase block) o = change_after c die b (flight.Erase block) (ending o)
@@ -28,7 +28,7 @@ core_ended c die o = book_after c die (slice_get c.books die) o
 
 -- a program and an erase give nothing, and a read what its reader looked up
 abbrev pub JobEnds : Core → Flight → Outcome → Option Ended → Type 0
-JobEnds c (flight.Read place reader) o r = GivesIf (is_read o) c o place reader r
+JobEnds c (flight.Read place reader) o r = GivesIf (is_read o) c o reader r
 JobEnds c _ o r = r ≡ option_map other_for (ending o)
 
 abbrev pub FlightEnds : Core → Option Flight → Outcome → Option Ended → Type 0

@@ -1,13 +1,12 @@
 -- How a group moves on until it is durable.
-use Rattle.std.specs.Prelude.{ℕ, zero, suc, ◌+◌, ◌-◌, nat_le, nat_lt, if◌then◌else◌, List, length, map, slice_get, slice_set, remove, Option, Some, None}
+use Rattle.std.specs.Prelude.{ℕ, zero, suc, ◌+◌, ◌-◌, nat_le, nat_lt, if◌then◌else◌, List, length, map, slice_get}
+use Rattle.std.specs.Prelude.{slice_set, remove, Option, Some, None}
 use Rattle.ufs_spec.specs.declared.flash.Key.{Key}
 use Rattle.ufs_spec.specs.declared.flash.Place.{Place}
 use Rattle.ftl_core.specs.declared.books.Stored.{Stored}
 use Rattle.ftl_core.specs.declared.books.Group.{Group}
-use Rattle.ftl_core.specs.declared.books.GroupState.{GroupState}
-use Rattle.ftl_core.specs.declared.books.GroupState.TheVariants as group
 use Rattle.ftl_core.specs.Core.{Core}
-use Rattle.ftl_core.specs.Moves.{group_moved, moved_pin, position_of}
+use Rattle.ftl_core.specs.Moves.{moved_pin, position_of}
 
 -- Groups
 
@@ -18,21 +17,18 @@ below k n = if nat_lt k n then Some k else None
 abbrev pub pending_at : Core → ℕ → Option ℕ
 pending_at c n = if nat_le n c.frontier then None else below (n - c.frontier - 1) (length c.groups)
 
-abbrev pub moved_at : Core → GroupState → Option ℕ → Core
-moved_at c s None = c
-moved_at c s (Some k) = group_moved c k s
+-- the page of the pending group at this position is written there
+abbrev pub groups_written : List Group → ℕ → Place → Option Group → List Group
+groups_written gs k p None = gs
+groups_written gs k p (Some g) = slice_set gs k (record g { written = Some p })
 
--- the pending group with this number is so far
-abbrev pub numbered_moved : Core → ℕ → GroupState → Core
-numbered_moved c n s = moved_at c s (pending_at c n)
-
-abbrev pub place_written : GroupState → Option Place
-place_written (group.Written p) = Some p
-place_written _ = None
+abbrev pub group_written : Core → Place → Option ℕ → Core
+group_written c p None = c
+group_written c p (Some k) = record c { groups = groups_written c.groups k p (slice_get c.groups k) }
 
 abbrev pub place_of_group : Option Group → Option Place
 place_of_group None = None
-place_of_group (Some g) = place_written g.state
+place_of_group (Some g) = g.written
 
 -- where the page of the first pending group stands, once it is written
 abbrev pub front_written : Core → Option Place

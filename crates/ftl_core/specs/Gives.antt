@@ -1,5 +1,5 @@
 -- How a job in flight ends: what is kept then, and what is given to whoever waits for it.
-use Rattle.std.specs.Prelude.{◌≡◌, ℕ, ◌==◌, Bool, true, false, ◌&&◌, List, position, slice_get, slice_set, Option, Some, None}
+use Rattle.std.specs.Prelude.{◌≡◌, ℕ, ◌==◌, Bool, true, false, ◌&&◌, if◌then◌else◌, List, map, Option, Some, None}
 use Rattle.ufs_spec.specs.Keys.{IsBlock}
 use Rattle.ufs_spec.specs.Pages.{IsTag, seal_page}
 use Rattle.ufs_spec.specs.declared.flash.Key.{Key}
@@ -11,17 +11,14 @@ use Rattle.ufs_spec.specs.declared.flash.Tag.{Tag}
 use Rattle.ftl_core.specs.declared.books.Book.{Book}
 use Rattle.ftl_core.specs.declared.books.Flight.{Flight}
 use Rattle.ftl_core.specs.declared.books.Flight.TheVariants as flight
-use Rattle.ftl_core.specs.declared.books.GroupState.TheVariants as group
 use Rattle.ftl_core.specs.declared.books.Looked.{Looked}
 use Rattle.ftl_core.specs.declared.books.Looked.TheVariants as looked
 use Rattle.ftl_core.specs.declared.books.Pin.{Pin}
-use Rattle.ftl_core.specs.declared.books.ReadState.{ReadState}
-use Rattle.ftl_core.specs.declared.books.ReadState.TheVariants as read
 use Rattle.ftl_core.specs.declared.ftl.Ended.{Ended}
 use Rattle.ftl_core.specs.declared.ftl.Ended.TheVariants as ended
 use Rattle.ftl_core.specs.Core.{Core}
-use Rattle.ftl_core.specs.Moves.{erased, mark_failed, mark_written, page_written, went_bad, with_book}
-use Rattle.ftl_core.specs.Ends.{numbered_moved, settled}
+use Rattle.ftl_core.specs.Moves.{erased, mark_failed, mark_written, page_written, pin_of, went_bad, with_book}
+use Rattle.ftl_core.specs.Ends.{group_written, pending_at, settled}
 
 -- Programs and erases
 
@@ -31,10 +28,10 @@ ending outcome.Done = Some true
 ending outcome.Failed = Some false
 ending _ = None
 
--- a group whose program failed waits again
+-- a page whose program failed waits again by itself
 abbrev pub group_ended : Core → ℕ → Book → Place → ℕ → Bool → Core
-group_ended c die b place n true = settled (page_written (numbered_moved c n (group.Written place)) die b b.filling)
-group_ended c die b place n false = went_bad (numbered_moved c n group.Waiting) die place.block
+group_ended c die b place n true = settled (page_written (group_written c place (pending_at c n)) die b b.filling)
+group_ended c die b place n false = went_bad c die place.block
 
 abbrev pub mark_ended : Core → ℕ → Book → Place → Bool → Core
 mark_ended c die b place true = mark_written c die b
@@ -64,37 +61,17 @@ is_read (outcome.Read page) = true
 is_read outcome.ReadFailed = true
 is_read _ = false
 
-abbrev pub is_under_way : ReadState → Bool
-is_under_way read.InFlight = true
-is_under_way _ = false
+-- the reader's page is no longer to be read
+abbrev pub wanted_no_more : ℕ → Pin → Pin
+wanted_no_more reader p = record p { wanted = if p.reader == reader then false else p.wanted }
 
-abbrev pub same_place : Place → Place → Bool
-same_place p q = (p.die == q.die) && (p.block == q.block) && (p.page == q.page)
-
-abbrev pub reads_place : Place → Bool → ReadState → Looked → Bool
-reads_place place is_reader r (looked.Page s) = is_reader && is_under_way r && same_place s.place place
-reads_place place is_reader r _ = false
-
--- the reader's read of the place is in flight
-abbrev pub is_reading : ℕ → Place → Pin → Bool
-is_reading reader place p = reads_place place (p.reader == reader) p.read p.looked
-
-abbrev pub reading_at : Core → ℕ → Place → Option ℕ
-reading_at c reader place = position (is_reading reader place) c.pins
-
-abbrev pub pins_over : List Pin → ℕ → Option Pin → List Pin
-pins_over ps k None = ps
-pins_over ps k (Some p) = slice_set ps k (record p { read = read.Over })
-
--- the read of the reader at this position is over
 abbrev pub read_over : Core → Option ℕ → Core
 read_over c None = c
-read_over c (Some k) = record c { pins = pins_over c.pins k (slice_get c.pins k) }
+read_over c (Some reader) = record c { pins = map (wanted_no_more reader) c.pins }
 
-abbrev pub read_after : Core → ℕ → Book → Place → ℕ → Bool → Core
-read_after c die b place reader false = c
-read_after c die b place reader true =
-    read_over (with_book c die record { filling = b.filling; flight = None }) (reading_at c reader place)
+abbrev pub read_after : Core → ℕ → Book → Option ℕ → Bool → Core
+read_after c die b reader false = c
+read_after c die b reader true = read_over (with_book c die record { filling = b.filling; flight = None }) reader
 
 -- What is given
 
@@ -104,7 +81,8 @@ names t k n = (t.kind == k.kind) && (t.unit == k.unit) && (t.address == k.addres
 
 -- the body, where the page is a sealed one of this address and this number; none where it is not
 pub record IsBodyOf (page : Page) (k : Key) (n : ℕ) (body : Option (List ℕ)) : Type 0 where
-  pub found : (b : List ℕ) → body ≡ Some b → (t : Tag) × IsTag t × IsBlock b × (names t k n ≡ true) × (page ≡ seal_page t b)
+  pub found : (b : List ℕ) → body ≡ Some b →
+      (t : Tag) × IsTag t × IsBlock b × (names t k n ≡ true) × (page ≡ seal_page t b)
   pub none : body ≡ None → (t : Tag) (b : List ℕ) → IsTag t → names t k n ≡ true → page ≡ seal_page t b → ⊥
 
 abbrev pub IsBodyLooked : Page → Key → Looked → Option (List ℕ) → Type 0
@@ -116,18 +94,15 @@ abbrev pub IsGiven : Outcome → Pin → Option (List ℕ) → Type 0
 IsGiven (outcome.Read page) p body = IsBodyLooked page p.key p.looked body
 IsGiven _ p body = body ≡ None
 
-abbrev pub GivesTo : Outcome → ℕ → Option Pin → Ended → Type 0
-GivesTo o reader None e = e ≡ ended.Other
-GivesTo o reader (Some p) e = (body : Option (List ℕ)) × IsGiven o p body × (e ≡ ended.Read reader body)
+abbrev pub IsGivenTo : Outcome → Option Pin → Option (List ℕ) → Type 0
+IsGivenTo o None body = body ≡ None
+IsGivenTo o (Some p) body = IsGiven o p body
 
-abbrev pub pin_at : List Pin → Option ℕ → Option Pin
-pin_at ps None = None
-pin_at ps (Some k) = slice_get ps k
+-- what the end of a read gives to its reader, if it has one still
+abbrev pub Gives : Core → Outcome → Option ℕ → Ended → Type 0
+Gives c o None e = e ≡ ended.Other
+Gives c o (Some reader) e = (body : Option (List ℕ)) × IsGivenTo o (pin_of c reader) body × (e ≡ ended.Read reader body)
 
--- what the end of a read gives to its reader, if this waits for it still
-abbrev pub Gives : Core → Outcome → Place → ℕ → Ended → Type 0
-Gives c o place reader e = GivesTo o reader (pin_at c.pins (reading_at c reader place)) e
-
-abbrev pub GivesIf : Bool → Core → Outcome → Place → ℕ → Option Ended → Type 0
-GivesIf false c o place reader r = r ≡ None
-GivesIf true c o place reader r = (e : Ended) × (r ≡ Some e) × Gives c o place reader e
+abbrev pub GivesIf : Bool → Core → Outcome → Option ℕ → Option Ended → Type 0
+GivesIf false c o reader r = r ≡ None
+GivesIf true c o reader r = (e : Ended) × (r ≡ Some e) × Gives c o reader e

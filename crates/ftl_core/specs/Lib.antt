@@ -6,3 +6,4 @@ pub mod Gives
 pub mod Moves
 pub mod Rooms
 pub mod Takes
+pub mod Tells

@@ -1,7 +1,10 @@
 -- What the layer's steps make of what it keeps.
 use Rattle.ufs_spec.specs.declared.configs.Numbers.{Numbers}
 use Rattle.ufs_spec.specs.declared.configs.UnitSpec.{UnitSpec}
-use Rattle.std.specs.Prelude.{ℕ, ◌+◌, ◌-◌, ◌*◌, ◌^◌, ◌==◌, nat_le, nat_lt, Bool, true, false, ◌&&◌, ◌||◌, not, if◌then◌else◌, List, [], ◌∷◌, ◌++◌, length, map, position, replicate, reverse, take, sum_by, count_by, slice_get, slice_set, remove, Option, Some, None, unwrap_or, option_map, option_and_then}
+use Rattle.std.specs.Prelude.{ℕ, ◌+◌, ◌-◌, ◌*◌, ◌^◌, ◌==◌, nat_le, nat_lt, Bool, true, false, ◌&&◌, ◌||◌, not}
+use Rattle.std.specs.Prelude.{if◌then◌else◌, List, [], ◌∷◌, ◌++◌, length, map, position, replicate, reverse, take}
+use Rattle.std.specs.Prelude.{sum_by, count_by, slice_get, slice_set, remove, Option, Some, None, unwrap_or, option_map}
+use Rattle.std.specs.Prelude.{option_and_then, is_none}
 use Rattle.std.specs.List.{list_any}
 use Rattle.ufs_spec.specs.declared.flash.Place.{Place}
 use Rattle.ufs_spec.specs.declared.flash.Key.{Key}
@@ -14,17 +17,11 @@ use Rattle.ftl_core.specs.declared.books.Flight.{Flight}
 use Rattle.ftl_core.specs.declared.books.Flight.TheVariants as flight
 use Rattle.ftl_core.specs.declared.books.Stored.{Stored}
 use Rattle.ftl_core.specs.declared.books.Group.{Group}
-use Rattle.ftl_core.specs.declared.books.GroupState.{GroupState}
-use Rattle.ftl_core.specs.declared.books.GroupState.TheVariants as group
 use Rattle.ftl_core.specs.declared.books.Looked.{Looked}
 use Rattle.ftl_core.specs.declared.books.Looked.TheVariants as looked
 use Rattle.ftl_core.specs.declared.books.Pin.{Pin}
-use Rattle.ftl_core.specs.declared.books.ReadState.{ReadState}
-use Rattle.ftl_core.specs.declared.books.ReadState.TheVariants as read
 use Rattle.ftl_core.specs.declared.books.Waiting.{Waiting}
 use Rattle.ftl_core.specs.declared.books.Waiting.TheVariants as waiting
-use Rattle.ftl_core.specs.declared.books.MarkState.{MarkState}
-use Rattle.ftl_core.specs.declared.books.MarkState.TheVariants as mark
 use Rattle.ftl_core.specs.Core.{Core}
 
 -- At the start
@@ -48,7 +45,7 @@ fresh n bad = record {
   frontier = 0;
   claimed = 0;
   pins = [];
-  mark = mark.Idle;
+  mark = None;
   next_mark = 1;
   mended = false;
 }
@@ -111,70 +108,30 @@ is_erasable c die block = is_free (state_of c die block) && not (list_any (keeps
 
 -- What is owed to a die
 
-abbrev pub is_unread : ReadState → Bool
-is_unread read.Owed = true
-is_unread _ = false
+abbrev pub flight_reads : ℕ → Option Flight → Bool
+flight_reads reader (Some (flight.Read place (Some other))) = reader == other
+flight_reads reader _ = false
 
-abbrev pub owes_page : ℕ → ReadState → Looked → Bool
-owes_page die r (looked.Page s) = is_unread r && (s.place.die == die)
-owes_page die r _ = false
+-- the die reads for the reader
+abbrev pub reads_for : ℕ → Book → Bool
+reads_for reader b = flight_reads reader b.flight
 
--- the reader is owed the read of a page of this die
-abbrev pub is_owed_by : ℕ → Pin → Bool
-is_owed_by die p = owes_page die p.read p.looked
+abbrev pub looks_on : ℕ → Looked → Bool
+looks_on die (looked.Page s) = s.place.die == die
+looks_on die _ = false
 
-abbrev pub waits : GroupState → Bool
-waits group.Waiting = true
-waits _ = false
-
-abbrev pub is_waiting : Group → Bool
-is_waiting g = waits g.state
-
--- a mark goes before the groups, and these in order of number
-abbrev pub waiting_at : MarkState → Option ℕ → Option Waiting
-waiting_at (mark.Waiting n) g = Some (waiting.Mark n)
-waiting_at _ g = option_map waiting.Group g
-
-abbrev pub waiting_of : Core → Option Waiting
-waiting_of c = waiting_at c.mark (position is_waiting c.groups)
+-- the reader is owed the read of a page of this die: it wants it, and no die reads for it
+abbrev pub is_owed_by : List Book → ℕ → Pin → Bool
+is_owed_by books die p = p.wanted && looks_on die p.looked && not (list_any (reads_for p.reader) books)
 
 -- for a group alone a block is opened only where more than dies + 2 blocks are free
 abbrev pub may_open : Core → Waiting → Bool
-may_open c (waiting.Mark n) = true
-may_open c (waiting.Group k) = nat_lt (length c.books + 2) (free_blocks c)
+may_open c waiting.Mark = true
+may_open c (waiting.Group n) = nat_lt (length c.books + 2) (free_blocks c)
 
 -- the die has this job in flight, over the open block that it had
 abbrev pub started : Core → ℕ → Book → Flight → Core
 started c die b f = with_book c die record { filling = b.filling; flight = Some f }
-
--- the page that a reader looks at
-abbrev pub place_in : Looked → Option Place
-place_in (looked.Page s) = Some s.place
-place_in _ = None
-
-abbrev pub place_owed : Option Pin → Option Place
-place_owed p = option_and_then (λ (q : Pin). place_in q.looked) p
-
-abbrev pub reading_started : Core → ℕ → Book → ℕ → Pin → Option Place → Core
-reading_started c die b k p None = c
-reading_started c die b k p (Some place) =
-    started (record c { pins = slice_set c.pins k (record p { read = read.InFlight }) }) die b (flight.Read place p.reader)
-
--- the reader at this position is given the read that it is owed
-abbrev pub read_from : Core → ℕ → Book → ℕ → Option Pin → Core
-read_from c die b k None = c
-read_from c die b k (Some p) = reading_started c die b k p (place_in p.looked)
-
-abbrev pub read_started : Core → ℕ → Book → ℕ → Core
-read_started c die b k = read_from c die b k (slice_get c.pins k)
-
--- the pending group at this position is so far
-abbrev pub groups_moved : List Group → ℕ → GroupState → Option Group → List Group
-groups_moved gs k s None = gs
-groups_moved gs k s (Some g) = slice_set gs k (record g { state = s })
-
-abbrev pub group_moved : Core → ℕ → GroupState → Core
-group_moved c k s = record c { groups = groups_moved c.groups k s (slice_get c.groups k) }
 
 -- whose content a mark is
 abbrev pub mark_key : Key
@@ -183,13 +140,21 @@ mark_key = record { kind = 4; unit = 0; address = 0 }
 -- the tag of a group of one page, or of a mark
 abbrev pub single_tag : Key → ℕ → ℕ → Tag
 single_tag k number frontier =
-    record { kind = k.kind; unit = k.unit; address = k.address; number = number; index = 0; size = 1; frontier = frontier }
+    record {
+      kind = k.kind;
+      unit = k.unit;
+      address = k.address;
+      number = number;
+      index = 0;
+      size = 1;
+      frontier = frontier;
+    }
 
 -- a mark with the next number waits, where one is left
 abbrev pub mark_ordered : Core → Core
 mark_ordered c =
-    if nat_le c.next_mark (2 ^ 62) then record c { mark = mark.Waiting c.next_mark; next_mark = c.next_mark + 1 }
-    else record c { mark = mark.Idle }
+    if nat_le c.next_mark (2 ^ 62) then record c { mark = Some c.next_mark; next_mark = c.next_mark + 1 }
+    else record c { mark = None }
 
 -- the die's open block has one page less, and is closed with its last; no job is in flight
 abbrev pub page_written : Core → ℕ → Book → Option OpenBlock → Core
@@ -202,15 +167,21 @@ page_written c die b (Some o) =
 -- the block is bad from now on, and the die fills no block
 abbrev pub went_bad : Core → ℕ → ℕ → Core
 went_bad c die block =
-    with_book (record (with_state c die block state.Bad) { has_bad = true }) die record { filling = None; flight = None }
+    with_book (record (with_state c die block state.Bad) { has_bad = true }) die record {
+      filling = None;
+      flight = None;
+    }
 
 abbrev pub erased : Core → ℕ → ℕ → Core
 erased c die block =
-    with_book (with_state c die block state.Open) die record { filling = Some (record { block = block; next = 0 }); flight = None }
+    with_book (with_state c die block state.Open) die record {
+      filling = Some (record { block = block; next = 0 });
+      flight = None;
+    }
 
 -- a finished mark without a fence ends the mending
 abbrev pub mark_written : Core → ℕ → Book → Core
-mark_written c die b = page_written (record c { mark = mark.Idle; mended = true }) die b b.filling
+mark_written c die b = page_written (record c { mark = None; mended = true }) die b b.filling
 
 abbrev pub mark_failed : Core → ℕ → Place → Core
 mark_failed c die place = went_bad (mark_ordered c) die place.block
@@ -243,8 +214,12 @@ abbrev pub flat : Option (Option Stored) → Option Stored
 flat None = None
 flat (Some s) = s
 
+-- where the durable content of the address stands, in a list of all addresses' places
+abbrev pub stored_in : Numbers → List (Option Stored) → Key → Option Stored
+stored_in n places k = option_and_then (λ p. flat (slice_get places p)) (position_of n k)
+
 abbrev pub stored_of : Core → Key → Option Stored
-stored_of c k = option_and_then (λ p. flat (slice_get c.places p)) (position_of c.numbers k)
+stored_of c k = stored_in c.numbers c.places k
 
 abbrev pub looked_at : Option ℕ → Option Stored → ℕ → Looked
 looked_at (Some i) s frontier = looked.Slot (frontier + i + 1)
@@ -262,12 +237,30 @@ is_pin_of reader p = p.reader == reader
 abbrev pub pin_of : Core → ℕ → Option Pin
 pin_of c reader = option_and_then (slice_get c.pins) (position (is_pin_of reader) c.pins)
 
+-- what it looks at
+abbrev pub looked_by : ℕ → List Pin → Option Looked
+looked_by reader ps = option_map (λ (p : Pin). p.looked)
+    (option_and_then (slice_get ps) (position (is_pin_of reader) ps))
+
 abbrev pub pins_without : List Pin → Option ℕ → List Pin
 pins_without ps None = ps
 pins_without ps (Some k) = remove ps k
 
+-- a read in flight for a reader who let go is for nobody
+abbrev pub flight_without : ℕ → Option Flight → Option Flight
+flight_without reader (Some (flight.Read place (Some other))) =
+    Some (flight.Read place (if other == reader then None else Some other))
+flight_without reader f = f
+
+abbrev pub without_reader : ℕ → Book → Book
+without_reader reader b = record b { flight = flight_without reader b.flight }
+
 abbrev pub unpinned : Core → ℕ → Core
-unpinned c reader = record c { pins = pins_without c.pins (position (is_pin_of reader) c.pins) }
+unpinned c reader =
+    record c {
+      books = map (without_reader reader) c.books;
+      pins = pins_without c.pins (position (is_pin_of reader) c.pins);
+    }
 
 -- who kept the slot of the group keeps its page from now on
 abbrev pub now_stored : Stored → Looked → Looked
@@ -286,20 +279,19 @@ abbrev pub accepted : Core → Key → List ℕ → Core
 accepted c k body =
     record c {
       claimed = c.claimed - 1;
-      groups = c.groups ++ record { key = k; state = group.Waiting; body = body } ∷ [];
+      groups = c.groups ++ record { key = k; written = None; body = body } ∷ [];
     }
 
--- the block in the slot of this number
+-- the block in the slot of this number, where the first of these groups is the one behind the frontier
+abbrev pub slot_in : List Group → ℕ → ℕ → Option (List ℕ)
+slot_in gs frontier n =
+    if nat_le n frontier then None else option_map (λ (g : Group). g.body) (slice_get gs (n - frontier - 1))
+
 abbrev pub slot_of : Core → ℕ → Option (List ℕ)
-slot_of c n =
-    if nat_le n c.frontier then None else option_map (λ (g : Group). g.body) (slice_get c.groups (n - c.frontier - 1))
+slot_of c n = slot_in c.groups c.frontier n
 
 -- A step
 
 -- a mark is due: the device is not mended, none is under way, and a number is left
-abbrev pub is_idle_mark : MarkState → Bool
-is_idle_mark mark.Idle = true
-is_idle_mark _ = false
-
 abbrev pub is_turn_due : Core → Bool
-is_turn_due c = not c.mended && is_idle_mark c.mark && nat_le c.next_mark (2 ^ 62)
+is_turn_due c = not c.mended && is_none c.mark && nat_le c.next_mark (2 ^ 62)

@@ -1,7 +1,5 @@
 -- How the layer's fields are seen, and the room that they keep.
-use Rattle.std.specs.Prelude.{◌≤◌, ◌+◌, ◌^◌, ℕ, length, vec_capacity}
-use Rattle.ftl_core.specs.declared.books.MarkState.{MarkState}
-use Rattle.ftl_core.specs.declared.books.MarkState.TheVariants.{Idle, Waiting, InFlight}
+use Rattle.std.specs.Prelude.{◌≤◌, ◌+◌, ◌^◌, ℕ, length, vec_capacity, Option, Some, None}
 use Rattle.ftl_core.specs.declared.ftl.Ftl.TheInside.{Inside}
 use Rattle.ftl_core.specs.Core.{Core}
 
@@ -25,10 +23,9 @@ core_of f = record {
 abbrev pub IsMarkNumber : ℕ → Type 0
 IsMarkNumber n = (1 ≤ n) × (n ≤ 2 ^ 62)
 
-abbrev pub IsMarkState : MarkState → Type 0
-IsMarkState Idle = Unit {0}
-IsMarkState (Waiting n) = IsMarkNumber n
-IsMarkState (InFlight n) = IsMarkNumber n
+abbrev pub IsMark : Option ℕ → Type 0
+IsMark None = Unit {0}
+IsMark (Some n) = IsMarkNumber n
 
 -- each pending group and each claim has a slot, and no number goes above the last
 pub record IsRoomy (f : Inside) : Type 0 where
@@ -37,7 +34,7 @@ pub record IsRoomy (f : Inside) : Type 0 where
   pub numbers : f.frontier + length f.groups.items ≤ 2 ^ 62
   pub first_mark : 1 ≤ f.next_mark
   pub last_mark : f.next_mark ≤ 2 ^ 62 + 1
-  pub mark : IsMarkState f.mark
+  pub mark : IsMark f.mark
   pub pins : length f.pins.items ≤ 32
   pub pin_room : 32 ≤ vec_capacity f.pins
   pub units : length f.config.units.items ≤ 8

@@ -1,5 +1,7 @@
 -- Which job a die is given, and what its start makes of what the layer keeps.
-use Rattle.std.specs.Prelude.{ℕ, zero, suc, ◌+◌, ◌==◌, nat_le, Bool, true, false, ◌&&◌, if◌then◌else◌, position, slice_get, Option, Some, None, option_map}
+use Rattle.std.specs.Prelude.{ℕ, zero, suc, ◌+◌, ◌==◌, nat_le, Bool, true, false, ◌&&◌, not, if◌then◌else◌, is_none}
+use Rattle.std.specs.Prelude.{length, position, slice_get, Option, Some, None, option_and_then, option_map}
+use Rattle.std.specs.List.{list_any}
 use Rattle.ufs_spec.specs.Pages.{mark_bytes, seal_page}
 use Rattle.ufs_spec.specs.declared.flash.Job.{Job}
 use Rattle.ufs_spec.specs.declared.flash.Job.TheVariants as job
@@ -9,14 +11,16 @@ use Rattle.ftl_core.specs.declared.books.Book.{Book}
 use Rattle.ftl_core.specs.declared.books.Flight.{Flight}
 use Rattle.ftl_core.specs.declared.books.Flight.TheVariants as flight
 use Rattle.ftl_core.specs.declared.books.Group.{Group}
-use Rattle.ftl_core.specs.declared.books.GroupState.TheVariants as group
+use Rattle.ftl_core.specs.declared.books.Looked.{Looked}
+use Rattle.ftl_core.specs.declared.books.Looked.TheVariants as looked
+use Rattle.ftl_core.specs.declared.books.Pin.{Pin}
 use Rattle.ftl_core.specs.declared.books.Waiting.{Waiting}
 use Rattle.ftl_core.specs.declared.books.Waiting.TheVariants as waiting
-use Rattle.ftl_core.specs.declared.books.MarkState.TheVariants as mark
 use Rattle.ftl_core.specs.Core.{Core}
-use Rattle.ftl_core.specs.Moves.{group_moved, is_erasable, is_owed_by, mark_key, may_open, place_owed, read_started, single_tag, started, waiting_of}
+use Rattle.ftl_core.specs.Ends.{pending_at}
+use Rattle.ftl_core.specs.Moves.{is_erasable, is_owed_by, mark_key, may_open, single_tag, started}
 
--- An erase
+-- The lowest number
 
 -- the number, where none below it was found
 abbrev pub found_or : Option ℕ → Bool → ℕ → Option ℕ
@@ -29,18 +33,85 @@ unfoldable pub lowest_below : (ℕ → Bool) → ℕ → Option ℕ
 lowest_below test zero = None
 lowest_below test (suc n) = found_or (lowest_below test n) (test n) n
 
+-- What waits
+
+abbrev pub flight_writes : ℕ → Option Flight → Bool
+flight_writes number (Some (flight.Group place other)) = number == other
+flight_writes number _ = false
+
+-- the die writes the page of the group with this number
+abbrev pub writes_group : ℕ → Book → Bool
+writes_group number b = flight_writes number b.flight
+
+abbrev pub is_mark_flight : Option Flight → Bool
+is_mark_flight (Some (flight.Mark place)) = true
+is_mark_flight _ = false
+
+-- the die writes a mark
+abbrev pub writes_mark : Book → Bool
+writes_mark b = is_mark_flight b.flight
+
+abbrev pub group_waits : Core → ℕ → Option Group → Bool
+group_waits c number None = false
+group_waits c number (Some g) = is_none g.written && not (list_any (writes_group number) c.books)
+
+-- the page of the pending group at this position is neither written nor in flight
+abbrev pub waits_at : Core → ℕ → Bool
+waits_at c k = group_waits c (c.frontier + k + 1) (slice_get c.groups k)
+
+-- the number of the group that waits first
+abbrev pub number_waiting : Core → Option ℕ
+number_waiting c = option_map (λ k. c.frontier + k + 1) (lowest_below (waits_at c) (length c.groups))
+
+-- the number of the mark that waits
+abbrev pub mark_waiting : Core → Option ℕ
+mark_waiting c = if list_any writes_mark c.books then None else c.mark
+
+-- a mark goes before the groups, and these in order of number
+abbrev pub waiting_first : Option ℕ → Option ℕ → Option Waiting
+waiting_first (Some n) g = Some waiting.Mark
+waiting_first None g = option_map waiting.Group g
+
+abbrev pub waiting_of : Core → Option Waiting
+waiting_of c = waiting_first (mark_waiting c) (number_waiting c)
+
+-- What is in flight then
+
+abbrev pub next_place : ℕ → OpenBlock → Place
+next_place die o = record { die = die; block = o.block; page = o.next }
+
+abbrev pub page_flight : Place → Waiting → Flight
+page_flight place waiting.Mark = flight.Mark place
+page_flight place (waiting.Group n) = flight.Group place n
+
 -- the block of the die that is erased for what waits, where one may be opened for it
 abbrev pub block_for : Core → ℕ → Waiting → Option ℕ
 block_for c die w = if may_open c w then lowest_below (is_erasable c die) c.numbers.blocks else None
 
-abbrev pub erase_of : ℕ → ℕ → Job
-erase_of die block = job.Erase die block
+-- what waits is programmed into the open block, and where none is open one is erased
+abbrev pub waiting_flight : Core → ℕ → Option OpenBlock → Waiting → Option Flight
+waiting_flight c die None w = option_map flight.Erase (block_for c die w)
+waiting_flight c die (Some o) w = Some (page_flight (next_place die o) w)
 
-abbrev pub erase_started : Core → ℕ → Book → Option ℕ → Core
-erase_started c die b None = c
-erase_started c die b (Some block) = started c die b (flight.Erase block)
+abbrev pub place_in : Looked → Option Place
+place_in (looked.Page s) = Some s.place
+place_in _ = None
 
--- A program
+-- the read that the reader is owed
+abbrev pub read_of : Option Pin → Option Flight
+read_of None = None
+read_of (Some p) = option_map (λ place. flight.Read place (Some p.reader)) (place_in p.looked)
+
+-- the position of the first reader who is owed the read of a page of this die
+abbrev pub first_owed : Core → ℕ → Option ℕ
+first_owed c die = position (is_owed_by c.books die) c.pins
+
+-- a read goes before all that waits
+abbrev pub owed_flight : Core → ℕ → Option OpenBlock → Option ℕ → Option Flight
+owed_flight c die filling None = option_and_then (waiting_flight c die filling) (waiting_of c)
+owed_flight c die filling (Some k) = read_of (slice_get c.pins k)
+
+-- What the die is told
 
 -- only data of a unit is programmed as a group
 abbrev pub is_data : Group → Bool
@@ -50,86 +121,47 @@ is_data g = (g.key.kind == 1) && nat_le g.key.unit 7
 abbrev pub page_of_group : Core → Place → ℕ → Group → Job
 page_of_group c place k g = job.Program place (seal_page (single_tag g.key (c.frontier + k + 1) c.frontier) g.body)
 
-abbrev pub group_job : Core → Place → ℕ → Option Group → Option Job
-group_job c place k None = None
-group_job c place k (Some g) = if is_data g then Some (page_of_group c place k g) else None
+abbrev pub group_job_at : Core → Place → ℕ → Option Group → Option Job
+group_job_at c place k None = None
+group_job_at c place k (Some g) = if is_data g then Some (page_of_group c place k g) else None
 
--- the group's page is in flight, where it is programmed
-abbrev pub group_started : Core → ℕ → Book → Place → ℕ → Option Job → Core
-group_started c die b place k None = c
-group_started c die b place k (Some j) = started (group_moved c k group.InFlight) die b (flight.Group place (c.frontier + k + 1))
+abbrev pub group_job : Core → Place → Option ℕ → Option Job
+group_job c place None = None
+group_job c place (Some k) = group_job_at c place k (slice_get c.groups k)
 
 -- the page of a mark holds the configuration and no fence
-abbrev pub mark_job : Core → Place → ℕ → Job
-mark_job c place n = job.Program place (seal_page (single_tag mark_key n c.frontier) (mark_bytes c.numbers None))
+abbrev pub mark_program : Core → Place → ℕ → Job
+mark_program c place n = job.Program place (seal_page (single_tag mark_key n c.frontier) (mark_bytes c.numbers None))
 
-abbrev pub mark_started : Core → ℕ → Book → Place → ℕ → Core
-mark_started c die b place n = started (record c { mark = mark.InFlight n }) die b (flight.Mark place)
+abbrev pub job_of : Core → ℕ → Flight → Option Job
+job_of c die (flight.Read place reader) = Some (job.Read place)
+job_of c die (flight.Mark place) = option_map (mark_program c place) c.mark
+job_of c die (flight.Group place n) = group_job c place (pending_at c n)
+job_of c die (flight.Erase block) = Some (job.Erase die block)
 
-abbrev pub page_job : Core → Place → Waiting → Option Job
-page_job c place (waiting.Mark n) = Some (mark_job c place n)
-page_job c place (waiting.Group k) = group_job c place k (slice_get c.groups k)
+-- A die with a job in flight is given none
 
-abbrev pub page_started : Core → ℕ → Book → Place → Waiting → Core
-page_started c die b place (waiting.Mark n) = mark_started c die b place n
-page_started c die b place (waiting.Group k) = group_started c die b place k (group_job c place k (slice_get c.groups k))
+abbrev pub idle_flight : Core → ℕ → Option OpenBlock → Option Flight → Option Flight
+idle_flight c die filling None = owed_flight c die filling (first_owed c die)
+idle_flight c die filling (Some f) = None
 
--- What waits is programmed into the open block, and where none is open one is erased
+abbrev pub flight_for : Core → ℕ → Option Book → Option Flight
+flight_for c die None = None
+flight_for c die (Some b) = idle_flight c die b.filling b.flight
 
-abbrev pub next_place : ℕ → OpenBlock → Place
-next_place die o = record { die = die; block = o.block; page = o.next }
-
-abbrev pub waiting_job : Core → ℕ → Option OpenBlock → Waiting → Option Job
-waiting_job c die None w = option_map (erase_of die) (block_for c die w)
-waiting_job c die (Some o) w = page_job c (next_place die o) w
-
-abbrev pub waiting_started : Core → ℕ → Book → Option OpenBlock → Waiting → Core
-waiting_started c die b None w = erase_started c die b (block_for c die w)
-waiting_started c die b (Some o) w = page_started c die b (next_place die o) w
-
-abbrev pub any_waiting_job : Core → ℕ → Book → Option Waiting → Option Job
-any_waiting_job c die b None = None
-any_waiting_job c die b (Some w) = waiting_job c die b.filling w
-
-abbrev pub any_waiting_started : Core → ℕ → Book → Option Waiting → Core
-any_waiting_started c die b None = c
-any_waiting_started c die b (Some w) = waiting_started c die b b.filling w
-
--- A read goes before all that waits
-
-abbrev pub owed_job : Core → ℕ → Book → Option ℕ → Option Job
-owed_job c die b None = any_waiting_job c die b (waiting_of c)
-owed_job c die b (Some k) = option_map job.Read (place_owed (slice_get c.pins k))
-
-abbrev pub owed_started : Core → ℕ → Book → Option ℕ → Core
-owed_started c die b None = any_waiting_started c die b (waiting_of c)
-owed_started c die b (Some k) = read_started c die b k
-
--- the position of the first reader who is owed the read of a page of this die
-abbrev pub first_owed : Core → ℕ → Option ℕ
-first_owed c die = position (is_owed_by die) c.pins
-
--- a die with a job in flight is given none
-abbrev pub idle_job : Core → ℕ → Book → Option Flight → Option Job
-idle_job c die b None = owed_job c die b (first_owed c die)
-idle_job c die b (Some f) = None
-
-abbrev pub idle_started : Core → ℕ → Book → Option Flight → Core
-idle_started c die b None = owed_started c die b (first_owed c die)
-idle_started c die b (Some f) = c
-
-abbrev pub job_for : Core → ℕ → Option Book → Option Job
-job_for c die None = None
-job_for c die (Some b) = idle_job c die b b.flight
-
-abbrev pub started_for : Core → ℕ → Option Book → Core
-started_for c die None = c
-started_for c die (Some b) = idle_started c die b b.flight
+-- the job that the die is given, for whom it is
+abbrev pub flight_taken : Core → ℕ → Option Flight
+flight_taken c die = flight_for c die (slice_get c.books die)
 
 -- the job that the die is given
 abbrev pub job_taken : Core → ℕ → Option Job
-job_taken c die = job_for c die (slice_get c.books die)
+job_taken c die = option_and_then (job_of c die) (flight_taken c die)
+
+-- the die has this job in flight, if it is told one
+abbrev pub begun_with : Core → ℕ → Option Book → Option Flight → Option Job → Core
+begun_with c die (Some b) (Some f) (Some j) = started c die b f
+begun_with c die b f j = c
 
 -- what is kept once the die was given its job
 abbrev pub core_taken : Core → ℕ → Core
-core_taken c die = started_for c die (slice_get c.books die)
+core_taken c die = begun_with c die (slice_get c.books die) (flight_taken c die) (job_taken c die)

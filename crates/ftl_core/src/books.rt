@@ -18,10 +18,10 @@ pub struct OpenBlock {
     pub next: u16,
 }
 
-/// The job in flight on a die: what it is for.
+/// The job in flight on a die. A read is for the reader who waits for it, or for nobody once that one let go.
 #[derive(Clone, Copy, Debug, PartialEq, Eq)]
 pub enum Flight {
-    Read { place: Place, reader: u8 },
+    Read { place: Place, reader: Option<u8> },
     Mark { place: Place },
     Group { place: Place, number: u64 },
     Erase { block: u16 },
@@ -41,20 +41,11 @@ pub struct Stored {
     pub number: u64,
 }
 
-/// How far the page of a pending group is.
-#[derive(Clone, Copy, Debug, Default, PartialEq, Eq)]
-pub enum GroupState {
-    #[default]
-    Waiting,
-    InFlight,
-    Written(Place),
-}
-
-/// A pending group: one page, and how far it is. Its number follows from its position.
+/// A pending group: one page, and where this is written, once it is. Its number follows from its position.
 #[derive(Clone, Copy)]
 pub struct Group {
     pub key: Key,
-    pub state: GroupState,
+    pub written: Option<Place>,
     pub body: Block,
 }
 
@@ -68,36 +59,18 @@ pub enum Looked {
     Page(Stored),
 }
 
-/// Whether a reader's page is still to be read.
-#[derive(Clone, Copy, Debug, Default, PartialEq, Eq)]
-pub enum ReadState {
-    #[default]
-    Owed,
-    InFlight,
-    Over,
-}
-
-/// What a reader keeps from being erased or given up, and the read that it is owed.
+/// What a reader keeps from being erased or given up, and whether its page is still to be read.
 #[derive(Clone, Copy, Debug, Default, PartialEq, Eq)]
 pub struct Pin {
     pub reader: u8,
     pub key: Key,
     pub looked: Looked,
-    pub read: ReadState,
+    pub wanted: bool,
 }
 
-/// What waits for a die: the mark of this number, or the pending group at this position.
+/// What waits to be programmed: the mark that is ordered, or the page of the pending group with this number.
 #[derive(Clone, Copy, Debug, PartialEq, Eq)]
 pub enum Waiting {
-    Mark(u64),
-    Group(usize),
-}
-
-/// Whether a mark is under way, and its number.
-#[derive(Clone, Copy, Debug, Default, PartialEq, Eq)]
-pub enum MarkState {
-    #[default]
-    Idle,
-    Waiting(u64),
-    InFlight(u64),
+    Mark,
+    Group(u64),
 }

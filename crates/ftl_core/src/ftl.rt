@@ -1,22 +1,24 @@
 //! The translation layer and its calls.
-ghost use Rattle.std.specs.Prelude.{◌≡◌, ℕ, ◌<◌, ◌≤◌, ◌+◌, ◌^◌, length, IsTrue, ◌↔◌, IfOk, IsSome, IfSome, vec_len, nat_lt, ◌-◌, ◌&&◌, ◌++◌, ◌∷◌, [], if◌then◌else◌, sum_by, slice_get};
-ghost use Rattle.std.specs.Prelude.{map, None, true, option_copied, position, replicate, reverse};
+ghost use Rattle.std.specs.Prelude.{◌≡◌, ℕ, ◌<◌, ◌≤◌, ◌+◌, ◌^◌, length, IsTrue, ◌↔◌, IfOk, IsSome, IfSome, vec_len, nat_lt, ◌-◌, ◌&&◌, ◌++◌, ◌∷◌, [], if◌then◌else◌, sum_by, slice_get, map, None, true, option_copied, position, replicate, reverse, Bool, false, find, option_map};
 ghost use Rattle.std.specs.List.{list_any};
 ghost use Rattle.ufs_spec.specs.declared.configs.UnitSpec.{UnitSpec};
-ghost use Rattle.ftl_core.specs.Moves.{accepted, blocks_of, can_accept, fresh, idle_book, slot_of, state_at_start, is_group_of, is_pin_of, pin_of, unpinned, look_of, last_of, position_of, stored_of, unit_position, with_pin, free_slots, is_locked, has_number, next_number, mark_ordered};
+ghost use Rattle.ftl_core.specs.Moves.{accepted, blocks_of, can_accept, fresh, idle_book, slot_of, state_at_start, is_group_of, is_pin_of, looked_by, pin_of, slot_in, unpinned, look_of, last_of, position_of, stored_of, unit_position, with_pin, free_slots, is_locked, has_number, next_number, mark_ordered, flight_without, without_reader};
 ghost use Rattle.ufs_spec.specs.Keys.{IsKey};
-ghost use Rattle.ufs_spec.specs.Ledger.{look, next_number as next_of_layer};
-ghost use Rattle.ufs_spec.specs.Moves.{Accept, Claim, IsAllowedMove, Keep, LetGo, LetGoAll, Release, moved};
+ghost use Rattle.ufs_spec.specs.Ledger.{look, next_number as next_of_layer, Entry, before_accepted, entry_of};
+ghost use Rattle.ufs_spec.specs.Moves.{Accept, Acknowledge, Claim, IsAllowedMove, Keep, LetGo, LetGoAll, Release, WantPage, moved, is_pin_of as is_layer_pin_of};
 ghost use Rattle.ufs_spec.specs.Plain.{shape_of_numbers};
-ghost use Rattle.ufs_spec.specs.Translation.{Translation, free_slots as layer_slots, is_locked as is_layer_locked, is_mended};
-ghost use Rattle.ftl_core.specs.Describes.{Describes, IsLookedAt};
+ghost use Rattle.ufs_spec.specs.Translation.{Translation, free_slots as layer_slots, is_locked as is_layer_locked, is_mended, has_number as has_layer_number, spots};
+ghost use Rattle.ufs_spec.specs.Cells.{Cells, Nothing};
+ghost use Rattle.ufs_spec.specs.Disk.{Spot};
+ghost use Rattle.ufs_spec.specs.Openings.{IsOpenedTranslation};
+ghost use Rattle.ufs_spec.specs.declared.flash.Place.{Place};
+ghost use Rattle.ftl_core.specs.Describes.{Describes, IsLookedAt, name_at};
+ghost use Rattle.ftl_core.specs.Tells.{IsPinned, blocks_of_unit, keeps_for};
 
 mod ends;
 mod takes;
 
-use crate::books::{
-    BlockState, Book, Group, GroupState, Looked, MarkState, Pin, ReadState, Stored,
-};
+use crate::books::{BlockState, Book, Flight, Group, Looked, Pin, Stored};
 use std::alloc::{AllocError, Global};
 use std::marker::Model;
 use ufs_spec::{Block, Config, Key, Tag, UnitSpec};
@@ -35,20 +37,32 @@ pub enum Ended {
     Other,
 }
 
-/// The translation layer of a device.
+/// The translation layer of a device. What is in flight stands in the dies' books alone.
 #[derive(Drop)]
 pub struct Ftl {
+    /// The configuration, which never changes; it has at most 8 units.
     config: Config,
+    /// What each block is, in order by die and block.
     states: Vec<BlockState>,
+    /// Of each die its open block, which has room, and its job in flight.
     books: Vec<Book>,
+    /// Whether any block is bad; it stays so.
     has_bad: bool,
+    /// Where the durable content of each address stands, in order by unit and address.
     places: Vec<Option<Stored>>,
+    /// The pending groups, in order of number: the first has the number `frontier + 1`.
     groups: Vec<Group>,
+    /// Every group up to this number is durable; no pending group has a number above 2^62.
     frontier: u64,
+    /// How many slots are claimed for groups to come; with the pending groups they are at most `slots`.
     claimed: usize,
+    /// What readers keep: one pin a reader, at most 32, with room for all of them.
     pins: Vec<Pin>,
-    mark: MarkState,
+    /// The number of the mark that is ordered and not finished, from 1 to 2^62.
+    mark: Option<u64>,
+    /// The number of the next mark, from 1 to 2^62 + 1; the last means that none is left.
     next_mark: u64,
+    /// Whether a mark without a fence is finished.
     mended: bool,
 }
 
@@ -132,6 +146,72 @@ fn pin_at(pins: &[Pin], reader: u8) -> Option<usize>
     pins.iter().position(|pin| is_pin_of(pin, reader))
 }
 
+/// What the reader keeps; `None` where it keeps nothing.
+fn looked_by(pins: &[Pin], reader: u8) -> Option<Looked>
+    ensures { result ≡ looked_by reader pins.now }
+{
+    let index = pin_at(pins, reader)?;
+    let pin = pins.get(index)?;
+    Some(pin.looked)
+}
+
+/// The block in the slot of this number, where the first of these groups is the one behind the frontier.
+fn slot_in(groups: &[Group], frontier: u64, number: u64) -> Option<&Block>
+    ensures { option_copied result ≡ slot_in groups.now frontier number }
+{
+    if number <= frontier {
+        return None;
+    }
+    let index = (number - frontier - 1) as usize;
+    if index >= groups.len() {
+        return None;
+    }
+    Some(&groups[index].body)
+}
+
+/// The job in flight, which is for nobody if it is a read for this reader.
+fn flight_without(flight: Option<Flight>, reader: u8) -> Option<Flight>
+    ensures { result ≡ flight_without reader flight }
+{
+    match flight {
+        Some(
+            Flight::Read {
+                place,
+                reader: Some(other),
+            },
+        ) => {
+            if other == reader {
+                Some(Flight::Read {
+                    place,
+                    reader: None,
+                })
+            } else {
+                flight
+            }
+        }
+        _ => flight,
+    }
+}
+
+/// What is known of a die once the reader let go.
+fn without_reader(book: Book, reader: u8) -> Book
+    ensures { result ≡ without_reader reader book }
+{
+    Book {
+        filling: book.filling,
+        flight: flight_without(book.flight, reader),
+    }
+}
+
+/// The reads in flight for this reader are for nobody from now on.
+fn forget_reader(books: &mut [Book], reader: u8)
+    ensures { books.new ≡ map (without_reader reader) books.old }
+{
+    for book in books.iter_mut() {
+        *book = without_reader(*book, reader);
+    }
+}
+
 /// What is known of the blocks at the start: bad ones stay bad, and all others are free.
 fn states_of(alloc: Global, bad: &[bool]) -> Result<Vec<BlockState>, AllocError>
     ensures { IfOk result (λ v. v.items ≡ map state_at_start bad.now) }
@@ -141,6 +221,7 @@ fn states_of(alloc: Global, bad: &[bool]) -> Result<Vec<BlockState>, AllocError>
         .collect(alloc)
 }
 
+/// What a block is at the start.
 fn state_at_start(is_bad: bool) -> BlockState
     ensures { result ≡ state_at_start is_bad }
 {
@@ -185,9 +266,19 @@ fn nowhere(alloc: Global, addresses: usize) -> Result<Vec<Option<Stored>>, Alloc
 
 impl Ftl {
     /// The layer over new dies: for each block of each die, in order, whether it is bad.
-    #[tactic(auto, using(crate::proofs::OpensNew::opens_right))]
     pub fn new(alloc: Global, config: Config, bad: &[bool]) -> Result<Ftl, AllocError>
         ensures core { IfOk result (λ f. f ≡ fresh config bad.now) }
+        // Over pages that are all blank it is the layer that the definitions open over them.
+        ensures described { IfOk result (λ f. (cells : Cells) (is_bad : Spot → Bool) (t : Translation) →
+            1 ≤ config.pages → ((p : Place) → cells p ≡ Nothing) → bad.now ≡ map is_bad (spots config) →
+            IsOpenedTranslation config cells is_bad t → Describes f t) }
+    {
+        Ftl::fresh(alloc, config, bad)
+    }
+
+    /// The same, as what it keeps.
+    fn fresh(alloc: Global, config: Config, bad: &[bool]) -> Result<Ftl, AllocError>
+        ensures { IfOk result (λ f. f ≡ fresh config bad.now) }
     {
         let numbers = config.numbers();
         let dies = numbers.dies;
@@ -205,7 +296,7 @@ impl Ftl {
             frontier: 0,
             claimed: 0,
             pins: Vec::with_capacity(alloc, MOST_PINS)?,
-            mark: MarkState::Idle,
+            mark: None,
             next_mark: 1,
             mended: false,
         })
@@ -221,7 +312,7 @@ impl Ftl {
 
     /// Whether writes are refused from now on: a block is bad (in this first stage none may be), or no
     /// number is left.
-    #[tactic(auto, using(crate::proofs::Rests::locks_right))]
+    #[tactic(auto, using(crate::proofs::small_calls::SmallCalls::locks_right))]
     pub fn is_locked(&self) -> bool
         ensures core { result ≡ is_locked self.now }
         ensures described { (t : Translation) → Describes self.now t → result ≡ is_layer_locked t }
@@ -238,7 +329,7 @@ impl Ftl {
     }
 
     /// How many slots neither a pending group nor a claim holds.
-    #[tactic(auto, using(crate::proofs::Rests::slots_right))]
+    #[tactic(auto, using(crate::proofs::small_calls::SmallCalls::slots_right))]
     pub fn free_slots(&self) -> usize
         ensures core { result ≡ free_slots self.now }
         ensures described { (t : Translation) → Describes self.now t → result ≡ layer_slots t }
@@ -247,8 +338,10 @@ impl Ftl {
     }
 
     /// How many blocks the unit has; `None` where there is no such unit.
+    #[tactic(auto, using(crate::proofs::small_calls::CallsDescribed::units_right))]
     pub fn unit_blocks(&self, unit: u8) -> Option<u32>
-        ensures { result ≡ blocks_of self.now unit }
+        ensures core { result ≡ blocks_of self.now unit }
+        ensures described { (t : Translation) → Describes self.now t → result ≡ blocks_of_unit t unit }
     {
         let units = self.config.numbers().units.as_slice();
         let unit = unit as usize;
@@ -260,11 +353,13 @@ impl Ftl {
     }
 
     /// Claims one slot for a group to come, where one is free.
-    #[tactic(auto, using(crate::proofs::Rests::claims_right))]
+    #[tactic(auto, using(crate::proofs::small_calls::CallsDescribed::room_right, crate::proofs::small_calls::CallsDescribed::claims_described))]
     pub fn reserve(&mut self) -> bool
         ensures found { result ≡ nat_lt 0 (free_slots self.old) }
         ensures after { self.new ≡ (if result then record self.old { claimed = self.old.claimed + 1 } else self.old) }
-        ensures described { (t : Translation) → Describes self.old t → result ≡ true → Describes self.new (moved t (Claim 1)) }
+        ensures described_found { (t : Translation) → Describes self.old t → result ≡ nat_lt 0 (layer_slots t) }
+        ensures described { (t : Translation) → Describes self.old t →
+            Describes self.new (if result then moved t (Claim 1) else t) }
     {
         if self.free_slots() == 0 {
             return false;
@@ -274,7 +369,7 @@ impl Ftl {
     }
 
     /// Gives a claimed slot back.
-    #[tactic(auto, using(crate::proofs::Rests::releases_right))]
+    #[tactic(auto, using(crate::proofs::small_calls::SmallCalls::releases_right))]
     pub fn release(&mut self)
         ensures after { self.new ≡ record self.old { claimed = self.old.claimed - 1 } }
         ensures described { (t : Translation) → Describes self.old t → Describes self.new (moved t (Release 1)) }
@@ -284,7 +379,7 @@ impl Ftl {
 
     /// What holds the content of the address after all pending groups: the slot of the last of these, or
     /// its page, or nothing (it reads as zeros).
-    #[tactic(auto, using(crate::proofs::Looks::looks_right))]
+    #[tactic(auto, using(crate::proofs::look_and_accept::Looks::looks_right))]
     pub fn look(&self, key: Key) -> Looked
         ensures core { result ≡ look_of self.now key }
         ensures described { (t : Translation) → Describes self.now t → IsKey (shape_of_numbers t.numbers) key → key.kind ≡ 1 →
@@ -293,6 +388,7 @@ impl Ftl {
         self.looked(key)
     }
 
+    /// What holds the content of the address after all pending groups.
     fn looked(&self, key: Key) -> Looked
         ensures { result ≡ look_of self.now key }
     {
@@ -328,16 +424,21 @@ impl Ftl {
     /// becomes one; false, and nothing is kept, where 32 readers keep something.
     pub fn pin(&mut self, reader: u8, key: Key, looked: Looked) -> bool
         ensures found { result ≡ nat_lt (length self.old.pins) 32 }
-        ensures after { self.new ≡ (if result then with_pin self.old (record { reader = reader; key = key; looked = looked; read = ReadState.Owed }) else self.old) }
-        ensures described { (t : Translation) → Describes self.old t → IsKey (shape_of_numbers t.numbers) key → key.kind ≡ 1 →
-            looked ≡ look_of self.old key → pin_of self.old reader ≡ None → result ≡ true →
-            Describes self.new (moved t (Keep key (record { tag = reader; index = 0; looked = look t.ledger key; wanted = true }))) }
+        ensures after { self.new ≡ (if result then with_pin self.old (record { reader = reader; key = key; looked = looked; wanted = true }) else self.old) }
+        ensures described_found { (t : Translation) → Describes self.old t → result ≡ nat_lt (length t.pins) 32 }
+        // It is what the address looks at, of a reader who keeps nothing yet.
+        ensures described { (t : Translation) → Describes self.old t →
+            IsKey (shape_of_numbers t.numbers) key →
+            IsLookedAt looked (look t.ledger key) → list_any (keeps_for reader) t.pins ≡ false →
+            Describes self.new (if result
+            then moved t (Keep key (record { tag = reader; index = 0; looked = look t.ledger key; wanted = true }))
+            else t) }
     {
         self.keep(Pin {
             reader,
             key,
             looked,
-            read: ReadState::Owed,
+            wanted: true,
         })
     }
 
@@ -357,14 +458,22 @@ impl Ftl {
     pub fn unpin(&mut self, reader: u8)
         ensures after { self.new ≡ unpinned self.old reader }
         ensures described { (t : Translation) → Describes self.old t → Describes self.new (moved t (LetGoAll reader)) }
-        ensures described_one { (t : Translation) → Describes self.old t → Describes self.new (moved t (LetGo reader 0)) }
+        // What it waited for may be acknowledged, once it is durable.
+        ensures described_told { (t : Translation) (count : ℕ) → Describes self.old t →
+            before_accepted t.ledger + count ≤ t.ledger.frontier →
+            Describes self.new (moved (moved t (Acknowledge count)) (LetGoAll reader)) }
+        // A reader keeps one block, so that its first is all it keeps, and none behind it can be wanted.
+        ensures described_one { (t : Translation) (next : ℕ) → Describes self.old t → 0 < next →
+            Describes self.new (moved (moved t (LetGo reader 0)) (WantPage reader next)) }
     {
         self.let_go(reader);
     }
 
+    /// The reader's pin is gone, and no die reads for it.
     fn let_go(&mut self, reader: u8)
         ensures { self.new ≡ unpinned self.old reader }
     {
+        forget_reader(self.books.as_mut_slice(), reader);
         if let Some(index) = pin_at(self.pins.as_slice(), reader) {
             if index < self.pins.len() {
                 self.pins.remove(index);
@@ -372,8 +481,18 @@ impl Ftl {
         }
     }
 
-    /// What the reader keeps, and how far its read is.
-    pub fn pinned(&self, reader: u8) -> Option<Pin>
+    /// What the reader keeps; `None` where it keeps nothing.
+    #[tactic(auto, using(crate::proofs::small_calls::CallsDescribed::pinned_right))]
+    pub fn pinned(&self, reader: u8) -> Option<Looked>
+        ensures core { result ≡ looked_by reader self.now.pins }
+        ensures described { (t : Translation) → Describes self.now t →
+            IsPinned result (find (is_layer_pin_of reader 0) t.pins) }
+    {
+        looked_by(self.pins.as_slice(), reader)
+    }
+
+    /// The pin of the reader, if it keeps something.
+    fn pin_of(&self, reader: u8) -> Option<Pin>
         ensures { result ≡ pin_of self.now reader }
     {
         let index = pin_at(self.pins.as_slice(), reader)?;
@@ -382,16 +501,12 @@ impl Ftl {
 
     /// The block in the slot of this number; `None` where no pending group has it.
     pub fn slot(&self, number: u64) -> Option<&Block>
-        ensures { option_copied result ≡ slot_of self.now number }
+        ensures core { option_copied result ≡ slot_of self.now number }
+        ensures described { (t : Translation) (e : Entry) → Describes self.now t →
+            t.ledger.frontier < number → entry_of t.ledger (name_at number) ≡ Some e →
+            option_copied result ≡ Some e.item.body }
     {
-        if number <= self.frontier {
-            return None;
-        }
-        let index = (number - self.frontier - 1) as usize;
-        if index >= self.groups.len() {
-            return None;
-        }
-        Some(&self.groups[index].body)
+        slot_in(self.groups.as_slice(), self.frontier, number)
     }
 
     /// Puts a group of one page behind all that are pending, in the place of a claimed slot, and
@@ -419,6 +534,7 @@ impl Ftl {
         self.frontier + self.groups.len() as u64 + 1
     }
 
+    /// One group more waits, in the place of a claimed slot.
     fn add_group(&mut self, key: Key, body: &Block)
         requires claimed { 0 < self.old.claimed }
         requires numbered { IsTrue (has_number self.old) }
@@ -427,14 +543,17 @@ impl Ftl {
         self.claimed -= 1;
         self.groups.push_reserved(Group {
             key,
-            state: GroupState::Waiting,
+            written: None,
             body: *body,
         });
     }
 
     /// Whether a group can be accepted: a slot is claimed and a number is left.
+    #[tactic(auto, using(crate::proofs::small_calls::CallsDescribed::accepts_where))]
     pub fn can_accept(&self) -> bool
-        ensures { result ≡ can_accept self.now }
+        ensures core { result ≡ can_accept self.now }
+        ensures described { (t : Translation) → Describes self.now t →
+            result ≡ (nat_lt 0 t.claims && has_layer_number t) }
     {
         self.claimed > 0 && self.frontier + (self.groups.len() as u64) < LAST_NUMBER
     }

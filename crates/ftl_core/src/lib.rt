@@ -5,8 +5,5 @@
 mod books;
 mod ftl;
 
-pub use books::{
-    BlockState, Book, Flight, Group, GroupState, Looked, MarkState, OpenBlock, Pin, ReadState,
-    Stored, Waiting,
-};
+pub use books::{BlockState, Book, Flight, Group, Looked, OpenBlock, Pin, Stored, Waiting};
 pub use ftl::{Ended, Ftl};

@@ -1,5 +1,6 @@
 -- A row of bytes that is filled from its start on, with zeros behind.
-use Rattle.std.proofs.Common.{◌≡◌, ◌∙◌, ◌+◌, ◌-◌, ◌*◌, ◌<◌, arith, ℕ, List, [], ◌∷◌, ◌++◌, Option, Some, None, refl, sym, ap, drop, get_or, length, length-append, length-take, append_assoc, replicate, take}
+use Rattle.std.proofs.Common.{◌≡◌, ◌∙◌, ◌+◌, ◌-◌, ◌*◌, ◌<◌, arith, ℕ, List, [], ◌++◌, Option, Some, None, refl, sym, ap}
+use Rattle.std.proofs.Common.{drop, get_or, length, length-append, length-take, append_assoc, replicate, take}
 use Rattle.std.specs.List.{flat_map}
 use Rattle.std.proofs.lemmas.List.{append-nil, drop-replicate, drop_at, flat_map_more, take_at, take_more}
 use Rattle.ufs_spec.specs.Pages.{fence_bytes, numbers_bytes, unit_bytes, zero_filled}
@@ -7,6 +8,7 @@ use Rattle.ufs_spec.specs.declared.configs.Numbers.{Numbers}
 use Rattle.ufs_spec.specs.declared.configs.UnitSpec.{UnitSpec}
 use Rattle.ufs_spec.specs.declared.flash.Fence.{Fence}
 use borrow.Rule.Slice.PartMut.{put_mid}
+use Rattle.ufs_spec.proofs.SealedPages.{units_length}
 
 -- zeros with bytes written over their first ones
 pub zero_filled-first : (n k : ℕ) (bytes part : List ℕ) → length bytes ≡ k → part ≡ bytes
@@ -32,11 +34,6 @@ pub length-head : (n : Numbers) (fence : Option Fence) → length (fence_bytes f
 length-head n None = refl
 length-head n (Some fence) = refl
 
--- each entry has eight bytes
-length-entries : (units : List UnitSpec) → length (flat_map unit_bytes units) ≡ 8 * length units
-length-entries [] = refl
-length-entries (u ∷ units) = omega (arith, length-entries units)
-
 -- the entry of the unit at i, written behind those before it
 pub entry_written : (head : List ℕ) (units : List UnitSpec) (i k : ℕ) (other : UnitSpec) (body entry : List ℕ)
     → length head ≡ 32 → i < length units → k ≡ 8
@@ -47,10 +44,11 @@ entry_written head units i k other body entry long inside eight filled same =
     let front : List ℕ = head ++ flat_map unit_bytes (take i units) in
     let count : length (take i units) ≡ i = omega (arith, length-take {A = UnitSpec}) in
     let at : length front ≡ 32 + 8 * i =
-    omega (arith, length-append head (flat_map unit_bytes (take i units)), length-entries (take i units)) in
+    omega (arith, length-append head (flat_map unit_bytes (take i units)), units_length (take i units)) in
     let next : length entry ≡ k = ap length same ∙ sym eight in
     ap (λ (b : List ℕ). put_mid (32 + 8 * i) k b entry) filled
     ∙ zero_filled-more 4096 (32 + 8 * i) k front entry at next
     ∙ ap (λ (e : List ℕ). zero_filled 4096 (front ++ e)) same
     ∙ ap (zero_filled 4096) (flat_map_more unit_bytes head (take i units) (get_or units i other))
-    ∙ ap (λ (us : List UnitSpec). zero_filled 4096 (head ++ flat_map unit_bytes us)) (sym (take_more units i other inside))
+    ∙ ap (λ (us : List UnitSpec). zero_filled 4096 (head ++ flat_map unit_bytes us))
+    (sym (take_more units i other inside))

@@ -1,16 +1,15 @@
 -- What a sealed page reads back as, and when two pages are the same.
-use Rattle.std.proofs.Common.{◌≡◌, ◌∙◌, arith, ℕ, Bool, true, false, not, List, [], ◌++◌, refl, sym, ap, take, drop, ◌&&◌, IfSome, Option, Some, None}
+use Rattle.std.proofs.Common.{◌≡◌, ◌∙◌, ℕ, List, ◌++◌, refl, sym, ap, take, drop, ◌&&◌, IfSome, Option, Some, None}
 use Rattle.std.specs.Bool.{Decides}
 use Rattle.std.specs.Str.{bytes_eq}
 use Rattle.std.proofs.lemmas.Bool.Decides.{Decides-and, Decides-like}
 use Rattle.std.proofs.lemmas.List.{take-append-drop}
 use Rattle.std.proofs.lemmas.Slice.Eq.{bytes_eq-Decides}
-use Rattle.byteorder.specs.Endian.{big_number}
-use Rattle.byteorder.specs.Numbers.{big_number-reads_back}
-use Rattle.ufs_spec.specs.Pages.{IsCheckRight, IsTag, check_of, seal_page, spare_front, tag_in}
+use Rattle.ufs_spec.specs.Pages.{IsCheckRight, IsTag, check_of, seal_page, spare_front}
 use Rattle.ufs_spec.specs.declared.flash.Opened.{Opened}
 use Rattle.ufs_spec.specs.declared.flash.Page.{Page}
 use Rattle.ufs_spec.specs.declared.flash.Tag.{Tag}
+use Rattle.ufs_spec.proofs.SealedPages.{tag_in-front, tag_of_sealed}
 
 -- two pages are the same where their bodies and their spare bytes are
 pub same_page : (p q : Page) → Decides (bytes_eq p.body q.body && bytes_eq p.spare q.spare) (p ≡ q)
@@ -25,31 +24,8 @@ same_page p q =
         ap (λ (x : List ℕ). record { body = x; spare = p.spare }) b
         ∙ ap (λ (x : List ℕ). record { body = q.body; spare = x }) s
 
-pub true_from_not : (b : Bool) → not b ≡ false → b ≡ true
-true_from_not true e = refl
-true_from_not false e = cc
-
--- a tag within its ranges is read back from its spare bytes
-pub tag_in-front : (t : Tag) (rest : List ℕ) → IsTag t → tag_in (spare_front t ++ rest) ≡ t
-tag_in-front t rest h =
-    let address : big_number 4 (drop 8 (spare_front t ++ rest)) ≡ t.address =
-    big_number-reads_back 4 t.address [] (omega (arith, h.address_fits)) in
-    let number : big_number 8 (drop 12 (spare_front t ++ rest)) ≡ t.number =
-    big_number-reads_back 8 t.number [] (omega (arith, h.number_given)) in
-    let frontier : big_number 8 (drop 24 (spare_front t ++ rest)) ≡ t.frontier =
-    big_number-reads_back 8 t.frontier [] (omega (arith, h.frontier_fits)) in
-    rw (address, number, frontier) refl
-
--- a page that seals a tag has that tag in its spare bytes, the tag's front, and the right check
-pub tag_of_sealed : (p : Page) (t : Tag) (b : List ℕ) → IsTag t → p ≡ seal_page t b → tag_in p.spare ≡ t
-tag_of_sealed p t b h e =
-    ap (λ (x : Page). tag_in x.spare) e ∙ tag_in-front t (check_of b (spare_front t)) h
-
 pub front_of_sealed : (p : Page) (t : Tag) (b : List ℕ) → p ≡ seal_page t b → take 64 p.spare ≡ spare_front t
 front_of_sealed p t b e = ap (λ (x : Page). take 64 x.spare) e
-
-pub check_of_sealed : (p : Page) (t : Tag) (b : List ℕ) → p ≡ seal_page t b → IsCheckRight p
-check_of_sealed p t b e = rw e refl
 
 -- a page with a tag's front and the right check seals that tag and its body
 pub sealed : (p : Page) (t : Tag) → take 64 p.spare ≡ spare_front t → IsCheckRight p → p ≡ seal_page t p.body

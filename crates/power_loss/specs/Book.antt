@@ -1,6 +1,8 @@
--- What a life knows of numbers and contents, whatever pages they stand on, and what holds of it. Groups are added to it,
+-- What a life knows of numbers and contents, whatever pages they stand on, and what holds of it. Groups are added to
+-- it,
 -- all else stays for the whole life.
-use Rattle.std.specs.Prelude.{◌≡◌, ◌⊎◌, ℕ, suc, ◌+◌, ◌-◌, ◌<◌, ◌≤◌, nat_le, if◌then◌else◌, List, length, Option, Some, None, option_and_then, slice_get}
+use Rattle.std.specs.Prelude.{◌≡◌, ◌⊎◌, ℕ, suc, ◌+◌, ◌-◌, ◌<◌, ◌≤◌, nat_le, if◌then◌else◌, List, length, Option, Some}
+use Rattle.std.specs.Prelude.{None, option_and_then, slice_get}
 use Rattle.ufs_spec.specs.Cells.{Cells, Mark, MarkPage, key_of}
 use Rattle.ufs_spec.specs.Keys.{Contents, Group, IsKey}
 use Rattle.ufs_spec.specs.Ledger.{Entry, Ledger, Name, entry_in}
@@ -30,7 +32,15 @@ pub record Book : Type 0 where
   pub groups : List Group
 
 abbrev pub book_of : Numbers → Ledger → Book
-book_of n l = record { numbers = n; base = l.base; entries_before = l.entries_before; first_page = l.first_page; greatest_seen = l.greatest_seen; first_lost = l.first_lost; groups = l.groups }
+book_of n l = record {
+  numbers = n;
+  base = l.base;
+  entries_before = l.entries_before;
+  first_page = l.first_page;
+  greatest_seen = l.greatest_seen;
+  first_lost = l.first_lost;
+  groups = l.groups;
+}
 
 abbrev pub book : Translation → Book
 book t = book_of t.numbers t.ledger
@@ -43,7 +53,8 @@ HasKey b k = IsKey (shape_of_numbers b.numbers) k
 abbrev pub page_at : Book → Name → Option Entry
 page_at b name =
     if nat_le name.number b.greatest_seen then b.entries_before name.number name.index
-    else option_and_then (λ g. entry_in g name.index) (if nat_le name.number b.greatest_seen then None else slice_get b.groups (name.number - b.greatest_seen - 1))
+    else option_and_then (λ g. entry_in g name.index) (if nat_le name.number b.greatest_seen then None
+    else slice_get b.groups (name.number - b.greatest_seen - 1))
 
 abbrev pub IsPageAt : Book → ℕ → ℕ → Entry → Type 0
 IsPageAt b n i e = page_at b (record { number = n; index = i }) ≡ Some e
@@ -59,7 +70,10 @@ pub record IsLostNumber (b : Book) (n : ℕ) : Type 0 where
 
 -- a page with this tag and body is the one that its name has
 abbrev pub IsKnown : Book → Tag → List ℕ → Type 0
-IsKnown b t body = page_at b (name_of t) ≡ Some (record { item = record { key = key_of t; body = body }; size = t.size })
+IsKnown b t body = page_at b (name_of t) ≡ Some (record {
+  item = record { key = key_of t; body = body };
+  size = t.size;
+})
 
 -- a group of this life, at or under the bound, has the key
 pub record IsWritten (b : Book) (k : Key) (bound : ℕ) : Type 0 where
@@ -102,7 +116,8 @@ pub record BaseNone (b : Book) (k : Key) : Type 0 where
 abbrev pub IsLastOrLost : Book → Key → ℕ → Type 0
 IsLastOrLost b k number =
     IsLostNumber b number
-    ⊎ ((number < b.first_lost) × ((n i : ℕ) (e : Entry) → b.entries_before n i ≡ Some e → e.item.key ≡ k → n < b.first_lost → n ≤ number))
+    ⊎ ((number < b.first_lost) × ((n i : ℕ) (e : Entry) → b.entries_before n i ≡ Some e → e.item.key ≡ k →
+    n < b.first_lost → n ≤ number))
 
 -- the name that a key began with
 abbrev pub FirstRight : Book → Key → Option Name → Type 0
@@ -141,7 +156,8 @@ AreWholeAbove b marked = (n : ℕ) → marked < n → n ≤ b.greatest_seen → 
 -- the mark has no fence, and each key with a lost page is written in this life at or under what it records
 pub record IsPlainMark (b : Book) (m : Mark) : Type 0 where
   pub none : m.fence ≡ None
-  pub repaired : (n i : ℕ) (e : Entry) → IsLostNumber b n → b.entries_before n i ≡ Some e → IsWritten b e.item.key m.records
+  pub repaired : (n i : ℕ) (e : Entry) → IsLostNumber b n → b.entries_before n i ≡ Some e →
+      IsWritten b e.item.key m.records
 
 -- the mark's fence is what is lost
 pub record IsFenceMark (b : Book) (m : Mark) : Type 0 where

@@ -2,7 +2,8 @@
 use Rattle.std.specs.Prelude.{◌≡◌, ◌⊎◌, ◌+◌, ◌*◌, ◌<◌, ◌≤◌, true, false, None}
 use Rattle.ufs_spec.specs.Disk.{Bad, Closed, Spot}
 use Rattle.ufs_spec.specs.Stages.{collects}
-use Rattle.ufs_spec.specs.Translation.{Translation, count_blocks, has_mark_number, is_free, is_mended, is_pinned, live_count}
+use Rattle.ufs_spec.specs.Translation.{Translation, count_blocks, has_mark_number, is_free, is_mended, is_pinned}
+use Rattle.ufs_spec.specs.Translation.{live_count}
 use Rattle.power_loss.specs.Exchange.{IsSpot}
 
 -- no task keeps a page of the block, and to collect it gains room: it is closed and not wholly live, or bad with live

@@ -1,12 +1,13 @@
 -- What holds of a device with its dies between any two events of a life: the translation layer is valid, its cells are
 -- what the pages show, and its groups are those of the accepted commands.
-use Rattle.std.specs.Prelude.{◌≡◌, ℕ, ◌+◌, ◌*◌, ◌<◌, ◌≤◌, ◌^◌, Bool, true, false, List, [], ◌∷◌, length, Option, Some, None, slice_index_or}
-use Rattle.std.specs.List.{list_any}
+use Rattle.std.specs.Prelude.{◌≡◌, ℕ, ◌+◌, ◌*◌, ◌<◌, ◌≤◌, ◌^◌, ◌==◌, Bool, true, false, List, [], ◌∷◌, length, Option}
+use Rattle.std.specs.Prelude.{Some, None, slice_index_or}
+use Rattle.std.specs.List.{AllByRecursion, list_any}
 use Rattle.ufs_spec.specs.Cells.{Array, Cell, DataHold, IsCell, IsPlace, Opens, Shows}
 use Rattle.ufs_spec.specs.Configs.{IsConfig, command_blocks}
 use Rattle.ufs_spec.specs.Dies.{blank_page}
 use Rattle.ufs_spec.specs.Disk.{Erasing, Programming, Spot, page_of}
-use Rattle.ufs_spec.specs.Exchanges.{Awaiting, Deed, ForWrite, Gathering, Short, Task, is_short_of, is_task_of}
+use Rattle.ufs_spec.specs.Exchanges.{Awaiting, Deed, ForWrite, Gathering, Short, Task, is_short_of}
 use Rattle.ufs_spec.specs.Keys.{CanApplyAll, IsBlock, IsKey, IsPlain, IsSettingsBody, content, groups_of}
 use Rattle.ufs_spec.specs.Ledger.{Entry, accepted_groups, before_accepted}
 use Rattle.ufs_spec.specs.Machine.{Call, Done, Host, IsHeard, MayLeave, claimed_by, tag_in}
@@ -40,7 +41,8 @@ pub record BookFits (b : Book) : Type 0 where
 
 -- a WRITE that gathers its data lies within its unit, and has less than its length; it is there once the device is
 -- mended alone, and has claimed a slot for each block
-pub record WriteFits (n : Numbers) (mended : Bool) (unit address blocks total : ℕ) (gathered : List ℕ) (claimed : ℕ) : Type 0 where
+pub record WriteFits (n : Numbers) (mended : Bool) (unit address blocks total : ℕ) (gathered : List ℕ)
+    (claimed : ℕ) : Type 0 where
   pub unit_in : unit < length (shape_of_numbers n).blocks
   pub some : 1 ≤ blocks
   pub not_long : blocks ≤ command_blocks n
@@ -65,9 +67,8 @@ abbrev pub claim_of : Numbers → Task → ℕ
 claim_of n task = claimed_by n task.deed task.command
 
 abbrev pub DeedsFit : Numbers → ℕ → Bool → List Task → Type 0
-DeedsFit n accepted mended [] = Unit {0}
-DeedsFit n accepted mended (task ∷ tasks) =
-    DeedFits n accepted mended (claim_of n task) task.length task.deed × DeedsFit n accepted mended tasks
+DeedsFit n accepted mended =
+    AllByRecursion (λ task. DeedFits n accepted mended (claim_of n task) task.length task.deed)
 
 abbrev pub ShortAwaits : ℕ → Bool → Option ℕ → Type 0
 ShortAwaits accepted mended None = Unit {0}
@@ -80,28 +81,30 @@ pub record ShortFits (accepted : ℕ) (mended : Bool) (short : Short) : Type 0 w
   pub locked_reply : tag_in short.locked_reply ≡ short.tag
 
 abbrev pub ShortsFit : ℕ → Bool → List Short → Type 0
-ShortsFit accepted mended [] = Unit {0}
-ShortsFit accepted mended (short ∷ shorts) = ShortFits accepted mended short × ShortsFit accepted mended shorts
+ShortsFit accepted mended = AllByRecursion (ShortFits accepted mended)
 
--- no tag twice among tasks, nor among short exchanges, nor in both
+-- no tag twice in a list
+abbrev pub TagsDiffer : {A : Type 0} → (A → ℕ) → List A → Type 0
+TagsDiffer tag_of [] = Unit {0}
+TagsDiffer tag_of (x ∷ xs) = (list_any (λ y. tag_of y == tag_of x) xs ≡ false) × TagsDiffer tag_of xs
+
+-- nor among tasks, nor among short exchanges, nor in both
 abbrev pub TasksDiffer : List Task → Type 0
-TasksDiffer [] = Unit {0}
-TasksDiffer (task ∷ tasks) = (list_any (is_task_of task.tag) tasks ≡ false) × TasksDiffer tasks
+TasksDiffer = TagsDiffer (λ (task : Task). task.tag)
 
 abbrev pub ShortsDiffer : List Short → Type 0
-ShortsDiffer [] = Unit {0}
-ShortsDiffer (short ∷ shorts) = (list_any (is_short_of short.tag) shorts ≡ false) × ShortsDiffer shorts
+ShortsDiffer = TagsDiffer (λ (short : Short). short.tag)
 
 abbrev pub AreApart : List Short → List Task → Type 0
-AreApart shorts [] = Unit {0}
-AreApart shorts (task ∷ tasks) = (list_any (is_short_of task.tag) shorts ≡ false) × AreApart shorts tasks
+AreApart shorts = AllByRecursion (λ (task : Task). list_any (is_short_of task.tag) shorts ≡ false)
 
 -- how many slots the tasks have claimed
 abbrev pub claims_of : Numbers → List Task → ℕ
 claims_of n [] = 0
 claims_of n (task ∷ tasks) = claim_of n task + claims_of n tasks
 
-pub record TasksRight (n : Numbers) (accepted : ℕ) (mended : Bool) (claims : ℕ) (tasks : List Task) (shorts : List Short) : Type 0 where
+pub record TasksRight (n : Numbers) (accepted : ℕ) (mended : Bool) (claims : ℕ) (tasks : List Task)
+    (shorts : List Short) : Type 0 where
   pub deeds : DeedsFit n accepted mended tasks
   pub waits : ShortsFit accepted mended shorts
   pub tasks_differ : TasksDiffer tasks
@@ -123,7 +126,8 @@ pub record IsTied (s : State) : Type 0 where
   pub valid : Valid s.translation
   pub fits : BookFits (book s.translation)
   -- each page in flight shows the cell that it is meant to be
-  pub flights : (die : ℕ) (p : Place) (cell : Cell) → s.translation.disk.flights die ≡ Some (Programming p cell) → IsCell (page_of cell) cell
+  pub flights : (die : ℕ) (p : Place) (cell : Cell) → s.translation.disk.flights die ≡ Some (Programming p cell) →
+      IsCell (page_of cell) cell
   pub base : IsPlain s.base × (shape_of s.base ≡ shape_of_numbers (numbers_of s))
   pub contents : (k : _) → IsKey (shape_of_numbers (numbers_of s)) k → s.translation.ledger.base k ≡ content s.base k
   pub commands : CanApplyAll s.base s.accepted
@@ -147,7 +151,8 @@ pub record ValidState (s : State) : Type 0 where
   -- the data of each page that opens keep the rules of its kind
   pub hold : (p : Place) (t : Tag) (body : List ℕ) → Opens (s.array p) t body → DataHold t body
   -- a block that is being erased is one of the dies'
-  pub erases : (die : ℕ) (spot : Spot) → s.translation.disk.flights die ≡ Some (Erasing spot) → IsSpot (numbers_of s) spot
+  pub erases : (die : ℕ) (spot : Spot) → s.translation.disk.flights die ≡ Some (Erasing spot) →
+      IsSpot (numbers_of s) spot
 
 -- Calls
 

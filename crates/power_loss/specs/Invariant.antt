@@ -1,20 +1,26 @@
 -- What holds of the translation layer between any two of its moves. The records read single fields, so a move that
 -- leaves these fields keeps the record as it is.
-use Rattle.std.specs.Prelude.{◌≡◌, ◌≢◌, ◌⊎◌, ℕ, suc, ◌+◌, ◌<◌, ◌≤◌, Bool, true, false, All, List, [], length, take, Option, Some, None, slice_get}
+use Rattle.std.specs.Prelude.{◌≡◌, ◌≢◌, ◌⊎◌, ℕ, suc, ◌+◌, ◌<◌, ◌≤◌, Bool, true, false, All, List, [], length, take}
+use Rattle.std.specs.Prelude.{Option, Some, None, slice_get}
 use Rattle.ufs_spec.specs.Cells.{AreWithin, Cell, Cells, GroupPage, IsPlace, Mark, MarkPage, Nothing}
-use Rattle.ufs_spec.specs.Disk.{BlockState, Bad, Closed, Disk, Erasing, Filling, Flight, Free, Programming, Reader, Reading, Spot, spot_of}
+use Rattle.ufs_spec.specs.Disk.{BlockState, Bad, Closed, Disk, Erasing, Filling, Flight, Free, Programming, Reader}
+use Rattle.ufs_spec.specs.Disk.{Reading, Spot, spot_of}
 use Rattle.ufs_spec.specs.Keys.{Group, Item, put_groups}
 use Rattle.ufs_spec.specs.Kept.{HoldAll, IsKept, IsNewestMark, recorded_in}
-use Rattle.ufs_spec.specs.Ledger.{Entry, InSlot, Ledger, Looked, Name, OnPage, Unwritten, accepted_groups, before_accepted}
+use Rattle.ufs_spec.specs.Ledger.{Entry, InSlot, Ledger, Looked, Name, OnPage, Unwritten, accepted_groups}
+use Rattle.ufs_spec.specs.Ledger.{before_accepted}
 use Rattle.ufs_spec.specs.Openings.{IsFirstFence, number_of}
 use Rattle.ufs_spec.specs.Sound.{CellsSound, CellsSuit}
-use Rattle.ufs_spec.specs.Translation.{CopyStep, FromPage, FromSlot, MarkStep, Mended, Mending, Pin, Plan, RepairStep, Repairing, Rest, Source, Step, StepKind, Translation, Unmarked, Want, is_mended, name_of, pending_pages, wants_of_step}
+use Rattle.ufs_spec.specs.Translation.{CopyStep, FromPage, FromSlot, MarkStep, Mended, Mending, Pin, Plan, RepairStep}
+use Rattle.ufs_spec.specs.Translation.{Repairing, Rest, Source, Step, StepKind, Translation, Unmarked, Want, is_mended}
+use Rattle.ufs_spec.specs.Translation.{name_of, pending_pages, wants_of_step}
 use Rattle.ufs_spec.specs.declared.configs.Numbers.{Numbers}
 use Rattle.ufs_spec.specs.declared.flash.Fence.{Fence}
 use Rattle.ufs_spec.specs.declared.flash.Key.{Key}
 use Rattle.ufs_spec.specs.declared.flash.Place.{Place}
 use Rattle.ufs_spec.specs.declared.flash.Tag.{Tag}
-use Rattle.power_loss.specs.Book.{AreWholeAbove, Book, BookRight, HasKey, IsFenceMark, IsKnown, IsLostNumber, IsOverwritten, IsPageAt, IsPlainMark, IsWritten, book, last_number}
+use Rattle.power_loss.specs.Book.{AreWholeAbove, Book, BookRight, HasKey, IsFenceMark, IsKnown, IsLostNumber}
+use Rattle.power_loss.specs.Book.{IsOverwritten, IsPageAt, IsPlainMark, IsWritten, book, last_number}
 
 abbrev pub Standing : Type 0
 Standing = ℕ → ℕ → Option Place
@@ -34,17 +40,19 @@ pub record FrontierRight (b : Book) (standing : Standing) (frontier : ℕ) : Typ
 
 -- Pages
 
-pub record PagesRight (b : Book) (standing : Standing) (frontier : ℕ) (cells : Cells) (finished : Place → Bool) : Type 0 where
-  pub within : AreWithin b.numbers cells
-  pub known : (p : Place) (t : Tag) (body : List ℕ) → cells p ≡ GroupPage t body → IsKnown b t body
-  pub recorded : (p : Place) (t : Tag) (body : List ℕ) → cells p ≡ GroupPage t body → t.frontier ≤ frontier
-  -- the name of a finished page stands, there or elsewhere
-  pub stands : (p : Place) (t : Tag) (body : List ℕ) →
-      cells p ≡ GroupPage t body → finished p ≡ true → (q : Place) × (standing t.number t.index ≡ Some q)
+pub record PagesRight (b : Book) (standing : Standing) (frontier : ℕ) (cells : Cells) (finished : Place → Bool) : Type 0
+  where
+    pub within : AreWithin b.numbers cells
+    pub known : (p : Place) (t : Tag) (body : List ℕ) → cells p ≡ GroupPage t body → IsKnown b t body
+    pub recorded : (p : Place) (t : Tag) (body : List ℕ) → cells p ≡ GroupPage t body → t.frontier ≤ frontier
+    -- the name of a finished page stands, there or elsewhere
+    pub stands : (p : Place) (t : Tag) (body : List ℕ) →
+        cells p ≡ GroupPage t body → finished p ≡ true → (q : Place) × (standing t.number t.index ≡ Some q)
 
 -- Blocks
 
-pub record BlocksRight (numbers : Numbers) (cells : Cells) (finished : Place → Bool) (blocks : Spot → BlockState) (erasing : Spot → Bool) : Type 0 where
+pub record BlocksRight (numbers : Numbers) (cells : Cells) (finished : Place → Bool) (blocks : Spot → BlockState)
+    (erasing : Spot → Bool) : Type 0 where
   -- a page whose program failed lies in a bad block
   pub unfinished : (p : Place) → finished p ≡ false → blocks (spot_of p) ≡ Bad
   pub filling : (s : Spot) (next : ℕ) → blocks s ≡ Filling next → next < numbers.pages
@@ -73,20 +81,26 @@ pub record MarkFlightRight (numbers : Numbers) (marks : ℕ) (step : Option Step
   pub there : Bool
   pub step_is : step ≡ Some (record { kind = MarkStep m.number m.fence; there = there })
 
-pub record FlightsRight (b : Book) (frontier marks : ℕ) (blocks : Spot → BlockState) (erasing : Spot → Bool) (flights : Flights) (step : Option Step) : Type 0 where
-  pub programs : (die : ℕ) (p : Place) (cell : Cell) → flights die ≡ Some (Programming p cell) → ProgramRight b.numbers blocks die p
+pub record FlightsRight (b : Book) (frontier marks : ℕ) (blocks : Spot → BlockState) (erasing : Spot → Bool)
+    (flights : Flights) (step : Option Step) : Type 0 where
+  pub programs : (die : ℕ) (p : Place) (cell : Cell) → flights die ≡ Some (Programming p cell) →
+      ProgramRight b.numbers blocks die p
   pub erases : (die : ℕ) (s : Spot) → flights die ≡ Some (Erasing s) → EraseRight blocks erasing die s
   pub something : (die : ℕ) (p : Place) → flights die ≡ Some (Programming p Nothing) → ⊥
-  pub known : (die : ℕ) (p : Place) (t : Tag) (body : List ℕ) → flights die ≡ Some (Programming p (GroupPage t body)) → IsKnown b t body
-  pub recorded : (die : ℕ) (p : Place) (t : Tag) (body : List ℕ) → flights die ≡ Some (Programming p (GroupPage t body)) → t.frontier ≤ frontier
-  pub mark : (die : ℕ) (p : Place) (m : Mark) → flights die ≡ Some (Programming p (MarkPage m)) → MarkFlightRight b.numbers marks step m
+  pub known : (die : ℕ) (p : Place) (t : Tag) (body : List ℕ) → flights die ≡ Some (Programming p (GroupPage t body)) →
+      IsKnown b t body
+  pub recorded : (die : ℕ) (p : Place) (t : Tag) (body : List ℕ) → flights die ≡ Some (Programming p (GroupPage t body))
+      → t.frontier ≤ frontier
+  pub mark : (die : ℕ) (p : Place) (m : Mark) → flights die ≡ Some (Programming p (MarkPage m)) →
+      MarkFlightRight b.numbers marks step m
   pub one_mark : (d e : ℕ) (p q : Place) (m other : Mark) →
       flights d ≡ Some (Programming p (MarkPage m)) → flights e ≡ Some (Programming q (MarkPage other)) → d ≡ e
 
 -- What stands safely
 
 -- the place that is known for the name holds its finished page, and no erase is near it
-pub record IsSecure (standing : Standing) (cells : Cells) (finished : Place → Bool) (blocks : Spot → BlockState) (erasing : Spot → Bool) (n i : ℕ) : Type 0 where
+pub record IsSecure (standing : Standing) (cells : Cells) (finished : Place → Bool) (blocks : Spot → BlockState)
+    (erasing : Spot → Bool) (n i : ℕ) : Type 0 where
   pub place : Place
   pub tag : Tag
   pub body : List ℕ
@@ -99,17 +113,20 @@ pub record IsSecure (standing : Standing) (cells : Cells) (finished : Place → 
   pub needed : blocks (spot_of place) ≢ Free
 
 -- a newer page of the key, at or under what the newest finished mark records, stands so
-pub record IsSecurelyOverwritten (b : Book) (marked : ℕ) (standing : Standing) (cells : Cells) (finished : Place → Bool) (blocks : Spot → BlockState) (erasing : Spot → Bool) (n : ℕ) (k : Key) : Type 0 where
+pub record IsSecurelyOverwritten (b : Book) (marked : ℕ) (standing : Standing) (cells : Cells) (finished : Place → Bool)
+    (blocks : Spot → BlockState) (erasing : Spot → Bool) (n : ℕ) (k : Key) : Type 0 where
   pub by : IsOverwritten b n k marked
   pub secure : IsSecure standing cells finished blocks erasing by.number by.index
 
-abbrev pub IsSafe : Book → ℕ → Standing → Cells → (Place → Bool) → (Spot → BlockState) → (Spot → Bool) → ℕ → ℕ → Key → Type 0
+abbrev pub IsSafe : Book → ℕ → Standing → Cells → (Place → Bool) → (Spot → BlockState) → (Spot → Bool) → ℕ → ℕ → Key →
+    Type 0
 IsSafe b marked standing cells finished blocks erasing n i k =
     IsSecure standing cells finished blocks erasing n i
     ⊎ IsSecurelyOverwritten b marked standing cells finished blocks erasing n k
 
 -- every page that stood and is not lost is safe
-pub record SafeRight (b : Book) (marked : ℕ) (standing : Standing) (cells : Cells) (finished : Place → Bool) (blocks : Spot → BlockState) (erasing : Spot → Bool) : Type 0 where
+pub record SafeRight (b : Book) (marked : ℕ) (standing : Standing) (cells : Cells) (finished : Place → Bool)
+    (blocks : Spot → BlockState) (erasing : Spot → Bool) : Type 0 where
   pub safe : (n i : ℕ) (e : Entry) (p : Place) → IsPageAt b n i e → standing n i ≡ Some p → (IsLostNumber b n → ⊥) →
       IsSafe b marked standing cells finished blocks erasing n i e.item.key
 
@@ -124,23 +141,28 @@ pub record IsLaterMark (b : Book) (frontier : ℕ) (newest m : Mark) : Type 0 wh
   pub numbers : m.numbers ≡ b.numbers
 
 -- the newest finished mark stands where no erase is near
-pub record MarkStands (cells : Cells) (finished : Place → Bool) (blocks : Spot → BlockState) (erasing : Spot → Bool) (newest : Mark) : Type 0 where
+pub record MarkStands (cells : Cells) (finished : Place → Bool) (blocks : Spot → BlockState) (erasing : Spot → Bool)
+    (newest : Mark) : Type 0 where
   pub place : Place
   pub there : cells place ≡ MarkPage newest
   pub ended : finished place ≡ true
   pub stays : erasing (spot_of place) ≡ false
   pub needed : blocks (spot_of place) ≢ Free
 
-pub record MarksRight (b : Book) (frontier marks : ℕ) (cells : Cells) (finished : Place → Bool) (blocks : Spot → BlockState) (erasing : Spot → Bool) (flights : Flights) (newest : Mark) : Type 0 where
+pub record MarksRight (b : Book) (frontier marks : ℕ) (cells : Cells) (finished : Place → Bool) (blocks : Spot →
+    BlockState) (erasing : Spot → Bool) (flights : Flights) (newest : Mark) : Type 0 where
   pub stands : MarkStands cells finished blocks erasing newest
   pub within : newest.records ≤ frontier
   pub numbers : newest.numbers ≡ b.numbers
   pub whole : AreWholeAbove b newest.records
   pub ended : (p : Place) (m : Mark) → cells p ≡ MarkPage m → finished p ≡ true → m.number ≤ newest.number
-  pub known : (p : Place) (m : Mark) → cells p ≡ MarkPage m → ((m.number ≤ newest.number) × (m.records ≤ frontier)) ⊎ IsLaterMark b frontier newest m
-  pub same : (p q : Place) (m other : Mark) → cells p ≡ MarkPage m → cells q ≡ MarkPage other → m.number ≡ other.number → m ≡ other
+  pub known : (p : Place) (m : Mark) → cells p ≡ MarkPage m → ((m.number ≤ newest.number) × (m.records ≤ frontier))
+      ⊎ IsLaterMark b frontier newest m
+  pub same : (p q : Place) (m other : Mark) → cells p ≡ MarkPage m → cells q ≡ MarkPage other →
+      m.number ≡ other.number → m ≡ other
   pub freed : (p : Place) (m : Mark) → cells p ≡ MarkPage m → blocks (spot_of p) ≡ Free → m.number < newest.number
-  pub flies : (die : ℕ) (p : Place) (m : Mark) → flights die ≡ Some (Programming p (MarkPage m)) → IsLaterMark b frontier newest m
+  pub flies : (die : ℕ) (p : Place) (m : Mark) → flights die ≡ Some (Programming p (MarkPage m)) →
+      IsLaterMark b frontier newest m
 
 -- no mark has a number above the greatest known
 abbrev pub AreNumbered : ℕ → Cells → Type 0
@@ -178,11 +200,14 @@ pub record OpeningRight (b : Book) (newest : Option Mark) (opening : Cells) : Ty
 
 -- each key with a lost page is in the list, and all of the list are keys of the device
 pub record LostRight (b : Book) (lost : List Key) : Type 0 where
-  pub all : (n i : ℕ) (e : Entry) → IsLostNumber b n → b.entries_before n i ≡ Some e → (j : ℕ) × (slice_get lost j ≡ Some e.item.key)
+  pub all : (n i : ℕ) (e : Entry) → IsLostNumber b n → b.entries_before n i ≡ Some e →
+      (j : ℕ) × (slice_get lost j ≡ Some e.item.key)
   pub keys : (j : ℕ) (k : Key) → slice_get lost j ≡ Some k → HasKey b k
 
 -- the first mark of the life is not finished
-pub record UnmarkedRight (b : Book) (frontier marks : ℕ) (newest : Option Mark) (cells : Cells) (blocks : Spot → BlockState) (erasing : Spot → Bool) (flights : Flights) (plan : Option Plan) (fence : Option Fence) (lost : List Key) : Type 0 where
+pub record UnmarkedRight (b : Book) (frontier marks : ℕ) (newest : Option Mark) (cells : Cells) (blocks : Spot →
+    BlockState) (erasing : Spot → Bool) (flights : Flights) (plan : Option Plan) (fence : Option Fence)
+    (lost : List Key) : Type 0 where
   pub opening : Cells
   pub opened : OpeningRight b newest opening
   pub fence_right : IsFirstFence newest b.first_lost b.greatest_seen fence
@@ -202,7 +227,8 @@ IsLastRepair b step =
     × (step ≡ Some (record { kind = RepairStep (record { number = last_number b; index = 0 }) from; there = there }))
 
 -- the first mark is finished, and these keys have no repair yet
-pub record RepairingRight (b : Book) (frontier : ℕ) (cells : Cells) (blocks : Spot → BlockState) (erasing : Spot → Bool) (newest : Mark) (plan : Option Plan) (step : Option Step) (left : List Key) : Type 0 where
+pub record RepairingRight (b : Book) (frontier : ℕ) (cells : Cells) (blocks : Spot → BlockState) (erasing : Spot → Bool)
+    (newest : Mark) (plan : Option Plan) (step : Option Step) (left : List Key) : Type 0 where
   pub fence : IsFenceMark b newest
   pub repaired : (n i : ℕ) (e : Entry) → IsLostNumber b n → b.entries_before n i ≡ Some e →
       ((j : ℕ) × (slice_get left j ≡ Some e.item.key)) ⊎ IsWritten b e.item.key (last_number b)
@@ -236,7 +262,8 @@ FenceRight (Unmarked first lost) fence = fence ≡ first
 FenceRight (Repairing left) fence = (fence ≡ None) × (left ≡ [])
 FenceRight Mended fence = fence ≡ None
 
-pub record MarkStepRight (marks : ℕ) (cells : Cells) (mending : Mending) (plan : Option Plan) (number : ℕ) (fence : Option Fence) : Type 0 where
+pub record MarkStepRight (marks : ℕ) (cells : Cells) (mending : Mending) (plan : Option Plan) (number : ℕ)
+    (fence : Option Fence) : Type 0 where
   pub last : number ≡ marks
   pub given : 0 < number
   pub above : (p : Place) (m : Mark) → cells p ≡ MarkPage m → m.number < number
@@ -250,7 +277,8 @@ StepKindRight b marks cells mending plan (CopyStep name from) =
 StepKindRight b marks cells mending plan (RepairStep name from) =
     (left : List Key) × (mending ≡ Repairing left) × ((e : Entry) × IsPageAt b name.number name.index e)
 
-pub record StepRight (b : Book) (marks : ℕ) (cells : Cells) (mending : Mending) (plan : Option Plan) (step : Option Step) : Type 0 where
+pub record StepRight (b : Book) (marks : ℕ) (cells : Cells) (mending : Mending) (plan : Option Plan)
+    (step : Option Step) : Type 0 where
   pub kind : (s : Step) → step ≡ Some s → StepKindRight b marks cells mending plan s.kind
 
 -- Collection
@@ -268,16 +296,19 @@ pub record StandsIn (b : Book) (standing : Standing) (victim : Spot) (n i : ℕ)
   pub inside : spot_of p ≡ victim
   pub free : IsLostNumber b n → ⊥
 
-pub record OnePlanRight (b : Book) (frontier : ℕ) (standing : Standing) (blocks : Spot → BlockState) (flights : Flights) (step : Option Step) (plan : Plan) : Type 0 where
+pub record OnePlanRight (b : Book) (frontier : ℕ) (standing : Standing) (blocks : Spot → BlockState) (flights : Flights)
+    (step : Option Step) (plan : Plan) : Type 0 where
   pub state : (blocks plan.victim ≡ Closed) ⊎ (blocks plan.victim ≡ Bad)
   -- it is overwritten, or is still to be copied
   pub copied : (n i : ℕ) (e : Entry) (p : Place) → StandsIn b standing plan.victim n i e p →
       IsOverwritten b n e.item.key frontier ⊎ IsToCopy plan.copies step n i p
   -- once the plan's mark is in flight, it is overwritten at or under what that mark records
   pub flown : (die : ℕ) (q : Place) (m : Mark) → flights die ≡ Some (Programming q (MarkPage m)) →
-      (n i : ℕ) (e : Entry) (p : Place) → StandsIn b standing plan.victim n i e p → IsOverwritten b n e.item.key m.records
+      (n i : ℕ) (e : Entry) (p : Place) → StandsIn b standing plan.victim n i e p →
+      IsOverwritten b n e.item.key m.records
 
-pub record PlanRight (b : Book) (frontier : ℕ) (standing : Standing) (blocks : Spot → BlockState) (flights : Flights) (mending : Mending) (step : Option Step) (plan : Option Plan) : Type 0 where
+pub record PlanRight (b : Book) (frontier : ℕ) (standing : Standing) (blocks : Spot → BlockState) (flights : Flights)
+    (mending : Mending) (step : Option Step) (plan : Option Plan) : Type 0 where
   pub mended : (pl : Plan) → plan ≡ Some pl → mending ≡ Mended
   pub one : (pl : Plan) → plan ≡ Some pl → OnePlanRight b frontier standing blocks flights step pl
 
@@ -286,14 +317,16 @@ pub record PlanRight (b : Book) (frontier : ℕ) (standing : Standing) (blocks :
 -- the repairs come first, and have the contents of the life's start; what was acknowledged is durable
 pub record HistoryRight (b : Book) (repairs held frontier : ℕ) (mended : Bool) : Type 0 where
   pub within : repairs ≤ length b.groups
-  pub contents : (j i : ℕ) (g : Group) (item : Item) → j < repairs → slice_get b.groups j ≡ Some g → slice_get g i ≡ Some item → item.body ≡ b.base item.key
+  pub contents : (j i : ℕ) (g : Group) (item : Item) → j < repairs → slice_get b.groups j ≡ Some g →
+      slice_get g i ≡ Some item → item.body ≡ b.base item.key
   pub mending : mended ≡ false → (repairs ≡ length b.groups) × (held ≡ 0)
   pub durable : (held ≡ 0) ⊎ (b.greatest_seen + repairs + held ≤ frontier)
 
 -- Pages that are needed still
 
 -- the finished page of the name is there, in a block that is not being erased
-pub record IsGroupPage (cells : Cells) (finished : Place → Bool) (erasing : Spot → Bool) (name : Name) (place : Place) : Type 0 where
+pub record IsGroupPage (cells : Cells) (finished : Place → Bool) (erasing : Spot → Bool) (name : Name)
+    (place : Place) : Type 0 where
   pub tag : Tag
   pub body : List ℕ
   pub there : cells place ≡ GroupPage tag body
@@ -309,7 +342,8 @@ LookedRight b frontier cells finished erasing (InSlot name) =
 LookedRight b frontier cells finished erasing (OnPage name place) = IsGroupPage cells finished erasing name place
 
 -- what tasks keep
-pub record PinsRight (b : Book) (frontier : ℕ) (cells : Cells) (finished : Place → Bool) (erasing : Spot → Bool) (pins : List Pin) : Type 0 where
+pub record PinsRight (b : Book) (frontier : ℕ) (cells : Cells) (finished : Place → Bool) (erasing : Spot → Bool)
+    (pins : List Pin) : Type 0 where
   pub each : All (λ (pin : Pin). LookedRight b frontier cells finished erasing pin.looked) pins
 
 abbrev pub SourceRight : Cells → (Place → Bool) → (Spot → Bool) → Source → Type 0
@@ -317,29 +351,36 @@ SourceRight cells finished erasing (FromPage place) = (name : Name) × IsGroupPa
 SourceRight cells finished erasing (FromSlot name) = Unit {0}
 
 -- the pages that the rests of others are still to be read from
-pub record RestsRight (cells : Cells) (finished : Place → Bool) (erasing : Spot → Bool) (rests : List Rest) : Type 0 where
-  pub each : All (λ (rest : Rest). SourceRight cells finished erasing rest.source) rests
+pub record RestsRight (cells : Cells) (finished : Place → Bool) (erasing : Spot → Bool) (rests : List Rest) : Type 0
+  where
+    pub each : All (λ (rest : Rest). SourceRight cells finished erasing rest.source) rests
 
 -- a read in flight is of a group's page, on its own die
-pub record ReadsRight (cells : Cells) (finished : Place → Bool) (erasing : Spot → Bool) (flights : Flights) : Type 0 where
-  pub at_home : (die : ℕ) (reader : Reader) (place : Place) → flights die ≡ Some (Reading reader place) → place.die ≡ die
-  pub page : (die : ℕ) (reader : Reader) (place : Place) → flights die ≡ Some (Reading reader place) →
-      (name : Name) × IsGroupPage cells finished erasing name place
+pub record ReadsRight (cells : Cells) (finished : Place → Bool) (erasing : Spot → Bool) (flights : Flights) : Type 0
+  where
+    pub at_home : (die : ℕ) (reader : Reader) (place : Place) → flights die ≡ Some (Reading reader place) →
+        place.die ≡ die
+    pub page : (die : ℕ) (reader : Reader) (place : Place) → flights die ≡ Some (Reading reader place) →
+        (name : Name) × IsGroupPage cells finished erasing name place
 
 -- a group's page is there, in a block that is not free
-pub record IsNeededPage (cells : Cells) (finished : Place → Bool) (blocks : Spot → BlockState) (erasing : Spot → Bool) (place : Place) : Type 0 where
+pub record IsNeededPage (cells : Cells) (finished : Place → Bool) (blocks : Spot → BlockState) (erasing : Spot → Bool)
+    (place : Place) : Type 0 where
   pub name : Name
   pub page : IsGroupPage cells finished erasing name place
   pub needed : blocks (spot_of place) ≢ Free
 
 -- the page that the step under way is still to be read from is there, and so are those that its plan still copies
-pub record ToReadRight (cells : Cells) (finished : Place → Bool) (blocks : Spot → BlockState) (erasing : Spot → Bool) (step : Option Step) (plan : Option Plan) : Type 0 where
+pub record ToReadRight (cells : Cells) (finished : Place → Bool) (blocks : Spot → BlockState) (erasing : Spot → Bool)
+    (step : Option Step) (plan : Option Plan) : Type 0 where
   pub wanted : All (λ (want : Want). IsNeededPage cells finished blocks erasing want.place) (wants_of_step step)
   pub copied : (pl : Plan) → plan ≡ Some pl → All (IsNeededPage cells finished blocks erasing) pl.copies
 
 -- until the device is mended no page that stands goes
-pub record UnmendedRight (mended : Bool) (standing : Standing) (cells : Cells) (finished : Place → Bool) (blocks : Spot → BlockState) (erasing : Spot → Bool) : Type 0 where
-  pub stand : mended ≡ false → (n i : ℕ) (p : Place) → standing n i ≡ Some p → IsSecure standing cells finished blocks erasing n i
+pub record UnmendedRight (mended : Bool) (standing : Standing) (cells : Cells) (finished : Place → Bool)
+    (blocks : Spot → BlockState) (erasing : Spot → Bool) : Type 0 where
+  pub stand : mended ≡ false → (n i : ℕ) (p : Place) → standing n i ≡ Some p →
+      IsSecure standing cells finished blocks erasing n i
 
 -- Slots
 
@@ -354,15 +395,19 @@ pub record Valid (t : Translation) : Type 0 where
   pub frontier : FrontierRight (book t) t.ledger.standing t.ledger.frontier
   pub pages : PagesRight (book t) t.ledger.standing t.ledger.frontier t.disk.cells t.disk.finished
   pub blocks : BlocksRight t.numbers t.disk.cells t.disk.finished t.disk.blocks t.disk.erasing
-  pub flights : FlightsRight (book t) t.ledger.frontier t.ledger.marks t.disk.blocks t.disk.erasing t.disk.flights t.work.step
-  pub safe : SafeRight (book t) (recorded_in t.ledger.newest) t.ledger.standing t.disk.cells t.disk.finished t.disk.blocks t.disk.erasing
+  pub flights : FlightsRight (book t) t.ledger.frontier t.ledger.marks t.disk.blocks t.disk.erasing t.disk.flights
+      t.work.step
+  pub safe : SafeRight (book t) (recorded_in t.ledger.newest) t.ledger.standing t.disk.cells t.disk.finished
+      t.disk.blocks t.disk.erasing
   pub numbered : AreNumbered t.ledger.marks t.disk.cells
   pub mending : MendingRight (book t) t.disk t.ledger t.work.plan t.work.step t.work.mending
   pub step : StepRight (book t) t.ledger.marks t.disk.cells t.work.mending t.work.plan t.work.step
-  pub plan : PlanRight (book t) t.ledger.frontier t.ledger.standing t.disk.blocks t.disk.flights t.work.mending t.work.step t.work.plan
+  pub plan : PlanRight (book t) t.ledger.frontier t.ledger.standing t.disk.blocks t.disk.flights t.work.mending
+      t.work.step t.work.plan
   pub history : HistoryRight (book t) t.ledger.repairs t.ledger.held t.ledger.frontier (is_mended t.work.mending)
   pub slots : SlotsRight t.numbers.slots (pending_pages t.ledger) t.claims
-  pub unmended : UnmendedRight (is_mended t.work.mending) t.ledger.standing t.disk.cells t.disk.finished t.disk.blocks t.disk.erasing
+  pub unmended : UnmendedRight (is_mended t.work.mending) t.ledger.standing t.disk.cells t.disk.finished t.disk.blocks
+      t.disk.erasing
   pub pins : PinsRight (book t) t.ledger.frontier t.disk.cells t.disk.finished t.disk.erasing t.pins
   pub rests : RestsRight t.disk.cells t.disk.finished t.disk.erasing t.work.rests
   pub reads : ReadsRight t.disk.cells t.disk.finished t.disk.erasing t.disk.flights

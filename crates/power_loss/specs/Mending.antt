@@ -1,7 +1,9 @@
 -- How many turns may still find a step due before the device is mended.
-use Rattle.std.specs.Prelude.{◌&&◌, ℕ, suc, ◌+◌, not, Bool, true, false, if◌then◌else◌, List, [], ◌∷◌, count_by, length, Option, Some, None}
+use Rattle.std.specs.Prelude.{◌&&◌, ℕ, suc, ◌+◌, not, Bool, true, false, if◌then◌else◌, List, [], ◌∷◌, count_by, length}
+use Rattle.std.specs.Prelude.{Option, Some, None}
 use Rattle.ufs_spec.specs.Moves.{IsAllowedMove, Move, TakeStep, moved}
-use Rattle.ufs_spec.specs.Translation.{MarkStep, Mended, Mending, Repairing, Step, StepKind, Translation, Unmarked, has_mark_number, is_mended, is_step_due}
+use Rattle.ufs_spec.specs.Translation.{MarkStep, Mended, Mending, Repairing, Step, StepKind, Translation, Unmarked}
+use Rattle.ufs_spec.specs.Translation.{has_mark_number, is_mended, is_step_due}
 use Rattle.ufs_spec.specs.declared.events.Output.{Output}
 use Rattle.ufs_spec.specs.declared.events.Output.TheVariants as output
 use Rattle.ufs_spec.specs.declared.flash.Fence.{Fence}

@@ -1,11 +1,13 @@
 -- What GOOD promises: one command from its COMMAND to its GOOD, with the data that were carried for it meanwhile; and a
 -- short exchange that waits, from any moment to its reply (JESD220, 10.7; SBC, FUA and SYNCHRONIZE CACHE).
-use Rattle.std.specs.Prelude.{◌≡◌, ℕ, ◌*◌, ◌<◌, ◌≤◌, ◌==◌, Bool, true, if◌then◌else◌, is_some, List, [], ◌∷◌, ◌++◌, find, length, slice_get, Option, Some, Ok}
+use Rattle.std.specs.Prelude.{◌≡◌, ℕ, ◌*◌, ◌<◌, ◌≤◌, ◌==◌, Bool, true, if◌then◌else◌, is_some, List, [], ◌∷◌, ◌++◌}
+use Rattle.std.specs.Prelude.{find, length, slice_get, Option, Some, Ok}
 use Rattle.std.specs.Global.{Vec}
 use Rattle.ufs_spec.specs.Commands.{Write}
 use Rattle.ufs_spec.specs.Exchanges.{Good, Short, is_short_of, status_byte, task_of}
 use Rattle.ufs_spec.specs.Lives.{Leads, Life, held}
-use Rattle.ufs_spec.specs.Machine.{Allowed, Answer, Reply, Call, Heard, OfHost, Host, IsHeard, OfReply, Spelled, blocks_in, observe, tag_in}
+use Rattle.ufs_spec.specs.Machine.{Allowed, Answer, Reply, Call, Heard, OfHost, Host, IsHeard, OfReply, Spelled}
+use Rattle.ufs_spec.specs.Machine.{blocks_in, observe, tag_in}
 use Rattle.ufs_spec.specs.Refusals.{Request, State, locked}
 use Rattle.ufs_spec.specs.declared.events.Event.{Event}
 use Rattle.ufs_spec.specs.declared.events.Output.{Output}

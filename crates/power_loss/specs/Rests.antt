@@ -4,7 +4,8 @@ use Rattle.ufs_spec.specs.Keys.{Group, Item}
 use Rattle.ufs_spec.specs.Ledger.{look, next_number}
 use Rattle.ufs_spec.specs.Translation.{Rest, Translation, is_in_part, source_of}
 
--- it is of an item that a command has in part, and comes from where the item's key is looked up when the group is accepted
+-- it is of an item that a command has in part, and comes from where the item's key is looked up when the group is
+-- accepted
 pub record IsRestOf (t : Translation) (g : Group) (rest : Rest) : Type 0 where
   pub index : ℕ
   pub item : Item

@@ -4,7 +4,8 @@ use Rattle.std.specs.Prelude.{◌≡◌, ◌⊎◌, ℕ, Bool, true, List, [], �
 use Rattle.std.specs.Global.{Vec}
 use Rattle.std.specs.List.{All}
 use Rattle.ufs_laws.specs.GapRows.{write_page}
-use Rattle.ufs_laws.specs.Runs.{Gets, IsNew, begins, data_program, pending_events, pending_outputs, place_of, row, told, write_events, write_outputs}
+use Rattle.ufs_laws.specs.Runs.{Gets, IsNew, begins, data_program, pending_events, pending_outputs, place_of, row, told}
+use Rattle.ufs_laws.specs.Runs.{write_events, write_outputs}
 use Rattle.ufs_spec.specs.Cdbs.{fixed_sense}
 use Rattle.ufs_spec.specs.Cells.{Array}
 use Rattle.ufs_spec.specs.Commands.{Write}
@@ -28,7 +29,8 @@ use Rattle.ufs_spec.specs.declared.messages.Message.{Message}
 abbrev pub written_page : List ℕ → Page
 written_page body = page_of (write_page 1 0xFF 0 body)
 
--- with these leftovers the stop leaves that array, and the next life has the first k accepted commands, so that it finds
+-- with these leftovers the stop leaves that array, and the next life has the first k accepted commands, so that it
+-- finds
 -- this block
 pub record IsStoppedWrite (body : List ℕ) (write block : Vec ℕ) (lefts : Vec Leftover) (left : Array → Array) (k : ℕ)
     (found : List ℕ) : Type 0 where

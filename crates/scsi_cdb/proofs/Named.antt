@@ -1,55 +1,39 @@
 -- The command whose bytes they are is the one that their fields name, and what the fields name fits its ranges.
-use Rattle.std.proofs.Common.{◌≡◌, ◌<◌, ◌+◌, ◌^◌, ◌==◌, ℕ, Bool, true, false, cond, nat_lt, List, ◌∷◌, drop, replicate, slice_index, Option, Some, None, refl, sym, ap, ◌∙◌, subst, arith}
-use Rattle.std.proofs.lemmas.List.{get_or-drop}
+use Rattle.std.proofs.Common.{◌≡◌, ◌<◌, ◌^◌, ◌==◌, ℕ, Bool, true, false, cond, nat_lt, List, slice_index, Option, Some}
+use Rattle.std.proofs.Common.{None, refl, sym, ap, ◌∙◌, subst, arith}
 use Rattle.std.proofs.lemmas.Nat.{and_le_r}
-use Rattle.byteorder.specs.Numbers.{big_from-lt, big_number-reads_back}
-use Rattle.ufs_spec.proofs.CdbsBack.{forced_again, immediate_again, six_again, ten_again}
+use Rattle.ufs_spec.proofs.CdbsBack as back
 use Rattle.ufs_spec.specs.Fields.{field_at}
-use Rattle.ufs_spec.specs.Cdbs.{cdb_bytes, forced_bit, immediate_bit, ten_bytes, read_6, write_6, read_10, write_10, synchronize_cache_10, IsCdb}
+use Rattle.ufs_spec.specs.Cdbs.{cdb_bytes, IsCdb}
 use Rattle.ufs_spec.specs.declared.scsi.Cdb.{Cdb}
-use Rattle.ufs_spec.specs.declared.scsi.Cdb.TheVariants.{TestUnitReady, RequestSense, Read6, Write6, Inquiry, ReadCapacity10, Read10, Write10, SynchronizeCache10, Unmap, ReportLuns, SecurityIn, SecurityOut}
-use Rattle.scsi_cdb.specs.Reading.{HasSelection, Writes, is_forced, is_immediate, named_cdb, named_six, named_ten, named_twelve, six_address}
+use Rattle.ufs_spec.specs.declared.scsi.Cdb.TheVariants.{TestUnitReady, RequestSense, Read6, Write6, Inquiry}
+use Rattle.ufs_spec.specs.declared.scsi.Cdb.TheVariants.{ReadCapacity10, Read10, Write10, SynchronizeCache10, Unmap}
+use Rattle.ufs_spec.specs.declared.scsi.Cdb.TheVariants.{ReportLuns, SecurityIn, SecurityOut}
+use Rattle.scsi_cdb.specs.Reading.{HasSelection, Writes, is_forced, is_immediate, named_cdb, named_six, named_ten}
+use Rattle.scsi_cdb.specs.Reading.{named_twelve, six_address}
+use Rattle.ufs_spec.proofs.FieldRanges.{field_fits}
+use Rattle.ufs_spec.proofs.Facts.{none-some, same_Some}
 
 -- ## What is read again from the bytes of a command
 
+-- the fields name what they name in the specification, as the operation code is one that it knows
+same_named : (cdb : Cdb) → named_cdb (cdb_bytes cdb) ≡ back.named_cdb (cdb_bytes cdb)
+same_named TestUnitReady = refl
+same_named other = refl
+
 -- the command that a command's bytes name is that command
 pub again : (cdb : Cdb) → IsCdb cdb → named_cdb (cdb_bytes cdb) ≡ Some cdb
-again TestUnitReady h = refl
-again (RequestSense allocation) h = refl
-again (Read6 address blocks) h = ap (λ (n : ℕ). Some (Read6 n blocks)) (six_again read_6 address (blocks ∷ replicate 11 0) h.0)
-again (Write6 address blocks) h = ap (λ (n : ℕ). Some (Write6 n blocks)) (six_again write_6 address (blocks ∷ replicate 11 0) h.0)
-again (Inquiry allocation) h = ap (λ (n : ℕ). Some (Inquiry n)) (big_number-reads_back 2 allocation (replicate 11 0) h)
-again ReadCapacity10 h = refl
-again (Read10 address blocks forced) h =
-    let bytes : List ℕ = ten_bytes read_10 (forced_bit forced) address blocks in
-    ten_again (λ n m. Some (Read10 n m (is_forced bytes))) read_10 (forced_bit forced) address blocks h.0 h.1
-    ∙ ap (λ (b : Bool). Some (Read10 address blocks b)) (forced_again forced read_10 (drop 2 bytes))
-again (Write10 address blocks forced) h =
-    let bytes : List ℕ = ten_bytes write_10 (forced_bit forced) address blocks in
-    ten_again (λ n m. Some (Write10 n m (is_forced bytes))) write_10 (forced_bit forced) address blocks h.0 h.1
-    ∙ ap (λ (b : Bool). Some (Write10 address blocks b)) (forced_again forced write_10 (drop 2 bytes))
-again (SynchronizeCache10 address blocks immediate) h =
-    let bytes : List ℕ = ten_bytes synchronize_cache_10 (immediate_bit immediate) address blocks in
-    ten_again (λ n m. Some (SynchronizeCache10 n m (is_immediate bytes))) synchronize_cache_10 (immediate_bit immediate) address blocks h.0 h.1
-    ∙ ap (λ (b : Bool). Some (SynchronizeCache10 address blocks b)) (immediate_again immediate synchronize_cache_10 (drop 2 bytes))
-again (Unmap list) h = ap (λ (n : ℕ). Some (Unmap n)) (big_number-reads_back 2 list (replicate 7 0) h)
-again (ReportLuns select allocation) h =
-    ap (λ (n : ℕ). Some (ReportLuns select n)) (big_number-reads_back 4 allocation (replicate 6 0) h.1)
-again (SecurityIn length) h = ap (λ (n : ℕ). Some (SecurityIn n)) (big_number-reads_back 4 length (replicate 6 0) h)
-again (SecurityOut length) h = ap (λ (n : ℕ). Some (SecurityOut n)) (big_number-reads_back 4 length (replicate 6 0) h)
-
--- what is named is one command
-told : (first second : Cdb) → Some first ≡ Some second → first ≡ second
-told first second h = cc
+again cdb h = same_named cdb ∙ back.again cdb h
 
 -- bytes that are those of a command name that command
 pub written_named : (cdb : Cdb) (bytes : List ℕ) → Writes cdb bytes → named_cdb bytes ≡ Some cdb
 written_named cdb bytes (h, e) = ap named_cdb e ∙ again cdb h
 
 -- bytes that are not those of the command that their fields name are those of none
-pub written_by_none : (named : Cdb) (bytes : List ℕ) → named_cdb bytes ≡ Some named → (Writes named bytes → ⊥) → (cdb : Cdb) → Writes cdb bytes → ⊥
+pub written_by_none : (named : Cdb) (bytes : List ℕ) → named_cdb bytes ≡ Some named → (Writes named bytes → ⊥) →
+    (cdb : Cdb) → Writes cdb bytes → ⊥
 written_by_none named bytes e other cdb writes =
-    let same : cdb ≡ named = told cdb named (sym (written_named cdb bytes writes) ∙ e) in
+    let same : cdb ≡ named = same_Some cdb named (sym (written_named cdb bytes writes) ∙ e) in
     other (subst (λ (one : Cdb). Writes one bytes) same writes)
 
 -- ## What the fields name fits its ranges
@@ -59,19 +43,14 @@ abbrev Fits : Option Cdb → Type 0
 Fits named = (cdb : Cdb) → named ≡ Some cdb → HasSelection cdb → IsCdb cdb
 
 fits_none : Fits None
-fits_none cdb e s = let no : ⊥ = cc in absurd no
+fits_none cdb e s = absurd (none-some cdb e)
 
 fits_some : (named : Cdb) → (HasSelection named → IsCdb named) → Fits (Some named)
-fits_some named h cdb e s = subst (λ (one : Cdb). HasSelection one → IsCdb one) (told named cdb e) h s
+fits_some named h cdb e s = subst (λ (one : Cdb). HasSelection one → IsCdb one) (same_Some named cdb e) h s
 
 fits_either : (b : Bool) (first second : Option Cdb) → Fits first → Fits second → Fits (cond b first second)
 fits_either true first second h k = h
 fits_either false first second h k = k
-
--- a number read from bytes fits
-field_fits : (n offset : ℕ) (bytes : List ℕ) → ((place : ℕ) → slice_index bytes place < 256) → field_at n offset bytes < 256 ^ n
-field_fits n offset bytes h =
-    big_from-lt 0 n (drop offset bytes) (λ place. rw (get_or-drop offset bytes place 0) (h (offset + place)))
 
 -- an address of READ(6) or WRITE(6) has 21 bits
 six_fits : (bytes : List ℕ) → six_address bytes < 2 ^ 21
@@ -88,17 +67,23 @@ named_fits bytes small =
     let six : Fits (named_six operation bytes) =
     fits_either (operation == 0x00) _ _ (fits_some TestUnitReady (λ s. tt))
     (fits_either (operation == 0x03) _ _ (fits_some (RequestSense (slice_index bytes 4)) (λ s. small 4))
-    (fits_either (operation == 0x08) _ _ (fits_some (Read6 (six_address bytes) (slice_index bytes 4)) (λ s. (six_fits bytes, small 4)))
-    (fits_either (operation == 0x0A) _ _ (fits_some (Write6 (six_address bytes) (slice_index bytes 4)) (λ s. (six_fits bytes, small 4)))
+    (fits_either (operation == 0x08) _ _
+    (fits_some (Read6 (six_address bytes) (slice_index bytes 4)) (λ s. (six_fits bytes, small 4)))
+    (fits_either (operation == 0x0A) _ _
+    (fits_some (Write6 (six_address bytes) (slice_index bytes 4)) (λ s. (six_fits bytes, small 4)))
     (fits_either (operation == 0x12) _ _ (fits_some (Inquiry (field_at 2 3 bytes)) (λ s. allocation)) fits_none)))) in
     let ten : Fits (named_ten operation bytes) =
     fits_either (operation == 0x25) _ _ (fits_some ReadCapacity10 (λ s. tt))
-    (fits_either (operation == 0x28) _ _ (fits_some (Read10 (field_at 4 2 bytes) (field_at 2 7 bytes) (is_forced bytes)) (λ s. (address, blocks)))
-    (fits_either (operation == 0x2A) _ _ (fits_some (Write10 (field_at 4 2 bytes) (field_at 2 7 bytes) (is_forced bytes)) (λ s. (address, blocks)))
-    (fits_either (operation == 0x35) _ _ (fits_some (SynchronizeCache10 (field_at 4 2 bytes) (field_at 2 7 bytes) (is_immediate bytes)) (λ s. (address, blocks)))
+    (fits_either (operation == 0x28) _ _
+    (fits_some (Read10 (field_at 4 2 bytes) (field_at 2 7 bytes) (is_forced bytes)) (λ s. (address, blocks)))
+    (fits_either (operation == 0x2A) _ _
+    (fits_some (Write10 (field_at 4 2 bytes) (field_at 2 7 bytes) (is_forced bytes)) (λ s. (address, blocks)))
+    (fits_either (operation == 0x35) _ _ (fits_some
+    (SynchronizeCache10 (field_at 4 2 bytes) (field_at 2 7 bytes) (is_immediate bytes)) (λ s. (address, blocks)))
     (fits_either (operation == 0x42) _ _ (fits_some (Unmap (field_at 2 7 bytes)) (λ s. blocks)) fits_none)))) in
     let twelve : Fits (named_twelve operation bytes) =
-    fits_either (operation == 0xA0) _ _ (fits_some (ReportLuns (slice_index bytes 2) (field_at 4 6 bytes)) (λ s. (s, number)))
+    fits_either (operation == 0xA0) _ _
+    (fits_some (ReportLuns (slice_index bytes 2) (field_at 4 6 bytes)) (λ s. (s, number)))
     (fits_either (operation == 0xA2) _ _ (fits_some (SecurityIn (field_at 4 6 bytes)) (λ s. number))
     (fits_either (operation == 0xB5) _ _ (fits_some (SecurityOut (field_at 4 6 bytes)) (λ s. number)) fits_none)) in
     fits_either (nat_lt operation 0x20) _ _ six (fits_either (nat_lt operation 0x60) _ _ ten twelve)

@@ -1,9 +1,14 @@
 -- What the fields of a CDB name, whether or not the bytes are written so.
-use Rattle.std.specs.Prelude.{◌≡◌, ◌≤◌, ℕ, List, Bool, not, nat_lt, ◌==◌, bit_and, slice_index, if◌then◌else◌, Option, Some, None}
+use Rattle.std.specs.Prelude.{◌≡◌, ◌≤◌, ℕ, List, Bool, not, nat_lt, ◌==◌, bit_and, slice_index, if◌then◌else◌, Option}
+use Rattle.std.specs.Prelude.{Some, None}
 use Rattle.ufs_spec.specs.Fields.{field_at}
-use Rattle.ufs_spec.specs.Cdbs.{cdb_bytes, IsCdb, test_unit_ready, request_sense, read_6, write_6, inquiry, read_capacity_10, read_10, write_10, synchronize_cache_10, unmap, report_luns, security_in, security_out}
+use Rattle.ufs_spec.specs.Cdbs.{cdb_bytes, IsCdb, test_unit_ready, request_sense, read_6, write_6, inquiry}
+use Rattle.ufs_spec.specs.Cdbs.{read_capacity_10, read_10, write_10, synchronize_cache_10, unmap, report_luns}
+use Rattle.ufs_spec.specs.Cdbs.{security_in, security_out}
 use Rattle.ufs_spec.specs.declared.scsi.Cdb.{Cdb}
-use Rattle.ufs_spec.specs.declared.scsi.Cdb.TheVariants.{TestUnitReady, RequestSense, Read6, Write6, Inquiry, ReadCapacity10, Read10, Write10, SynchronizeCache10, Unmap, ReportLuns, SecurityIn, SecurityOut}
+use Rattle.ufs_spec.specs.declared.scsi.Cdb.TheVariants.{TestUnitReady, RequestSense, Read6, Write6, Inquiry}
+use Rattle.ufs_spec.specs.declared.scsi.Cdb.TheVariants.{ReadCapacity10, Read10, Write10, SynchronizeCache10, Unmap}
+use Rattle.ufs_spec.specs.declared.scsi.Cdb.TheVariants.{ReportLuns, SecurityIn, SecurityOut}
 
 -- the address of READ(6) and WRITE(6): bits 4..0 of byte 1 and bytes 2 and 3, the lowest 21 bits of bytes 0..3
 abbrev pub six_address : List ℕ → ℕ

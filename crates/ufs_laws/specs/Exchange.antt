@@ -1,7 +1,9 @@
 -- What the laws of the exchange speak of: requests as they are heard, and tasks of commands that are known.
-use Rattle.std.specs.Prelude.{◌≡◌, ◌≢◌, ℕ, ◌+◌, ◌-◌, ◌==◌, min, Bool, true, List, [], ◌∷◌, length, map, Option, Some, None}
-use Rattle.std.specs.List.{list_any}
-use Rattle.ufs_spec.specs.Exchanges.{Answering, Deed, ForFrames, ForUnmap, Gathering, Purpose, Sending, Task, count_at, invalid_operation}
+use Rattle.std.specs.Prelude.{◌≡◌, ◌≢◌, ℕ, ◌+◌, ◌-◌, ◌==◌, min, Bool, true, List, [], ◌∷◌, length, map, Option, Some}
+use Rattle.std.specs.Prelude.{None}
+use Rattle.std.specs.List.{AllByRecursion, list_any}
+use Rattle.ufs_spec.specs.Exchanges.{Answering, Deed, ForFrames, ForUnmap, Gathering, Purpose, Sending, Task, count_at}
+use Rattle.ufs_spec.specs.Exchanges.{invalid_operation}
 use Rattle.ufs_spec.specs.Machine.{Call, Faulty, Heard, Host, IsHeard, Spelled}
 use Rattle.ufs_spec.specs.Refusals.{Request, State}
 use Rattle.ufs_spec.specs.Translation.{Pin}
@@ -20,8 +22,7 @@ IsSpoken call = Unit {0}
 
 -- each of the tasks
 abbrev pub Every : (Task → Type 0) → List Task → Type 0
-Every P [] = Unit {0}
-Every P (task ∷ tasks) = P task × Every P tasks
+Every = AllByRecursion
 
 -- it does not end with an invalid operation code; nothing is gathered for commands that are not built
 abbrev pub IsKnownDeed : Deed → Type 0

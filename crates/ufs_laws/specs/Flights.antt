@@ -11,4 +11,5 @@ die_of_flight (Erasing spot) = spot.die
 
 -- every job in flight lies on the die that has it
 abbrev pub JobsLieOnTheirDies : State → Type 0
-JobsLieOnTheirDies s = (die : ℕ) (flight : Flight) → s.translation.disk.flights die ≡ Some flight → die_of_flight flight ≡ die
+JobsLieOnTheirDies s = (die : ℕ) (flight : Flight) → s.translation.disk.flights die ≡ Some flight →
+    die_of_flight flight ≡ die

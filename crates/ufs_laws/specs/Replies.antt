@@ -1,7 +1,8 @@
 -- What a task and a short exchange need so that each of their replies is a message of the grammar.
 use Rattle.std.specs.List.{All}
-use Rattle.std.specs.Prelude.{◌≡◌, ◌<◌, ◌+◌, ◌*◌, ◌^◌, ℕ, List, length, slice_get, take, Some}
-use Rattle.ufs_spec.specs.Exchanges.{Answering, Awaiting, CheckCondition, Deed, Gathering, ReadBlock, Sending, Short, Status, Task, SendingBytes, bytes_sent}
+use Rattle.std.specs.Prelude.{◌≡◌, ◌<◌, ◌+◌, ◌*◌, ◌^◌, ℕ, length, slice_get, take, Some}
+use Rattle.ufs_spec.specs.Exchanges.{Answering, Awaiting, CheckCondition, Deed, Gathering, ReadBlock, Sending, Short}
+use Rattle.ufs_spec.specs.Exchanges.{Status, Task, SendingBytes, bytes_sent}
 use Rattle.ufs_spec.specs.Keys.{IsBlock}
 use Rattle.ufs_spec.specs.Messages.{IsByte, IsMessage, IsTransferred}
 use Rattle.ufs_spec.specs.Refusals.{State}

@@ -1,4 +1,5 @@
--- A run of a new device from end to end: its first mark is programmed, a block is written with FUA, and it is read. Each
+-- A run of a new device from end to end: its first mark is programmed, a block is written with FUA, and it is read.
+-- Each
 -- call is listed with its answer, and each state is what the calls before it lead to.
 use Rattle.std.specs.Prelude.{◌≡◌, ℕ, Bool, true, false, List, [], ◌∷◌, ◌++◌, length, Some, None, Ok}
 use Rattle.std.specs.Global.{Vec}
@@ -10,7 +11,8 @@ use Rattle.ufs_spec.specs.Dies.{blank_page}
 use Rattle.ufs_spec.specs.Disk.{job_of, Erasing, Flight, ForTask, Programming, Reading, Spot}
 use Rattle.ufs_spec.specs.Exchanges.{sense}
 use Rattle.ufs_spec.specs.Lives.{IsOpened, Life}
-use Rattle.ufs_spec.specs.Machine.{Allowed, Answer, Reply, Call, Done, OfDone, Take, OfTake, Heard, OfHost, Host, IsHeard, OfReply, Spelled, Turn, OfTurn, observe}
+use Rattle.ufs_spec.specs.Machine.{Allowed, Answer, Reply, Call, Done, OfDone, Take, OfTake, Heard, OfHost, Host}
+use Rattle.ufs_spec.specs.Machine.{IsHeard, OfReply, Spelled, Turn, OfTurn, observe}
 use Rattle.ufs_spec.specs.Messages.{spelling}
 use Rattle.ufs_spec.specs.Moves.{ReadRight, WentWell}
 use Rattle.ufs_spec.specs.Refusals.{State}

@@ -11,11 +11,25 @@ use Rattle.ufs_spec.specs.declared.scsi.Cdb.TheVariants as cdb
 
 -- a request of 4096 bytes: flags, LUN, task tag, and the command that its CDB spells
 abbrev pub asks : ℕ → ℕ → ℕ → Cdb → Request
-asks flags lun tag c = record { flags = flags; lun = lun; tag = tag; expected = 4096; bytes = cdb_bytes c; cdb = Some c }
+asks flags lun tag c = record {
+  flags = flags;
+  lun = lun;
+  tag = tag;
+  expected = 4096;
+  bytes = cdb_bytes c;
+  cdb = Some c;
+}
 
 -- one with a CDB that spells none
 abbrev pub spells_none : ℕ → ℕ → ℕ → List ℕ → Request
-spells_none flags lun tag bytes = record { flags = flags; lun = lun; tag = tag; expected = 4096; bytes = bytes; cdb = None }
+spells_none flags lun tag bytes = record {
+  flags = flags;
+  lun = lun;
+  tag = tag;
+  expected = 4096;
+  bytes = bytes;
+  cdb = None;
+}
 
 -- READ(10) of so many blocks from an address on, and WRITE(10) with FUA of one block
 abbrev pub read_at : ℕ → ℕ → Cdb

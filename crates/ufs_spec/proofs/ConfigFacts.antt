@@ -1,5 +1,6 @@
 -- What follows where numbers have no fault.
-use Rattle.std.proofs.Common.{◌≡◌, ℕ, ◌+◌, ◌*◌, ◌<◌, ◌≤◌, [], ◌∷◌, Bool, true, false, not, ltb, List, All, None, refl, arith}
+use Rattle.std.proofs.Common.{◌≡◌, ℕ, ◌+◌, ◌*◌, ◌<◌, ◌≤◌, [], ◌∷◌, Bool, true, false, not, ltb, List, All, None, refl}
+use Rattle.std.proofs.Common.{arith}
 use Rattle.std.specs.List.{list_all}
 use Rattle.std.specs.Int.{div_ceil}
 use Rattle.std.proofs.Math.Nat.{mul-le-mul_right}
@@ -8,7 +9,9 @@ use Rattle.std.proofs.lemmas.Grind.{div_ceil_times}
 use Rattle.std.proofs.lemmas.List.Sums.{AllPass-from_list_all, sum_by-le}
 use Rattle.ufs_spec.specs.declared.configs.UnitSpec.{UnitSpec}
 use Rattle.ufs_spec.specs.declared.configs.Numbers.{Numbers}
-use Rattle.ufs_spec.specs.Configs.{first_fault, numbers_of, is_between, unit_in_range, in_range, unit_blocks, pages_kept, blocks_needed, blocks_left, boot_count, IsConfig, UnitInRange, InRange, HasRoom}
+use Rattle.ufs_spec.specs.Configs.{first_fault, numbers_of, is_between, unit_in_range, in_range, unit_blocks}
+use Rattle.ufs_spec.specs.Configs.{pages_kept, blocks_needed, blocks_left, boot_count, IsConfig, UnitInRange, InRange}
+use Rattle.ufs_spec.specs.Configs.{HasRoom}
 
 -- a number that passes the test lies between the two
 pub from_test : (low high n : ℕ) → is_between low high n ≡ true → (low ≤ n) × (n ≤ high)
@@ -62,14 +65,16 @@ no_fault_tests true true c h = cc
 no_fault_tests true false true h = cc
 no_fault_tests false b c h = cc
 
-pub config_tests : (n : Numbers) → IsConfig n → (in_range n ≡ true) × (ltb (blocks_left n) (blocks_needed n) ≡ false) × (boot_count 1 n ≤ 1) × (boot_count 2 n ≤ 1)
+pub config_tests : (n : Numbers) → IsConfig n →
+    (in_range n ≡ true) × (ltb (blocks_left n) (blocks_needed n) ≡ false) × (boot_count 1 n ≤ 1) × (boot_count 2 n ≤ 1)
 config_tests n h =
     let tests = no_fault_tests _ _ _ h in
     let counts = or_parts _ _ tests.2 in
     (tests.0, tests.1, ltb-false _ _ counts.0, ltb-false _ _ counts.1)
 
 -- what fits rounded-up rows of p pages fits all rows
-fits_rows : (kept slots pages rest left rows : ℕ) → 0 < pages → div_ceil (kept + slots) pages + rest ≤ left → left ≤ rows → kept ≤ rows * pages
+fits_rows : (kept slots pages rest left rows : ℕ) → 0 < pages → div_ceil (kept + slots) pages + rest ≤ left →
+    left ≤ rows → kept ≤ rows * pages
 fits_rows kept slots pages rest left rows some fits bound =
     let whole = div_ceil_times (kept + slots) pages some in
     let few : div_ceil (kept + slots) pages ≤ rows = omega arith in
@@ -80,18 +85,25 @@ room n h =
     let tests = config_tests n h in
     let r = ranges n tests.0 in
     let enough = ltb-false _ _ tests.1 in
-    let kept = fits_rows (pages_kept n) (4 * n.slots) n.pages (4 * n.dies + 8) (blocks_left n) (n.dies * n.blocks) (omega (arith, r.has_pages)) (omega (arith, enough)) (omega arith) in
+    let kept = fits_rows (pages_kept n) (4 * n.slots) n.pages (4 * n.dies + 8) (blocks_left n) (n.dies * n.blocks)
+    (omega (arith, r.has_pages)) (omega (arith, enough)) (omega arith) in
     omega (arith, kept)
 
 -- units in their ranges have not many blocks
 pub unit_blocks_bound : (n : Numbers) → InRange n → unit_blocks n ≤ 16777216
 unit_blocks_bound n r =
-    omega (arith, sum_by-le (λ (u : UnitSpec). u.blocks) 2097152 n.units.items (λ k d lt. (r.each_unit k d lt).blocks_bound), mul-le-mul_right 2097152 r.units_bound)
+    omega (
+      arith,
+      sum_by-le (λ (u : UnitSpec). u.blocks) 2097152 n.units.items
+          (λ k d lt. (r.each_unit k d lt).blocks_bound),
+      mul-le-mul_right 2097152 r.units_bound,
+    )
 
 -- four dies of 16 blocks of 64 pages, three units with 256, 64 and 64 blocks, and boot units A and B
 pub row_units : List UnitSpec
 row_units =
-    record { blocks = 256; boot = 0; protect = 0 } ∷ record { blocks = 64; boot = 1; protect = 0 } ∷ record { blocks = 64; boot = 2; protect = 0 } ∷ []
+    record { blocks = 256; boot = 0; protect = 0 } ∷ record { blocks = 64; boot = 1; protect = 0 }
+    ∷ record { blocks = 64; boot = 2; protect = 0 } ∷ []
 
 -- they are a configuration: of 60 blocks 35 are needed
 pub row_is_config : IsConfig (numbers_of 4 16 64 row_units 1 64 4)

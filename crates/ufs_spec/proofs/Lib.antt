@@ -1,5 +1,11 @@
 pub mod CdbsBack
+pub mod CellKinds
 pub mod ConfigFacts
+pub mod Equalities
 pub mod Facts
+pub mod FieldRanges
+pub mod Lists
 pub mod PlainFacts
 pub mod ReadBack
+pub mod SealedPages
+pub mod Updates

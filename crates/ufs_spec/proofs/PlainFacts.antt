@@ -1,19 +1,25 @@
 -- What writes leave of the units, and that commands keep the shape.
-use Rattle.std.proofs.Common.{◌≡◌, ℕ, ◌+◌, ◌*◌, ◌<◌, ◌≤◌, List, [], ◌∷◌, ◌++◌, All, length, drop, map, replicate, get_or, slice_index_or, slice_set, refl, sym, ap, ◌∙◌, subst, arith, drop-cons, append_assoc, add-one, suc}
+use Rattle.std.proofs.Common.{◌≡◌, ℕ, ◌+◌, ◌*◌, ◌<◌, ◌≤◌, List, [], ◌∷◌, ◌++◌, All, length, drop, map, replicate}
+use Rattle.std.proofs.Common.{get_or, slice_index_or, slice_set, refl, sym, ap, ◌∙◌, subst, arith, drop-cons}
+use Rattle.std.proofs.Common.{append_assoc, add-one, suc}
 use Rattle.std.proofs.Math.ListN.{set}
-use Rattle.std.proofs.lemmas.List.{length-map, length-replicate, map-set, get_or-map, set-get_or, set_at, set_split, with_items_is}
+use Rattle.std.proofs.lemmas.List.{length-map, length-replicate, map-set, get_or-map, set-get_or, set_at, set_split}
+use Rattle.std.proofs.lemmas.List.{with_items_is}
 use Rattle.std.proofs.lemmas.Grind.{common_steps, replicate_next}
 use Rattle.std.specs.Vec.{with_items}
 use Rattle.std.specs.declared.vec.Vec.{Vec}
 use Rattle.ufs_spec.specs.declared.configs.UnitSpec.{UnitSpec}
 use Rattle.ufs_spec.specs.declared.configs.Numbers.{Numbers}
-use Rattle.ufs_spec.specs.Commands.{Command, Write, Zero, SetKey, RpmbWrite, SetBoot, SetPermanent}
-use Rattle.ufs_spec.specs.Plain.{Plain, zero_block, zero_area, area_len, zero, with_part, apply, after, Shape, shape_of, shape_of_numbers, LiesWithin}
+use Rattle.ufs_spec.specs.Keys.{CanApplyAll}
+use Rattle.ufs_spec.specs.Commands.{Command, Write, Zero, RpmbWrite}
+use Rattle.ufs_spec.specs.Plain.{Plain, zero_block, zero_area, area_len, zero, with_part, apply, after, Shape, shape_of}
+use Rattle.ufs_spec.specs.Plain.{shape_of_numbers, LiesWithin}
 
 -- Lists
 
 -- one more of the same over the front of a list
-pub fill_next : {X : Type 0} (n : ℕ) (v : X) (xs : List X) → n < length xs → set (replicate n v ++ drop n xs) n v ≡ replicate (n + 1) v ++ drop (n + 1) xs
+pub fill_next : {X : Type 0} (n : ℕ) (v : X) (xs : List X) → n < length xs →
+    set (replicate n v ++ drop n xs) n v ≡ replicate (n + 1) v ++ drop (n + 1) xs
 fill_next n v xs lt =
     let front = replicate n v in
     let step = drop-cons xs n v lt in
@@ -27,32 +33,41 @@ fill_next n v xs lt =
 pub one_part : {X : Type 0} (at : ℕ) (v : X) (xs : List X) → at < length xs → set xs at v ≡ with_part at (v ∷ []) xs
 one_part at v xs lt = grind (arith, common_steps, set_split)
 
-pub length-with_part : {X : Type 0} (at : ℕ) (new old : List X) → at + length new ≤ length old → length (with_part at new old) ≡ length old
+pub length-with_part : {X : Type 0} (at : ℕ) (new old : List X) → at + length new ≤ length old →
+    length (with_part at new old) ≡ length old
 length-with_part at new old within = grind (arith, common_steps)
 
 -- Units
 
 -- the blocks of a unit are those in its vector
-pub unit_items : {X Z : Type 0} (units : List (Vec X Z)) (unit : ℕ) (v : Vec X Z) → unit < length (map (λ (b : Vec X Z). b.items) units) → v ≡ get_or units unit v → get_or (map (λ (b : Vec X Z). b.items) units) unit [] ≡ v.items
+pub unit_items : {X Z : Type 0} (units : List (Vec X Z)) (unit : ℕ) (v : Vec X Z) →
+    unit < length (map (λ (b : Vec X Z). b.items) units) → v ≡ get_or units unit v →
+    get_or (map (λ (b : Vec X Z). b.items) units) unit [] ≡ v.items
 unit_items {X} {Z} units unit v there here =
     let lt : unit < length units = omega (arith, length-map units (λ (b : Vec X Z). b.items)) in
     let at = get_or-map (λ (b : Vec X Z). b.items) units unit v [] lt in
     cc
 
 -- the vectors of blocks with one replaced, each as its list
-pub put_unit : {X Z : Type 0} (units : List (Vec X Z)) (unit : ℕ) (v w : Vec X Z) (new : List X → List X) → unit < length (map (λ (b : Vec X Z). b.items) units) → v ≡ get_or units unit v → w.items ≡ new v.items → map (λ (b : Vec X Z). b.items) (set units unit w) ≡ set (map (λ (b : Vec X Z). b.items) units) unit (new (get_or (map (λ (b : Vec X Z). b.items) units) unit []))
+pub put_unit : {X Z : Type 0} (units : List (Vec X Z)) (unit : ℕ) (v w : Vec X Z) (new : List X → List X) →
+    unit < length (map (λ (b : Vec X Z). b.items) units) → v ≡ get_or units unit v → w.items ≡ new v.items →
+    map (λ (b : Vec X Z). b.items) (set units unit w) ≡ set (map (λ (b : Vec X Z). b.items) units) unit
+    (new (get_or (map (λ (b : Vec X Z). b.items) units) unit []))
 put_unit {X} {Z} units unit v w new there here e =
     let at = unit_items units unit v there here in
     let changed = map-set (λ (b : Vec X Z). b.items) units unit w in
     cc
 
 -- a vector of blocks after a write through its slice
-pub put_blocks : {X Z : Type 0} (v : Vec X Z) (slice written : List X) (new : List X → List X) → slice ≡ v.items → length slice ≡ v.len → length written ≡ length slice → written ≡ new slice → (with_items v written).items ≡ new v.items
+pub put_blocks : {X Z : Type 0} (v : Vec X Z) (slice written : List X) (new : List X → List X) → slice ≡ v.items →
+    length slice ≡ v.len → length written ≡ length slice → written ≡ new slice →
+    (with_items v written).items ≡ new v.items
 put_blocks v slice written new same len kept e = with_items_is v written (omega arith) ∙ (e ∙ ap new same)
 
 -- Shapes
 
-pub new_blocks : (units : List UnitSpec) → map length (map (λ u. replicate u.blocks zero_block) units) ≡ map (λ u. u.blocks) units
+pub new_blocks : (units : List UnitSpec) →
+    map length (map (λ u. replicate u.blocks zero_block) units) ≡ map (λ u. u.blocks) units
 new_blocks [] = refl
 new_blocks (u ∷ us) =
     let first = length-replicate u.blocks zero_block in
@@ -70,7 +85,9 @@ new_shape n =
     cc
 
 -- a part that lies within a unit changes no count of blocks
-pub kept_blocks : (units : List (List (List ℕ))) (unit address : ℕ) (blocks : List (List ℕ)) → unit < length (map length units) → address + length blocks ≤ slice_index_or (map length units) unit 0 → map length (slice_set units unit (with_part address blocks (slice_index_or units unit []))) ≡ map length units
+pub kept_blocks : (units : List (List (List ℕ))) (unit address : ℕ) (blocks : List (List ℕ)) →
+    unit < length (map length units) → address + length blocks ≤ slice_index_or (map length units) unit 0 →
+    map length (slice_set units unit (with_part address blocks (slice_index_or units unit []))) ≡ map length units
 kept_blocks units unit address blocks there within =
     let old = slice_index_or units unit [] in
     let lt : unit < length units = omega (arith, length-map units length) in
@@ -88,17 +105,21 @@ kept_shape p (Zero unit address count) within =
     let len = length-replicate count zero_block in
     let same = kept_blocks p.units unit address (replicate count zero_block) within.0 (omega (arith, within.3, len)) in
     cc
-kept_shape p (SetKey bytes) within = refl
 kept_shape p (RpmbWrite address bytes) within =
     let same = length-with_part (256 * address) bytes p.area within.1 in
     cc
-kept_shape p (SetBoot boot) within = refl
-kept_shape p SetPermanent within = refl
+kept_shape p other within = refl
 
-pub kept_shapes : (p : Plain) (cs : List Command) → All (LiesWithin (shape_of p)) cs → shape_of (after p cs) ≡ shape_of p
+pub kept_shapes : (p : Plain) (cs : List Command) → All (LiesWithin (shape_of p)) cs →
+    shape_of (after p cs) ≡ shape_of p
 kept_shapes p [] within = refl
 kept_shapes p (c ∷ cs) within =
     let kept = kept_shape p c (within 0 c (omega (arith, refl {a = length (c ∷ cs)}))) in
     let P : Shape → Type 0 = λ s. All (LiesWithin s) cs in
     let rest : All (LiesWithin (shape_of p)) cs = λ k d lt. within (suc k) d (omega arith) in
     kept_shapes (apply p c) cs (subst P (sym kept) rest) ∙ kept
+
+-- commands that can be applied one after another keep the shape
+pub shape_after : (p : Plain) (cs : List Command) → CanApplyAll p cs → shape_of (after p cs) ≡ shape_of p
+shape_after p [] can = refl
+shape_after p (c ∷ cs) can = shape_after (apply p c) cs can.2 ∙ kept_shape p c can.1.0

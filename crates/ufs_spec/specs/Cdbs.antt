@@ -1,11 +1,15 @@
 -- How SCSI commands and sense data are written as bytes, how much data a command has and in which direction, and what
--- is left of what was expected (SPC, SBC, JESD220). SPC is SPC-4 everywhere, whose version INQUIRY tells, and SBC is SBC-3;
+-- is left of what was expected (SPC, SBC, JESD220). SPC is SPC-4 everywhere, whose version INQUIRY tells, and SBC is
+-- SBC-3;
 -- they are cited by the titles of their clauses.
-use Rattle.std.specs.Prelude.{◌≡◌, ◌<◌, ◌≤◌, ◌+◌, ◌-◌, ◌*◌, ◌^◌, ◌==◌, ℕ, min, nat_lt, Bool, true, List, [], ◌∷◌, ◌++◌, replicate, slice_index, if◌then◌else◌}
+use Rattle.std.specs.Prelude.{◌≡◌, ◌<◌, ◌≤◌, ◌+◌, ◌-◌, ◌*◌, ◌^◌, ◌==◌, ℕ, min, nat_lt, Bool, true, List, [], ◌∷◌, ◌++◌}
+use Rattle.std.specs.Prelude.{replicate, slice_index, if◌then◌else◌}
 use Rattle.byteorder.specs.Endian.{big_bytes}
 use Rattle.ufs_spec.specs.Messages.{IsAmong}
 use Rattle.ufs_spec.specs.declared.scsi.Cdb.{Cdb}
-use Rattle.ufs_spec.specs.declared.scsi.Cdb.TheVariants.{TestUnitReady, RequestSense, Read6, Write6, Inquiry, ReadCapacity10, Read10, Write10, SynchronizeCache10, Unmap, ReportLuns, SecurityIn, SecurityOut}
+use Rattle.ufs_spec.specs.declared.scsi.Cdb.TheVariants.{TestUnitReady, RequestSense, Read6, Write6, Inquiry}
+use Rattle.ufs_spec.specs.declared.scsi.Cdb.TheVariants.{ReadCapacity10, Read10, Write10, SynchronizeCache10, Unmap}
+use Rattle.ufs_spec.specs.declared.scsi.Cdb.TheVariants.{ReportLuns, SecurityIn, SecurityOut}
 use Rattle.ufs_spec.specs.declared.scsi.Sense.{Sense}
 
 -- ## The operation codes (SPC, annex on operation codes)
@@ -233,7 +237,8 @@ carried expected length = min expected length
 
 -- ## Sense data
 
--- fixed sense data of eighteen bytes (SPC, fixed format sense data): 70h, the sense key in byte 2, ten further bytes, the additional
+-- fixed sense data of eighteen bytes (SPC, fixed format sense data): 70h, the sense key in byte 2, ten further bytes,
+-- the additional
 -- sense code in byte 12 and its qualifier in byte 13
 abbrev pub fixed_sense : Sense → List ℕ
 fixed_sense sense =

@@ -1,4 +1,5 @@
--- What pages open to. A page counts as a page of a group, or as a mark, where it is the sealed page of a tag and a block
+-- What pages open to. A page counts as a page of a group, or as a mark, where it is the sealed page of a tag and a
+-- block
 -- whose data keep the rules of its kind; any other page, a blank one and a torn one too, is nothing (this profile).
 use Rattle.std.specs.Prelude.{◌≡◌, ◌≢◌, ℕ, ◌<◌, ◌≤◌, ◌^◌, ◌==◌, ◌&&◌, Bool, List, All, length, Option, Some}
 use Rattle.ufs_spec.specs.Keys.{IsBlock, IsSettingsBody}

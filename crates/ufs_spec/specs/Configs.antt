@@ -1,5 +1,6 @@
 -- Which numbers make a configuration (this profile).
-use Rattle.std.specs.Prelude.{◌≡◌, ℕ, ◌+◌, ◌-◌, ◌*◌, ◌≤◌, ◌==◌, nat_lt, nat_le, ◌&&◌, ◌||◌, Bool, true, false, List, All, sum_by, count_by, Option, Some, None, not}
+use Rattle.std.specs.Prelude.{◌≡◌, ℕ, ◌+◌, ◌-◌, ◌*◌, ◌≤◌, ◌==◌, nat_lt, nat_le, ◌&&◌, ◌||◌, Bool, true, false, List}
+use Rattle.std.specs.Prelude.{All, sum_by, count_by, Option, Some, None, not}
 use Rattle.std.specs.List.{list_all}
 use Rattle.std.specs.Int.{div_ceil}
 use Rattle.arrayvec.specs.ArrayVec.{array_vec_len}
@@ -12,7 +13,15 @@ use Rattle.ufs_spec.specs.declared.faults.ConfigFault.TheVariants.{Range, TooLit
 -- the numbers by name, in the order in which a configuration lists them
 abbrev pub numbers_of : ℕ → ℕ → ℕ → List UnitSpec → ℕ → ℕ → ℕ → Numbers
 numbers_of dies blocks pages units rpmb slots spare =
-    record { dies = dies; blocks = blocks; pages = pages; units = record { items = units }; rpmb = rpmb; slots = slots; spare = spare }
+    record {
+      dies = dies;
+      blocks = blocks;
+      pages = pages;
+      units = record { items = units };
+      rpmb = rpmb;
+      slots = slots;
+      spare = spare;
+    }
 
 -- Ranges
 

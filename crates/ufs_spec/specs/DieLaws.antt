@@ -6,7 +6,9 @@ use Rattle.ufs_spec.specs.declared.flash.Job.{Job}
 use Rattle.ufs_spec.specs.declared.flash.Job.TheVariants as job
 use Rattle.ufs_spec.specs.declared.flash.Outcome.{Outcome}
 use Rattle.ufs_spec.specs.declared.flash.Outcome.TheVariants as outcome
-use Rattle.ufs_spec.specs.Dies.{DieState, IsOfSize, LiesOnDie, page_at, pages_of, ready_page, is_bad_block, blank_page, with_block, with_page, with_bad, die_programmed, die_erased, IsFailedProgram, IsFailedErase, power_cycle_ended, new_die, Did, after_job, outcome_of}
+use Rattle.ufs_spec.specs.Dies.{DieState, IsOfSize, LiesOnDie, page_at, pages_of, ready_page, is_bad_block, blank_page}
+use Rattle.ufs_spec.specs.Dies.{with_block, with_page, with_bad, die_programmed, die_erased, IsFailedProgram}
+use Rattle.ufs_spec.specs.Dies.{IsFailedErase, power_cycle_ended, new_die, Did, after_job, outcome_of}
 
 -- a new die has its size, and each of its pages is blank
 
@@ -27,33 +29,40 @@ new_die_waits blocks pages b = grind (arith, common_steps)
 pub with_page_there : (s : DieState) (b p : ℕ) (x : Page) → LiesOnDie s b p → page_at (with_page s b p x) b p ≡ x
 with_page_there s b p x h = grind (arith, common_steps)
 
-pub with_page_elsewhere_in_block : (s : DieState) (b p q : ℕ) (x : Page) → q ≢ p → page_at (with_page s b p x) b q ≡ page_at s b q
+pub with_page_elsewhere_in_block : (s : DieState) (b p q : ℕ) (x : Page) → q ≢ p →
+    page_at (with_page s b p x) b q ≡ page_at s b q
 with_page_elsewhere_in_block s b p q x h = grind (arith, common_steps)
 
-pub with_block_elsewhere : (s : DieState) (b c q : ℕ) (x : List Page) → c ≢ b → page_at (with_block s b x) c q ≡ page_at s c q
+pub with_block_elsewhere : (s : DieState) (b c q : ℕ) (x : List Page) → c ≢ b →
+    page_at (with_block s b x) c q ≡ page_at s c q
 with_block_elsewhere s b c q x h = grind (arith, common_steps)
 
 -- no job changes the size
 
 -- each block has so many pages
-pub pages_in : (s : DieState) (b blocks pages : ℕ) → b < blocks → IsOfSize blocks pages s → length (pages_of s b) ≡ pages
+pub pages_in : (s : DieState) (b blocks pages : ℕ) → b < blocks → IsOfSize blocks pages s →
+    length (pages_of s b) ≡ pages
 pages_in s b blocks pages less h = grind (arith, common_steps)
 
-pub has_page : (s : DieState) (b p blocks pages : ℕ) → b < blocks → p < pages → IsOfSize blocks pages s → LiesOnDie s b p
+pub has_page : (s : DieState) (b p blocks pages : ℕ) → b < blocks → p < pages → IsOfSize blocks pages s →
+    LiesOnDie s b p
 has_page s b p blocks pages b_in p_in h =
     let e : length (pages_of s b) ≡ pages = pages_in s b blocks pages b_in h in
     (omega arith, omega arith)
 
-pub with_block_size : (s : DieState) (b blocks pages : ℕ) (x : List Page) → length x ≡ pages → IsOfSize blocks pages s → IsOfSize blocks pages (with_block s b x)
+pub with_block_size : (s : DieState) (b blocks pages : ℕ) (x : List Page) → length x ≡ pages → IsOfSize blocks pages s →
+    IsOfSize blocks pages (with_block s b x)
 with_block_size s b blocks pages x e h = grind (arith, common_steps)
 
-pub with_page_size : (s : DieState) (b p blocks pages : ℕ) (x : Page) → IsOfSize blocks pages s → IsOfSize blocks pages (with_page s b p x)
+pub with_page_size : (s : DieState) (b p blocks pages : ℕ) (x : Page) → IsOfSize blocks pages s →
+    IsOfSize blocks pages (with_page s b p x)
 with_page_size s b p blocks pages x h = grind (arith, common_steps)
 
 pub with_bad_size : (s : DieState) (b blocks pages : ℕ) → IsOfSize blocks pages s → IsOfSize blocks pages (with_bad s b)
 with_bad_size s b blocks pages h = grind (arith, common_steps)
 
-pub programmed_size : (s : DieState) (b p blocks pages : ℕ) (x : Page) → IsOfSize blocks pages s → IsOfSize blocks pages (die_programmed s b p x)
+pub programmed_size : (s : DieState) (b p blocks pages : ℕ) (x : Page) → IsOfSize blocks pages s →
+    IsOfSize blocks pages (die_programmed s b p x)
 programmed_size s b p blocks pages x h = grind (arith, common_steps)
 
 pub erased_size : (s : DieState) (b blocks pages : ℕ) → IsOfSize blocks pages s → IsOfSize blocks pages (die_erased s b)
@@ -62,23 +71,29 @@ erased_size s b blocks pages h = grind (arith, common_steps)
 pub erased_blank : (s : DieState) (b p : ℕ) → b < length s.blocks → page_at (die_erased s b) b p ≡ blank_page
 erased_blank s b p h = grind (arith, common_steps)
 
-pub power_cycle_size : (s : DieState) (blocks pages : ℕ) → IsOfSize blocks pages s → IsOfSize blocks pages (power_cycle_ended s)
+pub power_cycle_size : (s : DieState) (blocks pages : ℕ) → IsOfSize blocks pages s →
+    IsOfSize blocks pages (power_cycle_ended s)
 power_cycle_size s blocks pages h = grind (arith, common_steps)
 
-pub failed_program_size : (s t : DieState) (b p blocks pages : ℕ) (x : Page) → IsFailedProgram s b p x t → IsOfSize blocks pages s → IsOfSize blocks pages t
-failed_program_size s t b p blocks pages x h z = rw h.2 (with_bad_size (with_page s b p h.0) b blocks pages (with_page_size s b p blocks pages h.0 z))
+pub failed_program_size : (s t : DieState) (b p blocks pages : ℕ) (x : Page) → IsFailedProgram s b p x t →
+    IsOfSize blocks pages s → IsOfSize blocks pages t
+failed_program_size s t b p blocks pages x h z =
+    rw h.2 (with_bad_size (with_page s b p h.0) b blocks pages (with_page_size s b p blocks pages h.0 z))
 
-pub failed_erase_size : (s t : DieState) (b blocks pages : ℕ) → b < blocks → IsFailedErase s b t → IsOfSize blocks pages s → IsOfSize blocks pages t
+pub failed_erase_size : (s t : DieState) (b blocks pages : ℕ) → b < blocks → IsFailedErase s b t →
+    IsOfSize blocks pages s → IsOfSize blocks pages t
 failed_erase_size s t b blocks pages less h z =
     let e : length h.0 ≡ pages = h.1 ∙ pages_in s b blocks pages less z in
     rw h.3 (with_bad_size (with_block s b h.0) b blocks pages (with_block_size s b blocks pages h.0 e z))
 
 -- which page may be programmed next
 
-pub programmed_next : (s : DieState) (b p : ℕ) (x : Page) → b < length s.ready → ready_page (die_programmed s b p x) b ≡ Some (p + 1)
+pub programmed_next : (s : DieState) (b p : ℕ) (x : Page) → b < length s.ready →
+    ready_page (die_programmed s b p x) b ≡ Some (p + 1)
 programmed_next s b p x h = grind (arith, common_steps)
 
-pub programmed_next_elsewhere : (s : DieState) (b p c : ℕ) (x : Page) → c ≢ b → ready_page (die_programmed s b p x) c ≡ ready_page s c
+pub programmed_next_elsewhere : (s : DieState) (b p c : ℕ) (x : Page) → c ≢ b →
+    ready_page (die_programmed s b p x) c ≡ ready_page s c
 programmed_next_elsewhere s b p c x h = grind (arith, common_steps)
 
 pub erased_next : (s : DieState) (b : ℕ) → b < length s.ready → ready_page (die_erased s b) b ≡ Some 0
@@ -109,7 +124,8 @@ with_bad_next_elsewhere s b c h = grind (arith, common_steps)
 no_less : (n : ℕ) → n < n → ⊥
 no_less n h = omega arith
 
-pub did_well : (n : ℕ) (s t : DieState) (j : Job) (o : Outcome) → Did n n s j o t → (o ≡ outcome_of s j) × (t ≡ after_job s j)
+pub did_well : (n : ℕ) (s t : DieState) (j : Job) (o : Outcome) → Did n n s j o t → (o ≡ outcome_of s j)
+    × (t ≡ after_job s j)
 did_well n s t (job.Read place) (outcome.Read page) h = (ap outcome.Read h.0, h.1)
 did_well n s t (job.Read place) outcome.ReadFailed h = absurd (no_less n h.1)
 did_well n s t (job.Read place) outcome.Done h = absurd h
@@ -125,7 +141,8 @@ did_well n s t (job.Erase die block) outcome.ReadFailed h = absurd h
 
 -- a job that may be asked leaves the size
 
-pub after_job_size : (s : DieState) (j : Job) (blocks pages : ℕ) → IsOfSize blocks pages s → IsOfSize blocks pages (after_job s j)
+pub after_job_size : (s : DieState) (j : Job) (blocks pages : ℕ) → IsOfSize blocks pages s →
+    IsOfSize blocks pages (after_job s j)
 after_job_size s (job.Read place) blocks pages h = h
 after_job_size s (job.Program place page) blocks pages h = programmed_size s place.block place.page blocks pages page h
 after_job_size s (job.Erase die block) blocks pages h = erased_size s block blocks pages h

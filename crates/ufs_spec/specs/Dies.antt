@@ -1,5 +1,6 @@
 -- Flash dies: what they hold, what they are asked to do, and what each ending of a job makes of them (this profile).
-use Rattle.std.specs.Prelude.{◌≡◌, ℕ, ◌+◌, ◌<◌, ◌≤◌, Bool, true, false, List, [], Option, Some, None, length, replicate, slice_index_or, slice_set}
+use Rattle.std.specs.Prelude.{◌≡◌, ℕ, ◌+◌, ◌<◌, ◌≤◌, Bool, true, false, List, [], Option, Some, None, length, replicate}
+use Rattle.std.specs.Prelude.{slice_index_or, slice_set}
 use Rattle.std.specs.List.{All}
 use Rattle.ufs_spec.specs.Pages.{MayBeLeft}
 use Rattle.ufs_spec.specs.declared.flash.Page.{Page}
@@ -105,7 +106,8 @@ abbrev pub IsFailedErase : DieState → ℕ → DieState → Type 0
 IsFailedErase before block after =
     (left : List Page)
     × (length left ≡ length (pages_of before block))
-    × ((page : ℕ) → page < length left → MayBeLeft (page_at before block page) blank_page (slice_index_or left page blank_page))
+    × ((page : ℕ) → page < length left →
+    MayBeLeft (page_at before block page) blank_page (slice_index_or left page blank_page))
     × (after ≡ with_bad (with_block before block left) block)
 
 -- the die after a finished job

@@ -1,7 +1,8 @@
 -- What is known of the dies in one life: what their pages are, which programs have ended well, how far each block is,
 -- the job of each die, and which blocks are being erased; what the endings of jobs and a stop make of them; and
 -- which pages may go (this profile).
-use Rattle.std.specs.Prelude.{◌≡◌, ◌≢◌, ◌⊎◌, ℕ, ◌+◌, ◌<◌, ◌≤◌, ◌==◌, ◌&&◌, Bool, true, false, if◌then◌else◌, List, Option, Some, None}
+use Rattle.std.specs.Prelude.{◌≡◌, ◌≢◌, ◌⊎◌, ℕ, ◌+◌, ◌<◌, ◌≤◌, ◌==◌, ◌&&◌, Bool, true, false, if◌then◌else◌, List}
+use Rattle.std.specs.Prelude.{Option, Some, None}
 use Rattle.ufs_spec.specs.Cells.{Array, Cell, Cells, GroupPage, Mark, MarkPage, Nothing, key_of, mark_tag, same_place}
 use Rattle.ufs_spec.specs.Dies.{blank_page}
 use Rattle.ufs_spec.specs.Kept.{IsFenced}

@@ -1,6 +1,7 @@
 -- What is open between a host and the device: tasks, short exchanges, and what lasts until the next power cycle
 -- (JESD220, 10.7 UPIUs, 12.4 RPMB; SAM, tasks).
-use Rattle.std.specs.Prelude.{ℕ, ◌-◌, ◌*◌, ◌==◌, ◌&&◌, min, not, Bool, true, false, if◌then◌else◌, List, [], ◌∷◌, filter, find, length, take, Option, Some, None}
+use Rattle.std.specs.Prelude.{ℕ, ◌-◌, ◌*◌, ◌==◌, ◌&&◌, min, not, Bool, true, false, if◌then◌else◌, List, [], ◌∷◌}
+use Rattle.std.specs.Prelude.{filter, find, length, take, Option, Some, None}
 use Rattle.ufs_spec.specs.Cdbs.{Residual, carried, fixed_sense, residual_of}
 use Rattle.ufs_spec.specs.Frames.{Frame}
 use Rattle.ufs_spec.specs.declared.messages.Message.{Message}

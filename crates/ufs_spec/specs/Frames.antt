@@ -18,7 +18,8 @@ pub record Frame : Type 0 where
 -- the bytes that the MAC covers: from the data on
 abbrev pub covered_bytes : Frame → List ℕ
 covered_bytes f =
-    f.payload ++ f.nonce ++ big_bytes 4 f.counter ++ big_bytes 2 f.address ++ big_bytes 2 f.count ++ big_bytes 2 f.result
+    f.payload ++ f.nonce ++ big_bytes 4 f.counter ++ big_bytes 2 f.address ++ big_bytes 2 f.count ++ big_bytes 2
+    f.result
     ++ big_bytes 2 f.kind
 
 -- the 512 bytes of a frame

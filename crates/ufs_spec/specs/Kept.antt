@@ -72,11 +72,13 @@ pub record IsKept (c : Cells) (m : Option Mark) (k : ℕ) : Type 0 where
 -- Contents
 
 -- of the pages of the key that count and have a number below the bound, the one there has the greatest
-pub record IsNewest (c : Cells) (m : Option Mark) (bound : ℕ) (k : Key) (p : Place) (t : Tag) (body : List ℕ) : Type 0 where
-  pub counts : Counts c m p t body
-  pub key : key_of t ≡ k
-  pub within : t.number < bound
-  pub greatest : (q : Place) (u : Tag) (other : List ℕ) → Counts c m q u other → key_of u ≡ k → u.number < bound → u.number ≤ t.number
+pub record IsNewest (c : Cells) (m : Option Mark) (bound : ℕ) (k : Key) (p : Place) (t : Tag) (body : List ℕ) : Type 0
+  where
+    pub counts : Counts c m p t body
+    pub key : key_of t ≡ k
+    pub within : t.number < bound
+    pub greatest : (q : Place) (u : Tag) (other : List ℕ) → Counts c m q u other → key_of u ≡ k → u.number < bound →
+        u.number ≤ t.number
 
 -- no page of the key counts and has a number below the bound
 abbrev pub HasNone : Cells → Option Mark → ℕ → Key → Type 0

@@ -1,7 +1,9 @@
 -- Keys name what a device holds piece by piece, each piece as long as a page: a block of a unit, 4096 bytes of the
 -- RPMB area, or the settings with the RPMB key and counter. A plain state is the same as a content for each key
 -- (this profile).
-use Rattle.std.specs.Prelude.{◌≡◌, ℕ, zero, suc, ◌+◌, ◌-◌, ◌*◌, ◌/◌, ◌<◌, ◌≤◌, ◌^◌, ◌==◌, ◌&&◌, Bool, true, false, if◌then◌else◌, List, [], ◌∷◌, ◌++◌, All, length, take, drop, map, replicate, slice_index, slice_index_or, Option, Some, None}
+use Rattle.std.specs.Prelude.{◌≡◌, ℕ, zero, suc, ◌+◌, ◌-◌, ◌*◌, ◌/◌, ◌<◌, ◌≤◌, ◌^◌, ◌==◌, ◌&&◌, Bool, true, false}
+use Rattle.std.specs.Prelude.{if◌then◌else◌, List, [], ◌∷◌, ◌++◌, All, length, take, drop, map, replicate, slice_index}
+use Rattle.std.specs.Prelude.{slice_index_or, Option, Some, None}
 use Rattle.std.specs.List.{flat_map}
 use Rattle.byteorder.specs.Endian.{big_bytes}
 use Rattle.ufs_spec.specs.Fields.{field_at}
@@ -32,7 +34,8 @@ area_pages s = s.area / 4096
 
 -- the device has the key
 pub data IsKey (s : Shape) : Key → Type 0 where
-  IsData : (unit address : ℕ) → unit < length s.blocks → address < slice_index_or s.blocks unit 0 → IsKey s (data_key unit address)
+  IsData : (unit address : ℕ) → unit < length s.blocks → address < slice_index_or s.blocks unit 0 →
+      IsKey s (data_key unit address)
   IsArea : (page : ℕ) → page < area_pages s → IsKey s (area_key page)
   IsSettings : IsKey s settings_key
 
@@ -120,7 +123,8 @@ key_in body = if slice_index body 2 == 1 then Some (take 32 (drop 4 body)) else 
 abbrev pub plain_of : Shape → Contents → Plain
 plain_of s f =
     record {
-      units = map (λ unit. map (λ address. f (data_key unit address)) (below (slice_index_or s.blocks unit 0))) (below (length s.blocks));
+      units = map (λ unit. map (λ address. f (data_key unit address)) (below (slice_index_or s.blocks unit 0)))
+          (below (length s.blocks));
       boot = slice_index (f settings_key) 0;
       permanent = slice_index (f settings_key) 1 == 1;
       key = key_in (f settings_key);

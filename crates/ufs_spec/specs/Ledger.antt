@@ -1,5 +1,7 @@
 -- What is known in one life of numbers, groups and contents, whatever pages they stand on (this profile).
-use Rattle.std.specs.Prelude.{ℕ, zero, suc, ◌+◌, ◌-◌, ◌==◌, ◌&&◌, nat_le, nat_lt, Bool, true, false, if◌then◌else◌, is_some, List, [], ◌∷◌, drop, length, position, slice_get, take, Option, Some, None, option_and_then, option_map}
+use Rattle.std.specs.Prelude.{ℕ, zero, suc, ◌+◌, ◌-◌, ◌==◌, ◌&&◌, nat_le, nat_lt, Bool, true, false, if◌then◌else◌}
+use Rattle.std.specs.Prelude.{is_some, List, [], ◌∷◌, drop, length, position, slice_get, take, Option, Some, None}
+use Rattle.std.specs.Prelude.{option_and_then, option_map}
 use Rattle.ufs_spec.specs.Cells.{Mark}
 use Rattle.ufs_spec.specs.Keys.{Contents, Group, Item, put_groups, same_key}
 use Rattle.ufs_spec.specs.declared.flash.Key.{Key}

@@ -1,14 +1,18 @@
--- Lives: what happens to a device with its dies from an opening to the next stop, and over any number of stops. A stop may
+-- Lives: what happens to a device with its dies from an opening to the next stop, and over any number of stops. A stop
+-- may
 -- come at any moment, inside any program or erase. The last definition is the promise of the product (this profile).
-use Rattle.std.specs.Prelude.{◌≡◌, ◌≢◌, ◌⊎◌, ℕ, ◌≤◌, Bool, true, false, List, [], ◌∷◌, ◌++◌, AllPairs, Contains, length, slice_get, slice_index_or, take, Option, Some, None, option_map}
+use Rattle.std.specs.Prelude.{◌≡◌, ◌≢◌, ◌⊎◌, ℕ, ◌≤◌, Bool, true, false, List, [], ◌∷◌, ◌++◌, AllPairs, Contains, length}
+use Rattle.std.specs.Prelude.{slice_get, slice_index_or, take, Option, Some, None, option_map}
 use Rattle.std.specs.List.{All}
 use Rattle.ufs_spec.specs.Cells.{Array, Cell, Cells, Shows}
 use Rattle.ufs_spec.specs.Dies.{DieState, IsOfSize, is_bad_block, new_die, page_at}
-use Rattle.ufs_spec.specs.Disk.{Crash, Erasing, Flight, Programming, Reading, Spot, Touches, flight_alone, job_of, page_of, spot_of}
+use Rattle.ufs_spec.specs.Disk.{Crash, Erasing, Flight, Programming, Reading, Spot, Touches, flight_alone, job_of}
+use Rattle.ufs_spec.specs.Disk.{page_of, spot_of}
 use Rattle.ufs_spec.specs.Exchanges.{empty_registers}
 use Rattle.ufs_spec.specs.Keys.{IsKey, content}
 use Rattle.ufs_spec.specs.Kept.{StandsFor}
-use Rattle.ufs_spec.specs.Machine.{Allowed, Answer, Reply, Call, Done, OfDone, Take, OfTake, Heard, OfHost, Host, IsHeard, OfReply, Turn, OfTurn, observe}
+use Rattle.ufs_spec.specs.Machine.{Allowed, Answer, Reply, Call, Done, OfDone, Take, OfTake, Heard, OfHost, Host}
+use Rattle.ufs_spec.specs.Machine.{IsHeard, OfReply, Turn, OfTurn, observe}
 use Rattle.ufs_spec.specs.Messages.{spelling}
 use Rattle.ufs_spec.specs.Moves.{Ending, ReadRight, ReadWrong, WentWell, WentWrong}
 use Rattle.ufs_spec.specs.Openings.{IsOpenedTranslation}
@@ -199,7 +203,8 @@ Chain base l (m ∷ ls) (k ∷ ks) =
     × Chain (after base (take k l.finish.accepted)) m ls ks
 Chain base l _ _ = ⊥
 
--- the events and what they showed are those of the lives, cut at the stops; each life begins over what the stop before it
+-- the events and what they showed are those of the lives, cut at the stops; each life begins over what the stop before
+-- it
 -- left, with the blocks bad that were
 abbrev pub Lives : Numbers → Array → (Spot → Bool) → Lived → List Lived → List Event → List Output → Type 0
 Lives n array bad l [] es os = IsLived n array bad l × (es ≡ l.events) × (os ≡ l.outputs)
@@ -226,10 +231,12 @@ Fit n dies = (length dies ≡ n.dies) × All (IsOfSize n.blocks n.pages) dies
 
 -- ## The promise
 
--- Stopped at any moment, inside any page program or block erase and under every order of host messages, die jobs, flushes
+-- Stopped at any moment, inside any page program or block erase and under every order of host messages, die jobs,
+-- flushes
 -- and collector steps, the device that opens afterwards has its units, settings, RPMB area, key and counter as after a
 -- prefix of the accepted commands, and this prefix holds every command that was acknowledged as durable.
--- It is promised of dies that fit the configuration and whose pages are sound and suit it, as new dies are, where the dies
+-- It is promised of dies that fit the configuration and whose pages are sound and suit it, as new dies are, where the
+-- dies
 -- do what they report and the openings had memory.
 pub record Headline (n : Numbers) (dies : List DieState) (events : List Event) (trace : List Output) : Type 0 where
   pub base : Plain

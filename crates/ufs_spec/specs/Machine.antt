@@ -1,7 +1,10 @@
 -- The specification machine: which answers to the five calls are right, and what each call makes of the state. It is a
--- function of the state but where the device may choose: which of several replies goes first, and which of several reads
+-- function of the state but where the device may choose: which of several replies goes first, and which of several
+-- reads
 -- (JESD220, 10.7 and 10.8; this profile).
-use Rattle.std.specs.Prelude.{◌≡◌, ◌⊎◌, ℕ, zero, suc, ◌+◌, ◌-◌, ◌*◌, ◌==◌, ◌&&◌, ◌||◌, nat_le, nat_lt, not, Bool, true, false, if◌then◌else◌, is_none, List, [], ◌∷◌, ◌++◌, drop, filter, find, fold, length, map, slice_get, take, slice_set, Option, Some, None, Result, Ok, Err}
+use Rattle.std.specs.Prelude.{◌≡◌, ◌⊎◌, ℕ, zero, suc, ◌+◌, ◌-◌, ◌*◌, ◌==◌, ◌&&◌, ◌||◌, nat_le, nat_lt, not, Bool, true}
+use Rattle.std.specs.Prelude.{false, if◌then◌else◌, is_none, List, [], ◌∷◌, ◌++◌, drop, filter, find, fold, length, map}
+use Rattle.std.specs.Prelude.{slice_get, take, slice_set, Option, Some, None, Result, Ok, Err}
 use Rattle.std.specs.List.{flat_map, list_any}
 use Rattle.byteorder.specs.Endian.{big_bytes}
 use Rattle.std.specs.Int.{div_ceil}
@@ -10,15 +13,24 @@ use Rattle.ufs_spec.specs.Cells.{Array, Shows}
 use Rattle.ufs_spec.specs.Commands.{Command}
 use Rattle.ufs_spec.specs.Commands as command
 use Rattle.ufs_spec.specs.Dies.{blank_page}
-use Rattle.ufs_spec.specs.Disk.{Crash, Erasing, Flight, ForNobody, ForRest, ForStep, ForTask, Programming, Reader, Reading, Spot, at_place, flight_alone, page_of, same_spot, spot_of}
-use Rattle.ufs_spec.specs.Exchanges.{Answering, Awaiting, Deed, Registers, empty_registers, ForFrames, ForUnmap, ForWrite, Gathering, Good, NotRead, Purpose, ReadBlock, ReadState, Sending, Short, Status, Task, TaskSetFull, SendingBytes, Unread, WasRead, block_message, bytes_sent, data_message, filled, invalid_operation, is_asked_of, is_good, is_short_of, is_task_of, is_unfilled, read_error, ready_message, response, short_reply, task_of, with_deed, without_short, without_task, write_error}
+use Rattle.ufs_spec.specs.Disk.{Crash, Erasing, Flight, ForNobody, ForRest, ForStep, ForTask, Programming, Reader}
+use Rattle.ufs_spec.specs.Disk.{Reading, Spot, at_place, flight_alone, page_of, same_spot, spot_of}
+use Rattle.ufs_spec.specs.Exchanges.{Answering, Awaiting, Deed, Registers, empty_registers, ForFrames, ForUnmap}
+use Rattle.ufs_spec.specs.Exchanges.{ForWrite, Gathering, Good, NotRead, Purpose, ReadBlock, ReadState, Sending, Short}
+use Rattle.ufs_spec.specs.Exchanges.{Status, Task, TaskSetFull, SendingBytes, Unread, WasRead, block_message}
+use Rattle.ufs_spec.specs.Exchanges.{bytes_sent, data_message, filled, invalid_operation, is_asked_of, is_good}
+use Rattle.ufs_spec.specs.Exchanges.{is_short_of, is_task_of, is_unfilled, read_error, ready_message, response}
+use Rattle.ufs_spec.specs.Exchanges.{short_reply, task_of, with_deed, without_short, without_task, write_error}
 use Rattle.ufs_spec.specs.Keys.{below, data_key, group_of}
 use Rattle.ufs_spec.specs.Ledger.{InSlot, Looked, OnPage, Unwritten, before_accepted, look}
 use Rattle.ufs_spec.specs.Messages.{Spells, host_fault_of, is_among, zeros}
-use Rattle.ufs_spec.specs.Moves.{Accept, Claim, EndJob, Ending, Keep, LetGo, LetGoAll, Move, ReadRight, ReadWrong, Release, GiveJob, Acknowledge, TakeStep, WantPage, WentWell, WentWrong, fits, is_pin_of, moved}
+use Rattle.ufs_spec.specs.Moves.{Accept, Claim, EndJob, Ending, Keep, LetGo, LetGoAll, Move, ReadRight, ReadWrong}
+use Rattle.ufs_spec.specs.Moves.{Release, GiveJob, Acknowledge, TakeStep, WantPage, WentWell, WentWrong, fits}
+use Rattle.ufs_spec.specs.Moves.{is_pin_of, moved}
 use Rattle.ufs_spec.specs.Plain.{block_at}
 use Rattle.ufs_spec.specs.Stages.{manages_tasks, most_tasks}
-use Rattle.ufs_spec.specs.Refusals.{Request, State, locked, lun_of, numbers_of, sends_frames, plain_now, refusal, slots_needed, spec_of, unit_of_request}
+use Rattle.ufs_spec.specs.Refusals.{Request, State, locked, lun_of, numbers_of, sends_frames, plain_now, refusal}
+use Rattle.ufs_spec.specs.Refusals.{slots_needed, spec_of, unit_of_request}
 use Rattle.ufs_spec.specs.Translation.{MayTake, Pin, Rest, is_rest_of, is_step_due}
 use Rattle.ufs_spec.specs.declared.configs.Numbers.{Numbers}
 use Rattle.ufs_spec.specs.declared.configs.UnitSpec.{UnitSpec}
@@ -99,7 +111,8 @@ block_reply task sent body Unread at_hand = if at_hand then Some (block_message 
 
 abbrev pub next_block_reply : State → Task → ℕ → Option ReadBlock → Option Message
 next_block_reply s task sent None = None
-next_block_reply s task sent (Some block) = block_reply task sent block.body block.state (is_at_hand s.translation.work.rests (pin_of s task sent))
+next_block_reply s task sent (Some block) =
+    block_reply task sent block.body block.state (is_at_hand s.translation.work.rests (pin_of s task sent))
 
 -- the next reply of a task, if it is due
 abbrev pub deed_reply : State → Task → Deed → Option Message
@@ -126,7 +139,8 @@ MayLeave s die WentWell left = Unit {0}
 abbrev pub Due : State → Message → Type 0
 Due s m =
     ((k : ℕ) × (task : Task) × (slice_get s.tasks k ≡ Some task) × (deed_reply s task task.deed ≡ Some m))
-    ⊎ ((k : ℕ) × (short : Short) × (slice_get s.shorts k ≡ Some short) × (is_durable s short.awaits ≡ true) × (m ≡ short.reply))
+    ⊎ ((k : ℕ) × (short : Short) × (slice_get s.shorts k ≡ Some short) × (is_durable s short.awaits ≡ true)
+    × (m ≡ short.reply))
 
 -- ## Answers that are right
 
@@ -149,7 +163,8 @@ abbrev pub asked_fault : Bool → Option HostFault
 asked_fault true = None
 asked_fault false = Some NotAskedFor
 
--- why a message is not taken: data must be those that a READY TO TRANSFER asked for, and no host sends what a device sends
+-- why a message is not taken: data must be those that a READY TO TRANSFER asked for, and no host sends what a device
+-- sends
 abbrev pub message_fault : State → Message → Option HostFault
 message_fault s (message.DataOut lun tag offset «data») =
     asked_fault (is_asked_of (task_of tag s.tasks) lun offset (length «data».items))
@@ -203,7 +218,15 @@ with_task s r command n deed =
     record s {
       tasks =
           s.tasks
-          ++ record { lun = r.lun; tag = r.tag; expected = r.expected; command = command; length = n; deed = deed; request = None } ∷ [];
+          ++ record {
+            lun = r.lun;
+            tag = r.tag;
+            expected = r.expected;
+            command = command;
+            length = n;
+            deed = deed;
+            request = None;
+          } ∷ [];
     }
 
 -- the blocks of a READ that are sent: those that the host expects, with their content now
@@ -247,7 +270,8 @@ flush_begun s r command immediate =
 
 -- data that are sent at once
 abbrev pub sending_bytes : Request → List ℕ → Deed
-sending_bytes r bytes = if carried r.expected (length bytes) == 0 then Answering Good (length bytes) else SendingBytes bytes
+sending_bytes r bytes = if carried r.expected (length bytes) == 0 then Answering Good (length bytes)
+    else SendingBytes bytes
 
 abbrev pub data_begun : State → Request → Cdb → List ℕ → State
 data_begun s r command bytes = with_task s r (Some command) (length bytes) (sending_bytes r bytes)
@@ -430,7 +454,8 @@ heard s (message.Command flags lun tag expected bytes) c =
     command_heard s (record { flags = flags; lun = lun; tag = tag; expected = expected; bytes = bytes; cdb = c })
 heard s (message.DataOut lun tag offset «data») c = data_heard s (task_of tag s.tasks) «data».items
 heard s (message.TaskRequest lun tag function meant) c =
-    with_short (managed s lun function meant) (short_reply tag (message.TaskResponse lun tag (service s lun function meant)))
+    with_short (managed s lun function meant)
+    (short_reply tag (message.TaskResponse lun tag (service s lun function meant)))
 heard s (message.QueryRequest tag function asked size value «data») c =
     with_short s (short_reply tag (query_unanswered tag function asked))
 heard s (message.NopIn tag) c = s
@@ -488,7 +513,8 @@ acknowledges (Some commands) = Acknowledge commands ∷ []
 
 abbrev pub short_replied : State → Option Short → State
 short_replied s None = s
-short_replied s (Some short) = with_moves (record s { shorts = without_short short.tag s.shorts }) (acknowledges short.awaits)
+short_replied s (Some short) = with_moves (record s { shorts = without_short short.tag s.shorts })
+    (acknowledges short.awaits)
 
 abbrev pub tag_in : Message → ℕ
 tag_in (message.NopOut tag) = tag
@@ -562,7 +588,8 @@ read_noted_behind s (Erasing spot) ending = s
 abbrev pub ends_with : State → ℕ → Option Flight → Ending → Array → State
 ends_with s die None ending left = s
 ends_with s die (Some flight) ending left =
-    with_moves (record (read_noted_behind s flight ending) { array = array_behind s flight ending left }) (EndJob die ending ∷ [])
+    with_moves (record (read_noted_behind s flight ending) { array = array_behind s flight ending left })
+    (EndJob die ending ∷ [])
 
 abbrev pub given : State → ℕ → Option Flight → State
 given s die None = s
@@ -598,7 +625,8 @@ fills s =
     record (with_moves s (fill_moves (filter (is_to_fill s) s.tasks))) {
       tasks = map (task_filled s) s.tasks;
       registers =
-          fold (λ (registers : Registers) (task : Task). filled_registers s task registers) s.registers (filter (is_to_fill s) s.tasks);
+          fold (λ (registers : Registers) (task : Task). filled_registers s task registers) s.registers
+          (filter (is_to_fill s) s.tasks);
     }
 
 -- ## The lock

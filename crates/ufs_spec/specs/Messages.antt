@@ -1,12 +1,16 @@
 -- The grammar of UPIUs, the messages between a host and a device (JESD220, 10.5 to 10.7): the one spelling of each
 -- message, and what is wrong with bytes that spell none.
-use Rattle.std.specs.Prelude.{◌⊎◌, ◌≡◌, ◌≢◌, ◌<◌, ◌≤◌, ◌+◌, ◌-◌, ◌%◌, ◌^◌, ◌==◌, ◌&&◌, ◌||◌, not, ℕ, Bool, true, false, IsTrue, List, [], ◌∷◌, ◌++◌, length, replicate, slice_index, bit_and, nat_lt, if◌then◌else◌, Option, Some, None}
+use Rattle.std.specs.Prelude.{◌⊎◌, ◌≡◌, ◌≢◌, ◌<◌, ◌≤◌, ◌+◌, ◌-◌, ◌%◌, ◌^◌, ◌==◌, ◌&&◌, ◌||◌, not, ℕ, Bool, true, false}
+use Rattle.std.specs.Prelude.{IsTrue, List, [], ◌∷◌, ◌++◌, length, replicate, slice_index, bit_and, nat_lt}
+use Rattle.std.specs.Prelude.{if◌then◌else◌, Option, Some, None}
 use Rattle.byteorder.specs.Endian.{big_bytes}
 use Rattle.ufs_spec.specs.Fields.{field_at}
 use Rattle.ufs_spec.specs.Stages.{heard_codes, read_codes}
 use Rattle.ufs_spec.specs.declared.messages.Asked.{Asked}
 use Rattle.ufs_spec.specs.declared.messages.Message.{Message}
-use Rattle.ufs_spec.specs.declared.messages.Message.TheVariants.{NopOut, Command, DataOut, TaskRequest, QueryRequest, NopIn, Response, DataIn, TaskResponse, ReadyToTransfer, QueryResponse}
+use Rattle.ufs_spec.specs.declared.messages.Message.TheVariants.{NopOut, Command, DataOut, TaskRequest, QueryRequest}
+use Rattle.ufs_spec.specs.declared.messages.Message.TheVariants.{NopIn, Response, DataIn, TaskResponse, ReadyToTransfer}
+use Rattle.ufs_spec.specs.declared.messages.Message.TheVariants.{QueryResponse}
 use Rattle.ufs_spec.specs.declared.faults.HostFault.{HostFault}
 use Rattle.ufs_spec.specs.declared.faults.HostFault.TheVariants.{Short, Length, Digest, Ehs, Code}
 
@@ -141,7 +145,8 @@ IsMessage (TaskResponse lun tag service) = IsByte lun × IsByte tag × IsByte se
 IsMessage (ReadyToTransfer lun tag offset count) = IsByte lun × IsByte tag × (offset < 2 ^ 32) × (count < 2 ^ 32)
 IsMessage (QueryResponse tag function response asked size value «data») =
     IsByte tag × IsQueryFunction function × IsByte response × IsQuery asked size value
-    × (length «data».items ≤ 4096) × AreBytes «data».items × ((asked.opcode ≡ 0x01) × (response ≡ 0x00) ⊎ («data».items ≡ []))
+    × (length «data».items ≤ 4096) × AreBytes «data».items
+    × ((asked.opcode ≡ 0x01) × (response ≡ 0x00) ⊎ («data».items ≡ []))
 
 -- the bytes are the spelling of a message
 abbrev pub Spells : Message → List ℕ → Type 0

@@ -1,12 +1,17 @@
 -- The moves of the translation layer: which may come, and what each makes of it (this profile).
-use Rattle.std.specs.Prelude.{◌≡◌, ℕ, ◌+◌, ◌-◌, ◌≤◌, ◌==◌, ◌&&◌, not, Bool, true, false, if◌then◌else◌, List, [], ◌∷◌, ◌++◌, All, filter, length, map, max, slice_get, Option, Some, None}
+use Rattle.std.specs.Prelude.{◌≡◌, ℕ, ◌+◌, ◌-◌, ◌≤◌, ◌==◌, ◌&&◌, not, Bool, true, false, if◌then◌else◌, List, [], ◌∷◌}
+use Rattle.std.specs.Prelude.{◌++◌, All, filter, length, map, max, slice_get, Option, Some, None}
 use Rattle.ufs_spec.specs.Cells.{Cell, Cells, GroupPage, IsCell, Mark, MarkPage, Nothing, Opens, key_of}
 use Rattle.ufs_spec.specs.Configs.{command_blocks}
-use Rattle.ufs_spec.specs.Disk.{BlockState, Bad, CellCrash, Disk, Erasing, Flight, ForNobody, ForRest, ForStep, ForTask, Free, Programming, Reader, Reading, at_spot, ended, erase_failed, erased, flight_alone, program_failed, programmed}
+use Rattle.ufs_spec.specs.Disk.{BlockState, Bad, CellCrash, Disk, Erasing, Flight, ForNobody, ForRest, ForStep, ForTask}
+use Rattle.ufs_spec.specs.Disk.{Free, Programming, Reader, Reading, at_spot, ended, erase_failed, erased, flight_alone}
+use Rattle.ufs_spec.specs.Disk.{program_failed, programmed}
 use Rattle.ufs_spec.specs.Keys.{Group, IsBlock, IsKey, IsSettingsBody, Item}
 use Rattle.ufs_spec.specs.Ledger.{Ledger, Name, before_accepted, look, page_stands, same_name, settled_look}
 use Rattle.ufs_spec.specs.Plain.{shape_of_numbers}
-use Rattle.ufs_spec.specs.Translation.{CopyStep, MarkStep, MayTake, Mended, Mending, Pin, Plan, RepairStep, Repairing, Rest, Step, StepKind, Translation, Unmarked, awaits, free_slots, has_mark_number, has_number, is_mended, mark_ordered, name_of, rests_of, taken, turned}
+use Rattle.ufs_spec.specs.Translation.{CopyStep, MarkStep, MayTake, Mended, Mending, Pin, Plan, RepairStep, Repairing}
+use Rattle.ufs_spec.specs.Translation.{Rest, Step, StepKind, Translation, Unmarked, awaits, free_slots, has_mark_number}
+use Rattle.ufs_spec.specs.Translation.{has_number, is_mended, mark_ordered, name_of, rests_of, taken, turned}
 use Rattle.ufs_spec.specs.declared.flash.Fence.{Fence}
 use Rattle.ufs_spec.specs.declared.flash.Key.{Key}
 use Rattle.ufs_spec.specs.declared.flash.Outcome.{Outcome}
@@ -251,7 +256,8 @@ abbrev pub IsAllowedMove : Translation → Move → Type 0
 IsAllowedMove t (Claim count) = count ≤ free_slots t
 IsAllowedMove t (Release count) = count ≤ t.claims
 IsAllowedMove t (Accept claimed g) =
-    (is_mended t.work.mending ≡ true) × (has_number t ≡ true) × (length g ≤ claimed) × (claimed ≤ t.claims) × IsGroup t g
+    (is_mended t.work.mending ≡ true) × (has_number t ≡ true) × (length g ≤ claimed) × (claimed ≤ t.claims)
+    × IsGroup t g
 IsAllowedMove t (Acknowledge count) = before_accepted t.ledger + count ≤ t.ledger.frontier
 IsAllowedMove t (Keep key pin) = IsKey (shape_of_numbers t.numbers) key × (pin.looked ≡ look t.ledger key)
 IsAllowedMove t (GiveJob die flight) = MayTake t die (Some flight)

@@ -1,6 +1,7 @@
 -- What the translation layer is when a life begins over an array: a relation, since it is read off the whole array
 -- (this profile).
-use Rattle.std.specs.Prelude.{◌≡◌, ◌≢◌, ◌⊎◌, ℕ, suc, ◌<◌, ◌≤◌, Bool, true, false, List, [], Option, Some, None, slice_get}
+use Rattle.std.specs.Prelude.{◌≡◌, ◌≢◌, ◌⊎◌, ℕ, suc, ◌<◌, ◌≤◌, Bool, true, false, List, [], Option, Some, None}
+use Rattle.std.specs.Prelude.{slice_get}
 use Rattle.ufs_spec.specs.Cells.{Cells, GroupPage, Mark, MarkPage, Nothing, key_of}
 use Rattle.ufs_spec.specs.Disk.{BlockState, Bad, Closed, Disk, Free, Spot, spot_of}
 use Rattle.ufs_spec.specs.Keys.{IsKey}
@@ -132,7 +133,8 @@ pub record IsOpenedLedger (n : Numbers) (c : Cells) (l : Ledger) : Type 0 where
   pub holds : HoldAll n c l.newest kept l.base
   pub greatest_seen : IsTop c l.newest l.greatest_seen
   pub first_lost : l.first_lost ≡ lost_from (fence_in l.newest) kept
-  pub entries_before : (number index : ℕ) → IsEntry c (record { number = number; index = index }) (l.entries_before number index)
+  pub entries_before : (number index : ℕ) → IsEntry c (record { number = number; index = index })
+      (l.entries_before number index)
   pub standing : (number index : ℕ) → StandsAt c (record { number = number; index = index }) (l.standing number index)
   pub first_page : (k : Key) → IsKey (shape_of_numbers n) k → IsFirst c l.newest kept k (l.first_page k)
   pub none_new : l.groups ≡ []

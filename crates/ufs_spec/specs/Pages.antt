@@ -1,6 +1,7 @@
 -- How a flash page holds a block, what its tag says and the check of both. The layouts are this
 -- profile's, version 1; the check is the SHA-256 of FIPS 180-4.
-use Rattle.std.specs.Prelude.{◌≡◌, ◌⊎◌, ◌-◌, ◌^◌, ◌<◌, ◌≤◌, ℕ, List, [], ◌∷◌, ◌++◌, Option, None, Some, drop, length, replicate, slice_index, take}
+use Rattle.std.specs.Prelude.{◌≡◌, ◌⊎◌, ◌-◌, ◌^◌, ◌<◌, ◌≤◌, ℕ, List, [], ◌∷◌, ◌++◌, Option, None, Some, drop, length}
+use Rattle.std.specs.Prelude.{replicate, slice_index, take}
 use Rattle.std.specs.List.{flat_map}
 use Rattle.byteorder.specs.Endian.{big_bytes}
 use Rattle.sha2.specs.Sha256.{sha256}

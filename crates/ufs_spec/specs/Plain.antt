@@ -1,6 +1,7 @@
 -- What a device holds, as a host sees it, and what each command makes of it (JESD220, 10.8 logical units, 12.4
 -- RPMB; the commands are this profile's).
-use Rattle.std.specs.Prelude.{◌≡◌, ℕ, ◌+◌, ◌*◌, ◌<◌, ◌≤◌, Bool, true, false, List, ◌++◌, length, take, drop, map, fold, replicate, slice_index_or, slice_set, [], Option, Some, None}
+use Rattle.std.specs.Prelude.{◌≡◌, ℕ, ◌+◌, ◌*◌, ◌<◌, ◌≤◌, Bool, true, false, List, ◌++◌, length, take, drop, map, fold}
+use Rattle.std.specs.Prelude.{replicate, slice_index_or, slice_set, [], Option, Some, None}
 use Rattle.ufs_spec.specs.declared.configs.Numbers.{Numbers}
 use Rattle.ufs_spec.specs.Commands.{Command, Write, Zero, SetKey, RpmbWrite, SetBoot, SetPermanent}
 

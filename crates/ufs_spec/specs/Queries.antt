@@ -1,6 +1,7 @@
 -- Queries: descriptors, attributes and flags, and the table by which a query is refused: the first line that applies
 -- decides (JESD220, 10.7.8 and 14; the order of the lines and the values are this profile's).
-use Rattle.std.specs.Prelude.{ℕ, ◌==◌, ◌&&◌, ◌||◌, nat_lt, nat_le, not, Bool, if◌then◌else◌, is_none, List, [], ◌∷◌, ◌++◌, length, replicate, slice_get, take, Option, Some, None}
+use Rattle.std.specs.Prelude.{ℕ, ◌==◌, ◌&&◌, ◌||◌, nat_lt, nat_le, not, Bool, if◌then◌else◌, is_none, List, [], ◌∷◌}
+use Rattle.std.specs.Prelude.{◌++◌, length, replicate, slice_get, take, Option, Some, None}
 use Rattle.std.specs.List.{list_any}
 use Rattle.byteorder.specs.Endian.{big_bytes}
 use Rattle.ufs_spec.specs.Commands.{Command, SetBoot, SetPermanent}

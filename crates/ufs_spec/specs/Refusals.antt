@@ -1,12 +1,18 @@
 -- The state of a device with its dies, and the table by which a command is refused: the first line that applies decides
 -- (JESD220, 10.8 logical units; SPC and SBC for the commands; the order of the lines is this profile's).
-use Rattle.std.specs.Prelude.{ℕ, ◌+◌, ◌*◌, ◌%◌, ◌==◌, ◌&&◌, ◌||◌, nat_le, nat_lt, not, Bool, true, false, if◌then◌else◌, is_none, List, [], ◌∷◌, length, position, slice_get, slice_index, Option, Some, None}
+use Rattle.std.specs.Prelude.{ℕ, ◌+◌, ◌*◌, ◌%◌, ◌==◌, ◌&&◌, ◌||◌, nat_le, nat_lt, not, Bool, true, false, if◌then◌else◌}
+use Rattle.std.specs.Prelude.{is_none, List, [], ◌∷◌, length, position, slice_get, slice_index, Option, Some, None}
 use Rattle.std.specs.List.{list_any}
-use Rattle.ufs_spec.specs.Cdbs.{Direction, NoData, ToDevice, ToHost, address_of, blocks_of, direction_of, inquiry, length_of, operation_of, read_10, read_6, read_capacity_10, report_luns, request_sense, security_in, security_out, synchronize_cache_10, taken_operations, test_unit_ready, unmap, write_10, write_6}
+use Rattle.ufs_spec.specs.Cdbs.{Direction, NoData, ToDevice, ToHost, address_of, blocks_of, direction_of, inquiry}
+use Rattle.ufs_spec.specs.Cdbs.{length_of, operation_of, read_10, read_6, read_capacity_10, report_luns, request_sense}
+use Rattle.ufs_spec.specs.Cdbs.{security_in, security_out, synchronize_cache_10, taken_operations, test_unit_ready}
+use Rattle.ufs_spec.specs.Cdbs.{unmap, write_10, write_6}
 use Rattle.ufs_spec.specs.Cells.{Array}
 use Rattle.ufs_spec.specs.Commands.{Command}
 use Rattle.ufs_spec.specs.Configs.{command_blocks}
-use Rattle.ufs_spec.specs.Exchanges.{Busy, Registers, Short, Status, Task, invalid_field, invalid_operation, list_length_error, no_unit, not_ready, out_of_range, sequence_error, write_protected}
+use Rattle.ufs_spec.specs.Exchanges.{Busy, Registers, Short, Status, Task, invalid_field, invalid_operation}
+use Rattle.ufs_spec.specs.Exchanges.{list_length_error, no_unit, not_ready, out_of_range, sequence_error}
+use Rattle.ufs_spec.specs.Exchanges.{write_protected}
 use Rattle.ufs_spec.specs.Messages.{is_among}
 use Rattle.ufs_spec.specs.Plain.{Plain, after}
 use Rattle.ufs_spec.specs.Stages.{most_blocks, taken_luns}

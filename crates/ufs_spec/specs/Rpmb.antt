@@ -1,6 +1,9 @@
--- The replay protected memory block: the MAC of frames, and what a request does (JESD220, 12.4; RFC 2104; FIPS 180-4). What
+-- The replay protected memory block: the MAC of frames, and what a request does (JESD220, 12.4; RFC 2104; FIPS 180-4).
+-- What
 -- of it is refused, and in which order, is this profile's.
-use Rattle.std.specs.Prelude.{ℕ, ◌+◌, ◌-◌, ◌*◌, ◌^◌, ◌==◌, ◌&&◌, nat_lt, nat_le, not, Bool, true, false, if◌then◌else◌, is_none, is_some, List, [], ◌∷◌, ◌++◌, bit_or, bit_xor, length, map, replicate, Option, Some, None}
+use Rattle.std.specs.Prelude.{ℕ, ◌+◌, ◌-◌, ◌*◌, ◌^◌, ◌==◌, ◌&&◌, nat_lt, nat_le, not, Bool, true, false, if◌then◌else◌}
+use Rattle.std.specs.Prelude.{is_none, is_some, List, [], ◌∷◌, ◌++◌, bit_or, bit_xor, length, map, replicate, Option}
+use Rattle.std.specs.Prelude.{Some, None}
 use Rattle.std.specs.List.{flat_map, list_all}
 use Rattle.sha2.specs.Sha256.{sha256}
 use Rattle.ufs_spec.specs.Commands.{Command, RpmbWrite, SetKey}
@@ -58,7 +61,8 @@ is_well_formed f fs =
 
 -- ## Outcomes
 
--- what SECURITY PROTOCOL OUT does with its frames: it is refused; or it has a result and, where it is accepted, a command
+-- what SECURITY PROTOCOL OUT does with its frames: it is refused; or it has a result and, where it is accepted, a
+-- command
 pub data RpmbOutcome : Type 0 where
   Refused : (status : Status) → RpmbOutcome
   Results : (result : ℕ) → (accepted : Option Command) → RpmbOutcome

@@ -1,4 +1,5 @@
--- What the device does not take yet. Each limit is one definition here, or one of `taken_operations` and `IsTakenCdb` (Cdbs), `query_unanswered`, `not_begun`, `filled_registers` and the lines of
+-- What the device does not take yet. Each limit is one definition here, or one of `taken_operations` and `IsTakenCdb`
+-- (Cdbs), `query_unanswered`, `not_begun`, `filled_registers` and the lines of
 -- `complete` for UNMAP and RPMB (Machine), and goes with the stage that it names.
 use Rattle.std.specs.Prelude.{ℕ, Bool, false, List, [], ◌∷◌}
 use Rattle.ufs_spec.specs.declared.configs.Numbers.{Numbers}

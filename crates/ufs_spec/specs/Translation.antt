@@ -1,11 +1,17 @@
--- The translation layer of one life: what it owes to each die, when a step of mending or collection is due, and what each
+-- The translation layer of one life: what it owes to each die, when a step of mending or collection is due, and what
+-- each
 -- of its calls makes of it (this profile).
-use Rattle.std.specs.Prelude.{◌≡◌, ◌⊎◌, ℕ, ◌+◌, ◌-◌, ◌*◌, ◌^◌, ◌==◌, ◌&&◌, ◌||◌, nat_le, nat_lt, not, Bool, true, false, if◌then◌else◌, is_none, is_some, List, [], ◌∷◌, ◌++◌, count_by, filter, filter_map, find, length, map, sum_by, Option, Some, None, option_map, Contains, slice_get, option_and_then}
+use Rattle.std.specs.Prelude.{◌≡◌, ◌⊎◌, ℕ, ◌+◌, ◌-◌, ◌*◌, ◌^◌, ◌==◌, ◌&&◌, ◌||◌, nat_le, nat_lt, not, Bool, true, false}
+use Rattle.std.specs.Prelude.{if◌then◌else◌, is_none, is_some, List, [], ◌∷◌, ◌++◌, count_by, filter, filter_map, find}
+use Rattle.std.specs.Prelude.{length, map, sum_by, Option, Some, None, option_map, Contains, slice_get, option_and_then}
 use Rattle.std.specs.List.{flat_map, list_any}
 use Rattle.ufs_spec.specs.Cells.{Cell, GroupPage, MarkPage, Nothing, key_of, same_place}
-use Rattle.ufs_spec.specs.Disk.{BlockState, Bad, Closed, Disk, Erasing, Filling, Flight, ForRest, ForStep, ForTask, Free, Programming, Reader, Reading, Spot, job_begun, place_in, same_spot, spot_of}
+use Rattle.ufs_spec.specs.Disk.{BlockState, Bad, Closed, Disk, Erasing, Filling, Flight, ForRest, ForStep, ForTask}
+use Rattle.ufs_spec.specs.Disk.{Free, Programming, Reader, Reading, Spot, job_begun, place_in, same_spot, spot_of}
 use Rattle.ufs_spec.specs.Keys.{Group, below, Item}
-use Rattle.ufs_spec.specs.Ledger.{Entry, Ledger, Looked, Name, OnPage, accepted_groups, before_accepted, entry_of, is_name, is_standing, latest_durable, next_number, pending, same_name, InSlot, Unwritten, look}
+use Rattle.ufs_spec.specs.Ledger.{Entry, Ledger, Looked, Name, OnPage, accepted_groups, before_accepted, entry_of}
+use Rattle.ufs_spec.specs.Ledger.{is_name, is_standing, latest_durable, next_number, pending, same_name, InSlot}
+use Rattle.ufs_spec.specs.Ledger.{Unwritten, look}
 use Rattle.ufs_spec.specs.Stages.{collects, most_bad}
 use Rattle.ufs_spec.specs.declared.configs.Numbers.{Numbers}
 use Rattle.ufs_spec.specs.declared.flash.Fence.{Fence}
@@ -15,7 +21,8 @@ use Rattle.ufs_spec.specs.declared.flash.Tag.{Tag}
 
 -- What is under way
 
--- how far the mending is: its first mark is not finished, with its fence and the keys that have a lost page; the mark is,
+-- how far the mending is: its first mark is not finished, with its fence and the keys that have a lost page; the mark
+-- is,
 -- and these keys have no repair yet; or the device is mended
 pub data Mending : Type 0 where
   Unmarked : (fence : Option Fence) → (lost : List Key) → Mending
@@ -230,7 +237,8 @@ with_step t kind there = record t { work = record t.work { step = Some (record {
 -- a mark gets the next mark number when it is ordered
 abbrev pub mark_ordered : Translation → Option Fence → Translation
 mark_ordered t fence =
-    with_step (record t { ledger = record t.ledger { marks = t.ledger.marks + 1 } }) (MarkStep (t.ledger.marks + 1) fence) true
+    with_step (record t { ledger = record t.ledger { marks = t.ledger.marks + 1 } })
+    (MarkStep (t.ledger.marks + 1) fence) true
 
 abbrev pub standing_of : Ledger → Option Name → Option Place
 standing_of l None = None
@@ -249,7 +257,8 @@ repair_ordered t k left =
     (is_none (standing_of t.ledger (t.ledger.first_page k)))
 
 abbrev pub with_plan : Translation → Spot → List Place → Translation
-with_plan t victim copies = record t { work = record t.work { plan = Some (record { victim = victim; copies = copies }) } }
+with_plan t victim copies =
+    record t { work = record t.work { plan = Some (record { victim = victim; copies = copies }) } }
 
 abbrev pub copy_begun : Translation → Place → Cell → Translation
 copy_begun t p (GroupPage tag body) = with_step t (CopyStep (name_of tag) p) false
@@ -331,12 +340,14 @@ abbrev pub awaits : Name → Source → Name
 awaits name (FromPage place) = name
 awaits name (FromSlot other) = other
 
--- where the rest of a page comes from that was looked up: nothing is owed of what was never written, nor of a slot that has
+-- where the rest of a page comes from that was looked up: nothing is owed of what was never written, nor of a slot that
+-- has
 -- its content
 abbrev pub source_of : List Rest → Looked → Option Source
 source_of rests Unwritten = None
 source_of rests (OnPage name place) = Some (FromPage place)
-source_of rests (InSlot name) = option_map (λ (rest : Rest). FromSlot (awaits rest.name rest.source)) (find (is_rest_of name) rests)
+source_of rests (InSlot name) = option_map (λ (rest : Rest). FromSlot (awaits rest.name rest.source))
+    (find (is_rest_of name) rests)
 
 -- only a page of the RPMB area is had in part: a command has at most 8 of its 16 blocks
 abbrev pub is_in_part : Key → Bool
@@ -345,7 +356,8 @@ is_in_part k = k.kind == 2
 abbrev pub rest_of_item : Translation → Name → Item → Option Rest
 rest_of_item t name item =
     if is_in_part item.key
-    then option_map (λ source. record { name = name; source = source }) (source_of t.work.rests (look t.ledger item.key))
+    then option_map (λ source. record { name = name; source = source })
+    (source_of t.work.rests (look t.ledger item.key))
     else None
 
 abbrev pub rest_at : Translation → Group → ℕ → Option Rest

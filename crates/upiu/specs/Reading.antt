@@ -9,7 +9,8 @@ use Rattle.ufs_spec.specs.declared.messages.Message.TheVariants.{Command, DataOu
 -- the COMMAND of these fields
 abbrev pub named_command : List ℕ → Message
 named_command bytes =
-    Command (slice_index bytes 1) (slice_index bytes 2) (slice_index bytes 3) (field_at 4 12 bytes) (slice_range bytes 16 32)
+    Command (slice_index bytes 1) (slice_index bytes 2) (slice_index bytes 3) (field_at 4 12 bytes)
+    (slice_range bytes 16 32)
 
 -- the DATA OUT of these fields
 abbrev pub named_data_out : List ℕ → Message

@@ -1,21 +1,20 @@
 //! How a job in flight ends, and what a step of the device's own orders.
-ghost use Rattle.std.specs.Prelude.{◌≡◌, ℕ, ◌<◌, ◌≤◌, ◌+◌, ◌^◌, IsSome, IfNone, IfSome, length, if◌then◌else◌};
-ghost use Rattle.std.specs.Prelude.{map, option_map, position};
-ghost use Rattle.ftl_core.specs.Ends.{front_durable, front_written, noted, numbered_moved, pending_at, place_written, settled};
-ghost use Rattle.ftl_core.specs.Gives.{Gives, GivesIf, IsBodyLooked, IsBodyOf, IsGiven, change_after, change_ended, ending, erase_ended, group_ended, is_read, is_reading, mark_ended, names, other_for, read_after, read_over, reading_at, same_place};
+ghost use Rattle.std.specs.Prelude.{◌≡◌, ℕ, ◌<◌, ◌≤◌, ◌+◌, ◌^◌, IsSome, IfNone, IfSome, length, if◌then◌else◌, map, option_map, position, is_some, Some};
+ghost use Rattle.ftl_core.specs.Ends.{front_durable, front_written, noted, pending_at, settled, group_written};
+ghost use Rattle.ftl_core.specs.Gives.{Gives, GivesIf, IsBodyLooked, IsBodyOf, IsGiven, change_after, change_ended, ending, erase_ended, group_ended, is_read, mark_ended, names, other_for, read_after, read_over, IsGivenTo, wanted_no_more};
 ghost use Rattle.ftl_core.specs.Done.{IsEnded, JobEnds, core_ended, job_after};
-ghost use Rattle.ftl_core.specs.Moves.{is_turn_due, moved_pin, erased, mark_failed, mark_ordered, mark_written, page_written, went_bad};
+ghost use Rattle.ftl_core.specs.Moves.{is_turn_due, moved_pin, erased, mark_failed, mark_ordered, mark_written, page_written, went_bad, pin_of};
 ghost use Rattle.ufs_spec.specs.Keys.{IsBlock};
-ghost use Rattle.std.specs.Prelude.{is_some, Some};
 ghost use Rattle.ufs_spec.specs.Moves.{EndJob, Ending, IsEndingOf, MayEnd, TakeStep, moved, suits};
 ghost use Rattle.ufs_spec.specs.Translation.{Translation, is_step_due};
+ghost use Rattle.ufs_spec.specs.Disk.{Reader, Reading};
+ghost use Rattle.ufs_spec.specs.declared.flash.Place.{Place};
 ghost use Rattle.ftl_core.specs.Describes.{Describes, IsTold};
+ghost use Rattle.ftl_core.specs.Tells.{IsReadOf};
 ghost use Rattle.ftl_core.specs.declared.ftl.Ended.{Ended};
 
 use super::{Ended, Ftl, LAST_NUMBER};
-use crate::books::{
-    BlockState, Book, Flight, GroupState, Looked, MarkState, OpenBlock, Pin, ReadState, Stored,
-};
+use crate::books::{BlockState, Book, Flight, Looked, OpenBlock, Pin, Stored};
 use page_tag::{one_seal, open};
 use ufs_spec::{Block, Key, Outcome, Page, Place, Tag};
 
@@ -94,40 +93,24 @@ fn ending(outcome: &Outcome) -> Option<bool>
     }
 }
 
-/// Where the group's page is written.
-fn place_written(state: GroupState) -> Option<Place>
-    ensures { result ≡ place_written state }
+/// What the pin keeps: its reader's page is no longer to be read.
+fn wanted_no_more(pin: Pin, reader: u8) -> Pin
+    ensures { result ≡ wanted_no_more reader pin }
 {
-    match state {
-        GroupState::Written(place) => Some(place),
-        _ => None,
+    let mut now = pin;
+    if pin.reader == reader {
+        now.wanted = false;
     }
+    now
 }
 
-/// Whether the places are one.
-fn same_place(place: Place, other: Place) -> bool
-    ensures { result ≡ same_place place other }
+/// The reader's page is no longer to be read.
+fn end_wants(pins: &mut [Pin], reader: u8)
+    ensures { pins.new ≡ map (wanted_no_more reader) pins.old }
 {
-    place.die == other.die && place.block == other.block && place.page == other.page
-}
-
-/// Whether the reader's read of the place is in flight.
-fn is_reading(pin: &Pin, reader: u8, place: Place) -> bool
-    ensures { result ≡ is_reading reader place pin.now }
-{
-    match pin.looked {
-        Looked::Page(stored) => pin.reader == reader
-            && pin.read == ReadState::InFlight
-            && same_place(stored.place, place),
-        _ => false,
+    for pin in pins.iter_mut() {
+        *pin = wanted_no_more(*pin, reader);
     }
-}
-
-/// The position of the reader whose read of this place is in flight.
-fn reading_at(pins: &[Pin], reader: u8, place: Place) -> Option<usize>
-    ensures { result ≡ position (is_reading reader place) pins.now }
-{
-    pins.iter().position(|pin| is_reading(pin, reader, place))
 }
 
 /// What the pin keeps once the group stands on its page.
@@ -205,6 +188,7 @@ impl Ftl {
         );
     }
 
+    /// The block is empty, and the die fills it from now on.
     fn erase_done(&mut self, die: u8, block: u16)
         ensures { self.new ≡ erased self.old die block }
     {
@@ -222,7 +206,7 @@ impl Ftl {
     fn mark_done(&mut self, die: u8, book: Book)
         ensures { self.new ≡ mark_written self.old die book }
     {
-        self.mark = MarkState::Idle;
+        self.mark = None;
         self.mended = true;
         self.page_written(die, book);
     }
@@ -240,15 +224,15 @@ impl Ftl {
         ensures { self.new ≡ mark_ordered self.old }
     {
         if self.next_mark <= LAST_NUMBER {
-            self.mark = MarkState::Waiting(self.next_mark);
+            self.mark = Some(self.next_mark);
             self.next_mark += 1;
         } else {
-            self.mark = MarkState::Idle;
+            self.mark = None;
         }
     }
 
     /// The group with this number, if it is pending: its position.
-    fn pending_at(&self, number: u64) -> Option<usize>
+    pub(super) fn pending_at(&self, number: u64) -> Option<usize>
         ensures { result ≡ pending_at self.now number }
     {
         if number <= self.frontier {
@@ -262,12 +246,15 @@ impl Ftl {
         }
     }
 
-    /// The group's page is so far.
-    fn move_group(&mut self, number: u64, state: GroupState)
-        ensures { self.new ≡ numbered_moved self.old number state }
+    /// The page of the group with this number is written there, if the group is pending.
+    fn write_group(&mut self, number: u64, place: Place)
+        ensures { self.new ≡ group_written self.old place (pending_at self.old number) }
     {
         if let Some(index) = self.pending_at(number) {
-            self.move_at(index, state);
+            if index < self.groups.len() {
+                let group = &mut self.groups[index];
+                group.written = Some(place);
+            }
         }
     }
 
@@ -279,7 +266,7 @@ impl Ftl {
         if self.groups.is_empty() {
             return None;
         }
-        place_written(self.groups[0].state)
+        self.groups[0].written
     }
 
     /// The first pending group is durable: its address now reads from this place, and so does who
@@ -317,20 +304,20 @@ impl Ftl {
         }
     }
 
-    /// A group whose program failed waits again.
+    /// The end of the program of a group's page; the page waits again by itself, if it failed.
     fn group_ended(&mut self, die: u8, book: Book, place: Place, number: u64, is_done: bool)
         ensures { self.new ≡ group_ended self.old die book place number is_done }
     {
         if is_done {
-            self.move_group(number, GroupState::Written(place));
+            self.write_group(number, place);
             self.page_written(die, book);
             self.settle();
         } else {
-            self.move_group(number, GroupState::Waiting);
             self.went_bad(die, place.block);
         }
     }
 
+    /// The end of the program of a mark.
     fn mark_ended(&mut self, die: u8, book: Book, place: Place, is_done: bool)
         ensures { self.new ≡ mark_ended self.old die book place is_done }
     {
@@ -341,6 +328,7 @@ impl Ftl {
         }
     }
 
+    /// The end of an erase.
     fn erase_ended(&mut self, die: u8, block: u16, is_done: bool)
         ensures { self.new ≡ erase_ended self.old die block is_done }
     {
@@ -379,23 +367,27 @@ impl Ftl {
         Some(Ended::Other)
     }
 
+    /// The block that the end of its read gives to the reader.
+    fn body_for(&self, reader: u8, outcome: &Outcome) -> Option<Block>
+        ensures { IsGivenTo outcome.now (pin_of self.now reader) result }
+    {
+        match self.pin_of(reader) {
+            Some(pin) => body_given(outcome, &pin),
+            None => None,
+        }
+    }
+
     /// What the end of the read gives to its reader: the block, where the page is the one that was
     /// looked up.
-    fn give(&mut self, reader: u8, place: Place, outcome: &Outcome) -> Ended
-        ensures answer { Gives self.old outcome.now place reader result }
-        ensures after { self.new ≡ read_over self.old (reading_at self.old reader place) }
+    fn give(&mut self, reader: Option<u8>, outcome: &Outcome) -> Ended
+        ensures answer { Gives self.old outcome.now reader result }
+        ensures after { self.new ≡ read_over self.old reader }
     {
-        let Some(index) = reading_at(self.pins.as_slice(), reader, place) else {
+        let Some(reader) = reader else {
             return Ended::Other;
         };
-        if index >= self.pins.len() {
-            return Ended::Other;
-        }
-        let pin = self.pins[index];
-        let mut over = pin;
-        over.read = ReadState::Over;
-        self.pins[index] = over;
-        let body = body_given(outcome, &pin);
+        let body = self.body_for(reader, outcome);
+        end_wants(self.pins.as_mut_slice(), reader);
         Ended::Read { reader, body }
     }
 
@@ -404,12 +396,11 @@ impl Ftl {
         &mut self,
         die: u8,
         book: Book,
-        place: Place,
-        reader: u8,
+        reader: Option<u8>,
         outcome: &Outcome,
     ) -> Option<Ended>
-        ensures answer { GivesIf (is_read outcome.now) self.old outcome.now place reader result }
-        ensures after { self.new ≡ read_after self.old die book place reader (is_read outcome.now) }
+        ensures answer { GivesIf (is_read outcome.now) self.old outcome.now reader result }
+        ensures after { self.new ≡ read_after self.old die book reader (is_read outcome.now) }
     {
         if !is_read(outcome) {
             return None;
@@ -421,7 +412,7 @@ impl Ftl {
                 flight: None,
             },
         );
-        Some(self.give(reader, place, outcome))
+        Some(self.give(reader, outcome))
     }
 
     /// The end of this job in flight.
@@ -430,7 +421,7 @@ impl Ftl {
         ensures after { self.new ≡ job_after self.old die book flight outcome.now }
     {
         match flight {
-            Flight::Read { place, reader } => self.read_ended(die, book, place, reader, outcome),
+            Flight::Read { reader, .. } => self.read_ended(die, book, reader, outcome),
             _ => self.change_done(die, book, flight, outcome),
         }
     }
@@ -450,10 +441,14 @@ impl Ftl {
         ensures told { (t : Translation) (ending : Ending) → Describes self.old t →
             IsEndingOf t.disk.cells (t.disk.flights die) outcome.now ending →
             (e : Ended) × (result ≡ Some e) × IsTold t.disk.cells (t.disk.flights die) ending e }
+        // A read was for a reader who keeps its page and waits for it, or for nobody.
+        ensures read { (t : Translation) (who : Reader) (place : Place) → Describes self.old t →
+            t.disk.flights die ≡ Some (Reading who place) → IsReadOf t place who }
     {
         self.end_job(die, outcome)
     }
 
+    /// The end of the die's job, if it has one.
     fn end_job(&mut self, die: u8, outcome: &Outcome) -> Option<Ended>
         ensures nothing { IfNone result (self.new ≡ self.old) }
         ensures answer { IsEnded self.old die outcome.now result }
@@ -475,11 +470,12 @@ impl Ftl {
         self.order_step()
     }
 
+    /// Orders a mark where one is due.
     fn order_step(&mut self) -> bool
         ensures due { result ≡ is_turn_due self.old }
         ensures after { self.new ≡ (if result then mark_ordered self.old else self.old) }
     {
-        if self.mended || self.mark != MarkState::Idle || self.next_mark > LAST_NUMBER {
+        if self.mended || self.mark.is_some() || self.next_mark > LAST_NUMBER {
             return false;
         }
         self.order_mark();

@@ -1,34 +1,64 @@
-//! What is owed to a die, in its order: a read, the program of a waiting page, the erase of a block
-//! to put one into.
-ghost use Rattle.std.specs.Prelude.{◌≡◌, ℕ, ◌<◌, ◌≤◌, ◌+◌, IfSome, length, slice_get, Some, None, true, if◌then◌else◌, unwrap_or, count_by, find};
-ghost use Rattle.std.specs.Prelude.{OnSome, option_map, IfNone, false, position, ◌^◌};
+//! Which job a die is given next.
+ghost use Rattle.std.specs.Prelude.{◌≡◌, ℕ, ◌<◌, ◌≤◌, ◌+◌, ◌^◌, IfNone, IfSome, length, slice_get, Some, None};
+ghost use Rattle.std.specs.Prelude.{true, false, if◌then◌else◌, unwrap_or, count_by, option_map, position};
 ghost use Rattle.std.specs.List.{list_any};
-ghost use Rattle.ufs_spec.specs.Pages.{mark_bytes, seal_page};
-ghost use Rattle.ftl_core.specs.Takes.{any_waiting_job, any_waiting_started, block_for, core_taken, erase_of, erase_started, first_owed, group_job, group_started, is_data, job_taken, page_of_group, owed_job, owed_started, page_job, page_started, waiting_job, waiting_started};
-ghost use Rattle.ftl_core.specs.Moves.{mark_key, group_moved, place_owed, read_started, is_erasable, is_owed_by, is_waiting, keeps, may_open, started, waiting_of, free_blocks, single_tag, state_index, state_of, with_book, with_state};
+ghost use Rattle.ftl_core.specs.Ends.{pending_at};
+ghost use Rattle.ftl_core.specs.Takes.{block_for, core_taken, first_owed, group_job, group_job_at, is_data, job_of};
+ghost use Rattle.ftl_core.specs.Takes.{job_taken, lowest_below, mark_program, mark_waiting, next_place, number_waiting};
+ghost use Rattle.ftl_core.specs.Takes.{owed_flight, page_flight, page_of_group, read_of, waiting_flight, waiting_of};
+ghost use Rattle.ftl_core.specs.Takes.{waits_at, writes_group, writes_mark};
+ghost use Rattle.ftl_core.specs.Moves.{free_blocks, is_erasable, is_owed_by, keeps, looks_on, may_open, reads_for};
+ghost use Rattle.ftl_core.specs.Moves.{single_tag, state_index, state_of, with_book, with_state};
 ghost use Rattle.ufs_spec.specs.Translation.{Translation};
 ghost use Rattle.ftl_core.specs.Describes.{Describes, IsTaken};
 
-use super::{Ftl, LAST_NUMBER};
-use crate::books::{
-    BlockState, Book, Flight, Group, GroupState, Looked, MarkState, Pin, ReadState, Waiting,
-};
+use super::Ftl;
+use crate::books::{BlockState, Book, Flight, Group, Looked, OpenBlock, Pin, Waiting};
 use page_tag::{mark_body, seal};
 use ufs_spec::{Block, Job, Key, Page, Place, Tag};
 
-/// The page of a die that a reader is owed.
-fn wanted(pins: &[Pin], die: u8) -> Option<usize>
-    ensures { result ≡ position (is_owed_by die) pins.now }
+/// The position of the first reader who is owed the read of a page of this die.
+fn first_owed(pins: &[Pin], books: &[Book], die: u8) -> Option<usize>
+    ensures { result ≡ position (is_owed_by books.now die) pins.now }
 {
-    pins.iter().position(|pin| is_owed_by(pin, die))
+    pins.iter().position(|pin| is_owed_by(pin, books, die))
 }
 
-/// Whether the reader is owed the read of a page of this die.
-fn is_owed_by(pin: &Pin, die: u8) -> bool
-    ensures { result ≡ is_owed_by die pin.now }
+/// Whether the reader is owed the read of a page of this die: it wants it, and no die reads for it.
+fn is_owed_by(pin: &Pin, books: &[Book], die: u8) -> bool
+    ensures { result ≡ is_owed_by books.now die pin.now }
 {
-    match pin.looked {
-        Looked::Page(stored) => pin.read == ReadState::Owed && stored.place.die == die,
+    pin.wanted && looks_on(&pin.looked, die) && !is_read_for(books, pin.reader)
+}
+
+/// Whether a page of the die is looked at.
+fn looks_on(looked: &Looked, die: u8) -> bool
+    ensures { result ≡ looks_on die looked.now }
+{
+    match looked {
+        Looked::Page(stored) => stored.place.die == die,
+        _ => false,
+    }
+}
+
+/// Whether some die reads for the reader.
+fn is_read_for(books: &[Book], reader: u8) -> bool
+    ensures { result ≡ list_any (reads_for reader) books.now }
+{
+    books.iter().any(|book| reads_for(book, reader))
+}
+
+/// Whether the die reads for the reader.
+fn reads_for(book: &Book, reader: u8) -> bool
+    ensures { result ≡ reads_for reader book.now }
+{
+    match book.flight {
+        Some(
+            Flight::Read {
+                reader: Some(other),
+                ..
+            },
+        ) => reader == other,
         _ => false,
     }
 }
@@ -43,13 +73,38 @@ fn keeps(pin: &Pin, die: u8, block: u16) -> bool
     }
 }
 
-/// The first group whose page waits.
-fn first_waiting(groups: &[Group]) -> Option<usize>
-    ensures { result ≡ position is_waiting groups.now }
+/// Whether some die writes the page of the group with this number.
+fn is_written_now(books: &[Book], number: u64) -> bool
+    ensures { result ≡ list_any (writes_group number) books.now }
 {
-    groups
-        .iter()
-        .position(|group| group.state == GroupState::Waiting)
+    books.iter().any(|book| writes_group(book, number))
+}
+
+/// Whether the die writes the page of the group with this number.
+fn writes_group(book: &Book, number: u64) -> bool
+    ensures { result ≡ writes_group number book.now }
+{
+    match book.flight {
+        Some(Flight::Group { number: other, .. }) => number == other,
+        _ => false,
+    }
+}
+
+/// Whether some die writes a mark.
+fn is_mark_written_now(books: &[Book]) -> bool
+    ensures { result ≡ list_any writes_mark books.now }
+{
+    books.iter().any(|book| writes_mark(book))
+}
+
+/// Whether the die writes a mark.
+fn writes_mark(book: &Book) -> bool
+    ensures { result ≡ writes_mark book.now }
+{
+    match book.flight {
+        Some(Flight::Mark { .. }) => true,
+        _ => false,
+    }
 }
 
 /// Whether the group is data of a unit.
@@ -71,6 +126,27 @@ fn tag_of(key: Key, number: u64, frontier: u64) -> Tag
         index: 0,
         size: 1,
         frontier,
+    }
+}
+
+/// The next page of the open block.
+fn next_place(die: u8, filled: OpenBlock) -> Place
+    ensures { result ≡ next_place die filled }
+{
+    Place {
+        die,
+        block: filled.block,
+        page: filled.next,
+    }
+}
+
+/// The program of what waits.
+fn page_flight(place: Place, waiting: Waiting) -> Flight
+    ensures { result ≡ page_flight place waiting }
+{
+    match waiting {
+        Waiting::Mark => Flight::Mark { place },
+        Waiting::Group(number) => Flight::Group { place, number },
     }
 }
 
@@ -155,14 +231,66 @@ impl Ftl {
         None
     }
 
+    /// Whether the page of the pending group at this position is neither written nor in flight.
+    fn is_waiting(&self, index: usize) -> bool
+        ensures { result ≡ waits_at self.now index }
+    {
+        if index >= self.groups.len() {
+            return false;
+        }
+        self.groups[index].written.is_none()
+            && !is_written_now(self.books.as_slice(), self.frontier + index as u64 + 1)
+    }
+
+    /// The position of the first pending group whose page waits.
+    fn first_waiting(&self) -> Option<usize>
+        ensures found { IfSome result (λ k. (k < length self.now.groups) × (waits_at self.now k ≡ true)) }
+        ensures lowest { IfSome result (λ k. (j : ℕ) → j < k → waits_at self.now j ≡ false) }
+        ensures none { IfNone result ((j : ℕ) → j < length self.now.groups → waits_at self.now j ≡ false) }
+    {
+        for index in 0..self.groups.len() {
+            if self.is_waiting(index) {
+                return Some(index);
+            }
+        }
+        None
+    }
+
+    /// The position of the group that waits first.
+    fn waiting_at(&self) -> Option<usize>
+        ensures what { result ≡ lowest_below (waits_at self.now) (length self.now.groups) }
+        ensures less { IfSome result (λ k. k < length self.now.groups) }
+    {
+        self.first_waiting()
+    }
+
+    /// The number of the group that waits first.
+    fn waiting_group(&self) -> Option<u64>
+        ensures { result ≡ number_waiting self.now }
+    {
+        match self.waiting_at() {
+            Some(index) => Some(self.frontier + index as u64 + 1),
+            None => None,
+        }
+    }
+
+    /// The number of the mark that waits.
+    fn waiting_mark(&self) -> Option<u64>
+        ensures { result ≡ mark_waiting self.now }
+    {
+        if is_mark_written_now(self.books.as_slice()) {
+            return None;
+        }
+        self.mark
+    }
+
     /// What waits first: a mark goes before the groups, and these in order of number.
     fn waiting(&self) -> Option<Waiting>
-        ensures what { result ≡ waiting_of self.now }
-        ensures numbered { (n : ℕ) → result ≡ Some (Waiting.Mark n) → (1 ≤ n) × (n ≤ 2 ^ 62) }
+        ensures { result ≡ waiting_of self.now }
     {
-        match self.mark {
-            MarkState::Waiting(number) => Some(Waiting::Mark(number)),
-            _ => first_waiting(self.groups.as_slice()).map(Waiting::Group),
+        match self.waiting_mark() {
+            Some(_) => Some(Waiting::Mark),
+            None => self.waiting_group().map(Waiting::Group),
         }
     }
 
@@ -172,15 +300,14 @@ impl Ftl {
         ensures { result ≡ may_open self.now waiting }
     {
         match waiting {
-            Waiting::Mark(_) => true,
+            Waiting::Mark => true,
             Waiting::Group(_) => self.free_blocks() > self.books.len() + 2,
         }
     }
 
     /// The read that the reader at this position is owed.
-    fn start_read(&mut self, die: u8, book: Book, index: usize) -> Option<Job>
-        ensures job { result ≡ option_map Job.Read (place_owed (slice_get self.old.pins index)) }
-        ensures after { self.new ≡ read_started self.old die book index }
+    fn read_of(&self, index: usize) -> Option<Flight>
+        ensures { result ≡ read_of (slice_get self.now.pins index) }
     {
         if index >= self.pins.len() {
             return None;
@@ -189,28 +316,16 @@ impl Ftl {
         let Looked::Page(stored) = pin.looked else {
             return None;
         };
-        let mut started = pin;
-        started.read = ReadState::InFlight;
-        self.pins[index] = started;
-        let flight = Flight::Read {
+        Some(Flight::Read {
             place: stored.place,
-            reader: pin.reader,
-        };
-        self.set_book(
-            die,
-            Book {
-                filling: book.filling,
-                flight: Some(flight),
-            },
-        );
-        Some(Job::Read(stored.place))
+            reader: Some(pin.reader),
+        })
     }
 
-    /// The mark's page: the configuration and no fence.
-    fn start_mark(&mut self, die: u8, book: Book, place: Place, number: u64) -> Job
+    /// The program of a mark: the configuration and no fence.
+    fn mark_program(&self, place: Place, number: u64) -> Job
         requires { (1 ≤ number) × (number ≤ 2 ^ 62) }
-        ensures job { result ≡ Job.Program place (seal_page (single_tag mark_key number self.old.frontier) (mark_bytes self.old.numbers None)) }
-        ensures after { self.new ≡ started (record self.old { mark = MarkState.InFlight number }) die book (Flight.Mark place) }
+        ensures { result ≡ mark_program self.now place number }
     {
         let key = Key {
             kind: Tag::MARK,
@@ -219,16 +334,17 @@ impl Ftl {
         };
         let tag = tag_of(key, number, self.frontier);
         let body = mark_body(self.config.numbers(), None);
-        let page = seal(&tag, &body);
-        self.mark = MarkState::InFlight(number);
-        self.set_book(
-            die,
-            Book {
-                filling: book.filling,
-                flight: Some(Flight::Mark { place }),
-            },
-        );
-        Job::Program(place, page)
+        Job::Program(place, seal(&tag, &body))
+    }
+
+    /// The program of the mark that is ordered.
+    fn mark_job(&self, place: Place) -> Option<Job>
+        ensures { result ≡ option_map (mark_program self.now place) self.now.mark }
+    {
+        match self.mark {
+            Some(number) => Some(self.mark_program(place, number)),
+            None => None,
+        }
     }
 
     /// The program of this group, pending at this position.
@@ -243,8 +359,8 @@ impl Ftl {
     }
 
     /// The program of the pending group at this position; only data of a unit is programmed as one.
-    fn group_job(&self, place: Place, index: usize) -> Option<Job>
-        ensures { result ≡ group_job self.now place index (slice_get self.now.groups index) }
+    fn group_job_at(&self, place: Place, index: usize) -> Option<Job>
+        ensures { result ≡ group_job_at self.now place index (slice_get self.now.groups index) }
     {
         if index >= self.groups.len() {
             return None;
@@ -257,32 +373,26 @@ impl Ftl {
         }
     }
 
-    /// The page of the pending group at this position is so far.
-    pub(super) fn move_at(&mut self, index: usize, state: GroupState)
-        ensures { self.new ≡ group_moved self.old index state }
+    /// The program of the group with this number, if it is pending.
+    fn group_job(&self, place: Place, number: u64) -> Option<Job>
+        ensures { result ≡ group_job self.now place (pending_at self.now number) }
     {
-        if index < self.groups.len() {
-            let group = &mut self.groups[index];
-            group.state = state;
+        match self.pending_at(number) {
+            Some(index) => self.group_job_at(place, index),
+            None => None,
         }
     }
 
-    /// The page of the pending group at this position.
-    fn start_group(&mut self, die: u8, book: Book, place: Place, index: usize) -> Option<Job>
-        ensures job { result ≡ group_job self.old place index (slice_get self.old.groups index) }
-        ensures after { self.new ≡ group_started self.old die book place index (group_job self.old place index (slice_get self.old.groups index)) }
+    /// What the die is told to do.
+    fn job_of(&self, die: u8, flight: Flight) -> Option<Job>
+        ensures { result ≡ job_of self.now die flight }
     {
-        let job = self.group_job(place, index)?;
-        let number = self.frontier + index as u64 + 1;
-        self.move_at(index, GroupState::InFlight);
-        self.set_book(
-            die,
-            Book {
-                filling: book.filling,
-                flight: Some(Flight::Group { place, number }),
-            },
-        );
-        Some(job)
+        match flight {
+            Flight::Read { place, .. } => Some(Job::Read(place)),
+            Flight::Mark { place } => self.mark_job(place),
+            Flight::Group { place, number } => self.group_job(place, number),
+            Flight::Erase { block } => Some(Job::Erase { die, block }),
+        }
     }
 
     /// The block of the die that is erased for what waits, where one may be opened for it.
@@ -296,20 +406,29 @@ impl Ftl {
         }
     }
 
-    /// The erase of the lowest block that may be opened for what waits.
-    fn start_erase(&mut self, die: u8, book: Book, waiting: Waiting) -> Option<Job>
-        ensures job { result ≡ option_map (erase_of die) (block_for self.old die waiting) }
-        ensures after { self.new ≡ erase_started self.old die book (block_for self.old die waiting) }
+    /// The job of what waits: it goes to the next page of the open block, and a block is erased for it
+    /// if none is open.
+    fn waiting_flight(&self, die: u8, book: Book, waiting: Waiting) -> Option<Flight>
+        ensures { result ≡ waiting_flight self.now die book.filling waiting }
     {
-        let block = self.block_for(die, waiting)?;
-        self.set_book(
-            die,
-            Book {
-                filling: book.filling,
-                flight: Some(Flight::Erase { block }),
+        let Some(open) = book.filling else {
+            let block = self.block_for(die, waiting)?;
+            return Some(Flight::Erase { block });
+        };
+        Some(page_flight(next_place(die, open), waiting))
+    }
+
+    /// The job that an idle die is owed: a read that a reader is owed, else that of what waits first.
+    fn owed_flight(&self, die: u8, book: Book) -> Option<Flight>
+        ensures { result ≡ owed_flight self.now die book.filling (first_owed self.now die) }
+    {
+        match first_owed(self.pins.as_slice(), self.books.as_slice(), die) {
+            Some(index) => self.read_of(index),
+            None => match self.waiting() {
+                Some(waiting) => self.waiting_flight(die, book, waiting),
+                None => None,
             },
-        );
-        Some(Job::Erase { die, block })
+        }
     }
 
     /// The next job of the die, which is then in flight: a read that a reader is owed, else the
@@ -322,10 +441,11 @@ impl Ftl {
         // It is one that the layer owes to the die, in the order of what is owed, and none where none is.
         ensures described { (t : Translation) → Describes self.old t → IsTaken t die result self.new }
     {
-        self.next_job(die)
+        self.start_job(die)
     }
 
-    fn next_job(&mut self, die: u8) -> Option<Job>
+    /// The next job of the die is in flight.
+    fn start_job(&mut self, die: u8) -> Option<Job>
         ensures nothing { IfNone result (self.new ≡ self.old) }
         ensures job { result ≡ job_taken self.old die }
         ensures after { self.new ≡ core_taken self.old die }
@@ -334,55 +454,15 @@ impl Ftl {
         if book.flight.is_some() {
             return None;
         }
-        self.take_idle(die, book)
-    }
-
-    /// The next job of a die with no job in flight.
-    fn take_idle(&mut self, die: u8, book: Book) -> Option<Job>
-        ensures job { result ≡ owed_job self.old die book (first_owed self.old die) }
-        ensures after { self.new ≡ owed_started self.old die book (first_owed self.old die) }
-    {
-        match wanted(self.pins.as_slice(), die) {
-            Some(index) => self.start_read(die, book, index),
-            None => self.take_waiting(die, book),
-        }
-    }
-
-    /// What waits first, where anything does.
-    fn take_waiting(&mut self, die: u8, book: Book) -> Option<Job>
-        ensures job { result ≡ any_waiting_job self.old die book (waiting_of self.old) }
-        ensures after { self.new ≡ any_waiting_started self.old die book (waiting_of self.old) }
-    {
-        let waiting = self.waiting()?;
-        self.start_waiting(die, book, waiting)
-    }
-
-    /// What waits is programmed into the open block, and where none is open one is erased.
-    fn start_waiting(&mut self, die: u8, book: Book, waiting: Waiting) -> Option<Job>
-        requires { (n : ℕ) → waiting ≡ Waiting.Mark n → (1 ≤ n) × (n ≤ 2 ^ 62) }
-        ensures job { result ≡ waiting_job self.old die book.filling waiting }
-        ensures after { self.new ≡ waiting_started self.old die book book.filling waiting }
-    {
-        let Some(open) = book.filling else {
-            return self.start_erase(die, book, waiting);
-        };
-        let place = Place {
+        let flight = self.owed_flight(die, book)?;
+        let job = self.job_of(die, flight)?;
+        self.set_book(
             die,
-            block: open.block,
-            page: open.next,
-        };
-        self.start_page(die, book, place, waiting)
-    }
-
-    /// The program of what waits.
-    fn start_page(&mut self, die: u8, book: Book, place: Place, waiting: Waiting) -> Option<Job>
-        requires { (n : ℕ) → waiting ≡ Waiting.Mark n → (1 ≤ n) × (n ≤ 2 ^ 62) }
-        ensures job { result ≡ page_job self.old place waiting }
-        ensures after { self.new ≡ page_started self.old die book place waiting }
-    {
-        match waiting {
-            Waiting::Mark(number) => Some(self.start_mark(die, book, place, number)),
-            Waiting::Group(index) => self.start_group(die, book, place, index),
-        }
+            Book {
+                filling: book.filling,
+                flight: Some(flight),
+            },
+        );
+        Some(job)
     }
 }

@@ -1,5 +1,5 @@
-use Rattle.power_loss.proofs.StopCells.{within}
-use Rattle.power_loss.proofs.StopSound.{prefix, sound, suits}
+use Rattle.power_loss.proofs.stops.LeftCells.{within}
+use Rattle.power_loss.proofs.stops.LeftIsSound.{prefix, sound, suits}
 use Rattle.power_loss.proofs.a_stop_leaves_a_prefix.Goals as goal
 
 -- src/lib.rt:30:1

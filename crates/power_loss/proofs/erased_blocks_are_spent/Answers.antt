@@ -1,4 +1,4 @@
-use Rattle.power_loss.proofs.Spents.{erased_are_spent, erased_by_some_mark}
+use Rattle.power_loss.proofs.spent.ErasedIsSpent.{erased_are_spent, erased_by_some_mark}
 use Rattle.power_loss.proofs.erased_blocks_are_spent.Goals as goal
 
 pub returns-clause-spent : goal.returns-clause-spent

@@ -1,4 +1,4 @@
-use Rattle.power_loss.proofs.LivePages.{live_has_copy, live_never_erased}
+use Rattle.power_loss.proofs.collected_blocks.LivePages.{live_has_copy, live_never_erased}
 use Rattle.power_loss.proofs.live_page_is_spent_by_a_copy_alone.Goals as goal
 
 pub returns-clause-copied : goal.returns-clause-copied

@@ -1,4 +1,4 @@
-use Rattle.power_loss.proofs.OpeningMends.{opening_valid}
+use Rattle.power_loss.proofs.openings.OpenedIsValid.{opening_valid}
 use Rattle.power_loss.proofs.opening_is_valid.Goals as goal
 
 -- src/lib.rt:22:1

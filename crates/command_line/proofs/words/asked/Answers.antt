@@ -13,5 +13,6 @@ script_in-rows (Some p) rows e = ap (λ (o : Option (List Row)). option_and_then
 
 pub returns-in-Some-get_str : goal.returns-in-Some-get_str
 returns-in-Some-get_str c =
-    let found = script_in-rows (subcommand_rows_of c.args.matches.now) (rows_of (found_of c.in-Some.run'.now)) c.in-Some.ensures.rows in
+    let found = script_in-rows (subcommand_rows_of c.args.matches.now) (rows_of (found_of c.in-Some.run'.now))
+    c.in-Some.ensures.rows in
     found ∙ sym (first_value-rows (found_of c.in-Some.run'.now) (codes "script")) ∙ sym c.in-Some-get_str.ensures

@@ -8,7 +8,8 @@ loop-index-init c = record {
   few = c.deref-unit-items.ensures.1;
   same = c.deref-unit-items.ensures.0;
   filled =
-      zero_filled-first 4096 32 (fence_bytes c.args.fence ++ numbers_bytes c.args.numbers.now) c.copy_from_slice.new.self
+      zero_filled-first 4096 32 (fence_bytes c.args.fence ++ numbers_bytes c.args.numbers.now)
+      c.copy_from_slice.new.self
       (length-head c.args.numbers.now c.args.fence) (c.copy_from_slice.ensures.after ∙ c.head_of.ensures);
 }
 

@@ -2,7 +2,9 @@ use Rattle.std.proofs.Common.{◌≡◌, ◌∙◌, ap, sym, true, take}
 use Rattle.std.specs.Str.{bytes_eq}
 use Rattle.std.proofs.lemmas.Slice.Eq.{bytes_eq-Decides}
 use Rattle.ufs_spec.specs.Pages.{IsTag, spare_front}
-use Rattle.page_tag.proofs.Sealed.{check_of_sealed, front_of_sealed, sealed, tag_of_sealed, true_from_not}
+use Rattle.ufs_spec.proofs.Facts.{not-false}
+use Rattle.ufs_spec.proofs.SealedPages.{check_of_sealed, tag_of_sealed}
+use Rattle.page_tag.proofs.Sealed.{front_of_sealed, sealed}
 use Rattle.page_tag.proofs.page.open.Goals as goal
 use Rattle.page_tag.proofs.page.open.Goals.{then-ne-via-then-ne, then-ne-via-else-ne+then-not-is_check_right}
 
@@ -32,7 +34,7 @@ pub returns-clause-sealed : goal.returns-clause-sealed
 returns-clause-sealed c =
     let tag : IsTag c.tag_of-tag.result = c.is_tag.ensures.0 c.if-not-is_tag.false in
     let equal : bytes_eq c.front_of-front.result (take 64 c.args.page.now.spare) ≡ true =
-    true_from_not _ (sym c.ne.ensures ∙ c.if-ne.false) in
+    not-false _ (sym c.ne.ensures ∙ c.if-ne.false) in
     let front : take 64 c.args.page.now.spare ≡ spare_front c.tag_of-tag.result =
     sym ((bytes_eq-Decides _ _).0 equal) ∙ c.front_of-front.ensures in
     (tag, sealed c.args.page.now c.tag_of-tag.result front (c.is_check_right.ensures.0 c.if-not-is_check_right.false))

@@ -1,4 +1,4 @@
-use Rattle.power_loss.proofs.FewestLive.{begins, due_is, due_only}
+use Rattle.power_loss.proofs.collected_blocks.FewestLivePages.{begins, due_is, due_only}
 use Rattle.power_loss.proofs.collection.collection_is_due_when_it_should.Goals as goal
 
 pub returns-clause-due : goal.returns-clause-due

@@ -1,4 +1,4 @@
-use Rattle.power_loss.proofs.FewestLive.{locks, locks_only}
+use Rattle.power_loss.proofs.collected_blocks.FewestLivePages.{locks, locks_only}
 use Rattle.power_loss.proofs.collection.too_many_bad_blocks_lock.Goals as goal
 
 pub returns-clause-locks : goal.returns-clause-locks

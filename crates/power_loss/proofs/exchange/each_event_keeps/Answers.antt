@@ -1,4 +1,4 @@
-use Rattle.power_loss.proofs.EachEvent.{many_events, one_event}
+use Rattle.power_loss.proofs.lives.EachEventKeeps.{many_events, one_event}
 use Rattle.power_loss.proofs.exchange.each_event_keeps.Goals as goal
 
 -- src/exchange.rt:24:1

@@ -1,4 +1,4 @@
-use Rattle.power_loss.proofs.NextLife.{prefix_left, sound_left, suits_left, within_left}
+use Rattle.power_loss.proofs.lives.NextLife.{prefix_left, sound_left, suits_left, within_left}
 use Rattle.power_loss.proofs.exchange.next_life_begins_with_a_prefix.Goals as goal
 
 pub returns-clause-sound : goal.returns-clause-sound

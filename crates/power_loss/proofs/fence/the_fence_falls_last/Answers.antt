@@ -1,4 +1,4 @@
-use Rattle.power_loss.proofs.FenceLast.{durable, ends, given, not_before, ordered}
+use Rattle.power_loss.proofs.ordered_steps.FenceFallsLast.{durable, ends, given, not_before, ordered}
 use Rattle.power_loss.proofs.fence.the_fence_falls_last.Goals as goal
 
 pub returns-clause-given : goal.returns-clause-given

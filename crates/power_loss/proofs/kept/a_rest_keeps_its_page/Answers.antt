@@ -1,4 +1,4 @@
-use Rattle.power_loss.proofs.KeptPages.{rest_not_erased, rest_page}
+use Rattle.power_loss.proofs.kept_pages.KeptAreThere.{rest_not_erased, rest_page}
 use Rattle.power_loss.proofs.kept.a_rest_keeps_its_page.Goals as goal
 
 pub returns-clause-page : goal.returns-clause-page

@@ -1,4 +1,4 @@
-use Rattle.power_loss.proofs.KeptPages.{page_kept, page_known, pin_not_erased, slot_kept}
+use Rattle.power_loss.proofs.kept_pages.KeptAreThere.{page_kept, page_known, pin_not_erased, slot_kept}
 use Rattle.power_loss.proofs.kept.kept_pages_stay.Goals as goal
 
 pub returns-clause-page : goal.returns-clause-page

@@ -1,5 +1,5 @@
 use Rattle.std.proofs.Common.{refl}
-use Rattle.power_loss.proofs.RestsFound.{rest_found, rests_told, whole_has_none}
+use Rattle.power_loss.proofs.accepted_groups.RestsOfGroups.{rest_found, rests_told, whole_has_none}
 use Rattle.power_loss.proofs.kept.rests_are_found_at_the_accept.Goals as goal
 
 pub returns-clause-none : goal.returns-clause-none

@@ -1,4 +1,4 @@
-use Rattle.power_loss.proofs.LifeTurns.{true_turns_of_life, true_turns_of_new_dies}
+use Rattle.power_loss.proofs.mending_steps.TurnsOfALife.{true_turns_of_life, true_turns_of_new_dies}
 use Rattle.power_loss.proofs.mending.a_life_is_mended_soon.Goals as goal
 
 -- src/mending.rt:41:1

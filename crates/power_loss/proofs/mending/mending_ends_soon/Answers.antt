@@ -1,6 +1,6 @@
-use Rattle.power_loss.proofs.AllMoves.{all_keep}
-use Rattle.power_loss.proofs.LostKeys.{life_turns, turns_at_opening}
-use Rattle.power_loss.proofs.TurnsLeft.{all_counted, move_keeps_turns, turn_takes}
+use Rattle.power_loss.proofs.moves.MovesKeepValid.{all_keep}
+use Rattle.power_loss.proofs.lives.LostKeys.{life_turns, turns_at_opening}
+use Rattle.power_loss.proofs.mending_steps.TurnsLeft.{all_counted, move_keeps_turns, turn_takes}
 use Rattle.power_loss.proofs.mending.mending_ends_soon.Goals as goal
 
 -- src/mending.rt:17:1

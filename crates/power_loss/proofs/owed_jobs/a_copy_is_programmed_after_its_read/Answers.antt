@@ -1,5 +1,5 @@
-use Rattle.power_loss.proofs.CopiesRead.{begun, brought, its_page}
-use Rattle.power_loss.proofs.OneDieEach.{given}
+use Rattle.power_loss.proofs.jobs_owed.CopiesAfterTheirRead.{begun, brought, its_page}
+use Rattle.power_loss.proofs.jobs_owed.OneDieForEachJob.{given}
 use Rattle.power_loss.proofs.owed_jobs.a_copy_is_programmed_after_its_read.Goals as goal
 
 pub returns-clause-begun : goal.returns-clause-begun

@@ -1,4 +1,4 @@
-use Rattle.power_loss.proofs.OneDieEach.{one_mark, one_page, one_read}
+use Rattle.power_loss.proofs.jobs_owed.OneDieForEachJob.{one_mark, one_page, one_read}
 use Rattle.power_loss.proofs.owed_jobs.one_die_each.Goals as goal
 
 pub returns-clause-page : goal.returns-clause-page

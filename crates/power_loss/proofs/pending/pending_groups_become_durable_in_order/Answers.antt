@@ -1,8 +1,8 @@
-use Rattle.power_loss.proofs.PendingGroups.{accept, all, first, front, opened, others, stops}
+use Rattle.power_loss.proofs.pending_groups.DurableInOrder.{accept, all, first, front, opened, others, stops}
 use Rattle.power_loss.proofs.pending.pending_groups_become_durable_in_order.Goals as goal
 
 pub returns-clause-accept : goal.returns-clause-accept
-returns-clause-accept c = accept
+returns-clause-accept c t move g v may is = accept t move v may g is
 
 pub returns-clause-front : goal.returns-clause-front
 returns-clause-front c = front

@@ -1,5 +1,5 @@
-use Rattle.power_loss.proofs.PromiseEnds.{flush_held, write_held}
-use Rattle.power_loss.proofs.ShortEnds.{setting_held}
+use Rattle.power_loss.proofs.kept_promises.GoodReplies.{flush_held, write_held}
+use Rattle.power_loss.proofs.kept_promises.ShortExchangesEnd.{setting_held}
 use Rattle.power_loss.proofs.promises.good_promises_durability.Goals as goal
 
 pub returns-clause-flush : goal.returns-clause-flush

@@ -1,5 +1,5 @@
-use Rattle.ufs_laws.proofs.NewOpens.{new_opens}
-use Rattle.power_loss.proofs.FailedWrite.{failed_write}
+use Rattle.ufs_laws.proofs.new_dies.NewDeviceExists.{new_opens}
+use Rattle.power_loss.proofs.worked.FailedWrite.{failed_write}
 use Rattle.power_loss.proofs.runs.a_failed_write_is_answered.Goals as goal
 
 pub returns : goal.returns

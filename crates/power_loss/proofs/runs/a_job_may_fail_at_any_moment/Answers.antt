@@ -1,4 +1,4 @@
-use Rattle.power_loss.proofs.EachFailure.{failure_lawful, job_fails, read_fails}
+use Rattle.power_loss.proofs.jobs.LawfulFailures.{failure_lawful, job_fails, read_fails}
 use Rattle.power_loss.proofs.runs.a_job_may_fail_at_any_moment.Goals as goal
 
 pub returns-clause-each : goal.returns-clause-each

@@ -1,4 +1,4 @@
-use Rattle.power_loss.proofs.RunLives.{headline, lives_of, lives_right, more}
+use Rattle.power_loss.proofs.lives.LivesOfRuns.{headline, lives_of, lives_right, more}
 use Rattle.power_loss.proofs.runs.a_run_keeps_the_promise.Goals as goal
 
 pub returns-clause-more : goal.returns-clause-more

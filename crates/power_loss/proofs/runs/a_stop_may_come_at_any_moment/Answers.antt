@@ -1,5 +1,5 @@
-use Rattle.power_loss.proofs.EachLeftover.{each_stops, stops_lawful}
-use Rattle.power_loss.proofs.RunStops.{run_ends, run_leaves, stop_goes, stop_of_opened}
+use Rattle.power_loss.proofs.stops.LawfulLeftovers.{each_stops, stops_lawful}
+use Rattle.power_loss.proofs.lives.StopsOfRuns.{run_ends, run_leaves, stop_goes, stop_of_opened}
 use Rattle.power_loss.proofs.runs.a_stop_may_come_at_any_moment.Goals as goal
 
 pub returns-clause-leaves : goal.returns-clause-leaves

@@ -1,5 +1,5 @@
-use Rattle.ufs_laws.proofs.NewOpens.{new_opens}
-use Rattle.power_loss.proofs.StoppedWrite.{some_torn, stopped_new, stopped_old, stopped_torn}
+use Rattle.ufs_laws.proofs.new_dies.NewDeviceExists.{new_opens}
+use Rattle.power_loss.proofs.worked.StoppedWrite.{some_torn, stopped_new, stopped_old, stopped_torn}
 use Rattle.power_loss.proofs.runs.a_stopped_write_opens.Goals as goal
 
 pub returns-clause-old : goal.returns-clause-old

@@ -1,4 +1,4 @@
-use Rattle.power_loss.proofs.DiesInside.{fit_inside, new_blank, new_die_is, new_fit, new_opens}
+use Rattle.power_loss.proofs.die_pages.BlankOutsideDies.{fit_inside, new_blank, new_die_is, new_fit, new_opens}
 use Rattle.power_loss.proofs.runs.new_dies_fit.Goals as goal
 
 pub returns-clause-new_die : goal.returns-clause-new_die

@@ -1,5 +1,5 @@
-use Rattle.ufs_laws.proofs.NewOpens.{new_opens}
-use Rattle.power_loss.proofs.TornTwice.{torn_twice}
+use Rattle.ufs_laws.proofs.new_dies.NewDeviceExists.{new_opens}
+use Rattle.power_loss.proofs.worked.TornTwice.{torn_twice}
 use Rattle.power_loss.proofs.runs.two_dies_torn_at_once_open.Goals as goal
 
 pub returns : goal.returns

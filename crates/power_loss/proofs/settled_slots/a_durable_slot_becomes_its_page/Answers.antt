@@ -1,4 +1,4 @@
-use Rattle.power_loss.proofs.SlotsSettle.{page, slot}
+use Rattle.power_loss.proofs.kept_pages.SlotsBecomePages.{page, slot}
 use Rattle.power_loss.proofs.settled_slots.a_durable_slot_becomes_its_page.Goals as goal
 
 pub returns-clause-slot : goal.returns-clause-slot

@@ -1,5 +1,5 @@
-use Rattle.power_loss.proofs.LivesShow.{call_shows, life_shows, opened_shows, page_body, page_sent}
-use Rattle.power_loss.proofs.LooksShow.{look_shows}
+use Rattle.power_loss.proofs.shown_blocks.LivesShowBlocks.{call_shows, life_shows, opened_shows, page_body, page_sent}
+use Rattle.power_loss.proofs.shown_blocks.LooksShowContents.{look_shows}
 use Rattle.power_loss.proofs.shown.kept_content_is_what_is_sent.Goals as goal
 
 pub returns-clause-looked : goal.returns-clause-looked

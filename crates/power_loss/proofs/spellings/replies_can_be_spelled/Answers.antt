@@ -1,7 +1,8 @@
-use Rattle.power_loss.proofs.EachEvent.{one_event}
-use Rattle.power_loss.proofs.SpokenReplies.{each_speaks, life_speaks, opened_speaks}
-use Rattle.power_loss.proofs.SpokenShorts.{call_speaks, due_spelled, short_message, shorts_life, shorts_open}
-use Rattle.ufs_laws.proofs.ReplySizes.{reply_speaks, size}
+use Rattle.power_loss.proofs.lives.EachEventKeeps.{one_event}
+use Rattle.power_loss.proofs.spoken_replies.TaskReplies.{each_speaks, life_speaks, opened_speaks}
+use Rattle.power_loss.proofs.spoken_replies.ShortReplies.{call_speaks, due_spelled, short_message, shorts_life}
+use Rattle.power_loss.proofs.spoken_replies.ShortReplies.{shorts_open}
+use Rattle.ufs_laws.proofs.exchanges.ReplySizes.{reply_speaks, size}
 use Rattle.power_loss.proofs.spellings.replies_can_be_spelled.Goals as goal
 
 pub returns-clause-size : goal.returns-clause-size

@@ -1,7 +1,7 @@
-use Rattle.ufs_laws.proofs.States.{contents_there, state_is_plain}
-use Rattle.ufs_laws.proofs.Newest.{holds, newest_mark, recorded}
-use Rattle.ufs_laws.proofs.Stands.{ContentsArePlain, ContentsAreThere, stands_for_something}
-use Rattle.ufs_laws.proofs.Whole.{kept}
+use Rattle.ufs_laws.proofs.plain_contents.PlainFromContents.{contents_there, state_is_plain}
+use Rattle.ufs_laws.proofs.array_cells.NewestFound.{holds, newest_mark, recorded}
+use Rattle.ufs_laws.proofs.array_cells.StandsForSomething.{ContentsArePlain, ContentsAreThere, stands_for_something}
+use Rattle.ufs_laws.proofs.array_cells.KeptNumberFound.{kept}
 use Rattle.ufs_laws.proofs.arrays.array_stands_for_something.Goals as goal
 
 pub returns-clause-mark : goal.returns-clause-mark

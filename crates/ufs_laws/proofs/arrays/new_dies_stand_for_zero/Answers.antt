@@ -1,5 +1,6 @@
-use Rattle.ufs_laws.proofs.NewDevice.{new_plain, new_zeros}
-use Rattle.ufs_laws.proofs.Stands.{NewIsPlain, NewIsZeros, new_sound, new_stands_for_zero, new_suits}
+use Rattle.ufs_laws.proofs.plain_contents.NewDevice.{new_plain, new_zeros}
+use Rattle.ufs_laws.proofs.array_cells.StandsForSomething.{NewIsPlain, NewIsZeros, new_sound, new_stands_for_zero}
+use Rattle.ufs_laws.proofs.array_cells.StandsForSomething.{new_suits}
 use Rattle.ufs_laws.proofs.arrays.new_dies_stand_for_zero.Goals as goal
 use Rattle.ufs_spec.proofs.PlainFacts.{new_shape}
 

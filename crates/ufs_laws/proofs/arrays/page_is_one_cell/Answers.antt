@@ -1,5 +1,5 @@
-use Rattle.ufs_laws.proofs.OneCell.{one_cell}
-use Rattle.ufs_laws.proofs.SomeCell.{some_cell}
+use Rattle.ufs_laws.proofs.pages.PageIsOneCell.{one_cell}
+use Rattle.ufs_laws.proofs.pages.PageIsSomeCell.{some_cell}
 use Rattle.ufs_laws.proofs.arrays.page_is_one_cell.Goals as goal
 
 pub returns-clause-there : goal.returns-clause-there

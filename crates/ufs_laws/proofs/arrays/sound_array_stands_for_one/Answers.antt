@@ -1,6 +1,7 @@
-use Rattle.ufs_laws.proofs.OneCell.{one_cell}
-use Rattle.ufs_laws.proofs.States.{same_contents}
-use Rattle.ufs_laws.proofs.One.{PagesAreOne, PlainIsOne, content_one, kept_one, mark_one, plain_one, recorded_one}
+use Rattle.ufs_laws.proofs.pages.PageIsOneCell.{one_cell}
+use Rattle.ufs_laws.proofs.plain_contents.PlainFromContents.{same_contents}
+use Rattle.ufs_laws.proofs.array_cells.StandsForOne.{PagesAreOne, PlainIsOne, content_one, kept_one, mark_one}
+use Rattle.ufs_laws.proofs.array_cells.StandsForOne.{plain_one, recorded_one}
 use Rattle.ufs_laws.proofs.arrays.sound_array_stands_for_one.Goals as goal
 
 pub returns-clause-mark : goal.returns-clause-mark

@@ -1,4 +1,4 @@
-use Rattle.ufs_laws.proofs.Crashes.{cell_crash, torn_is_nothing}
+use Rattle.ufs_laws.proofs.array_cells.CrashedCells.{cell_crash, torn_is_nothing}
 use Rattle.ufs_laws.proofs.calls.a_crash_of_pages_is_one_of_cells.Goals as goal
 
 pub returns-clause-cells : goal.returns-clause-cells

@@ -1,4 +1,4 @@
-use Rattle.ufs_laws.proofs.Joined.{cut, join, life_length}
+use Rattle.ufs_laws.proofs.lives.LivesJoined.{cut, join, life_length}
 use Rattle.ufs_laws.proofs.calls.a_life_begins_with_its_beginning.Goals as goal
 
 pub returns-clause-cut : goal.returns-clause-cut

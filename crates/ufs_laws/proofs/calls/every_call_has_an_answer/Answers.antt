@@ -1,9 +1,9 @@
 use Rattle.std.proofs.Common.{refl}
 use Rattle.ufs_spec.specs.Moves.{fits}
 use Rattle.ufs_spec.specs.Translation.{is_step_due}
-use Rattle.ufs_laws.proofs.Answered.{leads_somewhere}
-use Rattle.ufs_laws.proofs.Jobs.{given}
-use Rattle.ufs_laws.proofs.Replies.{answered, heard, reply_due}
+use Rattle.ufs_laws.proofs.lives.EventsLead.{leads_somewhere}
+use Rattle.ufs_laws.proofs.jobs.OneJob.{given}
+use Rattle.ufs_laws.proofs.answers.RightAnswers.{answered, heard, reply_due}
 use Rattle.ufs_laws.proofs.calls.every_call_has_an_answer.Goals as goal
 
 pub returns-clause-each : goal.returns-clause-each

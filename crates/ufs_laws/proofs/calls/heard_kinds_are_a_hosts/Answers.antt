@@ -1,4 +1,4 @@
-use Rattle.ufs_laws.proofs.Managed.{heard_kind, read_kind}
+use Rattle.ufs_laws.proofs.exchanges.TaskManagement.{heard_kind, read_kind}
 use Rattle.ufs_laws.proofs.calls.heard_kinds_are_a_hosts.Goals as goal
 
 pub returns-clause-heard : goal.returns-clause-heard

@@ -1,4 +1,4 @@
-use Rattle.ufs_laws.proofs.Staying.{life_stays, opened_stays, stays}
+use Rattle.ufs_laws.proofs.jobs.JobsStay.{life_stays, opened_stays, stays}
 use Rattle.ufs_laws.proofs.calls.jobs_lie_on_their_dies.Goals as goal
 
 pub returns-clause-open : goal.returns-clause-open

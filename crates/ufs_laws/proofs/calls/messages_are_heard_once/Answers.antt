@@ -1,5 +1,5 @@
-use Rattle.ufs_laws.proofs.AllHeard.{one_spelled}
-use Rattle.ufs_laws.proofs.HeardOnce.{no_fault, one_fault}
+use Rattle.ufs_laws.proofs.exchanges.BytesHeard.{one_spelled}
+use Rattle.ufs_laws.proofs.exchanges.HeardOnce.{no_fault, one_fault}
 use Rattle.ufs_laws.proofs.calls.messages_are_heard_once.Goals as goal
 
 pub returns-clause-one_fault : goal.returns-clause-one_fault

@@ -1,5 +1,5 @@
-use Rattle.ufs_laws.proofs.FirstJob.{first_job}
-use Rattle.ufs_laws.proofs.FirstLife.{base_is_zero, no_job, no_reply, opens_new, step_due, unmended}
+use Rattle.ufs_laws.proofs.new_dies.FirstErase.{first_job}
+use Rattle.ufs_laws.proofs.new_dies.FirstLife.{base_is_zero, no_job, no_reply, opens_new, step_due, unmended}
 use Rattle.ufs_laws.proofs.calls.new_dies_open.Goals as goal
 
 pub returns-clause-open : goal.returns-clause-open

@@ -1,5 +1,5 @@
-use Rattle.ufs_laws.proofs.Flying.{given_flights, jobs_behind, same_flights}
-use Rattle.ufs_laws.proofs.Settled as settled
+use Rattle.ufs_laws.proofs.jobs.JobsInFlight.{given_flights, jobs_behind, same_flights}
+use Rattle.ufs_laws.proofs.exchanges.RequestsSettled as settled
 use Rattle.ufs_laws.proofs.calls.no_request_fills_nothing.Goals as goal
 
 pub returns-clause-nothing : goal.returns-clause-nothing

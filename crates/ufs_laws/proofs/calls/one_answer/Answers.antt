@@ -1,5 +1,5 @@
-use Rattle.ufs_laws.proofs.Jobs.{not_both, one_job}
-use Rattle.ufs_laws.proofs.Replies.{one_end, one_heard, one_step}
+use Rattle.ufs_laws.proofs.jobs.OneJob.{not_both, one_job}
+use Rattle.ufs_laws.proofs.answers.RightAnswers.{one_end, one_heard, one_step}
 use Rattle.ufs_laws.proofs.calls.one_answer.Goals as goal
 
 pub returns-clause-host : goal.returns-clause-host

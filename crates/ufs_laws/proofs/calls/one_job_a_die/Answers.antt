@@ -1,7 +1,7 @@
-use Rattle.ufs_laws.proofs.Flying.{ended_flight, ended_others, other_job, own_job, same_jobs}
-use Rattle.ufs_laws.proofs.Homes.{job_here}
-use Rattle.ufs_laws.proofs.Jobs.{is_die, was_free}
-use Rattle.ufs_laws.proofs.Staying.{ask_same, host_same, turn_same}
+use Rattle.ufs_laws.proofs.jobs.JobsInFlight.{ended_flight, ended_others, other_job, own_job, same_jobs}
+use Rattle.ufs_laws.proofs.jobs.JobsOnTheirDies.{job_here}
+use Rattle.ufs_laws.proofs.jobs.OneJob.{is_die, was_free}
+use Rattle.ufs_laws.proofs.jobs.JobsStay.{ask_same, host_same, turn_same}
 use Rattle.ufs_laws.proofs.calls.one_job_a_die.Goals as goal
 
 pub returns-clause-free : goal.returns-clause-free

@@ -1,4 +1,5 @@
-use Rattle.ufs_laws.proofs.Managed.{answered_complete, no_unit_answered, not_carried_out, only_answered}
+use Rattle.ufs_laws.proofs.exchanges.TaskManagement.{answered_complete, no_unit_answered, not_carried_out}
+use Rattle.ufs_laws.proofs.exchanges.TaskManagement.{only_answered}
 use Rattle.ufs_laws.proofs.calls.refused_management_aborts_nothing.Goals as goal
 
 pub returns-clause-nothing : goal.returns-clause-nothing

@@ -1,4 +1,4 @@
-use Rattle.ufs_laws.proofs.Groups.{many_commands, one_command}
+use Rattle.ufs_laws.proofs.plain_contents.GroupsOfCommands.{many_commands, one_command}
 use Rattle.ufs_laws.proofs.contents.command_replaces_its_keys.Goals as goal
 
 pub returns-clause-one : goal.returns-clause-one

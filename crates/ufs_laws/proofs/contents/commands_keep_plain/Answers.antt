@@ -1,4 +1,4 @@
-use Rattle.ufs_laws.proofs.Commands.{all_kept_plain, kept_plain}
+use Rattle.ufs_laws.proofs.plain_contents.CommandsKeepPlain.{all_kept_plain, kept_plain}
 use Rattle.ufs_laws.proofs.contents.commands_keep_plain.Goals as goal
 
 pub returns-clause-one : goal.returns-clause-one

@@ -1,4 +1,4 @@
-use Rattle.ufs_laws.proofs.NewDevice.{new_plain, new_zeros}
+use Rattle.ufs_laws.proofs.plain_contents.NewDevice.{new_plain, new_zeros}
 use Rattle.ufs_laws.proofs.contents.new_device_is_zero.Goals as goal
 
 pub returns-clause-plain : goal.returns-clause-plain

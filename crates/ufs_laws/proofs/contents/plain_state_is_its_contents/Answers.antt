@@ -1,4 +1,5 @@
-use Rattle.ufs_laws.proofs.States.{back_again, contents_of, contents_there, same_contents, state_is_plain}
+use Rattle.ufs_laws.proofs.plain_contents.PlainFromContents.{back_again, contents_of, contents_there, same_contents}
+use Rattle.ufs_laws.proofs.plain_contents.PlainFromContents.{state_is_plain}
 use Rattle.ufs_laws.proofs.contents.plain_state_is_its_contents.Goals as goal
 
 pub returns-clause-contents : goal.returns-clause-contents

@@ -1,5 +1,5 @@
-use Rattle.ufs_laws.proofs.KnownTasks.{begins_known, call_known, open_known, passes}
-use Rattle.ufs_laws.proofs.SpokenCalls.{life_keeps}
+use Rattle.ufs_laws.proofs.exchanges.TakenCommandsKnown.{begins_known, call_known, open_known, passes}
+use Rattle.ufs_laws.proofs.exchanges.SpokenCalls.{life_keeps}
 use Rattle.ufs_laws.specs.Exchange.{AllKnown}
 use Rattle.ufs_laws.proofs.exchange.a_command_is_never_unknown_once_taken.Goals as goal
 

@@ -1,4 +1,4 @@
-use Rattle.ufs_laws.proofs.AllHeard.{is_heard, one_heard}
+use Rattle.ufs_laws.proofs.exchanges.BytesHeard.{is_heard, one_heard}
 use Rattle.ufs_laws.proofs.exchange.every_byte_string_is_heard.Goals as goal
 
 pub returns-clause-heard : goal.returns-clause-heard

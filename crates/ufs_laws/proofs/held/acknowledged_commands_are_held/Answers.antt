@@ -1,4 +1,4 @@
-use Rattle.ufs_laws.proofs.HeldFacts.{forced, handed}
+use Rattle.ufs_laws.proofs.lives.HeldByAnswers.{forced, handed}
 use Rattle.ufs_laws.proofs.held.acknowledged_commands_are_held.Goals as goal
 
 pub returns-clause-forced_write : goal.returns-clause-forced_write

@@ -1,7 +1,6 @@
-use Rattle.std.proofs.Common.{arith}
+use Rattle.std.proofs.Common.{arith, Some}
 use Rattle.ufs_spec.specs.Machine.{Reply, OfReply, observe}
-use Rattle.std.proofs.Common.{Some}
-use Rattle.ufs_laws.proofs.HeldLives.{life_grows, life_held, short_held, task_held}
+use Rattle.ufs_laws.proofs.lives.HeldAlongLives.{life_grows, life_held, short_held, task_held}
 use Rattle.ufs_laws.proofs.held.held_commands_stay_held.Goals as goal
 
 pub returns-clause-held : goal.returns-clause-held

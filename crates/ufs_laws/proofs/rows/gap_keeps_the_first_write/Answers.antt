@@ -1,4 +1,5 @@
-use Rattle.ufs_laws.proofs.Gap.{gap_first, gap_kept, gap_lost, gap_newest, gap_no_more, gap_sound, gap_torn}
+use Rattle.ufs_laws.proofs.worked_rows.GapLists.{gap_first, gap_kept, gap_lost, gap_newest, gap_no_more, gap_sound}
+use Rattle.ufs_laws.proofs.worked_rows.GapLists.{gap_torn}
 use Rattle.ufs_laws.proofs.rows.gap_keeps_the_first_write.Goals as goal
 
 pub returns-clause-mark : goal.returns-clause-mark

@@ -1,4 +1,6 @@
-use Rattle.ufs_laws.proofs.Gap.{fenced_first, fenced_kept, fenced_lost, fenced_newest, fenced_sound, fenced_torn, last_first, last_kept, last_lost, last_new, last_newest, last_sound, last_torn}
+use Rattle.ufs_laws.proofs.worked_rows.GapLists.{fenced_first, fenced_kept, fenced_lost, fenced_newest, fenced_sound}
+use Rattle.ufs_laws.proofs.worked_rows.GapLists.{fenced_torn, last_first, last_kept, last_lost, last_new, last_newest}
+use Rattle.ufs_laws.proofs.worked_rows.GapLists.{last_sound, last_torn}
 use Rattle.ufs_laws.proofs.rows.write_after_the_gap_is_kept.Goals as goal
 
 pub returns-clause-fenced_mark : goal.returns-clause-fenced_mark

@@ -1,5 +1,5 @@
-use Rattle.ufs_laws.proofs.NewOpens.{mended_idle}
-use Rattle.ufs_laws.proofs.Refused.{no_command, not_a_unit, past_the_end, too_many_blocks}
+use Rattle.ufs_laws.proofs.new_dies.NewDeviceExists.{mended_idle}
+use Rattle.ufs_laws.proofs.refusals.RefusedCommands.{no_command, not_a_unit, past_the_end, too_many_blocks}
 use Rattle.ufs_laws.proofs.runs.a_refused_read_says_why.Goals as goal
 
 pub returns-clause-past_the_end : goal.returns-clause-past_the_end

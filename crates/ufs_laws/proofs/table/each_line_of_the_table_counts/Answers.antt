@@ -1,4 +1,5 @@
-use Rattle.ufs_laws.proofs.TableLines.{blocks, crowded, flag, full, list, operation, other_response, past, protected, ready, ready_first, response_first, unit}
+use Rattle.ufs_laws.proofs.refusals.TableLines.{blocks, crowded, flag, full, list, operation, other_response, past}
+use Rattle.ufs_laws.proofs.refusals.TableLines.{protected, ready, ready_first, response_first, unit}
 use Rattle.ufs_laws.proofs.table.each_line_of_the_table_counts.Goals as goal
 
 pub returns-clause-full : goal.returns-clause-full

@@ -1,4 +1,6 @@
-use Rattle.ufs_laws.proofs.TableLines.{blocks_or_list, boot_or_operation, other_response_or_slots, response_or_slots, write_or_other_response, write_or_response, unit_or_operation}
+use Rattle.ufs_laws.proofs.refusals.TableLines.{blocks_or_list, boot_or_operation, other_response_or_slots}
+use Rattle.ufs_laws.proofs.refusals.TableLines.{response_or_slots, write_or_other_response, write_or_response}
+use Rattle.ufs_laws.proofs.refusals.TableLines.{unit_or_operation}
 use Rattle.ufs_laws.proofs.table.lines_that_never_meet.Goals as goal
 
 pub returns-clause-blocks_or_list : goal.returns-clause-blocks_or_list

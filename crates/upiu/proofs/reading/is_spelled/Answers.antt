@@ -17,12 +17,18 @@ returns-then-starts_with c =
     take_rest bytes (32 + c.stated_length.result) ∙ ap (λ (n : ℕ). drop (32 + n) bytes) c.stated_length.ensures in
     elim c.if-has_flags.branch [
       | then-has_flags w ↦
-          (let starts = starts_is Decides-eqb bytes c.header_bytes-header.result w.starts_with.result w.starts_with.ensures.value in
+          (let starts = starts_is Decides-eqb bytes c.header_bytes-header.result w.starts_with.result
+          w.starts_with.ensures.value in
           let begins = starts.0 (sym w.value-is ∙ c.if-starts_with.true) in
           let header : bytes ≡ header_of c.args.message.now ++ drop (length c.header_bytes-header.result) bytes =
-          begins ∙ ap (λ (xs : List ℕ). xs ++ drop (length c.header_bytes-header.result) bytes) c.header_bytes-header.ensures in (
-            (λ yes. spelled_from bytes (λ place. omega (arith, c.type_inv.bytes place)) c.requires.passes c.args.message.now c.requires.named (c.has_flags.ensures.0 w.if-has_flags.true) _ header (subst IsPadded part (c.are_zeros.ensures.0 yes))),
-            (λ spells. c.are_zeros.ensures.1 (subst IsPadded (sym part) (named bytes c.args.message.now c.requires.passes.code spells).rest)),
+          begins
+          ∙ ap (λ (xs : List ℕ). xs ++ drop (length c.header_bytes-header.result) bytes)
+          c.header_bytes-header.ensures in (
+            (λ yes. spelled_from bytes (λ place. omega (arith, c.type_inv.bytes place)) c.requires.passes
+                c.args.message.now c.requires.named (c.has_flags.ensures.0 w.if-has_flags.true) _ header
+                (subst IsPadded part (c.are_zeros.ensures.0 yes))),
+            (λ spells. c.are_zeros.ensures.1
+                (subst IsPadded (sym part) (named bytes c.args.message.now c.requires.passes.code spells).rest)),
           ))
       | else-has_flags w ↦ absurd (false≢true (sym w.if-has_flags.false ∙ sym w.value-is ∙ c.if-starts_with.true))
     ]

@@ -2,21 +2,22 @@ use Rattle.std.proofs.Common.{◌∙◌, Some, None, sym, subst}
 use Rattle.ufs_spec.specs.Machine.{Reply, OfReply}
 use Rattle.device.specs.Describes.{IsAnswered}
 use Rattle.device.specs.Kept.{DeviceCore}
-use Rattle.device.proofs.RepliesRight.{replies_right, shorts_right, silence_right}
-use Rattle.device.proofs.Firsts.{empty_of, first_of}
 use Rattle.device.specs.Replies.{full_answer}
+use Rattle.device.proofs.due_replies.FirstOfList.{empty_of, first_of}
+use Rattle.device.proofs.due_replies.RepliesRight.{replies_right, shorts_right, silence_right}
 use Rattle.device.proofs.device.Device.reply.Goals as goal
 
 pub returns-in-Some-clause-replied : goal.returns-in-Some-clause-replied
 returns-in-Some-clause-replied c =
     λ s h yes.
-    let found = c.in-Some.ensures.found in
+    let due = c.in-Some.due in
     record {
-      reply = c.in-Some.due.message;
+      reply = due.message;
       shown = c.write.ensures;
       answered =
-          subst (λ (x : DeviceCore). IsAnswered s Reply (OfReply (Some c.in-Some.due.message)) x) (sym c.move_on.ensures)
-          (replies_right c.args.self.now s c.in-Some.due.index found.0 c.in-Some.due.message h found.1 found.2);
+          replies_right c.args.self.now c.move_on.new.self s due.index due.task due.message h c.in-Some.ensures.there
+          (c.in-Some.ensures.owed s.translation h.kept.layer_kept) c.move_on.ensures.left
+          (c.move_on.ensures.moved s.translation h.kept.layer_kept);
     }
 
 pub returns-clause-replied : goal.returns-clause-replied
@@ -27,12 +28,13 @@ returns-clause-replied c =
       reply = full_answer r.0;
       shown = c.reply_refused.ensures.said r.0 r.1;
       answered =
-          subst (λ (x : DeviceCore). IsAnswered s Reply (OfReply (Some (full_answer r.0))) x) (sym (c.reply_refused.ensures.after yes))
-          (shorts_right c.args.self.now s r.0 h r.1);
+          subst (λ (x : DeviceCore). IsAnswered s Reply (OfReply (Some (full_answer r.0))) x)
+          (sym (c.reply_refused.ensures.after yes)) (shorts_right c.args.self.now s r.0 h r.1);
     }
 
 pub returns-clause-silent : goal.returns-clause-silent
 returns-clause-silent c =
     λ s h no.
     subst (λ (x : DeviceCore). IsAnswered s Reply (OfReply None) x) (sym (c.reply_refused.ensures.nothing no).0)
-    (silence_right c.args.self.now s h c.in_default.ensures.none (empty_of c.args.self.now.refused (sym c.reply_refused.ensures.found ∙ no)))
+    (silence_right c.args.self.now s h (λ k task. c.in_default.ensures.none s.translation k task h.kept.layer_kept)
+    (empty_of c.args.self.now.refused (sym c.reply_refused.ensures.found ∙ no)))

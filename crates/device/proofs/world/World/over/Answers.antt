@@ -2,7 +2,7 @@ use Rattle.std.proofs.Common.{◌∙◌, List, length, sym, subst, ap, refl}
 use Rattle.ufs_spec.specs.Dies.{DieState}
 use Rattle.ufs_spec.specs.Lives.{IsOpened, array_of, bad_of}
 use Rattle.device.specs.Worlds.{AreBlank}
-use Rattle.device.proofs.OpensNew.{same_dies}
+use Rattle.device.proofs.described.OpensNew.{same_dies}
 use Rattle.device.proofs.world.World.over.Goals as goal
 
 pub returns-clause-described : goal.returns-clause-described

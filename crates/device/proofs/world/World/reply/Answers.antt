@@ -2,8 +2,8 @@ use Rattle.std.proofs.Common.{Some}
 use Rattle.ufs_spec.specs.declared.events.Output.TheVariants as output
 use Rattle.device.specs.Rooms.{world_of}
 use Rattle.device.specs.Worlds.{Fits}
-use Rattle.device.proofs.Parts.{same_world}
-use Rattle.device.proofs.WentRight.{replied_went, silent_went}
+use Rattle.device.proofs.described.SameDevice.{same_world}
+use Rattle.device.proofs.dies_of_world.WentRight.{replied_went, silent_went}
 use Rattle.device.proofs.world.World.reply.Goals as goal
 
 pub returns-then-not-reply-clause-went : goal.returns-then-not-reply-clause-went
@@ -16,4 +16,6 @@ pub returns-clause-went : goal.returns-clause-went
 returns-clause-went c =
     λ s h.
     let f : Fits (world_of c.self.inside) s = same_world (world_of c.self.inside) c.args.self.now s c.self.view_is h in
-    replied_went (world_of c.self.inside) c.reply.new.self s c.reply.new.into.items (output.Reply (Some c.reply.new.into)) (λ m is. is) f (c.reply.ensures.replied s f.describes c.if-not-reply.false)
+    replied_went (world_of c.self.inside) c.reply.new.self s c.reply.new.into.items
+    (output.Reply (Some c.reply.new.into)) (λ m is. is) f
+    (c.reply.ensures.replied s f.describes c.if-not-reply.false)

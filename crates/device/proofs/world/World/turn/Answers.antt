@@ -1,7 +1,7 @@
 use Rattle.device.specs.Rooms.{world_of}
 use Rattle.device.specs.Worlds.{Fits}
-use Rattle.device.proofs.Parts.{same_world}
-use Rattle.device.proofs.WentRight.{stepped_went}
+use Rattle.device.proofs.described.SameDevice.{same_world}
+use Rattle.device.proofs.dies_of_world.WentRight.{stepped_went}
 use Rattle.device.proofs.world.World.turn.Goals as goal
 
 pub returns-clause-went : goal.returns-clause-went

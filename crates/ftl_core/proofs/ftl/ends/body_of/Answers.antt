@@ -1,4 +1,4 @@
-use Rattle.ftl_core.proofs.Opening.{none_opened}
+use Rattle.ftl_core.proofs.job_ended.UnreadPages.{none_opened}
 use Rattle.ftl_core.proofs.ftl.ends.body_of.Goals as goal
 
 pub returns-in_default : goal.returns-in_default

@@ -10,5 +10,8 @@ loop-pin-preserved c =
     let f = moved_pin c.args.stored in
     let less : i < length c.loop-pin.pins = omega arith in
     let x = get_or c.loop-pin.pins i c.moved_pin.result in
-    let is : c.moved_pin.result ≡ f x = c.moved_pin.ensures ∙ ap f (get_or_default c.loop-pin.pins i _ c.moved_pin.result less) in
-    ap (slice_set c.loop-pin.pins i) is ∙ map_over_more f c.args.pins.now c.loop-pin.pins i x (omega arith) c.loop-pin.invariant (get_or_default c.loop-pin.pins i c.moved_pin.result x less)
+    let is : c.moved_pin.result ≡ f x = c.moved_pin.ensures
+    ∙ ap f (get_or_default c.loop-pin.pins i _ c.moved_pin.result less) in
+    ap (slice_set c.loop-pin.pins i) is
+    ∙ map_over_more f c.args.pins.now c.loop-pin.pins i x (omega arith) c.loop-pin.invariant
+    (get_or_default c.loop-pin.pins i c.moved_pin.result x less)

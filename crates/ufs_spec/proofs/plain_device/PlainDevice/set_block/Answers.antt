@@ -11,7 +11,9 @@ returns c =
     let there = rw (← c.self.view_is) at c.requires.unit_in in
     let here = c.index_mut.ensures.value in
     let address_in = rw (← c.self.view_is) at c.requires.address_in in
-    let within : c.args.address < length stored.items = omega (arith, address_in, ap length (unit_items units c.args.unit stored there here)) in
+    let within : c.args.address < length stored.items = omega
+    (arith, address_in, ap length (unit_items units c.args.unit stored there here)) in
     let written = one_part c.args.address c.args.block.now stored.items within in
-    let put = put_unit units c.args.unit stored (with_item stored c.args.address c.args.block.now) (with_part c.args.address (c.args.block.now ∷ [])) there here written in
+    let put = put_unit units c.args.unit stored (with_item stored c.args.address c.args.block.now)
+    (with_part c.args.address (c.args.block.now ∷ [])) there here written in
     rw (← c.self.view_is) (cc)

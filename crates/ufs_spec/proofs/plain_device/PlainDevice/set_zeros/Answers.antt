@@ -10,7 +10,10 @@ returns c =
     let stored = c.index_mut-stored.result.now in
     let new = with_part c.args.address (replicate c.args.count zero_block) in
     let there = rw (← c.self.view_is) at c.requires.unit_in in
-    let kept = c.replace_by_zeros.ensures ∙ ap (λ n. with_part c.args.address (replicate n zero_block) c.deref_mut.result.now) c.from.ensures in
-    let written = put_blocks stored c.deref_mut.result.now c.replace_by_zeros.new.stored new c.deref_mut.ensures.value c.deref_mut.ensures.len c.replace_by_zeros.auto.stored kept in
-    let put = put_unit units c.args.unit stored (with_items stored c.replace_by_zeros.new.stored) new there c.index_mut-stored.ensures.value written in
+    let kept = c.replace_by_zeros.ensures
+    ∙ ap (λ n. with_part c.args.address (replicate n zero_block) c.deref_mut.result.now) c.from.ensures in
+    let written = put_blocks stored c.deref_mut.result.now c.replace_by_zeros.new.stored new c.deref_mut.ensures.value
+    c.deref_mut.ensures.len c.replace_by_zeros.auto.stored kept in
+    let put = put_unit units c.args.unit stored (with_items stored c.replace_by_zeros.new.stored) new there
+    c.index_mut-stored.ensures.value written in
     rw (← c.self.view_is) (cc)

@@ -1,0 +1,5 @@
+pub mod Answered
+pub mod Layer
+pub mod LayerMoves
+pub mod OpensNew
+pub mod SameDevice

@@ -1,0 +1,265 @@
+-- A call is answered rightly if its answer is right and what the device keeps is kept of the state behind the call: the
+-- lock is told here, and nothing else is to be shown of a call.
+use Rattle.std.proofs.Common.{◌≡◌, ◌∙◌, ℕ, ◌+◌, ◌-◌, ◌≤◌, Bool, true, false, cond, All, List, [], ◌∷◌, map, refl, sym}
+use Rattle.std.proofs.Common.{ap, subst, arith}
+use Rattle.std.specs.Prelude.{if◌then◌else◌, nat_lt, nat_le}
+use Rattle.std.proofs.lemmas.Bool.Decides.{nat_tests}
+use Rattle.std.proofs.lemmas.List.{length-map}
+use Rattle.std.proofs.lemmas.List.Elements.{All-cons, All-head, All-nil, All-tail}
+use Rattle.ufs_spec.proofs.Facts.{false≢true}
+use Rattle.ufs_spec.specs.Exchanges as exchange
+use Rattle.ufs_spec.specs.Exchanges.{Answering, Awaiting, Deed, Gathering, Sending, SendingBytes, Short}
+use Rattle.ufs_spec.specs.Ledger.{before_accepted}
+use Rattle.ufs_spec.specs.Machine.{Allowed, Answer, Call, behind, deed_locked, durable, lock_applied, observe}
+use Rattle.ufs_spec.specs.Machine.{short_locked, task_locked}
+use Rattle.ufs_spec.specs.Refusals.{State, locked}
+use Rattle.ufs_spec.specs.Stages.{most_tasks}
+use Rattle.ufs_spec.specs.Translation.{Translation}
+use Rattle.ufs_laws.proofs.exchanges.RequestsSettled.{settled_is}
+use Rattle.power_loss.specs.Exchange.{IsTied, MayCome}
+use Rattle.power_loss.specs.Shown.{ShowsReads}
+use Rattle.power_loss.proofs.calls.CallsKeepTied.{call_keeps}
+use Rattle.power_loss.proofs.shown_blocks.LivesShowBlocks.{call_shows}
+use Rattle.ftl_core.specs.Describes as layer_kept
+use Rattle.device.specs.declared.tasks.Phase.{Phase}
+use Rattle.device.specs.declared.tasks.Phase.TheVariants as phase
+use Rattle.device.specs.declared.tasks.Refused.{Refused}
+use Rattle.device.specs.declared.tasks.Status.TheVariants as status
+use Rattle.device.specs.declared.tasks.Task.{Task}
+use Rattle.device.specs.Calls.{lock_told, waiting_ended}
+use Rattle.device.specs.Describes.{Describes, IsAnswered, IsDoing, IsTold, IsToldIn, Keeps, TaskKept, progress_in}
+use Rattle.device.specs.Describes.{short_kept}
+use Rattle.device.specs.Kept.{DeviceCore}
+use Rattle.device.specs.Tasks.{after_lock, locked_phase, write_error}
+use Rattle.device.proofs.described.Layer.{locks_right}
+use Rattle.device.proofs.open_tasks.OpenTasks.{each_changed, no_requests}
+use Rattle.device.proofs.open_tasks.ReadProgress.{each_goes_on}
+
+-- Once the lock is told
+
+-- a task that waits for nothing, or for durable commands, stays
+told_stays : (s : State) (task : exchange.Task) (deed : Deed) → IsToldIn (durable s) deed →
+    deed_locked s task deed ≡ deed
+told_stays s task (Awaiting commands) h =
+    ap (λ b. cond b (Awaiting commands) (Answering exchange.write_error task.length)) h
+told_stays s task (Gathering purpose gathered asked) h = refl
+told_stays s task (Sending blocks sent) h = refl
+told_stays s task (SendingBytes bytes) h = refl
+told_stays s task (Answering status carried) h = refl
+
+all_stay : (s : State) (us : List exchange.Task) → All (IsTold (durable s)) us → map (task_locked s) us ≡ us
+all_stay s [] h = refl
+all_stay s (y ∷ us) h = λ i.
+    record y { deed = told_stays s y y.deed (All-head (IsTold (durable s)) y us h) i }
+    ∷ all_stay s us (All-tail (IsTold (durable s)) y us h) i
+
+-- a TASK SET FULL waits for nothing
+shorts_stay : (s : State) (rs : List Refused) → map (short_locked s) (map short_kept rs) ≡ map short_kept rs
+shorts_stay s [] = refl
+shorts_stay s (r ∷ rs) = ap (λ (xs : List Short). short_kept r ∷ xs) (shorts_stay s rs)
+
+kept_shorts : (s : State) (shorts : List Short) (rs : List Refused) → shorts ≡ map short_kept rs →
+    map (short_locked s) shorts ≡ map short_kept rs
+kept_shorts s shorts rs is = ap (map (short_locked s)) is ∙ shorts_stay s rs
+
+abbrev with_lock : State → State
+with_lock s = record s { tasks = map (task_locked s) s.tasks; shorts = map (short_locked s) s.shorts }
+
+-- so the lock changes nothing
+lock_stays : (s : State) (rs : List Refused) → s.shorts ≡ map short_kept rs →
+    (locked s ≡ true → All (IsTold (durable s)) s.tasks) →
+    lock_applied s ≡ s
+lock_stays s rs shorts told = by (locked s) told
+  where
+    by : (b : Bool) → (b ≡ true → All (IsTold (durable s)) s.tasks) → cond b (with_lock s) s ≡ s
+    by true h = λ i. record s {
+      tasks = all_stay s s.tasks (h refl) i;
+      shorts = (kept_shorts s s.shorts rs shorts ∙ sym shorts) i;
+    }
+    by false h = refl
+
+-- When the lock is told
+
+deed_told : (s : State) (task : exchange.Task) (deed : Deed) → IsToldIn (durable s) (deed_locked s task deed)
+deed_told s task (Awaiting commands) = by (nat_le commands (durable s)) refl
+  where
+    by : (b : Bool) → nat_le commands (durable s) ≡ b →
+        IsToldIn (durable s) (cond b (Awaiting commands) (Answering exchange.write_error task.length))
+    by true e = e
+    by false e = tt
+deed_told s task (Gathering purpose gathered asked) = tt
+deed_told s task (Sending blocks sent) = tt
+deed_told s task (SendingBytes bytes) = tt
+deed_told s task (Answering status carried) = tt
+
+all_told : (s : State) (us : List exchange.Task) → All (IsTold (durable s)) (map (task_locked s) us)
+all_told s [] = All-nil (IsTold (durable s))
+all_told s (y ∷ us) = All-cons (IsTold (durable s)) (task_locked s y) (map (task_locked s) us) (deed_told s y y.deed)
+    (all_told s us)
+
+same_progress : (s : State) (task : exchange.Task) (deed : Deed) → progress_in (deed_locked s task deed) ≡ progress_in
+    deed
+same_progress s task (Awaiting commands) = by (nat_le commands (durable s))
+  where
+    by : (b : Bool) → progress_in (cond b (Awaiting commands) (Answering exchange.write_error task.length)) ≡
+        progress_in (Awaiting commands)
+    by true = refl
+    by false = refl
+same_progress s task (Gathering purpose gathered asked) = refl
+same_progress s task (Sending blocks sent) = refl
+same_progress s task (SendingBytes bytes) = refl
+same_progress s task (Answering status carried) = refl
+
+-- the block of a number is durable for both sides, or for none
+same_test : (before n frontier commands : ℕ) → before ≤ frontier → n ≡ before + commands →
+    nat_lt frontier n ≡ cond (nat_le commands (frontier - before)) false true
+same_test before n frontier commands low is = grind (arith, nat_tests)
+
+deed_kept : (s : State) (frontier expected : ℕ) (task : exchange.Task) (p : Phase) (deed : Deed) →
+    frontier ≡ s.translation.ledger.frontier →
+    before_accepted s.translation.ledger ≤ s.translation.ledger.frontier →
+    IsDoing (before_accepted s.translation.ledger) expected task.length p deed →
+    IsDoing (before_accepted s.translation.ledger) expected task.length (locked_phase frontier p)
+    (deed_locked s task deed)
+deed_kept s frontier expected task (phase.AwaitFrontier n) (Awaiting commands) same low h =
+    subst (λ b. IsDoing before expected task.length (cond b failed (phase.AwaitFrontier n))
+    (deed_locked s task (Awaiting commands)))
+    (sym (ap (λ f. nat_lt f n) same ∙ same_test before n s.translation.ledger.frontier commands low h.0))
+    (by (nat_le commands (durable s)))
+  where
+    before : ℕ
+    before = before_accepted s.translation.ledger
+
+    failed : Phase
+    failed = phase.Answer (status.CheckCondition write_error) 4096
+
+    by : (b : Bool) → IsDoing before expected task.length (cond (cond b false true) failed (phase.AwaitFrontier n))
+        (cond b (Awaiting commands) (Answering exchange.write_error task.length))
+    by true = h
+    by false = (refl, h.1)
+deed_kept s frontier expected task (phase.AskData key) (Gathering purpose gathered asked) same low h = h
+deed_kept s frontier expected task (phase.AwaitData key) (Gathering purpose gathered asked) same low h = h
+deed_kept s frontier expected task phase.SendBlock (Sending blocks sent) same low h = h
+deed_kept s frontier expected task (phase.Answer told n) (Answering x carried) same low h = h
+deed_kept s frontier expected task (phase.Answer told n) (Sending blocks sent) same low h = h
+deed_kept s frontier expected task p deed same low h = absurd h
+
+task_kept : (s : State) (frontier : ℕ) (a : Task) (b : exchange.Task) → frontier ≡ s.translation.ledger.frontier →
+    before_accepted s.translation.ledger ≤ s.translation.ledger.frontier →
+    TaskKept (before_accepted s.translation.ledger) a b →
+    TaskKept (before_accepted s.translation.ledger) (after_lock frontier a) (task_locked s b)
+task_kept s frontier a b same low h = record {
+  lun = h.lun;
+  tag = h.tag;
+  expected = h.expected;
+  request = h.request;
+  doing = deed_kept s frontier a.expected b a.phase b.deed same low h.doing;
+}
+
+keeps_locked : (e : DeviceCore) (s : State) → Keeps e s →
+    Keeps (record e { tasks = map (after_lock s.translation.ledger.frontier) e.tasks }) (with_lock s)
+keeps_locked e s k = record {
+  unprotected = k.unprotected;
+  layer_kept = k.layer_kept;
+  few = subst (λ n. n ≤ most_tasks) (sym (length-map s.tasks (task_locked s))) k.few;
+  tasks =
+      each_changed before before (after_lock frontier) (task_locked s) e.tasks s.tasks
+      (λ j a b at h. task_kept s frontier a b refl low h) k.tasks;
+  blocks = λ tag. k.blocks tag
+      ∙ sym (each_goes_on (task_locked s) s.tasks tag (λ x. refl) (λ x. same_progress s x x.deed));
+  shorts = kept_shorts s s.shorts e.refused k.shorts;
+  power_off = k.power_off;
+}
+  where
+    before : ℕ
+    before = before_accepted s.translation.ledger
+
+    frontier : ℕ
+    frontier = s.translation.ledger.frontier
+
+    low : before_accepted s.translation.ledger ≤ s.translation.ledger.frontier
+    low =
+        let above = k.layer_kept.valid.frontier.above in
+        let none = k.layer_kept.kept.ledger_kept.repairs in
+        omega arith
+
+-- what is kept while a call is answered describes the state once both sides told the lock
+describes_told : (e : DeviceCore) (s : State) → IsTied (lock_applied s) → ShowsReads (lock_applied s) → Keeps e s →
+    Describes (lock_told s.translation e) (lock_applied s)
+describes_told e s tied shows k = by (locked s) refl tied shows
+  where
+    by : (b : Bool) → locked s ≡ b → IsTied (cond b (with_lock s) s) → ShowsReads (cond b (with_lock s) s) →
+        Describes (cond b (record e { tasks = map (after_lock s.translation.ledger.frontier) e.tasks }) e)
+        (cond b (with_lock s) s)
+    by true is v w = record { tied = v; shows = w; kept = keeps_locked e s k; told = λ l. all_told s s.tasks }
+    by false is v w = record { tied = v; shows = w; kept = k; told = λ l. absurd (false≢true (sym is ∙ l)) }
+
+-- Calls
+
+observed : (e : DeviceCore) (s : State) (call : Call) (answer : Answer) → Keeps e (behind s call answer) →
+    observe s call answer ≡ lock_applied (behind s call answer)
+observed e s call answer k =
+    settled_is (behind s call answer) (no_requests (before_accepted v.translation.ledger) e.tasks v.tasks k.tasks)
+  where
+    v : State
+    v = behind s call answer
+
+-- a call behind which the lock is told
+pub answered_told : (d e new : DeviceCore) (s : State) (call : Call) (answer : Answer) → Describes d s →
+    MayCome s call →
+    Allowed s call answer → Keeps e (behind s call answer) →
+    ((t : Translation) → layer_kept.Describes e.ftl t → new ≡ lock_told t e) → IsAnswered s call answer new
+answered_told d e new s call answer h may right k told =
+    let v = behind s call answer in
+    let is = observed e s call answer k in
+    record {
+      right = right;
+      describes =
+          subst (λ (x : DeviceCore). Describes x (observe s call answer)) (sym (told v.translation k.layer_kept))
+          (subst (Describes (lock_told v.translation e)) (sym is)
+          (describes_told e v (subst IsTied is (call_keeps s call answer h.tied may right))
+          (subst ShowsReads is (call_shows s call answer h.tied may right h.shows)) k));
+    }
+
+-- what is kept of the state behind a call, if the lock has nothing to tell there
+pub record IsBehind (e : DeviceCore) (v : State) : Type 0 where
+  pub keeps : Keeps e v
+  pub told : locked v ≡ true → All (IsTold (durable v)) v.tasks
+
+-- a call behind which the lock has nothing to tell
+pub answered : (d e : DeviceCore) (s : State) (call : Call) (answer : Answer) → Describes d s → MayCome s call →
+    Allowed s call answer →
+    IsBehind e (behind s call answer) → IsAnswered s call answer e
+answered d e s call answer h may right b =
+    let v = behind s call answer in
+    let is = observed e s call answer b.keeps ∙ lock_stays v e.refused b.keeps.shorts b.told in
+    record {
+      right = right;
+      describes =
+          subst (Describes e) (sym is)
+          (record {
+            tied = subst IsTied is (call_keeps s call answer h.tied may right);
+            shows = subst ShowsReads is (call_shows s call answer h.tied may right h.shows);
+            kept = b.keeps;
+            told = b.told;
+          });
+    }
+
+-- where the state behind the call is told as another
+pub answered_as : (d e : DeviceCore) (s v : State) (call : Call) (answer : Answer) → Describes d s → MayCome s call →
+    Allowed s call answer →
+    behind s call answer ≡ v → IsBehind e v → IsAnswered s call answer e
+answered_as d e s v call answer h may right is b =
+    answered d e s call answer h may right (subst (IsBehind e) (sym is) b)
+
+pub answered_told_as : (d e : DeviceCore) (s v : State) (call : Call) (answer : Answer) → Describes d s →
+    MayCome s call →
+    Allowed s call answer → behind s call answer ≡ v → Keeps e v → IsAnswered s call answer (waiting_ended e)
+answered_told_as d e s v call answer h may right is k =
+    answered_told d e (waiting_ended e) s call answer h may right (subst (Keeps e) (sym is) k)
+    (λ t layer i. if locks_right e.ftl t layer i
+    then record e { tasks = map (after_lock (layer.kept.ledger_kept.frontier i)) e.tasks } else e)
+
+-- a state that stays
+pub stays : (d : DeviceCore) (s : State) → Describes d s → IsBehind d s
+stays d s h = record { keeps = h.kept; told = h.told }

@@ -1,0 +1,2 @@
+pub mod CallsRight
+pub mod EndsTold

@@ -1,0 +1,176 @@
+-- The calls of the dies and of the device itself are answered as the definitions say.
+use Rattle.std.proofs.Common.{◌≡◌, ◌∙◌, ℕ, ◌==◌, Bool, true, false, List, [], ◌∷◌, ◌++◌, Option, Some, None, length}
+use Rattle.std.proofs.Common.{map, refl, sym, ap, subst, arith, All}
+use Rattle.std.specs.Prelude.{if◌then◌else◌, slice_index_or, ◌-◌, ◌≤◌}
+use Rattle.std.specs.List.{flat_map}
+use Rattle.std.proofs.lemmas.List.{get_or_default, map-append}
+use Rattle.std.proofs.lemmas.List.Folds.{flat_map-map}
+use Rattle.ufs_spec.specs.Cells.{Array, Cell, Cells, IsCell}
+use Rattle.ufs_spec.specs.Commands.{Command}
+use Rattle.ufs_spec.specs.Configs.{IsConfig}
+use Rattle.ufs_spec.specs.Dies.{DieState, blank_page, is_bad_block, new_die}
+use Rattle.ufs_spec.specs.Disk.{CellCrash, Flight, Programming, Spot, flight_alone, page_of}
+use Rattle.ufs_spec.specs.Exchanges as exchange
+use Rattle.ufs_spec.specs.Keys.{below}
+use Rattle.ufs_spec.specs.Lives.{IsOpened, bad_of}
+use Rattle.ufs_spec.specs.Machine.{Take, OfTake, MayLeave, Turn, OfTurn, behind, durable}
+use Rattle.ufs_spec.specs.Moves.{Ending, GiveJob, IsEndingOf, MayEnd, MayLeaveCells, ReadRight, ReadWrong, TakeStep}
+use Rattle.ufs_spec.specs.Moves.{WentWell, WentWrong, moved}
+use Rattle.ufs_spec.specs.Plain.{Plain, after as after_all}
+use Rattle.ufs_spec.specs.Refusals.{State, locked}
+use Rattle.ufs_spec.specs.Translation.{spots, Pin, is_step_due}
+use Rattle.ufs_spec.specs.declared.configs.Numbers.{Numbers}
+use Rattle.ufs_spec.specs.declared.flash.Job.{Job}
+use Rattle.ufs_spec.specs.declared.flash.Outcome.{Outcome}
+use Rattle.ufs_spec.specs.declared.flash.Place.{Place}
+use Rattle.ufs_laws.proofs.array_cells.CrashedCells.{cell_crash}
+use Rattle.ufs_laws.proofs.new_dies.FirstLife.{base_is_zero, none_there}
+use Rattle.ufs_laws.proofs.plain_contents.ListParts.{made_of}
+use Rattle.ufs_laws.proofs.array_cells.StandsForSomething.{new_sound}
+use Rattle.power_loss.specs.Exchange.{IsTied}
+use Rattle.power_loss.proofs.openings.OpenedStates.{opened_state as opened_valid}
+use Rattle.power_loss.proofs.stops.SealedCells.{ranges_of}
+use Rattle.ftl_core.specs.Core.{Core}
+use Rattle.ftl_core.specs.Describes as layer_kept
+use Rattle.device.specs.Describes.{Describes, IsAnswered, IsGiven, TasksKept, IsTold, Keeps, progress_kept, progress_of}
+use Rattle.device.specs.Kept.{DeviceCore, new_device}
+use Rattle.device.proofs.die_calls.EndsTold.{ending_fits}
+use Rattle.device.proofs.described.Layer as its_layer
+use Rattle.std.proofs.lemmas.List.Elements.{All-nil}
+use Rattle.ufs_spec.specs.Ledger.{before_accepted}
+use Rattle.ufs_spec.specs.Stages.{most_tasks}
+use Rattle.power_loss.proofs.shown_blocks.LivesShowBlocks.{opened_shows}
+use Rattle.device.proofs.described.Answered.{answered}
+use Rattle.device.proofs.described.LayerMoves.{layer_moves, step_leaves}
+use Rattle.ufs_spec.proofs.Lists.{map_twice}
+
+-- A job is given
+
+-- it leaves all that is kept, and locks nothing
+gives : (d : DeviceCore) (s : State) (die : ℕ) (flight : Option Flight) (after : Core) → Keeps d s →
+    layer_kept.Describes after (layer_kept.given s.translation die flight) →
+    Keeps (record d { ftl = after }) (behind s (Take die) (OfTake flight))
+gives d s die None after k layer = layer_moves d after s s.array s.translation k layer
+    (record { before = refl; wanted = λ tag. refl })
+gives d s die (Some flight) after k layer =
+    layer_moves d after s s.array (moved s.translation (GiveJob die flight)) k layer
+    (record { before = refl; wanted = λ tag. refl })
+
+gives_told : (s : State) (die : ℕ) (flight : Option Flight) → (locked s ≡ true → All (IsTold (durable s)) s.tasks) →
+    locked (behind s (Take die) (OfTake flight)) ≡ true → All (IsTold (durable (behind s (Take die) (OfTake flight))))
+    (behind s (Take die) (OfTake flight)).tasks
+gives_told s die None told lock = told lock
+gives_told s die (Some flight) told lock = told lock
+
+pub gives_right : (d : DeviceCore) (s : State) (die : ℕ) (job : Option Job) (after : Core) → Describes d s →
+    layer_kept.IsTaken s.translation die job after →
+    IsGiven s die job (record d { ftl = after })
+gives_right d s die job after h taken = record {
+  flight = taken.job;
+  shown = taken.shown;
+  answered =
+      answered d (record d { ftl = after }) s (Take die) (OfTake taken.job) h tt taken.right
+      (record {
+        keeps = gives d s die taken.job after h.kept taken.describes;
+        told = gives_told s die taken.job h.told;
+      });
+}
+
+-- A job ends
+
+-- what a die's own program is meant to be is what its page shows
+alone_shown : (s : State) (die other : ℕ) (place : Place) (cell : Cell) → IsTied s → (b : Bool) →
+    (if b then s.translation.disk.flights other else None) ≡ Some (Programming place cell) → IsCell (page_of cell) cell
+alone_shown s die other place cell tied true e = tied.flights other place cell e
+alone_shown s die other place cell tied false e = cc
+
+crash_may : (s : State) (die : ℕ) (cells : Cells) (left : Array) → IsTied s → MayLeave s die (WentWrong cells) left →
+    CellCrash s.translation.disk.cells (flight_alone s.translation.disk.flights die) cells
+crash_may s die cells left tied leaves =
+    cell_crash s.array left s.translation.disk.cells cells (flight_alone s.translation.disk.flights die) tied.shown
+    leaves.1 leaves.0
+    (λ other place cell e. alone_shown s die other place cell tied (other == die) e)
+
+leaves_cells : (s : State) (die : ℕ) (ending : Ending) (left : Array) → IsTied s → MayLeave s die ending left →
+    MayLeaveCells s.translation.disk die ending
+leaves_cells s die ReadRight left tied leaves = tt
+leaves_cells s die ReadWrong left tied leaves = tt
+leaves_cells s die WentWell left tied leaves = tt
+leaves_cells s die (WentWrong cells) left tied leaves = crash_may s die cells left tied leaves
+
+-- what a job that ends leaves of the pages it leaves of what they are
+pub may_end : (d : DeviceCore) (s : State) (die : ℕ) (o : Outcome) (ending : Ending) (left : Array) → Describes d s →
+    IsEndingOf s.translation.disk.cells (s.translation.disk.flights die) o ending → MayLeave s die ending left →
+    MayEnd s.translation.disk die (s.translation.disk.flights die) ending
+may_end d s die o ending left h is leaves = (
+  ending_fits s.translation.disk.cells (s.translation.disk.flights die) o ending is,
+  leaves_cells s die ending left
+      h.tied leaves,
+)
+
+-- A step
+
+pub turns_right : (d : DeviceCore) (s : State) (due : Bool) (after : Core) → Describes d s →
+    due ≡ is_step_due s.translation →
+    layer_kept.Describes after (moved s.translation TakeStep) →
+    IsAnswered s Turn (OfTurn due) (record d { ftl = after })
+turns_right d s due after h is layer =
+    let step = step_leaves d.ftl s.translation h.kept.layer_kept.kept in
+    answered d (record d { ftl = after }) s Turn (OfTurn due) h tt is
+    (record {
+      keeps = layer_moves d after s s.array (moved s.translation TakeStep) h.kept layer step.leaves;
+      told = λ lock. subst (λ n. All (IsTold n) s.tasks) (sym (λ i. step.frontier i - step.leaves.before i))
+          (h.told (sym step.lock ∙ lock));
+    })
+
+-- Blocks that are bad
+
+map_joined : {X Y Z : Type 0} (f : Y → Z) (g : X → List Y) (xs : List X) →
+    map f (flat_map g xs) ≡ flat_map (λ x. map f (g x)) xs
+map_joined f g [] = refl
+map_joined {X} {Y} {Z} f g (x ∷ xs) = map-append f (g x) (flat_map g xs) ∙ ap (λ (zs : List Z). map f (g x) ++ zs)
+    (map_joined f g xs)
+
+pub bad_listed : (n : Numbers) (dies : List DieState) → length dies ≡ n.dies →
+    flat_map (λ (die : DieState). map (is_bad_block die) (below n.blocks)) dies ≡ map (bad_of dies) (spots n)
+bad_listed n dies all =
+    let die_at : ℕ → DieState = λ k. slice_index_or dies k (new_die 0 0) in
+    let row : DieState → List Bool = λ die. map (is_bad_block die) (below n.blocks) in
+    let listed : map die_at (below n.dies) ≡ dies =
+    made_of die_at n.dies dies all (λ i d lt. get_or_default dies i (new_die 0 0) d (omega arith)) in
+    let each : (λ (die : ℕ). map (bad_of dies) (map (λ (block : ℕ). record { die = die; block = block })
+    (below n.blocks))) ≡ (λ (die : ℕ). row (die_at die)) =
+    λ i die. map_twice (bad_of dies) (λ (block : ℕ). record { die = die; block = block }) (below n.blocks) i in
+    ap (flat_map row) (sym listed)
+    ∙ (flat_map-map row die_at (below n.dies)
+    ∙ (ap (λ (f : ℕ → List Bool). flat_map f (below n.dies)) (sym each)
+    ∙ sym (map_joined (bad_of dies) (λ (die : ℕ). map (λ (block : ℕ). record { die = die; block = block })
+    (below n.blocks)) (below n.dies))))
+
+-- A new device
+
+pub opens_right : (n : Numbers) (array : Array) (bad : Spot → Bool) (s : State) → IsConfig n →
+    ((p : Place) → array p ≡ blank_page) → IsOpened n array bad s →
+    Describes (new_device n (map bad (spots n))) s
+opens_right n array bad s config blank opened =
+    let t = s.translation in
+    let ranges = ranges_of n config in
+    let pages = ranges.has_pages in
+    record {
+      tied = (opened_valid n array bad s config (λ p outside. blank p) (new_sound array blank) opened).tied;
+      shows = opened_shows n array bad s opened;
+      kept = record {
+        unprotected =
+            ap (λ (commands : List Command). (after_all s.base commands).permanent) opened.none_accepted
+            ∙ ap (λ (base : Plain). base.permanent) (base_is_zero n array bad s blank opened);
+        layer_kept = its_layer.opens_right n opened.cells bad t (omega arith) (none_there n array bad s blank opened)
+            opened.translation;
+        few = subst (λ us. length us ≤ most_tasks) (sym opened.no_tasks) (omega arith);
+        tasks = subst (TasksKept (before_accepted t.ledger) []) (sym opened.no_tasks) tt;
+        blocks = λ tag. ap (λ (pins : List Pin). progress_kept pins [] tag) opened.translation.no_pins
+            ∙ sym (ap (λ us. progress_of (exchange.task_of tag us)) opened.no_tasks);
+        shorts = opened.no_shorts;
+        power_off = opened.power_off;
+      };
+      told = λ lock. subst (All (IsTold (durable s))) (sym opened.no_tasks) (All-nil (IsTold (durable s)));
+    }

@@ -1,0 +1,306 @@
+-- What one die's job makes of a list of dies and of the list of their jobs.
+use Rattle.std.proofs.Common.{◌≡◌, ◌≢◌, ◌⊎◌, ℕ, ◌+◌, ◌<◌, ◌==◌, ◌&&◌, Bool, true, false, if◌then◌else◌, List, Option}
+use Rattle.std.proofs.Common.{Some, None, length, option_map, refl, sym, ap, ◌∙◌, inl, inr, ⊎_elim, arith}
+use Rattle.std.specs.Prelude.{nat_lt, slice_index_or, slice_set}
+use Rattle.std.proofs.lemmas.Bool.Decides.{eqb_tells}
+use Rattle.std.proofs.lemmas.List.{get_or-set_other, get_or-set_same, get_or_past, length-set, set-get_or}
+use Rattle.std.proofs.lemmas.List.Elements.{All-get_or, All-set}
+use Rattle.ufs_spec.proofs.Facts.{ltb-false}
+use Rattle.ufs_spec.specs.Cells.{IsPlace}
+use Rattle.ufs_spec.specs.Dies.{DieState, IsOfSize, after_job, blank_page, die_erased, die_programmed, is_bad_block}
+use Rattle.ufs_spec.specs.Dies.{new_die, page_at, pages_of, ready_page}
+use Rattle.ufs_spec.specs.DieLaws.{after_job_size, erased_blank, erased_next, erased_next_elsewhere, has_page, pages_in}
+use Rattle.ufs_spec.specs.DieLaws.{programmed_next, programmed_next_elsewhere, with_block_elsewhere, with_page_there}
+use Rattle.ufs_spec.specs.DieLaws.{with_page_elsewhere_in_block}
+use Rattle.ufs_spec.specs.Disk.{BlockState, Bad, Closed, Filling, Flight, Spot, at_die, at_place, at_spot, job_of}
+use Rattle.ufs_spec.specs.Disk.{same_spot, spot_of, state_behind}
+use Rattle.ufs_spec.specs.Lives.{Fit, array_of}
+use Rattle.ufs_spec.specs.Machine.{in_block}
+use Rattle.ufs_spec.specs.declared.configs.Numbers.{Numbers}
+use Rattle.ufs_spec.specs.declared.flash.Job.{Job}
+use Rattle.ufs_spec.specs.declared.flash.Page.{Page}
+use Rattle.ufs_spec.specs.declared.flash.Place.{Place}
+use Rattle.ufs_laws.proofs.jobs.JobsInFlight.{at_its_die, at_other}
+use Rattle.power_loss.proofs.books.SmallFacts.{at_spot_cases, at_spot_is, spot_cases, spot_is}
+use Rattle.device.specs.Worlds.{BlocksFit, die_at, job_at}
+
+-- Lists
+
+-- an element of a list of which one was set
+set_cases : {A : Type 0} (xs : List A) (i : ℕ) (x d : A) (j : ℕ) → i < length xs →
+    ((j ≡ i) × (slice_index_or (slice_set xs i x) j d ≡ x))
+    ⊎ ((j ≢ i) × (slice_index_or (slice_set xs i x) j d ≡ slice_index_or xs j d))
+set_cases {A} xs i x d j l =
+    ⊎_elim
+    (λ h. inl (h.1, ap (λ (k : ℕ). slice_index_or (slice_set xs i x) k d) h.1 ∙ get_or-set_same xs i x d l))
+    (λ h. inr (h.1, get_or-set_other xs i j x d h.1)) (eqb_tells j i)
+
+-- the job of one die is another: the list and the jobs in flight say the same
+pub put_jobs : (jobs : List (Option Job)) (flights : ℕ → Option Flight) (die : ℕ) (o : Option Flight) →
+    die < length jobs →
+    ((e : ℕ) → job_at jobs e ≡ option_map job_of (flights e)) →
+    (e : ℕ) → job_at (slice_set jobs die (option_map job_of o)) e ≡ option_map job_of (at_die flights die o e)
+put_jobs jobs flights die o l same e =
+    ⊎_elim
+    (λ (h : (e ≡ die) × (job_at (slice_set jobs die (option_map job_of o)) e ≡ option_map job_of o)).
+    h.1 ∙ ap (option_map job_of) (sym (ap (at_die flights die o) h.0 ∙ at_its_die flights die o)))
+    (λ (h : (e ≢ die) × (job_at (slice_set jobs die (option_map job_of o)) e ≡ job_at jobs e)).
+    h.1 ∙ same e ∙ ap (option_map job_of) (sym (at_other flights die o e h.0)))
+    (set_cases jobs die (option_map job_of o) None e l)
+
+-- Sizes
+
+pub die_size : (n : Numbers) (dies : List DieState) (die : ℕ) → Fit n dies → die < length dies →
+    IsOfSize n.blocks n.pages (die_at dies die)
+die_size n dies die fit l = All-get_or (IsOfSize n.blocks n.pages) dies die (new_die 0 0) l fit.1
+
+pub put_sizes : (n : Numbers) (dies : List DieState) (die : ℕ) (j : Job) → Fit n dies → die < length dies →
+    Fit n (slice_set dies die (after_job (die_at dies die) j))
+put_sizes n dies die j fit l = (
+  length-set dies die (after_job (die_at dies die) j) ∙ fit.0,
+  All-set (IsOfSize n.blocks n.pages) dies die (after_job (die_at dies die) j)
+      (after_job_size (die_at dies die) j n.blocks n.pages (die_size n dies die fit l)) fit.1,
+)
+
+-- a die that is as it was leaves the list
+pub put_same : (dies : List DieState) (die : ℕ) → slice_set dies die (die_at dies die) ≡ dies
+put_same dies die = set-get_or dies die (new_die 0 0)
+
+-- Blocks
+
+-- where one die changes in one block, what is told of each block changes there alone
+put_block : {A : Type 0} (f : DieState → ℕ → A) (dies : List DieState) (spot : Spot) (x : DieState) →
+    spot.die < length dies → ((c : ℕ) → c ≢ spot.block → f x c ≡ f (die_at dies spot.die) c) → (other : Spot) →
+    f (die_at (slice_set dies spot.die x) other.die) other.block
+    ≡ at_spot (λ (s : Spot). f (die_at dies s.die) s.block) spot (f x spot.block) other
+put_block {A} f dies spot x l leaves other =
+    ⊎_elim
+    (λ (h : (other ≡ spot) × (at_spot before spot (f x spot.block) other ≡ f x spot.block)). here h.0 ∙ sym h.1)
+    (λ (h : (other ≢ spot) × (at_spot before spot (f x spot.block) other ≡ before other)). elsewhere h.0 ∙ sym h.1)
+    (at_spot_cases before spot (f x spot.block) other)
+  where
+    before : Spot → A
+    before s = f (die_at dies s.die) s.block
+
+    here : other ≡ spot → f (die_at (slice_set dies spot.die x) other.die) other.block ≡ f x spot.block
+    here e =
+        ap (λ (z : Spot). f (die_at (slice_set dies spot.die x) z.die) z.block) e
+        ∙ ap (λ (y : DieState). f y spot.block) (get_or-set_same dies spot.die x (new_die 0 0) l)
+
+    elsewhere : other ≢ spot → f (die_at (slice_set dies spot.die x) other.die) other.block ≡ before other
+    elsewhere differ =
+        ⊎_elim
+        (λ (h : (other.die ≡ spot.die) × (die_at (slice_set dies spot.die x) other.die ≡ x)).
+        ap (λ (y : DieState). f y other.block) h.1
+        ∙ leaves other.block (λ e. differ (spot_is other spot h.0 e))
+        ∙ ap (λ (k : ℕ). f (die_at dies k) other.block) (sym h.0))
+        (λ (h : (other.die ≢ spot.die) × (die_at (slice_set dies spot.die x) other.die ≡ die_at dies other.die)).
+        ap (λ (y : DieState). f y other.block) h.1)
+        (set_cases dies spot.die x (new_die 0 0) other.die l)
+
+-- no block is bad or good that was not
+put_bad : (dies : List DieState) (die : ℕ) (x : DieState) (other : Spot) → die < length dies →
+    x.bad ≡ (die_at dies die).bad →
+    is_bad_block (die_at (slice_set dies die x) other.die) other.block ≡ is_bad_block (die_at dies other.die)
+    other.block
+put_bad dies die x other l e =
+    ⊎_elim
+    (λ (h : (other.die ≡ die) × (die_at (slice_set dies die x) other.die ≡ x)).
+    ap (λ (y : DieState). is_bad_block y other.block) h.1
+    ∙ ap (λ (bad : List Bool). slice_index_or bad other.block false) e
+    ∙ ap (λ (k : ℕ). is_bad_block (die_at dies k) other.block) (sym h.0))
+    (λ (h : (other.die ≢ die) × (die_at (slice_set dies die x) other.die ≡ die_at dies other.die)).
+    ap (λ (y : DieState). is_bad_block y other.block) h.1)
+    (set_cases dies die x (new_die 0 0) other.die l)
+
+-- a change of one block, that was not bad
+put_blocks : (n : Numbers) (dies : List DieState) (blocks : Spot → BlockState) (spot : Spot) (new : BlockState)
+    (x : DieState) →
+    spot.die < length dies → x.bad ≡ (die_at dies spot.die).bad → blocks spot ≢ Bad →
+    ((next : ℕ) → new ≡ Filling next → ready_page x spot.block ≡ Some next) →
+    ((c : ℕ) → c ≢ spot.block → ready_page x c ≡ ready_page (die_at dies spot.die) c) →
+    BlocksFit n dies blocks → BlocksFit n (slice_set dies spot.die x) (at_spot blocks spot new)
+put_blocks n dies blocks spot new x l bad was_good next_here leaves h = record {
+  ready = λ other next d b e.
+      put_block ready_page dies spot x l leaves other
+      ∙ ⊎_elim
+      (λ (k : (other ≡ spot) × (new ≡ Filling next)). ap ready (k.0) ∙ (at_itself ∙ next_here next k.1))
+      (λ (k : (other ≢ spot) × (blocks other ≡ Filling next)). at_another other k.0 ∙ h.ready other next d b k.1)
+      (at_spot_is blocks spot new other (Filling next) e);
+  good = λ other d b sure. put_bad dies spot.die x other l bad ∙ h.good other d b (good_before other sure);
+}
+  where
+    before : Spot → Option ℕ
+    before s = ready_page (die_at dies s.die) s.block
+
+    ready : Spot → Option ℕ
+    ready = at_spot before spot (ready_page x spot.block)
+
+    at_itself : ready spot ≡ ready_page x spot.block
+    at_itself =
+        ⊎_elim (λ (k : (spot ≡ spot) × (ready spot ≡ ready_page x spot.block)). k.1)
+        (λ (k : (spot ≢ spot) × (ready spot ≡ before spot)). absurd (k.0 refl))
+        (at_spot_cases before spot (ready_page x spot.block) spot)
+
+    at_another : (other : Spot) → other ≢ spot → ready other ≡ before other
+    at_another other differ =
+        ⊎_elim (λ (k : (other ≡ spot) × (ready other ≡ ready_page x spot.block)). absurd (differ k.0))
+        (λ (k : (other ≢ spot) × (ready other ≡ before other)). k.1)
+        (at_spot_cases before spot (ready_page x spot.block) other)
+
+    good_before : (other : Spot) → at_spot blocks spot new other ≢ Bad → blocks other ≢ Bad
+    good_before other sure e =
+        ⊎_elim
+        (λ (k : (other ≡ spot) × (at_spot blocks spot new other ≡ new)). was_good (sym (ap blocks k.0) ∙ e))
+        (λ (k : (other ≢ spot) × (at_spot blocks spot new other ≡ blocks other)). sure (k.1 ∙ e))
+        (at_spot_cases blocks spot new other)
+
+-- Pages
+
+-- the pages of each block, where those of one change
+pages_put : (dies : List DieState) (spot : Spot) (x : DieState) (q : Place) → spot.die < length dies →
+    ((c i : ℕ) → c ≢ spot.block → page_at x c i ≡ page_at (die_at dies spot.die) c i) → (b : Bool) →
+    same_spot (spot_of q) spot ≡ b →
+    array_of (slice_set dies spot.die x) q ≡ (if b then page_at x spot.block q.page else array_of dies q)
+pages_put dies spot x q l leaves b e =
+    ap (λ (pages : ℕ → Page). pages q.page)
+    (put_block (λ s c i. page_at s c i) dies spot x l (λ c other i k. leaves c k other i) (spot_of q))
+    ∙ (ap there e ∙ by b)
+  where
+    pages : Bool → ℕ → Page
+    pages z = if z then page_at x spot.block else page_at (die_at dies q.die) q.block
+
+    there : Bool → Page
+    there z = pages z q.page
+
+    by : (z : Bool) → there z ≡ (if z then page_at x spot.block q.page else array_of dies q)
+    by true = refl
+    by false = refl
+
+-- A program
+
+behind_next : (pages page next : ℕ) → state_behind pages page ≡ Filling next → Some (page + 1) ≡ Some next
+behind_next pages page next e = by (page + 1 == pages) e
+  where
+    by : (b : Bool) → (if b then Closed else Filling (page + 1)) ≡ Filling next → Some (page + 1) ≡ Some next
+    by true h = cc
+    by false h = cc
+
+not_bad : (state : BlockState) (next : ℕ) → state ≡ Filling next → state ≢ Bad
+not_bad state next e h = cc
+
+pub program_blocks : (n : Numbers) (dies : List DieState) (blocks : Spot → BlockState) (p : Place) (content : Page) →
+    Fit n dies → p.die < length dies → IsPlace n p → blocks (spot_of p) ≡ Filling p.page → BlocksFit n dies blocks →
+    BlocksFit n (slice_set dies p.die (die_programmed (die_at dies p.die) p.block p.page content))
+    (at_spot blocks (spot_of p) (state_behind n.pages p.page))
+program_blocks n dies blocks p content fit l place fills h =
+    let die = die_at dies p.die in
+    let size = die_size n dies p.die fit l in
+    let long : length die.ready ≡ n.blocks = size.2 in
+    let within = place.block in
+    let inside : p.block < length die.ready = omega arith in
+    put_blocks n dies blocks (spot_of p) (state_behind n.pages p.page) (die_programmed die p.block p.page content) l
+    refl
+    (not_bad (blocks (spot_of p)) p.page fills)
+    (λ next e. programmed_next die p.block p.page content inside ∙ behind_next n.pages p.page next e)
+    (λ c differ. programmed_next_elsewhere die p.block p.page c content differ) h
+
+pub program_pages : (n : Numbers) (dies : List DieState) (p : Place) (content : Page) → Fit n dies →
+    p.die < length dies →
+    IsPlace n p → at_place (array_of dies) p content
+    ≡ array_of (slice_set dies p.die (die_programmed (die_at dies p.die) p.block p.page content))
+program_pages n dies p content fit l place = λ i q. at q i
+  where
+    die : DieState
+    die = die_at dies p.die
+
+    after : DieState
+    after = die_programmed die p.block p.page content
+
+    page : (i : ℕ) → page_at after p.block i ≡ (if i == p.page then content else page_at die p.block i)
+    page i =
+        ⊎_elim
+        (λ (h : ((i == p.page) ≡ true) × (i ≡ p.page)).
+        ap (page_at after p.block) h.1
+        ∙ (with_page_there die p.block p.page content
+        (has_page die p.block p.page n.blocks n.pages place.block place.page (die_size n dies p.die fit l))
+        ∙ sym (ap (λ (b : Bool). if b then content else page_at die p.block i) h.0)))
+        (λ (h : ((i == p.page) ≡ false) × (i ≢ p.page)).
+        with_page_elsewhere_in_block die p.block p.page i content h.1
+        ∙ sym (ap (λ (b : Bool). if b then content else page_at die p.block i) h.0))
+        (eqb_tells i p.page)
+
+    put : (q : Place) (b : Bool) → same_spot (spot_of q) (spot_of p) ≡ b →
+        array_of (slice_set dies p.die after) q ≡ (if b then page_at after p.block q.page else array_of dies q)
+    put q b e = pages_put dies (spot_of p) after q l (λ c i other. with_block_elsewhere die p.block c i _ other) b e
+
+    at : (q : Place) → at_place (array_of dies) p content q ≡ array_of (slice_set dies p.die after) q
+    at q =
+        ⊎_elim
+        (λ (h : (same_spot (spot_of q) (spot_of p) ≡ true) × (spot_of q ≡ spot_of p)).
+        ap (λ (b : Bool). if b && (q.page == p.page) then content else array_of dies q) h.0
+        ∙ (ap (λ (z : Spot). if q.page == p.page then content else page_at (die_at dies z.die) z.block q.page) h.1
+        ∙ (sym (page q.page) ∙ sym (put q true h.0))))
+        (λ (h : (same_spot (spot_of q) (spot_of p) ≡ false) × (spot_of q ≢ spot_of p)).
+        ap (λ (b : Bool). if b && (q.page == p.page) then content else array_of dies q) h.0 ∙ sym (put q false h.0))
+        (spot_cases (spot_of q) (spot_of p))
+
+-- An erase
+
+first_next : (next : ℕ) → Filling 0 ≡ Filling next → Some 0 ≡ Some next
+first_next next e = cc
+
+pub erase_blocks : (n : Numbers) (dies : List DieState) (blocks : Spot → BlockState) (spot : Spot) → Fit n dies →
+    spot.die < length dies → spot.block < n.blocks → blocks spot ≢ Bad → BlocksFit n dies blocks →
+    BlocksFit n (slice_set dies spot.die (die_erased (die_at dies spot.die) spot.block))
+    (at_spot blocks spot (Filling 0))
+erase_blocks n dies blocks spot fit l within was_good h =
+    let die = die_at dies spot.die in
+    let size = die_size n dies spot.die fit l in
+    let long : length die.ready ≡ n.blocks = size.2 in
+    let inside : spot.block < length die.ready = omega arith in
+    put_blocks n dies blocks spot (Filling 0) (die_erased die spot.block) l refl was_good
+    (λ next e. erased_next die spot.block inside ∙ first_next next e)
+    (λ c differ. erased_next_elsewhere die spot.block c differ) h
+
+pub erase_pages : (n : Numbers) (dies : List DieState) (spot : Spot) → Fit n dies → spot.die < length dies →
+    spot.block < n.blocks →
+    (λ (p : Place). if in_block n spot p then blank_page else array_of dies p)
+    ≡ array_of (slice_set dies spot.die (die_erased (die_at dies spot.die) spot.block))
+erase_pages n dies spot fit l within = λ i q. at q i
+  where
+    die : DieState
+    die = die_at dies spot.die
+
+    -- behind its pages the block was blank
+    blank : (q : Place) → spot_of q ≡ spot → (b : Bool) → nat_lt q.page n.pages ≡ b →
+        (if b then blank_page else array_of dies q) ≡ blank_page
+    blank q same true e = refl
+    blank q same false e =
+        let size = die_size n dies spot.die fit l in
+        let long : length (pages_of die spot.block) ≡ n.pages = pages_in die spot.block n.blocks n.pages within size in
+        let past = ltb-false q.page n.pages e in
+        ap (λ (z : Spot). page_at (die_at dies z.die) z.block q.page) same
+        ∙ get_or_past (pages_of die spot.block) q.page blank_page (omega arith)
+
+    put : (q : Place) (b : Bool) → same_spot (spot_of q) spot ≡ b →
+        array_of (slice_set dies spot.die (die_erased die spot.block)) q
+        ≡ (if b then page_at (die_erased die spot.block) spot.block q.page else array_of dies q)
+    put q b e =
+        pages_put dies spot (die_erased die spot.block) q l (λ c i other. with_block_elsewhere die spot.block c i _
+        other) b e
+
+    at : (q : Place) → (if in_block n spot q then blank_page else array_of dies q)
+        ≡ array_of (slice_set dies spot.die (die_erased die spot.block)) q
+    at q =
+        ⊎_elim
+        (λ (h : (same_spot (spot_of q) spot ≡ true) × (spot_of q ≡ spot)).
+        let size = die_size n dies spot.die fit l in
+        let long : length die.blocks ≡ n.blocks = size.0 in
+        ap (λ (b : Bool). if b && nat_lt q.page n.pages then blank_page else array_of dies q) h.0
+        ∙ (blank q h.1 (nat_lt q.page n.pages) refl
+        ∙ (sym (erased_blank die spot.block q.page (omega arith)) ∙ sym (put q true h.0))))
+        (λ (h : (same_spot (spot_of q) spot ≡ false) × (spot_of q ≢ spot)).
+        ap (λ (b : Bool). if b && nat_lt q.page n.pages then blank_page else array_of dies q) h.0
+        ∙ sym (put q false h.0))
+        (spot_cases (spot_of q) spot)

@@ -1,0 +1,70 @@
+-- Moves and messages that leave the pages, the numbers and the state of each block: all but the beginning and the end
+-- of a job.
+use Rattle.std.proofs.Common.{◌≡◌, [], ◌∷◌, refl, ap, ◌∙◌}
+use Rattle.ufs_spec.specs.Cells.{Array}
+use Rattle.ufs_spec.specs.Disk.{BlockState, Spot}
+use Rattle.ufs_spec.specs.Machine.{Heard, fills, hears, lock_applied, replied, with_moves}
+use Rattle.ufs_spec.specs.Moves.{EndJob, Move, GiveJob, TakeStep, moved}
+use Rattle.ufs_spec.specs.Refusals.{State}
+use Rattle.ufs_spec.specs.Translation.{Translation}
+use Rattle.ufs_spec.specs.declared.configs.Numbers.{Numbers}
+use Rattle.ufs_spec.specs.declared.messages.Message.{Message}
+use Rattle.ufs_laws.proofs.walk.SmallChanges.{Change, IsQuiet, IsSmall, Moves, Small, changed, hears_small, kept}
+use Rattle.ufs_laws.proofs.walk.SmallChanges.{replied_small, settled_small, small_quiet}
+use Rattle.ufs_laws.proofs.walk.LayerEffects.{turn_only}
+
+-- What is looked at
+
+pub record LayerSeen : Type 0 where
+  pub numbers : Numbers
+  pub blocks : Spot → BlockState
+
+pub record Seen : Type 0 where
+  pub array : Array
+  pub layer : LayerSeen
+
+abbrev pub layer_seen : Translation → LayerSeen
+layer_seen t = record { numbers = t.numbers; blocks = t.disk.blocks }
+
+abbrev pub seen_over : Array → LayerSeen → Seen
+seen_over array layer = record { array = array; layer = layer }
+
+abbrev pub seen : State → Seen
+seen s = seen_over s.array (layer_seen s.translation)
+
+-- Moves
+
+abbrev SameLayer : Translation → Translation → Type 0
+SameLayer t u = layer_seen u ≡ layer_seen t
+
+quiet_same : (t : Translation) (move : Move) → IsQuiet move → SameLayer t (moved t move)
+quiet_same t (GiveJob other flight) q = absurd q
+quiet_same t (EndJob other ending) q = absurd q
+quiet_same t TakeStep q = absurd q
+quiet_same t move q = refl
+
+-- States
+
+abbrev pub Same : State → State → Type 0
+Same s u = seen u ≡ seen s
+
+-- small changes leave the layer, and the pages
+small_one : (s : State) (change : Change) → IsSmall change → Same s (changed s change)
+small_one s (Moves move) is = ap (seen_over s.array) (quiet_same s.translation move (small_quiet move is))
+small_one s change is = refl
+
+small_same : {s u : State} → Small s u → Same s u
+small_same h = kept Same (record { self = λ s. refl; both = λ s t u h g. g ∙ h; one = small_one }) h
+
+-- to fill registers and to tell the lock are small changes
+pub told_same : (s : State) → Same s (lock_applied (fills s))
+told_same s = small_same (settled_small s)
+
+pub step_same : (s : State) → Same s (with_moves s (TakeStep ∷ []))
+step_same s = ap (λ (t : Translation). seen_over s.array (layer_seen t)) (turn_only s.translation).is
+
+pub hears_same : (s : State) (h : Heard) → Same s (hears s h)
+hears_same s h = small_same (hears_small s h)
+
+pub replied_same : (s : State) (m : Message) → Same s (replied s m)
+replied_same s m = small_same (replied_small s m)

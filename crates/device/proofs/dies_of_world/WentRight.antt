@@ -1,0 +1,167 @@
+-- What an event shows leads to a state that the world then fits.
+use Rattle.std.proofs.Common.{◌≡◌, ◌∙◌, ℕ, ◌<◌, Bool, true, List, Option, Some, None, length, refl, sym, ap, subst}
+use Rattle.std.specs.Prelude.{slice_set, option_map, Result}
+use Rattle.ufs_spec.specs.Cells.{Array}
+use Rattle.ufs_spec.specs.Dies.{CanDo, after_job, outcome_of}
+use Rattle.ufs_spec.specs.Disk.{Flight, job_of}
+use Rattle.ufs_spec.specs.Lives.{IsCall, IsFinish, IsShown, ended_well}
+use Rattle.ufs_spec.specs.Machine.{Reply, Done, OfDone, Take, OfTake, Heard, OfHost, Host, IsHeard, MayLeave, OfReply}
+use Rattle.ufs_spec.specs.Machine.{Turn, OfTurn, observe}
+use Rattle.ufs_spec.specs.Moves.{Ending, IsEndingOf}
+use Rattle.ufs_spec.specs.Refusals.{State}
+use Rattle.ufs_spec.specs.declared.faults.HostFault.{HostFault}
+use Rattle.ufs_spec.specs.declared.flash.Job.{Job}
+use Rattle.ufs_spec.specs.declared.flash.Outcome.{Outcome}
+use Rattle.ufs_spec.specs.declared.messages.Message.{Message}
+use Rattle.device.specs.Calls.{told}
+use Rattle.device.specs.Describes.{IsAnswered, IsGiven, IsHeardAs, IsReplied}
+use Rattle.device.specs.Kept.{DeviceCore, WorldState}
+use Rattle.device.specs.Worlds.{FitState, Fits, Went, die_at, job_at, jobs_given}
+use Rattle.device.proofs.dies_of_world.DiesFit.{asks_fit, can_finish, finish_ending, finish_fits, gives_fit, hears_fit}
+use Rattle.device.proofs.dies_of_world.DiesFit.{steps_fit}
+use Rattle.ufs_spec.specs.Messages.{spelling}
+use Rattle.ufs_spec.specs.declared.events.Event.{Event}
+use Rattle.ufs_spec.specs.declared.events.Event.TheVariants as event
+use Rattle.ufs_spec.specs.declared.events.Output.{Output}
+use Rattle.ufs_spec.specs.declared.events.Output.TheVariants as output
+use Rattle.power_loss.proofs.books.PagesByName.{none_some, some_is}
+use Rattle.ufs_spec.specs.Ledger.{before_accepted}
+use Rattle.device.proofs.open_tasks.OpenTasks.{no_requests}
+use Rattle.power_loss.proofs.lives.EachEventKeeps.{well_leaves as leaves_well}
+
+-- Messages, steps and replies
+
+pub heard_went : (w : WorldState) (after : DeviceCore) (s : State) (e : Event) (bytes : List ℕ)
+    (result : Result Unit HostFault) →
+    ((heard : Heard) → IsHeard bytes heard → IsCall s e (Host heard)) → Fits w s → IsHeardAs s bytes result after →
+    Went s e (record w { core = after }) (Some (output.Host result))
+heard_went w after s e bytes result call fit h = (
+  observe s (Host h.heard) (OfHost result),
+  record {
+    call = Host h.heard;
+    answer = OfHost result;
+    is_call = call h.heard h.is_heard;
+    is_shown = refl;
+    right = h.answered.right;
+    next = refl;
+  },
+  record { describes = h.answered.describes; dies_fit = hears_fit w.dies w.jobs s h.heard result fit.dies_fit },
+)
+
+pub stepped_went : (w : WorldState) (after : DeviceCore) (s : State) (due : Bool) → Fits w s →
+    IsAnswered s Turn (OfTurn due) after →
+    Went s event.Turn (record w { core = after }) (Some (output.Turn due))
+stepped_went w after s due fit h = (
+  observe s Turn (OfTurn due),
+  record { call = Turn; answer = OfTurn due; is_call = refl; is_shown = refl; right = h.right; next = refl },
+  record { describes = h.describes; dies_fit = steps_fit w.dies w.jobs s due fit.dies_fit },
+)
+
+pub silent_went : (w : WorldState) (after : DeviceCore) (s : State) → Fits w s →
+    IsAnswered s Reply (OfReply None) after →
+    Went s event.Reply (record w { core = after }) (Some (output.Reply None))
+silent_went w after s fit h = (
+  observe s Reply (OfReply None),
+  record { call = Reply; answer = OfReply None; is_call = refl; is_shown = refl; right = h.right; next = refl },
+  record { describes = h.describes; dies_fit = asks_fit w.dies w.jobs s None fit.dies_fit },
+)
+
+pub replied_went : (w : WorldState) (after : DeviceCore) (s : State) (bytes : List ℕ) (o : Output) →
+    ((m : Message) → bytes ≡ spelling m → IsShown (OfReply (Some m)) o) →
+    Fits w s → IsReplied s bytes after → Went s event.Reply (record w { core = after }) (Some o)
+replied_went w after s bytes o shows fit h = (
+  observe s Reply (OfReply (Some h.reply)),
+  record {
+    call = Reply;
+    answer = OfReply (Some h.reply);
+    is_call = refl;
+    is_shown = shows h.reply h.shown;
+    right = h.answered.right;
+    next = refl;
+  },
+  record { describes = h.answered.describes; dies_fit = asks_fit w.dies w.jobs s (Some h.reply) fit.dies_fit },
+)
+
+-- Jobs
+
+pub given_went : (w : WorldState) (after : DeviceCore) (s : State) (die : ℕ) (told : Option Job) → Fits w s →
+    IsGiven s die told after →
+    Went s (event.Take die) (record w { core = after; jobs = jobs_given w.jobs die told }) (Some (output.Take told))
+given_went w after s die told fit h = (
+  observe s (Take die) (OfTake h.flight),
+  record {
+    call = Take die;
+    answer = OfTake h.flight;
+    is_call = refl;
+    is_shown = h.shown;
+    right = h.answered.right;
+    next = refl;
+  },
+  record {
+    describes = h.answered.describes;
+    dies_fit =
+        subst (λ (j : Option Job). FitState w.dies (jobs_given w.jobs die j) (observe s (Take die) (OfTake h.flight)))
+        (sym h.shown) (gives_fit w.dies w.jobs s die h.flight fit.dies_fit h.answered.right);
+  },
+)
+
+-- the job that a die has is that of its flight
+flight_of : (j : Job) (o : Option Flight) → option_map job_of o ≡ Some j → (flight : Flight) × (o ≡ Some flight)
+    × (job_of flight ≡ j)
+flight_of j None e = absurd (none_some j e)
+flight_of j (Some flight) e = (flight, refl, some_is (job_of flight) j e)
+
+has_flight : (w : WorldState) (s : State) (die : ℕ) (j : Job) → Fits w s → job_at w.jobs die ≡ Some j →
+    (flight : Flight) × (s.translation.disk.flights die ≡ Some flight) × (job_of flight ≡ j)
+has_flight w s die j fit is = flight_of j (s.translation.disk.flights die) (sym (fit.dies_fit.jobs_are die) ∙ is)
+
+pub finish_can : (w : WorldState) (s : State) (die : ℕ) (j : Job) → Fits w s → job_at w.jobs die ≡ Some j →
+    (die < length w.dies) × CanDo (die_at w.dies die) j
+finish_can w s die j fit is =
+    let f = has_flight w s die j fit is in
+    let r = can_finish w.dies w.jobs s die f.0 fit.describes.tied.valid fit.dies_fit f.1 in
+    (r.0, subst (CanDo (die_at w.dies die)) f.2 r.1)
+
+finish_call : (s : State) (die : ℕ) (flight : Flight) → s.translation.disk.flights die ≡ Some flight →
+    IsCall s (event.Finish die) (Done die (ended_well flight) s.array)
+finish_call s die flight flies = subst (λ (f : Option Flight). IsFinish s die f (Done die (ended_well flight) s.array))
+    (sym flies) refl
+
+pub finish_went : (w : WorldState) (after : DeviceCore) (s : State) (die : ℕ) (j : Job) (o : Outcome) → Fits w s →
+    job_at w.jobs die ≡ Some j → o ≡ outcome_of (die_at w.dies die) j →
+    ((ending : Ending) (left : Array) → IsEndingOf s.translation.disk.cells (s.translation.disk.flights die) o ending →
+    MayLeave s die ending left →
+    IsAnswered s (Done die ending left) (OfDone true) after) →
+    Went s (event.Finish die) (record w {
+      core = after;
+      jobs = slice_set w.jobs die None;
+      dies = slice_set w.dies die (after_job (die_at w.dies die) j);
+    }) (Some output.Ended)
+finish_went w after s die j o fit is out answered =
+    let f = has_flight w s die j fit is in
+    let ending = finish_ending w.dies w.jobs s die f.0 fit.describes.tied fit.dies_fit f.1 in
+    let same : outcome_of (die_at w.dies die) (job_of f.0) ≡ o = ap (outcome_of (die_at w.dies die)) f.2 ∙ sym out in
+    let a = answered (ended_well f.0) s.array
+    (subst (λ (x : Outcome). IsEndingOf s.translation.disk.cells (s.translation.disk.flights die) x (ended_well f.0))
+    same ending) (leaves_well s die f.0 s.array) in (
+      observe s (Done die (ended_well f.0) s.array) (OfDone true),
+      record {
+        call = Done die (ended_well f.0) s.array;
+        answer = OfDone true;
+        is_call = finish_call s die f.0 f.1;
+        is_shown = refl;
+        right = a.right;
+        next = refl;
+      },
+      record {
+        describes = a.describes;
+        dies_fit =
+            subst
+            (λ (x : Job). FitState (slice_set w.dies die (after_job (die_at w.dies die) x)) (slice_set w.jobs die None)
+            (observe s (Done die (ended_well f.0) s.array) (OfDone true)))
+            f.2
+            (finish_fits w.dies w.jobs s die f.0 fit.describes.tied.valid
+            (no_requests (before_accepted s.translation.ledger) w.core.tasks s.tasks fit.describes.kept.tasks)
+            fit.describes.kept.layer_kept.kept.work.no_plan fit.dies_fit f.1);
+      },
+    )

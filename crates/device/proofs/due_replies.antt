@@ -1,0 +1,6 @@
+pub mod BlocksOwed
+pub mod FirstOfList
+pub mod PinsLetGo
+pub mod RepliesRight
+pub mod ReplyMoves
+pub mod ReplySame

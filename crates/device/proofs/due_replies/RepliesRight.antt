@@ -1,0 +1,147 @@
+-- A reply that is handed out is due, and none is due where none is handed out.
+use Rattle.std.proofs.Common.{◌≡◌, ◌∙◌, ℕ, suc, Bool, true, false, List, [], ◌∷◌, Option, Some, None, length, map, refl}
+use Rattle.std.proofs.Common.{sym, ap, subst, inl, inr, arith}
+use Rattle.std.specs.Prelude.{◌==◌, if◌then◌else◌, nat_le, not, option_map, remove, slice_get}
+use Rattle.std.specs.List.{list_any}
+use Rattle.ufs_spec.proofs.Facts.{none-some, or_parts, same_Some}
+use Rattle.ufs_spec.specs.Exchanges.{Short, is_short_of, task_of, without_short}
+use Rattle.ufs_spec.specs.Ledger.{before_accepted}
+use Rattle.ufs_spec.specs.Machine.{Due, OfReply, Reply, deed_reply, replied, replied_by, short_replied, tag_in}
+use Rattle.ufs_spec.specs.Refusals.{State}
+use Rattle.ufs_spec.specs.Translation.{Translation}
+use Rattle.ufs_spec.specs.declared.messages.Message.{Message}
+use Rattle.power_loss.specs.Exchange.{ShortsDiffer}
+use Rattle.power_loss.proofs.books.SmallFacts.{eq_self, if_false, if_true}
+use Rattle.power_loss.proofs.open_tasks.TaskLists.{found_short, found_task, no_task_found}
+use Rattle.device.specs.Describes.{Describes, IsAnswered, short_kept}
+use Rattle.device.specs.Kept.{DeviceCore}
+use Rattle.device.specs.Replies.{HasMoved, answer_of, block_for, block_message, full_answer, moved_on, owed_by, owed_in}
+use Rattle.device.specs.Replies.{without_first}
+use Rattle.device.specs.declared.tasks.Loaded.{Loaded}
+use Rattle.device.specs.declared.tasks.Phase.{Phase}
+use Rattle.device.specs.declared.tasks.Phase.TheVariants as phase
+use Rattle.device.specs.declared.tasks.Refused.{Refused}
+use Rattle.device.specs.declared.tasks.Status.TheVariants as status
+use Rattle.device.specs.declared.tasks.Task.{Task}
+use Rattle.device.proofs.described.Answered.{answered, answered_as, stays}
+use Rattle.device.proofs.open_tasks.OpenTasks.{our_task, their_task}
+use Rattle.device.proofs.due_replies.ReplyMoves.{moves_on, task_does}
+use Rattle.device.proofs.due_replies.ReplySame.{same_reply}
+use Rattle.power_loss.proofs.host_commands.HandedOutReplies.{one_tag as same_tag}
+
+-- Tags
+
+-- a reply has its task's tag
+reply_tag : (t : Translation) (loaded : List Loaded) (a : Task) (p : Phase) (m : Message) →
+    owed_in t loaded a p ≡ Some m →
+    tag_in m ≡ a.tag
+reply_tag t loaded a (phase.AskData key) m h = same_tag _ m a.tag h refl
+reply_tag t loaded a (phase.AwaitData key) m h = absurd (none-some m h)
+reply_tag t loaded a (phase.AwaitFrontier n) m h = by (nat_le n t.ledger.frontier) h
+  where
+    by : (x : Bool) → (if x then Some (answer_of a status.Good 4096) else None) ≡ Some m → tag_in m ≡ a.tag
+    by true e = same_tag (answer_of a status.Good 4096) m a.tag e refl
+    by false e = absurd (none-some m e)
+reply_tag t loaded a phase.SendBlock m h = by (block_for t loaded a.tag) h
+  where
+    by : (x : Option (List ℕ)) → option_map (block_message a) x ≡ Some m → tag_in m ≡ a.tag
+    by None e = absurd (none-some m e)
+    by (Some body) e = same_tag (block_message a body) m a.tag e refl
+reply_tag t loaded a (phase.Answer told n) m h = same_tag (answer_of a told n) m a.tag h refl
+
+-- Replies of tasks
+
+pub replies_right : (d e : DeviceCore) (s : State) (k : ℕ) (task : Task) (m : Message) → Describes d s →
+    slice_get d.tasks k ≡ Some task → owed_by s.translation d.loaded task ≡ Some m →
+    e ≡ record (moved_on d k task task.phase) { ftl = e.ftl } → HasMoved e.ftl s.translation task.tag task.phase →
+    IsAnswered s Reply (OfReply (Some m)) e
+replies_right d e s k task m h there due left layer =
+    let r = their_task (before_accepted s.translation.ledger) k d.tasks s.tasks task h.kept.tasks there in
+    let found : task_of r.0.tag s.tasks ≡ Some r.0 = found_task s.tasks k r.0 h.tied.tasks.tasks_differ r.1.theirs in
+    let tag : tag_in m ≡ r.0.tag = reply_tag s.translation d.loaded task task.phase m due ∙ sym r.1.kept.tag in
+    let path : replied s m ≡ task_does s r.0 r.0.deed =
+    ap (replied_by s (tag_in m)) (ap (λ n. task_of n s.tasks) tag ∙ found) in
+    subst (λ (x : DeviceCore). IsAnswered s Reply (OfReply (Some m)) x) (sym left)
+    (answered_as d (record (moved_on d k task task.phase) { ftl = e.ftl }) s (task_does s r.0 r.0.deed) Reply
+    (OfReply (Some m)) h tt
+    (inl (k, r.0, r.1.theirs, same_reply d s task r.0 h r.1.kept found ∙ due)) path
+    (moves_on d s k task r.0 h r.1 e.ftl m due layer))
+
+-- Replies to commands that were refused
+
+first_refused : (rs : List Refused) (r : Refused) → slice_get rs 0 ≡ Some r → (more : List Refused) × (rs ≡ r ∷ more)
+first_refused [] r h = absurd (none-some r h)
+first_refused (x ∷ xs) r h = (xs, ap (λ (z : Refused). z ∷ xs) (same_Some x r h))
+
+-- where none has the tag, none goes
+none_goes : (tag : ℕ) (xs : List Short) → list_any (is_short_of tag) xs ≡ false → without_short tag xs ≡ xs
+none_goes tag [] h = refl
+none_goes tag (x ∷ xs) h =
+    let both = or_parts (is_short_of tag x) (list_any (is_short_of tag) xs) h in
+    if_true (not (is_short_of tag x)) (x ∷ without_short tag xs) (without_short tag xs) (ap not both.0)
+    ∙ ap (λ (ys : List Short). x ∷ ys) (none_goes tag xs both.1)
+
+-- the first goes, and no other
+first_goes : (all xs : List Short) (x : Short) → all ≡ x ∷ xs → ShortsDiffer all → without_short x.tag all ≡ xs
+first_goes all xs x is differ =
+    ap (without_short x.tag) is
+    ∙ (if_false (not (x.tag == x.tag)) (x ∷ without_short x.tag xs) (without_short x.tag xs) (ap not (eq_self x.tag))
+    ∙ none_goes x.tag xs (subst ShortsDiffer is differ).0)
+
+pub shorts_right : (d : DeviceCore) (s : State) (r : Refused) → Describes d s → slice_get d.refused 0 ≡ Some r →
+    IsAnswered s Reply (OfReply (Some (full_answer r))) (without_first d)
+shorts_right d s r h there =
+    let rs = first_refused d.refused r there in
+    let all : s.shorts ≡ short_kept r ∷ map short_kept rs.0 = h.kept.shorts ∙ ap (map short_kept) rs.1 in
+    let at : slice_get s.shorts 0 ≡ Some (short_kept r) = ap (λ (xs : List Short). slice_get xs 0) all in
+    answered_as d (without_first d) s (record s { shorts = map short_kept rs.0 }) Reply (OfReply (Some (full_answer r)))
+    h tt
+    (inr (0, short_kept r, at, refl, refl))
+    (ap (replied_by s r.tag) (no_task_found s.shorts s.tasks 0 (short_kept r) h.tied.tasks.apart at)
+    ∙ (ap (short_replied s) (found_short s.shorts 0 (short_kept r) h.tied.tasks.shorts_differ at)
+    ∙ ap (λ (xs : List Short). record s { shorts = xs }) (first_goes s.shorts (map short_kept rs.0) (short_kept r) all
+    h.tied.tasks.shorts_differ)))
+    (record {
+      keeps = record {
+        unprotected = h.kept.unprotected;
+        layer_kept = h.kept.layer_kept;
+        few = h.kept.few;
+        tasks = h.kept.tasks;
+        blocks = h.kept.blocks;
+        shorts = ap (map short_kept) (sym (ap (λ (xs : List Refused). remove xs 0) rs.1));
+        power_off = h.kept.power_off;
+      };
+      told = h.told;
+    })
+
+-- No reply
+
+abbrev pub OwesNone : DeviceCore → Translation → Type 0
+OwesNone d t = (k : ℕ) (task : Task) → slice_get d.tasks k ≡ Some task → owed_by t d.loaded task ≡ None
+
+no_message : (x y : Option Message) (m : Message) → x ≡ Some m → x ≡ y → y ≡ None → ⊥
+no_message x y m e f g = cc
+
+none_refused : (rs : List Refused) (xs : List Short) (k : ℕ) (x : Short) → length rs ≡ 0 → xs ≡ map short_kept rs →
+    slice_get xs k ≡ Some x → ⊥
+none_refused [] xs k x none is at = no (sym (ap (λ (ys : List Short). slice_get ys k) is) ∙ at)
+  where
+    no : None ≡ Some x → ⊥
+    no e = cc
+none_refused (r ∷ rs) xs k x none is at = absurd (no (length rs) none)
+  where
+    no : (n : ℕ) → suc n ≡ 0 → ⊥
+    no n e = omega arith
+
+none_due : (d : DeviceCore) (s : State) → Describes d s → OwesNone d s.translation → length d.refused ≡ 0 →
+    (m : Message) → Due s m → ⊥
+none_due d s h none empty m (inl due) =
+    let r = our_task (before_accepted s.translation.ledger) due.0 d.tasks s.tasks due.1 h.kept.tasks due.2 in
+    no_message (deed_reply s due.1 due.1.deed) (owed_by s.translation d.loaded r.0) m due.3
+    (same_reply d s r.0 due.1 h r.1.kept (found_task s.tasks due.0 due.1 h.tied.tasks.tasks_differ due.2))
+    (none due.0 r.0 r.1.ours)
+none_due d s h none empty m (inr due) = none_refused d.refused s.shorts due.0 due.1 empty h.kept.shorts due.2
+
+pub silence_right : (d : DeviceCore) (s : State) → Describes d s → OwesNone d s.translation → length d.refused ≡ 0 →
+    IsAnswered s Reply (OfReply None) d
+silence_right d s h none empty = answered d d s Reply (OfReply None) h tt (none_due d s h none empty) (stays d s h)

@@ -1,0 +1,10 @@
+pub mod AskedData
+pub mod CommandBegins
+pub mod CommandCounts
+pub mod CommandTable
+pub mod CommandTags
+pub mod CommandsRight
+pub mod DataRight
+pub mod FaultsHeard
+pub mod HostRight
+pub mod OneBlock

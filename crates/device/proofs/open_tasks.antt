@@ -1,0 +1,5 @@
+pub mod FewRead
+pub mod OpenTasks
+pub mod ReadProgress
+pub mod ReadsEnded
+pub mod TaskOpened

@@ -1,0 +1,238 @@
+-- How far the READs are: what is kept for each tag where tasks, pins and blocks that were read come, change and go.
+use Rattle.std.proofs.Common.{◌≡◌, ◌∙◌, ℕ, suc, ◌==◌, ◌&&◌, Bool, true, false, cond, List, [], ◌∷◌, ◌++◌, map, Option}
+use Rattle.std.proofs.Common.{Some, None, refl, sym, ap, subst}
+use Rattle.std.specs.Prelude.{filter, find, not, option_map, position}
+use Rattle.std.specs.Option.{option_or, option_to_list}
+use Rattle.std.proofs.lemmas.List.Elements.{filter-append}
+use Rattle.std.proofs.lemmas.List.{map-append}
+use Rattle.std.proofs.lemmas.List.Folds.{find-append}
+use Rattle.ufs_spec.proofs.Facts.{eqb-true, false≢true}
+use Rattle.ufs_spec.specs.Exchanges as exchange
+use Rattle.ufs_spec.specs.Exchanges.{Deed, is_task_of, task_of, with_deed}
+use Rattle.ufs_spec.specs.Moves.{is_pin_of}
+use Rattle.ufs_spec.specs.Translation.{Pin}
+use Rattle.power_loss.proofs.open_tasks.FoundInLists.{found_is}
+use Rattle.power_loss.proofs.open_tasks.TaggedLists.{other_way}
+use Rattle.device.specs.declared.tasks.Loaded.{Loaded}
+use Rattle.device.specs.Describes.{Progress, progress_in, progress_of}
+use Rattle.device.specs.Replies.{body_of, is_loaded_for, loaded_without}
+use Rattle.device.proofs.open_tasks.OpenTasks.{position_step}
+
+abbrev pub progress : Option Bool → List (List ℕ) → Progress
+progress wanted read = record { wanted = wanted; read = read }
+
+-- What is found in a list
+
+-- each element changes, and no test of one
+pub find_map : {X : Type 0} (p : X → Bool) (f : X → X) → ((x : X) → p (f x) ≡ p x) → (xs : List X) →
+    find p (map f xs) ≡ option_map f (find p xs)
+find_map p f same [] = refl
+find_map p f same (x ∷ xs) =
+    ap (λ b. cond b (Some (f x)) (find p (map f xs))) (same x)
+    ∙ (ap (cond (p x) (Some (f x))) (find_map p f same xs) ∙ by (p x))
+  where
+    by : (b : Bool) → cond b (Some (f x)) (option_map f (find p xs)) ≡ option_map f (cond b (Some x) (find p xs))
+    by true = refl
+    by false = refl
+
+-- none of those that are looked for goes
+pub find_left : {X : Type 0} (p q : X → Bool) → ((x : X) → p x ≡ true → q x ≡ true) → (xs : List X) →
+    find p (filter q xs) ≡ find p xs
+find_left p q keeps [] = refl
+find_left p q keeps (x ∷ xs) = by (p x) (q x) refl refl (find_left p q keeps xs)
+  where
+    by : (b c : Bool) → p x ≡ b → q x ≡ c → find p (filter q xs) ≡ find p xs →
+        find p (cond c (x ∷ filter q xs) (filter q xs)) ≡ cond b (Some x) (find p xs)
+    by b true e g rest = ap (λ y. cond (p x) (Some x) y) rest ∙ ap (λ y. cond y (Some x) (find p xs)) e
+    by true false e g rest = absurd (false≢true (sym g ∙ keeps x e))
+    by false false e g rest = rest
+
+-- all of those that are looked for go
+pub find_gone : {X : Type 0} (p q : X → Bool) → ((x : X) → p x ≡ true → q x ≡ false) → (xs : List X) →
+    find p (filter q xs) ≡ None
+find_gone p q goes [] = refl
+find_gone p q goes (x ∷ xs) = by (q x) refl (find_gone p q goes xs)
+  where
+    last : (b : Bool) → p x ≡ b → q x ≡ true → find p (filter q xs) ≡ None →
+        cond b (Some x) (find p (filter q xs)) ≡ None
+    last true e g rest = absurd (false≢true (sym (goes x e) ∙ g))
+    last false e g rest = rest
+
+    by : (c : Bool) → q x ≡ c → find p (filter q xs) ≡ None → find p (cond c (x ∷ filter q xs) (filter q xs)) ≡ None
+    by true g rest = last (p x) refl g rest
+    by false g rest = rest
+
+-- Tasks
+
+-- a task that changes keeps its tag
+abbrev pub KeepsTag : (exchange.Task → exchange.Task) → Type 0
+KeepsTag f = (x : exchange.Task) → (f x).tag ≡ x.tag
+
+tag_kept : (f : exchange.Task → exchange.Task) (tag : ℕ) (us : List exchange.Task) → KeepsTag f →
+    task_of tag (map f us) ≡ option_map f (task_of tag us)
+tag_kept f tag us same = find_map (is_task_of tag) f (λ x. ap (λ (n : ℕ). n == tag) (same x)) us
+
+progress_mapped : (f : exchange.Task → exchange.Task) (o : Option exchange.Task) →
+    ((x : exchange.Task) → o ≡ Some x → progress_in (f x).deed ≡ progress_in x.deed) →
+    progress_of (option_map f o) ≡ progress_of o
+progress_mapped f None same = refl
+progress_mapped f (Some x) same = same x refl
+
+-- no change tells how far a READ is
+pub each_goes_on : (f : exchange.Task → exchange.Task) (us : List exchange.Task) (tag : ℕ) → KeepsTag f →
+    ((x : exchange.Task) → progress_in (f x).deed ≡ progress_in x.deed) →
+    progress_of (task_of tag (map f us)) ≡ progress_of (task_of tag us)
+each_goes_on f us tag tags same = ap progress_of (tag_kept f tag us tags) ∙ progress_mapped f (task_of tag us)
+    (λ x e. same x)
+
+-- a change of the task of one tag
+pub record ChangesOne (f : exchange.Task → exchange.Task) (tag : ℕ) : Type 0 where
+  pub tags : KeepsTag f
+  pub others : (x : exchange.Task) → (x.tag == tag) ≡ false → f x ≡ x
+
+-- leaves the tasks of other tags
+pub others_go_on : (f : exchange.Task → exchange.Task) (us : List exchange.Task) (one tag : ℕ) → ChangesOne f one →
+    (tag == one) ≡ false → progress_of (task_of tag (map f us)) ≡ progress_of (task_of tag us)
+others_go_on f us one tag h other =
+    ap progress_of (tag_kept f tag us h.tags)
+    ∙ progress_mapped f (task_of tag us) (λ x e. ap (λ (y : exchange.Task). progress_in y.deed)
+    (h.others x (ap (λ (n : ℕ). n == one) (eqb-true x.tag tag (found_is (is_task_of tag) us x e)) ∙ other)))
+
+pub one_goes_on : (f : exchange.Task → exchange.Task) (us : List exchange.Task) (tag : ℕ) (b : exchange.Task) →
+    KeepsTag f →
+    task_of tag us ≡ Some b → progress_of (task_of tag (map f us)) ≡ progress_in (f b).deed
+one_goes_on f us tag b tags found = ap progress_of (tag_kept f tag us tags ∙ ap (option_map f) found)
+
+pub deed_changes : (tag : ℕ) (deed : Deed) → ChangesOne (with_deed tag deed) tag
+deed_changes tag deed = record {
+  tags = λ x. by x (is_task_of tag x);
+  others = λ x e. ap (λ b. cond b (record x { deed = deed }) x) e;
+}
+  where
+    by : (x : exchange.Task) (b : Bool) → (cond b (record x { deed = deed }) x).tag ≡ x.tag
+    by x true = refl
+    by x false = refl
+
+-- the deed of the task of a tag, once it is set
+pub deed_set : (tag : ℕ) (deed : Deed) (us : List exchange.Task) (b : exchange.Task) → task_of tag us ≡ Some b →
+    progress_of (task_of tag (map (with_deed tag deed) us)) ≡ progress_in deed
+deed_set tag deed us b found =
+    one_goes_on (with_deed tag deed) us tag b (deed_changes tag deed).tags found
+    ∙ ap (λ z. progress_in (cond z (record b { deed = deed }) b).deed) (found_is (is_task_of tag) us b found)
+
+-- by the tag that is asked for: the one, or another
+pub by_tag : (P : ℕ → Type 0) (one : ℕ) → P one → ((tag : ℕ) → (tag == one) ≡ false → P tag) → (tag : ℕ) → P tag
+by_tag P one this others tag = by (tag == one) refl
+  where
+    by : (b : Bool) → (tag == one) ≡ b → P tag
+    by true e = subst P (sym (eqb-true tag one e)) this
+    by false e = others tag e
+
+-- the task of a tag goes
+pub task_gone : (one : ℕ) (us : List exchange.Task) → task_of one (exchange.without_task one us) ≡ None
+task_gone one us = find_gone (is_task_of one) (λ x. not (is_task_of one x)) (λ x e. ap not e) us
+
+pub others_left : (one tag : ℕ) (us : List exchange.Task) → (tag == one) ≡ false →
+    task_of tag (exchange.without_task one us) ≡ task_of tag us
+others_left one tag us other =
+    find_left (is_task_of tag) (λ x. not (is_task_of one x))
+    (λ x e. ap not (ap (λ (n : ℕ). n == one) (eqb-true x.tag tag e) ∙ other)) us
+
+-- one task more, of a tag that none has
+pub task_more : (tag : ℕ) (us : List exchange.Task) (b : exchange.Task) →
+    task_of tag (us ++ b ∷ []) ≡ option_or (task_of tag us) (cond (b.tag == tag) (Some b) None)
+task_more tag us b = find-append (is_task_of tag) us (b ∷ [])
+
+-- Pins
+
+abbrev pub pin_for : ℕ → List Pin → Option Pin
+pin_for tag pins = find (is_pin_of tag 0) pins
+
+abbrev pub wanted_for : ℕ → List Pin → Option Bool
+wanted_for tag pins = option_map (λ (pin : Pin). pin.wanted) (pin_for tag pins)
+
+-- a change of pins that keeps whose they are and whether they are wanted
+pub wanted_same : (f : Pin → Pin) → ((pin : Pin) → (f pin).tag ≡ pin.tag) → ((pin : Pin) → (f pin).index ≡ pin.index) →
+    ((pin : Pin) → (f pin).wanted ≡ pin.wanted) → (tag : ℕ) (pins : List Pin) →
+    wanted_for tag (map f pins) ≡ wanted_for tag pins
+wanted_same f tags indexes wanted tag pins =
+    ap (option_map (λ (pin : Pin). pin.wanted))
+    (find_map (is_pin_of tag 0) f (λ pin i. (tags pin i == tag) && (indexes pin i == 0)) pins) ∙ by (pin_for tag pins)
+  where
+    by : (o : Option Pin) → option_map (λ (pin : Pin). pin.wanted) (option_map f o) ≡ option_map
+        (λ (pin : Pin). pin.wanted) o
+    by None = refl
+    by (Some pin) = ap (λ b. Some b) (wanted pin)
+
+-- Blocks that were read
+
+abbrev pub read_for : ℕ → List Loaded → List (List ℕ)
+read_for tag ls = map body_of (filter (is_loaded_for tag) ls)
+
+-- the first block of a tag goes
+unloaded : ℕ → List Loaded → List Loaded
+unloaded tag ls = loaded_without ls (position (is_loaded_for tag) ls)
+
+unloaded_step : (one : ℕ) (l : Loaded) (ls : List Loaded) →
+    loaded_without (l ∷ ls) (position (is_loaded_for one) (l ∷ ls))
+    ≡ cond (l.tag == one) ls (l ∷ loaded_without ls (position (is_loaded_for one) ls))
+unloaded_step one l ls = ap (loaded_without (l ∷ ls)) (position_step (is_loaded_for one) l ls)
+    ∙ by (l.tag == one) (position (is_loaded_for one) ls)
+  where
+    by : (b : Bool) (o : Option ℕ) → loaded_without (l ∷ ls) (cond b (Some 0) (option_map suc o)) ≡ cond b ls
+        (l ∷ loaded_without ls o)
+    by true o = refl
+    by false None = refl
+    by false (Some k) = refl
+
+pub others_read : (one tag : ℕ) (ls : List Loaded) → (tag == one) ≡ false →
+    read_for tag (loaded_without ls (position (is_loaded_for one) ls)) ≡ read_for tag ls
+others_read one tag [] other = refl
+others_read one tag (l ∷ ls) other = ap (read_for tag) (unloaded_step one l ls)
+    ∙ by (l.tag == one) refl (others_read one tag ls other)
+  where
+    rest : List Loaded
+    rest = loaded_without ls (position (is_loaded_for one) ls)
+
+    same : (c : Bool) → read_for tag rest ≡ read_for tag ls →
+        map body_of (cond c (l ∷ filter (is_loaded_for tag) rest) (filter (is_loaded_for tag) rest))
+        ≡ map body_of (cond c (l ∷ filter (is_loaded_for tag) ls) (filter (is_loaded_for tag) ls))
+    same true k = ap (λ bs. l.body ∷ bs) k
+    same false k = k
+
+    by : (b : Bool) → (l.tag == one) ≡ b → read_for tag rest ≡ read_for tag ls →
+        read_for tag (cond b ls (l ∷ rest)) ≡ read_for tag (l ∷ ls)
+    by true e k =
+        sym (ap (λ z. map body_of (cond z (l ∷ filter (is_loaded_for tag) ls) (filter (is_loaded_for tag) ls)))
+        (ap (λ (n : ℕ). n == tag) (eqb-true l.tag one e) ∙ other_way tag one other))
+    by false e k = same (l.tag == tag) k
+
+-- where a tag has at most one block, none is left
+pub none_read : (one : ℕ) (ls : List Loaded) (o : Option (List ℕ)) → read_for one ls ≡ option_to_list o →
+    read_for one (loaded_without ls (position (is_loaded_for one) ls)) ≡ []
+none_read one [] o is = refl
+none_read one (l ∷ ls) o is = ap (read_for one) (unloaded_step one l ls)
+    ∙ by (l.tag == one) refl o is (λ k. none_read one ls o k)
+  where
+    rest : List Loaded
+    rest = loaded_without ls (position (is_loaded_for one) ls)
+
+    by : (b : Bool) → (l.tag == one) ≡ b → (o : Option (List ℕ)) →
+        map body_of (cond b (l ∷ filter (is_loaded_for one) ls) (filter (is_loaded_for one) ls)) ≡ option_to_list o →
+        (read_for one ls ≡ option_to_list o → read_for one rest ≡ []) → read_for one (cond b ls (l ∷ rest)) ≡ []
+    by true e None k more = cc
+    by true e (Some body) k more = cc
+    by false e x k more = ap
+        (λ z. map body_of (cond z (l ∷ filter (is_loaded_for one) rest) (filter (is_loaded_for one) rest))) e ∙ more k
+
+-- one block more
+pub read_more : (tag : ℕ) (ls : List Loaded) (l : Loaded) → read_for tag (ls ++ l ∷ []) ≡ read_for tag ls ++ cond
+    (l.tag == tag) (l.body ∷ []) []
+read_more tag ls l =
+    ap (map body_of) (filter-append (is_loaded_for tag) ls (l ∷ []))
+    ∙ (map-append body_of (filter (is_loaded_for tag) ls) (filter (is_loaded_for tag) (l ∷ []))
+    ∙ ap (λ xs. read_for tag ls ++ xs) (by (l.tag == tag)))
+  where
+    by : (b : Bool) → map body_of (cond b (l ∷ []) []) ≡ cond b (l.body ∷ []) []
+    by true = refl
+    by false = refl

@@ -1,0 +1,5 @@
+use Rattle.ftl_core.proofs.small_calls.CallsDescribed.{opens_described}
+use Rattle.ftl_core.proofs.ftl.Ftl.new.Goals as goal
+
+pub returns-clause-described : goal.returns-clause-described
+returns-clause-described c = opens_described c.args.config c.args.bad.now c.fresh.result c.fresh.ensures

@@ -1,0 +1,226 @@
+-- What describes a translation layer once the program or the erase of one die ended.
+use Rattle.std.proofs.Common.{◌≡◌, ◌≢◌, ◌∙◌, ◌⊎◌, ℕ, ◌+◌, ◌<◌, Bool, true, false, List, Option, Some, None, map, sym}
+use Rattle.std.proofs.Common.{ap, subst, inl, inr, ⊎_elim, arith, lt-ltb}
+use Rattle.std.proofs.lemmas.Bool.Decides.{eqb_tells, nat_tests}
+use Rattle.std.specs.Prelude.{◌-◌, ◌*◌, ◌==◌, count_by, nat_lt, slice_get, slice_set}
+use Rattle.ufs_spec.specs.Cells.{Cells, Mark}
+use Rattle.ufs_spec.specs.declared.configs.Numbers.{Numbers}
+use Rattle.ufs_spec.specs.declared.flash.Place.{Place}
+use Rattle.ufs_spec.specs.Disk as disk
+use Rattle.ufs_spec.specs.Disk.{Spot, at_die, at_spot, state_behind}
+use Rattle.ufs_spec.specs.Ledger.{Ledger, entry_of}
+use Rattle.ufs_spec.specs.Translation.{Translation, Work, is_bad, spots}
+use Rattle.power_loss.proofs.books.SmallFacts.{at_spot_cases, if_false, if_true}
+use Rattle.ftl_core.specs.Core.{Core}
+use Rattle.ftl_core.specs.declared.books.BlockState.{BlockState}
+use Rattle.ftl_core.specs.declared.books.BlockState.TheVariants as state
+use Rattle.ftl_core.specs.declared.books.Book.{Book}
+use Rattle.ftl_core.specs.declared.books.Flight.{Flight}
+use Rattle.ftl_core.specs.declared.books.Group.{Group}
+use Rattle.ftl_core.specs.declared.books.OpenBlock.{OpenBlock}
+use Rattle.ftl_core.specs.declared.books.Stored.{Stored}
+use Rattle.ftl_core.specs.Describes.{BlocksKept, DiesKept, IsFilling, IsFlight, Kept, LedgerKept, PagesFly, PinsKept}
+use Rattle.ftl_core.specs.Describes.{WorkKept, block_kept, spot_at}
+use Rattle.ftl_core.specs.Moves.{page_written, with_book, with_state}
+use Rattle.ftl_core.proofs.job_taken.Flown.{reads_over}
+use Rattle.ftl_core.proofs.new_dies.Spots.{block_lost, block_put}
+
+-- The job that ends
+
+-- the job of a die, as both know it
+pub job_kept : (c : Core) (t : Translation) (die : ℕ) (b : Book) (f : Option Flight) (g : Option disk.Flight) →
+    Kept c t →
+    slice_get c.books die ≡ Some b → b.flight ≡ f → t.disk.flights die ≡ g → IsFlight t.numbers die b.filling f g
+job_kept c t die b f g k there job flies =
+    subst (λ (z : Option Flight × Option disk.Flight). IsFlight t.numbers die b.filling z.0 z.1) (λ i. (job i, flies i))
+    (k.dies.each die b there).job
+
+pub filling_kept : (c : Core) (t : Translation) (die : ℕ) (b : Book) (o : Option OpenBlock) → Kept c t →
+    slice_get c.books die ≡ Some b → b.filling ≡ o → IsFilling t.numbers t.disk.blocks die o
+filling_kept c t die b o k there is =
+    subst (λ (x : Option OpenBlock). IsFilling t.numbers t.disk.blocks die x) is (k.dies.each die b there).filling
+
+-- What is known once it ended
+
+-- some of what is kept is other than it was
+abbrev pub changed : Core → List BlockState → List Book → Bool → List Group → Option ℕ → ℕ → Bool → Core
+changed c states books has_bad groups mark next mended =
+    record c {
+      states = states;
+      books = books;
+      has_bad = has_bad;
+      groups = groups;
+      mark = mark;
+      next_mark = next;
+      mended = mended;
+    }
+
+-- one block has this state
+abbrev pub states_with : Core → ℕ → ℕ → BlockState → List BlockState
+states_with c die block s = slice_set c.states (die * c.numbers.blocks + block) s
+
+-- one die has no job, and this open block
+abbrev pub books_with : Core → ℕ → Option OpenBlock → List Book
+books_with c die f = slice_set c.books die record { filling = f; flight = None }
+
+-- the same of the device
+abbrev pub blocks_with : Translation → ℕ → ℕ → disk.BlockState → Spot → disk.BlockState
+blocks_with t die block x = at_spot t.disk.blocks (spot_at die block) x
+
+-- one die has no job any more, and some of the rest is other than it was
+abbrev pub over : Translation → ℕ → (Spot → disk.BlockState) → Cells → (Place → Bool) → (Spot → Bool) → Ledger → Work →
+    Translation
+over t die blocks cells finished erasing ledger work = record t {
+  disk = record {
+    cells = cells;
+    finished = finished;
+    blocks = blocks;
+    flights = at_die t.disk.flights die None;
+    erasing = erasing;
+  };
+  ledger = ledger;
+  work = work;
+}
+
+-- the job of one die ended that was no read: the pins are as they were
+pub kept_over : (c : Core) (t : Translation) (die : ℕ)
+    (states : List BlockState) (books : List Book) (has_bad : Bool) (groups : List Group) (mark : Option ℕ) (next : ℕ)
+    (mended : Bool)
+    (blocks : Spot → disk.BlockState) (cells : Cells) (finished : Place → Bool) (erasing : Spot → Bool)
+    (ledger : Ledger) (work : Work) →
+    Kept c t →
+    BlocksKept t.numbers blocks states has_bad →
+    DiesKept t.numbers blocks (at_die t.disk.flights die None) books →
+    PagesFly ledger.standing (at_die t.disk.flights die None) →
+    LedgerKept c.numbers c.places groups c.frontier ledger →
+    WorkKept mended mark next work ledger.marks →
+    PinsKept ledger.frontier (entry_of ledger) c.pins t.pins →
+    Kept (changed c states books has_bad groups mark next mended) (over t die blocks cells finished erasing ledger work)
+kept_over c t die states books has_bad groups mark next mended blocks cells finished erasing ledger work k bs ds fs ls
+    ws ps = record {
+      numbers = k.numbers;
+      blocks = bs;
+      dies = ds;
+      fly = fs;
+      ledger_kept = ls;
+      work = ws;
+      claims = k.claims;
+      pins = ps;
+      differ = k.differ;
+      reads = reads_over t.disk.flights die c.pins k.reads;
+    }
+
+-- a mark changes nothing of groups and places
+pub ledger_marked : (n : Numbers) (places : List (Option Stored)) (groups : List Group) (frontier : ℕ) (l : Ledger)
+    (newest : Option Mark) (marks : ℕ) →
+    LedgerKept n places groups frontier l →
+    LedgerKept n places groups frontier (record l { newest = newest; marks = marks })
+ledger_marked n places groups frontier l newest marks h = record {
+  frontier = h.frontier;
+  repairs = h.repairs;
+  groups = h.groups;
+  addresses = h.addresses;
+  places = h.places;
+}
+
+-- Blocks
+
+-- what is kept of the blocks is as it was
+pub blocks_same : (n : Numbers) (blocks now : Spot → disk.BlockState) (states : List BlockState) (has_bad : Bool) →
+    ((s : Spot) → block_kept (now s) ≡ block_kept (blocks s)) → ((s : Spot) → is_bad (now s) ≡ is_bad (blocks s)) →
+    BlocksKept n blocks states has_bad → BlocksKept n now states has_bad
+blocks_same n blocks now states has_bad same bad k = record {
+  all = k.all ∙ ap (λ (f : Spot → BlockState). map f (spots n)) (λ i s. sym (same s) i);
+  bad = k.bad ∙ ap (λ (f : Spot → Bool). nat_lt 0 (count_by f (spots n))) (λ i s. sym (bad s) i);
+}
+
+-- a block that is filled is filled on
+pub blocks_on : (n : Numbers) (blocks : Spot → disk.BlockState) (states : List BlockState) (has_bad : Bool) (s : Spot)
+    (next more : ℕ) → blocks s ≡ disk.Filling next →
+    BlocksKept n blocks states has_bad → BlocksKept n (at_spot blocks s (disk.Filling more)) states has_bad
+blocks_on n blocks states has_bad s next more fills k =
+    blocks_same n blocks (at_spot blocks s (disk.Filling more)) states has_bad
+    (λ a. ⊎_elim (λ h. ap block_kept h.1 ∙ sym (ap block_kept (ap blocks h.0 ∙ fills))) (λ h. ap block_kept h.1)
+    (at_spot_cases blocks s (disk.Filling more) a))
+    (λ a. ⊎_elim (λ h. ap is_bad h.1 ∙ sym (ap is_bad (ap blocks h.0 ∙ fills))) (λ h. ap is_bad h.1)
+    (at_spot_cases blocks s (disk.Filling more) a))
+    k
+
+-- the state of a block is another, at the place where what is kept has it
+pub blocks_put : (c : Core) (t : Translation) (die block : ℕ) (x : disk.BlockState) → Kept c t → die < t.numbers.dies →
+    block < t.numbers.blocks →
+    is_bad (t.disk.blocks (spot_at die block)) ≡ false → is_bad x ≡ false →
+    BlocksKept t.numbers (at_spot t.disk.blocks (spot_at die block) x)
+    (states_with c die block (block_kept x)) c.has_bad
+blocks_put c t die block x k there within was is =
+    subst (λ (n : Numbers). BlocksKept t.numbers (at_spot t.disk.blocks (spot_at die block) x)
+    (slice_set c.states (die * n.blocks + block) (block_kept x)) c.has_bad) (sym k.numbers)
+    (block_put t.numbers t.disk.blocks c.states c.has_bad (spot_at die block) x k.blocks there within was is)
+
+pub blocks_lost : (c : Core) (t : Translation) (die block : ℕ) → Kept c t → die < t.numbers.dies →
+    block < t.numbers.blocks →
+    BlocksKept t.numbers (at_spot t.disk.blocks (spot_at die block) disk.Bad) (states_with c die block state.Bad) true
+blocks_lost c t die block k there within =
+    subst (λ (n : Numbers). BlocksKept t.numbers (at_spot t.disk.blocks (spot_at die block) disk.Bad)
+    (slice_set c.states (die * n.blocks + block) state.Bad) true) (sym k.numbers)
+    (block_lost t.numbers t.disk.blocks c.states c.has_bad (spot_at die block) k.blocks there within)
+
+-- a block that is written next is closed with its last page
+page_ways : (pages next : ℕ) → next < pages →
+    ((nat_lt next (pages - 1) ≡ true) × (state_behind pages next ≡ disk.Filling (next + 1))) ⊎
+    ((nat_lt next (pages - 1) ≡ false) × (state_behind pages next ≡ disk.Closed))
+page_ways pages next within = ⊎_elim
+    (λ (h : ((next + 1 == pages) ≡ true) × (next + 1 ≡ pages)). inr
+    (let e = h.1 in at_end next pages e, if_true (next + 1 == pages) disk.Closed (disk.Filling (next + 1)) h.0))
+    (λ (h : ((next + 1 == pages) ≡ false) × (next + 1 ≢ pages)). inl
+    (before_end next pages within h.1, if_false (next + 1 == pages) disk.Closed (disk.Filling (next + 1)) h.0))
+    (eqb_tells (next + 1) pages)
+  where
+    at_end : (next pages : ℕ) → next + 1 ≡ pages → nat_lt next (pages - 1) ≡ false
+    at_end next pages e = grind (arith, nat_tests)
+
+    before_end : (next pages : ℕ) → next < pages → next + 1 ≢ pages → nat_lt next (pages - 1) ≡ true
+    before_end next pages l apart = let low : next < pages - 1 = omega arith in lt-ltb next (pages - 1) low
+
+-- a page is written: the open block goes on, or is closed with its last page
+pub page_ends : (now : Core) (die : ℕ) (b : Book) (o : OpenBlock) (pages : ℕ) (u : disk.BlockState → Translation) →
+    now.numbers.pages ≡ pages → o.next < pages →
+    Kept (with_book now die record { filling = Some (record { block = o.block; next = o.next + 1 }); flight = None })
+    (u (disk.Filling (o.next + 1))) →
+    Kept (with_book (with_state now die o.block state.Closed) die record { filling = None; flight = None })
+    (u disk.Closed) →
+    Kept (page_written now die b (Some o)) (u (state_behind pages o.next))
+page_ends now die b o pages u same within on last = ⊎_elim
+    (λ w. subst (λ (z : Core × disk.BlockState). Kept z.0 (u z.1))
+    (λ i. (
+      sym (if_true (nat_lt o.next (now.numbers.pages - 1)) more full
+          (ap (λ (n : ℕ). nat_lt o.next (n - 1)) same ∙ w.0)) i,
+      sym w.1 i,
+    )) on)
+    (λ w. subst (λ (z : Core × disk.BlockState). Kept z.0 (u z.1))
+    (λ i. (
+      sym (if_false (nat_lt o.next (now.numbers.pages - 1)) more full
+          (ap (λ (n : ℕ). nat_lt o.next (n - 1)) same ∙ w.0)) i,
+      sym w.1 i,
+    )) last)
+    (page_ways pages o.next within)
+  where
+    more : Core
+    more = with_book now die record { filling = Some (record { block = o.block; next = o.next + 1 }); flight = None }
+
+    full : Core
+    full = with_book (with_state now die o.block state.Closed) die record { filling = None; flight = None }
+
+-- Dies
+
+-- a block of another die is not the one that changed
+pub elsewhere : (blocks : Spot → disk.BlockState) (die block : ℕ) (x : disk.BlockState) (s : Spot) → s.die ≢ die →
+    at_spot blocks (spot_at die block) x s ≡ blocks s
+elsewhere blocks die block x s apart = ⊎_elim (λ h. absurd (apart (ap (λ (z : Spot). z.die) h.0))) (λ h. h.1)
+    (at_spot_cases blocks (spot_at die block) x s)
+
+pub closed_fills : (next : ℕ) → disk.Closed ≡ disk.Filling next → ⊥
+closed_fills next e = cc
+
+pub bad_fills : (next : ℕ) → disk.Bad ≡ disk.Filling next → ⊥
+bad_fills next e = cc

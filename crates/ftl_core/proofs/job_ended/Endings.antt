@@ -1,0 +1,234 @@
+-- The end of a die's job is the one that the definitions say.
+use Rattle.std.proofs.Common.{◌≡◌, ◌∙◌, ℕ, ◌<◌, Bool, true, false, List, Option, Some, None, refl, sym, ap, subst}
+use Rattle.std.specs.Prelude.{is_some, slice_get, option_map}
+use Rattle.ufs_spec.proofs.Facts.{false≢true}
+use Rattle.ufs_spec.specs.Cells.{Cells, GroupPage, Mark, MarkPage, Cell}
+use Rattle.ufs_spec.specs.Disk as disk
+use Rattle.ufs_spec.specs.Disk.{ForNobody, ForTask, Reader, Spot}
+use Rattle.ufs_spec.specs.Moves.{EndJob, Ending, IsEndingOf, MayEnd, WentWell, WentWrong, moved, suits}
+use Rattle.ufs_spec.specs.Translation.{Translation}
+use Rattle.ufs_spec.specs.declared.flash.Outcome.{Outcome}
+use Rattle.ufs_spec.specs.declared.flash.Place.{Place}
+use Rattle.ufs_spec.specs.declared.flash.Tag.{Tag}
+use Rattle.ufs_spec.specs.declared.flash.Outcome.TheVariants as outcome
+use Rattle.power_loss.proofs.moves.MovesKeepValid.{all_keep}
+use Rattle.ftl_core.specs.declared.books.Book.{Book}
+use Rattle.ftl_core.specs.declared.books.Flight.{Flight}
+use Rattle.ftl_core.specs.declared.books.Flight.TheVariants as flight
+use Rattle.ftl_core.specs.declared.ftl.Ended.{Ended}
+use Rattle.ftl_core.specs.declared.ftl.Ended.TheVariants as ended
+use Rattle.ftl_core.specs.Core.{Core}
+use Rattle.ftl_core.specs.Describes.{Describes, IsNext, IsTold, Kept, spot_at}
+use Rattle.ftl_core.specs.Done.{IsEnded, core_ended, BookEnds, FlightEnds, book_after, flight_after}
+use Rattle.ftl_core.specs.Gives.{GivesIf, is_read, read_after, other_for}
+use Rattle.ftl_core.specs.Gives as gives
+use Rattle.ftl_core.proofs.job_ended.ChangesEnded.{block_is_erased, erase_has_failed, group_has_failed, mark_has_failed}
+use Rattle.ftl_core.proofs.job_ended.ChangesEnded.{mark_is_written}
+use Rattle.ftl_core.proofs.group_settled.GroupsEnded.{group_has_written}
+use Rattle.ftl_core.proofs.job_taken.NextStarts.{outside}
+use Rattle.ftl_core.proofs.job_ended.ReadsEnded.{lost_read_ended, task_read_ended}
+use Rattle.ftl_core.proofs.job_ended.ReadsGiven.{lost_told, task_told}
+use Rattle.ftl_core.proofs.job_taken.Flown.{flight_cases}
+
+-- Which endings there are
+
+-- a program ends well or fails
+program_ends : (P : Outcome → Ending → Type 0) (cells : Cells) (p : Place) (cell : Cell) → P outcome.Done WentWell →
+    ((left : Cells) → P outcome.Failed (WentWrong left)) →
+    (o : Outcome) (ending : Ending) → IsEndingOf cells (Some (disk.Programming p cell)) o ending → P o ending
+program_ends P cells p cell well wrong outcome.Done WentWell is = well
+program_ends P cells p cell well wrong outcome.Failed (WentWrong left) is = wrong left
+program_ends P cells p cell well wrong (outcome.Read page) ending is = absurd (false≢true is.0)
+program_ends P cells p cell well wrong outcome.ReadFailed ending is = absurd (false≢true is.0)
+program_ends P cells p cell well wrong o ending is = absurd is.1
+
+-- and so does an erase
+erase_ends : (P : Outcome → Ending → Type 0) (cells : Cells) (s : Spot) → P outcome.Done WentWell →
+    ((left : Cells) → P outcome.Failed (WentWrong left)) →
+    (o : Outcome) (ending : Ending) → IsEndingOf cells (Some (disk.Erasing s)) o ending → P o ending
+erase_ends P cells s well wrong outcome.Done WentWell is = well
+erase_ends P cells s well wrong outcome.Failed (WentWrong left) is = wrong left
+erase_ends P cells s well wrong (outcome.Read page) ending is = absurd (false≢true is.0)
+erase_ends P cells s well wrong outcome.ReadFailed ending is = absurd (false≢true is.0)
+erase_ends P cells s well wrong o ending is = absurd is.1
+
+-- a die without a book has no job
+no_book : (c : Core) (t : Translation) (die : ℕ) → Describes c t → slice_get c.books die ≡ None →
+    t.disk.flights die ≡ None
+no_book c t die h there = h.kept.dies.no_more die (outside c t die h.kept there)
+
+-- What is kept
+
+kept_then : (c : Core) (t : Translation) (die : ℕ) (o : Outcome) (ending : Ending) (b : Book) → Describes c t →
+    slice_get c.books die ≡ Some b →
+    IsEndingOf t.disk.cells (t.disk.flights die) o ending →
+    Kept (flight_after c die b b.flight o) (moved t (EndJob die ending))
+kept_then c t die o ending b h there is =
+    flight_cases t.numbers die b.filling Goal
+    (λ job flies now. absurd (false≢true now.0)) reads lost marks groups erases b.flight (t.disk.flights die)
+    (h.kept.dies.each die b there).job refl refl is
+  where
+    Goal : Option Flight → Option disk.Flight → Type 0
+    Goal f g = b.flight ≡ f → t.disk.flights die ≡ g → IsEndingOf t.disk.cells g o ending →
+        Kept (flight_after c die b f o) (moved t (EndJob die ending))
+
+    reads : (place : Place) (tag : ℕ) →
+        Goal (Some (flight.Read place (Some tag))) (Some (disk.Reading (ForTask tag 0) place))
+    reads place tag job flies now = task_read_ended c t die tag b place o ending h there flies now
+
+    lost : (place : Place) → Goal (Some (flight.Read place None)) (Some (disk.Reading ForNobody place))
+    lost place job flies now = lost_read_ended c t die b place o ending h there flies now
+
+    marks : (place : Place) (m : Mark) → IsNext die b.filling place →
+        Goal (Some (flight.Mark place)) (Some (disk.Programming place (MarkPage m)))
+    marks place m next job flies now =
+        program_ends (λ out e. Kept (flight_after c die b (Some (flight.Mark place)) out) (moved t (EndJob die e)))
+        t.disk.cells place (MarkPage m)
+        (mark_is_written c t die b place place m h there job flies)
+        (λ left. mark_has_failed c t die b place place m left h there job flies)
+        o ending now
+
+    groups : (place : Place) (tag : Tag) (body : List ℕ) → IsNext die b.filling place → tag.index ≡ 0 →
+        Goal (Some (flight.Group place tag.number)) (Some (disk.Programming place (GroupPage tag body)))
+    groups place tag body next first job flies now =
+        program_ends (λ out e. Kept (flight_after c die b (Some (flight.Group place tag.number)) out)
+        (moved t (EndJob die e))) t.disk.cells place (GroupPage tag body)
+        (group_has_written c t die b place tag.number place tag body h there job flies)
+        (λ left. group_has_failed c t die b place tag.number place tag body left h there job flies)
+        o ending now
+
+    erases : (block : ℕ) → block < t.numbers.blocks → b.filling ≡ None →
+        Goal (Some (flight.Erase block)) (Some (disk.Erasing (spot_at die block)))
+    erases block within closed job flies now =
+        erase_ends (λ out e. Kept (flight_after c die b (Some (flight.Erase block)) out) (moved t (EndJob die e)))
+        t.disk.cells (spot_at die block)
+        (block_is_erased c t die b block (spot_at die block) h there job flies)
+        (λ left. erase_has_failed c t die b block (spot_at die block) left h there job flies)
+        o ending now
+
+kept_of : (c : Core) (t : Translation) (die : ℕ) (o : Outcome) (ending : Ending) (book : Option Book) → Describes c t →
+    slice_get c.books die ≡ book →
+    IsEndingOf t.disk.cells (t.disk.flights die) o ending → Kept (book_after c die book o) (moved t (EndJob die ending))
+kept_of c t die o ending None h there is =
+    absurd (false≢true (subst (λ (g : Option disk.Flight). IsEndingOf t.disk.cells g o ending)
+    (no_book c t die h there) is).0)
+kept_of c t die o ending (Some b) h there is = kept_then c t die o ending b h there is
+
+-- what is kept once a job ended so describes the layer in which it did
+pub ends_right : (c : Core) (t : Translation) (die : ℕ) (o : Outcome) (ending : Ending) → Describes c t →
+    IsEndingOf t.disk.cells (t.disk.flights die) o ending → MayEnd t.disk die (t.disk.flights die) ending →
+    Describes (core_ended c die o) (moved t (EndJob die ending))
+ends_right c t die o ending h is may = record {
+  valid = all_keep t (EndJob die ending) h.valid may;
+  kept = kept_of c t die o ending (slice_get c.books die) h refl is;
+}
+
+-- What is told
+
+told_then : (c : Core) (t : Translation) (die : ℕ) (o : Outcome) (ending : Ending) (r : Option Ended) (b : Book) →
+    Describes c t → slice_get c.books die ≡ Some b →
+    IsEndingOf t.disk.cells (t.disk.flights die) o ending → FlightEnds c b.flight o r →
+    (e : Ended) × (r ≡ Some e) × IsTold t.disk.cells (t.disk.flights die) ending e
+told_then c t die o ending r b h there is answer =
+    flight_cases t.numbers die b.filling Goal (λ flies now told. absurd (false≢true now.0)) reads lost
+    (λ place m next flies now told. programs place (MarkPage m) now told)
+    (λ place tag body next first flies now told. programs place (GroupPage tag body) now told)
+    (λ block within closed flies now told. (
+      ended.Other,
+      erase_ends (λ out e. r ≡ option_map other_for (gives.ending out) → r ≡ Some ended.Other) t.disk.cells
+          (spot_at die block) (λ says. says) (λ left says. says)
+          o ending now told,
+      refl,
+    ))
+    b.flight (t.disk.flights die) (h.kept.dies.each die b there).job refl is answer
+  where
+    Goal : Option Flight → Option disk.Flight → Type 0
+    Goal f g = t.disk.flights die ≡ g → IsEndingOf t.disk.cells g o ending → FlightEnds c f o r →
+        (e : Ended) × (r ≡ Some e) × IsTold t.disk.cells g ending e
+
+    reads : (place : Place) (tag : ℕ) →
+        Goal (Some (flight.Read place (Some tag))) (Some (disk.Reading (ForTask tag 0) place))
+    reads place tag flies now told = task_told c t die tag place o ending r h flies now told
+
+    lost : (place : Place) → Goal (Some (flight.Read place None)) (Some (disk.Reading ForNobody place))
+    lost place flies now told = lost_told c t.disk.cells place o ending r now told
+
+    programs : (p : Place) (cell : Cell) → IsEndingOf t.disk.cells (Some (disk.Programming p cell)) o ending →
+        r ≡ option_map other_for (gives.ending o) →
+        (e : Ended) × (r ≡ Some e) × IsTold t.disk.cells (Some (disk.Programming p cell)) ending e
+    programs p cell now told = (
+      ended.Other,
+      program_ends (λ out e. r ≡ option_map other_for (gives.ending out) → r ≡ Some ended.Other) t.disk.cells p cell
+          (λ says. says) (λ left says. says) o ending now told,
+      refl,
+    )
+
+told_of : (c : Core) (t : Translation) (die : ℕ) (o : Outcome) (ending : Ending) (r : Option Ended)
+    (book : Option Book) → Describes c t → slice_get c.books die ≡ book →
+    IsEndingOf t.disk.cells (t.disk.flights die) o ending → BookEnds c book o r →
+    (e : Ended) × (r ≡ Some e) × IsTold t.disk.cells (t.disk.flights die) ending e
+told_of c t die o ending r None h there is answer =
+    absurd (false≢true (subst (λ (g : Option disk.Flight). IsEndingOf t.disk.cells g o ending)
+    (no_book c t die h there) is).0)
+told_of c t die o ending r (Some b) h there is answer = told_then c t die o ending r b h there is answer
+
+-- the end of a job is told as the definitions say
+pub ends_told : (c : Core) (t : Translation) (die : ℕ) (o : Outcome) (ending : Ending) (r : Option Ended) →
+    Describes c t →
+    IsEndingOf t.disk.cells (t.disk.flights die) o ending → IsEnded c die o r →
+    (e : Ended) × (r ≡ Some e) × IsTold t.disk.cells (t.disk.flights die) ending e
+ends_told c t die o ending r h is answer = told_of c t die o ending r (slice_get c.books die) h refl is answer
+
+-- Which outcomes are refused
+
+-- a read's outcome is one of a read
+read_known : (c : Core) (reader : Option ℕ) (r : Option Ended) (d : Bool) (o : Outcome) → GivesIf d c o reader r →
+    is_some r ≡ d
+read_known c reader r false o gives = ap is_some gives
+read_known c reader r true o gives = ap is_some gives.1
+
+reads_suit : (who : Reader) (p : Place) (o : Outcome) → is_read o ≡ suits (Some (disk.Reading who p)) o
+reads_suit who p outcome.Done = refl
+reads_suit who p outcome.Failed = refl
+reads_suit who p (outcome.Read page) = refl
+reads_suit who p outcome.ReadFailed = refl
+
+programs_suit : (p : Place) (cell : Cell) (o : Outcome) →
+    is_some (option_map other_for (gives.ending o)) ≡ suits (Some (disk.Programming p cell)) o
+programs_suit p cell outcome.Done = refl
+programs_suit p cell outcome.Failed = refl
+programs_suit p cell (outcome.Read page) = refl
+programs_suit p cell outcome.ReadFailed = refl
+
+erases_suit : (s : Spot) (o : Outcome) →
+    is_some (option_map other_for (gives.ending o)) ≡ suits (Some (disk.Erasing s)) o
+erases_suit s outcome.Done = refl
+erases_suit s outcome.Failed = refl
+erases_suit s (outcome.Read page) = refl
+erases_suit s outcome.ReadFailed = refl
+
+known_then : (c : Core) (t : Translation) (die : ℕ) (o : Outcome) (r : Option Ended) (b : Book) → Describes c t →
+    slice_get c.books die ≡ Some b →
+    FlightEnds c b.flight o r → is_some r ≡ suits (t.disk.flights die) o
+known_then c t die o r b h there answer =
+    flight_cases t.numbers die b.filling (λ f g. FlightEnds c f o r → is_some r ≡ suits g o)
+    (λ told. ap is_some told)
+    (λ place tag told. read_known c (Some tag) r (is_read o) o told ∙ reads_suit (ForTask tag 0) place o)
+    (λ place told. read_known c None r (is_read o) o told ∙ reads_suit ForNobody place o)
+    (λ place m next told. ap is_some told ∙ programs_suit place (MarkPage m) o)
+    (λ place tag body next first told. ap is_some told ∙ programs_suit place (GroupPage tag body) o)
+    (λ block within closed told. ap is_some told ∙ erases_suit (spot_at die block) o)
+    b.flight (t.disk.flights die) (h.kept.dies.each die b there).job answer
+
+known_of : (c : Core) (t : Translation) (die : ℕ) (o : Outcome) (r : Option Ended) (book : Option Book) →
+    Describes c t → slice_get c.books die ≡ book →
+    BookEnds c book o r → is_some r ≡ suits (t.disk.flights die) o
+known_of c t die o r None h there answer = ap is_some answer
+    ∙ ap (λ (g : Option disk.Flight). suits g o) (sym (no_book c t die h there))
+known_of c t die o r (Some b) h there answer = known_then c t die o r b h there answer
+
+-- an answer is there exactly where the outcome is of the kind of the die's job
+pub ends_known : (c : Core) (t : Translation) (die : ℕ) (o : Outcome) (r : Option Ended) → Describes c t →
+    IsEnded c die o r →
+    is_some r ≡ suits (t.disk.flights die) o
+ends_known c t die o r h answer = known_of c t die o r (slice_get c.books die) h refl answer

@@ -1,0 +1,199 @@
+-- What the end of a read gives to its reader: the block, if the page is the one that was looked up.
+use Rattle.std.proofs.Common.{◌≡◌, ◌∙◌, ℕ, Bool, true, List, Option, Some, None, refl, sym, ap, subst}
+use Rattle.std.specs.Prelude.{◌&&◌, ◌==◌, option_and_then, slice_get}
+use Rattle.std.proofs.lemmas.Option.{get_or_from_slice_get, slice_get_within}
+use Rattle.ufs_spec.proofs.Facts.{false≢true, key_is}
+use Rattle.ufs_spec.specs.Cells.{Cells, GroupPage, IsCell, Opens, key_of}
+use Rattle.ufs_spec.specs.Disk as disk
+use Rattle.ufs_spec.specs.Disk.{ForNobody, ForTask, Reader, at_die}
+use Rattle.ufs_spec.specs.Ledger.{Entry, Name, OnPage, entry_of}
+use Rattle.ufs_spec.specs.Moves.{Ending, IsAnother, IsEndingOf, ReadRight, ReadWrong, WentWell, WentWrong}
+use Rattle.ufs_spec.specs.Translation as layer
+use Rattle.ufs_spec.specs.Translation.{Translation, name_of}
+use Rattle.ufs_spec.specs.declared.flash.Key.{Key}
+use Rattle.ufs_spec.specs.declared.flash.Outcome.{Outcome}
+use Rattle.ufs_spec.specs.declared.flash.Outcome.TheVariants as outcome
+use Rattle.ufs_spec.specs.declared.flash.Page.{Page}
+use Rattle.ufs_spec.specs.declared.flash.Place.{Place}
+use Rattle.ufs_spec.specs.declared.flash.Tag.{Tag}
+use Rattle.ufs_laws.proofs.pages.SealedOnce.{body_opened}
+use Rattle.power_loss.specs.Book.{IsPageAt, book}
+use Rattle.power_loss.specs.Invariant.{IsGroupPage, LookedRight, Valid}
+use Rattle.power_loss.proofs.books.PagesByName.{page_one}
+use Rattle.power_loss.proofs.books.SmallFacts.{and_true, eq_self, eq_told}
+use Rattle.ftl_core.specs.declared.books.Looked.{Looked}
+use Rattle.ftl_core.specs.declared.books.Looked.TheVariants as looked
+use Rattle.ftl_core.specs.declared.books.Pin.{Pin}
+use Rattle.ftl_core.specs.declared.books.Stored.{Stored}
+use Rattle.ftl_core.specs.declared.ftl.Ended.{Ended}
+use Rattle.ftl_core.specs.declared.ftl.Ended.TheVariants as ended
+use Rattle.ftl_core.specs.Core.{Core}
+use Rattle.ftl_core.specs.Describes.{Describes, IsLookOf, IsLookedAt, IsTold, PinKept}
+use Rattle.ftl_core.specs.Gives.{Gives, GivesIf, IsBodyLooked, IsBodyOf, IsGivenTo, is_read, names}
+use Rattle.ftl_core.proofs.pins.PinsAlike.{page_alike, pins_at}
+use Rattle.ftl_core.proofs.job_ended.ReadsEnded.{IsReaderPin, IsReadingOf, ends_read, reader_pin, reading_told}
+
+-- What is given
+
+-- the page of the key and the number stands there
+pub record IsPageOf (cells : Cells) (place : Place) (k : Key) (n : ℕ) : Type 0 where
+  pub tag : Tag
+  pub body : List ℕ
+  pub there : cells place ≡ GroupPage tag body
+  pub key : key_of tag ≡ k
+  pub number : tag.number ≡ n
+
+-- a tag of the key and the number, as the code tests it
+
+named : (t : Tag) (k : Key) (n : ℕ) → key_of t ≡ k → t.number ≡ n → names t k n ≡ true
+named t k n e f =
+    ap (λ (x : Key). names t x n) (sym e) ∙ ap (λ (m : ℕ). names t (key_of t) m) (sym f)
+    ∙ all (t.kind == t.kind) (t.unit == t.unit) (t.address == t.address) (t.number == t.number) (eq_self t.kind)
+    (eq_self t.unit) (eq_self t.address) (eq_self t.number)
+  where
+    all : (a b c d : Bool) → a ≡ true → b ≡ true → c ≡ true → d ≡ true → (a && b && c && d) ≡ true
+    all a b c d p q r s = ap (λ (x : Bool). x && b && c && d) p ∙ ap (λ (x : Bool). true && x && c && d) q
+        ∙ ap (λ (x : Bool). true && true && x && d) r ∙ s
+
+names_told : (t : Tag) (k : Key) (n : ℕ) → names t k n ≡ true → (key_of t ≡ k) × (t.number ≡ n)
+names_told t k n h =
+    let r = and_true ((t.kind == k.kind) && (t.unit == k.unit) && (t.address == k.address)) (t.number == n) h in
+    let u = and_true ((t.kind == k.kind) && (t.unit == k.unit)) (t.address == k.address) r.0 in
+    let w = and_true (t.kind == k.kind) (t.unit == k.unit) u.0 in (
+      key_is (key_of t) k (eq_told t.kind k.kind w.0) (eq_told t.unit k.unit w.1)
+          (eq_told t.address k.address u.1),
+      eq_told t.number n r.1,
+    )
+
+-- the page that was wanted gives its body
+right_body : (page : Page) (cells : Cells) (place : Place) (k : Key) (n : ℕ) (body : Option (List ℕ))
+    (w : IsPageOf cells place k n) →
+    IsCell page (cells place) → IsBodyOf page k n body → body ≡ Some w.body
+right_body page cells place k n body w cell is = known body refl
+  where
+    opens : Opens page w.tag w.body
+    opens = (subst (IsCell page) w.there cell).0
+
+    known : (o : Option (List ℕ)) → body ≡ o → o ≡ Some w.body
+    known None e = absurd (is.none e w.tag w.body opens.tag_right (named w.tag k n w.key w.number) opens.sealed)
+    known (Some b) e = let f = is.found b e in ap Some
+        (sym (ap (λ (x : Page). x.body) f.4) ∙ body_opened page w.tag w.body opens)
+
+-- another page gives none
+wrong_body : (page : Page) (cells : Cells) (place : Place) (k : Key) (n : ℕ) (body : Option (List ℕ)) →
+    IsPageOf cells place k n →
+    IsAnother page (cells place) → IsBodyOf page k n body → body ≡ None
+wrong_body page cells place k n body w other is = known body refl
+  where
+    another : IsAnother page (GroupPage w.tag w.body)
+    another = subst (IsAnother page) w.there other
+
+    known : (o : Option (List ℕ)) → body ≡ o → o ≡ None
+    known None e = refl
+    known (Some b) e =
+        let f = is.found b e in
+        let m = names_told f.0 k n f.3 in
+        absurd (another f.0 b (record { tag_right = f.1; body_right = f.2; sealed = f.4 }) (m.0 ∙ sym w.key)
+        (m.1 ∙ sym w.number))
+
+-- the page that a pin looks at stands there
+pub page_of_pin : (c : Core) (t : Translation) (k : ℕ) (x : Pin) (s : Stored) → Describes c t →
+    slice_get c.pins k ≡ Some x →
+    x.looked ≡ looked.Page s → IsPageOf t.disk.cells s.place x.key s.number
+page_of_pin c t k x s h at looks =
+    let known = v.pages.known s.place page.tag page.body page.there in
+    let one = page_one (book t) name.0.number name.0.index _ of_key.0
+    (subst (λ (z : Name). IsPageAt (book t) z.number z.index
+    (record { item = record { key = key_of page.tag; body = page.body }; size = page.tag.size })) page.is known)
+    of_key.1 in record {
+      tag = page.tag;
+      body = page.body;
+      there = page.there;
+      key = ap (λ (e : Entry). e.item.key) one ∙ of_key.2;
+      number = ap (λ (z : Name). z.number) page.is ∙ name.2;
+    }
+  where
+    v : Valid t
+    v = h.valid
+
+    r : (q : layer.Pin) × (slice_get t.pins k ≡ Some q) × PinKept t.ledger.frontier (entry_of t.ledger) x q
+    r = pins_at t.ledger.frontier (entry_of t.ledger) c.pins t.pins k x h.kept.pins at
+
+    name : (name : Name) × (r.0.looked ≡ OnPage name s.place) × (name.number ≡ s.number)
+    name = page_alike s r.0.looked (subst (λ (l : Looked). IsLookedAt l r.0.looked) looks r.2.looked_at)
+
+    page : IsGroupPage t.disk.cells t.disk.finished t.disk.erasing name.0 s.place
+    page =
+        subst (LookedRight (book t) t.ledger.frontier t.disk.cells t.disk.finished t.disk.erasing) name.1
+        (subst (λ (q : layer.Pin). LookedRight
+        (book t) t.ledger.frontier t.disk.cells t.disk.finished t.disk.erasing q.looked)
+        (get_or_from_slice_get t.pins k r.0 r.0 r.1) (v.pins.each k r.0 (slice_get_within t.pins k r.0 r.1)))
+
+    of_key : (e : Entry) × (entry_of t.ledger name.0 ≡ Some e) × (e.item.key ≡ x.key)
+    of_key = subst (IsLookOf t.ledger.frontier (entry_of t.ledger) x.key) name.1 r.2.there
+
+-- what its reader is told, who wants the page
+given_told : (cells : Cells) (reader : ℕ) (place : Place) (o : Outcome) (ending : Ending) (e : Ended) (x : Pin)
+    (s : Stored) (given : Option (List ℕ)) →
+    x.looked ≡ looked.Page s → IsPageOf cells place x.key s.number →
+    IsEndingOf cells (Some (disk.Reading (ForTask reader 0) place)) o ending →
+    IsGivenTo o (Some x) given → e ≡ ended.Read reader given →
+    IsTold cells (Some (disk.Reading (ForTask reader 0) place)) ending e
+given_told cells reader place (outcome.Read page) ReadRight e x s given looks w is gives told = (
+  w.tag,
+  w.body,
+  w.there,
+  told ∙ ap (ended.Read reader)
+      (right_body page cells place x.key s.number given w is.1
+      (subst (λ (l : Looked). IsBodyLooked page x.key l given) looks gives)),
+)
+given_told cells reader place (outcome.Read page) ReadWrong e x s given looks w is gives told =
+    told ∙ ap (ended.Read reader)
+    (wrong_body page cells place x.key s.number given w is.1
+    (subst (λ (l : Looked). IsBodyLooked page x.key l given) looks gives))
+given_told cells reader place outcome.ReadFailed ReadWrong e x s given looks w is gives told = told
+    ∙ ap (ended.Read reader) gives
+given_told cells reader place outcome.Done ending e x s given looks w is gives told = absurd (false≢true is.0)
+given_told cells reader place outcome.Failed ending e x s given looks w is gives told = absurd (false≢true is.0)
+given_told cells reader place o ending e x s given looks w is gives told = absurd is.1
+
+pub task_told : (c : Core) (t : Translation) (die reader : ℕ) (place : Place) (o : Outcome) (ending : Ending)
+    (r : Option Ended) → Describes c t →
+    t.disk.flights die ≡ Some (disk.Reading (ForTask reader 0) place) →
+    IsEndingOf t.disk.cells (Some (disk.Reading (ForTask reader 0) place)) o ending →
+    GivesIf (is_read o) c o (Some reader) r →
+    (e : Ended) × (r ≡ Some e) × IsTold t.disk.cells (Some (disk.Reading (ForTask reader 0) place)) ending e
+task_told c t die reader place o ending r h flies is gives = (
+  given.0,
+  given.1,
+  given_told t.disk.cells reader place o ending given.0 w.pin x.stored given.2.0 x.looked_is
+      (subst (λ (p : Place). IsPageOf t.disk.cells p w.pin.key x.stored.number) x.place_is
+      (page_of_pin c t w.at w.pin x.stored h w.there x.looked_is))
+      is
+      (subst (λ (p : Option Pin). IsGivenTo o p given.2.0)
+      (ap (option_and_then (slice_get c.pins)) w.first ∙ w.there) given.2.1)
+      given.2.2,
+)
+  where
+    given : (e : Ended) × (r ≡ Some e) × Gives c o (Some reader) e
+    given = subst (λ (z : Bool). GivesIf z c o (Some reader) r)
+        (ends_read t.disk.cells (ForTask reader 0) place o ending is).0 gives
+
+    w : IsReaderPin c.pins reader place
+    w = reader_pin c.pins reader place h.kept.differ (h.kept.reads die reader 0 place flies)
+
+    x : IsReadingOf reader place w.pin
+    x = reading_told reader place w.pin w.reads
+
+pub lost_told : (c : Core) (cells : Cells) (place : Place) (o : Outcome) (ending : Ending) (r : Option Ended) →
+    IsEndingOf cells (Some (disk.Reading ForNobody place)) o ending → GivesIf (is_read o) c o None r →
+    (e : Ended) × (r ≡ Some e) × IsTold cells (Some (disk.Reading ForNobody place)) ending e
+lost_told c cells place o ending r is gives =
+    let g = subst (λ (z : Bool). GivesIf z c o None r) (ends_read cells ForNobody place o ending is).0 gives in
+    (g.0, g.1, by ending g.0 g.2)
+  where
+    by : (x : Ending) (e : Ended) → e ≡ ended.Other → IsTold cells (Some (disk.Reading ForNobody place)) x e
+    by ReadRight e k = k
+    by ReadWrong e k = k
+    by WentWell e k = k
+    by (WentWrong left) e k = k

@@ -1,0 +1,271 @@
+-- Jobs in flight: what the books say of them is what the definitions say, and one die's job changes.
+use Rattle.std.proofs.Common.{◌≡◌, ◌≢◌, ◌∙◌, ◌⊎◌, ℕ, zero, suc, ◌<◌, ◌≤◌, Bool, true, false, List, [], ◌∷◌, Option}
+use Rattle.std.proofs.Common.{Some, None, refl, sym, ap, subst, inl, inr, ⊎_elim, arith}
+use Rattle.std.specs.Prelude.{◌||◌, ◌&&◌, ◌==◌, slice_get, slice_set}
+use Rattle.std.specs.List.{list_any}
+use Rattle.std.proofs.lemmas.Bool.{cases_lt}
+use Rattle.std.proofs.lemmas.List.Folds.{list_any-append}
+use Rattle.std.proofs.lemmas.Option.{slice_get_within}
+use Rattle.ufs_spec.proofs.Facts.{true≢false}
+use Rattle.ufs_spec.specs.Cells.{GroupPage, Mark, MarkPage}
+use Rattle.ufs_spec.specs.Disk as disk
+use Rattle.ufs_spec.specs.Disk.{ForNobody, ForTask, Spot, at_die}
+use Rattle.ufs_spec.specs.Keys.{below}
+use Rattle.ufs_spec.specs.Translation.{Translation, flies_mark, flies_name, flies_reader, some_flight}
+use Rattle.ufs_spec.specs.declared.configs.Numbers.{Numbers}
+use Rattle.ufs_spec.specs.declared.flash.Place.{Place}
+use Rattle.ufs_spec.specs.declared.flash.Tag.{Tag}
+use Rattle.power_loss.proofs.books.PagesByName.{none_some}
+use Rattle.power_loss.proofs.books.SmallFacts.{at_die_cases, two_ways}
+use Rattle.ftl_core.specs.declared.books.Book.{Book}
+use Rattle.ftl_core.specs.declared.books.Flight.{Flight}
+use Rattle.ftl_core.specs.declared.books.Flight.TheVariants as flight
+use Rattle.ftl_core.specs.declared.books.OpenBlock.{OpenBlock}
+use Rattle.ftl_core.specs.declared.books.Pin.{Pin}
+use Rattle.ftl_core.specs.Core.{Core}
+use Rattle.ftl_core.specs.Describes.{BookKept, DiesKept, IsFilling, IsFlight, IsNext, Kept, PagesFly, ReadsKept}
+use Rattle.ftl_core.specs.Describes.{Standing, name_at, spot_at}
+use Rattle.ftl_core.specs.Moves.{flight_reads, reads_for}
+use Rattle.ftl_core.specs.Takes.{flight_writes, is_mark_flight, writes_group, writes_mark}
+use Rattle.ftl_core.proofs.new_dies.ListParts.{get_set}
+use Rattle.ufs_spec.proofs.Lists.{set_length, any_here, any_told, get_there}
+
+-- Some die
+
+one_more : (dies : ℕ) (test : ℕ → Bool) → list_any test (below (suc dies)) ≡ (list_any test (below dies) || test dies)
+one_more dies test =
+    list_any-append test (below dies) (dies ∷ [])
+    ∙ ap (λ (b : Bool). list_any test (below dies) || b) (last (test dies))
+  where
+    last : (b : Bool) → (b || false) ≡ b
+    last true = refl
+    last false = refl
+
+pub some_here : (dies die : ℕ) (p : ℕ → Bool) → die < dies → p die ≡ true → list_any p (below dies) ≡ true
+some_here zero die p there h = absurd (omega arith)
+some_here (suc dies) die p there h = one_more dies p ∙ step (λ low. some_here dies die p low h) (cases_lt die dies)
+  where
+    right : (a b : Bool) → b ≡ true → (a || b) ≡ true
+    right true b e = refl
+    right false b e = e
+
+    step : (die < dies → list_any p (below dies) ≡ true) → (die < dies) ⊎ (dies ≤ die) →
+        (list_any p (below dies) || p dies) ≡ true
+    step before (inl low) = ap (λ (b : Bool). b || p dies) (before low)
+    step before (inr high) = let same : dies ≡ die = omega arith in right (list_any p (below dies)) (p dies)
+        (ap p same ∙ h)
+
+pub some_told : (dies : ℕ) (p : ℕ → Bool) → list_any p (below dies) ≡ true → (d : ℕ) × (d < dies) × (p d ≡ true)
+some_told zero p h = cc
+some_told (suc dies) p h = step (some_told dies p) (list_any p (below dies)) refl (sym (one_more dies p) ∙ h)
+  where
+    step : (list_any p (below dies) ≡ true → (d : ℕ) × (d < dies) × (p d ≡ true)) → (b : Bool) →
+        list_any p (below dies) ≡ b → (list_any p (below dies) || p dies) ≡ true →
+        (d : ℕ) × (d < suc dies) × (p d ≡ true)
+    step before true e k = let found = before e in let low = found.1 in (found.0, omega arith, found.2)
+    step before false e k = (dies, omega arith, sym (ap (λ (b : Bool). b || p dies) e) ∙ k)
+
+-- where no die has such a job, none outside the numbers has it either
+pub none_flies : (n : ℕ) (flights : ℕ → Option disk.Flight) (is : Option disk.Flight → Bool) → is None ≡ false →
+    ((e : ℕ) → n ≤ e → flights e ≡ None) → list_any (λ e. is (flights e)) (below n) ≡ false → (e : ℕ) →
+    is (flights e) ≡ false
+none_flies n flights is idle above none e = ⊎_elim low (λ l. ap is (above e l) ∙ idle) (cases_lt e n)
+  where
+    low : e < n → is (flights e) ≡ false
+    low l = ⊎_elim
+        (λ h. absurd (true≢false (sym (some_here n e (λ d. is (flights d)) l h) ∙ none)))
+        (λ h. h)
+        (two_ways (is (flights e)))
+
+-- The kinds of jobs
+
+-- what holds of each job of a book and of the definitions that are one job
+pub flight_cases : (n : Numbers) (die : ℕ) (filling : Option OpenBlock)
+    (P : Option Flight → Option disk.Flight → Type 0) →
+    P None None →
+    ((place : Place) (tag : ℕ) → P (Some (flight.Read place (Some tag))) (Some (disk.Reading (ForTask tag 0) place))) →
+    ((place : Place) → P (Some (flight.Read place None)) (Some (disk.Reading ForNobody place))) →
+    ((place : Place) (m : Mark) → IsNext die filling place →
+    P (Some (flight.Mark place)) (Some (disk.Programming place (MarkPage m)))) →
+    ((place : Place) (tag : Tag) (body : List ℕ) → IsNext die filling place → tag.index ≡ 0 →
+    P (Some (flight.Group place tag.number)) (Some (disk.Programming place (GroupPage tag body)))) →
+    ((block : ℕ) → block < n.blocks → filling ≡ None →
+    P (Some (flight.Erase block)) (Some (disk.Erasing (spot_at die block)))) →
+    (f : Option Flight) (g : Option disk.Flight) → IsFlight n die filling f g → P f g
+flight_cases n die filling P none reads gone marks groups erases None None h = none
+flight_cases n die filling P none reads gone marks groups erases (Some (flight.Read place (Some r)))
+    (Some (disk.Reading (ForTask tag index) p)) h =
+    subst (λ (z : Place × ℕ × ℕ). P (Some (flight.Read place (Some r))) (Some (disk.Reading (ForTask z.1 z.2) z.0)))
+    (λ i. (sym h.0 i, sym h.1.0 i, sym h.1.1 i)) (reads place r)
+flight_cases n die filling P none reads gone marks groups erases (Some (flight.Read place None))
+    (Some (disk.Reading ForNobody p)) h =
+    subst (λ (z : Place). P (Some (flight.Read place None)) (Some (disk.Reading ForNobody z))) (sym h.0) (gone place)
+flight_cases n die filling P none reads gone marks groups erases (Some (flight.Read place r))
+    (Some (disk.Reading who p)) h =
+    absurd h.1
+flight_cases n die filling P none reads gone marks groups erases (Some (flight.Mark place))
+    (Some (disk.Programming p (MarkPage m))) h =
+    subst (λ (z : Place). P (Some (flight.Mark place)) (Some (disk.Programming z (MarkPage m)))) (sym h.0)
+    (marks place m h.1)
+flight_cases n die filling P none reads gone marks groups erases (Some (flight.Group place number))
+    (Some (disk.Programming p (GroupPage tag body))) h =
+    subst (λ (z : Place × ℕ). P (Some (flight.Group place z.1)) (Some (disk.Programming z.0 (GroupPage tag body))))
+    (λ i. (sym h.0 i, h.2 i)) (groups place tag body h.1 h.3)
+flight_cases n die filling P none reads gone marks groups erases (Some (flight.Erase block)) (Some (disk.Erasing s)) h =
+    subst (λ (z : Spot). P (Some (flight.Erase block)) (Some (disk.Erasing z))) (sym h.0) (erases block h.1 h.2)
+flight_cases n die filling P none reads gone marks groups erases f g h = absurd h
+
+-- What the books say is what the definitions say
+
+same_tests : (a b : Bool) → (a ≡ true → b ≡ true) → (b ≡ true → a ≡ true) → a ≡ b
+same_tests true true f g = refl
+same_tests true false f g = sym (f refl)
+same_tests false true f g = g refl
+same_tests false false f g = refl
+
+books_agree : (c : Core) (t : Translation) (kept : Book → Bool) (is : Option disk.Flight → Bool) → Kept c t →
+    ((die : ℕ) (b : Book) → IsFlight t.numbers die b.filling b.flight (t.disk.flights die) →
+    kept b ≡ is (t.disk.flights die)) →
+    list_any kept c.books ≡ some_flight t is
+books_agree c t kept is k same = same_tests (list_any kept c.books) (some_flight t is) there back
+  where
+    there : list_any kept c.books ≡ true → some_flight t is ≡ true
+    there e =
+        let r = any_told kept c.books e in
+        let w = slice_get_within c.books r.0 r.1 r.2 in
+        let d = k.dies.dies in
+        some_here t.numbers.dies r.0 (λ (die : ℕ). is (t.disk.flights die)) (omega (arith, w, d))
+        (sym (same r.0 r.1 (k.dies.each r.0 r.1 r.2).job) ∙ r.3)
+
+    back : some_flight t is ≡ true → list_any kept c.books ≡ true
+    back e =
+        let r = some_told t.numbers.dies (λ (die : ℕ). is (t.disk.flights die)) e in
+        let w = r.1 in
+        let d = k.dies.dies in
+        let b = get_there c.books r.0 (omega (arith, w, d)) in
+        any_here kept c.books r.0 b.0 b.1 (same r.0 b.0 (k.dies.each r.0 b.0 b.1).job ∙ r.2)
+
+and_true_right : (b : Bool) → b ≡ (b && true)
+and_true_right true = refl
+and_true_right false = refl
+
+-- whether a die reads for the reader
+pub reads_agree : (c : Core) (t : Translation) (reader : ℕ) → Kept c t →
+    list_any (reads_for reader) c.books ≡ some_flight t (flies_reader (ForTask reader 0))
+reads_agree c t reader k = books_agree c t (reads_for reader) (flies_reader (ForTask reader 0)) k
+    (λ die b h. flight_cases t.numbers die b.filling
+    (λ (f : Option Flight) (g : Option disk.Flight). flight_reads reader f ≡ flies_reader (ForTask reader 0) g)
+    refl (λ place tag. and_true_right (reader == tag)) (λ place. refl) (λ place m next. refl)
+    (λ place tag body next first. refl) (λ block within none. refl) b.flight (t.disk.flights die) h)
+
+-- whether a die writes the page of the group with this number
+pub writes_agree : (c : Core) (t : Translation) (number : ℕ) → Kept c t →
+    list_any (writes_group number) c.books ≡ some_flight t (flies_name (name_at number))
+writes_agree c t number k = books_agree c t (writes_group number) (flies_name (name_at number)) k
+    (λ die b h. flight_cases t.numbers die b.filling
+    (λ (f : Option Flight) (g : Option disk.Flight). flight_writes number f ≡ flies_name (name_at number) g)
+    refl (λ place tag. refl) (λ place. refl) (λ place m next. refl)
+    (λ place tag body next first.
+    and_true_right (number == tag.number) ∙ ap (λ (i : ℕ). (number == tag.number) && (0 == i)) (sym first))
+    (λ block within none. refl) b.flight (t.disk.flights die) h)
+
+-- whether a die writes a mark
+pub marks_agree : (c : Core) (t : Translation) → Kept c t → list_any writes_mark c.books ≡ some_flight t flies_mark
+marks_agree c t k = books_agree c t writes_mark flies_mark k
+    (λ die b h. flight_cases t.numbers die b.filling
+    (λ (f : Option Flight) (g : Option disk.Flight). is_mark_flight f ≡ flies_mark g)
+    refl (λ place tag. refl) (λ place. refl) (λ place m next. refl) (λ place tag body next first. refl)
+    (λ block within none. refl) b.flight (t.disk.flights die) h)
+
+-- a die that is kept as idle has no job
+pub no_job : (c : Core) (t : Translation) (die : ℕ) (b : Book) → Kept c t → slice_get c.books die ≡ Some b →
+    b.flight ≡ None →
+    t.disk.flights die ≡ None
+no_job c t die b k at idle =
+    none (t.disk.flights die)
+    (subst (λ (f : Option Flight). IsFlight t.numbers die b.filling f (t.disk.flights die)) idle
+    (k.dies.each die b at).job)
+  where
+    none : (g : Option disk.Flight) → IsFlight t.numbers die b.filling None g → g ≡ None
+    none None h = refl
+    none (Some g) h = absurd h
+
+pub die_within : (c : Core) (t : Translation) (die : ℕ) (b : Book) → Kept c t → slice_get c.books die ≡ Some b →
+    die < t.numbers.dies
+die_within c t die b k at = let w = slice_get_within c.books die b at in let d = k.dies.dies in omega (arith, w, d)
+
+-- One die's job is another
+
+-- the open block of a die stays where the blocks of the die do
+pub filling_same : (n : Numbers) (blocks now : Spot → disk.BlockState) (die : ℕ) (o : Option OpenBlock) →
+    ((block : ℕ) → now (spot_at die block) ≡ blocks (spot_at die block)) → IsFilling n blocks die o →
+    IsFilling n now die o
+filling_same n blocks now die None same h = λ block next within e. h block next within (sym (same block) ∙ e)
+filling_same n blocks now die (Some o) same h = (
+  h.0,
+  same o.block ∙ h.1,
+  λ (block : ℕ) (next : ℕ) (within : block < n.blocks) (e : now (spot_at die block) ≡ disk.Filling next).
+      h.2 block next within (sym (same block) ∙ e),
+)
+
+-- a die has another job, and only its own blocks change
+pub dies_put : (n : Numbers) (blocks now : Spot → disk.BlockState) (flights : ℕ → Option disk.Flight)
+    (books : List Book)
+    (die : ℕ) (b x : Book) (job : Option disk.Flight) → DiesKept n blocks flights books → slice_get books die ≡ Some b →
+    ((s : Spot) → s.die ≢ die → now s ≡ blocks s) → BookKept n now die x job →
+    DiesKept n now (at_die flights die job) (slice_set books die x)
+dies_put n blocks now flights books die b x job h at same this = record {
+  dies = set_length books die x ∙ h.dies;
+  each = λ e y got. ⊎_elim (λ k. here e y k.0 k.1) (λ k. other e y k.0 k.1) (get_set books die x e y got);
+  no_more = λ e past. ⊎_elim
+      (λ (k : (e ≡ die) × (at_die flights die job e ≡ job)).
+      let w = slice_get_within books die b at in let d = h.dies in let is = k.0 in absurd
+      (omega (arith, w, d, is, past)))
+      (λ (k : (e ≢ die) × (at_die flights die job e ≡ flights e)). k.1 ∙ h.no_more e past)
+      (at_die_cases flights die job e);
+}
+  where
+    here : (e : ℕ) (y : Book) → e ≡ die → x ≡ y → BookKept n now e y (at_die flights die job e)
+    here e y is one = ⊎_elim
+        (λ (k : (e ≡ die) × (at_die flights die job e ≡ job)).
+        subst (λ (z : ℕ × Book × Option disk.Flight). BookKept n now z.0 z.1 z.2)
+        (λ i. (sym is i, one i, sym k.1 i)) this)
+        (λ k. absurd (k.0 is))
+        (at_die_cases flights die job e)
+
+    other : (e : ℕ) (y : Book) → e ≢ die → slice_get books e ≡ Some y → BookKept n now e y (at_die flights die job e)
+    other e y apart got = ⊎_elim
+        (λ k. absurd (apart k.0))
+        (λ (k : (e ≢ die) × (at_die flights die job e ≡ flights e)).
+        let r = h.each e y got in
+        subst (λ (g : Option disk.Flight). BookKept n now e y g) (sym k.1)
+        (record {
+          filling = filling_same n blocks now e y.filling (λ block. same (spot_at e block) apart) r.filling;
+          job = r.job;
+        }))
+        (at_die_cases flights die job e)
+
+-- The job of one die ends
+
+-- a die that has such a job then had it before
+pub fewer : (flights : ℕ → Option disk.Flight) (die : ℕ) (is : Option disk.Flight → Bool) (d : ℕ) → is None ≡ false →
+    is (at_die flights die None d) ≡ true → is (flights d) ≡ true
+fewer flights die is d none h = ⊎_elim
+    (λ k. absurd (true≢false (sym h ∙ ap is k.1 ∙ none)))
+    (λ k. sym (ap is k.1) ∙ h)
+    (at_die_cases flights die None d)
+
+pub fly_over : (standing : Standing) (flights : ℕ → Option disk.Flight) (die : ℕ) → PagesFly standing flights →
+    PagesFly standing (at_die flights die None)
+fly_over standing flights die h = record {
+  one = λ d e name f g.
+      h.one d e name (fewer flights die (flies_name name) d refl f) (fewer flights die (flies_name name) e refl g);
+  new = λ d name f. h.new d name (fewer flights die (flies_name name) d refl f);
+}
+
+pub reads_over : (flights : ℕ → Option disk.Flight) (die : ℕ) (pins : List Pin) → ReadsKept flights pins →
+    ReadsKept (at_die flights die None) pins
+reads_over flights die pins h e tag index place is = ⊎_elim
+    (λ k. absurd (none_some (disk.Reading (ForTask tag index) place) (sym k.1 ∙ is)))
+    (λ k. h e tag index place (sym k.1 ∙ is))
+    (at_die_cases flights die None e)

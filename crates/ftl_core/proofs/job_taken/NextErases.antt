@@ -1,0 +1,126 @@
+-- The block of a die that is erased next.
+use Rattle.std.proofs.Common.{◌≡◌, ◌∙◌, ℕ, zero, suc, ◌+◌, ◌*◌, ◌<◌, ◌&&◌, not, Bool, true, false, Option, Some, None}
+use Rattle.std.proofs.Common.{length, slice_get, count_by, option_map, refl, sym, ap, arith}
+use Rattle.std.specs.Prelude.{if◌then◌else◌, nat_lt, unwrap_or}
+use Rattle.ufs_spec.specs.Disk as disk
+use Rattle.ufs_spec.specs.Disk.{Spot}
+use Rattle.ufs_spec.specs.Ledger.{entry_of}
+use Rattle.ufs_spec.specs.Translation as layer
+use Rattle.ufs_spec.specs.Translation.{Translation, may_be_erased, next_erase}
+use Rattle.ufs_spec.specs.declared.configs.Numbers.{Numbers}
+use Rattle.ftl_core.specs.declared.books.BlockState.TheVariants as state
+use Rattle.ftl_core.specs.Core.{Core}
+use Rattle.ftl_core.specs.Describes.{Describes, block_kept, spot_at}
+use Rattle.ftl_core.specs.Moves.{free_blocks, is_erasable, is_free, state_of}
+use Rattle.ftl_core.specs.Takes.{found_or, lowest_below}
+use Rattle.ftl_core.proofs.pins.PinsAlike.{pinned_as}
+use Rattle.ftl_core.proofs.new_dies.Spots.{found_lowest, free_counted, state_there}
+
+-- The lowest that passes
+
+pub lowest_alike : (p q : ℕ → Bool) (n : ℕ) → ((k : ℕ) → k < n → p k ≡ q k) → lowest_below p n ≡ lowest_below q n
+unfolding lowest_below
+lowest_alike p q zero same = refl
+lowest_alike p q (suc n) same =
+    let r = lowest_alike p q n (λ k l. same k (omega arith)) in
+    let e = same n (omega arith) in
+    λ i. found_or (r i) (e i) n
+
+-- the first number passes, or what is found is behind it
+pub lowest_front : (p : ℕ → Bool) (n : ℕ) →
+    lowest_below p (suc n) ≡ (if p 0 then Some 0 else option_map suc (lowest_below (λ k. p (suc k)) n))
+unfolding lowest_below
+lowest_front p zero = by (p 0)
+  where
+    by : (b : Bool) → found_or None b 0 ≡ (if b then Some 0 else None)
+    by true = refl
+    by false = refl
+lowest_front p (suc n) =
+    ap (λ (o : Option ℕ). found_or o (p (suc n)) (suc n)) (lowest_front p n)
+    ∙ by (p 0) (lowest_below (λ k. p (suc k)) n) (p (suc n))
+  where
+    by : (a : Bool) (o : Option ℕ) (b : Bool) →
+        found_or (if a then Some 0 else option_map suc o) b (suc n) ≡
+        (if a then Some 0 else option_map suc (found_or o b n))
+    by true o b = refl
+    by false (Some k) b = refl
+    by false None true = refl
+    by false None false = refl
+
+-- what is found passes, and is below the bound
+pub lowest_passes : (p : ℕ → Bool) (n b : ℕ) → lowest_below p n ≡ Some b → (b < n) × (p b ≡ true)
+unfolding lowest_below
+lowest_passes p zero b h = cc
+lowest_passes p (suc n) b h = by (lowest_below p n) (p n) refl refl h (λ e. lowest_passes p n b e)
+  where
+    by : (o : Option ℕ) (t : Bool) → lowest_below p n ≡ o → p n ≡ t → found_or o t n ≡ Some b →
+        (lowest_below p n ≡ Some b → (b < n) × (p b ≡ true)) → (b < suc n) × (p b ≡ true)
+    by (Some k) t e f h deep = let r = deep (e ∙ h) in (omega (arith, r.0), r.1)
+    by None true e f h deep = let s : n ≡ b = cc in (omega arith, ap p (sym s) ∙ f)
+    by None false e f h deep = cc
+
+-- Blocks
+
+free_kept : (x : disk.BlockState) → is_free (block_kept x) ≡ layer.is_free x
+free_kept disk.Free = refl
+free_kept (disk.Filling next) = refl
+free_kept disk.Closed = refl
+free_kept disk.Bad = refl
+
+state_is : (c : Core) (t : Translation) (die block : ℕ) → Describes c t → die < t.numbers.dies →
+    block < t.numbers.blocks →
+    state_of c die block ≡ block_kept (t.disk.blocks (spot_at die block))
+state_is c t die block h there within =
+    ap (λ (z : Numbers). unwrap_or (slice_get c.states (die * z.blocks + block)) state.Bad) h.kept.numbers
+    ∙ ap (λ z. unwrap_or (slice_get z (die * t.numbers.blocks + block)) state.Bad) h.kept.blocks.all
+    ∙ ap (λ z. unwrap_or z state.Bad)
+    (state_there t.numbers (λ (s : Spot). block_kept (t.disk.blocks s)) die block there within)
+
+erasable_is : (c : Core) (t : Translation) (die block : ℕ) → Describes c t → die < t.numbers.dies →
+    block < t.numbers.blocks →
+    is_erasable c die block ≡ may_be_erased t (spot_at die block)
+erasable_is c t die block h there within =
+    let free = ap is_free (state_is c t die block h there within) ∙ free_kept (t.disk.blocks (spot_at die block)) in
+    let pinned = pinned_as t.ledger.frontier (entry_of t.ledger) t
+    (spot_at die block) c.pins h.kept.work.no_rests h.kept.pins in
+    λ i. free i && not (pinned i)
+
+-- the block that is erased next
+abbrev pub block_next : Core → ℕ → Option ℕ
+block_next c die = lowest_below (is_erasable c die) c.numbers.blocks
+
+block_same : (c : Core) (t : Translation) (die : ℕ) → Describes c t → die < t.numbers.dies →
+    block_next c die ≡ lowest_below (λ b. may_be_erased t (spot_at die b)) t.numbers.blocks
+block_same c t die h there =
+    ap (λ (z : Numbers). lowest_below (is_erasable c die) z.blocks) h.kept.numbers
+    ∙ lowest_alike (is_erasable c die) (λ b. may_be_erased t (spot_at die b)) t.numbers.blocks
+    (λ k l. erasable_is c t die k h there l)
+
+pub erased_next : (c : Core) (t : Translation) (die : ℕ) → Describes c t → die < t.numbers.dies →
+    next_erase t die ≡ option_map (λ block. disk.Erasing (spot_at die block)) (block_next c die)
+erased_next c t die h there =
+    ap (option_map disk.Erasing)
+    (found_lowest t.numbers die (may_be_erased t)
+    ∙ ap (option_map (spot_at die)) (sym (block_same c t die h there)))
+    ∙ twice (block_next c die)
+  where
+    twice : (o : Option ℕ) → option_map disk.Erasing (option_map (spot_at die) o) ≡ option_map
+        (λ block. disk.Erasing (spot_at die block)) o
+    twice None = refl
+    twice (Some b) = refl
+
+-- the block that is erased next is one of the die's
+pub block_right : (c : Core) (t : Translation) (die block : ℕ) → Describes c t → die < t.numbers.dies →
+    block_next c die ≡ Some block →
+    block < t.numbers.blocks
+block_right c t die block h there found =
+    (lowest_passes (λ b. may_be_erased t (spot_at die b)) t.numbers.blocks block
+    (sym (block_same c t die h there) ∙ found)).0
+
+-- enough blocks are free, or too few
+pub opens_alike : (c : Core) (t : Translation) → Describes c t →
+    layer.may_open t ≡ nat_lt (length c.books + 2) (free_blocks c)
+opens_alike c t h =
+    let dies = h.kept.dies.dies in
+    let free = ap (count_by is_free) h.kept.blocks.all ∙ free_counted t.numbers t.disk.blocks in
+    sym (λ i. nat_lt (dies i + 2) (free i))

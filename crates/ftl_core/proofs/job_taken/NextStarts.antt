@@ -1,0 +1,188 @@
+-- A die begins a job: what is kept then, and what is told.
+use Rattle.std.proofs.Common.{◌≡◌, ◌≢◌, ◌∙◌, ◌⊎◌, ℕ, ◌<◌, ◌≤◌, Bool, true, false, List, [], Option, Some, None, length}
+use Rattle.std.proofs.Common.{refl, sym, ap, subst, inl, inr, ⊎_elim, arith, get_or, is_none, lt-ltb, ltb-true}
+use Rattle.std.specs.Prelude.{◌&&◌, Contains, nat_lt, slice_get, option_and_then}
+use Rattle.std.specs.List.{list_any}
+use Rattle.std.proofs.lemmas.Option.{slice_get_cases}
+use Rattle.ufs_spec.proofs.Facts.{false≢true, true≢false}
+use Rattle.ufs_spec.specs.Disk as disk
+use Rattle.ufs_spec.specs.Disk.{ForTask, at_die, job_of as told_by}
+use Rattle.ufs_spec.specs.Ledger.{Name}
+use Rattle.ufs_spec.specs.Moves.{GiveJob}
+use Rattle.ufs_spec.specs.Translation.{MayTake, Translation, Want, flies_name, is_idle, next_flight, some_flight, taken}
+use Rattle.ufs_spec.specs.Translation.{want_at, wants_on}
+use Rattle.ufs_spec.specs.declared.flash.Place.{Place}
+use Rattle.ufs_laws.proofs.jobs.OneJob.{given as some_job, nothing_inside}
+use Rattle.power_loss.proofs.moves.MovesKeepValid.{all_keep}
+use Rattle.power_loss.proofs.books.PagesByName.{none_some}
+use Rattle.power_loss.proofs.books.SmallFacts.{at_die_cases}
+use Rattle.ftl_core.specs.declared.books.Book.{Book}
+use Rattle.ftl_core.specs.declared.books.Flight.{Flight}
+use Rattle.ftl_core.specs.Core.{Core}
+use Rattle.ftl_core.specs.Describes.{Describes, IsFlight, IsTaken, Kept, PagesFly, ReadsKept, Standing, given}
+use Rattle.ftl_core.specs.Describes.{is_reading}
+use Rattle.ftl_core.specs.Moves.{started}
+use Rattle.ftl_core.specs.Takes.{begun_with, core_taken, flight_taken, job_of, job_taken}
+use Rattle.ftl_core.proofs.job_taken.Flown.{dies_put, none_flies}
+
+-- the page of no name flies from two dies, if no other die flies that of the new job
+fly_begun : (standing : Standing) (flights : ℕ → Option disk.Flight) (die : ℕ) (f : disk.Flight) →
+    PagesFly standing flights →
+    ((name : Name) → flies_name name (Some f) ≡ true →
+    ((e : ℕ) → flies_name name (flights e) ≡ false) × (standing name.number name.index ≡ None)) →
+    PagesFly standing (at_die flights die (Some f))
+fly_begun standing flights die f h alone = record { one = one; new = new }
+  where
+    -- the new job's page, and one that flew before
+    both : (e : ℕ) (name : Name) → flies_name name (Some f) ≡ true → flies_name name (flights e) ≡ true → ⊥
+    both e name p q = false≢true (sym ((alone name p).0 e) ∙ q)
+
+    one : (d e : ℕ) (name : Name) → flies_name name (at_die flights die (Some f) d) ≡ true →
+        flies_name name (at_die flights die (Some f) e) ≡ true → d ≡ e
+    one d e name p q = ⊎_elim
+        (λ (k : (d ≡ die) × (at_die flights die (Some f) d ≡ Some f)). ⊎_elim
+        (λ (j : (e ≡ die) × (at_die flights die (Some f) e ≡ Some f)). k.0 ∙ sym j.0)
+        (λ (j : (e ≢ die) × (at_die flights die (Some f) e ≡ flights e)).
+        absurd (both e name (sym (ap (flies_name name) k.1) ∙ p) (sym (ap (flies_name name) j.1) ∙ q)))
+        (at_die_cases flights die (Some f) e))
+        (λ (k : (d ≢ die) × (at_die flights die (Some f) d ≡ flights d)). ⊎_elim
+        (λ (j : (e ≡ die) × (at_die flights die (Some f) e ≡ Some f)).
+        absurd (both d name (sym (ap (flies_name name) j.1) ∙ q) (sym (ap (flies_name name) k.1) ∙ p)))
+        (λ (j : (e ≢ die) × (at_die flights die (Some f) e ≡ flights e)).
+        h.one d e name (sym (ap (flies_name name) k.1) ∙ p) (sym (ap (flies_name name) j.1) ∙ q))
+        (at_die_cases flights die (Some f) e))
+        (at_die_cases flights die (Some f) d)
+
+    new : (d : ℕ) (name : Name) → flies_name name (at_die flights die (Some f) d) ≡ true →
+        standing name.number name.index ≡ None
+    new d name p = ⊎_elim
+        (λ k. (alone name (sym (ap (flies_name name) k.1) ∙ p)).1)
+        (λ k. h.new d name (sym (ap (flies_name name) k.1) ∙ p))
+        (at_die_cases flights die (Some f) d)
+
+-- a job that may begin: a page that it writes is new, and a page that it reads for a task is one that its reader wants
+pub record MayBegin (c : Core) (t : Translation) (job : disk.Flight) : Type 0 where
+  pub alone : (name : Name) → flies_name name (Some job) ≡ true →
+      (some_flight t (flies_name name) ≡ false) × (t.ledger.standing name.number name.index ≡ None)
+  pub wanted : (tag index : ℕ) (place : Place) → job ≡ disk.Reading (ForTask tag index) place →
+      list_any (is_reading tag place) c.pins ≡ true
+
+pub kept_begun : (c : Core) (t : Translation) (die : ℕ) (b : Book) (f : Flight) (job : disk.Flight) → Kept c t →
+    slice_get c.books die ≡ Some b → IsFlight t.numbers die b.filling (Some f) (Some job) → MayBegin c t job →
+    Kept (started c die b f) (taken t die job)
+kept_begun c t die b f job k at is may = record {
+  numbers = k.numbers;
+  blocks = k.blocks;
+  dies = dies_put t.numbers t.disk.blocks t.disk.blocks t.disk.flights c.books die b
+      (record { filling = b.filling; flight = Some f })
+      (Some job) k.dies at (λ s apart. refl) (record { filling = (k.dies.each die b at).filling; job = is });
+  fly = fly_begun t.ledger.standing t.disk.flights die job k.fly (λ name flies.
+      let a = may.alone name flies in
+      (none_flies t.numbers.dies t.disk.flights (flies_name name) refl k.dies.no_more a.0, a.1));
+  ledger_kept = k.ledger_kept;
+  work = k.work;
+  claims = k.claims;
+  pins = k.pins;
+  differ = k.differ;
+  reads = reads;
+}
+  where
+    some_one : (x y : disk.Flight) → Some x ≡ Some y → x ≡ y
+    some_one x y e = cc
+
+    reads : ReadsKept (at_die t.disk.flights die (Some job)) c.pins
+    reads e tag index place reading = ⊎_elim
+        (λ h. may.wanted tag index place (some_one job (disk.Reading (ForTask tag index) place) (sym h.1 ∙ reading)))
+        (λ h. k.reads e tag index place (sym h.1 ∙ reading))
+        (at_die_cases t.disk.flights die (Some job) e)
+
+-- Idle dies
+
+-- a die without a book is outside the numbers
+pub outside : (c : Core) (t : Translation) (die : ℕ) → Kept c t → slice_get c.books die ≡ None → t.numbers.dies ≤ die
+outside c t die k there = ⊎_elim
+    (λ (w : (x : Book) × (die < length c.books) × (slice_get c.books die ≡ Some x) × (get_or c.books die x ≡ x)).
+    absurd (none_some w.0 (sym there ∙ w.2)))
+    (λ w. subst (λ (n : ℕ). n ≤ die) k.dies.dies w.0)
+    (slice_get_cases c.books die).1
+
+-- a die outside the numbers is not idle, and neither is one with a job
+pub not_idle : (t : Translation) (die : ℕ) → (t.numbers.dies ≤ die) ⊎ (is_none (t.disk.flights die) ≡ false) →
+    is_idle t die ≡ false
+not_idle t die (inl behind) = by (nat_lt die t.numbers.dies) refl
+  where
+    by : (b : Bool) → nat_lt die t.numbers.dies ≡ b →
+        (nat_lt die t.numbers.dies && is_none (t.disk.flights die)) ≡ false
+    by true e = absurd (let low : die < t.numbers.dies = ltb-true die t.numbers.dies e in omega arith)
+    by false e = ap (λ (b : Bool). b && is_none (t.disk.flights die)) e
+not_idle t die (inr busy) = ap (λ (b : Bool). nat_lt die t.numbers.dies && b) busy ∙ neither (nat_lt die t.numbers.dies)
+  where
+    neither : (b : Bool) → (b && false) ≡ false
+    neither true = refl
+    neither false = refl
+
+-- a die of the device without a job is idle
+pub is_free_die : (t : Translation) (die : ℕ) → die < t.numbers.dies → t.disk.flights die ≡ None → is_idle t die ≡ true
+is_free_die t die there none =
+    ap (λ (b : Bool). b && is_none (t.disk.flights die)) (lt-ltb die t.numbers.dies there) ∙ ap is_none none
+
+-- where no read is owed, the next flight may be taken
+pub next_may : (t : Translation) (die : ℕ) (f : disk.Flight) → is_idle t die ≡ true → wants_on t die ≡ [] →
+    next_flight t die ≡ Some f → MayTake t die (Some f)
+next_may t die f idle none next = by_job (some_job t die)
+  where
+    same : (g : disk.Flight) → MayTake t die (Some g) → next_flight t die ≡ Some g → MayTake t die (Some f)
+    same g may other = subst (λ (o : Option disk.Flight). MayTake t die o) (sym other ∙ next) may
+
+    by_flight : (g : disk.Flight) → MayTake t die (Some g) → MayTake t die (Some f)
+    by_flight (disk.Reading reader place) may =
+        absurd (nothing_inside (want_at reader place)
+        (subst (λ (ws : List Want). Contains ws (want_at reader place)) none may.1))
+    by_flight (disk.Programming place cell) may = same (disk.Programming place cell) may may.1.1
+    by_flight (disk.Erasing spot) may = same (disk.Erasing spot) may may.1.1
+
+    by_job : ((g : disk.Flight) × MayTake t die (Some g)) ⊎ MayTake t die None → MayTake t die (Some f)
+    by_job (inl given) = by_flight given.0 given.1
+    by_job (inr (inl busy)) = absurd (true≢false (sym idle ∙ busy))
+    by_job (inr (inr nothing)) = absurd (none_some f (sym nothing.1 ∙ next))
+
+-- What is given
+
+-- nothing is
+pub nothing_taken : (c : Core) (t : Translation) (die : ℕ) → Describes c t → flight_taken c die ≡ None →
+    MayTake t die None →
+    IsTaken t die (job_taken c die) (core_taken c die)
+nothing_taken c t die h none may = record {
+  job = None;
+  right = may;
+  shown = ap (option_and_then (job_of c die)) none;
+  describes = subst (λ (z : Core). Describes z t) (sym still) h;
+}
+  where
+    as_it_was : (o : Option Book) → begun_with c die o None None ≡ c
+    as_it_was None = refl
+    as_it_was (Some b) = refl
+
+    still : core_taken c die ≡ c
+    still =
+        (λ i. begun_with c die (slice_get c.books die) (none i) (option_and_then (job_of c die) (none i)))
+        ∙ as_it_was (slice_get c.books die)
+
+-- or a job
+pub job_begun : (c : Core) (t : Translation) (die : ℕ) (b : Book) (f : Flight) (job : disk.Flight) → Describes c t →
+    slice_get c.books die ≡ Some b → flight_taken c die ≡ Some f → job_of c die f ≡ Some (told_by job) →
+    IsFlight t.numbers die b.filling (Some f) (Some job) → MayBegin c t job → MayTake t die (Some job) →
+    IsTaken t die (job_taken c die) (core_taken c die)
+job_begun c t die b f job h there taken told is begins may = record {
+  job = Some job;
+  right = may;
+  shown = ap (option_and_then (job_of c die)) taken ∙ told;
+  describes = subst (λ (z : Core). Describes z (given t die (Some job))) (sym begun)
+      (record {
+        valid = all_keep t (GiveJob die job) h.valid may;
+        kept = kept_begun c t die b f job h.kept there is begins;
+      });
+}
+  where
+    begun : core_taken c die ≡ started c die b f
+    begun = λ i. begun_with c die (there i) (taken i) ((ap (option_and_then (job_of c die)) taken ∙ told) i)

@@ -1,0 +1,245 @@
+-- Which reads are owed to a die: those that readers want of its pages, where no die reads for them.
+use Rattle.std.proofs.Common.{◌≡◌, ◌∙◌, ℕ, zero, suc, Bool, true, false, List, [], ◌∷◌, ◌++◌, Option, Some, None, refl}
+use Rattle.std.proofs.Common.{sym, ap, subst, arith}
+use Rattle.std.proofs.lemmas.List.{append-nil}
+use Rattle.std.specs.Prelude.{◌&&◌, ◌==◌, if◌then◌else◌, Contains, filter_map, slice_get, filter, not, option_map}
+use Rattle.std.specs.List.{list_any, cons_option}
+use Rattle.ufs_spec.specs.Disk.{ForTask, Reader}
+use Rattle.ufs_spec.specs.Ledger as ledger
+use Rattle.ufs_spec.specs.Ledger.{Entry, InSlot, Name, OnPage, Unwritten, entry_of}
+use Rattle.ufs_spec.specs.Translation as layer
+use Rattle.ufs_spec.specs.Translation.{Rest, Translation, Want, flies_reader, is_of_die, is_unread, some_flight}
+use Rattle.ufs_spec.specs.Translation.{want_at, want_of_look, want_of_pin, want_of_rest, wants_of_step, wants_on}
+use Rattle.ufs_spec.specs.declared.flash.Place.{Place}
+use Rattle.power_loss.proofs.books.PagesByName.{none_some, some_is}
+use Rattle.power_loss.proofs.books.SmallFacts.{and_true, if_false, if_true, eq_self, eq_told, place_self}
+use Rattle.ftl_core.specs.declared.books.Looked.{Looked}
+use Rattle.ftl_core.specs.declared.books.Looked.TheVariants as looked
+use Rattle.ftl_core.specs.declared.books.Pin.{Pin}
+use Rattle.ftl_core.specs.Core.{Core}
+use Rattle.ftl_core.specs.Describes.{IsLookedAt, Kept, PinKept, PinsKept, step_kept, Describes, IsTaken, is_reading}
+use Rattle.ftl_core.specs.Describes.{looks_at}
+use Rattle.ftl_core.specs.Moves.{is_owed_by, looks_on, reads_for}
+use Rattle.ftl_core.proofs.job_taken.Flown.{reads_agree, die_within, no_job}
+use Rattle.ufs_spec.proofs.Facts.{false≢true}
+use Rattle.ufs_spec.specs.Disk as disk
+use Rattle.ftl_core.specs.declared.books.Book.{Book}
+use Rattle.ftl_core.specs.declared.books.Flight.TheVariants as flight
+use Rattle.ftl_core.specs.declared.books.Stored.{Stored}
+use Rattle.ftl_core.specs.Takes as takes
+use Rattle.ftl_core.specs.Takes.{core_taken, first_owed, idle_flight, job_taken, owed_flight, read_of}
+use Rattle.ftl_core.proofs.job_taken.NextStarts.{is_free_die, job_begun}
+use Rattle.ftl_core.proofs.pins.PinsAlike.{page_alike, pins_at}
+use Rattle.ufs_spec.proofs.Lists.{any_here, position_told}
+
+-- What a pin wants
+
+-- the want is one that is still to be begun on the die
+abbrev passes : (Want → Bool) → (Want → Bool) → Option Want → Bool
+passes g h None = false
+passes g h (Some w) = g w && h w
+
+-- what a pin wants passes if its reader is owed the read of a page of the die
+want_passes : (unread : Reader → Bool) (die reader : ℕ) (w u : Bool) (kept : Looked) (look : ledger.Looked) →
+    IsLookedAt kept look →
+    u ≡ unread (ForTask reader 0) →
+    (w && looks_on die kept && u)
+    ≡ passes (λ (x : Want). unread x.reader) (is_of_die die) (if w then want_of_look (ForTask reader 0) look else None)
+want_passes unread die reader false u kept look h same = refl
+want_passes unread die reader true u looked.Nothing Unwritten h same = refl
+want_passes unread die reader true u (looked.Slot n) (InSlot name) h same = refl
+want_passes unread die reader true u (looked.Page s) (OnPage name place) h same =
+    turned (s.place.die == die) u
+    ∙ (λ i. same i && (sym h.1 i).die == die)
+  where
+    turned : (a b : Bool) → (true && a && b) ≡ (b && a)
+    turned true true = refl
+    turned true false = refl
+    turned false true = refl
+    turned false false = refl
+want_passes unread die reader true u kept look h same = absurd h
+
+-- no die reads for the reader
+abbrev is_free : Translation → Reader → Bool
+is_free t reader = not (some_flight t (flies_reader reader))
+
+owed_passes : (c : Core) (t : Translation) (die : ℕ) (p : Pin) (q : layer.Pin) → Kept c t →
+    PinKept t.ledger.frontier (entry_of t.ledger) p q →
+    is_owed_by c.books die p ≡ passes (is_unread t) (is_of_die die) (want_of_pin q)
+owed_passes c t die p q k h =
+    want_passes (is_free t) die p.reader p.wanted
+    (not (list_any (reads_for p.reader) c.books)) p.looked q.looked h.looked_at
+    (ap not (reads_agree c t p.reader k))
+    ∙ (λ i. passes (is_unread t) (is_of_die die)
+    (if sym h.wanted i then want_of_look (ForTask (sym h.tag i) (sym h.first i)) q.looked else None))
+
+-- Lists of wants
+
+module _ (g h : Want → Bool) where
+  -- one that does not pass is not among those that do
+  dropped : (o : Option Want) (ws : List Want) → passes g h o ≡ false →
+      filter h (filter g (cons_option o ws)) ≡ filter h (filter g ws)
+  dropped None ws fails = refl
+  dropped (Some w) ws fails = by (g w) (h w) refl refl fails
+    where
+      by : (a b : Bool) → g w ≡ a → h w ≡ b → (a && b) ≡ false → filter h (filter g (w ∷ ws)) ≡ filter h (filter g ws)
+      by true true e f clash = cc
+      by true false e f clash =
+          ap (filter h) (if_true (g w) (w ∷ filter g ws) (filter g ws) e)
+          ∙ if_false (h w) (w ∷ filter h (filter g ws)) _ f
+      by false b e f clash = ap (filter h) (if_false (g w) (w ∷ filter g ws) (filter g ws) e)
+
+  -- where none passes, none is left
+  none_left : (frontier : ℕ) (entries : Name → Option Entry) (owed : Pin → Bool) (ps : List Pin) (qs : List layer.Pin) →
+      ((p : Pin) (q : layer.Pin) → PinKept frontier entries p q → owed p ≡ passes g h (want_of_pin q)) →
+      PinsKept frontier entries ps qs → ((j : ℕ) (p : Pin) → slice_get ps j ≡ Some p → owed p ≡ false) →
+      filter h (filter g (filter_map want_of_pin qs)) ≡ []
+  none_left frontier entries owed [] [] same kept none = refl
+  none_left frontier entries owed [] (q ∷ qs) same kept none = absurd kept
+  none_left frontier entries owed (p ∷ ps) [] same kept none = absurd kept
+  none_left frontier entries owed (p ∷ ps) (q ∷ qs) same kept none =
+      dropped (want_of_pin q) (filter_map want_of_pin qs) (sym (same p q kept.0) ∙ none 0 p refl)
+      ∙ none_left frontier entries owed ps qs same kept.1 (λ j x e. none (suc j) x e)
+
+  -- what passes is among them
+  kept_here : (w : Want) (ws : List Want) → passes g h (Some w) ≡ true → Contains (filter h (filter g (w ∷ ws))) w
+  kept_here w ws does =
+      let r = and_true (g w) (h w) does in
+      subst (λ (xs : List Want). Contains xs w)
+      (sym (ap (filter h) (if_true (g w) (w ∷ filter g ws) (filter g ws) r.0)
+      ∙ if_true (h w) (w ∷ filter h (filter g ws)) _ r.1))
+      (0, omega arith, refl)
+
+  kept_behind : (o : Option Want) (ws : List Want) (w : Want) → Contains (filter h (filter g ws)) w →
+      Contains (filter h (filter g (cons_option o ws))) w
+  kept_behind None ws w has = has
+  kept_behind (Some x) ws w has = by (g x) (h x) refl refl
+    where
+      by : (a b : Bool) → g x ≡ a → h x ≡ b → Contains (filter h (filter g (x ∷ ws))) w
+      by true true e f =
+          subst (λ (xs : List Want). Contains xs w)
+          (sym (ap (filter h) (if_true (g x) (x ∷ filter g ws) (filter g ws) e)
+          ∙ if_true (h x) (x ∷ filter h (filter g ws)) _ f))
+          (let l = has.1 in (suc has.0, omega (arith, l), has.2))
+      by true false e f = subst (λ (xs : List Want). Contains xs w) (sym (dropped (Some x) ws (λ i. e i && f i))) has
+      by false b e f = subst (λ (xs : List Want). Contains xs w) (sym (dropped (Some x) ws (λ i. e i && h x))) has
+
+  one_left : (qs : List layer.Pin) (k : ℕ) (q : layer.Pin) (w : Want) →
+      slice_get qs k ≡ Some q → want_of_pin q ≡ Some w → passes g h (Some w) ≡ true →
+      Contains (filter h (filter g (filter_map want_of_pin qs))) w
+  one_left [] k q w at is does = absurd (none_some q at)
+  one_left (x ∷ qs) zero q w at is does =
+      subst (λ (o : Option Want). Contains (filter h (filter g (cons_option o (filter_map want_of_pin qs)))) w)
+      (sym (ap want_of_pin (some_is x q at) ∙ is)) (kept_here w (filter_map want_of_pin qs) does)
+  one_left (x ∷ qs) (suc k) q w at is does =
+      kept_behind (want_of_pin x) (filter_map want_of_pin qs) w (one_left qs k q w at is does)
+
+-- What a die is owed
+
+-- no step and no rest of a page wants a read
+step_wants : (m : Option ℕ) → wants_of_step (step_kept m) ≡ []
+step_wants None = refl
+step_wants (Some n) = refl
+
+-- a die is owed what pins want of it, and nothing else
+pins_want : (c : Core) (t : Translation) (die : ℕ) → Kept c t →
+    wants_on t die ≡ filter (is_of_die die) (filter (is_unread t) (filter_map want_of_pin t.pins))
+pins_want c t die k =
+    ap (λ (ws : List Want). left (filter_map want_of_pin t.pins ++ ws ++ filter_map want_of_rest t.work.rests))
+    (ap wants_of_step k.work.step ∙ step_wants c.mark)
+    ∙ ap (λ (rs : List Rest). left (filter_map want_of_pin t.pins ++ [] ++ filter_map want_of_rest rs)) k.work.no_rests
+    ∙ ap left (append-nil (filter_map want_of_pin t.pins ++ []) ∙ append-nil (filter_map want_of_pin t.pins))
+  where
+    left : List Want → List Want
+    left ws = filter (is_of_die die) (filter (is_unread t) ws)
+
+-- where no reader is owed one, none is owed to the die
+pub none_read : (c : Core) (t : Translation) (die : ℕ) → Kept c t →
+    ((j : ℕ) (p : Pin) → slice_get c.pins j ≡ Some p → is_owed_by c.books die p ≡ false) → wants_on t die ≡ []
+none_read c t die k none =
+    pins_want c t die k
+    ∙ none_left (is_unread t) (is_of_die die) t.ledger.frontier (entry_of t.ledger)
+    (is_owed_by c.books die) c.pins t.pins
+    (λ p q h. owed_passes c t die p q k h) k.pins none
+
+-- the read that a reader is owed is one of them
+one_read : (c : Core) (t : Translation) (die k : ℕ) (p : Pin) (q : layer.Pin) (place : Place) → Kept c t →
+    slice_get t.pins k ≡ Some q → PinKept t.ledger.frontier (entry_of t.ledger) p q → is_owed_by c.books die p ≡ true →
+    want_of_pin q ≡ Some (want_at (ForTask p.reader 0) place) →
+    Contains (wants_on t die) (want_at (ForTask p.reader 0) place)
+one_read c t die k p q place kept at h owed want =
+    subst (λ (ws : List Want). Contains ws (want_at (ForTask p.reader 0) place)) (sym (pins_want c t die kept))
+    (one_left (is_unread t) (is_of_die die) t.pins k q (want_at (ForTask p.reader 0) place)
+    at want (ap (passes (is_unread t) (is_of_die die)) (sym want) ∙ sym (owed_passes c t die p q kept h) ∙ owed))
+
+-- A read that a reader is owed
+
+owed_told : (books : List Book) (die : ℕ) (p : Pin) → is_owed_by books die p ≡ true →
+    (p.wanted ≡ true) × (s : Stored) × (p.looked ≡ looked.Page s) × (s.place.die ≡ die)
+owed_told books die p h = by p.looked refl
+  where
+    r : ((p.wanted && looks_on die p.looked) ≡ true) × (not (list_any (reads_for p.reader) books) ≡ true)
+    r = and_true (p.wanted && looks_on die p.looked) (not (list_any (reads_for p.reader) books)) h
+
+    u : (p.wanted ≡ true) × (looks_on die p.looked ≡ true)
+    u = and_true p.wanted (looks_on die p.looked) r.0
+
+    by : (l : Looked) → p.looked ≡ l → (p.wanted ≡ true) × (s : Stored) × (p.looked ≡ looked.Page s) ×
+        (s.place.die ≡ die)
+    by (looked.Page s) e = (u.0, s, e, eq_told s.place.die die (sym (ap (looks_on die) e) ∙ u.1))
+    by looked.Nothing e = absurd (false≢true (sym (ap (looks_on die) e) ∙ u.1))
+    by (looked.Slot n) e = absurd (false≢true (sym (ap (looks_on die) e) ∙ u.1))
+
+pub read_taken : (c : Core) (t : Translation) (die k : ℕ) (b : Book) → Describes c t → slice_get c.books die ≡ Some b →
+    b.flight ≡ None → first_owed c die ≡ Some k → IsTaken t die (job_taken c die) (core_taken c die)
+read_taken c t die k b h there idle owed =
+    job_begun c t die b (flight.Read s.place (Some p.reader)) (disk.Reading (ForTask p.reader 0) s.place) h there
+    (ap (takes.flight_for c die) there ∙ ap (idle_flight c die b.filling) idle ∙ ap (owed_flight c die b.filling) owed
+    ∙ ap read_of at.1 ∙ ap (λ (l : Looked). option_map (λ place. flight.Read place (Some p.reader)) (takes.place_in l))
+    told.2)
+    refl
+    (refl, (refl, refl))
+    (record { alone = λ name e. absurd (false≢true e); wanted = wanted }) (
+      is_free_die t die (die_within c t die b h.kept there) (no_job c t die b h.kept there idle),
+      one_read c t die k p q.0 s.place h.kept q.1 q.2 at.2 want,
+    )
+  where
+    at : (x : Pin) × (slice_get c.pins k ≡ Some x) × (is_owed_by c.books die x ≡ true)
+    at = position_told (is_owed_by c.books die) c.pins k owed
+
+    p : Pin
+    p = at.0
+
+    told : (p.wanted ≡ true) × (s : Stored) × (p.looked ≡ looked.Page s) × (s.place.die ≡ die)
+    told = owed_told c.books die p at.2
+
+    s : Stored
+    s = told.1
+
+    q : (q : layer.Pin) × (slice_get t.pins k ≡ Some q) × PinKept t.ledger.frontier (entry_of t.ledger) p q
+    q = pins_at t.ledger.frontier (entry_of t.ledger) c.pins t.pins k p h.kept.pins at.1
+
+    page : (name : Name) × (q.0.looked ≡ OnPage name s.place) × (name.number ≡ s.number)
+    page = page_alike s q.0.looked (subst (λ (l : Looked). IsLookedAt l q.0.looked) told.2 q.2.looked_at)
+
+    want : layer.want_of_pin q.0 ≡ Some (want_at (ForTask p.reader 0) s.place)
+    want =
+        (λ i. if (q.2.wanted ∙ told.0) i then want_of_look (ForTask (q.2.tag i) (q.2.first i)) (page.1 i) else None)
+
+    is_reading_here : is_reading p.reader s.place p ≡ true
+    is_reading_here =
+        (λ i. (p.reader == p.reader) && told.0 i && looks_at s.place (told.2 i))
+        ∙ (λ i. eq_self p.reader i && true && place_self s.place i)
+
+    wanted : (tag index : ℕ) (place : Place) →
+        disk.Reading (ForTask p.reader 0) s.place ≡ disk.Reading (ForTask tag index) place →
+        list_any (is_reading tag place) c.pins ≡ true
+    wanted tag index place e =
+        subst (λ (z : ℕ × Place). list_any (is_reading z.0 z.1) c.pins ≡ true) (λ i. (tag_is e i, place_is e i))
+        (any_here (is_reading p.reader s.place) c.pins k p at.1 is_reading_here)
+      where
+        tag_is : disk.Reading (ForTask p.reader 0) s.place ≡ disk.Reading (ForTask tag index) place → p.reader ≡ tag
+        tag_is e = cc
+
+        place_is : disk.Reading (ForTask p.reader 0) s.place ≡ disk.Reading (ForTask tag index) place → s.place ≡ place
+        place_is e = cc

@@ -1,0 +1,100 @@
+-- What the layer looks up is what the ledger has.
+use Rattle.std.proofs.Common.{◌≡◌, ℕ, suc, ◌+◌, ◌-◌, ◌<◌, ◌≤◌, true, false, length, Option, Some, None, refl, sym, ap}
+use Rattle.std.proofs.Common.{◌∙◌, subst, ⊎_elim, arith, length-drop}
+use Rattle.std.specs.Prelude.{nat_lt}
+use Rattle.ufs_spec.specs.Keys.{IsKey}
+use Rattle.ufs_spec.specs.Ledger as ledger
+use Rattle.ufs_spec.specs.Ledger.{InSlot, Ledger, Name, latest_durable, latest_in, look, looked_on}
+use Rattle.ufs_spec.specs.Plain.{shape_of_numbers}
+use Rattle.ufs_spec.specs.Translation.{Translation}
+use Rattle.ufs_spec.specs.declared.configs.Numbers.{Numbers}
+use Rattle.ufs_spec.specs.declared.flash.Key.{Key}
+use Rattle.power_loss.proofs.books.LastOfEachKey.{IsLastOf, NoneOf, latest_cases}
+use Rattle.power_loss.proofs.books.SmallFacts.{if_false, if_true, name_is, two_ways}
+use Rattle.ftl_core.specs.declared.books.Looked.TheVariants as looked
+use Rattle.ftl_core.specs.declared.books.Stored.{Stored}
+use Rattle.ftl_core.specs.Core.{Core}
+use Rattle.ftl_core.specs.Describes.{Describes, IsLookedAt, IsStored, name_at, not_durable}
+use Rattle.ftl_core.specs.Moves.{last_of, look_of, looked_at, stored_of}
+use Rattle.power_loss.proofs.kept_pages.LookedUpPages.{latest_splits}
+use Rattle.ftl_core.proofs.look_and_accept.LastGroups.{last_kept, none_kept}
+use Rattle.ftl_core.proofs.group_settled.PageStands.{groups_length}
+use Rattle.ftl_core.proofs.look_and_accept.LookedPages.{durable_within, lt_not, lt_told}
+
+-- the number is no more than the frontier
+not_behind : (m n : ℕ) → n ≤ m → nat_lt m n ≡ false
+not_behind m n l = ⊎_elim (λ e. let u = lt_told m n e in absurd (omega arith)) (λ e. e) (two_ways (nat_lt m n))
+
+is_behind : (m n : ℕ) → m < n → nat_lt m n ≡ true
+is_behind m n l = ⊎_elim (λ e. e) (λ e. let u = lt_not m n e in absurd (omega arith)) (two_ways (nat_lt m n))
+
+-- the last group of the key is looked at in its slot
+in_slot : (l : Ledger) (name : Name) (gs : Option ℕ) (s : Option Stored) (frontier at : ℕ) → gs ≡ Some at →
+    frontier ≡ l.frontier →
+    name.number ≡ suc (l.frontier + at) → name.index ≡ 0 →
+    IsLookedAt (looked_at gs s frontier) (ledger.looked_at l (Some name))
+in_slot l name gs s frontier at e f number index =
+    subst (λ o. IsLookedAt (looked_at o s frontier) (ledger.looked_at l (Some name))) (sym e)
+    (subst (IsLookedAt (looked.Slot (frontier + at + 1)))
+    (sym (if_true (nat_lt l.frontier name.number) (InSlot name) (looked_on name (l.standing name.number name.index))
+    (is_behind l.frontier name.number (omega arith))))
+    (name_is name (name_at (frontier + at + 1)) (omega arith) index))
+
+-- and where there is none, the place that is stored
+on_page : (l : Ledger) (s : Option Stored) (o : Option Name) (frontier : ℕ) → IsStored l.standing s o →
+    ((name : Name) → o ≡ Some name → name.number ≤ l.frontier) →
+    IsLookedAt (looked_at None s frontier) (ledger.looked_at l o)
+on_page l None None frontier r within = tt
+on_page l None (Some name) frontier r within = absurd r
+on_page l (Some s) None frontier r within = absurd r
+on_page l (Some s) (Some name) frontier r within =
+    subst (IsLookedAt (looked.Page s))
+    (sym (if_false (nat_lt l.frontier name.number) (InSlot name) (looked_on name (l.standing name.number name.index))
+    (not_behind l.frontier name.number (within name refl)) ∙ ap (looked_on name) r.1))
+    (r.0, refl)
+
+module _ (c : Core) (t : Translation) (h : Describes c t) where
+  -- as many groups are kept as are behind the frontier
+  pub groups_left : c.frontier + length c.groups ≡ t.ledger.greatest_seen + length t.ledger.groups
+  groups_left =
+      let f = h.kept.ledger_kept.frontier in
+      let above = h.valid.frontier.above in
+      let within = h.valid.frontier.within in
+      let e = groups_length t.ledger.standing t.ledger.frontier c.groups
+      (not_durable t.ledger) h.kept.ledger_kept.groups in
+      omega (arith, length-drop (t.ledger.frontier - t.ledger.greatest_seen) t.ledger.groups)
+
+  -- the layer looks up what the ledger has
+  pub looks : (k : Key) → IsKey (shape_of_numbers t.numbers) k → k.kind ≡ 1 → IsLookedAt (look_of c k) (look t.ledger k)
+  looks k is kind =
+      subst (λ o. IsLookedAt (look_of c k) (ledger.looked_at t.ledger o))
+      (sym (latest_splits t.ledger k h.valid.frontier.above h.valid.frontier.within))
+      (⊎_elim pending stored (latest_cases k t.ledger.frontier (not_durable t.ledger) (latest_durable t.ledger k)))
+    where
+      pending : IsLastOf k t.ledger.frontier (not_durable t.ledger)
+          (latest_in k t.ledger.frontier (not_durable t.ledger) (latest_durable t.ledger k)) →
+          IsLookedAt (look_of c k) (ledger.looked_at t.ledger
+          (latest_in k t.ledger.frontier (not_durable t.ledger) (latest_durable t.ledger k)))
+      pending l =
+          let r = last_kept t.ledger.standing t.ledger.frontier c.groups
+          (not_durable t.ledger) h.kept.ledger_kept.groups k
+          (latest_in k t.ledger.frontier (not_durable t.ledger) (latest_durable t.ledger k)) l in
+          subst (λ o. IsLookedAt (look_of c k) (ledger.looked_at t.ledger o)) (sym l.is)
+          (in_slot t.ledger l.name (last_of k c.groups)
+          (stored_of c k) c.frontier l.at r.0 h.kept.ledger_kept.frontier l.number r.1)
+
+      stored : (latest_in k t.ledger.frontier (not_durable t.ledger)
+          (latest_durable t.ledger k) ≡ latest_durable t.ledger k)
+          × NoneOf k (not_durable t.ledger) →
+          IsLookedAt (look_of c k) (ledger.looked_at t.ledger
+          (latest_in k t.ledger.frontier (not_durable t.ledger) (latest_durable t.ledger k)))
+      stored r =
+          subst (λ o. IsLookedAt (look_of c k) (ledger.looked_at t.ledger o)) (sym r.0)
+          (subst (λ o. IsLookedAt (looked_at o (stored_of c k) c.frontier)
+          (ledger.looked_at t.ledger (latest_durable t.ledger k)))
+          (sym (none_kept t.ledger.standing t.ledger.frontier c.groups
+          (not_durable t.ledger) h.kept.ledger_kept.groups k r.1))
+          (on_page t.ledger (stored_of c k) (latest_durable t.ledger k) c.frontier
+          (h.kept.ledger_kept.places k (subst (λ (n : Numbers). IsKey (shape_of_numbers n) k) (sym h.kept.numbers) is)
+          kind)
+          (λ name e. durable_within t k name c.mended h.valid h.kept.work.mending is e)))

@@ -1,0 +1,99 @@
+-- What is looked up of a key is of the key: the page of a group that has it, in its slot or where it stands.
+use Rattle.std.proofs.Common.{◌≡◌, ℕ, ◌<◌, ◌≤◌, Bool, true, false, length, Option, Some, None, refl, sym, ◌∙◌, subst}
+use Rattle.std.proofs.Common.{⊎_elim, arith}
+use Rattle.std.specs.Prelude.{nat_lt}
+use Rattle.std.proofs.lemmas.Bool.Decides.{nat_tests}
+use Rattle.ufs_spec.specs.Ledger.{InSlot, Name, entry_of, latest, latest_durable, look, looked_at, looked_on}
+use Rattle.ufs_spec.specs.Translation.{Translation}
+use Rattle.ufs_spec.specs.declared.flash.Key.{Key}
+use Rattle.ufs_spec.specs.declared.flash.Place.{Place}
+use Rattle.power_loss.specs.Book.{FirstRight, HasKey, book}
+use Rattle.power_loss.specs.Invariant.{MendingRight, Valid}
+use Rattle.power_loss.proofs.books.PagesByName.{some_is, written_more}
+use Rattle.power_loss.proofs.books.LastOfEachKey.{IsLastOf, NoneOf, latest_cases}
+use Rattle.power_loss.proofs.kept_pages.LookedUpPages.{AreRewritten, last_page, latest_is_durable, latest_right}
+use Rattle.power_loss.proofs.books.SmallFacts.{if_false, if_true, two_ways}
+use Rattle.ftl_core.specs.Describes.{IsLookOf, IsNameOf, mending_kept}
+
+-- What is lost is written again
+
+-- so it is in a mended device, and where the first mark has no fence
+rewritten_by : (t : Translation) (mended : Bool) → MendingRight (book t) t.disk t.ledger t.work.plan t.work.step
+    (mending_kept mended) → AreRewritten t
+rewritten_by t true m = λ n i e lost old.
+    written_more (book t) e.item.key m.mark.records t.ledger.frontier m.right.within (m.more.repaired n i e lost old)
+rewritten_by t false m = λ n i e lost old. let f = m.fence_right.1 in let a = lost.from in let z = lost.to in absurd
+    (omega arith)
+
+rewritten : (t : Translation) (mended : Bool) → Valid t → t.work.mending ≡ mending_kept mended → AreRewritten t
+rewritten t mended v e = rewritten_by t mended
+    (subst (MendingRight (book t) t.disk t.ledger t.work.plan t.work.step) e v.mending)
+
+-- What is looked up
+
+pub lt_told : (m n : ℕ) → nat_lt m n ≡ true → m < n
+lt_told m n h = grind (arith, nat_tests)
+
+pub lt_not : (m n : ℕ) → nat_lt m n ≡ false → n ≤ m
+lt_not m n h = grind (arith, nat_tests)
+
+-- behind the frontier it is a page of a group
+behind_there : (t : Translation) (k : Key) (name : Name) → Valid t → HasKey (book t) k → latest t.ledger k ≡ Some name →
+    t.ledger.frontier < name.number → IsNameOf (entry_of t.ledger) k name
+behind_there t k name v has e behind =
+    ⊎_elim
+    (λ (l : IsLastOf k t.ledger.greatest_seen t.ledger.groups (latest t.ledger k)). (
+      record { item = l.item; size = length l.group },
+      subst (λ (z : Name). entry_of t.ledger z ≡ Some (record { item = l.item; size = length l.group }))
+          (some_is l.name name (sym l.is ∙ e))
+          (last_page (book t) k t.ledger.groups (latest t.ledger k) l l.there),
+      l.key,
+    ))
+    (λ (r : (latest t.ledger k ≡ t.ledger.first_page k) × NoneOf k t.ledger.groups).
+    let first = subst (FirstRight (book t) k) (sym r.0 ∙ e) (v.book_right.first_page k has) in
+    let w = v.book_right.old_within name.number name.index first.0 first.1 in
+    let a = v.frontier.above in
+    absurd (omega arith))
+    (latest_cases k t.ledger.greatest_seen t.ledger.groups (t.ledger.first_page k))
+
+look_there : (t : Translation) (k : Key) (o : Option Name) → Valid t → AreRewritten t → HasKey (book t) k →
+    latest t.ledger k ≡ o →
+    IsLookOf t.ledger.frontier (entry_of t.ledger) k (looked_at t.ledger o)
+look_there t k None v s has e = tt
+look_there t k (Some name) v s has e = ⊎_elim behind durable (two_ways (nat_lt t.ledger.frontier name.number))
+  where
+    behind : nat_lt t.ledger.frontier name.number ≡ true →
+        IsLookOf t.ledger.frontier (entry_of t.ledger) k (looked_at t.ledger (Some name))
+    behind h =
+        let l = lt_told t.ledger.frontier name.number h in
+        subst (IsLookOf t.ledger.frontier (entry_of t.ledger) k)
+        (sym (if_true (nat_lt t.ledger.frontier name.number) (InSlot name)
+        (looked_on name (t.ledger.standing name.number name.index)) h))
+        (l, behind_there t k name v has e l)
+
+    durable : nat_lt t.ledger.frontier name.number ≡ false →
+        IsLookOf t.ledger.frontier (entry_of t.ledger) k (looked_at t.ledger (Some name))
+    durable h =
+        subst (IsLookOf t.ledger.frontier (entry_of t.ledger) k)
+        (sym (if_false (nat_lt t.ledger.frontier name.number) (InSlot name)
+        (looked_on name (t.ledger.standing name.number name.index)) h))
+        (stands (t.ledger.standing name.number name.index))
+      where
+        stands : (at : Option Place) → IsLookOf t.ledger.frontier (entry_of t.ledger) k (looked_on name at)
+        stands None = tt
+        stands (Some p) =
+            let l = latest_right t k name v s has
+            (latest_is_durable t k name v e (lt_not t.ledger.frontier name.number h)) in
+            (l.entry, l.is, l.key)
+
+-- the page of a key at the frontier has a number at or under it
+pub durable_within : (t : Translation) (k : Key) (name : Name) (mended : Bool) → Valid t →
+    t.work.mending ≡ mending_kept mended → HasKey (book t) k → latest_durable t.ledger k ≡ Some name →
+    name.number ≤ t.ledger.frontier
+durable_within t k name mended v m has e = (latest_right t k name v (rewritten t mended v m) has e).within
+
+-- what is looked up of a key of the device is of the key
+pub looked_there : (t : Translation) (k : Key) (mended : Bool) → Valid t → t.work.mending ≡ mending_kept mended →
+    HasKey (book t) k →
+    IsLookOf t.ledger.frontier (entry_of t.ledger) k (look t.ledger k)
+looked_there t k mended v e has = look_there t k (latest t.ledger k) v (rewritten t mended v e) has refl

@@ -1,0 +1,101 @@
+-- What is looked up, and a group that is accepted.
+use Rattle.std.proofs.Common.{◌≡◌, ◌∙◌, ℕ, ◌+◌, ◌≤◌, true, List, [], ◌∷◌, ◌++◌, None, refl, ap, le-leb}
+use Rattle.std.specs.Prelude.{◌-◌}
+use Rattle.ufs_spec.specs.Keys.{IsKey}
+use Rattle.ufs_spec.specs.Ledger as ledger
+use Rattle.ufs_spec.specs.Ledger.{look, entry_of}
+use Rattle.ufs_spec.specs.Moves.{Accept, IsAllowedMove, Keep, moved}
+use Rattle.ufs_spec.specs.Plain.{shape_of_numbers}
+use Rattle.ufs_spec.specs.Translation.{Translation, rests_of}
+use Rattle.ufs_spec.specs.declared.flash.Key.{Key}
+use Rattle.power_loss.proofs.moves.MovesKeepValid.{all_keep}
+use Rattle.ftl_core.specs.declared.books.Looked.{Looked}
+use Rattle.ftl_core.specs.Core.{Core}
+use Rattle.ftl_core.specs.Describes.{Describes, IsLookedAt, is_reading}
+use Rattle.ftl_core.specs.Moves.{accepted, look_of, next_number, pin_of, with_pin}
+use Rattle.ftl_core.proofs.look_and_accept.LookedGroups.{groups_left, looks}
+use Rattle.ftl_core.proofs.look_and_accept.LookedPages.{looked_there}
+use Rattle.ftl_core.proofs.look_and_accept.MoreGroups.{ledger_more, pins_kept_more}
+use Rattle.ftl_core.proofs.pins.MorePins.{differ_by, any_among}
+use Rattle.ftl_core.specs.declared.books.Pin.{Pin}
+use Rattle.ftl_core.proofs.pins.PinsAlike.{pins_more}
+
+-- Looking
+
+pub looks_right : (c : Core) (t : Translation) (k : Key) → Describes c t → IsKey (shape_of_numbers t.numbers) k →
+    k.kind ≡ 1 →
+    IsLookedAt (look_of c k) (look t.ledger k)
+looks_right c t k h is kind = looks c t h k is kind
+
+-- A pin
+
+pub pins_right : (c : Core) (t : Translation) (k : Key) (reader : ℕ) (looked : Looked) → Describes c t →
+    IsKey (shape_of_numbers t.numbers) k → IsLookedAt looked (look t.ledger k) → pin_of c reader ≡ None →
+    Describes (with_pin c (record { reader = reader; key = k; looked = looked; wanted = true }))
+    (moved t (Keep k (record { tag = reader; index = 0; looked = look t.ledger k; wanted = true })))
+pins_right c t k reader looked h is at none = record {
+  valid = all_keep t (Keep k (record { tag = reader; index = 0; looked = look t.ledger k; wanted = true })) h.valid
+      (is, refl);
+  kept = record {
+    numbers = h.kept.numbers;
+    blocks = h.kept.blocks;
+    dies = h.kept.dies;
+    fly = h.kept.fly;
+    ledger_kept = h.kept.ledger_kept;
+    work = h.kept.work;
+    claims = h.kept.claims;
+    pins = pins_more t.ledger.frontier (entry_of t.ledger) c.pins t.pins new
+        (record { tag = reader; index = 0; looked = look t.ledger k; wanted = true })
+        h.kept.pins
+        (record {
+          tag = refl;
+          first = refl;
+          looked_at = at;
+          there = looked_there t k c.mended h.valid h.kept.work.mending is;
+          wanted = refl;
+        });
+    differ = differ_by c new h.kept.differ none;
+    reads = λ die tag index place e. any_among (is_reading tag place) c.pins new (h.kept.reads die tag index place e);
+  };
+}
+  where
+    new : Pin
+    new = record { reader = reader; key = k; looked = looked; wanted = true }
+
+-- A group
+
+-- a block of a unit is not had in part
+none_in_part : (t : Translation) (k : Key) (body : List ℕ) → k.kind ≡ 1 →
+    rests_of t (record { key = k; body = body } ∷ []) ≡ []
+none_in_part t k body kind = rw kind refl
+
+pub accepts_right : (c : Core) (t : Translation) (k : Key) (body : List ℕ) → Describes c t → k.kind ≡ 1 → k.unit ≤ 7 →
+    IsAllowedMove t (Accept 1 (record { key = k; body = body } ∷ [])) →
+    Describes (accepted c k body) (moved t (Accept 1 (record { key = k; body = body } ∷ [])))
+accepts_right c t k body h kind unit may = record {
+  valid = all_keep t (Accept 1 (record { key = k; body = body } ∷ [])) h.valid may;
+  kept = record {
+    numbers = h.kept.numbers;
+    blocks = h.kept.blocks;
+    dies = h.kept.dies;
+    fly = h.kept.fly;
+    ledger_kept = ledger_more c t k body h (rw kind (le-leb k.unit 7 unit));
+    work = record {
+      mending = h.kept.work.mending;
+      step = h.kept.work.step;
+      no_plan = h.kept.work.no_plan;
+      no_rests = ap (λ rests. rests ++ rests_of t (record { key = k; body = body } ∷ [])) h.kept.work.no_rests
+          ∙ none_in_part t k body kind;
+      next_mark = h.kept.work.next_mark;
+    };
+    claims = ap (λ n. n - 1) h.kept.claims;
+    pins = pins_kept_more t (record { key = k; body = body } ∷ []) c.pins t.pins h.kept.pins;
+    differ = h.kept.differ;
+    reads = h.kept.reads;
+  };
+}
+
+-- Numbers
+
+pub numbers_right : (c : Core) (t : Translation) → Describes c t → next_number c ≡ ledger.next_number t.ledger
+numbers_right c t h = ap (λ n. n + 1) (groups_left c t h)

@@ -1,0 +1,3 @@
+pub mod ListParts
+pub mod OpensNew
+pub mod Spots

@@ -1,0 +1,91 @@
+-- What readers keep is what tasks keep, pin by pin.
+use Rattle.std.proofs.Common.{◌≡◌, ◌∙◌, ℕ, zero, suc, Bool, true, false, List, [], ◌∷◌, ◌++◌, Option, Some, refl, sym}
+use Rattle.std.proofs.Common.{ap, subst}
+use Rattle.std.specs.Prelude.{◌||◌, map, slice_get}
+use Rattle.std.specs.List.{list_any}
+use Rattle.ufs_spec.specs.Disk.{Spot, same_spot, spot_of}
+use Rattle.ufs_spec.specs.Ledger as ledger
+use Rattle.ufs_spec.specs.Ledger.{Entry, InSlot, Name, OnPage, Unwritten}
+use Rattle.ufs_spec.specs.Translation as layer
+use Rattle.ufs_spec.specs.Translation.{Translation}
+use Rattle.power_loss.proofs.books.PagesByName.{none_some, some_is}
+use Rattle.ftl_core.specs.declared.books.Looked.{Looked}
+use Rattle.ftl_core.specs.declared.books.Looked.TheVariants as looked
+use Rattle.ftl_core.specs.declared.books.Pin.{Pin}
+use Rattle.ftl_core.specs.declared.books.Stored.{Stored}
+use Rattle.ftl_core.specs.Describes.{IsLookedAt, PinKept, PinsKept}
+use Rattle.ftl_core.specs.Moves.{keeps, keeps_page}
+
+-- the pins of a list stand for those of another, each for its own; what is shown of each holds of all
+pub pins_mapped : (frontier after : ℕ) (entries now : Name → Option Entry) (f : Pin → Pin) (g : layer.Pin → layer.Pin)
+    (ps : List Pin) (qs : List layer.Pin) →
+    ((p : Pin) (q : layer.Pin) → PinKept frontier entries p q → PinKept after now (f p) (g q)) →
+    PinsKept frontier entries ps qs → PinsKept after now (map f ps) (map g qs)
+pins_mapped frontier after entries now f g [] [] each h = tt
+pins_mapped frontier after entries now f g [] (q ∷ qs) each h = absurd h
+pins_mapped frontier after entries now f g (p ∷ ps) [] each h = absurd h
+pins_mapped frontier after entries now f g (p ∷ ps) (q ∷ qs) each h =
+    (each p q h.0, pins_mapped frontier after entries now f g ps qs each h.1)
+
+-- the pin that stands for the one at a position
+pub pins_at : (frontier : ℕ) (entries : Name → Option Entry) (ps : List Pin) (qs : List layer.Pin) (k : ℕ) (p : Pin) →
+    PinsKept frontier entries ps qs → slice_get ps k ≡ Some p →
+    (q : layer.Pin) × (slice_get qs k ≡ Some q) × PinKept frontier entries p q
+pins_at frontier entries [] qs k p kept h = absurd (none_some p h)
+pins_at frontier entries (x ∷ xs) [] k p kept h = absurd kept
+pins_at frontier entries (x ∷ xs) (y ∷ ys) zero p kept h =
+    (y, refl, subst (λ z. PinKept frontier entries z y) (some_is x p h) kept.0)
+pins_at frontier entries (x ∷ xs) (y ∷ ys) (suc k) p kept h = pins_at frontier entries xs ys k p kept.1 h
+
+-- one pin more
+pub pins_more : (frontier : ℕ) (entries : Name → Option Entry) (ps : List Pin) (qs : List layer.Pin) (p : Pin)
+    (q : layer.Pin) →
+    PinsKept frontier entries ps qs → PinKept frontier entries p q →
+    PinsKept frontier entries (ps ++ p ∷ []) (qs ++ q ∷ [])
+pins_more frontier entries [] [] p q r s = (s, tt)
+pins_more frontier entries [] (y ∷ qs) p q r s = absurd r
+pins_more frontier entries (x ∷ ps) [] p q r s = absurd r
+pins_more frontier entries (x ∷ ps) (y ∷ qs) p q r s = (r.0, pins_more frontier entries ps qs p q r.1 s)
+
+-- What was looked up
+
+-- what was looked up is a page on both sides
+pub page_alike : (s : Stored) (q : ledger.Looked) → IsLookedAt (looked.Page s) q →
+    (name : Name) × (q ≡ OnPage name s.place) × (name.number ≡ s.number)
+page_alike s Unwritten h = absurd h
+page_alike s (InSlot name) h = absurd h
+page_alike s (OnPage name place) h = (name, ap (OnPage name) h.1, h.0)
+
+looks_alike : (s : Spot) (kept : Looked) (q : ledger.Looked) → IsLookedAt kept q →
+    keeps_page s.die s.block kept ≡ layer.looks_into s q
+looks_alike s looked.Nothing Unwritten is = refl
+looks_alike s (looked.Slot n) (InSlot name) is = refl
+looks_alike s (looked.Page p) (OnPage name place) is = ap (λ z. same_spot (spot_of z) s) (sym is.1)
+looks_alike s kept q is = absurd is
+
+-- a reader keeps a page of the block where a task does
+pinned_alike : (frontier : ℕ) (entries : Name → Option Entry) (s : Spot) (ps : List Pin) (qs : List layer.Pin) →
+    PinsKept frontier entries ps qs →
+    list_any (keeps s.die s.block) ps ≡ list_any (λ (pin : layer.Pin). layer.looks_into s pin.looked) qs
+pinned_alike frontier entries s [] [] k = refl
+pinned_alike frontier entries s [] (q ∷ qs) k = absurd k
+pinned_alike frontier entries s (p ∷ ps) [] k = absurd k
+pinned_alike frontier entries s (p ∷ ps) (q ∷ qs) k =
+    λ i. looks_alike s p.looked q.looked k.0.looked_at i || pinned_alike frontier entries s ps qs k.1 i
+
+-- where no rest of a page is to be read, tasks alone keep pages
+tasks_keep : (t : Translation) (s : Spot) → t.work.rests ≡ [] →
+    list_any (λ (pin : layer.Pin). layer.looks_into s pin.looked) t.pins ≡ layer.is_pinned t s
+tasks_keep t s none =
+    sym (or_nothing (list_any (λ (pin : layer.Pin). layer.looks_into s pin.looked) t.pins))
+    ∙ ap (λ (rests : List layer.Rest). list_any (λ (pin : layer.Pin). layer.looks_into s pin.looked) t.pins
+    || list_any (λ (rest : layer.Rest). layer.reads_from s rest.source) rests) (sym none)
+  where
+    or_nothing : (b : Bool) → (b || false) ≡ b
+    or_nothing true = refl
+    or_nothing false = refl
+
+pub pinned_as : (frontier : ℕ) (entries : Name → Option Entry) (t : Translation) (s : Spot) (ps : List Pin) →
+    t.work.rests ≡ [] →
+    PinsKept frontier entries ps t.pins → list_any (keeps s.die s.block) ps ≡ layer.is_pinned t s
+pinned_as frontier entries t s ps none h = pinned_alike frontier entries s ps t.pins h ∙ tasks_keep t s none

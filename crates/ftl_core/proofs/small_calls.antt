@@ -1,0 +1,3 @@
+pub mod CallsDescribed
+pub mod Carried
+pub mod SmallCalls

@@ -1,0 +1,191 @@
+-- What the smaller calls tell and make of the layer that is specified.
+use Rattle.std.proofs.Common.{◌≡◌, ◌∙◌, ℕ, suc, ◌+◌, ◌<◌, ◌≤◌, ◌&&◌, ◌||◌, ◌==◌, Bool, true, false, List, [], ◌∷◌}
+use Rattle.std.proofs.Common.{Option, Some, None, length, map, refl, sym, ap, subst, arith}
+use Rattle.std.specs.Prelude.{◌^◌, if◌then◌else◌, find, nat_lt, nat_le, option_and_then, option_map, position}
+use Rattle.std.specs.Prelude.{slice_get, IfOk, Result, Ok, Err}
+use Rattle.std.specs.List.{list_any}
+use Rattle.std.proofs.lemmas.Bool.Decides.{nat_tests}
+use Rattle.ufs_spec.specs.Cells.{Cells, Nothing}
+use Rattle.ufs_spec.specs.Disk.{Spot}
+use Rattle.ufs_spec.specs.Ledger as ledger
+use Rattle.ufs_spec.specs.Ledger.{Entry, Name, before_accepted, entry_of, look}
+use Rattle.ufs_spec.specs.Keys.{IsKey}
+use Rattle.ufs_spec.specs.Moves as move
+use Rattle.ufs_spec.specs.Moves.{Acknowledge, Claim, Keep, LetGo, WantPage, moved}
+use Rattle.ufs_spec.specs.Openings.{IsOpenedTranslation}
+use Rattle.ufs_spec.specs.Plain.{shape_of_numbers}
+use Rattle.ufs_spec.specs.Translation as layer
+use Rattle.ufs_spec.specs.Translation.{Translation, spots}
+use Rattle.ufs_spec.specs.declared.configs.Numbers.{Numbers}
+use Rattle.ufs_spec.specs.declared.configs.UnitSpec.{UnitSpec}
+use Rattle.ufs_spec.specs.declared.flash.Key.{Key}
+use Rattle.ufs_spec.specs.declared.flash.Place.{Place}
+use Rattle.power_loss.proofs.moves.MovesKeepValid.{all_keep}
+use Rattle.ftl_core.specs.declared.books.Looked.{Looked}
+use Rattle.ftl_core.specs.declared.books.Pin.{Pin}
+use Rattle.ftl_core.specs.Core.{Core}
+use Rattle.ftl_core.specs.Describes.{Describes, IsLookedAt, PinsKept}
+use Rattle.ftl_core.specs.Moves.{blocks_of, can_accept, free_slots, fresh, has_number, is_pin_of, looked_by, unpinned}
+use Rattle.ftl_core.specs.Moves.{with_pin}
+use Rattle.ftl_core.specs.Tells.{IsPinned, blocks_of_unit, keeps_for}
+use Rattle.ftl_core.proofs.look_and_accept.Looks.{numbers_right, pins_right}
+use Rattle.ftl_core.proofs.new_dies.OpensNew.{opens_right}
+use Rattle.ufs_spec.proofs.Lists.{position_behind, position_here, position_none, find_here, find_behind}
+use Rattle.ftl_core.proofs.small_calls.SmallCalls.{claims_right, lets_go_right, slots_right, wants_no_more}
+
+-- The opening, and the units
+
+pub opens_described : {E : Type 0} (n : Numbers) (bads : List Bool) (opened : Result Core E) →
+    IfOk opened (λ (c : Core). c ≡ fresh n bads) →
+    IfOk opened (λ (c : Core). (cells : Cells) (is_bad : Spot → Bool) (t : Translation) →
+    1 ≤ n.pages → ((p : Place) → cells p ≡ Nothing) → bads ≡ map is_bad (spots n) →
+    IsOpenedTranslation n cells is_bad t → Describes c t)
+opens_described n bads (Ok c) is =
+    λ cells is_bad t pages blank listed opened.
+    subst (λ (x : Core). Describes x t) (sym (is ∙ ap (fresh n) listed))
+    (opens_right n cells is_bad t pages blank opened)
+opens_described n bads (Err e) is = tt
+
+pub units_right : (c : Core) (t : Translation) (unit : ℕ) → Describes c t → blocks_of c unit ≡ blocks_of_unit t unit
+units_right c t unit h i = option_map (λ (u : UnitSpec). u.blocks) (slice_get (h.kept.numbers i).units.items unit)
+
+-- Claims
+
+pub room_right : (c : Core) (t : Translation) → Describes c t → nat_lt 0 (free_slots c) ≡ nat_lt 0 (layer.free_slots t)
+room_right c t h = ap (nat_lt 0) (slots_right c t h)
+
+-- a slot is claimed where one is free
+pub claims_described : (c after : Core) (t : Translation) (free : Bool) → free ≡ nat_lt 0 (free_slots c) →
+    after ≡ (if free then record c { claimed = c.claimed + 1 } else c) → Describes c t →
+    Describes after (if free then moved t (Claim 1) else t)
+claims_described c after t true is new h =
+    subst (λ (x : Core). Describes x (moved t (Claim 1))) (sym new) (claims_right c t h (sym is))
+claims_described c after t false is new h = subst (λ (x : Core). Describes x t) (sym new) h
+
+-- What readers keep
+
+same_pins : (frontier : ℕ) (entries : Name → Option Entry) (reader : ℕ)
+    (ps : List Pin) (qs : List layer.Pin) → PinsKept frontier entries ps qs →
+    (length ps ≡ length qs) × (list_any (is_pin_of reader) ps ≡ list_any (keeps_for reader) qs)
+same_pins frontier entries reader [] [] h = (refl, refl)
+same_pins frontier entries reader [] (q ∷ qs) h = absurd h
+same_pins frontier entries reader (p ∷ ps) [] h = absurd h
+same_pins frontier entries reader (p ∷ ps) (q ∷ qs) h =
+    let rest = same_pins frontier entries reader ps qs h.1 in
+    (ap (λ (n : ℕ). suc n) rest.0, λ i. (sym h.0.tag i == reader) || rest.1 i)
+
+pub pins_room : (c : Core) (t : Translation) → Describes c t → nat_lt (length c.pins) 32 ≡ nat_lt (length t.pins) 32
+pins_room c t h =
+    ap (λ (n : ℕ). nat_lt n 32)
+    (same_pins t.ledger.frontier (entry_of t.ledger) 0 c.pins t.pins h.kept.pins).0
+
+-- a reader who keeps nothing keeps what it looked up, where there is room
+pub pins_described : (c after : Core) (t : Translation) (k : Key) (reader : ℕ) (looked : Looked) (room : Bool) →
+    after ≡ (if room then with_pin c (record { reader = reader; key = k; looked = looked; wanted = true }) else c) →
+    Describes c t → IsKey (shape_of_numbers t.numbers) k → IsLookedAt looked (look t.ledger k) →
+    list_any (keeps_for reader) t.pins ≡ false →
+    Describes after
+    (if room then moved t (Keep k (record { tag = reader; index = 0; looked = look t.ledger k; wanted = true })) else t)
+pins_described c after t k reader looked true new h is at none =
+    subst
+    (λ (x : Core). Describes x
+    (moved t (Keep k (record { tag = reader; index = 0; looked = look t.ledger k; wanted = true }))))
+    (sym new)
+    (pins_right c t k reader looked h is at
+    (ap (option_and_then (slice_get c.pins)) (position_none (is_pin_of reader) c.pins nobody)))
+  where
+    nobody : list_any (is_pin_of reader) c.pins ≡ false
+    nobody = (same_pins t.ledger.frontier (entry_of t.ledger) reader c.pins t.pins h.kept.pins).1 ∙ none
+pins_described c after t k reader looked false new h is at none = subst (λ (x : Core). Describes x t) (sym new) h
+
+-- what a reader keeps is what its first pin looks at
+pinned_in : (frontier : ℕ) (entries : Name → Option Entry) (reader : ℕ)
+    (ps : List Pin) (qs : List layer.Pin) → PinsKept frontier entries ps qs →
+    IsPinned (looked_by reader ps) (find (move.is_pin_of reader 0) qs)
+pinned_in frontier entries reader [] [] h = tt
+pinned_in frontier entries reader [] (q ∷ qs) h = absurd h
+pinned_in frontier entries reader (p ∷ ps) [] h = absurd h
+pinned_in frontier entries reader (p ∷ ps) (q ∷ qs) h =
+    by (is_pin_of reader p) refl (pinned_in frontier entries reader ps qs h.1)
+  where
+    -- each pin is of its reader's first block
+    same : move.is_pin_of reader 0 q ≡ is_pin_of reader p
+    same = (λ i. (h.0.tag i == reader) && (h.0.first i == 0)) ∙ whole (is_pin_of reader p)
+      where
+        whole : (b : Bool) → (b && true) ≡ b
+        whole true = refl
+        whole false = refl
+
+    kept : List Pin → Option ℕ → Option Looked
+    kept xs at = option_map (λ (x : Pin). x.looked) (option_and_then (slice_get xs) at)
+
+    behind : (at : Option ℕ) → kept (p ∷ ps) (option_map suc at) ≡ kept ps at
+    behind None = refl
+    behind (Some k) = refl
+
+    by : (b : Bool) → is_pin_of reader p ≡ b →
+        IsPinned (kept ps (position (is_pin_of reader) ps)) (find (move.is_pin_of reader 0) qs) →
+        IsPinned (kept (p ∷ ps) (position (is_pin_of reader) (p ∷ ps))) (find (move.is_pin_of reader 0) (q ∷ qs))
+    by true e rest =
+        subst (λ (x : Option layer.Pin). IsPinned (kept (p ∷ ps) (position (is_pin_of reader) (p ∷ ps))) x)
+        (sym (find_here (move.is_pin_of reader 0) q qs (same ∙ e)))
+        (subst (λ (x : Option ℕ). IsPinned (kept (p ∷ ps) x) (Some q))
+        (sym (position_here (is_pin_of reader) p ps e)) h.0.looked_at)
+    by false e rest =
+        subst (λ (x : Option layer.Pin). IsPinned (kept (p ∷ ps) (position (is_pin_of reader) (p ∷ ps))) x)
+        (sym (find_behind (move.is_pin_of reader 0) q qs (same ∙ e)))
+        (subst (λ (x : Option Looked). IsPinned x (find (move.is_pin_of reader 0) qs))
+        (sym (ap (kept (p ∷ ps)) (position_behind (is_pin_of reader) p ps e) ∙ behind (position (is_pin_of reader) ps)))
+        rest)
+
+pub pinned_right : (c : Core) (t : Translation) (reader : ℕ) → Describes c t →
+    IsPinned (looked_by reader c.pins) (find (move.is_pin_of reader 0) t.pins)
+pinned_right c t reader h = pinned_in t.ledger.frontier (entry_of t.ledger) reader c.pins t.pins h.kept.pins
+
+-- a reader lets its one block go, and can want no other
+pub lets_go_next : (c : Core) (t : Translation) (reader next : ℕ) → Describes c t → 0 < next →
+    Describes (unpinned c reader) (moved (moved t (LetGo reader 0)) (WantPage reader next))
+lets_go_next c t reader next h above =
+    let gone = lets_go_right c t reader h in
+    let same = wants_no_more (unpinned c reader) (moved t (LetGo reader 0)) reader next gone above in
+    subst (Describes (unpinned c reader)) (sym same) gone
+
+-- Groups
+
+-- a group may be accepted where a slot is claimed and a number is left
+pub accepts_where : (c : Core) (t : Translation) → Describes c t →
+    can_accept c ≡ (nat_lt 0 t.claims && layer.has_number t)
+accepts_where c t h = (λ i. nat_lt 0 (h.kept.claims i) && left i)
+  where
+    tests : (a b most : ℕ) → a + 1 ≡ b → nat_lt a most ≡ nat_le b most
+    tests a b most e = grind (arith, nat_tests)
+
+    left : has_number c ≡ layer.has_number t
+    left = tests (c.frontier + length c.groups) (ledger.next_number t.ledger) (2 ^ 62) (numbers_right c t h)
+
+-- What is acknowledged
+
+-- commands that are durable may be acknowledged, and nothing that is kept changes
+pub acknowledges_right : (c : Core) (t : Translation) (count : ℕ) → Describes c t →
+    before_accepted t.ledger + count ≤ t.ledger.frontier → Describes c (moved t (Acknowledge count))
+acknowledges_right c t count h allowed = record {
+  valid = all_keep t (Acknowledge count) h.valid allowed;
+  kept = record {
+    numbers = h.kept.numbers;
+    blocks = h.kept.blocks;
+    dies = h.kept.dies;
+    fly = h.kept.fly;
+    ledger_kept = record {
+      frontier = h.kept.ledger_kept.frontier;
+      repairs = h.kept.ledger_kept.repairs;
+      groups = h.kept.ledger_kept.groups;
+      addresses = h.kept.ledger_kept.addresses;
+      places = h.kept.ledger_kept.places;
+    };
+    work = h.kept.work;
+    claims = h.kept.claims;
+    pins = h.kept.pins;
+    differ = h.kept.differ;
+    reads = h.kept.reads;
+  };
+}

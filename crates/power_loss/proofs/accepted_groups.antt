@@ -1,0 +1,3 @@
+pub mod AcceptedGroup
+pub mod ClaimedSlots
+pub mod RestsOfGroups

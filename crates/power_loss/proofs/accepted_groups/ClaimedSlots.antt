@@ -1,0 +1,53 @@
+-- Pages that are accepted and not durable, and claims, have a slot each.
+use Rattle.std.proofs.Common.{◌≡◌, ℕ, zero, suc, ◌+◌, ◌-◌, ◌≤◌, List, [], ◌∷◌, ◌++◌, drop, length, length-drop, sum_by}
+use Rattle.std.proofs.Common.{ap, ◌∙◌, arith}
+use Rattle.std.proofs.lemmas.List.{drop-append-le}
+use Rattle.std.proofs.lemmas.List.Sums.{sum_by-cons, sum_by_push}
+use Rattle.ufs_spec.specs.Keys.{Group}
+use Rattle.ufs_spec.specs.Ledger.{Ledger, accepted_groups, before_accepted}
+use Rattle.ufs_spec.specs.Translation.{Translation, pending_pages}
+use Rattle.power_loss.specs.Invariant.{SlotsRight, Valid}
+
+abbrev pub pages_of : List Group → ℕ
+pages_of gs = sum_by length gs
+
+-- behind more of the groups are no more pages
+pub fewer_pages : (gs : List Group) (a b : ℕ) → a ≤ b → pages_of (drop b gs) ≤ pages_of (drop a gs)
+fewer_pages [] zero zero l = omega arith
+fewer_pages [] zero (suc b) l = omega arith
+fewer_pages [] (suc a) zero l = absurd (omega arith)
+fewer_pages [] (suc a) (suc b) l = omega arith
+fewer_pages (g ∷ gs) zero zero l = omega arith
+fewer_pages (g ∷ gs) zero (suc b) l = let all = sum_by-cons length g gs in
+    let few = fewer_pages gs zero b (omega arith) in omega (arith, all, few)
+fewer_pages (g ∷ gs) (suc a) zero l = absurd (omega arith)
+fewer_pages (g ∷ gs) (suc a) (suc b) l = fewer_pages gs a b (omega arith)
+
+-- a group more has its pages
+pub more_pages : (l : Ledger) (g : Group) → l.repairs ≤ length l.groups →
+    l.frontier ≤ l.greatest_seen + length l.groups →
+    pending_pages (record l { groups = l.groups ++ g ∷ [] }) ≡ pending_pages l + length g
+more_pages l g repairs frontier =
+    let left = l.frontier - before_accepted l in
+    let long = length-drop l.repairs l.groups in
+    ap (λ (gs : List Group). pages_of (drop left gs)) (drop-append-le l.repairs l.groups (g ∷ []) repairs)
+    ∙ (ap pages_of (drop-append-le left (accepted_groups l) (g ∷ []) (omega (arith, long, repairs, frontier)))
+    ∙ sum_by_push length (drop left (accepted_groups l)) g)
+
+-- where no group is of a command, none are
+pub no_pages : (gs : List Group) (n : ℕ) → gs ≡ [] → pages_of (drop n gs) ≡ 0
+no_pages gs n e = let few = fewer_pages gs 0 n (omega arith) in let none : pages_of gs ≡ 0 = ap pages_of e in
+    omega (arith, few, none)
+
+-- Claims
+
+pub slots_claimed : (slots pending claims count : ℕ) → count ≤ slots - pending - claims →
+    SlotsRight slots pending claims → SlotsRight slots pending (claims + count)
+slots_claimed slots pending claims count l s = record { within = let w = s.within in omega (arith, l, w) }
+
+pub slots_fewer : (slots pending claims less fewer : ℕ) → less ≤ pending → fewer ≤ claims →
+    SlotsRight slots pending claims → SlotsRight slots less fewer
+slots_fewer slots pending claims less fewer l k s = record { within = let w = s.within in omega (arith, l, k, w) }
+
+pub never_overdrawn : (t : Translation) → Valid t → pending_pages t.ledger + t.claims ≤ t.numbers.slots
+never_overdrawn t v = v.slots.within

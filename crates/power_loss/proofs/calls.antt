@@ -1,0 +1,4 @@
+pub mod CallsKeepTied
+pub mod CallsLeaveTheDevice
+pub mod RightChanges
+pub mod TiesToDies

@@ -1,0 +1,3 @@
+pub mod FewestLivePages
+pub mod LivePages
+pub mod VictimPages

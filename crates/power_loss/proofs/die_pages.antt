@@ -1,0 +1,4 @@
+pub mod BlankOutsideDies
+pub mod LeftoversLeaveOneArray
+pub mod PageRulesHold
+pub mod PagesOfEachCall

@@ -1,0 +1,87 @@
+-- Tasks that a host ends: their claims come back, and what they keep is let go.
+use Rattle.std.proofs.Common.{◌≡◌, ℕ, ◌+◌, ◌≤◌, ◌==◌, Bool, true, false, not, cond, List, [], ◌∷◌, refl, arith}
+use Rattle.std.specs.Prelude.{if◌then◌else◌, filter}
+use Rattle.std.specs.List.{flat_map}
+use Rattle.ufs_spec.specs.Exchanges.{Task, is_task_of}
+use Rattle.ufs_spec.specs.Machine.{abort_moves, is_aborted, managed, registers_behind, service, with_moves}
+use Rattle.ufs_spec.specs.Machine.{without_tasks}
+use Rattle.ufs_spec.specs.Moves.{LetGoAll, Release}
+use Rattle.ufs_spec.specs.Refusals.{State, numbers_of}
+use Rattle.ufs_spec.specs.declared.configs.Numbers.{Numbers}
+use Rattle.power_loss.specs.Exchange.{IsTied, claim_of, claims_of}
+use Rattle.power_loss.proofs.host_commands.OpenedByCommands.{IsFree}
+use Rattle.power_loss.proofs.open_tasks.TaggedLists.{any_fewer}
+use Rattle.power_loss.proofs.open_tasks.TaskLists.{tasks_fewer}
+use Rattle.power_loss.proofs.calls.RightChanges.{Right, right_keeps, right_move}
+use Rattle.ufs_laws.proofs.walk.SmallChanges.{Both, Closes, Moves, One, SetsRegisters, Still}
+
+-- each claim is one of a task that goes or of one that stays
+claims_split : (n : Numbers) (is : Task → Bool) (tasks : List Task) →
+    claims_of n (filter is tasks) + claims_of n (filter (λ task. not (is task)) tasks) ≡ claims_of n tasks
+claims_split n is [] = refl
+claims_split n is (t ∷ ts) = by (is t) (claims_split n is ts)
+  where
+    by : (b : Bool) → claims_of n (filter is ts) + claims_of n (filter (λ task. not (is task)) ts) ≡ claims_of n ts →
+        claims_of n (cond b (t ∷ filter is ts) (filter is ts)) + claims_of n
+        (cond (not b) (t ∷ filter (λ task. not (is task)) ts) (filter (λ task. not (is task)) ts)) ≡ claims_of n
+        (t ∷ ts)
+    by true e = omega arith
+    by false e = omega arith
+
+-- what they claimed comes back, and what they kept is let go
+aborted : (s : State) (n : Numbers) (tasks : List Task) → IsTied s →
+    claims_of (numbers_of s) s.tasks + claims_of n tasks ≤ s.translation.claims →
+    Right s (with_moves s (flat_map (abort_moves n) tasks))
+aborted s n [] v few = Still
+aborted s n (task ∷ tasks) v few =
+    let release : Right s (with_moves s (Release (claim_of n task) ∷ [])) =
+    One (Moves (Release (claim_of n task))) (record {
+      small = tt;
+      layer = omega arith;
+      tasks = record {
+        deeds = v.tasks.deeds;
+        waits = v.tasks.waits;
+        tasks_differ = v.tasks.tasks_differ;
+        shorts_differ = v.tasks.shorts_differ;
+        apart = v.tasks.apart;
+        claimed = omega arith;
+      };
+    }) in
+    let freed = right_keeps release v in
+    let go = right_move (with_moves s (Release (claim_of n task) ∷ [])) (LetGoAll task.tag) freed tt tt (omega arith) in
+    Both release (Both go (aborted (with_moves s (abort_moves n task)) n tasks (right_keeps go freed) (omega arith)))
+
+pub aborts_right : (s : State) (is : Task → Bool) → IsTied s → Right s (without_tasks s is)
+aborts_right s is v =
+    let u : State = record s { tasks = filter (λ (task : Task). not (is task)) s.tasks } in
+    let split = claims_split (numbers_of s) is s.tasks in
+    let claimed = v.tasks.claimed in
+    let gone : Right s u = One (Closes is) (record {
+      small = tt;
+      layer = tt;
+      tasks = tasks_fewer (λ (task : Task). not (is task)) v.tasks;
+    }) in
+    let back = aborted u (numbers_of s) (filter is s.tasks) (right_keeps gone v) (omega arith) in
+    Both gone
+    (Both back
+    (One (SetsRegisters (registers_behind (filter is s.tasks) s.registers))
+    (record { small = tt; layer = tt; tasks = (right_keeps back (right_keeps gone v)).tasks })))
+
+pub managed_right : (s : State) (lun function meant : ℕ) → IsTied s → Right s (managed s lun function meant)
+managed_right s lun function meant v = by (service s lun function meant == 0x00)
+  where
+    by : (b : Bool) → Right s (if b then without_tasks s (is_aborted lun function meant) else s)
+    by true = aborts_right s (is_aborted lun function meant) v
+    by false = Still
+
+-- a tag that is free stays so
+pub managed_free : (s : State) (lun function meant tag : ℕ) → IsFree s tag → IsFree (managed s lun function meant) tag
+managed_free s lun function meant tag free = by (service s lun function meant == 0x00)
+  where
+    by : (b : Bool) → IsFree (if b then without_tasks s (is_aborted lun function meant) else s) tag
+    by true = record {
+      no_task = any_fewer (is_task_of tag) (λ (task : Task). not (is_aborted lun function meant task))
+          s.tasks free.no_task;
+      no_short = free.no_short;
+    }
+    by false = free

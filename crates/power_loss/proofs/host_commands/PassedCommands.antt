@@ -1,0 +1,133 @@
+-- What the table of refusals lets through: the unit of a command, the blocks of it, and a device that is mended.
+use Rattle.std.proofs.Common.{◌≡◌, ℕ, ◌+◌, ◌<◌, ◌≤◌, ◌==◌, ◌&&◌, Bool, true, false, not, List, [], ◌∷◌, Option, Some}
+use Rattle.std.proofs.Common.{None, length, map, get_or, refl, sym, ap, ◌∙◌, subst, arith}
+use Rattle.std.specs.Prelude.{if◌then◌else◌, nat_lt}
+use Rattle.std.specs.List.{AllByRecursion}
+use Rattle.std.proofs.lemmas.List.{get_or-map}
+use Rattle.std.proofs.lemmas.Option.{slice_get-get_or}
+use Rattle.ufs_spec.proofs.Facts.{false≢true, ltb-false, ltb-true, none-some, not-false}
+use Rattle.ufs_spec.specs.Cdbs.{address_of, blocks_of, operation_of, write_10, write_6}
+use Rattle.ufs_spec.specs.Exchanges.{invalid_operation, no_unit}
+use Rattle.ufs_spec.specs.Messages.{is_among}
+use Rattle.ufs_spec.specs.Stages.{taken_luns}
+use Rattle.ufs_spec.specs.Refusals.{BootUnit, DeviceUnit, Line, Lun, ReportLunsUnit, Request, RpmbUnit, State, UnitOf}
+use Rattle.ufs_spec.specs.Refusals.{first_line, is_crowded, is_past, is_too_long, lacks_unit, line, lines_behind}
+use Rattle.ufs_spec.specs.Refusals.{lun_of, mended, needs_mended, not_taken, numbers_of, operation_in, refusal, spec_at}
+use Rattle.ufs_spec.specs.Refusals.{spec_of, takes, unit_in, unit_of_request, well_known}
+use Rattle.ufs_spec.specs.Translation.{is_mended}
+use Rattle.ufs_spec.specs.declared.configs.Numbers.{Numbers}
+use Rattle.ufs_spec.specs.declared.configs.UnitSpec.{UnitSpec}
+use Rattle.ufs_spec.specs.declared.scsi.Cdb.{Cdb}
+
+-- No line of the table applies
+
+all_pass : (ls : List Line) → first_line ls ≡ None → AllByRecursion (λ (l : Line). l.applies ≡ false) ls
+all_pass [] h = tt
+all_pass (l ∷ ls) h = by l.applies refl h (all_pass ls)
+  where
+    by : (b : Bool) → l.applies ≡ b → (if b then Some l.status else first_line ls) ≡ None →
+        (first_line ls ≡ None → AllByRecursion (λ (x : Line). x.applies ≡ false) ls) →
+        (l.applies ≡ false) × AllByRecursion (λ (x : Line). x.applies ≡ false) ls
+    by true e k rest = absurd (none-some l.status (sym k))
+    by false e k rest = (e, rest k)
+
+pub record Passed (s : State) (r : Request) (command : Cdb) : Type 0 where
+  pub unit : lacks_unit s r (lun_of (numbers_of s) r.lun) ≡ false
+  pub taken : not_taken r (lun_of (numbers_of s) r.lun) ≡ false
+  pub not_long : is_too_long (numbers_of s) command ≡ false
+  pub within : is_past command (spec_of s r) ≡ false
+  pub ready : (needs_mended (operation_of command) && not (mended s)) ≡ false
+  pub room : is_crowded s command ≡ false
+
+pub passed : (s : State) (r : Request) (command : Cdb) → r.cdb ≡ Some command → refusal s r ≡ None → Passed s r command
+passed s r command e h =
+    let lun = lun_of (numbers_of s) r.lun in
+    let first = line (lacks_unit s r lun) no_unit in
+    let second = line (not_taken r lun) invalid_operation in
+    let p = all_pass (first ∷ second ∷ lines_behind s r (Some command))
+    (subst (λ (c : Option Cdb). first_line (first ∷ second ∷ lines_behind s r c) ≡ None) e h) in
+    record {
+      unit = p.0;
+      taken = p.1.0;
+      not_long = p.1.1.0;
+      within = p.1.1.1.1.1.0;
+      ready = p.1.1.1.1.1.1.0;
+      room = p.1.1.1.1.1.1.1.1.1.1.0;
+    }
+
+pub ready_now : (s : State) (command : Cdb) → needs_mended (operation_of command) ≡ true →
+    (needs_mended (operation_of command) && not (mended s)) ≡ false → is_mended s.translation.work.mending ≡ true
+ready_now s command needs h =
+    not-false (mended s) (sym (ap (λ b. b && not (mended s)) needs) ∙ h)
+
+-- Units
+
+-- no unit with another byte is an ordinary one
+well_known_none : (byte unit : ℕ) → well_known byte ≡ Some (UnitOf unit) → ⊥
+well_known_none byte unit h = by (byte == 0x81) (byte == 0xB0) (byte == 0xC4) (byte == 0xD0) h
+  where
+    by : (a b c d : Bool) →
+        (if a then Some ReportLunsUnit
+        else if b then Some BootUnit
+        else if c then Some RpmbUnit else if d then Some DeviceUnit else None) ≡ Some (UnitOf unit) → ⊥
+    by true b c d e = cc
+    by false true c d e = cc
+    by false false true d e = cc
+    by false false false true e = cc
+    by false false false false e = cc
+
+pub lun_told : (n : Numbers) (byte unit : ℕ) → lun_of n byte ≡ Some (UnitOf unit) →
+    (byte < length n.units.items) × (unit ≡ byte)
+lun_told n byte unit h = by (nat_lt byte (length n.units.items)) (is_among taken_luns byte) refl h
+  where
+    by : (b c : Bool) → nat_lt byte (length n.units.items) ≡ b →
+        (if b then Some (UnitOf byte) else if c then well_known byte else None) ≡ Some (UnitOf unit) →
+        (byte < length n.units.items) × (unit ≡ byte)
+    by true c e k = (ltb-true byte (length n.units.items) e, cc)
+    by false true e k = absurd (well_known_none byte unit k)
+    by false false e k = cc
+
+-- ordinary units alone are written by WRITE
+abbrev pub TakenByUnits : ℕ → Type 0
+TakenByUnits operation = (lun : Lun) → takes lun operation ≡ true → (unit : ℕ) × (lun ≡ UnitOf unit)
+
+pub units_take_6 : TakenByUnits write_6
+units_take_6 (UnitOf unit) h = (unit, refl)
+units_take_6 lun h = absurd (false≢true h)
+
+pub units_take_10 : TakenByUnits write_10
+units_take_10 (UnitOf unit) h = (unit, refl)
+units_take_10 lun h = absurd (false≢true h)
+
+pub record UnitTold (s : State) (r : Request) : Type 0 where
+  pub there : r.lun < length (numbers_of s).units.items
+  pub is : unit_of_request s r ≡ Some r.lun
+
+pub unit_told : (s : State) (r : Request) (c : Cdb) → TakenByUnits (operation_in r) → Passed s r c → UnitTold s r
+unit_told s r c units p = by (lun_of (numbers_of s) r.lun) refl p.unit p.taken
+  where
+    by : (x : Option Lun) → lun_of (numbers_of s) r.lun ≡ x → lacks_unit s r x ≡ false → not_taken r x ≡ false →
+        UnitTold s r
+    by None e lacks taken = cc
+    by (Some lun) e lacks taken =
+        let unit = units lun (not-false (takes lun (operation_in r)) taken) in
+        let is : lun_of (numbers_of s) r.lun ≡ Some (UnitOf unit.0) = e ∙ ap Some unit.1 in
+        let told = lun_told (numbers_of s) r.lun unit.0 is in
+        record { there = told.0; is = ap (unit_in s r) is ∙ ap Some told.1 }
+
+pub no_spec : UnitSpec
+no_spec = record { blocks = 0; boot = 0; protect = 0 }
+
+-- the blocks lie within the unit
+pub lies_within : (s : State) (r : Request) (command : Cdb) → UnitTold s r → is_past command (spec_of s r) ≡ false →
+    address_of command + blocks_of command
+    ≤ get_or (map (λ (u : UnitSpec). u.blocks) (numbers_of s).units.items) r.lun 0
+lies_within s r command told h =
+    let units = (numbers_of s).units.items in
+    let unit = get_or units r.lun no_spec in
+    let spec : spec_of s r ≡ Some unit = ap (spec_at (numbers_of s)) told.is ∙ slice_get-get_or units r.lun no_spec
+    told.there in
+    let past = subst (λ (u : Option UnitSpec). is_past command u ≡ false) spec h in
+    let bound = ltb-false unit.blocks (address_of command + blocks_of command) past in
+    let same = get_or-map (λ (u : UnitSpec). u.blocks) units r.lun no_spec 0 told.there in
+    omega arith

@@ -1,0 +1,11 @@
+pub mod DiskChanges
+pub mod EndsOfJobs
+pub mod EraseEnded
+pub mod JobsBegin
+pub mod LawfulFailures
+pub mod MarkEnded
+pub mod PageEnded
+pub mod ProgramEnded
+pub mod ProgramFailed
+pub mod ReadsAndTasks
+pub mod StandsSecurely

@@ -1,0 +1,355 @@
+-- The program of a mark ended well: the block of the plan is freed, and the mending moves on.
+use Rattle.std.proofs.Common.{◌≡◌, ◌≢◌, ℕ, ◌<◌, ◌≤◌, ◌⊎◌, true, false, List, length, Option, Some, None, refl, sym, ap}
+use Rattle.std.proofs.Common.{◌∙◌, subst, inl, inr, ⊎_elim, arith}
+use Rattle.std.proofs.lemmas.List.Elements.{All-nil}
+use Rattle.ufs_spec.specs.Cells.{Cells, GroupPage, IsPlace, Mark, MarkPage}
+use Rattle.ufs_spec.specs.Disk.{BlockState, Disk, Free, Programming, Spot, at_die, at_place, programmed, spot_of}
+use Rattle.ufs_spec.specs.Kept.{IsNewestMark, recorded_in}
+use Rattle.ufs_spec.specs.Moves.{WentWell, freed, job_ended, mending_behind}
+use Rattle.ufs_spec.specs.Openings.{number_of}
+use Rattle.ufs_spec.specs.Translation.{MarkStep, Mended, Mending, Plan, Repairing, Translation, Unmarked, is_mended}
+use Rattle.ufs_spec.specs.declared.flash.Fence.{Fence}
+use Rattle.ufs_spec.specs.declared.flash.Key.{Key}
+use Rattle.ufs_spec.specs.declared.flash.Place.{Place}
+use Rattle.ufs_spec.specs.declared.flash.Tag.{Tag}
+use Rattle.ufs_spec.proofs.CellKinds.{one_mark, page_not_mark}
+use Rattle.ufs_spec.proofs.Facts.{false≢true, none-some}
+use Rattle.ufs_spec.proofs.Lists.{none_in_empty}
+use Rattle.ufs_spec.proofs.Updates.{at_place_is}
+use Rattle.power_loss.specs.Book.{AreWholeAbove, Book, IsPlainMark, book}
+use Rattle.power_loss.specs.Invariant.{FlightsRight, MarksRight, MendingRight, OnePlanRight, PagesRight, RepairingRight}
+use Rattle.power_loss.specs.Invariant.{Valid}
+use Rattle.power_loss.proofs.books.LayerParts.{MarksOf, MendingOf, OwnMarkOf, UnmarkedOf}
+use Rattle.power_loss.proofs.kept_pages.PagesStay.{pins_stay, rests_stay}
+use Rattle.power_loss.proofs.kept_pages.ReadsStay.{idle_reads, reads_stay}
+use Rattle.power_loss.proofs.jobs.StandsSecurely.{at_place_here, at_place_other, secure_from, secure_moves}
+use Rattle.power_loss.proofs.stops.LeftImage.{opened_below}
+use Rattle.power_loss.proofs.jobs.ProgramEnded.{AreOverwritten, Frees, GoesTo, blank_programmed, blocks_behind}
+use Rattle.power_loss.proofs.jobs.ProgramEnded.{blocks_freed, blocks_programmed, erase_goes_on, frees_none, frees_one}
+use Rattle.power_loss.proofs.jobs.ProgramEnded.{goes_to, keeps, needed_now, not_there, other_flight, program_goes_on}
+use Rattle.power_loss.proofs.jobs.ProgramEnded.{safe_freed, safe_marked, stay, still_victim}
+
+mark_is : {m other : Mark} → m.number ≡ other.number → m.records ≡ other.records → m.fence ≡ other.fence →
+    m.numbers ≡ other.numbers → m ≡ other
+mark_is d e f g = λ i. record { number = d i; records = e i; fence = f i; numbers = g i }
+
+-- What is known of the marks before
+
+-- the newest mark of the opening, and what it records
+recorded_within : {c : Cells} (newest : Option Mark) {top : ℕ} → IsNewestMark c newest → ((p : Place) (m : Mark) →
+    c p ≡ MarkPage m → m.records ≤ top) → recorded_in newest ≤ top
+recorded_within None is l = omega arith
+recorded_within (Some m) is l = l is.0.0 m is.0.1
+
+-- nothing is lost
+plain_unlost : {b : Book} {m : Mark} → m.fence ≡ None → b.greatest_seen < b.first_lost → IsPlainMark b m
+plain_unlost e l = record {
+  none = e;
+  repaired = λ n i x lost h. absurd (let f = lost.from in let u = lost.to in omega (arith, f, u, l));
+}
+
+behind_unmended : (w : Mending) → is_mended (mending_behind w) ≡ false → is_mended w ≡ false
+behind_unmended Mended e = e
+behind_unmended w e = refl
+
+-- what the mark and those that stand have, whatever the mending
+record MarkEnds (t : Translation) (m : Mark) : Type 0 where
+  marked : recorded_in t.ledger.newest ≤ m.records
+  within : m.records ≤ t.ledger.frontier
+  whole : AreWholeAbove (book t) m.records
+  others : (q : Place) (other : Mark) → t.disk.cells q ≡ MarkPage other → other.records ≤ t.ledger.frontier
+  same : (p q : Place) (a other : Mark) → t.disk.cells p ≡ MarkPage a → t.disk.cells q ≡ MarkPage other →
+      a.number ≡ other.number → a ≡ other
+
+-- the disk behind the mark, with blocks freed
+abbrev marked_disk : Translation → Place → Mark → (Spot → BlockState) → Disk
+marked_disk t p m after = record (programmed t.numbers.pages t.disk p (MarkPage m)) { blocks = after }
+
+abbrev marked_with : Translation → Place → Mark → (Spot → BlockState) → Translation
+marked_with t p m after =
+    record t {
+      disk = marked_disk t p m after;
+      ledger = record t.ledger { newest = Some m };
+      work = record t.work { mending = mending_behind t.work.mending; plan = None; step = None };
+    }
+
+module _ {t : Translation} {die : ℕ} {p : Place} {m : Mark} (v : Valid t)
+    (job : t.disk.flights die ≡ Some (Programming p (MarkPage m))) where
+  goes : GoesTo t.numbers t.disk p
+  goes = goes_to v.blocks (v.flights.programs die p (MarkPage m) job)
+
+  marked_ends : (newest : Mark) → t.ledger.newest ≡ Some newest → MarksOf t newest → MarkEnds t m
+  marked_ends newest is r =
+      let later = r.flies die p m job in
+      record {
+        marked = let l = later.above in let e = ap recorded_in is in omega (arith, l, e);
+        within = later.within;
+        whole = λ n l u. r.whole n (let a = later.above in omega (arith, a, l)) u;
+        others = λ q other h. ⊎_elim (λ k. k.1) (λ k. k.within) (r.known q other h);
+        same = r.same;
+      }
+
+  -- a mark of an unmarked life is of the opening, or its own
+  own_or_opened : {fence : Option Fence} {lost : List Key} (q : Place) {other : Mark} (u : UnmarkedOf t fence lost) →
+      t.disk.cells q ≡ MarkPage other → (u.opening q ≡ MarkPage other) ⊎ OwnMarkOf t fence other
+  own_or_opened {fence} q u h = ⊎_elim (λ e. inl (sym e ∙ h))
+      (λ e. inr (subst (OwnMarkOf t fence) (one_mark _ _ (sym e.1.1 ∙ h)) e.1.2)) (u.same q)
+
+  own_flight : (fence : Option Fence) {lost : List Key} → UnmarkedOf t fence lost → OwnMarkOf t fence m
+  own_flight fence u = let r = u.flies die p (MarkPage m) job in subst (OwnMarkOf t fence) (one_mark _ _ (sym r.1)) r.2
+
+  unmarked_ends : (fence : Option Fence) {lost : List Key} → UnmarkedOf t fence lost → MarkEnds t m
+  unmarked_ends fence u = record {
+    marked = let r = recorded_within t.ledger.newest u.opened.is_newest u.opened.marks in let e = own.records in
+        omega (arith, r, e);
+    within = let e = own.records in let a = v.frontier.above in omega (arith, a, e);
+    whole = λ n l h. absurd (let e = own.records in omega (arith, e, l, h));
+    others = λ q other h. let a = v.frontier.above in ⊎_elim
+        (λ k. let r = u.opened.marks q other k in omega (arith, a, r))
+        (λ k. let r = k.records in omega (arith, a, r))
+        (own_or_opened q u h);
+    same = λ a b x y h k e. two a b x y e (own_or_opened a u h) (own_or_opened b u k);
+  }
+    where
+      own : OwnMarkOf t fence m
+      own = own_flight fence u
+
+      old : (q : Place) (x : Mark) → u.opening q ≡ MarkPage x → x.number ≤ number_of t.ledger.newest
+      old q x h = opened_below u.opening t.ledger.newest u.opened.is_newest h
+
+      two : (a b : Place) (x y : Mark) → x.number ≡ y.number → (u.opening a ≡ MarkPage x) ⊎ OwnMarkOf t fence x →
+          (u.opening b ≡ MarkPage y) ⊎ OwnMarkOf t fence y → x ≡ y
+      two a b x y e (inl h) (inl k) = u.opened.sound.marks a b x y h k e
+      two a b x y e (inl h) (inr k) = absurd (let o = old a x h in let n = k.newer in omega (arith, o, n, e))
+      two a b x y e (inr h) (inl k) = absurd (let o = old b y k in let n = h.newer in omega (arith, o, n, e))
+      two a b x y e (inr h) (inr k) =
+          mark_is e (h.records ∙ sym k.records) (h.fence_is ∙ sym k.fence_is) (h.numbers ∙ sym k.numbers)
+
+  mark_ends : (w : Mending) → MendingOf t w → MarkEnds t m
+  mark_ends (Unmarked fence lost) r = unmarked_ends fence r
+  mark_ends w r = marked_ends r.mark r.is r.right
+
+  -- every mark that stands has a smaller number
+  above : (q : Place) (other : Mark) → t.disk.cells q ≡ MarkPage other → other.number < m.number
+  above =
+      let f = v.flights.mark die p m job in
+      (v.step.kind (record { kind = MarkStep m.number m.fence; there = f.there }) f.step_is).above
+
+  -- it was the one mark in flight
+  no_mark_flies : (e : ℕ) (q : Place) {other : Mark} → at_die t.disk.flights p.die None e ≡ Some
+      (Programming q (MarkPage other)) → ⊥
+  no_mark_flies e q {other} h =
+      let o = other_flight t.disk.flights h in
+      o.0 (v.flights.one_mark e die q p other m o.1 job ∙ sym (v.flights.programs die p (MarkPage m) job).at_home)
+
+  -- Behind the mark
+
+  -- a page of a group stood before
+  old_page : (q : Place) (tag : Tag) (body : List ℕ) → at_place t.disk.cells p (MarkPage m) q ≡ GroupPage tag body →
+      (q ≢ p) × (t.disk.cells q ≡ GroupPage tag body)
+  old_page q tag body h = ⊎_elim (λ k. absurd (page_not_mark _ tag body m k.1 refl)) (λ k. k)
+      (at_place_is t.disk.cells p (MarkPage m) q (GroupPage tag body) h)
+
+  -- a mark is this one, or stood before
+  this_or_old : (q : Place) (other : Mark) → at_place t.disk.cells p (MarkPage m) q ≡ MarkPage other →
+      ((q ≡ p) × (m ≡ other)) ⊎ ((q ≢ p) × (t.disk.cells q ≡ MarkPage other))
+  this_or_old q other h = ⊎_elim (λ k. inl (k.0, one_mark m other k.1)) (λ k. inr k)
+      (at_place_is t.disk.cells p (MarkPage m) q (MarkPage other) h)
+
+  mark_pages : PagesRight (book t) t.ledger.standing t.ledger.frontier (at_place t.disk.cells p (MarkPage m))
+      (at_place t.disk.finished p true)
+  mark_pages = record {
+    within = λ q out. at_place_other t.disk.cells p (MarkPage m) q
+        (λ e. out (subst (IsPlace t.numbers) (sym e) goes.place)) ∙ v.pages.within q out;
+    known = λ q u body h. v.pages.known q u body (old_page q u body h).1;
+    recorded = λ q u body h. v.pages.recorded q u body (old_page q u body h).1;
+    stands = λ q u body h f. let o = old_page q u body h in
+        v.pages.stands q u body o.1 (sym (at_place_other t.disk.finished p true q o.0) ∙ f);
+  }
+
+  -- two marks of one number are one
+  marks_one : (ends : MarkEnds t m) (q s : Place) (a other : Mark) → a.number ≡ other.number →
+      ((q ≡ p) × (m ≡ a)) ⊎ ((q ≢ p) × (t.disk.cells q ≡ MarkPage a)) →
+      ((s ≡ p) × (m ≡ other)) ⊎ ((s ≢ p) × (t.disk.cells s ≡ MarkPage other)) → a ≡ other
+  marks_one ends q s a other e (inl h) (inl k) = sym h.1 ∙ k.1
+  marks_one ends q s a other e (inl h) (inr k) =
+      absurd (let x = ap (λ (z : Mark). z.number) h.1 in let l = above s other k.1 in omega (arith, x, l, e))
+  marks_one ends q s a other e (inr h) (inl k) =
+      absurd (let x = ap (λ (z : Mark). z.number) k.1 in let l = above q a h.1 in omega (arith, x, l, e))
+  marks_one ends q s a other e (inr h) (inr k) = ends.same q s a other h.1 k.1 e
+
+  module _ {after : Spot → BlockState} {IsVictim : Spot → Type 0}
+      (frees : Frees (blocks_behind t.numbers t.disk p) after IsVictim) where
+    mark_flights : FlightsRight (book t) t.ledger.frontier t.ledger.marks after t.disk.erasing
+        (at_die t.disk.flights p.die None) None
+    mark_flights = record {
+      programs = λ e q cell h. let o = other_flight t.disk.flights h in
+          let r = program_goes_on goes (v.flights.programs e q cell o.1) o.0 in
+          record { at_home = r.at_home; place = r.place; next = frees.fills (spot_of q) q.page r.next };
+      erases = λ e s h. let o = other_flight t.disk.flights h in
+          let r = erase_goes_on goes (v.flights.erases e s o.1) o.0 in
+          record { at_home = r.at_home; free = frees.free s r.free; counted = r.counted };
+      something = λ e q h. v.flights.something e q (other_flight t.disk.flights h).1;
+      known = λ e q u body h. v.flights.known e q u body (other_flight t.disk.flights h).1;
+      recorded = λ e q u body h. v.flights.recorded e q u body (other_flight t.disk.flights h).1;
+      mark = λ e q other h. absurd (no_mark_flies e q h);
+      one_mark = λ d e q s a other h k. absurd (no_mark_flies d q h);
+    }
+
+    -- the mark is the newest finished one
+    mark_marks : (IsVictim (spot_of p) → ⊥) → MarkEnds t m → MarksRight (book t) t.ledger.frontier t.ledger.marks
+        (at_place t.disk.cells p (MarkPage m)) (at_place t.disk.finished p true) after t.disk.erasing
+        (at_die t.disk.flights p.die None) m
+    mark_marks out ends = record {
+      stands = record {
+        place = p;
+        there = at_place_here t.disk.cells p (MarkPage m) p refl;
+        ended = at_place_here t.disk.finished p true p refl;
+        stays = goes.stays;
+        needed = needed;
+      };
+      within = ends.within;
+      numbers = (v.flights.mark die p m job).numbers_right;
+      whole = ends.whole;
+      ended = λ q other h f. number q other h;
+      known = λ q other h. inl (
+        number q other h,
+        ⊎_elim (λ k. subst (λ (z : Mark). z.records ≤ t.ledger.frontier) k.1 ends.within)
+            (λ k. ends.others q other k.1) (this_or_old q other h),
+      );
+      same = λ q s a other h k e. marks_one ends q s a other e (this_or_old q a h) (this_or_old s other k);
+      freed = λ q other h f. ⊎_elim (λ k. absurd (needed (ap after (ap spot_of (sym k.0)) ∙ f)))
+          (λ k. above q other k.1) (this_or_old q other h);
+      flies = λ e q other h. absurd (no_mark_flies e q h);
+    }
+      where
+        needed : after (spot_of p) ≢ Free
+        needed = ⊎_elim (λ h. h) (λ h. absurd (out h)) (frees.needed (spot_of p) (needed_now goes))
+
+        number : (q : Place) (other : Mark) → at_place t.disk.cells p (MarkPage m) q ≡ MarkPage other →
+            other.number ≤ m.number
+        number q other h = ⊎_elim (λ k. let e = ap (λ (z : Mark). z.number) k.1 in omega (arith, e))
+            (λ k. let l = above q other k.1 in omega (arith, l)) (this_or_old q other h)
+
+    -- The mending moves on
+
+    -- the first mark stands, and the repairs begin
+    mark_repairing : (fence : Fence) {lost : List Key} → UnmarkedOf t (Some fence) lost → ((s : Spot) → IsVictim s →
+        ⊥) → RepairingRight (book t) t.ledger.frontier (at_place t.disk.cells p (MarkPage m)) after t.disk.erasing m
+        None None lost
+    mark_repairing fence u none = record {
+      fence = record {
+        fence = fence;
+        is = (own_flight (Some fence) u).fence_is;
+        first = u.fence_right.0;
+        last = u.fence_right.1;
+        some = u.fence_right.2;
+        records = (own_flight (Some fence) u).records;
+      };
+      repaired = λ n i e l h. inl (u.lost_right.all n i e l h);
+      keys = u.lost_right.keys;
+      singles = λ j group h. absurd (none_in_empty t.ledger.groups j group u.none_new h);
+      under_way = let s = u.still in let e = ap length u.none_new in inl (omega (arith, s, e));
+      blank = λ q h. blank_programmed goes (MarkPage m) u.blank q
+          (⊎_elim (λ f. inl (⊎_elim (λ k. k) (λ k. absurd (none (spot_of q) k)) (frees.freed (spot_of q) f)))
+          (λ f. inr f) h);
+      no_plan = refl;
+    }
+
+    mark_mending : (w : Mending) → (IsVictim (spot_of p) → ⊥) → ((s : Spot) → IsVictim s → w ≡ Mended) → MendingOf t w →
+        MendingRight (book t) (marked_disk t p m after) (record t.ledger { newest = Some m }) None None
+        (mending_behind w)
+    mark_mending (Unmarked None lost) out of r = record {
+      mark = m;
+      is = refl;
+      right = mark_marks out (unmarked_ends None r);
+      more = plain_unlost (own_flight None r).fence_is r.fence_right.1;
+    }
+    mark_mending (Unmarked (Some fence) lost) out of r = record {
+      mark = m;
+      is = refl;
+      right = mark_marks out (unmarked_ends (Some fence) r);
+      more = mark_repairing fence r (λ s h. false≢true (ap is_mended (of s h)));
+    }
+    mark_mending (Repairing left) out of r = record {
+      mark = m;
+      is = refl;
+      right = mark_marks out (marked_ends r.mark r.is r.right);
+      more = (r.right.flies die p m job).plain;
+    }
+    mark_mending Mended out of r = record {
+      mark = m;
+      is = refl;
+      right = mark_marks out (marked_ends r.mark r.is r.right);
+      more = (r.right.flies die p m job).plain;
+    }
+
+    -- All of it
+
+    mark_valid : (IsVictim (spot_of p) → ⊥) → ((s : Spot) → IsVictim s → t.work.mending ≡ Mended) →
+        AreOverwritten (book t) t.ledger.standing IsVictim m.records → Valid (marked_with t p m after)
+    mark_valid out of flown = record {
+      book_right = v.book_right;
+      frontier = v.frontier;
+      pages = mark_pages;
+      blocks = blocks_freed frees (blocks_programmed goes (MarkPage m) v.blocks);
+      flights = mark_flights;
+      safe = let ends = mark_ends t.work.mending v.mending in
+          safe_freed v.frontier frees ends.within flown ends.marked (safe_marked goes (MarkPage m) v.safe);
+      numbered = λ q other h. ⊎_elim
+          (λ k. let e = (v.flights.mark die p m job).number in let x = ap (λ (z : Mark). z.number) k.1 in
+          omega (arith, e, x))
+          (λ k. v.numbered q other k.1)
+          (this_or_old q other h);
+      mending = mark_mending t.work.mending out of v.mending;
+      step = record { kind = λ s e. absurd (none-some s e) };
+      plan = record { mended = λ pl e. absurd (none-some pl e); one = λ pl e. absurd (none-some pl e) };
+      slots = v.slots;
+      unmended = record {
+        stand = λ un n i q h.
+            let was = behind_unmended t.work.mending un in
+            let s = secure_moves (keeps goes (MarkPage m)) (v.unmended.stand was n i q h) in
+            secure_from s s.known refl s.ended s.stays (⊎_elim (λ k. k)
+            (λ k. absurd (false≢true (sym was ∙ ap is_mended (of (spot_of s.place) k))))
+            (frees.needed (spot_of s.place) s.needed));
+      };
+      pins = pins_stay _ _ _ _ _ _ _ _ _ t.pins (λ n i e h. h) (stay goes (MarkPage m)) v.pins;
+      rests = rests_stay _ _ _ _ _ _ t.work.rests (stay goes (MarkPage m)) v.rests;
+      reads = reads_stay _ _ _ _ _ _ _ _ (stay goes (MarkPage m)) (idle_reads t.disk.flights p.die) v.reads;
+      to_read = record { wanted = All-nil _; copied = λ pl e. absurd (none-some pl e) };
+      history = record {
+        within = v.history.within;
+        contents = v.history.contents;
+        mending = λ e. v.history.mending (behind_unmended t.work.mending e);
+        durable = v.history.durable;
+      };
+    }
+
+  by_plan : (plan : Option Plan) → t.work.plan ≡ plan →
+      Valid (marked_with t p m (freed (programmed t.numbers.pages t.disk p (MarkPage m)) plan).blocks)
+  by_plan None e = mark_valid (frees_none) (λ h. h) (λ s h. absurd h) (λ n i x q is known h free. absurd h)
+  by_plan (Some pl) e =
+      mark_valid (frees_one pl.victim (still_victim goes one.state))
+      (λ h. not_there goes one.state (sym h)) (λ s h. v.plan.mended pl e)
+      (λ n i x q is known h free.
+      one.flown die p m job n i x q (record { is = is; known = known; inside = h; free = free }))
+    where
+      one : OnePlanRight (book t) t.ledger.frontier t.ledger.standing t.disk.blocks t.disk.flights t.work.step pl
+      one = v.plan.one pl e
+
+-- the disk differs in its blocks alone
+freed_is : (d : Disk) (plan : Option Plan) → record d { blocks = (freed d plan).blocks } ≡ freed d plan
+freed_is d None = refl
+freed_is d (Some plan) = refl
+
+pub ends_mark : (t : Translation) (die : ℕ) (p : Place) (m : Mark) → Valid t → t.disk.flights die ≡ Some
+    (Programming p (MarkPage m)) → Valid (job_ended t die (Programming p (MarkPage m)) WentWell)
+ends_mark t die p m v job =
+    subst
+    (λ (d : Disk). Valid (record t {
+      disk = d;
+      ledger = record t.ledger { newest = Some m };
+      work = record t.work { mending = mending_behind t.work.mending; plan = None; step = None };
+    }))
+    (freed_is (programmed t.numbers.pages t.disk p (MarkPage m)) t.work.plan)
+    (by_plan v job t.work.plan refl)

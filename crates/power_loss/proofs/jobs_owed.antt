@@ -1,0 +1,5 @@
+pub mod BegunPrograms
+pub mod CopiesAfterTheirRead
+pub mod OneDieForEachJob
+pub mod ProgramsAndErases
+pub mod WhatWaits

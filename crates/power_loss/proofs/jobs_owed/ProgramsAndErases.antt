@@ -1,0 +1,185 @@
+-- What is owed to a die: the place of a program and what is programmed there, and the block of an erase.
+use Rattle.std.proofs.Common.{◌≡◌, ℕ, ◌<◌, ◌&&◌, not, if◌then◌else◌, Bool, true, false, ◌⊎◌, find, is_none, option_map}
+use Rattle.std.proofs.Common.{Option, Some, None, refl, sym, ap, ◌∙◌, subst, inl, inr, ⊎_elim}
+use Rattle.std.specs.Prelude.{filter_map}
+use Rattle.std.specs.List.{list_any}
+use Rattle.ufs_spec.proofs.Facts.{none_is, and_parts, ltb-true, none-some, not-true, same_Some}
+use Rattle.ufs_spec.specs.Cells.{Cell}
+use Rattle.ufs_spec.specs.Disk.{BlockState, Erasing, Filling, Flight, Free, Programming, Reading, Spot, place_in}
+use Rattle.ufs_spec.specs.Disk.{spot_of}
+use Rattle.ufs_spec.specs.Keys.{below}
+use Rattle.ufs_spec.specs.Ledger.{Name, accepted_groups, before_accepted, is_standing}
+use Rattle.ufs_spec.specs.Translation.{MayTake, Step, Translation, cell_now, flies_name, flight_at, flight_for, is_free}
+use Rattle.ufs_spec.specs.Translation.{is_idle, is_pinned, is_rest_of, may_be_erased, may_open, names_behind, next_in}
+use Rattle.ufs_spec.specs.Translation.{next_place, some_flight, spots_of, step_cell, step_flies, waiting_name}
+use Rattle.ufs_spec.specs.Translation.{waiting_step, waits}
+use Rattle.ufs_spec.specs.declared.configs.Numbers.{Numbers}
+use Rattle.ufs_spec.specs.declared.flash.Place.{Place}
+use Rattle.power_loss.specs.Exchange.{IsSpot}
+use Rattle.power_loss.proofs.ordered_lists.ElementsAndOrders.{IsIn, below_in, first_in, found_in, map_in, mapped_in}
+
+-- The blocks of a die
+
+pub record IsSpotOf (n : Numbers) (die : ℕ) (s : Spot) : Type 0 where
+  pub at_home : s.die ≡ die
+  pub block : s.block < n.blocks
+
+spot_in : (n : Numbers) (die : ℕ) (s : Spot) → IsIn s (spots_of n die) → IsSpotOf n die s
+spot_in n die s h =
+    let r = map_in (λ block. record { die = die; block = block }) s (below n.blocks) h in
+    subst (IsSpotOf n die) r.2 (record { at_home = refl; block = below_in n.blocks r.0 r.1 })
+
+-- Idle dies
+
+pub idle_below : (t : Translation) (die : ℕ) → is_idle t die ≡ true → die < t.numbers.dies
+idle_below t die h = ltb-true die t.numbers.dies (and_parts _ (is_none (t.disk.flights die)) h).0
+
+idle_none : (t : Translation) (die : ℕ) → is_idle t die ≡ true → t.disk.flights die ≡ None
+idle_none t die h = none_is (t.disk.flights die) (and_parts _ (is_none (t.disk.flights die)) h).1
+
+-- What a program or an erase is
+
+pub record ProgramOwed (t : Translation) (die : ℕ) (p : Place) (cell : Cell) (w : Option Cell) (waiting : Option Name) :
+    Type 0 where
+  pub place : next_place t die ≡ Some p
+  pub is : (w ≡ Some cell) ⊎ ((w ≡ None) × ((name : Name) × (waiting ≡ Some name) × (cell ≡ cell_now t.ledger name)))
+
+-- what a flight that is owed is
+abbrev IsFlight : Translation → ℕ → Option Cell → Option Name → Flight → Type 0
+IsFlight t die w waiting (Programming p cell) = ProgramOwed t die p cell w waiting
+IsFlight t die w waiting (Erasing s) = find (may_be_erased t) (spots_of t.numbers die) ≡ Some s
+IsFlight t die w waiting (Reading reader place) = ⊥
+
+erase_flight : (t : Translation) (die : ℕ) (w : Option Cell) (waiting : Option Name) (f : Flight) (o : Option Spot) →
+    find (may_be_erased t) (spots_of t.numbers die) ≡ o → option_map Erasing o ≡ Some f → IsFlight t die w waiting f
+erase_flight t die w waiting f None is h = absurd (none-some f h)
+erase_flight t die w waiting f (Some s) is h = subst (IsFlight t die w waiting) (same_Some (Erasing s) f h) is
+
+at_flight : (t : Translation) (die : ℕ) (opens : Bool) (cell : Cell) (place : Option Place) (w : Option Cell)
+    (waiting : Option Name) (f : Flight) → next_place t die ≡ place →
+    (w ≡ Some cell) ⊎ ((w ≡ None) × ((name : Name) × (waiting ≡ Some name) × (cell ≡ cell_now t.ledger name))) →
+    flight_at t die opens cell place ≡ Some f → IsFlight t die w waiting f
+at_flight t die opens cell (Some p) w waiting f e is h =
+    subst (IsFlight t die w waiting) (same_Some (Programming p cell) f h) (record { place = e; is = is })
+at_flight t die true cell None w waiting f e is h = erase_flight t die w waiting f _ refl h
+at_flight t die false cell None w waiting f e is h = absurd (none-some f h)
+
+flight_is : (t : Translation) (die : ℕ) (w : Option Cell) (waiting : Option Name) (f : Flight) →
+    flight_for t die w waiting ≡ Some f → IsFlight t die w waiting f
+flight_is t die (Some cell) waiting f h =
+    at_flight t die true cell (next_place t die) (Some cell) waiting f refl (inl refl) h
+flight_is t die None (Some name) f h =
+    at_flight t die (may_open t) (cell_now t.ledger name) (next_place t die) None (Some name) f refl
+    (inr (refl, (name, refl, refl))) h
+flight_is t die None None f h = absurd (none-some f h)
+
+-- Erases
+
+free_is : (x : BlockState) → is_free x ≡ true → x ≡ Free
+free_is Free h = refl
+free_is state h = cc
+
+pub record EraseOwed (t : Translation) (die : ℕ) (s : Spot) : Type 0 where
+  pub idle : t.disk.flights die ≡ None
+  pub inside : IsSpotOf t.numbers die s
+  pub free : t.disk.blocks s ≡ Free
+  pub unkept : is_pinned t s ≡ false
+
+pub erase_owed : (t : Translation) (die : ℕ) (s : Spot) → MayTake t die (Some (Erasing s)) → EraseOwed t die s
+erase_owed t die s may =
+    let e = flight_is t die (waiting_step t t.work.step) (waiting_name t) (Erasing s) may.1.1 in
+    let x = found_in (may_be_erased t) (spots_of t.numbers die) s e in
+    let b = and_parts (is_free (t.disk.blocks s)) (not (is_pinned t s)) x.1 in
+    record {
+      idle = idle_none t die may.0;
+      inside = spot_in t.numbers die s x.0;
+      free = free_is (t.disk.blocks s) b.0;
+      unkept = not-true (is_pinned t s) b.1;
+    }
+
+-- the block is one of the dies'
+pub take_inside : (t : Translation) (die : ℕ) (s : Spot) → MayTake t die (Some (Erasing s)) → IsSpot t.numbers s
+take_inside t die s may =
+    let i = (erase_owed t die s may).inside in
+    record { die = subst (λ d. d < t.numbers.dies) (sym i.at_home) (idle_below t die may.0); block = i.block }
+
+-- The place of a program
+
+pub record PlaceOwed (t : Translation) (die : ℕ) (p : Place) : Type 0 where
+  pub inside : IsSpotOf t.numbers die (spot_of p)
+  pub next : t.disk.blocks (spot_of p) ≡ Filling p.page
+
+next_is : (s : Spot) (x : BlockState) (p : Place) → next_in s x ≡ Some p → (place_in s p.page ≡ p)
+    × (x ≡ Filling p.page)
+next_is s (Filling next) p h =
+    let e = same_Some (place_in s next) p h in
+    (ap (λ (z : Place). place_in s z.page) (sym e) ∙ e, ap (λ (z : Place). Filling z.page) e)
+next_is s state p h = absurd (none-some p h)
+
+pub place_owed : (t : Translation) (die : ℕ) (p : Place) → next_place t die ≡ Some p → PlaceOwed t die p
+place_owed t die p h =
+    let next = λ (s : Spot). next_in s (t.disk.blocks s) in
+    let r = mapped_in next p (spots_of t.numbers die) (first_in p (filter_map next (spots_of t.numbers die)) h) in
+    let k = next_is r.0 (t.disk.blocks r.0) p r.2 in
+    let e : r.0 ≡ spot_of p = ap spot_of k.0 in
+    record {
+      inside = subst (IsSpotOf t.numbers die) e (spot_in t.numbers die r.0 r.1);
+      next = ap t.disk.blocks (sym e) ∙ k.1;
+    }
+
+-- What is programmed
+
+pub program_owed : (t : Translation) (die : ℕ) (p : Place) (cell : Cell) → MayTake t die (Some (Programming p cell)) →
+    ProgramOwed t die p cell (waiting_step t t.work.step) (waiting_name t)
+program_owed t die p cell may =
+    flight_is t die (waiting_step t t.work.step) (waiting_name t) (Programming p cell) may.1.1
+
+given_if : {A : Type 0} (b : Bool) (x y : A) → (if b then Some x else None) ≡ Some y → (b ≡ true) × (x ≡ y)
+given_if true x y h = (refl, same_Some x y h)
+given_if false x y h = absurd (none-some y h)
+
+-- the step's page waits only if its content is there and no die programs it
+pub record StepOwed (t : Translation) (cell : Cell) : Type 0 where
+  pub step : Step
+  pub under_way : t.work.step ≡ Some step
+  pub there : step.there ≡ true
+  pub flies : step_flies t step.kind ≡ false
+  pub is : step_cell t step.kind ≡ cell
+
+pub step_owed : (t : Translation) (s : Option Step) (cell : Cell) → t.work.step ≡ s → waiting_step t s ≡ Some cell →
+    StepOwed t cell
+step_owed t None cell e h = absurd (none-some cell h)
+step_owed t (Some s) cell e h =
+    let g = given_if (s.there && not (step_flies t s.kind)) (step_cell t s.kind) cell h in
+    let b = and_parts s.there (not (step_flies t s.kind)) g.0 in
+    record { step = s; under_way = e; there = b.0; flies = not-true (step_flies t s.kind) b.1; is = g.1 }
+
+-- the page of a group waits
+pub record NameOwed (t : Translation) (name : Name) : Type 0 where
+  pub behind : IsIn name (names_behind (before_accepted t.ledger) (accepted_groups t.ledger))
+  pub nowhere : is_standing t.ledger name.number name.index ≡ false
+  pub flies : some_flight t (flies_name name) ≡ false
+  pub whole : list_any (is_rest_of name) t.work.rests ≡ false
+
+pub name_owed : (t : Translation) (name : Name) → waiting_name t ≡ Some name → NameOwed t name
+name_owed t name h =
+    let r = found_in (waits t) (names_behind (before_accepted t.ledger) (accepted_groups t.ledger)) name h in
+    let a = and_parts _ (not (list_any (is_rest_of name) t.work.rests)) r.1 in
+    let b = and_parts (not (is_standing t.ledger name.number name.index)) _ a.0 in
+    record {
+      behind = r.0;
+      nowhere = not-true (is_standing t.ledger name.number name.index) b.0;
+      flies = not-true (some_flight t (flies_name name)) b.1;
+      whole = not-true (list_any (is_rest_of name) t.work.rests) a.1;
+    }
+
+-- a page is given to a die for the step under way, or for the group that it is of
+pub page_owed : (t : Translation) (die : ℕ) (p : Place) (cell : Cell) → MayTake t die (Some (Programming p cell)) →
+    StepOwed t cell ⊎ ((name : Name) × (cell ≡ cell_now t.ledger name) × NameOwed t name)
+page_owed t die p cell may =
+    ⊎_elim
+    (λ h. inl (step_owed t t.work.step cell refl h))
+    (λ (h : (waiting_step t t.work.step ≡ None)
+    × ((name : Name) × (waiting_name t ≡ Some name) × (cell ≡ cell_now t.ledger name))).
+    inr (h.1.0, h.1.2, name_owed t h.1.0 h.1.1))
+    (program_owed t die p cell may).is

@@ -1,0 +1,4 @@
+pub mod CallsKeepPromises
+pub mod GoodReplies
+pub mod PromisedCommands
+pub mod ShortExchangesEnd

@@ -1,0 +1,2 @@
+pub mod MovesKeepCellsFitting
+pub mod MovesKeepValid

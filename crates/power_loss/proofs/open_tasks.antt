@@ -1,0 +1,4 @@
+pub mod FoundInLists
+pub mod OpenExchanges
+pub mod TaggedLists
+pub mod TaskLists

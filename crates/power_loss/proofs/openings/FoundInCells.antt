@@ -1,0 +1,284 @@
+-- What an opening finds in cells: the page of each name, the greatest number seen, the lost keys in order, the mending
+-- that is due and the state of each block.
+use Rattle.std.proofs.Common.{◌≡◌, ◌≢◌, ◌⊎◌, ℕ, suc, ◌≤◌, Bool, true, false, List, Option, Some, None, refl, sym, ap}
+use Rattle.std.proofs.Common.{◌∙◌, subst, inl, inr, ⊎_elim, arith}
+use Rattle.std.specs.Prelude.{max, if◌then◌else◌}
+use Rattle.ufs_laws.proofs.deciding.SearchOverPlaces.{Decided, Greatest, greatest, is_place, some_cell, split}
+use Rattle.ufs_spec.specs.Cells.{AreWithin, Cell, Cells, GroupPage, IsPlace, Mark, MarkPage, Nothing, key_of}
+use Rattle.ufs_spec.specs.Disk.{BlockState, Bad, Closed, Free, Spot, same_spot, spot_of}
+use Rattle.ufs_spec.specs.Kept.{Holds, fence_in}
+use Rattle.ufs_spec.specs.Ledger.{Entry, Name}
+use Rattle.ufs_spec.specs.Openings.{AreLost, HasName, IsAtMost, IsBlockState, IsEntry, IsFirst, IsLost, IsMendingAt}
+use Rattle.ufs_spec.specs.Openings.{IsTop, StandsAt}
+use Rattle.ufs_spec.specs.Translation.{Mended, Mending, Unmarked, name_of}
+use Rattle.ufs_spec.specs.declared.configs.Numbers.{Numbers}
+use Rattle.ufs_spec.specs.declared.flash.Fence.{Fence}
+use Rattle.ufs_spec.specs.declared.flash.Key.{Key}
+use Rattle.ufs_spec.specs.declared.flash.Place.{Place}
+use Rattle.ufs_spec.specs.declared.flash.Tag.{Tag}
+use Rattle.ufs_spec.proofs.Facts.{none-some}
+use Rattle.ufs_spec.proofs.Equalities.{name_cases, spot_cases}
+use Rattle.ufs_spec.proofs.CellKinds.{mark_not_nothing, page_not_nothing}
+use Rattle.power_loss.proofs.books.PagesByName.{entry_for}
+use Rattle.power_loss.proofs.ordered_lists.LowestPlaces.{lowest}
+use Rattle.power_loss.proofs.ordered_lists.SortedKeys.{Below, Listed, at_has, collect, has_at, none_listed, one_listed}
+use Rattle.power_loss.proofs.ordered_lists.SortedKeys.{ordered_at}
+
+-- Pages by name
+
+is_name : {a : Name} (b : Name) → Decided (a ≡ b)
+is_name {a} b = ⊎_elim (λ h. inl h.1) (λ h. inr h.1) (name_cases a b)
+
+abbrev IsNamed : Name → Cell → Type 0
+IsNamed name (GroupPage t body) = name_of t ≡ name
+IsNamed name other = ⊥
+
+is_named : (name : Name) (x : Cell) → Decided (IsNamed name x)
+is_named name (GroupPage t body) = is_name name
+is_named name x = inr (λ h. h)
+
+named_page : {name : Name} (x : Cell) → IsNamed name x → (t : Tag) × (body : List ℕ) × (x ≡ GroupPage t body) ×
+    (name_of t ≡ name)
+named_page (GroupPage t body) h = (t, body, refl, h)
+named_page x h = absurd h
+
+has_name : (c : Cells) {name : Name} {p : Place} → HasName c name p → IsNamed name (c p)
+has_name c {name} h = subst (IsNamed name) (sym h.2) h.3
+
+name_has : (c : Cells) {name : Name} (p : Place) → IsNamed name (c p) → HasName c name p
+name_has c p h = named_page (c p) h
+
+module _ (n : Numbers) (c : Cells) (within : AreWithin n c) where
+  pub stands_at : (name : Name) → (o : Option Place) × StandsAt c name o
+  stands_at name =
+      ⊎_elim
+      (λ h. (Some h.0, (name_has c h.0 h.1.0, λ q g. h.1.1 q (has_name c g))))
+      (λ no. (None, λ p h. no p (has_name c h)))
+      (lowest n c within (IsNamed name) (is_named name) (λ h. h))
+
+  entry_of : (t : Tag) (body : List ℕ) → Entry
+  entry_of t body = entry_for t body
+
+  pub is_entry : (name : Name) → (o : Option Entry) × IsEntry c name o
+  unfolding entry_of
+  is_entry name =
+      ⊎_elim
+      (λ h.
+      let g = named_page (c h.0) h.1 in
+      (Some (entry_of g.0 g.1), (h.0, g.0, g.2, g.3, refl, refl)))
+      (λ no. (None, λ p h. no (p, has_name c h)))
+      (some_cell n c within (IsNamed name) (is_named name) (λ h. h))
+
+  -- The name that a key begins with
+
+  pub first_of : (m : Option Mark) (kept : ℕ) (k : Key) (x : List ℕ) → Holds c m (suc kept) k x →
+      (o : Option Name) × IsFirst c m kept k o
+  first_of m kept k x (inl (p, t, h)) = (Some (name_of t), (p, t, x, h, refl))
+  first_of m kept k x (inr (none, e)) = (None, none)
+
+  -- The greatest number seen
+
+  abbrev weight : Cell → ℕ
+  weight Nothing = 0
+  weight (GroupPage t body) = max t.number t.frontier
+  weight (MarkPage m) = m.records
+
+  abbrev last_of : Option Fence → ℕ
+  last_of None = 0
+  last_of (Some f) = f.last
+
+  left_max : (a b : ℕ) → a ≤ max a b
+  left_max a b = grind (arith)
+
+  right_max : (a b : ℕ) → b ≤ max a b
+  right_max a b = grind (arith)
+
+  max_low : (a b x : ℕ) → a ≤ x → b ≤ x → max a b ≤ x
+  max_low a b x l r = grind (arith)
+
+  fence_low : (f : Option Fence) (x : ℕ) → ((g : Fence) → f ≡ Some g → g.last ≤ x) → last_of f ≤ x
+  fence_low None x h = omega arith
+  fence_low (Some g) x h = h g refl
+
+  low_fence : (f : Option Fence) (g : Fence) → f ≡ Some g → g.last ≡ last_of f
+  low_fence f g e = ap last_of (sym e)
+
+  at_most : (m : Option Mark) (x : ℕ) → IsAtMost c m x → (p : Place) (y : Cell) → c p ≡ y → weight y ≤ x
+  at_most m x h p Nothing e = omega arith
+  at_most m x h p (GroupPage t body) e = max_low t.number t.frontier x (h.numbers p t body e) (h.frontiers p t body e)
+  at_most m x h p (MarkPage o) e = h.marks p o e
+
+  module _ (m : Option Mark) (g : Greatest c weight) where
+    top : ℕ
+    top = max g.weight (last_of (fence_in m))
+
+    above : (p : Place) (y : Cell) → c p ≡ y → weight y ≤ top
+    unfolding top
+    above p y e = let a = g.above p in let b = ap weight e in let l = left_max g.weight
+        (last_of (fence_in m)) in omega arith
+
+    least : (x : ℕ) → IsAtMost c m x → top ≤ x
+    unfolding top
+    least x h =
+        max_low g.weight (last_of (fence_in m)) x
+        (⊎_elim (λ e. omega arith)
+        (λ r. let l = at_most m x h r.0
+        (c r.0) refl in let e = r.1 in omega arith) g.reached)
+        (fence_low (fence_in m) x h.fence)
+
+    is_top : IsTop c m top
+    unfolding top
+    is_top = (
+      record {
+        numbers = λ p t body e. let a = above p
+            (GroupPage t body) e in let b = left_max t.number t.frontier in omega arith;
+        frontiers = λ p t body e. let a = above p
+            (GroupPage t body) e in let b = right_max t.number t.frontier in omega arith;
+        marks = λ p o e. above p (MarkPage o) e;
+        fence = λ f e. let a = right_max g.weight (last_of (fence_in m)) in let b = low_fence
+            (fence_in m) f e in omega arith;
+      },
+      least,
+    )
+
+  pub some_top : (m : Option Mark) → (x : ℕ) × IsTop c m x
+  some_top m = let g = greatest n c within weight refl in (top m g, is_top m g)
+
+  -- Lost keys
+
+  abbrev LostAt : ℕ → ℕ → Cell → Key → Type 0
+  LostAt low last (GroupPage t body) k = (key_of t ≡ k) × (low ≤ t.number) × (t.number ≤ last)
+  LostAt low last other k = ⊥
+
+  lost_at : (low last : ℕ) (x : Cell) → Listed (LostAt low last x)
+  lost_at low last (GroupPage t body) =
+      ⊎_elim
+      (λ l.
+      ⊎_elim
+      (λ u. one_listed (LostAt low last (GroupPage t body)) (key_of t) (refl, l, u) (λ k h. h.0))
+      (λ u. none_listed _ (λ k h. let x = h.2 in omega arith))
+      (split t.number last))
+      (λ l. none_listed _ (λ k h. let x = h.1 in omega arith))
+      (split low t.number)
+  lost_at low last x = none_listed _ (λ k h. h)
+
+  abbrev at : ℕ → ℕ → ℕ → Place
+  at die block page = record { die = die; block = block; page = page }
+
+  abbrev LostOn : ℕ → ℕ → Key → Type 0
+  LostOn low last = Below n.dies
+      (λ die. Below n.blocks (λ block. Below n.pages (λ page. LostAt low last (c (at die block page)))))
+
+  lost_on : (low last : ℕ) → Listed (LostOn low last)
+  lost_on low last =
+      collect (λ die. Below n.blocks (λ block. Below n.pages (λ page. LostAt low last (c (at die block page)))))
+      (λ die. collect (λ block. Below n.pages (λ page. LostAt low last (c (at die block page))))
+      (λ block. collect (λ page. LostAt low last (c (at die block page)))
+      (λ page. lost_at low last (c (at die block page))) n.pages) n.blocks) n.dies
+
+  told_lost : (low last : ℕ) (p : Place) (x : Cell) (k : Key) → c p ≡ x → LostAt low last x k → IsLost c low last k
+  told_lost low last p (GroupPage t body) k e h = (p, t, body, e, h.0, h.1, h.2)
+  told_lost low last p x k e h = absurd h
+
+  inside : (p : Place) (t : Tag) (body : List ℕ) → c p ≡ GroupPage t body → IsPlace n p
+  inside p t body e = ⊎_elim (λ i. i) (λ out. absurd (page_not_nothing _ _ _ refl (sym e ∙ within p out)))
+      (is_place n p)
+
+  lost_told : (low last : ℕ) (k : Key) → IsLost c low last k → LostOn low last k
+  lost_told low last k h =
+      let p : Place = h.0 in
+      let i = inside p h.1 h.2 h.3 in
+      (p.die, i.die, (p.block, i.block, (p.page, i.page, subst (λ x. LostAt low last x k) (sym h.3) (h.4, h.5, h.6))))
+
+  are_lost : (low last : ℕ) → (keys : List Key) × AreLost c low last keys
+  are_lost low last =
+      let l = lost_on low last in (
+        l.keys,
+        record {
+          ordered = ordered_at l.keys l.sorted;
+          lost = λ i k e.
+              let h = l.only k (at_has l.keys i k e) in
+              told_lost low last (at h.0 h.2.0 h.2.2.0) (c (at h.0 h.2.0 h.2.2.0)) k refl h.2.2.2;
+          all = λ k h. has_at l.keys k (l.has k (lost_told low last k h));
+        },
+      )
+
+  -- Mending
+
+  none_or : (f : Option Fence) → (f ≡ None) ⊎ ((g : Fence) × (f ≡ Some g))
+  none_or None = inl refl
+  none_or (Some g) = inr (g, refl)
+
+  pub mending_at : (m : Option Mark) (low last : ℕ) → ((f : Fence) → fence_in m ≡ Some f → low ≤ last) →
+      (w : Mending) × IsMendingAt c m low last w
+  mending_at None low last wide =
+      let keys = are_lost low last in
+      ⊎_elim
+      (λ l. (Unmarked (Some (record { first = low; last = last })) keys.0, ((λ h. h.0 refl), (refl, refl, l), keys.1)))
+      (λ l. (Unmarked None keys.0, ((λ h. h.0 refl), (refl, l), keys.1)))
+      (split low last)
+  mending_at (Some mark) low last wide =
+      let keys = are_lost low last in
+      ⊎_elim
+      (λ l. (
+        Unmarked (Some (record { first = low; last = last })) keys.0,
+        ((λ h. let x = h.2 in omega arith), (refl, refl, l), keys.1),
+      ))
+      (λ l. (
+        Mended,
+        (
+          (λ e. none-some mark (sym e)),
+          ⊎_elim (λ e. e) (λ f. absurd (let x = wide f.0 f.1 in omega arith))
+              (none_or mark.fence),
+          l,
+        ),
+      ))
+      (split low last)
+
+  -- Blocks
+
+  abbrev only_in : Spot → Cells
+  only_in s p = if same_spot (spot_of p) s then c p else Nothing
+
+  only_within : (s : Spot) → AreWithin n (only_in s)
+  only_within s p out = by (same_spot (spot_of p) s)
+    where
+      by : (b : Bool) → (if b then c p else Nothing) ≡ Nothing
+      by true = within p out
+      by false = refl
+
+  is_some : (x : Cell) → Decided (x ≢ Nothing)
+  is_some Nothing = inr (λ h. h refl)
+  is_some (GroupPage t body) = inl (page_not_nothing _ _ _ refl)
+  is_some (MarkPage m) = inl (mark_not_nothing _ _ refl)
+
+  -- what stands in the block's cells alone stands in it
+  in_spot : (s : Spot) (p : Place) → only_in s p ≢ Nothing → (spot_of p ≡ s) × (c p ≢ Nothing)
+  in_spot s p h =
+      ⊎_elim
+      (λ e. (e.1, λ z. h (ap (λ b. if b then c p else Nothing) e.0 ∙ z)))
+      (λ e. absurd (h (ap (λ b. if b then c p else Nothing) e.0)))
+      (spot_cases (spot_of p) s)
+
+  spot_in : (s : Spot) (p : Place) → spot_of p ≡ s → c p ≢ Nothing → only_in s p ≢ Nothing
+  spot_in s p e h =
+      ⊎_elim
+      (λ g z. h (sym (ap (λ b. if b then c p else Nothing) g.0) ∙ z))
+      (λ g. absurd (g.1 e))
+      (spot_cases (spot_of p) s)
+
+  nothing_or : (x : Cell) → (x ≢ Nothing → ⊥) → x ≡ Nothing
+  nothing_or x none = ⊎_elim (λ h. absurd (none h)) (λ h. double x h) (is_some x)
+    where
+      double : (y : Cell) → (y ≢ Nothing → ⊥) → y ≡ Nothing
+      double Nothing h = refl
+      double (GroupPage t body) h = absurd (h (page_not_nothing _ _ _ refl))
+      double (MarkPage m) h = absurd (h (mark_not_nothing _ _ refl))
+
+  pub block_at : (bad : Spot → Bool) (s : Spot) → (b : Bool) → bad s ≡ b → (x : BlockState) × IsBlockState c bad s x
+  block_at bad s true e = (Bad, e)
+  block_at bad s false e =
+      ⊎_elim
+      (λ h. let g = in_spot s h.0 h.1 in (Closed, (e, (h.0, g.0, g.1))))
+      (λ none. (Free, (e, λ p there. nothing_or (c p) (λ some. none (p, spot_in s p there some)))))
+      (some_cell n (only_in s) (only_within s) (λ x. x ≢ Nothing) is_some (λ h. h refl))

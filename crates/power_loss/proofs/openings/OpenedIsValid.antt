@@ -1,0 +1,200 @@
+-- An opened translation layer is valid: the mending that is due, and all of it.
+use Rattle.std.proofs.Common.{◌≡◌, ◌≢◌, ℕ, ◌<◌, ◌≤◌, ◌-◌, All, Bool, List, [], drop, length, Option, Some, None, refl}
+use Rattle.std.proofs.Common.{sym, ap, ◌∙◌, subst, inl, ⊎_elim, arith}
+use Rattle.std.proofs.lemmas.List.{drop_all}
+use Rattle.std.proofs.lemmas.List.Elements.{All-nil}
+use Rattle.ufs_spec.specs.Cells.{AreWithin, Cells, Mark, MarkPage}
+use Rattle.ufs_spec.specs.Disk.{Spot, spot_of}
+use Rattle.ufs_spec.specs.Kept.{IsNewestMark, IsWhole, fence_in, recorded_in}
+use Rattle.ufs_spec.specs.Openings.{AreLost, IsMendingAt, IsOpenedTranslation}
+use Rattle.ufs_spec.specs.Sound.{CellsSound}
+use Rattle.ufs_spec.specs.Translation.{Mended, Mending, Repairing, Translation, Unmarked, is_mended, wants_of_step}
+use Rattle.ufs_spec.specs.declared.configs.Numbers.{Numbers}
+use Rattle.ufs_spec.specs.declared.flash.Key.{Key}
+use Rattle.ufs_spec.specs.declared.flash.Place.{Place}
+use Rattle.ufs_spec.specs.Ledger.{accepted_groups, before_accepted}
+use Rattle.ufs_spec.proofs.Facts.{at_most, none-some}
+use Rattle.power_loss.specs.Book.{CellsRight, HasKey, IsWholeOld, book}
+use Rattle.power_loss.specs.Invariant.{HistoryRight, IsNeededPage, LookedRight, LostRight, MarkStands, SourceRight}
+use Rattle.power_loss.specs.Invariant.{Valid}
+use Rattle.power_loss.proofs.books.LayerParts.{MarksOf, MendingOf}
+use Rattle.power_loss.proofs.accepted_groups.ClaimedSlots.{no_pages}
+use Rattle.power_loss.proofs.openings.OpenedByName.{Opened, low_cases, no_group, old_page, opened, page_is_old, shown}
+use Rattle.power_loss.proofs.openings.OpenedContents.{book_is_right}
+use Rattle.power_loss.proofs.openings.OpenedPages.{all_safe, blocks_are_right, flights_are_right, free_blank}
+use Rattle.power_loss.proofs.openings.OpenedPages.{frontier_is_right, mark_not_free, none_flies, numbered}
+use Rattle.power_loss.proofs.openings.OpenedPages.{pages_are_right, stands_secure}
+
+module _ {bad : Spot → Bool} {t : Translation} (o : Opened bad t) where
+  whole_is_old : {n : ℕ} → IsWhole t.disk.cells n → IsWholeOld (book t) n
+  whole_is_old w = record {
+    size = w.size;
+    some = w.some;
+    one_size = λ i e h. let y = old_page o h in y.size ∙ w.one_size y.place y.tag e.item.body y.there y.number;
+    each = λ i l.
+        let x = w.each i l in
+        (shown x.1 x.2, sym (λ j. t.ledger.entries_before (x.4 j) (x.5 j)) ∙ page_is_old o x.3);
+  }
+
+  -- above what the newest mark records all groups up to the kept number are whole
+  whole_above : (n : ℕ) → recorded_in t.ledger.newest < n → n ≤ o.start.ledger.kept → IsWholeOld (book t) n
+  whole_above n low up =
+      whole_is_old
+      (⊎_elim
+      (λ l. o.sound.whole o.start.ledger.is_kept.from n o.start.ledger.is_kept.recorded low l)
+      (λ l. o.start.ledger.is_kept.whole n l up)
+      (at_most _ _))
+
+  all_kept : fence_in t.ledger.newest ≡ None → t.ledger.greatest_seen < t.ledger.first_lost →
+      t.ledger.greatest_seen ≤ o.start.ledger.kept
+  all_kept none l =
+      ⊎_elim
+      (λ z. let e = z.1 in
+      omega arith)
+      (λ z. absurd
+      (none-some _ (sym none ∙ z.1)))
+      (low_cases o)
+
+  mark_stands : {m : Mark} (p : Place) → t.disk.cells p ≡ MarkPage m →
+      MarkStands t.disk.cells t.disk.finished t.disk.blocks t.disk.erasing m
+  mark_stands p h = record {
+    place = p;
+    there = h;
+    ended = o.start.disk.finished p;
+    stays = o.start.disk.none_erasing (spot_of p);
+    needed = mark_not_free o p h;
+  }
+
+  marks_are_right : (m : Mark) → t.ledger.newest ≡ Some m → IsNewestMark t.disk.cells (Some m) →
+      fence_in t.ledger.newest ≡ None → t.ledger.greatest_seen < t.ledger.first_lost → MarksOf t m
+  marks_are_right m is x none l =
+      let f = o.start.ledger.frontier in
+      let r = ap recorded_in is in
+      let k = all_kept none l in
+      record {
+        stands = mark_stands x.0.0 x.0.1;
+        within = let z = o.start.ledger.greatest_seen.0.marks x.0.0 m x.0.1 in omega arith;
+        numbers = o.start.suits.config m is;
+        whole = λ n low up. whole_above n (omega arith) (omega arith);
+        ended = λ p other h ended. x.1 p other h;
+        known = λ p other h. inl (
+          x.1 p other h,
+          (let z = o.start.ledger.greatest_seen.0.marks p other h in
+              omega arith),
+        );
+        same = λ p q a b h u e. o.sound.marks p q a b h u e;
+        freed = λ p other h free. absurd (mark_not_free o p h free);
+        flies = λ die p other h. absurd (none_flies o h);
+      }
+
+  mended : (m : Option Mark) → t.ledger.newest ≡ m → m ≢ None → IsNewestMark t.disk.cells m →
+      fence_in t.ledger.newest ≡ None → t.ledger.greatest_seen < t.ledger.first_lost → MendingOf t Mended
+  mended None is some x none l = absurd (some refl)
+  mended (Some m) is some x none l = record {
+    mark = m;
+    is = is;
+    right = marks_are_right m is x none l;
+    more = record {
+      none = sym (ap fence_in is) ∙ none;
+      repaired = λ n i e lost h. absurd (let u = lost.from in let w = lost.to in omega arith);
+    };
+  }
+
+  -- The first mark is due
+
+  lost_is_right : {lost : List Key} → AreLost t.disk.cells t.ledger.first_lost t.ledger.greatest_seen lost →
+      LostRight (book t) lost
+  lost_is_right x = record {
+    all = λ n i e l h.
+        let y = old_page o h in
+        let w = y.number in
+        let u = l.from in
+        let z = l.to in
+        x.all e.item.key (y.place, y.tag, e.item.body, y.there, sym y.key, omega arith, omega arith);
+    keys = λ j k h. let y = x.lost j k h in subst (HasKey (book t)) y.4 (o.start.suits.keys y.0 y.1 y.2 y.3);
+  }
+
+  mends : (w : Mending) → IsMendingAt t.disk.cells t.ledger.newest t.ledger.first_lost t.ledger.greatest_seen w →
+      MendingOf t w
+  mends Mended x = mended t.ledger.newest refl x.0 o.start.ledger.newest x.1 x.2
+  mends (Repairing left) x = absurd x
+  mends (Unmarked fence lost) x = record {
+    opening = t.disk.cells;
+    opened = record {
+      sound = o.sound;
+      is_newest = o.start.ledger.newest;
+      kept = o.start.ledger.kept;
+      is_kept = o.start.ledger.is_kept;
+      holds = o.start.ledger.holds;
+      suits = o.start.suits;
+      marks = o.start.ledger.greatest_seen.0.marks;
+    };
+    fence_right = x.1;
+    lost_right = lost_is_right x.2;
+    none_new = o.start.ledger.none_new;
+    still = o.start.ledger.frontier;
+    same = λ p. inl refl;
+    flies = λ die p cell h. absurd (none_flies o h);
+    blank = free_blank o;
+    no_plan = o.start.no_plan;
+  }
+
+  -- All of it
+
+  history : HistoryRight (book t) t.ledger.repairs t.ledger.held t.ledger.frontier (is_mended t.work.mending)
+  history =
+      let r = o.start.ledger.none_repaired in
+      let g = ap length o.start.ledger.none_new in
+      record {
+        within = omega arith;
+        contents = λ j i g item l h there. absurd (no_group o j g h);
+        mending = λ no. (r ∙ sym g, o.start.ledger.none_held);
+        durable = inl o.start.ledger.none_held;
+      }
+
+  valid : Valid t
+  valid = record {
+    book_right = book_is_right o;
+    frontier = frontier_is_right o;
+    pages = pages_are_right o;
+    blocks = blocks_are_right o;
+    flights = flights_are_right o;
+    safe = all_safe o;
+    numbered = numbered o;
+    mending = mends t.work.mending o.start.mending;
+    step = record { kind = λ s e. absurd (none-some s (sym o.start.no_step ∙ e)) };
+    plan = record {
+      mended = λ pl e. absurd (none-some pl (sym o.start.no_plan ∙ e));
+      one = λ pl e. absurd (none-some pl (sym o.start.no_plan ∙ e));
+    };
+    history = history;
+    slots = record {
+      within =
+          let none = no_pages (accepted_groups t.ledger) (t.ledger.frontier - before_accepted t.ledger)
+          (ap (drop t.ledger.repairs) o.start.ledger.none_new ∙ drop_all t.ledger.repairs [] (omega arith)) in
+          let claims = o.start.no_claims in
+          omega (arith, none, claims);
+    };
+    unmended = record { stand = λ un n i p h. stands_secure o n i p h };
+    pins = record {
+      each = subst (All (λ pin. LookedRight (book t) t.ledger.frontier t.disk.cells t.disk.finished
+          t.disk.erasing pin.looked)) (sym o.start.no_pins) (All-nil _);
+    };
+    rests = record {
+      each = subst (All (λ rest. SourceRight t.disk.cells t.disk.finished t.disk.erasing rest.source))
+          (sym o.start.no_rests) (All-nil _);
+    };
+    reads = record {
+      at_home = λ die reader p h. absurd (none_flies o h);
+      page = λ die reader p h. absurd (none_flies o h);
+    };
+    to_read = record {
+      wanted = subst (λ s. All (λ w. IsNeededPage t.disk.cells t.disk.finished t.disk.blocks
+          t.disk.erasing w.place) (wants_of_step s)) (sym o.start.no_step) (All-nil _);
+      copied = λ pl e. absurd (none-some pl (sym o.start.no_plan ∙ e));
+    };
+  }
+
+pub opening_valid : (n : Numbers) (c : Cells) (bad : Spot → Bool) (t : Translation) → 1 ≤ n.pages → CellsRight c →
+    AreWithin n c → CellsSound c t.ledger.newest → IsOpenedTranslation n c bad t → Valid t
+opening_valid n c bad t pages right within sound start = valid (opened bad pages right within sound start)

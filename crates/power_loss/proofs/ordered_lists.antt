@@ -1,0 +1,3 @@
+pub mod ElementsAndOrders
+pub mod LowestPlaces
+pub mod SortedKeys

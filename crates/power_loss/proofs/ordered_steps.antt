@@ -1,0 +1,3 @@
+pub mod FenceFallsLast
+pub mod MarksAndRepairs
+pub mod PlansAndCopies

@@ -1,0 +1,3 @@
+pub mod DurableInOrder
+pub mod PendingByFrontier
+pub mod PendingByMove

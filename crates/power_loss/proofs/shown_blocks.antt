@@ -1,0 +1,4 @@
+pub mod CommandsShowBlocks
+pub mod LivesShowBlocks
+pub mod LooksShowContents
+pub mod PinsShowBlocks

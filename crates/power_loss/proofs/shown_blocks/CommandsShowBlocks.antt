@@ -1,0 +1,131 @@
+-- What is kept for a READ shows the blocks that the READ sends: each call keeps it, from the opening on.
+use Rattle.std.proofs.Common.{◌≡◌, ℕ, ◌+◌, Bool, true, false, if◌then◌else◌, All, List, [], ◌∷◌, ◌++◌, Option, Some}
+use Rattle.std.proofs.Common.{None, fold, length, map, nat_le, refl, sym, ap, ◌∙◌, subst, inl, inr, arith, ⊎_elim}
+use Rattle.std.specs.Prelude.{slice_get}
+use Rattle.std.proofs.lemmas.List.Elements.{All-weaker}
+use Rattle.std.proofs.lemmas.Option.{get_or_from_slice_get, slice_get_within}
+use Rattle.ufs_spec.specs.Cdbs.{operation_of, address_of}
+use Rattle.ufs_spec.specs.Exchanges.{Answering, Deed, ReadBlock, Status, Task, Unread, is_task_of}
+use Rattle.ufs_spec.specs.Keys.{IsKey, below, data_key}
+use Rattle.ufs_spec.specs.Ledger.{Ledger, look}
+use Rattle.ufs_spec.specs.Machine.{begun, begun_with, blocks_expected, command_heard, kept_at, keeps, opened_with}
+use Rattle.ufs_spec.specs.Machine.{read_begun, read_blocks, sending, unit_or_first, with_task}
+use Rattle.ufs_spec.specs.Moves.{moved}
+use Rattle.ufs_spec.specs.Plain.{block_at, shape_of_numbers}
+use Rattle.ufs_spec.specs.Stages.{most_tasks}
+use Rattle.ufs_spec.specs.Refusals.{Request, State, numbers_of, operation_in, plain_now, refusal, unit_of_request}
+use Rattle.ufs_spec.specs.Refusals.{needs_mended}
+use Rattle.ufs_spec.specs.Translation.{is_mended}
+use Rattle.ufs_spec.specs.declared.scsi.Cdb.{Cdb}
+use Rattle.ufs_laws.proofs.plain_contents.ListParts.{get_or-made, length-made}
+use Rattle.power_loss.specs.Exchange.{IsTied}
+use Rattle.power_loss.specs.Shown.{IsShown, ShowsBlock, ShowsReads, ShowsRight}
+use Rattle.power_loss.proofs.open_tasks.FoundInLists.{found_last}
+use Rattle.power_loss.proofs.host_commands.OpenedByCommands.{IsFree, IsSpelled}
+use Rattle.power_loss.proofs.host_commands.ReadBlocks.{KeysOfDevice, keys_read}
+use Rattle.power_loss.proofs.host_commands.PassedCommands.{Passed, passed, ready_now}
+use Rattle.power_loss.proofs.shown_blocks.LooksShowContents.{look_shows}
+use Rattle.power_loss.proofs.shown_contents.MovesKeepShown.{kept_ledger, kept_pins}
+use Rattle.power_loss.proofs.shown_blocks.PinsShowBlocks.{Show, more_goes, show_goes}
+use Rattle.ufs_spec.proofs.Facts.{eqb-self}
+use Rattle.ufs_laws.proofs.walk.WaysOfCommands.{Beginning, Reading, Waiting, WhyBegun, begins_by, begun_as}
+
+pub shows_if : (b : Bool) (t u : State) → ShowsReads t → ShowsReads u → ShowsReads (if b then t else u)
+shows_if true t u h k = h
+shows_if false t u h k = k
+
+-- Commands
+
+opens : (s : State) (r : Request) (c : Option Cdb) (n : ℕ) (deed : Deed) → ShowsReads s →
+    ShowsReads (with_task s r c n deed)
+opens s r c n deed h = show_goes s.translation.ledger s.tasks (with_task s r c n deed).tasks s.translation.pins
+    (more_goes s.tasks _) h
+
+-- a block of a READ that begins
+block_shows : (s : State) (unit address m n i : ℕ) → IsTied s → is_mended s.translation.work.mending ≡ true →
+    IsKey (shape_of_numbers (numbers_of s)) (data_key unit (address + i)) →
+    ShowsBlock s.translation.ledger (look s.translation.ledger (data_key unit (address + i))) i
+    (sending (read_blocks s unit address m) n)
+block_shows s unit address m n i v mended key = by (read_blocks s unit address m) refl
+  where
+    by : (blocks : List ReadBlock) → read_blocks s unit address m ≡ blocks →
+        ShowsBlock s.translation.ledger (look s.translation.ledger (data_key unit (address + i))) i (sending blocks n)
+    by [] e = tt
+    by (b ∷ bs) e = λ block at.
+        let f : ℕ → ReadBlock = λ (j : ℕ). record { body = block_at unit (address + j) (plain_now s); state = Unread }
+        in
+        let here : slice_get (map f (below m)) i ≡ Some block = ap (λ (xs : List ReadBlock). slice_get xs i) e ∙ at in
+        let long = length-made f m in
+        let short = slice_get_within (map f (below m)) i block here in
+        let is : block ≡ f i = sym (get_or_from_slice_get (map f (below m)) i block block here)
+        ∙ get_or-made f m i block (omega (arith, long, short)) in (
+          data_key unit (address + i),
+          subst (λ (x : ReadBlock). IsShown s.translation.ledger (data_key unit (address + i))
+              (look s.translation.ledger (data_key unit (address + i))) x.body) (sym is)
+              (look_shows s (data_key unit (address + i)) v mended key),
+        )
+
+read_shows : (s : State) (r : Request) (command : Cdb) (unit address n : ℕ) → IsTied s →
+    is_mended s.translation.work.mending ≡ true → IsFree s r.tag →
+    KeysOfDevice s unit address (blocks_expected r n) → ShowsReads s →
+    ShowsReads (read_begun s r command unit address n)
+read_shows s r command unit address n v mended free keys h =
+    let m = blocks_expected r n in
+    let task : Task = record {
+      lun = r.lun;
+      tag = r.tag;
+      expected = r.expected;
+      command = Some command;
+      length = n;
+      deed = sending (read_blocks s unit address m) n;
+      request = None;
+    } in
+    let l = s.translation.ledger in
+    let tasks = s.tasks ++ task ∷ [] in
+    let k = λ (i : ℕ). data_key unit (address + i) in
+    let old = show_goes l s.tasks tasks s.translation.pins (more_goes s.tasks task) h in
+    let new : All (λ i. ShowsRight l tasks (kept_at s r.tag unit address i)) (below m) =
+    All-weaker (λ i. IsKey (shape_of_numbers (numbers_of s)) (data_key unit (address + i)))
+    (λ i. ShowsRight l tasks (kept_at s r.tag unit address i))
+    (λ i key. record {
+      task = task;
+      there = found_last (is_task_of r.tag) s.tasks task free.no_task (eqb-self r.tag);
+      shows = block_shows s unit address m n i v mended key;
+    })
+    (below m) keys in
+    subst (λ (x : Ledger). Show x tasks (fold moved s.translation (keeps s r.tag unit address m)).pins)
+    (sym (kept_ledger k (kept_at s r.tag unit address) (below m) s.translation))
+    (kept_pins (ShowsRight l tasks) k (kept_at s r.tag unit address) (below m) s.translation old new)
+
+begun_shows : (s : State) (r : Request) (command : Cdb) → IsTied s → IsFree s r.tag → Passed s r command →
+    operation_in r ≡ operation_of command → ShowsReads s →
+    ShowsReads (begun s r (unit_or_first (unit_of_request s r)) command)
+begun_shows s r command v free p op h = begins_by ShowsReads s r unit command one
+  where
+    unit : ℕ
+    unit = unit_or_first (unit_of_request s r)
+
+    one : (b : Beginning) → WhyBegun s r unit command b → ShowsReads (begun_as s r command b)
+    one (Reading u address n) (unit_is, address_is, size, read) =
+        let needs = ⊎_elim (λ e. ap needs_mended e) (λ e. ap needs_mended e) read in
+        let reads = ⊎_elim (λ e. inl (op ∙ e)) (λ e. inr (op ∙ e)) read in
+        subst (λ (x : ℕ). ShowsReads (read_begun s r command x address n)) (sym unit_is)
+        (subst (λ (x : ℕ). ShowsReads (read_begun s r command unit x n)) (sym address_is)
+        (read_shows s r command unit (address_of command) n v (ready_now s command needs p.ready) free
+        (keys_read s r command n size reads p) h))
+    one Waiting why = opens s r _ _ _ h
+    one b why = opens s r _ _ _ h
+
+opened_shows : (s : State) (r : Request) → IsTied s → IsFree s r.tag → IsSpelled r → (x : Option Status) →
+    refusal s r ≡ x → ShowsReads s → ShowsReads (opened_with s r x)
+opened_shows s r v free spelled (Some status) e h = opens s r None 0 (Answering status 0) h
+opened_shows s r v free spelled None e h = by r.cdb refl
+  where
+    by : (c : Option Cdb) → r.cdb ≡ c → ShowsReads (begun_with s r c)
+    by None k = h
+    by (Some command) k = begun_shows s r command v free (passed s r command k e) (spelled command k) h
+
+pub command_shows : (s : State) (r : Request) → IsTied s → IsFree s r.tag → IsSpelled r → ShowsReads s →
+    ShowsReads (command_heard s r)
+command_shows s r v free spelled h = shows_if (nat_le most_tasks (length s.tasks)) _ _ h
+    (opened_shows s r v free spelled (refusal s r) refl h)

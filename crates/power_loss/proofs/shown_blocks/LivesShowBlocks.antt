@@ -1,0 +1,231 @@
+-- What is kept for a READ shows the blocks that the READ sends, at each moment of a life; and so the page that is read
+-- for
+-- it has them.
+use Rattle.std.proofs.Common.{◌≡◌, ℕ, zero, suc, Bool, true, false, if◌then◌else◌, nat_le, All, Contains, List, [], ◌∷◌}
+use Rattle.std.proofs.Common.{Option, Some, None, filter, fold, map, refl, sym, ap, ◌∙◌, subst}
+use Rattle.std.specs.Prelude.{Ok, slice_get, slice_set}
+use Rattle.std.proofs.lemmas.List.Elements.{All-contains, All-nil}
+use Rattle.ufs_spec.proofs.Facts.{none-some, same_Some}
+use Rattle.ufs_spec.specs.Cells.{Array, key_of}
+use Rattle.ufs_spec.specs.Disk.{Flight, ForTask, Reader, Reading, Spot}
+use Rattle.ufs_spec.specs.Exchanges.{Answering, Awaiting, Deed, NotRead, ReadBlock, ReadState, Sending, Task, WasRead}
+use Rattle.ufs_spec.specs.Exchanges.{block_message, filled, is_task_of, task_of, write_error}
+use Rattle.ufs_spec.specs.Ledger.{Entry, Ledger, Looked, Name, OnPage}
+use Rattle.ufs_spec.specs.Lives.{IsOpened, Life}
+use Rattle.ufs_spec.specs.Machine.{Allowed, Answer, Reply, Call, Faulty, Done, OfDone, Take, OfTake, Heard, OfHost}
+use Rattle.ufs_spec.specs.Machine.{Host, OfReply, Spelled, Turn, OfTurn, behind, block_reply, deed_locked, deed_read}
+use Rattle.ufs_spec.specs.Machine.{deed_reply, durable, ends_with, fill_moves, fills, hears, is_at_hand, is_to_fill}
+use Rattle.ufs_spec.specs.Machine.{lock_applied, message_fault, next_block_reply, observe, pin_of, read_noted}
+use Rattle.ufs_spec.specs.Machine.{set_state, short_locked, tag_in, task_filled, task_locked, task_read, with_block}
+use Rattle.ufs_spec.specs.Machine.{with_moves}
+use Rattle.ufs_spec.specs.Moves.{EndJob, Ending, ReadRight, ReadWrong, end_flight, moved}
+use Rattle.ufs_spec.specs.Refusals.{State, locked}
+use Rattle.ufs_spec.specs.Translation.{Pin}
+use Rattle.ufs_spec.specs.declared.configs.Numbers.{Numbers}
+use Rattle.ufs_spec.specs.declared.events.Event.{Event}
+use Rattle.ufs_spec.specs.declared.events.Output.{Output}
+use Rattle.ufs_spec.specs.declared.flash.Place.{Place}
+use Rattle.ufs_laws.proofs.walk.SmallChanges.{fills_task, first, job_over, reads}
+use Rattle.power_loss.specs.Exchange.{IsTied, MayCome, ValidState}
+use Rattle.power_loss.specs.Invariant.{IsGroupPage, Valid}
+use Rattle.power_loss.specs.Shown.{IsShown, ShowsBlock, ShowsReads, ShowsRight}
+use Rattle.power_loss.proofs.calls.CallsKeepTied.{first_keeps, no_fault}
+use Rattle.power_loss.proofs.shown_contents.MessagesKeepShown.{heard_shows, replied_shows}
+use Rattle.power_loss.proofs.lives.EachEventKeeps.{event_comes, one_event}
+use Rattle.power_loss.proofs.kept_pages.KeptAreThere.{page_known}
+use Rattle.power_loss.proofs.shown_contents.MovesKeepShown.{end_shows, turn_shows}
+use Rattle.power_loss.proofs.shown_blocks.PinsShowBlocks.{SameBlocks, Show, filled_ledger, filled_pins, map_goes}
+use Rattle.power_loss.proofs.shown_blocks.PinsShowBlocks.{show_goes}
+use Rattle.power_loss.proofs.shown_blocks.CommandsShowBlocks.{shows_if}
+
+-- Reads that end
+
+-- a block keeps its content, whether it was read or not
+set_old : (blocks : List ReadBlock) (index i : ℕ) (state : ReadState) (b block : ReadBlock) →
+    slice_get blocks index ≡ Some b →
+    slice_get (slice_set blocks index (set_state state b)) i ≡ Some block → (old : ReadBlock)
+    × (slice_get blocks i ≡ Some old) × (old.body ≡ block.body)
+set_old [] index i state b block there h = absurd (none-some b there)
+set_old (x ∷ xs) zero zero state b block there h = (
+  x,
+  refl,
+  ap (λ (y : ReadBlock). y.body) (same_Some x b there)
+      ∙ ap (λ (y : ReadBlock). y.body) (same_Some (set_state state b) block h),
+)
+set_old (x ∷ xs) zero (suc i) state b block there h = (block, h, refl)
+set_old (x ∷ xs) (suc index) zero state b block there h = (block, h, refl)
+set_old (x ∷ xs) (suc index) (suc i) state b block there h = set_old xs index i state b block there h
+
+block_old : (blocks : List ReadBlock) (index i : ℕ) (state : ReadState) (o : Option ReadBlock) (block : ReadBlock) →
+    slice_get blocks index ≡ o →
+    slice_get (with_block blocks index state o) i ≡ Some block → (old : ReadBlock) × (slice_get blocks i ≡ Some old)
+    × (old.body ≡ block.body)
+block_old blocks index i state None block there h = (block, h, refl)
+block_old blocks index i state (Some b) block there h = set_old blocks index i state b block there h
+
+read_same : (index : ℕ) (state : ReadState) (deed : Deed) → SameBlocks deed (deed_read index state deed)
+read_same index state (Sending blocks sent) = λ l x i h block at.
+    let old = block_old blocks index i state (slice_get blocks index) block refl at in
+    let shown = h old.0 old.1 in
+    (shown.0, subst (IsShown l shown.0 x) old.2 shown.1)
+read_same index state deed = λ l x i h. tt
+
+task_read_same : (tag index : ℕ) (state : ReadState) (task : Task) →
+    SameBlocks task.deed (task_read tag index state task).deed
+task_read_same tag index state task = by (is_task_of tag task)
+  where
+    by : (b : Bool) → SameBlocks task.deed (if b then record task { deed = deed_read index state task.deed }
+        else task).deed
+    by true = read_same index state task.deed
+    by false = λ l x i h. h
+
+read_told : (s : State) (l : Ledger) (pins : List Pin) (reader : Reader) (state : ReadState) → Show l s.tasks pins →
+    Show l (read_noted s reader state).tasks pins
+read_told s l pins (ForTask tag index) state h =
+    show_goes l s.tasks (map (task_read tag index state) s.tasks) pins
+    (map_goes (task_read tag index state) s.tasks (λ task. (reads tag index state task).tag)
+    (task_read_same tag index state)) h
+read_told s l pins reader state h = h
+
+read_ends : (s : State) (die : ℕ) (reader : Reader) (state : ReadState) (ending : Ending) (array : Array) →
+    Show (moved s.translation (EndJob die ending)).ledger s.tasks (moved s.translation (EndJob die ending)).pins →
+    ShowsReads (with_moves (record (read_noted s reader state) { array = array }) (EndJob die ending ∷ []))
+read_ends s die (ForTask tag index) state ending array h =
+    read_told s (moved s.translation (EndJob die ending)).ledger (moved s.translation (EndJob die ending)).pins
+    (ForTask tag index) state h
+read_ends s die reader state ending array h = h
+
+ends_show : (s : State) (die : ℕ) (flight : Option Flight) (ending : Ending) (left : Array) → ShowsReads s →
+    Show (moved s.translation (EndJob die ending)).ledger s.tasks (moved s.translation (EndJob die ending)).pins →
+    ShowsReads (ends_with s die flight ending left)
+ends_show s die None ending left h k = h
+ends_show s die (Some (Reading reader place)) ReadRight left h k = read_ends s die reader WasRead ReadRight s.array k
+ends_show s die (Some (Reading reader place)) ReadWrong left h k = read_ends s die reader NotRead ReadWrong s.array k
+ends_show s die (Some flight) ending left h k = k
+
+-- the translation layer after a job is valid
+ended_valid : (s : State) (die : ℕ) (flight : Option Flight) (ending : Ending) (left : Array) →
+    s.translation.disk.flights die ≡ flight →
+    IsTied (job_over s die flight ending left) → Valid s.translation → Valid (moved s.translation (EndJob die ending))
+ended_valid s die None ending left e v w = subst (λ (x : Option Flight). Valid (end_flight s.translation die x ending))
+    (sym e) w
+ended_valid s die (Some flight) ending left e v w = v.valid
+
+finish_shows : (s : State) (die : ℕ) (ending : Ending) (left : Array) → IsTied s →
+    IsTied (first s (Done die ending left) (OfDone true)) → ShowsReads s →
+    ShowsReads (ends_with s die (s.translation.disk.flights die) ending left)
+finish_shows s die ending left v tied h =
+    ends_show s die (s.translation.disk.flights die) ending left h
+    (end_shows s.translation die (s.translation.disk.flights die) ending
+    (ended_valid s die (s.translation.disk.flights die) ending left refl tied v.valid) s.tasks h)
+
+-- Registers that are filled, and the lock
+
+fills_show : (s : State) → ShowsReads s → ShowsReads (fills s)
+fills_show s h =
+    let l = s.translation.ledger in
+    let ts = filter (is_to_fill s) s.tasks in
+    let tasks = map (task_filled s) s.tasks in
+    let u = fold moved s.translation (fill_moves ts) in
+    subst (λ (x : Ledger). Show x tasks u.pins) (sym (filled_ledger ts s.translation))
+    (show_goes l s.tasks tasks u.pins (map_goes (task_filled s) s.tasks (λ task. (fills_task s task).tag)
+    (λ task. by task (is_to_fill s task)))
+    (filled_pins (ShowsRight l s.tasks) ts s.translation h))
+  where
+    by : (task : Task) (b : Bool) → SameBlocks task.deed (if b then record task { request = filled task.request }
+        else task).deed
+    by task true = λ l x i h. h
+    by task false = λ l x i h. h
+
+lock_same : (s : State) (task : Task) (deed : Deed) → SameBlocks deed (deed_locked s task deed)
+lock_same s task (Awaiting commands) = by (nat_le commands (durable s))
+  where
+    by : (b : Bool) → SameBlocks (Awaiting commands) (if b then Awaiting commands
+        else Answering write_error task.length)
+    by true = λ l x i h. h
+    by false = λ l x i h. tt
+lock_same s task deed = λ l x i h. h
+
+lock_shows : (s : State) → ShowsReads s → ShowsReads (lock_applied s)
+lock_shows s h =
+    shows_if (locked s) (record s { tasks = map (task_locked s) s.tasks; shorts = map (short_locked s) s.shorts }) s
+    (show_goes s.translation.ledger s.tasks (map (task_locked s) s.tasks) s.translation.pins
+    (map_goes (task_locked s) s.tasks (λ task. refl) (λ task. lock_same s task task.deed)) h)
+    h
+
+-- Calls
+
+hears_shows : (s : State) (x : Heard) (done : Unit {0}) → IsTied s → MayCome s (Host x) →
+    Allowed s (Host x) (OfHost (Ok done)) → ShowsReads s → ShowsReads (hears s x)
+hears_shows s (Spelled m c) done v may right h = heard_shows s m c v may (no_fault (message_fault s m) done right) h
+hears_shows s (Faulty fault) done v may right h = h
+
+behind_shows : (s : State) (call : Call) (answer : Answer) → IsTied s → MayCome s call → Allowed s call answer →
+    ShowsReads s → ShowsReads (behind s call answer)
+behind_shows s (Host x) (OfHost (Ok done)) v may right h = hears_shows s x done v may right h
+behind_shows s (Take die) (OfTake (Some flight)) v may right h = h
+behind_shows s (Done die ending left) (OfDone true) v may right h =
+    finish_shows s die ending left v (first_keeps s (Done die ending left) (OfDone true) v may right) h
+behind_shows s Turn (OfTurn due) v may right h = turn_shows s.translation s.tasks h
+behind_shows s Reply (OfReply (Some m)) v may right h = replied_shows s (tag_in m) (task_of (tag_in m) s.tasks) refl h
+behind_shows s call answer v may right h = h
+
+pub call_shows : (s : State) (call : Call) (answer : Answer) → IsTied s → MayCome s call → Allowed s call answer →
+    ShowsReads s → ShowsReads (observe s call answer)
+call_shows s call answer v may right h =
+    lock_shows (fills (behind s call answer))
+    (fills_show (behind s call answer) (behind_shows s call answer v may right h))
+
+-- Lives
+
+pub opened_shows : (n : Numbers) (array : Array) (bad : Spot → Bool) (s : State) → IsOpened n array bad s → ShowsReads s
+opened_shows n array bad s o = subst (All (ShowsRight s.translation.ledger s.tasks)) (sym o.translation.no_pins)
+    (All-nil (ShowsRight s.translation.ledger s.tasks))
+
+pub life_shows : (s t : State) (es : List Event) (os : List Output) → ValidState s → ShowsReads s → Life s es os t →
+    ShowsReads t
+life_shows s t [] [] v h life = subst ShowsReads (sym life) h
+life_shows s t (e ∷ es) (o ∷ os) v h life =
+    let l = life.1 in
+    life_shows life.0 t es os (one_event s life.0 e o v l)
+    (subst ShowsReads (sym l.next) (call_shows s l.call l.answer v.tied (event_comes s e l.call l.is_call) l.right h))
+    life.2
+life_shows s t es os v h life = absurd life
+
+-- The page that is read
+
+-- what a pin shows of a task is its page's body
+pub page_body : (s : State) (pin : Pin) (task : Task) (blocks : List ReadBlock) (sent : ℕ) (block : ReadBlock)
+    (name : Name) (place : Place) → IsTied s → ShowsReads s →
+    Contains s.translation.pins pin → task_of pin.tag s.tasks ≡ Some task → task.deed ≡ Sending blocks sent →
+    slice_get blocks pin.index ≡ Some block → pin.looked ≡ OnPage name place →
+    (g : IsGroupPage s.translation.disk.cells s.translation.disk.finished s.translation.disk.erasing name place) →
+    g.body ≡ block.body
+page_body s pin task blocks sent block name place v h in' there deed at looked g =
+    let r = All-contains (ShowsRight s.translation.ledger s.tasks) s.translation.pins pin h in' in
+    let one : r.task ≡ task = same_Some r.task task (sym r.there ∙ there) in
+    let shows : ShowsBlock s.translation.ledger (OnPage name place) pin.index (Sending blocks sent) =
+    subst (ShowsBlock s.translation.ledger (OnPage name place) pin.index) (ap (λ (x : Task). x.deed) one ∙ deed)
+    (subst (λ (x : Looked). ShowsBlock s.translation.ledger x pin.index r.task.deed) looked r.shows) in
+    let page = (shows block at).1 in
+    let e : Entry = record { item = record { key = key_of g.tag; body = g.body }; size = g.tag.size } in
+    let same : e ≡ page.entry = same_Some e page.entry (sym (page_known s.translation name place v.valid g) ∙ page.is)
+    in
+    ap (λ (x : Entry). x.item.body) same ∙ page.body_is
+
+-- and it goes out
+pub page_sent : (s : State) (pin : Pin) (task : Task) (blocks : List ReadBlock) (sent : ℕ) (block : ReadBlock)
+    (name : Name) (place : Place) → IsTied s → ShowsReads s →
+    Contains s.translation.pins pin → pin.index ≡ sent → task_of pin.tag s.tasks ≡ Some task →
+    task.deed ≡ Sending blocks sent → slice_get blocks sent ≡ Some block →
+    block.state ≡ WasRead → pin.looked ≡ OnPage name place →
+    (g : IsGroupPage s.translation.disk.cells s.translation.disk.finished s.translation.disk.erasing name place) →
+    deed_reply s task task.deed ≡ Some (block_message task sent g.body)
+page_sent s pin task blocks sent block name place v h in' index there deed at state looked g =
+    let body = page_body s pin task blocks sent block name place v h in' there deed (ap (slice_get blocks) index ∙ at)
+    looked g in
+    let hand = is_at_hand s.translation.work.rests (pin_of s task sent) in
+    ap (deed_reply s task) deed
+    ∙ (ap (next_block_reply s task sent) at
+    ∙ (ap (λ (x : ReadState). block_reply task sent block.body x hand) state
+    ∙ ap (λ (x : List ℕ). Some (block_message task sent x)) (sym body)))

@@ -1,0 +1,2 @@
+pub mod MessagesKeepShown
+pub mod MovesKeepShown

@@ -1,0 +1,203 @@
+-- Each call keeps that what is kept for a READ shows the blocks that the READ sends, and so does a whole life.
+use Rattle.std.proofs.Common.{◌≡◌, ℕ, ◌+◌, ◌==◌, Bool, true, false, not, if◌then◌else◌, List, ◌++◌, Option, Some, None}
+use Rattle.std.proofs.Common.{filter, fold, find, length, map, nat_lt, refl, sym, ap, ◌∙◌, subst}
+use Rattle.std.specs.Prelude.{slice_get}
+use Rattle.std.specs.List.{flat_map}
+use Rattle.std.proofs.lemmas.List.Elements.{All-filter, All-weaker}
+use Rattle.ufs_spec.proofs.Facts.{none-some, same_Some}
+use Rattle.ufs_spec.specs.Exchanges.{Answering, Awaiting, Deed, Gathering, Good, NotRead, Purpose, ReadBlock, ReadState}
+use Rattle.ufs_spec.specs.Exchanges.{Sending, Short, Task, SendingBytes, Unread, WasRead, is_short_of, is_task_of}
+use Rattle.ufs_spec.specs.Exchanges.{task_of, with_deed}
+use Rattle.ufs_spec.specs.Keys.{group_of}
+use Rattle.ufs_spec.specs.Ledger.{Ledger}
+use Rattle.ufs_spec.specs.Machine.{Host, Spelled, abort_moves, accepts, complete, data_for, data_heard, deed_behind}
+use Rattle.ufs_spec.specs.Machine.{deed_behind_block, deed_behind_sent, heard, is_aborted, managed, message_fault}
+use Rattle.ufs_spec.specs.Machine.{moves_behind, replied_by, service, set_deed, short_replied, task_behind, with_moves}
+use Rattle.ufs_spec.specs.Machine.{without_tasks, opens_short}
+use Rattle.ufs_spec.specs.Moves.{is_pin_of, moved}
+use Rattle.ufs_spec.specs.Refusals.{State, plain_now, numbers_of}
+use Rattle.ufs_spec.specs.Translation.{Pin}
+use Rattle.ufs_spec.specs.Commands as command
+use Rattle.ufs_spec.specs.declared.messages.Message.{Message}
+use Rattle.ufs_spec.specs.declared.messages.Message.TheVariants as message
+use Rattle.ufs_laws.proofs.walk.WaysOfCommands.{Accepted, Completion, IsAcceptedDeed, MeetsLock, Told, WhyCompleted}
+use Rattle.ufs_laws.proofs.walk.WaysOfCommands.{completed, completes_by}
+use Rattle.power_loss.specs.Exchange.{IsTied, MayCome}
+use Rattle.power_loss.specs.Shown.{ShowsReads, ShowsRight}
+use Rattle.power_loss.proofs.calls.CallsKeepTied.{operation_is}
+use Rattle.power_loss.proofs.open_tasks.FoundInLists.{found_is}
+use Rattle.power_loss.proofs.host_commands.OpenedByCommands.{is_free}
+use Rattle.power_loss.proofs.shown_contents.MovesKeepShown.{knows_more, wanted_shows}
+use Rattle.power_loss.proofs.books.SmallFacts.{eq_told}
+use Rattle.power_loss.proofs.shown_blocks.PinsShowBlocks.{SameBlocks, Show, Silent, aborted_ledger, aborted_pins}
+use Rattle.power_loss.proofs.shown_blocks.PinsShowBlocks.{filter_passes, found_kept, set_goes, show_goes, show_known}
+use Rattle.power_loss.proofs.shown_blocks.PinsShowBlocks.{show_left, silent_goes}
+use Rattle.power_loss.proofs.shown_blocks.CommandsShowBlocks.{command_shows, shows_if}
+
+-- Data
+
+set_shows : (s : State) (tag : ℕ) (deed : Deed) → Silent deed → ShowsReads s → ShowsReads (set_deed s tag deed)
+set_shows s tag deed silent h =
+    show_goes s.translation.ledger s.tasks (map (with_deed tag deed) s.tasks) s.translation.pins
+    (silent_goes s.tasks tag deed silent) h
+
+accepted_silent : (purpose : Purpose) (task : Task) (deed : Deed) → IsAcceptedDeed purpose task deed → Silent deed
+accepted_silent purpose task (Answering status carried) is = λ l x index. tt
+accepted_silent purpose task (Awaiting position) is = λ l x index. tt
+accepted_silent purpose task deed is = absurd is
+
+accepts_shows : (s : State) (c : command.Command) (claimed : ℕ) → ShowsReads s → ShowsReads (accepts s c claimed)
+accepts_shows s c claimed h =
+    show_known s.translation.ledger (accepts s c claimed).translation.ledger s.tasks s.translation.pins
+    (knows_more s.translation (group_of (plain_now s) c)) h
+
+complete_shows : (s : State) (task : Task) (purpose : Purpose) (bytes : List ℕ) → ShowsReads s →
+    ShowsReads (complete s task purpose bytes)
+complete_shows s task purpose bytes h = completes_by ShowsReads s task purpose bytes one
+  where
+    one : (k : Completion) → WhyCompleted purpose task k → ShowsReads (completed s task k)
+    one (Accepted c claimed deed) why =
+        set_shows (accepts s c claimed) task.tag deed (accepted_silent purpose task deed why)
+        (accepts_shows s c claimed h)
+    one (Told status) why = set_shows s task.tag _ (λ l x index. tt) h
+    one (MeetsLock claimed) why = set_shows s task.tag _ (λ l x index. tt) h
+
+data_shows : (s : State) (task : Task) (deed : Deed) (bytes : List ℕ) → ShowsReads s →
+    ShowsReads (data_for s task deed bytes)
+data_shows s task (Gathering purpose gathered asked) bytes h =
+    shows_if (nat_lt (length (gathered ++ bytes)) task.length) _ _
+    (set_shows s task.tag (Gathering purpose (gathered ++ bytes) false) (λ l x index. tt) h)
+    (complete_shows s task purpose (gathered ++ bytes) h)
+data_shows s task deed bytes h = h
+
+data_heard_shows : (s : State) (o : Option Task) (bytes : List ℕ) → ShowsReads s → ShowsReads (data_heard s o bytes)
+data_heard_shows s None bytes h = h
+data_heard_shows s (Some task) bytes h = data_shows s task task.deed bytes h
+
+-- Aborts
+
+without_shows : (s : State) (is : Task → Bool) → ShowsReads s → ShowsReads (without_tasks s is)
+without_shows s is h =
+    let l = s.translation.ledger in
+    let ts = filter is s.tasks in
+    let u = fold moved s.translation (flat_map (abort_moves (numbers_of s)) ts) in
+    subst (λ (x : Ledger). Show x (filter (λ task. not (is task)) s.tasks) u.pins)
+    (sym (aborted_ledger (numbers_of s) ts s.translation))
+    (show_left l is s.tasks u.pins (aborted_pins (ShowsRight l s.tasks) (numbers_of s) ts s.translation h))
+
+managed_shows : (s : State) (lun function meant : ℕ) → ShowsReads s → ShowsReads (managed s lun function meant)
+managed_shows s lun function meant h =
+    shows_if (service s lun function meant == 0x00) (without_tasks s (is_aborted lun function meant)) s
+    (without_shows s (is_aborted lun function meant) h) h
+
+-- Messages
+
+pub heard_shows : (s : State) (m : Message) (c : _) → IsTied s → MayCome s (Host (Spelled m c)) →
+    message_fault s m ≡ None → ShowsReads s → ShowsReads (heard s m c)
+heard_shows s (message.Command flags lun tag expected taken) c v may free h =
+    command_shows s (record { flags = flags; lun = lun; tag = tag; expected = expected; bytes = taken; cdb = c }) v
+    (is_free s tag (opens_short s (message.Command flags lun tag expected taken)) free)
+    (λ command e. operation_is c command taken may.1.2 e) h
+heard_shows s (message.DataOut lun tag offset «data») c v may free h =
+    data_heard_shows s (task_of tag s.tasks) «data».items h
+heard_shows s (message.TaskRequest lun tag function meant) c v may free h = managed_shows s lun function meant h
+heard_shows s m c v may free h = h
+
+-- Replies
+
+sent_same : (task : Task) (blocks : List ReadBlock) (sent : ℕ) →
+    SameBlocks (Sending blocks sent) (deed_behind_sent task blocks sent)
+sent_same task blocks sent = by (nat_lt (sent + 1) (length blocks))
+  where
+    by : (b : Bool) →
+        SameBlocks (Sending blocks sent) (if b then Sending blocks (sent + 1) else Answering Good task.length)
+    by true = λ l x index h. h
+    by false = λ l x index h. tt
+
+block_same : (task : Task) (blocks : List ReadBlock) (sent : ℕ) (o : Option ReadBlock) (deed : Deed) →
+    deed_behind_block task blocks sent o ≡ Some deed → SameBlocks (Sending blocks sent) deed
+block_same task blocks sent None deed e = absurd (none-some deed e)
+block_same task blocks sent (Some block) deed e = by block.state e
+  where
+    by : (state : ReadState) →
+        deed_behind_block task blocks sent (Some (record { body = block.body; state = state })) ≡ Some deed →
+        SameBlocks (Sending blocks sent) deed
+    by Unread k =
+        subst (SameBlocks (Sending blocks sent)) (same_Some (deed_behind_sent task blocks sent) deed k)
+        (sent_same task blocks sent)
+    by WasRead k =
+        subst (SameBlocks (Sending blocks sent)) (same_Some (deed_behind_sent task blocks sent) deed k)
+        (sent_same task blocks sent)
+    by NotRead k = absurd (none-some deed k)
+
+behind_same : (task : Task) (before deed : Deed) → deed_behind task before ≡ Some deed → SameBlocks before deed
+behind_same task (Sending blocks sent) deed e = block_same task blocks sent (slice_get blocks sent) deed e
+behind_same task (Gathering purpose gathered asked) deed e =
+    subst (SameBlocks (Gathering purpose gathered asked)) (same_Some (Gathering purpose gathered true) deed e)
+    (λ l x index h. tt)
+behind_same task (SendingBytes bytes) deed e =
+    subst (SameBlocks (SendingBytes bytes)) (same_Some (Answering Good task.length) deed e) (λ l x index h. tt)
+behind_same task before deed e = absurd (none-some deed e)
+
+moves_show : (s : State) (task : Task) (deed : Deed) → ShowsReads s → ShowsReads (with_moves s (moves_behind task deed))
+moves_show s task (Sending blocks sent) h =
+    wanted_shows s.translation.ledger s.tasks task.tag (sent + 1) true
+    (filter (λ pin. not (is_pin_of task.tag sent pin)) s.translation.pins)
+    (All-filter (λ pin. not (is_pin_of task.tag sent pin))
+    (ShowsRight s.translation.ledger s.tasks) s.translation.pins h)
+moves_show s task (Awaiting commands) h =
+    show_known s.translation.ledger
+    (with_moves s (moves_behind task (Awaiting commands))).translation.ledger s.tasks s.translation.pins
+    (λ name e k. k) h
+moves_show s task deed h = h
+
+task_behind_shows : (s : State) (task : Task) (deed : Option Deed) → task_of task.tag s.tasks ≡ Some task →
+    ((d : Deed) → deed ≡ Some d → SameBlocks task.deed d) → ShowsReads s →
+    ShowsReads (task_behind s task deed)
+task_behind_shows s task (Some deed) found same h =
+    show_goes s.translation.ledger s.tasks (map (with_deed task.tag deed) s.tasks) s.translation.pins
+    (set_goes s.tasks task deed found (same deed refl)) h
+task_behind_shows s task None found same h =
+    All-weaker (λ pin. ShowsRight l s.tasks pin × (not (pin.tag == task.tag) ≡ true))
+    (ShowsRight l (filter (λ t. not (is_task_of task.tag t)) s.tasks))
+    (λ pin r. record {
+      task = r.0.task;
+      there = found_kept (is_task_of pin.tag) (is_task_of task.tag) s.tasks r.0.task r.0.there (apart pin r.0 r.1);
+      shows = r.0.shows;
+    })
+    (filter (λ pin. not (pin.tag == task.tag)) s.translation.pins)
+    (filter_passes (ShowsRight l s.tasks) (λ pin. not (pin.tag == task.tag)) s.translation.pins h)
+  where
+    l : Ledger
+    l = s.translation.ledger
+
+    no : (b : Bool) → not b ≡ true → b ≡ false
+    no true e = sym e
+    no false e = refl
+
+    apart : (pin : Pin) (r : ShowsRight l s.tasks pin) → not (pin.tag == task.tag) ≡ true →
+        is_task_of task.tag r.task ≡ false
+    apart pin r e =
+        let own : r.task.tag ≡ pin.tag =
+        eq_told r.task.tag pin.tag (found_is (is_task_of pin.tag) s.tasks r.task r.there) in
+        ap (λ (n : ℕ). n == task.tag) own ∙ no (pin.tag == task.tag) e
+
+short_shows : (s : State) (o : Option Short) → ShowsReads s → ShowsReads (short_replied s o)
+short_shows s None h = h
+short_shows s (Some short) h = by short.awaits
+  where
+    by : (o : Option ℕ) → ShowsReads (short_replied s (Some (record short { awaits = o })))
+    by None = h
+    by (Some commands) =
+        show_known s.translation.ledger
+        (short_replied s (Some (record short { awaits = Some commands }))).translation.ledger s.tasks s.translation.pins
+        (λ name e k. k) h
+
+pub replied_shows : (s : State) (tag : ℕ) (o : Option Task) → task_of tag s.tasks ≡ o → ShowsReads s →
+    ShowsReads (replied_by s tag o)
+replied_shows s tag (Some task) e h =
+    let own : task.tag ≡ tag = eq_told task.tag tag (found_is (is_task_of tag) s.tasks task e) in
+    task_behind_shows (with_moves s (moves_behind task task.deed)) task (deed_behind task task.deed)
+    (ap (λ (n : ℕ). task_of n s.tasks) own ∙ e)
+    (λ d k. behind_same task task.deed d k) (moves_show s task task.deed h)
+replied_shows s tag None e h = short_shows s (find (is_short_of tag) s.shorts) h

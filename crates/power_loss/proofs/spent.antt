@@ -1,0 +1,5 @@
+pub mod BeforeTheFirstMark
+pub mod BlockLost
+pub mod BlockLostAtAnyMoment
+pub mod CellsLost
+pub mod ErasedIsSpent

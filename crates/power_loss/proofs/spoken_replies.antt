@@ -1,0 +1,2 @@
+pub mod ShortReplies
+pub mod TaskReplies

@@ -1,0 +1,178 @@
+-- Both replies of each open short exchange are messages, in every state that the calls lead to.
+use Rattle.std.proofs.Common.{◌≡◌, ℕ, ◌==◌, ◌≤◌, Bool, true, false, All, List, [], ◌∷◌, length, map, Option, Some, None}
+use Rattle.std.proofs.Common.{refl, sym, subst, inl, inr, arith}
+use Rattle.std.specs.Prelude.{Ok, if◌then◌else◌, find, is_none, nat_le, slice_get}
+use Rattle.std.specs.List.{list_any}
+use Rattle.std.proofs.lemmas.List.Elements.{All-append, All-cons, All-filter, All-map, All-nil}
+use Rattle.std.proofs.lemmas.Option.{get_or_from_slice_get, slice_get_within}
+use Rattle.ufs_laws.proofs.pages.ByteLists.{bytes-nil}
+use Rattle.ufs_laws.proofs.exchanges.ReplySizes.{reply_speaks, response_fits, size}
+use Rattle.ufs_laws.proofs.exchanges.SpokenCalls.{life_keeps}
+use Rattle.ufs_laws.proofs.exchanges.AbortedTasks.{every_at}
+use Rattle.ufs_laws.specs.Exchange.{Every, IsSpoken}
+use Rattle.ufs_laws.specs.Replies.{ShortSpeaks, ShortsSpeak, TaskSpeaks}
+use Rattle.ufs_spec.specs.Cells.{Array}
+use Rattle.ufs_spec.specs.Disk.{Spot}
+use Rattle.ufs_spec.specs.Exchanges.{Short, Task, TaskSetFull, is_short_of, response, short_reply, task_of}
+use Rattle.ufs_spec.specs.Lives.{IsOpened, Life}
+use Rattle.ufs_spec.specs.Machine.{Allowed, Answer, Call, Done, Due, Faulty, Heard, Host, IsHeard, OfDone, OfHost}
+use Rattle.ufs_spec.specs.Machine.{OfReply, OfTake, OfTurn, Reply, Spelled, Take, Turn, aborts, behind, command_heard}
+use Rattle.ufs_spec.specs.Machine.{fills, heard, hears, is_durable, is_named, lock_applied, managed, observe}
+use Rattle.ufs_spec.specs.Machine.{opened_with, query_unanswered, replied_by, service, service_found, service_of}
+use Rattle.ufs_spec.specs.Machine.{short_locked, short_replied, tag_in, task_locked, with_short}
+use Rattle.ufs_spec.specs.Messages.{IsByte, IsMessage, spelling}
+use Rattle.ufs_spec.specs.Refusals.{Request, State, locked, lun_of, numbers_of, refusal}
+use Rattle.ufs_spec.specs.Stages.{manages_tasks, most_tasks}
+use Rattle.ufs_spec.specs.declared.configs.Numbers.{Numbers}
+use Rattle.ufs_spec.specs.declared.events.Event.{Event}
+use Rattle.ufs_spec.specs.declared.events.Output.{Output}
+use Rattle.ufs_spec.specs.declared.messages.Message.{Message}
+use Rattle.ufs_spec.specs.declared.messages.Message.TheVariants as message
+use Rattle.ufs_spec.specs.declared.scsi.Cdb.{Cdb}
+use Rattle.power_loss.proofs.open_tasks.OpenExchanges.{data_leaves, opened_adds, replied_leaves}
+use Rattle.power_loss.proofs.kept_promises.ShortExchangesEnd.{ends_shorts, given_shorts, managed_shorts}
+
+-- Lists of short exchanges
+
+same_speak : (s t : State) → t.shorts ≡ s.shorts → ShortsSpeak s → ShortsSpeak t
+same_speak s t e h = subst (All ShortSpeaks) (sym e) h
+
+-- one is opened
+one_speaks : (s : State) (tag : ℕ) (m : Message) → IsMessage m → ShortsSpeak s →
+    ShortsSpeak (with_short s (short_reply tag m))
+one_speaks s tag m is h =
+    All-append ShortSpeaks s.shorts (short_reply tag m ∷ []) h
+    (All-cons ShortSpeaks (short_reply tag m) [] (record { reply = is; locked_reply = is }) (All-nil ShortSpeaks))
+
+-- A COMMAND
+
+command_speaks : (s : State) (r : Request) → IsMessage (response r.lun r.tag r.expected 0 TaskSetFull) → ShortsSpeak s →
+    ShortsSpeak (command_heard s r)
+command_speaks s r is h = by (nat_le most_tasks (length s.tasks))
+  where
+    by : (b : Bool) → ShortsSpeak
+        (if b then with_short s (short_reply r.tag (response r.lun r.tag r.expected 0 TaskSetFull))
+        else opened_with s r (refusal s r))
+    by true = one_speaks s r.tag (response r.lun r.tag r.expected 0 TaskSetFull) is h
+    by false = same_speak s (opened_with s r (refusal s r)) (opened_adds s r (refusal s r)).shorts_same h
+
+-- A TASK MANAGEMENT REQUEST, whether it is carried out or not
+
+byte_if : (b : Bool) (m n : ℕ) → IsByte m → IsByte n → IsByte (if b then m else n)
+byte_if true m n h k = h
+byte_if false m n h k = k
+
+found_byte : (b : Bool) → IsByte (service_found b)
+found_byte true = omega arith
+found_byte false = omega arith
+
+service_of_byte : (s : State) (lun function meant : ℕ) → IsByte (service_of s lun function meant)
+service_of_byte s lun function meant =
+    byte_if (is_none (lun_of (numbers_of s) lun)) _ _ (omega arith)
+    (byte_if (aborts function) _ _ (omega arith)
+    (byte_if (function == 0x80) _ _ (found_byte (list_any (is_named lun meant) s.tasks))
+    (byte_if (function == 0x81) _ _ (found_byte (list_any (λ (task : Task). task.lun == lun) s.tasks)) (omega arith))))
+
+service_byte : (s : State) (lun function meant : ℕ) → IsByte (service s lun function meant)
+service_byte s lun function meant = byte_if manages_tasks (service_of s lun function meant) 0x04
+    (service_of_byte s lun function meant) (omega arith)
+
+-- Messages
+
+heard_speaks : (s : State) (m : Message) (c : Option Cdb) → IsMessage m → ShortsSpeak s → ShortsSpeak (heard s m c)
+heard_speaks s (message.NopOut tag) c is h = one_speaks s tag (message.NopIn tag) is h
+heard_speaks s (message.Command flags lun tag expected bytes) c is h =
+    command_speaks s (record { flags = flags; lun = lun; tag = tag; expected = expected; bytes = bytes; cdb = c })
+    (response_fits lun tag expected 0 TaskSetFull is.1 is.2 is.3 (omega arith) tt) h
+heard_speaks s (message.DataOut lun tag offset «data») c is h =
+    same_speak s (heard s (message.DataOut lun tag offset «data») c)
+    (data_leaves s tag (task_of tag s.tasks) «data».items refl).shorts h
+heard_speaks s (message.TaskRequest lun tag function meant) c is h =
+    one_speaks (managed s lun function meant) tag (message.TaskResponse lun tag (service s lun function meant))
+    (is.0, is.1, service_byte s lun function meant)
+    (same_speak s (managed s lun function meant) (managed_shorts s lun function meant) h)
+heard_speaks s (message.QueryRequest tag function asked size value «data») c is h =
+    let fields = is.2 in
+    one_speaks s tag (query_unanswered tag function asked) (
+      is.0,
+      is.1,
+      omega arith,
+      (fields.0, fields.1, fields.2, fields.3, omega arith, omega arith),
+      omega arith,
+      bytes-nil,
+      inr refl,
+    ) h
+heard_speaks s other c is h = h
+
+hears_speaks : (s : State) (x : Heard) → ((bytes : List ℕ) × IsHeard bytes x) → ShortsSpeak s → ShortsSpeak (hears s x)
+hears_speaks s (Spelled m c) is h = heard_speaks s m c is.1.0.0 h
+hears_speaks s (Faulty fault) is h = h
+
+-- Replies
+
+short_speaks : (s : State) (x : Option Short) → ShortsSpeak s → ShortsSpeak (short_replied s x)
+short_speaks s None h = h
+short_speaks s (Some short) h = All-filter _ ShortSpeaks s.shorts h
+
+replied_speaks : (s : State) (tag : ℕ) (x : Option Task) → ShortsSpeak s → ShortsSpeak (replied_by s tag x)
+replied_speaks s tag (Some task) h = same_speak s (replied_by s tag (Some task)) (replied_leaves s task).shorts h
+replied_speaks s tag None h = short_speaks s (find (is_short_of tag) s.shorts) h
+
+-- Every call
+
+behind_speaks : (s : State) (call : Call) (answer : Answer) → IsSpoken call → ShortsSpeak s →
+    ShortsSpeak (behind s call answer)
+behind_speaks s (Host x) (OfHost (Ok done)) is h = hears_speaks s x is h
+behind_speaks s (Take die) (OfTake flight) is h = same_speak s (behind s (Take die) (OfTake flight))
+    (given_shorts s die flight) h
+behind_speaks s (Done die ending left) (OfDone true) is h =
+    same_speak s (behind s (Done die ending left) (OfDone true))
+    (ends_shorts s die (s.translation.disk.flights die) ending left) h
+behind_speaks s Turn (OfTurn due) is h = h
+behind_speaks s Reply (OfReply (Some m)) is h = replied_speaks s (tag_in m) (task_of (tag_in m) s.tasks) h
+behind_speaks s call answer is h = h
+
+locked_speaks : (s : State) (short : Short) → ShortSpeaks short → ShortSpeaks (short_locked s short)
+locked_speaks s short h = by (is_durable s short.awaits)
+  where
+    by : (b : Bool) → ShortSpeaks (if b then short else record short { awaits = None; reply = short.locked_reply })
+    by true = h
+    by false = record { reply = h.locked_reply; locked_reply = h.locked_reply }
+
+lock_speaks : (s : State) → ShortsSpeak s → ShortsSpeak (lock_applied s)
+lock_speaks s h = by (locked s)
+  where
+    by : (b : Bool) → ShortsSpeak (if b then record s {
+      tasks = map (task_locked s) s.tasks;
+      shorts = map (short_locked s) s.shorts;
+    } else s)
+    by true = All-map ShortSpeaks (short_locked s) s.shorts (λ k d inside. locked_speaks s _ (h k d inside))
+    by false = h
+
+pub call_speaks : (s : State) (call : Call) (answer : Answer) → IsSpoken call → Allowed s call answer → ShortsSpeak s →
+    ShortsSpeak (observe s call answer)
+call_speaks s call answer is may h = lock_speaks (fills (behind s call answer)) (behind_speaks s call answer is h)
+
+pub shorts_life : (s : State) (es : List Event) (os : List Output) (t : State) → ShortsSpeak s → Life s es os t →
+    ShortsSpeak t
+shorts_life = life_keeps ShortsSpeak call_speaks
+
+pub shorts_open : (n : Numbers) (array : Array) (bad : Spot → Bool) (s : State) → IsOpened n array bad s → ShortsSpeak s
+shorts_open n array bad s h = subst (All ShortSpeaks) (sym h.no_shorts) (All-nil ShortSpeaks)
+
+-- What is due
+
+pub short_message : (s : State) (k : ℕ) (short : Short) → ShortsSpeak s → slice_get s.shorts k ≡ Some short →
+    IsMessage short.reply
+short_message s k short h there =
+    let inside = slice_get_within s.shorts k short there in
+    (subst ShortSpeaks (get_or_from_slice_get s.shorts k short short there) (h k short inside)).reply
+
+pub due_message : (s : State) (m : Message) → Every TaskSpeaks s.tasks → ShortsSpeak s → Due s m → IsMessage m
+due_message s m tasks shorts (inl due) = reply_speaks s due.1 m (every_at TaskSpeaks s.tasks due.0 due.1 tasks due.2)
+    due.3
+due_message s m tasks shorts (inr due) = subst IsMessage (sym due.4) (short_message s due.0 due.1 shorts due.2)
+
+pub due_spelled : (s : State) (m : Message) → Every TaskSpeaks s.tasks → ShortsSpeak s → Due s m →
+    IsMessage m × (length (spelling m) ≤ 4128)
+due_spelled s m tasks shorts due = let is = due_message s m tasks shorts due in (is, size m is)

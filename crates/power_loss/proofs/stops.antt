@@ -1,0 +1,9 @@
+pub mod ImageContents
+pub mod ImagePages
+pub mod LawfulLeftovers
+pub mod LeftCells
+pub mod LeftImage
+pub mod LeftIsSound
+pub mod LeftPages
+pub mod LeftoverLists
+pub mod SealedCells

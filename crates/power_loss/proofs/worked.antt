@@ -1,0 +1,5 @@
+pub mod FailedWrite
+pub mod StoppedLives
+pub mod StoppedPages
+pub mod StoppedWrite
+pub mod TornTwice

@@ -1,0 +1,2 @@
+pub mod OnlyAnswers
+pub mod RightAnswers

@@ -1,0 +1,2 @@
+pub mod Connectives
+pub mod SearchOverPlaces

@@ -1,0 +1,13 @@
+pub mod AbortedTasks
+pub mod BytesHeard
+pub mod DataInOrder
+pub mod DeedLaws
+pub mod HeardOnce
+pub mod ReadSendsBlocks
+pub mod ReplySizes
+pub mod RequestsSettled
+pub mod RpmbResults
+pub mod SpokenCalls
+pub mod TakenCommandsKnown
+pub mod TaskManagement
+pub mod TasksSpeak

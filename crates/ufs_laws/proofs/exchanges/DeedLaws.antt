@@ -1,0 +1,71 @@
+-- What holds of what a task does holds of what it does next: behind a reply, at a lock, and where a block was read.
+use Rattle.std.proofs.Common.{◌≡◌, ◌+◌, ℕ, Bool, true, nat_le, nat_lt, List, length, map, Option, Some, None, subst}
+use Rattle.std.specs.Prelude.{slice_get}
+use Rattle.ufs_laws.proofs.walk.TaskLaws.{every_mapped}
+use Rattle.ufs_laws.specs.Exchange.{Every}
+use Rattle.ufs_spec.proofs.Facts.{if_both, if_cases, none-some, same_Some}
+use Rattle.ufs_spec.specs.Exchanges.{Answering, Awaiting, Deed, Gathering, Good, NotRead, Purpose, ReadBlock, ReadState}
+use Rattle.ufs_spec.specs.Exchanges.{Sending, SendingBytes, Task, filled, is_task_of, with_deed, write_error}
+use Rattle.ufs_spec.specs.Machine.{deed_behind, deed_behind_block, deed_behind_sent, deed_behind_state, deed_locked}
+use Rattle.ufs_spec.specs.Machine.{deed_read, durable, is_to_fill, task_filled, task_read, with_block}
+use Rattle.ufs_spec.specs.Refusals.{State}
+
+-- a law of what the task does
+pub record IsDeedLaw (D : Deed → Type 0) (task : Task) : Type 0 where
+  pub asked : (purpose : Purpose) (gathered : List ℕ) (was : Bool) → D (Gathering purpose gathered was) →
+      D (Gathering purpose gathered true)
+  pub next : (blocks : List ReadBlock) (sent : ℕ) → nat_lt (sent + 1) (length blocks) ≡ true → D (Sending blocks sent) →
+      D (Sending blocks (sent + 1))
+  pub sent : D (Answering Good task.length)
+  pub fails : D (Answering write_error task.length)
+  pub read : (blocks : List ReadBlock) (sent index : ℕ) (state : ReadState) → D (Sending blocks sent) →
+      D (Sending (with_block blocks index state (slice_get blocks index)) sent)
+
+module _ (D : Deed → Type 0) (task : Task) (law : IsDeedLaw D task) where
+  state_behind : (blocks : List ReadBlock) (sent : ℕ) (state : ReadState) (deed : Deed) → D (Sending blocks sent) →
+      deed_behind_state task blocks sent state ≡ Some deed → D deed
+  state_behind blocks sent NotRead deed d e = absurd (none-some deed e)
+  state_behind blocks sent state deed d e =
+      subst D (same_Some (deed_behind_sent task blocks sent) deed e)
+      (if_cases D (nat_lt (sent + 1) (length blocks)) (λ more. law.next blocks sent more d) (λ last. law.sent))
+
+  block_behind : (blocks : List ReadBlock) (sent : ℕ) (block : Option ReadBlock) (deed : Deed) →
+      D (Sending blocks sent) →
+      deed_behind_block task blocks sent block ≡ Some deed → D deed
+  block_behind blocks sent None deed d e = absurd (none-some deed e)
+  block_behind blocks sent (Some block) deed d e = state_behind blocks sent block.state deed d e
+
+  pub goes : (before deed : Deed) → D before → deed_behind task before ≡ Some deed → D deed
+  goes (Gathering purpose gathered was) deed d e =
+      subst D (same_Some (Gathering purpose gathered true) deed e) (law.asked purpose gathered was d)
+  goes (Sending blocks sent) deed d e = block_behind blocks sent (slice_get blocks sent) deed d e
+  goes (SendingBytes bytes) deed d e = subst D (same_Some (Answering Good task.length) deed e) law.sent
+  goes before deed d e = absurd (none-some deed e)
+
+  pub locks : (u : State) (deed : Deed) → D deed → D (deed_locked u task deed)
+  locks u (Awaiting commands) d = if_both D (nat_le commands (durable u)) d law.fails
+  locks u deed d = d
+
+  pub reads : (index : ℕ) (state : ReadState) (deed : Deed) → D deed → D (deed_read index state deed)
+  reads index state (Sending blocks sent) d = law.read blocks sent index state d
+  reads index state deed d = d
+
+-- Tasks
+
+-- a register that is filled
+pub filled_keeps : (P : Task → Type 0) (u : State) (task : Task) → P (record task { request = filled task.request }) →
+    P task → P (task_filled u task)
+filled_keeps P u task filled h = if_both P (is_to_fill u task) filled h
+
+-- a block that was read
+pub read_keeps : (P : Task → Type 0) (tag index : ℕ) (state : ReadState) (task : Task) →
+    P (record task { deed = deed_read index state task.deed }) → P task → P (task_read tag index state task)
+read_keeps P tag index state task read h = if_both P (is_task_of tag task) read h
+
+-- one task's new deed
+pub set_keeps : (P : Task → Type 0) (tag : ℕ) (deed : Deed) (tasks : List Task) →
+    ((task : Task) → is_task_of tag task ≡ true → P task → P (record task { deed = deed })) → Every P tasks → Every P
+    (map (with_deed tag deed) tasks)
+set_keeps P tag deed tasks set =
+    every_mapped P (with_deed tag deed) (λ task h. if_cases P (is_task_of tag task) (λ is. set task is h) (λ other. h))
+    tasks

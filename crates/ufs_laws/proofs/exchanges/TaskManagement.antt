@@ -1,0 +1,89 @@
+-- A task management request that is answered other than 00h changes no task; and which kinds of messages are heard.
+use Rattle.std.proofs.Common.{◌≡◌, ◌≢◌, ℕ, ◌==◌, Bool, true, false, cond, if◌then◌else◌, List, [], ◌∷◌, Option, Some}
+use Rattle.std.proofs.Common.{None, ap, ne_eqb, ◌∙◌, refl, sym, ⊎_elim}
+use Rattle.std.specs.Prelude.{is_none}
+use Rattle.std.specs.List.{list_all, list_any}
+use Rattle.std.proofs.lemmas.Bool.{and_parts, eqb-true, false≢true, not-false, or_cases}
+use Rattle.std.proofs.lemmas.Option.{none-some}
+use Rattle.ufs_spec.specs.Exchanges.{Task, short_reply}
+use Rattle.ufs_spec.specs.Machine.{IsHeard, Spelled, aborts, carried_out, service_found, heard, is_aborted, is_named}
+use Rattle.ufs_spec.specs.Machine.{service, service_of, with_short, without_tasks}
+use Rattle.ufs_spec.specs.Messages.{IsAmong, code_of, fault_among, has_digest, has_extra_header, has_other_code}
+use Rattle.ufs_spec.specs.Messages.{has_wrong_length, host_codes, is_among, is_short, known_codes, read_fault_of}
+use Rattle.ufs_spec.specs.Stages.{heard_codes, read_codes}
+use Rattle.ufs_spec.specs.Refusals.{Lun, State, lun_of, numbers_of}
+use Rattle.ufs_spec.specs.declared.faults.HostFault.{HostFault}
+use Rattle.ufs_spec.specs.declared.faults.HostFault.TheVariants as fault
+use Rattle.ufs_spec.specs.declared.messages.Message.{Message}
+use Rattle.ufs_spec.specs.declared.messages.Message.TheVariants as message
+use Rattle.ufs_spec.specs.declared.scsi.Cdb.{Cdb}
+
+-- Task management
+
+pub not_carried_out : (s : State) (lun function meant code : ℕ) → code ≢ 0x00 →
+    carried_out s lun function meant code ≡ s
+not_carried_out s lun function meant code other =
+    ap (λ (b : Bool). cond b (without_tasks s (is_aborted lun function meant)) s) (ne_eqb code 0x00 other)
+
+pub only_answered : (s : State) (lun tag function meant : ℕ) (c : Option Cdb) → service s lun function meant ≢ 0x00 →
+    heard s (message.TaskRequest lun tag function meant) c ≡ with_short s
+    (short_reply tag (message.TaskResponse lun tag (service s lun function meant)))
+only_answered s lun tag function meant c other =
+    ap (λ (t : State). with_short t (short_reply tag (message.TaskResponse lun tag (service s lun function meant))))
+    (not_carried_out s lun function meant (service s lun function meant) other)
+
+-- what a request is answered, once tasks are managed
+abbrev answer_of : State → ℕ → ℕ → ℕ → Option Lun → Bool → ℕ
+answer_of s lun function meant unit ends =
+    if is_none unit then 0x09
+    else if ends then 0x00
+    else if function == 0x80 then service_found (list_any (is_named lun meant) s.tasks)
+    else if function == 0x81 then service_found (list_any (λ (task : Task). task.lun == lun) s.tasks)
+    else 0x04
+
+pub no_unit_answered : (s : State) (lun function meant : ℕ) → lun_of (numbers_of s) lun ≡ None →
+    service_of s lun function meant ≡ 0x09
+no_unit_answered s lun function meant none =
+    ap (λ (o : Option Lun). answer_of s lun function meant o (aborts function)) none
+
+pub answered_complete : (s : State) (lun function meant : ℕ) (unit : Lun) → lun_of (numbers_of s) lun ≡ Some unit →
+    aborts function ≡ true →
+    service_of s lun function meant ≡ 0x00
+answered_complete s lun function meant unit there ends =
+    ap (λ (o : Option Lun). answer_of s lun function meant o (aborts function)) there
+    ∙ ap (λ (b : Bool). answer_of s lun function meant (Some unit) b) ends
+
+-- Kinds
+
+-- no fault was told
+none_told : (b : Bool) (told : HostFault) (rest : Option HostFault) → (if b then Some told else rest) ≡ None →
+    (b ≡ false) × (rest ≡ None)
+none_told true told rest h = absurd (none-some _ (sym h))
+none_told false told rest h = (refl, h)
+
+-- bytes without a fault have one of the codes that are taken
+is_taken : (codes bytes : List ℕ) → fault_among codes bytes ≡ None → is_among codes (code_of bytes) ≡ true
+is_taken codes bytes none =
+    let short = none_told (is_short bytes) fault.Short _ none in
+    let size = none_told (has_wrong_length bytes) fault.Length _ short.1 in
+    let digest = none_told (has_digest bytes) fault.Digest _ size.1 in
+    let extra = none_told (has_extra_header bytes) fault.Ehs _ digest.1 in
+    let code = none_told (has_other_code codes bytes) fault.Code _ extra.1 in
+    not-false (is_among codes (code_of bytes)) code.0
+
+-- a code that is among some is among all
+among_all : (some all : List ℕ) → list_all (is_among all) some ≡ true → (n : ℕ) → is_among some n ≡ true →
+    is_among all n ≡ true
+among_all [] all every n h = absurd (false≢true h)
+among_all (x ∷ xs) all every n h =
+    let both = and_parts (is_among all x) (list_all (is_among all) xs) every in
+    ⊎_elim (λ (e : (n == x) ≡ true). ap (is_among all) (eqb-true n x e) ∙ both.0)
+    (λ (e : is_among xs n ≡ true). among_all xs all both.1 n e)
+    (or_cases (n == x) (is_among xs n) h)
+
+pub heard_kind : (bytes : List ℕ) (m : Message) (c : Option Cdb) → IsHeard bytes (Spelled m c) →
+    IsAmong host_codes (code_of bytes)
+heard_kind bytes m c h = among_all heard_codes host_codes refl (code_of bytes) (is_taken heard_codes bytes h.1)
+
+pub read_kind : (bytes : List ℕ) → read_fault_of bytes ≡ None → IsAmong known_codes (code_of bytes)
+read_kind bytes none = among_all read_codes known_codes refl (code_of bytes) (is_taken read_codes bytes none)

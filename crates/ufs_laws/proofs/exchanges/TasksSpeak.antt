@@ -1,0 +1,334 @@
+-- Each task that a call opens or changes fits what it needs for its replies.
+use Rattle.std.proofs.Common.{◌≡◌, ◌≢◌, ◌⊎◌, ℕ, zero, suc, ◌+◌, ◌-◌, ◌*◌, ◌≤◌, ◌<◌, ◌^◌, ◌/◌, ◌%◌, ◌==◌, Bool, true}
+use Rattle.std.proofs.Common.{false, min, if◌then◌else◌, List, [], ◌∷◌, ◌++◌, length, map, get_or, Option, Some, None}
+use Rattle.std.proofs.Common.{refl, sym, ap, ◌∙◌, subst, inl, inr, arith, ⊎_elim}
+use Rattle.byteorder.specs.Endian.{big_bytes}
+use Rattle.std.specs.Prelude.{slice_get, slice_set, take}
+use Rattle.std.proofs.lemmas.Grind.{div_ceil_times}
+use Rattle.std.proofs.lemmas.List.{length-set, length-take, length-take-le}
+use Rattle.std.proofs.lemmas.Option.{get_or_from_slice_get, slice_get_within}
+use Rattle.ufs_laws.proofs.pages.ByteLists.{bytes-append, bytes-cons, bytes-number, bytes-take, bytes-zeros}
+use Rattle.ufs_laws.proofs.plain_contents.ListParts.{get_or-made, length-made}
+use Rattle.ufs_laws.proofs.walk.WaysOfCommands.{Answered, Beginning, Gathered, Reading, Telling, Waiting, WhyBegun}
+use Rattle.ufs_laws.proofs.walk.WaysOfCommands.{begins_by, begun_as, command_few, answer_one}
+use Rattle.ufs_laws.proofs.walk.TaskLaws.{Any, IsTaskLaw, OneMore, task_for}
+use Rattle.ufs_laws.specs.Exchange.{Every, IsRequest}
+use Rattle.ufs_laws.specs.Replies.{DeedSpeaks, IsStatus, TaskSpeaks}
+use Rattle.ufs_spec.proofs.Facts.{eqb-false, ltb-true, same_Some}
+use Rattle.ufs_spec.specs.Cdbs.{IsCdb, address_of, blocks_of, operation_of, read_10, read_6}
+use Rattle.ufs_spec.specs.Exchanges.{Answering, Awaiting, Deed, Gathering, Good, ReadBlock, ReadState, Sending, Status}
+use Rattle.ufs_spec.specs.Exchanges.{Task, SendingBytes, Unread, bytes_sent, invalid_field, invalid_operation, no_unit}
+use Rattle.ufs_spec.specs.Exchanges.{task_of, with_deed, write_error}
+use Rattle.ufs_spec.specs.Keys.{IsBlock, below}
+use Rattle.ufs_spec.specs.Machine.{IsCdbIn, begun, blocks_expected, capacity_bytes, data_begun, deed_locked, deed_read}
+use Rattle.ufs_spec.specs.Machine.{no_sense, read_begun, read_blocks, sending, sending_bytes, set_state, unit_or_first}
+use Rattle.ufs_spec.specs.Machine.{with_block}
+use Rattle.ufs_spec.specs.Messages.{AreBytes, zeros}
+use Rattle.ufs_spec.specs.Plain.{block_at}
+use Rattle.ufs_spec.specs.Refusals.{Line, Request, State, first_line, lacks_unit, line, lines_behind, lun_of, not_taken}
+use Rattle.ufs_spec.specs.Refusals.{numbers_of, plain_now, refusal, spec_of, unit_of_request}
+use Rattle.ufs_spec.specs.declared.configs.UnitSpec.{UnitSpec}
+use Rattle.ufs_spec.specs.declared.scsi.Cdb.{Cdb}
+use Rattle.ufs_laws.proofs.exchanges.DeedLaws.{IsDeedLaw, filled_keeps, goes, locks, read_keeps, reads}
+
+-- ## Statuses of the table
+
+abbrev AllStatus : List Line → Type 0
+AllStatus [] = Unit {0}
+AllStatus (l ∷ ls) = IsStatus l.status × AllStatus ls
+
+line_status : (ls : List Line) (status : Status) → AllStatus ls → first_line ls ≡ Some status → IsStatus status
+line_status [] status all e = let none : None ≡ Some status = e in cc
+line_status (l ∷ ls) status all e = by l.applies e (λ k. line_status ls status all.1 k)
+  where
+    by : (b : Bool) → (if b then Some l.status else first_line ls) ≡ Some status →
+        (first_line ls ≡ Some status → IsStatus status) → IsStatus status
+    by true k rest = subst IsStatus (same_Some l.status status k) all.0
+    by false k rest = rest k
+
+is_field : IsStatus invalid_field
+is_field = (omega arith, omega arith, omega arith)
+
+later_status : (s : State) (r : Request) (c : Option Cdb) → AllStatus (lines_behind s r c)
+later_status s r None = (is_field, tt)
+later_status s r (Some c) = (
+  is_field,
+  (
+    (omega arith, omega arith, omega arith),
+    (
+      is_field,
+      (
+        (omega arith, omega arith, omega arith),
+        (
+          (omega arith, omega arith, omega arith),
+          ((omega arith, omega arith, omega arith), ((omega arith, omega arith, omega arith), (is_field, (tt, tt)))),
+        ),
+      ),
+    ),
+  ),
+)
+
+pub table_status : (s : State) (r : Request) (status : Status) → refusal s r ≡ Some status → IsStatus status
+table_status s r status e =
+    line_status
+    (line (lacks_unit s r (lun_of (numbers_of s) r.lun)) no_unit ∷ line (not_taken r (lun_of (numbers_of s) r.lun))
+    invalid_operation ∷ lines_behind s r r.cdb)
+    status ((omega arith, omega arith, omega arith), ((omega arith, omega arith, omega arith), later_status s r r.cdb))
+    e
+
+write_error_is : IsStatus write_error
+write_error_is = (omega arith, omega arith, omega arith)
+
+invalid_operation_is : IsStatus invalid_operation
+invalid_operation_is = (omega arith, omega arith, omega arith)
+
+-- ## Tasks
+
+-- the frame of a task
+pub speaks : (task : Task) (deed : Deed) → TaskSpeaks task → DeedSpeaks task.length (bytes_sent task) deed →
+    TaskSpeaks (record task { deed = deed })
+speaks task deed h d = record { lun = h.lun; tag = h.tag; expected = h.expected; length = h.length; deed = d }
+
+asked_for : (r : Request) (c : Option Cdb) (n : ℕ) (deed : Deed) → IsRequest r → n < 2 ^ 32 →
+    DeedSpeaks n (min r.expected n) deed → TaskSpeaks (task_for r c n deed)
+asked_for r c n deed is few d = let m = is.1.0.0 in record {
+  lun = m.1;
+  tag = m.2;
+  expected = m.3;
+  length = few;
+  deed = d;
+}
+
+-- blocks of a READ
+
+made_block : (f : ℕ → List ℕ) (n k : ℕ) (block : ReadBlock) → k < n →
+    slice_get (map (λ i. record { body = f i; state = Unread }) (below n)) k ≡ Some block → block.body ≡ f k
+made_block f n k block low e =
+    let make : ℕ → ReadBlock = λ i. record { body = f i; state = Unread } in
+    let there : get_or (map make (below n)) k block ≡ block = get_or_from_slice_get (map make (below n)) k block block e
+    in
+    ap (λ (b : ReadBlock). b.body) (sym there ∙ get_or-made make n k block low)
+
+-- of a READ of n bytes, each block that the host expects
+abbrev pub BlocksFit : State → Request → ℕ → ℕ → ℕ → Type 0
+BlocksFit s r unit address n = (i : ℕ) → i < blocks_expected r n → IsBlock (block_at unit (address + i) (plain_now s))
+
+few_blocks : (expected n : ℕ) → (4096 * (min expected n / 4096 + min 1 (min expected n % 4096)) < min expected n + 4096)
+few_blocks expected n = let h = div_ceil_times (min expected n) 4096 (omega arith) in let last = h.1 in omega arith
+
+read_speaks : (s : State) (r : Request) (c : Cdb) (unit address n : ℕ) → IsRequest r → n < 2 ^ 32 →
+    BlocksFit s r unit address n →
+    OneMore TaskSpeaks s.tasks (read_begun s r c unit address n).tasks
+read_speaks s r c unit address n is few fit = (
+  task_for r (Some c) n (sending (read_blocks s unit address count) n),
+  refl,
+  asked_for r (Some c) n (sending (read_blocks s unit address count) n) is few
+      (sends (read_blocks s unit address count) refl (length-made _ count)),
+)
+  where
+    count : ℕ
+    count = blocks_expected r n
+
+    sends : (made : List ReadBlock) → made ≡ read_blocks s unit address count → length made ≡ count →
+        DeedSpeaks n (min r.expected n) (sending made n)
+    sends [] same long = (tt, few)
+    sends (b ∷ bs) same long = (omega arith, (let h = few_blocks r.expected n in omega arith), each)
+      where
+        each : (k : ℕ) (block : ReadBlock) → slice_get (b ∷ bs) k ≡ Some block → IsBlock block.body
+        each k block e =
+            let low : k < length (b ∷ bs) = slice_get_within (b ∷ bs) k block e in
+            let here : k < count = omega arith in
+            let body : block.body ≡ block_at unit (address + k) (plain_now s) =
+            made_block (λ i. block_at unit (address + i) (plain_now s)) count k block here
+            (ap (λ (xs : List ReadBlock). slice_get xs k) (sym same) ∙ e) in
+            subst IsBlock (sym body) (fit k here)
+
+if_else : (P : Task → Type 0) (tasks : List Task) (t u : State) (b : Bool) → OneMore P tasks t.tasks →
+    (b ≡ false → OneMore P tasks u.tasks) → OneMore P tasks (if b then t else u).tasks
+if_else P tasks t u true h k = h
+if_else P tasks t u false h k = k refl
+
+-- what may be read is what was looked up
+abbrev pub ReadsFit : State → Type 0
+ReadsFit s = (r : Request) (c : Cdb) (n : ℕ) → IsRequest r → r.cdb ≡ Some c → refusal s r ≡ None →
+    (operation_of c ≡ read_6) ⊎ (operation_of c ≡ read_10) →
+    n ≡ blocks_of c * 4096 → BlocksFit s r (unit_or_first (unit_of_request s r)) (address_of c) n
+
+-- data that are sent at once
+
+data_speaks : (s : State) (r : Request) (c : Cdb) (bytes : List ℕ) → IsRequest r → length bytes ≤ 4096 →
+    AreBytes bytes → OneMore TaskSpeaks s.tasks (data_begun s r c bytes).tasks
+data_speaks s r c bytes is few are = (
+  task_for r (Some c) (length bytes) (sending_bytes r bytes),
+  refl,
+  asked_for r (Some c) (length bytes) (sending_bytes r bytes) is (omega arith)
+      (by (min r.expected (length bytes) == 0) refl),
+)
+  where
+    sent : ℕ
+    sent = min r.expected (length bytes)
+
+    some : (n : ℕ) → n ≢ 0 → 1 ≤ n
+    some zero h = absurd (h refl)
+    some (suc n) h = omega arith
+
+    by : (b : Bool) → (sent == 0) ≡ b → DeedSpeaks (length bytes) sent (if b then Answering Good (length bytes)
+        else SendingBytes bytes)
+    by true e = (tt, omega arith)
+    by false e =
+        let low : sent ≤ length bytes = grind arith in
+        let size : length (take sent bytes) ≡ sent = length-take-le sent bytes low in
+        let first = some sent (eqb-false sent 0 e) in
+        (omega arith, omega arith, bytes-take sent bytes are)
+
+no_sense_bytes : AreBytes no_sense
+no_sense_bytes =
+    bytes-append (0x70 ∷ zeros 6) (0x0A ∷ zeros 10)
+    (bytes-cons 0x70 (zeros 6) (omega arith) (bytes-zeros 6))
+    (bytes-cons 0x0A (zeros 10) (omega arith) (bytes-zeros 10))
+
+sense_speaks : (s : State) (r : Request) (c : Cdb) (allocation : ℕ) → IsRequest r →
+    OneMore TaskSpeaks s.tasks (data_begun s r c (take allocation no_sense)).tasks
+sense_speaks s r c allocation is =
+    let size : length (take allocation no_sense) ≡ min allocation 18 = length-take allocation no_sense in
+    let few : min allocation 18 ≤ 18 = grind arith in
+    data_speaks s r c (take allocation no_sense) is (omega arith) (bytes-take allocation no_sense no_sense_bytes)
+
+capacity_speaks : (s : State) (r : Request) (c : Cdb) (u : Option UnitSpec) → IsRequest r →
+    OneMore TaskSpeaks s.tasks (data_begun s r c (capacity_bytes u)).tasks
+capacity_speaks s r c None is = data_speaks s r c (zeros 8) is (omega arith) (bytes-zeros 8)
+capacity_speaks s r c (Some u) is =
+    data_speaks s r c (capacity_bytes (Some u)) is (omega arith)
+    (bytes-append (big_bytes 4 (u.blocks - 1)) (big_bytes 4 4096) (bytes-number 4 (u.blocks - 1)) (bytes-number 4 4096))
+
+abbrev BlocksOf : State → Request → ℕ → Cdb → Type 0
+BlocksOf s r unit c = (n : ℕ) → (operation_of c ≡ read_6) ⊎ (operation_of c ≡ read_10) → n ≡ blocks_of c * 4096 →
+    BlocksFit s r unit (address_of c) n
+
+begins_speaking : (s : State) (r : Request) (c : Cdb) (unit : ℕ) → IsRequest r → IsCdb c → BlocksOf s r unit c →
+    OneMore TaskSpeaks s.tasks (begun s r unit c).tasks
+begins_speaking s r c unit is fits reads = begins_by (λ t. OneMore TaskSpeaks s.tasks t.tasks) s r unit c one
+  where
+    one : (b : Beginning) → WhyBegun s r unit c b → OneMore TaskSpeaks s.tasks (begun_as s r c b).tasks
+    one (Answered command status) why = (
+      task_for r command 0 (Answering status 0),
+      refl,
+      asked_for r command 0 (Answering status 0) is (omega arith) (
+        ⊎_elim (λ e. subst IsStatus (sym e.1) invalid_operation_is) (λ e. subst IsStatus (sym e.1) tt) why,
+        omega arith,
+      ),
+    )
+    one Waiting why = (
+      task_for r (Some c) 0 (Awaiting (length s.accepted)),
+      refl,
+      asked_for r (Some c) 0
+          (Awaiting (length s.accepted)) is (omega arith) tt,
+    )
+    one (Telling bytes) (inl (allocation, e)) =
+        subst (λ (xs : List ℕ). OneMore TaskSpeaks s.tasks (data_begun s r c xs).tasks) (sym e)
+        (sense_speaks s r c allocation is)
+    one (Telling bytes) (inr e) =
+        subst (λ (xs : List ℕ). OneMore TaskSpeaks s.tasks (data_begun s r c xs).tasks) (sym e)
+        (capacity_speaks s r c (spec_of s r) is)
+    one (Reading u address n) (unit_is, address_is, size, read) =
+        let few = command_few c fits in
+        read_speaks s r c u address n is (omega arith)
+        (subst (λ (x : ℕ). BlocksFit s r x address n) (sym unit_is)
+        (subst (λ (x : ℕ). BlocksFit s r unit x n) (sym address_is) (reads n read size)))
+    one (Gathered count purpose n) (slots, some, few, gathered) = (
+      task_for r (Some c) n (Gathering purpose [] false),
+      refl,
+      asked_for r (Some c) n (Gathering purpose [] false) is (few fits) some,
+    )
+
+spelled_cdb : (r : Request) (c : Cdb) → IsRequest r → r.cdb ≡ Some c → IsCdb c
+spelled_cdb r c is e = (subst (IsCdbIn (Some r.bytes)) e is.1.2).0
+
+-- ## What tasks do next
+
+-- a block that was read has its body
+set_at : (blocks : List ReadBlock) (index k : ℕ) (state : ReadState) (old block : ReadBlock) →
+    slice_get blocks index ≡ Some old → slice_get (slice_set blocks index (set_state state old)) k ≡ Some block →
+    (before : ReadBlock) × (slice_get blocks k ≡ Some before) × (block.body ≡ before.body)
+set_at [] index k state old block there e = let none : None ≡ Some old = there in cc
+set_at (b ∷ bs) zero zero state old block there e = (
+  b,
+  refl,
+  ap (λ (x : ReadBlock). x.body) (sym (same_Some (set_state state old) block e))
+      ∙ ap (λ (x : ReadBlock). x.body) (sym (same_Some b old there)),
+)
+set_at (b ∷ bs) zero (suc k) state old block there e = (block, e, refl)
+set_at (b ∷ bs) (suc index) zero state old block there e = (block, e, refl)
+set_at (b ∷ bs) (suc index) (suc k) state old block there e = set_at bs index k state old block there e
+
+read_speaks_again : (total sent_bytes : ℕ) (blocks : List ReadBlock) (sent index : ℕ) (state : ReadState) →
+    DeedSpeaks total sent_bytes (Sending blocks sent) →
+    DeedSpeaks total sent_bytes (Sending (with_block blocks index state (slice_get blocks index)) sent)
+read_speaks_again total sent_bytes blocks sent index state d = by (slice_get blocks index) refl
+  where
+    by : (o : Option ReadBlock) → slice_get blocks index ≡ o →
+        DeedSpeaks total sent_bytes (Sending (with_block blocks index state o) sent)
+    by None e = d
+    by (Some old) e =
+        let long : length (slice_set blocks index (set_state state old)) ≡ length blocks =
+        length-set blocks index (set_state state old) in
+        let inside = d.0 in
+        let bound = d.1 in (
+          omega arith,
+          omega arith,
+          λ k block there. (let b = set_at blocks index k state old block e there in
+              subst IsBlock (sym b.2) (d.2 k b.0 b.1)),
+        )
+
+answer_status : (status : Status) → (status ≡ Good) ⊎ (status ≡ write_error) ⊎ (status ≡ invalid_operation) →
+    IsStatus status
+answer_status status (inl e) = subst IsStatus (sym e) tt
+answer_status status (inr (inl e)) = subst IsStatus (sym e) write_error_is
+answer_status status (inr (inr e)) = subst IsStatus (sym e) invalid_operation_is
+
+-- what is said of a deed is said of what its task does next
+speaking_deeds : (task : Task) → TaskSpeaks task → IsDeedLaw (DeedSpeaks task.length (bytes_sent task)) task
+speaking_deeds task h = record {
+  asked = λ purpose gathered was d. d;
+  next = λ blocks sent more d. (ltb-true (sent + 1) (length blocks) more, d.1, d.2);
+  sent = (tt, h.length);
+  fails = (write_error_is, h.length);
+  read = λ blocks sent index state d. read_speaks_again task.length (bytes_sent task) blocks sent index state d;
+}
+
+-- tags of tasks are apart
+abbrev pub SetsOne : State → Type 0
+SetsOne s = (task : Task) (deed : Deed) → task_of task.tag s.tasks ≡ Some task → Every TaskSpeaks s.tasks →
+    TaskSpeaks (record task { deed = deed }) →
+    Every TaskSpeaks (map (with_deed task.tag deed) s.tasks)
+
+pub speaks_law : (s : State) → SetsOne s → ReadsFit s →
+    IsTaskLaw TaskSpeaks (λ task deed. TaskSpeaks (record task { deed = deed })) Any s
+speaks_law s sets found = record {
+  set = sets;
+  refused = λ r status is asks free e. asked_for r None 0 (Answering status 0) is (omega arith)
+      (table_status s r status e, omega arith);
+  begins = λ r c is asks free e passed.
+      begins_speaking s r c (unit_or_first (unit_of_request s r)) is (spelled_cdb r c is e)
+      (λ n read size. found r c n is e passed read size);
+  gathers = λ task purpose gathered bytes asked e h next more. speaks task (Gathering purpose (gathered ++ bytes) false)
+      h (ltb-true _ task.length more);
+  answers = λ task purpose gathered asked status e h is.
+      speaks task (Answering status task.length) h (answer_status status (answer_one purpose status is), h.length);
+  waits = λ task purpose gathered asked position e h. speaks task (Awaiting position) h tt;
+  goes = λ task deed e h. speaks task deed h (goes (DeedSpeaks task.length (bytes_sent task)) task
+      (speaking_deeds task h) task.deed deed h.deed e);
+  fills = λ u task h. filled_keeps TaskSpeaks u task (record {
+    lun = h.lun;
+    tag = h.tag;
+    expected = h.expected;
+    length = h.length;
+    deed = h.deed;
+  }) h;
+  locks = λ u task h. speaks task (deed_locked u task task.deed) h
+      (locks (DeedSpeaks task.length (bytes_sent task)) task (speaking_deeds task h) u task.deed h.deed);
+  reads = λ tag index state task h.
+      read_keeps TaskSpeaks tag index state task
+      (speaks task (deed_read index state task.deed) h
+      (reads (DeedSpeaks task.length (bytes_sent task)) task (speaking_deeds task h) index state task.deed h.deed)) h;
+}

@@ -1,0 +1,5 @@
+pub mod JobsInFlight
+pub mod JobsOnTheirDies
+pub mod JobsStay
+pub mod OneJob
+pub mod SameJobs

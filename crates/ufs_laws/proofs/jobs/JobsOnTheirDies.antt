@@ -1,0 +1,90 @@
+-- Each job that a die may be given lies on it.
+use Rattle.std.proofs.Common.{◌≡◌, ℕ, Bool, true, false, cond, List, [], ◌∷◌, map, filter_map, find, Option, Some, None}
+use Rattle.std.proofs.Common.{option_map, refl, sym, ap, ◌∙◌, eqb-true}
+use Rattle.std.specs.List.{cons_option}
+use Rattle.std.proofs.lemmas.List.Elements.{All-contains, filter_passes}
+use Rattle.ufs_laws.specs.Flights.{die_of_flight}
+use Rattle.ufs_spec.specs.Cells.{Cell}
+use Rattle.ufs_spec.specs.Disk.{BlockState, Filling, Flight, Erasing, Programming, Reader, Reading, Spot}
+use Rattle.ufs_spec.specs.Keys.{below}
+use Rattle.ufs_spec.specs.Ledger.{Name}
+use Rattle.ufs_spec.specs.Translation.{MayTake, Translation, Want, cell_now, first_of, flight_at, flight_for, is_of_die}
+use Rattle.ufs_spec.specs.Translation.{may_be_erased, may_open, next_flight, next_in, next_place, waiting_name}
+use Rattle.ufs_spec.specs.Translation.{waiting_step, want_at, wants, wants_on}
+use Rattle.ufs_spec.specs.declared.flash.Place.{Place}
+
+-- Reads
+
+pub read_here : (t : Translation) (die : ℕ) (reader : Reader) (place : Place) →
+    MayTake t die (Some (Reading reader place)) → place.die ≡ die
+read_here t die reader place h =
+    eqb-true place.die die
+    (All-contains (λ (w : Want). is_of_die die w ≡ true) (wants_on t die) (want_at reader place)
+    (filter_passes (is_of_die die) (wants t)) h.1)
+
+-- Programs
+
+abbrev pub spot_at : ℕ → ℕ → Spot
+spot_at die block = record { die = die; block = block }
+
+next_in_block : (die block : ℕ) (state : BlockState) (p : Place) → next_in (spot_at die block) state ≡ Some p →
+    p.die ≡ die
+next_in_block die block (Filling next) p e =
+    let same : record { die = die; block = block; page = next } ≡ p = cc in ap (λ (q : Place). q.die) (sym same)
+next_in_block die block other p e = absurd (let no : None ≡ Some p = e in cc)
+
+first_in_spots : (die block : ℕ) (rest : List Place) (state : BlockState) (p : Place) →
+    (first_of rest ≡ Some p → p.die ≡ die)
+    → first_of (cons_option (next_in (spot_at die block) state) rest) ≡ Some p → p.die ≡ die
+first_in_spots die block rest (Filling next) p h e = next_in_block die block (Filling next) p e
+first_in_spots die block rest other p h e = h e
+
+next_among : (t : Translation) (die : ℕ) (blocks : List ℕ) (p : Place)
+    → first_of (filter_map (λ s. next_in s (t.disk.blocks s)) (map (spot_at die) blocks)) ≡ Some p → p.die ≡ die
+next_among t die [] p e = absurd (let none : None ≡ Some p = e in cc)
+next_among t die (block ∷ more) p e =
+    first_in_spots die block (filter_map (λ s. next_in s (t.disk.blocks s)) (map (spot_at die) more))
+    (t.disk.blocks (spot_at die block)) p
+    (next_among t die more p) e
+
+-- Erases
+
+lies_on : (f flight : Flight) (die : ℕ) → die_of_flight f ≡ die → Some f ≡ Some flight → die_of_flight flight ≡ die
+lies_on f flight die here e = let same : f ≡ flight = cc in ap die_of_flight (sym same) ∙ here
+
+erase_first : (die block : ℕ) (may : Bool) (rest : Option Spot) (flight : Flight) →
+    (option_map Erasing rest ≡ Some flight → die_of_flight flight ≡ die)
+    → option_map Erasing (cond may (Some (spot_at die block)) rest) ≡ Some flight → die_of_flight flight ≡ die
+erase_first die block false rest flight h e = h e
+erase_first die block true rest flight h e = lies_on (Erasing (spot_at die block)) flight die refl e
+
+erase_among : (t : Translation) (die : ℕ) (blocks : List ℕ) (flight : Flight)
+    → option_map Erasing (find (may_be_erased t) (map (spot_at die) blocks)) ≡ Some flight → die_of_flight flight ≡ die
+erase_among t die [] flight e = absurd (let none : None ≡ Some flight = e in cc)
+erase_among t die (block ∷ more) flight e =
+    erase_first die block (may_be_erased t (spot_at die block)) (find (may_be_erased t) (map (spot_at die) more)) flight
+    (erase_among t die more flight) e
+
+-- Each job
+
+flight_here : (t : Translation) (die : ℕ) (opens : Bool) (cell : Cell) (p : Option Place) (flight : Flight) →
+    next_place t die ≡ p
+    → flight_at t die opens cell p ≡ Some flight → die_of_flight flight ≡ die
+flight_here t die opens cell (Some p) flight next e =
+    lies_on (Programming p cell) flight die (next_among t die (below t.numbers.blocks) p next) e
+flight_here t die true cell None flight next e = erase_among t die (below t.numbers.blocks) flight e
+flight_here t die false cell None flight next e = absurd (let none : None ≡ Some flight = e in cc)
+
+flight_for_here : (t : Translation) (die : ℕ) (cell : Option Cell) (name : Option Name) (flight : Flight)
+    → flight_for t die cell name ≡ Some flight → die_of_flight flight ≡ die
+flight_for_here t die (Some cell) name flight e = flight_here t die true cell (next_place t die) flight refl e
+flight_for_here t die None (Some name) flight e =
+    flight_here t die (may_open t) (cell_now t.ledger name) (next_place t die) flight refl e
+flight_for_here t die None None flight e = absurd (let none : None ≡ Some flight = e in cc)
+
+next_here : (t : Translation) (die : ℕ) (flight : Flight) → next_flight t die ≡ Some flight → die_of_flight flight ≡ die
+next_here t die flight e = flight_for_here t die (waiting_step t t.work.step) (waiting_name t) flight e
+
+pub job_here : (t : Translation) (die : ℕ) (flight : Flight) → MayTake t die (Some flight) → die_of_flight flight ≡ die
+job_here t die (Reading reader place) h = read_here t die reader place h
+job_here t die flight h = next_here t die flight h.1.1

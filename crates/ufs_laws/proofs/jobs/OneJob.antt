@@ -1,0 +1,107 @@
+-- Jobs that dies may be given: one is there or none is owed, where it lies, and when it is one.
+use Rattle.std.proofs.Common.{◌≡◌, ◌⊎◌, ℕ, ◌<◌, Bool, true, false, List, [], ◌∷◌, Contains, nat_lt, is_none, Option}
+use Rattle.std.proofs.Common.{Some, None, option_map, refl, sym, ◌∙◌, subst, inl, inr, arith, ltb-true, true≢false}
+use Rattle.ufs_spec.specs.Cells.{Cell}
+use Rattle.ufs_spec.specs.Ledger.{Name}
+use Rattle.ufs_spec.specs.Disk.{Flight, Erasing, Reader, Reading, Spot}
+use Rattle.ufs_spec.specs.Translation.{IsOwed, MayTake, Translation, Want, flight_at, flight_for, is_idle, next_flight}
+use Rattle.ufs_spec.specs.Translation.{want_at, wants_on}
+use Rattle.ufs_spec.specs.declared.flash.Place.{Place}
+use Rattle.ufs_spec.proofs.Facts.{and_parts, none_is}
+
+-- Tests
+
+pub nothing_inside : {A : Type 0} (x : A) → Contains [] x → ⊥
+nothing_inside x h = let short = h.1 in omega (arith, short)
+
+-- No read is among the jobs behind the reads
+
+-- the flight is a read
+abbrev pub IsRead : Flight → Type 0
+IsRead (Reading reader place) = Unit {0}
+IsRead flight = ⊥
+
+no_erase_reads : (o : Option Spot) (flight : Flight) → option_map Erasing o ≡ Some flight → IsRead flight → ⊥
+no_erase_reads None (Reading reader place) e read = cc
+no_erase_reads other (Reading reader place) e read = cc
+no_erase_reads o flight e read = read
+
+no_read_at : (t : Translation) (die : ℕ) (opens : Bool) (cell : Cell) (p : Option Place) (flight : Flight)
+    → flight_at t die opens cell p ≡ Some flight → IsRead flight → ⊥
+no_read_at t die opens cell (Some p) (Reading reader place) e read = cc
+no_read_at t die true cell None (Reading reader place) e read = no_erase_reads _ (Reading reader place) e tt
+no_read_at t die false cell None (Reading reader place) e read = cc
+no_read_at t die opens cell p flight e read = read
+
+no_read_for : (t : Translation) (die : ℕ) (cell : Option Cell) (name : Option Name) (flight : Flight)
+    → flight_for t die cell name ≡ Some flight → IsRead flight → ⊥
+no_read_for t die (Some cell) name flight e read = no_read_at t die true cell _ flight e read
+no_read_for t die None (Some name) flight e read = no_read_at t die _ _ _ flight e read
+no_read_for t die None None flight e read = cc
+
+next_is_no_read : (t : Translation) (die : ℕ) (flight : Flight) → next_flight t die ≡ Some flight → IsRead flight → ⊥
+next_is_no_read t die flight e read = no_read_for t die _ _ flight e read
+
+-- One or none
+
+abbrev Given : Translation → ℕ → Type 0
+Given t die = ((flight : Flight) × MayTake t die (Some flight)) ⊎ MayTake t die None
+
+owed : (t : Translation) (die : ℕ) (flight : Flight) → wants_on t die ≡ [] → next_flight t die ≡ Some flight →
+    IsOwed t die flight
+owed t die (Reading reader place) none next = absurd (next_is_no_read t die (Reading reader place) next tt)
+owed t die flight none next = (none, next)
+
+-- the first read that is owed
+read_owed : (t : Translation) (die : ℕ) (want : Want) (more : List Want) → wants_on t die ≡ want ∷ more →
+    IsOwed t die (Reading want.reader want.place)
+read_owed t die want more e = subst (λ (ws : List Want). Contains ws want) (sym e) (0, omega arith, refl)
+
+given_idle : (t : Translation) (die : ℕ) → is_idle t die ≡ true → (ws : List Want) → wants_on t die ≡ ws
+    → (o : Option Flight) → next_flight t die ≡ o → Given t die
+given_idle t die idle (want ∷ more) e o next = inl (Reading want.reader want.place, (idle, read_owed t die want more e))
+given_idle t die idle [] e (Some flight) next = inl (flight, (idle, owed t die flight e next))
+given_idle t die idle [] e None next = inr (inr (e, next))
+
+given_as : (t : Translation) (die : ℕ) (idle : Bool) → is_idle t die ≡ idle → Given t die
+given_as t die false e = inr (inl e)
+given_as t die true e = given_idle t die e (wants_on t die) refl (next_flight t die) refl
+
+-- a job that the die may be given, or none
+pub given : (t : Translation) (die : ℕ) → ((flight : Flight) × MayTake t die (Some flight)) ⊎ MayTake t die None
+given t die = given_as t die (is_idle t die) refl
+
+-- Not and_parts
+
+none_found : (t : Translation) (die : ℕ) (reader : Reader) (place : Place) → wants_on t die ≡ [] →
+    IsOwed t die (Reading reader place) → ⊥
+none_found t die reader place none h =
+    nothing_inside (want_at reader place) (subst (λ (ws : List Want). Contains ws (want_at reader place)) none h)
+
+-- where no read is owed, what is owed is the next flight
+is_next : (t : Translation) (die : ℕ) (flight : Flight) → wants_on t die ≡ [] → IsOwed t die flight →
+    next_flight t die ≡ Some flight
+is_next t die (Reading reader place) none e = absurd (none_found t die reader place none e)
+is_next t die flight none e = e.1
+
+pub not_both : (t : Translation) (die : ℕ) (flight : Flight) → MayTake t die None → MayTake t die (Some flight) → ⊥
+not_both t die flight (inl busy) h = true≢false (sym h.0 ∙ busy)
+not_both t die flight (inr none) h = let next = is_next t die flight none.0 h.1 in let other = none.1 in cc
+
+-- where no read is owed the job is one
+pub one_job : (t : Translation) (die : ℕ) (f g : Flight) → wants_on t die ≡ [] → MayTake t die (Some f) →
+    MayTake t die (Some g) → f ≡ g
+one_job t die f g none h k =
+    let first = is_next t die f none h.1 in
+    let second = is_next t die g none k.1 in
+    cc
+
+-- At most one job
+
+pub was_free : (t : Translation) (die : ℕ) (flight : Flight) → MayTake t die (Some flight) → t.disk.flights die ≡ None
+was_free t die flight h =
+    none_is (t.disk.flights die) (and_parts (nat_lt die t.numbers.dies) (is_none (t.disk.flights die)) h.0).1
+
+pub is_die : (t : Translation) (die : ℕ) (flight : Flight) → MayTake t die (Some flight) → die < t.numbers.dies
+is_die t die flight h =
+    ltb-true die t.numbers.dies (and_parts (nat_lt die t.numbers.dies) (is_none (t.disk.flights die)) h.0).0

@@ -1,0 +1,5 @@
+pub mod AcceptedAndHeldGrow
+pub mod EventsLead
+pub mod HeldAlongLives
+pub mod HeldByAnswers
+pub mod LivesJoined

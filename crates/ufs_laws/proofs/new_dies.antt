@@ -1,0 +1,4 @@
+pub mod FirstErase
+pub mod FirstLife
+pub mod NewDeviceExists
+pub mod NewDeviceState

@@ -1,0 +1,78 @@
+-- In the first life of new dies each die with a block that is not bad is given an erase behind the first step.
+use Rattle.std.proofs.Common.{◌≡◌, ℕ, ◌<◌, Bool, true, false, List, [], ◌∷◌, find, filter_map, map, Some, None, refl}
+use Rattle.std.proofs.Common.{sym, ap, ◌∙◌, subst}
+use Rattle.std.proofs.lemmas.Option.{slice_get-map}
+use Rattle.std.specs.Prelude.{option_map}
+use Rattle.ufs_laws.proofs.array_cells.EmptyCells.{fresh_block}
+use Rattle.ufs_laws.proofs.jobs.JobsInFlight.{told_layer}
+use Rattle.ufs_laws.proofs.jobs.JobsOnTheirDies.{spot_at}
+use Rattle.ufs_laws.proofs.exchanges.RequestsSettled.{settled_is}
+use Rattle.ufs_laws.proofs.new_dies.NewDeviceState.{Open, first_is, first_layer, first_state, open_in}
+use Rattle.ufs_laws.proofs.array_cells.StandsForSomething.{AllBlank}
+use Rattle.ufs_spec.proofs.Facts.{false≢true, lt-ltb}
+use Rattle.ufs_spec.proofs.Lists.{below_at, find_some, none_passes}
+use Rattle.ufs_spec.specs.Cells.{Array}
+use Rattle.ufs_spec.specs.Disk.{Erasing, Spot}
+use Rattle.ufs_spec.specs.Keys.{below}
+use Rattle.ufs_spec.specs.Lives.{IsOpened}
+use Rattle.ufs_spec.specs.Machine.{Turn, OfTurn, observe, with_moves}
+use Rattle.ufs_spec.specs.Moves.{TakeStep}
+use Rattle.ufs_spec.specs.Refusals.{State}
+use Rattle.ufs_spec.specs.Translation.{MarkStep, MayTake, Translation, mark_ordered, may_be_erased, next_flight}
+use Rattle.ufs_spec.specs.Translation.{next_in, next_place, step_cell, waiting_step}
+use Rattle.ufs_spec.specs.declared.configs.Numbers.{Numbers}
+
+-- no block of new dies is being filled
+none_filling : (bad : Spot → Bool) (die : ℕ) (blocks : List ℕ) →
+    filter_map (λ s. next_in s (fresh_block (bad s))) (map (spot_at die) blocks) ≡ []
+none_filling bad die [] = refl
+none_filling bad die (block ∷ more) =
+    rw (not_filling (spot_at die block) (bad (spot_at die block))) (none_filling bad die more)
+  where
+    not_filling : (s : Spot) (b : Bool) → next_in s (fresh_block b) ≡ None
+    not_filling s true = refl
+    not_filling s false = refl
+
+module _ (n : Numbers) (bad : Spot → Bool) (o : Open) (good : Spot) (there : good.die < n.dies)
+    (within : good.block < n.blocks)
+    (right : bad good ≡ false) where
+  -- behind the first step, which orders a mark
+  abbrev t : Translation
+  t = mark_ordered (first_layer n bad o) None
+
+  found : (spot : Spot) × (find (may_be_erased t) (map (spot_at good.die) (below n.blocks)) ≡ Some spot)
+  found =
+      find_some (may_be_erased t) (map (spot_at good.die) (below n.blocks)) good.block good
+      (slice_get-map (spot_at good.die) (below n.blocks) good.block
+      ∙ ap (option_map (spot_at good.die)) (below_at n.blocks good.block within))
+      (rw right refl)
+
+  waits : waiting_step t t.work.step ≡ Some (step_cell t (MarkStep 1 None))
+  waits = rw (none_passes (λ (die : ℕ). false) (below n.dies) (λ k die at e. false≢true e)) refl
+
+  place : next_place t good.die ≡ None
+  place = rw (none_filling bad good.die (below n.blocks)) refl
+
+  flight : next_flight t good.die ≡ Some (Erasing found.0)
+  flight = rw (waits, place, found.1) refl
+
+  first_erase : (spot : Spot) × MayTake t good.die (Some (Erasing spot))
+  first_erase = (found.0, (rw (lt-ltb good.die n.dies there) refl, (refl, flight)))
+
+  reached : (observe (first_state n bad o) Turn (OfTurn true)).translation ≡ t
+  reached =
+      let s : State = with_moves (first_state n bad o) (TakeStep ∷ []) in
+      ap (λ (v : State). v.translation) (settled_is s tt) ∙ told_layer s
+
+  behind_step :
+      (spot : Spot)
+      × MayTake (observe (first_state n bad o) Turn (OfTurn true)).translation good.die (Some (Erasing spot))
+  behind_step = subst (λ v. (spot : Spot) × MayTake v good.die (Some (Erasing spot))) (sym reached) first_erase
+
+pub first_job : (n : Numbers) (array : Array) (bad : Spot → Bool) (s : State) → AllBlank array →
+    IsOpened n array bad s →
+    (good : Spot) → good.die < n.dies → good.block < n.blocks → bad good ≡ false →
+    (spot : Spot) × MayTake (observe s Turn (OfTurn true)).translation good.die (Some (Erasing spot))
+first_job n array bad s blank h good there within right =
+    subst (λ u. (spot : Spot) × MayTake (observe u Turn (OfTurn true)).translation good.die (Some (Erasing spot)))
+    (sym (first_is n array bad s blank h)) (behind_step n bad (open_in s) good there within right)

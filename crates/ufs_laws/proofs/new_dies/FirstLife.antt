@@ -1,0 +1,126 @@
+-- The first life of new dies: it begins, and it begins with a mark to be programmed and nothing else to do.
+pub use Rattle.ufs_laws.proofs.new_dies.NewDeviceState.{none_there}
+use Rattle.std.proofs.Common.{◌≡◌, ℕ, Bool, true, false, [], None, refl, ap, inr}
+use Rattle.ufs_laws.proofs.array_cells.EmptyCells as cells
+use Rattle.ufs_laws.proofs.plain_contents.NewDevice.{new_plain, new_zeros}
+use Rattle.ufs_laws.proofs.new_dies.NewDeviceState.{Open, first_disk, first_is, first_state, new_ledger}
+use Rattle.ufs_laws.proofs.array_cells.StandsForOne.{plain_one}
+use Rattle.ufs_laws.proofs.pages.PageIsOneCell.{one_cell}
+use Rattle.ufs_laws.proofs.answers.OnlyAnswers.{none_due}
+use Rattle.ufs_laws.proofs.array_cells.StandsForSomething.{AllBlank, empty, new_sound, new_stands_for_zero}
+use Rattle.ufs_laws.proofs.array_cells.StandsForSomething.{shows_nothing}
+use Rattle.ufs_laws.proofs.plain_contents.PlainFromContents.{same_contents}
+use Rattle.ufs_spec.proofs.PlainFacts.{new_shape}
+use Rattle.ufs_spec.specs.Cells.{Array, Nothing}
+use Rattle.ufs_spec.specs.Disk.{Spot}
+use Rattle.ufs_spec.specs.Keys.{content}
+use Rattle.ufs_spec.specs.Lives.{IsOpened}
+use Rattle.ufs_spec.specs.Machine.{Due}
+use Rattle.ufs_spec.specs.Openings.{IsOpenedDisk, IsOpenedLedger}
+use Rattle.ufs_spec.specs.Plain.{zero as zero_state}
+use Rattle.ufs_spec.specs.Refusals.{State, mended}
+use Rattle.ufs_spec.specs.Translation.{MayTake, Translation, is_step_due, next_flight, wants_on}
+use Rattle.ufs_spec.specs.declared.configs.Numbers.{Numbers}
+use Rattle.ufs_spec.specs.declared.flash.Place.{Place}
+use Rattle.ufs_spec.specs.declared.messages.Message.{Message}
+
+-- It begins
+
+abbrev zeros_over : Numbers → Array → Open
+zeros_over n array = record { array = array; base = zero_state n; contents = content (zero_state n); first = λ k. None }
+
+none : (p : Place) → empty p ≡ Nothing
+none p = refl
+
+disk_opened : (bad : Spot → Bool) → IsOpenedDisk empty bad (first_disk bad)
+disk_opened bad = record {
+  cells = refl;
+  finished = λ p. refl;
+  blocks = λ s. cells.block_is empty none bad s (bad s) refl;
+  idle = λ die. refl;
+  none_erasing = λ s. refl;
+}
+
+ledger_opened : (n : Numbers) (array : Array) → IsOpenedLedger n empty (new_ledger (zeros_over n array))
+ledger_opened n array = record {
+  newest = cells.no_mark empty none;
+  kept = 0;
+  is_kept = cells.none_kept empty none None;
+  holds = λ k key. inr (cells.none_has empty none None 1 k, new_zeros n k key);
+  greatest_seen = cells.top_is empty none;
+  first_lost = refl;
+  entries_before = λ number index p h. cells.no_page empty none p h.0 h.1 h.2;
+  standing = λ number index p h. cells.no_page empty none p h.0 h.1 h.2;
+  first_page = λ k key. cells.none_has empty none None 1 k;
+  none_new = refl;
+  none_repaired = refl;
+  frontier = refl;
+  marks = refl;
+  none_held = refl;
+}
+
+pub opens_new : (n : Numbers) (array : Array) (bad : Spot → Bool) → AllBlank array →
+    (s : State) × IsOpened n array bad s
+opens_new n array bad blank = (
+  first_state n bad (zeros_over n array),
+  record {
+    array_now = refl;
+    cells = empty;
+    shown = shows_nothing array blank;
+    translation = record {
+      numbers = refl;
+      suits = cells.suit empty none n;
+      disk = disk_opened bad;
+      ledger = ledger_opened n array;
+      mending = cells.unmarked_is empty none;
+      no_plan = refl;
+      no_step = refl;
+      no_rests = refl;
+      no_claims = refl;
+      no_pins = refl;
+    };
+    stands = new_stands_for_zero new_shape new_plain new_zeros n array blank;
+    contents = λ k key. refl;
+    none_accepted = refl;
+    no_tasks = refl;
+    no_shorts = refl;
+    power_off = refl;
+    no_registers = refl;
+  },
+)
+
+-- Of every beginning
+
+module _ (n : Numbers) (array : Array) (bad : Spot → Bool) (s : State) (blank : AllBlank array)
+    (h : IsOpened n array bad s) where
+  pub base_is_zero : s.base ≡ zero_state n
+  base_is_zero =
+      plain_one one_cell same_contents n array s.base (zero_state n) (new_sound array blank) h.stands
+      (new_stands_for_zero new_shape new_plain new_zeros n array blank)
+
+  pub unmended : mended s ≡ false
+  unmended = ap mended (first_is n array bad s blank h)
+
+  -- a mark is due
+  pub step_due : is_step_due s.translation ≡ true
+  step_due = ap (λ (t : State). is_step_due t.translation) (first_is n array bad s blank h)
+
+-- nothing else is
+pub no_reply : (n : Numbers) (array : Array) (bad : Spot → Bool) (s : State) → IsOpened n array bad s → (m : Message) →
+    Due s m → ⊥
+no_reply n array bad s h = none_due s h.no_tasks h.no_shorts
+
+no_wants : (t : Translation) (die : ℕ) → t.pins ≡ [] → t.work.step ≡ None → t.work.rests ≡ [] → wants_on t die ≡ []
+no_wants t die pins step rests = rw (pins, step, rests) refl
+
+no_flight : (t : Translation) (die : ℕ) → t.work.step ≡ None → t.ledger.groups ≡ [] → t.ledger.repairs ≡ 0 →
+    next_flight t die ≡ None
+no_flight t die step groups repairs = rw (step, groups, repairs) refl
+
+pub no_job : (n : Numbers) (array : Array) (bad : Spot → Bool) (s : State) → IsOpened n array bad s → (die : ℕ) →
+    MayTake s.translation die None
+no_job n array bad s h die =
+    let t = s.translation in
+    let u = h.translation in
+    inr
+    (no_wants t die u.no_pins u.no_step u.no_rests, no_flight t die u.no_step u.ledger.none_new u.ledger.none_repaired)

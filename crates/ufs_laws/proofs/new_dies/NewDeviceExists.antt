@@ -1,0 +1,18 @@
+-- There is a device that was opened over new dies.
+use Rattle.std.proofs.Common.{◌≡◌, true, false, refl}
+use Rattle.ufs_laws.proofs.new_dies.FirstLife.{opens_new}
+use Rattle.ufs_laws.proofs.new_dies.NewDeviceState.{open_in}
+use Rattle.ufs_laws.proofs.worked_run.RunStates.{marked}
+use Rattle.ufs_laws.specs.Runs.{IsIdle, IsNew, row}
+use Rattle.ufs_spec.specs.Dies.{blank_page}
+use Rattle.ufs_spec.specs.Refusals.{State, mended}
+
+pub new_opens : (s : State) × IsNew s
+new_opens =
+    let h = opens_new row (λ p. blank_page) (λ b. false) (λ p. refl) in
+    (h.0, record { array = λ p. blank_page; bad = λ b. false; blank = λ p. refl; none_bad = λ b. refl; opened = h.1 })
+
+-- and once its first mark is finished it is mended and idle
+pub mended_idle : (s : State) × IsIdle s × (mended s ≡ true)
+unfolding marked
+mended_idle = (marked (open_in new_opens.0), record { numbers = refl; no_tasks = refl; no_shorts = refl }, refl)

@@ -1,0 +1,193 @@
+-- What a device is that was opened over new dies: all of it is known, but for the arrays, the base, and what its ledger
+-- says of keys.
+use Rattle.std.proofs.Common.{◌≡◌, ℕ, suc, Bool, true, false, [], Option, None, refl, ap, ◌∙◌, subst}
+use Rattle.ufs_laws.proofs.pages.BlankPages.{blank_is_nothing}
+use Rattle.ufs_laws.proofs.array_cells.EmptyCells as cells
+use Rattle.ufs_laws.proofs.array_cells.EmptyCells.{fresh_block}
+use Rattle.ufs_laws.proofs.array_cells.StandsForSomething.{AllBlank}
+use Rattle.ufs_laws.specs.Runs.{IsNew, row}
+use Rattle.ufs_spec.specs.Cells.{Array, IsCell, Nothing}
+use Rattle.ufs_spec.specs.Disk.{Disk, Spot}
+use Rattle.ufs_spec.specs.Exchanges.{empty_registers}
+use Rattle.ufs_spec.specs.Keys.{Contents}
+use Rattle.ufs_spec.specs.Kept.{fence_in}
+use Rattle.ufs_spec.specs.Ledger.{Ledger, Name}
+use Rattle.ufs_spec.specs.Lives.{IsOpened}
+use Rattle.ufs_spec.specs.Openings.{IsMendingAt, IsTop, lost_from, number_of}
+use Rattle.ufs_spec.specs.Plain.{Plain}
+use Rattle.ufs_spec.specs.Refusals.{State}
+use Rattle.ufs_spec.specs.Translation.{Mending, Translation, Unmarked, Work}
+use Rattle.ufs_spec.specs.declared.configs.Numbers.{Numbers}
+use Rattle.ufs_spec.specs.declared.flash.Key.{Key}
+use Rattle.ufs_spec.specs.declared.flash.Place.{Place}
+
+-- what a life begins with that the numbers do not say
+pub record Open : Type 0 where
+  pub array : Array
+  pub base : Plain
+  pub contents : Contents
+  pub first : Key → Option Name
+
+abbrev pub open_in : State → Open
+open_in s = record {
+  array = s.array;
+  base = s.base;
+  contents = s.translation.ledger.base;
+  first = s.translation.ledger.first_page;
+}
+
+abbrev pub first_disk : (Spot → Bool) → Disk
+first_disk bad = record {
+  cells = λ p. Nothing;
+  finished = λ p. true;
+  blocks = λ b. fresh_block (bad b);
+  flights = λ die. None;
+  erasing = λ b. false;
+}
+
+abbrev pub new_ledger : Open → Ledger
+new_ledger o = record {
+  base = o.contents;
+  entries_before = λ number index. None;
+  first_page = o.first;
+  greatest_seen = 0;
+  first_lost = 1;
+  groups = [];
+  repairs = 0;
+  standing = λ number index. None;
+  frontier = 0;
+  newest = None;
+  marks = 0;
+  held = 0;
+}
+
+abbrev pub new_work : Work
+new_work = record { mending = Unmarked None []; plan = None; step = None; rests = [] }
+
+abbrev pub first_layer : Numbers → (Spot → Bool) → Open → Translation
+first_layer n bad o =
+    record { numbers = n; disk = first_disk bad; ledger = new_ledger o; work = new_work; claims = 0; pins = [] }
+
+abbrev pub first_state : Numbers → (Spot → Bool) → Open → State
+first_state n bad o = record {
+  array = o.array;
+  base = o.base;
+  accepted = [];
+  translation = first_layer n bad o;
+  tasks = [];
+  shorts = [];
+  power_on = false;
+  registers = empty_registers;
+}
+
+-- Of the worked run's device, of which no block is bad
+
+abbrev none_bad : Spot → Bool
+none_bad b = false
+
+abbrev pub new_disk : Disk
+new_disk = first_disk none_bad
+
+abbrev pub new_translation : Open → Translation
+new_translation = first_layer row none_bad
+
+abbrev pub new_state : Open → State
+new_state = first_state row none_bad
+
+-- All of it
+
+module _ (n : Numbers) (array : Array) (bad : Spot → Bool) (s : State) (blank : AllBlank array)
+    (h : IsOpened n array bad s) where
+  pub none_there : (p : Place) → h.cells p ≡ Nothing
+  none_there p = blank_is_nothing (h.cells p) (subst (λ page. IsCell page (h.cells p)) (blank p) (h.shown p))
+
+  newest : s.translation.ledger.newest ≡ None
+  newest = cells.no_newest h.cells none_there s.translation.ledger.newest h.translation.ledger.newest
+
+  top : s.translation.ledger.greatest_seen ≡ 0
+  top =
+      cells.is_top h.cells none_there s.translation.ledger.greatest_seen
+      (subst (λ m. IsTop h.cells m s.translation.ledger.greatest_seen) newest h.translation.ledger.greatest_seen)
+
+  low : s.translation.ledger.first_lost ≡ 1
+  low =
+      let l = h.translation.ledger in
+      let kept = cells.kept_none h.cells none_there s.translation.ledger.newest l.kept l.is_kept in
+      l.first_lost ∙ (ap (λ m. lost_from (fence_in m) l.kept) newest ∙ ap suc kept)
+
+  work_is : s.translation.work ≡ new_work
+  work_is i =
+      let t = h.translation in
+      let l = s.translation.ledger in
+      let mending : Mending = s.translation.work.mending in
+      let at : IsMendingAt h.cells None 1 0 mending =
+      subst (λ k. IsMendingAt h.cells None 1 k mending) top
+      (subst (λ k. IsMendingAt h.cells None k l.greatest_seen mending) low
+      (subst (λ m. IsMendingAt h.cells m l.first_lost l.greatest_seen mending) newest t.mending)) in
+      record {
+        mending = cells.is_unmarked h.cells none_there mending at i;
+        plan = t.no_plan i;
+        step = t.no_step i;
+        rests = t.no_rests i;
+      }
+
+  disk_is : s.translation.disk ≡ first_disk bad
+  disk_is i =
+      let d = h.translation.disk in
+      record {
+        cells = λ p. (ap (λ c. c p) d.cells ∙ none_there p) i;
+        finished = λ p. d.finished p i;
+        blocks = λ b. cells.is_block h.cells none_there bad b (bad b) (s.translation.disk.blocks b) refl (d.blocks b) i;
+        flights = λ die. d.idle die i;
+        erasing = λ b. d.none_erasing b i;
+      }
+
+  ledger_is : s.translation.ledger ≡ new_ledger (open_in s)
+  ledger_is i =
+      let l = h.translation.ledger in
+      let own = s.translation.ledger in
+      let name : ℕ → ℕ → Name = λ number index. record { number = number; index = index } in
+      record {
+        base = own.base;
+        entries_before = λ number index.
+            cells.no_entry h.cells none_there (name number index) (own.entries_before number index)
+            (l.entries_before number index) i;
+        first_page = own.first_page;
+        greatest_seen = top i;
+        first_lost = low i;
+        groups = l.none_new i;
+        repairs = l.none_repaired i;
+        standing = λ number index.
+            cells.none_stands h.cells none_there (name number index) (own.standing number index)
+            (l.standing number index) i;
+        frontier = (l.frontier ∙ top) i;
+        newest = newest i;
+        marks = (l.marks ∙ ap number_of newest) i;
+        held = l.none_held i;
+      }
+
+  pub first_is : s ≡ first_state n bad (open_in s)
+  first_is i =
+      let t = h.translation in
+      record {
+        array = s.array;
+        base = s.base;
+        accepted = h.none_accepted i;
+        translation = record {
+          numbers = t.numbers i;
+          disk = disk_is i;
+          ledger = ledger_is i;
+          work = work_is i;
+          claims = t.no_claims i;
+          pins = t.no_pins i;
+        };
+        tasks = h.no_tasks i;
+        shorts = h.no_shorts i;
+        power_on = h.power_off i;
+        registers = h.no_registers i;
+      }
+
+pub state_is : (s : State) (n : IsNew s) → s ≡ new_state (open_in s)
+state_is s n =
+    first_is row n.array n.bad s n.blank n.opened
+    ∙ ap (λ (bad : Spot → Bool). first_state row bad (open_in s)) (λ i b. n.none_bad b i)

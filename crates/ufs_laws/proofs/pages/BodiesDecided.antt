@@ -1,0 +1,95 @@
+-- Whether a body is that of a settings page, or of a mark.
+use Rattle.std.proofs.Common.{◌≡◌, ℕ, ◌^◌, ◌==◌, List, Option, length, sym, subst, slice_index}
+use Rattle.std.proofs.Math.Decide.{dec_le, dec_lt, map_dec, ℕ_discrete}
+use Rattle.ufs_spec.specs.Cells.{IsFence, IsMarkBody, NumbersFit, UnitFits}
+use Rattle.ufs_spec.specs.Fields.{field_at}
+use Rattle.ufs_spec.specs.Keys.{AreSettings, IsSettingsBody, key_in, settings_bytes}
+use Rattle.ufs_spec.specs.Messages.{AreBytes}
+use Rattle.ufs_spec.specs.Pages.{mark_bytes}
+use Rattle.ufs_spec.specs.declared.configs.Numbers.{Numbers}
+use Rattle.ufs_spec.specs.declared.configs.UnitSpec.{UnitSpec}
+use Rattle.ufs_spec.specs.declared.flash.Fence.{Fence}
+use Rattle.ufs_laws.proofs.deciding.Connectives.{are_bytes, dec_all, dec_and, dec_some, same_bytes}
+use Rattle.ufs_laws.proofs.pages.MarkBodies.{fence_in, fence_of_mark, numbers_in, numbers_of_mark}
+use Rattle.ufs_laws.proofs.pages.SettingsBodies.{ranges_read, written_again}
+
+-- Settings
+
+is_key : (bytes : List ℕ) → Dec ((length bytes ≡ 32) × AreBytes bytes)
+is_key bytes = dec_and (ℕ_discrete (length bytes) 32) (are_bytes bytes)
+
+are_settings : (boot : ℕ) (key : Option (List ℕ)) (counter : ℕ) → Dec (AreSettings boot key counter)
+are_settings boot key counter =
+    map_dec (λ h. record { boot_bound = h.0; key_length = h.1.0; counter_fits = h.1.1 })
+    (λ r. (r.boot_bound, (r.key_length, r.counter_fits)))
+    (dec_and (dec_le boot 2)
+    (dec_and (dec_some (λ (bytes : List ℕ). (length bytes ≡ 32) × AreBytes bytes) is_key key)
+    (dec_lt counter (2 ^ 32))))
+
+-- whether a body is that of a settings page: read, written again and compared
+pub is_settings_body : (body : List ℕ) → Dec (IsSettingsBody body)
+is_settings_body body =
+    map_dec
+    (λ h. record {
+      boot = slice_index body 0;
+      permanent = slice_index body 1 == 1;
+      key = key_in body;
+      counter = field_at 4 36 body;
+      ranges = h.0;
+      bytes = h.1;
+    })
+    (λ s. (ranges_read body s, sym (written_again body s)))
+    (dec_and (are_settings (slice_index body 0) (key_in body) (field_at 4 36 body))
+    (same_bytes body
+    (settings_bytes (slice_index body 0) (slice_index body 1 == 1) (key_in body) (field_at 4 36 body))))
+
+-- Marks
+
+is_fence : (f : Fence) → Dec (IsFence f)
+is_fence f =
+    map_dec (λ h. record { ordered = h.0; some = h.1.0; fits = h.1.1 }) (λ r. (r.ordered, (r.some, r.fits)))
+    (dec_and (dec_le f.first f.last) (dec_and (dec_lt 0 f.last) (dec_lt f.last (2 ^ 64))))
+
+unit_fits : (u : UnitSpec) → Dec (UnitFits u)
+unit_fits u =
+    map_dec (λ h. record { blocks = h.0; boot = h.1.0; protect = h.1.1 }) (λ r. (r.blocks, (r.boot, r.protect)))
+    (dec_and (dec_lt u.blocks (2 ^ 32)) (dec_and (dec_lt u.boot (2 ^ 8)) (dec_lt u.protect (2 ^ 8))))
+
+numbers_fit : (n : Numbers) → Dec (NumbersFit n)
+numbers_fit n =
+    map_dec
+    (λ h. record {
+      dies = h.0.0;
+      blocks = h.0.1;
+      pages = h.1.0.0;
+      units = h.1.0.1;
+      each_unit = h.1.1.0.0;
+      rpmb = h.1.1.0.1;
+      slots = h.1.1.1.0;
+      spare = h.1.1.1.1;
+    })
+    (λ r. ((r.dies, r.blocks), ((r.pages, r.units), ((r.each_unit, r.rpmb), (r.slots, r.spare)))))
+    (dec_and (dec_and (dec_lt n.dies (2 ^ 8)) (dec_lt n.blocks (2 ^ 16)))
+    (dec_and (dec_and (dec_lt n.pages (2 ^ 16)) (dec_le (length n.units.items) 8))
+    (dec_and (dec_and (dec_all UnitFits unit_fits n.units.items) (dec_lt n.rpmb (2 ^ 8)))
+    (dec_and (dec_lt n.slots (2 ^ 16)) (dec_lt n.spare (2 ^ 16))))))
+
+-- whether a body is that of a mark with this fence and these numbers
+is_body_of : (fence : Option Fence) (n : Numbers) (body : List ℕ) → Dec (IsMarkBody fence n body)
+is_body_of fence n body =
+    map_dec (λ h. record { fence_right = h.0; numbers_fit = h.1.0; bytes = h.1.1 })
+    (λ r. (r.fence_right, (r.numbers_fit, r.bytes)))
+    (dec_and (dec_some IsFence is_fence fence) (dec_and (numbers_fit n) (same_bytes body (mark_bytes n fence))))
+
+-- the body of a mark is that of the fence and the numbers that are read from it
+as_read : (fence : Option Fence) (n : Numbers) (body : List ℕ) → IsMarkBody fence n body
+    → IsMarkBody (fence_in body) (numbers_in body) body
+as_read fence n body h =
+    subst (λ (f : Option Fence). IsMarkBody f (numbers_in body) body) (sym (fence_of_mark fence n body h))
+    (subst (λ (m : Numbers). IsMarkBody fence m body) (sym (numbers_of_mark fence n body h)) h)
+
+-- whether a body is that of a mark: read, written again and compared
+pub is_mark_body : (body : List ℕ) → Dec ((fence : Option Fence) × (n : Numbers) × IsMarkBody fence n body)
+is_mark_body body =
+    map_dec (λ h. (fence_in body, numbers_in body, h)) (λ m. as_read m.0 m.1 body m.2)
+    (is_body_of (fence_in body) (numbers_in body) body)

@@ -1,0 +1,130 @@
+-- A mark's fence and numbers are read back from its body.
+use Rattle.std.proofs.Common.{◌≡◌, ◌∙◌, ◌-◌, ℕ, zero, suc, ◌^◌, ◌<◌, ◌==◌, false, List, [], ◌∷◌, ◌++◌, All, Option}
+use Rattle.std.proofs.Common.{None, Some, length, refl, sym, ap, drop, replicate, slice_index, append_assoc, arith}
+use Rattle.std.specs.Prelude.{if◌then◌else◌}
+use Rattle.std.specs.List.{flat_map}
+use Rattle.std.proofs.lemmas.Bool.Decides.{nat_tests}
+use Rattle.byteorder.specs.Endian.{big_number}
+use Rattle.byteorder.specs.Numbers.{big_number-reads_back}
+use Rattle.ufs_spec.specs.Cells.{IsFence, IsMarkBody, NumbersFit, UnitFits}
+use Rattle.ufs_spec.specs.Fields.{field_at}
+use Rattle.ufs_spec.specs.Pages.{fence_bytes, numbers_bytes, unit_bytes, zero_filled}
+use Rattle.ufs_spec.specs.declared.configs.Numbers.{Numbers}
+use Rattle.ufs_spec.specs.declared.configs.UnitSpec.{UnitSpec}
+use Rattle.ufs_spec.specs.declared.flash.Fence.{Fence}
+
+-- Reading
+
+-- the units in the first n entries
+pub units_in : ℕ → List ℕ → List UnitSpec
+units_in zero bytes = []
+units_in (suc n) bytes =
+    record { blocks = big_number 4 bytes; boot = slice_index bytes 4; protect = slice_index bytes 5 }
+    ∷ units_in n (drop 8 bytes)
+
+-- the fence with these ends, none where the last is 0
+abbrev fence_of : ℕ → ℕ → Option Fence
+fence_of first last = if last == 0 then None else Some record { first = first; last = last }
+
+abbrev pub fence_in : List ℕ → Option Fence
+fence_in body = fence_of (big_number 8 body) (field_at 8 8 body)
+
+-- the numbers behind the sixteen bytes of the fence
+abbrev numbers_from : List ℕ → Numbers
+numbers_from bytes =
+    record {
+      dies = slice_index bytes 0;
+      blocks = field_at 2 2 bytes;
+      pages = field_at 2 4 bytes;
+      units = record { items = units_in (slice_index bytes 1) (drop 16 bytes) };
+      rpmb = slice_index bytes 6;
+      slots = field_at 2 8 bytes;
+      spare = field_at 2 10 bytes;
+    }
+
+abbrev pub numbers_in : List ℕ → Numbers
+numbers_in body = numbers_from (drop 16 body)
+
+-- Reading back
+
+-- the entries of units are read back
+units_back : (units : List UnitSpec) (rest : List ℕ) → All UnitFits units
+    → units_in (length units) (flat_map unit_bytes units ++ rest) ≡ units
+unfolding units_in
+units_back [] rest fit = refl
+units_back (u ∷ us) rest fit =
+    let first : UnitFits u = fit 0 u (omega arith) in
+    let blocks : big_number 4 (flat_map unit_bytes (u ∷ us) ++ rest) ≡ u.blocks =
+    big_number-reads_back 4 u.blocks [] (omega (arith, first.blocks)) in
+    let others : units_in (length us) (flat_map unit_bytes us ++ rest) ≡ us =
+    units_back us rest (λ k d lt. fit (suc k) d (omega arith)) in
+    rw (blocks, others) refl
+
+-- bytes in three parts, with zeros behind them
+filled_parts : (n : ℕ) (a b c : List ℕ) → (rest : List ℕ) × (zero_filled n (a ++ b ++ c) ≡ a ++ (b ++ (c ++ rest)))
+unfolding zero_filled
+filled_parts n a b c =
+    let rest : List ℕ = replicate (n - length (a ++ b ++ c)) 0 in
+    let e : (a ++ b ++ c) ++ rest ≡ a ++ (b ++ (c ++ rest)) = append_assoc (a ++ b) c rest
+    ∙ append_assoc a b (c ++ rest) in
+    (rest, e)
+
+-- the numbers are read back
+numbers_back : (n : Numbers) (rest : List ℕ) → NumbersFit n
+    → numbers_from (numbers_bytes n ++ (flat_map unit_bytes n.units.items ++ rest)) ≡ n
+numbers_back n rest fit =
+    let bytes : List ℕ = numbers_bytes n ++ (flat_map unit_bytes n.units.items ++ rest) in
+    let blocks : big_number 2 (drop 2 bytes) ≡ n.blocks = big_number-reads_back 2 n.blocks []
+    (omega (arith, fit.blocks)) in
+    let pages : big_number 2 (drop 4 bytes) ≡ n.pages = big_number-reads_back 2 n.pages [] (omega (arith, fit.pages)) in
+    let slots : big_number 2 (drop 8 bytes) ≡ n.slots = big_number-reads_back 2 n.slots [] (omega (arith, fit.slots)) in
+    let spare : big_number 2 (drop 10 bytes) ≡ n.spare = big_number-reads_back 2 n.spare []
+    (omega (arith, fit.spare)) in
+    let units : units_in (length n.units.items) (flat_map unit_bytes n.units.items ++ rest) ≡ n.units.items =
+    units_back n.units.items rest fit.each_unit in
+    rw (blocks, pages, slots, spare, units) refl
+
+-- the numbers stand behind the sixteen bytes of a fence
+behind_fence : (fence : Option Fence) (rest : List ℕ) → drop 16 (fence_bytes fence ++ rest) ≡ rest
+behind_fence None rest = refl
+behind_fence (Some fence) rest = refl
+
+-- a fence is read back
+fence_back : (fence : Option Fence) (rest : List ℕ) → ((f : Fence) → fence ≡ Some f → IsFence f)
+    → fence_in (fence_bytes fence ++ rest) ≡ fence
+fence_back None rest right = refl
+fence_back (Some fence) rest right =
+    let bytes : List ℕ = fence_bytes (Some fence) ++ rest in
+    let is : IsFence fence = right fence refl in
+    let low : fence.first < 256 ^ 8 = omega (arith, is.ordered, is.fits) in
+    let high : fence.last < 256 ^ 8 = omega (arith, is.fits) in
+    let first : big_number 8 bytes ≡ fence.first = big_number-reads_back 8 fence.first [] low in
+    let last : big_number 8 (drop 8 bytes) ≡ fence.last = big_number-reads_back 8 fence.last [] high in
+    let some : (fence.last == 0) ≡ false = grind (arith, nat_tests, is.some) in
+    rw (first, last, some) refl
+
+-- Marks
+
+-- the fence and the numbers of a mark are read from its body
+pub fence_of_mark : (fence : Option Fence) (n : Numbers) (body : List ℕ) → IsMarkBody fence n body →
+    fence_in body ≡ fence
+fence_of_mark fence n body h =
+    let parts = filled_parts 4096 (fence_bytes fence) (numbers_bytes n) (flat_map unit_bytes n.units.items) in
+    ap fence_in (h.bytes ∙ parts.1)
+    ∙ fence_back fence (numbers_bytes n ++ (flat_map unit_bytes n.units.items ++ parts.0)) h.fence_right
+
+pub numbers_of_mark : (fence : Option Fence) (n : Numbers) (body : List ℕ) → IsMarkBody fence n body →
+    numbers_in body ≡ n
+numbers_of_mark fence n body h =
+    let parts = filled_parts 4096 (fence_bytes fence) (numbers_bytes n) (flat_map unit_bytes n.units.items) in
+    ap numbers_in (h.bytes ∙ parts.1)
+    ∙ ap numbers_from (behind_fence fence (numbers_bytes n ++ (flat_map unit_bytes n.units.items ++ parts.0)))
+    ∙ numbers_back n parts.0 h.numbers_fit
+
+-- a body is that of one fence and one configuration
+pub one_fence : (f g : Option Fence) (n m : Numbers) (body : List ℕ) → IsMarkBody f n body → IsMarkBody g m body → f ≡ g
+one_fence f g n m body h k = sym (fence_of_mark f n body h) ∙ fence_of_mark g m body k
+
+pub one_configuration : (f g : Option Fence) (n m : Numbers) (body : List ℕ) → IsMarkBody f n body →
+    IsMarkBody g m body → n ≡ m
+one_configuration f g n m body h k = sym (numbers_of_mark f n body h) ∙ numbers_of_mark g m body k

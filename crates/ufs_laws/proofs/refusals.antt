@@ -1,0 +1,2 @@
+pub mod RefusedCommands
+pub mod TableLines

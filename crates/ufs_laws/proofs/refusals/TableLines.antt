@@ -1,0 +1,178 @@
+-- The line of the table that stands first decides.
+use Rattle.std.proofs.Common.{◌≡◌, ℕ, ◌*◌, ◌≤◌, ◌==◌, ◌||◌, nat_le, nat_lt, not, Bool, true, false, if◌then◌else◌, List}
+use Rattle.std.proofs.Common.{[], ◌∷◌, length, Option, Some, None, refl, ap, ◌∙◌, subst, arith}
+use Rattle.std.proofs.lemmas.Bool.{le-leb, le-ltb, lt-ltb, ltb-true}
+use Rattle.ufs_laws.proofs.refusals.RefusedCommands.{answers, idle_is, idle_state, lacks}
+use Rattle.ufs_laws.specs.Runs.{IsIdle}
+use Rattle.ufs_laws.specs.Table.{IsRefused, asks, read_at, spells_none, write_at}
+use Rattle.ufs_spec.specs.Exchanges.{Busy, Status, TaskSetFull, invalid_field, invalid_operation, list_length_error}
+use Rattle.ufs_spec.specs.Exchanges.{no_unit, not_ready, out_of_range, response, sequence_error, short_reply}
+use Rattle.ufs_spec.specs.Exchanges.{write_protected}
+use Rattle.ufs_spec.specs.Machine.{command_heard, opened_with, with_short}
+use Rattle.ufs_spec.specs.Messages.{is_among}
+use Rattle.ufs_spec.specs.declared.configs.Numbers.{Numbers}
+use Rattle.ufs_spec.specs.Stages.{most_blocks, most_tasks}
+use Rattle.ufs_spec.specs.Refusals.{BootUnit, is_boot_read, not_taken, operations_of, Request, State, first_line}
+use Rattle.ufs_spec.specs.Refusals.{has_other_response, has_wrong_list, is_crowded, is_past, is_refused_write}
+use Rattle.ufs_spec.specs.Refusals.{is_too_long, lacks_response, lines_for, locked, mended, refusal, spec_of}
+use Rattle.ufs_spec.specs.Translation.{free_slots}
+use Rattle.ufs_spec.specs.declared.configs.UnitSpec.{UnitSpec}
+use Rattle.ufs_spec.specs.declared.scsi.Cdb.{Cdb}
+use Rattle.ufs_spec.specs.declared.scsi.Cdb.TheVariants as cdb
+use Rattle.ufs_spec.proofs.Facts.{cond-false, cond-true, or_with_false}
+
+-- ## Lines
+
+-- a line that applies decides, and one that does not leaves it to the rest
+decides : (b : Bool) (status : Status) (rest : Option Status) → b ≡ true →
+    (if b then Some status else rest) ≡ Some status
+decides b status rest e = cond-true b (Some status) rest e
+
+leaves : (b : Bool) (status other : Status) (rest : Option Status) → b ≡ false → rest ≡ Some other →
+    (if b then Some status else rest) ≡ Some other
+leaves b status other rest e k = cond-false b (Some status) rest e ∙ k
+
+pub full : (s : State) (r : Request) (status : Status) → most_tasks ≤ length s.tasks → refusal s r ≡ Some status →
+    command_heard s r ≡ with_short s (short_reply r.tag (response r.lun r.tag r.expected 0 TaskSetFull))
+full s r status many e =
+    cond-true (nat_le most_tasks (length s.tasks)) _ (opened_with s r (refusal s r))
+    (le-leb most_tasks (length s.tasks) many)
+
+locked_idle : (s : State) (b : Bool) → IsIdle s → locked s ≡ b → locked (idle_state s) ≡ b
+locked_idle s b h e = subst (λ (t : State). locked t ≡ b) (idle_is s h) e
+
+slots_idle : (s : State) → IsIdle s → free_slots s.translation ≡ 0 → free_slots (idle_state s).translation ≡ 0
+slots_idle s h e = subst (λ (t : State). free_slots t.translation ≡ 0) (idle_is s h) e
+
+-- ## Through the table
+
+pub unit : (s : State) (tag : ℕ) (bytes : List ℕ) → IsIdle s → IsRefused s (spells_none 0x40 3 tag bytes) no_unit
+unit s tag bytes h =
+    answers s (spells_none 0x40 3 tag bytes) no_unit h (lacks s (spells_none 0x40 3 tag bytes) (omega arith) refl)
+
+pub operation : (s : State) (tag : ℕ) (rest : List ℕ) → IsIdle s →
+    IsRefused s (spells_none 0x40 0 tag (0xFF ∷ rest)) invalid_operation
+operation s tag rest h = answers s (spells_none 0x40 0 tag (0xFF ∷ rest)) invalid_operation h refl
+
+pub blocks : (s : State) (tag : ℕ) → IsIdle s → IsRefused s (asks 0x40 0 tag (read_at 256 33)) invalid_field
+blocks s tag h = answers s (asks 0x40 0 tag (read_at 256 33)) invalid_field h refl
+
+pub list : (s : State) (tag : ℕ) →
+    first_line (lines_for s (asks 0x00 0 tag (cdb.Unmap 16)) (cdb.Unmap 16)) ≡ Some list_length_error
+list s tag = refl
+
+pub flag : (s : State) (tag : ℕ) → IsIdle s → IsRefused s (asks 0x00 0 tag (read_at 256 1)) invalid_field
+flag s tag h = answers s (asks 0x00 0 tag (read_at 256 1)) invalid_field h refl
+
+pub past : (s : State) (tag : ℕ) → IsIdle s → mended s ≡ false →
+    IsRefused s (asks 0x40 0 tag (read_at 256 1)) out_of_range
+past s tag h e = answers s (asks 0x40 0 tag (read_at 256 1)) out_of_range h refl
+
+pub ready : (s : State) (tag : ℕ) → IsIdle s → mended s ≡ false → locked s ≡ true →
+    IsRefused s (asks 0x20 0 tag (write_at 0)) not_ready
+ready s tag h e k =
+    answers s (asks 0x20 0 tag (write_at 0)) not_ready h (decides (not (mended (idle_state s))) not_ready _ (ap not e))
+
+pub protected : (s : State) (tag : ℕ) → IsIdle s → mended s ≡ true → locked s ≡ true → free_slots s.translation ≡ 0 →
+    IsRefused s (asks 0x20 0 tag (write_at 0)) write_protected
+protected s tag h e k none = answers s (asks 0x20 0 tag (write_at 0)) write_protected h
+    (leaves (not (mended (idle_state s))) not_ready write_protected _ (ap not e)
+    (decides (locked (idle_state s) || false) write_protected _ (or_with_false _ ∙ (locked_idle s true h k))))
+
+pub crowded : (s : State) (tag : ℕ) → IsIdle s → mended s ≡ true → locked s ≡ false → free_slots s.translation ≡ 0 →
+    IsRefused s (asks 0x20 0 tag (write_at 0)) Busy
+crowded s tag h e k none = answers s (asks 0x20 0 tag (write_at 0)) Busy h
+    (leaves (not (mended (idle_state s))) not_ready Busy _ (ap not e)
+    (leaves (locked (idle_state s) || false) write_protected Busy _ (or_with_false _ ∙ (locked_idle s false h k))
+    (decides (nat_lt (free_slots (idle_state s).translation) 1) Busy _
+    (lt-ltb (free_slots (idle_state s).translation) 1 (let few = slots_idle s h none in omega arith)))))
+
+-- ## Past the limits of today
+
+-- a command without blocks lies within any unit
+within : (s : State) (r : Request) (n : ℕ) → is_past (cdb.SecurityIn n) (spec_of s r) ≡ false
+within s r n = by (spec_of s r)
+  where
+    by : (u : Option UnitSpec) → is_past (cdb.SecurityIn n) u ≡ false
+    by None = refl
+    by (Some u) = le-ltb u.blocks 0 (omega arith)
+
+abbrev reads_response : ℕ → Request
+reads_response tag = asks 0x40 0xC4 tag (cdb.SecurityIn 512)
+
+pub ready_first : (s : State) (tag : ℕ) → mended s ≡ false → s.registers.response ≡ [] →
+    first_line (lines_for s (reads_response tag) (cdb.SecurityIn 512)) ≡ Some not_ready
+ready_first s tag e none =
+    leaves (is_past (cdb.SecurityIn 512) (spec_of s (reads_response tag))) out_of_range not_ready _
+    (within s (reads_response tag) 512)
+    (decides (not (mended s)) not_ready _ (ap not e))
+
+pub response_first : (s : State) (tag : ℕ) → mended s ≡ true → s.registers.response ≡ [] →
+    first_line (lines_for s (reads_response tag) (cdb.SecurityIn 512)) ≡ Some sequence_error
+response_first s tag e none =
+    leaves (is_past (cdb.SecurityIn 512) (spec_of s (reads_response tag))) out_of_range sequence_error _
+    (within s (reads_response tag) 512)
+    (leaves (not (mended s)) not_ready sequence_error _ (ap not e)
+    (decides (length s.registers.response == 0) sequence_error _
+    (ap (λ (frames : List (List ℕ)). length frames == 0) none)))
+
+pub other_response : (s : State) (tag : ℕ) (a b : List ℕ) → mended s ≡ true → s.registers.response ≡ a ∷ b ∷ [] →
+    first_line (lines_for s (reads_response tag) (cdb.SecurityIn 512)) ≡ Some invalid_field
+other_response s tag a b e two =
+    leaves (is_past (cdb.SecurityIn 512) (spec_of s (reads_response tag))) out_of_range invalid_field _
+    (within s (reads_response tag) 512)
+    (leaves (not (mended s)) not_ready invalid_field _ (ap not e)
+    (leaves (length s.registers.response == 0) sequence_error invalid_field _
+    (ap (λ (frames : List (List ℕ)). length frames == 0) two)
+    (decides (not (512 == 512 * length s.registers.response)) invalid_field _
+    (ap (λ (frames : List (List ℕ)). not (512 == 512 * length frames)) two))))
+
+-- ## Lines that never meet
+
+pub unit_or_operation : (r : Request) → not_taken r None ≡ false
+unit_or_operation r = refl
+
+pub boot_or_operation : (operation : ℕ) → is_boot_read operation ≡ true →
+    is_among (operations_of BootUnit) operation ≡ true
+boot_or_operation operation e =
+    later (operation == 0x00) (operation == 0x03) (operation == 0x12) (is_boot_read operation) e
+  where
+    later : (a b c d : Bool) → d ≡ true → (a || (b || (c || d))) ≡ true
+    later true b c d e = refl
+    later false true c d e = refl
+    later false false true d e = refl
+    later false false false d e = e
+
+few : (most n : ℕ) → n ≡ 0 → nat_lt most n ≡ true → ⊥
+few most n e k = let l = ltb-true most n k in omega arith
+
+pub blocks_or_list : (n : Numbers) (c : Cdb) → is_too_long n c ≡ true → has_wrong_list c ≡ false
+blocks_or_list n (cdb.Unmap size) e = absurd (few (most_blocks n) 0 refl e)
+blocks_or_list n c e = refl
+
+no_write : (s : State) (u : Option UnitSpec) (n : ℕ) → is_refused_write s u (cdb.SecurityIn n) ≡ true → ⊥
+no_write s u n e = let none : false ≡ true = e in cc
+
+pub write_or_response : (s : State) (u : Option UnitSpec) (c : Cdb) → is_refused_write s u c ≡ true →
+    lacks_response s c ≡ false
+write_or_response s u (cdb.SecurityIn n) e = absurd (no_write s u n e)
+write_or_response s u c e = refl
+
+pub write_or_other_response : (s : State) (u : Option UnitSpec) (c : Cdb) → is_refused_write s u c ≡ true →
+    has_other_response s c ≡ false
+write_or_other_response s u (cdb.SecurityIn n) e = absurd (no_write s u n e)
+write_or_other_response s u c e = refl
+
+uncrowded : (s : State) (n : ℕ) → is_crowded s (cdb.SecurityIn n) ≡ false
+uncrowded s n = le-ltb (free_slots s.translation) 0 (omega arith)
+
+no_response : false ≡ true → ⊥
+no_response e = cc
+
+pub response_or_slots : (s : State) (c : Cdb) → lacks_response s c ≡ true → is_crowded s c ≡ false
+response_or_slots s (cdb.SecurityIn n) e = uncrowded s n
+response_or_slots s c e = absurd (no_response e)
+
+pub other_response_or_slots : (s : State) (c : Cdb) → has_other_response s c ≡ true → is_crowded s c ≡ false
+other_response_or_slots s (cdb.SecurityIn n) e = uncrowded s n
+other_response_or_slots s c e = absurd (no_response e)

@@ -1,0 +1,5 @@
+pub mod Happenings
+pub mod LayerEffects
+pub mod SmallChanges
+pub mod TaskLaws
+pub mod WaysOfCommands

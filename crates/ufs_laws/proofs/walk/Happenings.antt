@@ -1,0 +1,274 @@
+-- What a call makes of the exchanges, behind what it does first: one happening of few kinds, for a reason. This is the
+-- one walk through messages, data and replies; what follows of it is a case for each kind (`behind_by`).
+use Rattle.std.proofs.Common.{◌≡◌, ℕ, ◌==◌, ◌&&◌, Bool, true, false, if◌then◌else◌, List, [], ◌∷◌, ◌++◌, length, map}
+use Rattle.std.proofs.Common.{find, nat_le, nat_lt, Option, Some, None, refl, sym, subst}
+use Rattle.std.specs.Prelude.{Err, Ok}
+use Rattle.ufs_spec.proofs.Facts.{and_parts, eqb-true, if_cases, none-some, same_Some}
+use Rattle.ufs_spec.specs.Cells.{Array}
+use Rattle.ufs_spec.specs.Disk.{Erasing, Flight, ForNobody, ForRest, ForStep, ForTask, Programming, Reader, Reading}
+use Rattle.ufs_spec.specs.Exchanges.{Answering, Deed, Gathering, NotRead, Purpose, ReadState, Short, Status, Task}
+use Rattle.ufs_spec.specs.Exchanges.{WasRead, count_at, is_asked_in, is_asked_of, is_short_of, is_task_of, short_reply}
+use Rattle.ufs_spec.specs.Exchanges.{task_of}
+use Rattle.ufs_spec.specs.Machine.{Allowed, Answer, Call, Done, Faulty, Host, OfDone, OfHost, OfReply, OfTake, OfTurn}
+use Rattle.ufs_spec.specs.Machine.{Reply, Spelled, Take, Turn, array_behind, asked_fault, behind, begun, begun_with}
+use Rattle.ufs_spec.specs.Machine.{command_heard, data_for, data_heard, deed_behind, ends_with, heard, in_use}
+use Rattle.ufs_spec.specs.Machine.{is_aborted, moves_behind, opened_with, read_noted, opening_fault, replied_by}
+use Rattle.ufs_spec.specs.Machine.{result_of, service, set_deed, short_replied, tag_in, task_behind, task_read}
+use Rattle.ufs_spec.specs.Machine.{unit_or_first, with_moves, with_short, with_task, without_tasks}
+use Rattle.ufs_spec.specs.Moves.{EndJob, Ending, GiveJob, ReadRight, ReadWrong, TakeStep, WentWell, WentWrong}
+use Rattle.ufs_spec.specs.Refusals.{Request, State, refusal, unit_of_request}
+use Rattle.ufs_spec.specs.Stages.{most_tasks}
+use Rattle.ufs_spec.specs.declared.faults.HostFault.{HostFault}
+use Rattle.ufs_spec.specs.declared.faults.HostFault.TheVariants.{NotAskedFor, TagInUse}
+use Rattle.ufs_spec.specs.declared.messages.Message.{Message}
+use Rattle.ufs_spec.specs.declared.messages.Message.TheVariants as message
+use Rattle.ufs_spec.specs.declared.scsi.Cdb.{Cdb}
+use Rattle.ufs_laws.proofs.walk.WaysOfCommands.{Completion, WhyCompleted, completed, completes_by}
+
+-- ## What a call does first
+
+-- the dies and the pages where a job is over
+abbrev pub job_over : State → ℕ → Option Flight → Ending → Array → State
+job_over s die None ending left = s
+job_over s die (Some flight) ending left =
+    record (with_moves s (EndJob die ending ∷ [])) { array = array_behind s flight ending left }
+
+abbrev pub first : State → Call → Answer → State
+first s (Take die) (OfTake (Some flight)) = with_moves s (GiveJob die flight ∷ [])
+first s (Done die ending left) (OfDone true) = job_over s die (s.translation.disk.flights die) ending left
+first s Turn (OfTurn due) = with_moves s (TakeStep ∷ [])
+first s call answer = s
+
+-- ## What happens then
+
+pub data Happening : Type 0 where
+  NothingMore : Happening
+  -- a message is answered by a short exchange
+  Replies : (short : Short) → Happening
+  -- a command is refused, or begins
+  Refuses : (r : Request) → (status : Status) → Happening
+  Begins : (r : Request) → (command : Cdb) → Happening
+  -- a task gets data: it goes on, or has all of them
+  Gathers : (task : Task) → (purpose : Purpose) → (all : List ℕ) → Happening
+  Completes : (task : Task) → (completion : Completion) → Happening
+  -- tasks are aborted
+  Aborts : (is : Task → Bool) → (short : Short) → Happening
+  -- a reply is handed out, and the task goes on or is over, or the short exchange is
+  GoesOn : (task : Task) → (deed : Deed) → Happening
+  IsOver : (task : Task) → Happening
+  ShortOver : (short : Short) → Happening
+  -- a block of a task was read, or could not be
+  BlockRead : (tag index : ℕ) → (state : ReadState) → Happening
+
+abbrev pub happened : State → Happening → State
+happened s NothingMore = s
+happened s (Replies short) = with_short s short
+happened s (Refuses r status) = with_task s r None 0 (Answering status 0)
+happened s (Begins r c) = begun s r (unit_or_first (unit_of_request s r)) c
+happened s (Gathers task purpose all) = set_deed s task.tag (Gathering purpose all false)
+happened s (Completes task completion) = completed s task completion
+happened s (Aborts is short) = with_short (without_tasks s is) short
+happened s (GoesOn task deed) = set_deed (with_moves s (moves_behind task task.deed)) task.tag deed
+happened s (IsOver task) = task_behind (with_moves s (moves_behind task task.deed)) task None
+happened s (ShortOver short) = short_replied s (Some short)
+happened s (BlockRead tag index state) = record s { tasks = map (task_read tag index state) s.tasks }
+
+-- ## Why
+
+-- the call is a COMMAND of this request, with a tag that is free
+abbrev pub IsCommand : Call → Request → Type 0
+IsCommand (Host (Spelled (message.Command flags lun tag expected bytes) c)) r =
+    r ≡ record { flags = flags; lun = lun; tag = tag; expected = expected; bytes = bytes; cdb = c }
+IsCommand call r = ⊥
+
+pub record IsAsked (s : State) (call : Call) (answer : Answer) (r : Request) : Type 0 where
+  pub is : IsCommand call r
+  pub free : Allowed s call answer → in_use s r.tag ≡ false
+
+-- the task gathers for this purpose, and the data are as many as it asked for
+pub record GetsData (s : State) (call : Call) (answer : Answer) (task : Task) (purpose : Purpose) : Type 0 where
+  pub found : task_of task.tag s.tasks ≡ Some task
+  pub gathered : List ℕ
+  pub more : List ℕ
+  pub asked : Bool
+  pub deed : task.deed ≡ Gathering purpose gathered asked
+  pub next : Allowed s call answer → length more ≡ count_at task.length (length gathered)
+
+abbrev pub Why : State → Call → Answer → Happening → Type 0
+Why s call answer (Refuses r status) = IsAsked s call answer r × (refusal s r ≡ Some status)
+Why s call answer (Begins r c) = IsAsked s call answer r × (r.cdb ≡ Some c) × (refusal s r ≡ None)
+Why s call answer (Gathers task purpose all) =
+    (d : GetsData s call answer task purpose) × (all ≡ d.gathered ++ d.more) × (nat_lt (length all) task.length ≡ true)
+Why s call answer (Completes task completion) =
+    (purpose : Purpose) × GetsData s call answer task purpose × WhyCompleted purpose task completion
+Why s call answer (GoesOn task deed) =
+    (task_of task.tag s.tasks ≡ Some task) × (deed_behind task task.deed ≡ Some deed)
+Why s call answer (IsOver task) = task_of task.tag s.tasks ≡ Some task
+Why s call answer happening = Unit {0}
+
+-- ## Tasks that are found
+
+-- what is found is what is sought
+pub found_tag : (tag : ℕ) (tasks : List Task) (task : Task) → task_of tag tasks ≡ Some task →
+    is_task_of tag task ≡ true
+found_tag tag [] task e = absurd (none-some task e)
+found_tag tag (t ∷ ts) task e = by (is_task_of tag t) refl e (λ k. found_tag tag ts task k)
+  where
+    by : (b : Bool) → is_task_of tag t ≡ b → (if b then Some t else find (is_task_of tag) ts) ≡ Some task →
+        (find (is_task_of tag) ts ≡ Some task → is_task_of tag task ≡ true) → is_task_of tag task ≡ true
+    by true k e rest = subst (λ (x : Task). is_task_of tag x ≡ true) (same_Some t task e) k
+    by false k e rest = rest e
+
+found_self : (tag : ℕ) (tasks : List Task) (task : Task) → task_of tag tasks ≡ Some task →
+    task_of task.tag tasks ≡ Some task
+found_self tag tasks task e =
+    subst (λ (x : ℕ). task_of x tasks ≡ Some task) (sym (eqb-true task.tag tag (found_tag tag tasks task e))) e
+
+-- ## What is taken
+
+pub is_asked : (b : Bool) → asked_fault b ≡ None → b ≡ true
+is_asked true e = refl
+is_asked false e = absurd (none-some NotAskedFor (sym e))
+
+-- what is taken has no fault
+pub not_refused : (fault : Option HostFault) (done : Unit) → Ok done ≡ result_of fault → fault ≡ None
+not_refused None done e = refl
+not_refused (Some fault) done e = let other : Ok done ≡ Err fault = e in cc
+
+is_unused : (s : State) (tag : ℕ) (short : Bool) → opening_fault s tag short ≡ None → in_use s tag ≡ false
+is_unused s tag short =
+    if_cases (λ x. x ≡ None → in_use s tag ≡ false) (in_use s tag) (λ used e. absurd (none-some TagInUse (sym e)))
+    (λ free e. free)
+
+-- ## The walk
+
+-- each happening that has its reason
+abbrev Each : (State → Type 0) → State → State → Call → Answer → Type 0
+Each P s first call answer = (h : Happening) → Why s call answer h → P (happened first h)
+
+module _ (P : State → Type 0) (s : State) (call : Call) (answer : Answer) (each : Each P s s call answer) where
+  -- Commands
+
+  opened_by : (r : Request) (refused : Option Status) → IsAsked s call answer r → refusal s r ≡ refused →
+      P (opened_with s r refused)
+  opened_by r (Some status) is e = each (Refuses r status) (is, e)
+  opened_by r None is e = by r.cdb refl
+    where
+      by : (c : Option Cdb) → r.cdb ≡ c → P (begun_with s r c)
+      by None k = each NothingMore tt
+      by (Some c) k = each (Begins r c) (is, k, e)
+
+  command_by : (r : Request) → IsAsked s call answer r → P (command_heard s r)
+  command_by r is =
+      if_cases P (nat_le most_tasks (length s.tasks)) (λ e. each (Replies _) tt)
+      (λ e. opened_by r (refusal s r) is refl)
+
+  -- Data
+
+  data_by : (task : Task) (deed : Deed) (lun offset : ℕ) (more : List ℕ) → task_of task.tag s.tasks ≡ Some task →
+      task.deed ≡ deed →
+      (Allowed s call answer → is_asked_in task lun offset (length more) deed ≡ true) → P (data_for s task deed more)
+  data_by task (Gathering purpose gathered asked) lun offset more found e right =
+      if_cases P (nat_lt (length (gathered ++ more)) task.length)
+      (λ few. each (Gathers task purpose (gathered ++ more)) (d, refl, few))
+      (λ over. completes_by P s task purpose (gathered ++ more) (λ k why. each (Completes task k) (purpose, d, why)))
+    where
+      d : GetsData s call answer task purpose
+      d = record {
+        found = found;
+        gathered = gathered;
+        more = more;
+        asked = asked;
+        deed = e;
+        next = λ may.
+            eqb-true (length more) (count_at task.length (length gathered))
+            (and_parts (asked && (task.lun == lun) && (offset == length gathered)) _ (right may)).1;
+      }
+  data_by task deed lun offset more found e right = each NothingMore tt
+
+  data_heard_by : (tag lun offset : ℕ) (o : Option Task) (more : List ℕ) → task_of tag s.tasks ≡ o →
+      (Allowed s call answer → is_asked_of o lun offset (length more) ≡ true) → P (data_heard s o more)
+  data_heard_by tag lun offset None more e right = each NothingMore tt
+  data_heard_by tag lun offset (Some task) more e right =
+      data_by task task.deed lun offset more (found_self tag s.tasks task e) refl right
+
+  -- Replies
+
+  task_by : (task : Task) (deed : Option Deed) → task_of task.tag s.tasks ≡ Some task →
+      deed_behind task task.deed ≡ deed →
+      P (task_behind (with_moves s (moves_behind task task.deed)) task deed)
+  task_by task (Some deed) found e = each (GoesOn task deed) (found, e)
+  task_by task None found e = each (IsOver task) found
+
+  short_by : (o : Option Short) → P (short_replied s o)
+  short_by None = each NothingMore tt
+  short_by (Some short) = each (ShortOver short) tt
+
+  replied_by_kind : (tag : ℕ) (o : Option Task) → task_of tag s.tasks ≡ o → P (replied_by s tag o)
+  replied_by_kind tag (Some task) e = task_by task (deed_behind task task.deed) (found_self tag s.tasks task e) refl
+  replied_by_kind tag None e = short_by (find (is_short_of tag) s.shorts)
+
+-- Messages
+
+heard_by : (P : State → Type 0) (s : State) (m : Message) (c : Option Cdb) (done : Unit) →
+    Each P s s (Host (Spelled m c)) (OfHost (Ok done)) → P (heard s m c)
+heard_by P s (message.Command flags lun tag expected bytes) c done each =
+    command_by P s _ _ each
+    (record { flags = flags; lun = lun; tag = tag; expected = expected; bytes = bytes; cdb = c })
+    (record { is = refl; free = λ may. is_unused s tag _ (not_refused _ done may) })
+heard_by P s (message.DataOut lun tag offset «data») c done each =
+    data_heard_by P s _ _ each tag lun offset (task_of tag s.tasks) «data».items refl
+    (λ may. is_asked _ (not_refused _ done may))
+heard_by P s (message.TaskRequest lun tag function meant) c done each =
+    if_cases (λ t. P (with_short t (short_reply tag (message.TaskResponse lun tag (service s lun function meant)))))
+    (service s lun function meant == 0x00)
+    (λ e. each (Aborts (is_aborted lun function meant) _) tt) (λ e. each (Replies _) tt)
+heard_by P s (message.NopOut tag) c done each = each (Replies _) tt
+heard_by P s (message.QueryRequest tag function asked size value «data») c done each = each (Replies _) tt
+heard_by P s m c done each = each NothingMore tt
+
+-- The ends of jobs
+
+abbrev ended_over : State → ℕ → Ending → Array → State
+ended_over s die ending array = record (with_moves s (EndJob die ending ∷ [])) { array = array }
+
+read_by : (P : State → Type 0) (s : State) (die : ℕ) (reader : Reader) (state : ReadState) (array : Array)
+    (ending : Ending) → ((tag index : ℕ) → P (happened (ended_over s die ending array) (BlockRead tag index state))) →
+    P (ended_over s die ending array) →
+    P (with_moves (record (read_noted s reader state) { array = array }) (EndJob die ending ∷ []))
+read_by P s die (ForTask tag index) state array ending told none = told tag index
+read_by P s die ForStep state array ending told none = none
+read_by P s die (ForRest number index) state array ending told none = none
+read_by P s die ForNobody state array ending told none = none
+
+-- behind the end of a job a task is told at most that a block of it was read, or not
+pub ends_by : (P : State → Type 0) (s : State) (die : ℕ) (o : Option Flight) (ending : Ending) (left : Array) →
+    ((tag index : ℕ) (state : ReadState) → P (happened (job_over s die o ending left) (BlockRead tag index state))) →
+    P (job_over s die o ending left) → P (ends_with s die o ending left)
+ends_by P s die (Some (Reading reader place)) ReadRight left told none =
+    read_by P s die reader WasRead _ ReadRight (λ tag index. told tag index WasRead) none
+ends_by P s die (Some (Reading reader place)) ReadWrong left told none =
+    read_by P s die reader NotRead _ ReadWrong (λ tag index. told tag index NotRead) none
+ends_by P s die None ending left told none = none
+ends_by P s die (Some (Reading reader place)) WentWell left told none = none
+ends_by P s die (Some (Reading reader place)) (WentWrong cells) left told none = none
+ends_by P s die (Some (Programming place cell)) ending left told none = none
+ends_by P s die (Some (Erasing spot)) ending left told none = none
+
+-- Calls
+
+-- what holds of each happening that has its reason holds of a call
+pub behind_by : (P : State → Type 0) (s : State) (call : Call) (answer : Answer) →
+    Each P s (first s call answer) call answer → P (behind s call answer)
+behind_by P s (Host (Spelled m c)) (OfHost (Ok done)) each = heard_by P s m c done each
+behind_by P s (Host (Faulty fault)) (OfHost (Ok done)) each = each NothingMore tt
+behind_by P s (Take die) (OfTake None) each = each NothingMore tt
+behind_by P s (Take die) (OfTake (Some flight)) each = each NothingMore tt
+behind_by P s (Done die ending left) (OfDone true) each =
+    ends_by P s die (s.translation.disk.flights die) ending left
+    (λ tag index state. each (BlockRead tag index state) tt)
+    (each NothingMore tt)
+behind_by P s Turn (OfTurn due) each = each NothingMore tt
+behind_by P s Reply (OfReply (Some m)) each =
+    replied_by_kind P s _ _ each (tag_in m) (task_of (tag_in m) s.tasks) refl
+behind_by P s call answer each = each NothingMore tt

@@ -1,0 +1,306 @@
+-- What a call makes of the state: first a job begins or ends, or a step; and then come small changes alone. What they
+-- keep is a case for each kind of them (`kept`, `layer_kept`).
+use Rattle.std.proofs.Common.{◌≡◌, ℕ, ◌+◌, Bool, true, false, not, if◌then◌else◌, List, [], ◌∷◌, ◌++◌, map, filter}
+use Rattle.std.proofs.Common.{Option, Some, None, refl}
+use Rattle.std.specs.List.{flat_map}
+use Rattle.std.specs.Prelude.{Ok}
+use Rattle.ufs_spec.specs.Cells.{Array}
+use Rattle.ufs_spec.specs.Commands.{Command}
+use Rattle.ufs_spec.specs.Disk.{Flight}
+use Rattle.ufs_spec.specs.Exchanges.{Answering, Awaiting, Deed, ReadState, Registers, Sending, Short, Task, is_short_of}
+use Rattle.ufs_spec.specs.Exchanges.{is_task_of, with_deed, RpmbRequest}
+use Rattle.ufs_spec.specs.Keys.{below, data_key, group_of}
+use Rattle.ufs_spec.specs.Machine.{Answer, Reply, Call, Done, OfDone, Take, OfTake, Heard, OfHost, Host, OfReply, Turn}
+use Rattle.ufs_spec.specs.Machine.{OfTurn, abort_moves, accepts, array_behind, behind, begun, blocks_expected}
+use Rattle.ufs_spec.specs.Machine.{claimed_by, fill_moves, fills, hears, is_to_fill, is_durable, kept_at, lock_applied}
+use Rattle.ufs_spec.specs.Machine.{moves_behind, observe, read_begun, registers_behind, replied, set_deed, short_locked}
+use Rattle.ufs_spec.specs.Machine.{task_filled, task_locked, task_read, acknowledges, with_moves, with_short, with_task}
+use Rattle.ufs_spec.specs.Machine.{without_tasks}
+use Rattle.ufs_spec.specs.Moves.{Accept, Claim, EndJob, Keep, LetGo, LetGoAll, Move, Release, GiveJob, Acknowledge}
+use Rattle.ufs_spec.specs.Moves.{TakeStep, WantPage, moved}
+use Rattle.ufs_spec.specs.Refusals.{Request, State, locked, numbers_of, plain_now}
+use Rattle.ufs_spec.specs.Translation.{Pin, Translation}
+use Rattle.ufs_spec.specs.declared.configs.Numbers.{Numbers}
+use Rattle.ufs_spec.specs.declared.flash.Key.{Key}
+use Rattle.ufs_spec.specs.declared.messages.Message.{Message}
+use Rattle.ufs_spec.specs.declared.scsi.Cdb.{Cdb}
+pub use Rattle.ufs_laws.proofs.walk.Happenings.{first, job_over, Aborts, Begins, BlockRead, Gathers, GoesOn, Happening}
+pub use Rattle.ufs_laws.proofs.walk.Happenings.{IsOver, NothingMore, Refuses, Replies, ShortOver, behind_by, happened}
+pub use Rattle.ufs_laws.proofs.walk.Happenings.{Completes}
+use Rattle.ufs_spec.proofs.Facts.{if_both}
+use Rattle.ufs_laws.proofs.walk.WaysOfCommands.{Told, MeetsLock, Accepted, Beginning, Gathered, Reading, WhyBegun}
+use Rattle.ufs_laws.proofs.walk.WaysOfCommands.{begins_by, begun_as}
+
+-- ## Small changes
+
+pub data Change : Type 0 where
+  -- a move of the translation layer
+  Moves : (move : Move) → Change
+  -- a command is accepted, and its group in place of claimed slots; its task does something else from now on
+  Accepts : (command : Command) → (claimed : ℕ) → (f : Task → Task) → Change
+  -- a task is opened, each does something else, or some are closed
+  Opens : (task : Task) → Change
+  Maps : (f : Task → Task) → Change
+  Closes : (is : Task → Bool) → Change
+  -- and short exchanges
+  OpensShort : (short : Short) → Change
+  MapsShorts : (f : Short → Short) → Change
+  ClosesShorts : (is : Short → Bool) → Change
+  -- the RPMB registers; fPowerOnWPEn
+  SetsRegisters : (registers : Registers) → Change
+  SetsPowerOn : (on : Bool) → Change
+
+abbrev pub changed : State → Change → State
+changed s (Moves move) = with_moves s (move ∷ [])
+changed s (Accepts command claimed f) = record (accepts s command claimed) { tasks = map f s.tasks }
+changed s (Opens task) = record s { tasks = s.tasks ++ task ∷ [] }
+changed s (Maps f) = record s { tasks = map f s.tasks }
+changed s (Closes is) = record s { tasks = filter (λ task. not (is task)) s.tasks }
+changed s (OpensShort short) = with_short s short
+changed s (MapsShorts f) = record s { shorts = map f s.shorts }
+changed s (ClosesShorts is) = record s { shorts = filter (λ short. not (is short)) s.shorts }
+changed s (SetsRegisters registers) = record s { registers = registers }
+changed s (SetsPowerOn on) = record s { power_on = on }
+
+-- neither the beginning nor the end of a job, nor a step
+abbrev pub IsQuiet : Move → Type 0
+IsQuiet (GiveJob die flight) = ⊥
+IsQuiet (EndJob die ending) = ⊥
+IsQuiet TakeStep = ⊥
+IsQuiet move = Unit {0}
+
+-- and a group is accepted with its command alone
+abbrev pub IsSmallMove : Move → Type 0
+IsSmallMove (GiveJob die flight) = ⊥
+IsSmallMove (EndJob die ending) = ⊥
+IsSmallMove TakeStep = ⊥
+IsSmallMove (Accept claimed g) = ⊥
+IsSmallMove move = Unit {0}
+
+-- it is the same task, whatever it does and whatever its request has filled
+pub record SameTask (task other : Task) : Type 0 where
+  pub lun : other.lun ≡ task.lun
+  pub tag : other.tag ≡ task.tag
+  pub expected : other.expected ≡ task.expected
+  pub command : other.command ≡ task.command
+  pub length : other.length ≡ task.length
+
+abbrev pub IsSmall : Change → Type 0
+IsSmall (Moves move) = IsSmallMove move
+IsSmall (Accepts command claimed f) = (task : Task) → SameTask task (f task)
+IsSmall (Maps f) = (task : Task) → SameTask task (f task)
+IsSmall (MapsShorts f) = (short : Short) → (f short).tag ≡ short.tag
+IsSmall change = Unit {0}
+
+-- the second state is the first one after changes, each of which might come where it came
+pub data Changes (May : State → Change → Type 0) : State → State → Type 0 where
+  Still : {s : State} → Changes May s s
+  One : {s : State} → (change : Change) → May s change → Changes May s (changed s change)
+  Both : {s t u : State} → Changes May s t → Changes May t u → Changes May s u
+
+abbrev pub Small : State → State → Type 0
+Small = Changes (λ s change. IsSmall change)
+
+-- ## What changes keep
+
+pub record IsKept (May : State → Change → Type 0) (R : State → State → Type 0) : Type 0 where
+  pub self : (s : State) → R s s
+  pub both : (s t u : State) → R s t → R t u → R s u
+  pub one : (s : State) (change : Change) → May s change → R s (changed s change)
+
+pub kept : {May : State → Change → Type 0} (R : State → State → Type 0) → IsKept May R → {s t : State} →
+    Changes May s t → R s t
+kept R k {s} Still = k.self s
+kept R k {s} (One change is) = k.one s change is
+kept R k (Both {s} {t} {u} h g) = k.both s t u (kept R k h) (kept R k g)
+
+pub weaker : {May Might : State → Change → Type 0} → ((s : State) (change : Change) → May s change → Might s change) →
+    {s t : State} → Changes May s t → Changes Might s t
+weaker f Still = Still
+weaker f {s} (One change may) = One change (f s change may)
+weaker f (Both h g) = Both (weaker f h) (weaker f g)
+
+-- of the translation layer, quiet moves alone
+pub record IsLayerKept (R : Translation → Translation → Type 0) : Type 0 where
+  pub self : (t : Translation) → R t t
+  pub both : (t u v : Translation) → R t u → R u v → R t v
+  pub one : (t : Translation) (move : Move) → IsQuiet move → R t (moved t move)
+
+pub small_quiet : (move : Move) → IsSmallMove move → IsQuiet move
+small_quiet (GiveJob die flight) is = is
+small_quiet (EndJob die ending) is = is
+small_quiet TakeStep is = is
+small_quiet move is = tt
+
+pub layer_kept : (R : Translation → Translation → Type 0) → IsLayerKept R → {s t : State} → Small s t →
+    R s.translation t.translation
+layer_kept R k h = kept (λ (s t : State). R s.translation t.translation) (record {
+  self = λ s. k.self s.translation;
+  both = λ s t u h g. k.both s.translation t.translation u.translation h g;
+  one = one;
+}) h
+  where
+    one : (s : State) (change : Change) → IsSmall change → R s.translation (changed s change).translation
+    one s (Moves move) is = k.one s.translation move (small_quiet move is)
+    one s (Accepts c claimed f) is = k.one s.translation (Accept claimed (group_of (plain_now s) c)) tt
+    one s change is = k.self s.translation
+
+-- ## The walk
+
+small_if : {s t u : State} (b : Bool) → Small s t → Small s u → Small s (if b then t else u)
+small_if true h k = h
+small_if false h k = k
+
+one_move : {s : State} (move : Move) → IsSmallMove move → Small s (with_moves s (move ∷ []))
+one_move move is = One (Moves move) is
+
+-- Tasks
+
+opens : {s : State} (r : Request) (c : Option Cdb) (n : ℕ) (deed : Deed) → Small s (with_task s r c n deed)
+opens r c n deed = One (Opens _) tt
+
+pub same_task : (task : Task) (deed : Deed) (request : Option RpmbRequest) →
+    SameTask task (record task { deed = deed; request = request })
+same_task task deed request = record { lun = refl; tag = refl; expected = refl; command = refl; length = refl }
+
+pub does : (tag : ℕ) (deed : Deed) (task : Task) → SameTask task (with_deed tag deed task)
+does tag deed task =
+    if_both (SameTask task) (is_task_of tag task) (same_task task deed task.request) (same_task task _ _)
+
+set : {s : State} (tag : ℕ) (deed : Deed) → Small s (set_deed s tag deed)
+set tag deed = One (Maps (with_deed tag deed)) (does tag deed)
+
+-- Commands
+
+keeps_small : (s : State) (k : ℕ → Key) (f : ℕ → Pin) (xs : List ℕ) →
+    Small s (with_moves s (map (λ i. Keep (k i) (f i)) xs))
+keeps_small s k f [] = Still
+keeps_small s k f (x ∷ xs) =
+    Both (one_move (Keep (k x) (f x)) tt) (keeps_small (with_moves s (Keep (k x) (f x) ∷ [])) k f xs)
+
+read_small : (s : State) (r : Request) (command : Cdb) (unit address n : ℕ) →
+    Small s (read_begun s r command unit address n)
+read_small s r command unit address n =
+    Both (keeps_small s (λ i. data_key unit (address + i)) (kept_at s r.tag unit address) (below (blocks_expected r n)))
+    (opens r (Some command) n _)
+
+begun_small : (s : State) (r : Request) (unit : ℕ) (command : Cdb) → Small s (begun s r unit command)
+begun_small s r unit c = begins_by (Small s) s r unit c one
+  where
+    one : (b : Beginning) → WhyBegun s r unit c b → Small s (begun_as s r c b)
+    one (Reading unit address n) why = read_small s r c unit address n
+    one (Gathered count purpose n) why = Both (one_move (Claim count) tt) (opens r (Some c) n _)
+    one b why = opens r _ _ _
+
+-- Tasks that are aborted
+
+aborts_small : (s : State) (n : Numbers) (tasks : List Task) → Small s (with_moves s (flat_map (abort_moves n) tasks))
+aborts_small s n [] = Still
+aborts_small s n (task ∷ tasks) =
+    Both (one_move (Release (claimed_by n task.deed task.command)) tt)
+    (Both (one_move (LetGoAll task.tag) tt) (aborts_small (with_moves s (abort_moves n task)) n tasks))
+
+without_small : (s : State) (is : Task → Bool) → Small s (without_tasks s is)
+without_small s is =
+    Both (aborts_small s (numbers_of s) (filter is s.tasks))
+    (Both (One (Closes is) tt) (One (SetsRegisters (registers_behind (filter is s.tasks) s.registers)) tt))
+
+-- Replies
+
+behind_small : (s : State) (task : Task) (deed : Deed) → Small s (with_moves s (moves_behind task deed))
+behind_small s task (Sending blocks sent) =
+    Both (one_move (LetGo task.tag sent) tt) (one_move (WantPage task.tag (sent + 1)) tt)
+behind_small s task (Awaiting commands) = one_move (Acknowledge commands) tt
+behind_small s task deed = Still
+
+tells_small : (s : State) (awaits : Option ℕ) → Small s (with_moves s (acknowledges awaits))
+tells_small s None = Still
+tells_small s (Some commands) = one_move (Acknowledge commands) tt
+
+-- What happens in a call
+
+pub reads : (tag index : ℕ) (state : ReadState) (task : Task) → SameTask task (task_read tag index state task)
+reads tag index state task = if_both (SameTask task) (is_task_of tag task) (same_task task _ _) (same_task task _ _)
+
+happens_small : (s : State) (h : Happening) → Small s (happened s h)
+happens_small s NothingMore = Still
+happens_small s (Replies short) = One (OpensShort short) tt
+happens_small s (Refuses r status) = opens r None 0 (Answering status 0)
+happens_small s (Begins r c) = begun_small s r _ c
+happens_small s (Gathers task purpose all) = set task.tag _
+happens_small s (Completes task (Told status)) = set task.tag _
+happens_small s (Completes task (MeetsLock claimed)) = Both (one_move (Release claimed) tt) (set task.tag _)
+happens_small s (Completes task (Accepted command claimed deed)) =
+    One (Accepts command claimed (with_deed task.tag deed)) (does task.tag deed)
+happens_small s (Aborts is short) = Both (without_small s is) (One (OpensShort short) tt)
+happens_small s (GoesOn task deed) = Both (behind_small s task task.deed) (set task.tag deed)
+happens_small s (IsOver task) =
+    Both (behind_small s task task.deed)
+    (Both (One (Closes (is_task_of task.tag)) tt) (one_move (LetGoAll task.tag) tt))
+happens_small s (ShortOver short) = Both (One (ClosesShorts (is_short_of short.tag)) tt) (tells_small _ short.awaits)
+happens_small s (BlockRead tag index state) = One (Maps (task_read tag index state)) (reads tag index state)
+
+-- The lock
+
+pub lock_short : (s : State) (x : Short) → (short_locked s x).tag ≡ x.tag
+lock_short s x = if_both (λ (y : Short). y.tag ≡ x.tag) (is_durable s x.awaits) refl refl
+
+pub lock_small : (s : State) → Small s (lock_applied s)
+lock_small s =
+    if_both (Small s) (locked s)
+    (Both (One (Maps (task_locked s)) (λ task. same_task task _ _)) (One (MapsShorts (short_locked s))
+    (lock_short s))) Still
+
+-- Requests that fill a register
+
+pub fills_task : (s : State) (task : Task) → SameTask task (task_filled s task)
+fills_task s task = if_both (SameTask task) (is_to_fill s task) (same_task task _ _) (same_task task _ _)
+
+fill_moves_small : (s : State) (tasks : List Task) → Small s (with_moves s (fill_moves tasks))
+fill_moves_small s [] = Still
+fill_moves_small s (task ∷ tasks) =
+    Both (one_move (LetGoAll task.tag) tt) (fill_moves_small (with_moves s (LetGoAll task.tag ∷ [])) tasks)
+
+pub fills_small : (s : State) → Small s (fills s)
+fills_small s =
+    Both (fill_moves_small s (filter (is_to_fill s) s.tasks))
+    (Both (One (Maps (task_filled s)) (fills_task s)) (One (SetsRegisters (fills s).registers) tt))
+
+-- and then the lock is told
+pub settled_small : (s : State) → Small s (lock_applied (fills s))
+settled_small s = Both (fills_small s) (lock_small (fills s))
+
+-- ## Calls
+
+pub behind_call : (s : State) (call : Call) (answer : Answer) → Small (first s call answer) (behind s call answer)
+behind_call s call answer = behind_by (Small (first s call answer)) s call answer (λ h why. happens_small _ h)
+
+pub hears_small : (s : State) (h : Heard) → Small s (hears s h)
+hears_small s h = behind_call s (Host h) (OfHost (Ok tt))
+
+pub replied_small : (s : State) (m : Message) → Small s (replied s m)
+replied_small s m = behind_call s Reply (OfReply (Some m))
+
+-- behind what it does first, each call makes small changes alone
+pub observed : (s : State) (call : Call) (answer : Answer) → Small (first s call answer) (observe s call answer)
+observed s call answer = Both (behind_call s call answer) (settled_small (behind s call answer))
+
+-- what changes and each move by itself keep, with any pages, a call keeps
+pub first_kept : (R : State → State → Type 0) → ((s : State) → R s s) →
+    ((s : State) (move : Move) (array : Array) → R s (record (with_moves s (move ∷ [])) { array = array })) →
+    (s : State) (call : Call) (answer : Answer) → R s (first s call answer)
+first_kept R self one s (Take die) (OfTake (Some flight)) = one s (GiveJob die flight) s.array
+first_kept R self one s (Done die ending left) (OfDone true) = by (s.translation.disk.flights die)
+  where
+    by : (flight : Option Flight) → R s (job_over s die flight ending left)
+    by None = self s
+    by (Some flight) = one s (EndJob die ending) (array_behind s flight ending left)
+first_kept R self one s Turn (OfTurn due) = one s TakeStep s.array
+first_kept R self one s call answer = self s
+
+pub call_kept : (R : State → State → Type 0) → IsKept (λ s change. IsSmall change) R →
+    ((s : State) (move : Move) (array : Array) → R s (record (with_moves s (move ∷ [])) { array = array })) →
+    (s : State) (call : Call) (answer : Answer) → R s (behind s call answer) × R s (observe s call answer)
+call_kept R k one s call answer =
+    let h = first_kept R k.self one s call answer in
+    (k.both s _ _ h (kept R k (behind_call s call answer)), k.both s _ _ h (kept R k (observed s call answer)))

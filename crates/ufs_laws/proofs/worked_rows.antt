@@ -1,0 +1,2 @@
+pub mod GapLists
+pub mod ListedCells

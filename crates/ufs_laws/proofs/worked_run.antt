@@ -1,0 +1,4 @@
+pub mod MessagesSaid
+pub mod RunEvents
+pub mod RunLife
+pub mod RunStates
