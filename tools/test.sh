@@ -1,10 +1,11 @@
 #!/bin/sh
 # Everything that has to pass: the gate, `rt ci`, which proves every crate from nothing, tries the must-fail
 # edits and runs programs and tests; then the wrong bodies of wrong_bodies/, which tools/wrong_bodies.py tries
-# in rounds; then the table of laws and files; then the scripts in examples/, each of which has to print what stands in the file of its name with
-# .stdout behind it, and to end with status 0; then the calls of the program in tools/bad_calls/, each of which
-# has to end with its status and to print nothing; then that the five calls of a device take no memory. The
-# last line is 'N passed, M failed' for all together. The status is 0 only where nothing failed.
+# in rounds; then the table of laws and files; then the scripts in examples/, each of which has to print what
+# stands in the file of its name with .stdout behind it, and to end with status 0; then the calls of the
+# program in tools/bad_calls/, each of which has to end with its status and to print nothing; then that the
+# five calls of a device take no memory. The last line is 'N passed, M failed' for all together. The status is
+# 0 only if nothing failed.
 set -u
 cd "$(dirname "$0")/.." || exit 1
 work=$(mktemp -d) || exit 1
