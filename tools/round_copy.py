@@ -127,7 +127,7 @@ class RoundCopy:
     """A copy of a crate, with the libraries below it as they are built."""
 
     def __init__(self, crate, is_of_gate=False):
-        self.crate, self.kept = crate, None
+        self.crate = crate
         self.folder = pathlib.Path(tempfile.mkdtemp(prefix="wrong_bodies."))
         lines, _ = needed([crate])
         (self.folder / "crates.txt").write_text("\n".join(lines) + "\n", encoding="utf-8")
@@ -159,18 +159,9 @@ class RoundCopy:
         except Exception as fault:  # of the kit's module, whatever it is
             print(f"wrong_bodies: the libraries below {self.crate} are built once more ({fault!r})", file=sys.stderr)
 
-    def keep(self):
-        """Keeps what the last check proved, for each check that follows."""
-        self.kept = self.folder / "kept"
-        shutil.copytree(self.folder / "crates" / self.crate / "out" / "incremental", self.kept)
-
     def check(self, texts, jobs):
-        """Checks the crate with these texts of its code, over what was kept: rt keeps one state of a function, so that
-        what an earlier round changed would be proved again."""
+        """Checks the crate with these texts of its code, over what the checks before it proved."""
         folder = self.folder / "crates" / self.crate
-        if self.kept:
-            shutil.rmtree(folder / "out" / "incremental")
-            shutil.copytree(self.kept, folder / "out" / "incremental")
         for file, text in texts.items():
             path = folder / file
             if path.read_text(encoding="utf-8") != text:

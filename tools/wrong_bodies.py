@@ -8,7 +8,8 @@ wrong_bodies/CRATE/NAME.edit has the form of the kit's must-fail edits: a line '
 check of a copy of the crate with all its edits. An edit is refused if a function of its own falls for a reason of its
 own: a goal that was not proved, or a proof that no longer fits, and not only a call of what fell. What a round does not
 tell is tried in halves, and alone in the end. wrong_bodies/CRATE/control.edit changes a body so that it means the same.
-It stands in each round and has to be proved there, as has each function that no edit touches.
+It stands in each round and has to be proved there, as has each function that no edit touches. Only if the first round
+does not show that, the control is tried alone: the whole crate has to be proved with it before anything else is tried.
 
 --texts only looks whether each text that an edit changes stands once, also those of must-fail/. --list shows rounds.
 --after-gate takes the libraries that `rt ci` has just built in this folder. The last line counts the edits and the
@@ -34,6 +35,10 @@ CHECK_BYTES = 4_000_000_000
 UNREAD = re.compile(r"^(?:\./)?src/\S+?:\d+:\d+: error: (?!`)", re.MULTILINE)
 
 
+class NoControl(Exception):
+    """Why the control of a crate is not proved."""
+
+
 class Crate:
     """A crate's wrong bodies in rounds, and what came of them."""
 
@@ -43,7 +48,7 @@ class Crate:
         self.edits = [it for it in edits if not wanted or it.name in wanted]
         self.missing = [it for it in wanted if it not in [edit.name for edit in edits]]
         self.lines, self.good, self.bad, self.seconds, self.checks = [], [], [], 0.0, 0
-        self.places, self.functions = {}, {}
+        self.places, self.functions, self.is_control_proved = {}, {}, False
 
     def broken(self):
         """A line for each edit whose texts do not stand once."""
@@ -108,6 +113,7 @@ class Crate:
         parts = [self.places[edit.name] for edit in [*edits, self.control]]
         said = self.check(copy, together(parts, self.texts), jobs)
         fault = self.fault_of(edits, said)
+        self.stand_on_control(copy, fault, jobs)
         if fault and len(edits) > 1:
             print(f"{self.name}: a round of {len(edits)} is tried in two halves: {fault}", flush=True)
             half = len(edits) // 2
@@ -134,29 +140,30 @@ class Crate:
             words = next((it for it in own if it), said.first_error())
             self.note(edit, True, f"refused, as it must be (alone: {words})")
 
-    def try_control(self, copy, jobs):
-        """Tries the control alone: the whole crate has to be proved with it. All rounds stand on what this proved."""
-        said = self.check(copy, changed(self.control, self.texts), jobs)
-        well = said.status == 0 and bool(self.names_of(self.control, said))
-        if well:
-            copy.keep()
-            self.note(self.control, True, "proved, as it must be (the control)")
-        else:
-            self.note(self.control, False, f"NOT PROVED: {self.name} has to be proved with it before a wrong body can "
-                      f"be tried: {said.first_error()}")
-        return well
+    def stand_on_control(self, copy, fault, jobs):
+        """Sees once that the control is proved: in the first round, or alone, if that round has a fault."""
+        if self.is_control_proved:
+            return
+        if fault:
+            said = self.check(copy, changed(self.control, self.texts), jobs)
+            if said.status or not self.names_of(self.control, said):
+                raise NoControl(said.first_error())
+        self.is_control_proved = True
+        self.note(self.control, True, "proved, as it must be (the control)")
 
     def run(self, of_gate, jobs):
-        """Tries the control, then all else over what it proved."""
+        """Tries all rounds, and then what touches the control or stands outside of all bodies."""
         copy = RoundCopy(self.name, of_gate)
         try:
-            if not self.try_control(copy, jobs):
-                self.bad += self.edits
-                return
             for room in self.rounds:
                 self.try_round(copy, room, jobs)
+            self.stand_on_control(copy, "no round showed it", jobs)
             for edit in self.alone:
                 self.try_alone(copy, edit, jobs)
+        except NoControl as fault:
+            self.note(self.control, False, f"NOT PROVED: {self.name} has to be proved with it before a wrong body can "
+                      f"be tried: {fault}")
+            self.bad += self.edits
         finally:
             copy.remove()
         print(f"{self.name}: {len(self.edits)} wrong bodies in {self.checks} checks, {len(self.bad)} not refused; "

@@ -387,8 +387,8 @@ RULES = (
                ("power_loss/proofs/host_commands/WriteData.antt", "task_of, write_error, with_deed}", "task_of, Good, with_deed}"),
                ("power_loss/proofs/kept_promises/PromisedCommands.antt", "task.tag (Answering write_error task.length)",
                 "task.tag (Answering Good task.length)"),
-               ("power_loss/proofs/kept_promises/PromisedCommands.antt", "bytes task (Answering write_error task.length)",
-                "bytes task (Answering Good task.length)")),
+               ("power_loss/proofs/kept_promises/PromisedCommands.antt", "bytes (Answering write_error task.length)",
+                "bytes (Answering Good task.length)")),
     ),
     rule(
         "setting_answered_and_not_held",

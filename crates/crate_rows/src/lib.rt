@@ -5,4 +5,8 @@
 #[cfg(test)]
 mod crates_once;
 #[cfg(test)]
+mod page_contents;
+#[cfg(test)]
 mod plain_rows;
+#[cfg(test)]
+mod scans;

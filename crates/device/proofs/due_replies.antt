@@ -1,5 +1,4 @@
 pub mod BlocksOwed
-pub mod FirstOfList
 pub mod PinsLetGo
 pub mod RepliesRight
 pub mod ReplyMoves

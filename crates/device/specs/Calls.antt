@@ -1,57 +1,89 @@
--- What the calls make of what the device keeps.
-use Rattle.std.specs.Prelude.{ℕ, ◌+◌, ◌-◌, nat_lt, Bool, false, if◌then◌else◌, List, [], ◌∷◌, ◌++◌, length, map, Option}
-use Rattle.std.specs.Prelude.{Some, None, true}
-use Rattle.ufs_spec.specs.Translation as layer
-use Rattle.ufs_spec.specs.Translation.{Translation}
+-- What the calls make of the layer and of what the device keeps.
+use Rattle.std.specs.Prelude.{◌≡◌, ℕ, ◌≤◌, ◌&&◌, not, nat_lt, Bool, false, if◌then◌else◌, List, [], ◌∷◌, ◌++◌, length}
+use Rattle.std.specs.Prelude.{map, Option, Some, None, true, Result, Ok, Err}
+use Rattle.std.specs.List.{list_any}
+use Rattle.ufs_spec.specs.Keys.{Group, IsKey}
+use Rattle.ufs_spec.specs.Ledger.{look, next_number}
+use Rattle.ufs_spec.specs.Moves.{Accept, Claim, IsAllowedMove, Keep, Release, moved}
+use Rattle.ufs_spec.specs.Plain.{shape_of_numbers}
+use Rattle.ufs_spec.specs.Translation.{Pin, Translation, free_slots, has_number, is_locked}
 use Rattle.ufs_spec.specs.declared.flash.Key.{Key}
-use Rattle.ftl_core.specs.Moves.{accepted, can_accept, free_slots, is_locked, look_of, next_number, with_pin}
+use Rattle.ftl_core.specs.Core.{Core}
+use Rattle.ftl_core.specs.Describes.{Describes}
+use Rattle.ftl_core.specs.Tells.{keeps_for}
 use Rattle.ftl_core.specs.declared.ftl.Ended.{Ended}
 use Rattle.ftl_core.specs.declared.ftl.Ended.TheVariants as ended
+use Rattle.device.specs.declared.tasks.Status.{Status}
 use Rattle.device.specs.declared.tasks.Status.TheVariants as status
 use Rattle.device.specs.declared.tasks.Phase.{Phase}
 use Rattle.device.specs.declared.tasks.Phase.TheVariants as phase
 use Rattle.device.specs.declared.tasks.Plan.{Plan}
 use Rattle.device.specs.declared.tasks.Plan.TheVariants as plan
+use Rattle.device.specs.declared.tasks.TaskEvent.{TaskEvent}
+use Rattle.device.specs.declared.tasks.TaskEvent.TheVariants as event
 use Rattle.device.specs.Kept.{DeviceCore}
-use Rattle.device.specs.Tasks.{after_lock, after_lost_read, write_error}
+use Rattle.device.specs.Tasks.{after_lost_read, task_after}
 
--- how far a task is that begins to do this
-abbrev pub phase_begun : DeviceCore → Plan → Phase
-phase_begun d (plan.Nothing n) = phase.Answer status.Good n
-phase_begun d (plan.Read key) = if nat_lt (length d.ftl.pins) 32 then phase.SendBlock else phase.Answer status.Busy 0
-phase_begun d (plan.Write key) = if nat_lt 0 (free_slots d.ftl) then phase.AskData key else phase.Answer status.Busy 0
+-- A task begins
 
--- a read keeps what it looks up, a write claims a slot
-abbrev pub begun : DeviceCore → ℕ → Plan → DeviceCore
-begun d tag (plan.Nothing n) = d
-begun d tag (plan.Read key) =
-    if nat_lt (length d.ftl.pins) 32
-    then record d { ftl = with_pin d.ftl record { reader = tag; key = key; looked = look_of d.ftl key; wanted = true } }
-    else d
-begun d tag (plan.Write key) =
-    if nat_lt 0 (free_slots d.ftl) then record d { ftl = record d.ftl { claimed = d.ftl.claimed + 1 } } else d
+-- what a READ keeps of its block
+abbrev pub pin_of_block : Translation → ℕ → Key → Pin
+pin_of_block t tag key = record { tag = tag; index = 0; looked = look t.ledger key; wanted = true }
 
--- the block is accepted for its address, unless the device is locked
-abbrev pub is_taken : DeviceCore → Bool
-is_taken d = if is_locked d.ftl then false else can_accept d.ftl
+-- a READ looks its address up, and keeps nothing else
+pub record MayKeep (t : Translation) (tag : ℕ) (key : Key) : Type 0 where
+  pub there : IsKey (shape_of_numbers t.numbers) key
+  pub of_data : key.kind ≡ 1
+  pub new : list_any (keeps_for tag) t.pins ≡ false
 
-abbrev pub phase_accepted : DeviceCore → Key → Phase
-phase_accepted d key =
-    if is_taken d then phase.AwaitFrontier (next_number d.ftl) else phase.Answer (status.CheckCondition write_error)
-    4096
+-- how far a READ is that begins, and the layer then: it keeps what it looks up
+abbrev pub HasKept : Core → Translation → ℕ → Key → Phase → Type 0
+HasKept after t tag key p =
+    (p ≡ (if nat_lt (length t.pins) 32 then phase.SendBlock else phase.Answer status.Busy 0))
+    × (MayKeep t tag key →
+    Describes after (if nat_lt (length t.pins) 32 then moved t (Keep key (pin_of_block t tag key)) else t))
 
-abbrev pub block_accepted : DeviceCore → Key → List ℕ → DeviceCore
-block_accepted d key body =
-    if is_taken d then record d { ftl = accepted d.ftl key body }
-    else record d { ftl = record d.ftl { claimed = d.ftl.claimed - 1 } }
+-- how far a WRITE is that begins, and the layer then: it claims a slot
+abbrev pub HasClaimed : Core → Translation → Key → Phase → Type 0
+HasClaimed after t key p =
+    (p ≡ (if nat_lt 0 (free_slots t) then phase.AskData key else phase.Answer status.Busy 0))
+    × Describes after (if nat_lt 0 (free_slots t) then moved t (Claim 1) else t)
+
+-- how far a task is that begins what was planned for it, and the layer then
+abbrev pub HasBegun : Core → Translation → ℕ → Result Plan Status → Phase → Type 0
+HasBegun after t tag (Err refused) p = (p ≡ phase.Answer refused 0) × Describes after t
+HasBegun after t tag (Ok (plan.Nothing n)) p = (p ≡ phase.Answer status.Good n) × Describes after t
+HasBegun after t tag (Ok (plan.Read key)) p = HasKept after t tag key p
+HasBegun after t tag (Ok (plan.Write key)) p = HasClaimed after t key p
+
+-- A block comes
+
+abbrev pub group_of_block : Key → List ℕ → Group
+group_of_block key body = record { key = key; body = body } ∷ []
+
+-- a block is accepted where the device is not locked, a slot is claimed and a number is left
+abbrev pub takes_block : Translation → Bool
+takes_block t = not (is_locked t) && (nat_lt 0 t.claims && has_number t)
+
+-- the block may be accepted for its address
+pub record MayAccept (t : Translation) (key : Key) (body : List ℕ) : Type 0 where
+  pub of_data : key.kind ≡ 1
+  pub of_unit : key.unit ≤ 7
+  pub allowed : IsAllowedMove t (Accept 1 (group_of_block key body))
+
+-- what its task is told, and the layer then: the block is accepted, or the claimed slot is given back
+abbrev pub HasTaken : Core → Translation → Key → List ℕ → TaskEvent → Type 0
+HasTaken after t key body e =
+    (e ≡ (if takes_block t then event.BlockAccepted (next_number t.ledger) else event.BlockRefused))
+    × ((takes_block t ≡ true → MayAccept t key body) →
+    Describes after (moved t (if takes_block t then Accept 1 (group_of_block key body) else Release 1)))
+
+-- What the end of a job told
 
 -- where the layer is locked, each task that waits for a block that is not durable ends
 abbrev pub lock_told : Translation → DeviceCore → DeviceCore
-lock_told t d = if layer.is_locked t then record d { tasks = map (after_lock t.ledger.frontier) d.tasks } else d
-
--- the same by what the device keeps of its layer
-abbrev pub waiting_ended : DeviceCore → DeviceCore
-waiting_ended d = if is_locked d.ftl then record d { tasks = map (after_lock d.ftl.frontier) d.tasks } else d
+lock_told t d =
+    if is_locked t then record d { tasks = map (task_after (event.Locked t.ledger.frontier)) d.tasks } else d
 
 -- what the die gave to the task of this tag: a block, or none, which ends the task
 abbrev pub read_told : DeviceCore → ℕ → Option (List ℕ) → DeviceCore

@@ -1,23 +1,25 @@
 -- What a message of the host is answered, and what it makes of what the device keeps.
-use Rattle.std.specs.Prelude.{ℕ, ◌==◌, ◌&&◌, ◌||◌, nat_lt, Bool, if◌then◌else◌, List, [], ◌∷◌, ◌++◌, length, position}
-use Rattle.std.specs.Prelude.{slice_get, slice_set, is_some, Option, Some, None, option_map, Result, Ok, Err}
+use Rattle.std.specs.Prelude.{◌≡◌, ℕ, ◌==◌, ◌&&◌, ◌||◌, nat_lt, Bool, if◌then◌else◌, List, [], ◌∷◌, ◌++◌, length}
+use Rattle.std.specs.Prelude.{position, slice_get, slice_set, is_some, Option, Some, None, option_map, Result, Ok, Err}
 use Rattle.std.specs.List.{list_any}
+use Rattle.ufs_spec.specs.Translation.{Translation}
 use Rattle.ufs_spec.specs.declared.faults.HostFault.{HostFault}
 use Rattle.ufs_spec.specs.declared.faults.HostFault.TheVariants.{NotAskedFor}
 use Rattle.ufs_spec.specs.declared.flash.Key.{Key}
 use Rattle.ufs_spec.specs.declared.scsi.Cdb.{Cdb}
 use Rattle.ufs_spec.specs.declared.scsi.Sense.{Sense}
+use Rattle.ftl_core.specs.Core.{Core}
+use Rattle.ftl_core.specs.Describes.{Describes}
 use Rattle.device.specs.declared.commands.AskedFor.{AskedFor}
 use Rattle.device.specs.declared.tasks.Phase.{Phase}
 use Rattle.device.specs.declared.tasks.Phase.TheVariants as phase
-use Rattle.device.specs.declared.tasks.Plan.{Plan}
 use Rattle.device.specs.declared.tasks.Refused.{Refused}
-use Rattle.device.specs.declared.tasks.Status.{Status}
 use Rattle.device.specs.declared.tasks.Task.{Task}
-use Rattle.device.specs.Calls.{begun, block_accepted, phase_accepted, phase_begun, waiting_ended}
+use Rattle.device.specs.declared.tasks.TaskEvent.{TaskEvent}
+use Rattle.device.specs.Calls.{HasBegun, HasTaken, lock_told}
 use Rattle.device.specs.Kept.{DeviceCore}
 use Rattle.device.specs.Plans.{planned}
-use Rattle.device.specs.Tasks.{is_task_of}
+use Rattle.device.specs.Tasks.{is_task_of, phase_after}
 
 -- Commands
 
@@ -34,15 +36,15 @@ with_task d task = record d { tasks = d.tasks ++ task ∷ [] }
 abbrev pub with_refused : DeviceCore → Refused → DeviceCore
 with_refused d r = record d { refused = d.refused ++ r ∷ [] }
 
--- a command that is not refused begins; a refused one is a task all the same
-abbrev pub task_begun : DeviceCore → ℕ → ℕ → ℕ → Result Plan Status → DeviceCore
-task_begun d lun tag expected (Err status) =
-    with_task d record { tag = tag; lun = lun; expected = expected; phase = phase.Answer status 0 }
-task_begun d lun tag expected (Ok plan) =
-    with_task (begun d tag plan) record { tag = tag; lun = lun; expected = expected; phase = phase_begun d plan }
-
-abbrev pub task_opened : DeviceCore → ℕ → ℕ → ℕ → ℕ → Result Cdb Sense → DeviceCore
-task_opened d flags lun tag expected taken = task_begun d lun tag expected (planned d.ftl lun flags expected taken)
+-- a command became a task, refused or not: how far it is, and what its plan made of the layer
+pub record IsTaskOpened (before after : DeviceCore) (flags lun tag expected : ℕ) (taken : Result Cdb Sense) : Type 0
+  where
+    pub layer : Core
+    pub phase : Phase
+    pub begun : (t : Translation) → Describes before.ftl t →
+        HasBegun layer t tag (planned t lun flags expected taken) phase
+    pub more : after ≡
+        record (with_task before (record { tag = tag; lun = lun; expected = expected; phase = phase })) { ftl = layer }
 
 -- a command that is answered TASK SET FULL, where there is room for one more
 abbrev pub refused_more : DeviceCore → Refused → DeviceCore
@@ -76,11 +78,16 @@ tasks_set tasks k p (Some task) = slice_set tasks k (record task { phase = p })
 abbrev pub task_set : DeviceCore → ℕ → Phase → DeviceCore
 task_set d k p = record d { tasks = tasks_set d.tasks k p (slice_get d.tasks k) }
 
-abbrev pub data_result : Option AskedFor → Result Unit HostFault
-data_result None = Err NotAskedFor
-data_result (Some asked) = Ok tt
+-- the block of a task was accepted or not, and then the lock was told
+pub record IsDataTaken (before after : DeviceCore) (asked : AskedFor) (bytes : List ℕ) : Type 0 where
+  pub layer : Core
+  pub event : TaskEvent
+  pub taken : (t : Translation) → Describes before.ftl t → HasTaken layer t asked.key bytes event
+  pub told : (t : Translation) → Describes layer t →
+      after ≡ lock_told t
+      (record (task_set before asked.index (phase_after (phase.AwaitData asked.key) event)) { ftl = layer })
 
-abbrev pub data_core : DeviceCore → List ℕ → Option AskedFor → DeviceCore
-data_core d bytes None = d
-data_core d bytes (Some asked) =
-    waiting_ended (task_set (block_accepted d asked.key bytes) asked.index (phase_accepted d asked.key))
+-- data are taken that a task asked for
+abbrev pub IsDataHeard : DeviceCore → DeviceCore → List ℕ → Option AskedFor → Result Unit HostFault → Type 0
+IsDataHeard before after bytes None result = (result ≡ Err NotAskedFor) × (after ≡ before)
+IsDataHeard before after bytes (Some asked) result = (result ≡ Ok tt) × IsDataTaken before after asked bytes

@@ -18,9 +18,13 @@ pub record DeviceCore : Type 0 where
   pub refused : List Refused
   pub loaded : List Loaded
 
--- a device over new dies of which some blocks are bad: nothing is stored, and no task is open
+-- a device over this layer with no task open
+abbrev pub idle_device : Core → DeviceCore
+idle_device layer = record { ftl = layer; tasks = []; refused = []; loaded = [] }
+
+-- a device over new dies of which some blocks are bad: nothing is stored
 abbrev pub new_device : Numbers → List Bool → DeviceCore
-new_device n bad = record { ftl = fresh n bad; tasks = []; refused = []; loaded = [] }
+new_device n bad = idle_device (fresh n bad)
 
 abbrev pub IsNewDevice : Numbers → DeviceCore → Type 0
 IsNewDevice n d = (bad : List Bool) × (d ≡ new_device n bad)
@@ -33,7 +37,3 @@ pub record WorldState : Type 0 where
   pub jobs : List (Option Job)
   pub steps : ℕ
   pub is_over : Bool
-
--- for each block of a die whether it is bad, in order
-abbrev pub bad_in : {D : Type 0} → (D → DieState) → ℕ → D → List Bool
-bad_in state blocks die = map (is_bad_block (state die)) (below blocks)

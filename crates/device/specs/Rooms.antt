@@ -1,5 +1,5 @@
 -- How the device's fields are seen, and the room that they keep.
-use Rattle.std.specs.Prelude.{◌≤◌, length, vec_capacity}
+use Rattle.std.specs.Prelude.{◌≡◌, ◌≤◌, length, vec_capacity}
 use Rattle.device.specs.declared.device.Device.TheInside.{Inside}
 use Rattle.device.specs.declared.world.World.TheInside.{Inside as World}
 use Rattle.device.specs.Kept.{DeviceCore, WorldState}
@@ -18,3 +18,7 @@ pub record IsRoomy (d : Inside) : Type 0 where
   pub few_refused : length d.refused.items ≤ 32
   pub loaded : 32 ≤ vec_capacity d.loaded
   pub few_loaded : length d.loaded.items ≤ 32
+
+-- each die has its place among the jobs
+pub record IsEven (w : World) : Type 0 where
+  pub jobs : length w.jobs.items ≡ length w.dies.items

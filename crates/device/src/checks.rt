@@ -1,6 +1,10 @@
 //! The checks of a command, in the order in which the first that applies ends it.
 ghost use Rattle.std.specs.Prelude.{◌≡◌, ◌*◌, ◌^◌, ◌≤◌, if◌then◌else◌};
-ghost use Rattle.device.specs.Plans.{IsCdbRead, carries, length_of, plan_of, planned, planned_or, planned_taken, planned_transfer, refusal_of, state_refusal, transfer_of, write_refusal};
+ghost use Rattle.ufs_spec.specs.Translation.{Translation};
+ghost use Rattle.ftl_core.specs.Describes.{Describes as IsLayer};
+ghost use Rattle.device.specs.Plans.{IsCdbRead, carries, length_of, plan_of, planned, planned_or};
+ghost use Rattle.device.specs.Plans.{planned_taken, planned_transfer, refusal_of, state_refusal};
+ghost use Rattle.device.specs.Plans.{transfer_of, write_refusal};
 
 use crate::device::Device;
 use crate::tasks::{Plan, Status};
@@ -102,9 +106,10 @@ impl Device {
         expected: u32,
         taken: Result<Cdb, Sense>,
     ) -> Result<Plan, Status>
-        ensures { result ≡ planned self.now.ftl lun flags expected taken }
+        ensures { (t : Translation) → IsLayer self.now.ftl t →
+            result ≡ planned t lun flags expected taken }
     {
-        let Some(unit_blocks) = self.unit_blocks(lun) else {
+        let Some(unit_blocks) = self.ftl.unit_blocks(lun) else {
             return Err(Status::CheckCondition(Sense::NO_UNIT));
         };
         match taken {
@@ -122,7 +127,8 @@ impl Device {
         unit_blocks: u32,
         cdb: &Cdb,
     ) -> Result<Plan, Status>
-        ensures { result ≡ planned_transfer self.now.ftl lun flags expected unit_blocks (transfer_of cdb.now) }
+        ensures { (t : Translation) → IsLayer self.now.ftl t →
+            result ≡ planned_transfer t lun flags expected unit_blocks (transfer_of cdb.now) }
     {
         let Some(transfer) = transfer_of(cdb) else {
             return Err(Status::CheckCondition(Sense::INVALID_OPCODE));
@@ -146,7 +152,8 @@ impl Device {
         expected: u32,
         transfer: &Transfer,
     ) -> Option<Status>
-        ensures { result ≡ refusal_of self.now.ftl unit_blocks flags expected transfer.now }
+        ensures { (t : Translation) → IsLayer self.now.ftl t →
+            result ≡ refusal_of t unit_blocks flags expected transfer.now }
     {
         if transfer.blocks > BLOCKS_A_COMMAND || !carries(transfer, flags, expected) {
             return Some(Status::CheckCondition(Sense::INVALID_FIELD));
@@ -159,9 +166,10 @@ impl Device {
 
     /// The checks of what the device is: mended, and for a write not locked and with room.
     fn state_refusal(&self, transfer: &Transfer) -> Option<Status>
-        ensures { result ≡ state_refusal self.now.ftl transfer.now }
+        ensures { (t : Translation) → IsLayer self.now.ftl t →
+            result ≡ state_refusal t transfer.now }
     {
-        if !self.is_mended() {
+        if !self.ftl.is_mended() {
             return Some(Status::CheckCondition(Sense::NOT_READY));
         }
         if transfer.writes && transfer.blocks > 0 {
@@ -171,12 +179,12 @@ impl Device {
     }
 
     fn write_refusal(&self) -> Option<Status>
-        ensures { result ≡ write_refusal self.now.ftl }
+        ensures { (t : Translation) → IsLayer self.now.ftl t → result ≡ write_refusal t }
     {
-        if self.is_locked() {
+        if self.ftl.is_locked() {
             return Some(Status::CheckCondition(Sense::WRITE_PROTECTED));
         }
-        if self.free_slots() == 0 {
+        if self.ftl.free_slots() == 0 {
             return Some(Status::Busy);
         }
         None

@@ -1,22 +1,27 @@
 //! Messages of the host: a COMMAND opens a task, a DATA OUT brings what a task asked for.
-ghost use Rattle.std.specs.Prelude.{◌≡◌, ◌<◌, length, slice_get, position, ◌∷◌, ◌++◌, [], OnErr};
+ghost use Rattle.std.specs.Prelude.{◌≡◌, ◌<◌, length, slice_get, position, ◌∷◌, ◌++◌, []};
+ghost use Rattle.std.specs.Prelude.{IfSome, OnErr};
 ghost use Rattle.std.specs.List.{list_any};
-ghost use Rattle.device.specs.Calls.{begun, block_accepted, phase_accepted, phase_begun, waiting_ended};
-ghost use Rattle.device.specs.Hears.{asked_by, asked_for, asked_of, data_core, data_result, is_refused_of, key_asked, refused_more, task_opened, task_set, uses, with_task};
+ghost use Rattle.device.specs.Calls.{HasBegun, HasClaimed, HasKept, HasTaken};
+ghost use Rattle.device.specs.Hears.{IsDataHeard, IsTaskOpened, asked_by, asked_for, asked_of};
+ghost use Rattle.device.specs.Hears.{is_refused_of, key_asked, refused_more, task_set, uses};
+ghost use Rattle.device.specs.Hears.{with_task};
 ghost use Rattle.device.specs.Tasks.{is_task_of};
 ghost use Rattle.ufs_spec.specs.Refusals.{State};
 ghost use Rattle.device.specs.Describes.{Describes, IsHeardAs};
 ghost use Rattle.device.specs.Plans.{IsCdbRead};
 ghost use Rattle.std.specs.Prelude.{ℕ, List, None, Result, Ok, Err, nat_le, nat_lt, if◌then◌else◌};
 ghost use Rattle.ufs_spec.specs.Messages.{Spells, host_fault_of};
+ghost use Rattle.ufs_spec.specs.Translation.{Translation};
+ghost use Rattle.ftl_core.specs.Describes.{Describes as IsLayer};
 ghost use Rattle.ufs_spec.specs.declared.Message.{Message};
 ghost use Rattle.ufs_spec.specs.declared.scsi.Cdb.{Cdb};
 ghost use Rattle.ufs_spec.specs.declared.scsi.Sense.{Sense};
 
 use crate::checks::read_cdb;
 use crate::device::{Device, ROOM};
-use crate::tasks::{Phase, Plan, Refused, Status, Task};
-use ufs_spec::{HostFault, Key, Message, Sense};
+use crate::tasks::{Phase, Plan, Refused, Status, Task, TaskEvent};
+use ufs_spec::{HostFault, Key, Message};
 
 /// How many tasks may be open. In this first stage one.
 const OPEN_TASKS: usize = 1;
@@ -30,7 +35,8 @@ struct AskedFor {
 
 /// The position of the task of this tag.
 pub(crate) fn task_at(tasks: &[Task], tag: u8) -> Option<usize>
-    ensures { result ≡ position (is_task_of tag) tasks.now }
+    ensures first { result ≡ position (is_task_of tag) tasks.now }
+    ensures within { IfSome result (λ k. k < length tasks.now) }
 {
     tasks.iter().position(|task| is_task_of(task, tag))
 }
@@ -72,8 +78,8 @@ impl Device {
     /// DATA OUT are taken.
     pub fn host(&mut self, bytes: &[u8]) -> Result<(), HostFault>
         ensures refused { OnErr result (self.new ≡ self.old) }
-        // The bytes are heard as the one message or fault that they are, and answered as the specified
-        // device answers it.
+        // The bytes are heard as the one message or fault that they are, and answered as the
+        // specified device answers it.
         ensures heard { (s : State) → Describes self.old s → IsHeardAs s bytes.now result self.new }
     {
         match upiu::read(bytes) {
@@ -85,8 +91,9 @@ impl Device {
     /// Takes a message: no other kind than COMMAND and DATA OUT is read yet.
     fn hear(&mut self, message: &Message) -> Result<(), HostFault>
         ensures refused { OnErr result (self.new ≡ self.old) }
-        ensures heard { (s : State) (bytes : List ℕ) → Describes self.old s → Spells message.now bytes →
-            host_fault_of bytes ≡ None → IsHeardAs s bytes result self.new }
+        ensures heard { (s : State) (bytes : List ℕ) → Describes self.old s →
+            Spells message.now bytes → host_fault_of bytes ≡ None →
+            IsHeardAs s bytes result self.new }
     {
         match message {
             Message::Command {
@@ -120,7 +127,7 @@ impl Device {
         self.tasks.len() >= OPEN_TASKS
     }
 
-    /// A COMMAND opens a task, or a short exchange where too many tasks are open. Its CDB is read only
+    /// A COMMAND opens a task, or a short exchange if too many tasks are open. Its CDB is read only
     /// once its tag is free and a task may be opened.
     fn command(
         &mut self,
@@ -132,8 +139,8 @@ impl Device {
     ) -> Result<(), HostFault>
         ensures refused { OnErr result (self.new ≡ self.old) }
         ensures heard { (s : State) (bytes : List ℕ) → Describes self.old s →
-            Spells (Message.Command flags lun tag expected cdb.now) bytes → host_fault_of bytes ≡ None →
-            IsHeardAs s bytes result self.new }
+            Spells (Message.Command flags lun tag expected cdb.now) bytes →
+            host_fault_of bytes ≡ None → IsHeardAs s bytes result self.new }
     {
         if self.uses(tag) {
             return Err(HostFault::TagInUse);
@@ -149,12 +156,10 @@ impl Device {
     fn open_task(&mut self, flags: u8, lun: u8, tag: u8, expected: u32, cdb: &[u8; 16])
         requires { length self.old.tasks < 32 }
         ensures { (taken : Result Cdb Sense) × IsCdbRead cdb.now taken
-            × (self.new ≡ task_opened self.old flags lun tag expected taken) }
+            × IsTaskOpened self.old self.new flags lun tag expected taken }
     {
-        let phase = match self.plan(lun, flags, expected, read_cdb(cdb)) {
-            Ok(plan) => self.begin(tag, plan),
-            Err(status) => Phase::Answer { status, length: 0 },
-        };
+        let planned = self.plan(lun, flags, expected, read_cdb(cdb));
+        let phase = self.begin(tag, planned);
         self.push_task(Task {
             tag,
             lun,
@@ -173,7 +178,8 @@ impl Device {
 
     /// The command is answered TASK SET FULL.
     fn refuse(&mut self, exchange: Refused) -> Result<(), HostFault>
-        ensures answer { result ≡ (if nat_lt (length self.old.refused) 32 then Ok tt else Err HostFault.Backlog) }
+        ensures answer { result ≡
+            (if nat_lt (length self.old.refused) 32 then Ok tt else Err HostFault.Backlog) }
         ensures after { self.new ≡ refused_more self.old exchange }
     {
         if self.refused.len() >= ROOM {
@@ -183,36 +189,52 @@ impl Device {
         Ok(())
     }
 
-    /// Begins what a command does: a read keeps what it looks up, a write claims a slot.
-    fn begin(&mut self, tag: u8, plan: Plan) -> Phase
-        ensures phase { result ≡ phase_begun self.old plan }
-        ensures after { self.new ≡ begun self.old tag plan }
+    /// Begins what a command does, or answers why it does not.
+    fn begin(&mut self, tag: u8, planned: Result<Plan, Status>) -> Phase
+        ensures left { self.new ≡ record self.old { ftl = self.new.ftl } }
+        ensures begun { (t : Translation) → IsLayer self.old.ftl t →
+            HasBegun self.new.ftl t tag planned result }
     {
-        match plan {
-            Plan::Nothing { length } => Phase::Answer {
+        match planned {
+            Ok(Plan::Nothing { length }) => Phase::Answer {
                 status: Status::Good,
                 length,
             },
-            Plan::Read { key } => {
-                let looked = self.ftl.look(key);
-                if self.ftl.pin(tag, key, looked) {
-                    Phase::SendBlock
-                } else {
-                    Phase::Answer {
-                        status: Status::Busy,
-                        length: 0,
-                    }
-                }
+            Ok(Plan::Read { key }) => self.begin_read(tag, key),
+            Ok(Plan::Write { key }) => self.begin_write(key),
+            Err(status) => Phase::Answer { status, length: 0 },
+        }
+    }
+
+    /// A read keeps what it looks up.
+    fn begin_read(&mut self, tag: u8, key: Key) -> Phase
+        ensures left { self.new ≡ record self.old { ftl = self.new.ftl } }
+        ensures begun { (t : Translation) → IsLayer self.old.ftl t →
+            HasKept self.new.ftl t tag key result }
+    {
+        let looked = self.ftl.look(key);
+        if self.ftl.pin(tag, key, looked) {
+            Phase::SendBlock
+        } else {
+            Phase::Answer {
+                status: Status::Busy,
+                length: 0,
             }
-            Plan::Write { key } => {
-                if self.ftl.reserve() {
-                    Phase::AskData { key }
-                } else {
-                    Phase::Answer {
-                        status: Status::Busy,
-                        length: 0,
-                    }
-                }
+        }
+    }
+
+    /// A write claims a slot.
+    fn begin_write(&mut self, key: Key) -> Phase
+        ensures left { self.new ≡ record self.old { ftl = self.new.ftl } }
+        ensures begun { (t : Translation) → IsLayer self.old.ftl t →
+            HasClaimed self.new.ftl t key result }
+    {
+        if self.ftl.reserve() {
+            Phase::AskData { key }
+        } else {
+            Phase::Answer {
+                status: Status::Busy,
+                length: 0,
             }
         }
     }
@@ -220,6 +242,7 @@ impl Device {
     /// The task that asked for these data, and their address.
     fn asked_for(&self, lun: u8, tag: u8, offset: u32, count: usize) -> Option<AskedFor>
         ensures what { result ≡ asked_for self.now lun tag offset count }
+        ensures within { IfSome result (λ asked. asked.index < length self.now.tasks) }
     {
         if offset != 0 || count != 4096 {
             return None;
@@ -230,55 +253,55 @@ impl Device {
 
     /// The same of the task at this position.
     fn asked_by(&self, lun: u8, index: usize) -> Option<AskedFor>
-        ensures { result ≡ asked_by lun index (slice_get self.now.tasks index) }
+        requires { index < length self.now.tasks }
+        ensures what { result ≡ asked_by lun index (slice_get self.now.tasks index) }
+        ensures within { IfSome result (λ asked. asked.index < length self.now.tasks) }
     {
-        if index >= self.tasks.len() {
-            return None;
-        }
         let key = key_asked(&self.tasks[index], lun)?;
         Some(AskedFor { index, key })
     }
 
     /// A DATA OUT brings the block that a task asked for.
     fn data_out(&mut self, lun: u8, tag: u8, offset: u32, data: &[u8]) -> Result<(), HostFault>
-        ensures answer { result ≡ data_result (asked_for self.old lun tag offset (length data.now)) }
-        ensures after { self.new ≡ data_core self.old data.now (asked_for self.old lun tag offset (length data.now)) }
+        ensures refused { OnErr result (self.new ≡ self.old) }
+        ensures heard { IsDataHeard self.old self.new data.now
+            (asked_for self.old lun tag offset (length data.now)) result }
     {
         let Some(asked) = self.asked_for(lun, tag, offset, data.len()) else {
             return Err(HostFault::NotAskedFor);
         };
-        let phase = self.accept(asked.key, data);
-        self.set_phase(asked.index, phase);
+        let event = self.accept(asked.key, data);
+        let phase = Phase::AwaitData { key: asked.key };
+        self.set_phase(asked.index, phase.after(event));
         self.end_waiting();
         Ok(())
     }
 
     /// The task at this position does this from now on.
     pub(crate) fn set_phase(&mut self, index: usize, phase: Phase)
+        requires { index < length self.old.tasks }
         ensures { self.new ≡ task_set self.old index phase }
     {
-        if index < self.tasks.len() {
-            let task = &mut self.tasks[index];
-            task.phase = phase;
-        }
+        let task = &mut self.tasks[index];
+        task.phase = phase;
     }
 
-    /// Accepts the block for its address, unless the device is locked.
-    fn accept(&mut self, key: Key, bytes: &[u8]) -> Phase
+    /// Accepts the block for its address, unless the device is locked. The task that asked for it
+    /// claimed a slot, and a device that is not locked has a number left. No invariant of the
+    /// device says so yet, and so the layer is asked.
+    fn accept(&mut self, key: Key, bytes: &[u8]) -> TaskEvent
         requires { length bytes.now ≡ 4096 }
-        ensures phase { result ≡ phase_accepted self.old key }
-        ensures after { self.new ≡ block_accepted self.old key bytes.now }
+        ensures left { self.new ≡ record self.old { ftl = self.new.ftl } }
+        ensures taken { (t : Translation) → IsLayer self.old.ftl t →
+            HasTaken self.new.ftl t key bytes.now result }
     {
-        if self.is_locked() || !self.ftl.can_accept() {
+        if self.ftl.is_locked() || !self.ftl.can_accept() {
             self.ftl.release();
-            return Phase::Answer {
-                status: Status::CheckCondition(Sense::WRITE_ERROR),
-                length: 4096,
-            };
+            return TaskEvent::BlockRefused;
         }
         let mut body = [0u8; 4096];
         body.copy_from_slice(bytes);
         let number = self.ftl.accept(key, &body);
-        Phase::AwaitFrontier { number }
+        TaskEvent::BlockAccepted { number }
     }
 }

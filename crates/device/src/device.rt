@@ -1,29 +1,29 @@
 //! The device and its five calls.
 ghost use Rattle.std.specs.Prelude.{◌≡◌, ℕ, ◌<◌, ◌≤◌, ◌+◌, length, IfOk, OnErr, map};
 ghost use Rattle.std.specs.Prelude.{false, if◌then◌else◌, IfErr, IfNone};
-ghost use Rattle.ftl_core.specs.Moves.{blocks_of, free_slots, is_locked};
-ghost use Rattle.device.specs.Calls.{lock_told, read_told, told, waiting_ended};
-ghost use Rattle.device.specs.Tasks.{after_lock, after_lost_read};
+ghost use Rattle.device.specs.Calls.{lock_told, read_told, told};
+ghost use Rattle.device.specs.Tasks.{after_lost_read, task_after};
 ghost use Rattle.std.specs.Prelude.{true, ◌++◌, OnOk};
 ghost use Rattle.std.specs.List.{flat_map};
 ghost use Rattle.ufs_spec.specs.Cells.{Array};
-ghost use Rattle.ufs_spec.specs.Configs.{IsConfig};
 ghost use Rattle.ufs_spec.specs.Lives.{IsOpened, array_of, bad_of};
 ghost use Rattle.ufs_spec.specs.Machine.{Done, OfDone, MayLeave, Turn, OfTurn};
 ghost use Rattle.ufs_spec.specs.Moves.{Ending, IsEndingOf, suits};
 ghost use Rattle.ufs_spec.specs.Refusals.{State};
-ghost use Rattle.ufs_spec.specs.Translation.{Translation, is_locked as is_layer_locked};
+ghost use Rattle.ufs_spec.specs.Translation.{Translation};
 ghost use Rattle.ftl_core.specs.Describes.{Describes as IsLayer};
 ghost use Rattle.device.specs.Describes.{Describes, IsAnswered, IsGiven};
-ghost use Rattle.device.specs.Kept.{bad_in, new_device};
+ghost use Rattle.device.specs.Kept.{idle_device, new_device};
+ghost use Rattle.recovery.specs.Found.{bad_in};
 ghost use Rattle.device.specs.Worlds.{AreBlank};
 
-use crate::tasks::{Loaded, Phase, Refused, Status, Task};
+use crate::tasks::{Loaded, Refused, Task, TaskEvent};
 use ftl_core::{Ended, Ftl};
 use nand_model::Die;
+use recovery::bad_blocks;
 use std::alloc::{AllocError, Global};
 use std::marker::Model;
-use ufs_spec::{Block, Config, Job, OpenFault, Outcome, Sense};
+use ufs_spec::{Block, Config, Job, OpenFault, Outcome};
 
 /// How many tasks, how many refused commands and how many blocks there is room for: no list is longer
 /// (JESD220, 10.9).
@@ -54,34 +54,13 @@ impl Model for Device {
     ghost invariant = { IsRoomy };
 }
 
-/// For each block of each die, in order, whether it is bad.
-fn bad_blocks<D: Die>(alloc: Global, dies: &[D], blocks: u16) -> Result<Vec<bool>, AllocError>
-    ensures { IfOk result (λ v. v.items ≡ flat_map (bad_in D.state blocks) dies.now) }
-{
-    let mut all = Vec::new(alloc);
-    for die in dies {
-        append_bad(&mut all, die, blocks)?;
-    }
-    Ok(all)
-}
-
-/// Behind the others, for each block of the die whether it is bad.
-fn append_bad<D: Die>(all: &mut Vec<bool>, die: &D, blocks: u16) -> Result<(), AllocError>
-    ensures { OnOk result (all.new.items ≡ all.old.items ++ bad_in D.state blocks die.now) }
-{
-    for block in 0..blocks {
-        all.push(die.is_bad(block))?;
-    }
-    Ok(())
-}
-
 impl Device {
     /// Opens a device over new dies of the configuration's number and sizes. It reads no page of them
     /// and writes nothing.
     ///
     /// # Errors
     ///
-    /// `NoMemory` where memory was refused.
+    /// `NoMemory` if memory was refused.
     pub fn open<D: Die>(alloc: Global, config: Config, dies: &[D]) -> Result<Device, OpenFault>
         ensures opened { IfOk result (λ d. d ≡ new_device config (flat_map (bad_in D.state config.blocks) dies.now)) }
         ensures refused { IfErr result (λ e. e ≡ OpenFault.NoMemory) }
@@ -89,52 +68,29 @@ impl Device {
         ensures described { IfOk result (λ d. (s : State) → length dies.now ≡ config.dies → AreBlank (map D.state dies.now) →
             IsOpened config (array_of (map D.state dies.now)) (bad_of (map D.state dies.now)) s → Describes d s) }
     {
-        match Device::over(alloc, config, dies) {
+        config.has_no_fault();
+        let Ok(bad) = bad_blocks(alloc, dies, config.numbers()) else {
+            return Err(OpenFault::NoMemory);
+        };
+        let Ok(ftl) = Ftl::new(alloc, config, bad.as_slice()) else {
+            return Err(OpenFault::NoMemory);
+        };
+        match Device::idle(alloc, ftl) {
             Ok(device) => Ok(device),
             Err(_) => Err(OpenFault::NoMemory),
         }
     }
 
-    /// The device, or `AllocError` where memory was refused.
-    fn over<D: Die>(alloc: Global, config: Config, dies: &[D]) -> Result<Device, AllocError>
-        ensures opened { IfOk result (λ d. d ≡ new_device config (flat_map (bad_in D.state config.blocks) dies.now)) }
-        ensures configured { IsConfig config }
+    /// A device over this layer, with no task open.
+    fn idle(alloc: Global, ftl: Ftl) -> Result<Device, AllocError>
+        ensures { IfOk result (λ d. d ≡ idle_device ftl) }
     {
-        config.has_no_fault();
-        let blocks = config.numbers().blocks;
-        let bad = bad_blocks(alloc, dies, blocks)?;
         Ok(Device {
-            ftl: Ftl::new(alloc, config, bad.as_slice())?,
+            ftl,
             tasks: Vec::with_capacity(alloc, ROOM)?,
             refused: Vec::with_capacity(alloc, ROOM)?,
             loaded: Vec::with_capacity(alloc, ROOM)?,
         })
-    }
-
-    pub(crate) fn is_mended(&self) -> bool
-        ensures { result ≡ self.now.ftl.mended }
-    {
-        self.ftl.is_mended()
-    }
-
-    pub(crate) fn is_locked(&self) -> bool
-        ensures core { result ≡ is_locked self.now.ftl }
-        ensures described { (t : Translation) → IsLayer self.now.ftl t → result ≡ is_layer_locked t }
-    {
-        self.ftl.is_locked()
-    }
-
-    pub(crate) fn free_slots(&self) -> usize
-        ensures { result ≡ free_slots self.now.ftl }
-    {
-        self.ftl.free_slots()
-    }
-
-    /// How many blocks the unit has; `None` where the LUN is no unit's.
-    pub(crate) fn unit_blocks(&self, lun: u8) -> Option<u32>
-        ensures { result ≡ blocks_of self.now.ftl lun }
-    {
-        self.ftl.unit_blocks(lun)
     }
 
     /// The next job of the die, which is then in flight; `None` where the die is not one of the device,
@@ -185,6 +141,8 @@ impl Device {
     }
 
     /// What the die read for the task of this tag gave: its block, or nothing, which ends the task.
+    /// There is always room: each block that was read is of an open READ. The lists of the tasks and of
+    /// the blocks would have to be one list, if the test were to go.
     fn read_ended(&mut self, tag: u8, body: Option<Block>)
         ensures { self.new ≡ read_told self.old tag body }
     {
@@ -200,10 +158,9 @@ impl Device {
 
     /// A lock ends each task that waits for a block to become durable.
     pub(crate) fn end_waiting(&mut self)
-        ensures core { self.new ≡ waiting_ended self.old }
-        ensures described { (t : Translation) → IsLayer self.old.ftl t → self.new ≡ lock_told t self.old }
+        ensures { (t : Translation) → IsLayer self.old.ftl t → self.new ≡ lock_told t self.old }
     {
-        if self.is_locked() {
+        if self.ftl.is_locked() {
             let frontier = self.ftl.frontier();
             end_waiting(self.tasks.as_mut_slice(), frontier);
         }
@@ -219,42 +176,22 @@ fn end_read(tasks: &mut [Task], tag: u8)
     }
 }
 
-/// The task after the block of the task of this tag could not be read: nothing was carried.
+/// The task after the block of the task of this tag could not be read.
 fn after_lost_read(task: Task, tag: u8) -> Task
     ensures { result ≡ after_lost_read tag task }
 {
-    let mut ended = task;
-    if task.tag == tag && task.phase == Phase::SendBlock {
-        ended.phase = Phase::Answer {
-            status: Status::CheckCondition(Sense::READ_ERROR),
-            length: 0,
-        };
+    if task.tag == tag {
+        task.after(TaskEvent::BlockLost)
+    } else {
+        task
     }
-    ended
 }
 
 /// The tasks after the lock began: none waits for the frontier any more.
 fn end_waiting(tasks: &mut [Task], frontier: u64)
-    ensures { tasks.new ≡ map (after_lock frontier) tasks.old }
+    ensures { tasks.new ≡ map (task_after (TaskEvent.Locked frontier)) tasks.old }
 {
     for task in tasks.iter_mut() {
-        *task = after_lock(*task, frontier);
+        *task = task.after(TaskEvent::Locked { frontier });
     }
-}
-
-/// The task after the lock began: a block that is not durable is told as not written, though it was
-/// carried. An answer that was due stays.
-fn after_lock(task: Task, frontier: u64) -> Task
-    ensures { result ≡ after_lock frontier task }
-{
-    let mut ended = task;
-    if let Phase::AwaitFrontier { number } = task.phase {
-        if number > frontier {
-            ended.phase = Phase::Answer {
-                status: Status::CheckCondition(Sense::WRITE_ERROR),
-                length: 4096,
-            };
-        }
-    }
-    ended
 }

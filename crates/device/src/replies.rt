@@ -18,7 +18,7 @@ ghost use Rattle.device.specs.Replies.{loaded_for, moved_on, owed_by, without_bl
 
 use crate::device::Device;
 use crate::responses::{BLOCK_BYTES, block_message, full_answer, ready_to_transfer, response};
-use crate::tasks::{Loaded, Phase, Status, Task};
+use crate::tasks::{Loaded, Phase, Status, Task, TaskEvent};
 use ftl_core::Looked;
 use ufs_spec::{Block, Message, Upiu};
 
@@ -42,7 +42,8 @@ fn is_loaded_for(loaded: &Loaded, tag: u8) -> bool
 
 /// The position of the block that was read for the task of this tag.
 fn loaded_at(loaded: &[Loaded], tag: u8) -> Option<usize>
-    ensures { result ≡ position (is_loaded_for tag) loaded.now }
+    ensures first { result ≡ position (is_loaded_for tag) loaded.now }
+    ensures within { IfSome result (λ k. k < length loaded.now) }
 {
     loaded.iter().position(|read| is_loaded_for(read, tag))
 }
@@ -157,9 +158,6 @@ impl Device {
         ensures { option_copied result ≡ loaded_for self.now.loaded tag }
     {
         let index = loaded_at(self.loaded.as_slice(), tag)?;
-        if index >= self.loaded.len() {
-            return None;
-        }
         Some(&self.loaded[index].body)
     }
 
@@ -170,17 +168,13 @@ impl Device {
         ensures moved { (t : Translation) → IsLayer self.old.ftl t → HasMoved self.new.ftl t task.tag task.phase }
     {
         match task.phase {
-            Phase::AskData { key } => self.set_phase(index, Phase::AwaitData { key }),
+            Phase::AskData { key: _ } => {
+                self.set_phase(index, task.phase.after(TaskEvent::DataAskedFor));
+            }
             Phase::AwaitData { key: _ } => {}
             Phase::SendBlock => {
                 self.let_go(task.tag);
-                self.set_phase(
-                    index,
-                    Phase::Answer {
-                        status: Status::Good,
-                        length: BLOCK_BYTES,
-                    },
-                );
+                self.set_phase(index, task.phase.after(TaskEvent::BlockSent));
             }
             Phase::AwaitFrontier { number: _ } => self.end_task(index, task.tag),
             Phase::Answer {
@@ -222,9 +216,7 @@ impl Device {
         ensures { self.new ≡ without_block self.old tag }
     {
         if let Some(index) = loaded_at(self.loaded.as_slice(), tag) {
-            if index < self.loaded.len() {
-                self.loaded.remove(index);
-            }
+            self.loaded.remove(index);
         }
     }
 

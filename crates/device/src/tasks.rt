@@ -1,4 +1,8 @@
 //! The tasks that are open, and what each still owes its host (JESD220, 10.9).
+ghost use Rattle.std.specs.Prelude.{◌≡◌};
+ghost use Rattle.device.specs.Tasks.{failed, phase_after, task_after};
+
+use crate::responses::BLOCK_BYTES;
 use ufs_spec::{Block, Key, Sense};
 
 /// How a command ended (JESD220, 10.7.2; SAM, 5.3).
@@ -26,6 +30,60 @@ pub enum Phase {
     Answer { status: Status, length: u32 },
 }
 
+/// What happens to a task. Its RESPONSE, which ends it, is none of these.
+#[derive(Clone, Copy)]
+pub enum TaskEvent {
+    /// Its READY TO TRANSFER was handed out.
+    DataAskedFor,
+    /// The block that it asked for came, and was accepted under this number.
+    BlockAccepted { number: u64 },
+    /// The block that it asked for came, and the device is locked: it is told as not written.
+    BlockRefused,
+    /// Its DATA IN was handed out.
+    BlockSent,
+    /// The die could not read its block: nothing was carried.
+    BlockLost,
+    /// The device is locked from now on, and each group up to this number is durable. A block
+    /// behind it is told as not written, though it was carried.
+    Locked { frontier: u64 },
+}
+
+impl Phase {
+    /// The command failed with this sense, and so many bytes were carried.
+    fn failed(sense: Sense, carried: u32) -> Phase
+        ensures { result ≡ failed sense carried }
+    {
+        Phase::Answer {
+            status: Status::CheckCondition(sense),
+            length: carried,
+        }
+    }
+
+    /// The table of a task's phases: how far it is after this happened. What does not concern its
+    /// phase changes nothing.
+    pub(crate) fn after(self, event: TaskEvent) -> Phase
+        ensures { result ≡ phase_after self event }
+    {
+        match (self, event) {
+            (Phase::AskData { key }, TaskEvent::DataAskedFor) => Phase::AwaitData { key },
+            (Phase::AwaitData { key: _ }, TaskEvent::BlockAccepted { number }) => {
+                Phase::AwaitFrontier { number }
+            }
+            (Phase::AwaitData { key: _ }, TaskEvent::BlockRefused) => {
+                Phase::failed(Sense::WRITE_ERROR, BLOCK_BYTES)
+            }
+            (Phase::AwaitFrontier { number }, TaskEvent::Locked { frontier })
+                if number > frontier => { Phase::failed(Sense::WRITE_ERROR, BLOCK_BYTES) }
+            (Phase::SendBlock, TaskEvent::BlockSent) => Phase::Answer {
+                status: Status::Good,
+                length: BLOCK_BYTES,
+            },
+            (Phase::SendBlock, TaskEvent::BlockLost) => Phase::failed(Sense::READ_ERROR, 0),
+            (phase, _) => phase,
+        }
+    }
+}
+
 /// An open task.
 #[derive(Clone, Copy, Debug, PartialEq, Eq)]
 pub struct Task {
@@ -33,6 +91,20 @@ pub struct Task {
     pub lun: u8,
     pub expected: u32,
     pub phase: Phase,
+}
+
+impl Task {
+    /// The task after this happened to it.
+    pub(crate) fn after(self, event: TaskEvent) -> Task
+        ensures { result ≡ task_after event self }
+    {
+        Task {
+            tag: self.tag,
+            lun: self.lun,
+            expected: self.expected,
+            phase: self.phase.after(event),
+        }
+    }
 }
 
 /// A command that was refused with TASK SET FULL and whose RESPONSE was not handed out.

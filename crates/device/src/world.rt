@@ -26,7 +26,7 @@ pub struct World {
     device: Device,
     /// The dies, of the number and sizes of the configuration. A job in flight has done nothing yet.
     dies: Vec<MemDie>,
-    /// For each die the job that it was given and has not done.
+    /// For each die the job that it was given and has not done: as many as dies.
     jobs: Vec<Option<Job>>,
     /// How many steps were made: the position of a fault.
     steps: usize,
@@ -36,11 +36,13 @@ pub struct World {
 
 impl Model for World {
     ghost use Rattle.device.specs.Kept.{WorldState};
-    ghost use Rattle.device.specs.Rooms.{world_of};
+    ghost use Rattle.device.specs.Rooms.{IsEven, world_of};
 
     ghost Value = { WorldState };
 
     ghost view = { world_of };
+
+    ghost invariant = { IsEven };
 }
 
 /// Whether the die has so many blocks, each of so many pages.
@@ -117,21 +119,12 @@ impl World {
         if !fit(&config, dies.as_slice()) {
             return Err(fault(alloc, RunFaultKind::WrongEvent, 0));
         }
-        match World::over(alloc, config, dies) {
-            Ok(world) => Ok(world),
-            Err(_) => Err(fault(alloc, RunFaultKind::NoMemory, 0)),
-        }
-    }
-
-    /// A device over dies that fit the configuration, with no job in flight.
-    fn over(alloc: Global, config: Config, dies: Vec<MemDie>) -> Result<World, OpenFault>
-        ensures opened { IfOk result (λ w. IsNewDevice config w.core × (w.dies ≡ dies.items)) }
-        ensures idle { IfOk result (λ w. (w.jobs ≡ replicate (length dies.items) None) × (w.steps ≡ 0) × (w.is_over ≡ false)) }
-        ensures described { IfOk result (λ w. length dies.items ≡ config.dies → AreBlank dies.items → (s : State) →
-            IsOpened config (array_of dies.items) (bad_of dies.items) s → Describes w.core s) }
-    {
-        let device = Device::open(alloc, config, dies.as_slice())?;
-        let jobs = idle(alloc, dies.len()).map_err(|_| OpenFault::NoMemory)?;
+        let Ok(device) = Device::open(alloc, config, dies.as_slice()) else {
+            return Err(fault(alloc, RunFaultKind::NoMemory, 0));
+        };
+        let Ok(jobs) = idle(alloc, dies.len()) else {
+            return Err(fault(alloc, RunFaultKind::NoMemory, 0));
+        };
         Ok(World {
             alloc,
             device,
@@ -270,7 +263,8 @@ impl World {
         job
     }
 
-    /// The die has this job in flight, if it was given one.
+    /// The die has this job in flight, if it was given one. A die that is given a job is one of ours: the
+    /// layer would have to say how many dies it has, if the test of the index were to go.
     fn note_job(&mut self, die: u8, job: Option<Job>)
         ensures { self.new ≡ record self.old { jobs = jobs_given self.old.jobs die job } }
     {
@@ -297,25 +291,26 @@ impl World {
     fn end_job(&mut self, die: u8) -> Option<Job>
         ensures what { result ≡ job_at self.old.jobs die }
         ensures after { self.new ≡ record self.old { jobs = slice_set self.old.jobs die None } }
+        ensures there { IfSome result (λ j. die < length self.new.dies) }
     {
         let index = die as usize;
         if index >= self.jobs.len() {
             return None;
         }
-        let job = self.jobs[index];
-        self.jobs[index] = None;
-        job
+        self.jobs[index].take()
     }
 
-    /// Does the job on the die; `None`, and nothing changes, where it may not be asked of it.
+    /// Does the job on the die; `None`, and nothing changes, if it may not be asked of it. A device over
+    /// dies whose pages were not blank may ask so.
     fn work(&mut self, die: u8, job: &Job) -> Option<Outcome>
-        ensures cannot { IfNone result (die < length self.old.dies → CanDo (die_at self.old.dies die) job.now → ⊥) }
+        requires there { die < length self.old.dies }
+        ensures cannot { IfNone result (CanDo (die_at self.old.dies die) job.now → ⊥) }
         ensures nothing { IfNone result (self.new ≡ self.old) }
         ensures outcome { IfSome result (λ o. o ≡ outcome_of (die_at self.old.dies die) job.now) }
         ensures after { IfSome result (λ o. self.new ≡ record self.old { dies = slice_set self.old.dies die (after_job (die_at self.old.dies die) job.now) }) }
     {
         let index = die as usize;
-        if index >= self.dies.len() || !self.dies[index].can_do(job) {
+        if !self.dies[index].can_do(job) {
             return None;
         }
         Some(self.do_job(index, job))

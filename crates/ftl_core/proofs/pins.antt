@@ -1,5 +1,4 @@
-pub mod MorePins
-pub mod PinLists
+pub mod FoundPins
 pub mod PinsAlike
 pub mod PinsGone
 pub mod PinsSettled

@@ -1,3 +1,2 @@
 pub mod CallsDescribed
-pub mod Carried
 pub mod SmallCalls

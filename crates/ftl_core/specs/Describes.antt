@@ -2,9 +2,8 @@
 -- fence,
 -- nothing is repaired, copied or collected, and each group of this life is one page of a unit's data.
 use Rattle.std.specs.Prelude.{◌≡◌, ℕ, suc, ◌-◌, ◌<◌, ◌≤◌, nat_lt, Bool, true, false, List, [], ◌∷◌, count_by, drop}
-use Rattle.std.specs.Prelude.{◌==◌, ◌&&◌, length, map, slice_get, sum_by, Option, Some, None, option_map}
-use Rattle.std.specs.List.{list_any}
-use Rattle.ufs_spec.specs.Cells.{Cells, GroupPage, MarkPage, same_place}
+use Rattle.std.specs.Prelude.{find, length, map, slice_get, sum_by, Option, Some, None, option_map}
+use Rattle.ufs_spec.specs.Cells.{Cells, GroupPage, MarkPage}
 use Rattle.ufs_spec.specs.Disk as disk
 use Rattle.ufs_spec.specs.Disk.{Disk, ForNobody, ForTask, Reader, Spot}
 use Rattle.ufs_spec.specs.Keys as keys
@@ -22,6 +21,7 @@ use Rattle.ufs_spec.specs.declared.flash.Job.{Job}
 use Rattle.ufs_spec.specs.declared.flash.Key.{Key}
 use Rattle.ufs_spec.specs.declared.flash.Place.{Place}
 use Rattle.ufs_spec.specs.declared.flash.Tag.{Tag}
+use Rattle.power_loss.specs.Exchange.{TagsDiffer}
 use Rattle.power_loss.specs.Invariant.{Valid}
 use Rattle.ftl_core.specs.declared.books.BlockState.{BlockState}
 use Rattle.ftl_core.specs.declared.books.BlockState.TheVariants as state
@@ -177,22 +177,20 @@ PinsKept frontier entries ps qs = ⊥
 
 -- no reader keeps two things
 abbrev pub ReadersDiffer : List Pin → Type 0
-ReadersDiffer [] = Unit {0}
-ReadersDiffer (p ∷ ps) = (list_any (is_pin_of p.reader) ps ≡ false) × ReadersDiffer ps
+ReadersDiffer = TagsDiffer (λ (p : Pin). p.reader)
 
--- the reader wants the page at this place
-abbrev pub looks_at : Place → Looked → Bool
-looks_at place (looked.Page s) = same_place s.place place
-looks_at place other = false
-
-abbrev pub is_reading : ℕ → Place → Pin → Bool
-is_reading reader place p = (p.reader == reader) && p.wanted && looks_at place p.looked
+-- the pin is of the page at this place, which is still to be read
+pub record IsWanted (place : Place) (p : Pin) : Type 0 where
+  pub stored : Stored
+  pub looks : p.looked ≡ looked.Page stored
+  pub place_is : stored.place ≡ place
+  pub wanted : p.wanted ≡ true
 
 -- a read in flight for a task is of the page that its reader wants
 abbrev pub ReadsKept : (ℕ → Option disk.Flight) → List Pin → Type 0
 ReadsKept flights pins =
     (die tag index : ℕ) (place : Place) → flights die ≡ Some (disk.Reading (ForTask tag index) place) →
-    list_any (is_reading tag place) pins ≡ true
+    (p : Pin) × (find (is_pin_of tag) pins ≡ Some p) × IsWanted place p
 
 -- Mending
 

@@ -1,4 +1,5 @@
--- The end of the job that a die has in flight: what is answered, and what is kept then.
+-- The end of the job that a die has in flight, as the code does it: what is answered, and what is kept then.
+-- `IsTold` of Describes says what that means.
 use Rattle.std.specs.Prelude.{◌≡◌, ℕ, slice_get, Option, Some, None, option_map}
 use Rattle.ufs_spec.specs.declared.flash.Outcome.{Outcome}
 use Rattle.ftl_core.specs.declared.books.Book.{Book}

@@ -1,4 +1,4 @@
--- How a group moves on until it is durable.
+-- How a group moves on until it is durable, as the code does it. Describes says what that means.
 use Rattle.std.specs.Prelude.{ℕ, zero, suc, ◌+◌, ◌-◌, nat_le, nat_lt, if◌then◌else◌, List, length, map, slice_get}
 use Rattle.std.specs.Prelude.{slice_set, remove, Option, Some, None}
 use Rattle.ufs_spec.specs.declared.flash.Key.{Key}

@@ -1,4 +1,5 @@
--- Which job a die is given, and what its start makes of what the layer keeps.
+-- Which job a die is given, and what its start makes of what the layer keeps, as the code does it. `IsTaken` of
+-- Describes says what that means.
 use Rattle.std.specs.Prelude.{ℕ, zero, suc, ◌+◌, ◌==◌, nat_le, Bool, true, false, ◌&&◌, not, if◌then◌else◌, is_none}
 use Rattle.std.specs.Prelude.{length, position, slice_get, Option, Some, None, option_and_then, option_map}
 use Rattle.std.specs.List.{list_any}
@@ -98,9 +99,8 @@ place_in (looked.Page s) = Some s.place
 place_in _ = None
 
 -- the read that the reader is owed
-abbrev pub read_of : Option Pin → Option Flight
-read_of None = None
-read_of (Some p) = option_map (λ place. flight.Read place (Some p.reader)) (place_in p.looked)
+abbrev pub read_of : Pin → Option Flight
+read_of p = option_map (λ place. flight.Read place (Some p.reader)) (place_in p.looked)
 
 -- the position of the first reader who is owed the read of a page of this die
 abbrev pub first_owed : Core → ℕ → Option ℕ
@@ -109,7 +109,7 @@ first_owed c die = position (is_owed_by c.books die) c.pins
 -- a read goes before all that waits
 abbrev pub owed_flight : Core → ℕ → Option OpenBlock → Option ℕ → Option Flight
 owed_flight c die filling None = option_and_then (waiting_flight c die filling) (waiting_of c)
-owed_flight c die filling (Some k) = read_of (slice_get c.pins k)
+owed_flight c die filling (Some k) = option_and_then read_of (slice_get c.pins k)
 
 -- What the die is told
 

@@ -1,8 +1,8 @@
 //! The translation layer and its calls.
-ghost use Rattle.std.specs.Prelude.{◌≡◌, ℕ, ◌<◌, ◌≤◌, ◌+◌, ◌^◌, length, IsTrue, ◌↔◌, IfOk, IsSome, IfSome, vec_len, nat_lt, ◌-◌, ◌&&◌, ◌++◌, ◌∷◌, [], if◌then◌else◌, sum_by, slice_get, map, None, true, option_copied, position, replicate, reverse, Bool, false, find, option_map};
+ghost use Rattle.std.specs.Prelude.{◌≡◌, ℕ, ◌<◌, ◌≤◌, ◌+◌, ◌^◌, length, IsTrue, vec_capacity, ◌↔◌, IfOk, IsSome, IfSome, vec_len, nat_lt, ◌-◌, ◌&&◌, ◌++◌, ◌∷◌, [], if◌then◌else◌, sum_by, slice_get, map, None, true, option_copied, position, replicate, reverse, Bool, false, find, option_map};
 ghost use Rattle.std.specs.List.{list_any};
 ghost use Rattle.ufs_spec.specs.declared.configs.UnitSpec.{UnitSpec};
-ghost use Rattle.ftl_core.specs.Moves.{accepted, blocks_of, can_accept, fresh, idle_book, slot_of, state_at_start, is_group_of, is_pin_of, looked_by, pin_of, slot_in, unpinned, look_of, last_of, position_of, stored_of, unit_position, with_pin, free_slots, is_locked, has_number, next_number, mark_ordered, flight_without, without_reader};
+ghost use Rattle.ftl_core.specs.Moves.{accepted, blocks_of, can_accept, fresh, idle_book, slot_of, state_at_start, is_group_of, is_pin_of, looked_by, pin_of, slot_in, unpinned, look_of, last_of, position_of, stored_of, unit_position, with_pin, free_slots, is_locked, has_number, next_number, mark_ordered, flight_without, without_reader, pins_without};
 ghost use Rattle.ufs_spec.specs.Keys.{IsKey};
 ghost use Rattle.ufs_spec.specs.Ledger.{look, next_number as next_of_layer, Entry, before_accepted, entry_of};
 ghost use Rattle.ufs_spec.specs.Moves.{Accept, Acknowledge, Claim, IsAllowedMove, Keep, LetGo, LetGoAll, Release, WantPage, moved, is_pin_of as is_layer_pin_of};
@@ -141,9 +141,21 @@ fn is_pin_of(pin: &Pin, reader: u8) -> bool
 
 /// The position of the reader's pin.
 fn pin_at(pins: &[Pin], reader: u8) -> Option<usize>
-    ensures { result ≡ position (is_pin_of reader) pins.now }
+    ensures what { result ≡ position (is_pin_of reader) pins.now }
+    ensures less { IfSome result (λ k. k < length pins.now) }
 {
     pins.iter().position(|pin| is_pin_of(pin, reader))
+}
+
+/// The reader's pin is gone, if it has one.
+fn drop_pin(pins: &mut Vec<Pin>, reader: u8)
+    ensures left { pins.new.items ≡ pins_without pins.old.items (position (is_pin_of reader) pins.old.items) }
+    ensures room { vec_capacity pins.new ≡ vec_capacity pins.old }
+    ensures fewer { length pins.new.items ≤ length pins.old.items }
+{
+    if let Some(index) = pin_at(pins.as_slice(), reader) {
+        pins.remove(index);
+    }
 }
 
 /// What the reader keeps; `None` where it keeps nothing.
@@ -151,8 +163,7 @@ fn looked_by(pins: &[Pin], reader: u8) -> Option<Looked>
     ensures { result ≡ looked_by reader pins.now }
 {
     let index = pin_at(pins, reader)?;
-    let pin = pins.get(index)?;
-    Some(pin.looked)
+    Some(pins[index].looked)
 }
 
 /// The block in the slot of this number, where the first of these groups is the one behind the frontier.
@@ -273,13 +284,6 @@ impl Ftl {
             1 ≤ config.pages → ((p : Place) → cells p ≡ Nothing) → bad.now ≡ map is_bad (spots config) →
             IsOpenedTranslation config cells is_bad t → Describes f t) }
     {
-        Ftl::fresh(alloc, config, bad)
-    }
-
-    /// The same, as what it keeps.
-    fn fresh(alloc: Global, config: Config, bad: &[bool]) -> Result<Ftl, AllocError>
-        ensures { IfOk result (λ f. f ≡ fresh config bad.now) }
-    {
         let numbers = config.numbers();
         let dies = numbers.dies;
         let slots = numbers.slots as usize;
@@ -379,18 +383,10 @@ impl Ftl {
 
     /// What holds the content of the address after all pending groups: the slot of the last of these, or
     /// its page, or nothing (it reads as zeros).
-    #[tactic(auto, using(crate::proofs::look_and_accept::Looks::looks_right))]
     pub fn look(&self, key: Key) -> Looked
         ensures core { result ≡ look_of self.now key }
         ensures described { (t : Translation) → Describes self.now t → IsKey (shape_of_numbers t.numbers) key → key.kind ≡ 1 →
             IsLookedAt result (look t.ledger key) }
-    {
-        self.looked(key)
-    }
-
-    /// What holds the content of the address after all pending groups.
-    fn looked(&self, key: Key) -> Looked
-        ensures { result ≡ look_of self.now key }
     {
         match last_of(self.groups.as_slice(), key) {
             Some(index) => Looked::Slot(self.frontier + index as u64 + 1),
@@ -434,23 +430,15 @@ impl Ftl {
             then moved t (Keep key (record { tag = reader; index = 0; looked = look t.ledger key; wanted = true }))
             else t) }
     {
-        self.keep(Pin {
+        if self.pins.len() >= MOST_PINS {
+            return false;
+        }
+        self.pins.push_reserved(Pin {
             reader,
             key,
             looked,
             wanted: true,
-        })
-    }
-
-    /// Keeps this pin, where 32 readers do not keep something yet.
-    fn keep(&mut self, pin: Pin) -> bool
-        ensures found { result ≡ nat_lt (length self.old.pins) 32 }
-        ensures after { self.new ≡ (if result then with_pin self.old pin else self.old) }
-    {
-        if self.pins.len() >= MOST_PINS {
-            return false;
-        }
-        self.pins.push_reserved(pin);
+        });
         true
     }
 
@@ -466,19 +454,8 @@ impl Ftl {
         ensures described_one { (t : Translation) (next : ℕ) → Describes self.old t → 0 < next →
             Describes self.new (moved (moved t (LetGo reader 0)) (WantPage reader next)) }
     {
-        self.let_go(reader);
-    }
-
-    /// The reader's pin is gone, and no die reads for it.
-    fn let_go(&mut self, reader: u8)
-        ensures { self.new ≡ unpinned self.old reader }
-    {
         forget_reader(self.books.as_mut_slice(), reader);
-        if let Some(index) = pin_at(self.pins.as_slice(), reader) {
-            if index < self.pins.len() {
-                self.pins.remove(index);
-            }
-        }
+        drop_pin(&mut self.pins, reader);
     }
 
     /// What the reader keeps; `None` where it keeps nothing.
@@ -496,7 +473,7 @@ impl Ftl {
         ensures { result ≡ pin_of self.now reader }
     {
         let index = pin_at(self.pins.as_slice(), reader)?;
-        self.pins.get(index).copied()
+        Some(self.pins[index])
     }
 
     /// The block in the slot of this number; `None` where no pending group has it.
@@ -522,7 +499,12 @@ impl Ftl {
         ensures described_number { (t : Translation) → Describes self.old t → result ≡ next_of_layer t.ledger }
     {
         let number = self.next_number();
-        self.add_group(key, body);
+        self.claimed -= 1;
+        self.groups.push_reserved(Group {
+            key,
+            written: None,
+            body: *body,
+        });
         number
     }
 
@@ -532,20 +514,6 @@ impl Ftl {
         ensures { result ≡ next_number self.now }
     {
         self.frontier + self.groups.len() as u64 + 1
-    }
-
-    /// One group more waits, in the place of a claimed slot.
-    fn add_group(&mut self, key: Key, body: &Block)
-        requires claimed { 0 < self.old.claimed }
-        requires numbered { IsTrue (has_number self.old) }
-        ensures { self.new ≡ accepted self.old key body.now }
-    {
-        self.claimed -= 1;
-        self.groups.push_reserved(Group {
-            key,
-            written: None,
-            body: *body,
-        });
     }
 
     /// Whether a group can be accepted: a slot is claimed and a number is left.

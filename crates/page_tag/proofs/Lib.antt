@@ -1,2 +1,5 @@
 pub mod Filled
+pub mod MarkRead
 pub mod Sealed
+pub mod SettingsRead
+pub mod Told

@@ -1,12 +1,16 @@
-//! Seals a block with its tag into a flash page, opens a page again, and judges what a stop has left
-//! of one. The layout of the spare bytes and of a mark's body are this profile's, version 1; the check
-//! is the SHA-256 of FIPS 180-4.
+//! Seals a block with its tag into a flash page, opens a page again and tells what it is, and judges
+//! what a stop has left of one. The layouts of the spare bytes, of a mark's body and of a settings
+//! page are this profile's, version 1; the check is the SHA-256 of FIPS 180-4.
 #![tactic(auto)]
 
 mod check;
+mod contents;
 mod front;
 mod mark;
+mod mark_read;
 mod page;
+mod settings;
 
+pub use contents::{Content, Mark, content_of};
 pub use mark::mark_body;
 pub use page::{leftover_ok, one_seal, open, reopened, seal};

@@ -4,10 +4,11 @@ ghost use Rattle.ufs_spec.specs.Pages.{fence_bytes, mark_bytes, numbers_bytes, u
 
 use ufs_spec::{Block, Fence, Numbers, UnitSpec, write_u16, write_u32, write_u64};
 
-// Where the entries of the units begin, and how long each is.
-const ENTRIES: usize = 32;
+/// Where the entries of the units begin.
+pub const ENTRIES: usize = 32;
 
-const ENTRY: usize = 8;
+/// How long each of them is.
+pub const ENTRY: usize = 8;
 
 /// The body of a mark with these numbers and this fence.
 pub fn mark_body(numbers: &Numbers, fence: Option<Fence>) -> Block

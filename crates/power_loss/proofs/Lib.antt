@@ -1,3 +1,5 @@
+mod Common
+mod MachineWords
 pub mod accepted_groups
 pub mod books
 pub mod calls

@@ -1,29 +1,21 @@
 -- The command whose bytes they are is the one that their fields name, and what the fields name fits its ranges.
 use Rattle.std.proofs.Common.{◌≡◌, ◌<◌, ◌^◌, ◌==◌, ℕ, Bool, true, false, cond, nat_lt, List, slice_index, Option, Some}
-use Rattle.std.proofs.Common.{None, refl, sym, ap, ◌∙◌, subst, arith}
+use Rattle.std.proofs.Common.{None, sym, ap, ◌∙◌, subst, arith}
 use Rattle.std.proofs.lemmas.Nat.{and_le_r}
-use Rattle.ufs_spec.proofs.CdbsBack as back
+use Rattle.ufs_spec.proofs.CdbsBack.{again}
 use Rattle.ufs_spec.specs.Fields.{field_at}
-use Rattle.ufs_spec.specs.Cdbs.{cdb_bytes, IsCdb}
+use Rattle.ufs_spec.specs.Cdbs.{IsCdb}
 use Rattle.ufs_spec.specs.declared.scsi.Cdb.{Cdb}
 use Rattle.ufs_spec.specs.declared.scsi.Cdb.TheVariants.{TestUnitReady, RequestSense, Read6, Write6, Inquiry}
 use Rattle.ufs_spec.specs.declared.scsi.Cdb.TheVariants.{ReadCapacity10, Read10, Write10, SynchronizeCache10, Unmap}
 use Rattle.ufs_spec.specs.declared.scsi.Cdb.TheVariants.{ReportLuns, SecurityIn, SecurityOut}
-use Rattle.scsi_cdb.specs.Reading.{HasSelection, Writes, is_forced, is_immediate, named_cdb, named_six, named_ten}
-use Rattle.scsi_cdb.specs.Reading.{named_twelve, six_address}
+use Rattle.ufs_spec.specs.CdbFields.{is_forced, is_immediate, named_cdb, named_six, named_ten, named_twelve}
+use Rattle.ufs_spec.specs.CdbFields.{six_address}
+use Rattle.scsi_cdb.specs.Reading.{HasSelection, Writes}
 use Rattle.ufs_spec.proofs.FieldRanges.{field_fits}
 use Rattle.ufs_spec.proofs.Facts.{none-some, same_Some}
 
 -- ## What is read again from the bytes of a command
-
--- the fields name what they name in the specification, as the operation code is one that it knows
-same_named : (cdb : Cdb) → named_cdb (cdb_bytes cdb) ≡ back.named_cdb (cdb_bytes cdb)
-same_named TestUnitReady = refl
-same_named other = refl
-
--- the command that a command's bytes name is that command
-pub again : (cdb : Cdb) → IsCdb cdb → named_cdb (cdb_bytes cdb) ≡ Some cdb
-again cdb h = same_named cdb ∙ back.again cdb h
 
 -- bytes that are those of a command name that command
 pub written_named : (cdb : Cdb) (bytes : List ℕ) → Writes cdb bytes → named_cdb bytes ≡ Some cdb

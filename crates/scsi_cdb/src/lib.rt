@@ -4,19 +4,21 @@
 ghost use Rattle.std.specs.Prelude.{◌≡◌, ◌↔◌, slice_index, Some, IfOk, IfErr, IsTrue};
 ghost use Rattle.ufs_spec.specs.Cdbs.{cdb_bytes, fixed_sense, IsKnownOperation, IsTakenCdb, IsTakenOperation, SpellsCdb};
 ghost use Rattle.ufs_spec.specs.declared.Cdb.{Cdb};
-ghost use Rattle.scsi_cdb.specs.Reading.{named_cdb, named_six, named_ten, named_twelve, HasSelection, Writes};
+ghost use Rattle.ufs_spec.specs.CdbFields.{is_forced, is_immediate, named_cdb, named_six, named_ten, named_twelve};
+ghost use Rattle.scsi_cdb.specs.Reading.{HasSelection, Writes};
+
+pub use laws::{one_cdb, one_operation, worked_bytes, worked_residuals};
+use ufs_spec::{Cdb, Sense, read_u16, read_u32};
 
 mod laws;
 mod operations;
 mod spelling;
 
-pub use laws::{one_cdb, one_operation, worked_bytes, worked_residuals};
 use operations::{
     INQUIRY, READ_6, READ_10, READ_CAPACITY_10, REPORT_LUNS, REQUEST_SENSE, SECURITY_IN,
     SECURITY_OUT, SYNCHRONIZE_CACHE_10, TEST_UNIT_READY, UNMAP, WRITE_6, WRITE_10,
 };
 use spelling::bytes_of;
-use ufs_spec::{Cdb, Sense, read_u16, read_u32};
 
 /// FUA, bit 3 of byte 1.
 const FUA: u8 = 0x08;
@@ -120,8 +122,8 @@ fn ten_in(bytes: &[u8; 16]) -> Option<Cdb>
 {
     let address = read_u32(bytes, 2);
     let blocks = read_u16(bytes, 7);
-    let forced = bytes[1] & FUA != 0;
-    let immediate = bytes[1] & IMMED != 0;
+    let forced = is_forced(bytes);
+    let immediate = is_immediate(bytes);
     match bytes[0] {
         READ_CAPACITY_10 => Some(Cdb::ReadCapacity10),
         READ_10 => Some(Cdb::Read10 {
@@ -144,6 +146,20 @@ fn ten_in(bytes: &[u8; 16]) -> Option<Cdb>
         }),
         _ => None,
     }
+}
+
+// Whether FUA is set.
+fn is_forced(bytes: &[u8; 16]) -> bool
+    ensures { result ≡ is_forced bytes.now }
+{
+    bytes[1] & FUA != 0
+}
+
+// Whether IMMED is set.
+fn is_immediate(bytes: &[u8; 16]) -> bool
+    ensures { result ≡ is_immediate bytes.now }
+{
+    bytes[1] & IMMED != 0
 }
 
 // The command of twelve bytes that the fields name.

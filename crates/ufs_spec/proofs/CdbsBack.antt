@@ -1,51 +1,18 @@
 -- Each command is read back from its sixteen bytes, so no two commands have the same.
-use Rattle.std.proofs.Common.{◌≡◌, ◌<◌, ◌+◌, ◌*◌, ◌^◌, ◌==◌, not, ℕ, Bool, true, false, cond, List, ◌∷◌, ◌++◌, drop}
-use Rattle.std.proofs.Common.{replicate, slice_index, Option, Some, None, refl, sym, ap, ◌∙◌, arith}
-use Rattle.std.specs.Prelude.{bit_and}
+use Rattle.std.proofs.Common.{◌≡◌, ◌<◌, ◌+◌, ◌*◌, ◌^◌, ℕ, Bool, true, false, List, ◌∷◌, ◌++◌, drop}
+use Rattle.std.proofs.Common.{replicate, slice_index, Some, refl, sym, ap, ◌∙◌, arith}
 use Rattle.std.proofs.lemmas.Nat.{and_mask}
 use Rattle.byteorder.specs.Numbers.{big_number-reads_back}
 use Rattle.byteorder.specs.Endian.{big_bytes, big_from}
 use Rattle.ufs_spec.proofs.Facts.{same_Some}
+use Rattle.ufs_spec.specs.CdbFields.{is_forced, is_immediate, named_cdb, six_address}
 use Rattle.ufs_spec.specs.Fields.{field_at}
-use Rattle.ufs_spec.specs.Cdbs.{IsCdb, cdb_bytes, forced_bit, immediate_bit, inquiry, operation_of, read_10, read_6}
-use Rattle.ufs_spec.specs.Cdbs.{read_capacity_10, report_luns, request_sense, security_in, security_out}
-use Rattle.ufs_spec.specs.Cdbs.{synchronize_cache_10, ten_bytes, test_unit_ready, unmap, write_10, write_6}
+use Rattle.ufs_spec.specs.Cdbs.{IsCdb, cdb_bytes, forced_bit, immediate_bit, operation_of, read_10, read_6}
+use Rattle.ufs_spec.specs.Cdbs.{synchronize_cache_10, ten_bytes, write_10, write_6}
 use Rattle.ufs_spec.specs.declared.scsi.Cdb.{Cdb}
-use Rattle.ufs_spec.specs.declared.scsi.Cdb.TheVariants.{TestUnitReady, RequestSense, Read6, Write6, Inquiry}
-use Rattle.ufs_spec.specs.declared.scsi.Cdb.TheVariants.{ReadCapacity10, Read10, Write10, SynchronizeCache10, Unmap}
+use Rattle.ufs_spec.specs.declared.scsi.Cdb.TheVariants.{TestUnitReady, Read6, Write6, Inquiry}
+use Rattle.ufs_spec.specs.declared.scsi.Cdb.TheVariants.{Read10, Write10, SynchronizeCache10, Unmap}
 use Rattle.ufs_spec.specs.declared.scsi.Cdb.TheVariants.{ReportLuns, SecurityIn, SecurityOut}
-
--- ## What the fields name
-
-abbrev pub six_address : List ℕ → ℕ
-six_address bytes = bit_and (field_at 4 0 bytes) 0x1FFFFF
-
-abbrev pub is_forced : List ℕ → Bool
-is_forced bytes = not (bit_and (slice_index bytes 1) 0x08 == 0)
-
-abbrev pub is_immediate : List ℕ → Bool
-is_immediate bytes = not (bit_and (slice_index bytes 1) 0x02 == 0)
-
--- the command that the fields name, if the operation code is known
-abbrev pub cdb_named : ℕ → List ℕ → Option Cdb
-cdb_named operation bytes =
-    cond (operation == test_unit_ready) (Some TestUnitReady)
-    (cond (operation == request_sense) (Some (RequestSense (slice_index bytes 4)))
-    (cond (operation == read_6) (Some (Read6 (six_address bytes) (slice_index bytes 4)))
-    (cond (operation == write_6) (Some (Write6 (six_address bytes) (slice_index bytes 4)))
-    (cond (operation == inquiry) (Some (Inquiry (field_at 2 3 bytes)))
-    (cond (operation == read_capacity_10) (Some ReadCapacity10)
-    (cond (operation == read_10) (Some (Read10 (field_at 4 2 bytes) (field_at 2 7 bytes) (is_forced bytes)))
-    (cond (operation == write_10) (Some (Write10 (field_at 4 2 bytes) (field_at 2 7 bytes) (is_forced bytes)))
-    (cond (operation == synchronize_cache_10)
-    (Some (SynchronizeCache10 (field_at 4 2 bytes) (field_at 2 7 bytes) (is_immediate bytes)))
-    (cond (operation == unmap) (Some (Unmap (field_at 2 7 bytes)))
-    (cond (operation == report_luns) (Some (ReportLuns (slice_index bytes 2) (field_at 4 6 bytes)))
-    (cond (operation == security_in) (Some (SecurityIn (field_at 4 6 bytes)))
-    (cond (operation == security_out) (Some (SecurityOut (field_at 4 6 bytes))) None))))))))))))
-
-abbrev pub named_cdb : List ℕ → Option Cdb
-named_cdb bytes = cdb_named (slice_index bytes 0) bytes
 
 -- the first byte is the operation code
 pub first_byte : (cdb : Cdb) → slice_index (cdb_bytes cdb) 0 ≡ operation_of cdb

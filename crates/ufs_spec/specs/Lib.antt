@@ -1,3 +1,4 @@
+pub mod CdbFields
 pub mod Cdbs
 pub mod Cells
 pub mod Commands

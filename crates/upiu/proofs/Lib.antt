@@ -1,1 +1,2 @@
+pub mod FirstFault
 pub mod Spelled

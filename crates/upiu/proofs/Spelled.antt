@@ -17,9 +17,7 @@ use Rattle.ufs_spec.specs.Stages.{read_codes}
 use Rattle.ufs_spec.specs.declared.faults.HostFault.{HostFault}
 use Rattle.ufs_spec.specs.declared.faults.HostFault.TheVariants.{Short, Length, Digest, Ehs, Code}
 use Rattle.ufs_spec.specs.declared.messages.Message.{Message}
-use Rattle.ufs_spec.specs.declared.messages.Message.TheVariants.{NopOut, Command, DataOut, TaskRequest, QueryRequest}
-use Rattle.ufs_spec.specs.declared.messages.Message.TheVariants.{NopIn, Response, DataIn, TaskResponse, ReadyToTransfer}
-use Rattle.ufs_spec.specs.declared.messages.Message.TheVariants.{QueryResponse}
+use Rattle.ufs_spec.specs.declared.messages.Message.TheVariants.{Command, DataOut}
 use Rattle.upiu.specs.Reading.{HasFlags, Passes, named_command, named_data_out, named_message}
 use Rattle.ufs_spec.proofs.FieldRanges.{field_fits}
 

@@ -1,6 +1,8 @@
 //! What is wrong with the bytes of a message, before its fields are read.
 ghost use Rattle.std.specs.Prelude.{◌≡◌, ◌≤◌, length};
-ghost use Rattle.ufs_spec.specs.Messages.{code_of, has_wrong_length, may_have, read_fault_of, segment_length};
+ghost use Rattle.ufs_spec.specs.Messages.{code_of, has_digest, has_extra_header, has_wrong_length, is_among, may_have};
+ghost use Rattle.ufs_spec.specs.Messages.{read_fault_of, segment_length};
+ghost use Rattle.ufs_spec.specs.Stages.{read_codes};
 
 use ufs_spec::{HostFault, read_u16, read_u32};
 
@@ -12,6 +14,9 @@ pub const COMMAND: u8 = 0x01;
 
 /// The transaction code of a DATA OUT.
 pub const DATA_OUT: u8 = 0x02;
+
+// The bytes of the longest data segment.
+const LONGEST: usize = 4096;
 
 // Bits 5 to 0 of byte 0.
 const CODE_BITS: u8 = 0x3F;
@@ -28,11 +33,11 @@ pub fn first_fault(bytes: &[u8]) -> Option<HostFault>
         Some(HostFault::Short)
     } else if is_wrong_length(bytes) {
         Some(HostFault::Length)
-    } else if bytes[0] & DIGEST_BITS != 0 {
+    } else if has_digest(bytes) {
         Some(HostFault::Digest)
-    } else if bytes[8] != 0 {
+    } else if has_extra_header(bytes) {
         Some(HostFault::Ehs)
-    } else if !matches!(code(bytes), COMMAND | DATA_OUT) {
+    } else if !is_read(code(bytes)) {
         Some(HostFault::Code)
     } else {
         None
@@ -55,6 +60,29 @@ pub fn stated_length(bytes: &[u8]) -> usize
     usize::from(read_u16(bytes, 10))
 }
 
+// Whether the header tells of a digest of itself or of the data.
+fn has_digest(bytes: &[u8]) -> bool
+    requires { HEADER ≤ length bytes.now }
+    ensures { result ≡ has_digest bytes.now }
+{
+    bytes[0] & DIGEST_BITS != 0
+}
+
+// Whether the header tells of an extra header segment.
+fn has_extra_header(bytes: &[u8]) -> bool
+    requires { HEADER ≤ length bytes.now }
+    ensures { result ≡ has_extra_header bytes.now }
+{
+    bytes[8] != 0
+}
+
+// Whether messages of this code are read.
+fn is_read(code: u8) -> bool
+    ensures { result ≡ is_among read_codes code }
+{
+    matches!(code, COMMAND | DATA_OUT)
+}
+
 // Whether the data segment is too long, is not of a length that the message's kind may have, or is
 // not what follows the header, padded to a multiple of four.
 fn is_wrong_length(bytes: &[u8]) -> bool
@@ -63,7 +91,7 @@ fn is_wrong_length(bytes: &[u8]) -> bool
 {
     let segment = stated_length(bytes);
     let padding = (4 - segment % 4) % 4;
-    segment > 4096 || !can_have(bytes, segment) || bytes.len() != HEADER + segment + padding
+    segment > LONGEST || !can_have(bytes, segment) || bytes.len() != HEADER + segment + padding
 }
 
 // Whether a message of this kind may have a data segment of this length. A code that is no kind's

@@ -2,12 +2,11 @@
 -- lock is told here, and nothing else is to be shown of a call.
 use Rattle.std.proofs.Common.{◌≡◌, ◌∙◌, ℕ, ◌+◌, ◌-◌, ◌≤◌, Bool, true, false, cond, All, List, [], ◌∷◌, map, refl, sym}
 use Rattle.std.proofs.Common.{ap, subst, arith}
-use Rattle.std.specs.Prelude.{if◌then◌else◌, nat_lt, nat_le}
+use Rattle.std.specs.Prelude.{nat_lt, nat_le}
 use Rattle.std.proofs.lemmas.Bool.Decides.{nat_tests}
 use Rattle.std.proofs.lemmas.List.{length-map}
 use Rattle.std.proofs.lemmas.List.Elements.{All-cons, All-head, All-nil, All-tail}
 use Rattle.ufs_spec.proofs.Facts.{false≢true}
-use Rattle.ufs_spec.specs.Exchanges as exchange
 use Rattle.ufs_spec.specs.Exchanges.{Answering, Awaiting, Deed, Gathering, Sending, SendingBytes, Short}
 use Rattle.ufs_spec.specs.Ledger.{before_accepted}
 use Rattle.ufs_spec.specs.Machine.{Allowed, Answer, Call, behind, deed_locked, durable, lock_applied, observe}
@@ -20,20 +19,22 @@ use Rattle.power_loss.specs.Exchange.{IsTied, MayCome}
 use Rattle.power_loss.specs.Shown.{ShowsReads}
 use Rattle.power_loss.proofs.calls.CallsKeepTied.{call_keeps}
 use Rattle.power_loss.proofs.shown_blocks.LivesShowBlocks.{call_shows}
-use Rattle.ftl_core.specs.Describes as layer_kept
 use Rattle.device.specs.declared.tasks.Phase.{Phase}
-use Rattle.device.specs.declared.tasks.Phase.TheVariants as phase
 use Rattle.device.specs.declared.tasks.Refused.{Refused}
-use Rattle.device.specs.declared.tasks.Status.TheVariants as status
 use Rattle.device.specs.declared.tasks.Task.{Task}
-use Rattle.device.specs.Calls.{lock_told, waiting_ended}
+use Rattle.device.specs.Calls.{lock_told}
 use Rattle.device.specs.Describes.{Describes, IsAnswered, IsDoing, IsTold, IsToldIn, Keeps, TaskKept, progress_in}
 use Rattle.device.specs.Describes.{short_kept}
 use Rattle.device.specs.Kept.{DeviceCore}
-use Rattle.device.specs.Tasks.{after_lock, locked_phase, write_error}
-use Rattle.device.proofs.described.Layer.{locks_right}
+use Rattle.device.specs.Tasks.{write_error, phase_after, task_after}
 use Rattle.device.proofs.open_tasks.OpenTasks.{each_changed, no_requests}
 use Rattle.device.proofs.open_tasks.ReadProgress.{each_goes_on}
+use Rattle.ftl_core.specs.Limits.{in_this_stage}
+use Rattle.ufs_spec.specs.Exchanges as exchange
+use Rattle.ftl_core.specs.Describes as layer_kept
+use Rattle.device.specs.declared.tasks.Phase.TheVariants as phase
+use Rattle.device.specs.declared.tasks.Status.TheVariants as status
+use Rattle.device.specs.declared.tasks.TaskEvent.TheVariants as event
 
 -- Once the lock is told
 
@@ -119,7 +120,7 @@ deed_kept : (s : State) (frontier expected : ℕ) (task : exchange.Task) (p : Ph
     frontier ≡ s.translation.ledger.frontier →
     before_accepted s.translation.ledger ≤ s.translation.ledger.frontier →
     IsDoing (before_accepted s.translation.ledger) expected task.length p deed →
-    IsDoing (before_accepted s.translation.ledger) expected task.length (locked_phase frontier p)
+    IsDoing (before_accepted s.translation.ledger) expected task.length (phase_after p (event.Locked frontier))
     (deed_locked s task deed)
 deed_kept s frontier expected task (phase.AwaitFrontier n) (Awaiting commands) same low h =
     subst (λ b. IsDoing before expected task.length (cond b failed (phase.AwaitFrontier n))
@@ -147,7 +148,7 @@ deed_kept s frontier expected task p deed same low h = absurd h
 task_kept : (s : State) (frontier : ℕ) (a : Task) (b : exchange.Task) → frontier ≡ s.translation.ledger.frontier →
     before_accepted s.translation.ledger ≤ s.translation.ledger.frontier →
     TaskKept (before_accepted s.translation.ledger) a b →
-    TaskKept (before_accepted s.translation.ledger) (after_lock frontier a) (task_locked s b)
+    TaskKept (before_accepted s.translation.ledger) (task_after (event.Locked frontier) a) (task_locked s b)
 task_kept s frontier a b same low h = record {
   lun = h.lun;
   tag = h.tag;
@@ -157,13 +158,13 @@ task_kept s frontier a b same low h = record {
 }
 
 keeps_locked : (e : DeviceCore) (s : State) → Keeps e s →
-    Keeps (record e { tasks = map (after_lock s.translation.ledger.frontier) e.tasks }) (with_lock s)
+    Keeps (record e { tasks = map (task_after (event.Locked s.translation.ledger.frontier)) e.tasks }) (with_lock s)
 keeps_locked e s k = record {
   unprotected = k.unprotected;
   layer_kept = k.layer_kept;
   few = subst (λ n. n ≤ most_tasks) (sym (length-map s.tasks (task_locked s))) k.few;
   tasks =
-      each_changed before before (after_lock frontier) (task_locked s) e.tasks s.tasks
+      each_changed before before (task_after (event.Locked frontier)) (task_locked s) e.tasks s.tasks
       (λ j a b at h. task_kept s frontier a b refl low h) k.tasks;
   blocks = λ tag. k.blocks tag
       ∙ sym (each_goes_on (task_locked s) s.tasks tag (λ x. refl) (λ x. same_progress s x x.deed));
@@ -180,7 +181,7 @@ keeps_locked e s k = record {
     low : before_accepted s.translation.ledger ≤ s.translation.ledger.frontier
     low =
         let above = k.layer_kept.valid.frontier.above in
-        let none = k.layer_kept.kept.ledger_kept.repairs in
+        let none = (in_this_stage e.ftl s.translation k.layer_kept).repairs in
         omega arith
 
 -- what is kept while a call is answered describes the state once both sides told the lock
@@ -189,7 +190,8 @@ describes_told : (e : DeviceCore) (s : State) → IsTied (lock_applied s) → Sh
 describes_told e s tied shows k = by (locked s) refl tied shows
   where
     by : (b : Bool) → locked s ≡ b → IsTied (cond b (with_lock s) s) → ShowsReads (cond b (with_lock s) s) →
-        Describes (cond b (record e { tasks = map (after_lock s.translation.ledger.frontier) e.tasks }) e)
+        Describes
+        (cond b (record e { tasks = map (task_after (event.Locked s.translation.ledger.frontier)) e.tasks }) e)
         (cond b (with_lock s) s)
     by true is v w = record { tied = v; shows = w; kept = keeps_locked e s k; told = λ l. all_told s s.tasks }
     by false is v w = record { tied = v; shows = w; kept = k; told = λ l. absurd (false≢true (sym is ∙ l)) }
@@ -251,14 +253,6 @@ pub answered_as : (d e : DeviceCore) (s v : State) (call : Call) (answer : Answe
     behind s call answer ≡ v → IsBehind e v → IsAnswered s call answer e
 answered_as d e s v call answer h may right is b =
     answered d e s call answer h may right (subst (IsBehind e) (sym is) b)
-
-pub answered_told_as : (d e : DeviceCore) (s v : State) (call : Call) (answer : Answer) → Describes d s →
-    MayCome s call →
-    Allowed s call answer → behind s call answer ≡ v → Keeps e v → IsAnswered s call answer (waiting_ended e)
-answered_told_as d e s v call answer h may right is k =
-    answered_told d e (waiting_ended e) s call answer h may right (subst (Keeps e) (sym is) k)
-    (λ t layer i. if locks_right e.ftl t layer i
-    then record e { tasks = map (after_lock (layer.kept.ledger_kept.frontier i)) e.tasks } else e)
 
 -- a state that stays
 pub stays : (d : DeviceCore) (s : State) → Describes d s → IsBehind d s

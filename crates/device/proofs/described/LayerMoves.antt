@@ -1,21 +1,21 @@
 -- Where only the translation layer moves, what the device keeps of the tasks stays, if the move leaves what it is to
 -- them.
-use Rattle.std.proofs.Common.{◌≡◌, ◌∙◌, ◌⊎◌, ℕ, Bool, true, false, List, Option, Some, None, refl, sym, ap, subst, inl}
-use Rattle.std.proofs.Common.{inr}
-use Rattle.std.specs.Prelude.{if◌then◌else◌, is_none}
-use Rattle.ufs_spec.specs.Cells.{Array, GroupPage, MarkPage, Nothing}
+use Rattle.std.proofs.Common.{◌≡◌, ◌∙◌, ℕ, Bool, true, false, List, ◌∷◌, Option, None, refl, sym, ap, subst}
+use Rattle.std.specs.Prelude.{if◌then◌else◌}
+use Rattle.ufs_spec.specs.Cells.{Array, Cell, GroupPage, MarkPage, Nothing}
 use Rattle.ufs_spec.specs.Disk.{Erasing, Flight, ForNobody, ForRest, ForStep, ForTask, Programming, Reading}
 use Rattle.ufs_spec.specs.Disk.{program_failed}
 use Rattle.ufs_spec.specs.Ledger.{before_accepted, page_stands}
-use Rattle.ufs_spec.specs.Moves.{Ending, ReadRight, ReadWrong, WentWell, WentWrong, TakeStep, job_ended, moved}
-use Rattle.ufs_spec.specs.Moves.{settled_pin}
+use Rattle.ufs_spec.specs.Moves.{Ending, ReadRight, WentWell, WentWrong, TakeStep, job_ended, moved, settled_pin}
 use Rattle.ufs_spec.specs.Refusals.{State}
 use Rattle.ufs_spec.specs.Translation as layer
-use Rattle.ufs_spec.specs.Translation.{Mended, Mending, OrderMark, Plan, Translation, due_order, has_mark_number}
-use Rattle.ufs_spec.specs.Translation.{mark_ordered, name_of, next_order, stepped}
+use Rattle.ufs_spec.specs.Translation.{Order, OrderCopy, OrderRepair, Translation, copy_begun, has_mark_number}
+use Rattle.ufs_spec.specs.Translation.{mark_ordered, name_of, ordered, with_plan}
+use Rattle.ufs_spec.specs.declared.flash.Place.{Place}
+use Rattle.ufs_laws.proofs.walk.LayerEffects.{IsDue, order_due, turned_if}
 use Rattle.ftl_core.specs.Core.{Core}
 use Rattle.ftl_core.specs.Describes as layer_kept
-use Rattle.ftl_core.specs.Describes.{Kept, mending_kept}
+use Rattle.ftl_core.specs.Limits.{InThisStage}
 use Rattle.device.specs.Describes.{Keeps, TasksKept}
 use Rattle.device.specs.Kept.{DeviceCore}
 use Rattle.device.proofs.open_tasks.ReadProgress.{progress, read_for, wanted_for, wanted_same}
@@ -68,53 +68,38 @@ job_leaves t die (Reading (ForTask tag index) place) ending none = absurd none
 job_leaves t die (Reading ForStep place) ending none = absurd none
 job_leaves t die (Reading (ForRest number index) place) ending none = absurd none
 job_leaves t die (Reading ForNobody place) ReadRight none = record { before = refl; wanted = λ n. refl }
-job_leaves t die (Reading ForNobody place) ReadWrong none = record { before = refl; wanted = λ n. refl }
 job_leaves t die (Programming place Nothing) WentWell none = record { before = refl; wanted = λ n. refl }
-job_leaves t die (Programming place (MarkPage m)) WentWell none = record { before = refl; wanted = λ n. refl }
-job_leaves t die (Programming place Nothing) (WentWrong left) none = record { before = refl; wanted = λ n. refl }
-job_leaves t die (Programming place (GroupPage tag body)) (WentWrong left) none =
-    record { before = refl; wanted = λ n. refl }
 job_leaves t die (Erasing spot) WentWell none = record { before = refl; wanted = λ n. refl }
-job_leaves t die (Erasing spot) (WentWrong left) none = record { before = refl; wanted = λ n. refl }
 job_leaves t die flight ending none = record { before = refl; wanted = λ n. refl }
 
--- A step: in this stage it orders a mark, or nothing
+-- A step
 
-next_is : (t : Translation) (mended : Bool) (plan : _) → plan ≡ None →
-    (next_order t (mending_kept mended) plan ≡ None) ⊎ (next_order t (mending_kept mended) plan ≡ Some (OrderMark None))
-next_is t true plan none = inl (ap (next_order t Mended) none)
-next_is t false plan none = by (has_mark_number t)
-  where
-    by : (b : Bool) → ((if b then Some (OrderMark None) else None) ≡ None)
-        ⊎ ((if b then Some (OrderMark None) else None) ≡ Some (OrderMark None))
-    by true = inr refl
-    by false = inl refl
-
-due_is : (c : Core) (t : Translation) → Kept c t → (due_order t ≡ None) ⊎ (due_order t ≡ Some (OrderMark None))
-due_is c t kept =
-    by (is_none t.work.step)
-    (subst (λ (m : Mending). (next_order t m t.work.plan ≡ None) ⊎ (next_order t m t.work.plan ≡ Some (OrderMark None)))
-    (sym kept.work.mending)
-    (next_is t c.mended t.work.plan kept.work.no_plan))
-  where
-    by : (b : Bool) → (next_order t t.work.mending t.work.plan ≡ None)
-        ⊎ (next_order t t.work.mending t.work.plan ≡ Some (OrderMark None)) →
-        ((if b then next_order t t.work.mending t.work.plan else None) ≡ None)
-        ⊎ ((if b then next_order t t.work.mending t.work.plan else None) ≡ Some (OrderMark None))
-    by true order = order
-    by false order = inl refl
-
--- what a step is to the tasks; it locks nothing
+-- what a step is to the tasks, where it is no repair; it locks nothing
 pub record StepLeaves (t u : Translation) : Type 0 where
   pub leaves : Leaves t u
   pub frontier : u.ledger.frontier ≡ t.ledger.frontier
   pub lock : layer.is_locked u ≡ layer.is_locked t
 
-pub step_leaves : (c : Core) (t : Translation) → Kept c t → StepLeaves t (moved t TakeStep)
-step_leaves c t kept = by (due_is c t kept)
-  where
-    by : (due_order t ≡ None) ⊎ (due_order t ≡ Some (OrderMark None)) → StepLeaves t (moved t TakeStep)
-    by (inl e) = subst (StepLeaves t) (sym (ap (stepped t) e))
-        (record { leaves = record { before = refl; wanted = λ n. refl }; frontier = refl; lock = refl })
-    by (inr e) = subst (StepLeaves t) (sym (ap (stepped t) e))
-        (record { leaves = record { before = refl; wanted = λ n. refl }; frontier = refl; lock = refl })
+copy_leaves : (t : Translation) (p : Place) (cell : Cell) → StepLeaves t (copy_begun t p cell)
+copy_leaves t p (GroupPage tag body) =
+    record { leaves = record { before = refl; wanted = λ n. refl }; frontier = refl; lock = refl }
+copy_leaves t p cell =
+    record { leaves = record { before = refl; wanted = λ n. refl }; frontier = refl; lock = refl }
+
+order_leaves : (t : Translation) (o : Order) → InThisStage t → IsDue t o → StepLeaves t (ordered t o)
+order_leaves t (OrderRepair k left) stage due = absurd (stage.mending (k ∷ left) due.1)
+order_leaves t (OrderCopy victim p left) stage due =
+    let h = copy_leaves (with_plan t victim left) p (t.disk.cells p) in
+    record {
+      leaves = record { before = h.leaves.before; wanted = h.leaves.wanted };
+      frontier = h.frontier;
+      lock = h.lock;
+    }
+order_leaves t order stage due =
+    record { leaves = record { before = refl; wanted = λ n. refl }; frontier = refl; lock = refl }
+
+pub step_leaves : (t : Translation) → InThisStage t → StepLeaves t (moved t TakeStep)
+step_leaves t stage =
+    turned_if (StepLeaves t) t
+    (λ none. record { leaves = record { before = refl; wanted = λ n. refl }; frontier = refl; lock = refl })
+    (λ o due. order_leaves t o stage (order_due t o due).1)

@@ -7,9 +7,6 @@ use Rattle.device.specs.Describes.{Describes}
 use Rattle.device.specs.Kept.{DeviceCore, WorldState}
 use Rattle.device.specs.Worlds.{Fits}
 
-pub layer_is : (d : DeviceCore) (s : State) → Describes d s → layer.Describes d.ftl s.translation
-layer_is d s h = h.kept.layer_kept
-
 pub same_layer : (x y : DeviceCore) (t : Translation) → x ≡ y → layer.Describes y.ftl t → layer.Describes x.ftl t
 same_layer x y t same h = subst (λ (d : DeviceCore). layer.Describes d.ftl t) (sym same) h
 

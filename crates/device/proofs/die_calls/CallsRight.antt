@@ -24,18 +24,17 @@ use Rattle.ufs_spec.specs.declared.flash.Job.{Job}
 use Rattle.ufs_spec.specs.declared.flash.Outcome.{Outcome}
 use Rattle.ufs_spec.specs.declared.flash.Place.{Place}
 use Rattle.ufs_laws.proofs.array_cells.CrashedCells.{cell_crash}
-use Rattle.ufs_laws.proofs.new_dies.FirstLife.{base_is_zero, none_there}
+use Rattle.ufs_laws.proofs.new_dies.FirstLife.{base_is_zero}
 use Rattle.ufs_laws.proofs.plain_contents.ListParts.{made_of}
 use Rattle.ufs_laws.proofs.array_cells.StandsForSomething.{new_sound}
 use Rattle.power_loss.specs.Exchange.{IsTied}
 use Rattle.power_loss.proofs.openings.OpenedStates.{opened_state as opened_valid}
-use Rattle.power_loss.proofs.stops.SealedCells.{ranges_of}
 use Rattle.ftl_core.specs.Core.{Core}
 use Rattle.ftl_core.specs.Describes as layer_kept
+use Rattle.ftl_core.specs.Limits.{in_this_stage}
 use Rattle.device.specs.Describes.{Describes, IsAnswered, IsGiven, TasksKept, IsTold, Keeps, progress_kept, progress_of}
-use Rattle.device.specs.Kept.{DeviceCore, new_device}
+use Rattle.device.specs.Kept.{DeviceCore, idle_device}
 use Rattle.device.proofs.die_calls.EndsTold.{ending_fits}
-use Rattle.device.proofs.described.Layer as its_layer
 use Rattle.std.proofs.lemmas.List.Elements.{All-nil}
 use Rattle.ufs_spec.specs.Ledger.{before_accepted}
 use Rattle.ufs_spec.specs.Stages.{most_tasks}
@@ -115,7 +114,7 @@ pub turns_right : (d : DeviceCore) (s : State) (due : Bool) (after : Core) → D
     layer_kept.Describes after (moved s.translation TakeStep) →
     IsAnswered s Turn (OfTurn due) (record d { ftl = after })
 turns_right d s due after h is layer =
-    let step = step_leaves d.ftl s.translation h.kept.layer_kept.kept in
+    let step = step_leaves s.translation (in_this_stage d.ftl s.translation h.kept.layer_kept) in
     answered d (record d { ftl = after }) s Turn (OfTurn due) h tt is
     (record {
       keeps = layer_moves d after s s.array (moved s.translation TakeStep) h.kept layer step.leaves;
@@ -123,39 +122,13 @@ turns_right d s due after h is layer =
           (h.told (sym step.lock ∙ lock));
     })
 
--- Blocks that are bad
-
-map_joined : {X Y Z : Type 0} (f : Y → Z) (g : X → List Y) (xs : List X) →
-    map f (flat_map g xs) ≡ flat_map (λ x. map f (g x)) xs
-map_joined f g [] = refl
-map_joined {X} {Y} {Z} f g (x ∷ xs) = map-append f (g x) (flat_map g xs) ∙ ap (λ (zs : List Z). map f (g x) ++ zs)
-    (map_joined f g xs)
-
-pub bad_listed : (n : Numbers) (dies : List DieState) → length dies ≡ n.dies →
-    flat_map (λ (die : DieState). map (is_bad_block die) (below n.blocks)) dies ≡ map (bad_of dies) (spots n)
-bad_listed n dies all =
-    let die_at : ℕ → DieState = λ k. slice_index_or dies k (new_die 0 0) in
-    let row : DieState → List Bool = λ die. map (is_bad_block die) (below n.blocks) in
-    let listed : map die_at (below n.dies) ≡ dies =
-    made_of die_at n.dies dies all (λ i d lt. get_or_default dies i (new_die 0 0) d (omega arith)) in
-    let each : (λ (die : ℕ). map (bad_of dies) (map (λ (block : ℕ). record { die = die; block = block })
-    (below n.blocks))) ≡ (λ (die : ℕ). row (die_at die)) =
-    λ i die. map_twice (bad_of dies) (λ (block : ℕ). record { die = die; block = block }) (below n.blocks) i in
-    ap (flat_map row) (sym listed)
-    ∙ (flat_map-map row die_at (below n.dies)
-    ∙ (ap (λ (f : ℕ → List Bool). flat_map f (below n.dies)) (sym each)
-    ∙ sym (map_joined (bad_of dies) (λ (die : ℕ). map (λ (block : ℕ). record { die = die; block = block })
-    (below n.blocks)) (below n.dies))))
-
 -- A new device
 
-pub opens_right : (n : Numbers) (array : Array) (bad : Spot → Bool) (s : State) → IsConfig n →
-    ((p : Place) → array p ≡ blank_page) → IsOpened n array bad s →
-    Describes (new_device n (map bad (spots n))) s
-opens_right n array bad s config blank opened =
+pub opens_right : (n : Numbers) (array : Array) (bad : Spot → Bool) (s : State) (layer : Core) → IsConfig n →
+    ((p : Place) → array p ≡ blank_page) → IsOpened n array bad s → layer_kept.Describes layer s.translation →
+    Describes (idle_device layer) s
+opens_right n array bad s layer config blank opened kept =
     let t = s.translation in
-    let ranges = ranges_of n config in
-    let pages = ranges.has_pages in
     record {
       tied = (opened_valid n array bad s config (λ p outside. blank p) (new_sound array blank) opened).tied;
       shows = opened_shows n array bad s opened;
@@ -163,8 +136,7 @@ opens_right n array bad s config blank opened =
         unprotected =
             ap (λ (commands : List Command). (after_all s.base commands).permanent) opened.none_accepted
             ∙ ap (λ (base : Plain). base.permanent) (base_is_zero n array bad s blank opened);
-        layer_kept = its_layer.opens_right n opened.cells bad t (omega arith) (none_there n array bad s blank opened)
-            opened.translation;
+        layer_kept = kept;
         few = subst (λ us. length us ≤ most_tasks) (sym opened.no_tasks) (omega arith);
         tasks = subst (TasksKept (before_accepted t.ledger) []) (sym opened.no_tasks) tt;
         blocks = λ tag. ap (λ (pins : List Pin). progress_kept pins [] tag) opened.translation.no_pins

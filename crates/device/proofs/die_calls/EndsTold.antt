@@ -7,7 +7,7 @@ use Rattle.std.proofs.lemmas.List.Elements.{All-contains}
 use Rattle.ufs_spec.proofs.Facts.{and_parts, eqb-true, none-some, same_Some}
 use Rattle.ufs_spec.specs.Cells.{Array, Cell, Cells, GroupPage}
 use Rattle.ufs_spec.specs.Disk.{Erasing, Flight, ForNobody, ForTask, Programming, Reader, Reading}
-use Rattle.ufs_spec.specs.Exchanges.{NotRead, ReadState, WasRead, is_task_of, task_of}
+use Rattle.ufs_spec.specs.Exchanges.{NotRead, ReadState, Sending, WasRead, is_task_of, task_of}
 use Rattle.ufs_spec.specs.Ledger.{before_accepted}
 use Rattle.ufs_spec.specs.Machine.{Done, MayLeave, OfDone, array_behind, deed_read, ends_with, read_noted_behind}
 use Rattle.ufs_spec.specs.Machine.{task_read, with_moves}
@@ -35,9 +35,8 @@ use Rattle.ftl_core.specs.declared.ftl.Ended.{Ended}
 use Rattle.ftl_core.specs.declared.ftl.Ended.TheVariants as ended
 use Rattle.device.specs.declared.tasks.Loaded.{Loaded}
 use Rattle.device.specs.Calls.{lock_told, told}
-use Rattle.device.specs.Describes.{Describes, IsAnswered, Keeps, TasksKept, progress_kept, progress_in, progress_of}
+use Rattle.device.specs.Describes.{Describes, IsAnswered, Keeps, progress_kept, progress_in, progress_of}
 use Rattle.device.specs.Kept.{DeviceCore}
-use Rattle.device.specs.Tasks.{after_lost_read}
 use Rattle.device.proofs.described.Answered.{answered_told}
 use Rattle.device.proofs.open_tasks.FewRead.{has_room}
 use Rattle.device.proofs.described.LayerMoves.{IsForNone, Leaves, job_leaves, layer_moves}
@@ -116,106 +115,89 @@ read_state s tag state array u = record s {
   translation = u;
 }
 
-module _ (d : DeviceCore) (s : State) (tag index : ℕ) (place : Place) (after : Core) (h : Describes d s)
-    (w : IsAwaited s.translation tag index place) where
+module _ (d : DeviceCore) (s : State) (die tag : ℕ) (place : Place) (after : Core) (h : Describes d s)
+    (w : IsAwaited s.translation tag 0 place) where
   abbrev before : ℕ
   before = before_accepted s.translation.ledger
+
+  -- the layer, and the state, once the read ended
+  abbrev over : Ending → Translation
+  over ending = job_ended s.translation die (Reading (ForTask tag 0) place) ending
+
+  abbrev pins : List Pin
+  pins = map (with_wanted tag 0 false) s.translation.pins
 
   reading : IsReading before tag d.tasks s.tasks d.loaded
   reading = is_reading before tag d.tasks s.tasks s.translation.pins d.loaded h.kept.tasks (h.kept.blocks tag)
       (ap (option_map (λ (pin : Pin). pin.wanted)) w.kept ∙ ap (λ b. Some b) w.wanted)
 
   task_is : (state : ReadState) → progress_of (task_of tag (map (task_read tag 0 state) s.tasks)) ≡ progress_in
-      (deed_read 0 state reading.task.deed)
+      (deed_read 0 state (Sending (reading.block ∷ []) 0))
   task_is state =
       one_goes_on (task_read tag 0 state) s.tasks tag reading.task (reads_one tag state).tags reading.found
-      ∙ ap (λ b. progress_in (if b then record reading.task { deed = deed_read 0 state reading.task.deed }
+      ∙ (ap (λ b. progress_in (if b then record reading.task { deed = deed_read 0 state reading.task.deed }
       else reading.task).deed)
       (found_is (is_task_of tag) s.tasks reading.task reading.found)
+      ∙ ap (λ deed. progress_in (deed_read 0 state deed)) reading.deed)
 
-  over : wanted_for tag (map (with_wanted tag 0 false) s.translation.pins) ≡ Some false
-  over = wanted_over tag s.translation.pins w.pin w.kept
+  few : (state : ReadState) → length (map (task_read tag 0 state) s.tasks) ≤ most_tasks
+  few state = subst (λ n. n ≤ most_tasks) (sym (length-map s.tasks (task_read tag 0 state))) h.kept.few
 
-  few_still : (state : ReadState) → length (map (task_read tag 0 state) s.tasks) ≡ length s.tasks
-  few_still state = length-map s.tasks (task_read tag 0 state)
+  -- what is kept for the tag is its task's; what is kept for another is as it was
+  blocks : (state : ReadState) (loaded : List Loaded) → progress_kept pins loaded tag ≡ progress_in
+      (deed_read 0 state (Sending (reading.block ∷ []) 0)) →
+      ((n : ℕ) → (n == tag) ≡ false → read_for n loaded ≡ read_for n d.loaded) →
+      (n : ℕ) → progress_kept pins loaded n ≡ progress_of (task_of n (map (task_read tag 0 state) s.tasks))
+  blocks state loaded this others =
+      by_tag (λ n. progress_kept pins loaded n ≡ progress_of (task_of n (map (task_read tag 0 state) s.tasks))) tag
+      (this ∙ sym (task_is state))
+      (λ n other.
+      (λ i. progress (wanted_else tag n s.translation.pins other i) (others n other i))
+      ∙ (h.kept.blocks n ∙ sym (others_go_on (task_read tag 0 state) s.tasks tag n (reads_one tag state) other)))
 
-  pub right_keeps : (page : Tag) (body : List ℕ) (array : Array) (u : Translation) →
-      s.translation.disk.cells place ≡ GroupPage page body →
-      layer_kept.Describes after u → u.ledger ≡ s.translation.ledger →
-      u.pins ≡ map (with_wanted tag 0 false) s.translation.pins →
-      Keeps (told (record d { ftl = after }) (ended.Read tag (Some body))) (read_state s tag WasRead array u)
-  right_keeps page body array u cell layer ledger pins =
-      subst (λ e. Keeps e (read_state s tag WasRead array u))
-      (sym (loads (record d { ftl = after }) (record { tag = tag; body = body }) (has_room d s h.kept)))
+  unwanted : wanted_for tag pins ≡ Some false
+  unwanted = wanted_over tag s.translation.pins w.pin w.kept
+
+  pub right_keeps : (page : Tag) (body : List ℕ) → s.translation.disk.cells place ≡ GroupPage page body →
+      layer_kept.Describes after (over ReadRight) →
+      Keeps (told (record d { ftl = after }) (ended.Read tag (Some body)))
+      (read_state s tag WasRead s.array (over ReadRight))
+  right_keeps page body cell layer =
+      subst (λ e. Keeps e (read_state s tag WasRead s.array (over ReadRight)))
+      (sym (loads (record d { ftl = after }) new (has_room d s h.kept)))
       (record {
         unprotected = h.kept.unprotected;
         layer_kept = layer;
-        few = subst (λ n. n ≤ most_tasks) (sym (few_still WasRead)) h.kept.few;
-        tasks =
-            subst (λ l. TasksKept (before_accepted l) d.tasks (map (task_read tag 0 WasRead) s.tasks)) (sym ledger)
-            (tasks_read before tag d.tasks s.tasks d.loaded h.tied.tasks.tasks_differ reading h.kept.tasks);
+        few = few WasRead;
+        tasks = tasks_read before tag d.tasks s.tasks d.loaded h.tied.tasks.tasks_differ reading h.kept.tasks;
         blocks =
-            subst (λ ps. (n : ℕ) → progress_kept ps (d.loaded ++ record { tag = tag; body = body } ∷ []) n ≡ progress_of
-            (task_of n (map (task_read tag 0 WasRead) s.tasks))) (sym pins)
-            (by_tag (λ n. progress_kept (map (with_wanted tag 0 false) s.translation.pins)
-            (d.loaded ++ record { tag = tag; body = body } ∷ []) n
-            ≡ progress_of (task_of n (map (task_read tag 0 WasRead) s.tasks))) tag this others);
+            blocks WasRead (d.loaded ++ new ∷ [])
+            ((λ i. progress (unwanted i) ((read_more tag d.loaded new
+            ∙ (λ j. reading.none_read j ++ cond (eq_self tag j) (body ∷ []) [])) i))
+            ∙ ap (λ b. progress (Some false) (b ∷ [])) (content_read d s tag 0 place page body before h w reading cell))
+            (λ n other. read_more n d.loaded new
+            ∙ (ap (λ b. read_for n d.loaded ++ cond b (body ∷ []) []) (other_way n tag other)
+            ∙ append-nil (read_for n d.loaded)));
         shorts = h.kept.shorts;
         power_off = h.kept.power_off;
       })
     where
-      loaded : List Loaded
-      loaded = d.loaded ++ record { tag = tag; body = body } ∷ []
+      new : Loaded
+      new = record { tag = tag; body = body }
 
-      this : progress_kept (map (with_wanted tag 0 false) s.translation.pins) loaded tag ≡ progress_of
-          (task_of tag (map (task_read tag 0 WasRead) s.tasks))
-      this =
-          (λ i. progress (over i) ((read_more tag d.loaded (record { tag = tag; body = body })
-          ∙ (λ j. reading.none_read j ++ cond (eq_self tag j) (body ∷ []) [])) i))
-          ∙ (ap (λ b. progress (Some false) (b ∷ [])) (content_read d s tag index place page body before h w reading
-          cell)
-          ∙ sym (task_is WasRead ∙ ap (λ deed. progress_in (deed_read 0 WasRead deed)) reading.deed))
-
-      others : (n : ℕ) → (n == tag) ≡ false → progress_kept (map (with_wanted tag 0 false) s.translation.pins) loaded n
-          ≡ progress_of (task_of n (map (task_read tag 0 WasRead) s.tasks))
-      others n other =
-          (λ i. progress (wanted_else tag n s.translation.pins other i)
-          ((read_more n d.loaded (record { tag = tag; body = body })
-          ∙ (ap (λ b. read_for n d.loaded ++ cond b (body ∷ []) []) (other_way n tag other)
-          ∙ append-nil (read_for n d.loaded))) i))
-          ∙ (h.kept.blocks n ∙ sym (others_go_on (task_read tag 0 WasRead) s.tasks tag n (reads_one tag WasRead) other))
-
-  pub wrong_keeps : (array : Array) (u : Translation) → layer_kept.Describes after u → u.ledger ≡ s.translation.ledger →
-      u.pins ≡ map (with_wanted tag 0 false) s.translation.pins →
-      Keeps (told (record d { ftl = after }) (ended.Read tag None)) (read_state s tag NotRead array u)
-  wrong_keeps array u layer ledger pins = record {
+  pub wrong_keeps : layer_kept.Describes after (over ReadWrong) →
+      Keeps (told (record d { ftl = after }) (ended.Read tag None)) (read_state s tag NotRead s.array (over ReadWrong))
+  wrong_keeps layer = record {
     unprotected = h.kept.unprotected;
     layer_kept = layer;
-    few = subst (λ n. n ≤ most_tasks) (sym (few_still NotRead)) h.kept.few;
-    tasks =
-        subst (λ l. TasksKept (before_accepted l) (map (after_lost_read tag) d.tasks)
-        (map (task_read tag 0 NotRead) s.tasks)) (sym ledger)
-        (tasks_lost before tag d.tasks s.tasks d.loaded h.tied.tasks.tasks_differ reading h.kept.tasks);
-    blocks =
-        subst (λ ps. (n : ℕ) → progress_kept ps d.loaded n ≡ progress_of
-        (task_of n (map (task_read tag 0 NotRead) s.tasks))) (sym pins)
-        (by_tag (λ n. progress_kept (map (with_wanted tag 0 false) s.translation.pins) d.loaded n ≡ progress_of
-        (task_of n (map (task_read tag 0 NotRead) s.tasks))) tag
-        ((λ i. progress (over i) (reading.none_read i))
-        ∙ sym (task_is NotRead ∙ ap (λ deed. progress_in (deed_read 0 NotRead deed)) reading.deed))
-        (λ n other.
-        ap (λ b. progress b (read_for n d.loaded)) (wanted_else tag n s.translation.pins other)
-        ∙ (h.kept.blocks n ∙ sym (others_go_on (task_read tag 0 NotRead) s.tasks tag n (reads_one tag NotRead)
-        other))));
+    few = few NotRead;
+    tasks = tasks_lost before tag d.tasks s.tasks d.loaded h.tied.tasks.tasks_differ reading h.kept.tasks;
+    blocks = blocks NotRead d.loaded (λ i. progress (unwanted i) (reading.none_read i)) (λ n other. refl);
     shorts = h.kept.shorts;
     power_off = h.kept.power_off;
   }
 
 -- Each job
-
-moved_is : (t : Translation) (die : ℕ) (flight : Flight) (ending : Ending) → t.disk.flights die ≡ Some flight →
-    moved t (EndJob die ending) ≡ job_ended t die flight ending
-moved_is t die flight ending e = ap (λ (x : Option Flight). end_flight t die x ending) e
 
 -- a job that is for no task is noted of none
 none_noted : (s : State) (flight : Flight) (ending : Ending) → IsForNone flight → read_noted_behind s flight ending ≡ s
@@ -227,67 +209,68 @@ none_noted s (Reading reader place) ending none = absurd none
 none_noted s (Programming place cell) ending none = refl
 none_noted s (Erasing spot) ending none = refl
 
-nothing_keeps : (d : DeviceCore) (s : State) (die : ℕ) (flight : Flight) (ending : Ending) (left : Array) (after : Core)
-    (e : Ended) → Keeps d s →
-    s.translation.disk.flights die ≡ Some flight → IsForNone flight →
-    layer_kept.Describes after (moved s.translation (EndJob die ending)) → e ≡ ended.Other →
-    Keeps (told (record d { ftl = after }) e) (ends_with s die (Some flight) ending left)
-nothing_keeps d s die flight ending left after e k is none layer other =
-    subst (λ x. Keeps (told (record d { ftl = after }) x) (ends_with s die (Some flight) ending left)) (sym other)
-    (subst (λ x. Keeps (record d { ftl = after }) (with_moves (record x { array = array_behind s flight ending left })
-    (EndJob die ending ∷ [])))
-    (sym (none_noted s flight ending none))
-    (layer_moves d after s (array_behind s flight ending left) (moved s.translation (EndJob die ending)) k layer
-    (subst (Leaves s.translation) (sym (moved_is s.translation die flight ending is))
-    (job_leaves s.translation die flight ending none))))
+moved_is : (t : Translation) (die : ℕ) (flight : Flight) (ending : Ending) → t.disk.flights die ≡ Some flight →
+    moved t (EndJob die ending) ≡ job_ended t die flight ending
+moved_is t die flight ending e = ap (λ (x : Option Flight). end_flight t die x ending) e
 
-task_keeps : (d : DeviceCore) (s : State) (die tag : ℕ) (place : Place) (ending : Ending) (left : Array) (after : Core)
-    (e : Ended) → Describes d s →
-    s.translation.disk.flights die ≡ Some (Reading (ForTask tag 0) place) → IsAwaited s.translation tag 0 place →
-    fits (Some (Reading (ForTask tag 0) place)) ending ≡ true →
-    layer_kept.Describes after (moved s.translation (EndJob die ending)) →
-    IsTold s.translation.disk.cells (Some (Reading (ForTask tag 0) place)) ending e →
-    Keeps (told (record d { ftl = after }) e) (ends_with s die (Some (Reading (ForTask tag 0) place)) ending left)
-task_keeps d s die tag place ReadRight left after e h is w fit layer tells =
-    subst (λ x. Keeps (told (record d { ftl = after }) x) (ends_with s die (Some (Reading (ForTask tag 0) place))
-    ReadRight left)) (sym tells.3)
-    (right_keeps d s tag 0 place after h w tells.0 tells.1 s.array (moved s.translation (EndJob die ReadRight)) tells.2
-    layer
-    (ap (λ (t : Translation). t.ledger) (moved_is s.translation die (Reading (ForTask tag 0) place) ReadRight is))
-    (ap (λ (t : Translation). t.pins) (moved_is s.translation die (Reading (ForTask tag 0) place) ReadRight is)))
-task_keeps d s die tag place ReadWrong left after e h is w fit layer tells =
-    subst (λ x. Keeps (told (record d { ftl = after }) x) (ends_with s die (Some (Reading (ForTask tag 0) place))
-    ReadWrong left)) (sym tells)
-    (wrong_keeps d s tag 0 place after h w s.array (moved s.translation (EndJob die ReadWrong)) layer
-    (ap (λ (t : Translation). t.ledger) (moved_is s.translation die (Reading (ForTask tag 0) place) ReadWrong is))
-    (ap (λ (t : Translation). t.pins) (moved_is s.translation die (Reading (ForTask tag 0) place) ReadWrong is)))
-task_keeps d s die tag place ending left after e h is w fit layer tells = cc
+module _ (d : DeviceCore) (s : State) (die : ℕ) (left : Array) (after : Core) (e : Ended) (h : Describes d s) where
+  abbrev Reads : ℕ → ℕ → Place → Option Flight
+  Reads tag index place = Some (Reading (ForTask tag index) place)
 
-job_keeps : (d : DeviceCore) (s : State) (die : ℕ) (x : Option Flight) (ending : Ending) (left : Array) (after : Core)
-    (e : Ended) → Describes d s →
-    ((who : Reader) (place : Place) → s.translation.disk.flights die ≡ Some (Reading who place) →
-    IsReadOf s.translation place who) →
-    s.translation.disk.flights die ≡ x → fits x ending ≡ true →
-    layer_kept.Describes after (moved s.translation (EndJob die ending)) →
-    IsTold s.translation.disk.cells x ending e →
-    Keeps (told (record d { ftl = after }) e) (ends_with s die x ending left)
-job_keeps d s die None ending left after e h reads is fit layer tells = cc
-job_keeps d s die (Some (Reading (ForTask tag index) place)) ending left after e h reads is fit layer tells =
-    let r : IsAwaited s.translation tag index place = reads (ForTask tag index) place is in
-    subst (λ k. Keeps (told (record d { ftl = after }) e) (ends_with s die (Some (Reading (ForTask tag k) place)) ending
-    left)) (sym r.first)
-    (task_keeps d s die tag place ending left after e h (is ∙ ap (λ k. Some (Reading (ForTask tag k) place)) r.first)
-    (subst (λ k. IsAwaited s.translation tag k place) r.first r)
-    (subst (λ k. fits (Some (Reading (ForTask tag k) place)) ending ≡ true) r.first fit) layer
-    (subst (λ k. IsTold s.translation.disk.cells (Some (Reading (ForTask tag k) place)) ending e) r.first tells))
-job_keeps d s die (Some (Reading ForNobody place)) ending left after e h reads is fit layer tells =
-    nothing_keeps d s die (Reading ForNobody place) ending left after e h.kept is tt layer tells
-job_keeps d s die (Some (Reading who place)) ending left after e h reads is fit layer tells =
-    absurd (reads who place is)
-job_keeps d s die (Some (Programming place cell)) ending left after e h reads is fit layer tells =
-    nothing_keeps d s die (Programming place cell) ending left after e h.kept is tt layer tells
-job_keeps d s die (Some (Erasing spot)) ending left after e h reads is fit layer tells =
-    nothing_keeps d s die (Erasing spot) ending left after e h.kept is tt layer tells
+  -- if this job ends so and this is told of it, what is kept then is kept of the state behind it
+  abbrev EndKeeps : Option Flight → Ending → Type 0
+  EndKeeps x ending =
+      s.translation.disk.flights die ≡ x → fits x ending ≡ true → IsTold s.translation.disk.cells x ending e →
+      layer_kept.Describes after (moved s.translation (EndJob die ending)) →
+      Keeps (told (record d { ftl = after }) e) (ends_with s die x ending left)
+
+  nothing_keeps : (flight : Flight) (ending : Ending) → IsForNone flight →
+      s.translation.disk.flights die ≡ Some flight → e ≡ ended.Other →
+      layer_kept.Describes after (moved s.translation (EndJob die ending)) →
+      Keeps (told (record d { ftl = after }) e) (ends_with s die (Some flight) ending left)
+  nothing_keeps flight ending none is other layer =
+      subst (λ x. Keeps (told (record d { ftl = after }) x) (ends_with s die (Some flight) ending left)) (sym other)
+      (subst (λ x. Keeps (record d { ftl = after })
+      (with_moves (record x { array = array_behind s flight ending left }) (EndJob die ending ∷ [])))
+      (sym (none_noted s flight ending none))
+      (layer_moves d after s (array_behind s flight ending left) (moved s.translation (EndJob die ending)) h.kept layer
+      (subst (Leaves s.translation) (sym (moved_is s.translation die flight ending is))
+      (job_leaves s.translation die flight ending none))))
+
+  task_keeps : (tag : ℕ) (place : Place) (ending : Ending) → IsAwaited s.translation tag 0 place →
+      EndKeeps (Reads tag 0 place) ending
+  task_keeps tag place ReadRight w is fit tells layer =
+      let same = moved_is s.translation die (Reading (ForTask tag 0) place) ReadRight is in
+      subst (λ x. Keeps (told (record d { ftl = after }) x) (ends_with s die (Reads tag 0 place) ReadRight left))
+      (sym tells.3)
+      (subst (λ u. Keeps (told (record d { ftl = after }) (ended.Read tag (Some tells.1)))
+      (read_state s tag WasRead s.array u)) (sym same)
+      (right_keeps d s die tag place after h w tells.0 tells.1 tells.2 (subst (layer_kept.Describes after) same layer)))
+  task_keeps tag place ReadWrong w is fit tells layer =
+      let same = moved_is s.translation die (Reading (ForTask tag 0) place) ReadWrong is in
+      subst (λ x. Keeps (told (record d { ftl = after }) x) (ends_with s die (Reads tag 0 place) ReadWrong left))
+      (sym tells)
+      (subst (λ u. Keeps (told (record d { ftl = after }) (ended.Read tag None)) (read_state s tag NotRead s.array u))
+      (sym same) (wrong_keeps d s die tag place after h w (subst (layer_kept.Describes after) same layer)))
+  task_keeps tag place ending w is fit tells layer = cc
+
+  job_keeps : (x : Option Flight) (ending : Ending) →
+      ((who : Reader) (place : Place) → s.translation.disk.flights die ≡ Some (Reading who place) →
+      IsReadOf s.translation place who) →
+      EndKeeps x ending
+  job_keeps None ending reads is fit tells layer = cc
+  job_keeps (Some (Reading (ForTask tag index) place)) ending reads is fit tells layer =
+      let r : IsAwaited s.translation tag index place = reads (ForTask tag index) place is in
+      subst (λ k. EndKeeps (Reads tag k place) ending) (sym r.first)
+      (task_keeps tag place ending (subst (λ k. IsAwaited s.translation tag k place) r.first r)) is fit tells
+      layer
+  job_keeps (Some (Reading ForNobody place)) ending reads is fit tells layer =
+      nothing_keeps (Reading ForNobody place) ending tt is tells layer
+  job_keeps (Some (Reading who place)) ending reads is fit tells layer = absurd (reads who place is)
+  job_keeps (Some (Programming place cell)) ending reads is fit tells layer =
+      nothing_keeps (Programming place cell) ending tt is tells layer
+  job_keeps (Some (Erasing spot)) ending reads is fit tells layer =
+      nothing_keeps (Erasing spot) ending tt is tells layer
 
 -- the job is told, and then the lock
 pub ends_right : (d new : DeviceCore) (s : State) (die : ℕ) (o : Outcome) (ending : Ending) (left : Array)
@@ -303,4 +286,4 @@ pub ends_right : (d new : DeviceCore) (s : State) (die : ℕ) (o : Outcome) (end
 ends_right d new s die o ending left after e h is leaves layer tells reads told_then =
     let fit = ending_fits s.translation.disk.cells (s.translation.disk.flights die) o ending is in
     answered_told d (told (record d { ftl = after }) e) new s (Done die ending left) (OfDone true) h leaves (sym fit)
-    (job_keeps d s die (s.translation.disk.flights die) ending left after e h reads refl fit layer tells) told_then
+    (job_keeps d s die left after e h (s.translation.disk.flights die) ending reads refl fit tells layer) told_then

@@ -1,6 +1,6 @@
 -- What one die's job makes of a list of dies and of the list of their jobs.
-use Rattle.std.proofs.Common.{◌≡◌, ◌≢◌, ◌⊎◌, ℕ, ◌+◌, ◌<◌, ◌==◌, ◌&&◌, Bool, true, false, if◌then◌else◌, List, Option}
-use Rattle.std.proofs.Common.{Some, None, length, option_map, refl, sym, ap, ◌∙◌, inl, inr, ⊎_elim, arith}
+use Rattle.std.proofs.Common.{◌≡◌, ◌≢◌, ℕ, ◌+◌, ◌<◌, ◌==◌, ◌&&◌, Bool, true, false, if◌then◌else◌, List, Option}
+use Rattle.std.proofs.Common.{Some, None, length, option_map, refl, sym, ap, ◌∙◌, subst, ⊎_elim, arith}
 use Rattle.std.specs.Prelude.{nat_lt, slice_index_or, slice_set}
 use Rattle.std.proofs.lemmas.Bool.Decides.{eqb_tells}
 use Rattle.std.proofs.lemmas.List.{get_or-set_other, get_or-set_same, get_or_past, length-set, set-get_or}
@@ -26,14 +26,15 @@ use Rattle.device.specs.Worlds.{BlocksFit, die_at, job_at}
 
 -- Lists
 
--- an element of a list of which one was set
-set_cases : {A : Type 0} (xs : List A) (i : ℕ) (x d : A) (j : ℕ) → i < length xs →
-    ((j ≡ i) × (slice_index_or (slice_set xs i x) j d ≡ x))
-    ⊎ ((j ≢ i) × (slice_index_or (slice_set xs i x) j d ≡ slice_index_or xs j d))
-set_cases {A} xs i x d j l =
+-- what holds of the element that was set and of each other one
+by_element : {A : Type 0} (P : A → Type 0) (xs : List A) (i : ℕ) (x d : A) (j : ℕ) → i < length xs → (j ≡ i → P x) →
+    (j ≢ i → P (slice_index_or xs j d)) → P (slice_index_or (slice_set xs i x) j d)
+by_element {A} P xs i x d j l here elsewhere =
     ⊎_elim
-    (λ h. inl (h.1, ap (λ (k : ℕ). slice_index_or (slice_set xs i x) k d) h.1 ∙ get_or-set_same xs i x d l))
-    (λ h. inr (h.1, get_or-set_other xs i j x d h.1)) (eqb_tells j i)
+    (λ (h : ((j == i) ≡ true) × (j ≡ i)).
+    subst P (sym (ap (λ (k : ℕ). slice_index_or (slice_set xs i x) k d) h.1 ∙ get_or-set_same xs i x d l)) (here h.1))
+    (λ (h : ((j == i) ≡ false) × (j ≢ i)). subst P (sym (get_or-set_other xs i j x d h.1)) (elsewhere h.1))
+    (eqb_tells j i)
 
 -- the job of one die is another: the list and the jobs in flight say the same
 pub put_jobs : (jobs : List (Option Job)) (flights : ℕ → Option Flight) (die : ℕ) (o : Option Flight) →
@@ -41,12 +42,9 @@ pub put_jobs : (jobs : List (Option Job)) (flights : ℕ → Option Flight) (die
     ((e : ℕ) → job_at jobs e ≡ option_map job_of (flights e)) →
     (e : ℕ) → job_at (slice_set jobs die (option_map job_of o)) e ≡ option_map job_of (at_die flights die o e)
 put_jobs jobs flights die o l same e =
-    ⊎_elim
-    (λ (h : (e ≡ die) × (job_at (slice_set jobs die (option_map job_of o)) e ≡ option_map job_of o)).
-    h.1 ∙ ap (option_map job_of) (sym (ap (at_die flights die o) h.0 ∙ at_its_die flights die o)))
-    (λ (h : (e ≢ die) × (job_at (slice_set jobs die (option_map job_of o)) e ≡ job_at jobs e)).
-    h.1 ∙ same e ∙ ap (option_map job_of) (sym (at_other flights die o e h.0)))
-    (set_cases jobs die (option_map job_of o) None e l)
+    by_element (λ (job : Option Job). job ≡ option_map job_of (at_die flights die o e)) jobs die (option_map job_of o)
+    None e l (λ is. ap (option_map job_of) (sym (ap (at_die flights die o) is ∙ at_its_die flights die o)))
+    (λ differ. same e ∙ ap (option_map job_of) (sym (at_other flights die o e differ)))
 
 -- Sizes
 
@@ -89,14 +87,9 @@ put_block {A} f dies spot x l leaves other =
 
     elsewhere : other ≢ spot → f (die_at (slice_set dies spot.die x) other.die) other.block ≡ before other
     elsewhere differ =
-        ⊎_elim
-        (λ (h : (other.die ≡ spot.die) × (die_at (slice_set dies spot.die x) other.die ≡ x)).
-        ap (λ (y : DieState). f y other.block) h.1
-        ∙ leaves other.block (λ e. differ (spot_is other spot h.0 e))
-        ∙ ap (λ (k : ℕ). f (die_at dies k) other.block) (sym h.0))
-        (λ (h : (other.die ≢ spot.die) × (die_at (slice_set dies spot.die x) other.die ≡ die_at dies other.die)).
-        ap (λ (y : DieState). f y other.block) h.1)
-        (set_cases dies spot.die x (new_die 0 0) other.die l)
+        by_element (λ (y : DieState). f y other.block ≡ before other) dies spot.die x (new_die 0 0) other.die l
+        (λ is. leaves other.block (λ e. differ (spot_is other spot is e))
+        ∙ ap (λ (k : ℕ). f (die_at dies k) other.block) (sym is)) (λ away. refl)
 
 -- no block is bad or good that was not
 put_bad : (dies : List DieState) (die : ℕ) (x : DieState) (other : Spot) → die < length dies →
@@ -104,14 +97,10 @@ put_bad : (dies : List DieState) (die : ℕ) (x : DieState) (other : Spot) → d
     is_bad_block (die_at (slice_set dies die x) other.die) other.block ≡ is_bad_block (die_at dies other.die)
     other.block
 put_bad dies die x other l e =
-    ⊎_elim
-    (λ (h : (other.die ≡ die) × (die_at (slice_set dies die x) other.die ≡ x)).
-    ap (λ (y : DieState). is_bad_block y other.block) h.1
-    ∙ ap (λ (bad : List Bool). slice_index_or bad other.block false) e
-    ∙ ap (λ (k : ℕ). is_bad_block (die_at dies k) other.block) (sym h.0))
-    (λ (h : (other.die ≢ die) × (die_at (slice_set dies die x) other.die ≡ die_at dies other.die)).
-    ap (λ (y : DieState). is_bad_block y other.block) h.1)
-    (set_cases dies die x (new_die 0 0) other.die l)
+    by_element (λ (y : DieState). is_bad_block y other.block ≡ is_bad_block (die_at dies other.die) other.block)
+    dies die x (new_die 0 0) other.die l
+    (λ is. ap (λ (bad : List Bool). slice_index_or bad other.block false) e
+    ∙ ap (λ (k : ℕ). is_bad_block (die_at dies k) other.block) (sym is)) (λ away. refl)
 
 -- a change of one block, that was not bad
 put_blocks : (n : Numbers) (dies : List DieState) (blocks : Spot → BlockState) (spot : Spot) (new : BlockState)
@@ -186,7 +175,7 @@ behind_next pages page next e = by (page + 1 == pages) e
     by true h = cc
     by false h = cc
 
-not_bad : (state : BlockState) (next : ℕ) → state ≡ Filling next → state ≢ Bad
+pub not_bad : (state : BlockState) (next : ℕ) → state ≡ Filling next → state ≢ Bad
 not_bad state next e h = cc
 
 pub program_blocks : (n : Numbers) (dies : List DieState) (blocks : Spot → BlockState) (p : Place) (content : Page) →

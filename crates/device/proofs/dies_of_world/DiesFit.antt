@@ -6,7 +6,7 @@ use Rattle.std.proofs.lemmas.List.{get_or-replicate, get_or_past, length-replica
 use Rattle.ufs_spec.proofs.Facts.{none-some}
 use Rattle.ufs_spec.specs.Cells.{Array, Cells, GroupPage, IsCell, IsPlace, Nothing}
 use Rattle.ufs_spec.specs.DieLaws.{has_page}
-use Rattle.ufs_spec.specs.Dies.{CanDo, DieState, after_job, blank_page, outcome_of}
+use Rattle.ufs_spec.specs.Dies.{CanDo, DieState, IsOfSize, after_job, blank_page, outcome_of}
 use Rattle.ufs_spec.specs.Disk.{BlockState, Bad, Closed, Erasing, Filling, Flight, Free, Programming, Reading, Spot}
 use Rattle.ufs_spec.specs.Disk.{at_die, at_place, job_of, page_of, spot_of}
 use Rattle.ufs_spec.specs.Lives.{Fit, IsOpened, array_of, bad_of, ended_well}
@@ -16,7 +16,7 @@ use Rattle.ufs_spec.specs.Machine.{with_moves}
 use Rattle.ufs_spec.specs.Moves.{IsEndingOf, TakeStep}
 use Rattle.ufs_spec.specs.Openings.{IsBlockState}
 use Rattle.ufs_spec.specs.Refusals.{State}
-use Rattle.ufs_spec.specs.Translation.{MayTake, Translation}
+use Rattle.ufs_spec.specs.Translation.{MayTake}
 use Rattle.ufs_spec.specs.declared.configs.Numbers.{Numbers}
 use Rattle.ufs_spec.specs.declared.faults.HostFault.{HostFault}
 use Rattle.ufs_spec.specs.declared.flash.Job.{Job}
@@ -31,12 +31,11 @@ use Rattle.ufs_laws.proofs.exchanges.RequestsSettled.{settled_jobs}
 use Rattle.ufs_laws.specs.Flights.{die_of_flight}
 use Rattle.ufs_laws.specs.Requests.{HaveNoRequest}
 use Rattle.power_loss.specs.Exchange.{IsTied}
-use Rattle.power_loss.specs.Invariant.{Valid}
 use Rattle.power_loss.proofs.jobs_owed.ProgramsAndErases.{take_inside}
 use Rattle.power_loss.proofs.books.SmallFacts.{at_die_is, spot_is}
 use Rattle.device.specs.Worlds.{AreBlank, BlocksFit, DiesFit, FitState, die_at, job_at, jobs_given}
-use Rattle.device.proofs.dies_of_world.DieParts.{die_size, erase_blocks, erase_pages, program_blocks, program_pages}
-use Rattle.device.proofs.dies_of_world.DieParts.{put_jobs, put_same, put_sizes}
+use Rattle.device.proofs.dies_of_world.DieParts.{die_size, erase_blocks, erase_pages, not_bad, program_blocks}
+use Rattle.device.proofs.dies_of_world.DieParts.{program_pages, put_jobs, put_same, put_sizes}
 use Rattle.device.proofs.dies_of_world.FinishDies.{blocks_behind, flights_behind, layer_behind, seen_behind}
 use Rattle.device.proofs.dies_of_world.QuietDies.{Seen, hears_same, replied_same, seen, seen_over, step_same, told_same}
 
@@ -85,79 +84,58 @@ told_stays : (dies : List DieState) (jobs : List (Option Job)) (s u : State) →
 told_stays dies jobs s u look same h =
     stays dies jobs s (lock_applied (fills u)) (told_same u ∙ look) (λ die. settled_jobs u die ∙ same die) h
 
--- What changes no job, no block and no page
+-- Calls
 
-pub hears_fit : (dies : List DieState) (jobs : List (Option Job)) (s : State) (heard : Heard)
-    (result : Result Unit HostFault) → FitState dies jobs s →
-    FitState dies jobs (observe s (Host heard) (OfHost result))
-hears_fit dies jobs s heard (Ok done) h =
-    told_stays dies jobs s (hears s heard) (hears_same s heard) (quiet.hears_same s heard) h
-hears_fit dies jobs s heard (Err fault) h = told_stays dies jobs s s refl (λ die. refl) h
+module _ (dies : List DieState) (jobs : List (Option Job)) (s : State) (fit : FitState dies jobs s) where
+  -- what changes no job, no block and no page
 
-pub asks_fit : (dies : List DieState) (jobs : List (Option Job)) (s : State) (reply : Option Message) →
-    FitState dies jobs s → FitState dies jobs (observe s Reply (OfReply reply))
-asks_fit dies jobs s (Some m) h = told_stays dies jobs s (replied s m) (replied_same s m) (quiet.replied_same s m) h
-asks_fit dies jobs s None h = told_stays dies jobs s s refl (λ die. refl) h
+  pub hears_fit : (heard : Heard) (result : Result Unit HostFault) →
+      FitState dies jobs (observe s (Host heard) (OfHost result))
+  hears_fit heard (Ok done) =
+      told_stays dies jobs s (hears s heard) (hears_same s heard) (quiet.hears_same s heard) fit
+  hears_fit heard (Err fault) = told_stays dies jobs s s refl (λ die. refl) fit
 
-pub steps_fit : (dies : List DieState) (jobs : List (Option Job)) (s : State) (due : Bool) →
-    FitState dies jobs s → FitState dies jobs (observe s Turn (OfTurn due))
-steps_fit dies jobs s due h = told_stays dies jobs s (with_moves s (TakeStep ∷ [])) (step_same s) (quiet.step_same s) h
+  pub asks_fit : (reply : Option Message) → FitState dies jobs (observe s Reply (OfReply reply))
+  asks_fit (Some m) = told_stays dies jobs s (replied s m) (replied_same s m) (quiet.replied_same s m) fit
+  asks_fit None = told_stays dies jobs s s refl (λ die. refl) fit
 
--- A die is given a job
+  pub steps_fit : (due : Bool) → FitState dies jobs (observe s Turn (OfTurn due))
+  steps_fit due = told_stays dies jobs s (with_moves s (TakeStep ∷ [])) (step_same s) (quiet.step_same s) fit
 
-give : (dies : List DieState) (jobs : List (Option Job)) (s : State) (die : ℕ) (flight : Flight) →
-    FitState dies jobs s →
-    MayTake s.translation die (Some flight) →
-    FitState dies (slice_set jobs die (Some (job_of flight))) (given s die (Some flight))
-give dies jobs s die flight fit may =
-    let flights = s.translation.disk.flights in
-    let own = is_die s.translation die flight may in
-    let as_many = fit.as_many in
-    let all = fit.sizes.0 in
-    let inside : die < length jobs = omega arith in
-    record {
-      sizes = fit.sizes;
-      pages = fit.pages;
-      as_many = length-set jobs die (Some (job_of flight)) ∙ fit.as_many;
-      jobs_are = put_jobs jobs flights die (Some flight) inside fit.jobs_are;
-      blocks_fit = fit.blocks_fit;
-      erases = λ other spot e.
-          ⊎_elim
-          (λ (k : (other ≡ die) × (Some flight ≡ Some (Erasing spot))).
-          take_inside s.translation die spot (subst (λ (o : Option Flight). MayTake s.translation die o) k.1 may))
-          (λ (k : (other ≢ die) × (flights other ≡ Some (Erasing spot))). fit.erases other spot k.1)
-          (at_die_is flights die (Some flight) other (Some (Erasing spot)) e);
-    }
+  -- a die is given a job
 
-pub gives_fit : (dies : List DieState) (jobs : List (Option Job)) (s : State) (die : ℕ) (flight : Option Flight) →
-    FitState dies jobs s → MayTake s.translation die flight →
-    FitState dies (jobs_given jobs die (option_map job_of flight)) (observe s (Take die) (OfTake flight))
-gives_fit dies jobs s die None fit may = told_stays dies jobs s s refl (λ other. refl) fit
-gives_fit dies jobs s die (Some flight) fit may =
-    told_stays dies (slice_set jobs die (Some (job_of flight))) (given s die (Some flight)) (given s die (Some flight))
-    refl (λ other. refl) (give dies jobs s die flight fit may)
+  give : (die : ℕ) (flight : Flight) → MayTake s.translation die (Some flight) →
+      FitState dies (slice_set jobs die (Some (job_of flight))) (given s die (Some flight))
+  give die flight may =
+      let flights = s.translation.disk.flights in
+      let own = is_die s.translation die flight may in
+      let as_many = fit.as_many in
+      let all = fit.sizes.0 in
+      let inside : die < length jobs = omega arith in
+      record {
+        sizes = fit.sizes;
+        pages = fit.pages;
+        as_many = length-set jobs die (Some (job_of flight)) ∙ fit.as_many;
+        jobs_are = put_jobs jobs flights die (Some flight) inside fit.jobs_are;
+        blocks_fit = fit.blocks_fit;
+        erases = λ other spot e.
+            ⊎_elim
+            (λ (k : (other ≡ die) × (Some flight ≡ Some (Erasing spot))).
+            take_inside s.translation die spot (subst (λ (o : Option Flight). MayTake s.translation die o) k.1 may))
+            (λ (k : (other ≢ die) × (flights other ≡ Some (Erasing spot))). fit.erases other spot k.1)
+            (at_die_is flights die (Some flight) other (Some (Erasing spot)) e);
+      }
 
--- Where the job in flight lies
+  pub gives_fit : (die : ℕ) (flight : Option Flight) → MayTake s.translation die flight →
+      FitState dies (jobs_given jobs die (option_map job_of flight)) (observe s (Take die) (OfTake flight))
+  gives_fit die None may = told_stays dies jobs s s refl (λ other. refl) fit
+  gives_fit die (Some flight) may =
+      told_stays dies (slice_set jobs die (Some (job_of flight))) (given s die (Some flight))
+      (given s die (Some flight)) refl (λ other. refl) (give die flight may)
 
--- on the die that has it
-lies_home : (t : Translation) (die : ℕ) (flight : Flight) → Valid t → t.disk.flights die ≡ Some flight →
-    die_of_flight flight ≡ die
-lies_home t die (Reading who p) v flies = v.reads.at_home die who p flies
-lies_home t die (Programming p cell) v flies = (v.flights.programs die p cell flies).at_home
-lies_home t die (Erasing spot) v flies = (v.flights.erases die spot flies).at_home
+-- The job in flight
 
--- which is one of the dies
-is_inside : (dies : List DieState) (jobs : List (Option Job)) (s : State) (die : ℕ) (flight : Flight) →
-    FitState dies jobs s → s.translation.disk.flights die ≡ Some flight → die < length dies
-is_inside dies jobs s die flight fit flies =
-    ⊎_elim
-    (λ (past : length dies ≤ die).
-    let as_many = fit.as_many in
-    absurd (none-some (job_of flight)
-    (sym (get_or_past jobs die None (omega arith)) ∙ (fit.jobs_are die ∙ ap (option_map job_of) flies))))
-    (λ (l : die < length dies). l) (split (length dies) die)
-
--- and what is read is a page of the dies, since nothing stands elsewhere
+-- what is read is a page of the dies, since nothing stands elsewhere
 page_inside : (n : Numbers) (cells : Cells) (p : Place) (tag : Tag) (body : List ℕ) →
     ((q : Place) → (IsPlace n q → ⊥) → cells q ≡ Nothing) → cells p ≡ GroupPage tag body → IsPlace n p
 page_inside n cells p tag body within e =
@@ -165,159 +143,160 @@ page_inside n cells p tag body within e =
     (λ (out : IsPlace n p → ⊥). absurd (let both : Nothing ≡ GroupPage tag body = sym (within p out) ∙ e in cc))
     (is_place n p)
 
--- It does its job
-
-filling_good : (state : BlockState) (next : ℕ) → state ≡ Filling next → state ≢ Bad
-filling_good state next e bad = cc
-
 free_good : (state : BlockState) → state ≡ Free → state ≢ Bad
 free_good state e bad = cc
-
--- the job that the die has may be asked of it, where the die is told by the job
-can_do : (dies : List DieState) (jobs : List (Option Job)) (s : State) (flight : Flight) → Valid s.translation →
-    FitState dies jobs s → s.translation.disk.flights (die_of_flight flight) ≡ Some flight →
-    CanDo (die_at dies (die_of_flight flight)) (job_of flight)
-can_do dies jobs s (Reading who p) v fit flies =
-    let n = s.translation.numbers in
-    let page = (v.reads.page p.die who p flies).1 in
-    let place = page_inside n s.translation.disk.cells p page.tag page.body v.pages.within page.there in
-    let l = is_inside dies jobs s p.die (Reading who p) fit flies in
-    has_page (die_at dies p.die) p.block p.page n.blocks n.pages place.block place.page
-    (die_size n dies p.die fit.sizes l)
-can_do dies jobs s (Programming p cell) v fit flies =
-    let n = s.translation.numbers in
-    let right = v.flights.programs p.die p cell flies in
-    let place = right.place in
-    let l = is_inside dies jobs s p.die (Programming p cell) fit flies in
-    let size = die_size n dies p.die fit.sizes l in
-    let good = filling_good (s.translation.disk.blocks (spot_of p)) p.page right.next in (
-      has_page (die_at dies p.die) p.block p.page n.blocks n.pages place.block place.page size,
-      fit.blocks_fit.good (spot_of p) place.die place.block good,
-      fit.blocks_fit.ready (spot_of p) p.page place.die place.block right.next,
-    )
-can_do dies jobs s (Erasing spot) v fit flies =
-    let n = s.translation.numbers in
-    let right = v.flights.erases spot.die spot flies in
-    let place = fit.erases spot.die spot flies in
-    let l = is_inside dies jobs s spot.die (Erasing spot) fit flies in
-    let size = die_size n dies spot.die fit.sizes l in
-    let long : length (die_at dies spot.die).blocks ≡ n.blocks = size.0 in
-    let within = place.block in (
-      omega arith,
-      fit.blocks_fit.good spot place.die place.block
-          (free_good (s.translation.disk.blocks spot) right.free),
-    )
-
-pub can_finish : (dies : List DieState) (jobs : List (Option Job)) (s : State) (die : ℕ) (flight : Flight) →
-    Valid s.translation → FitState dies jobs s → s.translation.disk.flights die ≡ Some flight →
-    (die < length dies) × CanDo (die_at dies die) (job_of flight)
-can_finish dies jobs s die flight v fit flies = (
-  is_inside dies jobs s die flight fit flies,
-  subst (λ (e : ℕ). s.translation.disk.flights e ≡ Some flight → CanDo (die_at dies e) (job_of flight))
-      (lies_home s.translation die flight v flies) (can_do dies jobs s flight v fit) flies,
-)
-
--- what the die tells of its job is how a job ends that went well
-ends_as : (dies : List DieState) (jobs : List (Option Job)) (s : State) (flight : Flight) → IsTied s →
-    FitState dies jobs s →
-    IsEndingOf s.translation.disk.cells (Some flight) (outcome_of (die_at dies (die_of_flight flight)) (job_of flight))
-    (ended_well flight)
-ends_as dies jobs s (Reading who p) tied fit =
-    (refl, subst (λ (array : Array). IsCell (array p) (s.translation.disk.cells p)) fit.pages (tied.shown p))
-ends_as dies jobs s (Programming p cell) tied fit = (refl, tt)
-ends_as dies jobs s (Erasing spot) tied fit = (refl, tt)
-
-pub finish_ending : (dies : List DieState) (jobs : List (Option Job)) (s : State) (die : ℕ) (flight : Flight) →
-    IsTied s →
-    FitState dies jobs s → s.translation.disk.flights die ≡ Some flight →
-    IsEndingOf s.translation.disk.cells (s.translation.disk.flights die) (outcome_of (die_at dies die) (job_of flight))
-    (ended_well flight)
-finish_ending dies jobs s die flight tied fit flies =
-    let ends : Option Flight → ℕ → Type 0 = λ o e.
-    IsEndingOf s.translation.disk.cells o (outcome_of (die_at dies e) (job_of flight)) (ended_well flight) in
-    subst (λ (o : Option Flight). ends o die) (sym flies)
-    (subst (ends (Some flight)) (lies_home s.translation die flight tied.valid flies)
-    (ends_as dies jobs s flight tied fit))
 
 -- the pages and the blocks behind the job are those of the die behind it
 record AreBehind (n : Numbers) (dies : List DieState) (array : Array) (blocks : Spot → BlockState) : Type 0 where
   pages : array ≡ array_of dies
   blocks_fit : BlocksFit n dies blocks
 
-abbrev done_by : List DieState → ℕ → Flight → List DieState
-done_by dies die flight = slice_set dies die (after_job (die_at dies die) (job_of flight))
+module _ (dies : List DieState) (jobs : List (Option Job)) (s : State) (fit : FitState dies jobs s)
+    (tied : IsTied s) where
+  abbrev n : Numbers
+  n = s.translation.numbers
 
-are_behind : (dies : List DieState) (jobs : List (Option Job)) (s : State) (flight : Flight) → Valid s.translation →
-    FitState dies jobs s → s.translation.disk.flights (die_of_flight flight) ≡ Some flight →
-    AreBehind s.translation.numbers (done_by dies (die_of_flight flight) flight)
-    (array_behind s flight (ended_well flight) s.array) (blocks_behind s.translation flight)
-are_behind dies jobs s (Reading who p) v fit flies =
-    subst (λ (ds : List DieState). AreBehind s.translation.numbers ds s.array s.translation.disk.blocks)
-    (sym (put_same dies p.die)) record { pages = fit.pages; blocks_fit = fit.blocks_fit }
-are_behind dies jobs s (Programming p cell) v fit flies =
-    let n = s.translation.numbers in
-    let blocks = s.translation.disk.blocks in
-    let right = v.flights.programs p.die p cell flies in
-    let l = is_inside dies jobs s p.die (Programming p cell) fit flies in
-    record {
-      pages =
-          ap (λ (array : Array). at_place array p (page_of cell)) fit.pages
-          ∙ program_pages n dies p (page_of cell) fit.sizes l right.place;
-      blocks_fit = program_blocks n dies blocks p (page_of cell) fit.sizes l right.place right.next fit.blocks_fit;
-    }
-are_behind dies jobs s (Erasing spot) v fit flies =
-    let n = s.translation.numbers in
-    let blocks = s.translation.disk.blocks in
-    let good = free_good (blocks spot) (v.flights.erases spot.die spot flies).free in
-    let within = (fit.erases spot.die spot flies).block in
-    let l = is_inside dies jobs s spot.die (Erasing spot) fit flies in
-    record {
-      pages =
-          ap (λ (array : Array). λ (p : Place). if in_block n spot p then blank_page else array p) fit.pages
-          ∙ erase_pages n dies spot fit.sizes l within;
-      blocks_fit = erase_blocks n dies blocks spot fit.sizes l within good fit.blocks_fit;
-    }
+  abbrev flights : ℕ → Option Flight
+  flights = s.translation.disk.flights
 
-pub finish_fits : (dies : List DieState) (jobs : List (Option Job)) (s : State) (die : ℕ) (flight : Flight) →
-    Valid s.translation → HaveNoRequest s.tasks → s.translation.work.plan ≡ None → FitState dies jobs s →
-    s.translation.disk.flights die ≡ Some flight →
-    FitState (done_by dies die flight) (slice_set jobs die None)
-    (observe s (Done die (ended_well flight) s.array) (OfDone true))
-finish_fits dies jobs s die flight v none no_plan fit flies =
-    let n = s.translation.numbers in
-    let flights = s.translation.disk.flights in
-    let array = array_behind s flight (ended_well flight) s.array in
-    let blocks = blocks_behind s.translation flight in
-    let u = observe s (Done die (ended_well flight) s.array) (OfDone true) in
-    let home = lies_home s.translation die flight v flies in
-    let l = is_inside dies jobs s die flight fit flies in
-    let as_many = fit.as_many in
-    let inside : die < length jobs = omega arith in
-    let put : AreBehind n (done_by dies die flight) array blocks =
-    subst (λ (e : ℕ). flights e ≡ Some flight → AreBehind n (done_by dies e flight) array blocks) home
-    (are_behind dies jobs s flight v fit) flies in
-    let known : FitSeen (done_by dies die flight) (slice_set jobs die None) (at_die flights die None)
-    (seen_over array (layer_behind s.translation flight)) =
-    record {
-      sizes = put_sizes n dies die (job_of flight) fit.sizes l;
-      pages = put.pages;
-      as_many =
-          length-set jobs die None ∙ fit.as_many
-          ∙ sym (length-set dies die (after_job (die_at dies die) (job_of flight)));
-      jobs_are = put_jobs jobs flights die None inside fit.jobs_are;
-      blocks_fit = put.blocks_fit;
-      erases = λ other spot e.
-          ⊎_elim
-          (λ (k : (other ≡ die) × (None ≡ Some (Erasing spot))). absurd (none-some (Erasing spot) k.1))
-          (λ (k : (other ≢ die) × (flights other ≡ Some (Erasing spot))). fit.erases other spot k.1)
-          (at_die_is flights die None other (Some (Erasing spot)) e);
-    } in
-    subst (FitSeen (done_by dies die flight) (slice_set jobs die None) u.translation.disk.flights)
-    (sym (seen_behind s die flight no_plan flies))
-    (subst
-    (λ (f : ℕ → Option Flight).
-    FitSeen (done_by dies die flight) (slice_set jobs die None) f (seen_over array (layer_behind s.translation flight)))
-    (sym (flights_behind s die flight none flies home)) known)
+  -- it lies on the die that has it
+  lies_home : (die : ℕ) (flight : Flight) → flights die ≡ Some flight → die_of_flight flight ≡ die
+  lies_home die (Reading who p) flies = tied.valid.reads.at_home die who p flies
+  lies_home die (Programming p cell) flies = (tied.valid.flights.programs die p cell flies).at_home
+  lies_home die (Erasing spot) flies = (tied.valid.flights.erases die spot flies).at_home
+
+  -- which is one of the dies
+  is_inside : (die : ℕ) (flight : Flight) → flights die ≡ Some flight → die < length dies
+  is_inside die flight flies =
+      ⊎_elim
+      (λ (past : length dies ≤ die).
+      let as_many = fit.as_many in
+      absurd (none-some (job_of flight)
+      (sym (get_or_past jobs die None (omega arith)) ∙ (fit.jobs_are die ∙ ap (option_map job_of) flies))))
+      (λ (l : die < length dies). l) (split (length dies) die)
+
+  size : (die : ℕ) (flight : Flight) → flights die ≡ Some flight → IsOfSize n.blocks n.pages (die_at dies die)
+  size die flight flies = die_size n dies die fit.sizes (is_inside die flight flies)
+
+  -- the job may be asked of the die, where the die is told by the job
+  can_do : (flight : Flight) → flights (die_of_flight flight) ≡ Some flight →
+      CanDo (die_at dies (die_of_flight flight)) (job_of flight)
+  can_do (Reading who p) flies =
+      let page = (tied.valid.reads.page p.die who p flies).1 in
+      let place = page_inside n s.translation.disk.cells p page.tag page.body tied.valid.pages.within page.there in
+      has_page (die_at dies p.die) p.block p.page n.blocks n.pages place.block place.page
+      (size p.die (Reading who p) flies)
+  can_do (Programming p cell) flies =
+      let right = tied.valid.flights.programs p.die p cell flies in
+      let place = right.place in
+      let good = not_bad (s.translation.disk.blocks (spot_of p)) p.page right.next in (
+        has_page (die_at dies p.die) p.block p.page n.blocks n.pages place.block place.page
+            (size p.die (Programming p cell) flies),
+        fit.blocks_fit.good (spot_of p) place.die place.block good,
+        fit.blocks_fit.ready (spot_of p) p.page place.die place.block right.next,
+      )
+  can_do (Erasing spot) flies =
+      let right = tied.valid.flights.erases spot.die spot flies in
+      let place = fit.erases spot.die spot flies in
+      let its = size spot.die (Erasing spot) flies in
+      let long : length (die_at dies spot.die).blocks ≡ n.blocks = its.0 in
+      let within = place.block in (
+        omega arith,
+        fit.blocks_fit.good spot place.die place.block (free_good (s.translation.disk.blocks spot) right.free),
+      )
+
+  pub can_finish : (die : ℕ) (flight : Flight) → flights die ≡ Some flight → CanDo (die_at dies die) (job_of flight)
+  can_finish die flight flies =
+      subst (λ (e : ℕ). flights e ≡ Some flight → CanDo (die_at dies e) (job_of flight)) (lies_home die flight flies)
+      (can_do flight) flies
+
+  -- what the die tells of its job is how a job ends that went well
+  ends_as : (flight : Flight) →
+      IsEndingOf s.translation.disk.cells (Some flight)
+      (outcome_of (die_at dies (die_of_flight flight)) (job_of flight)) (ended_well flight)
+  ends_as (Reading who p) =
+      (refl, subst (λ (array : Array). IsCell (array p) (s.translation.disk.cells p)) fit.pages (tied.shown p))
+  ends_as (Programming p cell) = (refl, tt)
+  ends_as (Erasing spot) = (refl, tt)
+
+  pub finish_ending : (die : ℕ) (flight : Flight) → flights die ≡ Some flight →
+      IsEndingOf s.translation.disk.cells (flights die) (outcome_of (die_at dies die) (job_of flight))
+      (ended_well flight)
+  finish_ending die flight flies =
+      let ends : Option Flight → ℕ → Type 0 = λ o e.
+      IsEndingOf s.translation.disk.cells o (outcome_of (die_at dies e) (job_of flight)) (ended_well flight) in
+      subst (λ (o : Option Flight). ends o die) (sym flies)
+      (subst (ends (Some flight)) (lies_home die flight flies) (ends_as flight))
+
+  abbrev done_by : ℕ → Flight → List DieState
+  done_by die flight = slice_set dies die (after_job (die_at dies die) (job_of flight))
+
+  are_behind : (flight : Flight) → flights (die_of_flight flight) ≡ Some flight →
+      AreBehind n (done_by (die_of_flight flight) flight) (array_behind s flight (ended_well flight) s.array)
+      (blocks_behind s.translation flight)
+  are_behind (Reading who p) flies =
+      subst (λ (ds : List DieState). AreBehind n ds s.array s.translation.disk.blocks)
+      (sym (put_same dies p.die)) record { pages = fit.pages; blocks_fit = fit.blocks_fit }
+  are_behind (Programming p cell) flies =
+      let right = tied.valid.flights.programs p.die p cell flies in
+      let l = is_inside p.die (Programming p cell) flies in
+      record {
+        pages =
+            ap (λ (array : Array). at_place array p (page_of cell)) fit.pages
+            ∙ program_pages n dies p (page_of cell) fit.sizes l right.place;
+        blocks_fit =
+            program_blocks n dies s.translation.disk.blocks p (page_of cell) fit.sizes l right.place right.next
+            fit.blocks_fit;
+      }
+  are_behind (Erasing spot) flies =
+      let blocks = s.translation.disk.blocks in
+      let good = free_good (blocks spot) (tied.valid.flights.erases spot.die spot flies).free in
+      let within = (fit.erases spot.die spot flies).block in
+      let l = is_inside spot.die (Erasing spot) flies in
+      record {
+        pages =
+            ap (λ (array : Array). λ (p : Place). if in_block n spot p then blank_page else array p) fit.pages
+            ∙ erase_pages n dies spot fit.sizes l within;
+        blocks_fit = erase_blocks n dies blocks spot fit.sizes l within good fit.blocks_fit;
+      }
+
+  pub finish_fits : (die : ℕ) (flight : Flight) → HaveNoRequest s.tasks → s.translation.work.plan ≡ None →
+      flights die ≡ Some flight →
+      FitState (done_by die flight) (slice_set jobs die None)
+      (observe s (Done die (ended_well flight) s.array) (OfDone true))
+  finish_fits die flight none no_plan flies =
+      let array = array_behind s flight (ended_well flight) s.array in
+      let blocks = blocks_behind s.translation flight in
+      let u = observe s (Done die (ended_well flight) s.array) (OfDone true) in
+      let home = lies_home die flight flies in
+      let l = is_inside die flight flies in
+      let as_many = fit.as_many in
+      let inside : die < length jobs = omega arith in
+      let put : AreBehind n (done_by die flight) array blocks =
+      subst (λ (e : ℕ). flights e ≡ Some flight → AreBehind n (done_by e flight) array blocks) home
+      (are_behind flight) flies in
+      let known : FitSeen (done_by die flight) (slice_set jobs die None) (at_die flights die None)
+      (seen_over array (layer_behind s.translation flight)) =
+      record {
+        sizes = put_sizes n dies die (job_of flight) fit.sizes l;
+        pages = put.pages;
+        as_many =
+            length-set jobs die None ∙ fit.as_many
+            ∙ sym (length-set dies die (after_job (die_at dies die) (job_of flight)));
+        jobs_are = put_jobs jobs flights die None inside fit.jobs_are;
+        blocks_fit = put.blocks_fit;
+        erases = λ other spot e.
+            ⊎_elim
+            (λ (k : (other ≡ die) × (None ≡ Some (Erasing spot))). absurd (none-some (Erasing spot) k.1))
+            (λ (k : (other ≢ die) × (flights other ≡ Some (Erasing spot))). fit.erases other spot k.1)
+            (at_die_is flights die None other (Some (Erasing spot)) e);
+      } in
+      subst (FitSeen (done_by die flight) (slice_set jobs die None) u.translation.disk.flights)
+      (sym (seen_behind s die flight no_plan flies))
+      (subst
+      (λ (g : ℕ → Option Flight).
+      FitSeen (done_by die flight) (slice_set jobs die None) g (seen_over array (layer_behind s.translation flight)))
+      (sym (flights_behind s die flight none flies home)) known)
 
 -- The opening
 

@@ -1,5 +1,5 @@
 -- What an event shows leads to a state that the world then fits.
-use Rattle.std.proofs.Common.{◌≡◌, ◌∙◌, ℕ, ◌<◌, Bool, true, List, Option, Some, None, length, refl, sym, ap, subst}
+use Rattle.std.proofs.Common.{◌≡◌, ◌∙◌, ℕ, Bool, true, List, Option, Some, None, refl, sym, ap, subst}
 use Rattle.std.specs.Prelude.{slice_set, option_map, Result}
 use Rattle.ufs_spec.specs.Cells.{Array}
 use Rattle.ufs_spec.specs.Dies.{CanDo, after_job, outcome_of}
@@ -13,7 +13,7 @@ use Rattle.ufs_spec.specs.declared.faults.HostFault.{HostFault}
 use Rattle.ufs_spec.specs.declared.flash.Job.{Job}
 use Rattle.ufs_spec.specs.declared.flash.Outcome.{Outcome}
 use Rattle.ufs_spec.specs.declared.messages.Message.{Message}
-use Rattle.device.specs.Calls.{told}
+use Rattle.ftl_core.specs.Limits.{in_this_stage}
 use Rattle.device.specs.Describes.{IsAnswered, IsGiven, IsHeardAs, IsReplied}
 use Rattle.device.specs.Kept.{DeviceCore, WorldState}
 use Rattle.device.specs.Worlds.{FitState, Fits, Went, die_at, job_at, jobs_given}
@@ -45,7 +45,7 @@ heard_went w after s e bytes result call fit h = (
     right = h.answered.right;
     next = refl;
   },
-  record { describes = h.answered.describes; dies_fit = hears_fit w.dies w.jobs s h.heard result fit.dies_fit },
+  record { describes = h.answered.describes; dies_fit = hears_fit w.dies w.jobs s fit.dies_fit h.heard result },
 )
 
 pub stepped_went : (w : WorldState) (after : DeviceCore) (s : State) (due : Bool) → Fits w s →
@@ -54,7 +54,7 @@ pub stepped_went : (w : WorldState) (after : DeviceCore) (s : State) (due : Bool
 stepped_went w after s due fit h = (
   observe s Turn (OfTurn due),
   record { call = Turn; answer = OfTurn due; is_call = refl; is_shown = refl; right = h.right; next = refl },
-  record { describes = h.describes; dies_fit = steps_fit w.dies w.jobs s due fit.dies_fit },
+  record { describes = h.describes; dies_fit = steps_fit w.dies w.jobs s fit.dies_fit due },
 )
 
 pub silent_went : (w : WorldState) (after : DeviceCore) (s : State) → Fits w s →
@@ -63,7 +63,7 @@ pub silent_went : (w : WorldState) (after : DeviceCore) (s : State) → Fits w s
 silent_went w after s fit h = (
   observe s Reply (OfReply None),
   record { call = Reply; answer = OfReply None; is_call = refl; is_shown = refl; right = h.right; next = refl },
-  record { describes = h.describes; dies_fit = asks_fit w.dies w.jobs s None fit.dies_fit },
+  record { describes = h.describes; dies_fit = asks_fit w.dies w.jobs s fit.dies_fit None },
 )
 
 pub replied_went : (w : WorldState) (after : DeviceCore) (s : State) (bytes : List ℕ) (o : Output) →
@@ -79,7 +79,7 @@ replied_went w after s bytes o shows fit h = (
     right = h.answered.right;
     next = refl;
   },
-  record { describes = h.answered.describes; dies_fit = asks_fit w.dies w.jobs s (Some h.reply) fit.dies_fit },
+  record { describes = h.answered.describes; dies_fit = asks_fit w.dies w.jobs s fit.dies_fit (Some h.reply) },
 )
 
 -- Jobs
@@ -101,7 +101,7 @@ given_went w after s die told fit h = (
     describes = h.answered.describes;
     dies_fit =
         subst (λ (j : Option Job). FitState w.dies (jobs_given w.jobs die j) (observe s (Take die) (OfTake h.flight)))
-        (sym h.shown) (gives_fit w.dies w.jobs s die h.flight fit.dies_fit h.answered.right);
+        (sym h.shown) (gives_fit w.dies w.jobs s fit.dies_fit die h.flight h.answered.right);
   },
 )
 
@@ -116,11 +116,11 @@ has_flight : (w : WorldState) (s : State) (die : ℕ) (j : Job) → Fits w s →
 has_flight w s die j fit is = flight_of j (s.translation.disk.flights die) (sym (fit.dies_fit.jobs_are die) ∙ is)
 
 pub finish_can : (w : WorldState) (s : State) (die : ℕ) (j : Job) → Fits w s → job_at w.jobs die ≡ Some j →
-    (die < length w.dies) × CanDo (die_at w.dies die) j
+    CanDo (die_at w.dies die) j
 finish_can w s die j fit is =
     let f = has_flight w s die j fit is in
-    let r = can_finish w.dies w.jobs s die f.0 fit.describes.tied.valid fit.dies_fit f.1 in
-    (r.0, subst (CanDo (die_at w.dies die)) f.2 r.1)
+    subst (CanDo (die_at w.dies die)) f.2
+    (can_finish w.dies w.jobs s fit.dies_fit fit.describes.tied die f.0 f.1)
 
 finish_call : (s : State) (die : ℕ) (flight : Flight) → s.translation.disk.flights die ≡ Some flight →
     IsCall s (event.Finish die) (Done die (ended_well flight) s.array)
@@ -139,7 +139,7 @@ pub finish_went : (w : WorldState) (after : DeviceCore) (s : State) (die : ℕ) 
     }) (Some output.Ended)
 finish_went w after s die j o fit is out answered =
     let f = has_flight w s die j fit is in
-    let ending = finish_ending w.dies w.jobs s die f.0 fit.describes.tied fit.dies_fit f.1 in
+    let ending = finish_ending w.dies w.jobs s fit.dies_fit fit.describes.tied die f.0 f.1 in
     let same : outcome_of (die_at w.dies die) (job_of f.0) ≡ o = ap (outcome_of (die_at w.dies die)) f.2 ∙ sym out in
     let a = answered (ended_well f.0) s.array
     (subst (λ (x : Outcome). IsEndingOf s.translation.disk.cells (s.translation.disk.flights die) x (ended_well f.0))
@@ -160,8 +160,8 @@ finish_went w after s die j o fit is out answered =
             (λ (x : Job). FitState (slice_set w.dies die (after_job (die_at w.dies die) x)) (slice_set w.jobs die None)
             (observe s (Done die (ended_well f.0) s.array) (OfDone true)))
             f.2
-            (finish_fits w.dies w.jobs s die f.0 fit.describes.tied.valid
+            (finish_fits w.dies w.jobs s fit.dies_fit fit.describes.tied die f.0
             (no_requests (before_accepted s.translation.ledger) w.core.tasks s.tasks fit.describes.kept.tasks)
-            fit.describes.kept.layer_kept.kept.work.no_plan fit.dies_fit f.1);
+            (in_this_stage w.core.ftl s.translation fit.describes.kept.layer_kept).plan f.1);
       },
     )

@@ -7,8 +7,7 @@ use Rattle.ufs_spec.specs.Disk.{Erasing, Flight, ForNobody, ForRest, ForStep, Fo
 use Rattle.ufs_spec.specs.Moves.{LetGo, LetGoAll, WantPage, is_for, is_for_task, is_pin_of, moved, with_wanted}
 use Rattle.ufs_spec.specs.Moves.{without_reader}
 use Rattle.ufs_spec.specs.Translation.{Pin, Translation}
-use Rattle.power_loss.proofs.open_tasks.FoundInLists.{found_is}
-use Rattle.device.proofs.open_tasks.ReadProgress.{find_gone, find_left, find_map, pin_for, wanted_for}
+use Rattle.device.proofs.open_tasks.ReadProgress.{find_gone, find_left, want_set_else, wanted_for}
 
 -- those of a reader
 pub gone_pins : (one : ℕ) (pins : List Pin) → wanted_for one (filter (λ pin. not (pin.tag == one)) pins) ≡ None
@@ -27,25 +26,13 @@ other_pins one tag pins other =
 pub wants_next : (one tag : ℕ) (pins : List Pin) → wanted_for tag (map (with_wanted one 1 true) pins) ≡ wanted_for tag
     pins
 wants_next one tag pins =
-    ap (option_map (λ (p : Pin). p.wanted)) (find_map (is_pin_of tag 0) (with_wanted one 1 true)
-    (λ p. same p (is_pin_of one 1 p)) pins) ∙ by (pin_for tag pins) refl
+    want_set_else one 1 true tag pins
+    (λ pin e. ap (λ (n : ℕ). (pin.tag == one) && (n == 1)) (eqb-true pin.index 0 (and_parts _ _ e).1)
+    ∙ right (pin.tag == one))
   where
-    same : (p : Pin) (b : Bool) → is_pin_of tag 0 (if b then record p { wanted = true } else p) ≡ is_pin_of tag 0 p
-    same p true = refl
-    same p false = refl
-
     right : (b : Bool) → (b && false) ≡ false
     right true = refl
     right false = refl
-
-    by : (o : Option Pin) → pin_for tag pins ≡ o →
-        option_map (λ (p : Pin). p.wanted) (option_map (with_wanted one 1 true) o) ≡ option_map (λ (p : Pin). p.wanted)
-        o
-    by None e = refl
-    by (Some p) e =
-        ap (λ b. Some (if b then record p { wanted = true } else p).wanted)
-        (ap (λ (n : ℕ). (p.tag == one) && (n == 1))
-        (eqb-true p.index 0 (and_parts _ _ (found_is (is_pin_of tag 0) pins p e)).1) ∙ right (p.tag == one))
 
 pub gone_first : (one : ℕ) (pins : List Pin) →
     wanted_for one (map (with_wanted one 1 true) (filter (λ pin. not (is_pin_of one 0 pin)) pins)) ≡ None

@@ -1,9 +1,10 @@
 -- A reply that is handed out is due, and none is due where none is handed out.
 use Rattle.std.proofs.Common.{◌≡◌, ◌∙◌, ℕ, suc, Bool, true, false, List, [], ◌∷◌, Option, Some, None, length, map, refl}
 use Rattle.std.proofs.Common.{sym, ap, subst, inl, inr, arith}
-use Rattle.std.specs.Prelude.{◌==◌, if◌then◌else◌, nat_le, not, option_map, remove, slice_get}
+use Rattle.std.specs.Prelude.{◌==◌, if◌then◌else◌, nat_le, nat_lt, not, option_map, remove, slice_get}
+use Rattle.std.proofs.lemmas.Bool.Decides.{nat_tests}
 use Rattle.std.specs.List.{list_any}
-use Rattle.ufs_spec.proofs.Facts.{none-some, or_parts, same_Some}
+use Rattle.ufs_spec.proofs.Facts.{none-some, or_parts}
 use Rattle.ufs_spec.specs.Exchanges.{Short, is_short_of, task_of, without_short}
 use Rattle.ufs_spec.specs.Ledger.{before_accepted}
 use Rattle.ufs_spec.specs.Machine.{Due, OfReply, Reply, deed_reply, replied, replied_by, short_replied, tag_in}
@@ -69,9 +70,17 @@ replies_right d e s k task m h there due left layer =
 
 -- Replies to commands that were refused
 
-first_refused : (rs : List Refused) (r : Refused) → slice_get rs 0 ≡ Some r → (more : List Refused) × (rs ≡ r ∷ more)
-first_refused [] r h = absurd (none-some r h)
-first_refused (x ∷ xs) r h = (xs, ap (λ (z : Refused). z ∷ xs) (same_Some x r h))
+pub first_of : (rs : List Refused) → nat_lt 0 (length rs) ≡ true →
+    (r : Refused) × (more : List Refused) × (rs ≡ r ∷ more)
+first_of [] some = cc
+first_of (r ∷ rs) some = (r, rs, refl)
+
+pub none_in : (rs : List Refused) → nat_lt 0 (length rs) ≡ false → rs ≡ []
+none_in [] none = refl
+none_in (r ∷ rs) none = absurd (no none)
+  where
+    no : nat_lt 0 (suc (length rs)) ≡ false → ⊥
+    no e = grind (arith, nat_tests)
 
 -- where none has the tag, none goes
 none_goes : (tag : ℕ) (xs : List Short) → list_any (is_short_of tag) xs ≡ false → without_short tag xs ≡ xs
@@ -88,18 +97,17 @@ first_goes all xs x is differ =
     ∙ (if_false (not (x.tag == x.tag)) (x ∷ without_short x.tag xs) (without_short x.tag xs) (ap not (eq_self x.tag))
     ∙ none_goes x.tag xs (subst ShortsDiffer is differ).0)
 
-pub shorts_right : (d : DeviceCore) (s : State) (r : Refused) → Describes d s → slice_get d.refused 0 ≡ Some r →
+pub shorts_right : (d : DeviceCore) (s : State) (r : Refused) (rs : List Refused) → Describes d s → d.refused ≡ r ∷ rs →
     IsAnswered s Reply (OfReply (Some (full_answer r))) (without_first d)
-shorts_right d s r h there =
-    let rs = first_refused d.refused r there in
-    let all : s.shorts ≡ short_kept r ∷ map short_kept rs.0 = h.kept.shorts ∙ ap (map short_kept) rs.1 in
+shorts_right d s r rs h is =
+    let all : s.shorts ≡ short_kept r ∷ map short_kept rs = h.kept.shorts ∙ ap (map short_kept) is in
     let at : slice_get s.shorts 0 ≡ Some (short_kept r) = ap (λ (xs : List Short). slice_get xs 0) all in
-    answered_as d (without_first d) s (record s { shorts = map short_kept rs.0 }) Reply (OfReply (Some (full_answer r)))
+    answered_as d (without_first d) s (record s { shorts = map short_kept rs }) Reply (OfReply (Some (full_answer r)))
     h tt
     (inr (0, short_kept r, at, refl, refl))
     (ap (replied_by s r.tag) (no_task_found s.shorts s.tasks 0 (short_kept r) h.tied.tasks.apart at)
     ∙ (ap (short_replied s) (found_short s.shorts 0 (short_kept r) h.tied.tasks.shorts_differ at)
-    ∙ ap (λ (xs : List Short). record s { shorts = xs }) (first_goes s.shorts (map short_kept rs.0) (short_kept r) all
+    ∙ ap (λ (xs : List Short). record s { shorts = xs }) (first_goes s.shorts (map short_kept rs) (short_kept r) all
     h.tied.tasks.shorts_differ)))
     (record {
       keeps = record {
@@ -108,7 +116,7 @@ shorts_right d s r h there =
         few = h.kept.few;
         tasks = h.kept.tasks;
         blocks = h.kept.blocks;
-        shorts = ap (map short_kept) (sym (ap (λ (xs : List Refused). remove xs 0) rs.1));
+        shorts = ap (map short_kept) (sym (ap (λ (xs : List Refused). remove xs 0) is));
         power_off = h.kept.power_off;
       };
       told = h.told;
@@ -122,26 +130,17 @@ OwesNone d t = (k : ℕ) (task : Task) → slice_get d.tasks k ≡ Some task →
 no_message : (x y : Option Message) (m : Message) → x ≡ Some m → x ≡ y → y ≡ None → ⊥
 no_message x y m e f g = cc
 
-none_refused : (rs : List Refused) (xs : List Short) (k : ℕ) (x : Short) → length rs ≡ 0 → xs ≡ map short_kept rs →
-    slice_get xs k ≡ Some x → ⊥
-none_refused [] xs k x none is at = no (sym (ap (λ (ys : List Short). slice_get ys k) is) ∙ at)
-  where
-    no : None ≡ Some x → ⊥
-    no e = cc
-none_refused (r ∷ rs) xs k x none is at = absurd (no (length rs) none)
-  where
-    no : (n : ℕ) → suc n ≡ 0 → ⊥
-    no n e = omega arith
-
-none_due : (d : DeviceCore) (s : State) → Describes d s → OwesNone d s.translation → length d.refused ≡ 0 →
+none_due : (d : DeviceCore) (s : State) → Describes d s → OwesNone d s.translation → d.refused ≡ [] →
     (m : Message) → Due s m → ⊥
 none_due d s h none empty m (inl due) =
     let r = our_task (before_accepted s.translation.ledger) due.0 d.tasks s.tasks due.1 h.kept.tasks due.2 in
     no_message (deed_reply s due.1 due.1.deed) (owed_by s.translation d.loaded r.0) m due.3
     (same_reply d s r.0 due.1 h r.1.kept (found_task s.tasks due.0 due.1 h.tied.tasks.tasks_differ due.2))
     (none due.0 r.0 r.1.ours)
-none_due d s h none empty m (inr due) = none_refused d.refused s.shorts due.0 due.1 empty h.kept.shorts due.2
+none_due d s h none empty m (inr due) =
+    none-some due.1
+    (sym (ap (λ (xs : List Short). slice_get xs due.0) (h.kept.shorts ∙ ap (map short_kept) empty)) ∙ due.2)
 
-pub silence_right : (d : DeviceCore) (s : State) → Describes d s → OwesNone d s.translation → length d.refused ≡ 0 →
+pub silence_right : (d : DeviceCore) (s : State) → Describes d s → OwesNone d s.translation → d.refused ≡ [] →
     IsAnswered s Reply (OfReply None) d
 silence_right d s h none empty = answered d d s Reply (OfReply None) h tt (none_due d s h none empty) (stays d s h)

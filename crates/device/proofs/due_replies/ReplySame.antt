@@ -7,7 +7,7 @@ use Rattle.std.proofs.lemmas.Bool.Decides.{nat_tests}
 use Rattle.ufs_spec.proofs.Facts.{and_parts, eqb-true, false≢true, ltb-false, ltb-true, none-some, same_Some}
 use Rattle.ufs_spec.specs.Exchanges as exchange
 use Rattle.ufs_spec.specs.Exchanges.{Answering, Awaiting, Deed, Gathering, Good, NotRead, ReadBlock, ReadState, Sending}
-use Rattle.ufs_spec.specs.Exchanges.{SendingBytes, Unread, WasRead, count_at, ready_message, response, task_of}
+use Rattle.ufs_spec.specs.Exchanges.{Unread, WasRead, count_at, ready_message, response, task_of}
 use Rattle.ufs_spec.specs.Ledger as ledger
 use Rattle.ufs_spec.specs.Ledger.{Entry, InSlot, Ledger, Name, OnPage, Unwritten, before_accepted, entry_of}
 use Rattle.ufs_spec.specs.Machine as machine
@@ -23,6 +23,7 @@ use Rattle.power_loss.specs.Shown.{IsShown, ShowsBlock, ShowsRight}
 use Rattle.power_loss.proofs.open_tasks.FoundInLists.{found_is}
 use Rattle.power_loss.proofs.books.SmallFacts.{if_false, if_true, two_ways}
 use Rattle.power_loss.proofs.ordered_lists.ElementsAndOrders.{all_in, found_in}
+use Rattle.ftl_core.specs.Limits.{in_this_stage}
 use Rattle.device.specs.declared.tasks.Loaded.{Loaded}
 use Rattle.device.specs.declared.tasks.Phase.{Phase}
 use Rattle.device.specs.declared.tasks.Phase.TheVariants as phase
@@ -77,47 +78,31 @@ counts x some = ⊎_elim
     short : x ≤ 4096 → min 4096 (min x 4096 - 0) ≡ x
     short l = omega arith
 
--- the message of a block is the one that the definitions say
-same_block : (a : Task) (b : exchange.Task) (body : List ℕ) → b.lun ≡ a.lun → b.tag ≡ a.tag → b.expected ≡ a.expected →
-    b.length ≡ 4096 → 1 ≤ a.expected →
-    exchange.block_message b 0 body ≡ block_message a body
-same_block a b body lun tag expected length some =
-    (λ i. message.DataIn (lun i) (tag i) 0 (record { items = take (count_at (min (expected i) (length i)) 0) body }))
-    ∙ ap (λ (x : ℕ). message.DataIn a.lun a.tag 0 (record { items = take x body })) (counts a.expected some)
-
-answer_same : (a : Task) (b : exchange.Task) (n m : ℕ) (x y : exchange.Status) → b.lun ≡ a.lun → b.tag ≡ a.tag →
-    b.expected ≡ a.expected → n ≡ m → x ≡ y →
-    response b.lun b.tag b.expected n x ≡ response a.lun a.tag a.expected m y
-answer_same a b n m x y lun tag expected length status = cc
-
 -- Blocks
 
--- a slot has the body of its page
-in_slot : (l : Ledger) (a : Task) (b : exchange.Task) (key : Key) (body : List ℕ) (name : Name) →
-    exchange.block_message b 0 body ≡ block_message a body → IsShown l key (InSlot name) body →
-    Some (exchange.block_message b 0 body)
-    ≡ option_map (block_message a) (option_map (λ (e : Entry). e.item.body) (entry_of l name))
-in_slot l a b key body name same shown =
-    ap (λ z. Some z) (same ∙ ap (block_message a) (sym shown.body_is))
-    ∙ sym (ap (λ (e : Option Entry). option_map (block_message a) (option_map (λ (x : Entry). x.item.body) e)) shown.is)
-
 -- a block is at hand, or was read, just where the definitions say so
-in_hand : (l : Ledger) (loaded : List Loaded) (a : Task) (b : exchange.Task) (key : Key) (body : List ℕ)
-    (state : ReadState)
-    (kept : ledger.Looked) → exchange.block_message b 0 body ≡ block_message a body → IsShown l key kept body →
-    is_lost state ≡ false → loaded_for loaded a.tag ≡ first_of (progress_by body state).read →
-    block_reply b 0 body state (needs_no_read [] kept) ≡ option_map (block_message a) (block_at l loaded a.tag kept)
-in_hand l loaded a b key body NotRead kept same shown fine read = absurd (false≢true (sym fine))
-in_hand l loaded a b key body Unread Unwritten same shown fine read =
-    ap (λ z. Some z) (same ∙ ap (block_message a) shown)
-in_hand l loaded a b key body WasRead Unwritten same shown fine read =
-    ap (λ z. Some z) (same ∙ ap (block_message a) shown)
-in_hand l loaded a b key body Unread (InSlot name) same shown fine read = in_slot l a b key body name same shown
-in_hand l loaded a b key body WasRead (InSlot name) same shown fine read = in_slot l a b key body name same shown
-in_hand l loaded a b key body Unread (OnPage name place) same shown fine read =
-    ap (option_map (block_message a)) (sym read)
-in_hand l loaded a b key body WasRead (OnPage name place) same shown fine read =
-    ap (λ z. Some z) same ∙ ap (option_map (block_message a)) (sym read)
+module _ (l : Ledger) (loaded : List Loaded) (a : Task) (b : exchange.Task) (key : Key) (body : List ℕ)
+    (same : exchange.block_message b 0 body ≡ block_message a body) where
+  -- a slot has the body of its page
+  in_slot : (name : Name) → IsShown l key (InSlot name) body →
+      Some (exchange.block_message b 0 body)
+      ≡ option_map (block_message a) (option_map (λ (e : Entry). e.item.body) (entry_of l name))
+  in_slot name shown =
+      ap (λ z. Some z) (same ∙ ap (block_message a) (sym shown.body_is))
+      ∙ sym (ap (λ (e : Option Entry). option_map (block_message a) (option_map (λ (x : Entry). x.item.body) e))
+      shown.is)
+
+  in_hand : (state : ReadState) (kept : ledger.Looked) → IsShown l key kept body → is_lost state ≡ false →
+      loaded_for loaded a.tag ≡ first_of (progress_by body state).read →
+      block_reply b 0 body state (needs_no_read [] kept) ≡ option_map (block_message a) (block_at l loaded a.tag kept)
+  in_hand NotRead kept shown fine read = absurd (false≢true (sym fine))
+  in_hand Unread Unwritten shown fine read = ap (λ z. Some z) (same ∙ ap (block_message a) shown)
+  in_hand WasRead Unwritten shown fine read = ap (λ z. Some z) (same ∙ ap (block_message a) shown)
+  in_hand Unread (InSlot name) shown fine read = in_slot name shown
+  in_hand WasRead (InSlot name) shown fine read = in_slot name shown
+  in_hand Unread (OnPage name place) shown fine read = ap (option_map (block_message a)) (sym read)
+  in_hand WasRead (OnPage name place) shown fine read =
+      ap (λ z. Some z) same ∙ ap (option_map (block_message a)) (sym read)
 
 -- what a READ keeps for its block
 record HasPin (s : State) (b : exchange.Task) (body : List ℕ) : Type 0 where
@@ -126,123 +111,120 @@ record HasPin (s : State) (b : exchange.Task) (body : List ℕ) : Type 0 where
   key : Key
   shown : IsShown s.translation.ledger key pin.looked body
 
-has_pin : (d : DeviceCore) (s : State) (b : exchange.Task) (block : ReadBlock) → Describes d s →
-    task_of b.tag s.tasks ≡ Some b →
-    b.deed ≡ Sending (block ∷ []) 0 → HasPin s b block.body
-has_pin d s b block h found deed = by (pin_for b.tag s.translation.pins) refl
-  where
-    kept : wanted_for b.tag s.translation.pins ≡ (progress_by block.body block.state).wanted
-    kept = ap (λ (p : Progress). p.wanted) (h.kept.blocks b.tag ∙ (ap progress_of found ∙ ap progress_in deed))
-
-    wants : (state : ReadState) → option_map (λ (pin : Pin). pin.wanted) None ≡ (progress_by block.body state).wanted →
-        ⊥
-    wants Unread e = none-some true e
-    wants WasRead e = none-some false e
-    wants NotRead e = none-some false e
-
-    by : (o : Option Pin) → pin_for b.tag s.translation.pins ≡ o → HasPin s b block.body
-    by None e = absurd (wants block.state (sym (ap (option_map (λ (pin : Pin). pin.wanted)) e) ∙ kept))
-    by (Some pin) e =
-        let its = and_parts _ _ (found_is (is_pin_of b.tag 0) s.translation.pins pin e) in
-        let right = all_in (ShowsRight s.translation.ledger s.tasks) pin s.translation.pins h.shows
-        (found_in (is_pin_of b.tag 0) s.translation.pins pin e).0 in
-        let same : right.task ≡ b =
-        same_Some right.task b (sym right.there ∙ (ap (λ n. task_of n s.tasks) (eqb-true pin.tag b.tag its.0)
-        ∙ found)) in
-        let shows : ShowsBlock s.translation.ledger pin.looked 0 (Sending (block ∷ []) 0) =
-        subst (λ x. x) (λ i. ShowsBlock s.translation.ledger pin.looked (eqb-true pin.index 0 its.1 i)
-        ((ap (λ (x : exchange.Task). x.deed) same ∙ deed) i)) right.shows in
-        let shown = shows block refl in
-        record {
-          pin = pin;
-          found = e;
-          key = shown.0;
-          shown = shown.1;
-        }
-
--- Each deed
-
-sending_same : (d : DeviceCore) (s : State) (a : Task) (b : exchange.Task) (blocks : List ReadBlock) (sent : ℕ) →
-    Describes d s → TaskKept (before_accepted s.translation.ledger) a b → task_of b.tag s.tasks ≡ Some b →
-    b.deed ≡ Sending blocks sent → IsSending a.expected b.length blocks sent →
-    next_block_reply s b sent (slice_get blocks sent)
-    ≡ option_map (block_message a) (block_for s.translation d.loaded a.tag)
-sending_same d s a b blocks sent h k found deed is =
-    (λ i. next_block_reply s b (is.none_sent i) (slice_get (is.one i) (is.none_sent i)))
-    ∙ (ap (λ (rests : List layer.Rest). block_reply b 0 is.block.body is.block.state
-    (is_at_hand rests (machine.pin_of s b 0)))
-    h.kept.layer_kept.kept.work.no_rests
-    ∙ (ap (λ x. block_reply b 0 is.block.body is.block.state (is_at_hand [] x)) pin.found
-    ∙ (in_hand s.translation.ledger d.loaded a b pin.key is.block.body is.block.state pin.pin.looked
-    (same_block a b is.block.body k.lun k.tag k.expected is.length_is is.some) pin.shown is.readable read
-    ∙ ap (λ x. option_map (block_message a) (block_of s.translation.ledger d.loaded a.tag x)) (sym pinned))))
-  where
-    one : b.deed ≡ Sending (is.block ∷ []) 0
-    one = deed ∙ (λ i. Sending (is.one i) (is.none_sent i))
-
-    pin : HasPin s b is.block.body
-    pin = has_pin d s b is.block h found one
-
-    pinned : find (is_pin_of a.tag 0) s.translation.pins ≡ Some pin.pin
-    pinned = subst (λ n. find (is_pin_of n 0) s.translation.pins ≡ Some pin.pin) k.tag pin.found
-
-    read : loaded_for d.loaded a.tag ≡ first_of (progress_by is.block.body is.block.state).read
-    read = loaded_first a.tag d.loaded ∙ ap first_of (ap (λ n. read_for n d.loaded) (sym k.tag)
-        ∙ ap (λ (p : Progress). p.read) (h.kept.blocks b.tag ∙ (ap progress_of found ∙ ap progress_in one)))
-
-lost_same : (s : State) (a : Task) (b : exchange.Task) (before : ℕ) (blocks : List ReadBlock) (sent : ℕ) (told : Status)
-    (n : ℕ) → TaskKept before a b →
-    IsLost blocks sent told n → next_block_reply s b sent (slice_get blocks sent) ≡ Some (answer_of a told n)
-lost_same s a b before blocks sent told n k is =
-    (λ i. next_block_reply s b (is.none_sent i) (slice_get (is.one i) (is.none_sent i)))
-    ∙ (ap (λ (x : ReadState). block_reply b 0 is.block.body x
-    (is_at_hand s.translation.work.rests (machine.pin_of s b 0))) is.lost
-    ∙ ap (λ z. Some z) (answer_same a b 0 n exchange.read_error (status_kept told) k.lun k.tag k.expected
-    (sym is.nothing) (sym (ap status_kept is.told_is))))
-
 same_test : (before n frontier commands : ℕ) → before ≤ frontier → n ≡ before + commands →
     nat_le commands (frontier - before) ≡ nat_le n frontier
 same_test before n frontier commands above is = grind (arith, nat_tests)
 
-awaiting_same : (d : DeviceCore) (s : State) (a : Task) (b : exchange.Task) (n commands : ℕ) → Describes d s →
-    TaskKept (before_accepted s.translation.ledger) a b → n ≡ before_accepted s.translation.ledger + commands →
-    b.length ≡ 4096 → deed_reply s b (Awaiting commands) ≡ owed_in s.translation d.loaded a (phase.AwaitFrontier n)
-awaiting_same d s a b n commands h k is length =
-    let above = h.tied.valid.frontier.above in
-    let none = h.kept.layer_kept.kept.ledger_kept.repairs in
-    let l = s.translation.ledger in
-    ap (λ (x : Bool). if x then Some (response b.lun b.tag b.expected b.length Good) else None)
-    (same_test (before_accepted l) n l.frontier commands (omega arith) is)
-    ∙ ap (λ (m : Message). if nat_le n l.frontier then Some m else None)
-    (answer_same a b b.length 4096 Good Good k.lun k.tag k.expected length refl)
+-- Each deed
 
-asking_same : (a : Task) (b : exchange.Task) (gathered : List ℕ) (asked : Bool) → b.lun ≡ a.lun → b.tag ≡ a.tag →
-    gathered ≡ [] → b.length ≡ 4096 → asked ≡ false →
-    (if asked then None else Some (ready_message b gathered)) ≡ Some (message.ReadyToTransfer a.lun a.tag 0 4096)
-asking_same a b gathered asked lun tag none length is =
-    ap (λ x. if x then None else Some (ready_message b gathered)) is
-    ∙ (ap (λ x. Some (ready_message b x)) none
-    ∙ (λ i. Some (message.ReadyToTransfer (lun i) (tag i) 0 (count_at (length i) 0))))
+module _ (d : DeviceCore) (s : State) (a : Task) (b : exchange.Task) (h : Describes d s)
+    (k : TaskKept (before_accepted s.translation.ledger) a b) (found : task_of b.tag s.tasks ≡ Some b) where
+  -- the message of a block is the one that the definitions say
+  same_block : (body : List ℕ) → b.length ≡ 4096 → 1 ≤ a.expected →
+      exchange.block_message b 0 body ≡ block_message a body
+  same_block body length some =
+      (λ i. message.DataIn (k.lun i) (k.tag i) 0
+      (record { items = take (count_at (min (k.expected i) (length i)) 0) body }))
+      ∙ ap (λ (x : ℕ). message.DataIn a.lun a.tag 0 (record { items = take x body })) (counts a.expected some)
 
-same_in : (d : DeviceCore) (s : State) (a : Task) (b : exchange.Task) (p : Phase) (deed : Deed) → Describes d s →
-    TaskKept (before_accepted s.translation.ledger) a b →
-    task_of b.tag s.tasks ≡ Some b → b.deed ≡ deed → IsDoing (before_accepted s.translation.ledger) a.expected b.length
-    p deed → deed_reply s b deed ≡ owed_in s.translation d.loaded a p
-same_in d s a b (phase.AskData key) (Gathering purpose gathered asked) h k found e is =
-    asking_same a b gathered asked k.lun k.tag is.0.none_gathered is.0.length_is is.1
-same_in d s a b (phase.AwaitData key) (Gathering purpose gathered asked) h k found e is =
-    ap (λ x. if x then None else Some (ready_message b gathered)) is.1
-same_in d s a b (phase.AwaitFrontier n) (Awaiting commands) h k found e is =
-    awaiting_same d s a b n commands h k is.0 is.1
-same_in d s a b phase.SendBlock (Sending blocks sent) h k found e is = sending_same d s a b blocks sent h k found e is
-same_in d s a b (phase.Answer told n) (Answering x carried) h k found e is =
-    ap (λ z. Some z) (answer_same a b carried n x (status_kept told) k.lun k.tag k.expected is.1 is.0)
-same_in d s a b (phase.Answer told n) (Sending blocks sent) h k found e is =
-    lost_same s a b (before_accepted s.translation.ledger) blocks sent told n k is
-same_in d s a b p deed h k found e is = absurd is
+  answer_same : (n m : ℕ) (x y : exchange.Status) → n ≡ m → x ≡ y →
+      response b.lun b.tag b.expected n x ≡ response a.lun a.tag a.expected m y
+  answer_same n m x y length status i = response (k.lun i) (k.tag i) (k.expected i) (length i) (status i)
 
--- the same reply is due of both sides' task
-pub same_reply : (d : DeviceCore) (s : State) (a : Task) (b : exchange.Task) → Describes d s →
-    TaskKept (before_accepted s.translation.ledger) a b →
-    task_of b.tag s.tasks ≡ Some b → deed_reply s b b.deed ≡ owed_by s.translation d.loaded a
-same_reply d s a b h k found = same_in d s a b a.phase b.deed h k found refl k.doing
+  has_pin : (block : ReadBlock) → b.deed ≡ Sending (block ∷ []) 0 → HasPin s b block.body
+  has_pin block deed = by (pin_for b.tag s.translation.pins) refl
+    where
+      kept : wanted_for b.tag s.translation.pins ≡ (progress_by block.body block.state).wanted
+      kept = ap (λ (p : Progress). p.wanted) (h.kept.blocks b.tag ∙ (ap progress_of found ∙ ap progress_in deed))
+
+      wants : (state : ReadState) → None ≡ (progress_by block.body state).wanted → ⊥
+      wants Unread e = none-some true e
+      wants WasRead e = none-some false e
+      wants NotRead e = none-some false e
+
+      by : (o : Option Pin) → pin_for b.tag s.translation.pins ≡ o → HasPin s b block.body
+      by None e = absurd (wants block.state (sym (ap (option_map (λ (pin : Pin). pin.wanted)) e) ∙ kept))
+      by (Some pin) e =
+          let its = and_parts _ _ (found_is (is_pin_of b.tag 0) s.translation.pins pin e) in
+          let right = all_in (ShowsRight s.translation.ledger s.tasks) pin s.translation.pins h.shows
+          (found_in (is_pin_of b.tag 0) s.translation.pins pin e).0 in
+          let same : right.task ≡ b =
+          same_Some right.task b (sym right.there ∙ (ap (λ n. task_of n s.tasks) (eqb-true pin.tag b.tag its.0)
+          ∙ found)) in
+          let shows : ShowsBlock s.translation.ledger pin.looked 0 (Sending (block ∷ []) 0) =
+          subst (λ x. x) (λ i. ShowsBlock s.translation.ledger pin.looked (eqb-true pin.index 0 its.1 i)
+          ((ap (λ (x : exchange.Task). x.deed) same ∙ deed) i)) right.shows in
+          let shown = shows block refl in
+          record { pin = pin; found = e; key = shown.0; shown = shown.1 }
+
+  sending_same : (blocks : List ReadBlock) (sent : ℕ) → b.deed ≡ Sending blocks sent →
+      IsSending a.expected b.length blocks sent →
+      next_block_reply s b sent (slice_get blocks sent)
+      ≡ option_map (block_message a) (block_for s.translation d.loaded a.tag)
+  sending_same blocks sent deed is =
+      (λ i. next_block_reply s b (is.none_sent i) (slice_get (is.one i) (is.none_sent i)))
+      ∙ (ap (λ (rests : List layer.Rest). block_reply b 0 is.block.body is.block.state
+      (is_at_hand rests (machine.pin_of s b 0)))
+      (in_this_stage d.ftl s.translation h.kept.layer_kept).rests
+      ∙ (ap (λ x. block_reply b 0 is.block.body is.block.state (is_at_hand [] x)) pin.found
+      ∙ (in_hand s.translation.ledger d.loaded a b pin.key is.block.body
+      (same_block is.block.body is.length_is is.some) is.block.state pin.pin.looked pin.shown is.readable read
+      ∙ ap (λ x. option_map (block_message a) (block_of s.translation.ledger d.loaded a.tag x)) (sym pinned))))
+    where
+      one : b.deed ≡ Sending (is.block ∷ []) 0
+      one = deed ∙ (λ i. Sending (is.one i) (is.none_sent i))
+
+      pin : HasPin s b is.block.body
+      pin = has_pin is.block one
+
+      pinned : find (is_pin_of a.tag 0) s.translation.pins ≡ Some pin.pin
+      pinned = subst (λ n. find (is_pin_of n 0) s.translation.pins ≡ Some pin.pin) k.tag pin.found
+
+      read : loaded_for d.loaded a.tag ≡ first_of (progress_by is.block.body is.block.state).read
+      read = loaded_first a.tag d.loaded ∙ ap first_of (ap (λ n. read_for n d.loaded) (sym k.tag)
+          ∙ ap (λ (p : Progress). p.read) (h.kept.blocks b.tag ∙ (ap progress_of found ∙ ap progress_in one)))
+
+  lost_same : (blocks : List ReadBlock) (sent : ℕ) (told : Status) (n : ℕ) → IsLost blocks sent told n →
+      next_block_reply s b sent (slice_get blocks sent) ≡ Some (answer_of a told n)
+  lost_same blocks sent told n is =
+      (λ i. next_block_reply s b (is.none_sent i) (slice_get (is.one i) (is.none_sent i)))
+      ∙ (ap (λ (x : ReadState). block_reply b 0 is.block.body x
+      (is_at_hand s.translation.work.rests (machine.pin_of s b 0))) is.lost
+      ∙ ap (λ z. Some z) (answer_same 0 n exchange.read_error (status_kept told) (sym is.nothing)
+      (sym (ap status_kept is.told_is))))
+
+  awaiting_same : (n commands : ℕ) → n ≡ before_accepted s.translation.ledger + commands → b.length ≡ 4096 →
+      deed_reply s b (Awaiting commands) ≡ owed_in s.translation d.loaded a (phase.AwaitFrontier n)
+  awaiting_same n commands is length =
+      let above = h.tied.valid.frontier.above in
+      let none = (in_this_stage d.ftl s.translation h.kept.layer_kept).repairs in
+      let l = s.translation.ledger in
+      ap (λ (x : Bool). if x then Some (response b.lun b.tag b.expected b.length Good) else None)
+      (same_test (before_accepted l) n l.frontier commands (omega arith) is)
+      ∙ ap (λ (m : Message). if nat_le n l.frontier then Some m else None)
+      (answer_same b.length 4096 Good Good length refl)
+
+  asking_same : (gathered : List ℕ) (asked : Bool) → gathered ≡ [] → b.length ≡ 4096 → asked ≡ false →
+      (if asked then None else Some (ready_message b gathered)) ≡ Some (message.ReadyToTransfer a.lun a.tag 0 4096)
+  asking_same gathered asked none length is =
+      ap (λ x. if x then None else Some (ready_message b gathered)) is
+      ∙ (ap (λ x. Some (ready_message b x)) none
+      ∙ (λ i. Some (message.ReadyToTransfer (k.lun i) (k.tag i) 0 (count_at (length i) 0))))
+
+  same_in : (p : Phase) (deed : Deed) → b.deed ≡ deed →
+      IsDoing (before_accepted s.translation.ledger) a.expected b.length p deed →
+      deed_reply s b deed ≡ owed_in s.translation d.loaded a p
+  same_in (phase.AskData key) (Gathering purpose gathered asked) e is =
+      asking_same gathered asked is.0.none_gathered is.0.length_is is.1
+  same_in (phase.AwaitData key) (Gathering purpose gathered asked) e is =
+      ap (λ x. if x then None else Some (ready_message b gathered)) is.1
+  same_in (phase.AwaitFrontier n) (Awaiting commands) e is = awaiting_same n commands is.0 is.1
+  same_in phase.SendBlock (Sending blocks sent) e is = sending_same blocks sent e is
+  same_in (phase.Answer told n) (Answering x carried) e is =
+      ap (λ z. Some z) (answer_same carried n x (status_kept told) is.1 is.0)
+  same_in (phase.Answer told n) (Sending blocks sent) e is = lost_same blocks sent told n is
+  same_in p deed e is = absurd is
+
+  -- the same reply is due of both sides' task
+  pub same_reply : deed_reply s b b.deed ≡ owed_by s.translation d.loaded a
+  same_reply = same_in a.phase b.deed refl k.doing

@@ -38,28 +38,13 @@ abbrev told_key : Phase → Option Key
 told_key (phase.AwaitData key) = Some key
 told_key p = None
 
+neither : (b : Bool) → ◌≡◌ {A = Option Key} None (cond b None None)
+neither true = refl
+neither false = refl
+
 told_of : (lun : ℕ) (a : Task) (p : Phase) → key_asked lun a p ≡ cond (a.lun == lun) (told_key p) None
 told_of lun a (phase.AwaitData key) = refl
-told_of lun a (phase.AskData key) = nothing (a.lun == lun)
-  where
-    nothing : (b : Bool) → None ≡ cond b (told_key (phase.AskData key)) None
-    nothing true = refl
-    nothing false = refl
-told_of lun a (phase.AwaitFrontier n) = nothing (a.lun == lun)
-  where
-    nothing : (b : Bool) → None ≡ cond b (told_key (phase.AwaitFrontier n)) None
-    nothing true = refl
-    nothing false = refl
-told_of lun a phase.SendBlock = nothing (a.lun == lun)
-  where
-    nothing : (b : Bool) → None ≡ cond b (told_key phase.SendBlock) None
-    nothing true = refl
-    nothing false = refl
-told_of lun a (phase.Answer s n) = nothing (a.lun == lun)
-  where
-    nothing : (b : Bool) → None ≡ cond b (told_key (phase.Answer s n)) None
-    nothing true = refl
-    nothing false = refl
+told_of lun a p = neither (a.lun == lun)
 
 -- the tests of the two sides agree
 asked_same : (lun offset count : ℕ) (b : exchange.Task) (before expected : ℕ) (p : Phase) (deed : Deed) →

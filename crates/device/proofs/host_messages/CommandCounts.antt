@@ -4,9 +4,8 @@ use Rattle.std.specs.Prelude.{◌*◌, ◌/◌, ◌%◌, ◌||◌, ◌&&◌, ◌
 use Rattle.std.specs.Int.{div_ceil}
 use Rattle.std.proofs.lemmas.Bool.Decides.{nat_tests}
 use Rattle.ufs_spec.proofs.Facts.{eqb-true, ltb-false, or_parts}
+use Rattle.ufs_spec.specs.Translation.{Translation, free_slots, is_locked, is_mended}
 use Rattle.ufs_spec.specs.declared.configs.UnitSpec.{UnitSpec}
-use Rattle.ftl_core.specs.Core.{Core}
-use Rattle.ftl_core.specs.Moves.{free_slots, is_locked}
 use Rattle.device.specs.declared.checks.Transfer.{Transfer}
 use Rattle.device.specs.Plans.{carries, refusal_of}
 use Rattle.device.proofs.host_messages.CommandTable.{checked, checks_of}
@@ -39,36 +38,25 @@ one_expected expected blocks few h =
     let more : 1 ≤ expected = some_told expected both.1 in
     ceil_one (min expected (4096 * blocks)) (omega arith) (omega arith)
 
-none_checked : (a b c e f g : Bool) → checks_of a b c e f g ≡ None → (a ≡ false) × (c ≡ false) × (e ≡ false)
-    × (g ≡ false)
-none_checked false false false false false false h = (refl, refl, refl, refl)
-none_checked true b c e f g h = cc
-none_checked false true c e f g h = cc
-none_checked false false true e f g h = cc
-none_checked false false false true f g h = cc
-none_checked false false false false true g h = cc
-none_checked false false false false false true h = cc
+none_checked : (a b c e f g : Bool) → checks_of a b c e f g ≡ None →
+    (a ≡ false) × (c ≡ false) × (g ≡ false)
+none_checked false false false false false false h = (refl, refl, refl)
+none_checked a b c e f g h = cc
 
-pub record Checks (c : Core) (unit : UnitSpec) (t : Transfer) : Type 0 where
-  pub few : t.blocks ≤ 1
-  pub within : t.address + t.blocks ≤ unit.blocks
-  pub mended : c.mended ≡ true
-  pub slots : ((t.writes && nat_lt 0 t.blocks) && (free_slots c == 0)) ≡ false
+pub record Checks (t : Translation) (unit : UnitSpec) (x : Transfer) : Type 0 where
+  pub few : x.blocks ≤ 1
+  pub within : x.address + x.blocks ≤ unit.blocks
+  pub slots : ((x.writes && nat_lt 0 x.blocks) && (free_slots t == 0)) ≡ false
 
-not_false : (b : Bool) → not b ≡ false → b ≡ true
-not_false true e = refl
-not_false false e = cc
-
-pub checks_told : (c : Core) (unit : UnitSpec) (flags expected : ℕ) (t : Transfer) →
-    refusal_of c unit.blocks flags expected t ≡ None → Checks c unit t
-checks_told c unit flags expected t h =
-    let k = none_checked (nat_lt 1 t.blocks) (not (carries t flags expected))
-    (nat_lt unit.blocks (t.address + t.blocks)) (not c.mended)
-    ((t.writes && nat_lt 0 t.blocks) && is_locked c) ((t.writes && nat_lt 0 t.blocks) && (free_slots c == 0))
-    (sym (checked c unit.blocks flags expected t) ∙ h) in
+pub checks_told : (t : Translation) (unit : UnitSpec) (flags expected : ℕ) (x : Transfer) →
+    refusal_of t unit.blocks flags expected x ≡ None → Checks t unit x
+checks_told t unit flags expected x h =
+    let k = none_checked (nat_lt 1 x.blocks) (not (carries x flags expected))
+    (nat_lt unit.blocks (x.address + x.blocks)) (not (is_mended t.work.mending))
+    ((x.writes && nat_lt 0 x.blocks) && is_locked t) ((x.writes && nat_lt 0 x.blocks) && (free_slots t == 0))
+    (sym (checked t unit.blocks flags expected x) ∙ h) in
     record {
-      few = ltb-false 1 t.blocks k.0;
-      within = ltb-false unit.blocks (t.address + t.blocks) k.1;
-      mended = not_false c.mended k.2;
-      slots = k.3;
+      few = ltb-false 1 x.blocks k.0;
+      within = ltb-false unit.blocks (x.address + x.blocks) k.1;
+      slots = k.2;
     }

@@ -17,7 +17,7 @@ use Rattle.ufs_spec.specs.Refusals.{Line, Lun, Request, State, UnitOf, all_but_s
 use Rattle.ufs_spec.specs.Refusals.{is_protected, is_refused_write, lacks_unit, line, lines_behind, lines_for, locked}
 use Rattle.ufs_spec.specs.Refusals.{lun_of, mended, not_taken, numbers_of, operation_in, plain_now, refusal, spec_at}
 use Rattle.ufs_spec.specs.Refusals.{spec_of, takes, unit_in, unit_of_request}
-use Rattle.ufs_spec.specs.Translation as layer
+use Rattle.ufs_spec.specs.Translation.{Translation, free_slots, is_locked, is_mended}
 use Rattle.ufs_spec.specs.declared.configs.Numbers.{Numbers}
 use Rattle.ufs_spec.specs.declared.configs.UnitSpec.{UnitSpec}
 use Rattle.ufs_spec.specs.declared.scsi.Cdb.{Cdb}
@@ -26,8 +26,6 @@ use Rattle.ufs_spec.specs.declared.scsi.Sense.{Sense}
 use Rattle.ufs_spec.specs.declared.scsi.TheConstants.Sense.{INVALID_FIELD, NOT_READY, NO_UNIT, OUT_OF_RANGE}
 use Rattle.ufs_spec.specs.declared.scsi.TheConstants.Sense.{WRITE_PROTECTED}
 use Rattle.power_loss.proofs.books.SmallFacts.{and_true, eq_told}
-use Rattle.ftl_core.specs.Core.{Core}
-use Rattle.ftl_core.specs.Moves.{free_slots, is_locked}
 use Rattle.device.specs.declared.checks.Transfer.{Transfer}
 use Rattle.device.specs.declared.tasks.Status as kept_status
 use Rattle.device.specs.declared.tasks.Status.TheVariants as status
@@ -37,16 +35,10 @@ use Rattle.device.specs.Plans.{IsCdbRead, plan_of, transfer_of, carries, check, 
 use Rattle.device.specs.Plans.{planned_taken, planned_transfer, refusal_of}
 use Rattle.device.specs.Replies.{status_kept}
 
--- What is the same in both
-
--- what the code reads of the device is what the table reads of it
-pub record SameFacts (c : Core) (s : State) : Type 0 where
-  pub numbers : c.numbers ≡ numbers_of s
-  pub mended : mended s ≡ c.mended
-  pub locked : locked s ≡ is_locked c
-  pub slots : layer.free_slots s.translation ≡ free_slots c
+-- nothing is protected: no definition sets a protection yet
+pub record IsUnprotected (s : State) : Type 0 where
   pub power_off : s.power_on ≡ false
-  pub unprotected : (plain_now s).permanent ≡ false
+  pub permanent_off : (plain_now s).permanent ≡ false
 
 -- Lines
 
@@ -108,13 +100,14 @@ read_of address blocks = record { address = address; blocks = blocks; writes = f
 abbrev pub write_of : ℕ → ℕ → Transfer
 write_of address blocks = record { address = address; blocks = blocks; writes = true }
 
-pub checked : (c : Core) (u flags expected : ℕ) (t : Transfer) →
-    refusal_of c u flags expected t
-    ≡ checks_of (nat_lt 1 t.blocks) (not (carries t flags expected)) (nat_lt u (t.address + t.blocks)) (not c.mended)
-    ((t.writes && nat_lt 0 t.blocks) && is_locked c) ((t.writes && nat_lt 0 t.blocks) && (free_slots c == 0))
-checked c u flags expected t =
-    checks_same (nat_lt 1 t.blocks) (not (carries t flags expected)) (nat_lt u (t.address + t.blocks)) (not c.mended)
-    (t.writes && nat_lt 0 t.blocks) (is_locked c) (free_slots c == 0)
+pub checked : (t : Translation) (u flags expected : ℕ) (x : Transfer) →
+    refusal_of t u flags expected x
+    ≡ checks_of (nat_lt 1 x.blocks) (not (carries x flags expected)) (nat_lt u (x.address + x.blocks))
+    (not (is_mended t.work.mending)) ((x.writes && nat_lt 0 x.blocks) && is_locked t)
+    ((x.writes && nat_lt 0 x.blocks) && (free_slots t == 0))
+checked t u flags expected x =
+    checks_same (nat_lt 1 x.blocks) (not (carries x flags expected)) (nat_lt u (x.address + x.blocks))
+    (not (is_mended t.work.mending)) (x.writes && nat_lt 0 x.blocks) (is_locked t) (free_slots t == 0)
 
 zero_test : (n : ℕ) → ((n ≡ 0) × ((n == 0) ≡ true) × (nat_lt 0 n ≡ false))
     ⊎ ((1 ≤ n) × ((n == 0) ≡ false) × (nat_lt 0 n ≡ true))
@@ -186,60 +179,53 @@ refused_write false p l e = refl
 
 -- The lines of one command
 
-read_lines : (c : Core) (s : State) (r : Request) (u : UnitSpec) (address blocks : ℕ) (forced : Bool) → SameFacts c s →
-    spec_of s r ≡ Some u →
+read_lines : (s : State) (r : Request) (u : UnitSpec) (address blocks : ℕ) (forced : Bool) → spec_of s r ≡ Some u →
     first_line (lines_for s r (cdb.Read10 address blocks forced)) ≡ option_map status_kept
-    (refusal_of c u.blocks r.flags r.expected (read_of address blocks))
-read_lines c s r u address blocks forced same spec =
-    lines ∙ (lines_checked (nat_lt 1 blocks) (not (carries t r.flags r.expected)) (nat_lt u.blocks (address + blocks))
-    (not c.mended) false false false (λ e. refl)
-    ∙ sym (ap (option_map status_kept) (checked c u.blocks r.flags r.expected t)))
+    (refusal_of s.translation u.blocks r.flags r.expected (read_of address blocks))
+read_lines s r u address blocks forced spec =
+    lines ∙ (lines_checked (nat_lt 1 blocks) (not (carries x r.flags r.expected)) (nat_lt u.blocks (address + blocks))
+    (not (mended s)) false false false (λ e. refl)
+    ∙ sym (ap (option_map status_kept) (checked s.translation u.blocks r.flags r.expected x)))
   where
-    t : Transfer
-    t = read_of address blocks
+    x : Transfer
+    x = read_of address blocks
 
     lines : first_line (lines_for s r (cdb.Read10 address blocks forced))
-        ≡ first_line (lines_of (nat_lt 1 blocks) (not (carries t r.flags r.expected))
-        (nat_lt u.blocks (address + blocks)) (not c.mended) false false)
+        ≡ first_line (lines_of (nat_lt 1 blocks) (not (carries x r.flags r.expected))
+        (nat_lt u.blocks (address + blocks)) (not (mended s)) false false)
     lines = λ i. first_line (lines_of (nat_lt 1 blocks) (read_data (blocks * 4096) (r.flags == 0x40) i)
         (is_past (cdb.Read10 address blocks forced) (spec i))
-        (not (same.mended i)) false (no_more (layer.free_slots s.translation) i))
+        (not (mended s)) false (no_more (free_slots s.translation) i))
 
-write_lines : (c : Core) (s : State) (r : Request) (u : UnitSpec) (address blocks : ℕ) → SameFacts c s →
+write_lines : (s : State) (r : Request) (u : UnitSpec) (address blocks : ℕ) → IsUnprotected s →
     spec_of s r ≡ Some u →
     first_line (lines_for s r (cdb.Write10 address blocks true)) ≡ option_map status_kept
-    (refusal_of c u.blocks r.flags r.expected (write_of address blocks))
-write_lines c s r u address blocks same spec =
-    lines ∙ (lines_checked (nat_lt 1 blocks) (not (carries t r.flags r.expected)) (nat_lt u.blocks (address + blocks))
-    (not c.mended)
-    (nat_lt 0 blocks && is_locked c) (nat_lt (layer.free_slots s.translation) blocks)
-    (nat_lt 0 blocks && (free_slots c == 0)) few
-    ∙ sym (ap (option_map status_kept) (checked c u.blocks r.flags r.expected t)))
+    (refusal_of s.translation u.blocks r.flags r.expected (write_of address blocks))
+write_lines s r u address blocks bare spec =
+    lines ∙ (lines_checked (nat_lt 1 blocks) (not (carries x r.flags r.expected)) (nat_lt u.blocks (address + blocks))
+    (not (mended s)) (nat_lt 0 blocks && locked s) (nat_lt (free_slots s.translation) blocks)
+    (nat_lt 0 blocks && (free_slots s.translation == 0)) (crowded (free_slots s.translation) blocks)
+    ∙ sym (ap (option_map status_kept) (checked s.translation u.blocks r.flags r.expected x)))
   where
-    t : Transfer
-    t = write_of address blocks
+    x : Transfer
+    x = write_of address blocks
 
-    few : nat_lt 1 blocks ≡ false →
-        nat_lt (layer.free_slots s.translation) blocks ≡ (nat_lt 0 blocks && (free_slots c == 0))
-    few h = ap (λ n. nat_lt n blocks) same.slots ∙ crowded (free_slots c) blocks h
-
-    writes : is_refused_write s (Some u) (cdb.Write10 address blocks true) ≡ (nat_lt 0 blocks && is_locked c)
+    writes : is_refused_write s (Some u) (cdb.Write10 address blocks true) ≡ (nat_lt 0 blocks && locked s)
     writes = refused_write (nat_lt 0 blocks) (is_protected s (Some u)) (locked s)
-        (not_protected (u.protect == 1) (u.protect == 2) s.power_on (plain_now s).permanent same.power_off
-        same.unprotected)
-        ∙ ap (λ l. nat_lt 0 blocks && l) same.locked
+        (not_protected (u.protect == 1) (u.protect == 2) s.power_on (plain_now s).permanent bare.power_off
+        bare.permanent_off)
 
     lines : first_line (lines_for s r (cdb.Write10 address blocks true))
-        ≡ first_line (lines_of (nat_lt 1 blocks) (not (carries t r.flags r.expected))
-        (nat_lt u.blocks (address + blocks)) (not c.mended)
-        (nat_lt 0 blocks && is_locked c) (nat_lt (layer.free_slots s.translation) blocks))
+        ≡ first_line (lines_of (nat_lt 1 blocks) (not (carries x r.flags r.expected))
+        (nat_lt u.blocks (address + blocks)) (not (mended s)) (nat_lt 0 blocks && locked s)
+        (nat_lt (free_slots s.translation) blocks))
     lines = (λ i. first_line (lines_of (nat_lt 1 blocks) (write_data (blocks * 4096) r.expected (r.flags == 0x20) i)
         (is_past (cdb.Write10 address blocks true) (spec i))
-        (not (same.mended i)) (is_refused_write s (spec i) (cdb.Write10 address blocks true))
-        (nat_lt (layer.free_slots s.translation) blocks)))
-        ∙ (λ i. first_line (lines_of (nat_lt 1 blocks) (not (carries t r.flags r.expected))
-        (nat_lt u.blocks (address + blocks)) (not c.mended) (writes i)
-        (nat_lt (layer.free_slots s.translation) blocks)))
+        (not (mended s)) (is_refused_write s (spec i) (cdb.Write10 address blocks true))
+        (nat_lt (free_slots s.translation) blocks)))
+        ∙ (λ i. first_line (lines_of (nat_lt 1 blocks) (not (carries x r.flags r.expected))
+        (nat_lt u.blocks (address + blocks)) (not (mended s)) (writes i)
+        (nat_lt (free_slots s.translation) blocks)))
 
 -- The whole table
 
@@ -250,7 +236,7 @@ Does (cdb.Write10 address blocks forced) t = (forced ≡ true) × (t ≡ write_o
 Does command t = ⊥
 
 -- a request that is not refused: the transfer that it is, and its plan
-pub record Passes (c : Core) (s : State) (r : Request) (plan : Plan) : Type 0 where
+pub record Passes (s : State) (r : Request) (plan : Plan) : Type 0 where
   pub command : Cdb
   pub transfer : Transfer
   pub is : r.cdb ≡ Some command
@@ -258,13 +244,13 @@ pub record Passes (c : Core) (s : State) (r : Request) (plan : Plan) : Type 0 wh
   pub unit : UnitSpec
   pub there : slice_get (numbers_of s).units.items r.lun ≡ Some unit
   pub unit_is : unit_of_request s r ≡ Some r.lun
-  pub none : refusal_of c unit.blocks r.flags r.expected transfer ≡ None
+  pub none : refusal_of s.translation unit.blocks r.flags r.expected transfer ≡ None
   pub plan_is : plan ≡ plan_of transfer (data_key r.lun transfer.address) r.expected
 
-abbrev pub Agrees : Core → State → Request → Option Status → Result Plan kept_status.Status → Type 0
-Agrees c s r (Some refused) (Err told) = refused ≡ status_kept told
-Agrees c s r None (Ok plan) = Passes c s r plan
-Agrees c s r refused told = ⊥
+abbrev pub Agrees : State → Request → Option Status → Result Plan kept_status.Status → Type 0
+Agrees s r (Some refused) (Err told) = refused ≡ status_kept told
+Agrees s r None (Ok plan) = Passes s r plan
+Agrees s r refused told = ⊥
 
 takes_none : (unit operation : ℕ) → takes (UnitOf unit) operation ≡ false →
     IsTrue (is_among taken_operations operation) → ⊥
@@ -296,14 +282,14 @@ is_lun n byte u h =
     ap (λ (b : Bool). if b then Some (UnitOf byte) else None)
     (lt-ltb byte (length n.units.items) (slice_get_within n.units.items byte u h))
 
-module _ (c : Core) (s : State) (r : Request) (taken : Result Cdb Sense) (same : SameFacts c s)
+module _ (s : State) (r : Request) (taken : Result Cdb Sense) (bare : IsUnprotected s)
     (is : IsCdbRead r.bytes taken) (cdb_is : r.cdb ≡ cdb_taken taken) where
   -- a transfer that is checked
   transfer_right : (u : UnitSpec) (command : Cdb) (t : Transfer) → r.cdb ≡ Some command → Does command t →
       slice_get (numbers_of s).units.items r.lun ≡ Some u →
       unit_of_request s r ≡ Some r.lun → (o : Option kept_status.Status) →
-      refusal_of c u.blocks r.flags r.expected t ≡ o →
-      Agrees c s r (option_map status_kept o) (planned_or r.lun r.expected t o)
+      refusal_of s.translation u.blocks r.flags r.expected t ≡ o →
+      Agrees s r (option_map status_kept o) (planned_or r.lun r.expected t o)
   transfer_right u command t e does there unit (Some told) k = refl
   transfer_right u command t e does there unit None k = record {
     command = command;
@@ -320,41 +306,31 @@ module _ (c : Core) (s : State) (r : Request) (taken : Result Cdb Sense) (same :
   command_right : (u : UnitSpec) (command : Cdb) → r.cdb ≡ Some command → IsTakenCdb command →
       slice_get (numbers_of s).units.items r.lun ≡ Some u →
       unit_of_request s r ≡ Some r.lun → spec_of s r ≡ Some u →
-      Agrees c s r (first_line (lines_for s r command)) (planned_transfer c r.lun r.flags r.expected u.blocks
+      Agrees s r (first_line (lines_for s r command)) (planned_transfer s.translation r.lun r.flags r.expected u.blocks
       (transfer_of command))
   command_right u (cdb.Read10 address blocks forced) e k there unit spec =
       subst (λ (o : Option Status).
-      Agrees c s r o (planned_or r.lun r.expected (read_of address blocks)
-      (refusal_of c u.blocks r.flags r.expected (read_of address blocks))))
-      (sym (read_lines c s r u address blocks forced same spec))
+      Agrees s r o (planned_or r.lun r.expected (read_of address blocks)
+      (refusal_of s.translation u.blocks r.flags r.expected (read_of address blocks))))
+      (sym (read_lines s r u address blocks forced spec))
       (transfer_right u (cdb.Read10 address blocks forced) (read_of address blocks) e refl there unit
-      (refusal_of c u.blocks r.flags r.expected (read_of address blocks)) refl)
+      (refusal_of s.translation u.blocks r.flags r.expected (read_of address blocks)) refl)
   command_right u (cdb.Write10 address blocks forced) e k there unit spec =
-      subst (λ (f : Bool). Agrees c s r (first_line (lines_for s r (cdb.Write10 address blocks f)))
+      subst (λ (f : Bool). Agrees s r (first_line (lines_for s r (cdb.Write10 address blocks f)))
       (planned_or r.lun r.expected (write_of address blocks)
-      (refusal_of c u.blocks r.flags r.expected (write_of address blocks))))
+      (refusal_of s.translation u.blocks r.flags r.expected (write_of address blocks))))
       (sym k)
-      (subst (λ (o : Option Status). Agrees c s r o (planned_or r.lun r.expected (write_of address blocks)
-      (refusal_of c u.blocks r.flags r.expected (write_of address blocks))))
-      (sym (write_lines c s r u address blocks same spec))
+      (subst (λ (o : Option Status). Agrees s r o (planned_or r.lun r.expected (write_of address blocks)
+      (refusal_of s.translation u.blocks r.flags r.expected (write_of address blocks))))
+      (sym (write_lines s r u address blocks bare spec))
       (transfer_right u (cdb.Write10 address blocks forced) (write_of address blocks) e (k, refl) there unit
-      (refusal_of c u.blocks r.flags r.expected (write_of address blocks)) refl))
-  command_right u cdb.TestUnitReady e k there unit spec = absurd k
-  command_right u (cdb.RequestSense allocation) e k there unit spec = absurd k
-  command_right u (cdb.Read6 address blocks) e k there unit spec = absurd k
-  command_right u (cdb.Write6 address blocks) e k there unit spec = absurd k
-  command_right u (cdb.Inquiry allocation) e k there unit spec = absurd k
-  command_right u cdb.ReadCapacity10 e k there unit spec = absurd k
-  command_right u (cdb.SynchronizeCache10 address blocks immediate) e k there unit spec = absurd k
-  command_right u (cdb.Unmap list) e k there unit spec = absurd k
-  command_right u (cdb.ReportLuns select allocation) e k there unit spec = absurd k
-  command_right u (cdb.SecurityIn n) e k there unit spec = absurd k
-  command_right u (cdb.SecurityOut n) e k there unit spec = absurd k
+      (refusal_of s.translation u.blocks r.flags r.expected (write_of address blocks)) refl))
+  command_right u command e k there unit spec = absurd k
 
   spelled_right : (u : UnitSpec) → slice_get (numbers_of s).units.items r.lun ≡ Some u →
       unit_of_request s r ≡ Some r.lun → spec_of s r ≡ Some u → IsTakenOperation r.bytes →
-      (x : Result Cdb Sense) → taken ≡ x → Agrees c s r (first_line (lines_behind s r (cdb_taken x)))
-      (planned_taken c r.lun r.flags r.expected u.blocks x)
+      (x : Result Cdb Sense) → taken ≡ x → Agrees s r (first_line (lines_behind s r (cdb_taken x)))
+      (planned_taken s.translation r.lun r.flags r.expected u.blocks x)
   spelled_right u there unit spec op (Err sense) e = ap exchange.CheckCondition (sym (is.field sense e op))
   spelled_right u there unit spec op (Ok command) e =
       command_right u command (cdb_is ∙ ap cdb_taken e) (is.read command e).1 there unit spec
@@ -362,36 +338,32 @@ module _ (c : Core) (s : State) (r : Request) (taken : Result Cdb Sense) (same :
   operation_right : (u : UnitSpec) → slice_get (numbers_of s).units.items r.lun ≡ Some u →
       unit_of_request s r ≡ Some r.lun → spec_of s r ≡ Some u →
       (b : Bool) → takes (UnitOf r.lun) (operation_in r) ≡ b →
-      Agrees c s r (first_line (line (not b) invalid_operation ∷ lines_behind s r r.cdb))
-      (planned_taken c r.lun r.flags r.expected u.blocks taken)
+      Agrees s r (first_line (line (not b) invalid_operation ∷ lines_behind s r r.cdb))
+      (planned_taken s.translation r.lun r.flags r.expected u.blocks taken)
   operation_right u there unit spec true e =
-      subst (λ (x : Option Cdb). Agrees c s r (first_line (lines_behind s r x))
-      (planned_taken c r.lun r.flags r.expected u.blocks taken)) (sym cdb_is)
+      subst (λ (x : Option Cdb). Agrees s r (first_line (lines_behind s r x))
+      (planned_taken s.translation r.lun r.flags r.expected u.blocks taken)) (sym cdb_is)
       (spelled_right u there unit spec (takes_some r.lun (operation_in r) e) taken refl)
   operation_right u there unit spec false e =
-      subst (λ (x : Result Cdb Sense). Agrees c s r (Some invalid_operation)
-      (planned_taken c r.lun r.flags r.expected u.blocks x))
+      subst (λ (x : Result Cdb Sense). Agrees s r (Some invalid_operation)
+      (planned_taken s.translation r.lun r.flags r.expected u.blocks x))
       (sym (is.operation (takes_none r.lun (operation_in r) e))) refl
 
   unit_right : (x : Option UnitSpec) → slice_get (numbers_of s).units.items r.lun ≡ x →
-      Agrees c s r (refusal s r)
-      (planned_in c r.lun r.flags r.expected taken (option_map (λ (u : UnitSpec). u.blocks) x))
+      Agrees s r (refusal s r)
+      (planned_in s.translation r.lun r.flags r.expected taken (option_map (λ (u : UnitSpec). u.blocks) x))
   unit_right None e =
-      subst (λ (o : Option Status). Agrees c s r o (Err (status.CheckCondition NO_UNIT)))
+      subst (λ (o : Option Status). Agrees s r o (Err (status.CheckCondition NO_UNIT)))
       (sym (ap (λ (l : Option Lun). first_line (line (lacks_unit s r l) no_unit ∷ line (not_taken r l) invalid_operation
       ∷ lines_behind s r r.cdb)) (no_lun (numbers_of s) r.lun e))) refl
   unit_right (Some u) e =
       let lun = is_lun (numbers_of s) r.lun u e in
       let unit = ap (unit_in s r) lun in
-      subst (λ (o : Option Status). Agrees c s r o (planned_taken c r.lun r.flags r.expected u.blocks taken))
+      subst (λ (o : Option Status). Agrees s r o (planned_taken s.translation r.lun r.flags r.expected u.blocks taken))
       (sym (ap (λ (l : Option Lun). first_line (line (lacks_unit s r l) no_unit ∷ line (not_taken r l) invalid_operation
       ∷ lines_behind s r r.cdb)) lun))
       (operation_right u e unit (ap (spec_at (numbers_of s)) unit ∙ e) (takes (UnitOf r.lun) (operation_in r)) refl)
 
   -- the table and the checks agree
-  pub table_right : Agrees c s r (refusal s r) (planned c r.lun r.flags r.expected taken)
-  table_right =
-      subst (λ (n : Numbers). Agrees c s r (refusal s r)
-      (planned_in c r.lun r.flags r.expected taken
-      (option_map (λ (u : UnitSpec). u.blocks) (slice_get n.units.items r.lun)))) (sym same.numbers)
-      (unit_right (slice_get (numbers_of s).units.items r.lun) refl)
+  pub table_right : Agrees s r (refusal s r) (planned s.translation r.lun r.flags r.expected taken)
+  table_right = unit_right (slice_get (numbers_of s).units.items r.lun) refl

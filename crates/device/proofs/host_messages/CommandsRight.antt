@@ -11,7 +11,6 @@ use Rattle.ufs_spec.specs.Machine.{Call, Faulty, Heard, Host, IsCdbIn, IsHeard, 
 use Rattle.ufs_spec.specs.Machine.{command_heard, opened_with, opening_fault, result_of, with_short}
 use Rattle.ufs_spec.specs.Refusals.{Request, State, refusal}
 use Rattle.ufs_spec.specs.Stages.{most_tasks}
-use Rattle.ufs_spec.specs.Translation.{is_mended}
 use Rattle.ufs_spec.specs.declared.faults.HostFault.TheVariants.{Backlog, TagInUse}
 use Rattle.ufs_spec.specs.Messages.{Spells, host_fault_of}
 use Rattle.ufs_spec.specs.declared.faults.HostFault.{HostFault}
@@ -21,33 +20,18 @@ use Rattle.ufs_laws.proofs.exchanges.BytesHeard.{is_heard}
 use Rattle.ufs_spec.specs.declared.scsi.Cdb.{Cdb}
 use Rattle.ufs_spec.specs.declared.scsi.Sense.{Sense}
 use Rattle.power_loss.proofs.open_tasks.FoundInLists.{none_found}
-use Rattle.ftl_core.specs.Describes as layer_kept
+use Rattle.ftl_core.specs.Core.{Core}
+use Rattle.device.specs.declared.tasks.Phase.{Phase}
 use Rattle.device.specs.declared.tasks.Refused.{Refused}
+use Rattle.device.specs.Calls.{HasBegun}
 use Rattle.device.specs.Describes.{Describes, IsHeardAs, cdb_taken, short_kept}
-use Rattle.device.specs.Hears.{refused_more, task_opened, uses, with_refused}
+use Rattle.device.specs.Hears.{refused_more, uses, with_refused, with_task}
 use Rattle.device.specs.Kept.{DeviceCore}
 use Rattle.device.specs.Plans.{IsCdbRead, planned}
 use Rattle.device.proofs.described.Answered.{IsBehind, answered, stays}
 use Rattle.device.proofs.host_messages.CommandBegins.{agreed_begins}
-use Rattle.device.proofs.host_messages.CommandTable.{SameFacts, table_right}
+use Rattle.device.proofs.host_messages.CommandTable.{table_right}
 use Rattle.device.proofs.host_messages.CommandTags.{fault_is, tag_used, tasks_count}
-use Rattle.device.proofs.described.Layer.{locks_right, slots_right}
-
-mended_same : (b : Bool) → is_mended (layer_kept.mending_kept b) ≡ b
-mended_same true = refl
-mended_same false = refl
-
-facts : (d : DeviceCore) (s : State) → Describes d s → SameFacts d.ftl s
-facts d s h =
-    let k = h.kept.layer_kept in
-    record {
-      numbers = k.kept.numbers;
-      mended = ap is_mended k.kept.work.mending ∙ mended_same d.ftl.mended;
-      locked = sym (locks_right d.ftl s.translation k);
-      slots = sym (slots_right d.ftl s.translation k);
-      power_off = h.kept.power_off;
-      unprotected = h.kept.unprotected;
-    }
 
 -- where a task is open, the command is refused with TASK SET FULL
 refused_right : (d : DeviceCore) (s : State) (r : Refused) → Describes d s →
@@ -150,17 +134,20 @@ module _ (d : DeviceCore) (s : State) (flags lun tag expected : ℕ) (cdb_bytes 
           heard_as d c.0 (Some Backlog) c.1 (fault false e) (stays d s h)
 
   -- it opens a task
-  pub opened_right : (taken : Result Cdb Sense) → IsCdbRead cdb_bytes taken → uses d tag ≡ false →
+  pub opened_right : (after : Core) (taken : Result Cdb Sense) → IsCdbRead cdb_bytes taken → (p : Phase) →
+      HasBegun after s.translation tag (planned s.translation lun flags expected taken) p → uses d tag ≡ false →
       nat_le most_tasks (length d.tasks) ≡ false →
-      IsHeardAs s whole (Ok tt) (task_opened d flags lun tag expected taken)
-  opened_right taken is used many =
-      heard_as (task_opened d flags lun tag expected taken) (cdb_taken taken) None (cdb_in cdb_bytes taken is)
+      IsHeardAs s whole (Ok tt)
+      (record (with_task d (record { tag = tag; lun = lun; expected = expected; phase = p })) { ftl = after })
+  opened_right after taken is p begun used many =
+      heard_as _ (cdb_taken taken) None (cdb_in cdb_bytes taken is)
       (fault_is d s tag h ∙ (λ i. if used i then Some TagInUse else if many i && not (nat_lt (length d.refused) 32) then
       Some Backlog else None))
-      (subst (IsBehind (task_opened d flags lun tag expected taken)) (sym (command_is (cdb_taken taken) false many))
-      (agreed_begins d s (request (cdb_taken taken)) h free few (refusal s (request (cdb_taken taken)))
-      (planned d.ftl lun flags expected taken)
-      (table_right d.ftl s (request (cdb_taken taken)) taken (facts d s h) is refl)))
+      (subst (IsBehind _) (sym (command_is (cdb_taken taken) false many))
+      (agreed_begins d s (request (cdb_taken taken)) h free few after (refusal s (request (cdb_taken taken)))
+      (planned s.translation lun flags expected taken) p
+      (table_right s (request (cdb_taken taken)) taken
+      (record { power_off = h.kept.power_off; permanent_off = h.kept.unprotected }) is refl) begun))
     where
       free : task_of tag s.tasks ≡ None
       free = none_found (is_task_of tag) s.tasks

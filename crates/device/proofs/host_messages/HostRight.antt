@@ -41,21 +41,4 @@ neither_kind bytes (message.Command flags lun tag expected cdb) command data_out
     absurd (command flags lun tag expected cdb refl)
 neither_kind bytes (message.DataOut lun tag offset «data») command data_out spells none =
     absurd (data_out lun tag offset «data» refl)
-neither_kind bytes (message.NopOut tag) command data_out spells none =
-    no_other_kind bytes (message.NopOut tag) spells none refl
-neither_kind bytes (message.TaskRequest lun tag function meant) command data_out spells none =
-    no_other_kind bytes (message.TaskRequest lun tag function meant) spells none refl
-neither_kind bytes (message.QueryRequest tag function asked size value «data») command data_out spells none =
-    no_other_kind bytes (message.QueryRequest tag function asked size value «data») spells none refl
-neither_kind bytes (message.NopIn tag) command data_out spells none =
-    no_other_kind bytes (message.NopIn tag) spells none refl
-neither_kind bytes (message.Response flags lun tag response status residual sense) command data_out spells none =
-    no_other_kind bytes (message.Response flags lun tag response status residual sense) spells none refl
-neither_kind bytes (message.DataIn lun tag offset «data») command data_out spells none =
-    no_other_kind bytes (message.DataIn lun tag offset «data») spells none refl
-neither_kind bytes (message.TaskResponse lun tag service) command data_out spells none =
-    no_other_kind bytes (message.TaskResponse lun tag service) spells none refl
-neither_kind bytes (message.ReadyToTransfer lun tag offset count) command data_out spells none =
-    no_other_kind bytes (message.ReadyToTransfer lun tag offset count) spells none refl
-neither_kind bytes (message.QueryResponse tag function response asked size value «data») command data_out spells none =
-    no_other_kind bytes (message.QueryResponse tag function response asked size value «data») spells none refl
+neither_kind bytes m command data_out spells none = no_other_kind bytes m spells none refl

@@ -120,9 +120,10 @@ permanent_still p cs unit address bytes =
     ap (λ (q : Plain). q.permanent) (fold-append apply p cs (write_one unit address bytes ∷ []))
 
 -- the next command's number is that of its group
-pub number_awaited : (s : State) → IsTied s → s.translation.ledger.repairs ≡ 0 →
+pub number_awaited : (s : State) → IsTied s →
+    s.translation.ledger.repairs ≤ length s.translation.ledger.groups →
     next_number s.translation.ledger ≡ before_accepted s.translation.ledger + (length s.accepted + 1)
-number_awaited s v none =
+number_awaited s v within =
     let all = ap length v.groups in
     let count = length-groups s.base s.accepted in
     let dropped = length-drop s.translation.ledger.repairs s.translation.ledger.groups in

@@ -39,26 +39,23 @@ their_task before (suc k) (x ∷ ts) (y ∷ us) a h at =
 pub our_task : (before k : ℕ) (ts : List Task) (us : List exchange.Task) (b : exchange.Task) → TasksKept before ts us →
     slice_get us k ≡ Some b → (a : Task) × IsOpen before k ts us a b
 our_task before k [] [] b h at = absurd (none-some b at)
-our_task before k [] (y ∷ us) b h at = absurd h
-our_task before k (x ∷ ts) [] b h at = absurd h
 our_task before zero (x ∷ ts) (y ∷ us) b h at =
     (x, record { ours = refl; theirs = at; kept = subst (TaskKept before x) (same_Some y b at) h.0 })
 our_task before (suc k) (x ∷ ts) (y ∷ us) b h at =
     let r = our_task before k ts us b h.1 at in
     (r.0, record { ours = r.1.ours; theirs = r.1.theirs; kept = r.1.kept })
+our_task before k ts us b h at = absurd h
 
 -- as many are open
 pub as_many : (before : ℕ) (ts : List Task) (us : List exchange.Task) → TasksKept before ts us → length us ≡ length ts
 as_many before [] [] h = refl
 as_many before (x ∷ ts) (y ∷ us) h = ap suc (as_many before ts us h.1)
-as_many before [] (y ∷ us) h = absurd h
-as_many before (x ∷ ts) [] h = absurd h
+as_many before ts us h = absurd h
 
 pub no_requests : (before : ℕ) (ts : List Task) (us : List exchange.Task) → TasksKept before ts us → HaveNoRequest us
 no_requests before [] [] h = tt
 no_requests before (x ∷ ts) (y ∷ us) h = (h.0.request, no_requests before ts us h.1)
-no_requests before [] (y ∷ us) h = absurd h
-no_requests before (x ∷ ts) [] h = absurd h
+no_requests before ts us h = absurd h
 
 -- the task of a tag stands at one place on both sides
 pub record Stands (before tag : ℕ) (ts : List Task) (us : List exchange.Task) : Type 0 where
@@ -137,8 +134,7 @@ tag_stands before tag (x ∷ ts) (y ∷ us) h = by (x.tag == tag) refl (tag_stan
       opened = record { ours = r.opened.ours; theirs = r.opened.theirs; kept = r.opened.kept };
       tag_is = r.tag_is;
     })
-tag_stands before tag [] (y ∷ us) h = absurd h
-tag_stands before tag (x ∷ ts) [] h = absurd h
+tag_stands before tag ts us h = absurd h
 
 -- Changes
 
@@ -147,8 +143,7 @@ pub one_more : (before : ℕ) (ts : List Task) (us : List exchange.Task) (a : Ta
     TasksKept before ts us → TaskKept before a b → TasksKept before (ts ++ a ∷ []) (us ++ b ∷ [])
 one_more before [] [] a b h new = (new, tt)
 one_more before (x ∷ ts) (y ∷ us) a b h new = (h.0, one_more before ts us a b h.1 new)
-one_more before [] (y ∷ us) a b h new = absurd h
-one_more before (x ∷ ts) [] a b h new = absurd h
+one_more before ts us a b h new = absurd h
 
 -- a task that stands has none of the tags that none has
 other_tag : (tag k : ℕ) (us : List exchange.Task) (b : exchange.Task) → list_any (is_task_of tag) us ≡ false →
@@ -169,8 +164,7 @@ pub each_changed : (before after : ℕ) (f : Task → Task) (g : exchange.Task �
 each_changed before after f g [] [] one h = tt
 each_changed before after f g (x ∷ ts) (y ∷ us) one h =
     (one 0 x y refl h.0, each_changed before after f g ts us (λ k a b at. one (suc k) a b at) h.1)
-each_changed before after f g [] (y ∷ us) one h = absurd h
-each_changed before after f g (x ∷ ts) [] one h = absurd h
+each_changed before after f g ts us one h = absurd h
 
 -- each specified task changes
 pub theirs_changed : (before after : ℕ) (g : exchange.Task → exchange.Task) (ts : List Task) (us : List exchange.Task) →
@@ -197,8 +191,7 @@ one_changed before zero (x ∷ ts) (y ∷ us) a b deed h differ at new =
 one_changed before (suc k) (x ∷ ts) (y ∷ us) a b deed h differ at new =
     let other = if_false (is_task_of b.tag y) (record y { deed = deed }) y (other_tag y.tag k us b differ.0 at) in
     (subst (TaskKept before x) (sym other) h.0, one_changed before k ts us a b deed h.1 differ.1 at new)
-one_changed before k [] (y ∷ us) a b deed h differ at new = absurd h
-one_changed before k (x ∷ ts) [] a b deed h differ at new = absurd h
+one_changed before k ts us a b deed h differ at new = absurd h
 
 -- where none has the tag, none goes
 none_goes : (tag : ℕ) (us : List exchange.Task) → list_any (is_task_of tag) us ≡ false →

@@ -1,7 +1,7 @@
 -- How far the READs are: what is kept for each tag where tasks, pins and blocks that were read come, change and go.
 use Rattle.std.proofs.Common.{◌≡◌, ◌∙◌, ℕ, suc, ◌==◌, ◌&&◌, Bool, true, false, cond, List, [], ◌∷◌, ◌++◌, map, Option}
 use Rattle.std.proofs.Common.{Some, None, refl, sym, ap, subst}
-use Rattle.std.specs.Prelude.{filter, find, not, option_map, position}
+use Rattle.std.specs.Prelude.{filter, find, if◌then◌else◌, not, option_map, position}
 use Rattle.std.specs.Option.{option_or, option_to_list}
 use Rattle.std.proofs.lemmas.List.Elements.{filter-append}
 use Rattle.std.proofs.lemmas.List.{map-append}
@@ -9,7 +9,7 @@ use Rattle.std.proofs.lemmas.List.Folds.{find-append}
 use Rattle.ufs_spec.proofs.Facts.{eqb-true, false≢true}
 use Rattle.ufs_spec.specs.Exchanges as exchange
 use Rattle.ufs_spec.specs.Exchanges.{Deed, is_task_of, task_of, with_deed}
-use Rattle.ufs_spec.specs.Moves.{is_pin_of}
+use Rattle.ufs_spec.specs.Moves.{is_pin_of, with_wanted}
 use Rattle.ufs_spec.specs.Translation.{Pin}
 use Rattle.power_loss.proofs.open_tasks.FoundInLists.{found_is}
 use Rattle.power_loss.proofs.open_tasks.TaggedLists.{other_way}
@@ -163,6 +163,26 @@ wanted_same f tags indexes wanted tag pins =
         (λ (pin : Pin). pin.wanted) o
     by None = refl
     by (Some pin) = ap (λ b. Some b) (wanted pin)
+
+-- to set whether a pin is wanted that is not the first of the tag
+pub want_set_else : (one index : ℕ) (wanted : Bool) (tag : ℕ) (pins : List Pin) →
+    ((pin : Pin) → is_pin_of tag 0 pin ≡ true → is_pin_of one index pin ≡ false) →
+    wanted_for tag (map (with_wanted one index wanted) pins) ≡ wanted_for tag pins
+want_set_else one index wanted tag pins differ =
+    ap (option_map (λ (pin : Pin). pin.wanted)) (find_map (is_pin_of tag 0) (with_wanted one index wanted)
+    (λ pin. same pin (is_pin_of one index pin)) pins) ∙ by (pin_for tag pins) refl
+  where
+    same : (pin : Pin) (b : Bool) → is_pin_of tag 0 (if b then record pin { wanted = wanted } else pin) ≡ is_pin_of tag
+        0 pin
+    same pin true = refl
+    same pin false = refl
+
+    by : (o : Option Pin) → pin_for tag pins ≡ o →
+        option_map (λ (pin : Pin). pin.wanted) (option_map (with_wanted one index wanted) o) ≡ option_map
+        (λ (pin : Pin). pin.wanted) o
+    by None e = refl
+    by (Some pin) e = ap (λ b. Some (if b then record pin { wanted = wanted } else pin).wanted)
+        (differ pin (found_is (is_pin_of tag 0) pins pin e))
 
 -- Blocks that were read
 

@@ -18,11 +18,13 @@ use Rattle.device.specs.declared.tasks.Phase.{Phase}
 use Rattle.device.specs.declared.tasks.Phase.TheVariants as phase
 use Rattle.device.specs.declared.tasks.Status.TheVariants as status
 use Rattle.device.specs.declared.tasks.Task.{Task}
+use Rattle.device.specs.declared.tasks.TaskEvent.TheVariants as event
 use Rattle.device.specs.Describes.{IsDoing, IsSending, Progress, TaskKept, TasksKept, progress_by, progress_in}
 use Rattle.device.specs.Describes.{progress_kept, progress_of, progress_of_block}
-use Rattle.device.specs.Tasks.{after_lost_read, read_error, sends_block}
+use Rattle.device.specs.Tasks.{after_lost_read, phase_after, read_error, task_after}
 use Rattle.device.proofs.open_tasks.OpenTasks.{StandsOrNot, each_changed, tag_stands, theirs_changed}
 use Rattle.device.proofs.open_tasks.ReadProgress.{ChangesOne, find_map, pin_for, progress, read_for, wanted_for}
+use Rattle.device.proofs.open_tasks.ReadProgress.{want_set_else}
 
 -- The task
 
@@ -194,21 +196,16 @@ module _ (before tag : ℕ) (ts : List Task) (us : List exchange.Task) (loaded :
       TaskKept before (after_lost_read tag a) (task_read tag 0 NotRead b)
   lost_one k a b at h = by (is_task_of tag b) refl
     where
-      tests : (x : Bool) → is_task_of tag b ≡ x → (p : Phase) → a.phase ≡ p →
-          ((a.tag == tag) && sends_block a.phase) ≡ (x && sends_block p)
-      tests x is p same = (λ i. (sym h.tag i == tag) && sends_block (same i)) ∙ ap (λ y. y && sends_block p) is
-
-      lost_task : Task
-      lost_task = record a { phase = phase.Answer (status.CheckCondition read_error) 0 }
+      lost : (x : Bool) → is_task_of tag b ≡ x → after_lost_read tag a ≡ (if x then task_after event.BlockLost a else a)
+      lost x is = ap (λ y. if y then task_after event.BlockLost a else a) ((λ i. sym h.tag i == tag) ∙ is)
 
       by : (x : Bool) → is_task_of tag b ≡ x → TaskKept before (after_lost_read tag a) (if x then set_read NotRead b
           else b)
-      by false is = subst (λ z. TaskKept before z b)
-          (sym (ap (λ y. if y then lost_task else a) (tests false is a.phase refl))) h
+      by false is = subst (λ z. TaskKept before z b) (sym (lost false is)) h
       by true is =
           let s = its_phase k a b at is h in
           subst (λ z. TaskKept before z (set_read NotRead b))
-          (sym (ap (λ y. if y then lost_task else a) (tests true is phase.SendBlock s.0)))
+          (sym (lost true is ∙ ap (λ (p : Phase). record a { phase = phase_after p event.BlockLost }) s.0))
           (record {
             lun = h.lun;
             tag = h.tag;
@@ -260,18 +257,6 @@ wanted_over tag pins pin found =
 pub wanted_else : (one tag : ℕ) (pins : List Pin) → (tag == one) ≡ false →
     wanted_for tag (map (with_wanted one 0 false) pins) ≡ wanted_for tag pins
 wanted_else one tag pins other =
-    ap (option_map (λ (p : Pin). p.wanted)) (find_map (is_pin_of tag 0) (with_wanted one 0 false)
-    (λ p. same p (is_pin_of one 0 p)) pins) ∙ by (pin_for tag pins) refl
-  where
-    same : (p : Pin) (b : Bool) → is_pin_of tag 0 (if b then record p { wanted = false } else p) ≡ is_pin_of tag 0 p
-    same p true = refl
-    same p false = refl
-
-    by : (o : Option Pin) → pin_for tag pins ≡ o →
-        option_map (λ (p : Pin). p.wanted) (option_map (with_wanted one 0 false) o) ≡ option_map (λ (p : Pin). p.wanted)
-        o
-    by None e = refl
-    by (Some p) e =
-        let its = eqb-true p.tag tag (and_parts _ _ (found_is (is_pin_of tag 0) pins p e)).0 in
-        ap (λ b. Some (if b && (p.index == 0) then record p { wanted = false } else p).wanted)
-        (ap (λ (n : ℕ). n == one) its ∙ other)
+    want_set_else one 0 false tag pins
+    (λ pin e. ap (λ (n : ℕ). (n == one) && (pin.index == 0)) (eqb-true pin.tag tag (and_parts _ _ e).0)
+    ∙ ap (λ b. b && (pin.index == 0)) other)

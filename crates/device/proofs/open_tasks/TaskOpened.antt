@@ -116,13 +116,13 @@ module _ (d : DeviceCore) (s : State) (r : Request) (h : Describes d s) (free : 
   open_told command n deed new lock = All-push (IsTold (durable s)) s.tasks (opened r command n deed) (h.told lock) new
 
   -- where the layer stays
-  pub opens_still : (command : Option Cdb) (n : ℕ) (deed : Deed) (a : Task) → progress_in deed ≡ no_progress →
-      IsToldIn (durable s) deed →
+  pub opens_still : (c : Core) (command : Option Cdb) (n : ℕ) (deed : Deed) (a : Task) →
+      layer_kept.Describes c s.translation → progress_in deed ≡ no_progress → IsToldIn (durable s) deed →
       TaskKept (before_accepted s.translation.ledger) a (opened r command n deed) →
-      IsBehind (with_task d a) (machine.with_task s r command n deed)
-  opens_still command n deed a none new task = record {
+      IsBehind (with_task (record d { ftl = c }) a) (machine.with_task s r command n deed)
+  opens_still c command n deed a layer none new task = record {
     keeps =
-        open_keeps d.ftl s.translation command n deed a h.kept.layer_kept refl
+        open_keeps c s.translation command n deed a layer refl
         (none_wanted ∙ sym (ap (λ (p : Progress). p.wanted) none), λ m other. refl) (ap (λ (p : Progress). p.read) none)
         task;
     told = open_told command n deed new;

@@ -1,7 +1,7 @@
 -- The groups at the front whose pages are written become durable one by one, and the frontier climbs over them.
 use Rattle.std.proofs.Common.{◌≡◌, ◌∙◌, ◌⊎◌, ℕ, zero, suc, ◌+◌, ◌≤◌, Bool, true, false, List, [], ◌∷◌, Option, Some}
 use Rattle.std.proofs.Common.{None, length, drop, map, refl, sym, ap, subst, inl, inr, ⊎_elim, arith}
-use Rattle.std.specs.Prelude.{◌-◌, ◌&&◌, is_some, slice_get, remove}
+use Rattle.std.specs.Prelude.{◌-◌, ◌&&◌, is_some, option_map, slice_get, remove}
 use Rattle.ufs_spec.specs.Keys as keys
 use Rattle.ufs_spec.specs.Ledger.{all_stand, climbed, climbs, entry_of, is_standing}
 use Rattle.ufs_spec.specs.Moves as moves
@@ -18,8 +18,12 @@ use Rattle.ftl_core.specs.Ends.{front_durable, front_written, group_durable, pla
 use Rattle.ftl_core.proofs.group_settled.FrontLedger.{AreKeys, IsFront, IsFrontKept, front, front_kept, front_stored}
 use Rattle.ftl_core.proofs.group_settled.FrontLedger.{ledger_next}
 use Rattle.ftl_core.proofs.new_dies.ListParts.{drop_next}
-use Rattle.ftl_core.proofs.pins.PinsSettled.{at_frontier, differ_settled, pins_settle, pins_settled, pins_twice}
-use Rattle.ftl_core.proofs.pins.PinsSettled.{still_reading}
+use Rattle.ftl_core.proofs.pins.PinsSettled.{at_frontier, pins_settle, pins_settled, pins_twice}
+use Rattle.ftl_core.proofs.pins.PinsSettled.{still_wanted}
+use Rattle.ftl_core.proofs.pins.FoundPins.{found_mapped}
+use Rattle.ftl_core.specs.declared.books.Pin.{Pin}
+use Rattle.power_loss.proofs.open_tasks.TaggedLists.{differ_map}
+use Rattle.ftl_core.specs.Moves.{is_pin_of, moved_pin}
 use Rattle.ftl_core.proofs.group_settled.Settling.{settled_end, settled_step}
 
 -- the layer with its frontier there, and with what tasks keep settled by it
@@ -55,8 +59,14 @@ next_of c u p h m f = record {
   work = h.work;
   claims = h.claims;
   pins = pins_settle u.ledger (entry_of u.ledger) (front_stored c p) number stands c.pins u.pins h.pins;
-  differ = differ_settled (front_stored c p) c.pins h.differ;
-  reads = λ die tag index place e. still_reading (front_stored c p) tag place c.pins (h.reads die tag index place e);
+  differ = differ_map (λ (x : Pin). x.reader) (moved_pin (front_stored c p)) (λ x. refl) c.pins h.differ;
+  reads = λ die tag index place e.
+      let w = h.reads die tag index place e in (
+        moved_pin (front_stored c p) w.0,
+        found_mapped (is_pin_of tag) (moved_pin (front_stored c p)) (λ x. refl) c.pins
+            ∙ ap (option_map (moved_pin (front_stored c p))) w.1,
+        still_wanted (front_stored c p) place w.0 w.2,
+      );
 }
   where
     number : c.frontier + 1 ≡ suc u.ledger.frontier

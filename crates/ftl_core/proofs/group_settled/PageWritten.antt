@@ -23,9 +23,9 @@ use Rattle.ftl_core.specs.Core.{Core}
 use Rattle.ftl_core.specs.Describes.{BlocksKept, Describes, IsFilling, Kept, name_at, spot_at, step_kept}
 use Rattle.ftl_core.specs.Moves.{page_written}
 use Rattle.ftl_core.specs.Takes.{next_place}
-use Rattle.ftl_core.proofs.job_ended.ChangeParts.{blocks_on, blocks_put, closed_fills, elsewhere, filling_kept}
+use Rattle.ftl_core.proofs.job_ended.ChangeParts.{blocks_on, blocks_put, closed_fills, filling_kept}
 use Rattle.ftl_core.proofs.job_ended.ChangeParts.{kept_over, page_ends, states_with}
-use Rattle.ftl_core.proofs.job_taken.Flown.{die_within, dies_put}
+use Rattle.ftl_core.proofs.job_taken.Flown.{die_within}
 use Rattle.ftl_core.proofs.job_ended.JobsOver.{filling_on, filling_over}
 use Rattle.ftl_core.proofs.group_settled.PageStands.{IsPending, fly_written, groups_length, is_pending, ledger_written}
 use Rattle.ftl_core.proofs.group_settled.PageStands.{with_page}
@@ -108,16 +108,13 @@ module _ (c : Core) (t : Translation) (die : ℕ) (b : Book) (o : OpenBlock) (ta
       })
       (written_at t die o tag body x)
   kept_written x states filling blocks is_open =
-      kept_over c t die states (slice_set c.books die (record { filling = filling; flight = None })) c.has_bad
+      kept_over c t die o.block b x filling states c.has_bad
       (slice_set c.groups j (record g { written = Some (next_place die o) })) c.mark c.next_mark c.mended
-      (at_spot t.disk.blocks (spot_at die o.block) x) (at_place t.disk.cells (next_place die o) (GroupPage tag body))
+      (at_place t.disk.cells (next_place die o) (GroupPage tag body))
       (at_place t.disk.finished (next_place die o) true) t.disk.erasing
       (with_page t.ledger (name_of tag) (next_place die o))
       (record t.work { step = step_behind (name_of tag) t.work.step })
-      h.kept blocks
-      (dies_put t.numbers t.disk.blocks (at_spot t.disk.blocks (spot_at die o.block) x) t.disk.flights c.books die b
-      (record { filling = filling; flight = None }) None h.kept.dies f.there (elsewhere t.disk.blocks die o.block x)
-      (record { filling = is_open; job = tt }))
+      h.kept f.there blocks is_open
       (fly_written t.ledger.standing t.disk.flights die (name_of tag) (next_place die o) h.kept.fly
       (ap (flies_name (name_of tag)) f.flies ∙ name_self (name_of tag)))
       (ledger_written c.numbers c.places c.groups c.frontier t.ledger (name_of tag)

@@ -15,25 +15,16 @@ use Rattle.ftl_core.specs.Core.{Core}
 use Rattle.ftl_core.specs.declared.books.BlockState.{BlockState}
 use Rattle.ftl_core.specs.declared.books.BlockState.TheVariants as state
 use Rattle.ftl_core.specs.declared.books.Book.{Book}
-use Rattle.ftl_core.specs.declared.books.Flight.{Flight}
 use Rattle.ftl_core.specs.declared.books.Group.{Group}
 use Rattle.ftl_core.specs.declared.books.OpenBlock.{OpenBlock}
 use Rattle.ftl_core.specs.declared.books.Stored.{Stored}
-use Rattle.ftl_core.specs.Describes.{BlocksKept, DiesKept, IsFilling, IsFlight, Kept, LedgerKept, PagesFly, PinsKept}
+use Rattle.ftl_core.specs.Describes.{BlocksKept, IsFilling, Kept, LedgerKept, PagesFly, PinsKept}
 use Rattle.ftl_core.specs.Describes.{WorkKept, block_kept, spot_at}
 use Rattle.ftl_core.specs.Moves.{page_written, with_book, with_state}
-use Rattle.ftl_core.proofs.job_taken.Flown.{reads_over}
+use Rattle.ftl_core.proofs.job_taken.Flown.{dies_put, reads_over}
 use Rattle.ftl_core.proofs.new_dies.Spots.{block_lost, block_put}
 
 -- The job that ends
-
--- the job of a die, as both know it
-pub job_kept : (c : Core) (t : Translation) (die : ℕ) (b : Book) (f : Option Flight) (g : Option disk.Flight) →
-    Kept c t →
-    slice_get c.books die ≡ Some b → b.flight ≡ f → t.disk.flights die ≡ g → IsFlight t.numbers die b.filling f g
-job_kept c t die b f g k there job flies =
-    subst (λ (z : Option Flight × Option disk.Flight). IsFlight t.numbers die b.filling z.0 z.1) (λ i. (job i, flies i))
-    (k.dies.each die b there).job
 
 pub filling_kept : (c : Core) (t : Translation) (die : ℕ) (b : Book) (o : Option OpenBlock) → Kept c t →
     slice_get c.books die ≡ Some b → b.filling ≡ o → IsFilling t.numbers t.disk.blocks die o
@@ -82,26 +73,33 @@ over t die blocks cells finished erasing ledger work = record t {
   work = work;
 }
 
--- the job of one die ended that was no read: the pins are as they were
-pub kept_over : (c : Core) (t : Translation) (die : ℕ)
-    (states : List BlockState) (books : List Book) (has_bad : Bool) (groups : List Group) (mark : Option ℕ) (next : ℕ)
-    (mended : Bool)
-    (blocks : Spot → disk.BlockState) (cells : Cells) (finished : Place → Bool) (erasing : Spot → Bool)
-    (ledger : Ledger) (work : Work) →
-    Kept c t →
-    BlocksKept t.numbers blocks states has_bad →
-    DiesKept t.numbers blocks (at_die t.disk.flights die None) books →
+-- a block of another die is not the one that changed
+pub elsewhere : (blocks : Spot → disk.BlockState) (die block : ℕ) (x : disk.BlockState) (s : Spot) → s.die ≢ die →
+    at_spot blocks (spot_at die block) x s ≡ blocks s
+elsewhere blocks die block x s apart = ⊎_elim (λ h. absurd (apart (ap (λ (z : Spot). z.die) h.0))) (λ h. h.1)
+    (at_spot_cases blocks (spot_at die block) x s)
+
+-- the job of one die ended that was no read: the pins are as they were, and one block has another state
+pub kept_over : (c : Core) (t : Translation) (die block : ℕ) (b : Book) (x : disk.BlockState) (f : Option OpenBlock)
+    (states : List BlockState) (has_bad : Bool) (groups : List Group) (mark : Option ℕ) (next : ℕ) (mended : Bool)
+    (cells : Cells) (finished : Place → Bool) (erasing : Spot → Bool) (ledger : Ledger) (work : Work) →
+    Kept c t → slice_get c.books die ≡ Some b →
+    BlocksKept t.numbers (blocks_with t die block x) states has_bad →
+    IsFilling t.numbers (blocks_with t die block x) die f →
     PagesFly ledger.standing (at_die t.disk.flights die None) →
     LedgerKept c.numbers c.places groups c.frontier ledger →
     WorkKept mended mark next work ledger.marks →
     PinsKept ledger.frontier (entry_of ledger) c.pins t.pins →
-    Kept (changed c states books has_bad groups mark next mended) (over t die blocks cells finished erasing ledger work)
-kept_over c t die states books has_bad groups mark next mended blocks cells finished erasing ledger work k bs ds fs ls
-    ws ps = record {
+    Kept (changed c states (books_with c die f) has_bad groups mark next mended)
+    (over t die (blocks_with t die block x) cells finished erasing ledger work)
+kept_over c t die block b x f states has_bad groups mark next mended cells finished erasing ledger work k there bs fs
+    flies ls ws ps = record {
       numbers = k.numbers;
       blocks = bs;
-      dies = ds;
-      fly = fs;
+      dies = dies_put t.numbers t.disk.blocks (blocks_with t die block x) t.disk.flights c.books die b
+          (record { filling = f; flight = None }) None k.dies there (elsewhere t.disk.blocks die block x)
+          (record { filling = fs; job = tt });
+      fly = flies;
       ledger_kept = ls;
       work = ws;
       claims = k.claims;
@@ -212,12 +210,6 @@ page_ends now die b o pages u same within on last = ⊎_elim
     full = with_book (with_state now die o.block state.Closed) die record { filling = None; flight = None }
 
 -- Dies
-
--- a block of another die is not the one that changed
-pub elsewhere : (blocks : Spot → disk.BlockState) (die block : ℕ) (x : disk.BlockState) (s : Spot) → s.die ≢ die →
-    at_spot blocks (spot_at die block) x s ≡ blocks s
-elsewhere blocks die block x s apart = ⊎_elim (λ h. absurd (apart (ap (λ (z : Spot). z.die) h.0))) (λ h. h.1)
-    (at_spot_cases blocks (spot_at die block) x s)
 
 pub closed_fills : (next : ℕ) → disk.Closed ≡ disk.Filling next → ⊥
 closed_fills next e = cc

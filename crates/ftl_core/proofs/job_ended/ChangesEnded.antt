@@ -2,15 +2,13 @@
 use Rattle.std.proofs.Common.{◌≡◌, ◌∙◌, ℕ, suc, ◌+◌, ◌<◌, Bool, true, false, List, Option, Some, None, refl, sym, ap}
 use Rattle.std.proofs.Common.{subst, arith}
 use Rattle.std.specs.Prelude.{◌^◌, if◌then◌else◌, nat_lt, nat_le, slice_get}
-use Rattle.ufs_spec.specs.Cells.{Cells, GroupPage, Mark, MarkPage}
+use Rattle.ufs_spec.specs.Cells.{Cells, Mark, MarkPage}
 use Rattle.ufs_spec.specs.declared.configs.Numbers.{Numbers}
 use Rattle.ufs_spec.specs.declared.flash.Fence.{Fence}
-use Rattle.ufs_spec.specs.declared.flash.Place.{Place}
-use Rattle.ufs_spec.specs.declared.flash.Tag.{Tag}
 use Rattle.ufs_spec.specs.Disk as disk
 use Rattle.ufs_spec.specs.Disk.{Spot, at_place, state_behind}
-use Rattle.ufs_spec.specs.Moves.{EndJob, WentWell, WentWrong, cell_failed, end_flight, freed, mark_again}
-use Rattle.ufs_spec.specs.Moves.{mark_written as layer_written, mending_behind, moved}
+use Rattle.ufs_spec.specs.Moves.{cell_failed, freed, mark_again}
+use Rattle.ufs_spec.specs.Moves.{mark_written as layer_written, mending_behind}
 use Rattle.ufs_spec.specs.Translation as layer
 use Rattle.ufs_spec.specs.Translation.{MarkStep, Plan, Step, StepKind, Translation, is_bad}
 use Rattle.power_loss.specs.Invariant.{EraseRight}
@@ -18,16 +16,14 @@ use Rattle.ftl_core.specs.Core.{Core}
 use Rattle.ftl_core.specs.declared.books.BlockState.{BlockState}
 use Rattle.ftl_core.specs.declared.books.BlockState.TheVariants as state
 use Rattle.ftl_core.specs.declared.books.Book.{Book}
-use Rattle.ftl_core.specs.declared.books.Flight.TheVariants as flight
 use Rattle.ftl_core.specs.declared.books.OpenBlock.{OpenBlock}
 use Rattle.ftl_core.specs.Describes.{BlocksKept, Describes, IsFilling, Kept, mending_kept, spot_at, step_kept}
-use Rattle.ftl_core.specs.Gives.{erase_ended, group_ended, mark_ended}
 use Rattle.ftl_core.specs.Moves.{erased, mark_ordered, mark_written, page_written, went_bad}
 use Rattle.ftl_core.specs.Takes.{next_place}
 use Rattle.ftl_core.proofs.job_ended.ChangeParts.{bad_fills, blocks_lost, blocks_on, blocks_put, blocks_with}
-use Rattle.ftl_core.proofs.job_ended.ChangeParts.{books_with, changed, closed_fills, elsewhere, filling_kept, job_kept}
+use Rattle.ftl_core.proofs.job_ended.ChangeParts.{books_with, changed, closed_fills, filling_kept}
 use Rattle.ftl_core.proofs.job_ended.ChangeParts.{kept_over, ledger_marked, over, page_ends, states_with}
-use Rattle.ftl_core.proofs.job_taken.Flown.{die_within, dies_put, fly_over}
+use Rattle.ftl_core.proofs.job_taken.Flown.{die_within, fly_over}
 use Rattle.ftl_core.proofs.job_ended.JobsOver.{filling_begun, filling_none, filling_on, filling_over}
 
 -- Marks
@@ -55,15 +51,12 @@ module _ (c : Core) (t : Translation) (die : ℕ) (b : Book) (o : OpenBlock) (m 
       IsFilling t.numbers (blocks_with t die o.block x) die f →
       Kept (changed c states (books_with c die f) c.has_bad c.groups None c.next_mark true) (mark_stands t die o m x)
   mark_parts x states f bs fs =
-      kept_over c t die states (books_with c die f) c.has_bad c.groups None c.next_mark true
-      (blocks_with t die o.block x) (at_place t.disk.cells (next_place die o) (MarkPage m))
+      kept_over c t die o.block b x f states c.has_bad c.groups None c.next_mark true
+      (at_place t.disk.cells (next_place die o) (MarkPage m))
       (at_place t.disk.finished (next_place die o) true) t.disk.erasing
       (record t.ledger { newest = Some m })
       (record t.work { mending = mending_behind t.work.mending; plan = None; step = None })
-      h.kept bs
-      (dies_put t.numbers t.disk.blocks (blocks_with t die o.block x) t.disk.flights c.books die b
-      (record { filling = f; flight = None }) None
-      h.kept.dies there (elsewhere t.disk.blocks die o.block x) (record { filling = fs; job = tt }))
+      h.kept there bs fs
       (fly_over t.ledger.standing t.disk.flights die h.kept.fly)
       (ledger_marked c.numbers c.places c.groups c.frontier t.ledger (Some m) t.ledger.marks h.kept.ledger_kept)
       record {
@@ -97,7 +90,7 @@ module _ (c : Core) (t : Translation) (die : ℕ) (b : Book) (o : OpenBlock) (m 
       (ap (λ (n : Numbers). n.pages) h.kept.numbers) (h.valid.blocks.filling (spot_at die o.block) o.next filling.1)
       mark_on mark_last
 
-  mark_ends_well : Kept (mark_written c die b) (layer_written t (next_place die o) m)
+  pub mark_ends_well : Kept (mark_written c die b) (layer_written t (next_place die o) m)
   mark_ends_well =
       subst (λ (f : Option OpenBlock). Kept (page_written (record c { mark = None; mended = true }) die b f)
       (layer_written t (next_place die o) m)) (sym fills)
@@ -144,15 +137,11 @@ module _ (c : Core) (t : Translation) (die : ℕ) (b : Book) (o : OpenBlock) (m 
       (at_place t.disk.finished (next_place die o) false) t.disk.erasing
       (record t.ledger { marks = marks }) (record t.work { step = step }))
   fail_parts s next marks step is numbered =
-      kept_over c t die (states_with c die o.block state.Bad) (books_with c die None) true c.groups s next c.mended
-      (blocks_with t die o.block disk.Bad) left (at_place t.disk.finished (next_place die o) false) t.disk.erasing
+      kept_over c t die o.block b disk.Bad None (states_with c die o.block state.Bad) true c.groups s next c.mended left
+      (at_place t.disk.finished (next_place die o) false) t.disk.erasing
       (record t.ledger { marks = marks }) (record t.work { step = step })
-      h.kept
-      (blocks_lost c t die o.block h.kept (die_within c t die b h.kept there) failed_filling.0)
-      (dies_put t.numbers t.disk.blocks (blocks_with t die o.block disk.Bad) t.disk.flights c.books die b
-      (record { filling = None; flight = None }) None
-      h.kept.dies there (elsewhere t.disk.blocks die o.block disk.Bad)
-      (record { filling = filling_over t.numbers t.disk.blocks die o disk.Bad bad_fills failed_filling; job = tt }))
+      h.kept there (blocks_lost c t die o.block h.kept (die_within c t die b h.kept there) failed_filling.0)
+      (filling_over t.numbers t.disk.blocks die o disk.Bad bad_fills failed_filling)
       (fly_over t.ledger.standing t.disk.flights die h.kept.fly)
       (ledger_marked c.numbers c.places c.groups c.frontier t.ledger t.ledger.newest marks h.kept.ledger_kept)
       record {
@@ -168,7 +157,8 @@ module _ (c : Core) (t : Translation) (die : ℕ) (b : Book) (o : OpenBlock) (m 
   failed_fence = let f = h.valid.flights.mark die
       (next_place die o) m flies in fence_none c.mark m.number m.fence f.there (sym f.step_is ∙ h.kept.work.step)
 
-  mark_ends_wrong : Kept (went_bad (mark_ordered c) die o.block) (cell_failed t (next_place die o) (MarkPage m) left)
+  pub mark_ends_wrong : Kept (went_bad (mark_ordered c) die o.block)
+      (cell_failed t (next_place die o) (MarkPage m) left)
   mark_ends_wrong =
       subst (λ (f : Option Fence). Kept (went_bad (mark_ordered c) die o.block)
       (mark_again (record t { disk = disk.program_failed t.disk (next_place die o) left }) f)) (sym failed_fence)
@@ -184,51 +174,17 @@ module _ (c : Core) (t : Translation) (die : ℕ) (b : Book) (o : OpenBlock) (m 
       (let e = h.kept.work.next_mark in omega arith))
       (fail_parts None c.next_mark t.ledger.marks None refl h.kept.work.next_mark))
 
-pub mark_is_written : (c : Core) (t : Translation) (die : ℕ) (b : Book) (place p : Place) (m : Mark) → Describes c t →
-    slice_get c.books die ≡ Some b → b.flight ≡ Some (flight.Mark place) →
-    t.disk.flights die ≡ Some (disk.Programming p (MarkPage m)) →
-    Kept (mark_ended c die b place true) (moved t (EndJob die WentWell))
-mark_is_written c t die b place p m h there job flies =
-    let k = job_kept c t die b (Some (flight.Mark place))
-    (Some (disk.Programming p (MarkPage m))) h.kept there job flies in
-    let at : t.disk.flights die ≡ Some (disk.Programming (next_place die k.1.0) (MarkPage m)) =
-    flies ∙ ap (λ (q : Place). Some (disk.Programming q (MarkPage m))) (k.0 ∙ sym k.1.2) in
-    subst (λ (f : Option disk.Flight). Kept (mark_ended c die b place true) (end_flight t die f WentWell)) (sym at)
-    (mark_ends_well c t die b k.1.0 m h there k.1.1 at)
-
-pub mark_has_failed : (c : Core) (t : Translation) (die : ℕ) (b : Book) (place p : Place) (m : Mark) (left : Cells) →
-    Describes c t →
-    slice_get c.books die ≡ Some b → b.flight ≡ Some (flight.Mark place) →
-    t.disk.flights die ≡ Some (disk.Programming p (MarkPage m)) →
-    Kept (mark_ended c die b place false) (moved t (EndJob die (WentWrong left)))
-mark_has_failed c t die b place p m left h there job flies =
-    let k = job_kept c t die b (Some (flight.Mark place))
-    (Some (disk.Programming p (MarkPage m))) h.kept there job flies in
-    let at : t.disk.flights die ≡ Some (disk.Programming (next_place die k.1.0) (MarkPage m)) =
-    flies ∙ ap (λ (q : Place). Some (disk.Programming q (MarkPage m))) (k.0 ∙ sym k.1.2) in
-    subst (λ (f : Option disk.Flight). Kept (mark_ended c die b place false) (end_flight t die f (WentWrong left)))
-    (sym at)
-    (subst (λ (q : Place). Kept (mark_ended c die b q false) (cell_failed t (next_place die k.1.0) (MarkPage m) left))
-    k.1.2
-    (mark_ends_wrong c t die b k.1.0 m left h there k.1.1 at))
-
 -- Groups
 
 -- a page whose program failed waits again by itself
-group_ends_wrong : (c : Core) (t : Translation) (die : ℕ) (b : Book) (o : OpenBlock) (left : Cells) → Describes c t →
-    slice_get c.books die ≡ Some b → b.filling ≡ Some o →
+pub group_ends_wrong : (c : Core) (t : Translation) (die : ℕ) (b : Book) (o : OpenBlock) (left : Cells) →
+    Describes c t → slice_get c.books die ≡ Some b → b.filling ≡ Some o →
     Kept (went_bad c die o.block) (record t { disk = disk.program_failed t.disk (next_place die o) left })
 group_ends_wrong c t die b o left h there fills =
-    kept_over c t die (states_with c die o.block state.Bad)
-    (books_with c die None) true c.groups c.mark c.next_mark c.mended
-    (blocks_with t die o.block disk.Bad) left
-    (at_place t.disk.finished (next_place die o) false) t.disk.erasing t.ledger t.work
-    h.kept
-    (blocks_lost c t die o.block h.kept (die_within c t die b h.kept there) is_open.0)
-    (dies_put t.numbers t.disk.blocks (blocks_with t die o.block disk.Bad) t.disk.flights c.books die b
-    (record { filling = None; flight = None }) None
-    h.kept.dies there (elsewhere t.disk.blocks die o.block disk.Bad)
-    (record { filling = filling_over t.numbers t.disk.blocks die o disk.Bad bad_fills is_open; job = tt }))
+    kept_over c t die o.block b disk.Bad None (states_with c die o.block state.Bad) true c.groups c.mark c.next_mark
+    c.mended left (at_place t.disk.finished (next_place die o) false) t.disk.erasing t.ledger t.work
+    h.kept there (blocks_lost c t die o.block h.kept (die_within c t die b h.kept there) is_open.0)
+    (filling_over t.numbers t.disk.blocks die o disk.Bad bad_fills is_open)
     (fly_over t.ledger.standing t.disk.flights die h.kept.fly)
     h.kept.ledger_kept h.kept.work h.kept.pins
   where
@@ -251,16 +207,12 @@ module _ (c : Core) (t : Translation) (die : ℕ) (b : Book) (block : ℕ) (h : 
       Kept (changed c states (books_with c die f) has_bad c.groups c.mark c.next_mark c.mended)
       (over t die (blocks_with t die block x) cells t.disk.finished erasing t.ledger t.work)
   erase_parts x states f has_bad cells erasing bs fs =
-      kept_over c t die states (books_with c die f) has_bad c.groups c.mark c.next_mark c.mended
-      (blocks_with t die block x) cells t.disk.finished erasing t.ledger t.work
-      h.kept bs
-      (dies_put t.numbers t.disk.blocks (blocks_with t die block x) t.disk.flights c.books die b
-      (record { filling = f; flight = None }) None
-      h.kept.dies there (elsewhere t.disk.blocks die block x) (record { filling = fs; job = tt }))
+      kept_over c t die block b x f states has_bad c.groups c.mark c.next_mark c.mended cells t.disk.finished erasing
+      t.ledger t.work h.kept there bs fs
       (fly_over t.ledger.standing t.disk.flights die h.kept.fly)
       h.kept.ledger_kept h.kept.work h.kept.pins
 
-  erase_ends_well : Kept (erased c die block) (record t { disk = disk.erased t.disk (spot_at die block) })
+  pub erase_ends_well : Kept (erased c die block) (record t { disk = disk.erased t.disk (spot_at die block) })
   erase_ends_well =
       erase_parts (disk.Filling 0) (states_with c die block state.Open)
       (Some (record { block = block; next = 0 })) c.has_bad
@@ -269,47 +221,10 @@ module _ (c : Core) (t : Translation) (die : ℕ) (b : Book) (block : ℕ) (h : 
       (ap is_bad erase_right.free) refl)
       (filling_begun t.numbers t.disk.blocks die block 0 within (filling_kept c t die b None h.kept there fills))
 
-  erase_ends_wrong : (left : Cells) →
+  pub erase_ends_wrong : (left : Cells) →
       Kept (went_bad c die block) (record t { disk = disk.erase_failed t.disk (spot_at die block) left })
   erase_ends_wrong left =
       erase_parts disk.Bad (states_with c die block state.Bad) None true left t.disk.erasing
       (blocks_lost c t die block h.kept (die_within c t die b h.kept there) within)
       (filling_none t.numbers t.disk.blocks die block disk.Bad bad_fills
       (filling_kept c t die b None h.kept there fills))
-
-pub group_has_failed : (c : Core) (t : Translation) (die : ℕ) (b : Book) (place : Place) (number : ℕ) (p : Place)
-    (tag : Tag) (body : List ℕ) (left : Cells) → Describes c t →
-    slice_get c.books die ≡ Some b → b.flight ≡ Some (flight.Group place number) →
-    t.disk.flights die ≡ Some (disk.Programming p (GroupPage tag body)) →
-    Kept (group_ended c die b place number false) (moved t (EndJob die (WentWrong left)))
-group_has_failed c t die b place number p tag body left h there job flies =
-    let k = job_kept c t die b (Some (flight.Group place number))
-    (Some (disk.Programming p (GroupPage tag body))) h.kept there job flies in
-    let at : t.disk.flights die ≡ Some (disk.Programming (next_place die k.1.0) (GroupPage tag body)) =
-    flies ∙ ap (λ (q : Place). Some (disk.Programming q (GroupPage tag body))) (k.0 ∙ sym k.1.2) in
-    subst (λ (f : Option disk.Flight). Kept (group_ended c die b place number false)
-    (end_flight t die f (WentWrong left))) (sym at)
-    (subst (λ (q : Place). Kept (group_ended c die b q number false)
-    (cell_failed t (next_place die k.1.0) (GroupPage tag body) left)) k.1.2
-    (group_ends_wrong c t die b k.1.0 left h there k.1.1))
-
-pub block_is_erased : (c : Core) (t : Translation) (die : ℕ) (b : Book) (block : ℕ) (s : Spot) → Describes c t →
-    slice_get c.books die ≡ Some b → b.flight ≡ Some (flight.Erase block) → t.disk.flights die ≡ Some (disk.Erasing s) →
-    Kept (erase_ended c die block true) (moved t (EndJob die WentWell))
-block_is_erased c t die b block s h there job flies =
-    let k = job_kept c t die b (Some (flight.Erase block)) (Some (disk.Erasing s)) h.kept there job flies in
-    let at : t.disk.flights die ≡ Some (disk.Erasing (spot_at die block)) = flies
-    ∙ ap (λ (a : Spot). Some (disk.Erasing a)) k.0 in
-    subst (λ (f : Option disk.Flight). Kept (erase_ended c die block true) (end_flight t die f WentWell)) (sym at)
-    (erase_ends_well c t die b block h there k.2 k.1 at)
-
-pub erase_has_failed : (c : Core) (t : Translation) (die : ℕ) (b : Book) (block : ℕ) (s : Spot) (left : Cells) →
-    Describes c t →
-    slice_get c.books die ≡ Some b → b.flight ≡ Some (flight.Erase block) → t.disk.flights die ≡ Some (disk.Erasing s) →
-    Kept (erase_ended c die block false) (moved t (EndJob die (WentWrong left)))
-erase_has_failed c t die b block s left h there job flies =
-    let k = job_kept c t die b (Some (flight.Erase block)) (Some (disk.Erasing s)) h.kept there job flies in
-    let at : t.disk.flights die ≡ Some (disk.Erasing (spot_at die block)) = flies
-    ∙ ap (λ (a : Spot). Some (disk.Erasing a)) k.0 in
-    subst (λ (f : Option disk.Flight). Kept (erase_ended c die block false) (end_flight t die f (WentWrong left)))
-    (sym at) (erase_ends_wrong c t die b block h there k.2 k.1 at left)

@@ -5,7 +5,7 @@ use Rattle.ufs_spec.proofs.Facts.{false≢true}
 use Rattle.ufs_spec.specs.Cells.{Cells, GroupPage, Mark, MarkPage, Cell}
 use Rattle.ufs_spec.specs.Disk as disk
 use Rattle.ufs_spec.specs.Disk.{ForNobody, ForTask, Reader, Spot}
-use Rattle.ufs_spec.specs.Moves.{EndJob, Ending, IsEndingOf, MayEnd, WentWell, WentWrong, moved, suits}
+use Rattle.ufs_spec.specs.Moves.{EndJob, Ending, IsEndingOf, MayEnd, end_flight, WentWell, WentWrong, moved, suits}
 use Rattle.ufs_spec.specs.Translation.{Translation}
 use Rattle.ufs_spec.specs.declared.flash.Outcome.{Outcome}
 use Rattle.ufs_spec.specs.declared.flash.Place.{Place}
@@ -18,15 +18,17 @@ use Rattle.ftl_core.specs.declared.books.Flight.TheVariants as flight
 use Rattle.ftl_core.specs.declared.ftl.Ended.{Ended}
 use Rattle.ftl_core.specs.declared.ftl.Ended.TheVariants as ended
 use Rattle.ftl_core.specs.Core.{Core}
-use Rattle.ftl_core.specs.Describes.{Describes, IsNext, IsTold, Kept, spot_at}
+use Rattle.ftl_core.specs.Describes.{Describes, IsTold, Kept, spot_at}
 use Rattle.ftl_core.specs.Done.{IsEnded, core_ended, BookEnds, FlightEnds, book_after, flight_after}
 use Rattle.ftl_core.specs.Gives.{GivesIf, is_read, read_after, other_for}
 use Rattle.ftl_core.specs.Gives as gives
-use Rattle.ftl_core.proofs.job_ended.ChangesEnded.{block_is_erased, erase_has_failed, group_has_failed, mark_has_failed}
-use Rattle.ftl_core.proofs.job_ended.ChangesEnded.{mark_is_written}
-use Rattle.ftl_core.proofs.group_settled.GroupsEnded.{group_has_written}
+use Rattle.ftl_core.proofs.job_ended.ChangesEnded.{erase_ends_well, erase_ends_wrong, group_ends_wrong, mark_ends_well}
+use Rattle.ftl_core.proofs.job_ended.ChangesEnded.{mark_ends_wrong}
+use Rattle.ftl_core.proofs.group_settled.GroupsEnded.{group_ends_well}
+use Rattle.ftl_core.specs.Takes.{next_place}
+use Rattle.ftl_core.specs.declared.books.OpenBlock.{OpenBlock}
 use Rattle.ftl_core.proofs.job_taken.NextStarts.{outside}
-use Rattle.ftl_core.proofs.job_ended.ReadsEnded.{lost_read_ended, task_read_ended}
+use Rattle.ftl_core.proofs.job_ended.ReadsEnded.{idle_kept, read_ends, task_kept}
 use Rattle.ftl_core.proofs.job_ended.ReadsGiven.{lost_told, task_told}
 use Rattle.ftl_core.proofs.job_taken.Flown.{flight_cases}
 
@@ -64,47 +66,53 @@ kept_then : (c : Core) (t : Translation) (die : ℕ) (o : Outcome) (ending : End
     IsEndingOf t.disk.cells (t.disk.flights die) o ending →
     Kept (flight_after c die b b.flight o) (moved t (EndJob die ending))
 kept_then c t die o ending b h there is =
-    flight_cases t.numbers die b.filling Goal
-    (λ job flies now. absurd (false≢true now.0)) reads lost marks groups erases b.flight (t.disk.flights die)
-    (h.kept.dies.each die b there).job refl refl is
+    flight_cases t.numbers die b.filling Goal (λ flies now. absurd (false≢true now.0)) reads lost marks groups erases
+    b.flight (t.disk.flights die) (h.kept.dies.each die b there).job refl is
   where
     Goal : Option Flight → Option disk.Flight → Type 0
-    Goal f g = b.flight ≡ f → t.disk.flights die ≡ g → IsEndingOf t.disk.cells g o ending →
-        Kept (flight_after c die b f o) (moved t (EndJob die ending))
+    Goal f g = t.disk.flights die ≡ g → IsEndingOf t.disk.cells g o ending →
+        Kept (flight_after c die b f o) (end_flight t die g ending)
 
     reads : (place : Place) (tag : ℕ) →
         Goal (Some (flight.Read place (Some tag))) (Some (disk.Reading (ForTask tag 0) place))
-    reads place tag job flies now = task_read_ended c t die tag b place o ending h there flies now
+    reads place tag flies now =
+        let kept = task_kept c t die tag b place h there flies in
+        read_ends (λ d e. Kept (read_after c die b (Some tag) d)
+        (end_flight t die (Some (disk.Reading (ForTask tag 0) place)) e)) t.disk.cells (ForTask tag 0) place kept kept
+        o ending now
 
     lost : (place : Place) → Goal (Some (flight.Read place None)) (Some (disk.Reading ForNobody place))
-    lost place job flies now = lost_read_ended c t die b place o ending h there flies now
+    lost place flies now =
+        let kept = idle_kept c t die b h.kept there in
+        read_ends (λ d e. Kept (read_after c die b None d) (end_flight t die (Some (disk.Reading ForNobody place)) e))
+        t.disk.cells ForNobody place kept kept o ending now
 
-    marks : (place : Place) (m : Mark) → IsNext die b.filling place →
-        Goal (Some (flight.Mark place)) (Some (disk.Programming place (MarkPage m)))
-    marks place m next job flies now =
-        program_ends (λ out e. Kept (flight_after c die b (Some (flight.Mark place)) out) (moved t (EndJob die e)))
-        t.disk.cells place (MarkPage m)
-        (mark_is_written c t die b place place m h there job flies)
-        (λ left. mark_has_failed c t die b place place m left h there job flies)
-        o ending now
+    marks : (filled : OpenBlock) (m : Mark) → b.filling ≡ Some filled →
+        Goal (Some (flight.Mark (next_place die filled))) (Some (disk.Programming (next_place die filled) (MarkPage m)))
+    marks filled m fills flies now =
+        program_ends (λ out e. Kept (flight_after c die b (Some (flight.Mark (next_place die filled))) out)
+        (end_flight t die (Some (disk.Programming (next_place die filled) (MarkPage m))) e))
+        t.disk.cells (next_place die filled) (MarkPage m) (mark_ends_well c t die b filled m h there fills flies)
+        (λ left. mark_ends_wrong c t die b filled m left h there fills flies) o ending now
 
-    groups : (place : Place) (tag : Tag) (body : List ℕ) → IsNext die b.filling place → tag.index ≡ 0 →
-        Goal (Some (flight.Group place tag.number)) (Some (disk.Programming place (GroupPage tag body)))
-    groups place tag body next first job flies now =
-        program_ends (λ out e. Kept (flight_after c die b (Some (flight.Group place tag.number)) out)
-        (moved t (EndJob die e))) t.disk.cells place (GroupPage tag body)
-        (group_has_written c t die b place tag.number place tag body h there job flies)
-        (λ left. group_has_failed c t die b place tag.number place tag body left h there job flies)
-        o ending now
+    groups : (filled : OpenBlock) (tag : Tag) (body : List ℕ) → b.filling ≡ Some filled → tag.index ≡ 0 →
+        Goal (Some (flight.Group (next_place die filled) tag.number))
+        (Some (disk.Programming (next_place die filled) (GroupPage tag body)))
+    groups filled tag body fills first flies now =
+        program_ends (λ out e. Kept (flight_after c die b (Some (flight.Group (next_place die filled) tag.number)) out)
+        (end_flight t die (Some (disk.Programming (next_place die filled) (GroupPage tag body))) e))
+        t.disk.cells (next_place die filled) (GroupPage tag body)
+        (group_ends_well c t die b filled tag body h
+        (record { there = there; filling = fills; flies = flies; first = first }))
+        (λ left. group_ends_wrong c t die b filled left h there fills) o ending now
 
     erases : (block : ℕ) → block < t.numbers.blocks → b.filling ≡ None →
         Goal (Some (flight.Erase block)) (Some (disk.Erasing (spot_at die block)))
-    erases block within closed job flies now =
-        erase_ends (λ out e. Kept (flight_after c die b (Some (flight.Erase block)) out) (moved t (EndJob die e)))
-        t.disk.cells (spot_at die block)
-        (block_is_erased c t die b block (spot_at die block) h there job flies)
-        (λ left. erase_has_failed c t die b block (spot_at die block) left h there job flies)
-        o ending now
+    erases block within closed flies now =
+        erase_ends (λ out e. Kept (flight_after c die b (Some (flight.Erase block)) out)
+        (end_flight t die (Some (disk.Erasing (spot_at die block))) e))
+        t.disk.cells (spot_at die block) (erase_ends_well c t die b block h there closed within flies)
+        (erase_ends_wrong c t die b block h there closed within flies) o ending now
 
 kept_of : (c : Core) (t : Translation) (die : ℕ) (o : Outcome) (ending : Ending) (book : Option Book) → Describes c t →
     slice_get c.books die ≡ book →
@@ -115,12 +123,14 @@ kept_of c t die o ending None h there is =
 kept_of c t die o ending (Some b) h there is = kept_then c t die o ending b h there is
 
 -- what is kept once a job ended so describes the layer in which it did
-pub ends_right : (c : Core) (t : Translation) (die : ℕ) (o : Outcome) (ending : Ending) → Describes c t →
+pub ends_right : (c after : Core) (die : ℕ) (o : Outcome) → after ≡ core_ended c die o →
+    (t : Translation) (ending : Ending) → Describes c t →
     IsEndingOf t.disk.cells (t.disk.flights die) o ending → MayEnd t.disk die (t.disk.flights die) ending →
-    Describes (core_ended c die o) (moved t (EndJob die ending))
-ends_right c t die o ending h is may = record {
+    Describes after (moved t (EndJob die ending))
+ends_right c after die o new t ending h is may = record {
   valid = all_keep t (EndJob die ending) h.valid may;
-  kept = kept_of c t die o ending (slice_get c.books die) h refl is;
+  kept = subst (λ (x : Core). Kept x (moved t (EndJob die ending))) (sym new)
+      (kept_of c t die o ending (slice_get c.books die) h refl is);
 }
 
 -- What is told
@@ -131,8 +141,8 @@ told_then : (c : Core) (t : Translation) (die : ℕ) (o : Outcome) (ending : End
     (e : Ended) × (r ≡ Some e) × IsTold t.disk.cells (t.disk.flights die) ending e
 told_then c t die o ending r b h there is answer =
     flight_cases t.numbers die b.filling Goal (λ flies now told. absurd (false≢true now.0)) reads lost
-    (λ place m next flies now told. programs place (MarkPage m) now told)
-    (λ place tag body next first flies now told. programs place (GroupPage tag body) now told)
+    (λ filled m fills flies now told. programs (next_place die filled) (MarkPage m) now told)
+    (λ filled tag body fills first flies now told. programs (next_place die filled) (GroupPage tag body) now told)
     (λ block within closed flies now told. (
       ended.Other,
       erase_ends (λ out e. r ≡ option_map other_for (gives.ending out) → r ≡ Some ended.Other) t.disk.cells
@@ -173,11 +183,10 @@ told_of c t die o ending r None h there is answer =
 told_of c t die o ending r (Some b) h there is answer = told_then c t die o ending r b h there is answer
 
 -- the end of a job is told as the definitions say
-pub ends_told : (c : Core) (t : Translation) (die : ℕ) (o : Outcome) (ending : Ending) (r : Option Ended) →
-    Describes c t →
-    IsEndingOf t.disk.cells (t.disk.flights die) o ending → IsEnded c die o r →
+pub ends_told : (c : Core) (die : ℕ) (o : Outcome) (r : Option Ended) → IsEnded c die o r →
+    (t : Translation) (ending : Ending) → Describes c t → IsEndingOf t.disk.cells (t.disk.flights die) o ending →
     (e : Ended) × (r ≡ Some e) × IsTold t.disk.cells (t.disk.flights die) ending e
-ends_told c t die o ending r h is answer = told_of c t die o ending r (slice_get c.books die) h refl is answer
+ends_told c die o r answer t ending h is = told_of c t die o ending r (slice_get c.books die) h refl is answer
 
 -- Which outcomes are refused
 
@@ -215,8 +224,8 @@ known_then c t die o r b h there answer =
     (λ told. ap is_some told)
     (λ place tag told. read_known c (Some tag) r (is_read o) o told ∙ reads_suit (ForTask tag 0) place o)
     (λ place told. read_known c None r (is_read o) o told ∙ reads_suit ForNobody place o)
-    (λ place m next told. ap is_some told ∙ programs_suit place (MarkPage m) o)
-    (λ place tag body next first told. ap is_some told ∙ programs_suit place (GroupPage tag body) o)
+    (λ filled m fills told. ap is_some told ∙ programs_suit (next_place die filled) (MarkPage m) o)
+    (λ filled tag body fills first told. ap is_some told ∙ programs_suit (next_place die filled) (GroupPage tag body) o)
     (λ block within closed told. ap is_some told ∙ erases_suit (spot_at die block) o)
     b.flight (t.disk.flights die) (h.kept.dies.each die b there).job answer
 
@@ -228,7 +237,6 @@ known_of c t die o r None h there answer = ap is_some answer
 known_of c t die o r (Some b) h there answer = known_then c t die o r b h there answer
 
 -- an answer is there exactly where the outcome is of the kind of the die's job
-pub ends_known : (c : Core) (t : Translation) (die : ℕ) (o : Outcome) (r : Option Ended) → Describes c t →
-    IsEnded c die o r →
-    is_some r ≡ suits (t.disk.flights die) o
-ends_known c t die o r h answer = known_of c t die o r (slice_get c.books die) h refl answer
+pub ends_known : (c : Core) (die : ℕ) (o : Outcome) (r : Option Ended) → IsEnded c die o r →
+    (t : Translation) → Describes c t → is_some r ≡ suits (t.disk.flights die) o
+ends_known c die o r answer t h = known_of c t die o r (slice_get c.books die) h refl answer

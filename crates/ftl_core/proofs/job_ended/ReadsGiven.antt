@@ -1,6 +1,6 @@
 -- What the end of a read gives to its reader: the block, if the page is the one that was looked up.
 use Rattle.std.proofs.Common.{◌≡◌, ◌∙◌, ℕ, Bool, true, List, Option, Some, None, refl, sym, ap, subst}
-use Rattle.std.specs.Prelude.{◌&&◌, ◌==◌, option_and_then, slice_get}
+use Rattle.std.specs.Prelude.{◌&&◌, ◌==◌, find, slice_get}
 use Rattle.std.proofs.lemmas.Option.{get_or_from_slice_get, slice_get_within}
 use Rattle.ufs_spec.proofs.Facts.{false≢true, key_is}
 use Rattle.ufs_spec.specs.Cells.{Cells, GroupPage, IsCell, Opens, key_of}
@@ -28,10 +28,12 @@ use Rattle.ftl_core.specs.declared.books.Stored.{Stored}
 use Rattle.ftl_core.specs.declared.ftl.Ended.{Ended}
 use Rattle.ftl_core.specs.declared.ftl.Ended.TheVariants as ended
 use Rattle.ftl_core.specs.Core.{Core}
-use Rattle.ftl_core.specs.Describes.{Describes, IsLookOf, IsLookedAt, IsTold, PinKept}
+use Rattle.ftl_core.specs.Describes.{Describes, IsLookOf, IsLookedAt, IsTold, IsWanted, PinKept}
 use Rattle.ftl_core.specs.Gives.{Gives, GivesIf, IsBodyLooked, IsBodyOf, IsGivenTo, is_read, names}
 use Rattle.ftl_core.proofs.pins.PinsAlike.{page_alike, pins_at}
-use Rattle.ftl_core.proofs.job_ended.ReadsEnded.{IsReaderPin, IsReadingOf, ends_read, reader_pin, reading_told}
+use Rattle.ftl_core.proofs.job_ended.ReadsEnded.{read_ends}
+use Rattle.ftl_core.proofs.pins.FoundPins.{found_at, found_there}
+use Rattle.ftl_core.specs.Moves.{is_pin_of}
 
 -- What is given
 
@@ -157,6 +159,10 @@ given_told cells reader place outcome.Done ending e x s given looks w is gives t
 given_told cells reader place outcome.Failed ending e x s given looks w is gives told = absurd (false≢true is.0)
 given_told cells reader place o ending e x s given looks w is gives told = absurd is.1
 
+read_is_over : (cells : Cells) (who : Reader) (place : Place) (o : Outcome) (ending : Ending) →
+    IsEndingOf cells (Some (disk.Reading who place)) o ending → is_read o ≡ true
+read_is_over cells who place = read_ends (λ (d : Bool) (e : Ending). d ≡ true) cells who place refl refl
+
 pub task_told : (c : Core) (t : Translation) (die reader : ℕ) (place : Place) (o : Outcome) (ending : Ending)
     (r : Option Ended) → Describes c t →
     t.disk.flights die ≡ Some (disk.Reading (ForTask reader 0) place) →
@@ -166,30 +172,29 @@ pub task_told : (c : Core) (t : Translation) (die reader : ℕ) (place : Place) 
 task_told c t die reader place o ending r h flies is gives = (
   given.0,
   given.1,
-  given_told t.disk.cells reader place o ending given.0 w.pin x.stored given.2.0 x.looked_is
-      (subst (λ (p : Place). IsPageOf t.disk.cells p w.pin.key x.stored.number) x.place_is
-      (page_of_pin c t w.at w.pin x.stored h w.there x.looked_is))
+  given_told t.disk.cells reader place o ending given.0 w.0 w.2.stored given.2.0 w.2.looks
+      (subst (λ (p : Place). IsPageOf t.disk.cells p w.0.key w.2.stored.number) w.2.place_is
+      (page_of_pin c t at.0 w.0 w.2.stored h at.1 w.2.looks))
       is
-      (subst (λ (p : Option Pin). IsGivenTo o p given.2.0)
-      (ap (option_and_then (slice_get c.pins)) w.first ∙ w.there) given.2.1)
+      (subst (λ (p : Option Pin). IsGivenTo o p given.2.0) (sym (found_at (is_pin_of reader) c.pins) ∙ w.1) given.2.1)
       given.2.2,
 )
   where
     given : (e : Ended) × (r ≡ Some e) × Gives c o (Some reader) e
     given = subst (λ (z : Bool). GivesIf z c o (Some reader) r)
-        (ends_read t.disk.cells (ForTask reader 0) place o ending is).0 gives
+        (read_is_over t.disk.cells (ForTask reader 0) place o ending is) gives
 
-    w : IsReaderPin c.pins reader place
-    w = reader_pin c.pins reader place h.kept.differ (h.kept.reads die reader 0 place flies)
+    w : (p : Pin) × (find (is_pin_of reader) c.pins ≡ Some p) × IsWanted place p
+    w = h.kept.reads die reader 0 place flies
 
-    x : IsReadingOf reader place w.pin
-    x = reading_told reader place w.pin w.reads
+    at : (k : ℕ) × (slice_get c.pins k ≡ Some w.0)
+    at = found_there (is_pin_of reader) c.pins w.0 w.1
 
 pub lost_told : (c : Core) (cells : Cells) (place : Place) (o : Outcome) (ending : Ending) (r : Option Ended) →
     IsEndingOf cells (Some (disk.Reading ForNobody place)) o ending → GivesIf (is_read o) c o None r →
     (e : Ended) × (r ≡ Some e) × IsTold cells (Some (disk.Reading ForNobody place)) ending e
 lost_told c cells place o ending r is gives =
-    let g = subst (λ (z : Bool). GivesIf z c o None r) (ends_read cells ForNobody place o ending is).0 gives in
+    let g = subst (λ (z : Bool). GivesIf z c o None r) (read_is_over cells ForNobody place o ending is) gives in
     (g.0, g.1, by ending g.0 g.2)
   where
     by : (x : Ending) (e : Ended) → e ≡ ended.Other → IsTold cells (Some (disk.Reading ForNobody place)) x e

@@ -23,10 +23,10 @@ use Rattle.ftl_core.specs.declared.books.Flight.TheVariants as flight
 use Rattle.ftl_core.specs.declared.books.OpenBlock.{OpenBlock}
 use Rattle.ftl_core.specs.declared.books.Pin.{Pin}
 use Rattle.ftl_core.specs.Core.{Core}
-use Rattle.ftl_core.specs.Describes.{BookKept, DiesKept, IsFilling, IsFlight, IsNext, Kept, PagesFly, ReadsKept}
+use Rattle.ftl_core.specs.Describes.{BookKept, DiesKept, IsFilling, IsFlight, Kept, PagesFly, ReadsKept}
 use Rattle.ftl_core.specs.Describes.{Standing, name_at, spot_at}
 use Rattle.ftl_core.specs.Moves.{flight_reads, reads_for}
-use Rattle.ftl_core.specs.Takes.{flight_writes, is_mark_flight, writes_group, writes_mark}
+use Rattle.ftl_core.specs.Takes.{flight_writes, is_mark_flight, next_place, writes_group, writes_mark}
 use Rattle.ftl_core.proofs.new_dies.ListParts.{get_set}
 use Rattle.ufs_spec.proofs.Lists.{set_length, any_here, any_told, get_there}
 
@@ -80,40 +80,36 @@ none_flies n flights is idle above none e = ⊎_elim low (λ l. ap is (above e l
 -- The kinds of jobs
 
 -- what holds of each job of a book and of the definitions that are one job
-pub flight_cases : (n : Numbers) (die : ℕ) (filling : Option OpenBlock)
-    (P : Option Flight → Option disk.Flight → Type 0) →
-    P None None →
-    ((place : Place) (tag : ℕ) → P (Some (flight.Read place (Some tag))) (Some (disk.Reading (ForTask tag 0) place))) →
-    ((place : Place) → P (Some (flight.Read place None)) (Some (disk.Reading ForNobody place))) →
-    ((place : Place) (m : Mark) → IsNext die filling place →
-    P (Some (flight.Mark place)) (Some (disk.Programming place (MarkPage m)))) →
-    ((place : Place) (tag : Tag) (body : List ℕ) → IsNext die filling place → tag.index ≡ 0 →
-    P (Some (flight.Group place tag.number)) (Some (disk.Programming place (GroupPage tag body)))) →
-    ((block : ℕ) → block < n.blocks → filling ≡ None →
-    P (Some (flight.Erase block)) (Some (disk.Erasing (spot_at die block)))) →
-    (f : Option Flight) (g : Option disk.Flight) → IsFlight n die filling f g → P f g
-flight_cases n die filling P none reads gone marks groups erases None None h = none
-flight_cases n die filling P none reads gone marks groups erases (Some (flight.Read place (Some r)))
-    (Some (disk.Reading (ForTask tag index) p)) h =
-    subst (λ (z : Place × ℕ × ℕ). P (Some (flight.Read place (Some r))) (Some (disk.Reading (ForTask z.1 z.2) z.0)))
-    (λ i. (sym h.0 i, sym h.1.0 i, sym h.1.1 i)) (reads place r)
-flight_cases n die filling P none reads gone marks groups erases (Some (flight.Read place None))
-    (Some (disk.Reading ForNobody p)) h =
-    subst (λ (z : Place). P (Some (flight.Read place None)) (Some (disk.Reading ForNobody z))) (sym h.0) (gone place)
-flight_cases n die filling P none reads gone marks groups erases (Some (flight.Read place r))
-    (Some (disk.Reading who p)) h =
-    absurd h.1
-flight_cases n die filling P none reads gone marks groups erases (Some (flight.Mark place))
-    (Some (disk.Programming p (MarkPage m))) h =
-    subst (λ (z : Place). P (Some (flight.Mark place)) (Some (disk.Programming z (MarkPage m)))) (sym h.0)
-    (marks place m h.1)
-flight_cases n die filling P none reads gone marks groups erases (Some (flight.Group place number))
-    (Some (disk.Programming p (GroupPage tag body))) h =
-    subst (λ (z : Place × ℕ). P (Some (flight.Group place z.1)) (Some (disk.Programming z.0 (GroupPage tag body))))
-    (λ i. (sym h.0 i, h.2 i)) (groups place tag body h.1 h.3)
-flight_cases n die filling P none reads gone marks groups erases (Some (flight.Erase block)) (Some (disk.Erasing s)) h =
-    subst (λ (z : Spot). P (Some (flight.Erase block)) (Some (disk.Erasing z))) (sym h.0) (erases block h.1 h.2)
-flight_cases n die filling P none reads gone marks groups erases f g h = absurd h
+module _ (n : Numbers) (die : ℕ) (filling : Option OpenBlock) (P : Option Flight → Option disk.Flight → Type 0)
+    (none : P None None)
+    (reads : (place : Place) (tag : ℕ) →
+    P (Some (flight.Read place (Some tag))) (Some (disk.Reading (ForTask tag 0) place)))
+    (gone : (place : Place) → P (Some (flight.Read place None)) (Some (disk.Reading ForNobody place)))
+    (marks : (o : OpenBlock) (m : Mark) → filling ≡ Some o →
+    P (Some (flight.Mark (next_place die o))) (Some (disk.Programming (next_place die o) (MarkPage m))))
+    (groups : (o : OpenBlock) (tag : Tag) (body : List ℕ) → filling ≡ Some o → tag.index ≡ 0 →
+    P (Some (flight.Group (next_place die o) tag.number))
+    (Some (disk.Programming (next_place die o) (GroupPage tag body))))
+    (erases : (block : ℕ) → block < n.blocks → filling ≡ None →
+    P (Some (flight.Erase block)) (Some (disk.Erasing (spot_at die block)))) where
+  pub flight_cases : (f : Option Flight) (g : Option disk.Flight) → IsFlight n die filling f g → P f g
+  flight_cases None None h = none
+  flight_cases (Some (flight.Read place (Some r))) (Some (disk.Reading (ForTask tag index) p)) h =
+      subst (λ (z : Place × ℕ × ℕ). P (Some (flight.Read place (Some r))) (Some (disk.Reading (ForTask z.1 z.2) z.0)))
+      (λ i. (sym h.0 i, sym h.1.0 i, sym h.1.1 i)) (reads place r)
+  flight_cases (Some (flight.Read place None)) (Some (disk.Reading ForNobody p)) h =
+      subst (λ (z : Place). P (Some (flight.Read place None)) (Some (disk.Reading ForNobody z))) (sym h.0) (gone place)
+  flight_cases (Some (flight.Read place r)) (Some (disk.Reading who p)) h = absurd h.1
+  flight_cases (Some (flight.Mark place)) (Some (disk.Programming p (MarkPage m))) h =
+      subst (λ (z : Place × Place). P (Some (flight.Mark z.0)) (Some (disk.Programming z.1 (MarkPage m))))
+      (λ i. (h.1.2 i, (h.1.2 ∙ sym h.0) i)) (marks h.1.0 m h.1.1)
+  flight_cases (Some (flight.Group place number)) (Some (disk.Programming p (GroupPage tag body))) h =
+      subst (λ (z : Place × ℕ × Place). P (Some (flight.Group z.0 z.1))
+      (Some (disk.Programming z.2 (GroupPage tag body))))
+      (λ i. (h.1.2 i, h.2 i, (h.1.2 ∙ sym h.0) i)) (groups h.1.0 tag body h.1.1 h.3)
+  flight_cases (Some (flight.Erase block)) (Some (disk.Erasing s)) h =
+      subst (λ (z : Spot). P (Some (flight.Erase block)) (Some (disk.Erasing z))) (sym h.0) (erases block h.1 h.2)
+  flight_cases f g h = absurd h
 
 -- What the books say is what the definitions say
 
@@ -155,8 +151,8 @@ pub reads_agree : (c : Core) (t : Translation) (reader : ℕ) → Kept c t →
 reads_agree c t reader k = books_agree c t (reads_for reader) (flies_reader (ForTask reader 0)) k
     (λ die b h. flight_cases t.numbers die b.filling
     (λ (f : Option Flight) (g : Option disk.Flight). flight_reads reader f ≡ flies_reader (ForTask reader 0) g)
-    refl (λ place tag. and_true_right (reader == tag)) (λ place. refl) (λ place m next. refl)
-    (λ place tag body next first. refl) (λ block within none. refl) b.flight (t.disk.flights die) h)
+    refl (λ place tag. and_true_right (reader == tag)) (λ place. refl) (λ o m fills. refl)
+    (λ o tag body fills first. refl) (λ block within none. refl) b.flight (t.disk.flights die) h)
 
 -- whether a die writes the page of the group with this number
 pub writes_agree : (c : Core) (t : Translation) (number : ℕ) → Kept c t →
@@ -164,8 +160,8 @@ pub writes_agree : (c : Core) (t : Translation) (number : ℕ) → Kept c t →
 writes_agree c t number k = books_agree c t (writes_group number) (flies_name (name_at number)) k
     (λ die b h. flight_cases t.numbers die b.filling
     (λ (f : Option Flight) (g : Option disk.Flight). flight_writes number f ≡ flies_name (name_at number) g)
-    refl (λ place tag. refl) (λ place. refl) (λ place m next. refl)
-    (λ place tag body next first.
+    refl (λ place tag. refl) (λ place. refl) (λ o m fills. refl)
+    (λ o tag body fills first.
     and_true_right (number == tag.number) ∙ ap (λ (i : ℕ). (number == tag.number) && (0 == i)) (sym first))
     (λ block within none. refl) b.flight (t.disk.flights die) h)
 
@@ -174,7 +170,7 @@ pub marks_agree : (c : Core) (t : Translation) → Kept c t → list_any writes_
 marks_agree c t k = books_agree c t writes_mark flies_mark k
     (λ die b h. flight_cases t.numbers die b.filling
     (λ (f : Option Flight) (g : Option disk.Flight). is_mark_flight f ≡ flies_mark g)
-    refl (λ place tag. refl) (λ place. refl) (λ place m next. refl) (λ place tag body next first. refl)
+    refl (λ place tag. refl) (λ place. refl) (λ o m fills. refl) (λ o tag body fills first. refl)
     (λ block within none. refl) b.flight (t.disk.flights die) h)
 
 -- a die that is kept as idle has no job

@@ -14,7 +14,7 @@ use Rattle.ftl_core.specs.Describes.{Describes, block_kept, spot_at}
 use Rattle.ftl_core.specs.Moves.{free_blocks, is_erasable, is_free, state_of}
 use Rattle.ftl_core.specs.Takes.{found_or, lowest_below}
 use Rattle.ftl_core.proofs.pins.PinsAlike.{pinned_as}
-use Rattle.ftl_core.proofs.new_dies.Spots.{found_lowest, free_counted, state_there}
+use Rattle.ftl_core.proofs.new_dies.Spots.{found_lowest, free_counted, same_free, state_there}
 
 -- The lowest that passes
 
@@ -61,12 +61,6 @@ lowest_passes p (suc n) b h = by (lowest_below p n) (p n) refl refl h (λ e. low
 
 -- Blocks
 
-free_kept : (x : disk.BlockState) → is_free (block_kept x) ≡ layer.is_free x
-free_kept disk.Free = refl
-free_kept (disk.Filling next) = refl
-free_kept disk.Closed = refl
-free_kept disk.Bad = refl
-
 state_is : (c : Core) (t : Translation) (die block : ℕ) → Describes c t → die < t.numbers.dies →
     block < t.numbers.blocks →
     state_of c die block ≡ block_kept (t.disk.blocks (spot_at die block))
@@ -80,7 +74,7 @@ erasable_is : (c : Core) (t : Translation) (die block : ℕ) → Describes c t �
     block < t.numbers.blocks →
     is_erasable c die block ≡ may_be_erased t (spot_at die block)
 erasable_is c t die block h there within =
-    let free = ap is_free (state_is c t die block h there within) ∙ free_kept (t.disk.blocks (spot_at die block)) in
+    let free = ap is_free (state_is c t die block h there within) ∙ same_free (t.disk.blocks (spot_at die block)) in
     let pinned = pinned_as t.ledger.frontier (entry_of t.ledger) t
     (spot_at die block) c.pins h.kept.work.no_rests h.kept.pins in
     λ i. free i && not (pinned i)

@@ -1,8 +1,7 @@
 -- A die begins a job: what is kept then, and what is told.
 use Rattle.std.proofs.Common.{◌≡◌, ◌≢◌, ◌∙◌, ◌⊎◌, ℕ, ◌<◌, ◌≤◌, Bool, true, false, List, [], Option, Some, None, length}
 use Rattle.std.proofs.Common.{refl, sym, ap, subst, inl, inr, ⊎_elim, arith, get_or, is_none, lt-ltb, ltb-true}
-use Rattle.std.specs.Prelude.{◌&&◌, Contains, nat_lt, slice_get, option_and_then}
-use Rattle.std.specs.List.{list_any}
+use Rattle.std.specs.Prelude.{◌&&◌, Contains, find, nat_lt, slice_get, option_and_then}
 use Rattle.std.proofs.lemmas.Option.{slice_get_cases}
 use Rattle.ufs_spec.proofs.Facts.{false≢true, true≢false}
 use Rattle.ufs_spec.specs.Disk as disk
@@ -20,8 +19,9 @@ use Rattle.ftl_core.specs.declared.books.Book.{Book}
 use Rattle.ftl_core.specs.declared.books.Flight.{Flight}
 use Rattle.ftl_core.specs.Core.{Core}
 use Rattle.ftl_core.specs.Describes.{Describes, IsFlight, IsTaken, Kept, PagesFly, ReadsKept, Standing, given}
-use Rattle.ftl_core.specs.Describes.{is_reading}
-use Rattle.ftl_core.specs.Moves.{started}
+use Rattle.ftl_core.specs.Describes.{IsWanted}
+use Rattle.ftl_core.specs.declared.books.Pin.{Pin}
+use Rattle.ftl_core.specs.Moves.{is_pin_of, started}
 use Rattle.ftl_core.specs.Takes.{begun_with, core_taken, flight_taken, job_of, job_taken}
 use Rattle.ftl_core.proofs.job_taken.Flown.{dies_put, none_flies}
 
@@ -65,7 +65,7 @@ pub record MayBegin (c : Core) (t : Translation) (job : disk.Flight) : Type 0 wh
   pub alone : (name : Name) → flies_name name (Some job) ≡ true →
       (some_flight t (flies_name name) ≡ false) × (t.ledger.standing name.number name.index ≡ None)
   pub wanted : (tag index : ℕ) (place : Place) → job ≡ disk.Reading (ForTask tag index) place →
-      list_any (is_reading tag place) c.pins ≡ true
+      (p : Pin) × (find (is_pin_of tag) c.pins ≡ Some p) × IsWanted place p
 
 pub kept_begun : (c : Core) (t : Translation) (die : ℕ) (b : Book) (f : Flight) (job : disk.Flight) → Kept c t →
     slice_get c.books die ≡ Some b → IsFlight t.numbers die b.filling (Some f) (Some job) → MayBegin c t job →

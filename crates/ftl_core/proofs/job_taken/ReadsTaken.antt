@@ -2,7 +2,8 @@
 use Rattle.std.proofs.Common.{◌≡◌, ◌∙◌, ℕ, zero, suc, Bool, true, false, List, [], ◌∷◌, ◌++◌, Option, Some, None, refl}
 use Rattle.std.proofs.Common.{sym, ap, subst, arith}
 use Rattle.std.proofs.lemmas.List.{append-nil}
-use Rattle.std.specs.Prelude.{◌&&◌, ◌==◌, if◌then◌else◌, Contains, filter_map, slice_get, filter, not, option_map}
+use Rattle.std.specs.Prelude.{◌&&◌, ◌==◌, if◌then◌else◌, Contains, filter_map, slice_get, filter, find, not}
+use Rattle.std.specs.Prelude.{option_and_then, option_map}
 use Rattle.std.specs.List.{list_any, cons_option}
 use Rattle.ufs_spec.specs.Disk.{ForTask, Reader}
 use Rattle.ufs_spec.specs.Ledger as ledger
@@ -12,14 +13,14 @@ use Rattle.ufs_spec.specs.Translation.{Rest, Translation, Want, flies_reader, is
 use Rattle.ufs_spec.specs.Translation.{want_at, want_of_look, want_of_pin, want_of_rest, wants_of_step, wants_on}
 use Rattle.ufs_spec.specs.declared.flash.Place.{Place}
 use Rattle.power_loss.proofs.books.PagesByName.{none_some, some_is}
-use Rattle.power_loss.proofs.books.SmallFacts.{and_true, if_false, if_true, eq_self, eq_told, place_self}
+use Rattle.power_loss.proofs.books.SmallFacts.{and_true, if_false, if_true, eq_told}
 use Rattle.ftl_core.specs.declared.books.Looked.{Looked}
 use Rattle.ftl_core.specs.declared.books.Looked.TheVariants as looked
 use Rattle.ftl_core.specs.declared.books.Pin.{Pin}
 use Rattle.ftl_core.specs.Core.{Core}
-use Rattle.ftl_core.specs.Describes.{IsLookedAt, Kept, PinKept, PinsKept, step_kept, Describes, IsTaken, is_reading}
-use Rattle.ftl_core.specs.Describes.{looks_at}
-use Rattle.ftl_core.specs.Moves.{is_owed_by, looks_on, reads_for}
+use Rattle.ftl_core.specs.Describes.{IsLookedAt, Kept, PinKept, PinsKept, step_kept, Describes, IsTaken, IsWanted}
+use Rattle.power_loss.proofs.open_tasks.TaggedLists.{found_at}
+use Rattle.ftl_core.specs.Moves.{is_owed_by, is_pin_of, looks_on, reads_for}
 use Rattle.ftl_core.proofs.job_taken.Flown.{reads_agree, die_within, no_job}
 use Rattle.ufs_spec.proofs.Facts.{false≢true}
 use Rattle.ufs_spec.specs.Disk as disk
@@ -30,7 +31,7 @@ use Rattle.ftl_core.specs.Takes as takes
 use Rattle.ftl_core.specs.Takes.{core_taken, first_owed, idle_flight, job_taken, owed_flight, read_of}
 use Rattle.ftl_core.proofs.job_taken.NextStarts.{is_free_die, job_begun}
 use Rattle.ftl_core.proofs.pins.PinsAlike.{page_alike, pins_at}
-use Rattle.ufs_spec.proofs.Lists.{any_here, position_told}
+use Rattle.ufs_spec.proofs.Lists.{position_told}
 
 -- What a pin wants
 
@@ -195,7 +196,8 @@ pub read_taken : (c : Core) (t : Translation) (die k : ℕ) (b : Book) → Descr
 read_taken c t die k b h there idle owed =
     job_begun c t die b (flight.Read s.place (Some p.reader)) (disk.Reading (ForTask p.reader 0) s.place) h there
     (ap (takes.flight_for c die) there ∙ ap (idle_flight c die b.filling) idle ∙ ap (owed_flight c die b.filling) owed
-    ∙ ap read_of at.1 ∙ ap (λ (l : Looked). option_map (λ place. flight.Read place (Some p.reader)) (takes.place_in l))
+    ∙ ap (option_and_then read_of) at.1
+    ∙ ap (λ (l : Looked). option_map (λ place. flight.Read place (Some p.reader)) (takes.place_in l))
     told.2)
     refl
     (refl, (refl, refl))
@@ -226,17 +228,15 @@ read_taken c t die k b h there idle owed =
     want =
         (λ i. if (q.2.wanted ∙ told.0) i then want_of_look (ForTask (q.2.tag i) (q.2.first i)) (page.1 i) else None)
 
-    is_reading_here : is_reading p.reader s.place p ≡ true
-    is_reading_here =
-        (λ i. (p.reader == p.reader) && told.0 i && looks_at s.place (told.2 i))
-        ∙ (λ i. eq_self p.reader i && true && place_self s.place i)
-
     wanted : (tag index : ℕ) (place : Place) →
         disk.Reading (ForTask p.reader 0) s.place ≡ disk.Reading (ForTask tag index) place →
-        list_any (is_reading tag place) c.pins ≡ true
-    wanted tag index place e =
-        subst (λ (z : ℕ × Place). list_any (is_reading z.0 z.1) c.pins ≡ true) (λ i. (tag_is e i, place_is e i))
-        (any_here (is_reading p.reader s.place) c.pins k p at.1 is_reading_here)
+        (x : Pin) × (find (is_pin_of tag) c.pins ≡ Some x) × IsWanted place x
+    wanted tag index place e = (
+      p,
+      ap (λ (z : ℕ). find (is_pin_of z) c.pins) (sym (tag_is e))
+          ∙ found_at (λ (x : Pin). x.reader) c.pins k p h.kept.differ at.1,
+      record { stored = s; looks = told.2; place_is = place_is e; wanted = told.0 },
+    )
       where
         tag_is : disk.Reading (ForTask p.reader 0) s.place ≡ disk.Reading (ForTask tag index) place → p.reader ≡ tag
         tag_is e = cc

@@ -14,6 +14,7 @@ use Rattle.ufs_spec.specs.Translation as layer
 use Rattle.ufs_spec.specs.Translation.{MayTake, Translation, Want, cell_now, flies_mark, flies_name, flight_at}
 use Rattle.ufs_spec.specs.Translation.{flight_for, is_idle, next_erase, next_flight, some_flight, waiting_name}
 use Rattle.ufs_spec.specs.Translation.{waiting_step, want_at, want_of_look, wants_on}
+use Rattle.ufs_spec.specs.declared.flash.Job.{Job}
 use Rattle.ufs_spec.specs.declared.flash.Place.{Place}
 use Rattle.ufs_spec.specs.declared.flash.Tag.{Tag}
 use Rattle.power_loss.proofs.books.PagesByName.{none_some}
@@ -41,7 +42,7 @@ use Rattle.ftl_core.proofs.job_taken.NextNames.{next_name}
 use Rattle.ftl_core.proofs.job_taken.NextPages.{kept_at, page_of_pending}
 use Rattle.ftl_core.proofs.job_taken.NextStarts.{MayBegin, is_free_die, job_begun, next_may, not_idle, nothing_taken}
 use Rattle.ftl_core.proofs.job_taken.NextStarts.{outside}
-use Rattle.ftl_core.proofs.pins.PinLists.{position_missed}
+use Rattle.ftl_core.proofs.pins.FoundPins.{position_missed}
 use Rattle.ftl_core.proofs.job_taken.ReadsTaken.{none_read, read_taken}
 use Rattle.ftl_core.proofs.new_dies.Spots.{next_found}
 use Rattle.ufs_spec.proofs.Lists.{get_there}
@@ -316,9 +317,11 @@ module _ (c : Core) (t : Translation) (die : ℕ) (b : Book) (h : Describes c t)
 -- All dies
 
 -- the job that a die is given is one that it may be given, and what is kept then describes the layer that has given it
-pub takes_right : (c : Core) (t : Translation) (die : ℕ) → Describes c t →
-    IsTaken t die (job_taken c die) (core_taken c die)
-takes_right c t die h = by_book (slice_get c.books die) refl
+pub takes_right : (c after : Core) (die : ℕ) (told : Option Job) → told ≡ job_taken c die → after ≡ core_taken c die →
+    (t : Translation) → Describes c t → IsTaken t die told after
+takes_right c after die told is new t h =
+    subst (λ (z : Option Job × Core). IsTaken t die z.0 z.1) (λ i. (sym is i, sym new i))
+    (by_book (slice_get c.books die) refl)
   where
     by_owed : (b : Book) → slice_get c.books die ≡ Some b → b.flight ≡ None → (k : Option ℕ) → first_owed c die ≡ k →
         IsTaken t die (job_taken c die) (core_taken c die)

@@ -80,7 +80,7 @@ none_is k gs none =
 -- Groups that are kept
 
 -- a group of the ledger is kept
-at_kept : (standing : Standing) (n : ℕ) (gs : List Group) (hs : List keys.Group) → GroupsKept standing n gs hs →
+pub at_kept : (standing : Standing) (n : ℕ) (gs : List Group) (hs : List keys.Group) → GroupsKept standing n gs hs →
     (j : ℕ) (h : keys.Group) → slice_get hs j ≡ Some h →
     (g : Group) × (slice_get gs j ≡ Some g) × (h ≡ record { key = g.key; body = g.body } ∷ [])
 at_kept standing n gs [] r j h e = cc

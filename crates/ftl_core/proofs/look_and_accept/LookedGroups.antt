@@ -1,6 +1,6 @@
 -- What the layer looks up is what the ledger has.
-use Rattle.std.proofs.Common.{◌≡◌, ℕ, suc, ◌+◌, ◌-◌, ◌<◌, ◌≤◌, true, false, length, Option, Some, None, refl, sym, ap}
-use Rattle.std.proofs.Common.{◌∙◌, subst, ⊎_elim, arith, length-drop}
+use Rattle.std.proofs.Common.{◌≡◌, ℕ, suc, ◌+◌, ◌-◌, ◌≤◌, length, Option, Some, None, refl, sym, ap}
+use Rattle.std.proofs.Common.{◌∙◌, subst, ⊎_elim, arith, length-drop, lt-ltb, le-ltb}
 use Rattle.std.specs.Prelude.{nat_lt}
 use Rattle.ufs_spec.specs.Keys.{IsKey}
 use Rattle.ufs_spec.specs.Ledger as ledger
@@ -10,7 +10,7 @@ use Rattle.ufs_spec.specs.Translation.{Translation}
 use Rattle.ufs_spec.specs.declared.configs.Numbers.{Numbers}
 use Rattle.ufs_spec.specs.declared.flash.Key.{Key}
 use Rattle.power_loss.proofs.books.LastOfEachKey.{IsLastOf, NoneOf, latest_cases}
-use Rattle.power_loss.proofs.books.SmallFacts.{if_false, if_true, name_is, two_ways}
+use Rattle.power_loss.proofs.books.SmallFacts.{if_false, if_true, name_is}
 use Rattle.ftl_core.specs.declared.books.Looked.TheVariants as looked
 use Rattle.ftl_core.specs.declared.books.Stored.{Stored}
 use Rattle.ftl_core.specs.Core.{Core}
@@ -19,14 +19,7 @@ use Rattle.ftl_core.specs.Moves.{last_of, look_of, looked_at, stored_of}
 use Rattle.power_loss.proofs.kept_pages.LookedUpPages.{latest_splits}
 use Rattle.ftl_core.proofs.look_and_accept.LastGroups.{last_kept, none_kept}
 use Rattle.ftl_core.proofs.group_settled.PageStands.{groups_length}
-use Rattle.ftl_core.proofs.look_and_accept.LookedPages.{durable_within, lt_not, lt_told}
-
--- the number is no more than the frontier
-not_behind : (m n : ℕ) → n ≤ m → nat_lt m n ≡ false
-not_behind m n l = ⊎_elim (λ e. let u = lt_told m n e in absurd (omega arith)) (λ e. e) (two_ways (nat_lt m n))
-
-is_behind : (m n : ℕ) → m < n → nat_lt m n ≡ true
-is_behind m n l = ⊎_elim (λ e. e) (λ e. let u = lt_not m n e in absurd (omega arith)) (two_ways (nat_lt m n))
+use Rattle.ftl_core.proofs.look_and_accept.LookedPages.{durable_within}
 
 -- the last group of the key is looked at in its slot
 in_slot : (l : Ledger) (name : Name) (gs : Option ℕ) (s : Option Stored) (frontier at : ℕ) → gs ≡ Some at →
@@ -37,7 +30,7 @@ in_slot l name gs s frontier at e f number index =
     subst (λ o. IsLookedAt (looked_at o s frontier) (ledger.looked_at l (Some name))) (sym e)
     (subst (IsLookedAt (looked.Slot (frontier + at + 1)))
     (sym (if_true (nat_lt l.frontier name.number) (InSlot name) (looked_on name (l.standing name.number name.index))
-    (is_behind l.frontier name.number (omega arith))))
+    (lt-ltb l.frontier name.number (omega arith))))
     (name_is name (name_at (frontier + at + 1)) (omega arith) index))
 
 -- and where there is none, the place that is stored
@@ -50,7 +43,7 @@ on_page l (Some s) None frontier r within = absurd r
 on_page l (Some s) (Some name) frontier r within =
     subst (IsLookedAt (looked.Page s))
     (sym (if_false (nat_lt l.frontier name.number) (InSlot name) (looked_on name (l.standing name.number name.index))
-    (not_behind l.frontier name.number (within name refl)) ∙ ap (looked_on name) r.1))
+    (le-ltb l.frontier name.number (within name refl)) ∙ ap (looked_on name) r.1))
     (r.0, refl)
 
 module _ (c : Core) (t : Translation) (h : Describes c t) where

@@ -1,8 +1,8 @@
 -- What is looked up of a key is of the key: the page of a group that has it, in its slot or where it stands.
-use Rattle.std.proofs.Common.{◌≡◌, ℕ, ◌<◌, ◌≤◌, Bool, true, false, length, Option, Some, None, refl, sym, ◌∙◌, subst}
+use Rattle.std.proofs.Common.{◌≡◌, ◌<◌, ◌≤◌, Bool, true, false, length, Option, Some, None, refl, sym, ◌∙◌, subst}
 use Rattle.std.proofs.Common.{⊎_elim, arith}
 use Rattle.std.specs.Prelude.{nat_lt}
-use Rattle.std.proofs.lemmas.Bool.Decides.{nat_tests}
+use Rattle.ufs_spec.proofs.Facts.{ltb-false, ltb-true}
 use Rattle.ufs_spec.specs.Ledger.{InSlot, Name, entry_of, latest, latest_durable, look, looked_at, looked_on}
 use Rattle.ufs_spec.specs.Translation.{Translation}
 use Rattle.ufs_spec.specs.declared.flash.Key.{Key}
@@ -30,12 +30,6 @@ rewritten t mended v e = rewritten_by t mended
     (subst (MendingRight (book t) t.disk t.ledger t.work.plan t.work.step) e v.mending)
 
 -- What is looked up
-
-pub lt_told : (m n : ℕ) → nat_lt m n ≡ true → m < n
-lt_told m n h = grind (arith, nat_tests)
-
-pub lt_not : (m n : ℕ) → nat_lt m n ≡ false → n ≤ m
-lt_not m n h = grind (arith, nat_tests)
 
 -- behind the frontier it is a page of a group
 behind_there : (t : Translation) (k : Key) (name : Name) → Valid t → HasKey (book t) k → latest t.ledger k ≡ Some name →
@@ -65,7 +59,7 @@ look_there t k (Some name) v s has e = ⊎_elim behind durable (two_ways (nat_lt
     behind : nat_lt t.ledger.frontier name.number ≡ true →
         IsLookOf t.ledger.frontier (entry_of t.ledger) k (looked_at t.ledger (Some name))
     behind h =
-        let l = lt_told t.ledger.frontier name.number h in
+        let l = ltb-true t.ledger.frontier name.number h in
         subst (IsLookOf t.ledger.frontier (entry_of t.ledger) k)
         (sym (if_true (nat_lt t.ledger.frontier name.number) (InSlot name)
         (looked_on name (t.ledger.standing name.number name.index)) h))
@@ -83,7 +77,7 @@ look_there t k (Some name) v s has e = ⊎_elim behind durable (two_ways (nat_lt
         stands None = tt
         stands (Some p) =
             let l = latest_right t k name v s has
-            (latest_is_durable t k name v e (lt_not t.ledger.frontier name.number h)) in
+            (latest_is_durable t k name v e (ltb-false t.ledger.frontier name.number h)) in
             (l.entry, l.is, l.key)
 
 -- the page of a key at the frontier has a number at or under it

@@ -1,6 +1,9 @@
 -- What is looked up, and a group that is accepted.
-use Rattle.std.proofs.Common.{◌≡◌, ◌∙◌, ℕ, ◌+◌, ◌≤◌, true, List, [], ◌∷◌, ◌++◌, None, refl, ap, le-leb}
-use Rattle.std.specs.Prelude.{◌-◌}
+use Rattle.std.proofs.Common.{◌≡◌, ◌∙◌, ℕ, ◌+◌, ◌≤◌, true, List, [], ◌∷◌, ◌++◌, None, refl, ap}
+use Rattle.std.proofs.Common.{le-leb, subst, sym, ⊎_elim, false}
+use Rattle.std.specs.Prelude.{◌-◌, find, option_and_then, slice_get}
+use Rattle.std.specs.Option.{option_or}
+use Rattle.std.proofs.lemmas.List.Folds.{find-append}
 use Rattle.ufs_spec.specs.Keys.{IsKey}
 use Rattle.ufs_spec.specs.Ledger as ledger
 use Rattle.ufs_spec.specs.Ledger.{look, entry_of}
@@ -11,12 +14,15 @@ use Rattle.ufs_spec.specs.declared.flash.Key.{Key}
 use Rattle.power_loss.proofs.moves.MovesKeepValid.{all_keep}
 use Rattle.ftl_core.specs.declared.books.Looked.{Looked}
 use Rattle.ftl_core.specs.Core.{Core}
-use Rattle.ftl_core.specs.Describes.{Describes, IsLookedAt, is_reading}
-use Rattle.ftl_core.specs.Moves.{accepted, look_of, next_number, pin_of, with_pin}
+use Rattle.ftl_core.specs.Describes.{Describes, IsLookedAt}
+use Rattle.ftl_core.specs.Moves.{accepted, is_pin_of, look_of, next_number, pin_of, with_pin}
 use Rattle.ftl_core.proofs.look_and_accept.LookedGroups.{groups_left, looks}
 use Rattle.ftl_core.proofs.look_and_accept.LookedPages.{looked_there}
 use Rattle.ftl_core.proofs.look_and_accept.MoreGroups.{ledger_more, pins_kept_more}
-use Rattle.ftl_core.proofs.pins.MorePins.{differ_by, any_among}
+use Rattle.power_loss.proofs.open_tasks.TaggedLists.{differ_push}
+use Rattle.ufs_spec.proofs.Facts.{cases_Bool, none-some}
+use Rattle.ufs_spec.proofs.Lists.{position_any}
+use Rattle.std.specs.List.{list_any}
 use Rattle.ftl_core.specs.declared.books.Pin.{Pin}
 use Rattle.ftl_core.proofs.pins.PinsAlike.{pins_more}
 
@@ -26,6 +32,11 @@ pub looks_right : (c : Core) (t : Translation) (k : Key) → Describes c t → I
     k.kind ≡ 1 →
     IsLookedAt (look_of c k) (look t.ledger k)
 looks_right c t k h is kind = looks c t h k is kind
+
+pub looks_told : (c : Core) (k : Key) (looked : Looked) → looked ≡ look_of c k → (t : Translation) → Describes c t →
+    IsKey (shape_of_numbers t.numbers) k → k.kind ≡ 1 → IsLookedAt looked (look t.ledger k)
+looks_told c k looked same t h is kind =
+    subst (λ (x : Looked). IsLookedAt x (look t.ledger k)) (sym same) (looks c t h k is kind)
 
 -- A pin
 
@@ -54,13 +65,24 @@ pins_right c t k reader looked h is at none = record {
           there = looked_there t k c.mended h.valid h.kept.work.mending is;
           wanted = refl;
         });
-    differ = differ_by c new h.kept.differ none;
-    reads = λ die tag index place e. any_among (is_reading tag place) c.pins new (h.kept.reads die tag index place e);
+    differ = differ_push (λ (x : Pin). x.reader) c.pins new nobody h.kept.differ;
+    reads = λ die tag index place e.
+        let w = h.kept.reads die tag index place e in (
+          w.0,
+          find-append (is_pin_of tag) c.pins (new ∷ []) ∙ ap (λ o. option_or o (find (is_pin_of tag) (new ∷ []))) w.1,
+          w.2,
+        );
   };
 }
   where
     new : Pin
     new = record { reader = reader; key = k; looked = looked; wanted = true }
+
+    nobody : list_any (is_pin_of reader) c.pins ≡ false
+    nobody = ⊎_elim
+        (λ e. let r = position_any (is_pin_of reader) c.pins e in
+        absurd (none-some r.1 (sym none ∙ ap (option_and_then (slice_get c.pins)) r.2 ∙ r.3)))
+        (λ e. e) (cases_Bool (list_any (is_pin_of reader) c.pins))
 
 -- A group
 
@@ -94,6 +116,13 @@ accepts_right c t k body h kind unit may = record {
     reads = h.kept.reads;
   };
 }
+
+pub accepts_told : (c after : Core) (k : Key) (body : List ℕ) → after ≡ accepted c k body → (t : Translation) →
+    Describes c t → k.kind ≡ 1 → k.unit ≤ 7 → IsAllowedMove t (Accept 1 (record { key = k; body = body } ∷ [])) →
+    Describes after (moved t (Accept 1 (record { key = k; body = body } ∷ [])))
+accepts_told c after k body is t h kind unit may =
+    subst (λ (x : Core). Describes x (moved t (Accept 1 (record { key = k; body = body } ∷ [])))) (sym is)
+    (accepts_right c t k body h kind unit may)
 
 -- Numbers
 

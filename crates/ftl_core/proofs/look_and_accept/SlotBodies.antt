@@ -1,12 +1,11 @@
 -- The slot of a pending group has the body of the group's page.
-use Rattle.std.proofs.Common.{◌≡◌, ◌∙◌, ℕ, zero, suc, ◌+◌, ◌-◌, ◌<◌, ◌≤◌, List, [], ◌∷◌, Option, Some, None, drop}
+use Rattle.std.proofs.Common.{◌≡◌, ◌∙◌, ℕ, ◌+◌, ◌-◌, ◌<◌, ◌≤◌, List, [], ◌∷◌, Option, Some, None, drop}
 use Rattle.std.proofs.Common.{slice_get, refl, sym, ap, subst, arith}
 use Rattle.std.specs.Prelude.{if◌then◌else◌, nat_le, option_and_then, option_map}
 use Rattle.std.proofs.lemmas.Bool.{lt-leb}
 use Rattle.ufs_spec.specs.Keys as keys
 use Rattle.ufs_spec.specs.Ledger.{Entry, Ledger, entry_in, entry_of, group_at}
 use Rattle.ufs_spec.specs.Translation.{Translation}
-use Rattle.power_loss.specs.Invariant.{Standing}
 use Rattle.power_loss.proofs.books.FrontierClimbs.{get_drop}
 use Rattle.power_loss.proofs.books.SmallFacts.{if_false}
 use Rattle.ftl_core.specs.declared.books.Group.{Group}
@@ -14,25 +13,7 @@ use Rattle.ftl_core.specs.Core.{Core}
 use Rattle.ftl_core.specs.Describes as layer_kept
 use Rattle.ftl_core.specs.Describes.{GroupsKept, name_at}
 use Rattle.ftl_core.specs.Moves.{slot_of}
-
--- what is kept of a pending group: one page with its body
-record HasGroup (gs : List Group) (k : ℕ) (h : keys.Group) : Type 0 where
-  pub group : Group
-  pub is : slice_get gs k ≡ Some group
-  pub page : h ≡ record { key = group.key; body = group.body } ∷ []
-
-one_group : (g h : keys.Group) → Some g ≡ Some h → g ≡ h
-one_group g h e = cc
-
-kept_group : (standing : Standing) (n : ℕ) (gs : List Group) (hs : List keys.Group) (k : ℕ) (h : keys.Group) →
-    GroupsKept standing n gs hs → slice_get hs k ≡ Some h → HasGroup gs k h
-kept_group standing n [] [] k h is at = cc
-kept_group standing n [] (y ∷ hs) k h is at = absurd is
-kept_group standing n (g ∷ gs) [] k h is at = absurd is
-kept_group standing n (g ∷ gs) (y ∷ hs) zero h is at =
-    record { group = g; is = refl; page = sym (one_group y h at) ∙ is.0.page }
-kept_group standing n (g ∷ gs) (y ∷ hs) (suc k) h is at =
-    let r = kept_group standing (suc n) gs hs k h is.1 at in record { group = r.group; is = r.is; page = r.page }
+use Rattle.ftl_core.proofs.look_and_accept.LastGroups.{at_kept}
 
 -- an entry of a group is an item of a group that there is
 found_entry : (x : Option keys.Group) (i : ℕ) (e : Entry) → option_and_then (λ g. entry_in g i) x ≡ Some e →
@@ -77,13 +58,13 @@ slot_is c t n e h new is =
     Some r.0 =
     get_drop t.ledger.groups (t.ledger.frontier - t.ledger.greatest_seen) (n - t.ledger.frontier - 1)
     ∙ (ap (slice_get t.ledger.groups) (back t.ledger.greatest_seen t.ledger.frontier n above new) ∙ r.1) in
-    let k = kept_group t.ledger.standing t.ledger.frontier c.groups
-    (drop (t.ledger.frontier - t.ledger.greatest_seen) t.ledger.groups) (n - t.ledger.frontier - 1) r.0
-    h.kept.ledger_kept.groups at in
+    let k = at_kept t.ledger.standing t.ledger.frontier c.groups
+    (drop (t.ledger.frontier - t.ledger.greatest_seen) t.ledger.groups) h.kept.ledger_kept.groups
+    (n - t.ledger.frontier - 1) r.0 at in
     subst (λ (z : ℕ). (if nat_le n z then None else option_map (λ (g : Group). g.body) (slice_get c.groups (n - z - 1)))
     ≡ Some e.item.body) (sym h.kept.ledger_kept.frontier)
-    (slot_has c.groups t.ledger.frontier n k.group new k.is
-    ∙ ap (λ z. Some z) (sym (entry_body k.group r.0 e k.page r.2)))
+    (slot_has c.groups t.ledger.frontier n k.0 new k.1
+    ∙ ap (λ z. Some z) (sym (entry_body k.0 r.0 e k.2 r.2)))
   where
     back : (top frontier n : ℕ) → top ≤ frontier → frontier < n → frontier - top + (n - frontier - 1) ≡ n - top - 1
     back top frontier n l m = omega arith

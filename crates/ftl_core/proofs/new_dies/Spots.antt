@@ -190,7 +190,7 @@ state_there n f die block there within =
     ∙ ap (option_map f) (slice_get-get_or (spots n) (die * n.blocks + block) (spot_at die block) here
     ∙ ap (λ (s : Spot). Some s) (spot_there n die block (spot_at die block) there within))
 
-same_free : (s : disk.BlockState) → is_free (block_kept s) ≡ layer.is_free s
+pub same_free : (s : disk.BlockState) → is_free (block_kept s) ≡ layer.is_free s
 same_free disk.Free = refl
 same_free (disk.Filling next) = refl
 same_free disk.Closed = refl

@@ -1,9 +1,8 @@
 -- A reader lets go of what it kept: the pins of others stay, and a read in flight for it is for nobody.
 use Rattle.std.proofs.Common.{◌≡◌, ◌∙◌, ℕ, zero, suc, ◌<◌, ◌≤◌, Bool, true, false, List, [], ◌∷◌, Option, Some, None}
 use Rattle.std.proofs.Common.{length, refl, sym, ap, subst, ⊎_elim, arith, get_or}
-use Rattle.std.specs.Prelude.{◌==◌, ◌&&◌, ◌||◌, cond, filter, if◌then◌else◌, map, not, position, option_map, slice_get}
+use Rattle.std.specs.Prelude.{◌==◌, ◌&&◌, cond, filter, if◌then◌else◌, map, not, position, option_map, slice_get}
 use Rattle.std.specs.List.{list_any}
-use Rattle.std.proofs.lemmas.Map.Views.{any-filter_same}
 use Rattle.std.proofs.lemmas.Option.{slice_get_cases}
 use Rattle.ufs_spec.specs.Disk as disk
 use Rattle.ufs_spec.specs.Disk.{ForNobody, ForRest, ForStep, ForTask, Reader, Spot}
@@ -16,41 +15,29 @@ use Rattle.ufs_spec.specs.Translation.{Translation, flies_name}
 use Rattle.ufs_spec.specs.declared.configs.Numbers.{Numbers}
 use Rattle.ufs_spec.specs.declared.flash.Place.{Place}
 use Rattle.power_loss.proofs.books.PagesByName.{none_some, some_is}
-use Rattle.power_loss.proofs.books.SmallFacts.{and_true, eq_told}
+use Rattle.power_loss.proofs.books.SmallFacts.{eq_told}
 use Rattle.ftl_core.specs.declared.books.Book.{Book}
 use Rattle.ftl_core.specs.declared.books.Flight.{Flight}
 use Rattle.ftl_core.specs.declared.books.Flight.TheVariants as flight
 use Rattle.ftl_core.specs.declared.books.OpenBlock.{OpenBlock}
 use Rattle.ftl_core.specs.declared.books.Pin.{Pin}
 use Rattle.ftl_core.specs.Core.{Core}
-use Rattle.ftl_core.specs.Describes.{BookKept, IsFlight, Kept, PinsKept, ReadersDiffer, is_reading, looks_at}
+use Rattle.ftl_core.specs.Describes.{BookKept, IsFlight, Kept, PinsKept, ReadersDiffer}
 use Rattle.ftl_core.specs.Moves.{flight_without, is_pin_of, pins_without, without_reader}
 use Rattle.ftl_core.proofs.job_taken.Flown.{flight_cases}
+use Rattle.ftl_core.proofs.pins.FoundPins.{found_kept}
+use Rattle.power_loss.proofs.open_tasks.TaggedLists.{differ_filter}
+use Rattle.std.proofs.lemmas.List.{length-map}
+use Rattle.ufs_spec.proofs.Facts.{or_parts}
 use Rattle.ufs_spec.proofs.Lists.{position_here, position_behind}
 
 -- Lists
-
-none_of_both : (a b : Bool) → (a || b) ≡ false → (a ≡ false) × (b ≡ false)
-none_of_both true b e = cc
-none_of_both false b e = (refl, e)
-
--- what no one passes no one passes of fewer
-pub none_of_fewer : {A : Type 0} (test kept : A → Bool) (xs : List A) → list_any test xs ≡ false →
-    list_any test (filter kept xs) ≡ false
-none_of_fewer test kept [] none = refl
-none_of_fewer {A} test kept (x ∷ xs) none = let r = none_of_both (test x) (list_any test xs) none in by (kept x) r.0
-    (none_of_fewer test kept xs r.1)
-  where
-    by : (c : Bool) → test x ≡ false → list_any test (filter kept xs) ≡ false →
-        list_any test (cond c (x ∷ filter kept xs) (filter kept xs)) ≡ false
-    by true here later = ap (λ (b : Bool). b || list_any test (filter kept xs)) here ∙ later
-    by false here later = later
 
 -- who is kept of a list of which all are kept
 all_kept : {A : Type 0} (test : A → Bool) (xs : List A) → list_any test xs ≡ false → filter (λ x. not (test x)) xs ≡ xs
 all_kept test [] none = refl
 all_kept {A} test (x ∷ xs) none =
-    let r = none_of_both (test x) (list_any test xs) none in
+    let r = or_parts (test x) (list_any test xs) none in
     ap (λ (b : Bool). cond {A = List A} (not b) (x ∷ filter (λ y. not (test y)) xs) (filter (λ y. not (test y)) xs)) r.0
     ∙ ap (λ (ys : List A). x ∷ ys) (all_kept test xs r.1)
 
@@ -87,15 +74,6 @@ only_one reader (p ∷ ps) differ = by (is_pin_of reader p) refl (only_one reade
         ∙ ap (λ (qs : List Pin). p ∷ qs) behind
         ∙ sym (kept false e)
 
-pub still_differ : (reader : ℕ) (ps : List Pin) → ReadersDiffer ps → ReadersDiffer (others reader ps)
-still_differ reader [] differ = tt
-still_differ reader (p ∷ ps) differ = by (not (is_pin_of reader p)) (still_differ reader ps differ.1)
-  where
-    by : (b : Bool) → ReadersDiffer (others reader ps) →
-        ReadersDiffer (cond b (p ∷ others reader ps) (others reader ps))
-    by true behind = (none_of_fewer (is_pin_of p.reader) (λ (q : Pin). not (is_pin_of reader q)) ps differ.0, behind)
-    by false behind = behind
-
 -- The reads in flight
 
 -- the job in flight is as it was, or is a read that is for nobody now
@@ -105,8 +83,8 @@ flight_gone n gone die filling f g h =
     flight_cases n die filling
     (λ (x : Option Flight) (y : Option disk.Flight). IsFlight n die filling x y →
     IsFlight n die filling (flight_without gone x) (layer_without (is_for_task gone) y))
-    (λ is. is) (λ place tag is. by place tag (tag == gone)) (λ place is. is) (λ place m next is. is)
-    (λ place tag body next first is. is) (λ block within none is. is) f g h h
+    (λ is. is) (λ place tag is. by place tag (tag == gone)) (λ place is. is) (λ o m fills is. is)
+    (λ o tag body fills first is. is) (λ block within none is. is) f g h h
   where
     by : (place : Place) (tag : ℕ) (b : Bool) →
         IsFlight n die filling (Some (flight.Read place (if b then None else Some tag)))
@@ -119,10 +97,6 @@ get_map : {A B : Type 0} (f : A → B) (xs : List A) (k : ℕ) (y : B) → slice
 get_map f [] k y h = absurd (none_some y h)
 get_map f (x ∷ xs) zero y h = (x, refl, sym (some_is (f x) y h))
 get_map f (x ∷ xs) (suc k) y h = get_map f xs k y h
-
-length_map : {A B : Type 0} (f : A → B) (xs : List A) → length (map f xs) ≡ length xs
-length_map f [] = refl
-length_map f (x ∷ xs) = ap suc (length_map f xs)
 
 -- what is known of each die
 pub book_gone : (n : Numbers) (blocks : Spot → disk.BlockState) (gone die : ℕ) (b : Book) (g : Option disk.Flight) →
@@ -161,41 +135,6 @@ reads_before gone (Some (disk.Reading (ForTask a i) p)) tag index place e = by (
     by true f x = cc
     by false f x = (x, ap (λ (z : ℕ). z == gone) (sym (same x)) ∙ f)
 
--- whoever else wants a page still does
-still_wanted : (gone tag : ℕ) (place : Place) (ps : List Pin) → (tag == gone) ≡ false →
-    list_any (is_reading tag place) ps ≡ true →
-    list_any (is_reading tag place) (others gone ps) ≡ true
-still_wanted gone tag place ps apart h =
-    any-filter_same (is_reading tag place) (λ (p : Pin). not (is_pin_of gone p)) true stays ps ∙ h
-  where
-    stays : (p : Pin) → is_reading tag place p ≡ true → not (is_pin_of gone p) ≡ true
-    stays p e =
-        let r = and_true ((p.reader == tag) && p.wanted) (looks_at place p.looked) e in
-        let u = and_true (p.reader == tag) p.wanted r.0 in
-        ap not (ap (λ (z : ℕ). z == gone) (eq_told p.reader tag u.0) ∙ apart)
-
--- letting go twice is letting go once
-pub gone_twice : (gone : ℕ) (bs : List Book) → map (without_reader gone) (map (without_reader gone) bs) ≡ map
-    (without_reader gone) bs
-gone_twice gone [] = refl
-gone_twice gone (b ∷ bs) =
-    let more = gone_twice gone bs in
-    λ i. record { filling = b.filling; flight = flight_twice b.flight i } ∷ more i
-  where
-    by : (place : Place) (tag : ℕ) (c : Bool) → (tag == gone) ≡ c →
-        flight_without gone (Some (flight.Read place (if c then None else Some tag))) ≡ Some
-        (flight.Read place (if c then None else Some tag))
-    by place tag true e = refl
-    by place tag false e = ap (λ (c : Bool). Some (flight.Read place (if c then None else Some tag))) e
-
-    flight_twice : (f : Option Flight) → flight_without gone (flight_without gone f) ≡ flight_without gone f
-    flight_twice None = refl
-    flight_twice (Some (flight.Read place None)) = refl
-    flight_twice (Some (flight.Read place (Some tag))) = by place tag (tag == gone) refl
-    flight_twice (Some (flight.Mark place)) = refl
-    flight_twice (Some (flight.Group place n)) = refl
-    flight_twice (Some (flight.Erase block)) = refl
-
 -- What the others keep
 
 kept_pins : (gone frontier : ℕ) (entries : Name → Option Entry) (ps : List Pin) (qs : List layer.Pin) →
@@ -225,7 +164,7 @@ let_go_kept c t reader k = record {
   numbers = k.numbers;
   blocks = k.blocks;
   dies = record {
-    dies = length_map (without_reader reader) c.books ∙ k.dies.dies;
+    dies = length-map c.books (without_reader reader) ∙ k.dies.dies;
     each = λ die b at.
         let r = get_map (without_reader reader) c.books die b at in
         subst (λ (x : Book). BookKept t.numbers t.disk.blocks die x
@@ -244,10 +183,15 @@ let_go_kept c t reader k = record {
   work = k.work;
   claims = k.claims;
   pins = kept_pins reader t.ledger.frontier (ledger.entry_of t.ledger) c.pins t.pins k.pins;
-  differ = still_differ reader c.pins k.differ;
+  differ = differ_filter (λ (p : Pin). p.reader) (λ (p : Pin). not (is_pin_of reader p)) c.pins k.differ;
   reads = λ die tag index place e.
       let r = reads_before reader (t.disk.flights die) tag index place e in
-      still_wanted reader tag place c.pins r.1 (k.reads die tag index place r.0);
+      let w = k.reads die tag index place r.0 in (
+        w.0,
+        found_kept (is_pin_of tag) (λ (p : Pin). not (is_pin_of reader p))
+            (λ p is. ap not (ap (λ (z : ℕ). z == reader) (eq_told p.reader tag is) ∙ r.1)) c.pins ∙ w.1,
+        w.2,
+      );
 }
 
 -- Each reader keeps one thing
@@ -279,7 +223,7 @@ same_flight c t gone die k = ⊎_elim within past (slice_get_cases c.books die).
         refl
         (λ place tag. ap (λ (b : Bool). Some (disk.Reading (if b then ForNobody else ForTask tag 0) place))
         (both_ways (tag == gone) 0 refl))
-        (λ place. refl) (λ place m next. refl) (λ place tag body next first. refl) (λ block in_it none. refl)
+        (λ place. refl) (λ o m fills. refl) (λ o tag body fills first. refl) (λ block in_it none. refl)
         at.0.flight (t.disk.flights die) (k.dies.each die at.0 at.2).job
 
     past : (length c.books ≤ die) × (slice_get c.books die ≡ None) →

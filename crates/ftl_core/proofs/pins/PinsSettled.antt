@@ -1,26 +1,22 @@
 -- What readers keep when one group more is durable: who kept its slot keeps its page.
 use Rattle.std.proofs.Common.{◌≡◌, ◌≢◌, ◌∙◌, ℕ, suc, ◌<◌, ◌≤◌, Bool, true, false, List, [], ◌∷◌, Option, Some, None}
 use Rattle.std.proofs.Common.{map, refl, sym, ap, subst, ⊎_elim, arith, lt-ltb, le-ltb}
-use Rattle.std.specs.Prelude.{◌==◌, ◌&&◌, if◌then◌else◌, nat_lt}
+use Rattle.std.specs.Prelude.{◌==◌, if◌then◌else◌, nat_lt}
 use Rattle.std.proofs.lemmas.Bool.Decides.{eqb_tells}
-use Rattle.std.specs.List.{list_any}
-use Rattle.ufs_spec.proofs.Facts.{false≢true}
 use Rattle.ufs_spec.specs.Ledger as ledger
 use Rattle.ufs_spec.specs.Ledger.{Entry, InSlot, Ledger, Name, OnPage, Unwritten, looked_on, settled_look}
 use Rattle.ufs_spec.specs.Moves.{settled_pin}
 use Rattle.ufs_spec.specs.Translation as layer
 use Rattle.ufs_spec.specs.declared.flash.Key.{Key}
 use Rattle.ufs_spec.specs.declared.flash.Place.{Place}
-use Rattle.power_loss.proofs.books.SmallFacts.{and_true, if_false, if_true}
+use Rattle.power_loss.proofs.books.SmallFacts.{if_false, if_true}
 use Rattle.ftl_core.specs.declared.books.Looked.{Looked}
 use Rattle.ftl_core.specs.declared.books.Looked.TheVariants as looked
 use Rattle.ftl_core.specs.declared.books.Pin.{Pin}
 use Rattle.ftl_core.specs.declared.books.Stored.{Stored}
-use Rattle.ftl_core.specs.Describes.{IsLookOf, IsLookedAt, PinsKept, ReadersDiffer, is_reading, looks_at, name_at}
-use Rattle.ftl_core.specs.Moves.{is_pin_of, moved_pin, now_stored}
-use Rattle.ftl_core.proofs.pins.PinLists.{any_still}
+use Rattle.ftl_core.specs.Describes.{IsLookOf, IsLookedAt, IsWanted, PinsKept, name_at}
+use Rattle.ftl_core.specs.Moves.{moved_pin, now_stored}
 use Rattle.ftl_core.proofs.pins.PinsAlike.{pins_mapped}
-use Rattle.ufs_spec.proofs.Lists.{any_mapped}
 
 -- the ledger with another frontier
 abbrev pub at_frontier : Ledger → ℕ → Ledger
@@ -138,22 +134,7 @@ module _ (l : Ledger) (entries : Name → Option Entry) (s : Stored) (number : s
       (λ p q k. let r = look_settles p.key p.looked q.looked k.looked_at k.there in
       record { tag = k.tag; first = k.first; looked_at = r.0; there = r.1; wanted = k.wanted }) h
 
--- no two have one reader
-pub differ_settled : (s : Stored) (ps : List Pin) → ReadersDiffer ps → ReadersDiffer (map (moved_pin s) ps)
-differ_settled s [] h = tt
-differ_settled s (p ∷ ps) h = (
-  any_mapped (is_pin_of p.reader) (moved_pin s) ps (λ k x e. refl)
-      ∙ h.0,
-  differ_settled s ps h.1,
-)
-
 -- who wants a page goes on to want it
-pub still_reading : (s : Stored) (tag : ℕ) (place : Place) (ps : List Pin) → list_any (is_reading tag place) ps ≡ true →
-    list_any (is_reading tag place) (map (moved_pin s) ps) ≡ true
-still_reading s tag place ps h = any_still (is_reading tag place) (moved_pin s) ps
-    (λ p e. looks ((p.reader == tag) && p.wanted) p.looked e) h
-  where
-    looks : (a : Bool) (x : Looked) → (a && looks_at place x) ≡ true → (a && looks_at place (now_stored s x)) ≡ true
-    looks a looked.Nothing e = e
-    looks a (looked.Page t) e = e
-    looks a (looked.Slot n) e = absurd (false≢true (and_true a false e).1)
+pub still_wanted : (s : Stored) (place : Place) (p : Pin) → IsWanted place p → IsWanted place (moved_pin s p)
+still_wanted s place p w =
+    record { stored = w.stored; looks = ap (now_stored s) w.looks; place_is = w.place_is; wanted = w.wanted }

@@ -1,8 +1,8 @@
 -- What the smaller calls tell and make of the layer that is specified.
 use Rattle.std.proofs.Common.{◌≡◌, ◌∙◌, ℕ, suc, ◌+◌, ◌<◌, ◌≤◌, ◌&&◌, ◌||◌, ◌==◌, Bool, true, false, List, [], ◌∷◌}
 use Rattle.std.proofs.Common.{Option, Some, None, length, map, refl, sym, ap, subst, arith}
-use Rattle.std.specs.Prelude.{◌^◌, if◌then◌else◌, find, nat_lt, nat_le, option_and_then, option_map, position}
-use Rattle.std.specs.Prelude.{slice_get, IfOk, Result, Ok, Err}
+use Rattle.std.specs.Prelude.{◌^◌, if◌then◌else◌, find, nat_lt, nat_le, option_and_then, option_map}
+use Rattle.std.specs.Prelude.{slice_get}
 use Rattle.std.specs.List.{list_any}
 use Rattle.std.proofs.lemmas.Bool.Decides.{nat_tests}
 use Rattle.ufs_spec.specs.Cells.{Cells, Nothing}
@@ -11,7 +11,7 @@ use Rattle.ufs_spec.specs.Ledger as ledger
 use Rattle.ufs_spec.specs.Ledger.{Entry, Name, before_accepted, entry_of, look}
 use Rattle.ufs_spec.specs.Keys.{IsKey}
 use Rattle.ufs_spec.specs.Moves as move
-use Rattle.ufs_spec.specs.Moves.{Acknowledge, Claim, Keep, LetGo, WantPage, moved}
+use Rattle.ufs_spec.specs.Moves.{Acknowledge, Claim, Keep, LetGo, LetGoAll, WantPage, moved}
 use Rattle.ufs_spec.specs.Openings.{IsOpenedTranslation}
 use Rattle.ufs_spec.specs.Plain.{shape_of_numbers}
 use Rattle.ufs_spec.specs.Translation as layer
@@ -30,21 +30,19 @@ use Rattle.ftl_core.specs.Moves.{with_pin}
 use Rattle.ftl_core.specs.Tells.{IsPinned, blocks_of_unit, keeps_for}
 use Rattle.ftl_core.proofs.look_and_accept.Looks.{numbers_right, pins_right}
 use Rattle.ftl_core.proofs.new_dies.OpensNew.{opens_right}
-use Rattle.ufs_spec.proofs.Lists.{position_behind, position_here, position_none, find_here, find_behind}
-use Rattle.ftl_core.proofs.small_calls.SmallCalls.{claims_right, lets_go_right, slots_right, wants_no_more}
+use Rattle.ftl_core.proofs.pins.FoundPins.{FoundKept, found_at, pins_found}
+use Rattle.ufs_spec.proofs.Lists.{position_none}
+use Rattle.ftl_core.proofs.small_calls.SmallCalls.{claims_right, lets_go_right, slots_right, unpins_right}
+use Rattle.ftl_core.proofs.small_calls.SmallCalls.{wants_no_more}
 
 -- The opening, and the units
 
-pub opens_described : {E : Type 0} (n : Numbers) (bads : List Bool) (opened : Result Core E) →
-    IfOk opened (λ (c : Core). c ≡ fresh n bads) →
-    IfOk opened (λ (c : Core). (cells : Cells) (is_bad : Spot → Bool) (t : Translation) →
-    1 ≤ n.pages → ((p : Place) → cells p ≡ Nothing) → bads ≡ map is_bad (spots n) →
-    IsOpenedTranslation n cells is_bad t → Describes c t)
-opens_described n bads (Ok c) is =
-    λ cells is_bad t pages blank listed opened.
+pub opens_described : (n : Numbers) (bads : List Bool) (c : Core) → c ≡ fresh n bads →
+    (cells : Cells) (is_bad : Spot → Bool) (t : Translation) → 1 ≤ n.pages → ((p : Place) → cells p ≡ Nothing) →
+    bads ≡ map is_bad (spots n) → IsOpenedTranslation n cells is_bad t → Describes c t
+opens_described n bads c is cells is_bad t pages blank listed opened =
     subst (λ (x : Core). Describes x t) (sym (is ∙ ap (fresh n) listed))
     (opens_right n cells is_bad t pages blank opened)
-opens_described n bads (Err e) is = tt
 
 pub units_right : (c : Core) (t : Translation) (unit : ℕ) → Describes c t → blocks_of c unit ≡ blocks_of_unit t unit
 units_right c t unit h i = option_map (λ (u : UnitSpec). u.blocks) (slice_get (h.kept.numbers i).units.items unit)
@@ -99,56 +97,34 @@ pins_described c after t k reader looked true new h is at none =
 pins_described c after t k reader looked false new h is at none = subst (λ (x : Core). Describes x t) (sym new) h
 
 -- what a reader keeps is what its first pin looks at
-pinned_in : (frontier : ℕ) (entries : Name → Option Entry) (reader : ℕ)
-    (ps : List Pin) (qs : List layer.Pin) → PinsKept frontier entries ps qs →
-    IsPinned (looked_by reader ps) (find (move.is_pin_of reader 0) qs)
-pinned_in frontier entries reader [] [] h = tt
-pinned_in frontier entries reader [] (q ∷ qs) h = absurd h
-pinned_in frontier entries reader (p ∷ ps) [] h = absurd h
-pinned_in frontier entries reader (p ∷ ps) (q ∷ qs) h =
-    by (is_pin_of reader p) refl (pinned_in frontier entries reader ps qs h.1)
-  where
-    -- each pin is of its reader's first block
-    same : move.is_pin_of reader 0 q ≡ is_pin_of reader p
-    same = (λ i. (h.0.tag i == reader) && (h.0.first i == 0)) ∙ whole (is_pin_of reader p)
-      where
-        whole : (b : Bool) → (b && true) ≡ b
-        whole true = refl
-        whole false = refl
-
-    kept : List Pin → Option ℕ → Option Looked
-    kept xs at = option_map (λ (x : Pin). x.looked) (option_and_then (slice_get xs) at)
-
-    behind : (at : Option ℕ) → kept (p ∷ ps) (option_map suc at) ≡ kept ps at
-    behind None = refl
-    behind (Some k) = refl
-
-    by : (b : Bool) → is_pin_of reader p ≡ b →
-        IsPinned (kept ps (position (is_pin_of reader) ps)) (find (move.is_pin_of reader 0) qs) →
-        IsPinned (kept (p ∷ ps) (position (is_pin_of reader) (p ∷ ps))) (find (move.is_pin_of reader 0) (q ∷ qs))
-    by true e rest =
-        subst (λ (x : Option layer.Pin). IsPinned (kept (p ∷ ps) (position (is_pin_of reader) (p ∷ ps))) x)
-        (sym (find_here (move.is_pin_of reader 0) q qs (same ∙ e)))
-        (subst (λ (x : Option ℕ). IsPinned (kept (p ∷ ps) x) (Some q))
-        (sym (position_here (is_pin_of reader) p ps e)) h.0.looked_at)
-    by false e rest =
-        subst (λ (x : Option layer.Pin). IsPinned (kept (p ∷ ps) (position (is_pin_of reader) (p ∷ ps))) x)
-        (sym (find_behind (move.is_pin_of reader 0) q qs (same ∙ e)))
-        (subst (λ (x : Option Looked). IsPinned x (find (move.is_pin_of reader 0) qs))
-        (sym (ap (kept (p ∷ ps)) (position_behind (is_pin_of reader) p ps e) ∙ behind (position (is_pin_of reader) ps)))
-        rest)
-
 pub pinned_right : (c : Core) (t : Translation) (reader : ℕ) → Describes c t →
     IsPinned (looked_by reader c.pins) (find (move.is_pin_of reader 0) t.pins)
-pinned_right c t reader h = pinned_in t.ledger.frontier (entry_of t.ledger) reader c.pins t.pins h.kept.pins
+pinned_right c t reader h =
+    subst (λ (o : Option Pin). IsPinned (option_map (λ (x : Pin). x.looked) o) (find (move.is_pin_of reader 0) t.pins))
+    (found_at (is_pin_of reader) c.pins)
+    (by (find (is_pin_of reader) c.pins) (find (move.is_pin_of reader 0) t.pins)
+    (pins_found t.ledger.frontier (entry_of t.ledger) reader c.pins t.pins h.kept.pins))
+  where
+    by : (o : Option Pin) (r : Option layer.Pin) → FoundKept t.ledger.frontier (entry_of t.ledger) o r →
+        IsPinned (option_map (λ (x : Pin). x.looked) o) r
+    by None None k = tt
+    by (Some p) (Some q) k = k.looked_at
+    by None (Some q) k = absurd k
+    by (Some p) None k = absurd k
+
+pub unpins_told : (c after : Core) (reader : ℕ) → after ≡ unpinned c reader → (t : Translation) → Describes c t →
+    Describes after (moved t (LetGoAll reader))
+unpins_told c after reader is t h =
+    subst (λ (x : Core). Describes x (moved t (LetGoAll reader))) (sym is) (unpins_right c t reader h)
 
 -- a reader lets its one block go, and can want no other
-pub lets_go_next : (c : Core) (t : Translation) (reader next : ℕ) → Describes c t → 0 < next →
-    Describes (unpinned c reader) (moved (moved t (LetGo reader 0)) (WantPage reader next))
-lets_go_next c t reader next h above =
+pub lets_go_next : (c after : Core) (reader : ℕ) → after ≡ unpinned c reader → (t : Translation) (next : ℕ) →
+    Describes c t → 0 < next → Describes after (moved (moved t (LetGo reader 0)) (WantPage reader next))
+lets_go_next c after reader is t next h above =
     let gone = lets_go_right c t reader h in
     let same = wants_no_more (unpinned c reader) (moved t (LetGo reader 0)) reader next gone above in
-    subst (Describes (unpinned c reader)) (sym same) gone
+    subst (λ (x : Core). Describes x (moved (moved t (LetGo reader 0)) (WantPage reader next))) (sym is)
+    (subst (Describes (unpinned c reader)) (sym same) gone)
 
 -- Groups
 
@@ -189,3 +165,9 @@ acknowledges_right c t count h allowed = record {
     reads = h.kept.reads;
   };
 }
+
+pub acknowledged_lets_go : (c after : Core) (reader : ℕ) → after ≡ unpinned c reader → (t : Translation) (count : ℕ) →
+    Describes c t → before_accepted t.ledger + count ≤ t.ledger.frontier →
+    Describes after (moved (moved t (Acknowledge count)) (LetGoAll reader))
+acknowledged_lets_go c after reader is t count h allowed =
+    unpins_told c after reader is (moved t (Acknowledge count)) (acknowledges_right c t count h allowed)

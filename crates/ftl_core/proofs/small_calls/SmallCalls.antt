@@ -255,3 +255,8 @@ turned_by c t h true e =
 pub turns_right : (c : Core) (t : Translation) → Describes c t →
     Describes (if is_turn_due c then mark_ordered c else c) (moved t TakeStep)
 turns_right c t h = record { valid = all_keep t TakeStep h.valid tt; kept = turned_by c t h (is_turn_due c) refl }
+
+pub turns_told : (c after : Core) (due : Bool) → due ≡ is_turn_due c → after ≡ (if due then mark_ordered c else c) →
+    (t : Translation) → Describes c t → Describes after (moved t TakeStep)
+turns_told c after due is new t h = subst (λ (x : Core). Describes x (moved t TakeStep))
+    (sym (new ∙ ap (λ (b : Bool). if b then mark_ordered c else c) is)) (turns_right c t h)

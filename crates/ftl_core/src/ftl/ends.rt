@@ -2,7 +2,7 @@
 ghost use Rattle.std.specs.Prelude.{◌≡◌, ℕ, ◌<◌, ◌≤◌, ◌+◌, ◌^◌, IsSome, IfNone, IfSome, length, if◌then◌else◌, map, option_map, position, is_some, Some};
 ghost use Rattle.ftl_core.specs.Ends.{front_durable, front_written, noted, pending_at, settled, group_written};
 ghost use Rattle.ftl_core.specs.Gives.{Gives, GivesIf, IsBodyLooked, IsBodyOf, IsGiven, change_after, change_ended, ending, erase_ended, group_ended, is_read, mark_ended, names, other_for, read_after, read_over, IsGivenTo, wanted_no_more};
-ghost use Rattle.ftl_core.specs.Done.{IsEnded, JobEnds, core_ended, job_after};
+ghost use Rattle.ftl_core.specs.Done.{FlightEnds, IsEnded, core_ended, flight_after};
 ghost use Rattle.ftl_core.specs.Moves.{is_turn_due, moved_pin, erased, mark_failed, mark_ordered, mark_written, page_written, went_bad, pin_of};
 ghost use Rattle.ufs_spec.specs.Keys.{IsBlock};
 ghost use Rattle.ufs_spec.specs.Moves.{EndJob, Ending, IsEndingOf, MayEnd, TakeStep, moved, suits};
@@ -233,7 +233,8 @@ impl Ftl {
 
     /// The group with this number, if it is pending: its position.
     pub(super) fn pending_at(&self, number: u64) -> Option<usize>
-        ensures { result ≡ pending_at self.now number }
+        ensures what { result ≡ pending_at self.now number }
+        ensures less { IfSome result (λ k. k < length self.now.groups) }
     {
         if number <= self.frontier {
             return None;
@@ -251,10 +252,8 @@ impl Ftl {
         ensures { self.new ≡ group_written self.old place (pending_at self.old number) }
     {
         if let Some(index) = self.pending_at(number) {
-            if index < self.groups.len() {
-                let group = &mut self.groups[index];
-                group.written = Some(place);
-            }
+            let group = &mut self.groups[index];
+            group.written = Some(place);
         }
     }
 
@@ -415,14 +414,15 @@ impl Ftl {
         Some(self.give(reader, outcome))
     }
 
-    /// The end of this job in flight.
-    fn job_ended(&mut self, die: u8, book: Book, flight: Flight, outcome: &Outcome) -> Option<Ended>
-        ensures answer { JobEnds self.old flight outcome.now result }
-        ensures after { self.new ≡ job_after self.old die book flight outcome.now }
+    /// The end of the job that the die has in flight, if it has one.
+    fn job_ended(&mut self, die: u8, book: Book, outcome: &Outcome) -> Option<Ended>
+        ensures nothing { IfNone result (self.new ≡ self.old) }
+        ensures answer { FlightEnds self.old book.flight outcome.now result }
+        ensures after { self.new ≡ flight_after self.old die book book.flight outcome.now }
     {
-        match flight {
+        match book.flight? {
             Flight::Read { reader, .. } => self.read_ended(die, book, reader, outcome),
-            _ => self.change_done(die, book, flight, outcome),
+            flight => self.change_done(die, book, flight, outcome),
         }
     }
 
@@ -445,18 +445,8 @@ impl Ftl {
         ensures read { (t : Translation) (who : Reader) (place : Place) → Describes self.old t →
             t.disk.flights die ≡ Some (Reading who place) → IsReadOf t place who }
     {
-        self.end_job(die, outcome)
-    }
-
-    /// The end of the die's job, if it has one.
-    fn end_job(&mut self, die: u8, outcome: &Outcome) -> Option<Ended>
-        ensures nothing { IfNone result (self.new ≡ self.old) }
-        ensures answer { IsEnded self.old die outcome.now result }
-        ensures after { self.new ≡ core_ended self.old die outcome.now }
-    {
         let book = self.book(die)?;
-        let flight = book.flight?;
-        self.job_ended(die, book, flight, outcome)
+        self.job_ended(die, book, outcome)
     }
 
     /// Orders the first mark where the device is not mended and no mark is under way; false, and
@@ -467,18 +457,17 @@ impl Ftl {
         ensures described_due { (t : Translation) → Describes self.old t → result ≡ is_step_due t }
         ensures described { (t : Translation) → Describes self.old t → Describes self.new (moved t TakeStep) }
     {
-        self.order_step()
-    }
-
-    /// Orders a mark where one is due.
-    fn order_step(&mut self) -> bool
-        ensures due { result ≡ is_turn_due self.old }
-        ensures after { self.new ≡ (if result then mark_ordered self.old else self.old) }
-    {
-        if self.mended || self.mark.is_some() || self.next_mark > LAST_NUMBER {
+        if !self.is_turn_due() {
             return false;
         }
         self.order_mark();
         true
+    }
+
+    /// Whether the device is not mended, no mark is under way, and a number is left.
+    fn is_turn_due(&self) -> bool
+        ensures { result ≡ is_turn_due self.now }
+    {
+        !(self.mended || self.mark.is_some() || self.next_mark > LAST_NUMBER)
     }
 }

@@ -19,7 +19,8 @@ use ufs_spec::{Block, Job, Key, Page, Place, Tag};
 
 /// The position of the first reader who is owed the read of a page of this die.
 fn first_owed(pins: &[Pin], books: &[Book], die: u8) -> Option<usize>
-    ensures { result ≡ position (is_owed_by books.now die) pins.now }
+    ensures what { result ≡ position (is_owed_by books.now die) pins.now }
+    ensures less { IfSome result (λ k. k < length pins.now) }
 {
     pins.iter().position(|pin| is_owed_by(pin, books, die))
 }
@@ -38,6 +39,19 @@ fn looks_on(looked: &Looked, die: u8) -> bool
     match looked {
         Looked::Page(stored) => stored.place.die == die,
         _ => false,
+    }
+}
+
+/// The read of the page that the reader keeps, if it keeps one.
+fn read_of(pin: &Pin) -> Option<Flight>
+    ensures { result ≡ read_of pin.now }
+{
+    match pin.looked {
+        Looked::Page(stored) => Some(Flight::Read {
+            place: stored.place,
+            reader: Some(pin.reader),
+        }),
+        _ => None,
     }
 }
 
@@ -233,11 +247,9 @@ impl Ftl {
 
     /// Whether the page of the pending group at this position is neither written nor in flight.
     fn is_waiting(&self, index: usize) -> bool
+        requires { index < length self.now.groups }
         ensures { result ≡ waits_at self.now index }
     {
-        if index >= self.groups.len() {
-            return false;
-        }
         self.groups[index].written.is_none()
             && !is_written_now(self.books.as_slice(), self.frontier + index as u64 + 1)
     }
@@ -305,23 +317,6 @@ impl Ftl {
         }
     }
 
-    /// The read that the reader at this position is owed.
-    fn read_of(&self, index: usize) -> Option<Flight>
-        ensures { result ≡ read_of (slice_get self.now.pins index) }
-    {
-        if index >= self.pins.len() {
-            return None;
-        }
-        let pin = self.pins[index];
-        let Looked::Page(stored) = pin.looked else {
-            return None;
-        };
-        Some(Flight::Read {
-            place: stored.place,
-            reader: Some(pin.reader),
-        })
-    }
-
     /// The program of a mark: the configuration and no fence.
     fn mark_program(&self, place: Place, number: u64) -> Job
         requires { (1 ≤ number) × (number ≤ 2 ^ 62) }
@@ -360,11 +355,9 @@ impl Ftl {
 
     /// The program of the pending group at this position; only data of a unit is programmed as one.
     fn group_job_at(&self, place: Place, index: usize) -> Option<Job>
+        requires { index < length self.now.groups }
         ensures { result ≡ group_job_at self.now place index (slice_get self.now.groups index) }
     {
-        if index >= self.groups.len() {
-            return None;
-        }
         let group = &self.groups[index];
         if is_data(group) {
             Some(self.program_of(place, index, group))
@@ -423,7 +416,7 @@ impl Ftl {
         ensures { result ≡ owed_flight self.now die book.filling (first_owed self.now die) }
     {
         match first_owed(self.pins.as_slice(), self.books.as_slice(), die) {
-            Some(index) => self.read_of(index),
+            Some(index) => read_of(&self.pins[index]),
             None => match self.waiting() {
                 Some(waiting) => self.waiting_flight(die, book, waiting),
                 None => None,
@@ -440,15 +433,6 @@ impl Ftl {
         ensures after { self.new ≡ core_taken self.old die }
         // It is one that the layer owes to the die, in the order of what is owed, and none where none is.
         ensures described { (t : Translation) → Describes self.old t → IsTaken t die result self.new }
-    {
-        self.start_job(die)
-    }
-
-    /// The next job of the die is in flight.
-    fn start_job(&mut self, die: u8) -> Option<Job>
-        ensures nothing { IfNone result (self.new ≡ self.old) }
-        ensures job { result ≡ job_taken self.old die }
-        ensures after { self.new ≡ core_taken self.old die }
     {
         let book = self.book(die)?;
         if book.flight.is_some() {

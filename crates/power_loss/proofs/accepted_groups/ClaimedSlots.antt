@@ -1,12 +1,9 @@
 -- Pages that are accepted and not durable, and claims, have a slot each.
-use Rattle.std.proofs.Common.{◌≡◌, ℕ, zero, suc, ◌+◌, ◌-◌, ◌≤◌, List, [], ◌∷◌, ◌++◌, drop, length, length-drop, sum_by}
-use Rattle.std.proofs.Common.{ap, ◌∙◌, arith}
-use Rattle.std.proofs.lemmas.List.{drop-append-le}
-use Rattle.std.proofs.lemmas.List.Sums.{sum_by-cons, sum_by_push}
-use Rattle.ufs_spec.specs.Keys.{Group}
-use Rattle.ufs_spec.specs.Ledger.{Ledger, accepted_groups, before_accepted}
-use Rattle.ufs_spec.specs.Translation.{Translation, pending_pages}
-use Rattle.power_loss.specs.Invariant.{SlotsRight, Valid}
+use Rattle.power_loss.proofs.Common.{◌≡◌, ℕ, zero, suc, ◌+◌, ◌-◌, ◌≤◌, List, [], ◌∷◌, ◌++◌, drop, length, ap, ◌∙◌}
+use Rattle.power_loss.proofs.Common.{arith, drop-append-le, sum_by-cons, Group, Ledger, accepted_groups}
+use Rattle.power_loss.proofs.Common.{before_accepted, Translation, pending_pages, SlotsRight, Valid}
+use Rattle.std.proofs.Common.{length-drop, sum_by}
+use Rattle.std.proofs.lemmas.List.Sums.{sum_by_push}
 
 abbrev pub pages_of : List Group → ℕ
 pages_of gs = sum_by length gs
@@ -35,19 +32,19 @@ more_pages l g repairs frontier =
     ∙ sum_by_push length (drop left (accepted_groups l)) g)
 
 -- where no group is of a command, none are
-pub no_pages : (gs : List Group) (n : ℕ) → gs ≡ [] → pages_of (drop n gs) ≡ 0
-no_pages gs n e = let few = fewer_pages gs 0 n (omega arith) in let none : pages_of gs ≡ 0 = ap pages_of e in
+pub no_pages : {gs : List Group} (n : ℕ) → gs ≡ [] → pages_of (drop n gs) ≡ 0
+no_pages {gs} n e = let few = fewer_pages gs 0 n (omega arith) in let none : pages_of gs ≡ 0 = ap pages_of e in
     omega (arith, few, none)
 
 -- Claims
 
-pub slots_claimed : (slots pending claims count : ℕ) → count ≤ slots - pending - claims →
+pub slots_claimed : {slots pending claims : ℕ} (count : ℕ) → count ≤ slots - pending - claims →
     SlotsRight slots pending claims → SlotsRight slots pending (claims + count)
-slots_claimed slots pending claims count l s = record { within = let w = s.within in omega (arith, l, w) }
+slots_claimed count l s = record { within = let w = s.within in omega (arith, l, w) }
 
-pub slots_fewer : (slots pending claims less fewer : ℕ) → less ≤ pending → fewer ≤ claims →
+pub slots_fewer : {slots pending claims less fewer : ℕ} → less ≤ pending → fewer ≤ claims →
     SlotsRight slots pending claims → SlotsRight slots less fewer
-slots_fewer slots pending claims less fewer l k s = record { within = let w = s.within in omega (arith, l, k, w) }
+slots_fewer l k s = record { within = let w = s.within in omega (arith, l, k, w) }
 
 pub never_overdrawn : (t : Translation) → Valid t → pending_pages t.ledger + t.claims ≤ t.numbers.slots
 never_overdrawn t v = v.slots.within

@@ -1,17 +1,12 @@
 -- How the frontier climbs over groups that are wholly there.
-use Rattle.std.proofs.Common.{◌≡◌, ℕ, zero, suc, ◌+◌, ◌-◌, ◌<◌, ◌≤◌, ◌⊎◌, Bool, true, false, if◌then◌else◌, is_some}
-use Rattle.std.proofs.Common.{List, [], ◌∷◌, drop, length, Option, Some, None, slice_get, refl, sym, ap, ◌∙◌, subst}
-use Rattle.std.proofs.Common.{inl, inr, ⊎_elim, arith, length-drop}
-use Rattle.std.specs.Prelude.{nat_le, option_and_then, option_map}
+use Rattle.power_loss.proofs.Common.{◌≡◌, ℕ, zero, suc, ◌+◌, ◌-◌, ◌<◌, ◌≤◌, ◌⊎◌, Bool, true, false, if◌then◌else◌}
+use Rattle.power_loss.proofs.Common.{is_some, List, [], ◌∷◌, drop, length, Option, Some, None, slice_get, refl, sym, ap}
+use Rattle.power_loss.proofs.Common.{◌∙◌, subst, inl, inr, ⊎_elim, arith, nat_le, option_and_then, option_map}
+use Rattle.power_loss.proofs.Common.{slice_get_within, Group, Item, Entry, Name, all_stand, at_name, climbed, entry_in}
+use Rattle.power_loss.proofs.Common.{Place, and_parts, cases_Bool, at_name_cases, Book, IsPageAt, last_number}
+use Rattle.power_loss.proofs.Common.{FrontierRight, Standing, same_Some}
+use Rattle.std.proofs.Common.{length-drop}
 use Rattle.std.proofs.lemmas.Bool.{lt-leb}
-use Rattle.std.proofs.lemmas.Option.{slice_get_within}
-use Rattle.ufs_spec.specs.Keys.{Group, Item}
-use Rattle.ufs_spec.specs.Ledger.{Entry, Name, all_stand, at_name, climbed, entry_in}
-use Rattle.ufs_spec.specs.declared.flash.Place.{Place}
-use Rattle.ufs_spec.proofs.Facts.{and_parts, cases_Bool}
-use Rattle.ufs_spec.proofs.Updates.{at_name_cases}
-use Rattle.power_loss.specs.Book.{Book, IsPageAt, last_number}
-use Rattle.power_loss.specs.Invariant.{FrontierRight, Standing}
 
 -- Groups of this life
 
@@ -72,31 +67,26 @@ pub record Climbed (stands : ℕ → ℕ → Bool) (n : ℕ) (gs : List Group) (
   pub all : (j i : ℕ) (g : Group) → slice_get gs j ≡ Some g → n + suc j ≤ to → i < length g →
       stands (n + suc j) i ≡ true
 
-climb_more : (stands : ℕ → ℕ → Bool) (n : ℕ) (g : Group) {gs : List Group} {to : ℕ} → Climbed stands (suc n) gs to →
+climb_more : {stands : ℕ → ℕ → Bool} (n : ℕ) (g : Group) {gs : List Group} {to : ℕ} → Climbed stands (suc n) gs to →
     all_stand (stands (suc n)) (length g) ≡ true → (j i : ℕ) (h : Group) → slice_get (g ∷ gs) j ≡ Some h →
     n + suc j ≤ to → i < length h → stands (n + suc j) i ≡ true
-climb_more stands n g c e zero i h at l u = ap (λ z. stands z i) (omega arith) ∙ stands_each (stands (suc n))
-    (length g) i e (subst (λ z. i < length z) (sym (same g h at)) u)
-  where
-    same : (g h : Group) → Some g ≡ Some h → g ≡ h
-    same g h at = cc
-climb_more stands n g c e (suc j) i h at l u = ap (λ z. stands z i) (omega arith) ∙ c.all j i h at (omega arith) u
+climb_more {stands} n g c e zero i h at l u = ap (λ z. stands z i) (omega arith) ∙ stands_each (stands (suc n))
+    (length g) i e (subst (λ z. i < length z) (sym (same_Some g h at)) u)
+climb_more {stands} n g c e (suc j) i h at l u = ap (λ z. stands z i) (omega arith) ∙ c.all j i h at (omega arith) u
 
-climb_next : (stands : ℕ → ℕ → Bool) (n : ℕ) (g : Group) {gs : List Group} → Climbed stands (suc n) gs
+climb_next : {stands : ℕ → ℕ → Bool} {n : ℕ} (g : Group) {gs : List Group} → Climbed stands (suc n) gs
     (climbed stands (suc n) gs) → Climbed stands n (g ∷ gs) (climbed stands n (g ∷ gs))
-climb_next stands n g c =
-    ⊎_elim
+climb_next {stands} {n} g c = ⊎_elim
     (λ e. let f = c.from in let u = c.within in rw e record {
       from = omega arith;
       within = omega arith;
-      all = climb_more stands n g c e;
-    })
-    (λ e. rw e record { from = omega arith; within = omega arith; all = λ j i h at l u. absurd (omega arith) })
+      all = climb_more n g c e;
+    }) (λ e. rw e record { from = omega arith; within = omega arith; all = λ j i h at l u. absurd (omega arith) })
     (cases_Bool (all_stand (stands (suc n)) (length g)))
 
 pub climb : (stands : ℕ → ℕ → Bool) (n : ℕ) (gs : List Group) → Climbed stands n gs (climbed stands n gs)
 climb stands n [] = record { from = omega arith; within = omega arith; all = λ j i g at l u. cc }
-climb stands n (g ∷ gs) = climb_next stands n g (climb stands (suc n) gs)
+climb stands n (g ∷ gs) = climb_next g (climb stands (suc n) gs)
 
 -- it goes over the first group where that is wholly there
 pub climb_one : (stands : ℕ → ℕ → Bool) (n : ℕ) (g : Group) (gs : List Group) → all_stand (stands (suc n))
@@ -115,9 +105,9 @@ pub stands_more : (standing : Standing) (name : Name) (p : Place) (n i : ℕ) �
 stands_more standing name p n i (q, e) = ⊎_elim (λ h. (p, h.2)) (λ h. (q, h.1 ∙ e)) (at_name_cases standing name
     (Some p) n i)
 
-pub stands_now : (standing : Standing) {name : Name} (p : Place) {n i : ℕ} → n ≡ name.number → i ≡ name.index →
+pub stands_now : (standing : Standing) {name : Name} {p : Place} {n i : ℕ} → n ≡ name.number → i ≡ name.index →
     at_name standing name (Some p) n i ≡ Some p
-stands_now standing {name} p {n} {i} e f = ⊎_elim (λ h. h.2) (λ h. absurd (h.0 (e, f)))
+stands_now standing {name} {p} {n} {i} e f = ⊎_elim (λ h. h.2) (λ h. absurd (h.0 (e, f)))
     (at_name_cases standing name (Some p) n i)
 
 -- what stands was there, or it is the new place
@@ -125,11 +115,8 @@ pub stood : (standing : Standing) {name : Name} (p : Place) (n i : ℕ) (q : Pla
     (Some p) n i ≡ Some q → ((n ≡ name.number) × (i ≡ name.index) × (p ≡ q)) ⊎
     ((((n ≡ name.number) × (i ≡ name.index)) → ⊥) × (standing n i ≡ Some q))
 stood standing {name = name} p n i q h =
-    ⊎_elim (λ k. inl (k.0, k.1, same p q (sym k.2 ∙ h))) (λ k. inr (k.0, sym k.1 ∙ h)) (at_name_cases standing name
+    ⊎_elim (λ k. inl (k.0, k.1, same_Some p q (sym k.2 ∙ h))) (λ k. inr (k.0, sym k.1 ∙ h)) (at_name_cases standing name
     (Some p) n i)
-  where
-    same : (p q : Place) → Some p ≡ Some q → p ≡ q
-    same p q e = cc
 
 -- the frontier behind a page of the name
 abbrev pub climbed_to : Book → Standing → ℕ → ℕ
@@ -171,12 +158,10 @@ climbs_right {b = b} {standing = standing} {frontier = frontier} name p {x = x} 
   above = let c = climbs_up b (at_name standing name (Some p)) frontier in let a = f.above in omega (arith, c);
   within = climbs_within b (at_name standing name (Some p)) frontier f.above f.within;
   stand = λ n i e l at. ⊎_elim (λ o. stands_more standing name p n i (f.stand n i e o at))
-      (λ o. climbs_stand b (at_name standing name (Some p)) frontier n i e f.above o l at)
-      (order n frontier);
+      (λ o. climbs_stand b (at_name standing name (Some p)) frontier n i e f.above o l at) (order n frontier);
   known = λ n i q h. ⊎_elim
       (λ k. (x, subst (λ z. IsPageAt b z i x) (sym k.0) (subst (λ z. IsPageAt b name.number z x) (sym k.1) is)))
-      (λ k. f.known n i q k.1)
-      (stood standing {name = name} p n i q h);
+      (λ k. f.known n i q k.1) (stood standing {name = name} p n i q h);
 }
   where
     order : (n m : ℕ) → (n ≤ m) ⊎ (m < n)

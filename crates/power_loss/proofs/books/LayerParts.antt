@@ -1,12 +1,8 @@
 -- What is right of single parts of a translation layer, said of the layer.
-use Rattle.std.proofs.Common.{ℕ, List, Option}
-use Rattle.ufs_spec.specs.Cells.{Cells, Mark}
-use Rattle.ufs_spec.specs.Disk.{CellCrash}
-use Rattle.ufs_spec.specs.Translation.{Mending, Translation}
-use Rattle.ufs_spec.specs.declared.flash.Fence.{Fence}
-use Rattle.ufs_spec.specs.declared.flash.Key.{Key}
-use Rattle.power_loss.specs.Book.{book}
-use Rattle.power_loss.specs.Invariant.{IsOwnMark, IsSecure, MarksRight, MendingRight, UnmarkedRight}
+use Rattle.power_loss.proofs.Common.{ℕ, List, Option, Cells, Mark, CellCrash, Mending, Translation, Fence, Key, book}
+use Rattle.power_loss.proofs.Common.{IsOwnMark, IsSecure, MarksRight, MendingRight, Name, Place, Looked, Source}
+use Rattle.power_loss.proofs.Common.{IsGroupPage, IsNeededPage, LookedRight, SourceRight}
+use Rattle.power_loss.specs.Invariant.{UnmarkedRight}
 
 -- this is its newest finished mark, and its marks are right
 abbrev pub MarksOf : Translation → Mark → Type 0
@@ -33,3 +29,19 @@ SecureOf t n i = IsSecure t.ledger.standing t.disk.cells t.disk.finished t.disk.
 -- a stop may leave these cells of it
 abbrev pub StopLeaves : Translation → Cells → Type 0
 StopLeaves t c = CellCrash t.disk.cells t.disk.flights c
+
+-- the finished page of the name is there
+abbrev pub PageOf : Translation → Name → Place → Type 0
+PageOf t name place = IsGroupPage t.disk.cells t.disk.finished t.disk.erasing name place
+
+-- and in a block that is not free
+abbrev pub NeededOf : Translation → Place → Type 0
+NeededOf t place = IsNeededPage t.disk.cells t.disk.finished t.disk.blocks t.disk.erasing place
+
+-- what was looked up is there
+abbrev pub LookedOf : Translation → Looked → Type 0
+LookedOf t looked = LookedRight (book t) t.ledger.frontier t.disk.cells t.disk.finished t.disk.erasing looked
+
+-- and so is what the rest of another is read from
+abbrev pub SourceOf : Translation → Source → Type 0
+SourceOf t source = SourceRight t.disk.cells t.disk.finished t.disk.erasing source

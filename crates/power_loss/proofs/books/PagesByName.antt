@@ -1,21 +1,16 @@
 -- What a book knows of a page, and how it grows by a group.
 pub use Rattle.ufs_spec.proofs.Facts.{same_Some as some_is, none-some as none_some, false≢true as false_true, at_most}
 pub use Rattle.ufs_spec.proofs.Lists.{get_grows, get_last, get_splits, grown_length}
-use Rattle.std.proofs.Common.{◌≡◌, ℕ, suc, ◌-◌, ◌<◌, ◌≤◌, ◌⊎◌, false, List, [], ◌∷◌, ◌++◌, length, nat_le, Option, Some}
-use Rattle.std.proofs.Common.{None, slice_get, refl, sym, ap, ◌∙◌, subst, inl, inr, ⊎_elim, arith, le-leb}
-use Rattle.std.specs.Prelude.{option_and_then, option_map}
-use Rattle.std.proofs.lemmas.Option.{slice_get_within}
+use Rattle.power_loss.proofs.Common.{◌≡◌, ℕ, suc, ◌-◌, ◌<◌, ◌≤◌, ◌⊎◌, false, List, [], ◌∷◌, ◌++◌, length, Option, Some}
+use Rattle.power_loss.proofs.Common.{None, slice_get, refl, sym, ap, ◌∙◌, subst, inl, inr, ⊎_elim, arith}
+use Rattle.power_loss.proofs.Common.{option_and_then, option_map, slice_get_within, Mark, key_of, Group, Item, Entry}
+use Rattle.power_loss.proofs.Common.{Name, entry_in, KeysDiffer, Key, Tag, none-some, same_Some, BaseAt, BaseNone, Book}
+use Rattle.power_loss.proofs.Common.{BookRight, FirstRight, HasKey, IsFenceMark, IsKnown, IsLostNumber, IsOverwritten}
+use Rattle.power_loss.proofs.Common.{IsPageAt, IsPlainMark, IsWritten, last_number, page_at}
+use Rattle.std.proofs.Common.{nat_le}
+use Rattle.std.proofs.Common.{le-leb}
 use Rattle.std.proofs.lemmas.Bool.Decides.{leb_tells}
-use Rattle.ufs_spec.specs.Cells.{Mark, key_of}
-use Rattle.ufs_spec.specs.Keys.{Group, Item}
-use Rattle.ufs_spec.specs.Ledger.{Entry, Name, entry_in}
-use Rattle.ufs_spec.specs.Moves.{KeysDiffer}
-use Rattle.ufs_spec.specs.declared.flash.Key.{Key}
-use Rattle.ufs_spec.specs.declared.flash.Tag.{Tag}
-use Rattle.ufs_spec.proofs.Facts.{none-some, same_Some}
-use Rattle.power_loss.specs.Book.{BaseAt, BaseNone, Book, BookRight, FirstRight, HasKey, IsFenceMark, IsKnown}
-use Rattle.power_loss.specs.Book.{IsLastOrLost, IsLostNumber, IsOverwritten, IsPageAt, IsPlainMark, IsWritten}
-use Rattle.power_loss.specs.Book.{last_number, page_at}
+use Rattle.power_loss.specs.Book.{IsLastOrLost}
 
 -- what a page with this tag and body shows
 abbrev pub entry_for : Tag → List ℕ → Entry
@@ -30,27 +25,27 @@ pub record IsNewPage (groups : List Group) (j i : ℕ) (e : Entry) : Type 0 wher
   pub item : slice_get group i ≡ Some e.item
   pub size : e.size ≡ length group
 
-entry_told : (g : Group) (i : ℕ) (o : Option Item) (e : Entry) →
+entry_told : (g : Group) (i : ℕ) (o : Option Item) {e : Entry} →
     option_map (λ item. record { item = item; size = length g }) o ≡ Some e → (o ≡ Some e.item) × (e.size ≡ length g)
-entry_told g i None e h = absurd (none-some e h)
-entry_told g i (Some item) e h =
+entry_told g i None {e} h = absurd (none-some e h)
+entry_told g i (Some item) {e} h =
     let k = same_Some (record { item = item; size = length g }) e h in
     (ap (λ x. Some x.item) k, sym (ap (λ x. x.size) k))
 
-entry_from : (g : Group) (i : ℕ) (e : Entry) → slice_get g i ≡ Some e.item → e.size ≡ length g → entry_in g i ≡ Some e
-entry_from g i e h s = ap (option_map (λ item. record { item = item; size = length g })) h ∙ ap
+entry_from : (g : Group) (i : ℕ) {e : Entry} → slice_get g i ≡ Some e.item → e.size ≡ length g → entry_in g i ≡ Some e
+entry_from g i {e} h s = ap (option_map (λ item. record { item = item; size = length g })) h ∙ ap
     (λ n. Some (record { item = e.item; size = n })) (sym s)
 
-found_told : {groups : List Group} {j : ℕ} (i : ℕ) (o : Option Group) (e : Entry) → slice_get groups j ≡ o →
+found_told : {groups : List Group} {j : ℕ} {i : ℕ} (o : Option Group) {e : Entry} → slice_get groups j ≡ o →
     option_and_then (λ g. entry_in g i) o ≡ Some e → IsNewPage groups j i e
-found_told i None e is h = absurd (none-some e h)
-found_told i (Some g) e is h =
-    let k = entry_told g i (slice_get g i) e h in
+found_told None {e} is h = absurd (none-some e h)
+found_told {i = i} (Some g) {e} is h =
+    let k = entry_told g i (slice_get g i) h in
     record { group = g; is = is; item = k.0; size = k.1 }
 
-found_from : {groups : List Group} {j : ℕ} (i : ℕ) (e : Entry) → IsNewPage groups j i e →
+found_from : {groups : List Group} {j : ℕ} {i : ℕ} {e : Entry} → IsNewPage groups j i e →
     option_and_then (λ g. entry_in g i) (slice_get groups j) ≡ Some e
-found_from i e p = ap (option_and_then (λ g. entry_in g i)) p.is ∙ entry_from p.group i e p.item p.size
+found_from {i = i} {e = e} p = ap (option_and_then (λ g. entry_in g i)) p.is ∙ entry_from p.group i p.item p.size
 
 -- a page of an earlier life
 pub page_old : (b : Book) (n : ℕ) {i : ℕ} → n ≤ b.greatest_seen →
@@ -64,30 +59,30 @@ later b n i l = rw (above n b.greatest_seen l)
     above : (n top : ℕ) → top < n → nat_le n top ≡ false
     above n top l = ⊎_elim (λ h. absurd (omega (arith, h.1))) (λ h. h.0) (leb_tells n top)
 
-pub old_page : (b : Book) (n i : ℕ) (e : Entry) → n ≤ b.greatest_seen → b.entries_before n i ≡ Some e → IsPageAt b n i e
-old_page b n i e l h = page_old b n l ∙ h
+pub old_page : (b : Book) (n i : ℕ) {e : Entry} → n ≤ b.greatest_seen → b.entries_before n i ≡ Some e → IsPageAt b n i e
+old_page b n i l h = page_old b n l ∙ h
 
 pub is_old : (b : Book) (n i : ℕ) (e : Entry) → n ≤ b.greatest_seen → IsPageAt b n i e → b.entries_before n i ≡ Some e
 is_old b n i e l h = sym (page_old b n l) ∙ h
 
-pub page_new : (b : Book) (n i : ℕ) (e : Entry) → b.greatest_seen < n → IsPageAt b n i e → IsNewPage b.groups
+pub page_new : (b : Book) (n : ℕ) {i : ℕ} {e : Entry} → b.greatest_seen < n → IsPageAt b n i e → IsNewPage b.groups
     (n - b.greatest_seen - 1) i e
-page_new b n i e l h = found_told i (slice_get b.groups (n - b.greatest_seen - 1)) e refl (sym (later b n i l) ∙ h)
+page_new b n {i} {e} l h = found_told (slice_get b.groups (n - b.greatest_seen - 1)) refl (sym (later b n i l) ∙ h)
 
 pub new_page : (b : Book) (n i : ℕ) (e : Entry) → b.greatest_seen < n → IsNewPage b.groups
     (n - b.greatest_seen - 1) i e → IsPageAt b n i e
-new_page b n i e l p = later b n i l ∙ found_from i e p
+new_page b n i e l p = later b n i l ∙ found_from p
 
 -- two entries of one name are equal
 pub page_one : (b : Book) (n i : ℕ) (e f : Entry) → IsPageAt b n i e → IsPageAt b n i f → e ≡ f
 page_one b n i e f h k = same_Some e f (sym h ∙ k)
 
 -- and so they are at equal names
-pub page_same : (b : Book) (n i m j : ℕ) (e : Entry) → n ≡ m → i ≡ j → IsPageAt b n i e → IsPageAt b m j e
-page_same b n i m j e x y h = subst (λ (z : ℕ × ℕ). IsPageAt b z.0 z.1 e) (λ q. (x q, y q)) h
+pub page_same : (b : Book) {n i m j : ℕ} (e : Entry) → n ≡ m → i ≡ j → IsPageAt b n i e → IsPageAt b m j e
+page_same b e x y h = subst (λ (z : ℕ × ℕ). IsPageAt b z.0 z.1 e) (λ q. (x q, y q)) h
 
 pub page_within : (b : Book) (n i : ℕ) (e : Entry) → IsPageAt b n i e → n ≤ last_number b
-page_within b n i e h = ⊎_elim (λ l. omega arith) (λ l. let p = page_new b n i e l h in
+page_within b n i e h = ⊎_elim (λ l. omega arith) (λ l. let p = page_new b n l h in
     let w = slice_get_within b.groups (n - b.greatest_seen - 1) p.group p.is in omega arith) (at_most n b.greatest_seen)
 
 -- One group more
@@ -102,11 +97,11 @@ pub page_grows : (b : Book) (g : Group) (n i : ℕ) (e : Entry) → IsPageAt b n
 page_grows b g n i e h = ⊎_elim old new (at_most n b.greatest_seen)
   where
     old : n ≤ b.greatest_seen → IsPageAt (grown b g) n i e
-    old l = old_page (grown b g) n i e l (is_old b n i e l h)
+    old l = old_page (grown b g) n i l (is_old b n i e l h)
 
     new : b.greatest_seen < n → IsPageAt (grown b g) n i e
     new l =
-        let p = page_new b n i e l h in
+        let p = page_new b n l h in
         new_page (grown b g) n i e l (record {
           group = p.group;
           is = get_grows b.groups g (n - b.greatest_seen - 1) p.group p.is;
@@ -125,21 +120,19 @@ pub page_splits : (b : Book) (g : Group) (n i : ℕ) (e : Entry) → IsPageAt (g
 page_splits b g n i e h = ⊎_elim (λ l. inl (old l)) new (at_most n b.greatest_seen)
   where
     old : n ≤ b.greatest_seen → IsPageAt b n i e
-    old l = old_page b n i e l (is_old (grown b g) n i e l h)
+    old l = old_page b n i l (is_old (grown b g) n i e l h)
 
     new : b.greatest_seen < n → IsPageAt b n i e ⊎ IsAdded b g n i e
     new l =
-        let p = page_new (grown b g) n i e l h in
-        ⊎_elim
-        (λ k. inl (new_page b n i e l (record { group = p.group; is = k; item = p.item; size = p.size })))
+        let p = page_new (grown b g) n l h in
+        ⊎_elim (λ k. inl (new_page b n i e l (record { group = p.group; is = k; item = p.item; size = p.size })))
         (λ k.
         let at = k.0 in
         inr (record {
           last = omega arith;
           item = ap (λ z. slice_get z i) (sym k.1) ∙ p.item;
           size = p.size ∙ ap (λ z. length z) k.1;
-        }))
-        (get_splits b.groups g (n - b.greatest_seen - 1) p.group p.is)
+        })) (get_splits b.groups g (n - b.greatest_seen - 1) p.group p.is)
 
 pub added_page : (b : Book) (g : Group) (n i : ℕ) (e : Entry) → IsAdded b g n i e → IsPageAt (grown b g) n i e
 added_page b g n i e a =
@@ -160,20 +153,17 @@ page_before b g n i e l h = ⊎_elim (λ p. p) (λ a. let z = a.last in absurd (
 pub known_grows : (b : Book) (g : Group) (t : Tag) {body : List ℕ} → IsKnown b t body → IsKnown (grown b g) t body
 known_grows b g t h = page_grows b g t.number t.index _ h
 
-pub lost_grows : (b : Book) (g : Group) (n : ℕ) → IsLostNumber b n → IsLostNumber (grown b g) n
-lost_grows b g n h = record { from = h.from; to = h.to }
+pub lost_grows : {b : Book} (g : Group) {n : ℕ} → IsLostNumber b n → IsLostNumber (grown b g) n
+lost_grows g h = record { from = h.from; to = h.to }
 
-pub lost_before : (b : Book) (g : Group) (n : ℕ) → IsLostNumber (grown b g) n → IsLostNumber b n
-lost_before b g n h = record { from = h.from; to = h.to }
+pub lost_before : {b : Book} (g : Group) {n : ℕ} → IsLostNumber (grown b g) n → IsLostNumber b n
+lost_before g h = record { from = h.from; to = h.to }
 
-pub free_grows : (b : Book) (g : Group) {n : ℕ} → (IsLostNumber b n → ⊥) → IsLostNumber (grown b g) n → ⊥
-free_grows b g {n} free h = free (lost_before b g n h)
+pub free_grows : {b : Book} (g : Group) {n : ℕ} → (IsLostNumber b n → ⊥) → IsLostNumber (grown b g) n → ⊥
+free_grows {b} g {n} free h = free (lost_before g h)
 
-pub free_before : (b : Book) (g : Group) (n : ℕ) → (IsLostNumber (grown b g) n → ⊥) → IsLostNumber b n → ⊥
-free_before b g n free h = free (lost_grows b g n h)
-
-pub written_grows : (b : Book) (g : Group) (k : Key) (bound : ℕ) → IsWritten b k bound → IsWritten (grown b g) k bound
-written_grows b g k bound h = record {
+pub written_grows : {b : Book} (g : Group) {k : Key} {bound : ℕ} → IsWritten b k bound → IsWritten (grown b g) k bound
+written_grows {b} g h = record {
   number = h.number;
   index = h.index;
   page = h.page;
@@ -194,9 +184,9 @@ written_more b k bound more l h = record {
   within = let w = h.within in omega arith;
 }
 
-abbrev pub overwritten_grows : (b : Book) (g : Group) (n : ℕ) {k : Key} {bound : ℕ} → IsOverwritten b n k bound →
+abbrev pub overwritten_grows : {b : Book} (g : Group) {n : ℕ} {k : Key} {bound : ℕ} → IsOverwritten b n k bound →
     IsOverwritten (grown b g) n k bound
-overwritten_grows b g n h = record {
+overwritten_grows {b} g h = record {
   number = h.number;
   index = h.index;
   page = h.page;
@@ -204,12 +194,12 @@ overwritten_grows b g n h = record {
   key = h.key;
   newer = h.newer;
   within = h.within;
-  free = free_grows b g h.free;
+  free = free_grows g h.free;
 }
 
-abbrev pub overwritten_more : (b : Book) (n : ℕ) (k : Key) (bound more : ℕ) → bound ≤ more → IsOverwritten b n k bound →
+abbrev pub overwritten_more : {b : Book} {n : ℕ} {k : Key} {bound more : ℕ} → bound ≤ more → IsOverwritten b n k bound →
     IsOverwritten b n k more
-overwritten_more b n k bound more l h = record {
+overwritten_more l h = record {
   number = h.number;
   index = h.index;
   page = h.page;
@@ -222,14 +212,28 @@ overwritten_more b n k bound more l h = record {
 
 -- Marks
 
-pub plain_grows : (b : Book) (g : Group) (m : Mark) → IsPlainMark b m → IsPlainMark (grown b g) m
-plain_grows b g m h = record {
+pub plain_grows : {b : Book} (g : Group) {m : Mark} → IsPlainMark b m → IsPlainMark (grown b g) m
+plain_grows {b} g {m} h = record {
   none = h.none;
-  repaired = λ n i e lost is. written_grows b g e.item.key m.records (h.repaired n i e (lost_before b g n lost) is);
+  repaired = λ n i e lost is. written_grows g (h.repaired n i e (lost_before g lost) is);
 }
 
-pub fence_grows : (b : Book) (g : Group) (m : Mark) → IsFenceMark b m → IsFenceMark (grown b g) m
-fence_grows b g m h = record {
+-- what overwrites a page that overwrites this one
+abbrev pub overwritten_twice : {b : Book} {n : ℕ} {k : Key} {marked bound : ℕ} (o : IsOverwritten b n k marked) →
+    IsOverwritten b o.number o.page.item.key bound → IsOverwritten b n k bound
+overwritten_twice o u = record {
+  number = u.number;
+  index = u.index;
+  page = u.page;
+  is = u.is;
+  key = u.key ∙ o.key;
+  newer = let y = o.newer in let z = u.newer in omega arith;
+  within = u.within;
+  free = u.free;
+}
+
+pub fence_grows : {b : Book} (g : Group) {m : Mark} → IsFenceMark b m → IsFenceMark (grown b g) m
+fence_grows g h = record {
   fence = h.fence;
   is = h.is;
   first = h.first;
@@ -241,7 +245,7 @@ fence_grows b g m h = record {
 -- All that holds of the book
 
 last_or_lost_grows : (b : Book) (g : Group) (k : Key) (n : ℕ) → IsLastOrLost b k n → IsLastOrLost (grown b g) k n
-last_or_lost_grows b g k n (inl h) = inl (lost_grows b g n h)
+last_or_lost_grows b g k n (inl h) = inl (lost_grows g h)
 last_or_lost_grows b g k n (inr h) = inr h
 
 first_grows : (b : Book) (g : Group) (k : Key) (o : Option Name) → FirstRight b k o → FirstRight (grown b g) k o
@@ -266,20 +270,23 @@ pub record MayAdd (b : Book) (g : Group) : Type 0 where
   pub differ : KeysDiffer g
   pub keys : (i : ℕ) (item : Item) → slice_get g i ≡ Some item → HasKey b item.key
 
-differ_grows : (b : Book) {g : Group} (n i j : ℕ) (e f : Entry) → BookRight b → MayAdd b g →
+differ_grows : {b : Book} {g : Group} {n i j : ℕ} {e f : Entry} → BookRight b → MayAdd b g →
     IsPageAt b n i e ⊎ IsAdded b g n i e → IsPageAt b n j f ⊎ IsAdded b g n j f → e.item.key ≡ f.item.key → i ≡ j
-differ_grows b n i j e f r may (inl h) (inl k) same = r.differ n i j e f h k same
-differ_grows b n i j e f r may (inl h) (inr k) same = let w = page_within b n i e h in let z = k.last in
+differ_grows {n = n} {i = i} {j = j} {e = e} {f = f} r may (inl h) (inl k) same = r.differ n i j e f h k same
+differ_grows {b = b} {n = n} {i = i} {e = e} r may (inl h) (inr k) same = let w = page_within b n i e h in let z =
+    k.last in
     absurd (omega arith)
-differ_grows b n i j e f r may (inr h) (inl k) same = let w = page_within b n j f k in let z = h.last in
+differ_grows {b = b} {n = n} {j = j} {f = f} r may (inr h) (inl k) same = let w = page_within b n j f k in let z =
+    h.last in
     absurd (omega arith)
-differ_grows b n i j e f r may (inr h) (inr k) same = may.differ i j e.item f.item h.item k.item same
+differ_grows {i = i} {j = j} {e = e} {f = f} r may (inr h) (inr k) same =
+    may.differ i j e.item f.item h.item k.item same
 
 pub book_grows : (b : Book) (g : Group) → MayAdd b g → BookRight b → BookRight (grown b g)
 book_grows b g may r = record {
   pages = r.pages;
   keys = λ n i e h. ⊎_elim (λ p. r.keys n i e p) (λ a. may.keys i e.item a.item) (page_splits b g n i e h);
-  differ = λ n i j e f h k. differ_grows b n i j e f r may (page_splits b g n i e h) (page_splits b g n j f k);
+  differ = λ n i j e f h k. differ_grows r may (page_splits b g n i e h) (page_splits b g n j f k);
   some = λ j x h. ⊎_elim (λ p. r.some j x p) (λ a. subst
       (λ z. 0 < length z) (sym a.1) may.some) (get_splits b.groups g j x h);
   old_within = r.old_within;

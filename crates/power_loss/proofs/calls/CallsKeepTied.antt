@@ -1,20 +1,18 @@
 -- Each call that is answered rightly keeps the state tied to its dies and commands, whatever a failed job leaves.
-use Rattle.std.proofs.Common.{List, None, Option, Some, ap, refl, subst, sym, true, ℕ, ◌∙◌, ◌≡◌}
-use Rattle.ufs_spec.proofs.Facts.{false≢true}
-use Rattle.std.specs.Prelude.{Err, Ok, Result, slice_index}
-use Rattle.ufs_spec.specs.Cdbs.{SpellsCdb, operation_of}
-use Rattle.ufs_spec.specs.Machine.{Allowed, Answer, Reply, Call, Faulty, Done, OfDone, Take, OfTake, Heard, OfHost}
-use Rattle.ufs_spec.specs.Machine.{Host, IsCdbIn, IsHeard, MayHear, MayLeave, OfReply, Spelled, Turn, OfTurn, behind}
-use Rattle.ufs_spec.specs.Machine.{cdb_of, heard, lock_applied, managed, message_fault, observe, opens_short}
-use Rattle.ufs_spec.specs.Machine.{query_unanswered, result_of, service}
+use Rattle.power_loss.proofs.Common.{List, None, Option, Some, ap, refl, subst, sym, true, ℕ, ◌∙◌, ◌≡◌, false≢true, Ok}
+use Rattle.power_loss.proofs.Common.{Ending, GiveJob, ReadRight, ReadWrong, WentWell, WentWrong, fits, Array, Erasing}
+use Rattle.power_loss.proofs.Common.{Flight, Programming, Reading}
+use Rattle.power_loss.proofs.MachineWords.{operation_of, Allowed, Answer, Reply, Call, Faulty, Done, OfDone, Take}
+use Rattle.power_loss.proofs.MachineWords.{OfTake, Heard, OfHost, Host, IsCdbIn, IsHeard, MayLeave, OfReply, Spelled}
+use Rattle.power_loss.proofs.MachineWords.{Turn, OfTurn, behind, heard, message_fault, observe, opens_short}
+use Rattle.power_loss.proofs.MachineWords.{query_unanswered, service, State, Message, Cdb, IsTied, MayCome}
+use Rattle.std.specs.Prelude.{Err, Result, slice_index}
+use Rattle.ufs_spec.specs.Cdbs.{SpellsCdb}
+use Rattle.ufs_spec.specs.Machine.{MayHear}
+use Rattle.ufs_spec.specs.Machine.{cdb_of}
+use Rattle.ufs_spec.specs.Machine.{result_of}
 use Rattle.ufs_spec.specs.Messages.{Spells}
-use Rattle.ufs_spec.specs.Moves.{Ending, GiveJob, ReadRight, ReadWrong, WentWell, WentWrong, fits}
-use Rattle.ufs_spec.specs.Cells.{Array}
-use Rattle.ufs_spec.specs.Refusals.{State}
 use Rattle.ufs_spec.specs.declared.faults.HostFault.{HostFault}
-use Rattle.ufs_spec.specs.declared.messages.Message.{Message}
-use Rattle.ufs_spec.specs.declared.scsi.Cdb.{Cdb}
-use Rattle.power_loss.specs.Exchange.{IsTied, MayCome}
 use Rattle.power_loss.proofs.host_commands.AbortedTasks.{managed_free, managed_right}
 use Rattle.power_loss.proofs.jobs.EndsOfJobs.{ends_right, erased_shown, failed_keeps, left_shown, over_keeps}
 use Rattle.power_loss.proofs.jobs.EndsOfJobs.{right_shown, written_shown, wrong_shown}
@@ -22,8 +20,7 @@ use Rattle.power_loss.proofs.calls.TiesToDies.{one_move, step_keeps}
 use Rattle.power_loss.proofs.host_commands.OpenedByCommands.{command_right, is_free, reply_right}
 use Rattle.power_loss.proofs.host_commands.WriteData.{data_right}
 use Rattle.power_loss.proofs.host_commands.HandedOutReplies.{replies_right}
-use Rattle.ufs_spec.specs.Disk.{Erasing, Flight, Programming, Reading}
-use Rattle.power_loss.proofs.calls.RightChanges.{Right, lock_right, right_keeps, settled_right}
+use Rattle.power_loss.proofs.calls.RightChanges.{Right, right_keeps, settled_right}
 use Rattle.ufs_laws.proofs.walk.SmallChanges.{Both, Still, first, job_over}
 use Rattle.ufs_spec.specs.declared.messages.Message.TheVariants as message
 use Rattle.ufs_spec.proofs.CdbsBack.{first_byte}
@@ -44,25 +41,23 @@ ending_keeps s die (Some (Reading reader place)) ReadWrong left v e fit may =
     (record { may = (refl, tt); shown = wrong_shown s die reader v.shown })
 ending_keeps s die (Some (Programming p cell)) WentWell left v e fit may =
     over_keeps s die (Programming p cell) WentWell left v e
-    (record { may = (refl, tt); shown = written_shown s die p cell left v e })
-ending_keeps s die (Some (Programming p cell)) (WentWrong cells) left v e fit may =
-    failed_keeps s die (Programming p cell) cells left v e may.0 may.1
+    (record { may = (refl, tt); shown = written_shown die p cell left v e })
+ending_keeps s die (Some (Programming p cell)) (WentWrong cells) left v e fit may = failed_keeps cells v e may.0 may.1
     (λ crash. record { may = (refl, crash); shown = left_shown s die p cell left cells may.1 })
 ending_keeps s die (Some (Erasing spot)) WentWell left v e fit may =
     over_keeps s die (Erasing spot) WentWell left v e (record { may = (refl, tt); shown = erased_shown s spot v })
-ending_keeps s die (Some (Erasing spot)) (WentWrong cells) left v e fit may =
-    failed_keeps s die (Erasing spot) cells left v e may.0 may.1
+ending_keeps s die (Some (Erasing spot)) (WentWrong cells) left v e fit may = failed_keeps cells v e may.0 may.1
     (λ crash. record { may = (refl, crash); shown = may.1 })
 ending_keeps s die (Some flight) ending left v e fit may = absurd (false≢true fit)
 
-pub first_keeps : (s : State) (call : Call) (answer : Answer) → IsTied s → MayCome s call → Allowed s call answer →
+pub first_keeps : {s : State} (call : Call) (answer : Answer) → IsTied s → MayCome s call → Allowed s call answer →
     IsTied (first s call answer)
-first_keeps s (Take die) (OfTake (Some flight)) v may right =
-    one_move s (GiveJob die flight) v right (record { groups = refl; claims = refl }) refl
-first_keeps s (Done die ending left) (OfDone true) v may right =
+first_keeps {s} (Take die) (OfTake (Some flight)) v may right =
+    one_move (GiveJob die flight) v right (record { groups = refl; claims = refl }) refl
+first_keeps {s} (Done die ending left) (OfDone true) v may right =
     ending_keeps s die (s.translation.disk.flights die) ending left v refl (sym right) may
-first_keeps s Turn (OfTurn due) v may right = step_keeps s v
-first_keeps s call answer v may right = v
+first_keeps {s} Turn (OfTurn due) v may right = step_keeps v
+first_keeps call answer v may right = v
 
 -- Messages
 
@@ -72,69 +67,60 @@ operation_is c command taken h e =
     let spells : SpellsCdb command taken = subst (IsCdbIn (Some taken)) e h in
     ap (λ (bytes : List ℕ). slice_index bytes 0) spells.2 ∙ first_byte command
 
-heard_right : (s : State) (m : Message) (c : Option Cdb) (bytes : List ℕ) → IsTied s → Spells m bytes →
+heard_right : {s : State} (m : Message) (c : Option Cdb) (bytes : List ℕ) → IsTied s → Spells m bytes →
     IsCdbIn (cdb_of m) c → message_fault s m ≡ None → Right s (heard s m c)
-heard_right s (message.NopOut tag) c bytes v spells spelled h =
-    reply_right s tag (message.NopIn tag) v (is_free s tag true h) refl
-heard_right s (message.Command flags lun tag expected taken) c bytes v spells spelled h =
-    command_right s (record { flags = flags; lun = lun; tag = tag; expected = expected; bytes = taken; cdb = c }) v
+heard_right {s} (message.NopOut tag) c bytes v spells spelled h =
+    reply_right (message.NopIn tag) v (is_free s tag true h) refl
+heard_right {s} (message.Command flags lun tag expected taken) c bytes v spells spelled h =
+    command_right (record { flags = flags; lun = lun; tag = tag; expected = expected; bytes = taken; cdb = c }) v
     (is_free s tag (opens_short s (message.Command flags lun tag expected taken)) h)
     (λ command e. operation_is c command taken spelled e)
-heard_right s (message.DataOut lun tag offset «data») c bytes v spells spelled h =
-    data_right s lun tag offset «data».items v h spells.0.3.2
-heard_right s (message.TaskRequest lun tag function meant) c bytes v spells spelled h =
-    let m = managed_right s lun function meant v in
+heard_right {s} (message.DataOut lun tag offset «data») c bytes v spells spelled h =
+    data_right lun tag offset «data».items v h spells.0.3.2
+heard_right {s} (message.TaskRequest lun tag function meant) c bytes v spells spelled h =
+    let m = managed_right lun function meant v in
     Both m
-    (reply_right (managed s lun function meant) tag (message.TaskResponse lun tag (service s lun function meant))
-    (right_keeps m v)
-    (managed_free s lun function meant tag (is_free s tag true h)) refl)
-heard_right s (message.QueryRequest tag function asked size value «data») c bytes v spells spelled h =
-    reply_right s tag (query_unanswered tag function asked) v (is_free s tag true h) refl
-heard_right s m c bytes v spells spelled h = Still
+    (reply_right (message.TaskResponse lun tag (service s lun function meant))
+    (right_keeps m v) (managed_free s lun function meant tag (is_free s tag true h)) refl)
+heard_right {s} (message.QueryRequest tag function asked size value «data») c bytes v spells spelled h =
+    reply_right (query_unanswered tag function asked) v (is_free s tag true h) refl
+heard_right m c bytes v spells spelled h = Still
 
-pub no_fault : (x : Option HostFault) (done : Unit {0}) → Ok done ≡ result_of x → x ≡ None
-no_fault None done h = refl
-no_fault (Some fault) done h = absurd (other h)
+pub no_fault : (x : Option HostFault) {done : Unit {0}} → Ok done ≡ result_of x → x ≡ None
+no_fault None h = refl
+no_fault (Some fault) {done} h = absurd (other h)
   where
     other : Ok done ≡ Err fault → ⊥
     other e = cc
 
-host_right : (s : State) (h : Heard) (result : Result (Unit {0}) HostFault) (bytes : List ℕ) → IsTied s →
+host_right : {s : State} (h : Heard) (result : Result (Unit {0}) HostFault) (bytes : List ℕ) → IsTied s →
     IsHeard bytes h → MayHear s h result → Right s (behind s (Host h) (OfHost result))
-host_right s h (Err fault) bytes v is may = Still
-host_right s (Faulty fault) (Ok done) bytes v is may = Still
-host_right s (Spelled m c) (Ok done) bytes v is may =
-    heard_right s m c bytes v is.0 is.2 (no_fault (message_fault s m) done may)
+host_right h (Err fault) bytes v is may = Still
+host_right (Faulty fault) (Ok done) bytes v is may = Still
+host_right {s} (Spelled m c) (Ok done) bytes v is may =
+    heard_right m c bytes v is.0 is.2 (no_fault (message_fault s m) may)
 
 -- Calls
 
-behind_right : (s : State) (call : Call) (answer : Answer) → IsTied s → MayCome s call → Allowed s call answer →
+behind_right : {s : State} (call : Call) (answer : Answer) → IsTied s → MayCome s call → Allowed s call answer →
     Right (first s call answer) (behind s call answer)
-behind_right s (Host h) (OfHost result) v may right = host_right s h result may.0 v may.1 right
-behind_right s (Take die) (OfTake (Some flight)) v may right = Still
-behind_right s (Done die ending left) (OfDone true) v may right =
+behind_right {s} (Host h) (OfHost result) v may right = host_right h result may.0 v may.1 right
+behind_right (Take die) (OfTake (Some flight)) v may right = Still
+behind_right {s} (Done die ending left) (OfDone true) v may right =
     ends_right s die (s.translation.disk.flights die) ending left
-    (first_keeps s (Done die ending left) (OfDone true) v may right)
-behind_right s Turn (OfTurn due) v may right = Still
-behind_right s Reply (OfReply (Some m)) v may right = replies_right s m v right
-behind_right s call answer v may right = Still
+    (first_keeps (Done die ending left) (OfDone true) v may right)
+behind_right Turn (OfTurn due) v may right = Still
+behind_right {s} Reply (OfReply (Some m)) v may right = replies_right m v right
+behind_right call answer v may right = Still
 
 -- behind what it does first, each call makes changes that may come
-pub call_right : (s : State) (call : Call) (answer : Answer) → IsTied s → MayCome s call → Allowed s call answer →
+pub call_right : {s : State} (call : Call) (answer : Answer) → IsTied s → MayCome s call → Allowed s call answer →
     Right (first s call answer) (observe s call answer)
-call_right s call answer v may right =
-    let h = behind_right s call answer v may right in
-    Both h (settled_right (behind s call answer) (right_keeps h (first_keeps s call answer v may right)))
+call_right {s} call answer v may right =
+    let h = behind_right call answer v may right in
+    Both h (settled_right (right_keeps h (first_keeps call answer v may right)))
 
 pub call_keeps : (s : State) (call : Call) (answer : Answer) → IsTied s → MayCome s call → Allowed s call answer →
     IsTied (observe s call answer)
 call_keeps s call answer v may right =
-    right_keeps (call_right s call answer v may right) (first_keeps s call answer v may right)
-
--- and so does what is behind it, with the lock told, before registers are filled
-pub unfilled_keeps : (s : State) (call : Call) (answer : Answer) → IsTied s → MayCome s call → Allowed s call answer →
-    IsTied (lock_applied (behind s call answer))
-unfilled_keeps s call answer v may right =
-    let h = behind_right s call answer v may right in
-    let tied = right_keeps h (first_keeps s call answer v may right) in
-    right_keeps (lock_right (behind s call answer) tied) tied
+    right_keeps (call_right call answer v may right) (first_keeps call answer v may right)

@@ -1,26 +1,18 @@
 -- What no call changes: the numbers, the base, and but for the ends of jobs the pages of the dies; and each block that
 -- is being erased stays one of the dies'.
-use Rattle.std.proofs.Common.{◌≡◌, ◌⊎◌, ℕ, Bool, true, [], ◌∷◌, Option, Some, None, refl, sym, ◌∙◌, subst, inl, inr}
-use Rattle.std.proofs.Common.{⊎_elim, List, fold}
-use Rattle.ufs_spec.specs.Cells.{Array}
-use Rattle.ufs_spec.specs.Disk.{Erasing, Flight, Spot, at_die}
-use Rattle.ufs_spec.specs.Machine.{Allowed, Answer, Reply, Call, Done, OfDone, Take, OfTake, Host, Turn, OfTurn}
-use Rattle.ufs_spec.specs.Machine.{array_behind, observe, with_moves}
-use Rattle.ufs_spec.specs.Lives.{IsOpened, Leads}
-use Rattle.ufs_spec.specs.Moves.{EndJob, Ending, GiveJob, Move, TakeStep, is_for, is_for_task, LetGo, LetGoAll, moved}
-use Rattle.ufs_spec.specs.Refusals.{State, numbers_of}
-use Rattle.ufs_spec.specs.Translation.{MayTake, Translation}
-use Rattle.ufs_spec.specs.declared.configs.Numbers.{Numbers}
-use Rattle.ufs_spec.specs.declared.events.Event.{Event}
-use Rattle.ufs_spec.specs.declared.events.Output.{Output}
+use Rattle.power_loss.proofs.Common.{◌≡◌, ◌⊎◌, ℕ, Bool, true, [], ◌∷◌, Option, Some, None, refl, sym, ◌∙◌, subst, inl}
+use Rattle.power_loss.proofs.Common.{inr, ⊎_elim, Array, Erasing, Flight, Spot, at_die, EndJob, Ending, GiveJob, Move}
+use Rattle.power_loss.proofs.Common.{TakeStep, is_for, is_for_task, LetGo, LetGoAll, moved, MayTake, Translation}
+use Rattle.power_loss.proofs.Common.{Numbers, erase_unread as unread_erases}
+use Rattle.power_loss.proofs.MachineWords.{Allowed, Answer, Reply, Call, Done, OfDone, Take, OfTake, Host, Turn, OfTurn}
+use Rattle.power_loss.proofs.MachineWords.{array_behind, observe, with_moves, IsOpened, Leads, State, numbers_of, Event}
+use Rattle.power_loss.proofs.MachineWords.{Output, IsSpot}
 use Rattle.ufs_laws.proofs.walk.SmallChanges.{Change, IsSmall, IsSmallMove, Moves, Small, changed, first, first_kept}
 use Rattle.ufs_laws.proofs.walk.SmallChanges.{job_over, kept, observed}
-use Rattle.power_loss.specs.Exchange.{IsSpot}
 use Rattle.power_loss.proofs.books.SmallFacts.{at_die_is}
 use Rattle.power_loss.proofs.jobs_owed.ProgramsAndErases.{take_inside}
 use Rattle.ufs_laws.proofs.walk.LayerEffects.{Effect, NoEffect, die_freed, effect_flights, ended, turned_by}
 use Rattle.ufs_laws.proofs.walk.LayerEffects.{with_effect, without_job}
-use Rattle.ufs_spec.proofs.CellKinds.{erase_unread as unread_erases}
 
 -- ## Moves
 
@@ -38,10 +30,6 @@ move_numbers t (EndJob die ending) =
     ended (SameNumbers t) t die (t.disk.flights die) ending (λ e comes. effect_numbers t e)
 move_numbers t TakeStep = turned_by (SameNumbers t) t (λ e comes. effect_numbers t e)
 move_numbers t move = refl
-
-pub moves_numbers : (t : Translation) (moves : List Move) → SameNumbers t (fold moved t moves)
-moves_numbers t [] = refl
-moves_numbers t (m ∷ ms) = moves_numbers (moved t m) ms ∙ move_numbers t m
 
 -- Erases: no move but a take begins one
 
@@ -83,15 +71,6 @@ move_erases t (EndJob die ending) free =
 move_erases t TakeStep free = turned_by (NoMore t) t (λ e comes. effect_erases t e)
 move_erases t move free = λ other spot e. e
 
-abbrev pub NoTakes : List Move → Type 0
-NoTakes [] = Unit {0}
-NoTakes (m ∷ ms) = IsNoTake m × NoTakes ms
-
-pub moves_erases : (t : Translation) (moves : List Move) → NoTakes moves → NoMore t (fold moved t moves)
-moves_erases t [] free = λ other spot e. e
-moves_erases t (m ∷ ms) free =
-    λ other spot e. move_erases t m free.0 other spot (moves_erases (moved t m) ms free.1 other spot e)
-
 -- ## Calls
 
 -- The device
@@ -122,12 +101,10 @@ small_same h = kept Same (record { self = self; both = same_behind; one = small_
 abbrev pub Kept : State → State → Type 0
 Kept s t = (numbers_of t ≡ numbers_of s) × (t.base ≡ s.base)
 
-move_kept : (s : State) (move : Move) (array : Array) → Kept s (record (with_moves s (move ∷ [])) { array = array })
-move_kept s move array = (move_numbers s.translation move, refl)
-
 pub call_kept : (s : State) (call : Call) (answer : Answer) → Kept s (observe s call answer)
 call_kept s call answer =
-    let h = first_kept Kept (λ s. (refl, refl)) move_kept s call answer in
+    let h = first_kept Kept (λ s. (refl, refl)) (λ s move array. (move_numbers s.translation move, refl)) s call
+    answer in
     let k = small_same (observed s call answer) in
     (k.0 ∙ h.0, k.1 ∙ h.1)
 
@@ -186,11 +163,9 @@ over_inside s die (Some flight) ending left is =
 
 gives_inside : (s : State) (die : ℕ) (flight : Flight) → MayTake s.translation die (Some flight) → ErasesInside s →
     ErasesInside (with_moves s (GiveJob die flight ∷ []))
-gives_inside s die flight may is =
-    λ other spot e.
+gives_inside s die flight may is = λ other spot e.
     ⊎_elim (λ (h : (other ≡ die) × (Some flight ≡ Some (Erasing spot))). take_inside s.translation die spot (subst
-    (MayTake s.translation die) h.1 may))
-    (λ h. is other spot h.1)
+    (MayTake s.translation die) h.1 may)) (λ h. is other spot h.1)
     (at_die_is s.translation.disk.flights die (Some flight) other (Some (Erasing spot)) e)
 
 first_inside : (s : State) (call : Call) (answer : Answer) → Allowed s call answer → ErasesInside s →
@@ -209,8 +184,8 @@ call_inside s call answer right is =
     inside_same (first s call answer) (observe s call answer) (small_same (observed s call answer))
     (first_inside s call answer right is)
 
-pub event_inside : (s t : State) (e : Event) (o : Output) → Leads s e o t → ErasesInside s → ErasesInside t
-event_inside s t e o h is = subst ErasesInside (sym h.next) (call_inside s h.call h.answer h.right is)
+pub event_inside : {s t : State} {e : Event} {o : Output} → Leads s e o t → ErasesInside s → ErasesInside t
+event_inside {s} h is = subst ErasesInside (sym h.next) (call_inside s h.call h.answer h.right is)
 
 pub opened_inside : (n : Numbers) (array : Array) (bad : Spot → Bool) (s : State) → IsOpened n array bad s →
     ErasesInside s

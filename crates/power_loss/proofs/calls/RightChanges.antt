@@ -1,24 +1,16 @@
 -- Small changes that may come in a life: each keeps the state tied to its dies and commands, and so do all of a call.
-use Rattle.std.proofs.Common.{Bool, List, [], ap, arith, drop, length, map, refl, subst, suc, sym, zero, ℕ, ◌++◌, ◌∙◌}
-use Rattle.std.proofs.Common.{◌∷◌, ◌≡◌, ◌≤◌}
-use Rattle.std.specs.Prelude.{filter, nat_le}
-use Rattle.ufs_spec.specs.Cells.{Shows}
-use Rattle.ufs_spec.specs.Commands.{Command}
-use Rattle.ufs_spec.specs.Exchanges.{Awaiting, Deed, Short, Task}
-use Rattle.ufs_spec.specs.Keys.{CanApplyAll, Group, IsCommand, group_of, groups_of}
-use Rattle.ufs_spec.specs.Ledger.{accepted_groups}
-use Rattle.ufs_spec.specs.Machine.{claimed_by, deed_locked, durable, fill_moves, fills, is_durable, is_to_fill}
-use Rattle.ufs_spec.specs.Machine.{lock_applied, short_locked, task_filled, task_locked, with_moves}
-use Rattle.ufs_spec.specs.Moves.{Accept, EndJob, IsAllowedMove, LetGoAll, Move, GiveJob, TakeStep, moved}
-use Rattle.ufs_spec.specs.Plain.{CanApply, Plain, after, apply}
-use Rattle.ufs_spec.specs.Refusals.{State, locked, numbers_of, plain_now}
-use Rattle.ufs_spec.specs.Translation.{Translation, is_mended}
-use Rattle.ufs_spec.specs.declared.configs.Numbers.{Numbers}
-use Rattle.ufs_spec.proofs.Facts.{if_both}
-use Rattle.ufs_laws.proofs.walk.SmallChanges.{same_task, weaker, Small, Accepts, Both, Change, Changes, IsSmall}
-use Rattle.ufs_laws.proofs.walk.SmallChanges.{IsSmallMove, Maps, MapsShorts, Moves, One, SetsRegisters, Still, changed}
-use Rattle.ufs_laws.proofs.walk.SmallChanges.{fills_task, kept, lock_short}
-use Rattle.power_loss.specs.Exchange.{DeedFits, IsTied, ShortFits, TasksAreRight, TasksRight, claim_of}
+use Rattle.power_loss.proofs.Common.{Bool, List, [], ap, arith, drop, length, map, refl, subst, suc, sym, zero, ℕ, ◌++◌}
+use Rattle.power_loss.proofs.Common.{◌∙◌, ◌∷◌, ◌≡◌, ◌≤◌, filter, nat_le, Shows, CanApplyAll, Group, IsCommand, group_of}
+use Rattle.power_loss.proofs.Common.{groups_of, accepted_groups, Accept, EndJob, IsAllowedMove, LetGoAll, Move, GiveJob}
+use Rattle.power_loss.proofs.Common.{TakeStep, moved, CanApply, Plain, after, apply, Translation, is_mended, Numbers}
+use Rattle.power_loss.proofs.Common.{if_both}
+use Rattle.power_loss.proofs.MachineWords.{Command, Awaiting, Deed, Short, Task, claimed_by, deed_locked, durable}
+use Rattle.power_loss.proofs.MachineWords.{fill_moves, fills, is_durable, is_to_fill, lock_applied, short_locked}
+use Rattle.power_loss.proofs.MachineWords.{task_filled, task_locked, with_moves, State, locked, numbers_of, plain_now}
+use Rattle.power_loss.proofs.MachineWords.{DeedFits, IsTied, ShortFits, TasksAreRight, TasksRight, claim_of}
+use Rattle.ufs_laws.proofs.walk.SmallChanges.{same_task, Accepts, Both, Change, Changes, IsSmall, IsSmallMove, Maps}
+use Rattle.ufs_laws.proofs.walk.SmallChanges.{MapsShorts, Moves, One, SetsRegisters, Still, changed, fills_task, kept}
+use Rattle.ufs_laws.proofs.walk.SmallChanges.{lock_short}
 use Rattle.power_loss.proofs.moves.MovesKeepCellsFitting.{move_fits, move_stays}
 use Rattle.power_loss.proofs.open_tasks.TaskLists.{KeepsTasks, shorts_kept, tasks_kept}
 use Rattle.power_loss.proofs.calls.TiesToDies.{Ties, fits_of, tasks_stay, ties_of, ties_stay, whole}
@@ -43,9 +35,6 @@ pub record IsRight (s : State) (change : Change) : Type 0 where
 abbrev pub Right : State → State → Type 0
 Right = Changes IsRight
 
-pub right_small : {s t : State} → Right s t → Small s t
-right_small h = weaker (λ s change r. r.small) h
-
 -- One command more
 
 can_more : (p : Plain) (cs : List Command) (c : Command) → CanApplyAll p cs → IsCommand c → CanApply (after p cs) c →
@@ -69,16 +58,16 @@ record LeavesGroups (t u : Translation) : Type 0 where
   groups : accepted_groups u.ledger ≡ accepted_groups t.ledger
   cells : u.disk.cells ≡ t.disk.cells
 
-small_leaves : (t : Translation) (move : Move) → IsSmallMove move → LeavesGroups t (moved t move)
-small_leaves t (Accept claimed g) is = absurd is
-small_leaves t (GiveJob die flight) is = absurd is
-small_leaves t (EndJob die ending) is = absurd is
-small_leaves t TakeStep is = absurd is
-small_leaves t move is = record { groups = refl; cells = refl }
+small_leaves : {t : Translation} (move : Move) → IsSmallMove move → LeavesGroups t (moved t move)
+small_leaves (Accept claimed g) is = absurd is
+small_leaves (GiveJob die flight) is = absurd is
+small_leaves (EndJob die ending) is = absurd is
+small_leaves TakeStep is = absurd is
+small_leaves move is = record { groups = refl; cells = refl }
 
-accepted_ties : (s : State) (c : Command) (claimed : ℕ) → IsTied s → IsCommand c → CanApply (plain_now s) c →
+accepted_ties : {s : State} (c : Command) (claimed : ℕ) → IsTied s → IsCommand c → CanApply (plain_now s) c →
     Ties s.array s.base (s.accepted ++ c ∷ []) (moved s.translation (Accept claimed (group_of (plain_now s) c)))
-accepted_ties s c claimed v is can = record {
+accepted_ties {s} c claimed v is can = record {
   shown = v.shown;
   plain = v.base.0;
   shape = v.base.1;
@@ -92,32 +81,27 @@ accepted_ties s c claimed v is can = record {
 
 change_keeps : (s : State) (change : Change) → IsRight s change → IsTied s → IsTied (changed s change)
 change_keeps s (Moves move) r v =
-    let leaves = small_leaves s.translation move r.small in
-    whole (with_moves s (move ∷ [])) (move_fits s.translation move (fits_of s v) r.layer)
-    (ties_stay s.array s.array s.base s.accepted s.translation (moved s.translation move) (ties_of s v)
-    (move_stays s.translation move)
-    (subst (Shows s.array) (sym leaves.cells) v.shown) leaves.groups)
-    r.tasks
+    let leaves = small_leaves move r.small in
+    whole (with_moves s (move ∷ [])) (move_fits move (fits_of v) r.layer)
+    (ties_stay (ties_of v)
+    (move_stays s.translation move) (subst (Shows s.array) (sym leaves.cells) v.shown) leaves.groups) r.tasks
 change_keeps s (Accepts command claimed f) r v =
     let g : Group = group_of (plain_now s) command in
-    whole (changed s (Accepts command claimed f)) (move_fits s.translation (Accept claimed g) (fits_of s v) r.layer.2)
-    (accepted_ties s command claimed v r.layer.0 r.layer.1) r.tasks
-change_keeps s change r v = whole (changed s change) (fits_of s v) (ties_of s v) r.tasks
+    whole (changed s (Accepts command claimed f)) (move_fits (Accept claimed g) (fits_of v) r.layer.2)
+    (accepted_ties command claimed v r.layer.0 r.layer.1) r.tasks
+change_keeps s change r v = whole (changed s change) (fits_of v) (ties_of v) r.tasks
 
 pub right_keeps : {s t : State} → Right s t → IsTied s → IsTied t
-right_keeps h =
-    kept (λ (s t : State). IsTied s → IsTied t)
+right_keeps h = kept (λ (s t : State). IsTied s → IsTied t)
     (record { self = λ s v. v; both = λ s t u h k v. k (h v); one = change_keeps }) h
 
 -- a move that takes no claim back
-pub right_move : (s : State) (move : Move) → IsTied s → IsSmallMove move → IsAllowedMove s.translation move →
-    s.translation.claims ≤ (moved s.translation move).claims →
-    Right s (with_moves s (move ∷ []))
-right_move s move v small may claims = One (Moves move) (record {
+pub right_move : {s : State} (move : Move) → IsTied s → IsSmallMove move → IsAllowedMove s.translation move →
+    s.translation.claims ≤ (moved s.translation move).claims → Right s (with_moves s (move ∷ []))
+right_move {s} move v small may claims = One (Moves move) (record {
   small = small;
   layer = may;
-  tasks =
-      tasks_stay s s.accepted (moved s.translation move) (move_stays s.translation move) claims (omega arith) v.tasks;
+  tasks = tasks_stay s s.accepted (move_stays s.translation move) claims (omega arith) v.tasks;
 })
 
 -- The lock
@@ -136,20 +120,17 @@ locked_claims n s task (Awaiting commands) =
     if_both (λ (d : Deed). claimed_by n d task.command ≤ 0) (nat_le commands (durable s)) (omega arith) (omega arith)
 locked_claims n s task deed = omega arith
 
-short_fits : (s : State) (a : ℕ) (m : Bool) (x : Short) → ShortFits a m x → ShortFits a m (short_locked s x)
-short_fits s a m x h =
-    if_both (ShortFits a m) (is_durable s x.awaits) h
+short_fits : (s : State) {a : ℕ} {m : Bool} (x : Short) → ShortFits a m x → ShortFits a m (short_locked s x)
+short_fits s {a} {m} x h = if_both (ShortFits a m) (is_durable s x.awaits) h
     (record { awaits = tt; reply = h.locked_reply; locked_reply = h.locked_reply })
 
-pub lock_right : (s : State) → IsTied s → Right s (lock_applied s)
-lock_right s v =
-    if_both (Right s) (locked s)
+pub lock_right : {s : State} → IsTied s → Right s (lock_applied s)
+lock_right {s} v = if_both (Right s) (locked s)
     (Both (One (Maps (task_locked s)) (record { small = λ task. same_task task _ _; layer = tt; tasks = tasks }))
     (One (MapsShorts (short_locked s)) (record {
       small = lock_short s;
       layer = tt;
-      tasks = shorts_kept n a m s.translation.claims (short_locked s) (map (task_locked s) s.tasks) s.shorts
-          (record { tag = lock_short s; fits = short_fits s a m }) tasks;
+      tasks = shorts_kept (record { tag = lock_short s; fits = short_fits s }) tasks;
     }))) Still
   where
     n : Numbers
@@ -162,7 +143,7 @@ lock_right s v =
     m = is_mended s.translation.work.mending
 
     tasks : TasksRight n a m s.translation.claims (map (task_locked s) s.tasks) s.shorts
-    tasks = tasks_kept n a m s.translation.claims (task_locked s) s.tasks s.shorts (record {
+    tasks = tasks_kept (record {
       tag = λ t. refl;
       fits = λ t h. locked_fits s n a m t t.deed h;
       claim = λ t. locked_claims n s t t.deed;
@@ -173,30 +154,27 @@ lock_right s v =
 filling_right : (s : State) (tasks : List Task) → IsTied s → Right s (with_moves s (fill_moves tasks))
 filling_right s [] v = Still
 filling_right s (task ∷ tasks) v =
-    let go = right_move s (LetGoAll task.tag) v tt tt (omega arith) in
+    let go = right_move (LetGoAll task.tag) v tt tt (omega arith) in
     Both go (filling_right (with_moves s (LetGoAll task.tag ∷ [])) tasks (right_keeps go v))
 
 -- a task that fills a register stays the same but for its request
-filled_keeps : (s : State) (n : Numbers) (a : ℕ) (m : Bool) → KeepsTasks n a m (task_filled s)
-filled_keeps s n a m = record {
+filled_keeps : (s : State) {n : Numbers} {a : ℕ} {m : Bool} → KeepsTasks n a m (task_filled s)
+filled_keeps s {n} {a} {m} = record {
   tag = λ t. if_both (λ (x : Task). x.tag ≡ t.tag) (is_to_fill s t) refl refl;
   fits = λ t h. if_both (λ (x : Task). DeedFits n a m (claim_of n x) x.length x.deed) (is_to_fill s t) h h;
   claim = λ t. if_both (λ (x : Task). claim_of n x ≤ claim_of n t) (is_to_fill s t) (omega arith) (omega arith);
 }
 
-pub fills_right : (s : State) → IsTied s → Right s (fills s)
-fills_right s v =
+pub fills_right : {s : State} → IsTied s → Right s (fills s)
+fills_right {s} v =
     let go = filling_right s (filter (is_to_fill s) s.tasks) v in
     let u : State = with_moves s (fill_moves (filter (is_to_fill s) s.tasks)) in
     let tied = right_keeps go v in
-    let tasks =
-    tasks_kept (numbers_of u) (length u.accepted) (is_mended u.translation.work.mending) u.translation.claims
-    (task_filled s) u.tasks u.shorts
-    (filled_keeps s (numbers_of u) (length u.accepted) (is_mended u.translation.work.mending)) tied.tasks in
+    let tasks = tasks_kept (filled_keeps s) tied.tasks in
     Both go
     (Both (One (Maps (task_filled s)) (record { small = fills_task s; layer = tt; tasks = tasks }))
     (One (SetsRegisters (fills s).registers) (record { small = tt; layer = tt; tasks = tasks })))
 
 -- and then the lock is told
-pub settled_right : (s : State) → IsTied s → Right s (lock_applied (fills s))
-settled_right s v = let h = fills_right s v in Both h (lock_right (fills s) (right_keeps h v))
+pub settled_right : {s : State} → IsTied s → Right s (lock_applied (fills s))
+settled_right {s} v = let h = fills_right v in Both h (lock_right (right_keeps h v))

@@ -1,23 +1,12 @@
 -- The parts of what holds between events, and what the moves of a call leave of each.
-use Rattle.std.proofs.Common.{◌≡◌, ℕ, ◌+◌, ◌≤◌, false, List, [], ◌∷◌, ◌++◌, Option, None, length, drop, refl, sym, ap}
-use Rattle.std.proofs.Common.{◌∙◌, subst, arith}
-use Rattle.std.proofs.lemmas.List.{length-append, drop_all}
-use Rattle.ufs_spec.specs.Cells.{Array, Shows}
-use Rattle.ufs_spec.specs.Commands.{Command}
-use Rattle.ufs_spec.specs.Disk.{Flight}
-use Rattle.ufs_spec.specs.Keys.{CanApplyAll, Contents, Group, IsArea, IsBlock, IsData, IsKey, IsPlain, IsSettings}
-use Rattle.ufs_spec.specs.Keys.{IsSettingsBody, content, groups_of}
-use Rattle.ufs_spec.specs.Ledger.{accepted_groups}
-use Rattle.ufs_spec.specs.Machine.{with_moves}
-use Rattle.ufs_spec.specs.Moves.{Ending, IsAllowedMove, Move, TakeStep, end_flight, moved}
-use Rattle.ufs_spec.specs.Plain.{Plain, Shape, shape_of, shape_of_numbers}
-use Rattle.ufs_spec.specs.Refusals.{State, numbers_of}
-use Rattle.ufs_spec.specs.Translation.{Translation, is_mended}
-use Rattle.ufs_spec.specs.declared.configs.Numbers.{Numbers}
-use Rattle.ufs_spec.specs.declared.flash.Key.{Key}
+use Rattle.power_loss.proofs.Common.{◌≡◌, ℕ, ◌+◌, ◌≤◌, false, List, [], ◌∷◌, ◌++◌, Option, None, length, drop, refl}
+use Rattle.power_loss.proofs.Common.{sym, ap, ◌∙◌, subst, arith, length-append, drop_all, Array, Shows, Flight}
+use Rattle.power_loss.proofs.Common.{CanApplyAll, Contents, Group, IsArea, IsBlock, IsData, IsKey, IsPlain, IsSettings}
+use Rattle.power_loss.proofs.Common.{IsSettingsBody, content, groups_of, accepted_groups, Ending, IsAllowedMove, Move}
+use Rattle.power_loss.proofs.Common.{TakeStep, end_flight, moved, Plain, Shape, shape_of, shape_of_numbers, Translation}
+use Rattle.power_loss.proofs.Common.{is_mended, Numbers, Key, Valid}
+use Rattle.power_loss.proofs.MachineWords.{Command, with_moves, State, TasksAreRight, TasksRight, IsTied}
 use Rattle.ufs_laws.proofs.plain_contents.PlainFromContents.{contents_of}
-use Rattle.power_loss.specs.Exchange.{TasksAreRight, TasksRight, IsTied}
-use Rattle.power_loss.specs.Invariant.{Valid}
 use Rattle.power_loss.proofs.moves.MovesKeepCellsFitting.{BaseFits, Fits, Stays, move_fits, move_stays}
 use Rattle.ufs_laws.proofs.walk.LayerEffects.{ComesOf, Effect, RepairOrdered, ended, turn_only, turned_by, with_effect}
 use Rattle.power_loss.proofs.open_tasks.TaskLists.{tasks_more}
@@ -33,13 +22,12 @@ pub record Ties (array : Array) (base : Plain) (accepted : List Command) (t : Tr
   pub commands : CanApplyAll base accepted
   pub groups : accepted_groups t.ledger ≡ groups_of base accepted
 
-pub base_fits : (n : Numbers) (base : Plain) (f : Contents) → IsPlain base → shape_of base ≡ shape_of_numbers n →
+pub base_fits : {n : Numbers} {base : Plain} {f : Contents} → IsPlain base → shape_of base ≡ shape_of_numbers n →
     ((k : Key) → IsKey (shape_of_numbers n) k → f k ≡ content base k) → BaseFits n f
-base_fits n base f plain shape same = record { block = block; settings = λ k is e. settings k is e }
+base_fits {n} {base} {f} plain shape same = record { block = block; settings = λ k is e. settings k is e }
   where
     block : (k : Key) → IsKey (shape_of_numbers n) k → IsBlock (f k)
-    block k is =
-        subst IsBlock (sym (same k is))
+    block k is = subst IsBlock (sym (same k is))
         ((contents_of base plain).blocks k (subst (λ (s : Shape). IsKey s k) (sym shape) is))
 
     settings : (k : Key) → IsKey (shape_of_numbers n) k → k.kind ≡ 3 → IsSettingsBody (f k)
@@ -47,54 +35,27 @@ base_fits n base f plain shape same = record { block = block; settings = λ k is
     settings k (IsArea page within) e = absurd (omega arith)
     settings k IsSettings e = subst IsSettingsBody (sym (same _ IsSettings)) (contents_of base plain).settings
 
-pub ties_of : (s : State) → IsTied s → Ties s.array s.base s.accepted s.translation
-ties_of s v = record {
-  shown = v.shown;
-  plain = v.base.0;
-  shape = v.base.1;
-  contents = v.contents;
-  commands = v.commands;
-  groups = v.groups;
-}
+pub ties_of : {s : State} → IsTied s → Ties s.array s.base s.accepted s.translation
+ties_of v = assumption
 
-pub fits_of : (s : State) → IsTied s → Fits s.translation
-fits_of s v = record {
-  config = v.config;
-  valid = v.valid;
-  book_fits = v.fits;
-  programs = v.flights;
-  marks = v.marks;
-  repaired = v.repaired;
-  base = base_fits s.translation.numbers s.base s.translation.ledger.base v.base.0 v.base.1 v.contents;
-}
+pub fits_of : {s : State} → IsTied s → Fits s.translation
+fits_of {s} v =
+    let base : BaseFits s.translation.numbers s.translation.ledger.base = base_fits v.base.0 v.base.1 v.contents in
+    assumption
 
 pub whole : (s : State) → Fits s.translation → Ties s.array s.base s.accepted s.translation → TasksAreRight s → IsTied s
-whole s f t r = record {
-  config = f.config;
-  shown = t.shown;
-  valid = f.valid;
-  fits = f.book_fits;
-  flights = f.programs;
-  base = (t.plain, t.shape);
-  contents = t.contents;
-  commands = t.commands;
-  groups = t.groups;
-  tasks = r;
-  marks = f.marks;
-  repaired = f.repaired;
-}
+whole s f t r = assumption
 
 -- What moves leave
 
-pub ties_stay : (array other : Array) (base : Plain) (accepted : List Command) (t u : Translation) →
+pub ties_stay : {array other : Array} {base : Plain} {accepted : List Command} {t u : Translation} →
     Ties array base accepted t → Stays t u →
     Shows other u.disk.cells → accepted_groups u.ledger ≡ accepted_groups t.ledger → Ties other base accepted u
-ties_stay array other base accepted t u h s shown groups = record {
+ties_stay {accepted = accepted} h s shown groups = record {
   shown = shown;
   plain = h.plain;
   shape = h.shape ∙ ap shape_of_numbers (sym s.numbers);
-  contents =
-      λ k is. ap (λ (f : Contents). f k) s.base
+  contents = λ k is. ap (λ (f : Contents). f k) s.base
       ∙ h.contents k (subst (λ (n : Numbers). IsKey (shape_of_numbers n) k) s.numbers is);
   commands = h.commands;
   groups = groups ∙ h.groups;
@@ -106,56 +67,50 @@ pub record Leaves (t u : Translation) : Type 0 where
   pub claims : u.claims ≡ t.claims
 
 -- before the device is mended all groups are repairs
-repair_leaves : (t : Translation) (g : Group) → Valid t → is_mended t.work.mending ≡ false →
+repair_leaves : {t : Translation} (g : Group) → Valid t → is_mended t.work.mending ≡ false →
     drop (t.ledger.repairs + 1) (t.ledger.groups ++ g ∷ []) ≡ drop t.ledger.repairs t.ledger.groups
-repair_leaves t g v unmended =
+repair_leaves {t} g v unmended =
     let all = (v.history.mending unmended).0 in
     let long = length-append t.ledger.groups (g ∷ []) in
     drop_all (t.ledger.repairs + 1) (t.ledger.groups ++ g ∷ []) (omega arith)
     ∙ sym (drop_all t.ledger.repairs t.ledger.groups (omega arith))
 
-effect_leaves : (t : Translation) (o : Option Flight) (e : Effect) → Valid t → ComesOf t o e →
+effect_leaves : {t : Translation} (o : Option Flight) (e : Effect) → Valid t → ComesOf t o e →
     Leaves t (with_effect t e)
-effect_leaves t o (RepairOrdered k left) v comes =
+effect_leaves {t} o (RepairOrdered k left) v comes =
     record {
-      groups = repair_leaves t (record { key = k; body = t.ledger.base k } ∷ []) v
-          (ap is_mended comes.1.1);
+      groups = repair_leaves (record { key = k; body = t.ledger.base k } ∷ []) v (ap is_mended comes.1.1);
       claims = refl;
     }
-effect_leaves t o e v comes = record { groups = refl; claims = refl }
+effect_leaves o e v comes = record { groups = refl; claims = refl }
 
-pub end_leaves : (t : Translation) (die : ℕ) (flight : Option Flight) (ending : Ending) → Valid t →
+pub end_leaves : {t : Translation} (die : ℕ) (flight : Option Flight) (ending : Ending) → Valid t →
     Leaves t (end_flight t die flight ending)
-end_leaves t die flight ending v = ended (Leaves t) t die flight ending (λ e comes. effect_leaves t flight e v comes)
+end_leaves {t} die flight ending v = ended (Leaves t) t die flight ending (λ e comes. effect_leaves flight e v comes)
 
-pub tasks_stay : (s : State) (accepted : List Command) (u : Translation) → Stays s.translation u →
+pub tasks_stay : (s : State) (accepted : List Command) {u : Translation} → Stays s.translation u →
     s.translation.claims ≤ u.claims → length s.accepted ≤ length accepted → TasksAreRight s →
     TasksRight u.numbers (length accepted) (is_mended u.work.mending) u.claims s.tasks s.shorts
-tasks_stay s accepted u stays claims l h =
+tasks_stay s accepted {u} stays claims l h =
     subst (λ (n : Numbers). TasksRight n (length accepted) (is_mended u.work.mending) u.claims s.tasks s.shorts)
-    (sym stays.numbers)
-    (tasks_more (numbers_of s) (length s.accepted) (length accepted) (is_mended s.translation.work.mending)
-    (is_mended u.work.mending)
-    s.translation.claims u.claims s.tasks s.shorts l stays.mended claims h)
+    (sym stays.numbers) (tasks_more l stays.mended claims h)
 
 -- Moves that change nothing but the translation layer, and leave cells, accepted groups and claims
 
-pub one_move : (s : State) (move : Move) → IsTied s → IsAllowedMove s.translation move →
+pub one_move : {s : State} (move : Move) → IsTied s → IsAllowedMove s.translation move →
     Leaves s.translation (moved s.translation move) →
     (moved s.translation move).disk.cells ≡ s.translation.disk.cells → IsTied (with_moves s (move ∷ []))
-one_move s move v may leaves cells =
+one_move {s} move v may leaves cells =
     let t = s.translation in
     let u = moved t move in
     let stays = move_stays t move in
-    whole (with_moves s (move ∷ [])) (move_fits t move (fits_of s v) may)
-    (ties_stay s.array s.array s.base s.accepted t u (ties_of s v) stays (subst (Shows s.array)
-    (sym cells) v.shown) leaves.groups)
-    (tasks_stay s s.accepted u stays (let c = leaves.claims in omega arith) (omega arith) v.tasks)
+    whole (with_moves s (move ∷ [])) (move_fits move (fits_of v) may)
+    (ties_stay (ties_of v) stays (subst (Shows s.array) (sym cells) v.shown) leaves.groups)
+    (tasks_stay s s.accepted stays (let c = leaves.claims in omega arith) (omega arith) v.tasks)
 
 -- A step
 
-pub step_keeps : (s : State) → IsTied s → IsTied (with_moves s (TakeStep ∷ []))
-step_keeps s v =
-    one_move s TakeStep v tt
-    (turned_by (Leaves s.translation) s.translation (λ e comes. effect_leaves s.translation None e v.valid comes))
+pub step_keeps : {s : State} → IsTied s → IsTied (with_moves s (TakeStep ∷ []))
+step_keeps {s} v = one_move TakeStep v tt
+    (turned_by (Leaves s.translation) s.translation (λ e comes. effect_leaves None e v.valid comes))
     (ap (λ (u : Translation). u.disk.cells) (turn_only s.translation).is)

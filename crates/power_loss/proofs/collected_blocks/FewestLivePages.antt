@@ -1,23 +1,21 @@
 -- The victim has the fewest live pages of all blocks that can be collected, and collection begins exactly when it is
 -- due.
-use Rattle.std.proofs.Common.{◌≡◌, ℕ, ◌+◌, ◌*◌, ◌<◌, ◌≤◌, ◌⊎◌, ◌&&◌, ◌||◌, ◌^◌, not, nat_lt, is_none, is_some}
-use Rattle.std.proofs.Common.{if◌then◌else◌, Bool, true, false, List, [], ◌∷◌, Option, Some, None, refl, sym, ap, ◌∙◌}
-use Rattle.std.proofs.Common.{subst, inl, inr, ⊎_elim, arith, lt-ltb}
-use Rattle.std.specs.Prelude.{filter}
-use Rattle.std.specs.List.{list_any}
-use Rattle.ufs_spec.proofs.Facts.{none_is, and_parts, false≢true, ltb-false, ltb-true, not-true, or_cases, and_from}
-use Rattle.ufs_spec.proofs.Facts.{or_left, or_right, none-some, same_Some, cond-false, cond-true, cases_Bool}
-use Rattle.ufs_spec.specs.Cells.{Cell, GroupPage}
-use Rattle.ufs_spec.specs.Disk.{BlockState, Bad, Closed, Spot}
-use Rattle.ufs_spec.specs.Ledger.{next_number}
+use Rattle.power_loss.proofs.Common.{◌≡◌, ℕ, ◌+◌, ◌*◌, ◌<◌, ◌≤◌, ◌⊎◌, ◌&&◌, ◌||◌, ◌^◌, not, is_none, is_some}
+use Rattle.power_loss.proofs.Common.{if◌then◌else◌, Bool, true, false, List, [], ◌∷◌, Option, Some, None, refl, sym, ap}
+use Rattle.power_loss.proofs.Common.{◌∙◌, subst, inl, inr, ⊎_elim, arith, lt-ltb, filter, list_any, none_is, and_parts}
+use Rattle.power_loss.proofs.Common.{false≢true, ltb-false, ltb-true, not-true, or_cases, and_from, or_left, or_right}
+use Rattle.power_loss.proofs.Common.{none-some, same_Some, cond-false, cond-true, cases_Bool, Cell, GroupPage}
+use Rattle.power_loss.proofs.Common.{BlockState, Bad, Closed, Spot, next_number, Mended, Mending, Order, OrderPlanMark}
+use Rattle.power_loss.proofs.Common.{Plan, Translation, copy_begun, due_order, has_mark_number, is_free, is_locked}
+use Rattle.power_loss.proofs.Common.{is_mended, is_pinned, is_step_due, live_places, next_order, ordered, plan_order}
+use Rattle.power_loss.proofs.Common.{spots, stepped, turned, victim, victim_order, wants_collection, with_plan, Place}
+use Rattle.power_loss.proofs.MachineWords.{IsBefore}
+use Rattle.std.proofs.Common.{nat_lt}
 use Rattle.ufs_spec.specs.Stages.{collects, most_bad}
-use Rattle.ufs_spec.specs.Translation.{Mended, Mending, Order, OrderPlanMark, Plan, Translation, copy_begun}
-use Rattle.ufs_spec.specs.Translation.{count_blocks, due_order, gains, has_mark_number, is_bad, is_bad_with_live}
-use Rattle.ufs_spec.specs.Translation.{is_free, is_locked, is_mended, is_pinned, is_step_due, least_of, live_count}
-use Rattle.ufs_spec.specs.Translation.{live_places, may_be_victim, next_order, ordered, plan_order, spots, stepped}
-use Rattle.ufs_spec.specs.Translation.{turned, victim, victim_order, wants_collection, with_plan}
-use Rattle.ufs_spec.specs.declared.flash.Place.{Place}
-use Rattle.power_loss.specs.Collection.{CanBeCollected, IsBadWithLive, IsBefore, IsCollectionDue, IsRoomScarce}
+use Rattle.ufs_spec.specs.Translation.{count_blocks, gains, is_bad, is_bad_with_live}
+use Rattle.ufs_spec.specs.Translation.{least_of, live_count}
+use Rattle.ufs_spec.specs.Translation.{may_be_victim}
+use Rattle.power_loss.specs.Collection.{CanBeCollected, IsBadWithLive, IsCollectionDue, IsRoomScarce}
 use Rattle.power_loss.specs.Collection.{IsVictim}
 use Rattle.power_loss.proofs.ordered_lists.ElementsAndOrders.{IsIn, IsOrdered, filter_in, in_spots, kept_in}
 use Rattle.power_loss.proofs.ordered_lists.ElementsAndOrders.{ordered_filter, spots_in, spots_ordered}
@@ -40,21 +38,19 @@ record IsLeastOf {A : Type 0} (R : A → A → Type 0) (count : A → ℕ) (best
   pub equal : count best ≡ count x → best ≡ x
   pub right : IsFirstLeast R count x xs
 
-least_from : {A : Type 0} (R : A → A → Type 0) (count : A → ℕ) (best x : A) (xs : List A) → IsStrict R →
-    IsOrdered R (best ∷ xs) →
-    least_of count (Some best) xs ≡ Some x → IsLeastOf R count best x xs
-least_from R count best x [] strict ordered h = record {
+least_from : {A : Type 0} (R : A → A → Type 0) {count : A → ℕ} {best x : A} (xs : List A) → IsStrict R →
+    IsOrdered R (best ∷ xs) → least_of count (Some best) xs ≡ Some x → IsLeastOf R count best x xs
+least_from R {count} {best} {x} [] strict ordered h = record {
   is_in = inl (same_Some best x h);
   under = let e = ap count (same_Some best x h) in omega arith;
   equal = λ e. same_Some best x h;
   right = record { least = λ y i. absurd i; first = λ y i. absurd i };
 }
-least_from {A} R count best x (y ∷ ys) strict ordered h =
-    ⊎_elim
-    (λ e. less e (least_from R count y x ys strict ordered.1
+least_from {A} R {count} {best} {x} (y ∷ ys) strict ordered h = ⊎_elim
+    (λ e. less e (least_from R ys strict ordered.1
     (ap (λ z. least_of count (Some z) ys) (sym (cond-true (nat_lt (count y) (count best)) y best e)) ∙ h)))
     (λ e. more e
-    (least_from R count best x ys strict (λ z i. ordered.0 z (inr i), ordered.1.1)
+    (least_from R ys strict (λ z i. ordered.0 z (inr i), ordered.1.1)
     (ap (λ z. least_of count (Some z) ys) (sym (cond-false (nat_lt (count y) (count best)) y best e)) ∙ h)))
     (cases_Bool (nat_lt (count y) (count best)))
   where
@@ -90,17 +86,15 @@ least_from {A} R count best x (y ∷ ys) strict ordered h =
                 let same : best ≡ x = r.equal (omega arith) in
                 strict.one_way best y (ordered.0 y (inl refl))
                 (subst (λ (w : A). R w best) (sym k) (subst (λ (w : A). R z w) (sym same) before)))
-                (λ k. r.right.first z k c)
-                i;
+                (λ k. r.right.first z k c) i;
           };
         }
 
-first_least : {A : Type 0} (R : A → A → Type 0) (count : A → ℕ) (x : A) (xs : List A) → IsStrict R → IsOrdered R xs →
-    least_of count None xs ≡ Some x →
-    IsIn x xs × IsFirstLeast R count x xs
-first_least R count x [] strict ordered h = absurd (none-some x h)
-first_least {A} R count x (y ∷ ys) strict ordered h =
-    let r = least_from R count y x ys strict ordered h in (
+first_least : {A : Type 0} (R : A → A → Type 0) {count : A → ℕ} {x : A} (xs : List A) → IsStrict R → IsOrdered R xs →
+    least_of count None xs ≡ Some x → IsIn x xs × IsFirstLeast R count x xs
+first_least R {x = x} [] strict ordered h = absurd (none-some x h)
+first_least {A} R {count} {x} (y ∷ ys) strict ordered h =
+    let r = least_from R ys strict ordered h in (
       ⊎_elim (λ k. inl k) (λ k. inr k) r.is_in,
       record {
         least = λ z i. ⊎_elim (λ (k : y ≡ z). let c = ap count k in let u = r.under in
@@ -139,39 +133,33 @@ gain_told t s Closed is h = inl (is, ltb-true (live_count t s) t.numbers.pages h
 gain_told t s Bad is h = inr (is, ltb-true 0 (live_count t s) h)
 gain_told t s state is h = absurd (false≢true h)
 
-gain_shown : (t : Translation) (s : Spot) → ((t.disk.blocks s ≡ Closed) × (live_count t s < t.numbers.pages))
-    ⊎ ((t.disk.blocks s ≡ Bad) × (0 < live_count t s)) →
-    gains t s (t.disk.blocks s) ≡ true
+gain_shown : (t : Translation) (s : Spot) → ((t.disk.blocks s ≡ Closed) × (live_count t s < t.numbers.pages)) ⊎
+    ((t.disk.blocks s ≡ Bad) × (0 < live_count t s)) → gains t s (t.disk.blocks s) ≡ true
 gain_shown t s (inl h) = ap (gains t s) h.0 ∙ lt-ltb (live_count t s) t.numbers.pages h.1
 gain_shown t s (inr h) = ap (gains t s) h.0 ∙ lt-ltb 0 (live_count t s) h.1
 
-can_in : (t : Translation) (s : Spot) → CanBeCollected t s → IsIn s (filter (may_be_victim t) (spots t.numbers))
-can_in t s c =
-    kept_in (may_be_victim t) s (spots t.numbers) (in_spots t.numbers s c.inside)
+can_in : {t : Translation} {s : Spot} → CanBeCollected t s → IsIn s (filter (may_be_victim t) (spots t.numbers))
+can_in {t} {s} c = kept_in (may_be_victim t) s (spots t.numbers) (in_spots c.inside)
     (and_from (not (is_pinned t s)) (gains t s (t.disk.blocks s)) (ap not c.unpinned) (gain_shown t s c.gain))
 
-in_can : (t : Translation) (s : Spot) → IsIn s (filter (may_be_victim t) (spots t.numbers)) → CanBeCollected t s
-in_can t s i =
+in_can : {t : Translation} {s : Spot} → IsIn s (filter (may_be_victim t) (spots t.numbers)) → CanBeCollected t s
+in_can {t} {s} i =
     let r = filter_in (may_be_victim t) s (spots t.numbers) i in
     let b = and_parts (not (is_pinned t s)) (gains t s (t.disk.blocks s)) r.1 in
     record {
-      inside = spots_in t.numbers s r.0;
+      inside = spots_in r.0;
       unpinned = not-true (is_pinned t s) b.0;
       gain = gain_told t s (t.disk.blocks s) refl b.1;
     }
 
 pub victim_is : (t : Translation) (s : Spot) → victim t ≡ Some s → IsVictim t s
 victim_is t s h =
-    let r = first_least IsBefore (live_count t) s (filter (may_be_victim t) (spots t.numbers)) spots_strict
+    let r = first_least IsBefore (filter (may_be_victim t) (spots t.numbers)) spots_strict
     (ordered_filter IsBefore (may_be_victim t) (spots t.numbers) (spots_ordered t.numbers)) h in
-    record {
-      can = in_can t s r.0;
-      least = λ a c. r.1.least a (can_in t a c);
-      lowest = λ a c e. r.1.first a (can_in t a c) e;
-    }
+    record { can = in_can r.0; least = λ a c. r.1.least a (can_in c); lowest = λ a c e. r.1.first a (can_in c) e }
 
 pub victim_none : (t : Translation) (s : Spot) → victim t ≡ None → CanBeCollected t s → ⊥
-victim_none t s h c = least_none (live_count t) s (filter (may_be_victim t) (spots t.numbers)) h (can_in t s c)
+victim_none t s h c = least_none (live_count t) s (filter (may_be_victim t) (spots t.numbers)) h (can_in c)
 
 -- When collection is due
 
@@ -185,8 +173,7 @@ mended_told w h = absurd (false≢true h)
 
 any_in : {A : Type 0} (p : A → Bool) (xs : List A) → list_any p xs ≡ true → (x : A) × IsIn x xs × (p x ≡ true)
 any_in p [] h = cc
-any_in p (y ∷ ys) h =
-    ⊎_elim (λ k. (y, inl refl, k)) (λ k. let r = any_in p ys k in (r.0, inr r.1, r.2))
+any_in p (y ∷ ys) h = ⊎_elim (λ k. (y, inl refl, k)) (λ k. let r = any_in p ys k in (r.0, inr r.1, r.2))
     (or_cases (p y) (list_any p ys) h)
 
 pub in_any : {A : Type 0} (p : A → Bool) (x : A) (xs : List A) → IsIn x xs → p x ≡ true → list_any p xs ≡ true
@@ -198,20 +185,19 @@ bad_told : (x : BlockState) → is_bad x ≡ true → x ≡ Bad
 bad_told Bad h = refl
 bad_told state h = absurd (false≢true h)
 
-live_told : (t : Translation) (s : Spot) → IsIn s (spots t.numbers) → is_bad_with_live t s ≡ true → IsBadWithLive t s
-live_told t s i h =
+live_told : {t : Translation} {s : Spot} → IsIn s (spots t.numbers) → is_bad_with_live t s ≡ true → IsBadWithLive t s
+live_told {t} {s} i h =
     let a = and_parts (is_bad (t.disk.blocks s) && not (is_pinned t s)) (nat_lt 0 (live_count t s)) h in
     let b = and_parts (is_bad (t.disk.blocks s)) (not (is_pinned t s)) a.0 in
     record {
-      inside = spots_in t.numbers s i;
+      inside = spots_in i;
       bad = bad_told (t.disk.blocks s) b.0;
       unpinned = not-true (is_pinned t s) b.1;
       live = ltb-true 0 (live_count t s) a.1;
     }
 
-live_shown : (t : Translation) (s : Spot) → IsBadWithLive t s → is_bad_with_live t s ≡ true
-live_shown t s r =
-    and_from (is_bad (t.disk.blocks s) && not (is_pinned t s)) (nat_lt 0 (live_count t s))
+live_shown : {t : Translation} {s : Spot} → IsBadWithLive t s → is_bad_with_live t s ≡ true
+live_shown {t} {s} r = and_from (is_bad (t.disk.blocks s) && not (is_pinned t s)) (nat_lt 0 (live_count t s))
     (and_from (is_bad (t.disk.blocks s)) (not (is_pinned t s)) (ap is_bad r.bad) (ap not r.unpinned))
     (lt-ltb 0 (live_count t s) r.live)
 
@@ -225,21 +211,16 @@ scarce_told : (t : Translation) → wants_collection t ≡ true → (collects �
 scarce_told t h =
     let a = and_parts collects (is_few t || is_any_bad t) h in (
       a.0,
-      ⊎_elim
-          (λ k. inl (ltb-true (count_blocks t is_free) (2 * t.numbers.dies + 4) k))
-          (λ k. let r = any_in (is_bad_with_live t) (spots t.numbers) k in inr (r.0, live_told t r.0 r.1 r.2))
+      ⊎_elim (λ k. inl (ltb-true (count_blocks t is_free) (2 * t.numbers.dies + 4) k))
+          (λ k. let r = any_in (is_bad_with_live t) (spots t.numbers) k in inr (r.0, live_told r.1 r.2))
           (or_cases (is_few t) (is_any_bad t) a.1),
     )
 
 scarce_shown : (t : Translation) → collects ≡ true → IsRoomScarce t → wants_collection t ≡ true
-scarce_shown t c r =
-    and_from collects (is_few t || is_any_bad t) c
-    (⊎_elim
-    (λ k. or_left (is_few t) (is_any_bad t) (lt-ltb (count_blocks t is_free) (2 * t.numbers.dies + 4) k))
-    (λ (k : (s : Spot) × IsBadWithLive t s).
-    or_right (is_few t) (is_any_bad t)
-    (in_any (is_bad_with_live t) k.0 (spots t.numbers) (in_spots t.numbers k.0 k.1.inside) (live_shown t k.0 k.1)))
-    r)
+scarce_shown t c r = and_from collects (is_few t || is_any_bad t) c
+    (⊎_elim (λ k. or_left (is_few t) (is_any_bad t) (lt-ltb (count_blocks t is_free) (2 * t.numbers.dies + 4) k))
+    (λ (k : (s : Spot) × IsBadWithLive t s). or_right (is_few t) (is_any_bad t)
+    (in_any (is_bad_with_live t) k.0 (spots t.numbers) (in_spots k.1.inside) (live_shown k.1))) r)
 
 pub due_only : (t : Translation) → is_mended t.work.mending ≡ true → t.work.plan ≡ None → is_step_due t ≡ true →
     IsCollectionDue t
@@ -265,14 +246,14 @@ due_only t mended plan h =
     found (Some s) is k = (s, (victim_is t s is).can)
 
 -- the order that comes of it
-order_is : (t : Translation) → IsCollectionDue t → due_order t ≡ victim_order t (victim t)
-order_is t d =
+order_is : {t : Translation} → IsCollectionDue t → due_order t ≡ victim_order t (victim t)
+order_is {t} d =
     (λ j. if is_none (d.no_step j) then next_order t (mended_told t.work.mending d.mended j) (d.no_plan j) else None)
     ∙ cond-true (wants_collection t && has_mark_number t) (victim_order t (victim t)) None
     (and_from (wants_collection t) (has_mark_number t) (scarce_shown t d.collecting d.scarce) d.number)
 
-a_victim : (t : Translation) → IsCollectionDue t → (s : Spot) × (victim t ≡ Some s)
-a_victim t d = go (victim t) refl
+a_victim : {t : Translation} → IsCollectionDue t → (s : Spot) × (victim t ≡ Some s)
+a_victim {t} d = go (victim t) refl
   where
     go : (o : Option Spot) → victim t ≡ o → (s : Spot) × (victim t ≡ Some s)
     go None is = absurd (victim_none t d.some.0 is d.some.1)
@@ -285,22 +266,21 @@ some_plan t s (p ∷ ps) h = refl
 
 pub due_is : (t : Translation) → IsCollectionDue t → is_step_due t ≡ true
 due_is t d =
-    let v = a_victim t d in
-    ap is_some (order_is t d ∙ ap (victim_order t) v.1) ∙ some_plan t v.0 (live_places t v.0) d.number
+    let v = a_victim d in
+    ap is_some (order_is d ∙ ap (victim_order t) v.1) ∙ some_plan t v.0 (live_places t v.0) d.number
 
 copy_plans : (t : Translation) (p : Place) (cell : Cell) → (copy_begun t p cell).work.plan ≡ t.work.plan
 copy_plans t p (GroupPage tag body) = refl
 copy_plans t p cell = refl
 
-plan_begins : (t : Translation) (s : Spot) (copies : List Place) → has_mark_number t ≡ true →
+plan_begins : (t : Translation) {s : Spot} (copies : List Place) → has_mark_number t ≡ true →
     (plan : Plan) × ((stepped t (plan_order t s copies)).work.plan ≡ Some plan) × (plan.victim ≡ s)
-plan_begins t s [] h = (
+plan_begins t {s} [] h = (
   record { victim = s; copies = [] },
-  ap (λ o. (stepped t o).work.plan)
-      (cond-true (has_mark_number t) (Some (OrderPlanMark s)) None h),
+  ap (λ o. (stepped t o).work.plan) (cond-true (has_mark_number t) (Some (OrderPlanMark s)) None h),
   refl,
 )
-plan_begins t s (p ∷ ps) h = (
+plan_begins t {s} (p ∷ ps) h = (
   record { victim = s; copies = ps },
   copy_plans (with_plan t s ps) p (t.disk.cells p),
   refl,
@@ -309,30 +289,25 @@ plan_begins t s (p ∷ ps) h = (
 pub begins : (t : Translation) → IsCollectionDue t → (plan : Plan) × ((turned t).work.plan ≡ Some plan)
     × IsVictim t plan.victim
 begins t d =
-    let v = a_victim t d in
-    let p = plan_begins t v.0 (live_places t v.0) d.number in (
+    let v = a_victim d in
+    let p = plan_begins t (live_places t v.0) d.number in (
       p.0,
-      ap (λ o. (stepped t o).work.plan) (order_is t d ∙ ap (victim_order t) v.1) ∙ p.1,
-      subst (IsVictim t) (sym p.2)
-          (victim_is t v.0 v.1),
+      ap (λ o. (stepped t o).work.plan) (order_is d ∙ ap (victim_order t) v.1) ∙ p.1,
+      subst (IsVictim t) (sym p.2) (victim_is t v.0 v.1),
     )
 
 -- The lock
 
 pub locks : (t : Translation) → (most_bad t.numbers < count_blocks t is_bad) ⊎ (2 ^ 62 < next_number t.ledger) →
     is_locked t ≡ true
-locks t h =
-    ⊎_elim
+locks t h = ⊎_elim
     (λ k. or_left (nat_lt (most_bad t.numbers) (count_blocks t is_bad)) (nat_lt (2 ^ 62) (next_number t.ledger))
     (lt-ltb (most_bad t.numbers) (count_blocks t is_bad) k))
     (λ k. or_right (nat_lt (most_bad t.numbers) (count_blocks t is_bad)) (nat_lt (2 ^ 62) (next_number t.ledger))
-    (lt-ltb (2 ^ 62) (next_number t.ledger) k))
-    h
+    (lt-ltb (2 ^ 62) (next_number t.ledger) k)) h
 
 pub locks_only : (t : Translation) → is_locked t ≡ true → (most_bad t.numbers < count_blocks t is_bad)
     ⊎ (2 ^ 62 < next_number t.ledger)
-locks_only t h =
-    ⊎_elim
-    (λ k. inl (ltb-true (most_bad t.numbers) (count_blocks t is_bad) k))
+locks_only t h = ⊎_elim (λ k. inl (ltb-true (most_bad t.numbers) (count_blocks t is_bad) k))
     (λ k. inr (ltb-true (2 ^ 62) (next_number t.ledger) k))
     (or_cases (nat_lt (most_bad t.numbers) (count_blocks t is_bad)) (nat_lt (2 ^ 62) (next_number t.ledger)) h)

@@ -1,22 +1,10 @@
 -- The data of each page that opens keep the rules of its kind: at an opening, and behind each event.
-use Rattle.std.proofs.Common.{◌≡◌, ℕ, ◌==◌, Bool, true, false, if◌then◌else◌, List, Option, Some, None, sym, subst}
-use Rattle.std.proofs.Common.{⊎_elim}
-use Rattle.ufs_spec.proofs.Updates.{at_place_cases}
+use Rattle.power_loss.proofs.Common.{◌≡◌, ℕ, ◌==◌, Bool, true, false, if◌then◌else◌, List, Option, Some, None, sym}
+use Rattle.power_loss.proofs.Common.{subst, ⊎_elim, at_place_cases, Array, Cell, DataHold, IsCell, Opens, Flight, Spot}
+use Rattle.power_loss.proofs.Common.{at_place, flight_alone, page_of, Sound, Numbers, Page, Place, Tag}
+use Rattle.power_loss.proofs.MachineWords.{blank_page, IsOpened, Leads, in_block, State, numbers_of, Event, Output}
+use Rattle.power_loss.proofs.MachineWords.{ValidState}
 use Rattle.ufs_laws.proofs.pages.BlankPages.{blank_opens_not}
-use Rattle.ufs_spec.specs.Cells.{Array, Cell, DataHold, IsCell, Opens}
-use Rattle.ufs_spec.specs.Dies.{blank_page}
-use Rattle.ufs_spec.specs.Disk.{Flight, Programming, Spot, at_place, flight_alone, page_of}
-use Rattle.ufs_spec.specs.Lives.{IsOpened, Leads}
-use Rattle.ufs_spec.specs.Machine.{in_block}
-use Rattle.ufs_spec.specs.Sound.{Sound}
-use Rattle.ufs_spec.specs.Refusals.{State, numbers_of}
-use Rattle.ufs_spec.specs.declared.configs.Numbers.{Numbers}
-use Rattle.ufs_spec.specs.declared.events.Event.{Event}
-use Rattle.ufs_spec.specs.declared.events.Output.{Output}
-use Rattle.ufs_spec.specs.declared.flash.Page.{Page}
-use Rattle.ufs_spec.specs.declared.flash.Place.{Place}
-use Rattle.ufs_spec.specs.declared.flash.Tag.{Tag}
-use Rattle.power_loss.specs.Exchange.{ValidState}
 use Rattle.power_loss.proofs.die_pages.PagesOfEachCall.{IsKeptByJobs, behind_event}
 use Rattle.power_loss.proofs.stops.LeftPages.{AllHold, FliesRight, cell_holds, left_holds}
 
@@ -24,9 +12,9 @@ use Rattle.power_loss.proofs.stops.LeftPages.{AllHold, FliesRight, cell_holds, l
 abbrev PageHolds : Page → Type 0
 PageHolds page = (t : Tag) (body : List ℕ) → Opens page t body → DataHold t body
 
-pub opened_hold : (n : Numbers) (array : Array) (bad : Spot → Bool) (s : State) → Sound array → IsOpened n array bad s →
+pub opened_hold : {n : Numbers} {array : Array} {bad : Spot → Bool} {s : State} → Sound array → IsOpened n array bad s →
     AllHold s.array
-opened_hold n array bad s sound h = subst AllHold (sym h.array_now) sound.hold
+opened_hold sound h = subst AllHold (sym h.array_now) sound.hold
 
 put_holds : (array : Array) (p : Place) (cell : Cell) → IsCell (page_of cell) cell → AllHold array →
     AllHold (at_place array p (page_of cell))
@@ -41,16 +29,15 @@ blank_or : (b : Bool) (page : Page) → PageHolds page → PageHolds (if b then 
 blank_or true page h = blank_holds
 blank_or false page h = h
 
-alone_is : (b : Bool) (f : Option Flight) (x : Flight) → (if b then f else None) ≡ Some x → f ≡ Some x
-alone_is true f x h = h
-alone_is false f x h = cc
+alone_is : (b : Bool) {f : Option Flight} {x : Flight} → (if b then f else None) ≡ Some x → f ≡ Some x
+alone_is true h = h
+alone_is false h = cc
 
 alone_right : (flights : ℕ → Option Flight) (die : ℕ) → FliesRight flights → FliesRight (flight_alone flights die)
-alone_right flights die right other p cell h =
-    right other p cell (alone_is (other == die) (flights other) (Programming p cell) h)
+alone_right flights die right other p cell h = right other p cell (alone_is (other == die) h)
 
-pub event_hold : (s t : State) (e : Event) (o : Output) → ValidState s → Leads s e o t → AllHold t.array
-event_hold s t e o v h = behind_event s AllHold kept t e o h
+pub event_hold : {s t : State} {e : Event} {o : Output} → ValidState s → Leads s e o t → AllHold t.array
+event_hold {s} {t} {e} {o} v h = behind_event s AllHold kept h
   where
     kept : IsKeptByJobs s AllHold
     kept = record {

@@ -1,19 +1,12 @@
 -- What an event leaves of the pages of the dies: what holds of them and is kept by each end of a job is kept by each
 -- event.
-use Rattle.std.proofs.Common.{◌≡◌, ℕ, if◌then◌else◌, [], ◌∷◌, Option, Some, None, refl, sym, ap, subst, inl, inr}
-use Rattle.ufs_spec.specs.Cells.{Array, Cell}
-use Rattle.ufs_spec.specs.Dies.{blank_page}
-use Rattle.ufs_spec.specs.Disk.{Crash, Erasing, Flight, Programming, Reading, Spot, at_place, flight_alone, page_of}
-use Rattle.ufs_spec.specs.Lives.{IsCall, IsFailure, IsFinish, IsLeft, IsLeftoverOf, Leads, ended_well}
-use Rattle.ufs_spec.specs.Machine.{Call, Done, in_block, observe}
-use Rattle.ufs_spec.specs.Moves.{Ending, WentWell, WentWrong}
-use Rattle.ufs_spec.specs.Refusals.{State, numbers_of}
-use Rattle.ufs_spec.specs.declared.events.Event.{Event}
+use Rattle.power_loss.proofs.Common.{◌≡◌, ℕ, if◌then◌else◌, [], ◌∷◌, Option, Some, None, refl, sym, ap, subst, inl, inr}
+use Rattle.power_loss.proofs.Common.{Array, Cell, Crash, Erasing, Flight, Programming, Reading, Spot, at_place}
+use Rattle.power_loss.proofs.Common.{flight_alone, page_of, Ending, WentWell, WentWrong, Place}
+use Rattle.power_loss.proofs.MachineWords.{blank_page, IsCall, IsFailure, IsFinish, IsLeft, IsLeftoverOf, Leads}
+use Rattle.power_loss.proofs.MachineWords.{ended_well, Call, Done, in_block, State, numbers_of, Event, Leftover, Output}
 use Rattle.ufs_spec.specs.declared.events.Event.TheVariants as event
-use Rattle.ufs_spec.specs.declared.events.Leftover.{Leftover}
 use Rattle.ufs_spec.specs.declared.events.Leftover.TheVariants as leftover
-use Rattle.ufs_spec.specs.declared.events.Output.{Output}
-use Rattle.ufs_spec.specs.declared.flash.Place.{Place}
 use Rattle.power_loss.proofs.calls.CallsLeaveTheDevice.{Leaves, array_ended, call_array}
 
 -- it holds of what a job that failed leaves
@@ -80,15 +73,13 @@ module _ (s : State) (Q : Array → Type 0) (k : IsKeptByJobs s Q) where
   call_leaves (event.Stop lefts) call h = absurd h
   call_leaves e call h = subst (CallLeaves Q) (sym h) tt
 
-  behind_call : (call : Call) (array : Array) → CallLeaves Q call → Leaves s call array → Q array
-  behind_call (Done die ending left) array is (inl e) = subst Q (sym e) k.now
-  behind_call (Done die ending left) array is (inr e) =
+  behind_call : (call : Call) {array : Array} → CallLeaves Q call → Leaves s call array → Q array
+  behind_call (Done die ending left) is (inl e) = subst Q (sym e) k.now
+  behind_call (Done die ending left) is (inr e) =
       subst Q (sym e) (ended die (s.translation.disk.flights die) refl ending left is)
-  behind_call call array is e = subst Q (sym e) k.now
+  behind_call call is e = subst Q (sym e) k.now
 
   -- it holds behind each event
-  pub behind_event : (t : State) (e : Event) (o : Output) → Leads s e o t → Q t.array
-  behind_event t e o h =
-      subst Q (sym (ap (λ (x : State). x.array) h.next))
-      (behind_call h.call (observe s h.call h.answer).array (call_leaves e h.call h.is_call)
-      (call_array s h.call h.answer))
+  pub behind_event : {t : State} {e : Event} {o : Output} → Leads s e o t → Q t.array
+  behind_event {e = e} h = subst Q (sym (ap (λ (x : State). x.array) h.next))
+      (behind_call h.call (call_leaves e h.call h.is_call) (call_array s h.call h.answer))

@@ -1,14 +1,10 @@
 -- Tasks that a host ends: their claims come back, and what they keep is let go.
-use Rattle.std.proofs.Common.{◌≡◌, ℕ, ◌+◌, ◌≤◌, ◌==◌, Bool, true, false, not, cond, List, [], ◌∷◌, refl, arith}
-use Rattle.std.specs.Prelude.{if◌then◌else◌, filter}
-use Rattle.std.specs.List.{flat_map}
-use Rattle.ufs_spec.specs.Exchanges.{Task, is_task_of}
-use Rattle.ufs_spec.specs.Machine.{abort_moves, is_aborted, managed, registers_behind, service, with_moves}
-use Rattle.ufs_spec.specs.Machine.{without_tasks}
-use Rattle.ufs_spec.specs.Moves.{LetGoAll, Release}
-use Rattle.ufs_spec.specs.Refusals.{State, numbers_of}
-use Rattle.ufs_spec.specs.declared.configs.Numbers.{Numbers}
-use Rattle.power_loss.specs.Exchange.{IsTied, claim_of, claims_of}
+use Rattle.power_loss.proofs.Common.{◌≡◌, ℕ, ◌+◌, ◌≤◌, ◌==◌, Bool, true, false, not, cond, List, [], ◌∷◌, refl, arith}
+use Rattle.power_loss.proofs.Common.{◌-◌, filter, flat_map, LetGoAll, Release, Numbers}
+use Rattle.power_loss.proofs.MachineWords.{Task, is_task_of, abort_moves, is_aborted, managed, service, with_moves}
+use Rattle.power_loss.proofs.MachineWords.{without_tasks, State, numbers_of, IsTied, claim_of, claims_of}
+use Rattle.std.specs.Prelude.{if◌then◌else◌}
+use Rattle.ufs_spec.specs.Machine.{registers_behind}
 use Rattle.power_loss.proofs.host_commands.OpenedByCommands.{IsFree}
 use Rattle.power_loss.proofs.open_tasks.TaggedLists.{any_fewer}
 use Rattle.power_loss.proofs.open_tasks.TaskLists.{tasks_fewer}
@@ -38,21 +34,15 @@ aborted s n (task ∷ tasks) v few =
     One (Moves (Release (claim_of n task))) (record {
       small = tt;
       layer = omega arith;
-      tasks = record {
-        deeds = v.tasks.deeds;
-        waits = v.tasks.waits;
-        tasks_differ = v.tasks.tasks_differ;
-        shorts_differ = v.tasks.shorts_differ;
-        apart = v.tasks.apart;
-        claimed = omega arith;
-      };
+      tasks = let claimed : claims_of (numbers_of s) s.tasks ≤ s.translation.claims - claim_of n task = omega arith in
+          assumption;
     }) in
     let freed = right_keeps release v in
-    let go = right_move (with_moves s (Release (claim_of n task) ∷ [])) (LetGoAll task.tag) freed tt tt (omega arith) in
+    let go = right_move (LetGoAll task.tag) freed tt tt (omega arith) in
     Both release (Both go (aborted (with_moves s (abort_moves n task)) n tasks (right_keeps go freed) (omega arith)))
 
-pub aborts_right : (s : State) (is : Task → Bool) → IsTied s → Right s (without_tasks s is)
-aborts_right s is v =
+pub aborts_right : {s : State} (is : Task → Bool) → IsTied s → Right s (without_tasks s is)
+aborts_right {s} is v =
     let u : State = record s { tasks = filter (λ (task : Task). not (is task)) s.tasks } in
     let split = claims_split (numbers_of s) is s.tasks in
     let claimed = v.tasks.claimed in
@@ -67,11 +57,11 @@ aborts_right s is v =
     (One (SetsRegisters (registers_behind (filter is s.tasks) s.registers))
     (record { small = tt; layer = tt; tasks = (right_keeps back (right_keeps gone v)).tasks })))
 
-pub managed_right : (s : State) (lun function meant : ℕ) → IsTied s → Right s (managed s lun function meant)
-managed_right s lun function meant v = by (service s lun function meant == 0x00)
+pub managed_right : {s : State} (lun function meant : ℕ) → IsTied s → Right s (managed s lun function meant)
+managed_right {s} lun function meant v = by (service s lun function meant == 0x00)
   where
     by : (b : Bool) → Right s (if b then without_tasks s (is_aborted lun function meant) else s)
-    by true = aborts_right s (is_aborted lun function meant) v
+    by true = aborts_right (is_aborted lun function meant) v
     by false = Still
 
 -- a tag that is free stays so

@@ -1,31 +1,27 @@
 -- A message from the host that opens an exchange.
-use Rattle.std.proofs.Common.{◌≡◌, ℕ, ◌+◌, ◌==◌, ◌&&◌, Bool, true, false, List, [], ◌∷◌, Option, Some, None, length}
-use Rattle.std.proofs.Common.{map, get_or, min, refl, sym, ap, ◌∙◌, subst, inl, inr, arith, ⊎_elim, ◌<◌}
-use Rattle.std.specs.Prelude.{if◌then◌else◌, nat_le, nat_lt}
-use Rattle.std.specs.List.{list_any}
-use Rattle.std.proofs.lemmas.List.{length-map}
-use Rattle.ufs_spec.proofs.Facts.{ltb-false, none-some, or_parts}
-use Rattle.ufs_spec.specs.Cdbs.{address_of, blocks_of, operation_of}
-use Rattle.ufs_spec.specs.Exchanges.{Answering, Awaiting, Deed, ForWrite, Gathering, Good, ReadBlock, Sending, Short}
-use Rattle.ufs_spec.specs.Exchanges.{Status, Task, TaskSetFull, SendingBytes, is_short_of, is_task_of, response}
-use Rattle.ufs_spec.specs.Exchanges.{short_reply, ForFrames, ForUnmap, Purpose}
-use Rattle.ufs_spec.specs.Keys.{below, data_key}
-use Rattle.ufs_spec.specs.Machine.{begun, begun_with, blocks_expected, claimed_by, command_heard, in_use, keeps}
-use Rattle.ufs_spec.specs.Machine.{kept_at, opened_with, opening_fault, read_begun, read_blocks, sending, tag_in}
-use Rattle.ufs_spec.specs.Machine.{data_begun, unit_or_first, with_moves, with_short, with_task}
-use Rattle.ufs_spec.specs.Moves.{Claim}
-use Rattle.ufs_spec.specs.Stages.{most_blocks, most_tasks}
-use Rattle.ufs_spec.specs.Refusals.{Request, State, numbers_of, operation_in, refusal, slots_needed, unit_of_request}
-use Rattle.ufs_spec.specs.Translation.{free_slots, is_mended}
-use Rattle.ufs_spec.specs.declared.configs.UnitSpec.{UnitSpec}
+use Rattle.power_loss.proofs.Common.{◌≡◌, ℕ, ◌+◌, ◌==◌, ◌&&◌, Bool, true, false, List, [], ◌∷◌, Option, Some, None}
+use Rattle.power_loss.proofs.Common.{length, map, get_or, min, refl, sym, ap, ◌∙◌, subst, inl, inr, arith, ⊎_elim, ◌<◌}
+use Rattle.power_loss.proofs.Common.{nat_le, nat_lt, list_any, length-map, ltb-false, none-some, or_parts, below}
+use Rattle.power_loss.proofs.Common.{data_key, Claim, free_slots, is_mended}
+use Rattle.power_loss.proofs.MachineWords.{address_of, blocks_of, operation_of, Answering, Awaiting, Deed, ForWrite}
+use Rattle.power_loss.proofs.MachineWords.{Gathering, Good, ReadBlock, Sending, Short, Status, Task, TaskSetFull}
+use Rattle.power_loss.proofs.MachineWords.{SendingBytes, is_short_of, is_task_of, response, short_reply, ForFrames}
+use Rattle.power_loss.proofs.MachineWords.{ForUnmap, Purpose, begun, begun_with, blocks_expected, claimed_by}
+use Rattle.power_loss.proofs.MachineWords.{command_heard, kept_at, opened_with, read_begun, read_blocks, sending}
+use Rattle.power_loss.proofs.MachineWords.{tag_in, unit_or_first, with_moves, with_short, with_task, most_tasks}
+use Rattle.power_loss.proofs.MachineWords.{Request, State, numbers_of, operation_in, refusal, unit_of_request, UnitSpec}
+use Rattle.power_loss.proofs.MachineWords.{Message, Cdb, DeedFits, IsTied, ShortFits, WriteFits}
+use Rattle.std.specs.Prelude.{if◌then◌else◌}
+use Rattle.ufs_spec.specs.Machine.{in_use}
+use Rattle.ufs_spec.specs.Machine.{opening_fault}
+use Rattle.ufs_spec.specs.Machine.{data_begun}
+use Rattle.ufs_spec.specs.Stages.{most_blocks}
+use Rattle.ufs_spec.specs.Refusals.{slots_needed}
 use Rattle.ufs_spec.specs.declared.faults.HostFault.TheVariants.{Backlog, TagInUse}
-use Rattle.ufs_spec.specs.declared.messages.Message.{Message}
-use Rattle.ufs_spec.specs.declared.scsi.Cdb.{Cdb}
 use Rattle.ufs_laws.proofs.walk.WaysOfCommands.{Answered, Beginning, Gathered, IsWritten, Reading, Telling, Waiting}
 use Rattle.ufs_laws.proofs.walk.WaysOfCommands.{WhyBegun, begins_by, begun_as}
 use Rattle.ufs_laws.proofs.pages.ByteLists.{bytes-nil}
 use Rattle.ufs_laws.proofs.walk.SmallChanges.{Both, One, Opens, OpensShort, Still}
-use Rattle.power_loss.specs.Exchange.{DeedFits, IsTied, ShortFits, WriteFits}
 use Rattle.power_loss.proofs.host_commands.ReadBlocks.{KeysOfDevice, keys_read, pins_right}
 use Rattle.power_loss.proofs.host_commands.PassedCommands.{Passed, TakenByUnits, lies_within, passed, ready_now}
 use Rattle.power_loss.proofs.host_commands.PassedCommands.{unit_told, units_take_10, units_take_6}
@@ -51,107 +47,99 @@ is_free s tag short h = by (in_use s tag) refl h
 
 -- Opening an exchange
 
-short_right : (s : State) (short : Short) → IsTied s → IsFree s short.tag →
+short_right : {s : State} {short : Short} → IsTied s → IsFree s short.tag →
     ShortFits (length s.accepted) (is_mended s.translation.work.mending) short → Right s (with_short s short)
-short_right s short v free fits =
+short_right {short = short} v free fits =
     One (OpensShort short) (record {
       small = tt;
       layer = tt;
-      tasks = short_opened short free.no_task free.no_short fits v.tasks;
+      tasks = short_opened free.no_task free.no_short fits v.tasks;
     })
 
-pub reply_right : (s : State) (tag : ℕ) (reply : Message) → IsTied s → IsFree s tag → tag_in reply ≡ tag →
+pub reply_right : {s : State} {tag : ℕ} (reply : Message) → IsTied s → IsFree s tag → tag_in reply ≡ tag →
     Right s (with_short s (short_reply tag reply))
-reply_right s tag reply v free same =
-    short_right s (short_reply tag reply) v free (record { awaits = tt; reply = same; locked_reply = same })
+reply_right {s} {tag} reply v free same = short_right v free (record { awaits = tt; reply = same; locked_reply = same })
+
+-- the task of a COMMAND that is taken
+abbrev pub opened_task : Request → Option Cdb → ℕ → Deed → Task
+opened_task r command n deed = record {
+  lun = r.lun;
+  tag = r.tag;
+  expected = r.expected;
+  command = command;
+  length = n;
+  deed = deed;
+  request = None;
+}
 
 -- a task that has claimed nothing
-task_right : (s : State) (r : Request) (command : Option Cdb) (n : ℕ) (deed : Deed) → IsTied s → IsFree s r.tag →
+task_right : {s : State} (r : Request) (command : Option Cdb) (n : ℕ) (deed : Deed) → IsTied s → IsFree s r.tag →
     DeedFits (numbers_of s) (length s.accepted) (is_mended s.translation.work.mending)
     (claimed_by (numbers_of s) deed command) n deed →
     claimed_by (numbers_of s) deed command ≡ 0 → Right s (with_task s r command n deed)
-task_right s r command n deed v free fits none =
-    let task : Task = record {
-      lun = r.lun;
-      tag = r.tag;
-      expected = r.expected;
-      command = command;
-      length = n;
-      deed = deed;
-      request = None;
-    } in
+task_right r command n deed v free fits none =
+    let task = opened_task r command n deed in
     One (Opens task) (record {
       small = tt;
       layer = tt;
       tasks = task_opened task free.no_task free.no_short fits (omega arith) v.tasks;
     })
 
-answer_right : (s : State) (r : Request) (command : Option Cdb) (n : ℕ) (status : Status) (carried : ℕ) → IsTied s →
+answer_right : {s : State} (r : Request) (command : Option Cdb) (n : ℕ) (status : Status) (carried : ℕ) → IsTied s →
     IsFree s r.tag → Right s (with_task s r command n (Answering status carried))
-answer_right s r command n status carried v free = task_right s r command n (Answering status carried) v free tt refl
+answer_right {s} r command n status carried v free = task_right r command n (Answering status carried) v free tt refl
 
-telling_right : (s : State) (r : Request) (command : Cdb) (bytes : List ℕ) → IsTied s → IsFree s r.tag →
+telling_right : {s : State} (r : Request) (command : Cdb) (bytes : List ℕ) → IsTied s → IsFree s r.tag →
     Right s (data_begun s r command bytes)
-telling_right s r command bytes v free = by (min r.expected (length bytes) == 0)
+telling_right {s} r command bytes v free = by (min r.expected (length bytes) == 0)
   where
     by : (b : Bool) → Right s (with_task s r (Some command) (length bytes)
         (if b then Answering Good (length bytes) else SendingBytes bytes))
-    by true = answer_right s r (Some command) (length bytes) Good (length bytes) v free
-    by false = task_right s r (Some command) (length bytes) (SendingBytes bytes) v free tt refl
+    by true = answer_right r (Some command) (length bytes) Good (length bytes) v free
+    by false = task_right r (Some command) (length bytes) (SendingBytes bytes) v free tt refl
 
 -- READ
 
-sending_right : (s : State) (r : Request) (command : Cdb) (n : ℕ) (blocks : List ReadBlock) → IsTied s →
+sending_right : {s : State} (r : Request) (command : Cdb) (n : ℕ) (blocks : List ReadBlock) → IsTied s →
     IsFree s r.tag → Right s (with_task s r (Some command) n (sending blocks n))
-sending_right s r command n [] v free = answer_right s r (Some command) n Good n v free
-sending_right s r command n (b ∷ bs) v free = task_right s r (Some command) n (Sending (b ∷ bs) 0) v free tt refl
+sending_right {s} r command n [] v free = answer_right r (Some command) n Good n v free
+sending_right {s} r command n (b ∷ bs) v free = task_right r (Some command) n (Sending (b ∷ bs) 0) v free tt refl
 
-read_right : (s : State) (r : Request) (command : Cdb) (unit address n : ℕ) → IsTied s → IsFree s r.tag →
+read_right : {s : State} (r : Request) (command : Cdb) (unit address n : ℕ) → IsTied s → IsFree s r.tag →
     KeysOfDevice s unit address (blocks_expected r n) → Right s (read_begun s r command unit address n)
-read_right s r command unit address n v free keys =
+read_right {s} r command unit address n v free keys =
     let blocks = blocks_expected r n in
-    let pins = pins_right s (numbers_of s) s.translation.ledger (λ i. data_key unit (address + i))
+    let pins = pins_right (λ i. data_key unit (address + i))
     (kept_at s r.tag unit address) (below blocks) v refl refl keys (λ i. refl) in
     Both pins
-    (sending_right (with_moves s (keeps s r.tag unit address blocks)) r command n (read_blocks s unit address blocks)
+    (sending_right r command n (read_blocks s unit address blocks)
     (right_keeps pins v) (record { no_task = free.no_task; no_short = free.no_short }))
 
 -- WRITE
 
 -- a task that gathers its data claims the slots that its command needs
-gathers_right : (s : State) (r : Request) (command : Cdb) (count n : ℕ) (purpose : Purpose) → IsTied s →
-    IsFree s r.tag →
-    Passed s r command → slots_needed (numbers_of s) command ≡ count →
-    DeedFits (numbers_of s) (length s.accepted) (is_mended s.translation.work.mending)
-    (slots_needed (numbers_of s) command)
-    n (Gathering purpose [] false) →
+gathers_right : {s : State} {r : Request} {command : Cdb} {count : ℕ} (n : ℕ) (purpose : Purpose) → IsTied s →
+    IsFree s r.tag → Passed s r command → slots_needed (numbers_of s) command ≡ count → DeedFits (numbers_of s)
+    (length s.accepted) (is_mended s.translation.work.mending) (slots_needed (numbers_of s) command) n
+    (Gathering purpose [] false) →
     Right s (with_task (with_moves s (Claim count ∷ [])) r (Some command) n (Gathering purpose [] false))
-gathers_right s r command count n purpose v free p slots fits =
+gathers_right {s} {r} {command} {count} n purpose v free p slots fits =
     let t = s.translation in
-    let task : Task = record {
-      lun = r.lun;
-      tag = r.tag;
-      expected = r.expected;
-      command = Some command;
-      length = n;
-      deed = Gathering purpose [] false;
-      request = None;
-    } in
+    let task = opened_task r (Some command) n (Gathering purpose [] false) in
     let crowded = or_parts _ (nat_lt (free_slots t) (slots_needed (numbers_of s) command)) p.room in
     let room = ltb-false (free_slots t) (slots_needed (numbers_of s) command) crowded.1 in
-    Both (right_move s (Claim count) v tt (omega arith) (omega arith))
+    Both (right_move (Claim count) v tt (omega arith) (omega arith))
     (One (Opens task) (record {
       small = tt;
       layer = tt;
       tasks = task_opened task free.no_task free.no_short fits (omega arith) v.tasks;
     }))
 
-write_fits : (s : State) (r : Request) (command : Cdb) (unit address blocks count n : ℕ) → Passed s r command →
+write_fits : {s : State} {r : Request} {command : Cdb} {unit address blocks count n : ℕ} → Passed s r command →
     TakenByUnits (operation_in r) → slots_needed (numbers_of s) command ≡ count → 0 < n →
-    IsWritten (numbers_of s) (unit_or_first (unit_of_request s r)) command count unit address blocks n →
-    WriteFits (numbers_of s) (is_mended s.translation.work.mending) unit address blocks n []
-    (slots_needed (numbers_of s) command)
-write_fits s r command unit address blocks count n p taken slots some w =
+    IsWritten (numbers_of s) (unit_or_first (unit_of_request s r)) command count unit address blocks n → WriteFits
+    (numbers_of s) (is_mended s.translation.work.mending) unit address blocks n [] (slots_needed (numbers_of s) command)
+write_fits {s} {r} {command} {unit} p taken slots some w =
     let units = (numbers_of s).units.items in
     let told = unit_told s r command taken p in
     let same : unit ≡ r.lun = w.unit_is ∙ ap unit_or_first told.is in
@@ -160,7 +148,7 @@ write_fits s r command unit address blocks count n p taken slots some w =
     let are = w.blocks_are in
     let size = w.all in
     let few = ltb-false (most_blocks (numbers_of s)) (blocks_of command) (sym w.long ∙ p.not_long) in
-    let lies = lies_within s r command told p.within in
+    let lies = lies_within command told p.within in
     let long = length-map units (λ (x : UnitSpec). x.blocks) in
     let here = ap (λ (x : ℕ). get_or (map (λ (y : UnitSpec). y.blocks) units) x 0) same in
     let there = told.there in
@@ -190,40 +178,36 @@ begins s r command v free p op = begins_by (Right s) s r unit command one
     unit = unit_or_first (unit_of_request s r)
 
     one : (b : Beginning) → WhyBegun s r unit command b → Right s (begun_as s r command b)
-    one (Answered c status) why = answer_right s r c 0 status 0 v free
-    one Waiting needs =
-        task_right s r (Some command) 0 (Awaiting (length s.accepted)) v free
+    one (Answered c status) why = answer_right r c 0 status 0 v free
+    one Waiting needs = task_right r (Some command) 0 (Awaiting (length s.accepted)) v free
         (omega arith, ready_now s command needs p.ready) refl
-    one (Telling bytes) why = telling_right s r command bytes v free
+    one (Telling bytes) why = telling_right r command bytes v free
     one (Reading u address n) (unit_is, address_is, size, read) =
         let reads = ⊎_elim (λ e. inl (op ∙ e)) (λ e. inr (op ∙ e)) read in
         subst (λ (x : ℕ). Right s (read_begun s r command x address n)) (sym unit_is)
         (subst (λ (x : ℕ). Right s (read_begun s r command unit x n)) (sym address_is)
-        (read_right s r command unit (address_of command) n v free (keys_read s r command n size reads p)))
+        (read_right r command unit (address_of command) n v free (keys_read size reads p)))
     one (Gathered count (ForWrite u address blocks forced) n) (slots, some, few, w) =
         let taken = ⊎_elim (λ e. subst TakenByUnits (sym (op ∙ e)) units_take_6)
         (λ e. subst TakenByUnits (sym (op ∙ e)) units_take_10) w.writes in
-        gathers_right s r command count n (ForWrite u address blocks forced) v free p slots
-        (write_fits s r command u address blocks count n p taken slots some w)
-    one (Gathered count (ForUnmap u) n) (slots, some, few, w) =
-        gathers_right s r command count n (ForUnmap u) v free p slots tt
-    one (Gathered count ForFrames n) (slots, some, few, w) =
-        gathers_right s r command count n ForFrames v free p slots tt
+        gathers_right n (ForWrite u address blocks forced) v free p slots (write_fits p taken slots some w)
+    one (Gathered count (ForUnmap u) n) (slots, some, few, w) = gathers_right n (ForUnmap u) v free p slots tt
+    one (Gathered count ForFrames n) (slots, some, few, w) = gathers_right n ForFrames v free p slots tt
 
-opened_right : (s : State) (r : Request) → IsTied s → IsFree s r.tag → IsSpelled r → (x : Option Status) →
+opened_right : {s : State} (r : Request) → IsTied s → IsFree s r.tag → IsSpelled r → (x : Option Status) →
     refusal s r ≡ x → Right s (opened_with s r x)
-opened_right s r v free spelled (Some status) e = answer_right s r None 0 status 0 v free
-opened_right s r v free spelled None e = by r.cdb refl
+opened_right {s} r v free spelled (Some status) e = answer_right r None 0 status 0 v free
+opened_right {s} r v free spelled None e = by r.cdb refl
   where
     by : (c : Option Cdb) → r.cdb ≡ c → Right s (begun_with s r c)
     by None h = Still
     by (Some command) h = begins s r command v free (passed s r command h e) (spelled command h)
 
-pub command_right : (s : State) (r : Request) → IsTied s → IsFree s r.tag → IsSpelled r → Right s (command_heard s r)
-command_right s r v free spelled = by (nat_le most_tasks (length s.tasks))
+pub command_right : {s : State} (r : Request) → IsTied s → IsFree s r.tag → IsSpelled r → Right s (command_heard s r)
+command_right {s} r v free spelled = by (nat_le most_tasks (length s.tasks))
   where
     by : (b : Bool) → Right s
         (if b then with_short s (short_reply r.tag (response r.lun r.tag r.expected 0 TaskSetFull))
         else opened_with s r (refusal s r))
-    by true = reply_right s r.tag (response r.lun r.tag r.expected 0 TaskSetFull) v free refl
-    by false = opened_right s r v free spelled (refusal s r) refl
+    by true = reply_right (response r.lun r.tag r.expected 0 TaskSetFull) v free refl
+    by false = opened_right r v free spelled (refusal s r) refl

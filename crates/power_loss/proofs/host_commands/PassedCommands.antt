@@ -1,23 +1,19 @@
 -- What the table of refusals lets through: the unit of a command, the blocks of it, and a device that is mended.
-use Rattle.std.proofs.Common.{◌≡◌, ℕ, ◌+◌, ◌<◌, ◌≤◌, ◌==◌, ◌&&◌, Bool, true, false, not, List, [], ◌∷◌, Option, Some}
-use Rattle.std.proofs.Common.{None, length, map, get_or, refl, sym, ap, ◌∙◌, subst, arith}
-use Rattle.std.specs.Prelude.{if◌then◌else◌, nat_lt}
-use Rattle.std.specs.List.{AllByRecursion}
-use Rattle.std.proofs.lemmas.List.{get_or-map}
-use Rattle.std.proofs.lemmas.Option.{slice_get-get_or}
-use Rattle.ufs_spec.proofs.Facts.{false≢true, ltb-false, ltb-true, none-some, not-false}
-use Rattle.ufs_spec.specs.Cdbs.{address_of, blocks_of, operation_of, write_10, write_6}
-use Rattle.ufs_spec.specs.Exchanges.{invalid_operation, no_unit}
+use Rattle.power_loss.proofs.Common.{◌≡◌, ℕ, ◌+◌, ◌<◌, ◌≤◌, ◌==◌, ◌&&◌, Bool, true, false, not, List, [], ◌∷◌, Option}
+use Rattle.power_loss.proofs.Common.{Some, None, length, map, get_or, refl, sym, ap, ◌∙◌, subst, arith, nat_lt}
+use Rattle.power_loss.proofs.Common.{AllByRecursion, get_or-map, slice_get-get_or, false≢true, ltb-false, ltb-true}
+use Rattle.power_loss.proofs.Common.{none-some, not-false, is_mended, Numbers}
+use Rattle.power_loss.proofs.MachineWords.{address_of, blocks_of, operation_of, invalid_operation, no_unit, BootUnit}
+use Rattle.power_loss.proofs.MachineWords.{DeviceUnit, Line, Lun, ReportLunsUnit, Request, RpmbUnit, State, UnitOf}
+use Rattle.power_loss.proofs.MachineWords.{first_line, is_past, lacks_unit, line, lines_behind, lun_of, mended}
+use Rattle.power_loss.proofs.MachineWords.{needs_mended, not_taken, numbers_of, operation_in, refusal, spec_at, takes}
+use Rattle.power_loss.proofs.MachineWords.{unit_in, unit_of_request, UnitSpec, Cdb}
+use Rattle.std.specs.Prelude.{if◌then◌else◌}
+use Rattle.ufs_spec.specs.Cdbs.{write_10, write_6}
 use Rattle.ufs_spec.specs.Messages.{is_among}
 use Rattle.ufs_spec.specs.Stages.{taken_luns}
-use Rattle.ufs_spec.specs.Refusals.{BootUnit, DeviceUnit, Line, Lun, ReportLunsUnit, Request, RpmbUnit, State, UnitOf}
-use Rattle.ufs_spec.specs.Refusals.{first_line, is_crowded, is_past, is_too_long, lacks_unit, line, lines_behind}
-use Rattle.ufs_spec.specs.Refusals.{lun_of, mended, needs_mended, not_taken, numbers_of, operation_in, refusal, spec_at}
-use Rattle.ufs_spec.specs.Refusals.{spec_of, takes, unit_in, unit_of_request, well_known}
-use Rattle.ufs_spec.specs.Translation.{is_mended}
-use Rattle.ufs_spec.specs.declared.configs.Numbers.{Numbers}
-use Rattle.ufs_spec.specs.declared.configs.UnitSpec.{UnitSpec}
-use Rattle.ufs_spec.specs.declared.scsi.Cdb.{Cdb}
+use Rattle.ufs_spec.specs.Refusals.{is_crowded, is_too_long}
+use Rattle.ufs_spec.specs.Refusals.{spec_of, well_known}
 
 -- No line of the table applies
 
@@ -57,8 +53,7 @@ passed s r command e h =
 
 pub ready_now : (s : State) (command : Cdb) → needs_mended (operation_of command) ≡ true →
     (needs_mended (operation_of command) && not (mended s)) ≡ false → is_mended s.translation.work.mending ≡ true
-ready_now s command needs h =
-    not-false (mended s) (sym (ap (λ b. b && not (mended s)) needs) ∙ h)
+ready_now s command needs h = not-false (mended s) (sym (ap (λ b. b && not (mended s)) needs) ∙ h)
 
 -- Units
 
@@ -66,9 +61,7 @@ ready_now s command needs h =
 well_known_none : (byte unit : ℕ) → well_known byte ≡ Some (UnitOf unit) → ⊥
 well_known_none byte unit h = by (byte == 0x81) (byte == 0xB0) (byte == 0xC4) (byte == 0xD0) h
   where
-    by : (a b c d : Bool) →
-        (if a then Some ReportLunsUnit
-        else if b then Some BootUnit
+    by : (a b c d : Bool) → (if a then Some ReportLunsUnit else if b then Some BootUnit
         else if c then Some RpmbUnit else if d then Some DeviceUnit else None) ≡ Some (UnitOf unit) → ⊥
     by true b c d e = cc
     by false true c d e = cc
@@ -76,9 +69,9 @@ well_known_none byte unit h = by (byte == 0x81) (byte == 0xB0) (byte == 0xC4) (b
     by false false false true e = cc
     by false false false false e = cc
 
-pub lun_told : (n : Numbers) (byte unit : ℕ) → lun_of n byte ≡ Some (UnitOf unit) →
+pub lun_told : (n : Numbers) {byte unit : ℕ} → lun_of n byte ≡ Some (UnitOf unit) →
     (byte < length n.units.items) × (unit ≡ byte)
-lun_told n byte unit h = by (nat_lt byte (length n.units.items)) (is_among taken_luns byte) refl h
+lun_told n {byte} {unit} h = by (nat_lt byte (length n.units.items)) (is_among taken_luns byte) refl h
   where
     by : (b c : Bool) → nat_lt byte (length n.units.items) ≡ b →
         (if b then Some (UnitOf byte) else if c then well_known byte else None) ≡ Some (UnitOf unit) →
@@ -112,17 +105,17 @@ unit_told s r c units p = by (lun_of (numbers_of s) r.lun) refl p.unit p.taken
     by (Some lun) e lacks taken =
         let unit = units lun (not-false (takes lun (operation_in r)) taken) in
         let is : lun_of (numbers_of s) r.lun ≡ Some (UnitOf unit.0) = e ∙ ap Some unit.1 in
-        let told = lun_told (numbers_of s) r.lun unit.0 is in
+        let told = lun_told (numbers_of s) is in
         record { there = told.0; is = ap (unit_in s r) is ∙ ap Some told.1 }
 
 pub no_spec : UnitSpec
 no_spec = record { blocks = 0; boot = 0; protect = 0 }
 
 -- the blocks lie within the unit
-pub lies_within : (s : State) (r : Request) (command : Cdb) → UnitTold s r → is_past command (spec_of s r) ≡ false →
+pub lies_within : {s : State} {r : Request} (command : Cdb) → UnitTold s r → is_past command (spec_of s r) ≡ false →
     address_of command + blocks_of command
     ≤ get_or (map (λ (u : UnitSpec). u.blocks) (numbers_of s).units.items) r.lun 0
-lies_within s r command told h =
+lies_within {s} {r} command told h =
     let units = (numbers_of s).units.items in
     let unit = get_or units r.lun no_spec in
     let spec : spec_of s r ≡ Some unit = ap (spec_at (numbers_of s)) told.is ∙ slice_get-get_or units r.lun no_spec

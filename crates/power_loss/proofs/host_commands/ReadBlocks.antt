@@ -1,48 +1,39 @@
 -- What a READ keeps: the blocks that the host expects lie within its unit, and each is kept as it is looked up.
-use Rattle.std.proofs.Common.{◌≡◌, ℕ, ◌+◌, ◌*◌, ◌<◌, ◌≤◌, ◌==◌, ◌&&◌, ◌⊎◌, Bool, true, false, List, [], ◌∷◌, Option}
-use Rattle.std.proofs.Common.{Some, None, length, map, get_or, min, position, slice_get, refl, sym, ap, ◌∙◌, subst, inl}
-use Rattle.std.proofs.Common.{inr, arith, All}
-use Rattle.std.specs.Prelude.{if◌then◌else◌, is_none, nat_lt}
+use Rattle.power_loss.proofs.Common.{◌≡◌, ℕ, ◌+◌, ◌*◌, ◌<◌, ◌≤◌, ◌==◌, ◌&&◌, ◌⊎◌, Bool, true, false, List, [], ◌∷◌}
+use Rattle.power_loss.proofs.Common.{Option, Some, None, length, map, get_or, min, slice_get, refl, sym, ap, ◌∙◌, subst}
+use Rattle.power_loss.proofs.Common.{inl, inr, arith, All, nat_lt, get_or-map, length-map, All-head, All-tail}
+use Rattle.power_loss.proofs.Common.{All-weaker, get_or_from_slice_get, slice_get-get_or, slice_get_within, false≢true}
+use Rattle.power_loss.proofs.Common.{ltb-false, ltb-true, not-false, same_Some, IsData, IsKey, below, data_key, Ledger}
+use Rattle.power_loss.proofs.Common.{look, Keep, shape_of_numbers, Pin, Numbers, Key}
+use Rattle.power_loss.proofs.MachineWords.{address_of, blocks_of, read_10, read_6, blocks_expected, unit_or_first}
+use Rattle.power_loss.proofs.MachineWords.{with_moves, BootUnit, DeviceUnit, Lun, ReportLunsUnit, Request, RpmbUnit}
+use Rattle.power_loss.proofs.MachineWords.{State, UnitOf, is_past, lacks_unit, lun_of, not_taken, numbers_of}
+use Rattle.power_loss.proofs.MachineWords.{operation_in, plain_now, spec_at, takes, unit_in, unit_of_request, UnitSpec}
+use Rattle.power_loss.proofs.MachineWords.{Cdb, IsTied}
+use Rattle.std.proofs.Common.{position}
+use Rattle.std.specs.Prelude.{if◌then◌else◌, is_none}
 use Rattle.std.specs.Int.{div_ceil}
 use Rattle.std.specs.List.{position_or_len}
 use Rattle.std.proofs.lemmas.Grind.{div_ceil_times}
-use Rattle.std.proofs.lemmas.List.{get_or-map, length-map}
-use Rattle.std.proofs.lemmas.List.Elements.{All-head, All-tail, All-weaker}
-use Rattle.std.proofs.lemmas.Option.{get_or_from_slice_get, slice_get-get_or, slice_get_within}
-use Rattle.ufs_spec.proofs.Facts.{false≢true, ltb-false, ltb-true, not-false, same_Some}
-use Rattle.ufs_spec.specs.Cdbs.{address_of, blocks_of, read_10, read_6}
-use Rattle.ufs_spec.specs.Keys.{IsData, IsKey, below, data_key}
-use Rattle.ufs_spec.specs.Ledger.{Ledger, look}
-use Rattle.ufs_spec.specs.Machine.{blocks_expected, unit_or_first, with_moves}
-use Rattle.ufs_spec.specs.Moves.{Keep}
-use Rattle.ufs_spec.specs.Plain.{shape_of_numbers}
-use Rattle.ufs_spec.specs.Refusals.{BootUnit, DeviceUnit, Lun, ReportLunsUnit, Request, RpmbUnit, State, UnitOf}
-use Rattle.ufs_spec.specs.Refusals.{boot_unit, is_boot_read, is_past, lacks_unit, lun_of, not_taken, numbers_of}
-use Rattle.ufs_spec.specs.Refusals.{operation_in, plain_now, spec_at, takes, unit_in, unit_of_request}
-use Rattle.ufs_spec.specs.Translation.{Pin}
-use Rattle.ufs_spec.specs.declared.configs.Numbers.{Numbers}
-use Rattle.ufs_spec.specs.declared.configs.UnitSpec.{UnitSpec}
-use Rattle.ufs_spec.specs.declared.flash.Key.{Key}
-use Rattle.ufs_spec.specs.declared.scsi.Cdb.{Cdb}
+use Rattle.ufs_spec.specs.Refusals.{boot_unit, is_boot_read}
 use Rattle.ufs_laws.proofs.walk.SmallChanges.{Both, Still}
-use Rattle.power_loss.specs.Exchange.{IsTied}
 use Rattle.power_loss.proofs.ordered_lists.ElementsAndOrders.{all_below}
 use Rattle.power_loss.proofs.host_commands.PassedCommands.{Passed, lun_told, no_spec}
 use Rattle.power_loss.proofs.calls.RightChanges.{Right, right_keeps, right_move}
 
 -- Pins
 
-pub pins_right : (s : State) (n : Numbers) (l : Ledger) (k : ℕ → Key) (f : ℕ → Pin) (xs : List ℕ) → IsTied s →
+pub pins_right : {s : State} {n : Numbers} {l : Ledger} (k : ℕ → Key) (f : ℕ → Pin) (xs : List ℕ) → IsTied s →
     numbers_of s ≡ n → s.translation.ledger ≡ l → All (λ i. IsKey (shape_of_numbers n) (k i)) xs →
     ((i : ℕ) → (f i).looked ≡ look l (k i)) → Right s (with_moves s (map (λ i. Keep (k i) (f i)) xs))
-pins_right s n l k f [] v numbers ledger keys looks = Still
-pins_right s n l k f (x ∷ xs) v numbers ledger keys looks =
+pins_right k f [] v numbers ledger keys looks = Still
+pins_right {s} {n} {l} k f (x ∷ xs) v numbers ledger keys looks =
     let head = All-head (λ i. IsKey (shape_of_numbers n) (k i)) x xs keys in
     let key = subst (λ (m : Numbers). IsKey (shape_of_numbers m) (k x)) (sym numbers) head in
     let look_is = looks x ∙ ap (λ (m : Ledger). look m (k x)) (sym ledger) in
-    let one = right_move s (Keep (k x) (f x)) v tt (key, look_is) (omega arith) in
+    let one = right_move (Keep (k x) (f x)) v tt (key, look_is) (omega arith) in
     Both one
-    (pins_right (with_moves s (Keep (k x) (f x) ∷ [])) n l k f xs (right_keeps one v) numbers ledger
+    (pins_right k f xs (right_keeps one v) numbers ledger
     (All-tail (λ i. IsKey (shape_of_numbers n) (k i)) x xs keys) looks)
 
 -- The unit
@@ -54,8 +45,8 @@ record ReadsUnit (n : Numbers) (unit : Option ℕ) : Type 0 where
   is : unit ≡ Some number
   there : slice_get n.units.items number ≡ Some spec
 
-position_inside : {X : Type 0} (test : X → Bool) (xs : List X) (i : ℕ) → position test xs ≡ Some i → i < length xs
-position_inside test xs i h = by (nat_lt (position_or_len test xs) (length xs)) refl h
+position_inside : {X : Type 0} (test : X → Bool) (xs : List X) {i : ℕ} → position test xs ≡ Some i → i < length xs
+position_inside test xs {i} h = by (nat_lt (position_or_len test xs) (length xs)) refl h
   where
     by : (b : Bool) → nat_lt (position_or_len test xs) (length xs) ≡ b →
         (if b then Some (position_or_len test xs) else None) ≡ Some i → i < length xs
@@ -65,56 +56,56 @@ position_inside test xs i h = by (nat_lt (position_or_len test xs) (length xs)) 
         omega (arith, same, short)
     by false e k = cc
 
-unit_there : (n : Numbers) (i : ℕ) → i < length n.units.items → ReadsUnit n (Some i)
-unit_there n i l = record {
+unit_there : {n : Numbers} (i : ℕ) → i < length n.units.items → ReadsUnit n (Some i)
+unit_there {n} i l = record {
   number = i;
   spec = get_or n.units.items i no_spec;
   is = refl;
   there = slice_get-get_or n.units.items i no_spec l;
 }
 
-boot_there : (n : Numbers) (boot : ℕ) (unit : Option ℕ) → boot_unit n boot ≡ unit → is_none unit ≡ false →
+boot_there : {n : Numbers} (boot : ℕ) (unit : Option ℕ) → boot_unit n boot ≡ unit → is_none unit ≡ false →
     ReadsUnit n unit
-boot_there n boot None e h = cc
-boot_there n boot (Some i) e h = unit_there n i (by (boot == 0) e)
+boot_there boot None e h = cc
+boot_there {n} boot (Some i) e h = unit_there i (by (boot == 0) e)
   where
     by : (b : Bool) → (if b then None else position (λ (u : UnitSpec). u.boot == boot) n.units.items) ≡ Some i →
         i < length n.units.items
     by true k = cc
-    by false k = position_inside (λ (u : UnitSpec). u.boot == boot) n.units.items i k
+    by false k = position_inside (λ (u : UnitSpec). u.boot == boot) n.units.items k
 
 -- the units that take a READ
 abbrev pub Reads : ℕ → Type 0
 Reads operation = (operation ≡ read_6) ⊎ (operation ≡ read_10)
 
 -- what holds of both operation codes holds of a READ's
-of_reads : (P : ℕ → Type 0) (operation : ℕ) → P read_6 → P read_10 → Reads operation → P operation
-of_reads P operation six ten (inl e) = subst P (sym e) six
-of_reads P operation six ten (inr e) = subst P (sym e) ten
+of_reads : (P : ℕ → Type 0) {operation : ℕ} → P read_6 → P read_10 → Reads operation → P operation
+of_reads P six ten (inl e) = subst P (sym e) six
+of_reads P six ten (inr e) = subst P (sym e) ten
 
 lun_there : (s : State) (r : Request) (lun : Lun) → Reads (operation_in r) →
     lun_of (numbers_of s) r.lun ≡ Some lun → lacks_unit s r (Some lun) ≡ false → takes lun (operation_in r) ≡ true →
     ReadsUnit (numbers_of s) (unit_in s r (Some lun))
 lun_there s r (UnitOf unit) reads is lacks taken =
-    let told = lun_told (numbers_of s) r.lun unit is in
+    let told = lun_told (numbers_of s) is in
     let same = told.1 in
     let short = told.0 in
-    unit_there (numbers_of s) unit (omega (arith, same, short))
+    unit_there unit (omega (arith, same, short))
 lun_there s r BootUnit reads is lacks taken =
-    boot_there (numbers_of s) (plain_now s).boot (boot_unit (numbers_of s) (plain_now s).boot) refl
+    boot_there (plain_now s).boot (boot_unit (numbers_of s) (plain_now s).boot) refl
     (sym (ap (λ b. b && is_none (boot_unit (numbers_of s) (plain_now s).boot))
-    (of_reads (λ o. is_boot_read o ≡ true) (operation_in r) refl refl reads)) ∙ lacks)
+    (of_reads (λ o. is_boot_read o ≡ true) refl refl reads)) ∙ lacks)
 lun_there s r ReportLunsUnit reads is lacks taken =
-    absurd (false≢true (sym (of_reads (λ o. takes ReportLunsUnit o ≡ false) (operation_in r) refl refl reads) ∙ taken))
+    absurd (false≢true (sym (of_reads (λ o. takes ReportLunsUnit o ≡ false) refl refl reads) ∙ taken))
 lun_there s r RpmbUnit reads is lacks taken =
-    absurd (false≢true (sym (of_reads (λ o. takes RpmbUnit o ≡ false) (operation_in r) refl refl reads) ∙ taken))
+    absurd (false≢true (sym (of_reads (λ o. takes RpmbUnit o ≡ false) refl refl reads) ∙ taken))
 lun_there s r DeviceUnit reads is lacks taken =
-    absurd (false≢true (sym (of_reads (λ o. takes DeviceUnit o ≡ false) (operation_in r) refl refl reads) ∙ taken))
+    absurd (false≢true (sym (of_reads (λ o. takes DeviceUnit o ≡ false) refl refl reads) ∙ taken))
 
 -- a READ that the table lets through reads a unit
-reads_unit : (s : State) (r : Request) (c : Cdb) → Reads (operation_in r) → Passed s r c →
+reads_unit : {s : State} {r : Request} {c : Cdb} → Reads (operation_in r) → Passed s r c →
     ReadsUnit (numbers_of s) (unit_of_request s r)
-reads_unit s r c reads p = by (lun_of (numbers_of s) r.lun) refl p.unit p.taken
+reads_unit {s} {r} reads p = by (lun_of (numbers_of s) r.lun) refl p.unit p.taken
   where
     by : (x : Option Lun) → lun_of (numbers_of s) r.lun ≡ x → lacks_unit s r x ≡ false → not_taken r x ≡ false →
         ReadsUnit (numbers_of s) (unit_in s r x)
@@ -123,8 +114,8 @@ reads_unit s r c reads p = by (lun_of (numbers_of s) r.lun) refl p.unit p.taken
 
 -- The blocks
 
-expected_few : (expected blocks n : ℕ) → n ≡ blocks * 4096 → div_ceil (min expected n) 4096 ≤ blocks
-expected_few expected blocks n e =
+expected_few : (expected blocks : ℕ) {n : ℕ} → n ≡ blocks * 4096 → div_ceil (min expected n) 4096 ≤ blocks
+expected_few expected blocks {n} e =
     let up = (div_ceil_times (min expected n) 4096 (omega arith)).1 in
     let low = least expected n in
     omega (arith, up, low, e)
@@ -133,10 +124,10 @@ expected_few expected blocks n e =
     least a b = grind arith
 
 -- each of them is a key of the device
-pub key_read : (s : State) (r : Request) (command : Cdb) (n : ℕ) → n ≡ blocks_of command * 4096 →
+pub key_read : {s : State} {r : Request} {command : Cdb} {n : ℕ} → n ≡ blocks_of command * 4096 →
     Reads (operation_in r) → Passed s r command → (i : ℕ) → i < blocks_expected r n →
     IsKey (shape_of_numbers (numbers_of s)) (data_key (unit_or_first (unit_of_request s r)) (address_of command + i))
-key_read s r command n size reads p i l =
+key_read {s} {r} {command} {n} size reads p i l =
     subst (λ (u : ℕ). IsKey (shape_of_numbers (numbers_of s)) (data_key u (address_of command + i)))
     (sym (ap unit_or_first u.is)) (IsData u.number (address_of command + i) inside within)
   where
@@ -144,7 +135,7 @@ key_read s r command n size reads p i l =
     units = (numbers_of s).units.items
 
     u : ReadsUnit (numbers_of s) (unit_of_request s r)
-    u = reads_unit s r command reads p
+    u = reads_unit reads p
 
     short : u.number < length units
     short = slice_get_within units u.number u.spec u.there
@@ -162,18 +153,18 @@ key_read s r command n size reads p i l =
         ∙ ap (λ (x : UnitSpec). x.blocks) (get_or_from_slice_get units u.number u.spec no_spec u.there)
 
     within : address_of command + i < get_or (map (λ (x : UnitSpec). x.blocks) units) u.number 0
-    within = let few = expected_few r.expected (blocks_of command) n size in omega (arith, l, few, room, blocks)
+    within = let few = expected_few r.expected (blocks_of command) size in omega (arith, l, few, room, blocks)
 
 -- and so are all
 abbrev pub KeysOfDevice : State → ℕ → ℕ → ℕ → Type 0
 KeysOfDevice s unit address n =
     All (λ i. IsKey (shape_of_numbers (numbers_of s)) (data_key unit (address + i))) (below n)
 
-pub keys_read : (s : State) (r : Request) (command : Cdb) (n : ℕ) → n ≡ blocks_of command * 4096 →
+pub keys_read : {s : State} {r : Request} {command : Cdb} {n : ℕ} → n ≡ blocks_of command * 4096 →
     Reads (operation_in r) → Passed s r command →
     KeysOfDevice s (unit_or_first (unit_of_request s r)) (address_of command) (blocks_expected r n)
-keys_read s r command n size reads p =
+keys_read {s} {r} {command} {n} size reads p =
     let unit = unit_or_first (unit_of_request s r) in
     All-weaker (λ i. i < blocks_expected r n)
     (λ i. IsKey (shape_of_numbers (numbers_of s)) (data_key unit (address_of command + i)))
-    (key_read s r command n size reads p) (below (blocks_expected r n)) (all_below (blocks_expected r n))
+    (key_read size reads p) (below (blocks_expected r n)) (all_below (blocks_expected r n))

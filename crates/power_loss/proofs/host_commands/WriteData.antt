@@ -1,34 +1,29 @@
 -- Data from the host, and a command that is accepted.
-use Rattle.std.proofs.Common.{◌≡◌, ℕ, zero, suc, ◌+◌, ◌-◌, ◌*◌, ◌<◌, ◌≤◌, ◌==◌, ◌&&◌, Bool, true, false, List, [], ◌∷◌}
-use Rattle.std.proofs.Common.{◌++◌, All, Option, Some, None, length, map, get_or, drop, refl, sym, ap, ◌∙◌, subst}
-use Rattle.std.proofs.Common.{arith}
-use Rattle.std.specs.Prelude.{if◌then◌else◌, nat_lt, slice_get}
-use Rattle.std.proofs.lemmas.List.{length-append, length-drop, length-map, length-take-le}
-use Rattle.std.proofs.lemmas.Option.{slice_get-get_or}
-use Rattle.ufs_spec.specs.Commands.{Command}
+use Rattle.power_loss.proofs.Common.{◌≡◌, ℕ, zero, suc, ◌+◌, ◌-◌, ◌*◌, ◌<◌, ◌≤◌, ◌==◌, ◌&&◌, Bool, true, false, List}
+use Rattle.power_loss.proofs.Common.{[], ◌∷◌, ◌++◌, All, Option, Some, None, length, map, get_or, drop, refl, sym, ap}
+use Rattle.power_loss.proofs.Common.{◌∙◌, subst, arith, nat_lt, length-append, length-drop, length-map, length-take-le}
+use Rattle.power_loss.proofs.Common.{slice_get-get_or, Group, IsBlock, IsCommand, IsData, IsKey, IsPlain, Item, below}
+use Rattle.power_loss.proofs.Common.{content, data_key, group_of, Accept, IsAllowedMove, IsGroup, KeysDiffer, Release}
+use Rattle.power_loss.proofs.Common.{CanApply, Plain, Shape, apply, shape_of, shape_of_numbers, Translation, has_number}
+use Rattle.power_loss.proofs.Common.{is_locked, is_mended, Numbers, Key, and_parts, ltb-false, ltb-true, or_parts}
+use Rattle.power_loss.proofs.Common.{eqb-true, kept_shape, shape_after}
+use Rattle.power_loss.proofs.MachineWords.{Command, Answering, Deed, ForWrite, Gathering, Purpose, Task, count_at}
+use Rattle.power_loss.proofs.MachineWords.{invalid_operation, is_asked_in, is_asked_of, task_of, write_error, with_deed}
+use Rattle.power_loss.proofs.MachineWords.{accepts, asked_fault, blocks_in, claimed_by, complete, data_for, data_heard}
+use Rattle.power_loss.proofs.MachineWords.{set_deed, with_moves, write_complete, write_deed, AreBytes, State, locked}
+use Rattle.power_loss.proofs.MachineWords.{numbers_of, plain_now, DeedFits, IsTied, TasksRight, claim_of}
+use Rattle.std.specs.Prelude.{if◌then◌else◌, slice_get}
 use Rattle.ufs_spec.specs.Commands as command
-use Rattle.ufs_spec.specs.Exchanges.{Answering, Deed, ForWrite, Gathering, Purpose, Task, count_at, invalid_operation}
-use Rattle.ufs_spec.specs.Exchanges.{is_asked_in, is_asked_of, task_of, write_error, with_deed}
-use Rattle.ufs_spec.specs.Keys.{Group, IsBlock, IsCommand, IsData, IsKey, IsPlain, Item, below, content, data_key}
-use Rattle.ufs_spec.specs.Keys.{group_of}
-use Rattle.ufs_spec.specs.Machine.{accepts, asked_fault, blocks_in, claimed_by, complete, data_for, data_heard}
-use Rattle.ufs_spec.specs.Machine.{gathered_more, set_deed, with_moves, write_complete, write_deed}
-use Rattle.ufs_spec.specs.Messages.{AreBytes}
-use Rattle.ufs_spec.specs.Moves.{Accept, IsAllowedMove, IsGroup, IsItem, KeysDiffer, Release}
+use Rattle.ufs_spec.specs.Machine.{gathered_more}
+use Rattle.ufs_spec.specs.Moves.{IsItem}
 use Rattle.ufs_spec.specs.Configs.{command_blocks}
-use Rattle.ufs_spec.specs.Plain.{CanApply, Plain, Shape, apply, greatest_command, shape_of, shape_of_numbers}
-use Rattle.ufs_spec.specs.Refusals.{State, locked, numbers_of, plain_now}
-use Rattle.ufs_spec.specs.Translation.{Translation, has_number, is_locked, is_mended}
-use Rattle.ufs_spec.specs.declared.configs.Numbers.{Numbers}
-use Rattle.ufs_spec.specs.declared.flash.Key.{Key}
+use Rattle.ufs_spec.specs.Plain.{greatest_command}
 use Rattle.ufs_spec.proofs.Lists.{get_below}
-use Rattle.ufs_spec.proofs.Facts.{and_parts, le-leb, ltb-false, ltb-true, or_parts, eqb-true}
-use Rattle.ufs_spec.proofs.PlainFacts.{kept_shape, shape_after}
+use Rattle.ufs_spec.proofs.Facts.{le-leb}
 use Rattle.ufs_laws.proofs.pages.ByteLists.{bytes-append, bytes-drop, bytes-take}
 use Rattle.ufs_laws.proofs.plain_contents.CommandsKeepPlain.{all_kept_plain, kept_plain}
 use Rattle.ufs_laws.proofs.plain_contents.ListParts.{length-below}
 use Rattle.ufs_laws.proofs.plain_contents.PlainFromContents.{contents_of}
-use Rattle.power_loss.specs.Exchange.{DeedFits, IsTied, TasksRight, claim_of}
 use Rattle.power_loss.proofs.ordered_lists.ElementsAndOrders.{mapped_at}
 use Rattle.power_loss.proofs.host_commands.HandedOutReplies.{FitsIn, claim_same, set_right}
 use Rattle.power_loss.proofs.open_tasks.TaskLists.{found_fits, task_set, write_more}
@@ -49,10 +44,10 @@ item_of p k = record { key = k; body = content p k }
 abbrev key_from : ℕ → ℕ → ℕ → Key
 key_from unit address i = data_key unit (address + i)
 
-item_at : (p : Plain) (unit address n i : ℕ) (item : Item) →
+item_at : {p : Plain} {unit address n i : ℕ} {item : Item} →
     slice_get (map (item_of p) (map (key_from unit address) (below n))) i ≡ Some item →
     IsOfWrite p unit address n i item
-item_at p unit address n i item h =
+item_at {p} {unit} {address} {n} {i} {item} h =
     let of_item = mapped_at (item_of p) (map (key_from unit address) (below n)) i item h in
     let of_key = mapped_at (key_from unit address) (below n) i of_item.0 of_item.1 in
     let j = get_below n i of_key.0 of_key.1 in
@@ -69,8 +64,7 @@ blocks_of_write p unit address blocks = group_of p (command.Write unit address b
 
 group_length : (p : Plain) (unit address : ℕ) (blocks : List (List ℕ)) →
     length (blocks_of_write p unit address blocks) ≡ length blocks
-group_length p unit address blocks =
-    length-map (map (key_from unit address) (below (length blocks)))
+group_length p unit address blocks = length-map (map (key_from unit address) (below (length blocks)))
     (item_of (apply p (command.Write unit address blocks)))
     ∙ (length-map (below (length blocks)) (key_from unit address) ∙ length-below (length blocks))
 
@@ -92,7 +86,7 @@ write_group t p unit address blocks shape plain is can few = record {
     after = apply p (command.Write unit address blocks)
 
     of_write : (i : ℕ) (x : Item) → slice_get group i ≡ Some x → IsOfWrite after unit address (length blocks) i x
-    of_write i x h = item_at after unit address (length blocks) i x h
+    of_write i x h = item_at h
 
     differ : KeysDiffer group
     differ i j a b at also same =
@@ -203,8 +197,7 @@ module _ (s : State) (task : Task) (unit address blocks : ℕ) (bytes : List ℕ
       set : (d : ℕ) → s.translation.claims ≤ d + claim_of (numbers_of s) task →
           TasksRight (numbers_of s) (length s.accepted) (is_mended s.translation.work.mending) d
           (map (with_deed task.tag (Answering write_error task.length)) s.tasks) s.shorts
-      set d l =
-          task_set task task.tag (Answering write_error task.length) (omega arith) (λ h. h) a.there tt (omega arith)
+      set d l = task_set task.tag (Answering write_error task.length) (omega arith) (λ h. h) a.there tt (omega arith)
           v.tasks
 
   accept_allowed : locked s ≡ false →
@@ -235,9 +228,8 @@ module _ (s : State) (task : Task) (unit address blocks : ℕ) (bytes : List ℕ
       One (Accepts (write_of unit address blocks bytes) blocks (with_deed task.tag deed)) (record {
         small = does task.tag deed;
         layer = (are_blocks blocks bytes a.long a.are_bytes, can_write, accept_allowed free);
-        tasks = task_set task task.tag deed (omega arith) (λ h. h) a.there
-            (write_answers s task forced more long a.mended)
-            (omega arith) v.tasks;
+        tasks = task_set task.tag deed (omega arith) (λ h. h) a.there
+            (write_answers s task forced more long a.mended) (omega arith) v.tasks;
       })
 
   write_completes : (forced : Bool) → Right s (write_complete s task unit address blocks forced bytes)
@@ -255,8 +247,7 @@ module _ (s : State) (task : Task) (unit address blocks : ℕ) (bytes : List ℕ
 more_fits : (s : State) (task : Task) (purpose : Purpose) (gathered : List ℕ) (asked : Bool) (all : List ℕ) →
     FitsIn s task (Gathering purpose gathered asked) → length all < task.length → (AreBytes gathered → AreBytes all) →
     FitsIn s task (Gathering purpose all false)
-more_fits s task (ForWrite unit address blocks forced) gathered asked all h l is =
-    write_more (numbers_of s) _ _ unit address blocks task.length gathered all _ _ (λ k. k) l is
+more_fits s task (ForWrite unit address blocks forced) gathered asked all h l is = write_more (λ k. k) l is
     (claim_same (numbers_of s) (ForWrite unit address blocks forced) (ForWrite unit address blocks forced)
     all gathered false asked task.command) h
 more_fits s task purpose gathered asked all h l is = tt
@@ -268,10 +259,10 @@ record GathersIn (s : State) (task : Task) (purpose : Purpose) (gathered : List 
   claim : claim_of (numbers_of s) task ≡ claimed_by (numbers_of s) (Gathering purpose gathered asked) task.command
   fits : FitsIn s task (Gathering purpose gathered asked)
 
-completes : (s : State) (task : Task) (purpose : Purpose) (gathered : List ℕ) (asked : Bool) (all : List ℕ) → IsTied s →
+completes : {s : State} {task : Task} (purpose : Purpose) {gathered : List ℕ} {asked : Bool} (all : List ℕ) → IsTied s →
     GathersIn s task purpose gathered asked → (length gathered < task.length → length all ≡ task.length) →
     (AreBytes gathered → AreBytes all) → Right s (complete s task purpose all)
-completes s task (ForWrite unit address blocks forced) gathered asked all v g long is =
+completes {s} {task} (ForWrite unit address blocks forced) all v g long is =
     let h = g.fits in
     let claim = g.claim in
     let few = g.few in
@@ -290,31 +281,31 @@ completes s task (ForWrite unit address blocks forced) gathered asked all v g lo
       are_bytes = is h.bytes;
       mended = h.is_mended;
     }) forced
-completes s task purpose gathered asked all v g long is =
-    set_right s task (Answering invalid_operation task.length) v g.there tt (omega arith)
+completes {s} {task} purpose all v g long is =
+    set_right (Answering invalid_operation task.length) v g.there tt (omega arith)
 
-gathers : (s : State) (task : Task) (purpose : Purpose) (gathered : List ℕ) (asked : Bool) (all : List ℕ) → IsTied s →
+gathers : {s : State} {task : Task} {purpose : Purpose} {gathered : List ℕ} {asked : Bool} (all : List ℕ) → IsTied s →
     GathersIn s task purpose gathered asked → (length gathered < task.length → length all ≤ task.length) →
     (AreBytes gathered → AreBytes all) → Right s (gathered_more s task purpose all)
-gathers s task purpose gathered asked all v g long is = by (nat_lt (length all) task.length) refl
+gathers {s} {task} {purpose} {gathered} {asked} all v g long is = by (nat_lt (length all) task.length) refl
   where
     by : (b : Bool) → nat_lt (length all) task.length ≡ b →
         Right s (if b then set_deed s task.tag (Gathering purpose all false) else complete s task purpose all)
     by true e =
         let claim = g.claim in
         let same = claim_same (numbers_of s) purpose purpose all gathered false asked task.command in
-        set_right s task (Gathering purpose all false) v g.there
+        set_right (Gathering purpose all false) v g.there
         (more_fits s task purpose gathered asked all g.fits (ltb-true (length all) task.length e) is) (omega arith)
     by false e =
         let l = ltb-false (length all) task.length e in
-        completes s task purpose gathered asked all v g (λ short. let most = long short in omega arith) is
+        completes purpose all v g (λ short. let most = long short in omega arith) is
 
-data_for_right : (s : State) (task : Task) (deed : Deed) (lun offset : ℕ) (bytes : List ℕ) → IsTied s →
+data_for_right : {s : State} {task : Task} (deed : Deed) (lun offset : ℕ) (bytes : List ℕ) → IsTied s →
     task_of task.tag s.tasks ≡ Some task → claim_of (numbers_of s) task ≤ s.translation.claims →
     claim_of (numbers_of s) task ≡ claimed_by (numbers_of s) deed task.command → FitsIn s task deed →
     is_asked_in task lun offset (length bytes) deed ≡ true → AreBytes bytes → Right s (data_for s task deed bytes)
-data_for_right s task (Gathering purpose gathered asked) lun offset bytes v there few claim h is_asked is =
-    gathers s task purpose gathered asked (gathered ++ bytes) v
+data_for_right {s} {task} (Gathering purpose gathered asked) lun offset bytes v there few claim h is_asked is =
+    gathers (gathered ++ bytes) v
     (record { there = there; few = few; claim = claim; fits = h }) room (λ h. bytes-append gathered bytes h is)
   where
     room : length gathered < task.length → length (gathered ++ bytes) ≤ task.length
@@ -324,12 +315,12 @@ data_for_right s task (Gathering purpose gathered asked) lun offset bytes v ther
         let count = eqb-true (length bytes) (count_at task.length (length gathered)) last.1 in
         let joined = length-append gathered bytes in
         omega arith
-data_for_right s task deed lun offset bytes v there few claim h is_asked is = Still
+data_for_right deed lun offset bytes v there few claim h is_asked is = Still
 
-pub data_right : (s : State) (lun tag offset : ℕ) (bytes : List ℕ) → IsTied s →
+pub data_right : {s : State} (lun tag offset : ℕ) (bytes : List ℕ) → IsTied s →
     asked_fault (is_asked_of (task_of tag s.tasks) lun offset (length bytes)) ≡ None → AreBytes bytes →
     Right s (data_heard s (task_of tag s.tasks) bytes)
-data_right s lun tag offset bytes v h is =
+data_right {s} lun tag offset bytes v h is =
     by (task_of tag s.tasks) refl (no_offence (is_asked_of (task_of tag s.tasks) lun offset (length bytes)) h)
   where
     by : (x : Option Task) → task_of tag s.tasks ≡ x → is_asked_of x lun offset (length bytes) ≡ true →
@@ -337,9 +328,8 @@ data_right s lun tag offset bytes v h is =
     by None e asked = Still
     by (Some task) e asked =
         let found = found_fits (numbers_of s) (length s.accepted) (is_mended s.translation.work.mending) tag s.tasks
-        task
-        v.tasks.deeds e in
+        task v.tasks.deeds e in
         let claimed = v.tasks.claimed in
         let few = found.2 in
-        data_for_right s task task.deed lun offset bytes v (ap (λ (x : ℕ). task_of x s.tasks) found.1 ∙ e) (omega arith)
+        data_for_right task.deed lun offset bytes v (ap (λ (x : ℕ). task_of x s.tasks) found.1 ∙ e) (omega arith)
         refl found.0 asked is

@@ -1,23 +1,15 @@
 -- A change of the disk that keeps what stands safely keeps a life valid: each page is as it was, or nothing, or left by
 -- a program that failed; and what is in flight was in flight.
-use Rattle.std.proofs.Common.{◌≡◌, ℕ, suc, ◌<◌, ◌≤◌, Bool, true, false, ◌⊎◌, All, List, [], Option, Some, refl, sym, ap}
-use Rattle.std.proofs.Common.{◌∙◌, subst, inl, inr, ⊎_elim, arith}
-use Rattle.std.proofs.lemmas.List.Elements.{All-nil}
-use Rattle.ufs_spec.specs.Cells.{Cell, Cells, GroupPage, Mark, MarkPage, Nothing}
-use Rattle.ufs_spec.specs.Disk.{Bad, Closed, Disk, Erasing, Flight, Free, Programming, Spot, spot_of}
-use Rattle.ufs_spec.specs.Ledger.{Name}
-use Rattle.ufs_spec.specs.Translation.{CopyStep, MarkStep, Mended, Mending, Plan, Repairing, Step, StepKind}
-use Rattle.ufs_spec.specs.Translation.{Translation, Unmarked, Want, wants_of_step}
-use Rattle.ufs_spec.specs.declared.flash.Fence.{Fence}
-use Rattle.ufs_spec.specs.declared.flash.Key.{Key}
-use Rattle.ufs_spec.specs.declared.flash.Place.{Place}
-use Rattle.ufs_spec.specs.declared.flash.Tag.{Tag}
-use Rattle.ufs_spec.proofs.CellKinds.{mark_not_nothing, page_not_nothing}
-use Rattle.power_loss.specs.Book.{Book, book, last_number}
-use Rattle.power_loss.specs.Invariant.{AreFreeBlank, AreNumbered, BlocksRight, EraseRight, FlightsRight, IsLastRepair}
-use Rattle.power_loss.specs.Invariant.{IsOpenedOrOwn, IsNeededPage, IsOwnMark, IsToCopy, MarkFlightRight, MarksRight}
-use Rattle.power_loss.specs.Invariant.{MendingRight, PagesRight, PlanRight, ProgramRight, ReadsRight, StepKindRight}
-use Rattle.power_loss.specs.Invariant.{StepRight, ToReadRight, Valid}
+use Rattle.power_loss.proofs.Common.{◌≡◌, ℕ, suc, ◌<◌, ◌≤◌, Bool, true, false, ◌⊎◌, All, List, [], Option, Some, refl}
+use Rattle.power_loss.proofs.Common.{sym, ap, ◌∙◌, subst, inl, inr, ⊎_elim, arith, All-nil, Cell, Cells, GroupPage}
+use Rattle.power_loss.proofs.Common.{Mark, MarkPage, Nothing, Bad, Closed, Disk, Erasing, Flight, Free, Programming}
+use Rattle.power_loss.proofs.Common.{Spot, spot_of, Name, CopyStep, MarkStep, Mended, Mending, Plan, Repairing, Step}
+use Rattle.power_loss.proofs.Common.{StepKind, Translation, Unmarked, Want, wants_of_step, is_mended, Fence, Key, Place}
+use Rattle.power_loss.proofs.Common.{Tag, mark_not_nothing, page_not_nothing, Book, book, last_number, AreFreeBlank}
+use Rattle.power_loss.proofs.Common.{AreNumbered, BlocksRight, EraseRight, FlightsRight, IsLastRepair, IsOpenedOrOwn}
+use Rattle.power_loss.proofs.Common.{IsNeededPage, IsOwnMark, IsToCopy, MarkFlightRight, MarksRight, MendingRight}
+use Rattle.power_loss.proofs.Common.{PagesRight, PlanRight, ProgramRight, ReadsRight, StepKindRight, StepRight}
+use Rattle.power_loss.proofs.Common.{ToReadRight, Valid, recorded_in}
 use Rattle.power_loss.proofs.books.LayerParts.{MarksOf, MendingOf, OwnMarkOf, UnmarkedOf}
 use Rattle.power_loss.proofs.jobs.StandsSecurely.{Keeps, all_safe, free_is_not_bad, mark_stands_moves, secure_moves}
 use Rattle.power_loss.proofs.jobs.StandsSecurely.{true_is_not_false}
@@ -117,16 +109,16 @@ module _ (t : Translation) (e : Disk) (v : Valid t) (c : Change t e) where
     recorded = λ p tag body h. ⊎_elim (λ k. v.pages.recorded p tag body k)
         (λ k. v.flights.recorded k.1.0 p tag body k.1.1) (page_left (c.left p) h);
     stands = λ p tag body h fin. ⊎_elim (λ k. v.pages.stands p tag body k (c.ended p fin))
-        (λ k. absurd (true_is_not_false (e.finished p) fin k.0)) (page_left (c.left p) h);
+        (λ k. absurd (true_is_not_false fin k.0)) (page_left (c.left p) h);
   }
 
   pub numbered_change : AreNumbered t.ledger.marks e.cells
   numbered_change p m h = ⊎_elim (λ k. v.numbered p m k)
       (λ k. let z = flown_number k.die p m v k.flies in omega arith) (mark_left (c.left p) h)
 
-  flights_change : (marks : ℕ) (step : Option Step) → Follows t e marks step →
+  flights_change : {marks : ℕ} {step : Option Step} → Follows t e marks step →
       FlightsRight (book t) t.ledger.frontier marks e.blocks e.erasing e.flights step
-  flights_change marks step f = record {
+  flights_change f = record {
     programs = c.programs;
     erases = c.erases;
     something = λ die p h. v.flights.something die p (c.flew die p Nothing h);
@@ -137,26 +129,27 @@ module _ (t : Translation) (e : Disk) (v : Valid t) (c : Change t e) where
         (c.flew k q (MarkPage other) g);
   }
 
-  marks_same : (newest : Mark) → MarksOf t newest → (p q : Place) (m other : Mark) → (t.disk.cells p ≡ MarkPage m) ⊎
+  marks_same : (newest : Mark) → MarksOf t newest → {p q : Place} {m other : Mark} → (t.disk.cells p ≡ MarkPage m) ⊎
       FreshMark t e p m → (t.disk.cells q ≡ MarkPage other) ⊎ FreshMark t e q other → m.number ≡ other.number →
       m ≡ other
-  marks_same newest r p q m other (inl h) (inl k) n = r.same p q m other h k n
-  marks_same newest r p q m other (inl h) (inr k) n = absurd (let l = flown_above q p m v k.flies h in omega arith)
-  marks_same newest r p q m other (inr h) (inl k) n = absurd (let l = flown_above p q other v h.flies k in omega arith)
-  marks_same newest r p q m other (inr h) (inr k) n =
+  marks_same newest r {p} {q} {m} {other} (inl h) (inl k) n = r.same p q m other h k n
+  marks_same newest r {p} {q} {m} (inl h) (inr k) n = absurd (let l = flown_above q p m v k.flies h in omega arith)
+  marks_same newest r {p = p} {q = q} {other = other} (inr h) (inl k) n =
+      absurd (let l = flown_above p q other v h.flies k in omega arith)
+  marks_same newest r {p} {q} {m} {other} (inr h) (inr k) n =
       same_mark h.flies (ap t.disk.flights (v.flights.one_mark h.die k.die p q m other h.flies k.flies) ∙ k.flies)
 
-  marks_change : (newest : Mark) → MarksOf t newest → (marks : ℕ) →
+  marks_change : {newest : Mark} → MarksOf t newest → {marks : ℕ} →
       MarksRight (book t) t.ledger.frontier marks e.cells e.finished e.blocks e.erasing e.flights newest
-  marks_change newest r marks = record {
+  marks_change {newest} r = record {
     stands = mark_stands_moves c.keeps r.stands;
     within = r.within;
     numbers = r.numbers;
     whole = r.whole;
     ended = λ p m h fin. ⊎_elim (λ k. r.ended p m k (c.ended p fin)) (λ k. absurd
-        (true_is_not_false (e.finished p) fin k.unfinished)) (mark_left (c.left p) h);
+        (true_is_not_false fin k.unfinished)) (mark_left (c.left p) h);
     known = λ p m h. ⊎_elim (λ k. r.known p m k) (λ k. inr (r.flies k.die p m k.flies)) (mark_left (c.left p) h);
-    same = λ p q m other h k n. marks_same newest r p q m other (mark_left (c.left p) h) (mark_left (c.left q) k) n;
+    same = λ p q m other h k n. marks_same newest r (mark_left (c.left p) h) (mark_left (c.left q) k) n;
     freed = λ p m h free. ⊎_elim (λ k. r.freed p m k (c.freed (spot_of p) free)) (λ k. absurd
         (free_is_not_bad free k.bad)) (mark_left (c.left p) h);
     flies = λ die p m h. r.flies die p m (c.flew die p (MarkPage m) h);
@@ -165,35 +158,27 @@ module _ (t : Translation) (e : Disk) (v : Valid t) (c : Change t e) where
   blank_change : AreFreeBlank t.disk.cells t.disk.blocks t.disk.erasing → AreFreeBlank e.cells e.blocks e.erasing
   blank_change old p may = ⊎_elim
       (λ h. h ∙ old p (⊎_elim (λ free. inl (c.freed (spot_of p) free)) (λ er. c.spent (spot_of p) er) may))
-      (λ h. ⊎_elim
-      (λ k. k)
-      (λ f. absurd (⊎_elim (λ free. free_is_not_bad free f.bad)
-      (λ er. true_is_not_false (e.erasing (spot_of p)) er f.stays) may))
-      h)
-      (c.left p)
+      (λ h. ⊎_elim (λ k. k)
+      (λ f. absurd (⊎_elim (λ free. free_is_not_bad free f.bad) (λ er. true_is_not_false er f.stays) may)) h) (c.left p)
 
   -- the first marks of a life
 
-  own_more : (marks : ℕ) (fence : Option Fence) (m : Mark) → t.ledger.marks ≤ marks → OwnMarkOf t fence m →
+  own_more : {marks : ℕ} {fence : Option Fence} {m : Mark} → t.ledger.marks ≤ marks → OwnMarkOf t fence m →
       IsOwnMark (book t) t.ledger.newest marks fence m
-  own_more marks fence m l o = record {
-    newer = o.newer;
-    within = let w = o.within in omega arith;
-    records = o.records;
-    fence_is = o.fence_is;
-    numbers = o.numbers;
-  }
+  own_more {marks = marks} {m = m} l o =
+      let within : m.number ≤ marks = let w = o.within in omega arith in
+      assumption
 
   opened_same : (marks : ℕ) (fence : Option Fence) (opened cell : Cell) → t.ledger.marks ≤ marks →
       IsOpenedOrOwn (book t) t.ledger.newest t.ledger.marks fence opened cell →
       IsOpenedOrOwn (book t) t.ledger.newest marks fence opened cell
   opened_same marks fence opened cell l (inl h) = inl h
-  opened_same marks fence opened cell l (inr (h, (m, is, own))) = inr (h, (m, is, own_more marks fence m l own))
+  opened_same marks fence opened cell l (inr (h, (m, is, own))) = inr (h, (m, is, own_more l own))
 
-  opened_blank : (fence : Option Fence) (opened : Cell) → IsOpenedOrOwn (book t) t.ledger.newest t.ledger.marks fence
+  opened_blank : (fence : Option Fence) {opened : Cell} → IsOpenedOrOwn (book t) t.ledger.newest t.ledger.marks fence
       opened Nothing → opened ≡ Nothing
-  opened_blank fence opened (inl h) = sym h
-  opened_blank fence opened (inr (h, own)) = h
+  opened_blank fence (inl h) = sym h
+  opened_blank fence (inr (h, own)) = h
 
   unmarked_same : (marks : ℕ) (fence : Option Fence) (lost : List Key) → t.ledger.marks ≤ marks →
       (u : UnmarkedOf t fence lost) → (p : Place) → IsLeft t e p → (e.cells p ≡ Nothing → t.disk.cells p ≡ Nothing) →
@@ -207,24 +192,24 @@ module _ (t : Translation) (e : Disk) (v : Valid t) (c : Change t e) where
   unmarked_same marks fence lost l u p (inr (inr f)) gone =
       let own = u.flies f.die p (e.cells p) f.flies in
       inr (
-        opened_blank fence (u.opening p) (subst (IsOpenedOrOwn (book t) t.ledger.newest t.ledger.marks fence
+        opened_blank fence (subst (IsOpenedOrOwn (book t) t.ledger.newest t.ledger.marks fence
             (u.opening p)) f.blank (u.same p)),
-        (own.0, own.1, own_more marks fence own.0 l own.2),
+        (own.0, own.1, own_more l own.2),
       )
 
   -- how far the mending is
 
-  last_repair : (marks : ℕ) (step : Option Step) → Follows t e marks step → (frontier : ℕ) →
+  last_repair : {marks : ℕ} {step : Option Step} → Follows t e marks step → {frontier : ℕ} →
       (frontier ≡ last_number (book t)) ⊎ ((suc frontier ≡ last_number (book t)) × IsLastRepair (book t) t.work.step) →
       (frontier ≡ last_number (book t)) ⊎ ((suc frontier ≡ last_number (book t)) × IsLastRepair (book t) step)
-  last_repair marks step f frontier (inl h) = inl h
-  last_repair marks step f frontier (inr (h, r)) = inr (h, f.repair r)
+  last_repair f (inl h) = inl h
+  last_repair f (inr (h, r)) = inr (h, f.repair r)
 
-  mending_change : (marks : ℕ) (step : Option Step) → Follows t e marks step →
+  mending_change : {marks : ℕ} {step : Option Step} → Follows t e marks step →
       (AreFreeBlank t.disk.cells t.disk.blocks t.disk.erasing → (p : Place) → e.cells p ≡ Nothing →
       t.disk.cells p ≡ Nothing) → (w : Mending) → MendingOf t w → MendingRight (book t) e
       (record t.ledger { marks = marks }) t.work.plan step w
-  mending_change marks step f gone (Unmarked fence lost) u = record {
+  mending_change {marks} f gone (Unmarked fence lost) u = record {
     opening = u.opening;
     opened = u.opened;
     fence_right = u.fence_right;
@@ -233,55 +218,42 @@ module _ (t : Translation) (e : Disk) (v : Valid t) (c : Change t e) where
     still = u.still;
     same = λ p. unmarked_same marks fence lost f.more u p (c.left p) (gone u.blank p);
     flies = λ die p cell h. let own = u.flies die p cell (c.flew die p cell h) in
-        (own.0, own.1, own_more marks fence own.0 f.more own.2);
+        (own.0, own.1, own_more f.more own.2);
     blank = blank_change u.blank;
     no_plan = u.no_plan;
   }
-  mending_change marks step f gone (Repairing left) m = record {
+  mending_change {marks} {step} f gone (Repairing left) m = record {
     mark = m.mark;
     is = m.is;
-    right = marks_change m.mark m.right marks;
-    more = record {
-      fence = m.more.fence;
-      repaired = m.more.repaired;
-      keys = m.more.keys;
-      singles = m.more.singles;
-      under_way = last_repair marks step f t.ledger.frontier m.more.under_way;
-      blank = blank_change m.more.blank;
-      no_plan = m.more.no_plan;
-    };
+    right = marks_change m.right;
+    more = assumption (last_repair f m.more.under_way, blank_change m.more.blank);
   }
-  mending_change marks step f gone Mended m = record {
-    mark = m.mark;
-    is = m.is;
-    right = marks_change m.mark m.right marks;
-    more = m.more;
-  }
+  mending_change {marks} f gone Mended m =
+      record { mark = m.mark; is = m.is; right = marks_change m.right; more = m.more }
 
   -- collection
 
-  to_copy : (marks : ℕ) (step : Option Step) → Follows t e marks step → (copies : List Place) (n i : ℕ) (p : Place) →
+  to_copy : {marks : ℕ} {step : Option Step} → Follows t e marks step → (copies : List Place) (n i : ℕ) (p : Place) →
       IsToCopy copies t.work.step n i p → IsToCopy copies step n i p
-  to_copy marks step f copies n i p (inl h) = inl h
-  to_copy marks step f copies n i p (inr (there, h)) = inr (there, f.copy (record { number = n; index = i }) p there h)
+  to_copy f copies n i p (inl h) = inl h
+  to_copy f copies n i p (inr (there, h)) = inr (there, f.copy (record { number = n; index = i }) p there h)
 
-  plan_change : (marks : ℕ) (step : Option Step) → Follows t e marks step →
+  plan_change : {marks : ℕ} {step : Option Step} → Follows t e marks step →
       PlanRight (book t) t.ledger.frontier t.ledger.standing e.blocks e.flights t.work.mending step t.work.plan
-  plan_change marks step f = record {
+  plan_change {marks} {step} f = record {
     mended = v.plan.mended;
     one = λ pl h.
         let r = v.plan.one pl h in
         record {
           state = c.victims pl.victim r.state;
-          copied = λ n i x p k. ⊎_elim (λ o. inl o) (λ y. inr (to_copy marks step f pl.copies n i p y))
-              (r.copied n i x p k);
+          copied = λ n i x p k. ⊎_elim (λ o. inl o) (λ y. inr (to_copy f pl.copies n i p y)) (r.copied n i x p k);
           flown = λ die q m k. r.flown die q m (c.flew die q (MarkPage m) k);
         };
   }
 
-  to_read_change : (marks : ℕ) (step : Option Step) → Follows t e marks step →
+  to_read_change : {marks : ℕ} {step : Option Step} → Follows t e marks step →
       ToReadRight e.cells e.finished e.blocks e.erasing step t.work.plan
-  to_read_change marks step f = record {
+  to_read_change f = record {
     wanted = ⊎_elim (λ h. subst (All IsThere) (sym h) old.wanted) (λ h. subst (All IsThere) (sym h) (All-nil IsThere))
         f.wants;
     copied = old.copied;
@@ -291,9 +263,7 @@ module _ (t : Translation) (e : Disk) (v : Valid t) (c : Change t e) where
       IsThere w = IsNeededPage e.cells e.finished e.blocks e.erasing w.place
 
       old : ToReadRight e.cells e.finished e.blocks e.erasing t.work.step t.work.plan
-      old = to_read_stay t.disk.cells e.cells t.disk.finished e.finished t.disk.blocks e.blocks t.disk.erasing e.erasing
-          t.work.step t.work.plan
-          (λ p h. needed_keeps t.disk e p c.keeps h) v.to_read
+      old = to_read_stay (λ p h. needed_keeps t.disk e c.keeps h) v.to_read
 
   numbered_more : (marks : ℕ) → t.ledger.marks ≤ marks → AreNumbered marks e.cells
   numbered_more marks l p m h = let z = numbered_change p m h in omega arith
@@ -306,25 +276,17 @@ IsGone t e = AreFreeBlank t.disk.cells t.disk.blocks t.disk.erasing → (p : Pla
 pub changed : {t : Translation} {e : Disk} {marks : ℕ} {step : Option Step} → Valid t → Change t e → IsGone t e →
     Follows t e marks step → HeldStay t e →
     Valid (record t { disk = e; ledger = record t.ledger { marks = marks }; work = record t.work { step = step } })
-changed {t} {e} {marks} {step} v c gone f held = record {
-  book_right = v.book_right;
-  frontier = v.frontier;
-  pages = pages_change t e v c;
-  blocks = c.blocks;
-  flights = flights_change t e v c marks step f;
-  safe = all_safe c.keeps (omega arith) v.safe;
-  numbered = numbered_more t e v c marks f.more;
-  mending = mending_change t e v c marks step f gone t.work.mending v.mending;
-  step = f.right;
-  plan = plan_change t e v c marks step f;
-  history = v.history;
-  slots = v.slots;
-  unmended = record { stand = λ un n i p h. secure_moves c.keeps (v.unmended.stand un n i p h) };
-  pins = held.0;
-  rests = held.1;
-  reads = c.reads;
-  to_read = to_read_change t e v c marks step f;
-}
+changed {t} {e} {marks} {step} v c gone f held = assumption (
+  pages_change t e v c,
+  flights_change t e v c f,
+  all_safe {b = book t} {marked' = recorded_in t.ledger.newest} c.keeps (omega arith) v.safe,
+  numbered_more t e v c marks f.more,
+  mending_change t e v c f gone t.work.mending v.mending,
+  plan_change t e v c f,
+  λ (un : is_mended t.work.mending ≡ false) (n i : ℕ) (p : Place) (h : t.ledger.standing n i ≡ Some p).
+      secure_moves c.keeps (v.unmended.stand un n i p h),
+  to_read_change t e v c f,
+)
 
 -- The same step
 
@@ -336,18 +298,13 @@ HasNoMore t e = (q : Place) (m : Mark) → e.cells q ≡ MarkPage m → t.disk.c
 pub kind_goes_on : (b : Book) (marks : ℕ) {before after : Cells} (w : Mending) (plan : Option Plan) (kind : StepKind) →
     ((q : Place) (m : Mark) → after q ≡ MarkPage m → before q ≡ MarkPage m) → StepKindRight b marks before w plan kind →
     StepKindRight b marks after w plan kind
-kind_goes_on b marks w plan (MarkStep number fence) old r = record {
-  last = r.last;
-  given = r.given;
-  above = λ q m h. r.above q m (old q m h);
-  fence_right = r.fence_right;
-  behind_copies = r.behind_copies;
-}
+kind_goes_on b marks {before} {after} w plan (MarkStep number fence) old r =
+    assumption (λ (q : Place) (m : Mark) (h : after q ≡ MarkPage m). r.above q m (old q m h))
 kind_goes_on b marks w plan kind old r = r
 
-pub same_step : (t : Translation) {e : Disk} → Valid t → Change t e → HasNoMore t e →
+pub same_step : {t : Translation} {e : Disk} → Valid t → Change t e → HasNoMore t e →
     Follows t e t.ledger.marks t.work.step
-same_step t {e} v c old = record {
+same_step {t} v c old = record {
   more = omega arith;
   right = record {
     kind = λ s h. kind_goes_on (book t) t.ledger.marks t.work.mending t.work.plan s.kind old (v.step.kind s h);
@@ -359,9 +316,7 @@ same_step t {e} v c old = record {
 }
 
 -- a change that only loses pages
-pub lost_pages : (t : Translation) {e : Disk} → Valid t → Change t e → IsGone t e →
+pub lost_pages : {t : Translation} {e : Disk} → Valid t → Change t e → IsGone t e →
     ((q : Place) → (e.cells q ≡ t.disk.cells q) ⊎ (e.cells q ≡ Nothing)) → HeldStay t e → Valid (record t { disk = e })
-lost_pages t v c gone less held =
-    changed v c gone
-    (same_step t v c (λ q m h. ⊎_elim (λ k. sym k ∙ h) (λ k. absurd (mark_not_nothing _ _ h k)) (less q)))
-    held
+lost_pages {t} v c gone less held = changed v c gone
+    (same_step v c (λ q m h. ⊎_elim (λ k. sym k ∙ h) (λ k. absurd (mark_not_nothing _ _ h k)) (less q))) held

@@ -1,34 +1,25 @@
 -- The end of a job: what the dies hold then, and what tasks are told.
-use Rattle.std.proofs.Common.{◌≡◌, ◌⊎◌, ℕ, ◌≤◌, ◌==◌, ◌&&◌, Bool, true, false, [], ◌∷◌, Option, Some, None, length, map}
-use Rattle.std.proofs.Common.{refl, sym, subst, inl, inr, arith}
-use Rattle.std.specs.Prelude.{if◌then◌else◌, nat_lt}
+use Rattle.power_loss.proofs.Common.{◌≡◌, ◌⊎◌, ℕ, ◌≤◌, ◌==◌, ◌&&◌, Bool, true, false, [], ◌∷◌, Option, Some, None, map}
+use Rattle.power_loss.proofs.Common.{refl, sym, subst, inl, inr, arith, nat_lt, Array, Cell, Cells, GroupPage, IsCell}
+use Rattle.power_loss.proofs.Common.{MarkPage, Nothing, Shows, same_place, CellCrash, Crash, Disk, Erasing, Flight}
+use Rattle.power_loss.proofs.Common.{ForNobody, ForRest, ForStep, ForTask, Programming, Reader, Reading, Spot, Touches}
+use Rattle.power_loss.proofs.Common.{at_place, flight_alone, page_of, program_failed, programmed, same_spot, spot_of}
+use Rattle.power_loss.proofs.Common.{EndJob, Ending, MayEnd, ReadRight, ReadWrong, WentWell, WentWrong, die_idle}
+use Rattle.power_loss.proofs.Common.{end_flight, freed, moved, read_right, read_wrong, MayBeLeft, Plan, Translation}
+use Rattle.power_loss.proofs.Common.{has_mark_number, is_mended, mark_ordered, Numbers, Fence, Place, torn_is_nothing}
+use Rattle.power_loss.proofs.MachineWords.{blank_page, Answering, Awaiting, Deed, Gathering, NotRead, ReadState}
+use Rattle.power_loss.proofs.MachineWords.{Sending, Task, SendingBytes, WasRead, is_task_of, array_behind, claimed_by}
+use Rattle.power_loss.proofs.MachineWords.{deed_read, ends_with, in_block, read_noted, task_read, with_moves, State}
+use Rattle.power_loss.proofs.MachineWords.{numbers_of, DeedFits, IsTied, claim_of}
+use Rattle.std.specs.Prelude.{if◌then◌else◌}
 use Rattle.std.proofs.lemmas.Bool.{ltb-false}
-use Rattle.ufs_spec.specs.Cells.{Array, Cell, Cells, GroupPage, IsCell, MarkPage, Nothing, Shows, same_place}
-use Rattle.ufs_spec.specs.Dies.{blank_page}
-use Rattle.ufs_spec.specs.Disk.{CellCrash, Crash, Disk, Erasing, Flight, ForNobody, ForRest, ForStep, ForTask}
-use Rattle.ufs_spec.specs.Disk.{Programming, Reader, Reading, Spot, Touches, at_place, flight_alone, page_of}
-use Rattle.ufs_spec.specs.Disk.{program_failed, programmed, same_spot, spot_of}
-use Rattle.ufs_spec.specs.Exchanges.{Answering, Awaiting, Deed, Gathering, NotRead, ReadState, Sending, Task}
-use Rattle.ufs_spec.specs.Exchanges.{SendingBytes, WasRead, is_task_of}
-use Rattle.ufs_spec.specs.Machine.{array_behind, claimed_by, deed_read, ends_with, in_block, read_noted, task_read}
-use Rattle.ufs_spec.specs.Machine.{with_moves}
-use Rattle.ufs_spec.specs.Moves.{EndJob, Ending, MayEnd, ReadRight, ReadWrong, WentWell, WentWrong, die_idle}
-use Rattle.ufs_spec.specs.Moves.{end_flight, freed, moved, read_right, read_wrong}
-use Rattle.ufs_spec.specs.Pages.{MayBeLeft}
-use Rattle.ufs_spec.specs.Refusals.{State, numbers_of}
-use Rattle.ufs_spec.specs.Translation.{Plan, Translation, has_mark_number, is_mended, mark_ordered}
-use Rattle.ufs_spec.specs.declared.configs.Numbers.{Numbers}
-use Rattle.ufs_spec.specs.declared.flash.Fence.{Fence}
-use Rattle.ufs_spec.specs.declared.flash.Place.{Place}
 use Rattle.ufs_laws.proofs.pages.BlankPages.{nothing_is_blank}
 use Rattle.ufs_laws.proofs.pages.PageIsOneCell.{one_cell}
-use Rattle.power_loss.specs.Exchange.{DeedFits, IsTied, claim_of}
 use Rattle.power_loss.proofs.calls.TiesToDies.{end_leaves, fits_of, tasks_stay, ties_of, ties_stay, whole}
 use Rattle.power_loss.proofs.moves.MovesKeepCellsFitting.{move_fits, move_stays}
 use Rattle.power_loss.proofs.open_tasks.TaskLists.{KeepsTasks, tasks_kept}
 use Rattle.power_loss.proofs.calls.RightChanges.{Right}
 use Rattle.ufs_laws.proofs.walk.SmallChanges.{Maps, One, Still, job_over, reads}
-use Rattle.ufs_spec.proofs.SealedPages.{torn_is_nothing}
 
 -- What tasks are told
 
@@ -46,9 +37,9 @@ read_claims n index state task (SendingBytes bytes) = omega arith
 read_claims n index state task (Awaiting commands) = omega arith
 read_claims n index state task (Answering status carried) = omega arith
 
-read_keeps : (n : Numbers) {a : ℕ} (m : Bool) (tag index : ℕ) (state : ReadState) →
+read_keeps : {n : Numbers} {a : ℕ} {m : Bool} (tag index : ℕ) (state : ReadState) →
     KeepsTasks n a m (task_read tag index state)
-read_keeps n {a} m tag index state = record {
+read_keeps {n} {a} {m} tag index state = record {
   tag = λ t. same t (is_task_of tag t);
   fits = λ t h. fits t h (is_task_of tag t);
   claim = λ t. claim t (is_task_of tag t);
@@ -71,24 +62,22 @@ read_keeps n {a} m tag index state = record {
     claim t false = omega arith
 
 -- the task that a read was for is told of it
-reader_right : (s : State) (tag index : ℕ) (state : ReadState) → IsTied s →
+reader_right : {s : State} (tag index : ℕ) (state : ReadState) → IsTied s →
     Right s (record s { tasks = map (task_read tag index state) s.tasks })
-reader_right s tag index state v =
+reader_right {s} tag index state v =
     let n = numbers_of s in
     let m = is_mended s.translation.work.mending in
     One (Maps (task_read tag index state)) (record {
       small = reads tag index state;
       layer = tt;
-      tasks = tasks_kept n (length s.accepted) m s.translation.claims (task_read tag index state) s.tasks s.shorts
-          (read_keeps n m tag index state) v.tasks;
+      tasks = tasks_kept (read_keeps tag index state) v.tasks;
     })
 
 told_right : (s : State) (die : ℕ) (reader : Reader) (state : ReadState) (ending : Ending) {array : Array} →
     IsTied (record (with_moves s (EndJob die ending ∷ [])) { array = array }) →
     Right (record (with_moves s (EndJob die ending ∷ [])) { array = array })
     (with_moves (record (read_noted s reader state) { array = array }) (EndJob die ending ∷ []))
-told_right s die (ForTask tag index) state ending {array} v = reader_right
-    (record (with_moves s (EndJob die ending ∷ [])) { array = array }) tag index state v
+told_right s die (ForTask tag index) state ending {array} v = reader_right tag index state v
 told_right s die ForStep state ending v = Still
 told_right s die (ForRest number index) state ending v = Still
 told_right s die ForNobody state ending v = Still
@@ -118,18 +107,14 @@ over_keeps s die flight ending left v e r =
     let t = s.translation in
     let u = moved t (EndJob die ending) in
     let stays = move_stays t (EndJob die ending) in
-    let leaves = end_leaves t die (t.disk.flights die) ending v.valid in
+    let leaves = end_leaves die (t.disk.flights die) ending v.valid in
     let shown : Shows (array_behind s flight ending left) u.disk.cells =
-    subst (λ x. Shows (array_behind s flight ending left) (end_flight t die x ending).disk.cells)
-    (sym e) r.shown in
-    let may : MayEnd t.disk die (t.disk.flights die) ending = subst (λ x. MayEnd t.disk die x ending)
-    (sym e) r.may in
+    subst (λ x. Shows (array_behind s flight ending left) (end_flight t die x ending).disk.cells) (sym e) r.shown in
+    let may : MayEnd t.disk die (t.disk.flights die) ending = subst (λ x. MayEnd t.disk die x ending) (sym e) r.may in
     let claims = leaves.claims in
-    whole (job_over s die (Some flight) ending left)
-    (move_fits t (EndJob die ending) (fits_of s v) may)
-    (ties_stay s.array (array_behind s flight ending left) s.base s.accepted t u
-    (ties_of s v) stays shown leaves.groups)
-    (tasks_stay s s.accepted u stays (omega arith) (omega arith) v.tasks)
+    whole (job_over s die (Some flight) ending left) (move_fits (EndJob die ending) (fits_of v) may)
+    (ties_stay
+    (ties_of v) stays shown leaves.groups) (tasks_stay s s.accepted stays (omega arith) (omega arith) v.tasks)
 
 -- What the dies show
 
@@ -164,14 +149,14 @@ again_shown : (array : Array) (u : Translation) (fence : Option Fence) (b : Bool
 again_shown array u fence true h = h
 again_shown array u fence false h = h
 
-pub written_shown : (s : State) (die : ℕ) (p : Place) (cell : Cell) (left : Array) → IsTied s →
+pub written_shown : {s : State} (die : ℕ) (p : Place) (cell : Cell) (left : Array) → IsTied s →
     s.translation.disk.flights die ≡ Some (Programming p cell) →
     Shows (array_behind s (Programming p cell) WentWell left) (end_flight s.translation die
     (Some (Programming p cell)) WentWell).disk.cells
-written_shown s die p Nothing left v e = absurd (v.valid.flights.something die p e)
-written_shown s die p (GroupPage tag body) left v e = put_shown s.array s.translation.disk.cells p
+written_shown die p Nothing left v e = absurd (v.valid.flights.something die p e)
+written_shown {s} die p (GroupPage tag body) left v e = put_shown s.array s.translation.disk.cells p
     (GroupPage tag body) v.shown (v.flights die p (GroupPage tag body) e)
-written_shown s die p (MarkPage m) left v e =
+written_shown {s} die p (MarkPage m) left v e =
     freed_shown (at_place s.array p (page_of (MarkPage m))) (programmed s.translation.numbers.pages s.translation.disk p
     (MarkPage m)) s.translation.work.plan
     (put_shown s.array s.translation.disk.cells p (MarkPage m) v.shown (v.flights die p (MarkPage m) e))
@@ -219,9 +204,9 @@ crash_cells array left cells new flights shown after crash fits p = by (crash p)
     by (inl e) = inl (stayed e)
     by (inr h) = touched h.0 h.1 h.2
 
-alone_fits : (s : State) (die e : ℕ) (p : Place) (cell : Cell) → IsTied s →
+alone_fits : {s : State} (die e : ℕ) (p : Place) (cell : Cell) → IsTied s →
     Touches (flight_alone s.translation.disk.flights die e) p cell → IsCell (page_of cell) cell
-alone_fits s die e p cell v = by (e == die)
+alone_fits {s} die e p cell v = by (e == die)
   where
     touch : (x : Option Flight) → s.translation.disk.flights e ≡ x → Touches x p cell → IsCell (page_of cell) cell
     touch None is h = absurd h
@@ -240,11 +225,10 @@ left_shown s die p (MarkPage m) left cells h =
     (has_mark_number s.translation) h
 left_shown s die p cell left cells h = h
 
-pub failed_keeps : (s : State) (die : ℕ) (flight : Flight) (cells : Cells) (left : Array) → IsTied s →
+pub failed_keeps : {s : State} {die : ℕ} {flight : Flight} (cells : Cells) {left : Array} → IsTied s →
     s.translation.disk.flights die ≡ Some flight → Crash s.array (flight_alone s.translation.disk.flights die) left →
     Shows left cells → (CellCrash s.translation.disk.cells (flight_alone s.translation.disk.flights die) cells →
     EndsRight s die flight (WentWrong cells) left) → IsTied (job_over s die (Some flight) (WentWrong cells) left)
-failed_keeps s die flight cells left v e crash shown right =
-    over_keeps s die flight (WentWrong cells) left v e
+failed_keeps {s} {die} {flight} cells {left} v e crash shown right = over_keeps s die flight (WentWrong cells) left v e
     (right (crash_cells s.array left s.translation.disk.cells cells (flight_alone s.translation.disk.flights die)
-    v.shown shown crash (λ d p cell h. alone_fits s die d p cell v h)))
+    v.shown shown crash (λ d p cell h. alone_fits die d p cell v h)))

@@ -1,58 +1,35 @@
 -- Erases that end keep a life valid.
-use Rattle.std.proofs.Common.{◌≡◌, ◌≢◌, ℕ, ◌<◌, ◌≤◌, Bool, true, false, ◌⊎◌, Some, None, refl, sym, ap, ◌∙◌, inl, inr}
-use Rattle.std.proofs.Common.{⊎_elim, arith}
-use Rattle.ufs_spec.specs.Cells.{Cell, Cells, Nothing}
-use Rattle.ufs_spec.specs.Disk.{BlockState, Bad, CellCrash, Closed, Erasing, Filling, Free, Programming, Spot, at_die}
-use Rattle.ufs_spec.specs.Disk.{at_spot, erase_failed, erased, flight_alone, spot_of}
-use Rattle.ufs_spec.specs.Moves.{WentWell, WentWrong, job_ended}
-use Rattle.ufs_spec.specs.Translation.{Translation}
-use Rattle.ufs_spec.specs.declared.flash.Place.{Place}
-use Rattle.ufs_spec.proofs.Updates.{at_die_is, at_spot_is}
-use Rattle.ufs_spec.proofs.Equalities.{spot_cases}
-use Rattle.power_loss.specs.Invariant.{BlocksRight, EraseRight, ProgramRight, Valid}
+use Rattle.power_loss.proofs.Common.{◌≡◌, ◌≢◌, ℕ, ◌<◌, ◌≤◌, Bool, true, false, ◌⊎◌, Some, None, refl, sym, ap, ◌∙◌, inl}
+use Rattle.power_loss.proofs.Common.{inr, ⊎_elim, arith, Cell, Cells, Nothing, BlockState, Bad, CellCrash, Erasing}
+use Rattle.power_loss.proofs.Common.{Filling, Free, Programming, Spot, at_die, at_spot, erase_failed, erased}
+use Rattle.power_loss.proofs.Common.{flight_alone, spot_of, WentWell, WentWrong, job_ended, Translation, Place}
+use Rattle.power_loss.proofs.Common.{at_die_is, at_spot_is, spot_cases, BlocksRight, EraseRight, ProgramRight, Valid}
+use Rattle.power_loss.proofs.Common.{none-some}
 use Rattle.power_loss.proofs.jobs.DiskChanges.{Change, lost_pages}
 use Rattle.power_loss.proofs.jobs.ReadsAndTasks.{idle_fewer}
 use Rattle.power_loss.proofs.kept_pages.ReadsStay.{idle_reads, reads_stay}
 use Rattle.power_loss.proofs.kept_pages.PagesStay.{held_stay, stay_erased, stay_unerased}
-use Rattle.power_loss.proofs.jobs.StandsSecurely.{at_spot_here, at_spot_other, erase_left, erased_here, erased_other}
-use Rattle.power_loss.proofs.jobs.StandsSecurely.{keeps_erase_failed, keeps_erased, true_is_not_false}
-
--- a block that was closed or bad is not the one that was free
-pub not_free : (f : Spot → BlockState) {s t : Spot} {x : BlockState} → f s ≡ Free → f t ≡ x → x ≢ Free → t ≢ s
-not_free f free is other h = other (sym is ∙ ap f h ∙ free)
-
-filling_not_free : {next : ℕ} → Filling next ≢ Free
-filling_not_free e = cc
-
-closed_not_free : Closed ≢ Free
-closed_not_free e = cc
-
-bad_not_free : Bad ≢ Free
-bad_not_free e = cc
+use Rattle.power_loss.proofs.jobs.StandsSecurely.{at_spot_other, erase_left, erased_here, erased_other}
+use Rattle.power_loss.proofs.jobs.StandsSecurely.{keeps_erase_failed, keeps_erased, true_is_not_false, blocks_bad}
+use Rattle.power_loss.proofs.jobs.StandsSecurely.{closed_is_not_free, free_is_not_bad, free_is_not_filling, one_filling}
+use Rattle.power_loss.proofs.jobs.StandsSecurely.{state_kept, victim_kept}
 
 -- jobs of the other dies
 
-other_program : (t : Translation) (die : ℕ) (s : Spot) (x : BlockState) → Valid t → t.disk.blocks s ≡ Free →
+other_program : {t : Translation} (die : ℕ) (s : Spot) (x : BlockState) → Valid t → t.disk.blocks s ≡ Free →
     (other : ℕ) (p : Place) (cell : Cell) → at_die t.disk.flights die None other ≡ Some (Programming p cell) →
     ProgramRight t.numbers (at_spot t.disk.blocks s x) other p
-other_program t die s x v free other p cell h =
-    let r = v.flights.programs other p cell ((idle_fewer {f = t.disk.flights} die).programs other p cell h) in
-    record {
+other_program {t} die s x v free other p cell h =
+    let r = v.flights.programs other p cell ((idle_fewer {f = t.disk.flights} die).programs other p cell h) in record {
       at_home = r.at_home;
       place = r.place;
-      next = at_spot_other t.disk.blocks s x (spot_of p) (not_free t.disk.blocks free r.next (filling_not_free)) ∙
-          r.next;
+      next = state_kept t.disk.blocks s x r.next (λ e. free_is_not_filling free e);
     }
 
-none_erases : {s : Spot} → None ≡ Some (Erasing s) → ⊥
-none_erases e = cc
-
-other_erase : (t : Translation) {die : ℕ} (s : Spot) (x : BlockState) {erasing : Spot → Bool} → Valid t → s.die ≡ die →
+other_erase : {t : Translation} {die : ℕ} (s : Spot) (x : BlockState) {erasing : Spot → Bool} → Valid t → s.die ≡ die →
     ((a : Spot) → a ≢ s → erasing a ≡ t.disk.erasing a) → (other : ℕ) (a : Spot) →
     at_die t.disk.flights die None other ≡ Some (Erasing a) → EraseRight (at_spot t.disk.blocks s x) erasing other a
-other_erase t {die} s x v home same other a h =
-    ⊎_elim
-    (λ k. absurd (none_erases k.1))
+other_erase {t} {die} s x v home same other a h = ⊎_elim (λ k. absurd (none-some _ k.1))
     (λ k.
     let r = v.flights.erases other a k.1 in
     let out : a ≢ s = λ e. k.0 (sym r.at_home ∙ ap (λ z. z.die) e ∙ home) in
@@ -60,39 +37,27 @@ other_erase t {die} s x v home same other a h =
       at_home = r.at_home;
       free = at_spot_other t.disk.blocks s x a out ∙ r.free;
       counted = same a out ∙ r.counted;
-    })
-    (at_die_is t.disk.flights die None other (Some (Erasing a)) h)
+    }) (at_die_is t.disk.flights die None other (Some (Erasing a)) h)
 
 -- the state of a block that was closed or bad
-
-victim_stays : (f : Spot → BlockState) (s a : Spot) (x : BlockState) → f s ≡ Free → (f a ≡ Closed) ⊎ (f a ≡ Bad) →
-    (at_spot f s x a ≡ Closed) ⊎ (at_spot f s x a ≡ Bad)
-victim_stays f s a x free (inl h) =
-    inl (at_spot_other f s x a (not_free f {s = s} {t = a} {x = Closed} free h closed_not_free) ∙ h)
-victim_stays f s a x free (inr h) = inr (at_spot_other f s x a (not_free f free h bad_not_free) ∙ h)
 
 -- An erase that went well
 
 fits : {x next pages : ℕ} → 1 ≤ pages → x ≡ 0 → next ≡ x → next < pages
 fits l e f = omega arith
 
-filling_zero : {next : ℕ} → Filling 0 ≡ Filling next → next ≡ 0
-filling_zero e = cc
-
-erased_blocks : (t : Translation) (s : Spot) → Valid t → t.disk.blocks s ≡ Free → BlocksRight t.numbers
+erased_blocks : {t : Translation} (s : Spot) → Valid t → t.disk.blocks s ≡ Free → BlocksRight t.numbers
     (erased t.disk s).cells t.disk.finished (erased t.disk s).blocks (erased t.disk s).erasing
-erased_blocks t s v free = record {
-  unfinished = λ p h. let r = v.blocks.unfinished p h in at_spot_other t.disk.blocks s (Filling 0) (spot_of p)
-      (not_free t.disk.blocks free r bad_not_free) ∙ r;
+erased_blocks {t} s v free = record {
+  unfinished = λ p h. let r = v.blocks.unfinished p h in
+      state_kept t.disk.blocks s (Filling 0) r (free_is_not_bad free);
   filling = λ a next h. ⊎_elim
-      (λ k. let z = filling_zero k.1 in let l = v.book_right.pages in
-      omega arith)
-      (λ k. v.blocks.filling a next k.1)
-      (at_spot_is t.disk.blocks s (Filling 0) a (Filling next) h);
-  blank = λ p next h l. ⊎_elim (λ k. erased_here t.disk s p k.0)
+      (λ k. let z = one_filling k.1 in let l = v.book_right.pages in
+      omega arith) (λ k. v.blocks.filling a next k.1) (at_spot_is t.disk.blocks s (Filling 0) a (Filling next) h);
+  blank = λ p next h l. ⊎_elim (λ k. erased_here t.disk p k.0)
       (λ k. erased_other t.disk s p k.0 ∙ v.blocks.blank p next k.1 l)
       (at_spot_is t.disk.blocks s (Filling 0) (spot_of p) (Filling next) h);
-  erased = λ a h. ⊎_elim (λ k. absurd (true_is_not_false true refl (sym k.1)))
+  erased = λ a h. ⊎_elim (λ k. absurd (true_is_not_false refl (sym k.1)))
       (λ k. ⊎_elim (λ o. inl (at_spot_other t.disk.blocks s (Filling 0) a k.0 ∙
       o)) (λ o. inr (at_spot_other t.disk.blocks s (Filling 0) a k.0 ∙ o)) (v.blocks.erased a k.1))
       (at_spot_is t.disk.erasing s false a true h);
@@ -100,89 +65,70 @@ erased_blocks t s v free = record {
 
 erased_less : (t : Translation) (s : Spot) (q : Place) → ((erased t.disk s).cells q ≡ t.disk.cells q) ⊎
     ((erased t.disk s).cells q ≡ Nothing)
-erased_less t s q = ⊎_elim (λ k. inr (erased_here t.disk s q k.1)) (λ k. inl (erased_other t.disk s q k.1))
+erased_less t s q = ⊎_elim (λ k. inr (erased_here t.disk q k.1)) (λ k. inl (erased_other t.disk s q k.1))
     (spot_cases (spot_of q) s)
 
-erased_change : (t : Translation) (s : Spot) → Valid t → t.disk.blocks s ≡ Free → t.disk.erasing s ≡ true →
+erased_change : {t : Translation} (s : Spot) → Valid t → t.disk.blocks s ≡ Free → t.disk.erasing s ≡ true →
     Change t (erased t.disk s)
-erased_change t s v free erasing = record {
+erased_change {t} s v free erasing = record {
   keeps = keeps_erased s erasing;
   left = λ q. ⊎_elim (λ k. inl k) (λ k. inr (inl k)) (erased_less t s q);
   ended = λ q h. h;
-  blocks = erased_blocks t s v free;
+  blocks = erased_blocks s v free;
   flew = (idle_fewer s.die).programs;
-  programs = other_program t s.die s (Filling 0) v free;
-  erases = other_erase t s (Filling 0) v refl (λ a out. at_spot_other t.disk.erasing s false a out);
-  freed = λ a h. ⊎_elim (λ k. absurd (filling_not_free k.1)) (λ k. k.1)
+  programs = other_program s.die s (Filling 0) v free;
+  erases = other_erase s (Filling 0) v refl (λ a out. at_spot_other t.disk.erasing s false a out);
+  freed = λ a h. ⊎_elim (λ k. absurd (free_is_not_filling k.1 refl)) (λ k. k.1)
       (at_spot_is t.disk.blocks s (Filling 0) a Free h);
-  spent = λ a h. ⊎_elim (λ k. absurd (true_is_not_false true refl (sym k.1))) (λ k. inr k.1)
+  spent = λ a h. ⊎_elim (λ k. absurd (true_is_not_false refl (sym k.1))) (λ k. inr k.1)
       (at_spot_is t.disk.erasing s false a true h);
-  victims = λ a h. victim_stays t.disk.blocks s a (Filling 0) free h;
-  reads = reads_stay t.disk.cells (erased t.disk s).cells t.disk.finished t.disk.finished t.disk.erasing
-      (at_spot t.disk.erasing s false) t.disk.flights (at_die t.disk.flights s.die None)
-      (stay_erased t.disk s erasing) (idle_reads t.disk.flights s.die) v.reads;
+  victims = λ a. victim_kept t.disk.blocks s (Filling 0) (λ e. closed_is_not_free e free) (free_is_not_bad free);
+  reads = reads_stay (stay_erased t.disk s erasing) (idle_reads t.disk.flights s.die) v.reads;
 }
 
-pub ends_erase : (t : Translation) (die : ℕ) (s : Spot) → Valid t → t.disk.flights die ≡ Some (Erasing s) →
+pub ends_erase : {t : Translation} (die : ℕ) (s : Spot) → Valid t → t.disk.flights die ≡ Some (Erasing s) →
     Valid (job_ended t die (Erasing s) WentWell)
-ends_erase t die s v e =
+ends_erase {t} die s v e =
     let r = v.flights.erases die s e in
-    lost_pages t v (erased_change t s v r.free r.counted)
+    lost_pages v (erased_change s v r.free r.counted)
     (λ blank p h. ⊎_elim (λ k. blank p (inl (ap t.disk.blocks k.1 ∙ r.free))) (λ k. sym (erased_other t.disk s p k.1) ∙
-    h) (spot_cases (spot_of p) s))
-    (erased_less t s)
-    (held_stay t (erased t.disk s) v (stay_erased t.disk s r.counted))
+    h) (spot_cases (spot_of p) s)) (erased_less t s) (held_stay (erased t.disk s) v (stay_erased t.disk s r.counted))
 
 -- An erase that failed
 
-failed_blocks : (t : Translation) (s : Spot) {left : Cells} → Valid t → t.disk.blocks s ≡ Free →
+failed_blocks : {t : Translation} (s : Spot) {left : Cells} → Valid t → t.disk.blocks s ≡ Free →
     ((q : Place) → (left q ≡ t.disk.cells q) ⊎ (left q ≡ Nothing)) → BlocksRight t.numbers left t.disk.finished
     (at_spot t.disk.blocks s Bad) t.disk.erasing
-failed_blocks t s v free less = record {
-  unfinished = λ p h. let r = v.blocks.unfinished p h in at_spot_other t.disk.blocks s Bad (spot_of p)
-      (not_free t.disk.blocks free r bad_not_free) ∙ r;
-  filling = λ a next h. ⊎_elim (λ k. absurd (bad_filling next k.1)) (λ k. v.blocks.filling a next k.1)
-      (at_spot_is t.disk.blocks s Bad a (Filling next) h);
-  blank = λ p next h l. ⊎_elim (λ k. absurd (bad_filling next k.1))
-      (λ k. ⊎_elim (λ y. y ∙ v.blocks.blank p next k.1 l) (λ y. y) (less p))
-      (at_spot_is t.disk.blocks s Bad (spot_of p) (Filling next) h);
-  erased = λ a h. ⊎_elim (λ k. inr (at_spot_here t.disk.blocks s Bad a k.1))
-      (λ k. ⊎_elim (λ o. inl (at_spot_other t.disk.blocks s Bad a k.1 ∙ o))
-      (λ o. inr (at_spot_other t.disk.blocks s Bad a k.1 ∙ o)) (v.blocks.erased a h))
-      (spot_cases a s);
-}
-  where
-    bad_filling : (next : ℕ) → Bad ≡ Filling next → ⊥
-    bad_filling next e = cc
+failed_blocks {t} s v free less =
+    blocks_bad s v.blocks (λ q h. inr h) (λ q out h. ⊎_elim (λ y. y ∙ h) (λ y. y) (less q))
 
-failed_change : (t : Translation) (s : Spot) (left : Cells) → Valid t → t.disk.blocks s ≡ Free →
+failed_change : {t : Translation} {s : Spot} (left : Cells) → Valid t → t.disk.blocks s ≡ Free →
     t.disk.erasing s ≡ true → ((q : Place) → (left q ≡ t.disk.cells q) ⊎ ((spot_of q ≡ s) × (left q ≡ Nothing))) →
     Change t (erase_failed t.disk s left)
-failed_change t s left v free erasing less = record {
+failed_change {t} {s} left v free erasing less = record {
   keeps = keeps_erase_failed s erasing (λ q out. ⊎_elim (λ k. k) (λ k. absurd (out k.0)) (less q));
   left = λ q. ⊎_elim (λ k. inl k) (λ k. inr (inl k.1)) (less q);
   ended = λ q h. h;
-  blocks = failed_blocks t s v free (λ q. ⊎_elim (λ k. inl k) (λ k. inr k.1) (less q));
+  blocks = failed_blocks s v free (λ q. ⊎_elim (λ k. inl k) (λ k. inr k.1) (less q));
   flew = (idle_fewer s.die).programs;
-  programs = other_program t s.die s Bad v free;
-  erases = other_erase t s Bad v refl (λ a out. refl);
-  freed = λ a h. ⊎_elim (λ k. absurd (bad_not_free k.1)) (λ k. k.1) (at_spot_is t.disk.blocks s Bad a Free h);
+  programs = other_program s.die s Bad v free;
+  erases = other_erase s Bad v refl (λ a out. refl);
+  freed = λ a h. ⊎_elim (λ k. absurd (free_is_not_bad k.1 refl)) (λ k. k.1) (at_spot_is t.disk.blocks s Bad a Free h);
   spent = λ a h. inr h;
-  victims = λ a h. victim_stays t.disk.blocks s a Bad free h;
-  reads = reads_stay t.disk.cells left t.disk.finished t.disk.finished t.disk.erasing t.disk.erasing t.disk.flights
-      (at_die t.disk.flights s.die None)
+  victims = λ a. victim_kept t.disk.blocks s Bad (λ e. closed_is_not_free e free) (free_is_not_bad free);
+  reads = reads_stay
       (stay_unerased t.disk.cells left t.disk.finished t.disk.erasing s (λ q. left q ≡ Nothing) erasing less)
       (idle_reads t.disk.flights s.die) v.reads;
 }
 
-pub fails_erase : (t : Translation) (die : ℕ) (s : Spot) (left : Cells) → Valid t → t.disk.flights die ≡ Some
+pub fails_erase : {t : Translation} (die : ℕ) (s : Spot) (left : Cells) → Valid t → t.disk.flights die ≡ Some
     (Erasing s) → CellCrash t.disk.cells (flight_alone t.disk.flights die) left →
     Valid (job_ended t die (Erasing s) (WentWrong left))
-fails_erase t die s left v e crash =
+fails_erase {t} die s left v e crash =
     let r = v.flights.erases die s e in
-    let less = erase_left t.disk die s left e crash in
-    lost_pages t v (failed_change t s left v r.free r.counted less)
+    let less = erase_left t.disk die left e crash in
+    lost_pages v (failed_change left v r.free r.counted less)
     (λ blank p h. ⊎_elim (λ k. sym k ∙ h) (λ k. blank p (inl (ap t.disk.blocks k.0 ∙ r.free))) (less p))
     (λ q. ⊎_elim (λ k. inl k) (λ k. inr k.1) (less q))
-    (held_stay t (erase_failed t.disk s left) v (stay_unerased t.disk.cells left t.disk.finished t.disk.erasing s
+    (held_stay (erase_failed t.disk s left) v (stay_unerased t.disk.cells left t.disk.finished t.disk.erasing s
     (λ q. left q ≡ Nothing) r.counted less))

@@ -1,28 +1,15 @@
 -- A program and an erase that a die is given keep a life valid.
-use Rattle.std.proofs.Common.{◌≡◌, ℕ, zero, suc, ◌<◌, ◌≤◌, Bool, true, false, ◌⊎◌, List, [], ◌∷◌, Option, Some, None}
-use Rattle.std.proofs.Common.{refl, sym, ap, ◌∙◌, subst, inl, inr, ⊎_elim, arith}
-use Rattle.std.specs.List.{list_any}
-use Rattle.std.proofs.lemmas.List.Folds.{list_any-append}
-use Rattle.ufs_spec.specs.Cells.{Cell, Cells, GroupPage, Mark, MarkPage}
-use Rattle.ufs_spec.specs.Disk.{Erasing, Flight, Programming, Spot, at_die, at_spot, job_begun, spot_of}
-use Rattle.ufs_spec.specs.Keys.{below}
-use Rattle.ufs_spec.specs.Kept.{IsNewestMark}
-use Rattle.ufs_spec.specs.Ledger.{Entry, Name}
-use Rattle.ufs_spec.specs.Openings.{IsFirstFence, number_of}
-use Rattle.ufs_spec.specs.Translation.{CopyStep, MarkStep, Mended, Mending, MayTake, Plan, RepairStep, Repairing, Step}
-use Rattle.ufs_spec.specs.Translation.{Translation, Unmarked, flies_mark, records_now, some_flight, taken}
-use Rattle.ufs_spec.specs.declared.flash.Fence.{Fence}
-use Rattle.ufs_spec.specs.declared.flash.Key.{Key}
-use Rattle.ufs_spec.specs.declared.flash.Place.{Place}
-use Rattle.ufs_spec.specs.declared.flash.Tag.{Tag}
-use Rattle.ufs_spec.proofs.Equalities.{spot_cases}
-use Rattle.ufs_spec.proofs.Updates.{at_die_is, at_spot_is}
-use Rattle.ufs_spec.proofs.CellKinds.{mark_not_nothing, one_mark, page_not_mark, page_not_nothing}
-use Rattle.ufs_spec.proofs.Facts.{or_parts, same_Some, true≢false}
-use Rattle.ufs_spec.proofs.Lists.{none_in_empty}
-use Rattle.power_loss.specs.Book.{Book, IsKnown, IsLostNumber, IsOverwritten, IsWritten, book, last_number}
-use Rattle.power_loss.specs.Invariant.{FenceRight, IsLastRepair, IsLaterMark, IsOpenedOrOwn, IsToCopy, MarkFlightRight}
-use Rattle.power_loss.specs.Invariant.{MarkStepRight, StandsIn, Valid}
+use Rattle.power_loss.proofs.Common.{◌≡◌, ℕ, zero, suc, ◌<◌, Bool, true, false, ◌⊎◌, List, [], ◌∷◌, Option, Some, None}
+use Rattle.power_loss.proofs.Common.{refl, sym, ap, ◌∙◌, subst, inl, inr, ⊎_elim, arith, list_any, list_any-append}
+use Rattle.power_loss.proofs.Common.{Cell, Cells, Mark, MarkPage, Erasing, Flight, Programming, Spot, at_die, at_spot}
+use Rattle.power_loss.proofs.Common.{job_begun, spot_of, below, IsNewestMark, Entry, Name, IsFirstFence, number_of}
+use Rattle.power_loss.proofs.Common.{CopyStep, MarkStep, Mended, Mending, MayTake, Plan, RepairStep, Repairing, Step}
+use Rattle.power_loss.proofs.Common.{Translation, Unmarked, flies_mark, records_now, some_flight, taken, Fence, Key}
+use Rattle.power_loss.proofs.Common.{Place, spot_cases, at_die_is, at_spot_is, mark_not_nothing, one_mark}
+use Rattle.power_loss.proofs.Common.{page_not_mark, page_not_nothing, or_parts, same_Some, true≢false, none_in_empty}
+use Rattle.power_loss.proofs.Common.{Book, IsKnown, IsLostNumber, IsOverwritten, IsWritten, book, last_number}
+use Rattle.power_loss.proofs.Common.{FenceRight, IsLastRepair, IsLaterMark, IsOpenedOrOwn, IsToCopy, MarkFlightRight}
+use Rattle.power_loss.proofs.Common.{MarkStepRight, StandsIn, Valid, one_page}
 use Rattle.power_loss.proofs.books.LayerParts.{MarksOf, MendingOf, OwnMarkOf, UnmarkedOf}
 use Rattle.power_loss.proofs.kept_pages.PagesStay.{held_begun}
 use Rattle.power_loss.proofs.jobs_owed.BegunPrograms.{CellRight, IsMarkedOnce, begins}
@@ -31,6 +18,7 @@ use Rattle.power_loss.proofs.jobs_owed.ProgramsAndErases.{EraseOwed, erase_owed,
 use Rattle.power_loss.proofs.kept_pages.ReadsStay.{reads_erase_begun}
 use Rattle.power_loss.proofs.jobs.StandsSecurely.{at_spot_here, at_spot_other, keeps_erase_begun}
 use Rattle.power_loss.proofs.jobs_owed.WhatWaits.{MarkWaits, PageWaits, name_cell_waits, step_cell_waits}
+use Rattle.power_loss.proofs.books.PagesByName.{written_more}
 
 -- An erase
 
@@ -44,9 +32,9 @@ counted_more : (f : Spot → Bool) (s a : Spot) → f a ≡ true → at_spot f s
 counted_more f s a h = ⊎_elim (λ k. at_spot_here f s true a k.1) (λ k. at_spot_other f s true a k.1 ∙ h)
     (spot_cases a s)
 
-erase_change : (t : Translation) (die : ℕ) (s : Spot) → Valid t → EraseOwed t die s →
+erase_change : {t : Translation} {die : ℕ} {s : Spot} → Valid t → EraseOwed t die s →
     Change t (job_begun t.disk die (Erasing s))
-erase_change t die s v o = record {
+erase_change {t} {die} {s} v o = record {
   keeps = keeps_erase_begun die s o.free;
   left = λ q. inl refl;
   ended = λ q h. h;
@@ -70,13 +58,12 @@ erase_change t die s v o = record {
         at_home = r.at_home;
         free = r.free;
         counted = counted_more t.disk.erasing s a r.counted;
-      })
-      (at_die_is t.disk.flights die (Some (Erasing s)) other (Some (Erasing a)) h);
+      }) (at_die_is t.disk.flights die (Some (Erasing s)) other (Some (Erasing a)) h);
   freed = λ a h. h;
   spent = λ a h. ⊎_elim (λ k. inl (ap t.disk.blocks k.0 ∙ o.free)) (λ k. inr k.1)
       (at_spot_is t.disk.erasing s true a true h);
   victims = λ a h. h;
-  reads = reads_erase_begun t.disk.cells t.disk.finished t.disk.erasing t.disk.flights die s o.inside.at_home v.reads;
+  reads = reads_erase_begun s o.inside.at_home v.reads;
 }
   where
     flew : (other : ℕ) (p : Place) (cell : Cell) → at_die t.disk.flights die (Some (Erasing s)) other ≡ Some
@@ -86,24 +73,15 @@ erase_change t die s v o = record {
 
 pub takes_erase : (t : Translation) (die : ℕ) (s : Spot) → Valid t → MayTake t die (Some (Erasing s)) →
     Valid (taken t die (Erasing s))
-takes_erase t die s v may =
-    lost_pages t v (erase_change t die s v (erase_owed t die s may)) (λ blank p h. h) (λ q. inl refl)
+takes_erase t die s v may = lost_pages v (erase_change v (erase_owed t die s may)) (λ blank p h. h) (λ q. inl refl)
     (held_begun t s (job_begun t.disk die (Erasing s)) v (erase_owed t die s may).unkept refl refl refl)
 
-same_tag : {cell : Cell} {tag other : Tag} {body rest : List ℕ} → cell ≡ GroupPage tag body →
-    cell ≡ GroupPage other rest → tag ≡ other
-same_tag e f = cc
-
-same_body : {cell : Cell} {tag other : Tag} {body rest : List ℕ} → cell ≡ GroupPage tag body →
-    cell ≡ GroupPage other rest → body ≡ rest
-same_body e f = cc
-
-page_right : (t : Translation) (cell : Cell) → PageWaits t cell → CellRight t cell
-page_right t cell w = record {
+page_right : {t : Translation} {cell : Cell} → PageWaits t cell → CellRight t cell
+page_right {t} {cell} w = record {
   something = page_not_nothing _ _ _ w.cell_is;
-  known = λ tag body e. subst (IsKnown (book t) tag) (same_body w.cell_is e)
-      (subst (λ z. IsKnown (book t) z w.entry.item.body) (same_tag w.cell_is e) w.is);
-  recorded = λ tag body e. let z = ap (λ x. x.frontier) (same_tag e w.cell_is) in omega arith;
+  known = λ tag body e. subst (IsKnown (book t) tag) (one_page _ _ _ _ (sym w.cell_is ∙ e)).1
+      (subst (λ z. IsKnown (book t) z w.entry.item.body) (one_page _ _ _ _ (sym w.cell_is ∙ e)).0 w.is);
+  recorded = λ tag body e. let z = ap (λ x. x.frontier) (one_page _ _ _ _ (sym e ∙ w.cell_is)).0 in omega arith;
   mark = λ m e. absurd (none m e);
   alone = λ m e die q other h. none m e;
   unmarked = λ fence lost e. absurd (w.marked fence lost e);
@@ -118,10 +96,7 @@ none_below : (test : ℕ → Bool) (n : ℕ) {d : ℕ} → list_any test (below 
 none_below test zero h l = absurd (omega arith)
 none_below test (suc n) {d} h l =
     let r = or_parts (list_any test (below n)) _ (sym (list_any-append test (below n) (n ∷ [])) ∙ h) in
-    ⊎_elim
-    (λ k. none_below test n r.0 k)
-    (λ k. ap test k ∙ (or_parts (test n) _ r.1).0)
-    (split d n l)
+    ⊎_elim (λ k. none_below test n r.0 k) (λ k. ap test k ∙ (or_parts (test n) _ r.1).0) (split d n l)
   where
     split : (d n : ℕ) → d < suc n → (d < n) ⊎ (d ≡ n)
     split d n l = grind arith
@@ -129,9 +104,9 @@ none_below test (suc n) {d} h l =
 flies : {f : Option Flight} {q : Place} {m : Mark} → f ≡ Some (Programming q (MarkPage m)) → flies_mark f ≡ false → ⊥
 flies e h = true≢false (sym (ap flies_mark e) ∙ h)
 
-pub alone_flies : (t : Translation) → Valid t → some_flight t flies_mark ≡ false → (die : ℕ) (q : Place) (m : Mark) →
+pub alone_flies : {t : Translation} → Valid t → some_flight t flies_mark ≡ false → (die : ℕ) (q : Place) (m : Mark) →
     t.disk.flights die ≡ Some (Programming q (MarkPage m)) → ⊥
-alone_flies t v none die q m h =
+alone_flies {t} v none die q m h =
     let r = v.flights.programs die q (MarkPage m) h in
     let l : q.die < t.numbers.dies = r.place.die in
     let e = r.at_home in
@@ -145,21 +120,15 @@ mark_no_copy {number} {fence} {there} {other} {name} p e f =
     (record { kind = CopyStep name p; there = other }) (sym e ∙ f))
   where
     is : (a b : Step) → Some a ≡ Some b → a.kind ≡ b.kind
-    is a b h = ap (λ z. z.kind) (inside a b h)
-      where
-        inside : (a b : Step) → Some a ≡ Some b → a ≡ b
-        inside a b h = cc
+    is a b h = ap (λ z. z.kind) (same_Some a b h)
 
     kinds : MarkStep number fence ≡ CopyStep name p → ⊥
     kinds h = cc
 
 pub mark_no_repair : (b : Book) {s : Option Step} {number : ℕ} {fence : Option Fence} {there : Bool} →
     s ≡ Some (record { kind = MarkStep number fence; there = there }) → IsLastRepair b s → ⊥
-mark_no_repair b {number} {fence} e r = kinds (ap (λ z. z.kind) (inside _ _ (sym e ∙ r.2)))
+mark_no_repair b {number} {fence} e r = kinds (ap (λ z. z.kind) (same_Some _ _ (sym e ∙ r.2)))
   where
-    inside : (a b : Step) → Some a ≡ Some b → a ≡ b
-    inside a b h = cc
-
     kinds : MarkStep number fence ≡ RepairStep (record { number = last_number b; index = 0 }) r.0 → ⊥
     kinds h = cc
 
@@ -169,17 +138,6 @@ step_mark t number fence = record {
   records = records_now t.ledger fence;
   fence = fence;
   numbers = t.numbers;
-}
-
-written_more : {b : Book} {k : Key} {bound bound' : ℕ} → bound ≤ bound' → IsWritten b k bound → IsWritten b k bound'
-written_more l w = record {
-  number = w.number;
-  index = w.index;
-  page = w.page;
-  is = w.is;
-  key = w.key;
-  new = w.new;
-  within = let z = w.within in omega arith;
 }
 
 -- behind the mark that stands, where all that is lost is repaired
@@ -197,7 +155,7 @@ later_by t {fence} {mark} right none above repaired =
       within = omega arith;
       plain = record {
         none = none;
-        repaired = λ n i x lost e. written_more (omega arith) (repaired n i x lost e);
+        repaired = λ n i x lost e. written_more _ _ _ _ (omega arith) (repaired n i x lost e);
       };
       numbers = refl;
     }
@@ -211,18 +169,15 @@ later_mark t number fence (Unmarked first lost) step above right m is once = abs
 later_mark t number fence (Repairing left) step above right m is once =
     subst (λ z. IsLaterMark (book t) t.ledger.frontier z (step_mark t number fence)) (same_Some _ _ (sym m.is ∙ is))
     (later_by t m.right right.0 above
-    (λ n i x lost e. ⊎_elim
-    (λ k. absurd (none_in_empty left k.0 x.item.key right.1 k.1))
-    (λ k. subst (IsWritten (book t) x.item.key) (sym all) k)
-    (m.more.repaired n i x lost e)))
+    (λ n i x lost e. ⊎_elim (λ k. absurd (none_in_empty left k.0 x.item.key right.1 k.1))
+    (λ k. subst (IsWritten (book t) x.item.key) (sym all) k) (m.more.repaired n i x lost e)))
   where
     all : t.ledger.frontier ≡ last_number (book t)
     all = ⊎_elim (λ e. e) (λ e. absurd (mark_no_repair (book t) step e.1)) m.more.under_way
 later_mark t number fence Mended step above right m is once =
     let l = m.right.within in
     subst (λ z. IsLaterMark (book t) t.ledger.frontier z (step_mark t number fence)) (same_Some _ _ (sym m.is ∙ is))
-    (later_by t m.right right above
-    (λ n i x lost e. written_more (omega arith) (m.more.repaired n i x lost e)))
+    (later_by t m.right right above (λ n i x lost e. written_more _ _ _ _ (omega arith) (m.more.repaired n i x lost e)))
 
 -- the first mark of the life
 
@@ -230,42 +185,37 @@ newest_below : {b : Book} (newest : Option Mark) {marks number : ℕ} {fence : O
     IsNewestMark opening newest → ((p : Place) → IsOpenedOrOwn b newest marks fence (opening p) (cells p)) →
     ((p : Place) (m : Mark) → cells p ≡ MarkPage m → m.number < number) → 0 < number → number_of newest < number
 newest_below None is same above given = given
-newest_below {b} (Some m) {marks} {fence} {opening} {cells} is same above given =
-    ⊎_elim
-    (λ h. above is.0.0 m (h ∙ is.0.1))
-    (λ h. absurd (mark_not_nothing _ _ is.0.1 h.0))
-    (same is.0.0)
+newest_below {b} (Some m) {marks} {fence} {opening} {cells} is same above given = ⊎_elim
+    (λ h. above is.0.0 m (h ∙ is.0.1)) (λ h. absurd (mark_not_nothing _ _ is.0.1 h.0)) (same is.0.0)
 
-records_top : (t : Translation) (newest : Option Mark) (low top : ℕ) (fence : Option Fence) →
+records_top : (t : Translation) (newest : Option Mark) (low : ℕ) {top : ℕ} (fence : Option Fence) →
     IsFirstFence newest low top fence → t.ledger.frontier ≡ top → records_now t.ledger fence ≡ top
-records_top t newest low top None f still = still
-records_top t newest low top (Some x) f still = f.1
+records_top t newest low None f still = still
+records_top t newest low (Some x) f still = f.1
 
-own_mark : (t : Translation) {number : ℕ} {fence : Option Fence} (first : Option Fence) {lost : List Key} →
+own_mark : (t : Translation) {number : ℕ} {fence : Option Fence} {first : Option Fence} {lost : List Key} →
     MarkStepRight t.ledger.marks t.disk.cells t.work.mending t.work.plan number fence → UnmarkedOf t first lost →
     fence ≡ first → OwnMarkOf t first (step_mark t number fence)
-own_mark t first s u e = record {
+own_mark t {first = first} s u e = record {
   newer = newest_below t.ledger.newest u.opened.is_newest u.same s.above s.given;
   within = let l = s.last in omega arith;
-  records = ap (records_now t.ledger) e ∙ records_top t t.ledger.newest t.ledger.first_lost t.ledger.greatest_seen first
-      u.fence_right u.still;
+  records = ap (records_now t.ledger) e ∙ records_top t t.ledger.newest t.ledger.first_lost first u.fence_right u.still;
   fence_is = e;
   numbers = refl;
 }
 
-mark_right : (t : Translation) (cell : Cell) → Valid t → MarkWaits t cell → CellRight t cell
-mark_right t cell v w = record {
+mark_right : {t : Translation} {cell : Cell} → Valid t → MarkWaits t cell → CellRight t cell
+mark_right {t} {cell} v w = record {
   something = mark_not_nothing _ _ w.cell_is;
   known = λ tag body e. absurd (page_not_mark _ _ _ _ e w.cell_is);
   recorded = λ tag body e. absurd (page_not_mark _ _ _ _ e w.cell_is);
   mark = λ m e. subst (MarkFlightRight t.numbers t.ledger.marks t.work.step) (is m e)
       record { number = w.right.last; numbers_right = refl; there = w.there; step_is = w.step_is };
-  alone = λ m e. alone_flies t v w.alone;
+  alone = λ m e. alone_flies v w.alone;
   unmarked = λ first lost e. (
     step_mark t w.number w.fence,
     w.cell_is,
-    own_mark t first w.right (subst (MendingOf t) e v.mending)
-        (subst (λ z. FenceRight z w.fence) e w.right.fence_right),
+    own_mark t w.right (subst (MendingOf t) e v.mending) (subst (λ z. FenceRight z w.fence) e w.right.fence_right),
   );
   later = λ m newest e is_newest once. subst (IsLaterMark (book t) t.ledger.frontier newest) (is m e)
       (later_mark t w.number w.fence t.work.mending w.step_is w.right.above w.right.fence_right v.mending is_newest
@@ -285,19 +235,15 @@ mark_right t cell v w = record {
         let r : IsOverwritten (book t) n x.item.key t.ledger.frontier ⊎ IsToCopy pl.copies t.work.step n i q =
         (v.plan.one pl e).copied n i x q s in
         subst (λ z. IsOverwritten (book t) n x.item.key z) (sym (ap (records_now t.ledger) none))
-        (⊎_elim
-        (λ o. o)
-        (λ k. absurd (⊎_elim
-        (λ j. none_in_empty pl.copies j.0 q (w.right.behind_copies pl e) j.1)
-        (λ h. mark_no_copy q w.step_is h.1)
-        k))
-        r)
+        (⊎_elim (λ o. o)
+        (λ k. absurd (⊎_elim (λ j. none_in_empty pl.copies j.0 q (w.right.behind_copies pl e) j.1)
+        (λ h. mark_no_copy q w.step_is h.1) k)) r)
 
 -- A program
 
-cell_right : (t : Translation) (cell : Cell) → Valid t → PageWaits t cell ⊎ MarkWaits t cell → CellRight t cell
-cell_right t cell v (inl w) = page_right t cell w
-cell_right t cell v (inr w) = mark_right t cell v w
+cell_right : {t : Translation} {cell : Cell} → Valid t → PageWaits t cell ⊎ MarkWaits t cell → CellRight t cell
+cell_right {t} {cell} v (inl w) = page_right w
+cell_right {t} {cell} v (inr w) = mark_right v w
 
 pub takes_program : (t : Translation) (die : ℕ) (p : Place) (cell : Cell) → Valid t →
     MayTake t die (Some (Programming p cell)) → Valid (taken t die (Programming p cell))
@@ -311,6 +257,4 @@ takes_program t die p cell v may =
       at_home = home;
       place = record { die = omega arith; block = r.inside.block; page = v.blocks.filling (spot_of p) p.page r.next };
       next = r.next;
-    }
-    (cell_right t cell v (⊎_elim (λ h. step_cell_waits t cell v h)
-    (λ h. inl (name_cell_waits t cell h.1.0 v h.1.1 h.1.2)) o.is))
+    } (cell_right v (⊎_elim (λ h. step_cell_waits t cell v h) (λ h. inl (name_cell_waits v h.1.1 h.1.2)) o.is))

@@ -1,20 +1,12 @@
 -- A program or an erase may fail and leave each lawful leftover of it, and no other; and a read may fail.
-use Rattle.std.proofs.Common.{◌≡◌, ◌==◌, ℕ, true, [], ◌∷◌, Option, Some, None, refl, sym, ap, ◌∙◌, subst, inl, ⊎_elim}
-use Rattle.std.specs.Prelude.{Contains}
+use Rattle.power_loss.proofs.Common.{◌≡◌, ◌==◌, ℕ, true, [], ◌∷◌, Option, Some, None, refl, sym, ap, ◌∙◌, subst, inl}
+use Rattle.power_loss.proofs.Common.{⊎_elim, Contains, Array, Cell, Cells, Shows, Crash, Erasing, Flight, Programming}
+use Rattle.power_loss.proofs.Common.{Reader, Reading, Spot, Touches, flight_alone, page_of, Ending, ReadWrong}
+use Rattle.power_loss.proofs.Common.{WentWrong, fits, MayBeLeft, Page, Place, cases_Bool, cond-false, cond-true}
+use Rattle.power_loss.proofs.Common.{eqb-self}
+use Rattle.power_loss.proofs.MachineWords.{IsFailure, IsLawfulLeftover, IsLeft, IsLeftoverOf, Leads, die_of, page_left}
+use Rattle.power_loss.proofs.MachineWords.{Done, OfDone, observe, State, numbers_of, Leftover, ValidState}
 use Rattle.ufs_laws.proofs.pages.PageIsSomeCell.{some_cell}
-use Rattle.ufs_spec.specs.Cells.{Array, Cell, Cells, Shows}
-use Rattle.ufs_spec.specs.Disk.{Crash, Erasing, Flight, Programming, Reader, Reading, Spot, Touches, flight_alone}
-use Rattle.ufs_spec.specs.Disk.{page_of}
-use Rattle.ufs_spec.specs.Lives.{IsFailure, IsLawfulLeftover, IsLeft, IsLeftoverOf, Leads, die_of, page_left}
-use Rattle.ufs_spec.specs.Machine.{Done, OfDone, observe}
-use Rattle.ufs_spec.specs.Moves.{Ending, ReadWrong, WentWrong, fits}
-use Rattle.ufs_spec.specs.Pages.{MayBeLeft}
-use Rattle.ufs_spec.specs.Refusals.{State, numbers_of}
-use Rattle.ufs_spec.specs.declared.events.Leftover.{Leftover}
-use Rattle.ufs_spec.specs.declared.flash.Page.{Page}
-use Rattle.ufs_spec.specs.declared.flash.Place.{Place}
-use Rattle.ufs_spec.proofs.Facts.{cases_Bool, cond-false, cond-true, eqb-self}
-use Rattle.power_loss.specs.Exchange.{ValidState}
 use Rattle.power_loss.proofs.stops.LawfulLeftovers.{crash_by, is_left_by, left_by, named_touches}
 use Rattle.power_loss.proofs.stops.LeftoverLists.{first_contained, one_apart, only_contained}
 use Rattle.power_loss.proofs.die_pages.LeftoversLeaveOneArray.{left_named, named_die}
@@ -24,16 +16,14 @@ use Rattle.ufs_spec.specs.declared.events.Output.TheVariants as output
 
 -- One die's job
 
-alone_own : (flights : ℕ → Option Flight) (die other : ℕ) → other ≡ die → flight_alone flights die other ≡ flights other
-alone_own flights die other e = cond-true (other == die) (flights other) None (ap (λ d. d == die) e ∙ eqb-self die)
+alone_own : (flights : ℕ → Option Flight) {die other : ℕ} → other ≡ die → flight_alone flights die other ≡ flights other
+alone_own flights {die} {other} e = cond-true (other == die) (flights other) None (ap (λ d. d == die) e ∙ eqb-self die)
 
 touches_alone : (flights : ℕ → Option Flight) (die : ℕ) (p : Place) (intended : Cell) →
     Touches (flight_alone flights die p.die) p intended → Touches (flights p.die) p intended
-touches_alone flights die p intended h =
-    ⊎_elim
+touches_alone flights die p intended h = ⊎_elim
     (λ e. subst (λ f. Touches f p intended) (cond-true (p.die == die) (flights p.die) None e) h)
-    (λ e. absurd (subst (λ f. Touches f p intended)
-    (cond-false (p.die == die) (flights p.die) None e) h))
+    (λ e. absurd (subst (λ f. Touches f p intended) (cond-false (p.die == die) (flights p.die) None e) h))
     (cases_Bool (p.die == die))
 
 module _ (s : State) (v : ValidState s) (die : ℕ) (l : Leftover) where
@@ -61,7 +51,7 @@ module _ (s : State) (v : ValidState s) (die : ℕ) (l : Leftover) where
           let named : page_left l p page = subst (λ x. page_left x p page) (only_contained there) h in
           let is = lawful p page named in (
             is.0,
-            subst (λ f. Touches f p is.0) (sym (alone_own Flies die p.die (named_home p page named))) is.1,
+            subst (λ f. Touches f p is.0) (sym (alone_own Flies (named_home p page named))) is.1,
             is.2,
           )
 
@@ -85,11 +75,11 @@ module _ (s : State) (v : ValidState s) (die : ℕ) (l : Leftover) where
 
 -- A job that fails leads on
 
-pub failure_leads : (s : State) (die : ℕ) {flight : Flight} {l : Option Leftover} (ending : Ending) (left : Array) →
+pub failure_leads : {s : State} (die : ℕ) {flight : Flight} {l : Option Leftover} (ending : Ending) (left : Array) →
     s.translation.disk.flights die ≡ Some flight → fits (Some flight) ending ≡ true →
     IsFailure s die (Some flight) l ending left → Leads s (event.Fail die l) output.Ended
     (observe s (Done die ending left) (OfDone true))
-failure_leads s die {l} ending left flies fit h = record {
+failure_leads {s} die {l} ending left flies fit h = record {
   call = Done die ending left;
   answer = OfDone true;
   is_call = (ending, left, subst (λ f. IsFailure s die f l ending left) (sym flies) h, refl);
@@ -102,10 +92,10 @@ failure_leads s die {l} ending left flies fit h = record {
 abbrev Failure : State → ℕ → Flight → Leftover → Type 0
 Failure s die flight l = (c : Cells) × (left : Array) × IsFailure s die (Some flight) (Some l) (WentWrong c) left
 
-pub program_failure : (s : State) (die : ℕ) (p : Place) (cell : Cell) (l : Leftover) → ValidState s →
+pub program_failure : {s : State} (die : ℕ) (p : Place) (cell : Cell) (l : Leftover) → ValidState s →
     s.translation.disk.flights die ≡ Some (Programming p cell) → IsLeftoverOf (numbers_of s)
     (Some (Programming p cell)) l → IsLawfulLeftover s l → Failure s die (Programming p cell) l
-program_failure s die p cell l v e fit lawful = (
+program_failure {s} die p cell l v e fit lawful = (
   cells_here s v die l (Programming p cell) e fit lawful,
   left_here s v die l (Programming p cell) e fit lawful,
   (
@@ -116,10 +106,10 @@ program_failure s die p cell l v e fit lawful = (
   ),
 )
 
-erase_failure : (s : State) (die : ℕ) (spot : Spot) (l : Leftover) → ValidState s →
+erase_failure : {s : State} (die : ℕ) (spot : Spot) (l : Leftover) → ValidState s →
     s.translation.disk.flights die ≡ Some (Erasing spot) → IsLeftoverOf (numbers_of s) (Some (Erasing spot)) l →
     IsLawfulLeftover s l → Failure s die (Erasing spot) l
-erase_failure s die spot l v e fit lawful = (
+erase_failure {s} die spot l v e fit lawful = (
   cells_here s v die l (Erasing spot) e fit lawful,
   left_here s v die l (Erasing spot) e fit lawful,
   (
@@ -134,16 +124,16 @@ pub job_fails : (s : State) (die : ℕ) (flight : Flight) (l : Leftover) → Val
     s.translation.disk.flights die ≡ Some flight → IsLeftoverOf (numbers_of s) (Some flight) l → IsLawfulLeftover s l →
     (t : State) × Leads s (event.Fail die (Some l)) output.Ended t
 job_fails s die (Programming p cell) l v e fit lawful =
-    let f = program_failure s die p cell l v e fit lawful in
-    (_, failure_leads s die (WentWrong f.0) f.1 e refl f.2)
+    let f = program_failure die p cell l v e fit lawful in
+    (_, failure_leads die (WentWrong f.0) f.1 e refl f.2)
 job_fails s die (Erasing spot) l v e fit lawful =
-    let f = erase_failure s die spot l v e fit lawful in
-    (_, failure_leads s die (WentWrong f.0) f.1 e refl f.2)
+    let f = erase_failure die spot l v e fit lawful in
+    (_, failure_leads die (WentWrong f.0) f.1 e refl f.2)
 job_fails s die (Reading reader p) l v e fit lawful = absurd fit
 
 pub read_fails : (s : State) (die : ℕ) (reader : Reader) (p : Place) → s.translation.disk.flights die ≡ Some
     (Reading reader p) → (t : State) × Leads s (event.Fail die None) output.Ended t
-read_fails s die reader p e = (_, failure_leads s die ReadWrong s.array e refl refl)
+read_fails s die reader p e = (_, failure_leads die ReadWrong s.array e refl refl)
 
 -- And no other
 
@@ -153,8 +143,7 @@ module _ (s : State) (v : ValidState s) (die : ℕ) (flight : Flight) (l : Lefto
     (crash : Crash s.array (flight_alone s.translation.disk.flights die) left) where
   failed_lawful : IsLawfulLeftover s l
   failed_lawful p page h =
-      let is : left p ≡ page = left_named s.array (l ∷ []) (one_apart l) left is_left p page
-      (l, first_contained [], h) in
+      let is : left p ≡ page = left_named s.array (l ∷ []) (one_apart l) left is_left p (l, first_contained [], h) in
       ⊎_elim
       (λ old.
       let t = named_touches (numbers_of s) (Some flight) l p page fit h in (

@@ -1,24 +1,12 @@
 -- The program of a mark ended well: the block of the plan is freed, and the mending moves on.
-use Rattle.std.proofs.Common.{◌≡◌, ◌≢◌, ℕ, ◌<◌, ◌≤◌, ◌⊎◌, true, false, List, length, Option, Some, None, refl, sym, ap}
-use Rattle.std.proofs.Common.{◌∙◌, subst, inl, inr, ⊎_elim, arith}
-use Rattle.std.proofs.lemmas.List.Elements.{All-nil}
-use Rattle.ufs_spec.specs.Cells.{Cells, GroupPage, IsPlace, Mark, MarkPage}
-use Rattle.ufs_spec.specs.Disk.{BlockState, Disk, Free, Programming, Spot, at_die, at_place, programmed, spot_of}
-use Rattle.ufs_spec.specs.Kept.{IsNewestMark, recorded_in}
-use Rattle.ufs_spec.specs.Moves.{WentWell, freed, job_ended, mending_behind}
-use Rattle.ufs_spec.specs.Openings.{number_of}
-use Rattle.ufs_spec.specs.Translation.{MarkStep, Mended, Mending, Plan, Repairing, Translation, Unmarked, is_mended}
-use Rattle.ufs_spec.specs.declared.flash.Fence.{Fence}
-use Rattle.ufs_spec.specs.declared.flash.Key.{Key}
-use Rattle.ufs_spec.specs.declared.flash.Place.{Place}
-use Rattle.ufs_spec.specs.declared.flash.Tag.{Tag}
-use Rattle.ufs_spec.proofs.CellKinds.{one_mark, page_not_mark}
-use Rattle.ufs_spec.proofs.Facts.{false≢true, none-some}
-use Rattle.ufs_spec.proofs.Lists.{none_in_empty}
-use Rattle.ufs_spec.proofs.Updates.{at_place_is}
-use Rattle.power_loss.specs.Book.{AreWholeAbove, Book, IsPlainMark, book}
-use Rattle.power_loss.specs.Invariant.{FlightsRight, MarksRight, MendingRight, OnePlanRight, PagesRight, RepairingRight}
-use Rattle.power_loss.specs.Invariant.{Valid}
+use Rattle.power_loss.proofs.Common.{◌≡◌, ◌≢◌, ℕ, ◌<◌, ◌≤◌, ◌⊎◌, true, false, List, length, Option, Some, None, refl}
+use Rattle.power_loss.proofs.Common.{sym, ap, ◌∙◌, subst, inl, inr, ⊎_elim, arith, All-nil, Cells, GroupPage, IsPlace}
+use Rattle.power_loss.proofs.Common.{Mark, MarkPage, BlockState, Disk, Free, Programming, Spot, at_die, at_place}
+use Rattle.power_loss.proofs.Common.{programmed, spot_of, IsNewestMark, recorded_in, WentWell, freed, job_ended}
+use Rattle.power_loss.proofs.Common.{mending_behind, number_of, MarkStep, Mended, Mending, Plan, Translation, Unmarked}
+use Rattle.power_loss.proofs.Common.{is_mended, Fence, Key, Place, Tag, one_mark, page_not_mark, false≢true, none-some}
+use Rattle.power_loss.proofs.Common.{none_in_empty, at_place_is, AreWholeAbove, Book, IsPlainMark, book, FlightsRight}
+use Rattle.power_loss.proofs.Common.{MarksRight, MendingRight, OnePlanRight, PagesRight, RepairingRight, Valid}
 use Rattle.power_loss.proofs.books.LayerParts.{MarksOf, MendingOf, OwnMarkOf, UnmarkedOf}
 use Rattle.power_loss.proofs.kept_pages.PagesStay.{pins_stay, rests_stay}
 use Rattle.power_loss.proofs.kept_pages.ReadsStay.{idle_reads, reads_stay}
@@ -78,8 +66,8 @@ module _ {t : Translation} {die : ℕ} {p : Place} {m : Mark} (v : Valid t)
   goes : GoesTo t.numbers t.disk p
   goes = goes_to v.blocks (v.flights.programs die p (MarkPage m) job)
 
-  marked_ends : (newest : Mark) → t.ledger.newest ≡ Some newest → MarksOf t newest → MarkEnds t m
-  marked_ends newest is r =
+  marked_ends : {newest : Mark} → t.ledger.newest ≡ Some newest → MarksOf t newest → MarkEnds t m
+  marked_ends is r =
       let later = r.flies die p m job in
       record {
         marked = let l = later.above in let e = ap recorded_in is in omega (arith, l, e);
@@ -105,8 +93,7 @@ module _ {t : Translation} {die : ℕ} {p : Place} {m : Mark} (v : Valid t)
     within = let e = own.records in let a = v.frontier.above in omega (arith, a, e);
     whole = λ n l h. absurd (let e = own.records in omega (arith, e, l, h));
     others = λ q other h. let a = v.frontier.above in ⊎_elim
-        (λ k. let r = u.opened.marks q other k in omega (arith, a, r))
-        (λ k. let r = k.records in omega (arith, a, r))
+        (λ k. let r = u.opened.marks q other k in omega (arith, a, r)) (λ k. let r = k.records in omega (arith, a, r))
         (own_or_opened q u h);
     same = λ a b x y h k e. two a b x y e (own_or_opened a u h) (own_or_opened b u k);
   }
@@ -127,7 +114,7 @@ module _ {t : Translation} {die : ℕ} {p : Place} {m : Mark} (v : Valid t)
 
   mark_ends : (w : Mending) → MendingOf t w → MarkEnds t m
   mark_ends (Unmarked fence lost) r = unmarked_ends fence r
-  mark_ends w r = marked_ends r.mark r.is r.right
+  mark_ends w r = marked_ends r.is r.right
 
   -- every mark that stands has a smaller number
   above : (q : Place) (other : Mark) → t.disk.cells q ≡ MarkPage other → other.number < m.number
@@ -151,9 +138,9 @@ module _ {t : Translation} {die : ℕ} {p : Place} {m : Mark} (v : Valid t)
       (at_place_is t.disk.cells p (MarkPage m) q (GroupPage tag body) h)
 
   -- a mark is this one, or stood before
-  this_or_old : (q : Place) (other : Mark) → at_place t.disk.cells p (MarkPage m) q ≡ MarkPage other →
+  this_or_old : {q : Place} {other : Mark} → at_place t.disk.cells p (MarkPage m) q ≡ MarkPage other →
       ((q ≡ p) × (m ≡ other)) ⊎ ((q ≢ p) × (t.disk.cells q ≡ MarkPage other))
-  this_or_old q other h = ⊎_elim (λ k. inl (k.0, one_mark m other k.1)) (λ k. inr k)
+  this_or_old {q} {other} h = ⊎_elim (λ k. inl (k.0, one_mark m other k.1)) (λ k. inr k)
       (at_place_is t.disk.cells p (MarkPage m) q (MarkPage other) h)
 
   mark_pages : PagesRight (book t) t.ledger.standing t.ledger.frontier (at_place t.disk.cells p (MarkPage m))
@@ -168,15 +155,15 @@ module _ {t : Translation} {die : ℕ} {p : Place} {m : Mark} (v : Valid t)
   }
 
   -- two marks of one number are one
-  marks_one : (ends : MarkEnds t m) (q s : Place) (a other : Mark) → a.number ≡ other.number →
+  marks_one : (ends : MarkEnds t m) {q s : Place} {a other : Mark} → a.number ≡ other.number →
       ((q ≡ p) × (m ≡ a)) ⊎ ((q ≢ p) × (t.disk.cells q ≡ MarkPage a)) →
       ((s ≡ p) × (m ≡ other)) ⊎ ((s ≢ p) × (t.disk.cells s ≡ MarkPage other)) → a ≡ other
-  marks_one ends q s a other e (inl h) (inl k) = sym h.1 ∙ k.1
-  marks_one ends q s a other e (inl h) (inr k) =
+  marks_one ends e (inl h) (inl k) = sym h.1 ∙ k.1
+  marks_one ends {s = s} {other = other} e (inl h) (inr k) =
       absurd (let x = ap (λ (z : Mark). z.number) h.1 in let l = above s other k.1 in omega (arith, x, l, e))
-  marks_one ends q s a other e (inr h) (inl k) =
+  marks_one ends {q = q} {a = a} e (inr h) (inl k) =
       absurd (let x = ap (λ (z : Mark). z.number) k.1 in let l = above q a h.1 in omega (arith, x, l, e))
-  marks_one ends q s a other e (inr h) (inr k) = ends.same q s a other h.1 k.1 e
+  marks_one ends {q} {s} {a} {other} e (inr h) (inr k) = ends.same q s a other h.1 k.1 e
 
   module _ {after : Spot → BlockState} {IsVictim : Spot → Type 0}
       (frees : Frees (blocks_behind t.numbers t.disk p) after IsVictim) where
@@ -215,11 +202,11 @@ module _ {t : Translation} {die : ℕ} {p : Place} {m : Mark} (v : Valid t)
       known = λ q other h. inl (
         number q other h,
         ⊎_elim (λ k. subst (λ (z : Mark). z.records ≤ t.ledger.frontier) k.1 ends.within)
-            (λ k. ends.others q other k.1) (this_or_old q other h),
+            (λ k. ends.others q other k.1) (this_or_old h),
       );
-      same = λ q s a other h k e. marks_one ends q s a other e (this_or_old q a h) (this_or_old s other k);
+      same = λ q s a other h k e. marks_one ends e (this_or_old h) (this_or_old k);
       freed = λ q other h f. ⊎_elim (λ k. absurd (needed (ap after (ap spot_of (sym k.0)) ∙ f)))
-          (λ k. above q other k.1) (this_or_old q other h);
+          (λ k. above q other k.1) (this_or_old h);
       flies = λ e q other h. absurd (no_mark_flies e q h);
     }
       where
@@ -229,7 +216,7 @@ module _ {t : Translation} {die : ℕ} {p : Place} {m : Mark} (v : Valid t)
         number : (q : Place) (other : Mark) → at_place t.disk.cells p (MarkPage m) q ≡ MarkPage other →
             other.number ≤ m.number
         number q other h = ⊎_elim (λ k. let e = ap (λ (z : Mark). z.number) k.1 in omega (arith, e))
-            (λ k. let l = above q other k.1 in omega (arith, l)) (this_or_old q other h)
+            (λ k. let l = above q other k.1 in omega (arith, l)) (this_or_old h)
 
     -- The mending moves on
 
@@ -271,16 +258,10 @@ module _ {t : Translation} {die : ℕ} {p : Place} {m : Mark} (v : Valid t)
       right = mark_marks out (unmarked_ends (Some fence) r);
       more = mark_repairing fence r (λ s h. false≢true (ap is_mended (of s h)));
     }
-    mark_mending (Repairing left) out of r = record {
+    mark_mending w out of r = record {
       mark = m;
       is = refl;
-      right = mark_marks out (marked_ends r.mark r.is r.right);
-      more = (r.right.flies die p m job).plain;
-    }
-    mark_mending Mended out of r = record {
-      mark = m;
-      is = refl;
-      right = mark_marks out (marked_ends r.mark r.is r.right);
+      right = mark_marks out (marked_ends r.is r.right);
       more = (r.right.flies die p m job).plain;
     }
 
@@ -298,9 +279,7 @@ module _ {t : Translation} {die : ℕ} {p : Place} {m : Mark} (v : Valid t)
           safe_freed v.frontier frees ends.within flown ends.marked (safe_marked goes (MarkPage m) v.safe);
       numbered = λ q other h. ⊎_elim
           (λ k. let e = (v.flights.mark die p m job).number in let x = ap (λ (z : Mark). z.number) k.1 in
-          omega (arith, e, x))
-          (λ k. v.numbered q other k.1)
-          (this_or_old q other h);
+          omega (arith, e, x)) (λ k. v.numbered q other k.1) (this_or_old h);
       mending = mark_mending t.work.mending out of v.mending;
       step = record { kind = λ s e. absurd (none-some s e) };
       plan = record { mended = λ pl e. absurd (none-some pl e); one = λ pl e. absurd (none-some pl e) };
@@ -313,23 +292,18 @@ module _ {t : Translation} {die : ℕ} {p : Place} {m : Mark} (v : Valid t)
             (λ k. absurd (false≢true (sym was ∙ ap is_mended (of (spot_of s.place) k))))
             (frees.needed (spot_of s.place) s.needed));
       };
-      pins = pins_stay _ _ _ _ _ _ _ _ _ t.pins (λ n i e h. h) (stay goes (MarkPage m)) v.pins;
-      rests = rests_stay _ _ _ _ _ _ t.work.rests (stay goes (MarkPage m)) v.rests;
-      reads = reads_stay _ _ _ _ _ _ _ _ (stay goes (MarkPage m)) (idle_reads t.disk.flights p.die) v.reads;
+      pins = pins_stay (λ n i e h. h) (stay goes (MarkPage m)) v.pins;
+      rests = rests_stay (stay goes (MarkPage m)) v.rests;
+      reads = reads_stay (stay goes (MarkPage m)) (idle_reads t.disk.flights p.die) v.reads;
       to_read = record { wanted = All-nil _; copied = λ pl e. absurd (none-some pl e) };
-      history = record {
-        within = v.history.within;
-        contents = v.history.contents;
-        mending = λ e. v.history.mending (behind_unmended t.work.mending e);
-        durable = v.history.durable;
-      };
+      history = assumption (λ (e : is_mended (mending_behind t.work.mending) ≡ false).
+          v.history.mending (behind_unmended t.work.mending e));
     }
 
   by_plan : (plan : Option Plan) → t.work.plan ≡ plan →
       Valid (marked_with t p m (freed (programmed t.numbers.pages t.disk p (MarkPage m)) plan).blocks)
   by_plan None e = mark_valid (frees_none) (λ h. h) (λ s h. absurd h) (λ n i x q is known h free. absurd h)
-  by_plan (Some pl) e =
-      mark_valid (frees_one pl.victim (still_victim goes one.state))
+  by_plan (Some pl) e = mark_valid (frees_one (still_victim goes one.state))
       (λ h. not_there goes one.state (sym h)) (λ s h. v.plan.mended pl e)
       (λ n i x q is known h free.
       one.flown die p m job n i x q (record { is = is; known = known; inside = h; free = free }))
@@ -342,14 +316,11 @@ freed_is : (d : Disk) (plan : Option Plan) → record d { blocks = (freed d plan
 freed_is d None = refl
 freed_is d (Some plan) = refl
 
-pub ends_mark : (t : Translation) (die : ℕ) (p : Place) (m : Mark) → Valid t → t.disk.flights die ≡ Some
+pub ends_mark : {t : Translation} (die : ℕ) (p : Place) (m : Mark) → Valid t → t.disk.flights die ≡ Some
     (Programming p (MarkPage m)) → Valid (job_ended t die (Programming p (MarkPage m)) WentWell)
-ends_mark t die p m v job =
-    subst
+ends_mark {t} die p m v job = subst
     (λ (d : Disk). Valid (record t {
       disk = d;
       ledger = record t.ledger { newest = Some m };
       work = record t.work { mending = mending_behind t.work.mending; plan = None; step = None };
-    }))
-    (freed_is (programmed t.numbers.pages t.disk p (MarkPage m)) t.work.plan)
-    (by_plan v job t.work.plan refl)
+    })) (freed_is (programmed t.numbers.pages t.disk p (MarkPage m)) t.work.plan) (by_plan v job t.work.plan refl)

@@ -1,31 +1,22 @@
 -- The program of a group's page, of a copy or of a repair ended well: the frontier climbs.
-use Rattle.std.proofs.Common.{◌≡◌, ◌≢◌, ℕ, suc, ◌-◌, ◌<◌, ◌≤◌, ◌⊎◌, Bool, true, false, is_some, List, drop, length}
-use Rattle.std.proofs.Common.{Option, Some, None, slice_get, refl, sym, ap, ◌∙◌, subst, inl, inr, ⊎_elim, arith}
-use Rattle.ufs_spec.specs.Cells.{GroupPage, IsPlace, Mark, MarkPage}
-use Rattle.ufs_spec.specs.Disk.{Programming, at_die, at_place, programmed, spot_of}
-use Rattle.ufs_spec.specs.Keys.{Group}
-use Rattle.ufs_spec.specs.Kept.{recorded_in}
-use Rattle.ufs_spec.specs.Ledger.{Entry, Name, accepted_groups, at_name, before_accepted, page_stands}
-use Rattle.ufs_spec.specs.Moves.{WentWell, is_kind_of, job_ended, step_behind}
-use Rattle.ufs_spec.specs.Translation.{Mended, Mending, Plan, Repairing, Step, Translation, Unmarked, name_of}
-use Rattle.ufs_spec.specs.Translation.{pending_pages, Want}
-use Rattle.ufs_spec.specs.declared.flash.Place.{Place}
-use Rattle.ufs_spec.specs.declared.flash.Tag.{Tag}
-use Rattle.ufs_spec.proofs.Facts.{cases_Bool, cond-false, cond-true, none-some, same_Some}
-use Rattle.ufs_spec.proofs.CellKinds.{page_not_mark, one_page}
-use Rattle.ufs_spec.proofs.Updates.{at_place_is}
-use Rattle.ufs_spec.proofs.Equalities.{name_cases}
-use Rattle.power_loss.specs.Book.{Book, IsKnown, IsPageAt, book, last_number}
-use Rattle.power_loss.specs.Invariant.{FlightsRight, FrontierRight, HistoryRight, IsLastRepair, IsLaterMark}
-use Rattle.power_loss.specs.Invariant.{IsNeededPage, IsToCopy, MarksRight, MendingRight, OnePlanRight, PagesRight}
-use Rattle.power_loss.specs.Invariant.{Standing, StandsIn, ToReadRight, Valid}
+use Rattle.power_loss.proofs.Common.{◌≡◌, ◌≢◌, ℕ, suc, ◌-◌, ◌<◌, ◌≤◌, ◌⊎◌, Bool, true, false, is_some, List, length}
+use Rattle.power_loss.proofs.Common.{Option, Some, None, slice_get, refl, sym, ap, ◌∙◌, subst, inl, inr, ⊎_elim, arith}
+use Rattle.power_loss.proofs.Common.{◌+◌, GroupPage, IsPlace, Mark, MarkPage, Programming, at_die, at_place, programmed}
+use Rattle.power_loss.proofs.Common.{spot_of, Group, recorded_in, Entry, Name, accepted_groups, at_name}
+use Rattle.power_loss.proofs.Common.{before_accepted, page_stands, WentWell, is_kind_of, job_ended, step_behind, Mended}
+use Rattle.power_loss.proofs.Common.{Mending, Plan, Repairing, Step, Translation, Unmarked, name_of, Want, Place, Tag}
+use Rattle.power_loss.proofs.Common.{cases_Bool, cond-false, cond-true, none-some, same_Some, page_not_mark, one_page}
+use Rattle.power_loss.proofs.Common.{at_place_is, name_cases, Book, IsKnown, IsPageAt, book, last_number, FlightsRight}
+use Rattle.power_loss.proofs.Common.{FrontierRight, HistoryRight, IsLastRepair, IsLaterMark, IsNeededPage, IsToCopy}
+use Rattle.power_loss.proofs.Common.{MarksRight, MendingRight, OnePlanRight, PagesRight, Standing, StandsIn}
+use Rattle.power_loss.proofs.Common.{ToReadRight, Valid}
 use Rattle.power_loss.proofs.books.LayerParts.{MarksOf, MendingOf}
 use Rattle.power_loss.proofs.books.FrontierClimbs.{climbed_to, climbs_last, climbs_right, climbs_up, stands_more}
 use Rattle.power_loss.proofs.books.FrontierClimbs.{stands_now, stood}
 use Rattle.power_loss.proofs.kept_pages.ReadsStay.{behind_wants, idle_reads, needed_written, reads_stay, to_read_stay}
 use Rattle.power_loss.proofs.books.PagesByName.{page_within, overwritten_more}
 use Rattle.power_loss.proofs.kept_pages.PagesStay.{StayThere, pins_settle, rests_stay, settles}
-use Rattle.power_loss.proofs.accepted_groups.ClaimedSlots.{fewer_pages, pages_of, slots_fewer}
+use Rattle.power_loss.proofs.accepted_groups.ClaimedSlots.{fewer_pages, slots_fewer}
 use Rattle.power_loss.proofs.jobs.DiskChanges.{kind_goes_on}
 use Rattle.power_loss.proofs.jobs.StandsSecurely.{at_place_other, mark_stands_moves}
 use Rattle.power_loss.proofs.jobs.ProgramEnded.{GoesTo, blank_programmed, blocks_behind, blocks_programmed}
@@ -35,14 +26,13 @@ use Rattle.power_loss.proofs.jobs.ProgramEnded.{safe_written, secure_written, st
 -- The step under way
 
 -- what is left of the step is the step, and is none for the name
-pub behind_of : (name : Name) (step : Option Step) (s : Step) → step_behind name step ≡ Some s →
+pub behind_of : (name : Name) (step : Option Step) {s : Step} → step_behind name step ≡ Some s →
     (step ≡ Some s) × (is_kind_of name s.kind ≡ false)
-behind_of name None s e = cc
-behind_of name (Some x) s e =
+behind_of name None e = cc
+behind_of name (Some x) {s} e =
     ⊎_elim (λ h. absurd (none-some _ (sym (cond-true (is_kind_of name x.kind) None (Some x) h) ∙ e)))
     (λ h. let f = sym (cond-false (is_kind_of name x.kind) None (Some x) h) ∙ e in
-    (f, ap (λ (z : Step). is_kind_of name z.kind) (sym (same_Some x s f)) ∙ h))
-    (cases_Bool (is_kind_of name x.kind))
+    (f, ap (λ (z : Step). is_kind_of name z.kind) (sym (same_Some x s f)) ∙ h)) (cases_Bool (is_kind_of name x.kind))
 
 -- a step that is none for the name is left
 pub behind_keeps : (name : Name) {step : Option Step} {s : Step} → step ≡ Some s → is_kind_of name s.kind ≡ false →
@@ -51,13 +41,9 @@ behind_keeps name {s} e h = ap (step_behind name) e ∙ cond-false (is_kind_of n
 
 later_more : {b : Book} {frontier to : ℕ} {newest m : Mark} → frontier ≤ to → IsLaterMark b frontier newest m →
     IsLaterMark b to newest m
-later_more l r = record {
-  newer = r.newer;
-  above = r.above;
-  within = let w = r.within in omega arith;
-  plain = r.plain;
-  numbers = r.numbers;
-}
+later_more {to = to} {m = m} l r =
+    let within : m.records ≤ to = let w = r.within in omega arith in
+    assumption
 
 -- the repair of the last group goes on, or it stands wholly
 abbrev IsUnderWay : Book → ℕ → Option Step → Type 0
@@ -70,15 +56,13 @@ repair_under_way : (b : Book) (standing : Standing) {frontier : ℕ} (name : Nam
 repair_under_way b standing {frontier} name p low up singles (inl e) =
     let c = climbs_up b (at_name standing name (Some p)) frontier in inl (omega arith)
 repair_under_way b standing {frontier} name p low up singles (inr e) = ⊎_elim (λ h.
-    let there = ap is_some (stands_now standing p (e.0 ∙ sym (ap (λ (z : Name). z.number) h.1))
+    let there = ap is_some (stands_now standing (e.0 ∙ sym (ap (λ (z : Name). z.number) h.1))
     (sym (ap (λ (z : Name). z.index) h.1))) in
     let c = climbs_last b (at_name standing name (Some p)) frontier low e.0 singles there in
     let f = e.0 in
     inl (omega (arith, c, f, up)))
-    (λ h. ⊎_elim
-    (λ f. inr (ap suc f ∙ e.0, (e.1.0, e.1.1, behind_keeps name e.1.2 h.0)))
-    (λ f. let s = e.0 in inl (omega (arith, f, s, up)))
-    (order (climbs_up b (at_name standing name (Some p)) frontier)))
+    (λ h. ⊎_elim (λ f. inr (ap suc f ∙ e.0, (e.1.0, e.1.1, behind_keeps name e.1.2 h.0)))
+    (λ f. let s = e.0 in inl (omega (arith, f, s, up))) (order (climbs_up b (at_name standing name (Some p)) frontier)))
     (name_cases name (record { number = last_number b; index = 0 }))
   where
     order : {m n : ℕ} → m ≤ n → (n ≡ m) ⊎ (m < n)
@@ -87,12 +71,10 @@ repair_under_way b standing {frontier} name p low up singles (inr e) = ⊎_elim 
 -- the frontier may rise
 history_more : {b : Book} {repairs held frontier to : ℕ} {mended : Bool} → frontier ≤ to →
     HistoryRight b repairs held frontier mended → HistoryRight b repairs held to mended
-history_more l r = record {
-  within = r.within;
-  contents = r.contents;
-  mending = r.mending;
-  durable = ⊎_elim (λ h. inl h) (λ h. inr (omega (arith, h, l))) r.durable;
-}
+history_more {b} {repairs} {held} {to = to} l r =
+    let durable : (held ≡ 0) ⊎ (b.greatest_seen + repairs + held ≤ to) =
+    ⊎_elim (λ h. inl h) (λ h. inr (omega (arith, h, l))) r.durable in
+    assumption
 
 -- where a page is above the frontier, marks record no more than it
 recorded_under : (t : Translation) (n i : ℕ) (x : Entry) (w : Mending) → MendingOf t w → IsPageAt (book t) n i x →
@@ -122,8 +104,7 @@ module _ {t : Translation} {die : ℕ} {p : Place} {tag : Tag} {body : List ℕ}
   known = v.flights.known die p tag body job
 
   page_frontier : FrontierRight (book t) (at_name t.ledger.standing (name_of tag) (Some p)) to
-  page_frontier = climbs_right (name_of tag) p
-      v.frontier known
+  page_frontier = climbs_right (name_of tag) p v.frontier known
 
   -- Marks
 
@@ -136,10 +117,10 @@ module _ {t : Translation} {die : ℕ} {p : Place} {tag : Tag} {body : List ℕ}
   was : (q : Place) → q ≢ p → at_place t.disk.finished p true q ≡ true → t.disk.finished q ≡ true
   was q other f = sym (at_place_other t.disk.finished p true q other) ∙ f
 
-  page_marks : (newest : Mark) → MarksOf t newest → MarksRight (book t) to t.ledger.marks
+  page_marks : {newest : Mark} → MarksOf t newest → MarksRight (book t) to t.ledger.marks
       (at_place t.disk.cells p (GroupPage tag body)) (at_place t.disk.finished p true)
       (blocks_behind t.numbers t.disk p) t.disk.erasing (at_die t.disk.flights p.die None) newest
-  page_marks newest r = record {
+  page_marks r = record {
     stands = mark_stands_moves (keeps goes (GroupPage tag body)) r.stands;
     within = let w = r.within in omega (arith, w, up);
     numbers = r.numbers;
@@ -162,19 +143,16 @@ module _ {t : Translation} {die : ℕ} {p : Place} {tag : Tag} {body : List ℕ}
     known = λ q u other h. ⊎_elim
         (λ e. let s = one_page tag u body other e.1 in
         subst (λ z. IsKnown (book t) z other) s.0 (subst (λ z. IsKnown (book t) tag z) s.1 known))
-        (λ e. v.pages.known q u other e.1)
-        (this q u other h);
+        (λ e. v.pages.known q u other e.1) (this q u other h);
     recorded = λ q u other h. ⊎_elim
         (λ e. let s = ap (λ (z : Tag). z.frontier) (one_page tag u body other e.1).0 in
         let r = v.flights.recorded die p tag body job in omega (arith, s, r, up))
-        (λ e. let s = v.pages.recorded q u other e.1 in omega (arith, s, up))
-        (this q u other h);
+        (λ e. let s = v.pages.recorded q u other e.1 in omega (arith, s, up)) (this q u other h);
     stands = λ q u other h f. ⊎_elim
         (λ e. let s = (one_page tag u body other e.1).0 in
-        (p, stands_now t.ledger.standing p (sym (ap (λ (z : Tag). z.number) s)) (sym (ap (λ (z : Tag). z.index) s))))
+        (p, stands_now t.ledger.standing (sym (ap (λ (z : Tag). z.number) s)) (sym (ap (λ (z : Tag). z.index) s))))
         (λ e. stands_more t.ledger.standing (name_of tag) p u.number u.index
-        (v.pages.stands q u other e.1 (was q e.0 f)))
-        (this q u other h);
+        (v.pages.stands q u other e.1 (was q e.0 f))) (this q u other h);
   }
     where
       this : (q : Place) (u : Tag) (other : List ℕ) → at_place t.disk.cells p (GroupPage tag body) q ≡ GroupPage u
@@ -211,30 +189,24 @@ module _ {t : Translation} {die : ℕ} {p : Place} {tag : Tag} {body : List ℕ}
   page_mending (Repairing left) m = record {
     mark = m.mark;
     is = m.is;
-    right = page_marks m.mark m.right;
-    more = record {
-      fence = m.more.fence;
-      repaired = m.more.repaired;
-      keys = m.more.keys;
-      singles = m.more.singles;
-      under_way = repair_under_way (book t) t.ledger.standing (name_of tag) p v.frontier.above page_frontier.within
-          m.more.singles m.more.under_way;
-      blank = blank_programmed goes (GroupPage tag body) m.more.blank;
-      no_plan = m.more.no_plan;
-    };
+    right = page_marks m.right;
+    more = assumption (
+      repair_under_way (book t) t.ledger.standing (name_of tag) p v.frontier.above page_frontier.within m.more.singles
+          m.more.under_way,
+      blank_programmed goes (GroupPage tag body) m.more.blank,
+    );
   }
-  page_mending Mended m = record { mark = m.mark; is = m.is; right = page_marks m.mark m.right; more = m.more }
+  page_mending Mended m = record { mark = m.mark; is = m.is; right = page_marks m.right; more = m.more }
 
   -- The plan
 
-  page_plan : (pl : Plan) → OnePlanRight (book t) t.ledger.frontier t.ledger.standing t.disk.blocks t.disk.flights
+  page_plan : {pl : Plan} → OnePlanRight (book t) t.ledger.frontier t.ledger.standing t.disk.blocks t.disk.flights
       t.work.step pl → OnePlanRight (book t) to (at_name t.ledger.standing (name_of tag) (Some p))
       (blocks_behind t.numbers t.disk p) (at_die t.disk.flights p.die None) (step_behind (name_of tag) t.work.step) pl
-  page_plan pl r = record {
+  page_plan {pl} r = record {
     state = still_victim goes r.state;
-    copied = λ n i e q h. let o = before n i e q h in ⊎_elim (λ c. inl (overwritten_more _ _ _ _ _ up c))
-        (λ c. inr (to_copy n i q o.0 c))
-        (r.copied n i e q o.1);
+    copied = λ n i e q h. let o = before n i e q h in ⊎_elim (λ c. inl (overwritten_more up c))
+        (λ c. inr (to_copy n i q o.0 c)) (r.copied n i e q o.1);
     flown = λ die q m h n i e s k. r.flown die q m (other_flight t.disk.flights h).1 n i e s (before n i e s k).1;
   }
     where
@@ -252,14 +224,13 @@ module _ {t : Translation} {die : ℕ} {p : Place} {tag : Tag} {body : List ℕ}
         h.0,
         behind_keeps (name_of tag) h.1 (⊎_elim
             (λ k. absurd (other (sym (ap (λ (z : Name). z.number) k.1), sym (ap (λ (z : Name). z.index) k.1))))
-            (λ k. k.0)
-            (name_cases (name_of tag) (record { number = n; index = i }))),
+            (λ k. k.0) (name_cases (name_of tag) (record { number = n; index = i }))),
       )
 
-pub ends_page : (t : Translation) (die : ℕ) (p : Place) (tag : Tag) (body : List ℕ) → Valid t →
+pub ends_page : {t : Translation} (die : ℕ) (p : Place) (tag : Tag) (body : List ℕ) → Valid t →
     t.disk.flights die ≡ Some (Programming p (GroupPage tag body)) →
     Valid (job_ended t die (Programming p (GroupPage tag body)) WentWell)
-ends_page t die p tag body v job = record {
+ends_page {t} die p tag body v job = record {
   book_right = v.book_right;
   frontier = page_frontier v job;
   pages = page_pages v job;
@@ -270,25 +241,24 @@ ends_page t die p tag body v job = record {
   mending = page_mending v job t.work.mending v.mending;
   step = record {
     kind = λ s e. kind_goes_on (book t) t.ledger.marks t.work.mending t.work.plan s.kind (λ q m h. (old v job q m h).1)
-        (v.step.kind s (behind_of (name_of tag) t.work.step s e).0);
+        (v.step.kind s (behind_of (name_of tag) t.work.step e).0);
   };
-  plan = record { mended = v.plan.mended; one = λ pl e. page_plan v job pl (v.plan.one pl e) };
+  plan = record { mended = v.plan.mended; one = λ pl e. page_plan v job (v.plan.one pl e) };
   history = history_more (up v job) v.history;
-  slots = slots_fewer t.numbers.slots (pending_pages t.ledger) t.claims
-      (pages_of (drop (to v job - before_accepted t.ledger) (accepted_groups t.ledger))) t.claims
+  slots = slots_fewer
       (fewer_pages (accepted_groups t.ledger) (t.ledger.frontier - before_accepted t.ledger)
       (to v job - before_accepted t.ledger) (let u = up v job in omega (arith, u))) (omega arith) v.slots;
   unmended = record {
     stand = λ un n i q h. secure_written g tag body (⊎_elim (λ k. inr (k.0, k.1))
         (λ k. inl (v.unmended.stand un n i q k.1)) (stood t.ledger.standing p n i q h));
   };
-  pins = pins_settle (book t) t.ledger.frontier (page_stands t.ledger (name_of tag) p) _ _ _ _ _ _ t.pins there
+  pins = pins_settle (page_stands t.ledger (name_of tag) p) there
       (settles (book t) (recorded_in t.ledger.newest) t.ledger.frontier (page_stands t.ledger (name_of tag) p) _ _
       (blocks_behind t.numbers t.disk p) t.disk.erasing v.frontier.above (page_frontier v job)
       (safe_written g tag body v.safe) (λ n i x is above. recorded_under t n i x t.work.mending v.mending is above))
       v.pins;
-  rests = rests_stay _ _ _ _ _ _ t.work.rests there v.rests;
-  reads = reads_stay _ _ _ _ _ _ _ _ there (idle_reads t.disk.flights p.die) v.reads;
+  rests = rests_stay there v.rests;
+  reads = reads_stay there (idle_reads t.disk.flights p.die) v.reads;
   to_read = record {
     wanted = behind_wants (λ (w : Want). IsNeededPage (at_place t.disk.cells p (GroupPage tag body))
         (at_place t.disk.finished p true) (blocks_behind t.numbers t.disk p) t.disk.erasing w.place)
@@ -306,5 +276,4 @@ ends_page t die p tag body v job = record {
 
     still : ToReadRight (at_place t.disk.cells p (GroupPage tag body)) (at_place t.disk.finished p true)
         (blocks_behind t.numbers t.disk p) t.disk.erasing t.work.step t.work.plan
-    still = to_read_stay _ _ _ _ _ _ _ _ t.work.step t.work.plan
-        (λ q h. needed_written _ _ _ _ t.disk.blocks _ _ (spot_of p) t.numbers.pages p.page q there h) v.to_read
+    still = to_read_stay (λ q h. needed_written (spot_of p) t.numbers.pages p.page there h) v.to_read

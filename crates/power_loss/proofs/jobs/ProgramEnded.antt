@@ -1,56 +1,30 @@
 -- A program that ended well: its cell stands where nothing stood, what stood firmly goes on standing, and what is safe
 -- stays safe where a block is freed behind it.
-use Rattle.std.proofs.Common.{◌≡◌, ◌≢◌, ℕ, zero, suc, ◌+◌, ◌<◌, ◌≤◌, ◌⊎◌, ◌==◌, Bool, true, false, List, Some, None}
-use Rattle.std.proofs.Common.{refl, sym, ap, ◌∙◌, inl, inr, ⊎_elim, arith}
-use Rattle.std.proofs.lemmas.Bool.Decides.{eqb_tells}
-use Rattle.ufs_spec.specs.Cells.{Cell, Cells, GroupPage, IsPlace, Nothing}
-use Rattle.ufs_spec.specs.Disk.{BlockState, Bad, Closed, Disk, Filling, Flight, Free, Spot, at_die, at_place, at_spot}
-use Rattle.ufs_spec.specs.Disk.{programmed, spot_of, state_behind}
-use Rattle.ufs_spec.specs.Ledger.{Entry, at_name}
+use Rattle.power_loss.proofs.Common.{◌≡◌, ◌≢◌, ℕ, zero, suc, ◌+◌, ◌<◌, ◌≤◌, ◌⊎◌, ◌==◌, Bool, true, false, List, Some}
+use Rattle.power_loss.proofs.Common.{None, refl, sym, ap, ◌∙◌, inl, inr, ⊎_elim, arith, eqb_tells, Cell, Cells}
+use Rattle.power_loss.proofs.Common.{GroupPage, IsPlace, Nothing, BlockState, Bad, Closed, Disk, Filling, Flight, Free}
+use Rattle.power_loss.proofs.Common.{Spot, at_die, at_place, at_spot, programmed, spot_of, state_behind, Entry, at_name}
+use Rattle.power_loss.proofs.Common.{name_of, Numbers, Key, Place, Tag, page_not_nothing, cases_Bool, cond-false}
+use Rattle.power_loss.proofs.Common.{cond-true, none-some, true≢false, at_die_is, at_name_cases, at_place_is}
+use Rattle.power_loss.proofs.Common.{at_spot_cases, at_spot_is, Book, IsLostNumber, IsOverwritten, IsPageAt}
+use Rattle.power_loss.proofs.Common.{AreFreeBlank, BlocksRight, EraseRight, Flights, FrontierRight, IsSafe, IsSecure}
+use Rattle.power_loss.proofs.Common.{ProgramRight, SafeRight, Standing}
 use Rattle.ufs_spec.specs.Moves.{freed_state}
-use Rattle.ufs_spec.specs.Translation.{name_of}
-use Rattle.ufs_spec.specs.declared.configs.Numbers.{Numbers}
-use Rattle.ufs_spec.specs.declared.flash.Key.{Key}
-use Rattle.ufs_spec.specs.declared.flash.Place.{Place}
-use Rattle.ufs_spec.specs.declared.flash.Tag.{Tag}
-use Rattle.ufs_spec.proofs.CellKinds.{page_not_nothing}
-use Rattle.ufs_spec.proofs.Facts.{cases_Bool, cond-false, cond-true, none-some, true≢false}
-use Rattle.ufs_spec.proofs.Updates.{at_die_is, at_name_cases, at_place_is, at_spot_cases, at_spot_is}
-use Rattle.power_loss.specs.Book.{Book, IsLostNumber, IsOverwritten, IsPageAt}
-use Rattle.power_loss.specs.Invariant.{AreFreeBlank, BlocksRight, EraseRight, Flights, FrontierRight, IsSafe, IsSecure}
-use Rattle.power_loss.specs.Invariant.{ProgramRight, SafeRight, Standing}
-use Rattle.power_loss.proofs.books.PagesByName.{overwritten_more}
+use Rattle.power_loss.proofs.books.PagesByName.{overwritten_more, overwritten_twice}
 use Rattle.power_loss.proofs.books.FrontierClimbs.{stood}
 use Rattle.power_loss.proofs.kept_pages.PagesStay.{StayThere, stay_written}
 use Rattle.power_loss.proofs.jobs.StandsSecurely.{Keeps, all_safe, at_place_here, at_place_other, at_spot_other}
 use Rattle.power_loss.proofs.jobs.StandsSecurely.{behind_is_not_free, closed_is_not_filling, filling_is_not_bad}
-use Rattle.power_loss.proofs.jobs.StandsSecurely.{free_is_not_filling, keeps_program, secure_from}
-
--- what overwrites a page that overwrites this one
-abbrev overwritten_twice : {b : Book} {n : ℕ} {k : Key} {marked bound : ℕ} (o : IsOverwritten b n k marked) →
-    IsOverwritten b o.number o.page.item.key bound → IsOverwritten b n k bound
-overwritten_twice o u = record {
-  number = u.number;
-  index = u.index;
-  page = u.page;
-  is = u.is;
-  key = u.key ∙ o.key;
-  newer = let y = o.newer in let z = u.newer in omega arith;
-  within = u.within;
-  free = u.free;
-}
+use Rattle.power_loss.proofs.jobs.StandsSecurely.{free_is_not_filling, keeps_program, secure_from, closed_is_not_free}
+use Rattle.power_loss.proofs.jobs.StandsSecurely.{free_is_not_bad, one_filling, victim_kept}
 
 -- a block behind a program is filled up to its next page
 behind_filling : {pages page next : ℕ} → page < pages → state_behind pages page ≡ Filling next →
     (page + 1 ≡ next) × (next < pages)
 behind_filling {pages} {page} {next} l e = ⊎_elim (λ k. absurd (closed_is_not_filling refl
     (sym (cond-true (page + 1 == pages) Closed (Filling (page + 1)) k.0) ∙ e)))
-    (λ k. let f = one (sym (cond-false (page + 1 == pages) Closed (Filling (page + 1)) k.0) ∙ e) in let o = k.1 in
-    (f, omega (arith, f, o, l)))
-    (eqb_tells (page + 1) pages)
-  where
-    one : {m n : ℕ} → Filling m ≡ Filling n → m ≡ n
-    one e = cc
+    (λ k. let f = one_filling (sym (cond-false (page + 1 == pages) Closed (Filling (page + 1)) k.0) ∙ e) in
+    let o = k.1 in (f, omega (arith, f, o, l))) (eqb_tells (page + 1) pages)
 
 -- Where a program goes
 
@@ -68,8 +42,7 @@ goes_to r g = record {
   blank = r.blank _ _ g.next (omega arith);
   stays = ⊎_elim
       (λ h. absurd (⊎_elim (λ f. free_is_not_filling f g.next) (λ f. filling_is_not_bad g.next f) (r.erased _ h)))
-      (λ h. h)
-      (cases_Bool _);
+      (λ h. h) (cases_Bool _);
 }
 
 -- the blocks behind it
@@ -98,8 +71,8 @@ module _ {n : Numbers} {d : Disk} {p : Place} (g : GoesTo n d p) where
 
   pub still_victim : {s : Spot} → (d.blocks s ≡ Closed) ⊎ (d.blocks s ≡ Bad) → (blocks_behind n d p s ≡ Closed) ⊎
       (blocks_behind n d p s ≡ Bad)
-  still_victim st = ⊎_elim (λ e. inl (still e (λ k. closed_is_not_filling k refl)))
-      (λ e. inr (still e (filling_is_not_bad refl))) st
+  still_victim = victim_kept d.blocks (spot_of p) (state_behind n.pages p.page)
+      (λ c. closed_is_not_filling c g.next) (filling_is_not_bad g.next)
 
   pub blocks_programmed : (y : Cell) → BlocksRight n d.cells d.finished d.blocks d.erasing →
       BlocksRight n (at_place d.cells p y) (at_place d.finished p true) (blocks_behind n d p) d.erasing
@@ -124,8 +97,7 @@ module _ {n : Numbers} {d : Disk} {p : Place} (g : GoesTo n d p) where
   blank_programmed y blank q h = ⊎_elim
       (λ f. let r = still_free f in at_place_other d.cells p y q (λ e. r.0 (ap spot_of e)) ∙ blank q (inl r.1))
       (λ f. at_place_other d.cells p y q (λ e. true≢false (sym f ∙ ap d.erasing (ap spot_of e) ∙ g.stays))
-      ∙ blank q (inr f))
-      h
+      ∙ blank q (inr f)) h
 
   -- programs and erases of other dies go on
   pub program_goes_on : {q : Place} {e : ℕ} → ProgramRight n d.blocks e q → e ≢ p.die →
@@ -177,9 +149,7 @@ module _ {n : Numbers} {d : Disk} {p : Place} (g : GoesTo n d p) where
       (λ k. ⊎_elim
       (λ s.
       let r = keeps (GroupPage tag body) s.place (page_not_nothing _ _ _ s.there) s.ended s.stays s.needed in
-      secure_from s (k.1 ∙ s.known) r.there r.ended r.stays r.needed)
-      (λ s. absurd (k.0 s))
-      h)
+      secure_from s (k.1 ∙ s.known) r.there r.ended r.stays r.needed) (λ s. absurd (k.0 s)) h)
       (at_name_cases standing (name_of tag) (Some p) m i)
 
   pub safe_written : {b : Book} {marked : ℕ} {standing : Standing} (tag : Tag) (body : List ℕ) →
@@ -189,8 +159,7 @@ module _ {n : Numbers} {d : Disk} {p : Place} (g : GoesTo n d p) where
   safe_written {standing = standing} tag body r = record {
     safe = λ m i e q is h free. ⊎_elim (λ k. inl (secure_written tag body (inr (k.0, k.1)))) (λ k. ⊎_elim
         (λ s. inl (secure_written tag body (inl s)))
-        (λ s. inr record { by = s.by; secure = secure_written tag body (inl s.secure) })
-        (r.safe m i e q is k.1 free))
+        (λ s. inr record { by = s.by; secure = secure_written tag body (inl s.secure) }) (r.safe m i e q is k.1 free))
         (stood standing p m i q h);
   }
 
@@ -227,18 +196,16 @@ freed_filling (Filling n) e = cc
 freed_filling Closed e = cc
 freed_filling Bad e = cc
 
-pub frees_one : {blocks : Spot → BlockState} (victim : Spot) → (blocks victim ≡ Closed) ⊎ (blocks victim ≡ Bad) →
+pub frees_one : {blocks : Spot → BlockState} {victim : Spot} → (blocks victim ≡ Closed) ⊎ (blocks victim ≡ Bad) →
     Frees blocks (at_spot blocks victim (freed_state (blocks victim))) (λ s. s ≡ victim)
-frees_one {blocks = blocks} victim state = record {
+frees_one {blocks} {victim} state = record {
   filling = λ s next h. ⊎_elim (λ k. absurd (freed_filling (blocks victim) k.1)) (λ k. k.1)
       (at_spot_is blocks victim (freed_state (blocks victim)) s (Filling next) h);
   fills = λ s next h. ⊎_elim (λ k. absurd (never (λ c. closed_is_not_filling c (ap blocks (sym k.0) ∙ h))
-      (λ b. filling_is_not_bad (ap blocks (sym k.0) ∙ h) b)))
-      (λ k. k.1 ∙ h) (at victim s);
+      (λ b. filling_is_not_bad (ap blocks (sym k.0) ∙ h) b))) (λ k. k.1 ∙ h) (at victim s);
   bad = λ s h. ⊎_elim (λ k. k.1 ∙ ap freed_state (ap blocks (sym k.0) ∙ h)) (λ k. k.1 ∙ h) (at victim s);
-  free = λ s h. ⊎_elim (λ k. absurd (never (λ c. closed (sym (ap blocks (sym k.0) ∙ h) ∙ c))
-      (λ b. bad (sym (ap blocks (sym k.0) ∙ h) ∙ b))))
-      (λ k. k.1 ∙ h) (at victim s);
+  free = λ s h. ⊎_elim (λ k. absurd (never (λ c. closed_is_not_free c (ap blocks (sym k.0) ∙ h))
+      (λ b. free_is_not_bad (ap blocks (sym k.0) ∙ h) b))) (λ k. k.1 ∙ h) (at victim s);
   needed = λ s h. ⊎_elim (λ k. inr k.0) (λ k. inl (λ f. h (sym k.1 ∙ f))) (at victim s);
   freed = λ s h. ⊎_elim (λ k. inr k.0) (λ k. inl k.1) (at_spot_is blocks victim (freed_state (blocks victim)) s Free h);
 }
@@ -249,12 +216,6 @@ frees_one {blocks = blocks} victim state = record {
 
     never : (blocks victim ≡ Closed → ⊥) → (blocks victim ≡ Bad → ⊥) → ⊥
     never c b = ⊎_elim c b state
-
-    closed : Free ≡ Closed → ⊥
-    closed e = cc
-
-    bad : Free ≡ Bad → ⊥
-    bad e = cc
 
 pub blocks_freed : {n : Numbers} {cells : Cells} {finished : Place → Bool} {blocks after : Spot →
     BlockState} {erasing : Spot → Bool} {IsVictim : Spot → Type 0} → Frees blocks after IsVictim →
@@ -288,8 +249,7 @@ module _ {b : Book} {bound frontier : ℕ} {standing : Standing} {blocks after :
   unfolding IsNewerSafe
   chained newer o =
       let st = f.stand o.number o.index o.page (let w = o.within in omega arith) o.is in
-      ⊎_elim
-      (λ s. inr record { by = o; secure = s })
+      ⊎_elim (λ s. inr record { by = o; secure = s })
       (λ s. inr record { by = overwritten_twice o s.by; secure = s.secure })
       (newer o.number o.index o.page st.0 o.newer o.within o.is st.1 o.free)
 
@@ -298,11 +258,10 @@ module _ {b : Book} {bound frontier : ℕ} {standing : Standing} {blocks after :
       IsSafe b bound standing cells finished after erasing n i e.item.key
   freed_step {n} {i} {e} newer is free (inl s) = ⊎_elim
       (λ needed. inl (secure_from s s.known refl s.ended s.stays needed))
-      (λ v. chained newer (flown n i e s.place is s.known v free))
-      (frees.needed (spot_of s.place) s.needed)
+      (λ v. chained newer (flown n i e s.place is s.known v free)) (frees.needed (spot_of s.place) s.needed)
   freed_step newer is free (inr (s)) = ⊎_elim
       (λ needed. inr record {
-        by = overwritten_more _ _ _ _ _ ml s.by;
+        by = overwritten_more ml s.by;
         secure = secure_from s.secure s.secure.known refl s.secure.ended s.secure.stays needed;
       })
       (λ v. chained newer (overwritten_twice s.by

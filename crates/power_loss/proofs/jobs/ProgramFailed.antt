@@ -1,58 +1,33 @@
 -- Programs that fail keep a life valid.
-use Rattle.std.proofs.Common.{◌≡◌, ◌≢◌, ℕ, ◌+◌, true, false, ◌⊎◌, List, Some, None, refl, sym, ap, ◌∙◌, subst, inl, inr}
-use Rattle.std.proofs.Common.{⊎_elim, arith}
-use Rattle.ufs_spec.specs.Cells.{Cell, Cells, GroupPage, Mark, MarkPage, Nothing}
-use Rattle.ufs_spec.specs.Disk.{BlockState, Bad, CellCrash, Closed, Erasing, Filling, Free, Programming, Spot, at_die}
-use Rattle.ufs_spec.specs.Disk.{at_place, at_spot, flight_alone, program_failed, spot_of}
-use Rattle.ufs_spec.specs.Moves.{WentWrong, job_ended}
-use Rattle.ufs_spec.specs.Translation.{MarkStep, Translation, has_mark_number, mark_ordered}
-use Rattle.ufs_spec.specs.declared.flash.Place.{Place}
-use Rattle.ufs_spec.specs.declared.flash.Tag.{Tag}
-use Rattle.ufs_spec.proofs.Facts.{cases_Bool, cond-false, cond-true, false≢true, none-some, same_Some}
-use Rattle.ufs_spec.proofs.CellKinds.{mark_not_nothing, page_not_mark}
-use Rattle.ufs_spec.proofs.Updates.{at_die_is, at_place_is, at_spot_is}
-use Rattle.ufs_spec.proofs.Equalities.{spot_cases}
-use Rattle.power_loss.specs.Book.{book}
-use Rattle.power_loss.specs.Invariant.{BlocksRight, EraseRight, MarkStepRight, ProgramRight, StepKindRight, Valid}
+use Rattle.power_loss.proofs.Common.{◌≡◌, ◌≢◌, ℕ, ◌+◌, true, false, ◌⊎◌, List, Some, None, refl, sym, ap, ◌∙◌, subst}
+use Rattle.power_loss.proofs.Common.{inl, inr, ⊎_elim, arith, Cell, Cells, GroupPage, Mark, MarkPage, Nothing, Bad}
+use Rattle.power_loss.proofs.Common.{CellCrash, Erasing, Free, Programming, Spot, at_die, at_place, at_spot}
+use Rattle.power_loss.proofs.Common.{flight_alone, program_failed, spot_of, WentWrong, job_ended, MarkStep, Translation}
+use Rattle.power_loss.proofs.Common.{has_mark_number, mark_ordered, Place, Tag, cases_Bool, cond-false, cond-true}
+use Rattle.power_loss.proofs.Common.{false≢true, none-some, same_Some, mark_not_nothing, page_not_mark, at_die_is}
+use Rattle.power_loss.proofs.Common.{at_place_is, at_spot_is, book, BlocksRight, EraseRight, MarkStepRight}
+use Rattle.power_loss.proofs.Common.{ProgramRight, StepKindRight, Valid}
 use Rattle.power_loss.proofs.kept_pages.PagesStay.{HeldStay, held_stay, stay_failed}
 use Rattle.power_loss.proofs.jobs.DiskChanges.{Change, Follows, HasNoMore, IsGone, IsLeft, changed, numbered_change}
 use Rattle.power_loss.proofs.jobs.DiskChanges.{same_step}
 use Rattle.power_loss.proofs.jobs.ReadsAndTasks.{idle_fewer}
 use Rattle.power_loss.proofs.kept_pages.ReadsStay.{idle_reads, reads_stay}
 use Rattle.power_loss.proofs.jobs.StandsSecurely.{at_place_here, at_spot_here, at_spot_other, filling_is_not_bad}
-use Rattle.power_loss.proofs.jobs.StandsSecurely.{free_is_not_filling, keeps_program_failed, program_left}
+use Rattle.power_loss.proofs.jobs.StandsSecurely.{free_is_not_filling, keeps_program_failed, program_left, blocks_bad}
+use Rattle.power_loss.proofs.jobs.StandsSecurely.{closed_is_not_filling, free_is_not_bad, state_kept, victim_kept}
 use Rattle.power_loss.proofs.jobs.JobsBegin.{mark_no_copy, mark_no_repair}
 
 -- The place of a program
 
-pub program_blank : (t : Translation) (die : ℕ) (p : Place) → Valid t → ProgramRight t.numbers t.disk.blocks die p →
+pub program_blank : {t : Translation} {die : ℕ} {p : Place} → Valid t → ProgramRight t.numbers t.disk.blocks die p →
     t.disk.cells p ≡ Nothing
-program_blank t die p v r = v.blocks.blank p p.page r.next (omega arith)
+program_blank {p = p} v r = v.blocks.blank p p.page r.next (omega arith)
 
-pub program_stays : (t : Translation) {die : ℕ} (p : Place) → Valid t → ProgramRight t.numbers t.disk.blocks die p →
+pub program_stays : {t : Translation} {die : ℕ} {p : Place} → Valid t → ProgramRight t.numbers t.disk.blocks die p →
     t.disk.erasing (spot_of p) ≡ false
-program_stays t p v r = ⊎_elim (λ h. absurd (⊎_elim (λ k. free_is_not_filling k r.next)
-    (λ k. filling_is_not_bad r.next k)
-    (v.blocks.erased (spot_of p) h)))
-    (λ h. h)
+program_stays {t = t} {p = p} v r = ⊎_elim (λ h. absurd (⊎_elim (λ k. free_is_not_filling k r.next)
+    (λ k. filling_is_not_bad r.next k) (v.blocks.erased (spot_of p) h))) (λ h. h)
     (cases_Bool (t.disk.erasing (spot_of p)))
-
--- the block of a program is none of another state
-pub other_state : (f : Spot → BlockState) {s a : Spot} {next : ℕ} {x : BlockState} → f s ≡ Filling next → f a ≡ x →
-    (x ≡ Filling next → ⊥) → a ≢ s
-other_state f fills is other h = other (sym is ∙ ap f h ∙ fills)
-
-free_filling : {next : ℕ} → Free ≡ Filling next → ⊥
-free_filling e = cc
-
-closed_filling : {next : ℕ} → Closed ≡ Filling next → ⊥
-closed_filling e = cc
-
-bad_filling : {next : ℕ} → Bad ≡ Filling next → ⊥
-bad_filling e = cc
-
-bad_free : Bad ≡ Free → ⊥
-bad_free e = cc
 
 -- What a failed program changes
 
@@ -77,30 +52,15 @@ module _ (t : Translation) (die : ℕ) (p : Place) (cell : Cell) (left : Cells) 
         flies = e ∙ ap (λ z. Some (Programming z cell)) (sym at) ∙ ap (λ z. Some (Programming q z)) (sym h);
         unfinished = at_place_here t.disk.finished p false q at;
         bad = at_spot_here t.disk.blocks (spot_of p) Bad (spot_of q) (ap spot_of at);
-        stays = ap (λ z. t.disk.erasing (spot_of z)) at ∙ program_stays t p v r;
-        blank = ap t.disk.cells at ∙ program_blank t die p v r;
+        stays = ap (λ z. t.disk.erasing (spot_of z)) at ∙ program_stays v r;
+        blank = ap t.disk.cells at ∙ program_blank v r;
       })
 
   bad_blocks : BlocksRight t.numbers left (at_place t.disk.finished p false) (at_spot t.disk.blocks (spot_of p) Bad)
       t.disk.erasing
-  bad_blocks = record {
-    unfinished = λ q h. ⊎_elim (λ k. at_spot_here t.disk.blocks (spot_of p) Bad (spot_of q) (ap spot_of k.0))
-        (λ k. ⊎_elim
-        (λ s. at_spot_here t.disk.blocks (spot_of p) Bad (spot_of q) s.1)
-        (λ s. at_spot_other t.disk.blocks (spot_of p) Bad (spot_of q) s.1 ∙ v.blocks.unfinished q k.1)
-        (spot_cases (spot_of q) (spot_of p)))
-        (at_place_is t.disk.finished p false q false h);
-    filling = λ a next h. ⊎_elim (λ k. absurd (bad_filling k.1)) (λ k. v.blocks.filling a next k.1)
-        (at_spot_is t.disk.blocks (spot_of p) Bad a (Filling next) h);
-    blank = λ q next h l. ⊎_elim (λ k. absurd (bad_filling k.1))
-        (λ k. left_other q (λ at. k.0 (ap spot_of at)) ∙ v.blocks.blank q next k.1 l)
-        (at_spot_is t.disk.blocks (spot_of p) Bad (spot_of q) (Filling next) h);
-    erased = λ a h. ⊎_elim (λ s. inr (at_spot_here t.disk.blocks (spot_of p) Bad a s.1)) (λ s. ⊎_elim
-        (λ k. inl (at_spot_other t.disk.blocks (spot_of p) Bad a s.1 ∙ k))
-        (λ k. inr (at_spot_other t.disk.blocks (spot_of p) Bad a s.1 ∙ k))
-        (v.blocks.erased a h))
-        (spot_cases a (spot_of p));
-  }
+  bad_blocks = blocks_bad (spot_of p) v.blocks
+      (λ q h. ⊎_elim (λ k. inl (ap spot_of k.0)) (λ k. inr k.1) (at_place_is t.disk.finished p false q false h))
+      (λ q out h. left_other q (λ at. out (ap spot_of at)) ∙ h)
 
   other_place : (d : ℕ) (q : Place) (other : Cell) → at_die t.disk.flights p.die None d ≡ Some (Programming q other) →
       ProgramRight t.numbers (at_spot t.disk.blocks (spot_of p) Bad) d q
@@ -111,8 +71,7 @@ module _ (t : Translation) (die : ℕ) (p : Place) (cell : Cell) (left : Cells) 
         place = r.place;
         next = at_spot_other t.disk.blocks (spot_of p) Bad (spot_of q)
             (λ s. k.0 (sym r.at_home ∙ ap (λ z. z.die) s)) ∙ r.next;
-      })
-      (at_die_is t.disk.flights p.die None d (Some (Programming q other)) h)
+      }) (at_die_is t.disk.flights p.die None d (Some (Programming q other)) h)
 
   other_erase : (d : ℕ) (a : Spot) → at_die t.disk.flights p.die None d ≡ Some (Erasing a) →
       EraseRight (at_spot t.disk.blocks (spot_of p) Bad) t.disk.erasing d a
@@ -120,69 +79,54 @@ module _ (t : Translation) (die : ℕ) (p : Place) (cell : Cell) (left : Cells) 
       let r = v.flights.erases d a ((idle_fewer {f = t.disk.flights} p.die).erases d a h) in
       record {
         at_home = r.at_home;
-        free = at_spot_other t.disk.blocks (spot_of p) Bad a (other_state t.disk.blocks
-            (v.flights.programs die p cell e).next r.free (free_filling)) ∙ r.free;
+        free = state_kept t.disk.blocks (spot_of p) Bad r.free (λ f. free_is_not_filling f place.next);
         counted = r.counted;
       }
 
-  victim_stays : (a : Spot) → (t.disk.blocks a ≡ Closed) ⊎ (t.disk.blocks a ≡ Bad) →
-      (at_spot t.disk.blocks (spot_of p) Bad a ≡ Closed) ⊎ (at_spot t.disk.blocks (spot_of p) Bad a ≡ Bad)
-  victim_stays a (inl h) =
-      inl (at_spot_other t.disk.blocks (spot_of p) Bad a (other_state t.disk.blocks
-      (v.flights.programs die p cell e).next h (closed_filling)) ∙ h)
-  victim_stays a (inr h) =
-      inr (at_spot_other t.disk.blocks (spot_of p) Bad a (other_state t.disk.blocks
-      (v.flights.programs die p cell e).next h (bad_filling)) ∙ h)
-
   pub program_change : Change t (program_failed t.disk p left)
   program_change = record {
-    keeps = keeps_program_failed p (program_blank t die p v (v.flights.programs die p cell e)) left_other;
+    keeps = keeps_program_failed p (program_blank v (v.flights.programs die p cell e)) left_other;
     left = λ q. fresh_at q (by q);
     ended = λ q h. ⊎_elim (λ k. absurd (false≢true k.1)) (λ k. k.1) (at_place_is t.disk.finished p false q true h);
     blocks = bad_blocks;
     flew = (idle_fewer {f = t.disk.flights} p.die).programs;
     programs = other_place;
     erases = other_erase;
-    freed = λ a h. ⊎_elim (λ k. absurd (bad_free k.1)) (λ k. k.1) (at_spot_is t.disk.blocks (spot_of p) Bad a Free h);
+    freed = λ a h. ⊎_elim (λ k. absurd (free_is_not_bad k.1 refl)) (λ k. k.1)
+        (at_spot_is t.disk.blocks (spot_of p) Bad a Free h);
     spent = λ a h. inr h;
-    victims = victim_stays;
-    reads = reads_stay t.disk.cells left t.disk.finished (at_place t.disk.finished p false) t.disk.erasing
-        t.disk.erasing t.disk.flights (at_die t.disk.flights p.die None)
+    victims = λ a. victim_kept t.disk.blocks (spot_of p) Bad (λ c. closed_is_not_filling c place.next)
+        (filling_is_not_bad place.next);
+    reads = reads_stay
         (stay_failed t.disk.cells left t.disk.finished t.disk.erasing p (λ q. (left q ≡ cell) ⊎ (left q ≡ Nothing))
-        (program_blank t die p v (v.flights.programs die p cell e)) by)
-        (idle_reads t.disk.flights p.die) v.reads;
+        (program_blank v (v.flights.programs die p cell e)) by) (idle_reads t.disk.flights p.die) v.reads;
   }
 
   pub program_gone : IsGone t (program_failed t.disk p left)
   program_gone blank q h = ⊎_elim (λ k. sym k ∙ h)
-      (λ k. ap t.disk.cells k.0 ∙ program_blank t die p v (v.flights.programs die p cell e))
-      (by q)
+      (λ k. ap t.disk.cells k.0 ∙ program_blank v (v.flights.programs die p cell e)) (by q)
 
 -- what is kept is not there
-failed_held : (t : Translation) {die : ℕ} (p : Place) {cell : Cell} {left : Cells} → Valid t → t.disk.flights die ≡ Some
+failed_held : {t : Translation} {die : ℕ} {p : Place} {cell : Cell} {left : Cells} → Valid t → t.disk.flights die ≡ Some
     (Programming p cell) →
     ((q : Place) → (left q ≡ t.disk.cells q) ⊎ ((q ≡ p) × ((left q ≡ cell) ⊎ (left q ≡ Nothing)))) →
     HeldStay t (program_failed t.disk p left)
-failed_held t {die} p {cell} {left} v e by =
-    held_stay t (program_failed t.disk p left) v
+failed_held {t} {die} {p} {cell} {left} v e by = held_stay (program_failed t.disk p left) v
     (stay_failed t.disk.cells left t.disk.finished t.disk.erasing p (λ q. (left q ≡ cell) ⊎ (left q ≡ Nothing))
-    (program_blank t die p v (v.flights.programs die p cell e)) by)
+    (program_blank v (v.flights.programs die p cell e)) by)
 
-pub fails_page : (t : Translation) (die : ℕ) (p : Place) (tag : Tag) (body : List ℕ) (left : Cells) → Valid t →
+pub fails_page : {t : Translation} (die : ℕ) (p : Place) (tag : Tag) (body : List ℕ) (left : Cells) → Valid t →
     t.disk.flights die ≡ Some (Programming p (GroupPage tag body)) → CellCrash t.disk.cells
     (flight_alone t.disk.flights die) left → Valid (job_ended t die (Programming p (GroupPage tag body))
     (WentWrong left))
-fails_page t die p tag body left v e crash =
-    let by = program_left t.disk die p (GroupPage tag body) left e crash in
+fails_page {t} die p tag body left v e crash =
+    let by = program_left t.disk die left e crash in
     let c = program_change t die p (GroupPage tag body) left v e by in
-    changed v c (program_gone t die p (GroupPage tag body) left v e by)
-    (same_step t v c old)
-    (failed_held t p v e by)
+    changed v c (program_gone t die p (GroupPage tag body) left v e by) (same_step v c old) (failed_held v e by)
   where
     old : HasNoMore t (program_failed t.disk p left)
     old q m h = ⊎_elim (λ k. sym k ∙ h) (λ k. absurd (⊎_elim (λ z. page_not_mark _ _ _ _ z h)
-        (λ z. mark_not_nothing _ _ h z) k.1))
-        (program_left t.disk die p (GroupPage tag body) left e crash q)
+        (λ z. mark_not_nothing _ _ h z) k.1)) (program_left t.disk die left e crash q)
 
 -- no mark flies any more
 none_flies : (t : Translation) (die : ℕ) (p : Place) (m : Mark) → Valid t → t.disk.flights die ≡ Some
@@ -231,21 +175,20 @@ module _ (t : Translation) (die : ℕ) (p : Place) (m : Mark) (left : Cells) (v 
     wants = inr refl;
   }
 
-pub fails_mark : (t : Translation) (die : ℕ) (p : Place) (m : Mark) (left : Cells) → Valid t → t.disk.flights die ≡ Some
+pub fails_mark : {t : Translation} (die : ℕ) (p : Place) (m : Mark) (left : Cells) → Valid t → t.disk.flights die ≡ Some
     (Programming p (MarkPage m)) → CellCrash t.disk.cells (flight_alone t.disk.flights die) left →
     Valid (job_ended t die (Programming p (MarkPage m)) (WentWrong left))
-fails_mark t die p m left v e crash =
-    let by = program_left t.disk die p (MarkPage m) left e crash in
+fails_mark {t} die p m left v e crash =
+    let by = program_left t.disk die left e crash in
     let c = program_change t die p (MarkPage m) left v e by in
     let gone = program_gone t die p (MarkPage m) left v e by in
     ⊎_elim
     (λ h. subst Valid (sym (cond-true (has_mark_number t) (mark_ordered behind m.fence)
     (record behind { work = record t.work { step = None } }) h))
-    (changed v c gone (again t die p m left v e c) (failed_held t p v e by)))
+    (changed v c gone (again t die p m left v e c) (failed_held v e by)))
     (λ h. subst Valid (sym (cond-false (has_mark_number t) (mark_ordered behind m.fence)
     (record behind { work = record t.work { step = None } }) h))
-    (changed v c gone (no_more t die p m left v e c) (failed_held t p v e by)))
-    (cases_Bool (has_mark_number t))
+    (changed v c gone (no_more t die p m left v e c) (failed_held v e by))) (cases_Bool (has_mark_number t))
   where
     behind : Translation
     behind = record t { disk = program_failed t.disk p left }

@@ -1,27 +1,20 @@
 -- Moves that leave pages and groups as they are.
-use Rattle.std.proofs.Common.{◌≡◌, ℕ, ◌+◌, ◌-◌, ◌==◌, ◌≤◌, ◌⊎◌, Bool, true, false, List, max, Option, Some, None, refl}
-use Rattle.std.proofs.Common.{sym, ap, subst, inl, inr, ⊎_elim, arith}
-use Rattle.std.proofs.lemmas.List.Elements.{All-filter, All-push}
+use Rattle.power_loss.proofs.Common.{◌≡◌, ℕ, ◌+◌, ◌-◌, ◌==◌, ◌≤◌, ◌⊎◌, Bool, true, false, List, Option, Some, None}
+use Rattle.power_loss.proofs.Common.{refl, suc, sym, ap, subst, inl, inr, ⊎_elim, arith, All-filter, All-push, Cell}
+use Rattle.power_loss.proofs.Common.{GroupPage, Mark, MarkPage, Disk, Erasing, Flight, Programming, Reader, Reading}
+use Rattle.power_loss.proofs.Common.{ForTask, ForStep, ForRest, ForNobody, Spot, at_die, Ledger, before_accepted, look}
+use Rattle.power_loss.proofs.Common.{Claim, Keep, LetGo, LetGoAll, ReadRight, ReadWrong, Release, Acknowledge, WantPage}
+use Rattle.power_loss.proofs.Common.{die_idle, is_for, is_for_task, is_pin_of, without_reader, job_ended, moved}
+use Rattle.power_loss.proofs.Common.{read_right, read_wrong, step_there, MayTake, Mending, Mended, Pin, Plan, Repairing}
+use Rattle.power_loss.proofs.Common.{Rest, Step, StepKind, Translation, Unmarked, free_slots, pending_pages, taken, Key}
+use Rattle.power_loss.proofs.Common.{Place, at_die_is, none-some, same_Some, erase_unread, program_unread, Book, HasKey}
+use Rattle.power_loss.proofs.Common.{book, last_number, FlightsRight, Flights, HistoryRight, IsLastRepair, IsToCopy}
+use Rattle.power_loss.proofs.Common.{MarksRight, MendingRight, OnePlanRight, PinsRight, ReadsRight, RestsRight}
+use Rattle.power_loss.proofs.Common.{SlotsRight, Valid}
+use Rattle.std.proofs.Common.{max}
 use Rattle.ufs_laws.proofs.jobs.JobsOnTheirDies.{read_here}
-use Rattle.ufs_spec.specs.Cells.{Cell, GroupPage, Mark, MarkPage}
-use Rattle.ufs_spec.specs.Disk.{Disk, Erasing, Flight, Programming, Reader, Reading, ForTask, ForStep, ForRest}
-use Rattle.ufs_spec.specs.Disk.{ForNobody, Spot, at_die}
-use Rattle.ufs_spec.specs.Ledger.{Ledger, before_accepted, look}
-use Rattle.ufs_spec.specs.Moves.{Claim, Keep, LetGo, LetGoAll, ReadRight, ReadWrong, Release, Acknowledge, WantPage}
-use Rattle.ufs_spec.specs.Moves.{die_idle, is_for, is_for_task, is_pin_of, let_go, without_reader, job_ended, moved}
-use Rattle.ufs_spec.specs.Moves.{read_right, read_wrong, step_there}
-use Rattle.ufs_spec.specs.Translation.{MayTake, Mending, Mended, Pin, Plan, Repairing, Rest, Step, StepKind}
-use Rattle.ufs_spec.specs.Translation.{Translation, Unmarked, free_slots, pending_pages, taken}
-use Rattle.ufs_spec.specs.declared.flash.Key.{Key}
-use Rattle.ufs_spec.specs.declared.flash.Place.{Place}
-use Rattle.ufs_spec.proofs.Updates.{at_die_is}
-use Rattle.ufs_spec.proofs.Facts.{none-some, same_Some}
-use Rattle.ufs_spec.proofs.CellKinds.{erase_unread, program_unread}
-use Rattle.power_loss.specs.Book.{Book, HasKey, book, last_number}
-use Rattle.power_loss.specs.Invariant.{FlightsRight, Flights, HistoryRight, IsNeededPage, IsToCopy, LookedRight}
-use Rattle.power_loss.specs.Invariant.{MarksRight, MendingRight, OnePlanRight, PinsRight, ReadsRight, RestsRight}
-use Rattle.power_loss.specs.Invariant.{SlotsRight, SourceRight, Valid}
-use Rattle.power_loss.proofs.books.LayerParts.{MarksOf, MendingOf}
+use Rattle.ufs_spec.specs.Moves.{let_go}
+use Rattle.power_loss.proofs.books.LayerParts.{MarksOf, MendingOf, NeededOf, LookedOf, SourceOf}
 use Rattle.power_loss.proofs.kept_pages.LookedUpPages.{look_right}
 use Rattle.power_loss.proofs.kept_pages.PagesStay.{pins_wanted}
 use Rattle.power_loss.proofs.kept_pages.ReadsStay.{gone_reads, idle_reads, reads_begun, reads_fewer, there_wants}
@@ -52,28 +45,12 @@ held_history {held} count up h l = record {
       (max_is held count);
 }
 
-pub tells : (t : Translation) (count : ℕ) → Valid t → before_accepted t.ledger + count ≤ t.ledger.frontier →
+pub tells : {t : Translation} (count : ℕ) → Valid t → before_accepted t.ledger + count ≤ t.ledger.frontier →
     Valid (moved t (Acknowledge count))
-tells t count v l = record {
-  book_right = v.book_right;
-  frontier = v.frontier;
-  pages = v.pages;
-  blocks = v.blocks;
-  flights = v.flights;
-  safe = v.safe;
-  numbered = v.numbered;
-  mending = mending_is (book t) t.disk t.ledger (max t.ledger.held count) t.work.plan t.work.step t.work.mending
-      v.mending;
-  step = v.step;
-  plan = v.plan;
-  history = held_history count v.frontier.within v.history l;
-  slots = v.slots;
-  unmended = v.unmended;
-  pins = v.pins;
-  rests = v.rests;
-  reads = v.reads;
-  to_read = v.to_read;
-}
+tells {t} count v l = assumption (
+  mending_is (book t) t.disk t.ledger (max t.ledger.held count) t.work.plan t.work.step t.work.mending v.mending,
+  held_history count v.frontier.within v.history l,
+)
 
 -- Jobs that are reads
 
@@ -96,23 +73,16 @@ fewer_flights v l = record {
       (l.programs e q (MarkPage other) k);
 }
 
-fewer_marks : (t : Translation) (g : Flights) {m : Mark} → IsFewer t.disk.flights g → MarksOf t m →
+fewer_marks : (t : Translation) {g : Flights} {m : Mark} → IsFewer t.disk.flights g → MarksOf t m →
     MarksRight (book t) t.ledger.frontier t.ledger.marks t.disk.cells t.disk.finished t.disk.blocks t.disk.erasing g m
-fewer_marks t g l r = record {
-  stands = r.stands;
-  within = r.within;
-  numbers = r.numbers;
-  whole = r.whole;
-  ended = r.ended;
-  known = r.known;
-  same = r.same;
-  freed = r.freed;
-  flies = λ die p other h. r.flies die p other (l.programs die p (MarkPage other) h);
-}
+fewer_marks t {g} l r = assumption (
+    λ (die : ℕ) (p : Place) (other : Mark) (h : g die ≡ Some (Programming p (MarkPage other))).
+    r.flies die p other (l.programs die p (MarkPage other) h)
+    )
 
-fewer_mending : (t : Translation) (g : Flights) (w : Mending) → IsFewer t.disk.flights g → MendingOf t w →
+fewer_mending : (t : Translation) {g : Flights} (w : Mending) → IsFewer t.disk.flights g → MendingOf t w →
     MendingRight (book t) (record t.disk { flights = g }) t.ledger t.work.plan t.work.step w
-fewer_mending t g (Unmarked fence lost) l m = record {
+fewer_mending t (Unmarked fence lost) l m = record {
   opening = m.opening;
   opened = m.opened;
   fence_right = m.fence_right;
@@ -124,13 +94,8 @@ fewer_mending t g (Unmarked fence lost) l m = record {
   blank = m.blank;
   no_plan = m.no_plan;
 }
-fewer_mending t g (Repairing left) l m = record {
-  mark = m.mark;
-  is = m.is;
-  right = fewer_marks t g {m = m.mark} l m.right;
-  more = m.more;
-}
-fewer_mending t g Mended l m = record { mark = m.mark; is = m.is; right = fewer_marks t g l m.right; more = m.more }
+fewer_mending t {g} w l m =
+    record { mark = m.mark; is = m.is; right = fewer_marks t {m = m.mark} l m.right; more = m.more }
 
 fewer_plan : {b : Book} {frontier : ℕ} {standing : ℕ → ℕ → Option Place}
     (t : Translation) {g : Flights} {step : Option Step} {pl : Plan} → IsFewer t.disk.flights g →
@@ -143,7 +108,7 @@ fewer_plan t l r = record {
 }
 
 -- what tasks hold and what pages wait for does not matter, and reads may begin and end
-others_held : {t : Translation} {claims : ℕ} {pins : List Pin} {rests : List Rest} (g : Flights) →
+others_held : {t : Translation} {claims : ℕ} {pins : List Pin} {rests : List Rest} {g : Flights} →
     SlotsRight t.numbers.slots (pending_pages t.ledger) claims →
     PinsRight (book t) t.ledger.frontier t.disk.cells t.disk.finished t.disk.erasing pins →
     RestsRight t.disk.cells t.disk.finished t.disk.erasing rests → IsFewer t.disk.flights g →
@@ -153,55 +118,39 @@ others_held : {t : Translation} {claims : ℕ} {pins : List Pin} {rests : List R
       claims = claims;
       pins = pins;
     })
-others_held {t} g slots pins rests l reads v = record {
-  book_right = v.book_right;
-  frontier = v.frontier;
-  pages = v.pages;
-  blocks = v.blocks;
-  flights = fewer_flights v l;
-  safe = v.safe;
-  numbered = v.numbered;
-  mending = fewer_mending t g t.work.mending l v.mending;
-  step = v.step;
-  plan = record { mended = v.plan.mended; one = λ pl e. fewer_plan t l (v.plan.one pl e) };
-  history = v.history;
-  slots = slots;
-  unmended = v.unmended;
-  pins = pins;
-  rests = rests;
-  reads = reads;
-  to_read = v.to_read;
-}
+others_held {t = t} {g = g} slots pins rests l reads v = assumption (
+  fewer_flights v l,
+  fewer_mending t t.work.mending l v.mending,
+  λ (pl : Plan) (e : t.work.plan ≡ Some pl). fewer_plan t l (v.plan.one pl e),
+)
 
 other_holds : {t : Translation} {claims : ℕ} {pins : List Pin} → SlotsRight t.numbers.slots
     (pending_pages t.ledger) claims → PinsRight (book t) t.ledger.frontier t.disk.cells t.disk.finished t.disk.erasing
     pins → Valid t → Valid (record t { claims = claims; pins = pins })
 other_holds {t} slots kept v =
-    others_held t.disk.flights slots kept v.rests (record { programs = λ die p cell h. h; erases = λ die s h. h })
-    v.reads v
+    others_held slots kept v.rests (record { programs = λ die p cell h. h; erases = λ die s h. h }) v.reads v
 
-other_rests : {t : Translation} (rests : List Rest) → RestsRight t.disk.cells t.disk.finished t.disk.erasing rests →
+other_rests : {t : Translation} {rests : List Rest} → RestsRight t.disk.cells t.disk.finished t.disk.erasing rests →
     Valid t → Valid (record t { work = record t.work { rests = rests } })
-other_rests {t} rests kept v = others_held t.disk.flights v.slots v.pins kept
+other_rests {t} kept v = others_held v.slots v.pins kept
     (record { programs = λ die p cell h. h; erases = λ die s h. h }) v.reads v
 
-other_reads : (t : Translation) {g : Flights} → Valid t → IsFewer t.disk.flights g →
-    ReadsRight t.disk.cells t.disk.finished t.disk.erasing g →
-    Valid (record t { disk = record t.disk { flights = g } })
-other_reads t {g} v l r = others_held g v.slots v.pins v.rests l r v
+other_reads : {t : Translation} {g : Flights} → Valid t → IsFewer t.disk.flights g →
+    ReadsRight t.disk.cells t.disk.finished t.disk.erasing g → Valid (record t { disk = record t.disk { flights = g } })
+other_reads {g = g} v l r = others_held v.slots v.pins v.rests l r v
 
 -- a job that is no program and no erase, or none
-no_more : (f : Flights) (die : ℕ) (job : Option Flight) → ((p : Place) (cell : Cell) → job ≡ Some (Programming p cell) →
+no_more : {f : Flights} (die : ℕ) {job : Option Flight} → ((p : Place) (cell : Cell) → job ≡ Some (Programming p cell) →
     ⊥) → ((s : Spot) → job ≡ Some (Erasing s) → ⊥) → IsFewer f (at_die f die job)
-no_more f die job program erase = record {
+no_more {f} die {job} program erase = record {
   programs = λ e p cell h. ⊎_elim (λ k. absurd (program p cell k.1)) (λ k. k.1)
       (at_die_is f die job e (Some (Programming p cell)) h);
   erases = λ e s h. ⊎_elim (λ k. absurd (erase s k.1)) (λ k. k.1) (at_die_is f die job e (Some (Erasing s)) h);
 }
 
-read_begun : (f : Flights) (die : ℕ) (reader : Reader) (place : Place) →
+read_begun : {f : Flights} (die : ℕ) (reader : Reader) (place : Place) →
     IsFewer f (at_die f die (Some (Reading reader place)))
-read_begun f die reader place = no_more f die (Some (Reading reader place)) (λ p cell. program p cell) (λ s. erase s)
+read_begun {f} die reader place = no_more die (λ p cell. program p cell) (λ s. erase s)
   where
     program : (p : Place) (cell : Cell) → Some (Reading reader place) ≡ Some (Programming p cell) → ⊥
     program p cell e = cc
@@ -210,26 +159,21 @@ read_begun f die reader place = no_more f die (Some (Reading reader place)) (λ 
     erase s e = cc
 
 pub idle_fewer : {f : Flights} (die : ℕ) → IsFewer f (at_die f die None)
-idle_fewer {f} die = no_more f die None (λ p cell e. none-some _ e) (λ s e. none-some _ e)
+idle_fewer {f} die = no_more die (λ p cell e. none-some _ e) (λ s e. none-some _ e)
 
-pub takes_read : (t : Translation) (die : ℕ) (reader : Reader) (place : Place) → Valid t →
+pub takes_read : {t : Translation} (die : ℕ) (reader : Reader) (place : Place) → Valid t →
     MayTake t die (Some (Reading reader place)) → Valid (taken t die (Reading reader place))
-takes_read t die reader place v may =
-    other_reads t v (read_begun t.disk.flights die reader place)
-    (reads_begun t.disk.cells t.disk.finished t.disk.erasing t.disk.flights die reader place
-    (read_here t die reader place may) (read_page t die reader place v may) v.reads)
+takes_read {t} die reader place v may = other_reads v (read_begun die reader place)
+    (reads_begun reader (read_here t die reader place may) (read_page die reader v may) v.reads)
 
-idle : (t : Translation) (die : ℕ) → Valid t → Valid (die_idle t die)
-idle t die v =
-    other_reads t v (idle_fewer die)
-    (reads_fewer t.disk.cells t.disk.finished t.disk.erasing t.disk.flights (at_die t.disk.flights die None)
-    (idle_reads t.disk.flights die) v.reads)
+idle : {t : Translation} (die : ℕ) → Valid t → Valid (die_idle t die)
+idle {t} die v = other_reads v (idle_fewer die) (reads_fewer (idle_reads t.disk.flights die) v.reads)
 
 -- The step's content is there
 
-there_kind : (s : Option Step) (x : Step) → step_there s ≡ Some x → (y : Step) × (s ≡ Some y) × (x.kind ≡ y.kind)
-there_kind None x e = cc
-there_kind (Some y) x e = (y, refl, ap (λ z. z.kind) (sym (same_Some (record y { there = true }) x e)))
+there_kind : (s : Option Step) {x : Step} → step_there s ≡ Some x → (y : Step) × (s ≡ Some y) × (x.kind ≡ y.kind)
+there_kind None e = cc
+there_kind (Some y) {x} e = (y, refl, ap (λ z. z.kind) (sym (same_Some (record y { there = true }) x e)))
 
 kind_there : {s : Option Step} {kind : StepKind} {there : Bool} → s ≡ Some (record { kind = kind; there = there }) →
     step_there s ≡ Some (record { kind = kind; there = true })
@@ -256,20 +200,10 @@ there_flights d r = record {
 there_mending : (b : Book) (d : Disk) (l : Ledger) (plan : Option Plan) (s : Option Step) (w : Mending) →
     MendingRight b d l plan s w → MendingRight b d l plan (step_there s) w
 there_mending b d l plan s (Unmarked fence lost) m = m
-there_mending b d l plan s (Repairing left) m = record {
-  mark = m.mark;
-  is = m.is;
-  right = m.right;
-  more = record {
-    fence = m.more.fence;
-    repaired = m.more.repaired;
-    keys = m.more.keys;
-    singles = m.more.singles;
-    under_way = ⊎_elim (λ e. inl e) (λ e. inr (e.0, (e.1.0, true, kind_there e.1.2))) m.more.under_way;
-    blank = m.more.blank;
-    no_plan = m.more.no_plan;
-  };
-}
+there_mending b d l plan s (Repairing left) m =
+    let under : (l.frontier ≡ last_number b) ⊎ ((suc l.frontier ≡ last_number b) × IsLastRepair b (step_there s)) =
+    ⊎_elim (λ e. inl e) (λ e. inr (e.0, (e.1.0, true, kind_there e.1.2))) m.more.under_way in
+    record { mark = m.mark; is = m.is; right = m.right; more = assumption }
 there_mending b d l plan s Mended m = record { mark = m.mark; is = m.is; right = m.right; more = m.more }
 
 there_copy : (copies : List Place) {s : Option Step} {n i : ℕ} {p : Place} → IsToCopy copies s n i p →
@@ -277,104 +211,71 @@ there_copy : (copies : List Place) {s : Option Step} {n i : ℕ} {p : Place} →
 there_copy copies (inl h) = inl h
 there_copy copies (inr h) = inr (true, kind_there h.1)
 
-there_plan : {b : Book} {frontier : ℕ} {standing : ℕ → ℕ → Option Place} (d : Disk) {s : Option Step} (pl : Plan) →
+there_plan : {b : Book} {frontier : ℕ} {standing : ℕ → ℕ → Option Place} (d : Disk) {s : Option Step} {pl : Plan} →
     OnePlanRight b frontier standing d.blocks d.flights s pl → OnePlanRight b frontier standing d.blocks d.flights
     (step_there s) pl
-there_plan d {s} pl r = record {
+there_plan d {pl = pl} r = record {
   state = r.state;
   copied = λ n i e p h. ⊎_elim (λ o. inl o) (λ c. inr (there_copy pl.copies c)) (r.copied n i e p h);
   flown = r.flown;
 }
 
-pub content_there : (t : Translation) → Valid t →
+pub content_there : {t : Translation} → Valid t →
     Valid (record t { work = record t.work { step = step_there t.work.step } })
-content_there t v = record {
-  book_right = v.book_right;
-  frontier = v.frontier;
-  pages = v.pages;
-  blocks = v.blocks;
-  flights = there_flights t.disk v.flights;
-  safe = v.safe;
-  numbered = v.numbered;
-  mending = there_mending (book t) t.disk t.ledger t.work.plan t.work.step t.work.mending v.mending;
-  step = record {
-    kind = λ x e.
-        let y = there_kind t.work.step x e in
-        subst (Rattle.power_loss.specs.Invariant.StepKindRight (book t) t.ledger.marks t.disk.cells t.work.mending
-        t.work.plan) (sym y.2) (v.step.kind y.0 y.1);
-  };
-  plan = record {
-    mended = v.plan.mended;
-    one = λ pl e. there_plan t.disk pl (v.plan.one pl e);
-  };
-  history = v.history;
-  slots = v.slots;
-  unmended = v.unmended;
-  pins = v.pins;
-  rests = v.rests;
-  reads = v.reads;
-  to_read = record {
-    wanted = there_wants (λ w. IsNeededPage t.disk.cells t.disk.finished t.disk.blocks t.disk.erasing w.place)
-        t.work.step;
-    copied = v.to_read.copied;
-  };
-}
+content_there {t} v =
+    let m = there_mending (book t) t.disk t.ledger t.work.plan t.work.step t.work.mending v.mending in
+    let f = there_flights t.disk v.flights in
+    assumption (
+      m,
+      f,
+      λ (pl : Plan) (e : t.work.plan ≡ Some pl). there_plan t.disk (v.plan.one pl e),
+      λ (x : Step) (e : step_there t.work.step ≡ Some x).
+          let y = there_kind t.work.step e in
+          subst (Rattle.power_loss.specs.Invariant.StepKindRight (book t) t.ledger.marks t.disk.cells t.work.mending
+          t.work.plan) (sym y.2) (v.step.kind y.0 y.1),
+      there_wants (λ w. NeededOf t w.place) t.work.step,
+    )
 
 pub reads_right : {t : Translation} (reader : Reader) → Valid t → Valid (read_right t reader)
-reads_right {t} (ForTask tag index) v = other_holds v.slots
-    (pins_wanted (book t) t.ledger.frontier t.disk.cells t.disk.finished t.disk.erasing tag index false t.pins v.pins) v
+reads_right {t} (ForTask tag index) v = other_holds v.slots (pins_wanted tag index false v.pins) v
 reads_right ForNobody v = v
-reads_right {t} ForStep v = content_there t v
-reads_right {t} (ForRest number index) v =
-    other_rests _
-    (record {
-      each = All-filter _ (λ rest. SourceRight t.disk.cells t.disk.finished t.disk.erasing rest.source)
-          t.work.rests v.rests.each;
-    })
-    v
+reads_right {t} ForStep v = content_there v
+reads_right {t} (ForRest number index) v = other_rests
+    (record { each = All-filter _ (λ rest. SourceOf t rest.source) t.work.rests v.rests.each }) v
 
 pub reads_wrong : {t : Translation} (reader : Reader) → Valid t → Valid (read_wrong t reader)
-reads_wrong {t} (ForTask tag index) v = other_holds v.slots
-    (pins_wanted (book t) t.ledger.frontier t.disk.cells t.disk.finished t.disk.erasing tag index false t.pins v.pins) v
+reads_wrong {t} (ForTask tag index) v = other_holds v.slots (pins_wanted tag index false v.pins) v
 reads_wrong ForStep v = v
 reads_wrong (ForRest number index) v = v
 reads_wrong ForNobody v = v
 
 -- a read ends
-pub ends_read_right : (t : Translation) (die : ℕ) (reader : Reader) (place : Place) → Valid t →
+pub ends_read_right : {t : Translation} (die : ℕ) (reader : Reader) (place : Place) → Valid t →
     Valid (job_ended t die (Reading reader place) ReadRight)
-ends_read_right t die reader place v = reads_right reader (idle t die v)
+ends_read_right {t} die reader place v = reads_right reader (idle die v)
 
-pub ends_read_wrong : (t : Translation) (die : ℕ) (reader : Reader) (place : Place) → Valid t →
+pub ends_read_wrong : {t : Translation} (die : ℕ) (reader : Reader) (place : Place) → Valid t →
     Valid (job_ended t die (Reading reader place) ReadWrong)
-ends_read_wrong t die reader place v = reads_wrong reader (idle t die v)
+ends_read_wrong {t} die reader place v = reads_wrong reader (idle die v)
 
 -- What tasks do
 
 pub claims : (t : Translation) (count : ℕ) → count ≤ free_slots t → Valid t → Valid (moved t (Claim count))
-claims t count free v = other_holds (slots_claimed t.numbers.slots (pending_pages t.ledger) t.claims count free v.slots)
-    v.pins v
+claims t count free v = other_holds (slots_claimed count free v.slots) v.pins v
 
 pub releases : (t : Translation) (count : ℕ) → Valid t → Valid (moved t (Release count))
-releases t count v =
-    other_holds (slots_fewer t.numbers.slots (pending_pages t.ledger) t.claims (pending_pages t.ledger)
-    (t.claims - count) (omega arith) (omega arith) v.slots) v.pins v
+releases t count v = other_holds (slots_fewer (omega arith) (omega arith) v.slots) v.pins v
 
 pub keeps : (t : Translation) (key : Key) (pin : Pin) → HasKey (book t) key → pin.looked ≡ look t.ledger key → Valid t →
     Valid (moved t (Keep key pin))
-keeps t key pin has same v =
-    other_holds v.slots
+keeps t key pin has same v = other_holds v.slots
     (record {
-      each = All-push (λ x. LookedRight (book t) t.ledger.frontier t.disk.cells t.disk.finished t.disk.erasing
-          x.looked) t.pins pin v.pins.each
-          (subst (LookedRight (book t) t.ledger.frontier t.disk.cells t.disk.finished t.disk.erasing) (sym same)
-          (look_right t key v has));
-    })
-    v
+      each = All-push (λ x. LookedOf t x.looked) t.pins pin v.pins.each
+          (subst (LookedOf t) (sym same) (look_right key v has));
+    }) v
 
-pub wants_page : (t : Translation) (tag index : ℕ) → Valid t → Valid (moved t (WantPage tag index))
-wants_page t tag index v = other_holds v.slots (pins_wanted (book t) t.ledger.frontier t.disk.cells t.disk.finished
-    t.disk.erasing tag index true t.pins v.pins) v
+pub wants_page : {t : Translation} (tag index : ℕ) → Valid t → Valid (moved t (WantPage tag index))
+wants_page {t} tag index v = other_holds v.slots (pins_wanted tag index true v.pins) v
 
 gone_fewer : {f : Flights} (reads : Reader → Bool) → IsFewer f (λ die. without_reader reads (f die))
 gone_fewer {f} reads = record {
@@ -382,19 +283,14 @@ gone_fewer {f} reads = record {
   erases = λ die s h. erase_unread reads (f die) s h;
 }
 
-gone : (t : Translation) (held : Pin → Bool) (reads : Reader → Bool) → Valid t → Valid (let_go t held reads)
-gone t held reads v =
-    other_holds v.slots
-    (record {
-      each = All-filter _ (λ x. LookedRight (book t) t.ledger.frontier t.disk.cells t.disk.finished
-          t.disk.erasing x.looked) t.pins v.pins.each;
-    })
-    (other_reads t {g = (λ die. without_reader reads (t.disk.flights die))} v (gone_fewer reads)
-    (reads_fewer t.disk.cells t.disk.finished t.disk.erasing t.disk.flights (λ die. without_reader reads
-    (t.disk.flights die)) (gone_reads t.disk.flights reads) v.reads))
+gone : {t : Translation} (held : Pin → Bool) (reads : Reader → Bool) → Valid t → Valid (let_go t held reads)
+gone {t} held reads v = other_holds v.slots
+    (record { each = All-filter _ (λ x. LookedOf t x.looked) t.pins v.pins.each })
+    (other_reads {g = (λ die. without_reader reads (t.disk.flights die))} v (gone_fewer reads)
+    (reads_fewer (gone_reads t.disk.flights reads) v.reads))
 
-pub lets_go : (t : Translation) (tag index : ℕ) → Valid t → Valid (moved t (LetGo tag index))
-lets_go t tag index v = gone t (is_pin_of tag index) (is_for tag index) v
+pub lets_go : {t : Translation} (tag index : ℕ) → Valid t → Valid (moved t (LetGo tag index))
+lets_go {t} tag index v = gone (is_pin_of tag index) (is_for tag index) v
 
-pub lets_go_all : (t : Translation) (tag : ℕ) → Valid t → Valid (moved t (LetGoAll tag))
-lets_go_all t tag v = gone t (λ pin. pin.tag == tag) (is_for_task tag) v
+pub lets_go_all : {t : Translation} (tag : ℕ) → Valid t → Valid (moved t (LetGoAll tag))
+lets_go_all {t} tag v = gone (λ pin. pin.tag == tag) (is_for_task tag) v

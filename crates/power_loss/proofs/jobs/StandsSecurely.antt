@@ -1,19 +1,13 @@
 -- What stands finished, in a block that is needed and that no erase is near, stands so behind each change of the disk.
 pub use Rattle.ufs_spec.proofs.CellKinds.{page_not_nothing as page_is_some}
-use Rattle.std.proofs.Common.{◌≡◌, ◌≢◌, ℕ, ◌+◌, ◌≤◌, ◌==◌, Bool, true, false, ◌⊎◌, Option, Some, None, refl, sym, ap}
-use Rattle.std.proofs.Common.{◌∙◌, subst, inl, inr, ⊎_elim}
-use Rattle.std.proofs.lemmas.Bool.Decides.{eqb_tells}
-use Rattle.ufs_spec.specs.Cells.{Cell, Cells, Mark, Nothing}
-use Rattle.ufs_spec.specs.Disk.{BlockState, Bad, CellCrash, Closed, Disk, Erasing, Filling, Flight, Free, Programming}
-use Rattle.ufs_spec.specs.Disk.{Spot, Touches, at_place, at_spot, job_begun, erase_failed, erased, flight_alone}
-use Rattle.ufs_spec.specs.Disk.{program_failed, programmed, same_spot, spot_of, state_behind}
-use Rattle.ufs_spec.specs.declared.flash.Key.{Key}
-use Rattle.ufs_spec.specs.declared.flash.Place.{Place}
-use Rattle.ufs_spec.proofs.CellKinds.{mark_not_nothing, page_not_nothing}
-use Rattle.ufs_spec.proofs.Facts.{cases_Bool, cond-false, cond-true}
-use Rattle.ufs_spec.proofs.Equalities.{place_cases, spot_cases}
-use Rattle.power_loss.specs.Book.{Book}
-use Rattle.power_loss.specs.Invariant.{IsSafe, IsSecure, MarkStands, SafeRight, Standing}
+use Rattle.power_loss.proofs.Common.{◌≡◌, ◌≢◌, ℕ, ◌+◌, ◌≤◌, ◌==◌, Bool, true, false, ◌⊎◌, Option, Some, None, refl, sym}
+use Rattle.power_loss.proofs.Common.{ap, ◌∙◌, subst, inl, inr, ⊎_elim, eqb_tells, Cell, Cells, Mark, Nothing}
+use Rattle.power_loss.proofs.Common.{BlockState, Bad, CellCrash, Closed, Disk, Erasing, Filling, Flight, Free}
+use Rattle.power_loss.proofs.Common.{Programming, Spot, Touches, at_place, at_spot, job_begun, erase_failed, erased}
+use Rattle.power_loss.proofs.Common.{flight_alone, program_failed, programmed, same_spot, spot_of, state_behind, Key}
+use Rattle.power_loss.proofs.Common.{Place, mark_not_nothing, page_not_nothing, cases_Bool, cond-false, cond-true}
+use Rattle.power_loss.proofs.Common.{place_cases, spot_cases, Book, IsSafe, IsSecure, MarkStands, SafeRight, Standing}
+use Rattle.power_loss.proofs.Common.{Numbers, BlocksRight, at_spot_is}
 use Rattle.power_loss.proofs.books.PagesByName.{overwritten_more}
 
 -- What a change keeps
@@ -26,8 +20,7 @@ pub record Still (d e : Disk) (q : Place) : Type 0 where
   pub needed : e.blocks (spot_of q) ≢ Free
 
 abbrev pub Keeps : Disk → Disk → Type 0
-Keeps d e =
-    (q : Place) → d.cells q ≢ Nothing → d.finished q ≡ true → d.erasing (spot_of q) ≡ false →
+Keeps d e = (q : Place) → d.cells q ≢ Nothing → d.finished q ≡ true → d.erasing (spot_of q) ≡ false →
     d.blocks (spot_of q) ≢ Free → Still d e q
 
 -- what stands securely does so behind a change, where its cell is as it was and it has a place still
@@ -59,15 +52,12 @@ pub safe_moves : {b : Book} {marked marked' : ℕ} {d e : Disk} {standing : Stan
     marked ≤ marked' → IsSafe b marked standing d.cells d.finished d.blocks d.erasing n i k →
     IsSafe b marked' standing e.cells e.finished e.blocks e.erasing n i k
 safe_moves keeps l (inl s) = inl (secure_moves keeps s)
-safe_moves keeps l (inr s) =
-    inr record { by = overwritten_more _ _ _ _ _ l s.by; secure = secure_moves keeps s.secure }
+safe_moves keeps l (inr s) = inr record { by = overwritten_more l s.by; secure = secure_moves keeps s.secure }
 
 pub all_safe : {b : Book} {marked marked' : ℕ} {d e : Disk} {standing : Standing} → Keeps d e → marked ≤ marked' →
     SafeRight b marked standing d.cells d.finished d.blocks d.erasing →
     SafeRight b marked' standing e.cells e.finished e.blocks e.erasing
-all_safe keeps l r = record {
-  safe = λ n i x p h k u. safe_moves keeps l (r.safe n i x p h k u);
-}
+all_safe keeps l r = record { safe = λ n i x p h k u. safe_moves keeps l (r.safe n i x p h k u) }
 
 pub mark_stands_moves : {d e : Disk} {m : Mark} → Keeps d e → MarkStands d.cells d.finished d.blocks d.erasing m →
     MarkStands e.cells e.finished e.blocks e.erasing m
@@ -94,8 +84,8 @@ pub erased_other : (d : Disk) (s : Spot) (q : Place) → spot_of q ≢ s → (er
 erased_other d s q h = ⊎_elim (λ k. absurd (h k.1)) (λ k. cond-false (same_spot (spot_of q) s) Nothing (d.cells q) k.0)
     (spot_cases (spot_of q) s)
 
-pub erased_here : (d : Disk) (s : Spot) (q : Place) → spot_of q ≡ s → (erased d s).cells q ≡ Nothing
-erased_here d s q h = ⊎_elim (λ k. cond-true (same_spot (spot_of q) s) Nothing (d.cells q) k.0) (λ k. absurd (k.1 h))
+pub erased_here : (d : Disk) {s : Spot} (q : Place) → spot_of q ≡ s → (erased d s).cells q ≡ Nothing
+erased_here d {s} q h = ⊎_elim (λ k. cond-true (same_spot (spot_of q) s) Nothing (d.cells q) k.0) (λ k. absurd (k.1 h))
     (spot_cases (spot_of q) s)
 
 -- States of blocks
@@ -112,21 +102,50 @@ closed_is_not_filling e f = cc
 pub filling_is_not_bad : {x : BlockState} {next : ℕ} → x ≡ Filling next → x ≡ Bad → ⊥
 filling_is_not_bad e f = cc
 
-pub true_is_not_false : (x : Bool) → x ≡ true → x ≡ false → ⊥
-true_is_not_false x e f = cc
+pub true_is_not_false : {x : Bool} → x ≡ true → x ≡ false → ⊥
+true_is_not_false e f = cc
+
+pub closed_is_not_free : {x : BlockState} → x ≡ Closed → x ≡ Free → ⊥
+closed_is_not_free e f = cc
+
+pub one_filling : {m n : ℕ} → Filling m ≡ Filling n → m ≡ n
+one_filling e = cc
+
+-- a block keeps its state where one of another state gets a new one
+pub state_kept : (f : Spot → BlockState) (s : Spot) (x : BlockState) {a : Spot} {y : BlockState} → f a ≡ y →
+    (f s ≡ y → ⊥) → at_spot f s x a ≡ y
+state_kept f s x {a} is other = at_spot_other f s x a (λ e. other (sym (ap f e) ∙ is)) ∙ is
+
+pub victim_kept : (f : Spot → BlockState) (s : Spot) (x : BlockState) {a : Spot} → (f s ≡ Closed → ⊥) →
+    (f s ≡ Bad → ⊥) → (f a ≡ Closed) ⊎ (f a ≡ Bad) → (at_spot f s x a ≡ Closed) ⊎ (at_spot f s x a ≡ Bad)
+victim_kept f s x closed bad h = ⊎_elim (λ k. inl (state_kept f s x k closed)) (λ k. inr (state_kept f s x k bad)) h
+
+-- a block becomes bad
+pub blocks_bad : {n : Numbers} {cells left : Cells} {finished ended : Place → Bool} {blocks : Spot → BlockState}
+    {erasing : Spot → Bool} (s : Spot) → BlocksRight n cells finished blocks erasing →
+    ((q : Place) → ended q ≡ false → (spot_of q ≡ s) ⊎ (finished q ≡ false)) →
+    ((q : Place) → spot_of q ≢ s → cells q ≡ Nothing → left q ≡ Nothing) →
+    BlocksRight n left ended (at_spot blocks s Bad) erasing
+blocks_bad {blocks = blocks} s r unfinished blank = record {
+  unfinished = λ q h. ⊎_elim (λ e. at_spot_here blocks s Bad (spot_of q) e) (λ k. bad (spot_of q) (r.unfinished q k))
+      (unfinished q h);
+  filling = λ a next h. ⊎_elim (λ k. absurd (filling_is_not_bad k.1 refl)) (λ k. r.filling a next k.1)
+      (at_spot_is blocks s Bad a (Filling next) h);
+  blank = λ q next h l. ⊎_elim (λ k. absurd (filling_is_not_bad k.1 refl)) (λ k. blank q k.0 (r.blank q next k.1 l))
+      (at_spot_is blocks s Bad (spot_of q) (Filling next) h);
+  erased = λ a h. ⊎_elim (λ f. ⊎_elim (λ e. inr (at_spot_here blocks s Bad a e.1))
+      (λ o. inl (at_spot_other blocks s Bad a o.1 ∙ f)) (spot_cases a s)) (λ f. inr (bad a f)) (r.erased a h);
+}
+  where
+    bad : (a : Spot) → blocks a ≡ Bad → at_spot blocks s Bad a ≡ Bad
+    bad a h = ⊎_elim (λ e. at_spot_here blocks s Bad a e.1) (λ o. at_spot_other blocks s Bad a o.1 ∙ h) (spot_cases a s)
 
 -- a block behind a program is closed or is being filled
 pub behind_is_not_free : (pages page : ℕ) → state_behind pages page ≢ Free
 behind_is_not_free pages page h = ⊎_elim
-    (λ e. closed (sym (cond-true (page + 1 == pages) Closed (Filling (page + 1)) e) ∙ h))
-    (λ e. filling (sym (cond-false (page + 1 == pages) Closed (Filling (page + 1)) e) ∙ h))
+    (λ e. closed_is_not_free refl (sym (cond-true (page + 1 == pages) Closed (Filling (page + 1)) e) ∙ h))
+    (λ e. free_is_not_filling (sym (cond-false (page + 1 == pages) Closed (Filling (page + 1)) e) ∙ h) refl)
     (cases_Bool (page + 1 == pages))
-  where
-    closed : Closed ≡ Free → ⊥
-    closed e = cc
-
-    filling : Filling (page + 1) ≡ Free → ⊥
-    filling e = cc
 
 -- What a failed job leaves
 
@@ -142,8 +161,7 @@ touched_alone : (d : Disk) {die : ℕ} {flight : Flight} (left : Cells) (q : Pla
     d.flights die ≡ Some flight → (f ≡ d.flights die) ⊎ (f ≡ None) → IsTouched d.cells left f q → IsTouched d.cells left
     (Some flight) q
 touched_alone d left q e (inl h) t = subst (λ z. IsTouched d.cells left z q) (h ∙ e) t
-touched_alone d {flight} left q e (inr h) t =
-    none (subst (λ z. IsTouched d.cells left z q) h t)
+touched_alone d {flight} left q e (inr h) t = none (subst (λ z. IsTouched d.cells left z q) h t)
   where
     none : IsTouched d.cells left None q → IsTouched d.cells left (Some flight) q
     none (inl k) = inl k
@@ -151,22 +169,21 @@ touched_alone d {flight} left q e (inr h) t =
 
 left_is : (d : Disk) (die : ℕ) {flight : Flight} {left : Cells} → d.flights die ≡ Some flight →
     CellCrash d.cells (flight_alone d.flights die) left → (q : Place) → IsTouched d.cells left (Some flight) q
-left_is d die {left} e crash q =
-    touched_alone d left q e (alone_is d.flights die q.die) (crash q)
+left_is d die {left} e crash q = touched_alone d left q e (alone_is d.flights die q.die) (crash q)
 
-pub erase_left : (d : Disk) (die : ℕ) (s : Spot) (left : Cells) → d.flights die ≡ Some (Erasing s) →
+pub erase_left : (d : Disk) (die : ℕ) {s : Spot} (left : Cells) → d.flights die ≡ Some (Erasing s) →
     CellCrash d.cells (flight_alone d.flights die) left → (q : Place) →
     (left q ≡ d.cells q) ⊎ ((spot_of q ≡ s) × (left q ≡ Nothing))
-erase_left d die s left e crash q = told (left_is d die e crash q)
+erase_left d die {s} left e crash q = told (left_is d die e crash q)
   where
     told : IsTouched d.cells left (Some (Erasing s)) q → (left q ≡ d.cells q) ⊎ ((spot_of q ≡ s) × (left q ≡ Nothing))
     told (inl k) = inl k
     told (inr (intended, (at, is), k)) = inr (sym at, ⊎_elim (λ h. h ∙ is) (λ h. h) k)
 
-pub program_left : (d : Disk) (die : ℕ) (p : Place) (cell : Cell) (left : Cells) → d.flights die ≡ Some
+pub program_left : (d : Disk) (die : ℕ) {p : Place} {cell : Cell} (left : Cells) → d.flights die ≡ Some
     (Programming p cell) → CellCrash d.cells (flight_alone d.flights die) left → (q : Place) →
     (left q ≡ d.cells q) ⊎ ((q ≡ p) × ((left q ≡ cell) ⊎ (left q ≡ Nothing)))
-program_left d die p cell left e crash q = told (left_is d die e crash q)
+program_left d die {p} {cell} left e crash q = told (left_is d die e crash q)
   where
     told : IsTouched d.cells left (Some (Programming p cell)) q →
         (left q ≡ d.cells q) ⊎ ((q ≡ p) × ((left q ≡ cell) ⊎ (left q ≡ Nothing)))
@@ -192,7 +209,7 @@ keeps_erased {d} s erasing q some ended stays needed = record {
 }
   where
     out : spot_of q ≢ s
-    out h = true_is_not_false (d.erasing s) erasing (sym (ap d.erasing h) ∙ stays)
+    out h = true_is_not_false erasing (sym (ap d.erasing h) ∙ stays)
 
 pub keeps_erase_failed : {d : Disk} (s : Spot) {left : Cells} → d.erasing s ≡ true → ((q : Place) → spot_of q ≢ s →
     left q ≡ d.cells q) → Keeps d (erase_failed d s left)
@@ -204,7 +221,7 @@ keeps_erase_failed {d} s erasing same q some ended stays needed = record {
 }
   where
     out : spot_of q ≢ s
-    out h = true_is_not_false (d.erasing s) erasing (sym (ap d.erasing h) ∙ stays)
+    out h = true_is_not_false erasing (sym (ap d.erasing h) ∙ stays)
 
 -- a block that is not free stays so where it gets a state that is not free
 put_needed : (f : Spot → BlockState) (s : Spot) {t : Spot} {x : BlockState} → x ≢ Free → f t ≢ Free →

@@ -1,18 +1,12 @@
 -- A program that begins keeps a life valid, where what it writes is right.
-use Rattle.std.proofs.Common.{◌≡◌, ℕ, ◌≤◌, ◌⊎◌, List, Option, Some, refl, sym, ◌∙◌, subst, inl, inr, ⊎_elim}
-use Rattle.ufs_spec.specs.Cells.{Cell, GroupPage, Mark, MarkPage, Nothing}
-use Rattle.ufs_spec.specs.Disk.{Erasing, Programming, Spot, at_die}
-use Rattle.ufs_spec.specs.Ledger.{Entry}
-use Rattle.ufs_spec.specs.Translation.{Mended, Mending, Plan, Repairing, Translation, Unmarked, taken}
-use Rattle.ufs_spec.specs.declared.flash.Fence.{Fence}
-use Rattle.ufs_spec.specs.declared.flash.Key.{Key}
-use Rattle.ufs_spec.specs.declared.flash.Place.{Place}
-use Rattle.ufs_spec.specs.declared.flash.Tag.{Tag}
-use Rattle.ufs_spec.proofs.Updates.{at_die_is}
-use Rattle.power_loss.specs.Book.{IsKnown, IsOverwritten, book}
-use Rattle.power_loss.specs.Invariant.{FlightsRight, IsLaterMark, IsOwnMark, MarkFlightRight, MarksRight, MendingRight}
-use Rattle.power_loss.specs.Invariant.{PlanRight, ProgramRight, StandsIn, Valid}
+use Rattle.power_loss.proofs.Common.{◌≡◌, ℕ, ◌≤◌, ◌⊎◌, List, Option, Some, refl, sym, ◌∙◌, subst, inl, inr, ⊎_elim}
+use Rattle.power_loss.proofs.Common.{Cell, GroupPage, Mark, MarkPage, Nothing, Erasing, Programming, Spot, at_die}
+use Rattle.power_loss.proofs.Common.{Entry, Mending, Plan, Translation, Unmarked, taken, Fence, Key, Place, Tag}
+use Rattle.power_loss.proofs.Common.{at_die_is, IsKnown, IsOverwritten, book, FlightsRight, IsLaterMark, IsOwnMark}
+use Rattle.power_loss.proofs.Common.{MarkFlightRight, MarksRight, MendingRight, PlanRight, ProgramRight, StandsIn}
+use Rattle.power_loss.proofs.Common.{Valid}
 use Rattle.power_loss.proofs.kept_pages.ReadsStay.{program_reads, reads_fewer}
+use Rattle.power_loss.proofs.books.LayerParts.{MendingOf}
 
 -- it is not mending, or does no longer wait for its first mark
 abbrev pub IsMarkedOnce : Mending → Type 0
@@ -33,9 +27,9 @@ pub record CellRight (t : Translation) (cell : Cell) : Type 0 where
   pub flown : (m : Mark) → cell ≡ MarkPage m → (pl : Plan) → t.work.plan ≡ Some pl → (n i : ℕ) (e : Entry) (q : Place) →
       StandsIn (book t) t.ledger.standing pl.victim n i e q → IsOverwritten (book t) n e.item.key m.records
 
-same_program : (p q : Place) (cell other : Cell) → Some (Programming p cell) ≡ Some (Programming q other) →
+same_program : {p q : Place} {cell other : Cell} → Some (Programming p cell) ≡ Some (Programming q other) →
     (p ≡ q) × (cell ≡ other)
-same_program p q cell other e = (place e, this e)
+same_program {p} {q} {cell} {other} e = (place e, this e)
   where
     place : Some (Programming p cell) ≡ Some (Programming q other) → p ≡ q
     place e = cc
@@ -43,14 +37,12 @@ same_program p q cell other e = (place e, this e)
     this : Some (Programming p cell) ≡ Some (Programming q other) → cell ≡ other
     this e = cc
 
-is_this : (t : Translation) (die : ℕ) (p : Place) (cell : Cell) (d : ℕ) (q : Place) (other : Cell) →
+is_this : (t : Translation) {die : ℕ} {p : Place} {cell : Cell} {d : ℕ} {q : Place} {other : Cell} →
     at_die t.disk.flights die (Some (Programming p cell)) d ≡ Some (Programming q other) →
     ((d ≡ die) × (p ≡ q) × (cell ≡ other)) ⊎ (t.disk.flights d ≡ Some (Programming q other))
-is_this t die p cell d q other h =
-    ⊎_elim
-    (λ (k : (d ≡ die) × (Some (Programming p cell) ≡ Some (Programming q other))). let r = same_program p q cell other
-    k.1 in inl (k.0, r.0, r.1))
-    (λ k. inr k.1)
+is_this t {die} {p} {cell} {d} {q} {other} h = ⊎_elim
+    (λ (k : (d ≡ die) × (Some (Programming p cell) ≡ Some (Programming q other))). let r = same_program
+    k.1 in inl (k.0, r.0, r.1)) (λ k. inr k.1)
     (at_die_is t.disk.flights die (Some (Programming p cell)) d (Some (Programming q other)) h)
 
 module _ (t : Translation) (die : ℕ) (p : Place) (cell : Cell) (v : Valid t)
@@ -60,23 +52,18 @@ module _ (t : Translation) (die : ℕ) (p : Place) (cell : Cell) (v : Valid t)
   begun_flights = record {
     programs = λ d q other h. ⊎_elim
         (λ (k : (d ≡ die) × (p ≡ q) × (cell ≡ other)). subst (λ z. ProgramRight t.numbers t.disk.blocks z q) (sym k.0)
-        (subst (ProgramRight t.numbers t.disk.blocks die) k.1 place))
-        (λ k. v.flights.programs d q other k)
-        (is_this t die p cell d q other h);
+        (subst (ProgramRight t.numbers t.disk.blocks die) k.1 place)) (λ k. v.flights.programs d q other k)
+        (is_this t h);
     erases = λ d s h. ⊎_elim
         (λ (k : (d ≡ die) × (Some (Programming p cell) ≡ Some (Erasing s))). absurd (no_erase s k.1))
         (λ k. v.flights.erases d s k.1)
         (at_die_is t.disk.flights die (Some (Programming p cell)) d (Some (Erasing s)) h);
-    something = λ d q h. ⊎_elim (λ k. c.something k.2) (λ k. v.flights.something d q k)
-        (is_this t die p cell d q Nothing h);
-    known = λ d q tag body h. ⊎_elim (λ k. c.known tag body k.2) (λ k. v.flights.known d q tag body k)
-        (is_this t die p cell d q (GroupPage tag body) h);
+    something = λ d q h. ⊎_elim (λ k. c.something k.2) (λ k. v.flights.something d q k) (is_this t h);
+    known = λ d q tag body h. ⊎_elim (λ k. c.known tag body k.2) (λ k. v.flights.known d q tag body k) (is_this t h);
     recorded = λ d q tag body h. ⊎_elim (λ k. c.recorded tag body k.2) (λ k. v.flights.recorded d q tag body k)
-        (is_this t die p cell d q (GroupPage tag body) h);
-    mark = λ d q m h. ⊎_elim (λ k. c.mark m k.2) (λ k. v.flights.mark d q m k)
-        (is_this t die p cell d q (MarkPage m) h);
-    one_mark = λ d e q r m other h g. one d e q r m other (is_this t die p cell d q (MarkPage m) h)
-        (is_this t die p cell e r (MarkPage other) g);
+        (is_this t h);
+    mark = λ d q m h. ⊎_elim (λ k. c.mark m k.2) (λ k. v.flights.mark d q m k) (is_this t h);
+    one_mark = λ d e q r m other h g. one d e q r m other (is_this t h) (is_this t g);
   }
     where
       no_erase : (s : Spot) → Some (Programming p cell) ≡ Some (Erasing s) → ⊥
@@ -91,25 +78,18 @@ module _ (t : Translation) (die : ℕ) (p : Place) (cell : Cell) (v : Valid t)
       one d e q r m other (inr h) (inl g) = absurd (c.alone other g.2 d q m h)
       one d e q r m other (inr h) (inr g) = v.flights.one_mark d e q r m other h g
 
-  begun_marks : (newest : Mark) → t.ledger.newest ≡ Some newest → IsMarkedOnce t.work.mending →
-      MarksRight (book t) t.ledger.frontier t.ledger.marks t.disk.cells t.disk.finished t.disk.blocks t.disk.erasing
-      t.disk.flights newest →
+  begun_marks : {newest : Mark} → t.ledger.newest ≡ Some newest → IsMarkedOnce t.work.mending → MarksRight (book t)
+      t.ledger.frontier t.ledger.marks t.disk.cells t.disk.finished t.disk.blocks t.disk.erasing t.disk.flights newest →
       MarksRight (book t) t.ledger.frontier t.ledger.marks t.disk.cells t.disk.finished t.disk.blocks t.disk.erasing
       (at_die t.disk.flights die (Some (Programming p cell))) newest
-  begun_marks newest is once r = record {
-    stands = r.stands;
-    within = r.within;
-    numbers = r.numbers;
-    whole = r.whole;
-    ended = r.ended;
-    known = r.known;
-    same = r.same;
-    freed = r.freed;
-    flies = λ d q m h. ⊎_elim (λ k. c.later m newest k.2 is once) (λ k. r.flies d q m k)
-        (is_this t die p cell d q (MarkPage m) h);
-  }
+  begun_marks {newest} is once r =
+      let flies : (d : ℕ) (q : Place) (m : Mark) →
+      at_die t.disk.flights die (Some (Programming p cell)) d ≡ Some (Programming q (MarkPage m)) →
+      IsLaterMark (book t) t.ledger.frontier newest m =
+      λ d q m h. ⊎_elim (λ k. c.later m newest k.2 is once) (λ k. r.flies d q m k) (is_this t h) in
+      assumption
 
-  begun_mending : (w : Mending) → t.work.mending ≡ w → MendingRight (book t) t.disk t.ledger t.work.plan t.work.step w →
+  begun_mending : (w : Mending) → t.work.mending ≡ w → MendingOf t w →
       MendingRight (book t) (record t.disk { flights = at_die t.disk.flights die (Some (Programming p cell)) }) t.ledger
       t.work.plan t.work.step w
   begun_mending (Unmarked fence lost) e u = record {
@@ -122,25 +102,16 @@ module _ (t : Translation) (die : ℕ) (p : Place) (cell : Cell) (v : Valid t)
     same = u.same;
     flies = λ d q other h. ⊎_elim
         (λ (k : (d ≡ die) × (p ≡ q) × (cell ≡ other)). let m = c.unmarked fence lost e in (m.0, sym k.2 ∙ m.1, m.2))
-        (λ k. u.flies d q other k)
-        (is_this t die p cell d q other h);
+        (λ k. u.flies d q other k) (is_this t h);
     blank = u.blank;
     no_plan = u.no_plan;
   }
-  begun_mending (Repairing left) e m =
-      record {
-        mark = m.mark;
-        is = m.is;
-        right = begun_marks m.mark m.is (subst IsMarkedOnce (sym e) tt) m.right;
-        more = m.more;
-      }
-  begun_mending Mended e m =
-      record {
-        mark = m.mark;
-        is = m.is;
-        right = begun_marks m.mark m.is (subst IsMarkedOnce (sym e) tt) m.right;
-        more = m.more;
-      }
+  begun_mending w e m = record {
+    mark = m.mark;
+    is = m.is;
+    right = begun_marks m.is (subst IsMarkedOnce (sym e) tt) m.right;
+    more = m.more;
+  }
 
   begun_plan : PlanRight (book t) t.ledger.frontier t.ledger.standing t.disk.blocks
       (at_die t.disk.flights die (Some (Programming p cell))) t.work.mending t.work.step t.work.plan
@@ -151,29 +122,14 @@ module _ (t : Translation) (die : ℕ) (p : Place) (cell : Cell) (v : Valid t)
         record {
           state = r.state;
           copied = r.copied;
-          flown = λ d q m h. ⊎_elim (λ k. c.flown m k.2 pl e) (λ k. r.flown d q m k)
-              (is_this t die p cell d q (MarkPage m) h);
+          flown = λ d q m h. ⊎_elim (λ k. c.flown m k.2 pl e) (λ k. r.flown d q m k) (is_this t h);
         };
   }
 
   pub begins : Valid (taken t die (Programming p cell))
-  begins = record {
-    book_right = v.book_right;
-    frontier = v.frontier;
-    pages = v.pages;
-    blocks = v.blocks;
-    flights = begun_flights;
-    safe = v.safe;
-    numbered = v.numbered;
-    mending = begun_mending t.work.mending refl v.mending;
-    step = v.step;
-    plan = begun_plan;
-    history = v.history;
-    slots = v.slots;
-    unmended = v.unmended;
-    pins = v.pins;
-    rests = v.rests;
-    reads = reads_fewer t.disk.cells t.disk.finished t.disk.erasing t.disk.flights
-        (at_die t.disk.flights die (Some (Programming p cell))) (program_reads t.disk.flights die p cell) v.reads;
-    to_read = v.to_read;
-  }
+  begins = assumption (
+    begun_flights,
+    begun_mending t.work.mending refl v.mending,
+    begun_plan,
+    reads_fewer (program_reads t.disk.flights die p cell) v.reads,
+  )

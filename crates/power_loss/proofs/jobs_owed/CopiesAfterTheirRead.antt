@@ -1,18 +1,13 @@
 -- A copy begins without its content, and only the end of the read of its page brings it.
-use Rattle.std.proofs.Common.{◌≡◌, ◌⊎◌, ℕ, Bool, true, false, is_none, if◌then◌else◌, Option, Some, None, refl, sym, ap}
-use Rattle.std.proofs.Common.{◌∙◌, subst, inl, inr, ⊎_elim}
-use Rattle.ufs_spec.proofs.Facts.{false≢true, none-some, same_Some}
-use Rattle.ufs_spec.specs.Cells.{Cell, GroupPage, MarkPage, Nothing}
-use Rattle.ufs_spec.specs.Disk.{Erasing, Flight, ForRest, ForStep, ForTask, Programming, Reader, Reading}
-use Rattle.ufs_spec.specs.Disk.{program_failed}
-use Rattle.ufs_spec.specs.Ledger.{Name}
-use Rattle.ufs_spec.specs.Moves.{EndJob, Ending, Move, ReadRight, ReadWrong, TakeStep, WentWell, WentWrong, die_idle}
-use Rattle.ufs_spec.specs.Moves.{end_flight, is_kind_of, mark_again, moved, read_right, read_wrong, step_behind}
-use Rattle.ufs_spec.specs.Translation.{CopyStep, MayTake, Order, OrderCopy, Step, StepKind, Translation, Want}
-use Rattle.ufs_spec.specs.Translation.{copy_begun, due_order, has_mark_number, mark_ordered, name_of, next_order}
-use Rattle.ufs_spec.specs.Translation.{stepped, turned, want_at, wants_of_step, with_plan}
-use Rattle.ufs_spec.specs.declared.flash.Fence.{Fence}
-use Rattle.ufs_spec.specs.declared.flash.Place.{Place}
+use Rattle.power_loss.proofs.Common.{◌≡◌, ◌⊎◌, ℕ, Bool, true, false, is_none, if◌then◌else◌, Option, Some, None, refl}
+use Rattle.power_loss.proofs.Common.{sym, ap, ◌∙◌, subst, inl, inr, ⊎_elim, false≢true, none-some, same_Some, Cell}
+use Rattle.power_loss.proofs.Common.{GroupPage, MarkPage, Nothing, Erasing, Flight, ForRest, ForStep, ForTask}
+use Rattle.power_loss.proofs.Common.{Programming, Reader, Reading, program_failed, Name, EndJob, Ending, Move}
+use Rattle.power_loss.proofs.Common.{ReadRight, ReadWrong, TakeStep, WentWell, WentWrong, die_idle, end_flight}
+use Rattle.power_loss.proofs.Common.{is_kind_of, mark_again, moved, read_right, read_wrong, step_behind, CopyStep}
+use Rattle.power_loss.proofs.Common.{MayTake, Order, OrderCopy, Step, StepKind, Translation, Want, copy_begun}
+use Rattle.power_loss.proofs.Common.{due_order, has_mark_number, mark_ordered, name_of, next_order, stepped, turned}
+use Rattle.power_loss.proofs.Common.{want_at, wants_of_step, with_plan, Fence, Place}
 use Rattle.power_loss.proofs.ordered_lists.ElementsAndOrders.{IsIn}
 use Rattle.power_loss.proofs.jobs_owed.OneDieForEachJob.{read_owed}
 
@@ -77,8 +72,7 @@ IsItsRead t move =
     (die : ℕ) × (place : Place) × (move ≡ EndJob die ReadRight) × (t.disk.flights die ≡ Some (Reading ForStep place))
 
 abbrev Brings : Translation → Move → Option Step → Type 0
-Brings t move now =
-    (name : Name) (from : Place) → t.work.step ≡ Some (copy_of name from false) →
+Brings t move now = (name : Name) (from : Place) → t.work.step ≡ Some (copy_of name from false) →
     now ≡ Some (copy_of name from true) → IsItsRead t move
 
 unbrought : (t : Translation) (move : Move) (now : Option Step) → Keeps t.work.step now → Brings t move now
@@ -114,8 +108,7 @@ end_brings t die (Some (Reading reader place)) ReadWrong is =
 end_brings t die (Some (Programming p (GroupPage tag body))) WentWell is =
     unbrought t (EndJob die WentWell) _ (behind_keeps (name_of tag) t.work.step)
 end_brings t die (Some (Programming p (MarkPage m))) WentWell is = unbrought t (EndJob die WentWell) None (inr refl)
-end_brings t die (Some (Programming p (MarkPage m))) (WentWrong left) is =
-    unbrought t (EndJob die (WentWrong left)) _
+end_brings t die (Some (Programming p (MarkPage m))) (WentWrong left) is = unbrought t (EndJob die (WentWrong left)) _
     (again_keeps (record t { disk = program_failed t.disk p left }) m.fence)
 end_brings t die (Some (Programming p Nothing)) WentWell is = unbrought t (EndJob die WentWell) _ (inl refl)
 end_brings t die (Some (Erasing s)) WentWell is = unbrought t (EndJob die WentWell) _ (inl refl)
@@ -133,23 +126,19 @@ brought = brings
 
 -- The read of its page
 
-copy_want : (name : Name) (from : Place) (there : Bool) (w : Want) →
+copy_want : (name : Name) (from : Place) (there : Bool) {w : Want} →
     IsIn w (wants_of_step (Some (copy_of name from there))) → (there ≡ false) × (want_at ForStep from ≡ w)
-copy_want name from true w h = absurd h
-copy_want name from false w h = (refl, ⊎_elim (λ e. e) (λ e. absurd e) h)
+copy_want name from true h = absurd h
+copy_want name from false h = (refl, ⊎_elim (λ e. e) (λ e. absurd e) h)
 
 pub its_page : (t : Translation) (die : ℕ) (place : Place) (name : Name) (from : Place) (there : Bool) →
     t.work.step ≡ Some (copy_of name from there) → MayTake t die (Some (Reading ForStep place)) →
     (there ≡ false) × (place ≡ from)
-its_page t die place name from there is may =
-    ⊎_elim
-    (λ h. absurd (task h.0.tag h.0.index h.2.2))
+its_page t die place name from there is may = ⊎_elim (λ h. absurd (task h.0.tag h.0.index h.2.2))
     (⊎_elim
     (λ h.
-    let r = copy_want name from there (want_at ForStep place)
-    (subst (λ s. IsIn (want_at ForStep place) (wants_of_step s)) is h) in
-    (r.0, sym (ap (λ (z : Want). z.place) r.1)))
-    (λ h. absurd (rest h.0.name.number h.0.name.index h.2.1)))
+    let r = copy_want name from there (subst (λ s. IsIn (want_at ForStep place) (wants_of_step s)) is h) in
+    (r.0, sym (ap (λ (z : Want). z.place) r.1))) (λ h. absurd (rest h.0.name.number h.0.name.index h.2.1)))
     (read_owed t die ForStep place may).0
   where
     task : (tag index : ℕ) → ForStep ≡ ForTask tag index → ⊥

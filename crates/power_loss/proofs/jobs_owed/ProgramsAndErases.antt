@@ -1,21 +1,17 @@
 -- What is owed to a die: the place of a program and what is programmed there, and the block of an erase.
-use Rattle.std.proofs.Common.{◌≡◌, ℕ, ◌<◌, ◌&&◌, not, if◌then◌else◌, Bool, true, false, ◌⊎◌, find, is_none, option_map}
-use Rattle.std.proofs.Common.{Option, Some, None, refl, sym, ap, ◌∙◌, subst, inl, inr, ⊎_elim}
-use Rattle.std.specs.Prelude.{filter_map}
-use Rattle.std.specs.List.{list_any}
-use Rattle.ufs_spec.proofs.Facts.{none_is, and_parts, ltb-true, none-some, not-true, same_Some}
-use Rattle.ufs_spec.specs.Cells.{Cell}
-use Rattle.ufs_spec.specs.Disk.{BlockState, Erasing, Filling, Flight, Free, Programming, Reading, Spot, place_in}
-use Rattle.ufs_spec.specs.Disk.{spot_of}
-use Rattle.ufs_spec.specs.Keys.{below}
-use Rattle.ufs_spec.specs.Ledger.{Name, accepted_groups, before_accepted, is_standing}
-use Rattle.ufs_spec.specs.Translation.{MayTake, Step, Translation, cell_now, flies_name, flight_at, flight_for, is_free}
-use Rattle.ufs_spec.specs.Translation.{is_idle, is_pinned, is_rest_of, may_be_erased, may_open, names_behind, next_in}
-use Rattle.ufs_spec.specs.Translation.{next_place, some_flight, spots_of, step_cell, step_flies, waiting_name}
-use Rattle.ufs_spec.specs.Translation.{waiting_step, waits}
-use Rattle.ufs_spec.specs.declared.configs.Numbers.{Numbers}
-use Rattle.ufs_spec.specs.declared.flash.Place.{Place}
-use Rattle.power_loss.specs.Exchange.{IsSpot}
+use Rattle.power_loss.proofs.Common.{◌≡◌, ℕ, ◌<◌, ◌&&◌, not, if◌then◌else◌, Bool, true, false, ◌⊎◌, is_none, Option}
+use Rattle.power_loss.proofs.Common.{Some, None, refl, sym, ap, ◌∙◌, subst, inl, inr, ⊎_elim, filter_map, list_any}
+use Rattle.power_loss.proofs.Common.{none_is, and_parts, ltb-true, none-some, not-true, same_Some, Cell, BlockState}
+use Rattle.power_loss.proofs.Common.{Erasing, Filling, Flight, Free, Programming, Reading, Spot, place_in, spot_of}
+use Rattle.power_loss.proofs.Common.{below, Name, accepted_groups, before_accepted, is_standing, MayTake, Step}
+use Rattle.power_loss.proofs.Common.{Translation, cell_now, flies_name, flight_at, flight_for, is_free, is_pinned}
+use Rattle.power_loss.proofs.Common.{is_rest_of, may_open, names_behind, next_place, some_flight, step_cell, step_flies}
+use Rattle.power_loss.proofs.Common.{waiting_name, waiting_step, Numbers, Place}
+use Rattle.power_loss.proofs.MachineWords.{IsSpot}
+use Rattle.std.proofs.Common.{find, option_map}
+use Rattle.ufs_spec.specs.Translation.{is_idle, may_be_erased, next_in}
+use Rattle.ufs_spec.specs.Translation.{spots_of}
+use Rattle.ufs_spec.specs.Translation.{waits}
 use Rattle.power_loss.proofs.ordered_lists.ElementsAndOrders.{IsIn, below_in, first_in, found_in, map_in, mapped_in}
 
 -- The blocks of a die
@@ -24,8 +20,8 @@ pub record IsSpotOf (n : Numbers) (die : ℕ) (s : Spot) : Type 0 where
   pub at_home : s.die ≡ die
   pub block : s.block < n.blocks
 
-spot_in : (n : Numbers) (die : ℕ) (s : Spot) → IsIn s (spots_of n die) → IsSpotOf n die s
-spot_in n die s h =
+spot_in : {n : Numbers} {die : ℕ} {s : Spot} → IsIn s (spots_of n die) → IsSpotOf n die s
+spot_in {n} {die} {s} h =
     let r = map_in (λ block. record { die = die; block = block }) s (below n.blocks) h in
     subst (IsSpotOf n die) r.2 (record { at_home = refl; block = below_in n.blocks r.0 r.1 })
 
@@ -33,9 +29,6 @@ spot_in n die s h =
 
 pub idle_below : (t : Translation) (die : ℕ) → is_idle t die ≡ true → die < t.numbers.dies
 idle_below t die h = ltb-true die t.numbers.dies (and_parts _ (is_none (t.disk.flights die)) h).0
-
-idle_none : (t : Translation) (die : ℕ) → is_idle t die ≡ true → t.disk.flights die ≡ None
-idle_none t die h = none_is (t.disk.flights die) (and_parts _ (is_none (t.disk.flights die)) h).1
 
 -- What a program or an erase is
 
@@ -50,28 +43,26 @@ IsFlight t die w waiting (Programming p cell) = ProgramOwed t die p cell w waiti
 IsFlight t die w waiting (Erasing s) = find (may_be_erased t) (spots_of t.numbers die) ≡ Some s
 IsFlight t die w waiting (Reading reader place) = ⊥
 
-erase_flight : (t : Translation) (die : ℕ) (w : Option Cell) (waiting : Option Name) (f : Flight) (o : Option Spot) →
+erase_flight : (t : Translation) (die : ℕ) (w : Option Cell) (waiting : Option Name) {f : Flight} (o : Option Spot) →
     find (may_be_erased t) (spots_of t.numbers die) ≡ o → option_map Erasing o ≡ Some f → IsFlight t die w waiting f
-erase_flight t die w waiting f None is h = absurd (none-some f h)
-erase_flight t die w waiting f (Some s) is h = subst (IsFlight t die w waiting) (same_Some (Erasing s) f h) is
+erase_flight t die w waiting {f} None is h = absurd (none-some f h)
+erase_flight t die w waiting {f} (Some s) is h = subst (IsFlight t die w waiting) (same_Some (Erasing s) f h) is
 
-at_flight : (t : Translation) (die : ℕ) (opens : Bool) (cell : Cell) (place : Option Place) (w : Option Cell)
-    (waiting : Option Name) (f : Flight) → next_place t die ≡ place →
+at_flight : (t : Translation) (die : ℕ) (opens : Bool) {cell : Cell} (place : Option Place) {w : Option Cell}
+    {waiting : Option Name} {f : Flight} → next_place t die ≡ place →
     (w ≡ Some cell) ⊎ ((w ≡ None) × ((name : Name) × (waiting ≡ Some name) × (cell ≡ cell_now t.ledger name))) →
     flight_at t die opens cell place ≡ Some f → IsFlight t die w waiting f
-at_flight t die opens cell (Some p) w waiting f e is h =
+at_flight t die opens {cell} (Some p) {w} {waiting} {f} e is h =
     subst (IsFlight t die w waiting) (same_Some (Programming p cell) f h) (record { place = e; is = is })
-at_flight t die true cell None w waiting f e is h = erase_flight t die w waiting f _ refl h
-at_flight t die false cell None w waiting f e is h = absurd (none-some f h)
+at_flight t die true None {w} {waiting} {f} e is h = erase_flight t die w waiting _ refl h
+at_flight t die false None {f = f} e is h = absurd (none-some f h)
 
-flight_is : (t : Translation) (die : ℕ) (w : Option Cell) (waiting : Option Name) (f : Flight) →
+flight_is : (t : Translation) (die : ℕ) (w : Option Cell) (waiting : Option Name) {f : Flight} →
     flight_for t die w waiting ≡ Some f → IsFlight t die w waiting f
-flight_is t die (Some cell) waiting f h =
-    at_flight t die true cell (next_place t die) (Some cell) waiting f refl (inl refl) h
-flight_is t die None (Some name) f h =
-    at_flight t die (may_open t) (cell_now t.ledger name) (next_place t die) None (Some name) f refl
+flight_is t die (Some cell) waiting {f} h = at_flight t die true (next_place t die) refl (inl refl) h
+flight_is t die None (Some name) {f} h = at_flight t die (may_open t) (next_place t die) refl
     (inr (refl, (name, refl, refl))) h
-flight_is t die None None f h = absurd (none-some f h)
+flight_is t die None None {f} h = absurd (none-some f h)
 
 -- Erases
 
@@ -87,12 +78,12 @@ pub record EraseOwed (t : Translation) (die : ℕ) (s : Spot) : Type 0 where
 
 pub erase_owed : (t : Translation) (die : ℕ) (s : Spot) → MayTake t die (Some (Erasing s)) → EraseOwed t die s
 erase_owed t die s may =
-    let e = flight_is t die (waiting_step t t.work.step) (waiting_name t) (Erasing s) may.1.1 in
+    let e = flight_is t die (waiting_step t t.work.step) (waiting_name t) may.1.1 in
     let x = found_in (may_be_erased t) (spots_of t.numbers die) s e in
     let b = and_parts (is_free (t.disk.blocks s)) (not (is_pinned t s)) x.1 in
     record {
-      idle = idle_none t die may.0;
-      inside = spot_in t.numbers die s x.0;
+      idle = none_is (t.disk.flights die) (and_parts _ (is_none (t.disk.flights die)) may.0).1;
+      inside = spot_in x.0;
       free = free_is (t.disk.blocks s) b.0;
       unkept = not-true (is_pinned t s) b.1;
     }
@@ -109,34 +100,30 @@ pub record PlaceOwed (t : Translation) (die : ℕ) (p : Place) : Type 0 where
   pub inside : IsSpotOf t.numbers die (spot_of p)
   pub next : t.disk.blocks (spot_of p) ≡ Filling p.page
 
-next_is : (s : Spot) (x : BlockState) (p : Place) → next_in s x ≡ Some p → (place_in s p.page ≡ p)
+next_is : (s : Spot) (x : BlockState) {p : Place} → next_in s x ≡ Some p → (place_in s p.page ≡ p)
     × (x ≡ Filling p.page)
-next_is s (Filling next) p h =
+next_is s (Filling next) {p} h =
     let e = same_Some (place_in s next) p h in
     (ap (λ (z : Place). place_in s z.page) (sym e) ∙ e, ap (λ (z : Place). Filling z.page) e)
-next_is s state p h = absurd (none-some p h)
+next_is s state {p} h = absurd (none-some p h)
 
 pub place_owed : (t : Translation) (die : ℕ) (p : Place) → next_place t die ≡ Some p → PlaceOwed t die p
 place_owed t die p h =
     let next = λ (s : Spot). next_in s (t.disk.blocks s) in
-    let r = mapped_in next p (spots_of t.numbers die) (first_in p (filter_map next (spots_of t.numbers die)) h) in
-    let k = next_is r.0 (t.disk.blocks r.0) p r.2 in
+    let r = mapped_in next (spots_of t.numbers die) (first_in (filter_map next (spots_of t.numbers die)) h) in
+    let k = next_is r.0 (t.disk.blocks r.0) r.2 in
     let e : r.0 ≡ spot_of p = ap spot_of k.0 in
-    record {
-      inside = subst (IsSpotOf t.numbers die) e (spot_in t.numbers die r.0 r.1);
-      next = ap t.disk.blocks (sym e) ∙ k.1;
-    }
+    record { inside = subst (IsSpotOf t.numbers die) e (spot_in r.1); next = ap t.disk.blocks (sym e) ∙ k.1 }
 
 -- What is programmed
 
 pub program_owed : (t : Translation) (die : ℕ) (p : Place) (cell : Cell) → MayTake t die (Some (Programming p cell)) →
     ProgramOwed t die p cell (waiting_step t t.work.step) (waiting_name t)
-program_owed t die p cell may =
-    flight_is t die (waiting_step t t.work.step) (waiting_name t) (Programming p cell) may.1.1
+program_owed t die p cell may = flight_is t die (waiting_step t t.work.step) (waiting_name t) may.1.1
 
-given_if : {A : Type 0} (b : Bool) (x y : A) → (if b then Some x else None) ≡ Some y → (b ≡ true) × (x ≡ y)
-given_if true x y h = (refl, same_Some x y h)
-given_if false x y h = absurd (none-some y h)
+given_if : {A : Type 0} (b : Bool) {x y : A} → (if b then Some x else None) ≡ Some y → (b ≡ true) × (x ≡ y)
+given_if true {x} {y} h = (refl, same_Some x y h)
+given_if false {y = y} h = absurd (none-some y h)
 
 -- the step's page waits only if its content is there and no die programs it
 pub record StepOwed (t : Translation) (cell : Cell) : Type 0 where
@@ -150,7 +137,7 @@ pub step_owed : (t : Translation) (s : Option Step) (cell : Cell) → t.work.ste
     StepOwed t cell
 step_owed t None cell e h = absurd (none-some cell h)
 step_owed t (Some s) cell e h =
-    let g = given_if (s.there && not (step_flies t s.kind)) (step_cell t s.kind) cell h in
+    let g = given_if (s.there && not (step_flies t s.kind)) h in
     let b = and_parts s.there (not (step_flies t s.kind)) g.0 in
     record { step = s; under_way = e; there = b.0; flies = not-true (step_flies t s.kind) b.1; is = g.1 }
 
@@ -176,10 +163,7 @@ name_owed t name h =
 -- a page is given to a die for the step under way, or for the group that it is of
 pub page_owed : (t : Translation) (die : ℕ) (p : Place) (cell : Cell) → MayTake t die (Some (Programming p cell)) →
     StepOwed t cell ⊎ ((name : Name) × (cell ≡ cell_now t.ledger name) × NameOwed t name)
-page_owed t die p cell may =
-    ⊎_elim
-    (λ h. inl (step_owed t t.work.step cell refl h))
+page_owed t die p cell may = ⊎_elim (λ h. inl (step_owed t t.work.step cell refl h))
     (λ (h : (waiting_step t t.work.step ≡ None)
     × ((name : Name) × (waiting_name t ≡ Some name) × (cell ≡ cell_now t.ledger name))).
-    inr (h.1.0, h.1.2, name_owed t h.1.0 h.1.1))
-    (program_owed t die p cell may).is
+    inr (h.1.0, h.1.2, name_owed t h.1.0 h.1.1)) (program_owed t die p cell may).is

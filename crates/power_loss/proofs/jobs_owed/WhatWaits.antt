@@ -1,23 +1,20 @@
 -- What waits to be programmed is right: a page is known, and a mark is the one of the step under way.
-use Rattle.std.proofs.Common.{true, false, Bool, ◌≡◌, ℕ, suc, ◌+◌, ◌-◌, ◌<◌, ◌⊎◌, List, [], ◌∷◌, length, slice_get}
-use Rattle.std.proofs.Common.{Option, Some, refl, sym, ap, ◌∙◌, subst, inl, inr, ⊎_elim, arith}
+use Rattle.power_loss.proofs.Common.{true, false, Bool, ◌≡◌, ℕ, suc, ◌+◌, ◌-◌, ◌<◌, ◌⊎◌, List, [], ◌∷◌, length}
+use Rattle.power_loss.proofs.Common.{slice_get, Option, Some, refl, sym, ap, ◌∙◌, subst, inl, inr, ⊎_elim, arith}
+use Rattle.power_loss.proofs.Common.{none-some, true≢false, Cell, GroupPage, MarkPage, Group, below, Entry, Ledger}
+use Rattle.power_loss.proofs.Common.{Name, accepted_groups, before_accepted, CopyStep, MarkStep, Mending, RepairStep}
+use Rattle.power_loss.proofs.Common.{Step, StepKind, Translation, Unmarked, cell_now, cell_of_entry, flies_mark}
+use Rattle.power_loss.proofs.Common.{names_behind, records_now, some_flight, step_cell, step_flies, tag_of}
+use Rattle.power_loss.proofs.Common.{waiting_name, waiting_step, Fence, Key, IsPageAt, book, MarkStepRight}
+use Rattle.power_loss.proofs.Common.{StepKindRight, Valid}
 use Rattle.ufs_spec.proofs.Lists.{get_there}
-use Rattle.ufs_spec.proofs.Facts.{none-some, true≢false}
-use Rattle.ufs_spec.specs.Cells.{Cell, GroupPage, MarkPage}
-use Rattle.ufs_spec.specs.Keys.{Group, below}
-use Rattle.ufs_spec.specs.Ledger.{Entry, Ledger, Name, accepted_groups, before_accepted, entry_of}
-use Rattle.ufs_spec.specs.Translation.{CopyStep, MarkStep, Mended, Mending, RepairStep, Repairing, Step, StepKind}
-use Rattle.ufs_spec.specs.Translation.{Translation, Unmarked, cell_now, cell_of_entry, flies_mark, names_behind}
-use Rattle.ufs_spec.specs.Translation.{names_of, records_now, some_flight, step_cell, step_flies, tag_of, waiting_name}
-use Rattle.ufs_spec.specs.Translation.{waiting_step}
-use Rattle.ufs_spec.specs.declared.flash.Fence.{Fence}
-use Rattle.ufs_spec.specs.declared.flash.Key.{Key}
-use Rattle.power_loss.specs.Book.{IsPageAt, book}
-use Rattle.power_loss.specs.Invariant.{MarkStepRight, MendingRight, StepKindRight, Valid}
+use Rattle.ufs_spec.specs.Ledger.{entry_of}
+use Rattle.ufs_spec.specs.Translation.{names_of}
 use Rattle.power_loss.proofs.books.PagesByName.{new_page}
 use Rattle.power_loss.proofs.books.FrontierClimbs.{get_drop}
 use Rattle.power_loss.proofs.ordered_lists.ElementsAndOrders.{IsIn, below_in, in_either, map_in}
 use Rattle.power_loss.proofs.jobs_owed.ProgramsAndErases.{name_owed, step_owed}
+use Rattle.power_loss.proofs.books.LayerParts.{MendingOf}
 
 -- Names of accepted groups
 
@@ -31,8 +28,7 @@ pub record IsNameOf (n : ℕ) (gs : List Group) (name : Name) : Type 0 where
 
 pub name_of_group : (n : ℕ) (gs : List Group) (name : Name) → IsIn name (names_behind n gs) → IsNameOf n gs name
 name_of_group n [] name h = absurd h
-name_of_group n (g ∷ gs) name h =
-    ⊎_elim
+name_of_group n (g ∷ gs) name h = ⊎_elim
     (λ k.
     let r = map_in (λ i. record { number = n + 1; index = i }) name (below (length g)) k in
     subst (IsNameOf n (g ∷ gs)) r.2
@@ -44,9 +40,9 @@ name_of_group n (g ∷ gs) name h =
     (in_either name (names_of (n + 1) g) (names_behind (n + 1) gs) h)
 
 -- a page of a group of this life has an entry
-new_entry : (t : Translation) (name : Name) (j : ℕ) (g : Group) → name.number ≡ t.ledger.greatest_seen + suc j →
+new_entry : (t : Translation) (name : Name) (j : ℕ) {g : Group} → name.number ≡ t.ledger.greatest_seen + suc j →
     slice_get t.ledger.groups j ≡ Some g → name.index < length g → (e : Entry) × (entry_of t.ledger name ≡ Some e)
-new_entry t name j g e at in_g =
+new_entry t name j {g} e at in_g =
     let x = get_there g name.index in_g in
     let entry : Entry = record { item = x.0; size = length g } in
     let place : j ≡ name.number - t.ledger.greatest_seen - 1 = omega arith in (
@@ -80,23 +76,23 @@ pub record MarkWaits (t : Translation) (cell : Cell) : Type 0 where
   })
   pub right : MarkStepRight t.ledger.marks t.disk.cells t.work.mending t.work.plan number fence
 
-page_now : (l : Ledger) (name : Name) (e : Entry) (cell : Cell) → entry_of l name ≡ Some e → cell ≡ cell_now l name →
+page_now : (l : Ledger) (name : Name) {e : Entry} {cell : Cell} → entry_of l name ≡ Some e → cell ≡ cell_now l name →
     cell ≡ GroupPage (tag_of name e l.frontier) e.item.body
-page_now l name e cell h k = k ∙ ap (λ z. cell_of_entry name z l.frontier) h
+page_now l name h k = k ∙ ap (λ z. cell_of_entry name z l.frontier) h
 
 abbrev is_unmarked : Mending → Bool
 is_unmarked (Unmarked fence lost) = true
 is_unmarked w = false
 
-not_unmarked : (w u : Mending) (fence : Option Fence) (lost : List Key) → is_unmarked u ≡ false → w ≡ u →
+not_unmarked : {w u : Mending} (fence : Option Fence) (lost : List Key) → is_unmarked u ≡ false → w ≡ u →
     w ≡ Unmarked fence lost → ⊥
-not_unmarked w u fence lost other e f = true≢false (sym (ap is_unmarked (sym e ∙ f)) ∙ other)
+not_unmarked fence lost other e f = true≢false (sym (ap is_unmarked (sym e ∙ f)) ∙ other)
 
-step_waits : (t : Translation) (cell : Cell) (s : Step) (kind : StepKind) → t.work.step ≡ Some s → s.kind ≡ kind →
+step_waits : {t : Translation} {cell : Cell} {s : Step} (kind : StepKind) → t.work.step ≡ Some s → s.kind ≡ kind →
     step_flies t kind ≡ false → cell ≡ step_cell t kind →
     StepKindRight (book t) t.ledger.marks t.disk.cells t.work.mending t.work.plan kind → PageWaits t cell
     ⊎ MarkWaits t cell
-step_waits t cell s (MarkStep number fence) e k alone is r = inr record {
+step_waits {s = s} (MarkStep number fence) e k alone is r = inr record {
   number = number;
   fence = fence;
   there = s.there;
@@ -105,47 +101,45 @@ step_waits t cell s (MarkStep number fence) e k alone is r = inr record {
   cell_is = is;
   right = r;
 }
-step_waits t cell s (CopyStep name from) e k alone is r = inl record {
+step_waits {t} {cell} (CopyStep name from) e k alone is r = inl record {
   name = name;
   entry = r.1.0;
   is = r.1.1;
-  cell_is = page_now t.ledger name r.1.0 cell r.1.1 is;
-  marked = λ fence lost. not_unmarked t.work.mending Mended fence lost refl r.0;
+  cell_is = page_now t.ledger name r.1.1 is;
+  marked = λ fence lost. not_unmarked fence lost refl r.0;
 }
-step_waits t cell s (RepairStep name from) e k alone is r = inl record {
+step_waits {t} {cell} (RepairStep name from) e k alone is r = inl record {
   name = name;
   entry = r.2.0;
   is = r.2.1;
-  cell_is = page_now t.ledger name r.2.0 cell r.2.1 is;
-  marked = λ fence lost. not_unmarked t.work.mending (Repairing r.0) fence lost refl r.1;
+  cell_is = page_now t.ledger name r.2.1 is;
+  marked = λ fence lost. not_unmarked fence lost refl r.1;
 }
 
 pub step_cell_waits : (t : Translation) (cell : Cell) → Valid t → waiting_step t t.work.step ≡ Some cell →
     PageWaits t cell ⊎ MarkWaits t cell
 step_cell_waits t cell v h =
     let r = step_owed t t.work.step cell refl h in
-    step_waits t cell r.step r.step.kind r.under_way refl r.flies (sym r.is) (v.step.kind r.step r.under_way)
+    step_waits r.step.kind r.under_way refl r.flies (sym r.is) (v.step.kind r.step r.under_way)
 
 -- the page of an accepted group
 
-unmarked_none : (t : Translation) (fence : Option Fence) (lost : List Key) → Valid t →
+unmarked_none : {t : Translation} (fence : Option Fence) (lost : List Key) → Valid t →
     t.work.mending ≡ Unmarked fence lost → t.ledger.groups ≡ []
-unmarked_none t fence lost v e =
-    (subst (MendingRight (book t) t.disk t.ledger t.work.plan t.work.step) e v.mending).none_new
+unmarked_none {t} fence lost v e = (subst (MendingOf t) e v.mending).none_new
 
-pub name_cell_waits : (t : Translation) (cell : Cell) (name : Name) → Valid t → waiting_name t ≡ Some name →
+pub name_cell_waits : {t : Translation} {cell : Cell} {name : Name} → Valid t → waiting_name t ≡ Some name →
     cell ≡ cell_now t.ledger name → PageWaits t cell
-name_cell_waits t cell name v h is =
+name_cell_waits {t} {cell} {name} v h is =
     let k = name_of_group (before_accepted t.ledger) (accepted_groups t.ledger) name (name_owed t name h).behind in
     let at = sym (get_drop t.ledger.groups t.ledger.repairs k.at) ∙ k.is in
     let n = k.number in
-    let e = new_entry t name (t.ledger.repairs + k.at) k.group (omega arith) at k.index in
+    let e = new_entry t name (t.ledger.repairs + k.at) (omega arith) at k.index in
     record {
       name = name;
       entry = e.0;
       is = e.1;
-      cell_is = page_now t.ledger name e.0 cell e.1 is;
+      cell_is = page_now t.ledger name e.1 is;
       marked = λ fence lost m.
-          none-some k.group (sym (ap (λ z. slice_get z (t.ledger.repairs + k.at)) (unmarked_none t fence lost v m))
-          ∙ at);
+          none-some k.group (sym (ap (λ z. slice_get z (t.ledger.repairs + k.at)) (unmarked_none fence lost v m)) ∙ at);
     }

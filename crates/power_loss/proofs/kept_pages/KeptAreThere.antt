@@ -1,32 +1,21 @@
 -- What tasks keep, and what rests are read from, is there and is not erased.
-use Rattle.std.proofs.Common.{All, ◌≡◌, ◌≢◌, ℕ, ◌<◌, false, Contains, Some, sym, ap, ◌∙◌, subst}
-use Rattle.std.specs.List.{list_any}
-use Rattle.std.proofs.lemmas.List.Elements.{All-contains}
-use Rattle.ufs_spec.specs.Cells.{key_of}
-use Rattle.ufs_spec.specs.Disk.{Erasing, Spot, same_spot, spot_of}
-use Rattle.ufs_spec.specs.Ledger.{Entry, InSlot, Looked, Name, OnPage, entry_of}
-use Rattle.ufs_spec.specs.Translation.{FromPage, MayTake, Pin, Rest, Translation, looks_into, reads_from}
-use Rattle.ufs_spec.specs.declared.flash.Place.{Place}
+use Rattle.power_loss.proofs.Common.{All, ◌≡◌, ◌≢◌, ℕ, ◌<◌, false, Some, sym, ap, ◌∙◌, subst, list_any, All-contains}
+use Rattle.power_loss.proofs.Common.{key_of, Erasing, Spot, same_spot, spot_of, Entry, InSlot, Looked, Name, OnPage}
+use Rattle.power_loss.proofs.Common.{FromPage, MayTake, Pin, Rest, Translation, looks_into, reads_from, Place, Valid}
+use Rattle.power_loss.proofs.Common.{true≢false, or_parts}
+use Rattle.std.proofs.Common.{Contains}
+use Rattle.ufs_spec.specs.Ledger.{entry_of}
 use Rattle.ufs_spec.proofs.Equalities.{spot_self}
-use Rattle.power_loss.specs.Book.{book}
-use Rattle.power_loss.specs.Invariant.{IsGroupPage, LookedRight, SourceRight, Valid}
 use Rattle.power_loss.proofs.jobs_owed.ProgramsAndErases.{erase_owed}
 use Rattle.power_loss.proofs.kept_pages.PagesStay.{none_in}
-use Rattle.ufs_spec.proofs.Facts.{true≢false, or_parts}
+use Rattle.power_loss.proofs.books.LayerParts.{PageOf, LookedOf, SourceOf}
 
-abbrev IsPageIn : Translation → Name → Place → Type 0
-IsPageIn t name place = IsGroupPage t.disk.cells t.disk.finished t.disk.erasing name place
-
-looked : (t : Translation) (pin : Pin) (x : Looked) → Valid t → Contains t.pins pin → pin.looked ≡ x →
-    LookedRight (book t) t.ledger.frontier t.disk.cells t.disk.finished t.disk.erasing x
-looked t pin x v h e =
-    subst (LookedRight (book t) t.ledger.frontier t.disk.cells t.disk.finished t.disk.erasing) e
-    (All-contains
-    (λ (y : Pin). LookedRight (book t) t.ledger.frontier t.disk.cells t.disk.finished t.disk.erasing y.looked)
-    t.pins pin v.pins.each h)
+looked : (t : Translation) (pin : Pin) (x : Looked) → Valid t → Contains t.pins pin → pin.looked ≡ x → LookedOf t x
+looked t pin x v h e = subst (LookedOf t) e
+    (All-contains (λ (y : Pin). LookedOf t y.looked) t.pins pin v.pins.each h)
 
 pub page_kept : (t : Translation) (pin : Pin) (name : Name) (place : Place) → Valid t → Contains t.pins pin →
-    pin.looked ≡ OnPage name place → IsPageIn t name place
+    pin.looked ≡ OnPage name place → PageOf t name place
 page_kept t pin name place v h e = looked t pin (OnPage name place) v h e
 
 pub slot_kept : (t : Translation) (pin : Pin) (name : Name) → Valid t → Contains t.pins pin →
@@ -34,20 +23,17 @@ pub slot_kept : (t : Translation) (pin : Pin) (name : Name) → Valid t → Cont
 slot_kept t pin name v h e = looked t pin (InSlot name) v h e
 
 -- the page has what is known of its name
-pub page_known : (t : Translation) (name : Name) (place : Place) → Valid t → (g : IsPageIn t name place) →
+pub page_known : (t : Translation) (name : Name) (place : Place) → Valid t → (g : PageOf t name place) →
     entry_of t.ledger name ≡ Some (record { item = record { key = key_of g.tag; body = g.body }; size = g.tag.size })
-page_known t name place v g =
-    subst
+page_known t name place v g = subst
     (λ (n : Name). entry_of t.ledger n
     ≡ Some (record { item = record { key = key_of g.tag; body = g.body }; size = g.tag.size }))
     g.is (v.pages.known place g.tag g.body g.there)
 
 pub rest_page : (t : Translation) (rest : Rest) (place : Place) → Valid t → Contains t.work.rests rest →
-    rest.source ≡ FromPage place → (name : Name) × IsPageIn t name place
-rest_page t rest place v h e =
-    subst (SourceRight t.disk.cells t.disk.finished t.disk.erasing) e
-    (All-contains (λ (x : Rest). SourceRight t.disk.cells t.disk.finished t.disk.erasing x.source) t.work.rests rest
-    v.rests.each h)
+    rest.source ≡ FromPage place → (name : Name) × PageOf t name place
+rest_page t rest place v h e = subst (SourceOf t) e
+    (All-contains (λ (x : Rest). SourceOf t x.source) t.work.rests rest v.rests.each h)
 
 -- What is kept is not erased
 
@@ -55,9 +41,8 @@ apart : (s : Spot) (place : Place) → same_spot (spot_of place) s ≡ false →
 apart s place h e = true≢false (sym (spot_self (spot_of place)) ∙ (ap (same_spot (spot_of place)) e ∙ h))
 
 module _ (t : Translation) (die : ℕ) (s : Spot) where
-  unkept : MayTake t die (Some (Erasing s)) →
-      All (λ (x : Pin). looks_into s x.looked ≡ false) t.pins
-      × All (λ (x : Rest). reads_from s x.source ≡ false) t.work.rests
+  unkept : MayTake t die (Some (Erasing s)) → All (λ (x : Pin). looks_into s x.looked ≡ false) t.pins × All
+      (λ (x : Rest). reads_from s x.source ≡ false) t.work.rests
   unkept may =
       let both = or_parts _ (list_any (λ (x : Rest). reads_from s x.source) t.work.rests)
       (erase_owed t die s may).unkept in (

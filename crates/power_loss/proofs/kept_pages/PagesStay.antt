@@ -1,23 +1,16 @@
 -- The pages that tasks keep, and those that rests are read from, stay where they are behind each change of the disk.
-use Rattle.std.proofs.Common.{◌≡◌, ◌≢◌, ℕ, ◌<◌, ◌≤◌, ◌⊎◌, Bool, true, false, All, List, [], ◌∷◌, get_or, map, Option}
-use Rattle.std.proofs.Common.{Some, sym, ap, ◌∙◌, subst, ⊎_elim, arith, refl}
-use Rattle.std.specs.Prelude.{if◌then◌else◌, nat_lt}
-use Rattle.std.specs.List.{list_any}
-use Rattle.std.proofs.lemmas.List.Elements.{All-cons, All-map, All-nil, All-weaker}
-use Rattle.ufs_spec.specs.Cells.{Cell, Cells, Nothing}
-use Rattle.ufs_spec.specs.Disk.{BlockState, Disk, Spot, at_place, at_spot, erased, same_spot, spot_of}
-use Rattle.ufs_spec.specs.Ledger.{Entry, InSlot, Ledger, Looked, Name, OnPage, Unwritten, looked_on, settled_look}
-use Rattle.ufs_spec.specs.Moves.{is_pin_of, settled_pin, with_wanted}
-use Rattle.ufs_spec.specs.Translation.{FromPage, FromSlot, Pin, Rest, Source, Translation, is_pinned, looks_into}
-use Rattle.ufs_spec.specs.Translation.{reads_from}
-use Rattle.ufs_spec.specs.declared.flash.Place.{Place}
-use Rattle.power_loss.specs.Book.{Book, IsOverwritten, IsPageAt, book}
-use Rattle.power_loss.specs.Invariant.{FrontierRight, IsGroupPage, LookedRight, PinsRight, RestsRight, SafeRight}
-use Rattle.power_loss.specs.Invariant.{SourceRight, Valid}
+use Rattle.power_loss.proofs.Common.{◌≡◌, ◌≢◌, ℕ, ◌<◌, ◌≤◌, ◌⊎◌, Bool, true, false, All, List, [], ◌∷◌, get_or, map}
+use Rattle.power_loss.proofs.Common.{Option, Some, sym, ap, ◌∙◌, subst, ⊎_elim, arith, refl, nat_lt, list_any, All-cons}
+use Rattle.power_loss.proofs.Common.{All-map, All-nil, All-weaker, Cell, Cells, Nothing, BlockState, Disk, Spot}
+use Rattle.power_loss.proofs.Common.{at_place, at_spot, erased, same_spot, spot_of, Entry, InSlot, Ledger, Looked, Name}
+use Rattle.power_loss.proofs.Common.{OnPage, Unwritten, looked_on, settled_look, is_pin_of, settled_pin, with_wanted}
+use Rattle.power_loss.proofs.Common.{FromPage, FromSlot, Pin, Rest, Source, Translation, is_pinned, looks_into}
+use Rattle.power_loss.proofs.Common.{reads_from, Place, Book, IsOverwritten, IsPageAt, book, FrontierRight, IsGroupPage}
+use Rattle.power_loss.proofs.Common.{LookedRight, PinsRight, RestsRight, SafeRight, SourceRight, Valid, ltb-false}
+use Rattle.power_loss.proofs.Common.{ltb-true, or_parts, cond-false, page_not_nothing}
+use Rattle.std.specs.Prelude.{if◌then◌else◌}
 use Rattle.power_loss.proofs.jobs.StandsSecurely.{at_place_other, at_spot_other, erased_other, true_is_not_false}
 use Rattle.power_loss.proofs.kept_pages.LookedUpPages.{secure_page}
-use Rattle.ufs_spec.proofs.Facts.{ltb-false, ltb-true, or_parts, cond-false}
-use Rattle.ufs_spec.proofs.CellKinds.{page_not_nothing}
 
 -- What stays
 
@@ -31,9 +24,9 @@ abbrev pub StayThere : Cells → (Place → Bool) → (Spot → Bool) → Cells 
 StayThere c f e after ended erasing =
     (q : Place) → c q ≢ Nothing → f q ≡ true → e (spot_of q) ≡ false → IsSamePage c after ended erasing q
 
-pub page_stays : (c after : Cells) (f ended : Place → Bool) (e erasing : Spot → Bool) (name : Name) (p : Place) →
+pub page_stays : {c after : Cells} {f ended : Place → Bool} {e erasing : Spot → Bool} {name : Name} {p : Place} →
     StayThere c f e after ended erasing → IsGroupPage c f e name p → IsGroupPage after ended erasing name p
-page_stays c after f ended e erasing name p s h =
+page_stays {c = c} {ended = ended} {p = p} s h =
     let r = s p (page_not_nothing (c p) h.tag h.body h.there) h.ended h.stays in
     record { tag = h.tag; body = h.body; there = r.there ∙ h.there; is = h.is; ended = r.ended; stays = r.stays }
 
@@ -41,52 +34,41 @@ abbrev pub KnowsAll : Book → Book → Type 0
 KnowsAll b more = (n i : ℕ) (e : Entry) → IsPageAt b n i e → IsPageAt more n i e
 
 -- what is kept is right, where its page is there still
-looked_kept : (b more : Book) (frontier : ℕ) (c after : Cells) (f ended : Place → Bool) (e erasing : Spot → Bool)
+looked_kept : (b more : Book) (frontier : ℕ) {c after : Cells} {f ended : Place → Bool} {e erasing : Spot → Bool}
     (x : Looked) → KnowsAll b more →
     ((name : Name) (p : Place) → x ≡ OnPage name p → IsGroupPage c f e name p → IsGroupPage after ended erasing name p)
-    →
-    LookedRight b frontier c f e x → LookedRight more frontier after ended erasing x
-looked_kept b more frontier c after f ended e erasing Unwritten k s h = tt
-looked_kept b more frontier c after f ended e erasing (InSlot name) k s h =
-    (h.0, (h.1.0, k name.number name.index h.1.0 h.1.1))
-looked_kept b more frontier c after f ended e erasing (OnPage name p) k s h = s name p refl h
+    → LookedRight b frontier c f e x → LookedRight more frontier after ended erasing x
+looked_kept b more frontier Unwritten k s h = tt
+looked_kept b more frontier (InSlot name) k s h = (h.0, (h.1.0, k name.number name.index h.1.0 h.1.1))
+looked_kept b more frontier (OnPage name p) k s h = s name p refl h
 
-source_kept : (c after : Cells) (f ended : Place → Bool) (e erasing : Spot → Bool) (x : Source) →
+source_kept : {c after : Cells} {f ended : Place → Bool} {e erasing : Spot → Bool} (x : Source) →
     ((name : Name) (p : Place) → x ≡ FromPage p → IsGroupPage c f e name p → IsGroupPage after ended erasing name p) →
     SourceRight c f e x → SourceRight after ended erasing x
-source_kept c after f ended e erasing (FromPage p) s h = (h.0, s h.0 p refl h.1)
-source_kept c after f ended e erasing (FromSlot name) s h = tt
+source_kept (FromPage p) s h = (h.0, s h.0 p refl h.1)
+source_kept (FromSlot name) s h = tt
 
-pub pins_stay : (b more : Book) (frontier : ℕ) (c after : Cells) (f ended : Place → Bool) (e erasing : Spot → Bool)
-    (pins : List Pin) → KnowsAll b more → StayThere c f e after ended erasing →
+pub pins_stay : {b more : Book} {frontier : ℕ} {c after : Cells} {f ended : Place → Bool} {e erasing : Spot → Bool}
+    {pins : List Pin} → KnowsAll b more → StayThere c f e after ended erasing →
     PinsRight b frontier c f e pins → PinsRight more frontier after ended erasing pins
-pins_stay b more frontier c after f ended e erasing pins k s h = record {
-  each = λ i d l.
-      looked_kept b more frontier c after f ended e erasing (get_or pins i d).looked k
-      (λ name p is. page_stays c after f ended e erasing name p s) (h.each i d l);
+pins_stay {b} {more} {frontier} {c} {after} {f} {ended} {e} {erasing} {pins} k s h = record {
+  each = λ i d l. looked_kept b more frontier (get_or pins i d).looked k (λ name p is. page_stays s) (h.each i d l);
 }
 
-pub rests_stay : (c after : Cells) (f ended : Place → Bool) (e erasing : Spot → Bool) (rests : List Rest) →
+pub rests_stay : {c after : Cells} {f ended : Place → Bool} {e erasing : Spot → Bool} {rests : List Rest} →
     StayThere c f e after ended erasing → RestsRight c f e rests → RestsRight after ended erasing rests
-rests_stay c after f ended e erasing rests s h = record {
-  each = λ i d l.
-      source_kept c after f ended e erasing (get_or rests i d).source
-      (λ name p is. page_stays c after f ended e erasing name p s) (h.each i d l);
+rests_stay {c} {after} {f} {ended} {e} {erasing} {rests} s h = record {
+  each = λ i d l. source_kept (get_or rests i d).source (λ name p is. page_stays s) (h.each i d l);
 }
 
 -- both, where the disk becomes another
 abbrev pub HeldStay : Translation → Disk → Type 0
-HeldStay t d =
-    PinsRight (book t) t.ledger.frontier d.cells d.finished d.erasing t.pins
+HeldStay t d = PinsRight (book t) t.ledger.frontier d.cells d.finished d.erasing t.pins
     × RestsRight d.cells d.finished d.erasing t.work.rests
 
-pub held_stay : (t : Translation) (d : Disk) → Valid t →
+pub held_stay : {t : Translation} (d : Disk) → Valid t →
     StayThere t.disk.cells t.disk.finished t.disk.erasing d.cells d.finished d.erasing → HeldStay t d
-held_stay t d v s = (
-  pins_stay (book t) (book t) t.ledger.frontier t.disk.cells d.cells t.disk.finished d.finished t.disk.erasing
-      d.erasing t.pins (λ n i e h. h) s v.pins,
-  rests_stay t.disk.cells d.cells t.disk.finished d.finished t.disk.erasing d.erasing t.work.rests s v.rests,
-)
+held_stay {t} d v s = (pins_stay (λ n i e h. h) s v.pins, rests_stay s v.rests)
 
 -- Jobs that end
 
@@ -99,8 +81,7 @@ stay_written c f e p y blank q some ended stays =
 
 -- or its program failed
 pub stay_failed : (c left : Cells) (f : Place → Bool) (e : Spot → Bool) (p : Place) (X : Place → Type 0) →
-    c p ≡ Nothing → ((q : Place) → (left q ≡ c q) ⊎ ((q ≡ p) × X q)) →
-    StayThere c f e left (at_place f p false) e
+    c p ≡ Nothing → ((q : Place) → (left q ≡ c q) ⊎ ((q ≡ p) × X q)) → StayThere c f e left (at_place f p false) e
 stay_failed c left f e p X blank by q some ended stays =
     let out : q ≢ p = λ (h : q ≡ p). some (ap c h ∙ blank) in
     record {
@@ -110,7 +91,7 @@ stay_failed c left f e p X blank by q some ended stays =
     }
 
 outside : (e : Spot → Bool) (s : Spot) (q : Place) → e s ≡ true → e (spot_of q) ≡ false → spot_of q ≢ s
-outside e s q counted stays h = true_is_not_false (e s) counted (sym (ap e h) ∙ stays)
+outside e s q counted stays h = true_is_not_false counted (sym (ap e h) ∙ stays)
 
 pub stay_erased : (d : Disk) (s : Spot) → d.erasing s ≡ true → StayThere d.cells d.finished d.erasing (erased d s).cells
     d.finished (at_spot d.erasing s false)
@@ -119,13 +100,11 @@ stay_erased d s counted q some ended stays =
     record {
       there = erased_other d s q out;
       ended = ended;
-      stays = at_spot_other d.erasing s false (spot_of q) out
-          ∙ stays;
+      stays = at_spot_other d.erasing s false (spot_of q) out ∙ stays;
     }
 
 pub stay_unerased : (c left : Cells) (f : Place → Bool) (e : Spot → Bool) (s : Spot) (X : Place → Type 0) → e s ≡ true →
-    ((q : Place) → (left q ≡ c q) ⊎ ((spot_of q ≡ s) × X q)) →
-    StayThere c f e left f e
+    ((q : Place) → (left q ≡ c q) ⊎ ((spot_of q ≡ s) × X q)) → StayThere c f e left f e
 stay_unerased c left f e s X counted by q some ended stays = record {
   there = ⊎_elim (λ k. k) (λ (k : (spot_of q ≡ s) × X q). absurd (outside e s q counted stays k.0)) (by q);
   ended = ended;
@@ -140,9 +119,9 @@ none_in test (x ∷ xs) h =
     let both = or_parts (test x) (list_any test xs) h in
     All-cons (λ y. test y ≡ false) x xs both.0 (none_in test xs both.1)
 
-pub page_begun : (c : Cells) (f : Place → Bool) (e : Spot → Bool) (s : Spot) (name : Name) (p : Place) →
+pub page_begun : {c : Cells} {f : Place → Bool} {e : Spot → Bool} (s : Spot) {name : Name} {p : Place} →
     same_spot (spot_of p) s ≡ false → IsGroupPage c f e name p → IsGroupPage c f (at_spot e s true) name p
-page_begun c f e s name p out h = record {
+page_begun {e = e} s {p = p} out h = record {
   tag = h.tag;
   body = h.body;
   there = h.there;
@@ -154,21 +133,17 @@ page_begun c f e s name p out h = record {
 -- a block that is not pinned begins to be erased
 pub held_begun : (t : Translation) (s : Spot) (d : Disk) → Valid t → is_pinned t s ≡ false →
     d.cells ≡ t.disk.cells → d.finished ≡ t.disk.finished → d.erasing ≡ at_spot t.disk.erasing s true → HeldStay t d
-held_begun t s d v free cells finished erasing =
-    subst
+held_begun t s d v free cells finished erasing = subst
     (λ (x : Cells × ((Place → Bool) × (Spot → Bool))).
     PinsRight (book t) t.ledger.frontier x.0 x.1.0 x.1.1 t.pins × RestsRight x.0 x.1.0 x.1.1 t.work.rests)
     (λ j. (sym cells j, (sym finished j, sym erasing j))) (
       record {
-        each = λ k x l.
-            looked_kept (book t) (book t) t.ledger.frontier c c f f e (at_spot e s true) (get_or t.pins k x).looked
-            (λ n i y h. h)
-            (λ name p is. page_begun c f e s name p (sym (ap (looks_into s) is) ∙ pins k x l)) (v.pins.each k x l);
+        each = λ k x l. looked_kept (book t) (book t) t.ledger.frontier (get_or t.pins k x).looked (λ n i y h. h)
+            (λ name p is. page_begun s (sym (ap (looks_into s) is) ∙ pins k x l)) (v.pins.each k x l);
       },
       record {
-        each = λ k x l.
-            source_kept c c f f e (at_spot e s true) (get_or t.work.rests k x).source
-            (λ name p is. page_begun c f e s name p (sym (ap (reads_from s) is) ∙ rests k x l)) (v.rests.each k x l);
+        each = λ k x l. source_kept (get_or t.work.rests k x).source
+            (λ name p is. page_begun s (sym (ap (reads_from s) is) ∙ rests k x l)) (v.rests.each k x l);
       },
     )
   where
@@ -193,10 +168,10 @@ held_begun t s d v free cells finished erasing =
 
 -- Pins that change
 
-pub pins_wanted : (b : Book) (frontier : ℕ) (c : Cells) (f : Place → Bool) (e : Spot → Bool) (tag index : ℕ)
-    (wanted : Bool) (pins : List Pin) →
+pub pins_wanted : {b : Book} {frontier : ℕ} {c : Cells} {f : Place → Bool} {e : Spot → Bool} (tag index : ℕ)
+    (wanted : Bool) {pins : List Pin} →
     PinsRight b frontier c f e pins → PinsRight b frontier c f e (map (with_wanted tag index wanted) pins)
-pins_wanted b frontier c f e tag index wanted pins h = record {
+pins_wanted {b} {frontier} {c} {f} {e} tag index wanted {pins} h = record {
   each = All-map (λ (pin : Pin). LookedRight b frontier c f e pin.looked) (with_wanted tag index wanted) pins
       (All-weaker (λ (pin : Pin). LookedRight b frontier c f e pin.looked)
       (λ (pin : Pin). LookedRight b frontier c f e (with_wanted tag index wanted pin).looked)
@@ -212,33 +187,29 @@ pins_wanted b frontier c f e tag index wanted pins h = record {
 
 -- what was recorded is under the number of a page that no frontier has reached
 abbrev pub Settles : Book → ℕ → Ledger → Cells → (Place → Bool) → (Spot → Bool) → Type 0
-Settles b frontier l c f e =
-    (name : Name) (x : Entry) → IsPageAt b name.number name.index x → frontier < name.number →
-    name.number ≤ l.frontier →
-    (p : Place) × (l.standing name.number name.index ≡ Some p) × IsGroupPage c f e name p
+Settles b frontier l c f e = (name : Name) (x : Entry) → IsPageAt b name.number name.index x → frontier < name.number →
+    name.number ≤ l.frontier → (p : Place) × (l.standing name.number name.index ≡ Some p) × IsGroupPage c f e name p
 
 looked_settles : (b : Book) (frontier : ℕ) (l : Ledger) (c after : Cells) (f ended : Place → Bool)
     (e erasing : Spot → Bool) (x : Looked) → StayThere c f e after ended erasing →
     Settles b frontier l after ended erasing → LookedRight b frontier c f e x →
     LookedRight b l.frontier after ended erasing (settled_look l x)
 looked_settles b frontier l c after f ended e erasing Unwritten s settles h = tt
-looked_settles b frontier l c after f ended e erasing (OnPage name p) s settles h =
-    page_stays c after f ended e erasing name p s h
+looked_settles b frontier l c after f ended e erasing (OnPage name p) s settles h = page_stays s h
 looked_settles b frontier l c after f ended e erasing (InSlot name) s settles h =
     by (nat_lt l.frontier name.number) refl
   where
-    by : (above : Bool) → nat_lt l.frontier name.number ≡ above →
-        LookedRight b l.frontier after ended erasing
+    by : (above : Bool) → nat_lt l.frontier name.number ≡ above → LookedRight b l.frontier after ended erasing
         (if above then InSlot name else looked_on name (l.standing name.number name.index))
     by true above = (ltb-true l.frontier name.number above, h.1)
     by false under =
         let r = settles name h.1.0 h.1.1 h.0 (ltb-false l.frontier name.number under) in
         subst (λ (o : Option Place). LookedRight b l.frontier after ended erasing (looked_on name o)) (sym r.1) r.2
 
-pub pins_settle : (b : Book) (frontier : ℕ) (l : Ledger) (c after : Cells) (f ended : Place → Bool) (e erasing : Spot →
-    Bool) (pins : List Pin) → StayThere c f e after ended erasing → Settles b frontier l after ended erasing →
+pub pins_settle : {b : Book} {frontier : ℕ} (l : Ledger) {c after : Cells} {f ended : Place → Bool} {e erasing : Spot →
+    Bool} {pins : List Pin} → StayThere c f e after ended erasing → Settles b frontier l after ended erasing →
     PinsRight b frontier c f e pins → PinsRight b l.frontier after ended erasing (map (settled_pin l) pins)
-pins_settle b frontier l c after f ended e erasing pins s settles h = record {
+pins_settle {b} {frontier} l {c} {after} {f} {ended} {e} {erasing} {pins} s settles h = record {
   each = All-map (λ (pin : Pin). LookedRight b l.frontier after ended erasing pin.looked) (settled_pin l) pins
       (All-weaker (λ (pin : Pin). LookedRight b frontier c f e pin.looked)
       (λ (pin : Pin). LookedRight b l.frontier after ended erasing (settled_look l pin.looked))
@@ -253,7 +224,7 @@ settles b marked frontier l c f blocks e low fr safe under name x is above withi
     let at = fr.stand name.number name.index x within is in (
       at.0,
       at.1,
-      secure_page l.standing c f blocks e name at.0 at.1
+      secure_page at.1
           (⊎_elim (λ k. k) (λ k. absurd (never k.by))
           (safe.safe name.number name.index x at.0 is at.1 (λ lost. let z = lost.to in
           omega (arith, z, low, above)))),

@@ -1,24 +1,17 @@
 -- Reads in flight are of groups' pages, and so are those that steps still need, behind each change of the disk.
-use Rattle.std.proofs.Common.{◌≡◌, ◌≢◌, ℕ, Bool, true, false, All, List, [], ◌∷◌, is_none, if◌then◌else◌, Option, Some}
-use Rattle.std.proofs.Common.{None, refl, sym, ap, ◌∙◌, subst, ⊎_elim}
-use Rattle.std.proofs.lemmas.List.Elements.{All-cons, All-head, All-nil, All-tail, All-weaker}
-use Rattle.ufs_spec.proofs.Facts.{false≢true, none-some, same_Some}
-use Rattle.ufs_spec.specs.Cells.{Cell, Cells}
-use Rattle.ufs_spec.specs.Disk.{BlockState, Disk, Erasing, Flight, ForStep, Free, Programming, Reader, Reading, Spot}
-use Rattle.ufs_spec.specs.Disk.{at_die, at_spot, same_spot, spot_of, state_behind}
-use Rattle.ufs_spec.specs.Ledger.{Name}
-use Rattle.ufs_spec.specs.Moves.{is_kind_of, step_behind, step_there, without_reader}
-use Rattle.ufs_spec.specs.Translation.{CopyStep, Plan, RepairStep, Step, Translation, Want, is_mended, standing_of}
-use Rattle.ufs_spec.specs.Translation.{want_at, wants_of_step}
-use Rattle.ufs_spec.specs.declared.flash.Place.{Place}
-use Rattle.ufs_spec.proofs.Updates.{at_die_is, at_spot_is}
-use Rattle.ufs_spec.proofs.Equalities.{spot_cases}
-use Rattle.ufs_spec.proofs.CellKinds.{page_not_nothing}
-use Rattle.power_loss.specs.Invariant.{Flights, IsGroupPage, IsNeededPage, IsSecure, ReadsRight, Standing, ToReadRight}
-use Rattle.power_loss.specs.Invariant.{Valid}
+use Rattle.power_loss.proofs.Common.{◌≡◌, ◌≢◌, ℕ, Bool, true, false, All, List, [], ◌∷◌, is_none, if◌then◌else◌, Option}
+use Rattle.power_loss.proofs.Common.{Some, None, refl, sym, ap, ◌∙◌, subst, ⊎_elim, All-cons, All-head, All-nil}
+use Rattle.power_loss.proofs.Common.{All-tail, All-weaker, false≢true, none-some, same_Some, Cell, Cells, BlockState}
+use Rattle.power_loss.proofs.Common.{Disk, Erasing, Flight, ForStep, Free, Programming, Reader, Reading, Spot, at_die}
+use Rattle.power_loss.proofs.Common.{at_spot, same_spot, spot_of, state_behind, Name, is_kind_of, step_behind}
+use Rattle.power_loss.proofs.Common.{step_there, without_reader, CopyStep, Plan, RepairStep, Step, Translation, Want}
+use Rattle.power_loss.proofs.Common.{is_mended, standing_of, want_at, wants_of_step, Place, at_die_is, at_spot_is}
+use Rattle.power_loss.proofs.Common.{spot_cases, page_not_nothing, Flights, IsGroupPage, IsNeededPage, IsSecure}
+use Rattle.power_loss.proofs.Common.{ReadsRight, Standing, ToReadRight, Valid}
 use Rattle.power_loss.proofs.kept_pages.LookedUpPages.{secure_page}
 use Rattle.power_loss.proofs.kept_pages.PagesStay.{StayThere, page_begun, page_stays}
 use Rattle.power_loss.proofs.jobs.StandsSecurely.{Keeps, behind_is_not_free}
+use Rattle.power_loss.proofs.books.LayerParts.{NeededOf}
 
 -- Reads in flight
 
@@ -32,26 +25,27 @@ HaveFewerReads old new =
 abbrev IsReadOf : Cells → (Place → Bool) → (Spot → Bool) → ℕ → Place → Type 0
 IsReadOf c f e die p = (p.die ≡ die) × ((name : Name) × IsGroupPage c f e name p)
 
-reads_from : (c : Cells) (f : Place → Bool) (e : Spot → Bool) (flights : Flights) →
+reads_from : {c : Cells} {f : Place → Bool} {e : Spot → Bool} {flights : Flights} →
     ((die : ℕ) (reader : Reader) (p : Place) → flights die ≡ Some (Reading reader p) → IsReadOf c f e die p) →
     ReadsRight c f e flights
-reads_from c f e flights h = record {
+reads_from h = record {
   at_home = λ die reader p k. (h die reader p k).0;
   page = λ die reader p k. (h die reader p k).1;
 }
 
-pub reads_stay : (c after : Cells) (f ended : Place → Bool) (e erasing : Spot → Bool) (old new : Flights) →
+pub reads_stay : {c after : Cells} {f ended : Place → Bool} {e erasing : Spot → Bool} {old new : Flights} →
     StayThere c f e after ended erasing → HaveFewerReads old new → ReadsRight c f e old →
     ReadsRight after ended erasing new
-reads_stay c after f ended e erasing old new s fewer h = reads_from after ended erasing new
+reads_stay {c = c} {after = after} {f = f} {ended = ended} {e = e} {erasing = erasing} {new = new} s fewer h =
+    reads_from
     (λ die reader p k.
     let o = fewer die reader p k in
     let x = h.page die o.0 p o.1 in
-    (h.at_home die o.0 p o.1, (x.0, page_stays c after f ended e erasing x.0 p s x.1)))
+    (h.at_home die o.0 p o.1, (x.0, page_stays s x.1)))
 
-pub reads_fewer : (c : Cells) (f : Place → Bool) (e : Spot → Bool) (old new : Flights) → HaveFewerReads old new →
+pub reads_fewer : {c : Cells} {f : Place → Bool} {e : Spot → Bool} {old new : Flights} → HaveFewerReads old new →
     ReadsRight c f e old → ReadsRight c f e new
-reads_fewer c f e old new fewer h = reads_from c f e new
+reads_fewer {c = c} {f = f} {e = e} {new = new} fewer h = reads_from
     (λ die reader p k. let o = fewer die reader p k in (h.at_home die o.0 p o.1, h.page die o.0 p o.1))
 
 abbrev is_read : Option Flight → Bool
@@ -63,8 +57,7 @@ pub job_reads : (f : Flights) (die : ℕ) (job : Option Flight) → is_read job 
     HaveFewerReads f (at_die f die job)
 job_reads f die job none d reader p h = ⊎_elim
     (λ (k : (d ≡ die) × (job ≡ Some (Reading reader p))). absurd (false≢true (sym none ∙ ap is_read k.1)))
-    (λ k. (reader, k.1))
-    (at_die_is f die job d (Some (Reading reader p)) h)
+    (λ k. (reader, k.1)) (at_die_is f die job d (Some (Reading reader p)) h)
 
 pub idle_reads : (f : Flights) (die : ℕ) → HaveFewerReads f (at_die f die None)
 idle_reads f die = job_reads f die None refl
@@ -73,13 +66,13 @@ pub program_reads : (f : Flights) (die : ℕ) (place : Place) (cell : Cell) →
     HaveFewerReads f (at_die f die (Some (Programming place cell)))
 program_reads f die place cell = job_reads f die (Some (Programming place cell)) refl
 
-place_read : (a b : Reader) (q p : Place) → Some (Reading a q) ≡ Some (Reading b p) → q ≡ p
-place_read a b q p e = cc
+place_read : (a b : Reader) {q p : Place} → Some (Reading a q) ≡ Some (Reading b p) → q ≡ p
+place_read a b e = cc
 
 read_of : (is : Reader → Bool) (job : Option Flight) (reader : Reader) (p : Place) →
     without_reader is job ≡ Some (Reading reader p) → (other : Reader) × (job ≡ Some (Reading other p))
 read_of is (Some (Reading other q)) reader p h =
-    (other, ap (λ (z : Place). Some (Reading other z)) (place_read _ reader q p h))
+    (other, ap (λ (z : Place). Some (Reading other z)) (place_read _ reader h))
 read_of is (Some (Programming q cell)) reader p h = cc
 read_of is (Some (Erasing s)) reader p h = cc
 read_of is None reader p h = cc
@@ -89,45 +82,39 @@ pub gone_reads : (f : Flights) (is : Reader → Bool) → HaveFewerReads f (λ d
 gone_reads f is die reader p h = read_of is (f die) reader p h
 
 -- an erase begins on a die that reads nothing
-pub reads_erase_begun : (c : Cells) (f : Place → Bool) (e : Spot → Bool) (flights : Flights) (die : ℕ) (s : Spot) →
-    s.die ≡ die → ReadsRight c f e flights →
-    ReadsRight c f (at_spot e s true) (at_die flights die (Some (Erasing s)))
-reads_erase_begun c f e flights die s home h =
-    reads_from c f (at_spot e s true) (at_die flights die (Some (Erasing s)))
+pub reads_erase_begun : {c : Cells} {f : Place → Bool} {e : Spot → Bool} {flights : Flights} {die : ℕ} (s : Spot) →
+    s.die ≡ die → ReadsRight c f e flights → ReadsRight c f (at_spot e s true) (at_die flights die (Some (Erasing s)))
+reads_erase_begun {c} {f} {e} {flights} {die} s home h = reads_from
     (λ d reader p k. ⊎_elim
     (λ (z : (d ≡ die) × (Some (Erasing s) ≡ Some (Reading reader p))). absurd (false≢true (ap is_read z.1)))
     (λ (z : (d ≢ die) × (flights d ≡ Some (Reading reader p))).
     let x = h.page d reader p z.1 in
-    (h.at_home d reader p z.1, (x.0, page_begun c f e s x.0 p (apart d p z.0 (h.at_home d reader p z.1)) x.1)))
+    (h.at_home d reader p z.1, (x.0, page_begun s (apart d p z.0 (h.at_home d reader p z.1)) x.1)))
     (at_die_is flights die (Some (Erasing s)) d (Some (Reading reader p)) k))
   where
     apart : (d : ℕ) (p : Place) → d ≢ die → p.die ≡ d → same_spot (spot_of p) s ≡ false
     apart d p other is = ⊎_elim
         (λ (z : (same_spot (spot_of p) s ≡ true) × (spot_of p ≡ s)).
-        absurd (other (sym is ∙ ap (λ (x : Spot). x.die) z.1 ∙ home)))
-        (λ z. z.0)
-        (spot_cases (spot_of p) s)
+        absurd (other (sym is ∙ ap (λ (x : Spot). x.die) z.1 ∙ home))) (λ z. z.0) (spot_cases (spot_of p) s)
 
 -- a read begins
-pub reads_begun : (c : Cells) (f : Place → Bool) (e : Spot → Bool) (flights : Flights) (die : ℕ) (reader : Reader)
-    (place : Place) → place.die ≡ die → (name : Name) × IsGroupPage c f e name place → ReadsRight c f e flights →
+pub reads_begun : {c : Cells} {f : Place → Bool} {e : Spot → Bool} {flights : Flights} {die : ℕ} (reader : Reader)
+    {place : Place} → place.die ≡ die → (name : Name) × IsGroupPage c f e name place → ReadsRight c f e flights →
     ReadsRight c f e (at_die flights die (Some (Reading reader place)))
-reads_begun c f e flights die reader place home there h =
-    reads_from c f e (at_die flights die (Some (Reading reader place)))
+reads_begun {c} {f} {e} {flights} {die} reader {place} home there h = reads_from
     (λ d r p k. ⊎_elim
     (λ (z : (d ≡ die) × (Some (Reading reader place) ≡ Some (Reading r p))).
-    let same = place_read reader r place p z.1 in (
+    let same = place_read reader r z.1 in (
       ap (λ (x : Place). x.die) (sym same) ∙ home ∙ sym z.0,
       subst (λ (x : Place). (name : Name) × IsGroupPage c f e name x) same there,
-    ))
-    (λ z. (h.at_home d r p z.1, h.page d r p z.1))
+    )) (λ z. (h.at_home d r p z.1, h.page d r p z.1))
     (at_die_is flights die (Some (Reading reader place)) d (Some (Reading r p)) k))
 
 -- Pages that are needed
 
-pub needed_keeps : (d e : Disk) (p : Place) → Keeps d e → IsNeededPage d.cells d.finished d.blocks d.erasing p →
+pub needed_keeps : (d e : Disk) {p : Place} → Keeps d e → IsNeededPage d.cells d.finished d.blocks d.erasing p →
     IsNeededPage e.cells e.finished e.blocks e.erasing p
-needed_keeps d e p k h =
+needed_keeps d e {p} k h =
     let r = k p (page_not_nothing (d.cells p) h.page.tag h.page.body h.page.there) h.page.ended h.page.stays h.needed in
     record {
       name = h.name;
@@ -143,32 +130,30 @@ needed_keeps d e p k h =
     }
 
 -- a block that is programmed does not become free
-pub needed_written : (c after : Cells) (f ended : Place → Bool) (b : Spot → BlockState) (e erasing : Spot → Bool)
-    (s : Spot) (pages page : ℕ) (p : Place) → StayThere c f e after ended erasing →
+pub needed_written : {c after : Cells} {f ended : Place → Bool} {b : Spot → BlockState} {e erasing : Spot → Bool}
+    (s : Spot) (pages page : ℕ) {p : Place} → StayThere c f e after ended erasing →
     IsNeededPage c f b e p → IsNeededPage after ended (at_spot b s (state_behind pages page)) erasing p
-needed_written c after f ended b e erasing s pages page p stay h = record {
+needed_written {c} {after} {f} {ended} {b} {e} {erasing} s pages page {p} stay h = record {
   name = h.name;
-  page = page_stays c after f ended e erasing h.name p stay h.page;
-  needed = λ z. ⊎_elim
-      (λ (k : (spot_of p ≡ s) × (state_behind pages page ≡ Free)). behind_is_not_free pages page k.1)
-      (λ k. h.needed k.1)
-      (at_spot_is b s (state_behind pages page) (spot_of p) Free z);
+  page = page_stays stay h.page;
+  needed = λ z. ⊎_elim (λ (k : (spot_of p ≡ s) × (state_behind pages page ≡ Free)). behind_is_not_free pages page k.1)
+      (λ k. h.needed k.1) (at_spot_is b s (state_behind pages page) (spot_of p) Free z);
 }
 
-pub needed_secure : (standing : Standing) (c : Cells) (f : Place → Bool) (b : Spot → BlockState) (e : Spot → Bool)
-    (name : Name) (p : Place) → standing name.number name.index ≡ Some p →
+pub needed_secure : {standing : Standing} {c : Cells} {f : Place → Bool} {b : Spot → BlockState} {e : Spot → Bool}
+    (name : Name) {p : Place} → standing name.number name.index ≡ Some p →
     IsSecure standing c f b e name.number name.index → IsNeededPage c f b e p
-needed_secure standing c f b e name p known h = record {
+needed_secure {standing} {c} {f} {b} {e} name {p} known h = record {
   name = name;
-  page = secure_page standing c f b e name p known h;
+  page = secure_page known h;
   needed = λ z. h.needed (ap (λ (q : Place). b (spot_of q)) (same_Some h.place p (sym h.known ∙ known)) ∙ z);
 }
 
-pub to_read_stay : (c after : Cells) (f ended : Place → Bool) (b blocks : Spot → BlockState) (e erasing : Spot → Bool)
-    (step : Option Step) (plan : Option Plan) →
+pub to_read_stay : {c after : Cells} {f ended : Place → Bool} {b blocks : Spot → BlockState} {e erasing : Spot → Bool}
+    {step : Option Step} {plan : Option Plan} →
     ((p : Place) → IsNeededPage c f b e p → IsNeededPage after ended blocks erasing p) →
     ToReadRight c f b e step plan → ToReadRight after ended blocks erasing step plan
-to_read_stay c after f ended b blocks e erasing step plan stay h = record {
+to_read_stay {c} {after} {f} {ended} {b} {blocks} {e} {erasing} {step} stay h = record {
   wanted = All-weaker (λ (w : Want). IsNeededPage c f b e w.place)
       (λ (w : Want). IsNeededPage after ended blocks erasing w.place) (λ w k. stay w.place k) (wants_of_step step)
       h.wanted;
@@ -205,30 +190,24 @@ copy_wants P name p h = All-cons P (want_at ForStep p) [] h (All-nil P)
 -- What is ordered
 
 -- until the device is mended a page that stands is needed
-pub stands_needed : (t : Translation) (o : Option Name) (p : Place) → Valid t → is_mended t.work.mending ≡ false →
-    standing_of t.ledger o ≡ Some p →
-    IsNeededPage t.disk.cells t.disk.finished t.disk.blocks t.disk.erasing p
-stands_needed t None p v un e = absurd (none-some p e)
-stands_needed t (Some name) p v un e =
-    needed_secure t.ledger.standing t.disk.cells t.disk.finished t.disk.blocks t.disk.erasing name p e
-    (v.unmended.stand un name.number name.index p e)
+pub stands_needed : {t : Translation} (o : Option Name) {p : Place} → Valid t → is_mended t.work.mending ≡ false →
+    standing_of t.ledger o ≡ Some p → NeededOf t p
+stands_needed None {p} v un e = absurd (none-some p e)
+stands_needed {t} (Some name) {p} v un e = needed_secure name e (v.unmended.stand un name.number name.index p e)
 
 -- the first page of a plan's copies is there, and so are the others
-pub copy_read : (t : Translation) (s : Spot) (p : Place) (ps : List Place) (next : Option Step) → Valid t →
-    t.work.plan ≡ Some (record { victim = s; copies = p ∷ ps }) →
-    (IsNeededPage t.disk.cells t.disk.finished t.disk.blocks t.disk.erasing p →
-    All (λ (w : Want). IsNeededPage t.disk.cells t.disk.finished t.disk.blocks t.disk.erasing w.place)
-    (wants_of_step next)) →
-    ToReadRight t.disk.cells t.disk.finished t.disk.blocks t.disk.erasing next
+pub copy_read : {t : Translation} (s : Spot) {p : Place} (ps : List Place) {next : Option Step} → Valid t →
+    t.work.plan ≡ Some (record { victim = s; copies = p ∷ ps }) → (NeededOf t p → All (λ (w : Want). NeededOf t w.place)
+    (wants_of_step next)) → ToReadRight t.disk.cells t.disk.finished t.disk.blocks t.disk.erasing next
     (Some (record { victim = s; copies = ps }))
-copy_read t s p ps next v is wanted = record {
+copy_read {t} s {p} ps v is wanted = record {
   wanted = wanted (All-head IsNeeded p ps all);
   copied = λ pl e. subst (λ (x : Plan). All IsNeeded x.copies) (same_Some (record { victim = s; copies = ps }) pl e)
       (All-tail IsNeeded p ps all);
 }
   where
     IsNeeded : Place → Type 0
-    IsNeeded q = IsNeededPage t.disk.cells t.disk.finished t.disk.blocks t.disk.erasing q
+    IsNeeded q = NeededOf t q
 
     all : All IsNeeded (p ∷ ps)
     all = v.to_read.copied (record { victim = s; copies = p ∷ ps }) is

@@ -1,30 +1,24 @@
 -- Who kept a slot keeps its page once the slot's group is durable.
-use Rattle.std.proofs.Common.{◌≡◌, ℕ, ◌<◌, ◌≤◌, if◌then◌else◌, nat_lt, Bool, true, false, List, Option, Some, None}
-use Rattle.std.proofs.Common.{slice_get, refl, sym, ap, ◌∙◌, subst, le-ltb}
-use Rattle.std.specs.Prelude.{option_map}
+use Rattle.power_loss.proofs.Common.{◌≡◌, ℕ, ◌<◌, ◌≤◌, if◌then◌else◌, Bool, true, false, List, Option, Some, None}
+use Rattle.power_loss.proofs.Common.{slice_get, refl, sym, ap, ◌∙◌, subst, option_map, ltb-true, cond-false, GroupPage}
+use Rattle.power_loss.proofs.Common.{Programming, InSlot, Ledger, Looked, Name, OnPage, Unwritten, looked_on}
+use Rattle.power_loss.proofs.Common.{page_stands, settled_look, EndJob, WentWell, end_flight, moved, settled_pin, Pin}
+use Rattle.power_loss.proofs.Common.{Translation, name_of, Place, Tag}
+use Rattle.std.proofs.Common.{nat_lt}
+use Rattle.std.proofs.Common.{le-ltb}
 use Rattle.std.proofs.lemmas.Option.{slice_get-map}
-use Rattle.ufs_spec.proofs.Facts.{ltb-true, cond-false}
-use Rattle.ufs_spec.specs.Cells.{GroupPage}
-use Rattle.ufs_spec.specs.Disk.{Programming}
-use Rattle.ufs_spec.specs.Ledger.{InSlot, Ledger, Looked, Name, OnPage, Unwritten, looked_on, page_stands, settled_look}
-use Rattle.ufs_spec.specs.Moves.{EndJob, WentWell, end_flight, moved, settled_pin}
-use Rattle.ufs_spec.specs.Translation.{Pin, Translation, name_of}
-use Rattle.ufs_spec.specs.declared.flash.Place.{Place}
-use Rattle.ufs_spec.specs.declared.flash.Tag.{Tag}
 use Rattle.power_loss.proofs.ordered_lists.ElementsAndOrders.{mapped_at}
 
-slot_is : (a b : Name) → InSlot a ≡ InSlot b → a ≡ b
-slot_is a b e = cc
+slot_is : {a b : Name} → InSlot a ≡ InSlot b → a ≡ b
+slot_is e = cc
 
 no_slot : (name : Name) (o : Option Place) (other : Name) → looked_on name o ≡ InSlot other → ⊥
 no_slot name None other h = cc
 no_slot name (Some p) other h = cc
 
 slot_if : (b : Bool) (l : Ledger) (n name : Name) → nat_lt l.frontier n.number ≡ b →
-    (if b then InSlot n else looked_on n (l.standing n.number n.index)) ≡ InSlot name →
-    l.frontier < name.number
-slot_if true l n name e h = subst (λ (z : Name). l.frontier < z.number) (slot_is n name h)
-    (ltb-true l.frontier n.number e)
+    (if b then InSlot n else looked_on n (l.standing n.number n.index)) ≡ InSlot name → l.frontier < name.number
+slot_if true l n name e h = subst (λ (z : Name). l.frontier < z.number) (slot_is h) (ltb-true l.frontier n.number e)
 slot_if false l n name e h = absurd (no_slot n (l.standing n.number n.index) name h)
 
 slot_left : (l : Ledger) (looked : Looked) (name : Name) → settled_look l looked ≡ InSlot name →
@@ -39,8 +33,7 @@ module _ (t : Translation) (die : ℕ) (p : Place) (tag : Tag) (body : List ℕ)
   ends = ap (λ f. end_flight t die f WentWell) job
 
   pub slot : (j : ℕ) (pin : Pin) (name : Name) → slice_get (moved t (EndJob die WentWell)).pins j ≡ Some pin →
-      pin.looked ≡ InSlot name →
-      (moved t (EndJob die WentWell)).ledger.frontier < name.number
+      pin.looked ≡ InSlot name → (moved t (EndJob die WentWell)).ledger.frontier < name.number
   slot j pin name at h =
       let l = page_stands t.ledger (name_of tag) p in
       let old = mapped_at (settled_pin l) t.pins j pin (ap (λ (u : Translation). slice_get u.pins j) (sym ends) ∙ at) in

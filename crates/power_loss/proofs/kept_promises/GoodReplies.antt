@@ -1,39 +1,27 @@
 -- A promising command from its COMMAND to its GOOD: how it begins, and what holds once GOOD was handed out.
-use Rattle.std.proofs.Common.{◌≡◌, ℕ, ◌*◌, ◌≤◌, ◌==◌, Bool, true, false, List, [], ◌∷◌, ◌++◌, length, Option, Some}
-use Rattle.std.proofs.Common.{None, inl, inr, refl, sym, ap, ◌∙◌, subst, arith}
-use Rattle.std.specs.Prelude.{Ok, if◌then◌else◌, nat_le}
-use Rattle.std.specs.List.{AllByRecursion, list_any}
-use Rattle.std.proofs.lemmas.Bool.Decides.{nat_tests}
-use Rattle.ufs_spec.proofs.Facts.{false≢true, none-some, same_Some, eqb-self}
-use Rattle.ufs_spec.specs.Commands.{Command}
-use Rattle.ufs_spec.specs.Exchanges.{Answering, Awaiting, Deed, ForWrite, Gathering, Good, Short, Status, Task}
-use Rattle.ufs_spec.specs.Exchanges.{TaskSetFull, invalid_operation, is_task_of, no_unit, ready_message, response}
-use Rattle.ufs_spec.specs.Exchanges.{short_reply, task_of}
-use Rattle.ufs_spec.specs.Lives.{Life, held}
-use Rattle.ufs_spec.specs.Machine.{Reply, Due, OfHost, Host, IsCdbIn, OfReply, begun_with, command_heard, deed_reply}
-use Rattle.ufs_spec.specs.Machine.{message_fault, opened_with, opens_short, tag_in, unit_or_first, with_moves}
-use Rattle.ufs_spec.specs.Machine.{with_short, with_task}
-use Rattle.ufs_spec.specs.Moves.{Claim}
-use Rattle.ufs_spec.specs.Stages.{most_tasks}
-use Rattle.ufs_spec.specs.Refusals.{Line, Request, State, first_line, lacks_unit, line, lines_behind, lun_of, not_taken}
-use Rattle.ufs_spec.specs.Refusals.{numbers_of, refusal, unit_of_request}
-use Rattle.ufs_spec.specs.Translation.{is_mended}
-use Rattle.ufs_spec.specs.declared.events.Event.{Event}
+use Rattle.power_loss.proofs.Common.{◌≡◌, ℕ, ◌*◌, ◌≤◌, ◌==◌, Bool, true, false, List, [], ◌∷◌, ◌++◌, length, Option}
+use Rattle.power_loss.proofs.Common.{Some, None, inl, inr, refl, sym, ap, ◌∙◌, subst, arith, Ok, nat_le, AllByRecursion}
+use Rattle.power_loss.proofs.Common.{list_any, nat_tests, false≢true, none-some, same_Some, eqb-self, Claim}
+use Rattle.power_loss.proofs.MachineWords.{Command, Answering, Awaiting, Deed, ForWrite, Gathering, Good, Short, Status}
+use Rattle.power_loss.proofs.MachineWords.{Task, TaskSetFull, invalid_operation, is_task_of, no_unit, response}
+use Rattle.power_loss.proofs.MachineWords.{short_reply, task_of, Life, held, Reply, Due, OfHost, Host, IsCdbIn, OfReply}
+use Rattle.power_loss.proofs.MachineWords.{begun_with, command_heard, deed_reply, message_fault, opened_with}
+use Rattle.power_loss.proofs.MachineWords.{opens_short, tag_in, unit_or_first, with_moves, with_short, with_task}
+use Rattle.power_loss.proofs.MachineWords.{most_tasks, Line, Request, State, first_line, lacks_unit, line, lines_behind}
+use Rattle.power_loss.proofs.MachineWords.{lun_of, not_taken, numbers_of, refusal, unit_of_request, Event, Output}
+use Rattle.power_loss.proofs.MachineWords.{Message, Cdb, IsTied, ValidState, IsReplied, has_task}
+use Rattle.std.specs.Prelude.{if◌then◌else◌}
+use Rattle.ufs_spec.specs.Exchanges.{ready_message}
 use Rattle.ufs_spec.specs.declared.events.Event.TheVariants as event
-use Rattle.ufs_spec.specs.declared.events.Output.{Output}
 use Rattle.ufs_spec.specs.declared.events.Output.TheVariants as output
-use Rattle.ufs_spec.specs.declared.messages.Message.{Message}
-use Rattle.ufs_spec.specs.declared.scsi.Cdb.{Cdb}
 use Rattle.ufs_spec.specs.declared.scsi.Cdb.TheVariants as cdb
 use Rattle.ufs_laws.proofs.lives.AcceptedAndHeldGrow.{accepted_grows}
 use Rattle.ufs_laws.proofs.lives.HeldAlongLives.{life_grows, life_held, task_held}
-use Rattle.power_loss.specs.Exchange.{IsTied, ValidState}
-use Rattle.power_loss.specs.Promises.{IsAnsweredGood, IsGood, IsHeldWrite, IsReplied, IsTaken, command_message}
-use Rattle.power_loss.specs.Promises.{has_task, heard_command}
+use Rattle.power_loss.specs.Promises.{IsAnsweredGood, IsGood, IsHeldWrite, IsTaken, command_message, heard_command}
 use Rattle.power_loss.proofs.calls.CallsKeepTied.{no_fault, operation_is}
 use Rattle.power_loss.proofs.lives.EachEventKeeps.{one_event}
 use Rattle.power_loss.proofs.open_tasks.FoundInLists.{found_last, none_found}
-use Rattle.power_loss.proofs.host_commands.OpenedByCommands.{is_free}
+use Rattle.power_loss.proofs.host_commands.OpenedByCommands.{is_free, opened_task}
 use Rattle.power_loss.proofs.host_commands.PassedCommands.{TakenByUnits, passed, unit_told, units_take_10}
 use Rattle.power_loss.proofs.open_tasks.TaskLists.{found_task, no_task_found, short_fits_at}
 use Rattle.power_loss.proofs.kept_promises.PromisedCommands.{IsMet, KeepsTo, NotGood, OfFlush, OfWrite, Promise}
@@ -61,8 +49,8 @@ lines_bad : (s : State) (r : Request) (c : Option Cdb) → AreBad (lines_behind 
 lines_bad s r None = (tt, tt)
 lines_bad s r (Some c) = (tt, (tt, (tt, (tt, (tt, (tt, (tt, (tt, (tt, tt)))))))))
 
-refused_bad : (s : State) (r : Request) (status : Status) → refusal s r ≡ Some status → NotGood status
-refused_bad s r status e =
+refused_bad : (s : State) (r : Request) {status : Status} → refusal s r ≡ Some status → NotGood status
+refused_bad s r {status} e =
     let lun = lun_of (numbers_of s) r.lun in
     first_bad (line (lacks_unit s r lun) no_unit ∷ line (not_taken r lun) invalid_operation ∷ lines_behind s r r.cdb)
     status (tt, (tt, lines_bad s r r.cdb)) e
@@ -72,15 +60,7 @@ opens : (p : Promise) (s : State) (r : Request) (c : Option Cdb) (n : ℕ) (deed
     list_any (is_task_of r.tag) s.tasks ≡ false → KeepsTo p s.accepted [] deed →
     first_of p ≤ length s.accepted → TrackedIn p r.tag [] (with_task s r c n deed)
 opens p s r c n deed none keeps later =
-    let x : Task = record {
-      lun = r.lun;
-      tag = r.tag;
-      expected = r.expected;
-      command = c;
-      length = n;
-      deed = deed;
-      request = None;
-    } in
+    let x = opened_task r c n deed in
     record {
       task = x;
       there = found_last (is_task_of r.tag) s.tasks x none (eqb-self r.tag);
@@ -97,7 +77,7 @@ opened_tracks : (p : Promise) (s : State) (r : Request) → list_any (is_task_of
     first_of p ≤ length s.accepted → IsPromise s r p → (x : Option Status) → refusal s r ≡ x →
     TrackedIn p r.tag [] (opened_with s r x)
 opened_tracks p s r none later is (Some status) e =
-    opens p s r None 0 (Answering status 0) none (refused_bad s r status e) later
+    opens p s r None 0 (Answering status 0) none (refused_bad s r e) later
 opened_tracks p s r none later is None e = is (begun_with s r r.cdb) none e refl
 
 command_tracks : (p : Promise) (s : State) (r : Request) → list_any (is_task_of r.tag) s.tasks ≡ false →
@@ -113,18 +93,18 @@ command_tracks p s r none later is still = by (nat_le most_tasks (length s.tasks
     by true k = closed r.tag s.tasks (none_found (is_task_of r.tag) s.tasks none) k
     by false k = opened_tracks p s r none later is (refusal s r) refl
 
-taken_tracks : (p : Promise) (s t : State) (r : Request) → IsTaken s r t → first_of p ≤ length s.accepted →
+taken_tracks : (p : Promise) {s t : State} {r : Request} → IsTaken s r t → first_of p ≤ length s.accepted →
     IsPromise s r p → has_task r.tag t ≡ true → TrackedIn p r.tag [] t
-taken_tracks p s t r taken later is still =
-    let fault = no_fault (message_fault s (command_message r)) tt taken.right in
+taken_tracks p {s = s} {r = r} taken later is still =
+    let fault = no_fault (message_fault s (command_message r)) taken.right in
     let free = is_free s r.tag (opens_short s (command_message r)) fault in
     let open_now = settled_open r.tag (command_heard s r) (subst (λ (x : State). has_task r.tag x ≡ true) taken.next
     still) in
     subst (TrackedIn p r.tag []) (sym taken.next)
     (settled_tracks p r.tag [] (command_heard s r) (command_tracks p s r free.no_task later is open_now))
 
-taken_valid : (s t : State) (r : Request) → ValidState s → IsTaken s r t → ValidState t
-taken_valid s t r v taken = one_event s t (event.Host taken.bytes) (output.Host (Ok tt)) v (record {
+taken_valid : {s t : State} {r : Request} → ValidState s → IsTaken s r t → ValidState t
+taken_valid {s} {t} {r} v taken = one_event s t (event.Host taken.bytes) (output.Host (Ok tt)) v (record {
   call = Host (heard_command r);
   answer = OfHost (Ok tt);
   is_call = (heard_command r, taken.spelled, refl);
@@ -143,8 +123,7 @@ flush_promises s r address blocks e = λ u none passes is.
 
 -- a write with FUA gathers its data for its unit
 write_promises : (s : State) (r : Request) (address blocks : ℕ) → r.cdb ≡ Some (cdb.Write10 address blocks true) →
-    1 ≤ blocks → IsCdbIn (Some r.bytes) r.cdb →
-    IsPromise s r (OfWrite (length s.accepted) r.lun address blocks)
+    1 ≤ blocks → IsCdbIn (Some r.bytes) r.cdb → IsPromise s r (OfWrite (length s.accepted) r.lun address blocks)
 write_promises s r address blocks e some spelled = λ u none passes is.
     let c : Cdb = cdb.Write10 address blocks true in
     let unit = unit_or_first (unit_of_request s r) in
@@ -161,15 +140,13 @@ write_promises s r address blocks e some spelled = λ u none passes is.
     not_zero h = grind (arith, nat_tests)
 
     begins : (unit : ℕ) → unit ≡ r.lun → list_any (is_task_of r.tag) s.tasks ≡ false → (b : Bool) → b ≡ false →
-        TrackedIn p r.tag []
-        (if b then with_task s r (Some (cdb.Write10 address blocks true)) 0 (Answering Good 0)
+        TrackedIn p r.tag [] (if b then with_task s r (Some (cdb.Write10 address blocks true)) 0 (Answering Good 0)
         else with_task (with_moves s (Claim blocks ∷ [])) r (Some (cdb.Write10 address blocks true)) (4096 * blocks)
         (Gathering (ForWrite unit address blocks true) [] false))
     begins unit here none true h = absurd (false≢true (sym h))
     begins unit here none false h =
         opens p (with_moves s (Claim blocks ∷ [])) r (Some (cdb.Write10 address blocks true)) (4096 * blocks)
-        (Gathering (ForWrite unit address blocks true) [] false) none
-        ((here, refl, refl, refl), refl) (omega arith)
+        (Gathering (ForWrite unit address blocks true) [] false) none ((here, refl, refl, refl), refl) (omega arith)
 
 -- GOOD
 
@@ -179,21 +156,21 @@ record Waited (p : Promise) (cs : List Command) (bytes : List ℕ) (deed : Deed)
   deed_is : deed ≡ Awaiting commands
   met : IsMet p cs bytes commands
 
-bad_reply : {A : Type 0} (status : Status) (task : Task) (n : ℕ) (m : Message) → NotGood status →
+bad_reply : {A : Type 0} (status : Status) (task : Task) (n : ℕ) {m : Message} → NotGood status →
     Some (response task.lun task.tag task.expected n status) ≡ Some m → IsGood m → A
-bad_reply Good task n m bad e good = absurd bad
-bad_reply status task n m bad e good =
+bad_reply Good task n bad e good = absurd bad
+bad_reply status task n {m} bad e good =
     let is : IsGood (response task.lun task.tag task.expected n status) = subst IsGood (sym (same_Some _ m e)) good in
     absurd (omega arith)
 
-good_waited : (p : Promise) (cs : List Command) (bytes : List ℕ) (s : State) (task : Task) (deed : Deed) (m : Message) →
+good_waited : {p : Promise} {cs : List Command} {bytes : List ℕ} (s : State) (task : Task) (deed : Deed) {m : Message} →
     KeepsTo p cs bytes deed → deed_reply s task deed ≡ Some m → IsGood m → Waited p cs bytes deed
-good_waited p cs bytes s task (Gathering purpose gathered true) m keeps reply good = absurd (none-some m reply)
-good_waited p cs bytes s task (Gathering purpose gathered false) m keeps reply good =
+good_waited s task (Gathering purpose gathered true) {m} keeps reply good = absurd (none-some m reply)
+good_waited s task (Gathering purpose gathered false) {m} keeps reply good =
     absurd (subst IsGood (sym (same_Some (ready_message task gathered) m reply)) good)
-good_waited p cs bytes s task (Awaiting n) m keeps reply good = record { commands = n; deed_is = refl; met = keeps }
-good_waited p cs bytes s task (Answering status n) m keeps reply good = bad_reply status task n m keeps reply good
-good_waited p cs bytes s task deed m keeps reply good = absurd keeps
+good_waited s task (Awaiting n) keeps reply good = record { commands = n; deed_is = refl; met = keeps }
+good_waited s task (Answering status n) {m} keeps reply good = bad_reply status task n keeps reply good
+good_waited s task deed keeps reply good = absurd keeps
 
 -- so what was promised is held then
 record IsKept (p : Promise) (bytes : List ℕ) (s t : State) : Type 0 where
@@ -201,9 +178,9 @@ record IsKept (p : Promise) (bytes : List ℕ) (s t : State) : Type 0 where
   met : IsMet p s.accepted bytes commands
   is_held : commands ≤ held t
 
-good_kept : (p : Promise) (tag : ℕ) (bytes : List ℕ) (s t : State) (m : Message) → IsTied s →
+good_kept : {p : Promise} {tag : ℕ} {bytes : List ℕ} {s t : State} {m : Message} → IsTied s →
     TrackedIn p tag bytes s → IsGood m → IsReplied s tag m t → IsKept p bytes s t
-good_kept p tag bytes s t m v h good replied = by replied.right
+good_kept {p} {tag} {bytes} {s} {t} {m} v h good replied = by replied.right
   where
     waits : (task : Task) → task_of task.tag s.tasks ≡ Some task → deed_reply s task task.deed ≡ Some m →
         IsKept p bytes s t
@@ -211,7 +188,7 @@ good_kept p tag bytes s t m v h good replied = by replied.right
         let own : task.tag ≡ tag = sym (reply_tag s task task.deed m reply) ∙ replied.tag_is in
         let same : h.task ≡ task =
         same_Some h.task task (sym h.there ∙ (ap (λ (n : ℕ). task_of n s.tasks) (sym own) ∙ found)) in
-        let w = good_waited p s.accepted bytes s task task.deed m
+        let w = good_waited s task task.deed
         (subst (λ (x : Task). KeepsTo p s.accepted bytes x.deed) same h.keeps) reply good in
         let at : task_of (tag_in m) s.tasks ≡ Some task =
         ap (λ (n : ℕ). task_of n s.tasks) (reply_tag s task task.deed m reply) ∙ found in
@@ -226,43 +203,38 @@ good_kept p tag bytes s t m v h good replied = by replied.right
     by (inl due) = waits due.1 (found_task s.tasks due.0 due.1 v.tasks.tasks_differ due.2) due.3
     by (inr due) =
         let short : Short = due.1 in
-        let fits = short_fits_at (length s.accepted) (is_mended s.translation.work.mending) s.shorts due.0 short
-        v.tasks.waits due.2 in
+        let fits = short_fits_at s.shorts due.0 short v.tasks.waits due.2 in
         let tag_is : short.tag ≡ tag = sym fits.reply ∙ ap tag_in (sym due.4) ∙ replied.tag_is in
         let none = no_task_found s.shorts s.tasks due.0 short v.tasks.apart due.2 in
         absurd (none-some h.task (sym none ∙ (ap (λ (n : ℕ). task_of n s.tasks) tag_is ∙ h.there)))
 
 -- From the COMMAND to the GOOD and on
 
-answered_kept : (p : Promise) (s t : State) (r : Request) (bytes : List ℕ) → ValidState s →
+answered_kept : {p : Promise} {s t : State} (r : Request) {bytes : List ℕ} → ValidState s →
     (a : IsAnsweredGood s r bytes t) → first_of p ≤ length s.accepted → IsPromise s r p → IsKept p bytes a.ended t
-answered_kept p s t r bytes v a later is =
-    let valid = taken_valid s a.begun r v a.taken in
-    let begins = taken_tracks p s a.begun r a.taken later is (carries_open r.tag a.begun a.ended a.events a.outputs
+answered_kept {p} {s} {t} r {bytes} v a later is =
+    let valid = taken_valid v a.taken in
+    let begins = taken_tracks p a.taken later is (carries_open r.tag a.begun a.ended a.events a.outputs
     bytes a.carries) in
     let all = carried_tracks p r.tag [] bytes a.begun a.ended a.events a.outputs valid a.carries begins in
-    good_kept p r.tag bytes a.ended t a.answer all.0.tied all.1 a.good a.replied
+    good_kept all.0.tied all.1 a.good a.replied
 
 pub flush_held : (s t u : State) (r : Request) (bytes : List ℕ) (address blocks : ℕ) (es : List Event)
-    (os : List Output) → ValidState s →
-    r.cdb ≡ Some (cdb.SynchronizeCache10 address blocks false) → IsAnsweredGood s r bytes t → Life t es os u →
-    length s.accepted ≤ held u
+    (os : List Output) → ValidState s → r.cdb ≡ Some (cdb.SynchronizeCache10 address blocks false) →
+    IsAnsweredGood s r bytes t → Life t es os u → length s.accepted ≤ held u
 flush_held s t u r bytes address blocks es os v e a life =
-    let k = answered_kept (OfFlush (length s.accepted)) s t r bytes v a (omega arith)
-    (flush_promises s r address blocks e) in
+    let k = answered_kept r v a (omega arith) (flush_promises s r address blocks e) in
     let met = k.met in
     let is = k.is_held in
     let on = life_held t u es os life in
     omega arith
 
 pub write_held : (s t u : State) (r : Request) (bytes : List ℕ) (address blocks : ℕ) (es : List Event)
-    (os : List Output) → ValidState s →
-    r.cdb ≡ Some (cdb.Write10 address blocks true) → 1 ≤ blocks → IsAnsweredGood s r bytes t → Life t es os u →
-    IsHeldWrite s r address blocks bytes u
+    (os : List Output) → ValidState s → r.cdb ≡ Some (cdb.Write10 address blocks true) → 1 ≤ blocks →
+    IsAnsweredGood s r bytes t → Life t es os u → IsHeldWrite s r address blocks bytes u
 write_held s t u r bytes address blocks es os v e some a life =
     let p : Promise = OfWrite (length s.accepted) r.lun address blocks in
-    let k = answered_kept p s t r bytes v a (omega arith) (write_promises s r address blocks e some a.taken.spelled.2)
-    in
+    let k = answered_kept r v a (omega arith) (write_promises s r address blocks e some a.taken.spelled.2) in
     let one = accepted_grows a.ended Reply (OfReply (Some a.answer)) in
     let first : t.accepted ≡ a.ended.accepted ++ one.0 = ap (λ (x : State). x.accepted) a.replied.next ∙ one.1 in
     let rest = life_grows t u es os life in

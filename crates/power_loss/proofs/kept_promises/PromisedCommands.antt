@@ -1,17 +1,14 @@
 -- One promising command from its COMMAND on: what its task does in every state in which it is open.
-use Rattle.std.proofs.Common.{◌≡◌, ℕ, suc, ◌+◌, ◌*◌, ◌≤◌, ◌==◌, Bool, true, false, List, [], ◌∷◌, ◌++◌, length, Some}
-use Rattle.std.proofs.Common.{map, slice_get, refl, sym, ap, ◌∙◌, subst, arith}
-use Rattle.std.specs.Prelude.{◌&&◌, if◌then◌else◌, nat_le, nat_lt}
-use Rattle.std.proofs.lemmas.List.{append-nil, append_assoc, length-append}
+use Rattle.power_loss.proofs.Common.{◌≡◌, ℕ, suc, ◌+◌, ◌*◌, ◌≤◌, ◌==◌, Bool, true, false, List, [], ◌∷◌, ◌++◌, length}
+use Rattle.power_loss.proofs.Common.{Some, map, slice_get, refl, sym, ap, ◌∙◌, subst, arith, nat_le, nat_lt, append-nil}
+use Rattle.power_loss.proofs.Common.{append_assoc, length-append, if_both, false≢true, Release}
+use Rattle.power_loss.proofs.MachineWords.{Command, Write, Answering, Awaiting, Deed, ForWrite, Gathering, Good}
+use Rattle.power_loss.proofs.MachineWords.{Purpose, ReadState, Sending, Status, Task, count_at, is_asked_in, is_task_of}
+use Rattle.power_loss.proofs.MachineWords.{task_of, with_deed, write_error, accepts, blocks_in, data_for, deed_locked}
+use Rattle.power_loss.proofs.MachineWords.{deed_read, durable, set_deed, task_read, with_moves, write_complete}
+use Rattle.power_loss.proofs.MachineWords.{write_deed, State, locked}
+use Rattle.std.specs.Prelude.{◌&&◌, if◌then◌else◌}
 use Rattle.std.proofs.lemmas.Bool.{ltb-false}
-use Rattle.ufs_spec.proofs.Facts.{if_both, false≢true}
-use Rattle.ufs_spec.specs.Commands.{Command, Write}
-use Rattle.ufs_spec.specs.Exchanges.{Answering, Awaiting, Deed, ForWrite, Gathering, Good, Purpose, ReadState, Sending}
-use Rattle.ufs_spec.specs.Exchanges.{Status, Task, count_at, is_asked_in, is_task_of, task_of, with_deed, write_error}
-use Rattle.ufs_spec.specs.Machine.{accepts, blocks_in, data_for, deed_locked, deed_read, durable, set_deed, task_read}
-use Rattle.ufs_spec.specs.Machine.{with_moves, write_complete, write_deed}
-use Rattle.ufs_spec.specs.Moves.{Release}
-use Rattle.ufs_spec.specs.Refusals.{State, locked}
 use Rattle.ufs_laws.proofs.walk.SmallChanges.{does}
 use Rattle.power_loss.proofs.books.PagesByName.{get_grows, get_last}
 use Rattle.power_loss.proofs.open_tasks.FoundInLists.{found_is, found_map}
@@ -73,8 +70,7 @@ TrackedIn p tag bytes s = Tracked p tag bytes s.tasks s.accepted
 
 got_more : {A : Type 0} (xs ys : List A) (j : ℕ) (x : A) → slice_get xs j ≡ Some x → slice_get (xs ++ ys) j ≡ Some x
 got_more xs [] j x h = ap (λ zs. slice_get zs j) (append-nil xs) ∙ h
-got_more xs (y ∷ ys) j x h =
-    ap (λ zs. slice_get zs j) (sym (append_assoc xs (y ∷ []) ys))
+got_more xs (y ∷ ys) j x h = ap (λ zs. slice_get zs j) (sym (append_assoc xs (y ∷ []) ys))
     ∙ got_more (xs ++ y ∷ []) ys j x (get_grows xs y j x h)
 
 pub met_more : (p : Promise) (cs more : List Command) (bytes : List ℕ) (n : ℕ) → IsMet p cs bytes n →
@@ -89,11 +85,11 @@ keeps_more p cs more bytes (Awaiting n) h = met_more p cs more bytes n h
 keeps_more p cs more bytes deed h = h
 
 -- the task is the same one
-pub same_tracked : (p : Promise) (tag : ℕ) (bytes : List ℕ) (tasks others : List Task) (cs ds more : List Command) →
+pub same_tracked : (p : Promise) (tag : ℕ) (bytes : List ℕ) (tasks others : List Task) (cs : List Command)
+    {ds : List Command} (more : List Command) →
     ((task : Task) → task_of tag tasks ≡ Some task → task_of tag others ≡ Some task) → ds ≡ cs ++ more →
     Tracked p tag bytes tasks cs → Tracked p tag bytes others ds
-same_tracked p tag bytes tasks others cs ds more same e h =
-    subst (Tracked p tag bytes others) (sym e)
+same_tracked p tag bytes tasks others cs more same e h = subst (Tracked p tag bytes others) (sym e)
     (record {
       task = h.task;
       there = same h.task h.there;
@@ -115,16 +111,15 @@ map_tracked p tag bytes f tasks cs same keep h = record {
 }
 
 -- the task of the tag does this from now on
-pub set_tracked : (p : Promise) (tag : ℕ) (bytes : List ℕ) (task : Task) (deed : Deed) (tasks : List Task)
+pub set_tracked : (p : Promise) (tag : ℕ) (bytes : List ℕ) {task : Task} (deed : Deed) (tasks : List Task)
     (cs : List Command) → task_of tag tasks ≡ Some task →
     KeepsTo p cs bytes deed → first_of p ≤ length cs → Tracked p tag bytes (map (with_deed tag deed) tasks) cs
-set_tracked p tag bytes task deed tasks cs there keeps later =
+set_tracked p tag bytes {task} deed tasks cs there keeps later =
     let is : with_deed tag deed task ≡ record task { deed = deed } =
     if_true (is_task_of tag task) (record task { deed = deed }) task (found_is (is_task_of tag) tasks task there) in
     record {
       task = record task { deed = deed };
-      there =
-          found_map (is_task_of tag) (with_deed tag deed)
+      there = found_map (is_task_of tag) (with_deed tag deed)
           (λ x. ap (λ (n : ℕ). n == tag) (does tag deed x).tag) tasks task there ∙ ap Some is;
       keeps = keeps;
       later = later;
@@ -137,8 +132,7 @@ read_keeps p cs bytes index state (Sending blocks sent) h = absurd h
 read_keeps p cs bytes index state deed h = h
 
 pub task_read_keeps : (p : Promise) (cs : List Command) (bytes : List ℕ) (tag index : ℕ) (state : ReadState)
-    (task : Task) → KeepsTo p cs bytes task.deed →
-    KeepsTo p cs bytes (task_read tag index state task).deed
+    (task : Task) → KeepsTo p cs bytes task.deed → KeepsTo p cs bytes (task_read tag index state task).deed
 task_read_keeps p cs bytes tag index state task h =
     if_both (λ (x : Task). KeepsTo p cs bytes x.deed) (is_task_of tag task)
     (read_keeps p cs bytes index state task.deed h) h
@@ -150,12 +144,12 @@ lock_keeps p cs bytes s task deed h = h
 
 -- Its data come
 
-write_tracked : (p : Promise) (s : State) (task : Task) (unit address blocks : ℕ) (forced : Bool) (bytes : List ℕ) →
+write_tracked : (p : Promise) (s : State) {task : Task} (unit address blocks : ℕ) (forced : Bool) (bytes : List ℕ) →
     task_of task.tag s.tasks ≡ Some task →
     IsFor p (ForWrite unit address blocks forced) → length bytes ≡ 4096 * blocks → first_of p ≤ length s.accepted →
     TrackedIn p task.tag bytes (write_complete s task unit address blocks forced bytes)
-write_tracked (OfFlush first) s task unit address blocks forced bytes there is whole later = absurd is
-write_tracked (OfWrite first u a b) s task unit address blocks forced bytes there is whole later = by (locked s)
+write_tracked (OfFlush first) s unit address blocks forced bytes there is whole later = absurd is
+write_tracked (OfWrite first u a b) s {task} unit address blocks forced bytes there is whole later = by (locked s)
   where
     p : Promise
     p = OfWrite first u a b
@@ -164,10 +158,8 @@ write_tracked (OfWrite first u a b) s task unit address blocks forced bytes ther
     c = Write unit address (blocks_in blocks bytes)
 
     same : c ≡ Write u a (blocks_in b bytes)
-    same =
-        ap (λ (x : ℕ). Write x address (blocks_in blocks bytes)) is.0
-        ∙ ap (λ (x : ℕ). Write u x (blocks_in blocks bytes)) is.1
-        ∙ ap (λ (x : ℕ). Write u a (blocks_in x bytes)) is.2
+    same = ap (λ (x : ℕ). Write x address (blocks_in blocks bytes)) is.0
+        ∙ ap (λ (x : ℕ). Write u x (blocks_in blocks bytes)) is.1 ∙ ap (λ (x : ℕ). Write u a (blocks_in x bytes)) is.2
 
     met : IsMet p (s.accepted ++ c ∷ []) bytes (length s.accepted + 1)
     met = (
@@ -176,8 +168,7 @@ write_tracked (OfWrite first u a b) s task unit address blocks forced bytes ther
       record {
         later = later;
         there = get_last s.accepted c ∙ ap Some same;
-        whole = whole ∙ ap
-            (λ (x : ℕ). 4096 * x) is.2;
+        whole = whole ∙ ap (λ (x : ℕ). 4096 * x) is.2;
       },
     )
 
@@ -189,20 +180,17 @@ write_tracked (OfWrite first u a b) s task unit address blocks forced bytes ther
     by : (d : Bool) → TrackedIn p task.tag bytes
         (if d then set_deed (with_moves s (Release blocks ∷ [])) task.tag (Answering write_error task.length)
         else set_deed (accepts s c blocks) task.tag (write_deed forced (length s.accepted + 1) task.length))
-    by true = set_tracked p task.tag bytes task (Answering write_error task.length) s.tasks s.accepted there tt later
-    by false =
-        set_tracked p task.tag bytes task (write_deed forced (length s.accepted + 1) task.length) s.tasks
-        (s.accepted ++ c ∷ []) there waits
-        (let l = length-append s.accepted (c ∷ []) in omega arith)
+    by true = set_tracked p task.tag bytes (Answering write_error task.length) s.tasks s.accepted there tt later
+    by false = set_tracked p task.tag bytes (write_deed forced (length s.accepted + 1) task.length) s.tasks
+        (s.accepted ++ c ∷ []) there waits (let l = length-append s.accepted (c ∷ []) in omega arith)
 
 -- the data are those that were asked for, so that no more come than the task has
-pub data_tracked : (p : Promise) (s : State) (task : Task) (deed : Deed) (lun offset : ℕ) (bytes more : List ℕ) →
+pub data_tracked : (p : Promise) (s : State) {task : Task} (deed : Deed) (lun offset : ℕ) (bytes more : List ℕ) →
     task_of task.tag s.tasks ≡ Some task → KeepsTo p s.accepted bytes deed →
     first_of p ≤ length s.accepted → FitsIn s task deed → is_asked_in task lun offset (length more) deed ≡ true →
     TrackedIn p task.tag (bytes ++ more) (data_for s task deed more)
-data_tracked (OfWrite first u a b) s task (Gathering (ForWrite unit address blocks forced) gathered asked) lun offset
-    bytes more there keeps later fits is =
-    by (nat_lt (length (gathered ++ more)) task.length) refl
+data_tracked (OfWrite first u a b) s {task} (Gathering (ForWrite unit address blocks forced) gathered asked) lun offset
+    bytes more there keeps later fits is = by (nat_lt (length (gathered ++ more)) task.length) refl
   where
     p : Promise
     p = OfWrite first u a b
@@ -215,8 +203,7 @@ data_tracked (OfWrite first u a b) s task (Gathering (ForWrite unit address bloc
 
     most : length all ≤ task.length
     most =
-        let last =
-        and_true (asked && (task.lun == lun) && (offset == length gathered))
+        let last = and_true (asked && (task.lun == lun) && (offset == length gathered))
         (length more == count_at task.length (length gathered)) is in
         let count = eq_told (length more) (count_at task.length (length gathered)) last.1 in
         let joined = length-append gathered more in
@@ -227,15 +214,13 @@ data_tracked (OfWrite first u a b) s task (Gathering (ForWrite unit address bloc
     by : (d : Bool) → nat_lt (length all) task.length ≡ d →
         TrackedIn p task.tag (bytes ++ more) (if d then set_deed s task.tag (Gathering
         (ForWrite unit address blocks forced) all false) else write_complete s task unit address blocks forced all)
-    by true e =
-        set_tracked p task.tag (bytes ++ more) task
+    by true e = set_tracked p task.tag (bytes ++ more)
         (Gathering (ForWrite unit address blocks forced) all false) s.tasks s.accepted there (keeps.0, same) later
     by false e =
         let l = ltb-false (length all) task.length e in
         let total = fits.total_is in
         let k = most in
         subst (λ (xs : List ℕ). TrackedIn p task.tag xs (write_complete s task unit address blocks forced all)) same
-        (write_tracked p s task unit address blocks forced all there keeps.0 (omega arith) later)
-data_tracked p s task (Gathering purpose gathered asked) lun offset bytes more there keeps later fits is =
-    absurd keeps.0
-data_tracked p s task deed lun offset bytes more there keeps later fits is = absurd (false≢true is)
+        (write_tracked p s unit address blocks forced all there keeps.0 (omega arith) later)
+data_tracked p s (Gathering purpose gathered asked) lun offset bytes more there keeps later fits is = absurd keeps.0
+data_tracked p s deed lun offset bytes more there keeps later fits is = absurd (false≢true is)

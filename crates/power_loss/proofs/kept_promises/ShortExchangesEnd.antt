@@ -1,31 +1,22 @@
 -- A short exchange that waits, from any moment to its reply: its reply comes only once what it waits for is held; at a
 -- lock another one comes.
-use Rattle.std.proofs.Common.{◌≡◌, ◌⊎◌, ℕ, ◌≤◌, ◌==◌, Bool, true, false, cond, not, List, [], ◌∷◌, ◌++◌, length, Option}
-use Rattle.std.proofs.Common.{Some, None, inl, inr, map, refl, sym, ap, ◌∙◌, subst, ⊎_elim, arith}
-use Rattle.std.specs.Prelude.{find, is_some}
-use Rattle.std.specs.List.{list_any}
-use Rattle.ufs_spec.proofs.Facts.{if_both, if_cases, false≢true, none-some, same_Some}
-use Rattle.ufs_spec.specs.Cells.{Array}
-use Rattle.ufs_spec.specs.Disk.{Flight}
-use Rattle.ufs_spec.specs.Exchanges.{Short, Task, is_short_of, is_task_of, task_of, without_short}
-use Rattle.ufs_spec.specs.Lives.{Leads, Life, held}
-use Rattle.ufs_spec.specs.Machine.{Answer, Call, Due, behind, ends_with, given, is_durable, lock_applied, managed}
-use Rattle.ufs_spec.specs.Machine.{observe, service, short_locked, tag_in, fills, begun, is_aborted, without_tasks}
-use Rattle.ufs_spec.specs.Moves.{Ending}
-use Rattle.ufs_spec.specs.Refusals.{State, locked, Request}
-use Rattle.ufs_spec.specs.Translation.{is_mended}
-use Rattle.ufs_spec.specs.declared.events.Event.{Event}
-use Rattle.ufs_spec.specs.declared.events.Output.{Output}
-use Rattle.ufs_spec.specs.declared.messages.Message.{Message}
-use Rattle.ufs_spec.specs.declared.scsi.Cdb.{Cdb}
+use Rattle.power_loss.proofs.Common.{◌≡◌, ◌⊎◌, ℕ, ◌≤◌, ◌==◌, Bool, true, false, cond, not, List, [], ◌∷◌, ◌++◌, Option}
+use Rattle.power_loss.proofs.Common.{Some, None, inl, inr, map, refl, sym, ap, ◌∙◌, subst, ⊎_elim, arith, find}
+use Rattle.power_loss.proofs.Common.{list_any, if_both, false≢true, none-some, same_Some, Array, Flight, Ending}
+use Rattle.power_loss.proofs.MachineWords.{Short, Task, is_short_of, is_task_of, task_of, without_short, Leads, Life}
+use Rattle.power_loss.proofs.MachineWords.{held, Answer, Call, Due, behind, ends_with, given, is_durable, lock_applied}
+use Rattle.power_loss.proofs.MachineWords.{managed, observe, service, short_locked, tag_in, fills, begun, is_aborted}
+use Rattle.power_loss.proofs.MachineWords.{without_tasks, State, locked, Request, Event, Output, Message, Cdb, AreApart}
+use Rattle.power_loss.proofs.MachineWords.{IsTied, ValidState, IsReplied}
+use Rattle.std.specs.Prelude.{is_some}
+use Rattle.ufs_spec.proofs.Facts.{if_cases}
 use Rattle.ufs_laws.proofs.walk.WaysOfCommands.{Beginning, Told, Waiting, WhyBegun, begins_by, begun_as}
 use Rattle.ufs_laws.proofs.walk.SmallChanges.{first_kept, lock_short}
 use Rattle.ufs_laws.proofs.walk.Happenings.{Aborts, Begins, Completes, Happening, Replies, ShortOver, behind_by}
 use Rattle.ufs_laws.proofs.walk.Happenings.{ends_by, first, happened, job_over}
 use Rattle.ufs_laws.proofs.lives.HeldAlongLives.{life_held, short_held}
 use Rattle.ufs_laws.proofs.lives.LivesJoined.{join}
-use Rattle.power_loss.specs.Exchange.{AreApart, IsTied, ValidState}
-use Rattle.power_loss.specs.Promises.{IsReplied, LeadsTo, StaysOpen, WasLocked, short_of}
+use Rattle.power_loss.specs.Promises.{LeadsTo, StaysOpen, WasLocked, short_of}
 use Rattle.power_loss.proofs.lives.EachEventKeeps.{one_event}
 use Rattle.power_loss.proofs.open_tasks.FoundInLists.{found_gone, found_left, found_map, found_more, none_found}
 use Rattle.power_loss.proofs.open_tasks.FoundInLists.{some_map}
@@ -46,8 +37,8 @@ Tracked tag short was_locked shorts =
 record Leaves (tag : ℕ) (shorts others : List Short) : Type 0 where
   same : (x : Short) → find (is_short_of tag) shorts ≡ Some x → find (is_short_of tag) others ≡ Some x
 
-same_leaves : (tag : ℕ) (shorts others : List Short) → others ≡ shorts → Leaves tag shorts others
-same_leaves tag shorts others e = record { same = λ x h. ap (find (is_short_of tag)) e ∙ h }
+same_leaves : (tag : ℕ) {shorts others : List Short} → others ≡ shorts → Leaves tag shorts others
+same_leaves tag e = record { same = λ x h. ap (find (is_short_of tag)) e ∙ h }
 
 -- What happens in a call
 
@@ -98,7 +89,7 @@ gone_leaves tag other shorts still = by (other == tag) refl
         }
 
 more_leaves : (tag : ℕ) (shorts : List Short) (short : Short) → Leaves tag shorts (shorts ++ short ∷ [])
-more_leaves tag shorts short = record { same = λ x h. found_more (is_short_of tag) shorts (short ∷ []) x h }
+more_leaves tag shorts short = record { same = λ x h. found_more (is_short_of tag) shorts (short ∷ []) h }
 
 begun_shorts : (s : State) (r : Request) (unit : ℕ) (c : Cdb) → (begun s r unit c).shorts ≡ s.shorts
 begun_shorts s r unit c = begins_by (λ t. t.shorts ≡ s.shorts) s r unit c one
@@ -113,9 +104,9 @@ happens_leave : (tag : ℕ) (s : State) (h : Happening) → is_some (short_of ta
 happens_leave tag s (Replies short) still = more_leaves tag s.shorts short
 happens_leave tag s (Aborts is short) still = more_leaves tag s.shorts short
 happens_leave tag s (ShortOver short) still = gone_leaves tag short.tag s.shorts still
-happens_leave tag s (Begins r c) still = same_leaves tag s.shorts _ (begun_shorts s r _ c)
-happens_leave tag s (Completes task (Told status)) still = same_leaves tag s.shorts s.shorts refl
-happens_leave tag s h still = same_leaves tag s.shorts s.shorts refl
+happens_leave tag s (Begins r c) still = same_leaves tag (begun_shorts s r _ c)
+happens_leave tag s (Completes task (Told status)) still = same_leaves tag refl
+happens_leave tag s h still = same_leaves tag refl
 
 behind_leaves : (tag : ℕ) (s : State) (call : Call) (answer : Answer) →
     is_some (short_of tag (behind s call answer)) ≡ true → Leaves tag s.shorts (behind s call answer).shorts
@@ -128,13 +119,12 @@ behind_leaves tag s call answer =
 -- The lock
 
 -- it leaves a short exchange or ends it
-lock_either : (s : State) (x : Short) → (short_locked s x ≡ x) ⊎ (short_locked s x ≡ ended x)
-lock_either s x =
-    if_both (λ (y : Short). (y ≡ x) ⊎ (y ≡ ended x)) (is_durable s x.awaits) (inl refl) (inr refl)
+lock_either : (s : State) {x : Short} → (short_locked s x ≡ x) ⊎ (short_locked s x ≡ ended x)
+lock_either s {x} = if_both (λ (y : Short). (y ≡ x) ⊎ (y ≡ ended x)) (is_durable s x.awaits) (inl refl) (inr refl)
 
-lock_found : (s : State) (tag : ℕ) (x : Short) → find (is_short_of tag) s.shorts ≡ Some x →
+lock_found : (s : State) (tag : ℕ) {x : Short} → find (is_short_of tag) s.shorts ≡ Some x →
     find (is_short_of tag) (map (short_locked s) s.shorts) ≡ Some (short_locked s x)
-lock_found s tag x h =
+lock_found s tag {x} h =
     found_map (is_short_of tag) (short_locked s) (λ y. ap (λ (n : ℕ). n == tag) (lock_short s y)) s.shorts x h
 
 lock_tracks : {P : Type 0} (s : State) (tag : ℕ) (short : Short) → (locked s ≡ true → P) →
@@ -143,39 +133,30 @@ lock_tracks {P} s tag short now h =
     if_cases (λ (u : State). Tracked tag short P u.shorts) (locked s) (λ e. maps (now e)) (λ e. h)
   where
     maps : P → Tracked tag short P (map (short_locked s) s.shorts)
-    maps p =
-        ⊎_elim
-        (λ e. ⊎_elim (λ k. inl (lock_found s tag short e ∙ ap Some k)) (λ k. inr (
-          lock_found s tag short e
-              ∙ ap Some k,
+    maps p = ⊎_elim
+        (λ e. ⊎_elim (λ k. inl (lock_found s tag e ∙ ap Some k)) (λ k. inr (
+          lock_found s tag e ∙ ap Some k,
           p,
-        ))
-        (lock_either s short))
-        (λ e. inr (lock_found s tag (ended short) e.0, e.1)) h
+        )) (lock_either s)) (λ e. inr (lock_found s tag e.0, e.1)) h
 
 lock_same : (s : State) → locked (lock_applied s) ≡ locked s
 lock_same s = if_both (λ (u : State). locked u ≡ locked s) (locked s) refl refl
 
-unlocked_open : (tag : ℕ) (s : State) → is_some (short_of tag (lock_applied s)) ≡ true →
-    is_some (short_of tag s) ≡ true
+unlocked_open : (tag : ℕ) (s : State) → is_some (short_of tag (lock_applied s)) ≡ true → is_some (short_of tag s) ≡ true
 unlocked_open tag s =
     if_both (λ (u : State). is_some (short_of tag u) ≡ true → is_some (short_of tag s) ≡ true) (locked s)
     (λ k. sym (some_map (is_short_of tag) (short_locked s) (λ x. ap (λ (n : ℕ). n == tag) (lock_short s x)) s.shorts)
-    ∙ k)
-    (λ k. k)
+    ∙ k) (λ k. k)
 
 leaves_tracked : {P Q : Type 0} (tag : ℕ) (short : Short) (shorts others : List Short) → (P → Q) →
     Leaves tag shorts others → Tracked tag short P shorts → Tracked tag short Q others
-leaves_tracked {P} {Q} tag short shorts others on l h =
-    ⊎_elim
+leaves_tracked {P} {Q} tag short shorts others on l h = ⊎_elim
     (λ (e : find (is_short_of tag) shorts ≡ Some short). inl (l.same short e))
-    (λ (e : (find (is_short_of tag) shorts ≡ Some (ended short)) × P). inr (l.same (ended short) e.0, on e.1))
-    h
+    (λ (e : (find (is_short_of tag) shorts ≡ Some (ended short)) × P). inr (l.same (ended short) e.0, on e.1)) h
 
 call_tracks : {P Q : Type 0} (tag : ℕ) (short : Short) (s : State) (call : Call) (answer : Answer) → (P → Q) →
-    (locked (observe s call answer) ≡ true → Q) →
-    is_some (short_of tag (observe s call answer)) ≡ true → Tracked tag short P s.shorts →
-    Tracked tag short Q (observe s call answer).shorts
+    (locked (observe s call answer) ≡ true → Q) → is_some (short_of tag (observe s call answer)) ≡ true →
+    Tracked tag short P s.shorts → Tracked tag short Q (observe s call answer).shorts
 call_tracks tag short s call answer on now still h =
     let u = behind s call answer in
     lock_tracks (fills u) tag short (λ e. now (lock_same (fills u) ∙ e))
@@ -192,8 +173,8 @@ stays_open tag s t [] (o ∷ os) h = absurd h
 stays_open tag s t (e ∷ es) [] h = absurd h
 
 -- one event more
-leads_more : (s t u : State) (e : Event) (o : Output) → LeadsTo s t → Leads t e o u → LeadsTo s u
-leads_more s t u e o h l = (h.0 ++ e ∷ [], h.1 ++ o ∷ [], join s h.0 (e ∷ []) h.1 (o ∷ []) t u h.2 (u, l, refl))
+leads_more : (s : State) {t u : State} {e : Event} {o : Output} → LeadsTo s t → Leads t e o u → LeadsTo s u
+leads_more s {t} {u} {e} {o} h l = (h.0 ++ e ∷ [], h.1 ++ o ∷ [], join s h.0 (e ∷ []) h.1 (o ∷ []) t u h.2 (u, l, refl))
 
 life_tracks : (tag : ℕ) (short : Short) (first s t : State) (es : List Event) (os : List Output) → ValidState s →
     LeadsTo first s → StaysOpen tag s es os t →
@@ -205,14 +186,9 @@ life_tracks tag short first s t (e ∷ es) (o ∷ os) v before h k =
     let l = h.1.1 in
     let rest = h.1.2 in
     let still = subst (λ (x : State). is_some (short_of tag x) ≡ true) l.next (stays_open tag next t es os rest) in
-    let reached = leads_more first s next e o before l in
+    let reached = leads_more first before l in
     let on : WasLocked first s → WasLocked first next =
-    λ w. record {
-      state = w.state;
-      is_locked = w.is_locked;
-      before = w.before;
-      after = leads_more w.state s next e o w.after l;
-    } in
+    λ w. record { state = w.state; is_locked = w.is_locked; before = w.before; after = leads_more w.state w.after l } in
     let now : locked (observe s l.call l.answer) ≡ true → WasLocked first next =
     λ is. record { state = next; is_locked = ap locked l.next ∙ is; before = reached; after = ([], [], refl) } in
     life_tracks tag short first next t es os (one_event s next e o v l) reached rest
@@ -230,8 +206,7 @@ no_short tag shorts (x ∷ xs) task apart h = by (is_task_of tag x) refl h (no_s
   where
     by : (b : Bool) → is_task_of tag x ≡ b → cond b (Some x) (task_of tag xs) ≡ Some task →
         (task_of tag xs ≡ Some task → find (is_short_of tag) shorts ≡ None) → find (is_short_of tag) shorts ≡ None
-    by true e k rest =
-        none_found (is_short_of tag) shorts
+    by true e k rest = none_found (is_short_of tag) shorts
         (ap (λ (n : ℕ). list_any (is_short_of n) shorts) (sym (eq_told x.tag tag e)) ∙ apart.0)
     by false e k rest = rest k
 
@@ -241,18 +216,17 @@ record Replier (s : State) (m : Message) (x : Short) : Type 0 where
   there : find (is_short_of (tag_in m)) s.shorts ≡ Some x
   reply_is : m ≡ x.reply
 
-replier : (s : State) (m : Message) (x : Short) → IsTied s → find (is_short_of (tag_in m)) s.shorts ≡ Some x →
+replier : {s : State} {m : Message} {x : Short} → IsTied s → find (is_short_of (tag_in m)) s.shorts ≡ Some x →
     Due s m → Replier s m x
-replier s m x v there (inl due) =
+replier {s} {m} {x} v there (inl due) =
     let task : Task = due.1 in
     let found = found_task s.tasks due.0 task v.tasks.tasks_differ due.2 in
     let at : task_of (tag_in m) s.tasks ≡ Some task =
     ap (λ (n : ℕ). task_of n s.tasks) (reply_tag s task task.deed m due.3) ∙ found in
     absurd (none-some x (sym (no_short (tag_in m) s.shorts s.tasks task v.tasks.apart at) ∙ there))
-replier s m x v there (inr due) =
+replier {s} {m} {x} v there (inr due) =
     let short : Short = due.1 in
-    let fits =
-    short_fits_at (length s.accepted) (is_mended s.translation.work.mending) s.shorts due.0 short v.tasks.waits due.2 in
+    let fits = short_fits_at s.shorts due.0 short v.tasks.waits due.2 in
     let tag : tag_in m ≡ short.tag = ap tag_in due.4 ∙ fits.reply in
     let found = found_short s.shorts due.0 short v.tasks.shorts_differ due.2 in
     let same : short ≡ x =
@@ -272,13 +246,11 @@ setting_held s t u v short n m es fs os ps valid there waits stays replied life 
     let tied = all.0.tied in
     ⊎_elim
     (λ (e : find (is_short_of short.tag) t.shorts ≡ Some short).
-    let r = replier t m short tied (ap (λ (k : ℕ). find (is_short_of k) t.shorts) replied.tag_is ∙ e) replied.right in
+    let r = replier tied (ap (λ (k : ℕ). find (is_short_of k) t.shorts) replied.tag_is ∙ e) replied.right in
     let first = short_held t m short n r.none r.there waits in
     let same = ap held replied.next in
     let on = life_held u v fs ps life in
     inl (r.reply_is, omega arith))
     (λ (e : (find (is_short_of short.tag) t.shorts ≡ Some (ended short)) × WasLocked s t).
-    let r =
-    replier t m (ended short) tied (ap (λ (k : ℕ). find (is_short_of k) t.shorts) replied.tag_is ∙ e.0) replied.right in
-    inr (r.reply_is, e.1))
-    all.1
+    let r = replier tied (ap (λ (k : ℕ). find (is_short_of k) t.shorts) replied.tag_is ∙ e.0) replied.right in
+    inr (r.reply_is, e.1)) all.1

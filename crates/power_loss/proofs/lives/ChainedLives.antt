@@ -1,29 +1,15 @@
 -- Lives one after another.
-use Rattle.std.proofs.Common.{if◌then◌else◌, ◌≡◌, ℕ, Bool, true, false, List, [], ◌∷◌, Option, Some, take, refl, sym}
-use Rattle.std.proofs.Common.{ap, ◌∙◌, subst, ⊎_elim}
-use Rattle.std.proofs.lemmas.List.Elements.{All-cons, All-contains, All-nil}
+use Rattle.power_loss.proofs.Common.{if◌then◌else◌, ◌≡◌, ℕ, Bool, true, false, List, [], ◌∷◌, Option, Some, take, refl}
+use Rattle.power_loss.proofs.Common.{sym, ap, ◌∙◌, subst, ⊎_elim, All-cons, All-contains, All-nil, Array, IsPlace}
+use Rattle.power_loss.proofs.Common.{Flight, Spot, at_place, page_of, StandsFor, Plain, after, Sound, Numbers, Page}
+use Rattle.power_loss.proofs.Common.{Place, at_place_cases}
+use Rattle.power_loss.proofs.MachineWords.{IsConfig, blank_page, IsLeft, IsLeftoverOf, IsLived, IsOpened, Leads, Life}
+use Rattle.power_loss.proofs.MachineWords.{Lived, Lives, Stops, bad_in, in_block, State, numbers_of, Event, Leftover}
+use Rattle.power_loss.proofs.MachineWords.{Output, IsArrayOf, ValidState}
 use Rattle.ufs_laws.proofs.array_cells.StandsForOne.{plain_one}
 use Rattle.ufs_laws.proofs.pages.PageIsOneCell.{one_cell}
 use Rattle.ufs_laws.proofs.plain_contents.PlainFromContents.{same_contents}
-use Rattle.ufs_spec.specs.Cells.{Array, IsPlace}
-use Rattle.ufs_spec.specs.Configs.{IsConfig}
-use Rattle.ufs_spec.specs.Dies.{blank_page}
-use Rattle.ufs_spec.specs.Disk.{Flight, Spot, at_place, page_of}
-use Rattle.ufs_spec.specs.Kept.{StandsFor}
-use Rattle.ufs_spec.specs.Lives.{Chain, IsLeft, IsLeftoverOf, IsLived, IsOpened, Leads, Life, Lived, Lives, Stops}
-use Rattle.ufs_spec.specs.Lives.{bad_in}
-use Rattle.ufs_spec.specs.Machine.{in_block}
-use Rattle.ufs_spec.specs.Plain.{Plain, after}
-use Rattle.ufs_spec.specs.Sound.{Sound}
-use Rattle.ufs_spec.specs.Refusals.{State, numbers_of}
-use Rattle.ufs_spec.specs.declared.configs.Numbers.{Numbers}
-use Rattle.ufs_spec.specs.declared.events.Event.{Event}
-use Rattle.ufs_spec.specs.declared.events.Leftover.{Leftover}
-use Rattle.ufs_spec.specs.declared.events.Output.{Output}
-use Rattle.ufs_spec.specs.declared.flash.Page.{Page}
-use Rattle.ufs_spec.specs.declared.flash.Place.{Place}
-use Rattle.ufs_spec.proofs.Updates.{at_place_cases}
-use Rattle.power_loss.specs.Exchange.{IsArrayOf, ValidState}
+use Rattle.ufs_spec.specs.Lives.{Chain}
 use Rattle.power_loss.proofs.die_pages.PagesOfEachCall.{IsKeptByJobs, behind_event}
 use Rattle.power_loss.proofs.lives.EachEventKeeps.{many_events as event_keeps_many}
 use Rattle.power_loss.proofs.openings.OpenedStates.{opened_state as opened_valid}
@@ -50,17 +36,16 @@ one_left_inside {n} array flight l left is fit left_is blank =
     let P : Leftover → Type 0 = λ x. IsLeftoverOf n flight x in
     left_inside {n = n} array (l ∷ []) left
     (λ other there p page named. named_inside flight other page is (All-contains P (l ∷ []) other
-    (All-cons P l [] fit (All-nil P)) there) named)
-    blank left_is
+    (All-cons P l [] fit (All-nil P)) there) named) blank left_is
 
-jobs_inside : (s : State) → ValidState s → IsArrayOf (numbers_of s) s.array → IsKeptByJobs s (IsArrayOf (numbers_of s))
-jobs_inside s v blank = record {
+jobs_inside : {s : State} → ValidState s → IsArrayOf (numbers_of s) s.array → IsKeptByJobs s (IsArrayOf (numbers_of s))
+jobs_inside {s} v blank = record {
   now = blank;
   programmed = λ die p cell e. put_inside s.array p (page_of cell) (v.tied.valid.flights.programs die p cell e).place
       blank;
   erased = λ die spot e p out. blank_if (in_block (numbers_of s) spot p) (blank p out);
   failed = λ die flight l left f.
-      one_left_inside s.array (Some flight) l left (subst (IsInside (numbers_of s)) f.flies (flight_inside s v die))
+      one_left_inside s.array (Some flight) l left (subst (IsInside (numbers_of s)) f.flies (flight_inside v die))
       f.fit f.is_left blank;
 }
 
@@ -70,13 +55,13 @@ jobs_inside s v blank = record {
 abbrev Continues : State → State → Type 0
 Continues s t = (numbers_of t ≡ numbers_of s) × (t.base ≡ s.base) × IsArrayOf (numbers_of s) t.array
 
-pub event_continues : (s t : State) (e : Event) (o : Output) → ValidState s → IsArrayOf (numbers_of s) s.array →
+pub event_continues : {s t : State} {e : Event} {o : Output} → ValidState s → IsArrayOf (numbers_of s) s.array →
     Leads s e o t → Continues s t
-event_continues s t e o v blank h =
+event_continues {s} {t} {e} {o} v blank h =
     let kept = call_kept s h.call h.answer in (
       ap (λ x. numbers_of x) h.next ∙ kept.0,
       ap (λ x. x.base) h.next ∙ kept.1,
-      behind_event s (IsArrayOf (numbers_of s)) (jobs_inside s v blank) t e o h,
+      behind_event s (IsArrayOf (numbers_of s)) (jobs_inside v blank) h,
     )
 
 pub life_continues : {s : State} (t : State) (es : List Event) (os : List Output) → ValidState s →
@@ -89,10 +74,9 @@ life_continues {s} t [] [] v blank h = (
 life_continues t (e ∷ es) [] v blank h = absurd h
 life_continues t [] (o ∷ os) v blank h = absurd h
 life_continues {s} t (e ∷ es) (o ∷ os) v blank h =
-    let first = event_continues s h.0 e o v blank h.1 in
+    let first = event_continues v blank h.1 in
     let valid : ValidState h.0 = event_keeps_many s h.0 (e ∷ []) (o ∷ []) v (h.0, h.1, refl) in
-    let rest = life_continues {s = h.0} t es os valid (subst (λ n. IsArrayOf n h.0.array)
-    (sym first.0) first.2) h.2 in
+    let rest = life_continues {s = h.0} t es os valid (subst (λ n. IsArrayOf n h.0.array) (sym first.0) first.2) h.2 in
     (rest.0 ∙ first.0, rest.1 ∙ first.1, subst (λ n. IsArrayOf n t.array) first.0 rest.2)
 
 -- All lives
@@ -114,9 +98,9 @@ record Ended (n : Numbers) (l : Lived) : Type 0 where
   pub base : l.finish.base ≡ l.start.base
   pub inside : IsArrayOf n l.finish.array
 
-end_of_life : (n : Numbers) (array : Array) (bad : Spot → Bool) (l : Lived) → IsConfig n → IsArrayOf n array →
+end_of_life : {n : Numbers} {array : Array} (bad : Spot → Bool) {l : Lived} → IsConfig n → IsArrayOf n array →
     Sound array → IsLived n array bad l → Ended n l
-end_of_life n array bad l config blank sound h =
+end_of_life {n} {array} bad {l} config blank sound h =
     let numbers : numbers_of l.start ≡ n = h.0.translation.numbers in
     let valid : ValidState l.start = opened_valid n array bad l.start config blank sound h.0 in
     let start : IsArrayOf (numbers_of l.start) l.start.array =
@@ -134,12 +118,11 @@ record Left (n : Numbers) (l : Lived) (left : Array) : Type 0 where
   pub sound : Sound left
   pub inside : IsArrayOf n left
 
-left_of : {n : Numbers} (l : Lived) {lefts : List Leftover} (left : Array) → Ended n l → Stops l.finish lefts left →
+left_of : {n : Numbers} {l : Lived} {lefts : List Leftover} {left : Array} → Ended n l → Stops l.finish lefts left →
     Left n l left
-left_of l {lefts} left ended stops =
+left_of {l = l} {lefts = lefts} {left = left} ended stops =
     let inside : IsArrayOf (numbers_of l.finish) left =
-    within_left l.finish ended.valid lefts left stops (subst (λ x. IsArrayOf x l.finish.array)
-    (sym ended.numbers) ended.inside) in
+    within_left ended.valid stops (subst (λ x. IsArrayOf x l.finish.array) (sym ended.numbers) ended.inside) in
     record {
       sound = sound_left l.finish ended.valid lefts left stops;
       inside = subst (λ x. IsArrayOf x left) ended.numbers inside;
@@ -153,15 +136,14 @@ chained n array bad l (m ∷ ls) es os base config blank sound stands h =
     let lefts = h.1.0 in
     let left : Array = h.1.3 in
     let start : l.start.base ≡ base = start_base n l sound stands h.0 in
-    let ended : Ended n l = end_of_life n array bad l config blank sound h.0 in
-    let behind : Left n l left = left_of l left ended h.1.6 in
+    let ended : Ended n l = end_of_life bad config blank sound h.0 in
+    let behind : Left n l left = left_of ended h.1.6 in
     let next : IsLived n left (bad_in l.finish) m = head_lived m ls h.1.1 h.1.2 h.1.7 in
     let opened : IsOpened (numbers_of l.finish) left (bad_in l.finish) m.start = subst (λ x. IsOpened x left
     (bad_in l.finish) m.start) (sym ended.numbers) next.0 in
-    let prefix = prefix_left l.finish ended.valid lefts.items left h.1.6 m.start (bad_in l.finish) opened in
+    let prefix = prefix_left l.finish ended.valid lefts.items left h.1.6 opened in
     let reached : m.start.base ≡ after base (take prefix.0 l.finish.accepted) =
     prefix.4 ∙ ap (λ b. after b (take prefix.0 l.finish.accepted)) (ended.base ∙ start) in
     let rest = chained n left (bad_in l.finish) m ls h.1.1 h.1.2 (after base (take prefix.0 l.finish.accepted)) config
-    behind.inside behind.sound
-    (subst (StandsFor n left) reached next.0.stands) h.1.7 in
+    behind.inside behind.sound (subst (StandsFor n left) reached next.0.stands) h.1.7 in
     (prefix.0 ∷ rest.0, (start, prefix.1, prefix.3, rest.1))

@@ -1,15 +1,8 @@
 -- Each event that is answered rightly keeps the state valid, and so does a life.
-use Rattle.std.proofs.Common.{ℕ, List, [], ◌∷◌, Option, Some, None, sym, subst}
-use Rattle.ufs_spec.specs.Lives.{IsCall, IsFailure, IsFinish, Leads, Life, ended_well}
-use Rattle.ufs_spec.specs.Machine.{Call, MayLeave}
-use Rattle.ufs_spec.specs.Moves.{Ending, ReadRight, ReadWrong, WentWell, WentWrong}
-use Rattle.ufs_spec.specs.Cells.{Array}
-use Rattle.ufs_spec.specs.Refusals.{State}
-use Rattle.ufs_spec.specs.declared.events.Event.{Event}
-use Rattle.ufs_spec.specs.declared.events.Output.{Output}
-use Rattle.ufs_spec.specs.Disk.{Erasing, Flight, Programming, Reading}
-use Rattle.ufs_spec.specs.declared.events.Leftover.{Leftover}
-use Rattle.power_loss.specs.Exchange.{IsTied, MayCome, ValidState}
+use Rattle.power_loss.proofs.Common.{ℕ, List, [], ◌∷◌, Option, Some, None, sym, subst, Ending, ReadRight, ReadWrong}
+use Rattle.power_loss.proofs.Common.{WentWell, WentWrong, Array, Erasing, Flight, Programming, Reading}
+use Rattle.power_loss.proofs.MachineWords.{IsCall, IsFailure, IsFinish, Leads, Life, ended_well, Call, MayLeave, State}
+use Rattle.power_loss.proofs.MachineWords.{Event, Output, Leftover, IsTied, MayCome, ValidState}
 use Rattle.power_loss.proofs.die_pages.PageRulesHold.{event_hold}
 use Rattle.power_loss.proofs.calls.CallsLeaveTheDevice.{event_inside}
 use Rattle.power_loss.proofs.calls.CallsKeepTied.{call_keeps}
@@ -49,16 +42,12 @@ event_comes s (event.Fail die l) call h =
 event_comes s (event.Stop lefts) call h = absurd h
 event_comes s e call h = subst (MayCome s) (sym h) tt
 
-tied_event : (s : State) {t : State} (e : Event) {o : Output} → IsTied s → Leads s e o t → IsTied t
-tied_event s e v l = subst IsTied (sym l.next) (call_keeps s l.call l.answer v
+tied_event : {s : State} {t : State} {e : Event} {o : Output} → IsTied s → Leads s e o t → IsTied t
+tied_event {s = s} {e = e} v l = subst IsTied (sym l.next) (call_keeps s l.call l.answer v
     (event_comes s e l.call l.is_call) l.right)
 
 pub one_event : (s t : State) (e : Event) (o : Output) → ValidState s → Leads s e o t → ValidState t
-one_event s t e o v l = record {
-  tied = tied_event s e v.tied l;
-  hold = event_hold s t e o v l;
-  erases = event_inside s t e o l v.erases;
-}
+one_event s t e o v l = record { tied = tied_event v.tied l; hold = event_hold v l; erases = event_inside l v.erases }
 
 pub many_events : (s t : State) (es : List Event) (os : List Output) → ValidState s → Life s es os t → ValidState t
 many_events s t [] [] v life = subst ValidState (sym life) v

@@ -1,21 +1,13 @@
 -- A run over stops is lives one after another: so it keeps the promise, and each of its lives is right.
-use Rattle.std.proofs.Common.{◌≡◌, Bool, List, [], ◌∷◌, ◌++◌, refl, sym, ap, ◌∙◌, subst, ⊎_elim}
-use Rattle.std.proofs.lemmas.List.{append_assoc, append-nil}
+use Rattle.power_loss.proofs.Common.{◌≡◌, Bool, List, [], ◌∷◌, ◌++◌, refl, sym, ap, ◌∙◌, subst, ⊎_elim, append_assoc}
+use Rattle.power_loss.proofs.Common.{append-nil, Array, Spot, Sound, Suits, Numbers}
+use Rattle.power_loss.proofs.MachineWords.{IsConfig, DieState, Fit, GoesOn, IsLived, IsOpened, Life, Lived, Lives, Runs}
+use Rattle.power_loss.proofs.MachineWords.{Stops, array_of, bad_in, State, numbers_of, Event, Leftover, Output}
+use Rattle.power_loss.proofs.MachineWords.{IsArrayOf, ValidState, LivesRight, MayBeOpened, last_state}
 use Rattle.ufs_laws.proofs.lives.LivesJoined.{join}
-use Rattle.ufs_spec.specs.Cells.{Array}
-use Rattle.ufs_spec.specs.Configs.{IsConfig}
-use Rattle.ufs_spec.specs.Dies.{DieState}
-use Rattle.ufs_spec.specs.Disk.{Spot}
-use Rattle.ufs_spec.specs.Lives.{Fit, GoesOn, Headline, IsLived, IsOpened, Life, Lived, Lives, Reopens, Runs, Stops}
-use Rattle.ufs_spec.specs.Lives.{array_of, bad_in, bad_of}
-use Rattle.ufs_spec.specs.Sound.{Sound, Suits}
-use Rattle.ufs_spec.specs.Refusals.{State, numbers_of}
-use Rattle.ufs_spec.specs.declared.configs.Numbers.{Numbers}
-use Rattle.ufs_spec.specs.declared.events.Event.{Event}
-use Rattle.ufs_spec.specs.declared.events.Leftover.{Leftover}
-use Rattle.ufs_spec.specs.declared.events.Output.{Output}
-use Rattle.power_loss.specs.Exchange.{IsArrayOf, ValidState}
-use Rattle.power_loss.specs.Runs.{LifeRight, LivesRight, MayBeOpened, last_state}
+use Rattle.ufs_spec.specs.Lives.{Headline, Reopens}
+use Rattle.ufs_spec.specs.Lives.{bad_of}
+use Rattle.power_loss.specs.Runs.{LifeRight}
 use Rattle.power_loss.proofs.lives.ChainedLives.{chained, life_continues}
 use Rattle.power_loss.proofs.die_pages.BlankOutsideDies.{fit_inside}
 use Rattle.power_loss.proofs.stops.LawfulLeftovers.{none_left}
@@ -74,63 +66,50 @@ reopened (event.Fail x y) o h = absurd h
 reopened event.Turn o h = absurd h
 
 -- a life over these events, and lives behind the stop that ends it
-at_stop : {n : Numbers} {array : Array} {bad : Spot → Bool} (s now : State) {next t : State} (ds : List Event)
-    (ps : List Output) {e : Event} {o : Output} (es : List Event) (os : List Output) → IsOpened n array bad s →
+at_stop : {n : Numbers} {array : Array} {bad : Spot → Bool} {s : State} (now : State) {next t : State} (ds : List Event)
+    (ps : List Output) {e : Event} {o : Output} {es : List Event} {os : List Output} → IsOpened n array bad s →
     Life s ds ps now → (r : IsReopened n now e o next) → AreLives n r.left (bad_in now) es os t → AreLives n array bad
     (ds ++ e ∷ es) (ps ++ o ∷ os) t
-at_stop s now ds ps es os opened life r rest =
+at_stop {s = s} now ds ps {es = es} {os = os} opened life r rest =
     record {
       first = record { start = s; events = ds; outputs = ps; finish = now };
       later = rest.first ∷ rest.later;
       lives = (
         (opened, life),
-        (
-          r.lefts,
-          es,
-          os,
-          r.left,
-          ap (λ x. ds ++ x ∷ es) r.is,
-          ap (λ x. ps ++ x ∷ os) r.shown,
-          r.stops,
-          rest.lives,
-        ),
+        (r.lefts, es, os, r.left, ap (λ x. ds ++ x ∷ es) r.is, ap (λ x. ps ++ x ∷ os) r.shown, r.stops, rest.lives),
       );
       ends = rest.ends;
     }
 
-shifted : (n : Numbers) (array : Array) (bad : Spot → Bool) (t : State) (ds : List Event) (ps : List Output) (e : Event)
+shifted : {n : Numbers} {array : Array} {bad : Spot → Bool} {t : State} (ds : List Event) (ps : List Output) (e : Event)
     (o : Output) (es : List Event) (os : List Output) → AreLives n array bad ((ds ++ e ∷ []) ++ es)
     ((ps ++ o ∷ []) ++ os) t → AreLives n array bad (ds ++ e ∷ es) (ps ++ o ∷ os) t
-shifted n array bad t ds ps e o es os h =
+shifted {n} {array} {bad} {t} ds ps e o es os h =
     subst (λ xs. AreLives n array bad xs (ps ++ o ∷ os) t) (append_assoc ds (e ∷ []) es)
     (subst (λ xs. AreLives n array bad ((ds ++ e ∷ []) ++ es) xs t) (append_assoc ps (o ∷ []) os) h)
 
-lives_from : (n : Numbers) {array : Array} (bad : Spot → Bool) (s now t : State) (ds : List Event) (ps : List Output)
-    (es : List Event) (os : List Output) → IsOpened n array bad s → Life s ds ps now → Runs n now es os t →
-    AreLives n array bad (ds ++ es) (ps ++ os) t
-lives_from n bad s now t ds ps [] [] opened life h =
+lives_from : {n : Numbers} {array : Array} {bad : Spot → Bool} {s : State} (now : State) {t : State} (ds : List Event)
+    (ps : List Output) (es : List Event) (os : List Output) → IsOpened n array bad s → Life s ds ps now →
+    Runs n now es os t → AreLives n array bad (ds ++ es) (ps ++ os) t
+lives_from {s = s} now ds ps [] [] opened life h =
     record {
       first = record { start = s; events = ds; outputs = ps; finish = now };
       later = [];
       lives = ((opened, life), append-nil ds, append-nil ps);
       ends = sym h;
     }
-lives_from n {array = array} bad s now t ds ps (e ∷ es) (o ∷ os) opened life (next, goes, rest) =
-    ⊎_elim
-    (λ leads.
-    shifted n array bad t ds ps e o es os
-    (lives_from n bad s next t (ds ++ e ∷ []) (ps ++ o ∷ []) es os opened
+lives_from {n} {array} {bad} {s} now {t} ds ps (e ∷ es) (o ∷ os) opened life (next, goes, rest) = ⊎_elim
+    (λ leads. shifted ds ps e o es os
+    (lives_from next (ds ++ e ∷ []) (ps ++ o ∷ []) es os opened
     (join s ds (e ∷ []) ps (o ∷ []) now next life (next, leads, refl)) rest))
     (λ g.
     let r : IsReopened n now e o next = reopened e o g in
-    at_stop s now ds ps es os opened life r
-    (lives_from n {array = r.left} (bad_in now) next next t [] [] es os r.opened refl rest))
-    goes
-lives_from n bad s now t ds ps es os opened life h = absurd h
+    at_stop now ds ps opened life r (lives_from {array = r.left} next [] [] es os r.opened refl rest)) goes
+lives_from now ds ps es os opened life h = absurd h
 
-pub lives_of : (n : Numbers) (array : Array) (bad : Spot → Bool) (s t : State) (es : List Event) (os : List Output) →
+pub lives_of : {n : Numbers} {array : Array} {bad : Spot → Bool} {s t : State} {es : List Event} {os : List Output} →
     IsOpened n array bad s → Runs n s es os t → AreLives n array bad es os t
-lives_of n array bad s t es os opened h = lives_from n bad s s t [] [] es os opened refl h
+lives_of {n} {array} {bad} {s} {t} {es} {os} opened h = lives_from s [] [] es os opened refl h
 
 -- Each life
 
@@ -151,21 +130,15 @@ module _ (n : Numbers) (array : Array) (bad : Spot → Bool) (l : Lived) (config
       (numbers_of l.start) l.finish.array
   continues = life_continues l.finish l.events l.outputs begins start_inside lived.1
 
-  finish_numbers : numbers_of l.finish ≡ n
-  finish_numbers = continues.0 ∙ numbers
-
-  finish_inside : IsArrayOf (numbers_of l.finish) l.finish.array
-  finish_inside = subst (λ x. IsArrayOf x l.finish.array) (sym continues.0) continues.2
-
   ends_valid : ValidState l.finish
   ends_valid = event_keeps_many l.start l.finish l.events l.outputs begins lived.1
 
   left_opens : (lefts : List Leftover) (left : Array) → Stops l.finish lefts left → MayBeOpened n left
   left_opens lefts left stops = record {
-    inside = subst (λ x. IsArrayOf x left) finish_numbers
-        (within_left l.finish ends_valid lefts left stops finish_inside);
+    inside = subst (λ x. IsArrayOf x left) (continues.0 ∙ numbers)
+        (within_left ends_valid stops (subst (λ x. IsArrayOf x l.finish.array) (sym continues.0) continues.2));
     sound = sound_left l.finish ends_valid lefts left stops;
-    suits = subst (λ x. Suits x left) finish_numbers (suits_left l.finish ends_valid lefts left stops);
+    suits = subst (λ x. Suits x left) (continues.0 ∙ numbers) (suits_left l.finish ends_valid lefts left stops);
   }
 
   life_right : LifeRight n array bad l
@@ -202,7 +175,7 @@ pub headline : (n : Numbers) (dies : List DieState) (s t : State) (es : List Eve
     Fit n dies → Sound (array_of dies) → IsOpened n (array_of dies) (bad_of dies) s → Runs n s es os t →
     Headline n dies es os
 headline n dies s t es os config fit sound opened runs =
-    let l = lives_of n (array_of dies) (bad_of dies) s t es os opened runs in
+    let l = lives_of opened runs in
     let c = chained n (array_of dies) (bad_of dies) l.first l.later es os s.base config
     (fit_inside n dies fit) sound opened.stands l.lives in
     record {

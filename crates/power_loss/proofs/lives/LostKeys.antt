@@ -1,18 +1,10 @@
 -- The keys with a lost page are so many, however they are listed; and how many turns are left when a life begins.
-use Rattle.std.proofs.Common.{◌≡◌, ℕ, zero, suc, ◌+◌, ◌<◌, ◌≤◌, ◌⊎◌, Bool, true, false, List, [], ◌∷◌, length, Option}
-use Rattle.std.proofs.Common.{Some, None, slice_get, refl, sym, ap, ◌∙◌, subst, inl, inr, arith}
-use Rattle.std.proofs.lemmas.Option.{slice_get_within}
-use Rattle.ufs_spec.specs.Cells.{AreWithin, Cells, Mark}
-use Rattle.ufs_spec.specs.Disk.{Spot}
-use Rattle.ufs_spec.specs.Moves.{Move}
-use Rattle.ufs_spec.specs.Openings.{AreLost, IsBefore, IsMendingAt, IsOpenedTranslation}
-use Rattle.ufs_spec.specs.Sound.{CellsSound}
-use Rattle.ufs_spec.specs.Translation.{Mended, Mending, Repairing, Translation, Unmarked, has_mark_number}
-use Rattle.ufs_spec.specs.declared.configs.Numbers.{Numbers}
-use Rattle.ufs_spec.specs.declared.flash.Key.{Key}
-use Rattle.ufs_spec.proofs.Facts.{same_Some}
-use Rattle.power_loss.specs.Book.{CellsRight}
-use Rattle.power_loss.specs.Mending.{AreAllowedMoves, is_marking, mending_turns, turns_left, turns_of}
+use Rattle.power_loss.proofs.Common.{◌≡◌, ℕ, zero, suc, ◌+◌, ◌<◌, ◌≤◌, ◌⊎◌, Bool, true, false, List, [], ◌∷◌, length}
+use Rattle.power_loss.proofs.Common.{Option, Some, None, slice_get, refl, sym, ap, ◌∙◌, subst, inl, inr, arith}
+use Rattle.power_loss.proofs.Common.{slice_get_within, AreWithin, Cells, Mark, Spot, Move, AreLost, IsBefore}
+use Rattle.power_loss.proofs.Common.{IsMendingAt, IsOpenedTranslation, CellsSound, Mended, Mending, Repairing}
+use Rattle.power_loss.proofs.Common.{Translation, Unmarked, has_mark_number, Numbers, Key, same_Some, CellsRight}
+use Rattle.power_loss.proofs.MachineWords.{AreAllowedMoves, is_marking, mending_turns, turns_left, turns_of}
 use Rattle.power_loss.proofs.openings.OpenedIsValid.{opening_valid}
 use Rattle.power_loss.proofs.mending_steps.TurnsLeft.{Keeps, all_counted}
 
@@ -29,8 +21,8 @@ after_none (inr (inr h)) (inl l) = let e = h.0 in omega arith
 after_none (inr (inr h)) (inr (inl l)) = let x = h.1 in let y = l.1 in omega arith
 after_none (inr (inr h)) (inr (inr l)) = let x = h.2 in let y = l.2 in omega arith
 
-before_itself : (a : Key) {b : Key} → a ≡ b → IsBefore a b → ⊥
-before_itself a e h = after_none (subst (IsBefore a) (sym e) h) (subst (IsBefore a) (sym e) h)
+before_itself : {a : Key} {b : Key} → a ≡ b → IsBefore a b → ⊥
+before_itself {a} e h = after_none (subst (IsBefore a) (sym e) h) (subst (IsBefore a) (sym e) h)
 
 -- Two lists of the lost keys
 
@@ -41,12 +33,12 @@ there (k ∷ ks) (suc i) h = there ks i (omega arith)
 
 -- a key's place in another list is no lower
 no_lower : {c : Cells} {low top : ℕ} {keys others : List Key} → AreLost c low top keys → AreLost c low top others →
-    (i : ℕ) (k : Key) → slice_get keys i ≡ Some k → (j : ℕ) × (slice_get others j ≡ Some k) × (i ≤ j)
-no_lower x y zero k h = let z = y.all k (x.lost 0 k h) in (z.0, z.1, omega arith)
-no_lower {keys} {others} x y (suc i) k h =
+    (i : ℕ) {k : Key} → slice_get keys i ≡ Some k → (j : ℕ) × (slice_get others j ≡ Some k) × (i ≤ j)
+no_lower x y zero {k} h = let z = y.all k (x.lost 0 k h) in (z.0, z.1, omega arith)
+no_lower {keys} {others} x y (suc i) {k} h =
     let w = slice_get_within keys (suc i) k h in
     let b = there keys i (omega arith) in
-    let r = no_lower x y i b.0 b.1 in
+    let r = no_lower x y i b.1 in
     let z = y.all k (x.lost (suc i) k h) in
     (z.0, z.1, above b.0 r.0 z.0 r.1 z.1 r.2 (x.ordered i (suc i) b.0 k b.1 h (omega arith)) (order r.0 z.0))
   where
@@ -57,18 +49,18 @@ no_lower {keys} {others} x y (suc i) k h =
         (p < q) ⊎ ((p ≡ q) ⊎ (q < p)) → suc i ≤ q
     above a p q u v l before (inl lower) = omega arith
     above a p q u v l before (inr (inl same)) =
-        absurd (before_itself a (same_Some _ _ (sym u ∙ ap (slice_get others) same ∙ v)) before)
+        absurd (before_itself (same_Some _ _ (sym u ∙ ap (slice_get others) same ∙ v)) before)
     above a p q u v l before (inr (inr higher)) = absurd (after_none before (y.ordered q p k a v u higher))
 
-as_many : {c : Cells} {low top : ℕ} (keys others : List Key) → AreLost c low top keys → AreLost c low top others →
+as_many : {c : Cells} {low top : ℕ} {keys others : List Key} → AreLost c low top keys → AreLost c low top others →
     length keys ≤ length others
-as_many keys others x y = go (length keys) refl
+as_many {keys = keys} {others = others} x y = go (length keys) refl
   where
     go : (n : ℕ) → length keys ≡ n → length keys ≤ length others
     go zero e = omega arith
     go (suc n) e =
         let b = there keys n (omega arith) in
-        let r = no_lower x y n b.0 b.1 in
+        let r = no_lower x y n b.1 in
         let l = r.2 in
         let w = slice_get_within others r.0 b.0 r.1 in
         omega arith
@@ -78,7 +70,7 @@ as_many keys others x y = go (length keys) refl
 turns_at : {c : Cells} (m : Option Mark) {low top : ℕ} {lost : List Key} (w : Mending) (more : Bool) →
     AreLost c low top lost → IsMendingAt c m low top w → turns_of w false more ≤ length lost + 2
 turns_at m (Unmarked None keys) true x y = omega arith
-turns_at m {lost} (Unmarked (Some fence) keys) true x y = let l = as_many keys lost y.2 x in omega arith
+turns_at m {lost} (Unmarked (Some fence) keys) true x y = let l = as_many y.2 x in omega arith
 turns_at m (Unmarked fence keys) false x y = omega arith
 turns_at m (Repairing left) more x y = absurd y
 turns_at m Mended more x y = omega arith

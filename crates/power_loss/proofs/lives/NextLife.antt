@@ -1,8 +1,12 @@
 -- What a stop leaves of a valid state, and what a device that is opened over it has.
-use Rattle.std.proofs.Common.{◌≡◌, ℕ, zero, suc, ◌≤◌, List, [], ◌∷◌, Bool, Option, Some, None, length, take, refl, sym}
-use Rattle.std.proofs.Common.{ap, ◌∙◌, subst, ⊎_elim, arith}
-use Rattle.std.proofs.lemmas.List.Elements.{All-contains}
-use Rattle.std.proofs.lemmas.Option.{slice_get_within}
+use Rattle.power_loss.proofs.Common.{◌≡◌, ℕ, zero, suc, ◌≤◌, List, [], ◌∷◌, Bool, Option, Some, None, length, take}
+use Rattle.power_loss.proofs.Common.{refl, sym, ap, ◌∙◌, subst, ⊎_elim, arith, All-contains, slice_get_within, Array}
+use Rattle.power_loss.proofs.Common.{Cell, Cells, IsPlace, Shows, CellCrash, Erasing, Flight, Programming, Reading}
+use Rattle.power_loss.proofs.Common.{Spot, spot_of, CanApplyAll, IsKey, content, group_of, groups_of, put_groups}
+use Rattle.power_loss.proofs.Common.{CellsStandFor, Holds, accepted_groups, Plain, after, apply, shape_of}
+use Rattle.power_loss.proofs.Common.{shape_of_numbers, Sound, Suits, Numbers, Key, Page, Place, shape_after}
+use Rattle.power_loss.proofs.MachineWords.{Command, IsLeft, IsLeftoverOf, IsOpened, Stops, die_of, held, page_left}
+use Rattle.power_loss.proofs.MachineWords.{durable, State, numbers_of, Leftover, IsArrayOf, IsSpot, ValidState}
 use Rattle.std.specs.List.{Contains}
 use Rattle.ufs_laws.proofs.plain_contents.CommandsKeepPlain.{all_kept_plain}
 use Rattle.ufs_laws.proofs.plain_contents.GroupsOfCommands.{many_commands, length-groups}
@@ -11,28 +15,10 @@ use Rattle.ufs_laws.proofs.array_cells.NewestFound.{newest_mark}
 use Rattle.ufs_laws.proofs.array_cells.StandsForOne.{content_one}
 use Rattle.ufs_laws.proofs.pages.PageIsSomeCell.{some_cell}
 use Rattle.ufs_laws.proofs.plain_contents.PlainFromContents.{same_contents}
-use Rattle.ufs_spec.specs.Cells.{Array, Cell, Cells, IsPlace, Shows}
-use Rattle.ufs_spec.specs.Commands.{Command}
-use Rattle.ufs_spec.specs.Disk.{CellCrash, Erasing, Flight, Programming, Reading, Spot, spot_of}
-use Rattle.ufs_spec.specs.Keys.{CanApplyAll, IsKey, content, group_of, groups_of, put_groups}
-use Rattle.ufs_spec.specs.Kept.{CellsStandFor, Holds}
-use Rattle.ufs_spec.specs.Ledger.{accepted_groups}
-use Rattle.ufs_spec.specs.Lives.{IsLeft, IsLeftoverOf, IsOpened, Stops, die_of, held, page_left}
-use Rattle.ufs_spec.specs.Machine.{durable}
-use Rattle.ufs_spec.specs.Plain.{Plain, after, apply, shape_of, shape_of_numbers}
-use Rattle.ufs_spec.specs.Sound.{Sound, Suits}
-use Rattle.ufs_spec.specs.Refusals.{State, numbers_of}
-use Rattle.ufs_spec.specs.declared.configs.Numbers.{Numbers}
-use Rattle.ufs_spec.specs.declared.events.Leftover.{Leftover}
-use Rattle.ufs_spec.specs.declared.flash.Key.{Key}
-use Rattle.ufs_spec.specs.declared.flash.Page.{Page}
-use Rattle.ufs_spec.specs.declared.flash.Place.{Place}
-use Rattle.power_loss.specs.Exchange.{IsArrayOf, IsSpot, ValidState}
 use Rattle.power_loss.proofs.stops.LeftPages.{cell_crash, left_holds}
 use Rattle.power_loss.proofs.stops.LeftIsSound.{prefix as stop_prefix, sound as stop_sound, suits as stop_suits}
 use Rattle.power_loss.proofs.stops.LeftCells.{within as stop_within}
 use Rattle.ufs_spec.specs.declared.events.Leftover.TheVariants as leftover
-use Rattle.ufs_spec.proofs.PlainFacts.{shape_after}
 
 -- The first commands
 
@@ -47,11 +33,10 @@ taken_apply (suc k) p [] can = tt
 taken_apply (suc k) p (c ∷ cs) can = (can.0, can.1, taken_apply k (apply p c) cs can.2)
 
 -- the first groups have the contents after the first commands
-content_taken : (s : State) → ValidState s → (count : ℕ) (k : Key) → IsKey (shape_of_numbers (numbers_of s)) k →
+content_taken : {s : State} → ValidState s → (count : ℕ) {k : Key} → IsKey (shape_of_numbers (numbers_of s)) k →
     put_groups s.translation.ledger.base (take count (accepted_groups s.translation.ledger)) k ≡ content
     (after s.base (take count s.accepted)) k
-content_taken s v count k key =
-    ap (λ gs. put_groups s.translation.ledger.base (take count gs) k) v.tied.groups
+content_taken {s} v count {k} key = ap (λ gs. put_groups s.translation.ledger.base (take count gs) k) v.tied.groups
     ∙ ap (λ gs. put_groups s.translation.ledger.base gs k) (groups_taken count s.base s.accepted)
     ∙ put_groups_same s.translation.ledger.base (content s.base) (groups_of s.base (take count s.accepted)) k
     (v.tied.contents k key)
@@ -111,7 +96,7 @@ module _ (s : State) (v : ValidState s) (lefts : List Leftover) (left : Array) (
               (let is : IsKey (shape_of_numbers (numbers_of s)) k = subst (λ x. IsKey x k) h.shape key in
               content_one c h.newest (suc h.kept) k (content p k) (content (after s.base (take pre.count s.accepted)) k)
               sound (h.holds k is)
-              (subst (Holds c h.newest (suc h.kept) k) (content_taken s v pre.count k is) (pre.holds k is)))),
+              (subst (Holds c h.newest (suc h.kept) k) (content_taken v pre.count is) (pre.holds k is)))),
         )
 
   pub sound_left : Sound left
@@ -120,9 +105,9 @@ module _ (s : State) (v : ValidState s) (lefts : List Leftover) (left : Array) (
   pub suits_left : Suits (numbers_of s) left
   suits_left = suits_shown (λ p. (some_cell (left p)).0) (λ p. (some_cell (left p)).1)
 
-  pub prefix_left : (t : State) (bad : Spot → Bool) → IsOpened (numbers_of s) left bad t →
+  pub prefix_left : {t : State} {bad : Spot → Bool} → IsOpened (numbers_of s) left bad t →
       (k : ℕ) × (held s ≤ k) × (durable s ≤ k) × (k ≤ length s.accepted) × (t.base ≡ after s.base (take k s.accepted))
-  prefix_left t bad opened = prefix_shown opened.stands.0 opened.stands.1 t.base opened.stands.2
+  prefix_left {t} opened = prefix_shown opened.stands.0 opened.stands.1 t.base opened.stands.2
 
 -- Outside the dies
 
@@ -153,11 +138,8 @@ named_inside None (leftover.Block die block pages) page h fit named = absurd fit
 pub left_inside : {n : Numbers} (array : Array) (lefts : List Leftover) (left : Array) →
     ((l : Leftover) → Contains lefts l → (p : Place) (page : Page) → page_left l p page → IsPlace n p) →
     IsArrayOf n array → IsLeft array lefts left → IsArrayOf n left
-left_inside array lefts left inside blank is p out =
-    ⊎_elim (λ x. absurd
-    (out (inside x.0 x.1 p (left p) x.2)))
-    (λ x. x.1 ∙
-    blank p out) (is p)
+left_inside array lefts left inside blank is p out = ⊎_elim (λ x. absurd (out (inside x.0 x.1 p (left p) x.2)))
+    (λ x. x.1 ∙ blank p out) (is p)
 
 inside_of : {n : Numbers} (f : Option Flight) → ((p : Place) (cell : Cell) → f ≡ Some (Programming p cell) →
     IsPlace n p) → ((spot : Spot) → f ≡ Some (Erasing spot) → IsSpot n spot) → IsInside n f
@@ -166,17 +148,14 @@ inside_of (Some (Erasing spot)) programs erases = erases spot refl
 inside_of f programs erases = tt
 
 -- each job of a valid state is one within the dies
-pub flight_inside : (s : State) → ValidState s → (die : ℕ) → IsInside (numbers_of s) (s.translation.disk.flights die)
-flight_inside s v die =
+pub flight_inside : {s : State} → ValidState s → (die : ℕ) → IsInside (numbers_of s) (s.translation.disk.flights die)
+flight_inside {s} v die =
     inside_of (s.translation.disk.flights die) (λ p cell e. (v.tied.valid.flights.programs die p cell e).place)
     (λ spot e. v.erases die spot e)
 
-pub within_left : (s : State) → ValidState s → (lefts : List Leftover) (left : Array) → Stops s lefts left →
+pub within_left : {s : State} → ValidState s → {lefts : List Leftover} {left : Array} → Stops s lefts left →
     IsArrayOf (numbers_of s) s.array → IsArrayOf (numbers_of s) left
-within_left s v lefts left stops blank =
-    left_inside s.array lefts left
-    (λ l there p page named.
-    named_inside (s.translation.disk.flights (die_of l)) l page (flight_inside s v (die_of l))
+within_left {s} v {lefts} {left} stops blank = left_inside s.array lefts left
+    (λ l there p page named. named_inside (s.translation.disk.flights (die_of l)) l page (flight_inside v (die_of l))
     (All-contains (λ x. IsLeftoverOf (numbers_of s) (s.translation.disk.flights (die_of x)) x) lefts l
-    stops.fit.0 there) named)
-    blank stops.is_left
+    stops.fit.0 there) named) blank stops.is_left

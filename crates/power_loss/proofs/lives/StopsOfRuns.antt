@@ -1,19 +1,10 @@
 -- Whatever a run over stops comes to, a stop may come there, and the run goes on after it; right after an opening a
 -- stop
 -- changes nothing.
-use Rattle.std.proofs.Common.{◌≡◌, ℕ, Bool, List, [], ◌∷◌, Option, None, sym, ◌∙◌, subst, inr, ⊎_elim}
-use Rattle.std.specs.Global.{Vec}
-use Rattle.ufs_spec.specs.Cells.{Array, Cell}
-use Rattle.ufs_spec.specs.Configs.{IsConfig}
-use Rattle.ufs_spec.specs.Disk.{Flight, Spot, Touches}
-use Rattle.ufs_spec.specs.Lives.{GoesOn, IsOpened, Lived, Runs, Stops, bad_in}
-use Rattle.ufs_spec.specs.Refusals.{State}
-use Rattle.ufs_spec.specs.declared.configs.Numbers.{Numbers}
-use Rattle.ufs_spec.specs.declared.events.Event.{Event}
-use Rattle.ufs_spec.specs.declared.events.Leftover.{Leftover}
-use Rattle.ufs_spec.specs.declared.events.Output.{Output}
-use Rattle.ufs_spec.specs.declared.flash.Place.{Place}
-use Rattle.power_loss.specs.Runs.{LivesRight, MayBeOpened, last_state}
+use Rattle.power_loss.proofs.Common.{◌≡◌, ℕ, Bool, List, [], ◌∷◌, Option, None, sym, ◌∙◌, subst, inr, ⊎_elim, Vec}
+use Rattle.power_loss.proofs.Common.{Array, Cell, Flight, Spot, Touches, Numbers, Place}
+use Rattle.power_loss.proofs.MachineWords.{IsConfig, GoesOn, IsOpened, Lived, Runs, Stops, bad_in, State, Event}
+use Rattle.power_loss.proofs.MachineWords.{Leftover, Output, LivesRight, MayBeOpened, last_state}
 use Rattle.power_loss.proofs.openings.EachSoundArrayOpens.{any_opens}
 use Rattle.power_loss.proofs.stops.LawfulLeftovers.{none_left}
 use Rattle.power_loss.proofs.lives.LivesOfRuns.{lives_of, lives_right}
@@ -26,11 +17,7 @@ none_touched p intended e h = subst (λ x. Touches x p intended) e h
 
 pub idle_stop : (s : State) {lefts : List Leftover} (left : Array) →
     ((die : ℕ) → s.translation.disk.flights die ≡ None) → Stops s lefts left → left ≡ s.array
-idle_stop s left idle stops i p =
-    ⊎_elim (λ e. e)
-    (λ h. absurd
-    (none_touched p h.0 (idle p.die) h.1))
-    (stops.crash p) i
+idle_stop s left idle stops i p = ⊎_elim (λ e. e) (λ h. absurd (none_touched p h.0 (idle p.die) h.1)) (stops.crash p) i
 
 pub stop_of_opened : (n : Numbers) (array : Array) (bad : Spot → Bool) (s : State) (lefts : List Leftover)
     (left : Array) → IsOpened n array bad s → Stops s lefts left → left ≡ array
@@ -49,7 +36,7 @@ pub run_leaves : (n : Numbers) (array : Array) (bad : Spot → Bool) (s t : Stat
     IsConfig n → MayBeOpened n array → IsOpened n array bad s → Runs n s es os t → (lefts : List Leftover)
     (left : Array) → Stops t lefts left → MayBeOpened n left
 run_leaves n array bad s t es os config may opened runs lefts left stops =
-    let l = lives_of n array bad s t es os opened runs in
+    let l = lives_of opened runs in
     last_right array bad l.first l.later (lives_right n array bad l.first l.later es os config may l.lives)
     (subst (λ x. Stops x lefts left) (sym l.ends) stops)
 

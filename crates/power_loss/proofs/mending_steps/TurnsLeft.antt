@@ -1,30 +1,21 @@
 -- No move adds to the turns that are left before the device is mended, and a turn that finds a step due takes one.
-use Rattle.std.proofs.Common.{◌≡◌, ℕ, suc, ◌+◌, ◌≤◌, ◌&&◌, not, is_some, if◌then◌else◌, Bool, true, false, List, []}
-use Rattle.std.proofs.Common.{◌∷◌, Option, Some, None, refl, sym, ap, ◌∙◌, arith}
-use Rattle.ufs_spec.specs.Cells.{Mark, MarkPage}
-use Rattle.ufs_spec.specs.Disk.{Flight, Programming}
-use Rattle.ufs_spec.specs.Ledger.{Name, same_name}
-use Rattle.ufs_spec.specs.Moves.{EndJob, IsAllowedMove, Move, TakeStep, mending_behind, moved, step_behind, step_there}
-use Rattle.ufs_spec.specs.Translation.{CopyStep, MarkStep, Mended, Mending, Order, OrderCopy, OrderMark, OrderPlanMark}
-use Rattle.ufs_spec.specs.Translation.{OrderRepair, RepairStep, Repairing, Step, StepKind, Translation, Unmarked}
-use Rattle.ufs_spec.specs.Translation.{has_mark_number, is_mended, is_step_due, mark_ordered, name_of, ordered, turned}
-use Rattle.ufs_spec.specs.declared.flash.Fence.{Fence}
-use Rattle.ufs_spec.specs.declared.flash.Key.{Key}
-use Rattle.ufs_spec.specs.declared.flash.Place.{Place}
-use Rattle.power_loss.specs.Invariant.{Valid}
-use Rattle.power_loss.specs.Mending.{AreAllowedMoves, is_mark, is_marking, is_mending_turn, mending_turns, moved_by}
-use Rattle.power_loss.specs.Mending.{turns_left, turns_of}
+use Rattle.power_loss.proofs.Common.{◌≡◌, ℕ, suc, ◌+◌, ◌≤◌, ◌&&◌, not, is_some, if◌then◌else◌, Bool, true, false, List}
+use Rattle.power_loss.proofs.Common.{[], ◌∷◌, Option, Some, None, refl, sym, ap, ◌∙◌, arith, Mark, MarkPage, Flight}
+use Rattle.power_loss.proofs.Common.{Programming, Name, same_name, EndJob, IsAllowedMove, Move, TakeStep}
+use Rattle.power_loss.proofs.Common.{mending_behind, moved, step_behind, step_there, CopyStep, MarkStep, Mended}
+use Rattle.power_loss.proofs.Common.{Mending, Order, OrderCopy, OrderMark, OrderPlanMark, OrderRepair, RepairStep}
+use Rattle.power_loss.proofs.Common.{Repairing, Step, StepKind, Translation, Unmarked, has_mark_number, is_mended}
+use Rattle.power_loss.proofs.Common.{is_step_due, mark_ordered, name_of, ordered, turned, Fence, Key, Place, Valid}
+use Rattle.power_loss.proofs.Common.{false≢true, none-some, true≢false}
+use Rattle.power_loss.proofs.MachineWords.{AreAllowedMoves, is_marking, mending_turns, turns_left, turns_of}
+use Rattle.power_loss.specs.Mending.{is_mark, is_mending_turn, moved_by}
 use Rattle.power_loss.proofs.books.SmallFacts.{and_true}
-use Rattle.ufs_spec.proofs.Facts.{false≢true, none-some, true≢false}
 use Rattle.ufs_laws.proofs.walk.LayerEffects.{ComesOf, CopyOrdered, Effect, IsDue, IsMarkDue, MarkAgain, MarkLost}
 use Rattle.ufs_laws.proofs.walk.LayerEffects.{MarkOrdered, MarkWritten, PageWritten, PlanMarkOrdered, RepairOrdered}
 use Rattle.ufs_laws.proofs.walk.LayerEffects.{StepRead, ended, order_due, turned_by, turned_if, with_effect}
 
-le_same : (a b : ℕ) → a ≡ b → a ≤ b
-le_same a b e = omega arith
-
-less_by : (a b x : ℕ) → a ≡ x → b ≡ suc x → suc a ≤ b
-less_by a b x e f = omega arith
+le_same : {a b : ℕ} → a ≡ b → a ≤ b
+le_same e = omega arith
 
 uncounted : (a b : ℕ) → a ≤ b → 0 + a ≤ b
 uncounted a b h = omega arith
@@ -84,8 +75,7 @@ order_takes t (OrderPlanMark s) unmended (none, (number, is, planned)) =
 
 pub turn_takes : (t : Translation) → is_mended t.work.mending ≡ false → is_step_due t ≡ true →
     suc (turns_left (turned t)) ≤ turns_left t
-turn_takes t unmended =
-    turned_if (λ u. is_step_due t ≡ true → suc (turns_left u) ≤ turns_left t) t
+turn_takes t unmended = turned_if (λ u. is_step_due t ≡ true → suc (turns_left u) ≤ turns_left t) t
     (λ none due. absurd (false≢true (sym (ap is_some none) ∙ due)))
     (λ o is due. order_takes t o unmended (order_due t o is))
 
@@ -114,56 +104,54 @@ marks_behind name None = refl
 marks_behind name (Some step) = kind_behind name step.kind step.there
 
 -- while a mark is in flight, the step under way is a mark
-marking_is : (t : Translation) (p : Place) (m : Mark) → Valid t →
+marking_is : {t : Translation} (p : Place) (m : Mark) → Valid t →
     ((die : ℕ) × (t.disk.flights die ≡ Some (Programming p (MarkPage m)))) →
     turns_left t ≡ turns_of t.work.mending true (has_mark_number t)
-marking_is t p m v h =
+marking_is {t} p m v h =
     ap (λ s. turns_of t.work.mending (is_marking s) (has_mark_number t)) (v.flights.mark h.0 p m h.1).step_is
 
-effect_turns : (t : Translation) (o : Option Flight) (e : Effect) →
+effect_turns : {t : Translation} {o : Option Flight} (e : Effect) →
     ((x : Flight) → o ≡ Some x → (die : ℕ) × (t.disk.flights die ≡ Some x)) → ComesOf t o e → Valid t →
     turns_left (with_effect t e) ≤ turns_left t
-effect_turns t o (StepRead die) flies comes v =
-    le_same _ _ (ap (λ b. turns_of t.work.mending b (has_mark_number t)) (there_marks t.work.step))
-effect_turns t o (PageWritten p tag body) flies comes v =
-    le_same _ _ (ap (λ b. turns_of t.work.mending b (has_mark_number t)) (marks_behind (name_of tag) t.work.step))
-effect_turns t o (MarkWritten p m plan) flies comes v =
-    let x = marking_is t p m v (flies _ comes.0) in
+effect_turns {t} (StepRead die) flies comes v =
+    le_same (ap (λ b. turns_of t.work.mending b (has_mark_number t)) (there_marks t.work.step))
+effect_turns {t} (PageWritten p tag body) flies comes v =
+    le_same (ap (λ b. turns_of t.work.mending b (has_mark_number t)) (marks_behind (name_of tag) t.work.step))
+effect_turns {t} (MarkWritten p m plan) flies comes v =
+    let x = marking_is p m v (flies _ comes.0) in
     let l = behind_mark t.work.mending (has_mark_number t) (has_mark_number t) in
     omega arith
-effect_turns t o (MarkAgain p left fence) flies comes v =
-    let x = marking_is t p comes.0 v (flies _ comes.1) in
+effect_turns {t} (MarkAgain p left fence) flies comes v =
+    let x = marking_is p comes.0 v (flies _ comes.1) in
     let l = any_number t.work.mending (has_mark_number (mark_ordered t fence)) (has_mark_number t) in
     omega arith
-effect_turns t o (MarkLost p left) flies comes v =
-    let x = marking_is t p comes.0 v (flies _ comes.1) in
+effect_turns {t} (MarkLost p left) flies comes v =
+    let x = marking_is p comes.0 v (flies _ comes.1) in
     let l = no_number t.work.mending (has_mark_number t) in
     let f = ap (turns_of t.work.mending false) comes.2 in
     omega arith
-effect_turns t o (MarkOrdered fence) flies (none, due) v = by t.work.mending refl
+effect_turns {t} (MarkOrdered fence) flies (none, due) v = by t.work.mending refl
   where
     by : (w : Mending) → t.work.mending ≡ w → turns_left (mark_ordered t fence) ≤ turns_left t
     by Mended is =
-        le_same _ _ (ap (λ z. turns_of z true (has_mark_number (mark_ordered t fence))) is ∙ sym (stays_mended t is))
+        le_same (ap (λ z. turns_of z true (has_mark_number (mark_ordered t fence))) is ∙ sym (stays_mended t is))
     by w is = let l = order_takes t (OrderMark fence) (ap is_mended is) (none, due) in omega arith
-effect_turns t o (RepairOrdered k left) flies (none, due) v =
+effect_turns {t} (RepairOrdered k left) flies (none, due) v =
     let l = order_takes t (OrderRepair k left) (ap is_mended due.1) (none, due) in omega arith
-effect_turns t o (CopyOrdered s left name from) flies (none, due) v =
-    le_same _ _ (ap (λ z. turns_of z false (has_mark_number t)) due.0 ∙ sym (stays_mended t due.0))
-effect_turns t o (PlanMarkOrdered s) flies (none, due) v =
-    le_same _ _ (ap (λ z. turns_of z true (has_mark_number (mark_ordered t None))) due.1 ∙ sym (stays_mended t due.1))
-effect_turns t o e flies comes v = le_same (turns_left t) (turns_left t) refl
+effect_turns {t} (CopyOrdered s left name from) flies (none, due) v =
+    le_same (ap (λ z. turns_of z false (has_mark_number t)) due.0 ∙ sym (stays_mended t due.0))
+effect_turns {t} (PlanMarkOrdered s) flies (none, due) v =
+    le_same (ap (λ z. turns_of z true (has_mark_number (mark_ordered t None))) due.1 ∙ sym (stays_mended t due.1))
+effect_turns {t} e flies comes v = le_same refl
 
 -- Each move
 
-pub move_keeps_turns : (t : Translation) (move : Move) → Valid t → turns_left (moved t move) ≤ turns_left t
-move_keeps_turns t (EndJob die ending) v =
-    ended (λ u. turns_left u ≤ turns_left t) t die (t.disk.flights die) ending
-    (λ e comes. effect_turns t (t.disk.flights die) e (λ x is. (die, is)) comes v)
-move_keeps_turns t TakeStep v =
-    turned_by (λ u. turns_left u ≤ turns_left t) t
-    (λ e comes. effect_turns t None e (λ x is. absurd (none-some x is)) comes v)
-move_keeps_turns t move v = le_same (turns_left t) (turns_left t) refl
+pub move_keeps_turns : {t : Translation} (move : Move) → Valid t → turns_left (moved t move) ≤ turns_left t
+move_keeps_turns {t} (EndJob die ending) v = ended (λ u. turns_left u ≤ turns_left t) t die (t.disk.flights die) ending
+    (λ e comes. effect_turns e (λ x is. (die, is)) comes v)
+move_keeps_turns {t} TakeStep v = turned_by (λ u. turns_left u ≤ turns_left t) t
+    (λ e comes. effect_turns e (λ x is. absurd (none-some x is)) comes v)
+move_keeps_turns {t} move v = le_same refl
 
 -- Moves in a row
 
@@ -171,17 +159,17 @@ not_true : (b : Bool) → not b ≡ true → b ≡ false
 not_true true h = cc
 not_true false h = refl
 
-counted : (t : Translation) (move : Move) → Valid t →
+counted : {t : Translation} (move : Move) → Valid t →
     (if is_mending_turn t move then 1 else 0) + turns_left (moved t move) ≤ turns_left t
-counted t TakeStep v = go (is_step_due t && not (is_mended t.work.mending)) refl
+counted {t} TakeStep v = go (is_step_due t && not (is_mended t.work.mending)) refl
   where
     go : (b : Bool) → (is_step_due t && not (is_mended t.work.mending)) ≡ b →
         (if b then 1 else 0) + turns_left (turned t) ≤ turns_left t
     go true is =
         let r = and_true (is_step_due t) (not (is_mended t.work.mending)) is in counted_one _ _
         (turn_takes t (not_true (is_mended t.work.mending) r.1) r.0)
-    go false is = uncounted _ _ (move_keeps_turns t TakeStep v)
-counted t move v = uncounted _ _ (move_keeps_turns t move v)
+    go false is = uncounted _ _ (move_keeps_turns TakeStep v)
+counted {t} move v = uncounted _ _ (move_keeps_turns move v)
 
 -- each move keeps a life valid
 abbrev pub Keeps : Type 0
@@ -189,8 +177,8 @@ Keeps = (t : Translation) (move : Move) → Valid t → IsAllowedMove t move →
 
 pub all_counted : Keeps → (t : Translation) (moves : List Move) → Valid t → AreAllowedMoves t moves →
     mending_turns t moves + turns_left (moved_by t moves) ≤ turns_left t
-all_counted keep t [] v may = uncounted _ _ (le_same (turns_left t) (turns_left t) refl)
+all_counted keep t [] v may = uncounted _ _ (le_same refl)
 all_counted keep t (move ∷ moves) v may =
-    let l = counted t move v in
+    let l = counted move v in
     let r = all_counted keep (moved t move) moves (keep t move v may.0) may.1 in
     omega arith

@@ -1,32 +1,24 @@
 -- What each move leaves of a translation layer whose pages, once programmed, open as they are meant to.
-use Rattle.std.proofs.Common.{◌≡◌, ℕ, zero, suc, ◌+◌, ◌-◌, ◌≤◌, ◌^◌, ◌&&◌, Bool, true, false, not, List, [], ◌∷◌}
-use Rattle.std.proofs.Common.{Option, Some, None, length, drop, refl, sym, ap, ◌∙◌, subst, ⊎_elim, arith}
-use Rattle.std.specs.Prelude.{if◌then◌else◌, option_map, slice_get}
-use Rattle.std.proofs.lemmas.Bool.{leb-true, ltb-true}
-use Rattle.std.proofs.lemmas.List.{length-append}
-use Rattle.std.proofs.lemmas.Option.{get_or_from_slice_get, slice_get_within}
-use Rattle.ufs_spec.proofs.Facts.{false≢true, none-some, same_Some}
-use Rattle.ufs_spec.specs.Cells.{Cell, IsCell, IsFence, Mark, MarkPage}
-use Rattle.ufs_spec.specs.Configs.{IsConfig}
-use Rattle.ufs_spec.specs.Disk.{Disk, Erasing, Flight, Programming, Reader, Spot, at_die, page_of}
-use Rattle.ufs_spec.specs.Keys.{Contents, Group, IsBlock, IsKey, IsSettingsBody, Item}
-use Rattle.ufs_spec.specs.Ledger.{Entry, Ledger, Name, at_name, before_accepted, next_number, entry_of, is_standing}
-use Rattle.ufs_spec.specs.Moves.{Accept, EndJob, IsAllowedMove, LetGo, LetGoAll, Move, GiveJob, TakeStep}
-use Rattle.ufs_spec.specs.Moves.{mending_behind, moved, without_reader}
-use Rattle.ufs_spec.specs.Openings.{IsFirstFence}
-use Rattle.ufs_spec.specs.Plain.{shape_of_numbers}
-use Rattle.ufs_spec.specs.Translation.{CopyStep, MarkStep, Mended, Mending, MayTake, Plan, Repairing, RepairStep, Step}
-use Rattle.ufs_spec.specs.Translation.{StepKind, Translation, Unmarked, flight_at, has_mark_number, cell_now}
-use Rattle.ufs_spec.specs.Translation.{flight_for, is_mended, has_number, name_of, repair_ordered, may_open, next_place}
-use Rattle.ufs_spec.specs.Translation.{waiting_name, IsOwed, step_flies, records_now, step_cell, taken, waiting_step}
-use Rattle.ufs_spec.specs.declared.configs.Numbers.{Numbers}
-use Rattle.ufs_spec.specs.declared.flash.Fence.{Fence}
-use Rattle.ufs_spec.specs.declared.flash.Key.{Key}
-use Rattle.ufs_spec.specs.declared.flash.Place.{Place}
-use Rattle.power_loss.specs.Book.{Book, book, last_number}
-use Rattle.power_loss.specs.Exchange.{BookFits, EntryFits}
-use Rattle.power_loss.specs.Invariant.{Flights, FenceRight, IsLastRepair, MarkFlightRight, MendingRight, StepKindRight}
-use Rattle.power_loss.specs.Invariant.{Valid}
+use Rattle.power_loss.proofs.Common.{◌≡◌, ℕ, zero, suc, ◌+◌, ◌-◌, ◌≤◌, ◌^◌, ◌&&◌, Bool, true, false, not, List, [], ◌∷◌}
+use Rattle.power_loss.proofs.Common.{Option, Some, None, length, drop, refl, sym, ap, ◌∙◌, subst, ⊎_elim, arith}
+use Rattle.power_loss.proofs.Common.{option_map, leb-true, length-append, get_or_from_slice_get, slice_get_within}
+use Rattle.power_loss.proofs.Common.{false≢true, none-some, same_Some, Cell, IsCell, IsFence, Mark, MarkPage, Disk}
+use Rattle.power_loss.proofs.Common.{Erasing, Flight, Programming, Reader, Spot, at_die, page_of, Contents, Group}
+use Rattle.power_loss.proofs.Common.{IsBlock, IsKey, IsSettingsBody, Item, Entry, Ledger, Name, at_name}
+use Rattle.power_loss.proofs.Common.{before_accepted, next_number, is_standing, Accept, EndJob, IsAllowedMove, LetGo}
+use Rattle.power_loss.proofs.Common.{LetGoAll, Move, GiveJob, TakeStep, mending_behind, moved, without_reader}
+use Rattle.power_loss.proofs.Common.{IsFirstFence, shape_of_numbers, CopyStep, MarkStep, Mended, Mending, MayTake, Plan}
+use Rattle.power_loss.proofs.Common.{Repairing, RepairStep, Step, StepKind, Translation, Unmarked, flight_at}
+use Rattle.power_loss.proofs.Common.{has_mark_number, cell_now, flight_for, is_mended, has_number, name_of}
+use Rattle.power_loss.proofs.Common.{repair_ordered, may_open, next_place, waiting_name, step_flies, records_now}
+use Rattle.power_loss.proofs.Common.{step_cell, taken, waiting_step, Numbers, Fence, Key, Place, Book, book}
+use Rattle.power_loss.proofs.Common.{last_number, Flights, FenceRight, IsLastRepair, MarkFlightRight, MendingRight}
+use Rattle.power_loss.proofs.Common.{StepKindRight, Valid, program_unread as program_left}
+use Rattle.power_loss.proofs.MachineWords.{IsConfig, BookFits, EntryFits}
+use Rattle.std.specs.Prelude.{if◌then◌else◌, slice_get}
+use Rattle.std.proofs.lemmas.Bool.{ltb-true}
+use Rattle.ufs_spec.specs.Ledger.{entry_of}
+use Rattle.ufs_spec.specs.Translation.{IsOwed}
 use Rattle.power_loss.proofs.moves.MovesKeepValid.{all_keep}
 use Rattle.power_loss.proofs.books.PagesByName.{IsAdded, grown, page_splits}
 use Rattle.power_loss.proofs.books.FrontierClimbs.{climb}
@@ -35,7 +27,7 @@ use Rattle.ufs_laws.proofs.walk.LayerEffects.{PlanMarkOrdered, RepairOrdered, di
 use Rattle.ufs_laws.proofs.walk.LayerEffects.{turned_by, with_effect, without_job}
 use Rattle.power_loss.proofs.books.SmallFacts.{at_die_is}
 use Rattle.power_loss.proofs.stops.SealedCells.{mark_cell, page_cell, ranges_of}
-use Rattle.ufs_spec.proofs.CellKinds.{program_unread as program_left}
+use Rattle.power_loss.proofs.books.LayerParts.{MendingOf}
 
 -- the contents that a key has at the life's start may be written
 pub record BaseFits (n : Numbers) (base : Contents) : Type 0 where
@@ -65,8 +57,7 @@ pub record Stays (t u : Translation) : Type 0 where
 -- Jobs
 
 pub idle_programs : (f : Flights) (die : ℕ) → ProgramsFit f → ProgramsFit (at_die f die None)
-idle_programs f die h e p cell is =
-    ⊎_elim (λ k. absurd (none-some (Programming p cell) k.1)) (λ k. h e p cell k.1)
+idle_programs f die h e p cell is = ⊎_elim (λ k. absurd (none-some (Programming p cell) k.1)) (λ k. h e p cell k.1)
     (at_die_is f die None e (Some (Programming p cell)) is)
 
 gone_programs : (f : Flights) (reads : Reader → Bool) → ProgramsFit f →
@@ -91,31 +82,27 @@ effect_programs t e h = subst ProgramsFit (sym (effect_flights t e)) (left (die_
 
 -- What leaves the numbers and contents of the book
 
-same_base : (b c : Book) → c ≡ b → BaseFits b.numbers b.base → BaseFits c.numbers c.base
-same_base b c e h = subst (λ (x : Book). BaseFits x.numbers x.base) (sym e) h
-
-light : (t u : Translation) → Fits t → Valid u → book u ≡ book t → ProgramsFit u.disk.flights →
+light : {t u : Translation} → Fits t → Valid u → book u ≡ book t → ProgramsFit u.disk.flights →
     u.ledger.marks ≤ 2 ^ 62 → (is_mended u.work.mending ≡ true → before_accepted u.ledger ≤ u.ledger.frontier) → Fits u
-light t u f v b programs marks repaired = record {
+light {t} {u} f v b programs marks repaired = record {
   config = subst IsConfig (sym (ap (λ (x : Book). x.numbers) b)) f.config;
   valid = v;
   book_fits = subst BookFits (sym b) f.book_fits;
   programs = programs;
   marks = marks;
   repaired = repaired;
-  base = same_base (book t) (book u) b f.base;
+  base = subst (λ (x : Book). BaseFits x.numbers x.base) (sym b) f.base;
 }
 
 -- One group more
 
 abbrev pub ItemsFit : Group → Type 0
-ItemsFit g =
-    (i : ℕ) (item : Item) → slice_get g i ≡ Some item → IsBlock item.body
+ItemsFit g = (i : ℕ) (item : Item) → slice_get g i ≡ Some item → IsBlock item.body
     × (item.key.kind ≡ 3 → IsSettingsBody item.body)
 
-group_fits : (b : Book) (g : Group) → BookFits b → length g ≤ 32 → ItemsFit g → last_number b + 1 ≤ 2 ^ 62 →
+group_fits : {b : Book} (g : Group) → BookFits b → length g ≤ 32 → ItemsFit g → last_number b + 1 ≤ 2 ^ 62 →
     BookFits (grown b g)
-group_fits b g f few items fit = record {
+group_fits {b} g f few items fit = record {
   entries = λ n i e is. ⊎_elim (f.entries n i e) (added n i e) (page_splits b g n i e is);
   last = omega (arith, length-append b.groups (g ∷ []));
   lost = f.lost;
@@ -129,17 +116,12 @@ group_fits b g f few items fit = record {
         let inside = slice_get_within g i e.item a.item in
         (record { block = item.0; settings = item.1; size = omega arith; inside = omega arith }, omega arith)
 
-accepts_fit : (t : Translation) (claimed : ℕ) (g : Group) → Fits t → IsAllowedMove t (Accept claimed g) →
+accepts_fit : {t : Translation} (claimed : ℕ) (g : Group) → Fits t → IsAllowedMove t (Accept claimed g) →
     Fits (moved t (Accept claimed g))
-accepts_fit t claimed g f may = record {
-  config = f.config;
-  valid = all_keep t (Accept claimed g) f.valid may;
-  book_fits = group_fits (book t) g f.book_fits may.4.not_long items (leb-true (next_number t.ledger) (2 ^ 62) may.1);
-  programs = f.programs;
-  marks = f.marks;
-  repaired = f.repaired;
-  base = record { block = f.base.block; settings = f.base.settings };
-}
+accepts_fit {t} claimed g f may = assumption (
+  all_keep t (Accept claimed g) f.valid may,
+  group_fits g f.book_fits may.4.not_long items (leb-true (next_number t.ledger) (2 ^ 62) may.1),
+)
   where
     items : ItemsFit g
     items i item at =
@@ -147,8 +129,7 @@ accepts_fit t claimed g f may = record {
         let h = may.4.items i item w in
         let e = get_or_from_slice_get g i item item at in (
           subst (λ (x : Item). IsBlock x.body) e h.block,
-          λ k. subst
-              (λ (x : Item). x.key.kind ≡ 3 → IsSettingsBody x.body) e h.settings k,
+          λ k. subst (λ (x : Item). x.key.kind ≡ 3 → IsSettingsBody x.body) e h.settings k,
         )
 
 -- What is programmed
@@ -157,33 +138,32 @@ no_erase : (x : Option Spot) (p : Place) (cell : Cell) → option_map Erasing x 
 no_erase None p cell h = cc
 no_erase (Some s) p cell h = cc
 
-flight_cell : (t : Translation) (die : ℕ) (opens : Bool) (new : Cell) (at : Option Place) (p : Place) (cell : Cell) →
+flight_cell : (t : Translation) (die : ℕ) (opens : Bool) {new : Cell} (at : Option Place) (p : Place) {cell : Cell} →
     flight_at t die opens new at ≡ Some (Programming p cell) → new ≡ cell
-flight_cell t die opens new (Some q) p cell h = cc
-flight_cell t die true new None p cell h = absurd (no_erase _ p cell h)
-flight_cell t die false new None p cell h = cc
+flight_cell t die opens (Some q) p h = cc
+flight_cell t die true None p {cell} h = absurd (no_erase _ p cell h)
+flight_cell t die false None p h = cc
 
 abbrev IsFit : Cell → Type 0
 IsFit cell = IsCell (page_of cell) cell
 
-cell_now_fits : (t : Translation) (name : Name) → Fits t → IsFit (cell_now t.ledger name)
-cell_now_fits t name f =
-    page_cell (book t) name
+cell_now_fits : {t : Translation} (name : Name) → Fits t → IsFit (cell_now t.ledger name)
+cell_now_fits {t} name f = page_cell name
     (entry_of t.ledger name) t.ledger.frontier f.config f.valid.book_right f.book_fits f.valid.frontier.within
     (λ x h. h)
 
 -- the fence of a mark that is ordered covers what is lost
 fence_bounds : (b : Book) (d : Disk) (l : Ledger) (plan : Option Plan) (step : Option Step) (w : Mending)
-    (fence : Option Fence) → MendingRight b d l plan step w → FenceRight w fence → (f : Fence) → fence ≡ Some f →
+    {fence : Option Fence} → MendingRight b d l plan step w → FenceRight w fence → (f : Fence) → fence ≡ Some f →
     (f.first ≡ b.first_lost) × (f.last ≡ b.greatest_seen) × (b.first_lost ≤ b.greatest_seen)
-fence_bounds b d l plan step (Unmarked first lost) fence m r f e =
+fence_bounds b d l plan step (Unmarked first lost) m r f e =
     subst (λ (x : Option Fence). IsFirstFence l.newest b.first_lost b.greatest_seen x) (sym r ∙ e) m.fence_right
-fence_bounds b d l plan step (Repairing left) fence m r f e = absurd (none-some f (sym r.0 ∙ e))
-fence_bounds b d l plan step Mended fence m r f e = absurd (none-some f (sym r ∙ e))
+fence_bounds b d l plan step (Repairing left) m r f e = absurd (none-some f (sym r.0 ∙ e))
+fence_bounds b d l plan step Mended m r f e = absurd (none-some f (sym r ∙ e))
 
-fence_fits : (b : Book) (f : Fence) → BookFits b → (f.first ≡ b.first_lost) × (f.last ≡ b.greatest_seen)
+fence_fits : {b : Book} {f : Fence} → BookFits b → (f.first ≡ b.first_lost) × (f.last ≡ b.greatest_seen)
     × (b.first_lost ≤ b.greatest_seen) → IsFence f
-fence_fits b f fits h =
+fence_fits fits h =
     let some = fits.lost h.2 in
     let last = fits.last in
     let first = h.0 in
@@ -191,78 +171,71 @@ fence_fits b f fits h =
     let order = h.2 in
     record { ordered = omega arith; some = omega arith; fits = omega arith }
 
-records_fit : (t : Translation) (fence : Option Fence) → Fits t →
+records_fit : {t : Translation} (fence : Option Fence) → Fits t →
     ((f : Fence) → fence ≡ Some f → (f.first ≡ t.ledger.first_lost) × (f.last ≡ t.ledger.greatest_seen)
     × (t.ledger.first_lost ≤ t.ledger.greatest_seen)) → records_now t.ledger fence ≤ 2 ^ 62
-records_fit t None f h = let w = f.valid.frontier.within in let l = f.book_fits.last in omega arith
-records_fit t (Some fence) f h = let l = f.book_fits.last in let e = (h fence refl).1 in omega arith
+records_fit None f h = let w = f.valid.frontier.within in let l = f.book_fits.last in omega arith
+records_fit (Some fence) f h = let l = f.book_fits.last in let e = (h fence refl).1 in omega arith
 
-step_cell_fits : (t : Translation) (kind : StepKind) → Fits t →
+step_cell_fits : {t : Translation} (kind : StepKind) → Fits t →
     StepKindRight (book t) t.ledger.marks t.disk.cells t.work.mending t.work.plan kind → IsFit (step_cell t kind)
-step_cell_fits t (MarkStep number fence) f r =
+step_cell_fits {t} (MarkStep number fence) f r =
     let bounds =
-    fence_bounds (book t) t.disk t.ledger t.work.plan t.work.step t.work.mending fence f.valid.mending r.fence_right in
+    fence_bounds (book t) t.disk t.ledger t.work.plan t.work.step t.work.mending f.valid.mending r.fence_right in
     let marks = f.marks in
     let last = r.last in
     let some = r.given in
     mark_cell (record { number = number; records = records_now t.ledger fence; fence = fence; numbers = t.numbers })
-    (ranges_of t.numbers f.config) (λ x e. fence_fits (book t) x f.book_fits (bounds x e)) (omega arith) (omega arith)
-    (records_fit t fence f bounds)
-step_cell_fits t (CopyStep name from) f r = cell_now_fits t name f
-step_cell_fits t (RepairStep name from) f r = cell_now_fits t name f
+    (ranges_of t.numbers f.config) (λ x e. fence_fits f.book_fits (bounds x e)) (omega arith) (omega arith)
+    (records_fit fence f bounds)
+step_cell_fits {t} (CopyStep name from) f r = cell_now_fits name f
+step_cell_fits {t} (RepairStep name from) f r = cell_now_fits name f
 
-waiting_cell : (t : Translation) (step : Option Step) (cell : Cell) → waiting_step t step ≡ Some cell →
+waiting_cell : (t : Translation) (step : Option Step) {cell : Cell} → waiting_step t step ≡ Some cell →
     (x : Step) × (step ≡ Some x) × (step_cell t x.kind ≡ cell)
-waiting_cell t None cell h = cc
-waiting_cell t (Some step) cell h = (step, refl, by (step.there && not (step_flies t step.kind)) h)
+waiting_cell t None h = cc
+waiting_cell t (Some step) {cell} h = (step, refl, by (step.there && not (step_flies t step.kind)) h)
   where
     by : (b : Bool) → (if b then Some (step_cell t step.kind) else None) ≡ Some cell → step_cell t step.kind ≡ cell
     by true e = cc
     by false e = cc
 
-owed_fits : (t : Translation) (die : ℕ) (w : Option Cell) (name : Option Name) (p : Place) (cell : Cell) → Fits t →
-    waiting_step t t.work.step ≡ w →
-    flight_for t die w name ≡ Some (Programming p cell) → IsFit cell
-owed_fits t die (Some new) name p cell f e h =
-    let x = waiting_cell t t.work.step new e in
-    let same = x.2 ∙ flight_cell t die true new (next_place t die) p cell h in
-    subst IsFit same (step_cell_fits t x.0.kind f (f.valid.step.kind x.0 x.1))
-owed_fits t die None (Some name) p cell f e h =
-    subst IsFit (flight_cell t die (may_open t) (cell_now t.ledger name) (next_place t die) p cell h)
-    (cell_now_fits t name f)
-owed_fits t die None None p cell f e h = cc
+owed_fits : {t : Translation} (die : ℕ) (w : Option Cell) (name : Option Name) (p : Place) (cell : Cell) → Fits t →
+    waiting_step t t.work.step ≡ w → flight_for t die w name ≡ Some (Programming p cell) → IsFit cell
+owed_fits {t} die (Some new) name p cell f e h =
+    let x = waiting_cell t t.work.step e in
+    let same = x.2 ∙ flight_cell t die true (next_place t die) p h in
+    subst IsFit same (step_cell_fits x.0.kind f (f.valid.step.kind x.0 x.1))
+owed_fits {t} die None (Some name) p cell f e h = subst IsFit (flight_cell t die (may_open t) (next_place t die) p h)
+    (cell_now_fits name f)
+owed_fits die None None p cell f e h = cc
 
-takes_fit : (t : Translation) (die : ℕ) (flight : Flight) → Fits t → MayTake t die (Some flight) →
+takes_fit : {t : Translation} (die : ℕ) (flight : Flight) → Fits t → MayTake t die (Some flight) →
     Fits (taken t die flight)
-takes_fit t die flight f may =
-    light t (taken t die flight) f (all_keep t (GiveJob die flight) f.valid may) refl
+takes_fit {t} die flight f may = light f (all_keep t (GiveJob die flight) f.valid may) refl
     (begun_programs t.disk.flights die flight new f.programs) f.marks f.repaired
   where
     new : (p : Place) (cell : Cell) → flight ≡ Programming p cell → IsFit cell
     new p cell e =
         let owed = subst (IsOwed t die) e may.1 in
-        owed_fits t die (waiting_step t t.work.step) (waiting_name t) p cell f refl owed.1
+        owed_fits die (waiting_step t t.work.step) (waiting_name t) p cell f refl owed.1
 
 -- Jobs that end
 
 -- behind a mark each repair is durable
-mark_repaired : (t : Translation) (w : Mending) (m : Mark) → Valid t →
-    MarkFlightRight t.numbers t.ledger.marks t.work.step m →
-    MendingRight (book t) t.disk t.ledger t.work.plan t.work.step w →
-    (is_mended w ≡ true → before_accepted t.ledger ≤ t.ledger.frontier) →
-    before_accepted t.ledger ≤ t.ledger.frontier
-mark_repaired t (Unmarked fence lost) m v h r known =
+mark_repaired : {t : Translation} (w : Mending) {m : Mark} → Valid t →
+    MarkFlightRight t.numbers t.ledger.marks t.work.step m → MendingOf t w →
+    (is_mended w ≡ true → before_accepted t.ledger ≤ t.ledger.frontier) → before_accepted t.ledger ≤ t.ledger.frontier
+mark_repaired {t} (Unmarked fence lost) v h r known =
     let within = v.history.within in
     let none : length t.ledger.groups ≡ 0 = ap (λ (x : List Group). length x) r.none_new in
     let still = r.still in
     omega arith
-mark_repaired t (Repairing left) m v h r known =
+mark_repaired {t} (Repairing left) v h r known =
     let within = v.history.within in
-    ⊎_elim
-    (λ (e : t.ledger.frontier ≡ last_number (book t)). omega arith)
+    ⊎_elim (λ (e : t.ledger.frontier ≡ last_number (book t)). omega arith)
     (λ (e : (suc t.ledger.frontier ≡ last_number (book t)) × IsLastRepair (book t) t.work.step). absurd (other _ _ _ _
-    (kinds _ _ (sym h.step_is ∙ e.1.2))))
-    r.more.under_way
+    (kinds _ _ (sym h.step_is ∙ e.1.2)))) r.more.under_way
   where
     kinds : (x y : Step) → Some x ≡ Some y → x.kind ≡ y.kind
     kinds x y e = let same : x ≡ y = cc in ap (λ (z : Step). z.kind) same
@@ -270,17 +243,17 @@ mark_repaired t (Repairing left) m v h r known =
     other : (number : ℕ) (fence : Option Fence) (name : Name) (from : Option Place) →
         MarkStep number fence ≡ RepairStep name from → ⊥
     other number fence name from e = cc
-mark_repaired t Mended m v h r known = known refl
+mark_repaired Mended v h r known = known refl
 
 numbered : (t : Translation) → has_mark_number t ≡ true → t.ledger.marks + 1 ≤ 2 ^ 62
 numbered t h = let lt = ltb-true t.ledger.marks (2 ^ 62) h in omega arith
 
-repairs_fit : (t : Translation) (k : Key) (left : List Key) → Fits t → t.work.mending ≡ Repairing (k ∷ left) →
+repairs_fit : {t : Translation} (k : Key) (left : List Key) → Fits t → t.work.mending ≡ Repairing (k ∷ left) →
     has_number t ≡ true → Valid (repair_ordered t k left) → Fits (repair_ordered t k left)
-repairs_fit t k left f w number v = record {
+repairs_fit {t} k left f w number v = record {
   config = f.config;
   valid = v;
-  book_fits = group_fits (book t) (record { key = k; body = t.ledger.base k } ∷ []) f.book_fits (omega arith) items
+  book_fits = group_fits (record { key = k; body = t.ledger.base k } ∷ []) f.book_fits (omega arith) items
       (leb-true (next_number t.ledger) (2 ^ 62) number);
   programs = f.programs;
   marks = f.marks;
@@ -290,7 +263,7 @@ repairs_fit t k left f w number v = record {
   where
     is_key : IsKey (shape_of_numbers t.numbers) k
     is_key =
-        let m = subst (MendingRight (book t) t.disk t.ledger t.work.plan t.work.step) w f.valid.mending in
+        let m = subst (MendingOf t) w f.valid.mending in
         m.more.keys 0 k refl
 
     items : ItemsFit (record { key = k; body = t.ledger.base k } ∷ [])
@@ -302,44 +275,39 @@ repairs_fit t k left f w number v = record {
 
 -- Steps, and the ends of jobs in flight
 
-effect_fits : (t : Translation) (o : Option Flight) (e : Effect) →
+effect_fits : {t : Translation} {o : Option Flight} (e : Effect) →
     ((x : Flight) → o ≡ Some x → (die : ℕ) × (t.disk.flights die ≡ Some x)) → ComesOf t o e → Fits t →
     Valid (with_effect t e) → Fits (with_effect t e)
-effect_fits t o (PageWritten p tag body) flies comes f v =
+effect_fits {t} (PageWritten p tag body) flies comes f v =
     let l : Ledger = record t.ledger { standing = at_name t.ledger.standing (name_of tag) (Some p) } in
     let up = (climb (is_standing l) l.frontier (drop (l.frontier - l.greatest_seen) l.groups)).from in
-    light t _ f v refl (effect_programs t (PageWritten p tag body) f.programs) f.marks
+    light f v refl (effect_programs t (PageWritten p tag body) f.programs) f.marks
     (λ h. let low = f.repaired h in omega arith)
-effect_fits t o (MarkWritten p m plan) flies comes f v =
+effect_fits {t} (MarkWritten p m plan) flies comes f v =
     let job = flies (Programming p (MarkPage m)) comes.0 in
-    light t _ f v refl (effect_programs t (MarkWritten p m plan) f.programs) f.marks
-    (λ h. mark_repaired t t.work.mending m f.valid (f.valid.flights.mark job.0 p m job.1) f.valid.mending f.repaired)
-effect_fits t o (MarkAgain p left fence) flies comes f v =
-    light t _ f v refl (effect_programs t (MarkAgain p left fence) f.programs) (numbered t comes.2) f.repaired
-effect_fits t o (MarkOrdered fence) flies comes f v = light t _ f v refl f.programs (numbered t comes.1.0) f.repaired
-effect_fits t o (PlanMarkOrdered s) flies comes f v = light t _ f v refl f.programs (numbered t comes.1.0) f.repaired
-effect_fits t o (RepairOrdered k left) flies comes f v = repairs_fit t k left f comes.1.1 comes.1.0 v
-effect_fits t o e flies comes f v = light t _ f v refl (effect_programs t e f.programs) f.marks f.repaired
+    light f v refl (effect_programs t (MarkWritten p m plan) f.programs) f.marks
+    (λ h. mark_repaired t.work.mending f.valid (f.valid.flights.mark job.0 p m job.1) f.valid.mending f.repaired)
+effect_fits {t} (MarkAgain p left fence) flies comes f v =
+    light f v refl (effect_programs t (MarkAgain p left fence) f.programs) (numbered t comes.2) f.repaired
+effect_fits {t} (MarkOrdered fence) flies comes f v = light f v refl f.programs (numbered t comes.1.0) f.repaired
+effect_fits {t} (PlanMarkOrdered s) flies comes f v = light f v refl f.programs (numbered t comes.1.0) f.repaired
+effect_fits {t} (RepairOrdered k left) flies comes f v = repairs_fit k left f comes.1.1 comes.1.0 v
+effect_fits {t} e flies comes f v = light f v refl (effect_programs t e f.programs) f.marks f.repaired
 
 -- Moves
 
-pub move_fits : (t : Translation) (move : Move) → Fits t → IsAllowedMove t move → Fits (moved t move)
-move_fits t (Accept claimed g) f may = accepts_fit t claimed g f may
-move_fits t (LetGo tag index) f may =
-    light t (moved t (LetGo tag index)) f (all_keep t (LetGo tag index) f.valid may) refl
+pub move_fits : {t : Translation} (move : Move) → Fits t → IsAllowedMove t move → Fits (moved t move)
+move_fits {t} (Accept claimed g) f may = accepts_fit claimed g f may
+move_fits {t} (LetGo tag index) f may = light f (all_keep t (LetGo tag index) f.valid may) refl
     (gone_programs t.disk.flights _ f.programs) f.marks f.repaired
-move_fits t (LetGoAll tag) f may =
-    light t (moved t (LetGoAll tag)) f (all_keep t (LetGoAll tag) f.valid may) refl
+move_fits {t} (LetGoAll tag) f may = light f (all_keep t (LetGoAll tag) f.valid may) refl
     (gone_programs t.disk.flights _ f.programs) f.marks f.repaired
-move_fits t (GiveJob die flight) f may = takes_fit t die flight f may
-move_fits t (EndJob die ending) f may =
-    ended (λ u. Valid u → Fits u) t die (t.disk.flights die) ending
-    (λ e comes v. effect_fits t (t.disk.flights die) e (λ x is. (die, is)) comes f v)
-    (all_keep t (EndJob die ending) f.valid may)
-move_fits t TakeStep f may =
-    turned_by (λ u. Valid u → Fits u) t
-    (λ e comes v. effect_fits t None e (λ x is. absurd (none-some x is)) comes f v) (all_keep t TakeStep f.valid may)
-move_fits t move f may = light t (moved t move) f (all_keep t move f.valid may) refl f.programs f.marks f.repaired
+move_fits {t} (GiveJob die flight) f may = takes_fit die flight f may
+move_fits {t} (EndJob die ending) f may = ended (λ u. Valid u → Fits u) t die (t.disk.flights die) ending
+    (λ e comes v. effect_fits e (λ x is. (die, is)) comes f v) (all_keep t (EndJob die ending) f.valid may)
+move_fits {t} TakeStep f may = turned_by (λ u. Valid u → Fits u) t
+    (λ e comes v. effect_fits e (λ x is. absurd (none-some x is)) comes f v) (all_keep t TakeStep f.valid may)
+move_fits {t} move f may = light f (all_keep t move f.valid may) refl f.programs f.marks f.repaired
 
 -- the mending never goes back
 
@@ -347,15 +315,15 @@ behind_mended : (w : Mending) → is_mended w ≡ true → is_mended (mending_be
 behind_mended (Unmarked fence lost) h = absurd (false≢true h)
 behind_mended w h = refl
 
-effect_stays : (t : Translation) (o : Option Flight) (e : Effect) → ComesOf t o e → Stays t (with_effect t e)
-effect_stays t o (MarkWritten p m plan) comes =
+effect_stays : {t : Translation} (o : Option Flight) (e : Effect) → ComesOf t o e → Stays t (with_effect t e)
+effect_stays {t} o (MarkWritten p m plan) comes =
     record { numbers = refl; base = refl; mended = behind_mended t.work.mending }
-effect_stays t o (RepairOrdered k left) comes =
+effect_stays o (RepairOrdered k left) comes =
     record { numbers = refl; base = refl; mended = λ h. absurd (false≢true (ap is_mended (sym comes.1.1) ∙ h)) }
-effect_stays t o e comes = record { numbers = refl; base = refl; mended = λ h. h }
+effect_stays o e comes = record { numbers = refl; base = refl; mended = λ h. h }
 
 pub move_stays : (t : Translation) (move : Move) → Stays t (moved t move)
 move_stays t (EndJob die ending) =
-    ended (Stays t) t die (t.disk.flights die) ending (λ e comes. effect_stays t (t.disk.flights die) e comes)
-move_stays t TakeStep = turned_by (Stays t) t (λ e comes. effect_stays t None e comes)
+    ended (Stays t) t die (t.disk.flights die) ending (λ e comes. effect_stays (t.disk.flights die) e comes)
+move_stays t TakeStep = turned_by (Stays t) t (λ e comes. effect_stays None e comes)
 move_stays t move = record { numbers = refl; base = refl; mended = λ h. h }

@@ -1,19 +1,15 @@
 -- What a call leaves of the tasks and the short exchanges that are open: a message adds some; data and replies change
 -- or close
 -- those of their tag alone.
-use Rattle.std.proofs.Common.{◌≡◌, ℕ, ◌==◌, Bool, true, false, not, map, List, [], ◌∷◌, ◌++◌, length, Option, Some}
-use Rattle.std.proofs.Common.{None, refl, sym, ap, ◌∙◌, subst}
-use Rattle.std.specs.Prelude.{if◌then◌else◌, nat_le, nat_lt}
-use Rattle.std.proofs.lemmas.List.{append-nil}
-use Rattle.ufs_spec.proofs.Facts.{false≢true, eqb-true, cond-false}
-use Rattle.ufs_spec.specs.Exchanges.{Deed, Gathering, Purpose, Short, Status, Task, TaskSetFull, is_task_of, response}
-use Rattle.ufs_spec.specs.Exchanges.{short_reply, task_of, with_deed, without_task}
-use Rattle.ufs_spec.specs.Machine.{begun, begun_with, command_heard, complete, data_for, data_heard, deed_behind}
-use Rattle.ufs_spec.specs.Machine.{moves_behind, opened_with, set_deed, task_behind, task_replied, with_moves}
-use Rattle.ufs_spec.specs.Machine.{with_short}
-use Rattle.ufs_spec.specs.Stages.{most_tasks}
-use Rattle.ufs_spec.specs.Refusals.{Request, State, refusal}
-use Rattle.ufs_spec.specs.declared.scsi.Cdb.{Cdb}
+use Rattle.power_loss.proofs.Common.{◌≡◌, ℕ, ◌==◌, Bool, true, false, not, map, List, [], ◌∷◌, ◌++◌, length, Option}
+use Rattle.power_loss.proofs.Common.{Some, None, refl, sym, ap, ◌∙◌, subst, nat_le, nat_lt, append-nil, false≢true}
+use Rattle.power_loss.proofs.Common.{eqb-true, cond-false}
+use Rattle.power_loss.proofs.MachineWords.{Deed, Gathering, Purpose, Short, Status, Task, TaskSetFull, is_task_of}
+use Rattle.power_loss.proofs.MachineWords.{response, short_reply, task_of, with_deed, without_task, begun, begun_with}
+use Rattle.power_loss.proofs.MachineWords.{command_heard, complete, data_for, data_heard, deed_behind, moves_behind}
+use Rattle.power_loss.proofs.MachineWords.{opened_with, set_deed, task_behind, task_replied, with_moves, with_short}
+use Rattle.power_loss.proofs.MachineWords.{most_tasks, Request, State, refusal, Cdb}
+use Rattle.std.specs.Prelude.{if◌then◌else◌}
 use Rattle.ufs_laws.proofs.walk.WaysOfCommands.{Beginning, Completion, Told, Waiting, WhyBegun, WhyCompleted, begins_by}
 use Rattle.ufs_laws.proofs.walk.WaysOfCommands.{begun_as, completed, completes_by}
 use Rattle.ufs_laws.proofs.walk.SmallChanges.{does}
@@ -36,33 +32,32 @@ pub record AddsTasks (s t : State) : Type 0 where
 one_task : {s t : State} (x : Task) → t.tasks ≡ s.tasks ++ x ∷ [] → t.shorts ≡ s.shorts → AddsTasks s t
 one_task x e f = record { tasks = x ∷ []; tasks_are = e; shorts_same = f }
 
-begun_adds : (s : State) (r : Request) (unit : ℕ) (c : Cdb) → AddsTasks s (begun s r unit c)
-begun_adds s r unit c = begins_by (AddsTasks s) s r unit c one
+begun_adds : {s : State} (r : Request) (unit : ℕ) (c : Cdb) → AddsTasks s (begun s r unit c)
+begun_adds {s} r unit c = begins_by (AddsTasks s) s r unit c one
   where
     one : (b : Beginning) → WhyBegun s r unit c b → AddsTasks s (begun_as s r c b)
     one Waiting why = one_task _ refl refl
     one b why = one_task _ refl refl
 
-begins_adds : (s : State) (r : Request) (c : Option Cdb) → AddsTasks s (begun_with s r c)
-begins_adds s r None = record { tasks = []; tasks_are = sym (append-nil s.tasks); shorts_same = refl }
-begins_adds s r (Some c) = begun_adds s r _ c
+begins_adds : {s : State} (r : Request) (c : Option Cdb) → AddsTasks s (begun_with s r c)
+begins_adds {s} r None = record { tasks = []; tasks_are = sym (append-nil s.tasks); shorts_same = refl }
+begins_adds {s} r (Some c) = begun_adds r _ c
 
-pub opened_adds : (s : State) (r : Request) (refused : Option Status) → AddsTasks s (opened_with s r refused)
-opened_adds s r (Some status) = one_task _ refl refl
-opened_adds s r None = begins_adds s r r.cdb
+pub opened_adds : {s : State} (r : Request) (refused : Option Status) → AddsTasks s (opened_with s r refused)
+opened_adds r (Some status) = one_task _ refl refl
+opened_adds {s} r None = begins_adds r r.cdb
 
-pub adds_short : (s : State) (x : Short) → Adds s (with_short s x)
-adds_short s x = record { tasks = []; tasks_are = sym (append-nil s.tasks); shorts = x ∷ []; shorts_are = refl }
+pub adds_short : {s : State} (x : Short) → Adds s (with_short s x)
+adds_short {s} x = record { tasks = []; tasks_are = sym (append-nil s.tasks); shorts = x ∷ []; shorts_are = refl }
 
-pub command_adds : (s : State) (r : Request) → Adds s (command_heard s r)
-command_adds s r = by (nat_le most_tasks (length s.tasks))
+pub command_adds : {s : State} (r : Request) → Adds s (command_heard s r)
+command_adds {s} r = by (nat_le most_tasks (length s.tasks))
   where
-    by : (b : Bool) → Adds s
-        (if b then with_short s (short_reply r.tag (response r.lun r.tag r.expected 0 TaskSetFull))
+    by : (b : Bool) → Adds s (if b then with_short s (short_reply r.tag (response r.lun r.tag r.expected 0 TaskSetFull))
         else opened_with s r (refusal s r))
-    by true = adds_short s _
+    by true = adds_short _
     by false =
-        let more = opened_adds s r (refusal s r) in
+        let more = opened_adds r (refusal s r) in
         record {
           tasks = more.tasks;
           tasks_are = more.tasks_are;
@@ -77,13 +72,13 @@ pub record LeavesOthers (tag : ℕ) (s t : State) : Type 0 where
       task_of other t.tasks ≡ Some task
   pub shorts : t.shorts ≡ s.shorts
 
-pub leaves_all : (tag : ℕ) (s : State) → LeavesOthers tag s s
-leaves_all tag s = record { others = λ other task apart h. h; shorts = refl }
+pub leaves_all : {tag : ℕ} {s : State} → LeavesOthers tag s s
+leaves_all = record { others = λ other task apart h. h; shorts = refl }
 
-leaves_if : (tag : ℕ) (s t u : State) (b : Bool) → LeavesOthers tag s t → LeavesOthers tag s u →
+leaves_if : {tag : ℕ} {s t u : State} (b : Bool) → LeavesOthers tag s t → LeavesOthers tag s u →
     LeavesOthers tag s (if b then t else u)
-leaves_if tag s t u true h k = h
-leaves_if tag s t u false h k = k
+leaves_if true h k = h
+leaves_if {tag} false h k = k
 
 -- a task of one tag has no other
 pub is_other : (task : Task) (tag other : ℕ) → (tag == other) ≡ false → is_task_of other task ≡ true →
@@ -91,13 +86,12 @@ pub is_other : (task : Task) (tag other : ℕ) → (tag == other) ≡ false → 
 is_other task tag other apart h = by (is_task_of tag task) refl
   where
     by : (b : Bool) → is_task_of tag task ≡ b → b ≡ false
-    by true e =
-        absurd (false≢true (sym apart ∙ ap (λ (n : ℕ). n == other) (sym (eqb-true task.tag tag e)) ∙ h))
+    by true e = absurd (false≢true (sym apart ∙ ap (λ (n : ℕ). n == other) (sym (eqb-true task.tag tag e)) ∙ h))
     by false e = refl
 
-pub leaves_set : (tag : ℕ) (s u : State) (deed : Deed) → u.tasks ≡ s.tasks → u.shorts ≡ s.shorts →
+pub leaves_set : {tag : ℕ} {s : State} (u : State) (deed : Deed) → u.tasks ≡ s.tasks → u.shorts ≡ s.shorts →
     LeavesOthers tag s (set_deed u tag deed)
-leaves_set tag s u deed e f = record { others = others; shorts = f }
+leaves_set {tag} {s} u deed e f = record { others = others; shorts = f }
   where
     others : (other : ℕ) (task : Task) → (tag == other) ≡ false → task_of other s.tasks ≡ Some task →
         task_of other (map (with_deed tag deed) u.tasks) ≡ Some task
@@ -108,46 +102,44 @@ leaves_set tag s u deed e f = record { others = others; shorts = f }
         found ∙ ap Some (cond-false (is_task_of tag task) (record task { deed = deed }) task
         (is_other task tag other apart is))
 
-pub leaves_without : (tag : ℕ) (s u : State) → u.tasks ≡ without_task tag s.tasks → u.shorts ≡ s.shorts →
+pub leaves_without : {tag : ℕ} {s u : State} → u.tasks ≡ without_task tag s.tasks → u.shorts ≡ s.shorts →
     LeavesOthers tag s u
-leaves_without tag s u e f = record {
-  others = λ other task apart h.
-      ap (task_of other) e ∙ found_left (is_task_of other) (λ x. not (is_task_of tag x))
+leaves_without {tag} {s} e f = record {
+  others = λ other task apart h. ap (task_of other) e ∙ found_left (is_task_of other) (λ x. not (is_task_of tag x))
       (λ x is. ap not (is_other x tag other apart is)) s.tasks task h;
   shorts = f;
 }
 
 -- Data
 
-complete_leaves : (s : State) (task : Task) (purpose : Purpose) (bytes : List ℕ) →
+complete_leaves : {s : State} (task : Task) (purpose : Purpose) (bytes : List ℕ) →
     LeavesOthers task.tag s (complete s task purpose bytes)
-complete_leaves s task purpose bytes = completes_by (LeavesOthers task.tag s) s task purpose bytes one
+complete_leaves {s} task purpose bytes = completes_by (LeavesOthers task.tag s) s task purpose bytes one
   where
     one : (k : Completion) → WhyCompleted purpose task k → LeavesOthers task.tag s (completed s task k)
-    one (Told status) why = leaves_set task.tag s s _ refl refl
-    one k why = leaves_set task.tag s _ _ refl refl
+    one (Told status) why = leaves_set s _ refl refl
+    one k why = leaves_set _ _ refl refl
 
-data_for_leaves : (s : State) (task : Task) (deed : Deed) (bytes : List ℕ) →
+data_for_leaves : {s : State} (task : Task) (deed : Deed) (bytes : List ℕ) →
     LeavesOthers task.tag s (data_for s task deed bytes)
-data_for_leaves s task (Gathering purpose gathered asked) bytes =
-    leaves_if task.tag s _ _ (nat_lt (length (gathered ++ bytes)) task.length) (leaves_set task.tag s s _ refl refl)
-    (complete_leaves s task purpose (gathered ++ bytes))
-data_for_leaves s task deed bytes = leaves_all task.tag s
+data_for_leaves {s} task (Gathering purpose gathered asked) bytes =
+    leaves_if (nat_lt (length (gathered ++ bytes)) task.length) (leaves_set s _ refl refl)
+    (complete_leaves task purpose (gathered ++ bytes))
+data_for_leaves {s} task deed bytes = leaves_all
 
-pub data_leaves : (s : State) (tag : ℕ) (x : Option Task) (bytes : List ℕ) → task_of tag s.tasks ≡ x →
+pub data_leaves : {s : State} {tag : ℕ} (x : Option Task) (bytes : List ℕ) → task_of tag s.tasks ≡ x →
     LeavesOthers tag s (data_heard s x bytes)
-data_leaves s tag None bytes e = leaves_all tag s
-data_leaves s tag (Some task) bytes e =
-    subst (λ (n : ℕ). LeavesOthers n s (data_for s task task.deed bytes))
-    (eqb-true task.tag tag (found_is (is_task_of tag) s.tasks task e)) (data_for_leaves s task task.deed bytes)
+data_leaves {s} {tag} None bytes e = leaves_all
+data_leaves {s} {tag} (Some task) bytes e = subst (λ (n : ℕ). LeavesOthers n s (data_for s task task.deed bytes))
+    (eqb-true task.tag tag (found_is (is_task_of tag) s.tasks task e)) (data_for_leaves task task.deed bytes)
 
 -- Replies
 
-behind_leaves : (s : State) (task : Task) (moves : State) (deed : Option Deed) → moves.tasks ≡ s.tasks →
+behind_leaves : {s : State} (task : Task) (moves : State) (deed : Option Deed) → moves.tasks ≡ s.tasks →
     moves.shorts ≡ s.shorts → LeavesOthers task.tag s (task_behind moves task deed)
-behind_leaves s task moves (Some deed) e f = leaves_set task.tag s moves deed e f
-behind_leaves s task moves None e f = leaves_without task.tag s _ (ap (without_task task.tag) e) f
+behind_leaves {s} task moves (Some deed) e f = leaves_set moves deed e f
+behind_leaves {s} task moves None e f = leaves_without (ap (without_task task.tag) e) f
 
-pub replied_leaves : (s : State) (task : Task) → LeavesOthers task.tag s (task_replied s task)
-replied_leaves s task = behind_leaves s task (with_moves s (moves_behind task task.deed)) (deed_behind task task.deed)
+pub replied_leaves : {s : State} (task : Task) → LeavesOthers task.tag s (task_replied s task)
+replied_leaves {s} task = behind_leaves task (with_moves s (moves_behind task task.deed)) (deed_behind task task.deed)
     refl refl

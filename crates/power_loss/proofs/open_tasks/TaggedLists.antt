@@ -1,13 +1,11 @@
 -- Lists whose elements have tags, no tag twice, and lists with a fact for each element: one comes, goes or changes.
-use Rattle.std.proofs.Common.{◌≡◌, ℕ, zero, suc, ◌==◌, ◌||◌, Bool, true, false, cond, List, [], ◌∷◌, ◌++◌, Some, None}
-use Rattle.std.proofs.Common.{map, refl, ◌∙◌, subst, arith}
-use Rattle.std.specs.Prelude.{filter, find, slice_get}
-use Rattle.std.specs.List.{AllByRecursion, list_any}
-use Rattle.std.proofs.lemmas.Bool.Decides.{nat_tests}
-use Rattle.std.proofs.lemmas.List.Elements.{All-filter, All-from_recursion, recursion_from_All}
-use Rattle.std.proofs.lemmas.List.Folds.{list_any-append}
-use Rattle.ufs_spec.proofs.Facts.{none-some, same_Some, or_from, or_parts, eqb-self, cond-false, cond-true}
-use Rattle.ufs_spec.proofs.Lists.{any_none}
+use Rattle.power_loss.proofs.Common.{◌≡◌, ℕ, zero, suc, ◌==◌, ◌||◌, Bool, true, false, cond, List, [], ◌∷◌, ◌++◌, Some}
+use Rattle.power_loss.proofs.Common.{None, map, refl, ◌∙◌, subst, arith, filter, find, AllByRecursion, list_any}
+use Rattle.power_loss.proofs.Common.{nat_tests, All-filter, list_any-append, none-some, same_Some, or_parts, eqb-self}
+use Rattle.power_loss.proofs.Common.{cond-false, cond-true, any_none}
+use Rattle.std.specs.Prelude.{slice_get}
+use Rattle.std.proofs.lemmas.List.Elements.{All-from_recursion, recursion_from_All}
+use Rattle.ufs_spec.proofs.Facts.{or_from}
 use Rattle.power_loss.specs.Exchange.{TagsDiffer}
 
 pub other_way : (m n : ℕ) → (m == n) ≡ false → (n == m) ≡ false
@@ -60,8 +58,7 @@ pub any_push : {A : Type 0} (p : A → Bool) (xs : List A) (x : A) → list_any 
     list_any p (xs ++ x ∷ []) ≡ false
 any_push p xs x h e = list_any-append p xs (x ∷ []) ∙ or_from _ _ h (or_from _ _ e refl)
 
-pub any_fewer : {A : Type 0} (p q : A → Bool) (xs : List A) → list_any p xs ≡ false →
-    list_any p (filter q xs) ≡ false
+pub any_fewer : {A : Type 0} (p q : A → Bool) (xs : List A) → list_any p xs ≡ false → list_any p (filter q xs) ≡ false
 any_fewer p q [] h = refl
 any_fewer p q (x ∷ xs) h =
     let both = or_parts (p x) (list_any p xs) h in
@@ -94,8 +91,7 @@ differ_push tag (y ∷ ys) x new h =
 pub differ_filter : {A : Type 0} (tag : A → ℕ) (q : A → Bool) (xs : List A) → TagsDiffer tag xs →
     TagsDiffer tag (filter q xs)
 differ_filter tag q [] h = tt
-differ_filter tag q (x ∷ xs) h =
-    by (q x) (any_fewer (λ y. tag y == tag x) q xs h.0) (differ_filter tag q xs h.1)
+differ_filter tag q (x ∷ xs) h = by (q x) (any_fewer (λ y. tag y == tag x) q xs h.0) (differ_filter tag q xs h.1)
   where
     by : (b : Bool) → list_any (λ y. tag y == tag x) (filter q xs) ≡ false → TagsDiffer tag (filter q xs) →
         TagsDiffer tag (cond b (x ∷ filter q xs) (filter q xs))
@@ -106,13 +102,10 @@ differ_filter tag q (x ∷ xs) h =
 pub found_at : {A : Type 0} (tag : A → ℕ) (xs : List A) (k : ℕ) (x : A) → TagsDiffer tag xs →
     slice_get xs k ≡ Some x → find (λ y. tag y == tag x) xs ≡ Some x
 found_at tag [] k x differ e = absurd (none-some x e)
-found_at tag (y ∷ ys) zero x differ e =
-    subst (λ z. find (λ w. tag w == tag z) (y ∷ ys) ≡ Some z) (same_Some y x e)
+found_at tag (y ∷ ys) zero x differ e = subst (λ z. find (λ w. tag w == tag z) (y ∷ ys) ≡ Some z) (same_Some y x e)
     (cond-true (tag y == tag y) (Some y) (find (λ w. tag w == tag y) ys) (eqb-self (tag y)))
-found_at tag (y ∷ ys) (suc k) x differ e =
-    cond-false (tag y == tag x) (Some y) (find (λ w. tag w == tag x) ys)
-    (other_way (tag x) (tag y) (any_none (λ w. tag w == tag y) ys k x differ.0 e))
-    ∙ found_at tag ys k x differ.1 e
+found_at tag (y ∷ ys) (suc k) x differ e = cond-false (tag y == tag x) (Some y) (find (λ w. tag w == tag x) ys)
+    (other_way (tag x) (tag y) (any_none (λ w. tag w == tag y) ys k x differ.0 e)) ∙ found_at tag ys k x differ.1 e
 
 -- no element that is found has a tag that none has
 pub none_of_tag : {A : Type 0} (p : A → Bool) (xs : List A) → AllByRecursion (λ x. p x ≡ false) xs → find p xs ≡ None

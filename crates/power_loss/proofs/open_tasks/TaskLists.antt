@@ -1,17 +1,14 @@
 -- What becomes of the tasks and the short exchanges where one comes, goes or changes.
-use Rattle.std.proofs.Common.{◌≡◌, ℕ, ◌+◌, ◌<◌, ◌≤◌, ◌==◌, Bool, true, false, cond, List, [], ◌∷◌, ◌++◌, Option, Some}
-use Rattle.std.proofs.Common.{None, length, map, refl, sym, ap, ◌∙◌, subst, arith}
-use Rattle.std.specs.Prelude.{if◌then◌else◌, filter, find, slice_get}
-use Rattle.std.specs.List.{AllByRecursion, list_any}
-use Rattle.ufs_spec.proofs.Facts.{same_Some, or_parts, eqb-true, cond-false}
-use Rattle.ufs_spec.specs.Exchanges.{Awaiting, Deed, ForFrames, ForUnmap, ForWrite, Gathering, Short, Task, is_short_of}
-use Rattle.ufs_spec.specs.Exchanges.{is_task_of, task_of, with_deed}
-use Rattle.ufs_spec.specs.Machine.{claimed_by}
-use Rattle.ufs_spec.specs.Messages.{AreBytes}
-use Rattle.ufs_spec.specs.declared.configs.Numbers.{Numbers}
-use Rattle.ufs_spec.proofs.Lists.{any_none}
-use Rattle.power_loss.specs.Exchange.{AreApart, DeedFits, DeedsFit, ShortAwaits, ShortFits, ShortsDiffer, ShortsFit}
-use Rattle.power_loss.specs.Exchange.{TasksDiffer, TasksRight, WriteFits, claim_of, claims_of}
+use Rattle.power_loss.proofs.Common.{◌≡◌, ℕ, ◌+◌, ◌<◌, ◌≤◌, ◌==◌, Bool, true, false, cond, List, [], ◌∷◌, ◌++◌, Option}
+use Rattle.power_loss.proofs.Common.{Some, None, length, map, refl, sym, ap, ◌∙◌, subst, arith, filter, find}
+use Rattle.power_loss.proofs.Common.{AllByRecursion, list_any, same_Some, or_parts, eqb-true, cond-false, Numbers}
+use Rattle.power_loss.proofs.Common.{any_none}
+use Rattle.power_loss.proofs.MachineWords.{Awaiting, Deed, ForFrames, ForUnmap, ForWrite, Gathering, Short, Task}
+use Rattle.power_loss.proofs.MachineWords.{is_short_of, is_task_of, task_of, with_deed, claimed_by, AreBytes, AreApart}
+use Rattle.power_loss.proofs.MachineWords.{DeedFits, ShortAwaits, ShortFits, TasksDiffer, TasksRight, WriteFits}
+use Rattle.power_loss.proofs.MachineWords.{claim_of, claims_of}
+use Rattle.std.specs.Prelude.{if◌then◌else◌, slice_get}
+use Rattle.power_loss.specs.Exchange.{DeedsFit, ShortsDiffer, ShortsFit}
 use Rattle.power_loss.proofs.open_tasks.FoundInLists.{found_is}
 use Rattle.power_loss.proofs.open_tasks.TaggedLists.{differ_filter, differ_map, differ_push, each_at, each_filter}
 use Rattle.power_loss.proofs.open_tasks.TaggedLists.{each_found, each_map, each_push, each_weaker, found_at}
@@ -26,63 +23,45 @@ short_tag short = short.tag
 -- Later on, more is accepted and claimed
 
 -- what a WRITE that gathers has fits with other data, at another claim and later on
-pub write_more : (n : Numbers) (m w : Bool) (unit address blocks total : ℕ) (some all : List ℕ) (claimed more : ℕ) →
+pub write_more : {n : Numbers} {m w : Bool} {unit address blocks total : ℕ} {some all : List ℕ} {claimed more : ℕ} →
     (m ≡ true → w ≡ true) → length all < total → (AreBytes some → AreBytes all) → more ≡ claimed →
     WriteFits n m unit address blocks total some claimed → WriteFits n w unit address blocks total all more
-write_more n m w unit address blocks total some all claimed more up short bytes same h = record {
-  unit_in = h.unit_in;
-  some = h.some;
-  not_long = h.not_long;
-  within = h.within;
-  total_is = h.total_is;
-  short = short;
-  bytes = bytes h.bytes;
-  claimed_is = same ∙ h.claimed_is;
-  is_mended = up h.is_mended;
-}
+write_more up short bytes same h = assumption (bytes h.bytes, same ∙ h.claimed_is, up h.is_mended)
 
-deed_more : (n : Numbers) (a b : ℕ) (m w : Bool) (claimed total : ℕ) (deed : Deed) → a ≤ b → (m ≡ true → w ≡ true) →
+deed_more : (n : Numbers) (a b : ℕ) {m w : Bool} (claimed total : ℕ) (deed : Deed) → a ≤ b → (m ≡ true → w ≡ true) →
     DeedFits n a m claimed total deed → DeedFits n b w claimed total deed
-deed_more n a b m w claimed total (Gathering (ForWrite unit address blocks forced) gathered asked) l up h =
-    write_more n m w unit address blocks total gathered gathered claimed claimed up h.short (λ k. k) refl h
-deed_more n a b m w claimed total (Gathering (ForUnmap unit) gathered asked) l up h = h
-deed_more n a b m w claimed total (Gathering ForFrames gathered asked) l up h = h
-deed_more n a b m w claimed total (Awaiting commands) l up h = (omega (arith, h.0), up h.1)
-deed_more n a b m w claimed total deed l up h = h
+deed_more n a b {m} {w} claimed total (Gathering (ForWrite unit address blocks forced) gathered asked) l up h =
+    write_more up h.short (λ k. k) refl h
+deed_more n a b claimed total (Gathering (ForUnmap unit) gathered asked) l up h = h
+deed_more n a b claimed total (Gathering ForFrames gathered asked) l up h = h
+deed_more n a b claimed total (Awaiting commands) l up h = (omega (arith, h.0), up h.1)
+deed_more n a b claimed total deed l up h = h
 
-short_more : (a b : ℕ) (m w : Bool) (awaits : Option ℕ) → a ≤ b → (m ≡ true → w ≡ true) →
+short_more : (a b : ℕ) {m w : Bool} (awaits : Option ℕ) → a ≤ b → (m ≡ true → w ≡ true) →
     ShortAwaits a m awaits → ShortAwaits b w awaits
-short_more a b m w None l up h = tt
-short_more a b m w (Some commands) l up h = (omega (arith, h.0), up h.1)
+short_more a b None l up h = tt
+short_more a b (Some commands) l up h = (omega (arith, h.0), up h.1)
 
-deeds_more : (n : Numbers) (a b : ℕ) (m w : Bool) (tasks : List Task) → a ≤ b → (m ≡ true → w ≡ true) →
+deeds_more : (n : Numbers) (a b : ℕ) {m w : Bool} (tasks : List Task) → a ≤ b → (m ≡ true → w ≡ true) →
     DeedsFit n a m tasks → DeedsFit n b w tasks
-deeds_more n a b m w tasks l up =
-    each_weaker (λ (t : Task). DeedFits n a m (claim_of n t) t.length t.deed)
+deeds_more n a b {m} {w} tasks l up = each_weaker (λ (t : Task). DeedFits n a m (claim_of n t) t.length t.deed)
     (λ (t : Task). DeedFits n b w (claim_of n t) t.length t.deed)
-    (λ t k. deed_more n a b m w (claim_of n t) t.length t.deed l up k) tasks
+    (λ t k. deed_more n a b (claim_of n t) t.length t.deed l up k) tasks
 
-shorts_more : (a b : ℕ) (m w : Bool) (shorts : List Short) → a ≤ b → (m ≡ true → w ≡ true) → ShortsFit a m shorts →
+shorts_more : (a b : ℕ) {m w : Bool} (shorts : List Short) → a ≤ b → (m ≡ true → w ≡ true) → ShortsFit a m shorts →
     ShortsFit b w shorts
-shorts_more a b m w shorts l up =
-    each_weaker (ShortFits a m) (ShortFits b w)
+shorts_more a b {m} {w} shorts l up = each_weaker (ShortFits a m) (ShortFits b w)
     (λ x k. record {
-      awaits = short_more a b m w x.awaits l up k.awaits;
+      awaits = short_more a b x.awaits l up k.awaits;
       reply = k.reply;
       locked_reply = k.locked_reply;
-    })
-    shorts
+    }) shorts
 
-pub tasks_more : (n : Numbers) (a b : ℕ) (m w : Bool) (c d : ℕ) (tasks : List Task) (shorts : List Short) → a ≤ b →
+pub tasks_more : {n : Numbers} {a b : ℕ} {m w : Bool} {c d : ℕ} {tasks : List Task} {shorts : List Short} → a ≤ b →
     (m ≡ true → w ≡ true) → c ≤ d → TasksRight n a m c tasks shorts → TasksRight n b w d tasks shorts
-tasks_more n a b m w c d tasks shorts l up more h = record {
-  deeds = deeds_more n a b m w tasks l up h.deeds;
-  waits = shorts_more a b m w shorts l up h.waits;
-  tasks_differ = h.tasks_differ;
-  shorts_differ = h.shorts_differ;
-  apart = h.apart;
-  claimed = omega (arith, h.claimed);
-}
+tasks_more {n = n} {a = a} {b = b} {m = m} {w = w} {d = d} {tasks = tasks} {shorts = shorts} l up more h =
+    let claimed : claims_of n tasks ≤ d = omega (arith, h.claimed) in
+    assumption (deeds_more n a b tasks l up h.deeds, shorts_more a b shorts l up h.waits)
 
 -- A change of each task
 
@@ -93,26 +72,25 @@ pub record KeepsTasks (n : Numbers) (a : ℕ) (m : Bool) (f : Task → Task) : T
       DeedFits n a m (claim_of n (f t)) (f t).length (f t).deed
   pub claim : (t : Task) → claim_of n (f t) ≤ claim_of n t
 
-claims_kept : (n : Numbers) (a : ℕ) (m : Bool) (f : Task → Task) → KeepsTasks n a m f → (tasks : List Task) →
+claims_kept : {n : Numbers} {a : ℕ} {m : Bool} {f : Task → Task} → KeepsTasks n a m f → (tasks : List Task) →
     claims_of n (map f tasks) ≤ claims_of n tasks
-claims_kept n a m f k [] = omega arith
-claims_kept n a m f k (t ∷ ts) = let one = k.claim t in let rest = claims_kept n a m f k ts in omega arith
+claims_kept k [] = omega arith
+claims_kept {n} {a} {m} {f} k (t ∷ ts) = let one = k.claim t in let rest = claims_kept k ts in omega arith
 
 apart_map : (f : Task → Task) → ((t : Task) → (f t).tag ≡ t.tag) → (shorts : List Short) (tasks : List Task) →
     AreApart shorts tasks → AreApart shorts (map f tasks)
-apart_map f same shorts tasks h =
-    each_map (λ (t : Task). list_any (is_short_of t.tag) shorts ≡ false) f
+apart_map f same shorts tasks h = each_map (λ (t : Task). list_any (is_short_of t.tag) shorts ≡ false) f
     (λ t k. ap (λ (tag : ℕ). list_any (is_short_of tag) shorts) (same t) ∙ k) tasks h
 
-pub tasks_kept : (n : Numbers) (a : ℕ) (m : Bool) (c : ℕ) (f : Task → Task) (tasks : List Task) (shorts : List Short) →
+pub tasks_kept : {n : Numbers} {a : ℕ} {m : Bool} {c : ℕ} {f : Task → Task} {tasks : List Task} {shorts : List Short} →
     KeepsTasks n a m f → TasksRight n a m c tasks shorts → TasksRight n a m c (map f tasks) shorts
-tasks_kept n a m c f tasks shorts k h = record {
+tasks_kept {n = n} {a = a} {m = m} {f = f} {tasks = tasks} {shorts = shorts} k h = record {
   deeds = each_map (λ (t : Task). DeedFits n a m (claim_of n t) t.length t.deed) f k.fits tasks h.deeds;
   waits = h.waits;
   tasks_differ = differ_map tag_of f k.tag tasks h.tasks_differ;
   shorts_differ = h.shorts_differ;
   apart = apart_map f k.tag shorts tasks h.apart;
-  claimed = let l = claims_kept n a m f k tasks in omega (arith, h.claimed);
+  claimed = let l = claims_kept k tasks in omega (arith, h.claimed);
 }
 
 -- One task changes
@@ -132,35 +110,34 @@ none_changed tag deed (t ∷ ts) h =
     λ i. cond-false (is_task_of tag t) (record t { deed = deed }) t both.0 i ∷ none_changed tag deed ts both.1 i
 
 -- the others stay
-rest_stays : (tag : ℕ) (deed : Deed) (t : Task) (ts : List Task) → TasksDiffer (t ∷ ts) → is_task_of tag t ≡ true →
+rest_stays : (tag : ℕ) (deed : Deed) (t : Task) {ts : List Task} → TasksDiffer (t ∷ ts) → is_task_of tag t ≡ true →
     map (with_deed tag deed) ts ≡ ts
-rest_stays tag deed t ts differ e =
-    none_changed tag deed ts
+rest_stays tag deed t {ts} differ e = none_changed tag deed ts
     (subst (λ (n : ℕ). list_any (is_task_of n) ts ≡ false) (eqb-true t.tag tag e) differ.0)
 
 -- a fact of each task stays, where it holds of the one that changes
-pub each_set : (P : Task → Type 0) (tag : ℕ) (task : Task) (deed : Deed) (tasks : List Task) → TasksDiffer tasks →
+pub each_set : (P : Task → Type 0) (tag : ℕ) {task : Task} (deed : Deed) (tasks : List Task) → TasksDiffer tasks →
     task_of tag tasks ≡ Some task → P (record task { deed = deed }) → AllByRecursion P tasks →
     AllByRecursion P (map (with_deed tag deed) tasks)
-each_set P tag task deed [] differ found p all = tt
-each_set P tag task deed (t ∷ ts) differ found p all =
-    by (is_task_of tag t) refl found (λ k. each_set P tag task deed ts differ.1 k p all.1)
+each_set P tag deed [] differ found p all = tt
+each_set P tag {task} deed (t ∷ ts) differ found p all =
+    by (is_task_of tag t) refl found (λ k. each_set P tag deed ts differ.1 k p all.1)
   where
     by : (b : Bool) → is_task_of tag t ≡ b → cond b (Some t) (task_of tag ts) ≡ Some task →
         (task_of tag ts ≡ Some task → AllByRecursion P (map (with_deed tag deed) ts)) →
         P (if b then record t { deed = deed } else t) × AllByRecursion P (map (with_deed tag deed) ts)
     by true e k rest = (
       subst (λ (x : Task). P (record x { deed = deed })) (sym (same_Some t task k)) p,
-      subst (AllByRecursion P) (sym (rest_stays tag deed t ts differ e)) all.1,
+      subst (AllByRecursion P) (sym (rest_stays tag deed t differ e)) all.1,
     )
     by false e k rest = (all.0, rest k)
 
-claims_set : (n : Numbers) (tag : ℕ) (task : Task) (deed : Deed) (tasks : List Task) → TasksDiffer tasks →
+claims_set : (n : Numbers) (tag : ℕ) {task : Task} (deed : Deed) (tasks : List Task) → TasksDiffer tasks →
     task_of tag tasks ≡ Some task →
     claims_of n (map (with_deed tag deed) tasks) + claim_of n task ≡ claims_of n tasks + claimed_by n deed task.command
-claims_set n tag task deed [] differ found = cc
-claims_set n tag task deed (t ∷ ts) differ found =
-    by (is_task_of tag t) refl found (λ k. claims_set n tag task deed ts differ.1 k)
+claims_set n tag deed [] differ found = cc
+claims_set n tag {task} deed (t ∷ ts) differ found =
+    by (is_task_of tag t) refl found (λ k. claims_set n tag deed ts differ.1 k)
   where
     by : (b : Bool) → is_task_of tag t ≡ b → cond b (Some t) (task_of tag ts) ≡ Some task →
         (task_of tag ts ≡ Some task → claims_of n (map (with_deed tag deed) ts) + claim_of n task
@@ -168,27 +145,28 @@ claims_set n tag task deed (t ∷ ts) differ found =
         claim_of n (if b then record t { deed = deed } else t) + claims_of n (map (with_deed tag deed) ts)
         + claim_of n task ≡ claims_of n (t ∷ ts) + claimed_by n deed task.command
     by true e k rest =
-        let same = ap (claims_of n) (rest_stays tag deed t ts differ e) in
+        let same = ap (claims_of n) (rest_stays tag deed t differ e) in
         let was = ap (claim_of n) (same_Some t task k) in
         let is = ap (λ (x : Task). claimed_by n deed x.command) (same_Some t task k) in
         omega arith
     by false e k rest = let r = rest k in omega arith
 
 -- the task of a tag does something else from now on, with so many claims left
-pub task_set : {n : Numbers} {a b : ℕ} {m w : Bool} {c d : ℕ} (task : Task) (tag : ℕ) (deed : Deed)
+pub task_set : {n : Numbers} {a b : ℕ} {m w : Bool} {c d : ℕ} {task : Task} (tag : ℕ) (deed : Deed)
     {tasks : List Task} {shorts : List Short} → a ≤ b → (m ≡ true → w ≡ true) → task_of tag tasks ≡ Some task →
     DeedFits n b w (claimed_by n deed task.command) task.length deed →
     c + claimed_by n deed task.command ≤ d + claim_of n task →
     TasksRight n a m c tasks shorts → TasksRight n b w d (map (with_deed tag deed) tasks) shorts
-task_set {n} {a} {b} {m} {w} {c} {d} task tag deed {tasks} {shorts} l up there new more h = record {
-  deeds = each_set (λ (t : Task). DeedFits n b w (claim_of n t) t.length t.deed) tag task deed tasks h.tasks_differ
-      there new (deeds_more n a b m w tasks l up h.deeds);
-  waits = shorts_more a b m w shorts l up h.waits;
-  tasks_differ = differ_map tag_of (with_deed tag deed) (deed_tag tag deed) tasks h.tasks_differ;
-  shorts_differ = h.shorts_differ;
-  apart = apart_map (with_deed tag deed) (deed_tag tag deed) shorts tasks h.apart;
-  claimed = let e = claims_set n tag task deed tasks h.tasks_differ there in omega (arith, h.claimed);
-}
+task_set {n = n} {a = a} {b = b} {m = m} {w = w} {task = task} tag deed {tasks} {shorts} l up there new more h =
+    record {
+      deeds = each_set (λ (t : Task). DeedFits n b w (claim_of n t) t.length t.deed) tag deed tasks h.tasks_differ
+          there new (deeds_more n a b tasks l up h.deeds);
+      waits = shorts_more a b shorts l up h.waits;
+      tasks_differ = differ_map tag_of (with_deed tag deed) (deed_tag tag deed) tasks h.tasks_differ;
+      shorts_differ = h.shorts_differ;
+      apart = apart_map (with_deed tag deed) (deed_tag tag deed) shorts tasks h.apart;
+      claimed = let e = claims_set n tag deed tasks h.tasks_differ there in omega (arith, h.claimed);
+    }
 
 -- One task more
 
@@ -238,8 +216,7 @@ tasks_fewer {n} {a} {m} {c} q {tasks} {shorts} h = record {
 apart_shorts : (shorts more : List Short) (tasks : List Task) →
     ((t : Task) → list_any (is_short_of t.tag) shorts ≡ false →
     list_any (is_short_of t.tag) more ≡ false) → AreApart shorts tasks → AreApart more tasks
-apart_shorts shorts more tasks keeps h =
-    each_weaker (λ (t : Task). list_any (is_short_of t.tag) shorts ≡ false)
+apart_shorts shorts more tasks keeps h = each_weaker (λ (t : Task). list_any (is_short_of t.tag) shorts ≡ false)
     (λ (t : Task). list_any (is_short_of t.tag) more ≡ false) keeps tasks h
 
 shorts_apart_more : (shorts : List Short) (tasks : List Task) (x : Short) → list_any (is_task_of x.tag) tasks ≡ false →
@@ -251,46 +228,37 @@ shorts_apart_more shorts (t ∷ ts) x new h =
       shorts_apart_more shorts ts x both.1 h.1,
     )
 
-pub short_opened : {n : Numbers} {a : ℕ} {m : Bool} {c : ℕ} {tasks : List Task} {shorts : List Short} (x : Short) →
+pub short_opened : {n : Numbers} {a : ℕ} {m : Bool} {c : ℕ} {tasks : List Task} {shorts : List Short} {x : Short} →
     list_any (is_task_of x.tag) tasks ≡ false → list_any (is_short_of x.tag) shorts ≡ false → ShortFits a m x →
     TasksRight n a m c tasks shorts → TasksRight n a m c tasks (shorts ++ x ∷ [])
-short_opened {n} {a} {m} {c} {tasks} {shorts} x no_task no_short new h = record {
-  deeds = h.deeds;
-  waits = each_push (ShortFits a m) shorts x h.waits new;
-  tasks_differ = h.tasks_differ;
-  shorts_differ = differ_push short_tag shorts x no_short h.shorts_differ;
-  apart = shorts_apart_more shorts tasks x no_task h.apart;
-  claimed = h.claimed;
-}
+short_opened {a = a} {m = m} {tasks = tasks} {shorts = shorts} {x = x} no_task no_short new h = assumption (
+  each_push (ShortFits a m) shorts x h.waits new,
+  differ_push short_tag shorts x no_short h.shorts_differ,
+  shorts_apart_more shorts tasks x no_task h.apart,
+)
 
 pub shorts_fewer : {n : Numbers} {a : ℕ} {m : Bool} {c : ℕ} (q : Short → Bool) {tasks : List Task}
     {shorts : List Short} → TasksRight n a m c tasks shorts → TasksRight n a m c tasks (filter q shorts)
-shorts_fewer {n} {a} {m} {c} q {tasks} {shorts} h = record {
-  deeds = h.deeds;
-  waits = each_filter (ShortFits a m) q shorts h.waits;
-  tasks_differ = h.tasks_differ;
-  shorts_differ = differ_filter short_tag q shorts h.shorts_differ;
-  apart = apart_shorts shorts (filter q shorts) tasks (λ t k. any_fewer (is_short_of t.tag) q shorts k) h.apart;
-  claimed = h.claimed;
-}
+shorts_fewer {n} {a} {m} {c} q {tasks} {shorts} h = assumption (
+  each_filter (ShortFits a m) q shorts h.waits,
+  differ_filter short_tag q shorts h.shorts_differ,
+  apart_shorts shorts (filter q shorts) tasks (λ t k. any_fewer (is_short_of t.tag) q shorts k) h.apart,
+)
 
 -- a change of each short exchange that keeps what fits
 pub record KeepsShorts (a : ℕ) (m : Bool) (f : Short → Short) : Type 0 where
   pub tag : (x : Short) → (f x).tag ≡ x.tag
   pub fits : (x : Short) → ShortFits a m x → ShortFits a m (f x)
 
-pub shorts_kept : (n : Numbers) (a : ℕ) (m : Bool) (c : ℕ) (f : Short → Short) (tasks : List Task)
-    (shorts : List Short) → KeepsShorts a m f → TasksRight n a m c tasks shorts →
+pub shorts_kept : {n : Numbers} {a : ℕ} {m : Bool} {c : ℕ} {f : Short → Short} {tasks : List Task}
+    {shorts : List Short} → KeepsShorts a m f → TasksRight n a m c tasks shorts →
     TasksRight n a m c tasks (map f shorts)
-shorts_kept n a m c f tasks shorts k h = record {
-  deeds = h.deeds;
-  waits = each_map (ShortFits a m) f k.fits shorts h.waits;
-  tasks_differ = h.tasks_differ;
-  shorts_differ = differ_map short_tag f k.tag shorts h.shorts_differ;
-  apart = apart_shorts shorts (map f shorts) tasks
-      (λ t e. any_map (is_short_of t.tag) (is_short_of t.tag) f (λ x. λ i. k.tag x i == t.tag) shorts ∙ e) h.apart;
-  claimed = h.claimed;
-}
+shorts_kept {a = a} {m = m} {f = f} {tasks = tasks} {shorts = shorts} k h = assumption (
+  each_map (ShortFits a m) f k.fits shorts h.waits,
+  differ_map short_tag f k.tag shorts h.shorts_differ,
+  apart_shorts shorts (map f shorts) tasks
+      (λ t e. any_map (is_short_of t.tag) (is_short_of t.tag) f (λ x. λ i. k.tag x i == t.tag) shorts ∙ e) h.apart,
+)
 
 -- What is found by its tag
 
@@ -326,11 +294,10 @@ found_fits n a m tag tasks t h e = (
 -- no task has the tag of a short exchange
 pub no_task_found : (shorts : List Short) (tasks : List Task) (k : ℕ) (x : Short) → AreApart shorts tasks →
     slice_get shorts k ≡ Some x → task_of x.tag tasks ≡ None
-no_task_found shorts tasks k x apart e =
-    none_of_tag (is_task_of x.tag) tasks
+no_task_found shorts tasks k x apart e = none_of_tag (is_task_of x.tag) tasks
     (each_weaker (λ (t : Task). list_any (is_short_of t.tag) shorts ≡ false) (λ (t : Task). is_task_of x.tag t ≡ false)
     (λ t none. other_way x.tag t.tag (any_none (is_short_of t.tag) shorts k x none e)) tasks apart)
 
-pub short_fits_at : (a : ℕ) (m : Bool) (shorts : List Short) (k : ℕ) (x : Short) → ShortsFit a m shorts →
+pub short_fits_at : {a : ℕ} {m : Bool} (shorts : List Short) (k : ℕ) (x : Short) → ShortsFit a m shorts →
     slice_get shorts k ≡ Some x → ShortFits a m x
-short_fits_at a m = each_at (ShortFits a m)
+short_fits_at {a} {m} = each_at (ShortFits a m)

@@ -1,28 +1,17 @@
 -- A device can be opened over any array that is sound and suits it: the state that an opening finds is one.
-use Rattle.std.proofs.Common.{◌≡◌, ℕ, suc, ◌≤◌, Bool, true, false, [], Option, Some, None, refl, ap, subst, arith}
+use Rattle.power_loss.proofs.Common.{◌≡◌, ℕ, suc, ◌≤◌, Bool, true, false, [], Option, Some, None, refl, ap, subst}
+use Rattle.power_loss.proofs.Common.{arith, AreWithin, Array, Cells, Mark, Shows, Disk, Spot, content, HoldAll, IsKept}
+use Rattle.power_loss.proofs.Common.{IsNewestMark, StandsFor, fence_in, Ledger, IsOpenedTranslation, IsTop, lost_from}
+use Rattle.power_loss.proofs.Common.{number_of, Plain, CellsSound, CellsSuit, Sound, Suits, Translation, Numbers, Fence}
+use Rattle.power_loss.proofs.Common.{none-some, CellsRight}
+use Rattle.power_loss.proofs.MachineWords.{IsOpened, State, IsArrayOf}
 use Rattle.ufs_laws.proofs.array_cells.NewestFound.{holds}
 use Rattle.ufs_laws.proofs.array_cells.StandsForOne.{cells_one, mark_one}
 use Rattle.ufs_laws.proofs.pages.PageIsOneCell.{one_cell}
-use Rattle.ufs_laws.proofs.array_cells.StandsForSomething.{ContentsArePlain, ContentsAreThere, stands_for_something}
-use Rattle.ufs_laws.proofs.array_cells.StandsForSomething.{within_dies}
+use Rattle.ufs_laws.proofs.array_cells.StandsForSomething.{stands_for_something, within_dies}
 use Rattle.ufs_laws.proofs.plain_contents.PlainFromContents.{contents_there, state_is_plain}
-use Rattle.ufs_spec.specs.Cells.{AreWithin, Array, Cells, Mark, Shows}
-use Rattle.ufs_spec.specs.Disk.{Disk, Spot}
 use Rattle.ufs_spec.specs.Exchanges.{empty_registers}
-use Rattle.ufs_spec.specs.Keys.{content}
-use Rattle.ufs_spec.specs.Kept.{HoldAll, IsKept, IsNewestMark, StandsFor, fence_in}
-use Rattle.ufs_spec.specs.Ledger.{Ledger}
-use Rattle.ufs_spec.specs.Lives.{IsOpened}
-use Rattle.ufs_spec.specs.Openings.{IsOpenedDisk, IsOpenedLedger, IsOpenedTranslation, IsTop, lost_from, number_of}
-use Rattle.ufs_spec.specs.Plain.{Plain}
-use Rattle.ufs_spec.specs.Sound.{CellsSound, CellsSuit, Sound, Suits}
-use Rattle.ufs_spec.specs.Refusals.{State}
-use Rattle.ufs_spec.specs.Translation.{Translation}
-use Rattle.ufs_spec.specs.declared.configs.Numbers.{Numbers}
-use Rattle.ufs_spec.specs.declared.flash.Fence.{Fence}
-use Rattle.ufs_spec.proofs.Facts.{none-some}
-use Rattle.power_loss.specs.Book.{CellsRight}
-use Rattle.power_loss.specs.Exchange.{IsArrayOf}
+use Rattle.ufs_spec.specs.Openings.{IsOpenedDisk, IsOpenedLedger}
 use Rattle.power_loss.proofs.openings.OpenedFromPages.{cells_right}
 use Rattle.power_loss.proofs.openings.FoundInCells.{block_at, first_of, is_entry, mending_at, some_top, stands_at}
 
@@ -167,16 +156,12 @@ ordered_fence : {c : Cells} (m : Option Mark) → CellsRight c → IsNewestMark 
 ordered_fence None right newest f e = absurd (none-some f e)
 ordered_fence (Some m) right newest f e = right.fences newest.0.0 m f newest.0.1 e
 
-are_plain : ContentsArePlain
-are_plain = state_is_plain
-
-are_there : ContentsAreThere
-are_there = λ s f contents whole k is_key. contents_there s f contents k is_key
-
 pub any_opens : (n : Numbers) (array : Array) (bad : Spot → Bool) → IsArrayOf n array → Sound array → Suits n array →
     (s : State) × IsOpened n array bad s
 any_opens n array bad inside sound suits =
-    let found = stands_for_something are_plain are_there n array inside sound suits in
+    let found =
+    stands_for_something state_is_plain (λ s f contents whole k is_key. contents_there s f contents k is_key) n
+    array inside sound suits in
     let base : Plain = found.0 in
     let c : Cells = found.1.0 in
     let shown : Shows array c = found.1.1 in
@@ -185,8 +170,7 @@ any_opens n array bad inside sound suits =
     let same : sound.cells ≡ c = cells_one one_cell array sound.cells c sound.shown shown in
     let suited : suits.cells ≡ c = cells_one one_cell array suits.cells c suits.shown shown in
     let first : IsNewestMark c sound.newest = subst (λ x. IsNewestMark x sound.newest) same sound.is_newest in
-    let other : IsNewestMark c suits.newest = subst
-    (λ x. IsNewestMark x suits.newest) suited suits.is_newest in
+    let other : IsNewestMark c suits.newest = subst (λ x. IsNewestMark x suits.newest) suited suits.is_newest in
     let right : CellsSound c sound.newest = subst (λ x. CellsSound x sound.newest) same sound.sound in
     let one : suits.newest ≡ is.newest = mark_one c sound.newest suits.newest is.newest right other is.is_newest in
     let suit : CellsSuit n c is.newest = subst (CellsSuit n c) one

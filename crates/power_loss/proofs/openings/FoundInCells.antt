@@ -1,24 +1,15 @@
 -- What an opening finds in cells: the page of each name, the greatest number seen, the lost keys in order, the mending
 -- that is due and the state of each block.
-use Rattle.std.proofs.Common.{◌≡◌, ◌≢◌, ◌⊎◌, ℕ, suc, ◌≤◌, Bool, true, false, List, Option, Some, None, refl, sym, ap}
-use Rattle.std.proofs.Common.{◌∙◌, subst, inl, inr, ⊎_elim, arith}
+use Rattle.power_loss.proofs.Common.{◌≡◌, ◌≢◌, ◌⊎◌, ℕ, suc, ◌≤◌, Bool, true, false, List, Option, Some, None, refl, sym}
+use Rattle.power_loss.proofs.Common.{ap, ◌∙◌, subst, inl, inr, ⊎_elim, arith, AreWithin, Cell, Cells, GroupPage}
+use Rattle.power_loss.proofs.Common.{IsPlace, Mark, MarkPage, Nothing, key_of, BlockState, Bad, Closed, Free, Spot}
+use Rattle.power_loss.proofs.Common.{same_spot, spot_of, Holds, fence_in, Entry, Name, AreLost, HasName, IsAtMost}
+use Rattle.power_loss.proofs.Common.{IsBlockState, IsEntry, IsFirst, IsMendingAt, IsTop, StandsAt, Mended, Mending}
+use Rattle.power_loss.proofs.Common.{Unmarked, name_of, Numbers, Fence, Key, Place, Tag, none-some, name_cases}
+use Rattle.power_loss.proofs.Common.{spot_cases, mark_not_nothing, page_not_nothing}
 use Rattle.std.specs.Prelude.{max, if◌then◌else◌}
 use Rattle.ufs_laws.proofs.deciding.SearchOverPlaces.{Decided, Greatest, greatest, is_place, some_cell, split}
-use Rattle.ufs_spec.specs.Cells.{AreWithin, Cell, Cells, GroupPage, IsPlace, Mark, MarkPage, Nothing, key_of}
-use Rattle.ufs_spec.specs.Disk.{BlockState, Bad, Closed, Free, Spot, same_spot, spot_of}
-use Rattle.ufs_spec.specs.Kept.{Holds, fence_in}
-use Rattle.ufs_spec.specs.Ledger.{Entry, Name}
-use Rattle.ufs_spec.specs.Openings.{AreLost, HasName, IsAtMost, IsBlockState, IsEntry, IsFirst, IsLost, IsMendingAt}
-use Rattle.ufs_spec.specs.Openings.{IsTop, StandsAt}
-use Rattle.ufs_spec.specs.Translation.{Mended, Mending, Unmarked, name_of}
-use Rattle.ufs_spec.specs.declared.configs.Numbers.{Numbers}
-use Rattle.ufs_spec.specs.declared.flash.Fence.{Fence}
-use Rattle.ufs_spec.specs.declared.flash.Key.{Key}
-use Rattle.ufs_spec.specs.declared.flash.Place.{Place}
-use Rattle.ufs_spec.specs.declared.flash.Tag.{Tag}
-use Rattle.ufs_spec.proofs.Facts.{none-some}
-use Rattle.ufs_spec.proofs.Equalities.{name_cases, spot_cases}
-use Rattle.ufs_spec.proofs.CellKinds.{mark_not_nothing, page_not_nothing}
+use Rattle.ufs_spec.specs.Openings.{IsLost}
 use Rattle.power_loss.proofs.books.PagesByName.{entry_for}
 use Rattle.power_loss.proofs.ordered_lists.LowestPlaces.{lowest}
 use Rattle.power_loss.proofs.ordered_lists.SortedKeys.{Below, Listed, at_has, collect, has_at, none_listed, one_listed}
@@ -26,15 +17,15 @@ use Rattle.power_loss.proofs.ordered_lists.SortedKeys.{ordered_at}
 
 -- Pages by name
 
-is_name : {a : Name} (b : Name) → Decided (a ≡ b)
-is_name {a} b = ⊎_elim (λ h. inl h.1) (λ h. inr h.1) (name_cases a b)
+is_name : {a : Name} {b : Name} → Decided (a ≡ b)
+is_name {a} {b} = ⊎_elim (λ h. inl h.1) (λ h. inr h.1) (name_cases a b)
 
 abbrev IsNamed : Name → Cell → Type 0
 IsNamed name (GroupPage t body) = name_of t ≡ name
 IsNamed name other = ⊥
 
 is_named : (name : Name) (x : Cell) → Decided (IsNamed name x)
-is_named name (GroupPage t body) = is_name name
+is_named name (GroupPage t body) = is_name
 is_named name x = inr (λ h. h)
 
 named_page : {name : Name} (x : Cell) → IsNamed name x → (t : Tag) × (body : List ℕ) × (x ≡ GroupPage t body) ×
@@ -45,28 +36,20 @@ named_page x h = absurd h
 has_name : (c : Cells) {name : Name} {p : Place} → HasName c name p → IsNamed name (c p)
 has_name c {name} h = subst (IsNamed name) (sym h.2) h.3
 
-name_has : (c : Cells) {name : Name} (p : Place) → IsNamed name (c p) → HasName c name p
-name_has c p h = named_page (c p) h
-
 module _ (n : Numbers) (c : Cells) (within : AreWithin n c) where
   pub stands_at : (name : Name) → (o : Option Place) × StandsAt c name o
-  stands_at name =
-      ⊎_elim
-      (λ h. (Some h.0, (name_has c h.0 h.1.0, λ q g. h.1.1 q (has_name c g))))
-      (λ no. (None, λ p h. no p (has_name c h)))
-      (lowest n c within (IsNamed name) (is_named name) (λ h. h))
+  stands_at name = ⊎_elim (λ h. (Some h.0, ((named_page (c h.0) h.1.0), λ q g. h.1.1 q (has_name c g))))
+      (λ no. (None, λ p h. no p (has_name c h))) (lowest n c within (IsNamed name) (is_named name) (λ h. h))
 
   entry_of : (t : Tag) (body : List ℕ) → Entry
   entry_of t body = entry_for t body
 
   pub is_entry : (name : Name) → (o : Option Entry) × IsEntry c name o
   unfolding entry_of
-  is_entry name =
-      ⊎_elim
+  is_entry name = ⊎_elim
       (λ h.
       let g = named_page (c h.0) h.1 in
-      (Some (entry_of g.0 g.1), (h.0, g.0, g.2, g.3, refl, refl)))
-      (λ no. (None, λ p h. no (p, has_name c h)))
+      (Some (entry_of g.0 g.1), (h.0, g.0, g.2, g.3, refl, refl))) (λ no. (None, λ p h. no (p, has_name c h)))
       (some_cell n c within (IsNamed name) (is_named name) (λ h. h))
 
   -- The name that a key begins with
@@ -100,13 +83,11 @@ module _ (n : Numbers) (c : Cells) (within : AreWithin n c) where
   fence_low None x h = omega arith
   fence_low (Some g) x h = h g refl
 
-  low_fence : (f : Option Fence) (g : Fence) → f ≡ Some g → g.last ≡ last_of f
-  low_fence f g e = ap last_of (sym e)
-
-  at_most : (m : Option Mark) (x : ℕ) → IsAtMost c m x → (p : Place) (y : Cell) → c p ≡ y → weight y ≤ x
-  at_most m x h p Nothing e = omega arith
-  at_most m x h p (GroupPage t body) e = max_low t.number t.frontier x (h.numbers p t body e) (h.frontiers p t body e)
-  at_most m x h p (MarkPage o) e = h.marks p o e
+  at_most : {m : Option Mark} {x : ℕ} → IsAtMost c m x → (p : Place) (y : Cell) → c p ≡ y → weight y ≤ x
+  at_most h p Nothing e = omega arith
+  at_most {x = x} h p (GroupPage t body) e =
+      max_low t.number t.frontier x (h.numbers p t body e) (h.frontiers p t body e)
+  at_most h p (MarkPage o) e = h.marks p o e
 
   module _ (m : Option Mark) (g : Greatest c weight) where
     top : ℕ
@@ -119,11 +100,8 @@ module _ (n : Numbers) (c : Cells) (within : AreWithin n c) where
 
     least : (x : ℕ) → IsAtMost c m x → top ≤ x
     unfolding top
-    least x h =
-        max_low g.weight (last_of (fence_in m)) x
-        (⊎_elim (λ e. omega arith)
-        (λ r. let l = at_most m x h r.0
-        (c r.0) refl in let e = r.1 in omega arith) g.reached)
+    least x h = max_low g.weight (last_of (fence_in m)) x
+        (⊎_elim (λ e. omega arith) (λ r. let l = at_most h r.0 (c r.0) refl in let e = r.1 in omega arith) g.reached)
         (fence_low (fence_in m) x h.fence)
 
     is_top : IsTop c m top
@@ -135,8 +113,7 @@ module _ (n : Numbers) (c : Cells) (within : AreWithin n c) where
         frontiers = λ p t body e. let a = above p
             (GroupPage t body) e in let b = right_max t.number t.frontier in omega arith;
         marks = λ p o e. above p (MarkPage o) e;
-        fence = λ f e. let a = right_max g.weight (last_of (fence_in m)) in let b = low_fence
-            (fence_in m) f e in omega arith;
+        fence = λ f e. let a = right_max g.weight (last_of (fence_in m)) in let b = (ap last_of (sym e)) in omega arith;
       },
       least,
     )
@@ -151,15 +128,10 @@ module _ (n : Numbers) (c : Cells) (within : AreWithin n c) where
   LostAt low last other k = ⊥
 
   lost_at : (low last : ℕ) (x : Cell) → Listed (LostAt low last x)
-  lost_at low last (GroupPage t body) =
-      ⊎_elim
-      (λ l.
-      ⊎_elim
-      (λ u. one_listed (LostAt low last (GroupPage t body)) (key_of t) (refl, l, u) (λ k h. h.0))
-      (λ u. none_listed _ (λ k h. let x = h.2 in omega arith))
-      (split t.number last))
-      (λ l. none_listed _ (λ k h. let x = h.1 in omega arith))
-      (split low t.number)
+  lost_at low last (GroupPage t body) = ⊎_elim
+      (λ l. ⊎_elim (λ u. one_listed (LostAt low last (GroupPage t body)) (refl, l, u) (λ k h. h.0))
+      (λ u. none_listed _ (λ k h. let x = h.2 in omega arith)) (split t.number last))
+      (λ l. none_listed _ (λ k h. let x = h.1 in omega arith)) (split low t.number)
   lost_at low last x = none_listed _ (λ k h. h)
 
   abbrev at : ℕ → ℕ → ℕ → Place
@@ -190,8 +162,8 @@ module _ (n : Numbers) (c : Cells) (within : AreWithin n c) where
       let i = inside p h.1 h.2 h.3 in
       (p.die, i.die, (p.block, i.block, (p.page, i.page, subst (λ x. LostAt low last x k) (sym h.3) (h.4, h.5, h.6))))
 
-  are_lost : (low last : ℕ) → (keys : List Key) × AreLost c low last keys
-  are_lost low last =
+  are_lost : {low last : ℕ} → (keys : List Key) × AreLost c low last keys
+  are_lost {low} {last} =
       let l = lost_on low last in (
         l.keys,
         record {
@@ -212,13 +184,12 @@ module _ (n : Numbers) (c : Cells) (within : AreWithin n c) where
   pub mending_at : (m : Option Mark) (low last : ℕ) → ((f : Fence) → fence_in m ≡ Some f → low ≤ last) →
       (w : Mending) × IsMendingAt c m low last w
   mending_at None low last wide =
-      let keys = are_lost low last in
+      let keys = are_lost in
       ⊎_elim
       (λ l. (Unmarked (Some (record { first = low; last = last })) keys.0, ((λ h. h.0 refl), (refl, refl, l), keys.1)))
-      (λ l. (Unmarked None keys.0, ((λ h. h.0 refl), (refl, l), keys.1)))
-      (split low last)
+      (λ l. (Unmarked None keys.0, ((λ h. h.0 refl), (refl, l), keys.1))) (split low last)
   mending_at (Some mark) low last wide =
-      let keys = are_lost low last in
+      let keys = are_lost in
       ⊎_elim
       (λ l. (
         Unmarked (Some (record { first = low; last = last })) keys.0,
@@ -228,12 +199,10 @@ module _ (n : Numbers) (c : Cells) (within : AreWithin n c) where
         Mended,
         (
           (λ e. none-some mark (sym e)),
-          ⊎_elim (λ e. e) (λ f. absurd (let x = wide f.0 f.1 in omega arith))
-              (none_or mark.fence),
+          ⊎_elim (λ e. e) (λ f. absurd (let x = wide f.0 f.1 in omega arith)) (none_or mark.fence),
           l,
         ),
-      ))
-      (split low last)
+      )) (split low last)
 
   -- Blocks
 
@@ -253,22 +222,16 @@ module _ (n : Numbers) (c : Cells) (within : AreWithin n c) where
   is_some (MarkPage m) = inl (mark_not_nothing _ _ refl)
 
   -- what stands in the block's cells alone stands in it
-  in_spot : (s : Spot) (p : Place) → only_in s p ≢ Nothing → (spot_of p ≡ s) × (c p ≢ Nothing)
-  in_spot s p h =
-      ⊎_elim
-      (λ e. (e.1, λ z. h (ap (λ b. if b then c p else Nothing) e.0 ∙ z)))
-      (λ e. absurd (h (ap (λ b. if b then c p else Nothing) e.0)))
+  in_spot : {s : Spot} (p : Place) → only_in s p ≢ Nothing → (spot_of p ≡ s) × (c p ≢ Nothing)
+  in_spot {s} p h = ⊎_elim (λ e. (e.1, λ z. h (ap (λ b. if b then c p else Nothing) e.0 ∙ z)))
+      (λ e. absurd (h (ap (λ b. if b then c p else Nothing) e.0))) (spot_cases (spot_of p) s)
+
+  spot_in : {s : Spot} (p : Place) → spot_of p ≡ s → c p ≢ Nothing → only_in s p ≢ Nothing
+  spot_in {s} p e h = ⊎_elim (λ g z. h (sym (ap (λ b. if b then c p else Nothing) g.0) ∙ z)) (λ g. absurd (g.1 e))
       (spot_cases (spot_of p) s)
 
-  spot_in : (s : Spot) (p : Place) → spot_of p ≡ s → c p ≢ Nothing → only_in s p ≢ Nothing
-  spot_in s p e h =
-      ⊎_elim
-      (λ g z. h (sym (ap (λ b. if b then c p else Nothing) g.0) ∙ z))
-      (λ g. absurd (g.1 e))
-      (spot_cases (spot_of p) s)
-
-  nothing_or : (x : Cell) → (x ≢ Nothing → ⊥) → x ≡ Nothing
-  nothing_or x none = ⊎_elim (λ h. absurd (none h)) (λ h. double x h) (is_some x)
+  nothing_or : {x : Cell} → (x ≢ Nothing → ⊥) → x ≡ Nothing
+  nothing_or {x} none = ⊎_elim (λ h. absurd (none h)) (λ h. double x h) (is_some x)
     where
       double : (y : Cell) → (y ≢ Nothing → ⊥) → y ≡ Nothing
       double Nothing h = refl
@@ -277,8 +240,6 @@ module _ (n : Numbers) (c : Cells) (within : AreWithin n c) where
 
   pub block_at : (bad : Spot → Bool) (s : Spot) → (b : Bool) → bad s ≡ b → (x : BlockState) × IsBlockState c bad s x
   block_at bad s true e = (Bad, e)
-  block_at bad s false e =
-      ⊎_elim
-      (λ h. let g = in_spot s h.0 h.1 in (Closed, (e, (h.0, g.0, g.1))))
-      (λ none. (Free, (e, λ p there. nothing_or (c p) (λ some. none (p, spot_in s p there some)))))
+  block_at bad s false e = ⊎_elim (λ h. let g = in_spot h.0 h.1 in (Closed, (e, (h.0, g.0, g.1))))
+      (λ none. (Free, (e, λ p there. nothing_or (λ some. none (p, spot_in p there some)))))
       (some_cell n (only_in s) (only_within s) (λ x. x ≢ Nothing) is_some (λ h. h refl))

@@ -1,22 +1,11 @@
 -- What an opened translation layer has by name and by key: pages, the lost numbers, and the contents at the life's
 -- start.
-use Rattle.std.proofs.Common.{◌≡◌, ℕ, suc, ◌≤◌, ◌⊎◌, Bool, List, Option, Some, None, slice_get, refl, sym, ap, ◌∙◌}
-use Rattle.std.proofs.Common.{subst, inl, inr, ⊎_elim, arith}
-use Rattle.ufs_spec.specs.Cells.{AreWithin, Cells, GroupPage, Mark, key_of}
-use Rattle.ufs_spec.specs.Disk.{Spot}
-use Rattle.ufs_spec.specs.Keys.{Group}
-use Rattle.ufs_spec.specs.Kept.{IsKept, IsNewestMark, IsWhole, fence_in, recorded_in}
-use Rattle.ufs_spec.specs.Ledger.{Entry}
-use Rattle.ufs_spec.specs.Openings.{HasName, IsEntry, IsOpenedTranslation, StandsAt, lost_from}
-use Rattle.ufs_spec.specs.Sound.{CellsSound, SamePage}
-use Rattle.ufs_spec.specs.Translation.{Translation}
-use Rattle.ufs_spec.specs.declared.configs.Numbers.{Numbers}
-use Rattle.ufs_spec.specs.declared.flash.Fence.{Fence}
-use Rattle.ufs_spec.specs.declared.flash.Place.{Place}
-use Rattle.ufs_spec.specs.declared.flash.Tag.{Tag}
-use Rattle.ufs_spec.proofs.Lists.{none_in_empty}
-use Rattle.ufs_spec.proofs.Facts.{at_most}
-use Rattle.power_loss.specs.Book.{CellsRight, IsKnown, IsPageAt, book}
+use Rattle.power_loss.proofs.Common.{◌≡◌, ℕ, suc, ◌≤◌, ◌⊎◌, Bool, List, Option, Some, None, slice_get, refl, sym, ap}
+use Rattle.power_loss.proofs.Common.{◌∙◌, subst, inl, inr, ⊎_elim, arith, AreWithin, Cells, GroupPage, Mark, key_of}
+use Rattle.power_loss.proofs.Common.{Spot, Group, IsKept, IsNewestMark, IsWhole, fence_in, recorded_in, Entry, HasName}
+use Rattle.power_loss.proofs.Common.{IsEntry, IsOpenedTranslation, StandsAt, lost_from, CellsSound, SamePage}
+use Rattle.power_loss.proofs.Common.{Translation, Numbers, Fence, Place, Tag, none_in_empty, at_most, CellsRight}
+use Rattle.power_loss.proofs.Common.{IsKnown, IsPageAt, book}
 use Rattle.power_loss.proofs.books.PagesByName.{entry_for, is_old, old_page as page_of_name, page_new}
 
 -- The premises of the law
@@ -93,23 +82,23 @@ module _ {bad : Spot → Bool} {t : Translation} (o : Opened bad t) where
           is ∙ (λ j. Some (record { item = record { key = (y.key ∙ s.0) j; body = s.4 j }; size = (y.size ∙ s.3) j }))
 
   -- the numbers of pages that stood are at or under the top
-  pub old_within : {n i : ℕ} (e : Entry) → t.ledger.entries_before n i ≡ Some e → n ≤ t.ledger.greatest_seen
-  old_within e h =
+  pub old_within : {n i : ℕ} {e : Entry} → t.ledger.entries_before n i ≡ Some e → n ≤ t.ledger.greatest_seen
+  old_within {e = e} h =
       let y = old_page h in
       let z = o.start.ledger.greatest_seen.0.numbers y.place y.tag e.item.body y.there in
       let w = y.number in
       omega arith
 
-  pub no_group : (j : ℕ) (g : Group) → slice_get t.ledger.groups j ≡ Some g → ⊥
-  no_group j g h = none_in_empty _ j g o.start.ledger.none_new h
+  pub no_group : (j : ℕ) {g : Group} → slice_get t.ledger.groups j ≡ Some g → ⊥
+  no_group j {g} h = none_in_empty _ j g o.start.ledger.none_new h
 
   -- every page is of an earlier life
-  pub only_old : (n i : ℕ) (e : Entry) → IsPageAt (book t) n i e → t.ledger.entries_before n i ≡ Some e
-  only_old n i e h = ⊎_elim (λ l. is_old (book t) n i e l h)
-      (λ l. let p = page_new (book t) n i e l h in absurd (no_group _ p.group p.is)) (at_most _ _)
+  pub only_old : (n i : ℕ) {e : Entry} → IsPageAt (book t) n i e → t.ledger.entries_before n i ≡ Some e
+  only_old n i {e} h = ⊎_elim (λ l. is_old (book t) n i e l h)
+      (λ l. let p = page_new (book t) n l h in absurd (no_group _ p.is)) (at_most _ _)
 
   pub from_old : {n i : ℕ} {e : Entry} → t.ledger.entries_before n i ≡ Some e → IsPageAt (book t) n i e
-  from_old {n} {i} {e} h = page_of_name (book t) n i e (old_within e h) h
+  from_old {n} {i} {e} h = page_of_name (book t) n i (old_within h) h
 
   pub is_known : {p : Place} {tag : Tag} {body : List ℕ} → t.disk.cells p ≡ GroupPage tag body →
       IsKnown (book t) tag body
@@ -144,16 +133,12 @@ module _ {bad : Spot → Bool} {t : Translation} (o : Opened bad t) where
       k = o.start.ledger.is_kept
 
       reached : k.from ≤ t.ledger.greatest_seen
-      reached =
-          ⊎_elim
-          (λ z. omega arith)
+      reached = ⊎_elim (λ z. omega arith)
           (λ z. ⊎_elim
           (λ w.
           let x = o.start.ledger.greatest_seen.0.frontiers w.0 w.1 w.2 w.3.there in let y = w.4 in omega arith)
           (λ w.
-          let x = o.start.ledger.greatest_seen.0.marks w.0 w.1 w.2 in let y = w.3 in omega arith)
-          z)
-          k.recorded.reached
+          let x = o.start.ledger.greatest_seen.0.marks w.0 w.1 w.2 in let y = w.3 in omega arith) z) k.recorded.reached
 
       at_whole : IsWhole t.disk.cells o.start.ledger.kept → o.start.ledger.kept ≤ t.ledger.greatest_seen
       at_whole w =
@@ -187,8 +172,8 @@ module _ {bad : Spot → Bool} {t : Translation} (o : Opened bad t) where
       go (Some f) is = inr (f, is, o.start.ledger.first_lost ∙ ap (λ z. lost_from z o.start.ledger.kept) is)
 
   -- the ends of the newest mark's fence are in order
-  pub fence_ordered : (f : Fence) → fence_in t.ledger.newest ≡ Some f → f.first ≤ f.last
-  fence_ordered f h = go t.ledger.newest o.start.ledger.newest h
+  pub fence_ordered : {f : Fence} → fence_in t.ledger.newest ≡ Some f → f.first ≤ f.last
+  fence_ordered {f} h = go t.ledger.newest o.start.ledger.newest h
     where
       go : (m : Option Mark) → IsNewestMark t.disk.cells m → fence_in m ≡ Some f → f.first ≤ f.last
       go None x e = cc
@@ -202,8 +187,7 @@ module _ {bad : Spot → Bool} {t : Translation} (o : Opened bad t) where
       (omega arith, omega arith))
       (λ z.
       let e = z.2 in
-      let u = fence_ordered z.0 z.1 in
+      let u = fence_ordered z.1 in
       let r = recorded_kept in
       let w = o.sound.fence z.0 z.1 in
-      (omega arith, omega arith))
-      (low_cases)
+      (omega arith, omega arith)) (low_cases)

@@ -1,21 +1,12 @@
 -- What pages that open say of an opened translation layer: the ends of fences, and entries and numbers that fit.
-use Rattle.std.proofs.Common.{◌≡◌, ℕ, ◌<◌, ◌≤◌, ◌^◌, Bool, List, Option, Some, None, length, sym, ap, ◌∙◌, subst}
-use Rattle.std.proofs.Common.{⊎_elim, arith}
+use Rattle.power_loss.proofs.Common.{◌≡◌, ℕ, ◌<◌, ◌≤◌, ◌^◌, Bool, List, Option, Some, None, length, sym, ap, ◌∙◌, subst}
+use Rattle.power_loss.proofs.Common.{⊎_elim, arith, AreWithin, Array, Cells, DataHold, GroupPage, IsCell, Mark}
+use Rattle.power_loss.proofs.Common.{MarkPage, Opens, Shows, mark_tag, Spot, IsNewestMark, fence_in, recorded_in, Entry}
+use Rattle.power_loss.proofs.Common.{IsAtMost, number_of, CellsSound, Translation, Numbers, Fence, Place, Tag}
+use Rattle.power_loss.proofs.Common.{CellsRight, book, last_number}
+use Rattle.power_loss.proofs.MachineWords.{BookFits, EntryFits, IsArrayOf}
 use Rattle.ufs_laws.proofs.pages.BlankPages.{blank_is_nothing}
-use Rattle.ufs_spec.specs.Cells.{AreWithin, Array, Cells, DataHold, GroupPage, IsCell, IsMarkBody, Mark, MarkPage}
-use Rattle.ufs_spec.specs.Cells.{Opens, Shows, mark_tag}
-use Rattle.ufs_spec.specs.Disk.{Spot}
-use Rattle.ufs_spec.specs.Kept.{IsNewestMark, fence_in, recorded_in}
-use Rattle.ufs_spec.specs.Ledger.{Entry}
-use Rattle.ufs_spec.specs.Openings.{IsAtMost, number_of}
-use Rattle.ufs_spec.specs.Sound.{CellsSound}
-use Rattle.ufs_spec.specs.Translation.{Translation}
-use Rattle.ufs_spec.specs.declared.configs.Numbers.{Numbers}
-use Rattle.ufs_spec.specs.declared.flash.Fence.{Fence}
-use Rattle.ufs_spec.specs.declared.flash.Place.{Place}
-use Rattle.ufs_spec.specs.declared.flash.Tag.{Tag}
-use Rattle.power_loss.specs.Book.{CellsRight, book, last_number}
-use Rattle.power_loss.specs.Exchange.{BookFits, EntryFits, IsArrayOf}
+use Rattle.ufs_spec.specs.Cells.{IsMarkBody}
 use Rattle.power_loss.proofs.openings.OpenedByName.{OldPage, Opened, low_cases, old_page, only_old}
 
 -- Pages
@@ -66,18 +57,18 @@ all_fit array {c} {m} shows sound newest = record {
 }
 
 -- the last number of the newest mark's fence is a number
-fence_some : (array : Array) (c : Cells) (m : Option Mark) (f : Fence) → Shows array c → IsNewestMark c m →
+fence_some : (array : Array) (c : Cells) (m : Option Mark) {f : Fence} → Shows array c → IsNewestMark c m →
     fence_in m ≡ Some f → 0 < f.last
-fence_some array c None f shows newest e = cc
-fence_some array c (Some m) f shows newest e =
+fence_some array c None shows newest e = cc
+fence_some array c (Some m) {f} shows newest e =
     let is = mark_opens array c newest.0.0 m shows newest.0.1 in (is.2.fence_right f e).some
 
 -- The book
 
 module _ (array : Array) (bad : Spot → Bool) (t : Translation) (o : Opened bad t)
     (shows : Shows array t.disk.cells) where
-  entry_fits : (n i : ℕ) (e : Entry) → OldPage t.disk.cells n i e → EntryFits e i × (1 ≤ n)
-  entry_fits n i e page =
+  entry_fits : {n i : ℕ} {e : Entry} → OldPage t.disk.cells n i e → EntryFits e i × (1 ≤ n)
+  entry_fits page =
       let is = group_opens array t.disk.cells shows page.there in
       let tag = is.0.tag_right in
       let size = page.size in
@@ -105,19 +96,17 @@ module _ (array : Array) (bad : Spot → Bool) (t : Translation) (o : Opened bad
       subst (λ n. n ≤ 2 ^ 62) same top_fits
 
   lost_some : t.ledger.first_lost ≤ t.ledger.greatest_seen → 1 ≤ t.ledger.greatest_seen
-  lost_some lost =
-      ⊎_elim
+  lost_some lost = ⊎_elim
       (λ z. let low = z.1 in
       omega arith)
       (λ z.
-      let some = fence_some array t.disk.cells t.ledger.newest z.0 shows o.start.ledger.newest z.1 in
+      let some = fence_some array t.disk.cells t.ledger.newest shows o.start.ledger.newest z.1 in
       let within = o.start.ledger.greatest_seen.0.fence z.0 z.1 in
-      omega arith)
-      (low_cases o)
+      omega arith) (low_cases o)
 
   pub book_fits : BookFits (book t)
   book_fits = record {
-    entries = λ n i e is. entry_fits n i e (old_page o (only_old o n i e is));
+    entries = λ n i e is. entry_fits (old_page o (only_old o n i is));
     last = last_fits;
     lost = lost_some;
   }

@@ -1,23 +1,13 @@
 -- An opened translation layer is valid: the mending that is due, and all of it.
-use Rattle.std.proofs.Common.{◌≡◌, ◌≢◌, ℕ, ◌<◌, ◌≤◌, ◌-◌, All, Bool, List, [], drop, length, Option, Some, None, refl}
-use Rattle.std.proofs.Common.{sym, ap, ◌∙◌, subst, inl, ⊎_elim, arith}
-use Rattle.std.proofs.lemmas.List.{drop_all}
-use Rattle.std.proofs.lemmas.List.Elements.{All-nil}
-use Rattle.ufs_spec.specs.Cells.{AreWithin, Cells, Mark, MarkPage}
-use Rattle.ufs_spec.specs.Disk.{Spot, spot_of}
-use Rattle.ufs_spec.specs.Kept.{IsNewestMark, IsWhole, fence_in, recorded_in}
-use Rattle.ufs_spec.specs.Openings.{AreLost, IsMendingAt, IsOpenedTranslation}
-use Rattle.ufs_spec.specs.Sound.{CellsSound}
-use Rattle.ufs_spec.specs.Translation.{Mended, Mending, Repairing, Translation, Unmarked, is_mended, wants_of_step}
-use Rattle.ufs_spec.specs.declared.configs.Numbers.{Numbers}
-use Rattle.ufs_spec.specs.declared.flash.Key.{Key}
-use Rattle.ufs_spec.specs.declared.flash.Place.{Place}
-use Rattle.ufs_spec.specs.Ledger.{accepted_groups, before_accepted}
-use Rattle.ufs_spec.proofs.Facts.{at_most, none-some}
-use Rattle.power_loss.specs.Book.{CellsRight, HasKey, IsWholeOld, book}
-use Rattle.power_loss.specs.Invariant.{HistoryRight, IsNeededPage, LookedRight, LostRight, MarkStands, SourceRight}
-use Rattle.power_loss.specs.Invariant.{Valid}
-use Rattle.power_loss.proofs.books.LayerParts.{MarksOf, MendingOf}
+use Rattle.power_loss.proofs.Common.{◌≡◌, ◌≢◌, ℕ, ◌<◌, ◌≤◌, ◌-◌, All, Bool, List, [], drop, length, Option, Some, None}
+use Rattle.power_loss.proofs.Common.{refl, sym, ap, ◌∙◌, subst, inl, ⊎_elim, arith, drop_all, All-nil, AreWithin, Cells}
+use Rattle.power_loss.proofs.Common.{Mark, MarkPage, Spot, spot_of, IsNewestMark, IsWhole, fence_in, recorded_in}
+use Rattle.power_loss.proofs.Common.{AreLost, IsMendingAt, IsOpenedTranslation, CellsSound, Mended, Mending, Repairing}
+use Rattle.power_loss.proofs.Common.{Translation, Unmarked, is_mended, wants_of_step, Numbers, Key, Place}
+use Rattle.power_loss.proofs.Common.{before_accepted, at_most, none-some, CellsRight, HasKey, IsWholeOld, book}
+use Rattle.power_loss.proofs.Common.{HistoryRight, MarkStands, Valid}
+use Rattle.power_loss.specs.Invariant.{LostRight}
+use Rattle.power_loss.proofs.books.LayerParts.{MarksOf, MendingOf, NeededOf, LookedOf, SourceOf}
 use Rattle.power_loss.proofs.accepted_groups.ClaimedSlots.{no_pages}
 use Rattle.power_loss.proofs.openings.OpenedByName.{Opened, low_cases, no_group, old_page, opened, page_is_old, shown}
 use Rattle.power_loss.proofs.openings.OpenedContents.{book_is_right}
@@ -37,23 +27,16 @@ module _ {bad : Spot → Bool} {t : Translation} (o : Opened bad t) where
   }
 
   -- above what the newest mark records all groups up to the kept number are whole
-  whole_above : (n : ℕ) → recorded_in t.ledger.newest < n → n ≤ o.start.ledger.kept → IsWholeOld (book t) n
-  whole_above n low up =
-      whole_is_old
-      (⊎_elim
-      (λ l. o.sound.whole o.start.ledger.is_kept.from n o.start.ledger.is_kept.recorded low l)
-      (λ l. o.start.ledger.is_kept.whole n l up)
-      (at_most _ _))
+  whole_above : {n : ℕ} → recorded_in t.ledger.newest < n → n ≤ o.start.ledger.kept → IsWholeOld (book t) n
+  whole_above {n} low up = whole_is_old
+      (⊎_elim (λ l. o.sound.whole o.start.ledger.is_kept.from n o.start.ledger.is_kept.recorded low l)
+      (λ l. o.start.ledger.is_kept.whole n l up) (at_most _ _))
 
   all_kept : fence_in t.ledger.newest ≡ None → t.ledger.greatest_seen < t.ledger.first_lost →
       t.ledger.greatest_seen ≤ o.start.ledger.kept
-  all_kept none l =
-      ⊎_elim
+  all_kept none l = ⊎_elim
       (λ z. let e = z.1 in
-      omega arith)
-      (λ z. absurd
-      (none-some _ (sym none ∙ z.1)))
-      (low_cases o)
+      omega arith) (λ z. absurd (none-some _ (sym none ∙ z.1))) (low_cases o)
 
   mark_stands : {m : Mark} (p : Place) → t.disk.cells p ≡ MarkPage m →
       MarkStands t.disk.cells t.disk.finished t.disk.blocks t.disk.erasing m
@@ -65,9 +48,9 @@ module _ {bad : Spot → Bool} {t : Translation} (o : Opened bad t) where
     needed = mark_not_free o p h;
   }
 
-  marks_are_right : (m : Mark) → t.ledger.newest ≡ Some m → IsNewestMark t.disk.cells (Some m) →
+  marks_are_right : {m : Mark} → t.ledger.newest ≡ Some m → IsNewestMark t.disk.cells (Some m) →
       fence_in t.ledger.newest ≡ None → t.ledger.greatest_seen < t.ledger.first_lost → MarksOf t m
-  marks_are_right m is x none l =
+  marks_are_right {m} is x none l =
       let f = o.start.ledger.frontier in
       let r = ap recorded_in is in
       let k = all_kept none l in
@@ -75,7 +58,7 @@ module _ {bad : Spot → Bool} {t : Translation} (o : Opened bad t) where
         stands = mark_stands x.0.0 x.0.1;
         within = let z = o.start.ledger.greatest_seen.0.marks x.0.0 m x.0.1 in omega arith;
         numbers = o.start.suits.config m is;
-        whole = λ n low up. whole_above n (omega arith) (omega arith);
+        whole = λ n low up. whole_above (omega arith) (omega arith);
         ended = λ p other h ended. x.1 p other h;
         known = λ p other h. inl (
           x.1 p other h,
@@ -93,7 +76,7 @@ module _ {bad : Spot → Bool} {t : Translation} (o : Opened bad t) where
   mended (Some m) is some x none l = record {
     mark = m;
     is = is;
-    right = marks_are_right m is x none l;
+    right = marks_are_right is x none l;
     more = record {
       none = sym (ap fence_in is) ∙ none;
       repaired = λ n i e lost h. absurd (let u = lost.from in let w = lost.to in omega arith);
@@ -147,7 +130,7 @@ module _ {bad : Spot → Bool} {t : Translation} (o : Opened bad t) where
       let g = ap length o.start.ledger.none_new in
       record {
         within = omega arith;
-        contents = λ j i g item l h there. absurd (no_group o j g h);
+        contents = λ j i g item l h there. absurd (no_group o j h);
         mending = λ no. (r ∙ sym g, o.start.ledger.none_held);
         durable = inl o.start.ledger.none_held;
       }
@@ -170,27 +153,20 @@ module _ {bad : Spot → Bool} {t : Translation} (o : Opened bad t) where
     history = history;
     slots = record {
       within =
-          let none = no_pages (accepted_groups t.ledger) (t.ledger.frontier - before_accepted t.ledger)
+          let none = no_pages (t.ledger.frontier - before_accepted t.ledger)
           (ap (drop t.ledger.repairs) o.start.ledger.none_new ∙ drop_all t.ledger.repairs [] (omega arith)) in
           let claims = o.start.no_claims in
           omega (arith, none, claims);
     };
-    unmended = record { stand = λ un n i p h. stands_secure o n i p h };
-    pins = record {
-      each = subst (All (λ pin. LookedRight (book t) t.ledger.frontier t.disk.cells t.disk.finished
-          t.disk.erasing pin.looked)) (sym o.start.no_pins) (All-nil _);
-    };
-    rests = record {
-      each = subst (All (λ rest. SourceRight t.disk.cells t.disk.finished t.disk.erasing rest.source))
-          (sym o.start.no_rests) (All-nil _);
-    };
+    unmended = record { stand = λ un n i p h. stands_secure o n i h };
+    pins = record { each = subst (All (λ pin. LookedOf t pin.looked)) (sym o.start.no_pins) (All-nil _) };
+    rests = record { each = subst (All (λ rest. SourceOf t rest.source)) (sym o.start.no_rests) (All-nil _) };
     reads = record {
       at_home = λ die reader p h. absurd (none_flies o h);
       page = λ die reader p h. absurd (none_flies o h);
     };
     to_read = record {
-      wanted = subst (λ s. All (λ w. IsNeededPage t.disk.cells t.disk.finished t.disk.blocks
-          t.disk.erasing w.place) (wants_of_step s)) (sym o.start.no_step) (All-nil _);
+      wanted = subst (λ s. All (λ w. NeededOf t w.place) (wants_of_step s)) (sym o.start.no_step) (All-nil _);
       copied = λ pl e. absurd (none-some pl (sym o.start.no_plan ∙ e));
     };
   }

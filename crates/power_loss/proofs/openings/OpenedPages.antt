@@ -1,19 +1,10 @@
 -- What an opened translation layer knows of the dies: the frontier, pages, blocks and jobs.
-use Rattle.std.proofs.Common.{◌≡◌, ◌≢◌, ℕ, ◌≤◌, Bool, true, List, Option, Some, None, refl, sym, ap, ◌∙◌, subst, inl}
-use Rattle.std.proofs.Common.{inr, arith}
-use Rattle.ufs_spec.specs.Cells.{GroupPage, Mark, MarkPage, Nothing}
-use Rattle.ufs_spec.specs.Disk.{Filling, Flight, Free, Spot, spot_of}
-use Rattle.ufs_spec.specs.Kept.{IsNewestMark, recorded_in}
-use Rattle.ufs_spec.specs.Ledger.{Entry}
-use Rattle.ufs_spec.specs.Openings.{IsBlockState, number_of}
-use Rattle.ufs_spec.specs.Translation.{Translation}
-use Rattle.ufs_spec.specs.declared.flash.Place.{Place}
-use Rattle.ufs_spec.specs.declared.flash.Tag.{Tag}
-use Rattle.ufs_spec.proofs.CellKinds.{mark_not_nothing, page_not_nothing}
-use Rattle.ufs_spec.proofs.Facts.{none-some, true≢false}
-use Rattle.power_loss.specs.Book.{IsPageAt, book}
-use Rattle.power_loss.specs.Invariant.{AreFreeBlank, AreNumbered, BlocksRight, FlightsRight, FrontierRight, PagesRight}
-use Rattle.power_loss.specs.Invariant.{SafeRight}
+use Rattle.power_loss.proofs.Common.{◌≡◌, ◌≢◌, ℕ, ◌≤◌, Bool, true, List, Option, Some, None, refl, sym, ap, ◌∙◌, subst}
+use Rattle.power_loss.proofs.Common.{inl, inr, arith, GroupPage, Mark, MarkPage, Nothing, Filling, Flight, Free, Spot}
+use Rattle.power_loss.proofs.Common.{spot_of, IsNewestMark, recorded_in, Entry, IsBlockState, number_of, Translation}
+use Rattle.power_loss.proofs.Common.{Place, Tag, mark_not_nothing, page_not_nothing, none-some, true≢false, IsPageAt}
+use Rattle.power_loss.proofs.Common.{book, AreFreeBlank, AreNumbered, BlocksRight, FlightsRight, FrontierRight}
+use Rattle.power_loss.proofs.Common.{PagesRight, SafeRight}
 use Rattle.power_loss.proofs.books.LayerParts.{SecureOf}
 use Rattle.power_loss.proofs.openings.OpenedByName.{Opened, from_old, is_known, old_page, only_old, page_is_old, shown}
 use Rattle.power_loss.proofs.openings.OpenedByName.{stands, stands_there}
@@ -31,10 +22,6 @@ module _ {bad : Spot → Bool} {t : Translation} (o : Opened bad t) where
   pub not_free : (p : Place) → t.disk.cells p ≢ Nothing → t.disk.blocks (spot_of p) ≢ Free
   not_free p some free =
       some ((subst (IsBlockState t.disk.cells bad (spot_of p)) free (o.start.disk.blocks (spot_of p))).1 p refl)
-
-  pub page_not_free : (p : Place) {tag : Tag} {body : List ℕ} → t.disk.cells p ≡ GroupPage tag body →
-      t.disk.blocks (spot_of p) ≢ Free
-  page_not_free p h = not_free p (λ e. page_not_nothing _ _ _ refl (sym h ∙ e))
 
   pub mark_not_free : (p : Place) {m : Mark} → t.disk.cells p ≡ MarkPage m → t.disk.blocks (spot_of p) ≢ Free
   mark_not_free p h = not_free p (λ e. mark_not_nothing _ _ refl (sym h ∙ e))
@@ -62,27 +49,20 @@ module _ {bad : Spot → Bool} {t : Translation} (o : Opened bad t) where
 
   old_stands : (n i : ℕ) (e : Entry) → IsPageAt (book t) n i e → (q : Place) × (t.ledger.standing n i ≡ Some q)
   old_stands n i e h =
-      let y = old_page o (only_old o n i e h) in
+      let y = old_page o (only_old o n i h) in
       let z = stands o y.there in
       (z.0, sym (λ j. t.ledger.standing (y.number j) (y.index j)) ∙ z.1)
 
-  page_there : (n i : ℕ) {p : Place} → t.ledger.standing n i ≡ Some p → PageThere t n i p
-  page_there n i h =
+  page_there : {n i : ℕ} {p : Place} → t.ledger.standing n i ≡ Some p → PageThere t n i p
+  page_there {n} {i} h =
       let x = stands_there o n i h in
-      record {
-        tag = x.0;
-        body = x.1;
-        there = x.2;
-        number = ap (λ z. z.number) x.3;
-        index = ap (λ z. z.index) x.3;
-      }
+      record { tag = x.0; body = x.1; there = x.2; number = ap (λ z. z.number) x.3; index = ap (λ z. z.index) x.3 }
 
   standing_known : (n i : ℕ) {p : Place} → t.ledger.standing n i ≡ Some p → (e : Entry) × IsPageAt (book t) n i e
   standing_known n i h =
-      let x = page_there n i h in (
+      let x = page_there h in (
         shown x.tag x.body,
-        from_old o (sym (λ j. t.ledger.entries_before (x.number j) (x.index j)) ∙
-            page_is_old o x.there),
+        from_old o (sym (λ j. t.ledger.entries_before (x.number j) (x.index j)) ∙ page_is_old o x.there),
       )
 
   pub frontier_is_right : FrontierRight (book t) t.ledger.standing t.ledger.frontier
@@ -123,9 +103,9 @@ module _ {bad : Spot → Bool} {t : Translation} (o : Opened bad t) where
 
   -- What stands is safe
 
-  pub stands_secure : (n i : ℕ) (p : Place) → t.ledger.standing n i ≡ Some p → SecureOf t n i
-  stands_secure n i p h =
-      let x = page_there n i h in
+  pub stands_secure : (n i : ℕ) {p : Place} → t.ledger.standing n i ≡ Some p → SecureOf t n i
+  stands_secure n i {p} h =
+      let x = page_there h in
       record {
         place = p;
         tag = x.tag;
@@ -136,12 +116,12 @@ module _ {bad : Spot → Bool} {t : Translation} (o : Opened bad t) where
         index = x.index;
         ended = o.start.disk.finished p;
         stays = o.start.disk.none_erasing (spot_of p);
-        needed = page_not_free p x.there;
+        needed = not_free p (λ e. page_not_nothing _ _ _ refl (sym x.there ∙ e));
       }
 
   pub all_safe : SafeRight (book t) (recorded_in t.ledger.newest) t.ledger.standing t.disk.cells t.disk.finished
       t.disk.blocks t.disk.erasing
-  all_safe = record { safe = λ n i e p is h free. inl (stands_secure n i p h) }
+  all_safe = record { safe = λ n i e p is h free. inl (stands_secure n i h) }
 
   -- Marks have numbers
 

@@ -1,27 +1,13 @@
 -- A device that was opened over a sound array is in a valid state.
-use Rattle.std.proofs.Common.{◌≡◌, ℕ, zero, suc, ◌≤◌, ◌^◌, Bool, true, List, [], ◌∷◌, Option, Some, None, drop, refl}
-use Rattle.std.proofs.Common.{sym, ap, ◌∙◌, subst, arith}
+use Rattle.power_loss.proofs.Common.{◌≡◌, ℕ, zero, suc, ◌≤◌, ◌^◌, Bool, true, List, [], ◌∷◌, Some, drop, refl, sym, ap}
+use Rattle.power_loss.proofs.Common.{◌∙◌, subst, arith, Array, Cell, IsCell, Shows, Programming, Spot, page_of}
+use Rattle.power_loss.proofs.Common.{CanApplyAll, Group, IsKey, IsPlain, content, groups_of, IsNewestMark}
+use Rattle.power_loss.proofs.Common.{accepted_groups, before_accepted, shape_of, shape_of_numbers, CellsSound, Sound}
+use Rattle.power_loss.proofs.Common.{is_mended, Numbers, Place, config_tests, ranges, none-some, Valid}
+use Rattle.power_loss.proofs.MachineWords.{IsConfig, Short, Task, IsOpened, State, numbers_of, IsArrayOf, IsTied}
+use Rattle.power_loss.proofs.MachineWords.{TasksRight, ValidState}
 use Rattle.ufs_laws.proofs.array_cells.StandsForOne.{cells_one, mark_one}
 use Rattle.ufs_laws.proofs.pages.PageIsOneCell.{one_cell}
-use Rattle.ufs_spec.specs.Cells.{Array, Cell, Cells, IsCell, Shows}
-use Rattle.ufs_spec.specs.Configs.{IsConfig}
-use Rattle.ufs_spec.specs.Disk.{Flight, Programming, Spot, page_of}
-use Rattle.ufs_spec.specs.Exchanges.{Short, Task}
-use Rattle.ufs_spec.specs.Keys.{CanApplyAll, Group, IsKey, IsPlain, content, groups_of}
-use Rattle.ufs_spec.specs.Kept.{IsNewestMark}
-use Rattle.ufs_spec.specs.Ledger.{accepted_groups, before_accepted}
-use Rattle.ufs_spec.specs.Lives.{IsOpened}
-use Rattle.ufs_spec.specs.Plain.{shape_of, shape_of_numbers}
-use Rattle.ufs_spec.specs.Sound.{CellsSound, Sound}
-use Rattle.ufs_spec.specs.Refusals.{State, numbers_of}
-use Rattle.ufs_spec.specs.Translation.{is_mended}
-use Rattle.ufs_spec.specs.declared.configs.Numbers.{Numbers}
-use Rattle.ufs_spec.specs.declared.flash.Place.{Place}
-use Rattle.ufs_spec.proofs.ConfigFacts.{config_tests, ranges}
-use Rattle.ufs_spec.proofs.Facts.{none-some}
-use Rattle.power_loss.specs.Book.{book}
-use Rattle.power_loss.specs.Exchange.{BookFits, IsArrayOf, IsTied, TasksAreRight, TasksRight, ValidState}
-use Rattle.power_loss.specs.Invariant.{Valid}
 use Rattle.power_loss.proofs.openings.OpenedFromPages.{book_fits, cells_right, cells_within, number_fits}
 use Rattle.power_loss.proofs.openings.OpenedByName.{Opened, opened}
 use Rattle.power_loss.proofs.openings.OpenedIsValid.{opening_valid}
@@ -51,9 +37,6 @@ no_tasks [] (short ∷ shorts) e f = absurd (apart f)
 
 -- Nothing in flight
 
-no_flight : {f : Option Flight} {x : Flight} → f ≡ None → f ≡ Some x → ⊥
-no_flight {x} e h = none-some _ (sym e ∙ h)
-
 none_left : (k : ℕ) (none : List Group) → none ≡ [] → drop k none ≡ []
 none_left zero none e = e
 none_left (suc k) [] e = refl
@@ -63,21 +46,15 @@ none_left (suc k) (g ∷ gs) e = cc
 
 module _ (n : Numbers) (array : Array) (bad : Spot → Bool) (s : State) (config : IsConfig n) (blank : IsArrayOf n array)
     (sound : Sound array) (h : IsOpened n array bad s) where
-  numbers_same : n ≡ numbers_of s
-  numbers_same = sym h.translation.numbers
-
   some_pages : 1 ≤ n.pages
   some_pages = let r = (ranges n (config_tests n config).0).has_pages in omega arith
 
   same_cells : sound.cells ≡ h.cells
   same_cells = cells_one one_cell array sound.cells h.cells sound.shown h.shown
 
-  sound_for : (c : Cells) → sound.cells ≡ c → CellsSound c sound.newest
-  sound_for c e = subst (λ z. CellsSound z sound.newest) e sound.sound
-
   cells_sound : CellsSound h.cells s.translation.ledger.newest
   cells_sound =
-      let here = sound_for h.cells same_cells in
+      let here = (subst (λ z. CellsSound z sound.newest) same_cells sound.sound) in
       let newest = subst (λ z. IsNewestMark z sound.newest) same_cells sound.is_newest in
       subst (CellsSound h.cells) (mark_one h.cells sound.newest sound.newest s.translation.ledger.newest here newest
       newest_here) here
@@ -86,54 +63,35 @@ module _ (n : Numbers) (array : Array) (bad : Spot → Bool) (s : State) (config
       newest_here = h.translation.ledger.newest
 
   is_opened : Opened bad s.translation
-  is_opened =
-      opened bad some_pages (cells_right array h.shown) (cells_within h.cells blank h.shown) cells_sound
+  is_opened = opened bad some_pages (cells_right array h.shown) (cells_within h.cells blank h.shown) cells_sound
       h.translation
 
   cells_shown : Shows array s.translation.disk.cells
   cells_shown = subst (Shows array) (sym h.translation.disk.cells) h.shown
 
   config_is : IsConfig (numbers_of s)
-  config_is = subst IsConfig numbers_same config
-
-  shown_is : Shows s.array s.translation.disk.cells
-  shown_is = subst (λ z. Shows z s.translation.disk.cells) (sym h.array_now) cells_shown
+  config_is = subst IsConfig (sym h.translation.numbers) config
 
   valid_is : Valid s.translation
-  valid_is =
-      opening_valid n h.cells bad s.translation some_pages (cells_right array h.shown)
-      (cells_within h.cells blank h.shown)
-      cells_sound h.translation
-
-  fits_is : BookFits (book s.translation)
-  fits_is = book_fits array bad s.translation is_opened cells_shown
+  valid_is = opening_valid n h.cells bad s.translation some_pages (cells_right array h.shown)
+      (cells_within h.cells blank h.shown) cells_sound h.translation
 
   flights_is : (die : ℕ) (p : Place) (cell : Cell) → s.translation.disk.flights die ≡ Some (Programming p cell) →
       IsCell (page_of cell) cell
-  flights_is die p cell e = absurd (no_flight (h.translation.disk.idle die) e)
+  flights_is die p cell e = absurd (none-some _ (sym (h.translation.disk.idle die) ∙ e))
 
   base_is : IsPlain s.base × (shape_of s.base ≡ shape_of_numbers (numbers_of s))
-  base_is = (h.stands.2.plain, h.stands.2.shape ∙ ap shape_of_numbers numbers_same)
+  base_is = (h.stands.2.plain, h.stands.2.shape ∙ ap shape_of_numbers (sym h.translation.numbers))
 
   contents_is : (k : _) → IsKey (shape_of_numbers (numbers_of s)) k → s.translation.ledger.base k ≡ content s.base k
   contents_is k key = h.contents k (subst (λ z. IsKey (shape_of_numbers z) k) h.translation.numbers key)
 
-  commands_is : CanApplyAll s.base s.accepted
-  commands_is = subst (CanApplyAll s.base) (sym h.none_accepted) tt
-
   groups_is : accepted_groups s.translation.ledger ≡ groups_of s.base s.accepted
-  groups_is =
-      none_left s.translation.ledger.repairs s.translation.ledger.groups h.translation.ledger.none_new
+  groups_is = none_left s.translation.ledger.repairs s.translation.ledger.groups h.translation.ledger.none_new
       ∙ sym (ap (groups_of s.base) h.none_accepted)
 
-  tasks_is : TasksAreRight s
-  tasks_is =
-      no_tasks s.tasks s.shorts
-      h.no_tasks h.no_shorts
-
   marks_is : s.translation.ledger.marks ≤ 2 ^ 62
-  marks_is =
-      subst (λ k. k ≤ 2 ^ 62) (sym h.translation.ledger.marks)
+  marks_is = subst (λ k. k ≤ 2 ^ 62) (sym h.translation.ledger.marks)
       (number_fits array h.cells s.translation.ledger.newest h.shown h.translation.ledger.newest)
 
   repaired_is : is_mended s.translation.work.mending ≡ true →
@@ -146,22 +104,18 @@ module _ (n : Numbers) (array : Array) (bad : Spot → Bool) (s : State) (config
   tied_is : IsTied s
   tied_is = record {
     config = config_is;
-    shown = shown_is;
+    shown = subst (λ z. Shows z s.translation.disk.cells) (sym h.array_now) cells_shown;
     valid = valid_is;
-    fits = fits_is;
+    fits = book_fits array bad s.translation is_opened cells_shown;
     flights = flights_is;
     base = base_is;
     contents = contents_is;
-    commands = commands_is;
+    commands = subst (CanApplyAll s.base) (sym h.none_accepted) tt;
     groups = groups_is;
-    tasks = tasks_is;
+    tasks = no_tasks s.tasks s.shorts h.no_tasks h.no_shorts;
     marks = marks_is;
     repaired = repaired_is;
   }
 
   pub opened_state : ValidState s
-  opened_state = record {
-    tied = tied_is;
-    hold = opened_hold n array bad s sound h;
-    erases = opened_inside n array bad s h;
-  }
+  opened_state = record { tied = tied_is; hold = opened_hold sound h; erases = opened_inside n array bad s h }

@@ -1,17 +1,13 @@
 -- Elements of lists, and lists in an order: the spots of all dies are counted die by die.
-use Rattle.std.proofs.Common.{◌≡◌, ℕ, zero, suc, ◌<◌, ◌⊎◌, Bool, true, false, cond, List, [], ◌∷◌, ◌++◌, map, Option}
-use Rattle.std.proofs.Common.{Some, None, refl, sym, ap, ◌∙◌, subst, inl, inr, ⊎_elim, arith}
-use Rattle.std.specs.Prelude.{All, Contains, filter, filter_map, find, slice_get}
-use Rattle.std.specs.List.{cons_option, flat_map}
+use Rattle.power_loss.proofs.Common.{◌≡◌, ℕ, zero, suc, ◌<◌, ◌⊎◌, Bool, true, false, cond, List, [], ◌∷◌, ◌++◌, map}
+use Rattle.power_loss.proofs.Common.{Option, Some, None, refl, sym, ap, ◌∙◌, subst, inl, inr, ⊎_elim, arith, Contains}
+use Rattle.power_loss.proofs.Common.{filter, filter_map, find, cons_option, flat_map, All-head, All-nil, All-push}
+use Rattle.power_loss.proofs.Common.{All-tail, All-weaker, false≢true, none-some, same_Some, Spot, below, spots}
+use Rattle.power_loss.proofs.Common.{Numbers}
+use Rattle.power_loss.proofs.MachineWords.{IsBefore, IsSpot}
+use Rattle.std.specs.Prelude.{All, slice_get}
 use Rattle.std.proofs.lemmas.Grind.{flat_map-append}
-use Rattle.std.proofs.lemmas.List.Elements.{All-head, All-nil, All-push, All-tail, All-weaker}
-use Rattle.ufs_spec.proofs.Facts.{false≢true, none-some, same_Some}
-use Rattle.ufs_spec.specs.Disk.{Spot}
-use Rattle.ufs_spec.specs.Keys.{below}
-use Rattle.ufs_spec.specs.Translation.{first_of, spots}
-use Rattle.ufs_spec.specs.declared.configs.Numbers.{Numbers}
-use Rattle.power_loss.specs.Collection.{IsBefore}
-use Rattle.power_loss.specs.Exchange.{IsSpot}
+use Rattle.ufs_spec.specs.Translation.{first_of}
 
 -- Elements
 
@@ -19,15 +15,15 @@ abbrev pub IsIn : {A : Type 0} → A → List A → Type 0
 IsIn x [] = ⊥
 IsIn x (y ∷ ys) = (y ≡ x) ⊎ IsIn x ys
 
-pub contained_in : {A : Type 0} (x : A) (xs : List A) → Contains xs x → IsIn x xs
-contained_in x [] h = let low = h.1 in absurd (omega arith)
-contained_in x (y ∷ ys) (zero, low, e) = inl e
-contained_in x (y ∷ ys) (suc k, low, e) = inr (contained_in x ys (k, (omega arith), e))
+pub contained_in : {A : Type 0} {x : A} (xs : List A) → Contains xs x → IsIn x xs
+contained_in [] h = let low = h.1 in absurd (omega arith)
+contained_in (y ∷ ys) (zero, low, e) = inl e
+contained_in {x = x} (y ∷ ys) (suc k, low, e) = inr (contained_in ys (k, (omega arith), e))
 
-pub in_contained : {A : Type 0} (x : A) (xs : List A) → IsIn x xs → Contains xs x
-in_contained x [] h = absurd h
-in_contained x (y ∷ ys) (inl e) = (0, omega arith, e)
-in_contained x (y ∷ ys) (inr h) = let r = in_contained x ys h in let l = r.1 in (suc r.0, omega arith, r.2)
+pub in_contained : {A : Type 0} {x : A} (xs : List A) → IsIn x xs → Contains xs x
+in_contained [] h = absurd h
+in_contained (y ∷ ys) (inl e) = (0, omega arith, e)
+in_contained {x = x} (y ∷ ys) (inr h) = let r = in_contained ys h in let l = r.1 in (suc r.0, omega arith, r.2)
 
 pub has_at : {A : Type 0} (xs : List A) (x : A) → IsIn x xs → (i : ℕ) × (slice_get xs i ≡ Some x)
 has_at [] x h = absurd h
@@ -85,8 +81,7 @@ in_flat f x z (y ∷ ys) (inr h) k = in_right z (f y) (flat_map f ys) (in_flat f
 pub flat_in : {A B : Type 0} (f : A → List B) (z : B) (xs : List A) → IsIn z (flat_map f xs) →
     (x : A) × IsIn x xs × IsIn z (f x)
 flat_in f z [] h = absurd h
-flat_in f z (y ∷ ys) h =
-    ⊎_elim (λ k. (y, inl refl, k)) (λ k. let r = flat_in f z ys k in (r.0, inr r.1, r.2))
+flat_in f z (y ∷ ys) h = ⊎_elim (λ k. (y, inl refl, k)) (λ k. let r = flat_in f z ys k in (r.0, inr r.1, r.2))
     (in_either z (f y) (flat_map f ys) h)
 
 pub kept_in : {A : Type 0} (p : A → Bool) (x : A) (xs : List A) → IsIn x xs → p x ≡ true → IsIn x (filter p xs)
@@ -125,51 +120,46 @@ found_in test (y ∷ ys) x h = by (test y) refl h (found_in test ys x)
     by false e k rest = let r = rest k in (inr r.0, r.1)
 
 -- a value that is kept comes of an element, and each element gives its own
-pub mapped_in : {A B : Type 0} (f : A → Option B) (z : B) (xs : List A) → IsIn z (filter_map f xs) →
+pub mapped_in : {A B : Type 0} (f : A → Option B) {z : B} (xs : List A) → IsIn z (filter_map f xs) →
     (x : A) × IsIn x xs × (f x ≡ Some z)
-mapped_in f z [] h = absurd h
-mapped_in {A} {B} f z (x ∷ xs) h = by (f x) refl h (mapped_in f z xs)
+mapped_in f [] h = absurd h
+mapped_in {A} {B} f {z} (x ∷ xs) h = by (f x) refl h (mapped_in f xs)
   where
     more : (x : A) × IsIn x xs × (f x ≡ Some z) → (y : A) × IsIn y (x ∷ xs) × (f y ≡ Some z)
     more r = (r.0, inr r.1, r.2)
 
     by : (o : Option B) → f x ≡ o → IsIn z (cons_option o (filter_map f xs)) →
-        (IsIn z (filter_map f xs) → (y : A) × IsIn y xs × (f y ≡ Some z)) →
-        (y : A) × IsIn y (x ∷ xs) × (f y ≡ Some z)
+        (IsIn z (filter_map f xs) → (y : A) × IsIn y xs × (f y ≡ Some z)) → (y : A) × IsIn y (x ∷ xs) × (f y ≡ Some z)
     by None e k rest = more (rest k)
     by (Some y) e (inl k) rest = (x, inl refl, e ∙ ap Some k)
     by (Some y) e (inr k) rest = more (rest k)
 
-pub in_mapped : {A B : Type 0} (f : A → Option B) (x : A) (z : B) (xs : List A) → IsIn x xs → f x ≡ Some z →
+pub in_mapped : {A B : Type 0} (f : A → Option B) (x : A) {z : B} (xs : List A) → IsIn x xs → f x ≡ Some z →
     IsIn z (filter_map f xs)
-in_mapped f x z [] h e = absurd h
-in_mapped {A} {B} f x z (y ∷ ys) (inl k) e =
+in_mapped f x [] h e = absurd h
+in_mapped {A} {B} f x {z} (y ∷ ys) (inl k) e =
     subst (λ (o : Option B). IsIn z (cons_option o (filter_map f ys))) (sym (ap f k ∙ e)) (inl refl)
-in_mapped {A} {B} f x z (y ∷ ys) (inr k) e = by (f y) (in_mapped f x z ys k e)
+in_mapped {A} {B} f x {z} (y ∷ ys) (inr k) e = by (f y) (in_mapped f x ys k e)
   where
     by : (o : Option B) → IsIn z (filter_map f ys) → IsIn z (cons_option o (filter_map f ys))
     by None h = h
     by (Some w) h = inr h
 
-pub first_in : {A : Type 0} (x : A) (xs : List A) → first_of xs ≡ Some x → IsIn x xs
-first_in x [] h = absurd (none-some x h)
-first_in x (y ∷ ys) h = inl (same_Some y x h)
+pub first_in : {A : Type 0} {x : A} (xs : List A) → first_of xs ≡ Some x → IsIn x xs
+first_in {x = x} [] h = absurd (none-some x h)
+first_in {x = x} (y ∷ ys) h = inl (same_Some y x h)
 
 pub in_below : (n i : ℕ) → i < n → IsIn i (below n)
 in_below zero i l = absurd (omega arith)
-in_below (suc n) i l =
-    ⊎_elim
-    (λ (u : i < n). in_left i (below n) (n ∷ []) (in_below n i u))
-    (λ (u : i ≡ n). in_right i (below n) (n ∷ []) (inl (sym u)))
-    (order i n l)
+in_below (suc n) i l = ⊎_elim (λ (u : i < n). in_left i (below n) (n ∷ []) (in_below n i u))
+    (λ (u : i ≡ n). in_right i (below n) (n ∷ []) (inl (sym u))) (order i n l)
   where
     order : (i n : ℕ) → i < suc n → (i < n) ⊎ (i ≡ n)
     order i n l = grind arith
 
 pub all_below : (n : ℕ) → All (λ i. i < n) (below n)
 all_below zero = All-nil (λ i. i < 0)
-all_below (suc n) =
-    All-push (λ i. i < suc n) (below n) n
+all_below (suc n) = All-push (λ i. i < suc n) (below n) n
     (All-weaker (λ i. i < n) (λ i. i < suc n) (λ i l. omega arith) (below n) (all_below n)) (omega arith)
 
 pub below_in : (n i : ℕ) → IsIn i (below n) → i < n
@@ -206,8 +196,7 @@ ordered_filter R p (x ∷ xs) h = by (p x) (ordered_filter R p xs h.1)
 
 ordered_below : (n : ℕ) → IsOrdered (λ i j. i < j) (below n)
 ordered_below zero = tt
-ordered_below (suc n) =
-    ordered_append (λ i j. i < j) (below n) (n ∷ []) (ordered_below n) (λ y i. absurd i, tt)
+ordered_below (suc n) = ordered_append (λ i j. i < j) (below n) (n ∷ []) (ordered_below n) (λ y i. absurd i, tt)
     (λ x y i j. let l = below_in n x i in ⊎_elim (λ (e : n ≡ y). omega arith) (λ e. absurd e) j)
 
 -- an element by its place comes before each that stands later
@@ -223,30 +212,26 @@ order_at R (x ∷ xs) s i zero a b e f l = absurd (omega arith)
 abbrev die_spots : ℕ → ℕ → List Spot
 die_spots blocks die = map (λ block. record { die = die; block = block }) (below blocks)
 
-pub in_spots : (n : Numbers) (s : Spot) → IsSpot n s → IsIn s (spots n)
-in_spots n s is =
-    in_flat (die_spots n.blocks) s.die s (below n.dies) (in_below n.dies s.die is.die)
+pub in_spots : {n : Numbers} {s : Spot} → IsSpot n s → IsIn s (spots n)
+in_spots {n} {s} is = in_flat (die_spots n.blocks) s.die s (below n.dies) (in_below n.dies s.die is.die)
     (in_map (λ block. record { die = s.die; block = block }) s.block (below n.blocks)
     (in_below n.blocks s.block is.block))
 
-pub spots_in : (n : Numbers) (s : Spot) → IsIn s (spots n) → IsSpot n s
-spots_in n s h =
+pub spots_in : {n : Numbers} {s : Spot} → IsIn s (spots n) → IsSpot n s
+spots_in {n} {s} h =
     let r = flat_in (die_spots n.blocks) s (below n.dies) h in
     let m = map_in (λ block. record { die = r.0; block = block }) s (below n.blocks) r.2 in
     subst (IsSpot n) m.2 (record { die = below_in n.dies r.0 r.1; block = below_in n.blocks m.0 m.1 })
 
 dies_ordered : (blocks dies : ℕ) → IsOrdered IsBefore (flat_map (die_spots blocks) (below dies))
 dies_ordered blocks zero = tt
-dies_ordered blocks (suc dies) =
-    subst (λ (zs : List Spot). IsOrdered IsBefore zs)
+dies_ordered blocks (suc dies) = subst (λ (zs : List Spot). IsOrdered IsBefore zs)
     (sym (flat_map-append (die_spots blocks) (below dies) (dies ∷ [])))
     (ordered_append IsBefore (flat_map (die_spots blocks) (below dies)) (die_spots blocks dies ++ [])
     (dies_ordered blocks dies)
     (ordered_append IsBefore (die_spots blocks dies) []
     (ordered_map (λ i j. i < j) IsBefore (λ block. record { die = dies; block = block }) (below blocks)
-    (λ x y l. inr (refl, l)) (ordered_below blocks))
-    tt (λ x y i j. absurd j))
-    (λ x y i j. inl (apart x y i j)))
+    (λ x y l. inr (refl, l)) (ordered_below blocks)) tt (λ x y i j. absurd j)) (λ x y i j. inl (apart x y i j)))
   where
     apart : (x y : Spot) → IsIn x (flat_map (die_spots blocks) (below dies)) → IsIn y (die_spots blocks dies ++ []) →
         x.die < y.die

@@ -1,28 +1,23 @@
 -- The keys of a sort, each once and in order, where it can be said of each number below an end which keys those are.
-use Rattle.std.proofs.Common.{◌≡◌, ◌⊎◌, ℕ, zero, suc, ◌<◌, List, [], ◌∷◌, Some, slice_get, refl, sym, ◌∙◌, subst, inl}
-use Rattle.std.proofs.Common.{inr, ⊎_elim, arith}
-use Rattle.std.proofs.lemmas.Bool.{cases_order}
+use Rattle.power_loss.proofs.Common.{◌≡◌, ◌⊎◌, ℕ, zero, suc, ◌<◌, List, [], ◌∷◌, Some, slice_get, refl, sym, ◌∙◌, subst}
+use Rattle.power_loss.proofs.Common.{inl, inr, ⊎_elim, arith, cases_order, IsBefore, Key}
 use Rattle.ufs_laws.proofs.deciding.SearchOverPlaces.{split}
 use Rattle.ufs_spec.proofs.Facts.{key_is}
-use Rattle.ufs_spec.specs.Openings.{IsBefore}
-use Rattle.ufs_spec.specs.declared.flash.Key.{Key}
 use Rattle.power_loss.proofs.ordered_lists.ElementsAndOrders.{IsIn, IsOrdered, order_at}
 pub use Rattle.power_loss.proofs.ordered_lists.ElementsAndOrders.{at_has, has_at}
 
 -- Order
 
-compare : (j k : Key) → IsBefore j k ⊎ ((j ≡ k) ⊎ IsBefore k j)
-compare j k = ⊎_elim by_unit (⊎_elim (λ l. inl (inl l)) (λ l. inr (inr (inl l)))) (cases_order j.kind k.kind)
+compare : {j k : Key} → IsBefore j k ⊎ ((j ≡ k) ⊎ IsBefore k j)
+compare {j} {k} = ⊎_elim by_unit (⊎_elim (λ l. inl (inl l)) (λ l. inr (inr (inl l)))) (cases_order j.kind k.kind)
   where
     by_address : j.kind ≡ k.kind → j.unit ≡ k.unit → IsBefore j k ⊎ ((j ≡ k) ⊎ IsBefore k j)
-    by_address e f =
-        ⊎_elim (λ g. inr (inl (key_is j k e f g)))
+    by_address e f = ⊎_elim (λ g. inr (inl (key_is j k e f g)))
         (⊎_elim (λ l. inl (inr (inr (e, f, l)))) (λ l. inr (inr (inr (inr (sym e, sym f, l))))))
         (cases_order j.address k.address)
 
     by_unit : j.kind ≡ k.kind → IsBefore j k ⊎ ((j ≡ k) ⊎ IsBefore k j)
-    by_unit e =
-        ⊎_elim (by_address e) (⊎_elim (λ l. inl (inr (inl (e, l)))) (λ l. inr (inr (inr (inl (sym e, l))))))
+    by_unit e = ⊎_elim (by_address e) (⊎_elim (λ l. inl (inr (inl (e, l)))) (λ l. inr (inr (inr (inl (sym e, l))))))
         (cases_order j.unit k.unit)
 
 before_trans : (a b c : Key) → IsBefore a b → IsBefore b c → IsBefore a c
@@ -51,8 +46,9 @@ record Inserted (k : Key) (xs : List Key) : Type 0 where
   pub kept : (j : Key) → Has xs j → Has keys j
   pub only : (j : Key) → Has keys j → (j ≡ k) ⊎ Has xs j
 
-inserted_behind : (k x : Key) (xs : List Key) → Sorted (x ∷ xs) → IsBefore x k → Inserted k xs → Inserted k (x ∷ xs)
-inserted_behind k x xs s l r = record {
+inserted_behind : {k : Key} (x : Key) {xs : List Key} → Sorted (x ∷ xs) → IsBefore x k → Inserted k xs →
+    Inserted k (x ∷ xs)
+inserted_behind x s l r = record {
   keys = x ∷ r.keys;
   sorted = ((λ j h. ⊎_elim (λ e. subst (IsBefore x) (sym e) l) (λ g. s.0 j g) (r.only j h)), r.sorted);
   has = inr r.has;
@@ -60,16 +56,15 @@ inserted_behind k x xs s l r = record {
   only = λ j h. ⊎_elim (λ e. inr (inl e)) (λ g. ⊎_elim (λ e. inl e) (λ y. inr (inr y)) (r.only j g)) h;
 }
 
-insert : (k : Key) (xs : List Key) → Sorted xs → Inserted k xs
-insert k [] s = record {
+insert : {k : Key} (xs : List Key) → Sorted xs → Inserted k xs
+insert {k} [] s = record {
   keys = k ∷ [];
   sorted = ((λ j h. absurd h), tt);
   has = inl refl;
   kept = λ j h. absurd h;
   only = λ j h. ⊎_elim (λ e. inl (sym e)) (λ g. absurd g) h;
 }
-insert k (x ∷ xs) s =
-    ⊎_elim
+insert {k} (x ∷ xs) s = ⊎_elim
     (λ (l : IsBefore k x). record {
       keys = k ∷ x ∷ xs;
       sorted = ((λ j h. ⊎_elim (λ e. subst (IsBefore k) e l) (λ g. before_trans k x j l (s.0 j g)) h), s);
@@ -79,8 +74,7 @@ insert k (x ∷ xs) s =
     })
     (⊎_elim
     (λ (e : k ≡ x). record { keys = x ∷ xs; sorted = s; has = inl (sym e); kept = λ j h. h; only = λ j h. inr h })
-    (λ (l : IsBefore x k). inserted_behind k x xs s l (insert k xs s.1)))
-    (compare k x)
+    (λ (l : IsBefore x k). inserted_behind x s l (insert xs s.1))) (compare)
 
 -- all keys of a sort
 pub record Listed (P : Key → Type 0) : Type 0 where
@@ -98,7 +92,7 @@ insert_all P [] l = record {
 }
 insert_all P (x ∷ xs) l =
     let r = insert_all P xs l in
-    let i = insert x r.keys r.sorted in
+    let i = insert r.keys r.sorted in
     record {
       keys = i.keys;
       sorted = i.sorted;
@@ -135,8 +129,8 @@ collect P l (suc end) =
 pub none_listed : (P : Key → Type 0) → ((k : Key) → P k → ⊥) → Listed P
 none_listed P none = record { keys = []; sorted = tt; has = λ k h. absurd (none k h); only = λ k h. absurd h }
 
-pub one_listed : (P : Key → Type 0) (x : Key) → P x → ((k : Key) → P k → x ≡ k) → Listed P
-one_listed P x is only = record {
+pub one_listed : (P : Key → Type 0) {x : Key} → P x → ((k : Key) → P k → x ≡ k) → Listed P
+one_listed P {x} is only = record {
   keys = x ∷ [];
   sorted = ((λ k h. absurd h), tt);
   has = λ k h. inl (only k h);

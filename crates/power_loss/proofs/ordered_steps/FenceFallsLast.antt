@@ -1,58 +1,47 @@
 -- The mark without a fence is ordered once each lost key has a durable repair, and it ends the mending.
-use Rattle.std.proofs.Common.{◌≡◌, ℕ, suc, ◌+◌, ◌==◌, is_none, if◌then◌else◌, true, List, [], ◌∷◌, Option, Some, None}
-use Rattle.std.proofs.Common.{refl, sym, ap, ◌∙◌, subst, ⊎_elim, arith}
-use Rattle.ufs_spec.specs.Cells.{Mark, MarkPage}
-use Rattle.ufs_spec.specs.Disk.{Programming}
-use Rattle.ufs_spec.specs.Moves.{EndJob, WentWell, end_flight, mending_behind, moved}
-use Rattle.ufs_spec.specs.Openings.{IsFirstFence}
-use Rattle.ufs_spec.specs.Translation.{MarkStep, MayTake, Mended, Mending, OrderMark, Repairing, Step, StepKind}
-use Rattle.ufs_spec.specs.Translation.{Translation, Unmarked, due_order, has_mark_number, is_mended, next_order}
-use Rattle.ufs_spec.specs.Translation.{stepped, taken, turned}
-use Rattle.ufs_spec.specs.declared.flash.Fence.{Fence}
-use Rattle.ufs_spec.specs.declared.flash.Key.{Key}
-use Rattle.ufs_spec.specs.declared.flash.Place.{Place}
-use Rattle.ufs_spec.proofs.Facts.{none-some, eqb-self, cond-true}
-use Rattle.power_loss.specs.Book.{IsPlainMark, book, last_number}
-use Rattle.power_loss.specs.Invariant.{IsLastRepair, MendingRight, StepKindRight, Valid}
+use Rattle.power_loss.proofs.Common.{◌≡◌, ℕ, suc, ◌+◌, ◌==◌, is_none, if◌then◌else◌, true, List, [], ◌∷◌, Option, Some}
+use Rattle.power_loss.proofs.Common.{None, refl, sym, ap, ◌∙◌, subst, ⊎_elim, arith, Mark, MarkPage, Programming}
+use Rattle.power_loss.proofs.Common.{EndJob, WentWell, end_flight, mending_behind, moved, IsFirstFence, MarkStep}
+use Rattle.power_loss.proofs.Common.{MayTake, Mended, Mending, OrderMark, Repairing, Step, StepKind, Translation}
+use Rattle.power_loss.proofs.Common.{Unmarked, due_order, has_mark_number, is_mended, next_order, stepped, taken}
+use Rattle.power_loss.proofs.Common.{turned, Fence, Key, Place, none-some, eqb-self, cond-true, IsPlainMark, book}
+use Rattle.power_loss.proofs.Common.{last_number, IsLastRepair, StepKindRight, Valid}
 use Rattle.power_loss.proofs.stops.LeftCells.{same_mark}
 use Rattle.power_loss.proofs.jobs.JobsBegin.{takes_program}
+use Rattle.power_loss.proofs.books.LayerParts.{MendingOf}
 
 -- A mark that flies
 
 -- nothing is lost where the first mark has no fence
-none_lost : (t : Translation) (fence : Option Fence) (m : Mark) → fence ≡ None → m.fence ≡ None →
-    IsFirstFence t.ledger.newest t.ledger.first_lost t.ledger.greatest_seen fence →
-    IsPlainMark (book t) m
-none_lost t None m e none f =
+none_lost : (t : Translation) (fence : Option Fence) {m : Mark} → fence ≡ None → m.fence ≡ None →
+    IsFirstFence t.ledger.newest t.ledger.first_lost t.ledger.greatest_seen fence → IsPlainMark (book t) m
+none_lost t None e none f =
     record {
       none = none;
       repaired = λ n i page l is. absurd (let x = l.from in let y = l.to in let z = f.1 in
           omega arith);
     }
-none_lost t (Some fence) m e none f = absurd (none-some fence (sym e))
+none_lost t (Some fence) e none f = absurd (none-some fence (sym e))
 
-flying : (t : Translation) (w : Mending) (die : ℕ) (p : Place) (m : Mark) →
-    MendingRight (book t) t.disk t.ledger t.work.plan t.work.step w →
+flying : (t : Translation) (w : Mending) (die : ℕ) (p : Place) (m : Mark) → MendingOf t w →
     t.disk.flights die ≡ Some (Programming p (MarkPage m)) → m.fence ≡ None → IsPlainMark (book t) m
 flying t (Unmarked fence lost) die p m u job none =
     let f = u.flies die p (MarkPage m) job in
-    none_lost t fence m (sym f.2.fence_is ∙ ap (λ (x : Mark). x.fence) (sym (same_mark m f.0 f.1)) ∙ none) none
+    none_lost t fence (sym f.2.fence_is ∙ ap (λ (x : Mark). x.fence) (sym (same_mark m f.0 f.1)) ∙ none) none
     u.fence_right
 flying t (Repairing left) die p m r job none = (r.right.flies die p m job).plain
 flying t Mended die p m r job none = (r.right.flies die p m job).plain
 
 pub given : (t : Translation) (die : ℕ) (p : Place) (m : Mark) → Valid t →
     MayTake t die (Some (Programming p (MarkPage m))) → m.fence ≡ None → IsPlainMark (book t) m
-given t die p m v may none =
-    flying (taken t die (Programming p (MarkPage m))) t.work.mending die p m
+given t die p m v may none = flying (taken t die (Programming p (MarkPage m))) t.work.mending die p m
     (takes_program t die p (MarkPage m) v may).mending
     (cond-true (die == die) (Some (Programming p (MarkPage m))) (t.disk.flights die) (eqb-self die)) none
 
 -- The order of the last mark
 
 pub not_before : (t : Translation) (key : Key) (left : List Key) (number : ℕ) (fence : Option Fence) (step : Step) →
-    Valid t → t.work.mending ≡ Repairing (key ∷ left) →
-    t.work.step ≡ Some step → step.kind ≡ MarkStep number fence → ⊥
+    Valid t → t.work.mending ≡ Repairing (key ∷ left) → t.work.step ≡ Some step → step.kind ≡ MarkStep number fence → ⊥
 not_before t key left number fence step v w is kind =
     let r : StepKindRight (book t) t.ledger.marks t.disk.cells (Repairing (key ∷ left)) t.work.plan
     (MarkStep number fence) =
@@ -63,18 +52,15 @@ not_before t key left number fence step v w is kind =
     some_key : (key : Key) (left : List Key) → key ∷ left ≡ [] → ⊥
     some_key key left e = cc
 
-repairing : (t : Translation) (left : List Key) → Valid t → t.work.mending ≡ Repairing left →
-    MendingRight (book t) t.disk t.ledger t.work.plan t.work.step (Repairing left)
-repairing t left v w = subst (MendingRight (book t) t.disk t.ledger t.work.plan t.work.step) w v.mending
+repairing : {t : Translation} (left : List Key) → Valid t → t.work.mending ≡ Repairing left →
+    MendingOf t (Repairing left)
+repairing {t} left v w = subst (MendingOf t) w v.mending
 
 pub durable : (t : Translation) → Valid t → t.work.mending ≡ Repairing [] → t.work.step ≡ None →
     t.ledger.frontier ≡ last_number (book t)
-durable t v w none =
-    ⊎_elim
-    (λ e. e)
+durable t v w none = ⊎_elim (λ e. e)
     (λ (e : (suc t.ledger.frontier ≡ last_number (book t)) × IsLastRepair (book t) t.work.step).
-    absurd (none-some _ (sym none ∙ e.1.2)))
-    (repairing t [] v w).more.under_way
+    absurd (none-some _ (sym none ∙ e.1.2))) (repairing [] v w).more.under_way
 
 pub ordered : (t : Translation) → Valid t → t.work.mending ≡ Repairing [] → t.work.step ≡ None →
     has_mark_number t ≡ true →
@@ -87,8 +73,7 @@ ordered t v w none more =
 
 -- Its program
 
-ended : (t : Translation) (w : Mending) (die : ℕ) (p : Place) (m : Mark) →
-    MendingRight (book t) t.disk t.ledger t.work.plan t.work.step w →
+ended : (t : Translation) (w : Mending) (die : ℕ) (p : Place) (m : Mark) → MendingOf t w →
     t.disk.flights die ≡ Some (Programming p (MarkPage m)) → m.fence ≡ None → is_mended (mending_behind w) ≡ true
 ended t (Unmarked None lost) die p m u job none = refl
 ended t (Unmarked (Some fence) lost) die p m u job none =

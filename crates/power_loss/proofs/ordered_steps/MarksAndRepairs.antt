@@ -1,33 +1,24 @@
 -- Steps that are ordered keep a life valid: a mark and a repair.
-use Rattle.std.proofs.Common.{Bool, ◌≡◌, ℕ, zero, suc, ◌+◌, ◌-◌, ◌≤◌, ◌⊎◌, true, false, is_none, List, [], ◌∷◌, ◌++◌}
-use Rattle.std.proofs.Common.{length, Option, Some, None, slice_get, refl, sym, ap, ◌∙◌, subst, inl, inr, ⊎_elim, arith}
-use Rattle.std.proofs.lemmas.List.{drop_all}
-use Rattle.std.proofs.lemmas.List.Elements.{All-nil}
-use Rattle.std.proofs.lemmas.Option.{slice_get_within}
-use Rattle.ufs_spec.proofs.Facts.{none-some, same_Some}
-use Rattle.ufs_spec.specs.Cells.{Cells, Cell, Mark, MarkPage}
-use Rattle.ufs_spec.specs.Disk.{BlockState, Disk, Programming, Spot}
-use Rattle.ufs_spec.specs.Keys.{Contents, Group, Item}
-use Rattle.ufs_spec.specs.Kept.{recorded_in}
-use Rattle.ufs_spec.specs.Ledger.{Entry, Ledger, accepted_groups, before_accepted, next_number}
-use Rattle.ufs_spec.specs.Translation.{MarkStep, Mended, Mending, Plan, RepairStep, Repairing, Step, Translation}
-use Rattle.ufs_spec.specs.Translation.{Unmarked, Want, is_mended, mark_ordered, pending_pages, repair_ordered}
-use Rattle.ufs_spec.specs.Translation.{standing_of, with_repair}
-use Rattle.ufs_spec.specs.declared.flash.Fence.{Fence}
-use Rattle.ufs_spec.specs.declared.flash.Key.{Key}
-use Rattle.ufs_spec.specs.declared.flash.Place.{Place}
-use Rattle.ufs_spec.proofs.Lists.{get_splits, grown_length}
-use Rattle.power_loss.specs.Book.{Book, HasKey, IsPageAt, IsWritten, book, last_number}
-use Rattle.power_loss.specs.Invariant.{Flights, FenceRight, FlightsRight, HistoryRight, IsLastRepair, IsNeededPage}
-use Rattle.power_loss.specs.Invariant.{IsOpenedOrOwn, IsOwnMark, IsToCopy, MarkStepRight, MarksRight, MendingRight}
-use Rattle.power_loss.specs.Invariant.{OnePlanRight, PlanRight, RepairingRight, Standing, StepKindRight, StepRight}
-use Rattle.power_loss.specs.Invariant.{ToReadRight, Valid}
+use Rattle.power_loss.proofs.Common.{Bool, ◌≡◌, ℕ, zero, suc, ◌+◌, ◌-◌, ◌≤◌, ◌⊎◌, true, false, is_none, List, [], ◌∷◌}
+use Rattle.power_loss.proofs.Common.{◌++◌, length, Option, Some, None, slice_get, refl, sym, ap, ◌∙◌, subst, inl, inr}
+use Rattle.power_loss.proofs.Common.{⊎_elim, arith, drop_all, All-nil, slice_get_within, none-some, same_Some, Cells}
+use Rattle.power_loss.proofs.Common.{Cell, Mark, MarkPage, BlockState, Disk, Programming, Spot, Contents, Group, Item}
+use Rattle.power_loss.proofs.Common.{Entry, Ledger, before_accepted, next_number, MarkStep, Mended, Mending, Plan}
+use Rattle.power_loss.proofs.Common.{RepairStep, Repairing, Step, Translation, Unmarked, Want, is_mended, mark_ordered}
+use Rattle.power_loss.proofs.Common.{pending_pages, repair_ordered, standing_of, Fence, Key, Place, get_splits}
+use Rattle.power_loss.proofs.Common.{grown_length, Book, HasKey, IsPageAt, IsWritten, book, last_number, Flights}
+use Rattle.power_loss.proofs.Common.{FenceRight, FlightsRight, HistoryRight, IsLastRepair, IsOpenedOrOwn, IsOwnMark}
+use Rattle.power_loss.proofs.Common.{IsToCopy, MarkStepRight, MarksRight, MendingRight, OnePlanRight, PlanRight}
+use Rattle.power_loss.proofs.Common.{RepairingRight, Standing, StepKindRight, StepRight, ToReadRight, Valid}
+use Rattle.power_loss.proofs.Common.{MarkFlightRight}
+use Rattle.ufs_spec.specs.Translation.{with_repair}
 use Rattle.power_loss.proofs.books.PagesByName.{MayAdd, added_page, book_grows, fence_grows, grown, last_grows}
 use Rattle.power_loss.proofs.books.PagesByName.{lost_before, page_grows, written_grows, written_more}
 use Rattle.power_loss.proofs.kept_pages.PagesStay.{pins_stay}
 use Rattle.power_loss.proofs.kept_pages.ReadsStay.{repair_wants, stands_needed}
 use Rattle.power_loss.proofs.accepted_groups.ClaimedSlots.{no_pages, slots_fewer}
 use Rattle.power_loss.proofs.books.BookGrows.{flights_grow, frontier_grows, marks_grow, pages_grow, safe_grows}
+use Rattle.power_loss.proofs.books.LayerParts.{NeededOf, MendingOf}
 
 -- Where no step is under way
 
@@ -40,64 +31,36 @@ no_mark e r die p m h =
 
 -- another step begins, and marks may be more
 next_flights : {b : Book} {frontier marks more : ℕ} {blocks : Spot → BlockState} {erasing : Spot → Bool}
-    {flights : Flights}
-    {step next : Option Step} → step ≡ None → FlightsRight b frontier marks blocks erasing flights step →
-    FlightsRight b frontier more blocks erasing flights next
-next_flights e r = record {
-  programs = r.programs;
-  erases = r.erases;
-  something = r.something;
-  known = r.known;
-  recorded = r.recorded;
-  mark = λ die p m h. absurd (no_mark e r die p m h);
-  one_mark = r.one_mark;
-}
+    {flights : Flights} {step next : Option Step} → step ≡ None →
+    FlightsRight b frontier marks blocks erasing flights step → FlightsRight b frontier more blocks erasing flights next
+next_flights {b} {more = more} {flights = flights} {next = next} e r =
+    let mark : (die : ℕ) (p : Place) (m : Mark) → flights die ≡ Some (Programming p (MarkPage m)) →
+    MarkFlightRight b.numbers more next m = λ die p m h. absurd (no_mark e r die p m h) in
+    assumption
 
-pub no_step : (step : Option Step) (s : Step) → step ≡ None → step ≡ Some s → ⊥
-no_step step s e f = none-some s (sym e ∙ f)
+pub no_step : {step : Option Step} {s : Step} → step ≡ None → step ≡ Some s → ⊥
+no_step {step} {s} e f = none-some s (sym e ∙ f)
 
 -- a step is ordered: of a plan or of none, with as many marks or more
-pub next_step : (t : Translation) (more : ℕ) (plan : Option Plan) (next : Option Step) → Valid t →
-    t.work.step ≡ None → t.ledger.marks ≤ more →
-    MendingRight (book t) t.disk (record t.ledger { marks = more }) plan next t.work.mending →
+pub next_step : {t : Translation} {more : ℕ} {plan : Option Plan} {next : Option Step} → Valid t → t.work.step ≡ None →
+    t.ledger.marks ≤ more → MendingRight (book t) t.disk (record t.ledger { marks = more }) plan next t.work.mending →
     StepRight (book t) more t.disk.cells t.work.mending plan next →
     PlanRight (book t) t.ledger.frontier t.ledger.standing t.disk.blocks t.disk.flights t.work.mending next plan →
     ToReadRight t.disk.cells t.disk.finished t.disk.blocks t.disk.erasing next plan →
-    Valid (record t {
-      ledger = record t.ledger { marks = more };
-      work = record t.work { plan = plan; step = next };
-    })
-next_step t more plan next v none up mending step planned reads = record {
-  book_right = v.book_right;
-  frontier = v.frontier;
-  pages = v.pages;
-  blocks = v.blocks;
-  flights = next_flights none v.flights;
-  safe = v.safe;
-  numbered = λ p m h. let l = v.numbered p m h in omega arith;
-  mending = mending;
-  step = step;
-  plan = planned;
-  history = v.history;
-  slots = v.slots;
-  unmended = v.unmended;
-  pins = v.pins;
-  rests = v.rests;
-  reads = v.reads;
-  to_read = reads;
-}
+    Valid (record t { ledger = record t.ledger { marks = more }; work = record t.work { plan = plan; step = next } })
+next_step {t = t} {more = more} {next = next} v none up mending step planned reads = assumption (
+  next_flights {more = more} {next = next} none v.flights,
+  λ (p : Place) (m : Mark) (h : t.disk.cells p ≡ MarkPage m). let l = v.numbered p m h in
+      let up : m.number ≤ more = omega arith in up,
+)
 
 -- A mark
 
 own_more : {b : Book} {newest : Option Mark} {marks more : ℕ} {fence : Option Fence} {m : Mark} → marks ≤ more →
     IsOwnMark b newest marks fence m → IsOwnMark b newest more fence m
-own_more l h = record {
-  newer = h.newer;
-  within = let w = h.within in omega arith;
-  records = h.records;
-  fence_is = h.fence_is;
-  numbers = h.numbers;
-}
+own_more {more = more} {m = m} l h =
+    let within : m.number ≤ more = let w = h.within in omega arith in
+    assumption
 
 opened_more : {b : Book} {newest : Option Mark} {marks more : ℕ} {fence : Option Fence} {opened cell : Cell} →
     marks ≤ more → IsOpenedOrOwn b newest marks fence opened cell → IsOpenedOrOwn b newest more fence opened cell
@@ -108,27 +71,17 @@ marks_more : {b : Book} {frontier marks more : ℕ} {cells : Cells} {finished : 
     {erasing : Spot → Bool} {flights : Flights} {newest : Mark} →
     MarksRight b frontier marks cells finished blocks erasing flights newest →
     MarksRight b frontier more cells finished blocks erasing flights newest
-marks_more r = record {
-  stands = r.stands;
-  within = r.within;
-  numbers = r.numbers;
-  whole = r.whole;
-  ended = r.ended;
-  known = r.known;
-  same = r.same;
-  freed = r.freed;
-  flies = r.flies;
-}
+marks_more r = assumption
 
 none_under_way : (b : Book) {frontier : ℕ} {step : Option Step} → step ≡ None →
     (frontier ≡ last_number b) ⊎ ((suc frontier ≡ last_number b) × IsLastRepair b step) → frontier ≡ last_number b
 none_under_way b e (inl h) = h
 none_under_way b e (inr h) = absurd (none-some _ (sym e ∙ h.1.2))
 
-step_mending : (b : Book) (d : Disk) (l : Ledger) (more : ℕ) (plan : Option Plan) (step next : Option Step)
-    (w : Mending) → step ≡ None → l.marks ≤ more → MendingRight b d l plan step w →
+step_mending : (b : Book) (d : Disk) (l : Ledger) (more : ℕ) (plan : Option Plan) {step : Option Step}
+    (next : Option Step) (w : Mending) → step ≡ None → l.marks ≤ more → MendingRight b d l plan step w →
     MendingRight b d (record l { marks = more }) plan next w
-step_mending b d l more plan step next (Unmarked fence lost) e up m = record {
+step_mending b d l more plan next (Unmarked fence lost) e up m = record {
   opening = m.opening;
   opened = m.opened;
   fence_right = m.fence_right;
@@ -140,21 +93,11 @@ step_mending b d l more plan step next (Unmarked fence lost) e up m = record {
   blank = m.blank;
   no_plan = m.no_plan;
 }
-step_mending b d l more plan step next (Repairing left) e up m = record {
-  mark = m.mark;
-  is = m.is;
-  right = marks_more m.right;
-  more = record {
-    fence = m.more.fence;
-    repaired = m.more.repaired;
-    keys = m.more.keys;
-    singles = m.more.singles;
-    under_way = inl (none_under_way b e m.more.under_way);
-    blank = m.more.blank;
-    no_plan = m.more.no_plan;
-  };
-}
-step_mending b d l more plan step next Mended e up m =
+step_mending b d l more plan next (Repairing left) e up m =
+    let under : (l.frontier ≡ last_number b) ⊎ ((suc l.frontier ≡ last_number b) × IsLastRepair b next) =
+    inl (none_under_way b e m.more.under_way) in
+    record { mark = m.mark; is = m.is; right = marks_more m.right; more = assumption }
+step_mending b d l more plan {step} next Mended e up m =
     record { mark = m.mark; is = m.is; right = marks_more m.right; more = m.more }
 
 -- what is still to be copied, where no step was under way
@@ -164,32 +107,24 @@ to_copy copies next n i p e (inl h) = inl h
 to_copy copies next n i p e (inr h) = absurd (none-some _ (sym e ∙ h.1))
 
 next_plan : {b : Book} {frontier : ℕ} {standing : Standing} {blocks : Spot → BlockState} {flights : Flights}
-    {step : Option Step} (next : Option Step) (pl : Plan) → step ≡ None →
-    OnePlanRight b frontier standing blocks flights step pl →
-    OnePlanRight b frontier standing blocks flights next pl
-next_plan next pl e r = record {
+    {step : Option Step} {next : Option Step} {pl : Plan} → step ≡ None →
+    OnePlanRight b frontier standing blocks flights step pl → OnePlanRight b frontier standing blocks flights next pl
+next_plan {next = next} {pl = pl} e r = record {
   state = r.state;
   copied = λ n i x p h. ⊎_elim (λ o. inl o) (λ c. inr (to_copy pl.copies next n i p e c)) (r.copied n i x p h);
   flown = r.flown;
 }
 
 -- a mark is ordered
-pub marks_ordered : (t : Translation) (fence : Option Fence) → Valid t → t.work.step ≡ None →
+pub marks_ordered : {t : Translation} (fence : Option Fence) → Valid t → t.work.step ≡ None →
     FenceRight t.work.mending fence → ((pl : Plan) → t.work.plan ≡ Some pl → pl.copies ≡ []) →
     Valid (mark_ordered t fence)
-marks_ordered t fence v none right behind =
-    next_step t more t.work.plan (Some step) v none (omega arith)
-    (step_mending (book t) t.disk t.ledger more t.work.plan t.work.step (Some step) t.work.mending none (omega arith)
-    v.mending)
+marks_ordered {t} fence v none right behind = next_step v none (omega arith)
+    (step_mending (book t) t.disk t.ledger more t.work.plan (Some step) t.work.mending none (omega arith) v.mending)
     (record {
-      kind = λ s h.
-          subst (λ (z : Step). StepKindRight (book t) more t.disk.cells t.work.mending t.work.plan z.kind)
+      kind = λ s h. subst (λ (z : Step). StepKindRight (book t) more t.disk.cells t.work.mending t.work.plan z.kind)
           (same_Some step s h) mark_right;
-    })
-    (record {
-      mended = v.plan.mended;
-      one = λ pl h. next_plan (Some step) pl none (v.plan.one pl h);
-    })
+    }) (record { mended = v.plan.mended; one = λ pl h. next_plan none (v.plan.one pl h) })
     (record { wanted = All-nil _; copied = v.to_read.copied })
   where
     more : ℕ
@@ -218,16 +153,16 @@ repair_group base k = repair_item base k ∷ []
 abbrev repair_entry : Contents → Key → Entry
 repair_entry base k = record { item = repair_item base k; size = 1 }
 
-only_item : (base : Contents) (k : Key) (i : ℕ) (item : Item) → slice_get (repair_group base k) i ≡ Some item →
+only_item : (base : Contents) (k : Key) (i : ℕ) {item : Item} → slice_get (repair_group base k) i ≡ Some item →
     (i ≡ 0) × (item ≡ repair_item base k)
-only_item base k zero item h = (refl, sym (same_Some (repair_item base k) item h))
-only_item base k (suc i) item h = cc
+only_item base k zero {item} h = (refl, sym (same_Some (repair_item base k) item h))
+only_item base k (suc i) h = cc
 
-repair_may : (b : Book) (k : Key) → HasKey b k → MayAdd b (repair_group b.base k)
-repair_may b k has = record {
+repair_may : {b : Book} (k : Key) → HasKey b k → MayAdd b (repair_group b.base k)
+repair_may {b} k has = record {
   some = omega arith;
-  differ = λ i j x y h g e. (only_item b.base k i x h).0 ∙ sym (only_item b.base k j y g).0;
-  keys = λ i item h. subst (λ (x : Item). HasKey b x.key) (sym (only_item b.base k i item h).1) has;
+  differ = λ i j x y h g e. (only_item b.base k i h).0 ∙ sym (only_item b.base k j g).0;
+  keys = λ i item h. subst (λ (x : Item). HasKey b x.key) (sym (only_item b.base k i h).1) has;
 }
 
 repair_page : (b : Book) (k : Key) (n : ℕ) → n ≡ suc (last_number b) →
@@ -236,11 +171,11 @@ repair_page b k n e =
     added_page b (repair_group b.base k) n 0 (repair_entry b.base k) (record { last = e; item = refl; size = refl })
 
 -- the key at the front is written now
-repair_done : (b : Book) (k : Key) (left : List Key) (key : Key) →
+repair_done : {b : Book} (k : Key) (left : List Key) {key : Key} →
     ((j : ℕ) × (slice_get (k ∷ left) j ≡ Some key)) ⊎ IsWritten b key (last_number b) →
     ((j : ℕ) × (slice_get left j ≡ Some key))
     ⊎ IsWritten (grown b (repair_group b.base k)) key (last_number (grown b (repair_group b.base k)))
-repair_done b k left key (inl (zero, h)) =
+repair_done {b} k left {key} (inl (zero, h)) =
     let up = last_grows b (repair_group b.base k) in
     inr (record {
       number = suc (last_number b);
@@ -251,28 +186,24 @@ repair_done b k left key (inl (zero, h)) =
       new = omega arith;
       within = omega arith;
     })
-repair_done b k left key (inl (suc j, h)) = inl (j, h)
-repair_done b k left key (inr h) =
+repair_done k left (inl (suc j, h)) = inl (j, h)
+repair_done {b} k left {key} (inr h) =
     let g = repair_group b.base k in
     let up = last_grows b g in
-    inr (written_more (grown b g) key (last_number b) (last_number (grown b g)) (omega arith)
-    (written_grows b g key (last_number b) h))
+    inr (written_more (grown b g) key (last_number b) (last_number (grown b g)) (omega arith) (written_grows g h))
 
 abbrev repair_step : ℕ → Option Place → Step
 repair_step n from = record { kind = RepairStep (record { number = n; index = 0 }) from; there = is_none from }
 
-repair_left : (b : Book) (d : Disk) (frontier n : ℕ) (newest : Mark) (plan : Option Plan) (step : Option Step) (k : Key)
-    (left : List Key) (from : Option Place) → step ≡ None → n ≡ suc (last_number b) →
-    RepairingRight b frontier d.cells d.blocks d.erasing newest plan step (k ∷ left) →
-    RepairingRight (grown b (repair_group b.base k)) frontier d.cells d.blocks d.erasing newest plan
-    (Some (repair_step n from)) left
-repair_left b d frontier n newest plan step k left from none e r = record {
-  fence = fence_grows b (repair_group b.base k) newest r.fence;
-  repaired = λ m i x lost is.
-      repair_done b k left x.item.key (r.repaired m i x (lost_before b (repair_group b.base k) m lost) is);
+repair_left : {b : Book} (d : Disk) {frontier n : ℕ} {newest : Mark} {plan : Option Plan} {step : Option Step} (k : Key)
+    {left : List Key} (from : Option Place) → step ≡ None → n ≡ suc (last_number b) →
+    RepairingRight b frontier d.cells d.blocks d.erasing newest plan step (k ∷ left) → RepairingRight
+    (grown b (repair_group b.base k)) frontier d.cells d.blocks d.erasing newest plan (Some (repair_step n from)) left
+repair_left {b} d {newest = newest} k {left} from none e r = record {
+  fence = fence_grows (repair_group b.base k) r.fence;
+  repaired = λ m i x lost is. repair_done k left (r.repaired m i x (lost_before (repair_group b.base k) lost) is);
   keys = λ j x h. r.keys (suc j) x h;
-  singles = λ j g h. ⊎_elim
-      (λ o. r.singles j g o)
+  singles = λ j g h. ⊎_elim (λ o. r.singles j g o)
       (λ (o : (j ≡ length b.groups) × (g ≡ repair_group b.base k)). ap length o.1)
       (get_splits b.groups (repair_group b.base k) j g h);
   under_way =
@@ -283,15 +214,14 @@ repair_left b d frontier n newest plan step k left from none e r = record {
   no_plan = r.no_plan;
 }
 
-repair_history : (b : Book) (k : Key) (repairs held frontier : ℕ) → HistoryRight b repairs held frontier false →
+repair_history : {b : Book} (k : Key) {repairs held frontier : ℕ} → HistoryRight b repairs held frontier false →
     HistoryRight (grown b (repair_group b.base k)) (repairs + 1) held frontier false
-repair_history b k repairs held frontier h = record {
+repair_history {b} k {repairs} {held} h = record {
   within = let e = all.0 in let up = grown_length b.groups (repair_group b.base k) in omega arith;
-  contents = λ j i g item l is at.
-      ⊎_elim
+  contents = λ j i g item l is at. ⊎_elim
       (λ o. let e = all.0 in let w = slice_get_within b.groups j g o in h.contents j i g item (omega arith) o at)
       (λ (o : (j ≡ length b.groups) × (g ≡ repair_group b.base k)).
-      let same = (only_item b.base k i item (subst (λ (z : Group). slice_get z i ≡ Some item) o.1 at)).1 in
+      let same = (only_item b.base k i (subst (λ (z : Group). slice_get z i ≡ Some item) o.1 at)).1 in
       ap (λ (x : Item). x.body) same ∙ ap b.base (sym (ap (λ (x : Item). x.key) same)))
       (get_splits b.groups (repair_group b.base k) j g is);
   mending = λ no. ((let e = all.0 in let up = grown_length b.groups (repair_group b.base k) in omega arith), all.1);
@@ -302,50 +232,39 @@ repair_history b k repairs held frontier h = record {
     all = h.mending refl
 
 -- a repair is ordered
-pub repairs_ordered : (t : Translation) (k : Key) (left : List Key) → Valid t → t.work.step ≡ None →
+pub repairs_ordered : {t : Translation} (k : Key) (left : List Key) → Valid t → t.work.step ≡ None →
     t.work.mending ≡ Repairing (k ∷ left) → Valid (repair_ordered t k left)
-repairs_ordered t k left v none m = record {
-  book_right = book_grows (book t) g (repair_may (book t) k (repairing.more.keys 0 k refl)) v.book_right;
-  frontier = frontier_grows (book t) g t.ledger.standing t.ledger.frontier v.frontier;
-  pages = pages_grow (book t) g t.ledger.standing t.ledger.frontier t.disk.cells t.disk.finished v.pages;
+repairs_ordered {t} k left v none m = record {
+  book_right = book_grows (book t) g (repair_may k (repairing.more.keys 0 k refl)) v.book_right;
+  frontier = frontier_grows g v.frontier;
+  pages = pages_grow g v.pages;
   blocks = v.blocks;
-  flights = next_flights none
-      (flights_grow (book t) g t.ledger.frontier t.ledger.marks t.disk t.work.step v.flights);
-  safe = safe_grows (book t) g (recorded_in t.ledger.newest) t.ledger.frontier t.ledger.standing t.disk v.frontier
-      v.safe;
+  flights = next_flights none (flights_grow g t.disk v.flights);
+  safe = safe_grows g t.disk v.frontier v.safe;
   numbered = v.numbered;
   mending = record {
     mark = repairing.mark;
     is = repairing.is;
-    right = marks_grow (book t) g t.ledger.frontier t.ledger.marks t.disk repairing.mark repairing.right;
-    more = repair_left (book t) t.disk t.ledger.frontier n repairing.mark t.work.plan t.work.step k left from none
-        (omega arith) repairing.more;
+    right = marks_grow g t.disk repairing.right;
+    more = repair_left t.disk k from none (omega arith) repairing.more;
   };
   step = record {
-    kind = λ s h.
-        subst (λ (z : Step). StepKindRight b t.ledger.marks t.disk.cells (Repairing left) t.work.plan z.kind)
+    kind = λ s h. subst (λ (z : Step). StepKindRight b t.ledger.marks t.disk.cells (Repairing left) t.work.plan z.kind)
         (same_Some step s h) (left, refl, (repair_entry t.ledger.base k, repair_page (book t) k n (omega arith)));
   };
-  plan = record {
-    mended = λ pl h. absurd (no_plan pl h);
-    one = λ pl h. absurd (no_plan pl h);
-  };
-  history = repair_history (book t) k t.ledger.repairs t.ledger.held t.ledger.frontier
+  plan = record { mended = λ pl h. absurd (no_plan pl h); one = λ pl h. absurd (no_plan pl h) };
+  history = repair_history k
       (subst (λ (z : Mending). HistoryRight (book t) t.ledger.repairs t.ledger.held t.ledger.frontier (is_mended z)) m
       v.history);
-  slots = slots_fewer t.numbers.slots (pending_pages t.ledger) t.claims (pending_pages (with_repair t.ledger k))
-      t.claims (omega (arith, no_more)) (omega arith) v.slots;
+  slots = slots_fewer (omega (arith, no_more)) (omega arith) v.slots;
   unmended = record { stand = λ un n i p h. v.unmended.stand (ap is_mended m) n i p h };
-  pins = pins_stay (book t) b t.ledger.frontier t.disk.cells t.disk.cells t.disk.finished t.disk.finished
-      t.disk.erasing t.disk.erasing t.pins (λ n i e h. page_grows (book t) g n i e h)
+  pins = pins_stay (λ n i e h. page_grows (book t) g n i e h)
       (λ q some ended stays. record { there = refl; ended = ended; stays = stays }) v.pins;
   rests = v.rests;
   reads = v.reads;
   to_read = record {
-    wanted = repair_wants
-        (λ (w : Want). IsNeededPage t.disk.cells t.disk.finished t.disk.blocks t.disk.erasing w.place)
-        (record { number = n; index = 0 }) from
-        (λ p e. stands_needed t (t.ledger.first_page k) p v (ap is_mended m) e);
+    wanted = repair_wants (λ (w : Want). NeededOf t w.place)
+        (record { number = n; index = 0 }) from (λ p e. stands_needed (t.ledger.first_page k) v (ap is_mended m) e);
     copied = v.to_read.copied;
   };
 }
@@ -365,8 +284,8 @@ repairs_ordered t k left v none m = record {
     step : Step
     step = repair_step n from
 
-    repairing : MendingRight (book t) t.disk t.ledger t.work.plan t.work.step (Repairing (k ∷ left))
-    repairing = subst (MendingRight (book t) t.disk t.ledger t.work.plan t.work.step) m v.mending
+    repairing : MendingOf t (Repairing (k ∷ left))
+    repairing = subst (MendingOf t) m v.mending
 
     no_plan : (pl : Plan) → t.work.plan ≡ Some pl → ⊥
     no_plan pl h = none-some pl (sym repairing.more.no_plan ∙ h)
@@ -376,6 +295,5 @@ repairs_ordered t k left v none m = record {
     no_more =
         let all = (v.history.mending (ap is_mended m)).0 in
         let long = grown_length t.ledger.groups g in
-        no_pages (accepted_groups (with_repair t.ledger k))
-        (t.ledger.frontier - before_accepted (with_repair t.ledger k))
+        no_pages (t.ledger.frontier - before_accepted (with_repair t.ledger k))
         (drop_all (t.ledger.repairs + 1) (t.ledger.groups ++ g ∷ []) (omega (arith, all, long)))

@@ -1,26 +1,20 @@
 -- What each move does to the pending groups and to the durable contents.
-use Rattle.std.proofs.Common.{◌⊎◌, inl, inr, subst, ◌≡◌, ℕ, ◌+◌, ◌-◌, ◌<◌, not, Bool, true, false, if◌then◌else◌, List}
-use Rattle.std.proofs.Common.{[], ◌∷◌, ◌++◌, drop, length, Option, Some, None, refl, sym, ap, ◌∙◌, arith}
-use Rattle.std.proofs.lemmas.List.{drop-append-le, drop_all, length-drop, take-append-le}
-use Rattle.ufs_spec.specs.Cells.{Cell, GroupPage, MarkPage, Nothing}
-use Rattle.ufs_spec.specs.Disk.{Erasing, Flight, ForTask, Programming, Reader, Reading, program_failed}
-use Rattle.ufs_spec.specs.Keys.{Group, put_groups}
-use Rattle.ufs_spec.specs.Ledger.{Ledger, durable_contents, is_standing, page_stands, pending}
-use Rattle.ufs_spec.specs.Moves.{Accept, EndJob, Ending, IsAllowedMove, Move, ReadRight, ReadWrong, TakeStep, WentWell}
-use Rattle.ufs_spec.specs.Moves.{WentWrong, die_idle, end_flight, mark_again, moved, read_right, read_wrong}
-use Rattle.ufs_spec.specs.Translation.{Order, OrderCopy, OrderRepair, Translation, copy_begun, due_order}
-use Rattle.ufs_spec.specs.Translation.{has_mark_number, is_mended, mark_ordered, name_of, repair_ordered, stepped}
-use Rattle.ufs_spec.specs.Translation.{with_plan}
-use Rattle.ufs_spec.specs.declared.flash.Fence.{Fence}
-use Rattle.ufs_spec.specs.declared.flash.Key.{Key}
-use Rattle.ufs_spec.specs.declared.flash.Place.{Place}
-use Rattle.ufs_spec.specs.declared.flash.Tag.{Tag}
-use Rattle.power_loss.specs.Book.{book}
-use Rattle.power_loss.specs.Invariant.{Valid}
-use Rattle.power_loss.specs.Pending.{FrontierStops, PendingStays, accepted_by, brings_page, is_new_page}
+use Rattle.power_loss.proofs.Common.{◌⊎◌, inl, inr, subst, ◌≡◌, ℕ, ◌+◌, ◌-◌, ◌<◌, not, Bool, true, false, if◌then◌else◌}
+use Rattle.power_loss.proofs.Common.{List, [], ◌∷◌, ◌++◌, drop, length, Option, Some, None, refl, sym, ap, ◌∙◌, arith}
+use Rattle.power_loss.proofs.Common.{drop-append-le, drop_all, length-drop, Cell, GroupPage, MarkPage, Nothing, Erasing}
+use Rattle.power_loss.proofs.Common.{Flight, ForTask, Programming, Reader, Reading, program_failed, Group, put_groups}
+use Rattle.power_loss.proofs.Common.{Ledger, durable_contents, is_standing, page_stands, Accept, EndJob, Ending}
+use Rattle.power_loss.proofs.Common.{IsAllowedMove, Move, ReadRight, ReadWrong, TakeStep, WentWell, WentWrong, die_idle}
+use Rattle.power_loss.proofs.Common.{end_flight, mark_again, moved, read_right, read_wrong, Order, OrderCopy}
+use Rattle.power_loss.proofs.Common.{OrderRepair, Translation, copy_begun, due_order, has_mark_number, is_mended}
+use Rattle.power_loss.proofs.Common.{mark_ordered, name_of, repair_ordered, stepped, with_plan, Fence, Key, Place, Tag}
+use Rattle.power_loss.proofs.Common.{Valid, grown_length}
+use Rattle.power_loss.proofs.MachineWords.{FrontierStops, PendingStays, accepted_by, brings_page}
+use Rattle.std.proofs.lemmas.List.{take-append-le}
+use Rattle.ufs_spec.specs.Ledger.{pending}
+use Rattle.power_loss.specs.Pending.{is_new_page}
 use Rattle.ufs_laws.proofs.walk.LayerEffects.{order_due}
 use Rattle.power_loss.proofs.pending_groups.PendingByFrontier.{beyond, stops_more}
-use Rattle.ufs_spec.proofs.Lists.{grown_length}
 
 -- One group more
 
@@ -28,25 +22,23 @@ abbrev grows : Ledger → Group → ℕ → Ledger
 grows l g repairs = record l { groups = l.groups ++ g ∷ []; repairs = repairs }
 
 -- it is above the frontier
-durable_grows : (t : Translation) (g : Group) (repairs : ℕ) → Valid t →
+durable_grows : {t : Translation} (g : Group) (repairs : ℕ) → Valid t →
     durable_contents (grows t.ledger g repairs) ≡ durable_contents t.ledger
-durable_grows t g repairs v =
+durable_grows {t} g repairs v =
     let w = v.frontier.within in
     ap (put_groups t.ledger.base) (take-append-le (t.ledger.frontier - t.ledger.greatest_seen) t.ledger.groups (g ∷ [])
     (omega arith))
 
-stops_grows : (t : Translation) (g : Group) (repairs : ℕ) → Valid t → 0 < length g → FrontierStops t.ledger →
+stops_grows : {t : Translation} (g : Group) (repairs : ℕ) → Valid t → 0 < length g → FrontierStops t.ledger →
     FrontierStops (grows t.ledger g repairs)
-stops_grows t g repairs v some old =
+stops_grows {t} g repairs v some old =
     stops_more t.ledger.greatest_seen t.ledger.frontier t.ledger.groups g t.ledger.standing v.frontier.above some
-    (λ i e. let a = v.frontier.above in beyond (book t) t.ledger.standing t.ledger.frontier (t.ledger.frontier + 1) i
-    v.frontier (omega arith))
-    old
+    (λ i e. let a = v.frontier.above in beyond (t.ledger.frontier + 1) i v.frontier (omega arith)) old
 
 -- a repair is none of a command
-repair_pends : (t : Translation) (g : Group) → Valid t → t.ledger.repairs ≡ length t.ledger.groups →
+repair_pends : {t : Translation} (g : Group) → Valid t → t.ledger.repairs ≡ length t.ledger.groups →
     pending (grows t.ledger g (t.ledger.repairs + 1)) ≡ pending t.ledger
-repair_pends t g v all =
+repair_pends {t} g v all =
     let e = grown_length t.ledger.groups g in
     none _ (drop (t.ledger.repairs + 1) (t.ledger.groups ++ g ∷ []))
     (drop_all (t.ledger.repairs + 1) (t.ledger.groups ++ g ∷ []) (omega arith))
@@ -56,9 +48,9 @@ repair_pends t g v all =
     none n xs e = let l = ap length e in drop_all n xs (omega arith)
 
 -- the group of a command is the last
-command_pends : (t : Translation) (g : Group) → Valid t → pending (grows t.ledger g t.ledger.repairs) ≡ pending t.ledger
+command_pends : {t : Translation} (g : Group) → Valid t → pending (grows t.ledger g t.ledger.repairs) ≡ pending t.ledger
     ++ g ∷ []
-command_pends t g v =
+command_pends {t} g v =
     let r = v.history.within in
     let a = v.frontier.above in
     let w = v.frontier.within in
@@ -109,20 +101,20 @@ copy_stays t p (GroupPage tag body) = same t.ledger
 copy_stays t p cell = same t.ledger
 
 -- until the device is mended no command's group is there
-repair_stays : (t : Translation) (k : Key) (left : List Key) → Valid t → is_mended t.work.mending ≡ false →
+repair_stays : {t : Translation} (k : Key) (left : List Key) → Valid t → is_mended t.work.mending ≡ false →
     StaysSo t.ledger (repair_ordered t k left).ledger
-repair_stays t k left v un =
+repair_stays {t} k left v un =
     let g : Group = record { key = k; body = t.ledger.base k } ∷ [] in
     let repairs = t.ledger.repairs + 1 in
     let all = (v.history.mending un).0 in
-    ((repair_pends t g v all, durable_grows t g repairs v), stops_grows t g repairs v (omega arith))
+    ((repair_pends g v all, durable_grows g repairs v), stops_grows g repairs v (omega arith))
 
-order_stays : (t : Translation) (o : Option Order) → Valid t → due_order t ≡ o → StaysSo t.ledger (stepped t o).ledger
-order_stays t (Some (OrderRepair k left)) v is =
-    repair_stays t k left v (ap is_mended (order_due t (OrderRepair k left) is).1.1)
-order_stays t (Some (OrderCopy victim p left)) v is = copy_stays (with_plan t victim left) p (t.disk.cells p)
-order_stays t (Some order) v is = ((refl, refl), λ s. s)
-order_stays t None v is = same t.ledger
+order_stays : {t : Translation} (o : Option Order) → Valid t → due_order t ≡ o → StaysSo t.ledger (stepped t o).ledger
+order_stays {t} (Some (OrderRepair k left)) v is =
+    repair_stays k left v (ap is_mended (order_due t (OrderRepair k left) is).1.1)
+order_stays {t} (Some (OrderCopy victim p left)) v is = copy_stays (with_plan t victim left) p (t.disk.cells p)
+order_stays (Some order) v is = ((refl, refl), λ s. s)
+order_stays {t} None v is = same t.ledger
 
 -- Endings
 
@@ -174,19 +166,19 @@ end_effect t die flight ending is = still t die flight ending is (same t.ledger)
 
 -- Each move
 
-one_more : (t : Translation) (move : Move) (g : Group) → Valid t → accepted_by move ≡ Some g → 0 < length g →
+one_more : {t : Translation} (move : Move) {g : Group} → Valid t → accepted_by move ≡ Some g → 0 < length g →
     (moved t move).ledger ≡ grows t.ledger g t.ledger.repairs → Effect t move
-one_more t move g v accepts some is =
+one_more {t} move {g} v accepts some is =
     inr (inl (record {
       group = g;
       accepts = accepts;
-      pends = ap pending is ∙ command_pends t g v;
-      durable = ap durable_contents is ∙ durable_grows t g t.ledger.repairs v;
-      stops = λ s. subst FrontierStops (sym is) (stops_grows t g t.ledger.repairs v some s);
+      pends = ap pending is ∙ command_pends g v;
+      durable = ap durable_contents is ∙ durable_grows g t.ledger.repairs v;
+      stops = λ s. subst FrontierStops (sym is) (stops_grows g t.ledger.repairs v some s);
     }))
 
-pub effect : (t : Translation) (move : Move) → Valid t → IsAllowedMove t move → Effect t move
-effect t (Accept claimed g) v may = one_more t (Accept claimed g) g v refl (let s = may.4.some in omega arith) refl
-effect t (EndJob die ending) v may = end_effect t die (t.disk.flights die) ending refl
-effect t TakeStep v may = none_new t TakeStep refl (order_stays t (due_order t) v refl)
-effect t move v may = none_new t move refl ((refl, refl), λ s. s)
+pub effect : {t : Translation} (move : Move) → Valid t → IsAllowedMove t move → Effect t move
+effect {t} (Accept claimed g) v may = one_more (Accept claimed g) v refl (let s = may.4.some in omega arith) refl
+effect {t} (EndJob die ending) v may = end_effect t die (t.disk.flights die) ending refl
+effect {t} TakeStep v may = none_new t TakeStep refl (order_stays (due_order t) v refl)
+effect {t} move v may = none_new t move refl ((refl, refl), λ s. s)

@@ -1,33 +1,24 @@
 -- What is kept for a READ shows the blocks that the READ sends: each call keeps it, from the opening on.
-use Rattle.std.proofs.Common.{◌≡◌, ℕ, ◌+◌, Bool, true, false, if◌then◌else◌, All, List, [], ◌∷◌, ◌++◌, Option, Some}
-use Rattle.std.proofs.Common.{None, fold, length, map, nat_le, refl, sym, ap, ◌∙◌, subst, inl, inr, arith, ⊎_elim}
+use Rattle.power_loss.proofs.Common.{◌≡◌, ℕ, ◌+◌, Bool, true, false, if◌then◌else◌, All, List, [], ◌∷◌, ◌++◌, Option}
+use Rattle.power_loss.proofs.Common.{Some, None, fold, length, map, refl, sym, ap, ◌∙◌, subst, inl, inr, arith, ⊎_elim}
+use Rattle.power_loss.proofs.Common.{All-weaker, get_or_from_slice_get, slice_get_within, IsKey, below, data_key}
+use Rattle.power_loss.proofs.Common.{Ledger, look, moved, block_at, shape_of_numbers, is_mended, eqb-self}
+use Rattle.power_loss.proofs.MachineWords.{operation_of, address_of, Answering, Deed, ReadBlock, Status, Unread}
+use Rattle.power_loss.proofs.MachineWords.{is_task_of, begun, begun_with, blocks_expected, command_heard, kept_at}
+use Rattle.power_loss.proofs.MachineWords.{keeps, opened_with, read_begun, read_blocks, sending, unit_or_first}
+use Rattle.power_loss.proofs.MachineWords.{with_task, most_tasks, Request, State, numbers_of, operation_in, plain_now}
+use Rattle.power_loss.proofs.MachineWords.{refusal, unit_of_request, needs_mended, Cdb, IsTied, IsShown, ShowsBlock}
+use Rattle.power_loss.proofs.MachineWords.{ShowsReads, ShowsRight}
+use Rattle.std.proofs.Common.{nat_le}
 use Rattle.std.specs.Prelude.{slice_get}
-use Rattle.std.proofs.lemmas.List.Elements.{All-weaker}
-use Rattle.std.proofs.lemmas.Option.{get_or_from_slice_get, slice_get_within}
-use Rattle.ufs_spec.specs.Cdbs.{operation_of, address_of}
-use Rattle.ufs_spec.specs.Exchanges.{Answering, Deed, ReadBlock, Status, Task, Unread, is_task_of}
-use Rattle.ufs_spec.specs.Keys.{IsKey, below, data_key}
-use Rattle.ufs_spec.specs.Ledger.{Ledger, look}
-use Rattle.ufs_spec.specs.Machine.{begun, begun_with, blocks_expected, command_heard, kept_at, keeps, opened_with}
-use Rattle.ufs_spec.specs.Machine.{read_begun, read_blocks, sending, unit_or_first, with_task}
-use Rattle.ufs_spec.specs.Moves.{moved}
-use Rattle.ufs_spec.specs.Plain.{block_at, shape_of_numbers}
-use Rattle.ufs_spec.specs.Stages.{most_tasks}
-use Rattle.ufs_spec.specs.Refusals.{Request, State, numbers_of, operation_in, plain_now, refusal, unit_of_request}
-use Rattle.ufs_spec.specs.Refusals.{needs_mended}
-use Rattle.ufs_spec.specs.Translation.{is_mended}
-use Rattle.ufs_spec.specs.declared.scsi.Cdb.{Cdb}
 use Rattle.ufs_laws.proofs.plain_contents.ListParts.{get_or-made, length-made}
-use Rattle.power_loss.specs.Exchange.{IsTied}
-use Rattle.power_loss.specs.Shown.{IsShown, ShowsBlock, ShowsReads, ShowsRight}
 use Rattle.power_loss.proofs.open_tasks.FoundInLists.{found_last}
-use Rattle.power_loss.proofs.host_commands.OpenedByCommands.{IsFree, IsSpelled}
+use Rattle.power_loss.proofs.host_commands.OpenedByCommands.{IsFree, IsSpelled, opened_task}
 use Rattle.power_loss.proofs.host_commands.ReadBlocks.{KeysOfDevice, keys_read}
 use Rattle.power_loss.proofs.host_commands.PassedCommands.{Passed, passed, ready_now}
 use Rattle.power_loss.proofs.shown_blocks.LooksShowContents.{look_shows}
 use Rattle.power_loss.proofs.shown_contents.MovesKeepShown.{kept_ledger, kept_pins}
 use Rattle.power_loss.proofs.shown_blocks.PinsShowBlocks.{Show, more_goes, show_goes}
-use Rattle.ufs_spec.proofs.Facts.{eqb-self}
 use Rattle.ufs_laws.proofs.walk.WaysOfCommands.{Beginning, Reading, Waiting, WhyBegun, begins_by, begun_as}
 
 pub shows_if : (b : Bool) (t u : State) → ShowsReads t → ShowsReads u → ShowsReads (if b then t else u)
@@ -42,11 +33,10 @@ opens s r c n deed h = show_goes s.translation.ledger s.tasks (with_task s r c n
     (more_goes s.tasks _) h
 
 -- a block of a READ that begins
-block_shows : (s : State) (unit address m n i : ℕ) → IsTied s → is_mended s.translation.work.mending ≡ true →
-    IsKey (shape_of_numbers (numbers_of s)) (data_key unit (address + i)) →
-    ShowsBlock s.translation.ledger (look s.translation.ledger (data_key unit (address + i))) i
-    (sending (read_blocks s unit address m) n)
-block_shows s unit address m n i v mended key = by (read_blocks s unit address m) refl
+block_shows : {s : State} (unit address m n i : ℕ) → IsTied s → is_mended s.translation.work.mending ≡ true →
+    IsKey (shape_of_numbers (numbers_of s)) (data_key unit (address + i)) → ShowsBlock s.translation.ledger
+    (look s.translation.ledger (data_key unit (address + i))) i (sending (read_blocks s unit address m) n)
+block_shows {s} unit address m n i v mended key = by (read_blocks s unit address m) refl
   where
     by : (blocks : List ReadBlock) → read_blocks s unit address m ≡ blocks →
         ShowsBlock s.translation.ledger (look s.translation.ledger (data_key unit (address + i))) i (sending blocks n)
@@ -65,21 +55,12 @@ block_shows s unit address m n i v mended key = by (read_blocks s unit address m
               (look_shows s (data_key unit (address + i)) v mended key),
         )
 
-read_shows : (s : State) (r : Request) (command : Cdb) (unit address n : ℕ) → IsTied s →
-    is_mended s.translation.work.mending ≡ true → IsFree s r.tag →
-    KeysOfDevice s unit address (blocks_expected r n) → ShowsReads s →
-    ShowsReads (read_begun s r command unit address n)
-read_shows s r command unit address n v mended free keys h =
+read_shows : {s : State} (r : Request) (command : Cdb) (unit address n : ℕ) → IsTied s →
+    is_mended s.translation.work.mending ≡ true → IsFree s r.tag → KeysOfDevice s unit address (blocks_expected r n) →
+    ShowsReads s → ShowsReads (read_begun s r command unit address n)
+read_shows {s} r command unit address n v mended free keys h =
     let m = blocks_expected r n in
-    let task : Task = record {
-      lun = r.lun;
-      tag = r.tag;
-      expected = r.expected;
-      command = Some command;
-      length = n;
-      deed = sending (read_blocks s unit address m) n;
-      request = None;
-    } in
+    let task = opened_task r (Some command) n (sending (read_blocks s unit address m) n) in
     let l = s.translation.ledger in
     let tasks = s.tasks ++ task ∷ [] in
     let k = λ (i : ℕ). data_key unit (address + i) in
@@ -90,9 +71,8 @@ read_shows s r command unit address n v mended free keys h =
     (λ i key. record {
       task = task;
       there = found_last (is_task_of r.tag) s.tasks task free.no_task (eqb-self r.tag);
-      shows = block_shows s unit address m n i v mended key;
-    })
-    (below m) keys in
+      shows = block_shows unit address m n i v mended key;
+    }) (below m) keys in
     subst (λ (x : Ledger). Show x tasks (fold moved s.translation (keeps s r.tag unit address m)).pins)
     (sym (kept_ledger k (kept_at s r.tag unit address) (below m) s.translation))
     (kept_pins (ShowsRight l tasks) k (kept_at s r.tag unit address) (below m) s.translation old new)
@@ -111,21 +91,21 @@ begun_shows s r command v free p op h = begins_by ShowsReads s r unit command on
         let reads = ⊎_elim (λ e. inl (op ∙ e)) (λ e. inr (op ∙ e)) read in
         subst (λ (x : ℕ). ShowsReads (read_begun s r command x address n)) (sym unit_is)
         (subst (λ (x : ℕ). ShowsReads (read_begun s r command unit x n)) (sym address_is)
-        (read_shows s r command unit (address_of command) n v (ready_now s command needs p.ready) free
-        (keys_read s r command n size reads p) h))
+        (read_shows r command unit (address_of command) n v (ready_now s command needs p.ready) free
+        (keys_read size reads p) h))
     one Waiting why = opens s r _ _ _ h
     one b why = opens s r _ _ _ h
 
-opened_shows : (s : State) (r : Request) → IsTied s → IsFree s r.tag → IsSpelled r → (x : Option Status) →
+opened_shows : {s : State} (r : Request) → IsTied s → IsFree s r.tag → IsSpelled r → (x : Option Status) →
     refusal s r ≡ x → ShowsReads s → ShowsReads (opened_with s r x)
-opened_shows s r v free spelled (Some status) e h = opens s r None 0 (Answering status 0) h
-opened_shows s r v free spelled None e h = by r.cdb refl
+opened_shows {s} r v free spelled (Some status) e h = opens s r None 0 (Answering status 0) h
+opened_shows {s} r v free spelled None e h = by r.cdb refl
   where
     by : (c : Option Cdb) → r.cdb ≡ c → ShowsReads (begun_with s r c)
     by None k = h
     by (Some command) k = begun_shows s r command v free (passed s r command k e) (spelled command k) h
 
-pub command_shows : (s : State) (r : Request) → IsTied s → IsFree s r.tag → IsSpelled r → ShowsReads s →
+pub command_shows : {s : State} (r : Request) → IsTied s → IsFree s r.tag → IsSpelled r → ShowsReads s →
     ShowsReads (command_heard s r)
-command_shows s r v free spelled h = shows_if (nat_le most_tasks (length s.tasks)) _ _ h
-    (opened_shows s r v free spelled (refusal s r) refl h)
+command_shows {s} r v free spelled h = shows_if (nat_le most_tasks (length s.tasks)) _ _ h
+    (opened_shows r v free spelled (refusal s r) refl h)

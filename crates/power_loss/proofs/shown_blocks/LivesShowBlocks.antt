@@ -1,34 +1,28 @@
 -- What is kept for a READ shows the blocks that the READ sends, at each moment of a life; and so the page that is read
 -- for
 -- it has them.
-use Rattle.std.proofs.Common.{◌≡◌, ℕ, zero, suc, Bool, true, false, if◌then◌else◌, nat_le, All, Contains, List, [], ◌∷◌}
-use Rattle.std.proofs.Common.{Option, Some, None, filter, fold, map, refl, sym, ap, ◌∙◌, subst}
-use Rattle.std.specs.Prelude.{Ok, slice_get, slice_set}
-use Rattle.std.proofs.lemmas.List.Elements.{All-contains, All-nil}
-use Rattle.ufs_spec.proofs.Facts.{none-some, same_Some}
-use Rattle.ufs_spec.specs.Cells.{Array, key_of}
-use Rattle.ufs_spec.specs.Disk.{Flight, ForTask, Reader, Reading, Spot}
-use Rattle.ufs_spec.specs.Exchanges.{Answering, Awaiting, Deed, NotRead, ReadBlock, ReadState, Sending, Task, WasRead}
-use Rattle.ufs_spec.specs.Exchanges.{block_message, filled, is_task_of, task_of, write_error}
-use Rattle.ufs_spec.specs.Ledger.{Entry, Ledger, Looked, Name, OnPage}
-use Rattle.ufs_spec.specs.Lives.{IsOpened, Life}
-use Rattle.ufs_spec.specs.Machine.{Allowed, Answer, Reply, Call, Faulty, Done, OfDone, Take, OfTake, Heard, OfHost}
-use Rattle.ufs_spec.specs.Machine.{Host, OfReply, Spelled, Turn, OfTurn, behind, block_reply, deed_locked, deed_read}
-use Rattle.ufs_spec.specs.Machine.{deed_reply, durable, ends_with, fill_moves, fills, hears, is_at_hand, is_to_fill}
-use Rattle.ufs_spec.specs.Machine.{lock_applied, message_fault, next_block_reply, observe, pin_of, read_noted}
-use Rattle.ufs_spec.specs.Machine.{set_state, short_locked, tag_in, task_filled, task_locked, task_read, with_block}
-use Rattle.ufs_spec.specs.Machine.{with_moves}
-use Rattle.ufs_spec.specs.Moves.{EndJob, Ending, ReadRight, ReadWrong, end_flight, moved}
-use Rattle.ufs_spec.specs.Refusals.{State, locked}
-use Rattle.ufs_spec.specs.Translation.{Pin}
-use Rattle.ufs_spec.specs.declared.configs.Numbers.{Numbers}
-use Rattle.ufs_spec.specs.declared.events.Event.{Event}
-use Rattle.ufs_spec.specs.declared.events.Output.{Output}
-use Rattle.ufs_spec.specs.declared.flash.Place.{Place}
+use Rattle.power_loss.proofs.Common.{◌≡◌, ℕ, zero, suc, Bool, true, false, if◌then◌else◌, All, List, [], ◌∷◌, Option}
+use Rattle.power_loss.proofs.Common.{Some, None, fold, map, refl, sym, ap, ◌∙◌, subst, Ok, All-contains, All-nil}
+use Rattle.power_loss.proofs.Common.{none-some, same_Some, Array, key_of, Flight, ForTask, Reader, Reading, Spot, Entry}
+use Rattle.power_loss.proofs.Common.{Ledger, Looked, Name, OnPage, EndJob, Ending, ReadRight, ReadWrong, end_flight}
+use Rattle.power_loss.proofs.Common.{moved, Pin, Numbers, Place, IsGroupPage, Valid}
+use Rattle.power_loss.proofs.MachineWords.{Answering, Awaiting, Deed, NotRead, ReadBlock, ReadState, Sending, Task}
+use Rattle.power_loss.proofs.MachineWords.{WasRead, is_task_of, task_of, write_error, IsOpened, Life, Allowed, Answer}
+use Rattle.power_loss.proofs.MachineWords.{Reply, Call, Faulty, Done, OfDone, Take, OfTake, Heard, OfHost, Host}
+use Rattle.power_loss.proofs.MachineWords.{OfReply, Spelled, Turn, OfTurn, behind, deed_locked, deed_read, deed_reply}
+use Rattle.power_loss.proofs.MachineWords.{durable, ends_with, fill_moves, fills, hears, is_to_fill, lock_applied}
+use Rattle.power_loss.proofs.MachineWords.{message_fault, observe, read_noted, short_locked, tag_in, task_filled}
+use Rattle.power_loss.proofs.MachineWords.{task_locked, task_read, with_moves, State, locked, Event, Output, IsTied}
+use Rattle.power_loss.proofs.MachineWords.{MayCome, ValidState, IsShown, ShowsBlock, ShowsReads, ShowsRight}
+use Rattle.std.proofs.Common.{nat_le, Contains}
+use Rattle.std.proofs.Common.{filter}
+use Rattle.std.specs.Prelude.{slice_get, slice_set}
+use Rattle.ufs_spec.specs.Exchanges.{block_message, filled}
+use Rattle.ufs_spec.specs.Machine.{block_reply}
+use Rattle.ufs_spec.specs.Machine.{is_at_hand}
+use Rattle.ufs_spec.specs.Machine.{next_block_reply, pin_of}
+use Rattle.ufs_spec.specs.Machine.{set_state, with_block}
 use Rattle.ufs_laws.proofs.walk.SmallChanges.{fills_task, first, job_over, reads}
-use Rattle.power_loss.specs.Exchange.{IsTied, MayCome, ValidState}
-use Rattle.power_loss.specs.Invariant.{IsGroupPage, Valid}
-use Rattle.power_loss.specs.Shown.{IsShown, ShowsBlock, ShowsReads, ShowsRight}
 use Rattle.power_loss.proofs.calls.CallsKeepTied.{first_keeps, no_fault}
 use Rattle.power_loss.proofs.shown_contents.MessagesKeepShown.{heard_shows, replied_shows}
 use Rattle.power_loss.proofs.lives.EachEventKeeps.{event_comes, one_event}
@@ -42,9 +36,8 @@ use Rattle.power_loss.proofs.shown_blocks.CommandsShowBlocks.{shows_if}
 
 -- a block keeps its content, whether it was read or not
 set_old : (blocks : List ReadBlock) (index i : ℕ) (state : ReadState) (b block : ReadBlock) →
-    slice_get blocks index ≡ Some b →
-    slice_get (slice_set blocks index (set_state state b)) i ≡ Some block → (old : ReadBlock)
-    × (slice_get blocks i ≡ Some old) × (old.body ≡ block.body)
+    slice_get blocks index ≡ Some b → slice_get (slice_set blocks index (set_state state b)) i ≡ Some block →
+    (old : ReadBlock) × (slice_get blocks i ≡ Some old) × (old.body ≡ block.body)
 set_old [] index i state b block there h = absurd (none-some b there)
 set_old (x ∷ xs) zero zero state b block there h = (
   x,
@@ -56,16 +49,15 @@ set_old (x ∷ xs) zero (suc i) state b block there h = (block, h, refl)
 set_old (x ∷ xs) (suc index) zero state b block there h = (block, h, refl)
 set_old (x ∷ xs) (suc index) (suc i) state b block there h = set_old xs index i state b block there h
 
-block_old : (blocks : List ReadBlock) (index i : ℕ) (state : ReadState) (o : Option ReadBlock) (block : ReadBlock) →
-    slice_get blocks index ≡ o →
-    slice_get (with_block blocks index state o) i ≡ Some block → (old : ReadBlock) × (slice_get blocks i ≡ Some old)
-    × (old.body ≡ block.body)
-block_old blocks index i state None block there h = (block, h, refl)
-block_old blocks index i state (Some b) block there h = set_old blocks index i state b block there h
+block_old : (blocks : List ReadBlock) (index i : ℕ) (state : ReadState) (o : Option ReadBlock) {block : ReadBlock} →
+    slice_get blocks index ≡ o → slice_get (with_block blocks index state o) i ≡ Some block →
+    (old : ReadBlock) × (slice_get blocks i ≡ Some old) × (old.body ≡ block.body)
+block_old blocks index i state None {block} there h = (block, h, refl)
+block_old blocks index i state (Some b) {block} there h = set_old blocks index i state b block there h
 
 read_same : (index : ℕ) (state : ReadState) (deed : Deed) → SameBlocks deed (deed_read index state deed)
 read_same index state (Sending blocks sent) = λ l x i h block at.
-    let old = block_old blocks index i state (slice_get blocks index) block refl at in
+    let old = block_old blocks index i state (slice_get blocks index) refl at in
     let shown = h old.0 old.1 in
     (shown.0, subst (IsShown l shown.0 x) old.2 shown.1)
 read_same index state deed = λ l x i h. tt
@@ -81,8 +73,7 @@ task_read_same tag index state task = by (is_task_of tag task)
 
 read_told : (s : State) (l : Ledger) (pins : List Pin) (reader : Reader) (state : ReadState) → Show l s.tasks pins →
     Show l (read_noted s reader state).tasks pins
-read_told s l pins (ForTask tag index) state h =
-    show_goes l s.tasks (map (task_read tag index state) s.tasks) pins
+read_told s l pins (ForTask tag index) state h = show_goes l s.tasks (map (task_read tag index state) s.tasks) pins
     (map_goes (task_read tag index state) s.tasks (λ task. (reads tag index state task).tag)
     (task_read_same tag index state)) h
 read_told s l pins reader state h = h
@@ -111,11 +102,10 @@ ended_valid s die None ending left e v w = subst (λ (x : Option Flight). Valid 
     (sym e) w
 ended_valid s die (Some flight) ending left e v w = v.valid
 
-finish_shows : (s : State) (die : ℕ) (ending : Ending) (left : Array) → IsTied s →
+finish_shows : {s : State} (die : ℕ) (ending : Ending) (left : Array) → IsTied s →
     IsTied (first s (Done die ending left) (OfDone true)) → ShowsReads s →
     ShowsReads (ends_with s die (s.translation.disk.flights die) ending left)
-finish_shows s die ending left v tied h =
-    ends_show s die (s.translation.disk.flights die) ending left h
+finish_shows {s} die ending left v tied h = ends_show s die (s.translation.disk.flights die) ending left h
     (end_shows s.translation die (s.translation.disk.flights die) ending
     (ended_valid s die (s.translation.disk.flights die) ending left refl tied v.valid) s.tasks h)
 
@@ -129,8 +119,7 @@ fills_show s h =
     let u = fold moved s.translation (fill_moves ts) in
     subst (λ (x : Ledger). Show x tasks u.pins) (sym (filled_ledger ts s.translation))
     (show_goes l s.tasks tasks u.pins (map_goes (task_filled s) s.tasks (λ task. (fills_task s task).tag)
-    (λ task. by task (is_to_fill s task)))
-    (filled_pins (ShowsRight l s.tasks) ts s.translation h))
+    (λ task. by task (is_to_fill s task))) (filled_pins (ShowsRight l s.tasks) ts s.translation h))
   where
     by : (task : Task) (b : Bool) → SameBlocks task.deed (if b then record task { request = filled task.request }
         else task).deed
@@ -150,31 +139,29 @@ lock_shows : (s : State) → ShowsReads s → ShowsReads (lock_applied s)
 lock_shows s h =
     shows_if (locked s) (record s { tasks = map (task_locked s) s.tasks; shorts = map (short_locked s) s.shorts }) s
     (show_goes s.translation.ledger s.tasks (map (task_locked s) s.tasks) s.translation.pins
-    (map_goes (task_locked s) s.tasks (λ task. refl) (λ task. lock_same s task task.deed)) h)
-    h
+    (map_goes (task_locked s) s.tasks (λ task. refl) (λ task. lock_same s task task.deed)) h) h
 
 -- Calls
 
-hears_shows : (s : State) (x : Heard) (done : Unit {0}) → IsTied s → MayCome s (Host x) →
+hears_shows : {s : State} (x : Heard) (done : Unit {0}) → IsTied s → MayCome s (Host x) →
     Allowed s (Host x) (OfHost (Ok done)) → ShowsReads s → ShowsReads (hears s x)
-hears_shows s (Spelled m c) done v may right h = heard_shows s m c v may (no_fault (message_fault s m) done right) h
-hears_shows s (Faulty fault) done v may right h = h
+hears_shows {s} (Spelled m c) done v may right h = heard_shows m c v may (no_fault (message_fault s m) right) h
+hears_shows (Faulty fault) done v may right h = h
 
-behind_shows : (s : State) (call : Call) (answer : Answer) → IsTied s → MayCome s call → Allowed s call answer →
+behind_shows : {s : State} (call : Call) (answer : Answer) → IsTied s → MayCome s call → Allowed s call answer →
     ShowsReads s → ShowsReads (behind s call answer)
-behind_shows s (Host x) (OfHost (Ok done)) v may right h = hears_shows s x done v may right h
-behind_shows s (Take die) (OfTake (Some flight)) v may right h = h
-behind_shows s (Done die ending left) (OfDone true) v may right h =
-    finish_shows s die ending left v (first_keeps s (Done die ending left) (OfDone true) v may right) h
-behind_shows s Turn (OfTurn due) v may right h = turn_shows s.translation s.tasks h
-behind_shows s Reply (OfReply (Some m)) v may right h = replied_shows s (tag_in m) (task_of (tag_in m) s.tasks) refl h
-behind_shows s call answer v may right h = h
+behind_shows {s} (Host x) (OfHost (Ok done)) v may right h = hears_shows x done v may right h
+behind_shows (Take die) (OfTake (Some flight)) v may right h = h
+behind_shows {s} (Done die ending left) (OfDone true) v may right h =
+    finish_shows die ending left v (first_keeps (Done die ending left) (OfDone true) v may right) h
+behind_shows {s} Turn (OfTurn due) v may right h = turn_shows s.translation s.tasks h
+behind_shows {s} Reply (OfReply (Some m)) v may right h = replied_shows s (tag_in m) (task_of (tag_in m) s.tasks) refl h
+behind_shows call answer v may right h = h
 
 pub call_shows : (s : State) (call : Call) (answer : Answer) → IsTied s → MayCome s call → Allowed s call answer →
     ShowsReads s → ShowsReads (observe s call answer)
-call_shows s call answer v may right h =
-    lock_shows (fills (behind s call answer))
-    (fills_show (behind s call answer) (behind_shows s call answer v may right h))
+call_shows s call answer v may right h = lock_shows (fills (behind s call answer))
+    (fills_show (behind s call answer) (behind_shows call answer v may right h))
 
 -- Lives
 
@@ -215,9 +202,8 @@ page_body s pin task blocks sent block name place v h in' there deed at looked g
 
 -- and it goes out
 pub page_sent : (s : State) (pin : Pin) (task : Task) (blocks : List ReadBlock) (sent : ℕ) (block : ReadBlock)
-    (name : Name) (place : Place) → IsTied s → ShowsReads s →
-    Contains s.translation.pins pin → pin.index ≡ sent → task_of pin.tag s.tasks ≡ Some task →
-    task.deed ≡ Sending blocks sent → slice_get blocks sent ≡ Some block →
+    (name : Name) (place : Place) → IsTied s → ShowsReads s → Contains s.translation.pins pin → pin.index ≡ sent →
+    task_of pin.tag s.tasks ≡ Some task → task.deed ≡ Sending blocks sent → slice_get blocks sent ≡ Some block →
     block.state ≡ WasRead → pin.looked ≡ OnPage name place →
     (g : IsGroupPage s.translation.disk.cells s.translation.disk.finished s.translation.disk.erasing name place) →
     deed_reply s task task.deed ≡ Some (block_message task sent g.body)

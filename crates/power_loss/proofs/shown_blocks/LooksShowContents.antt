@@ -1,37 +1,31 @@
 -- What is looked up of a key of the device shows the key's content now.
-use Rattle.std.proofs.Common.{◌≡◌, ℕ, zero, suc, ◌-◌, ◌<◌, ◌≤◌, ◌⊎◌, Bool, true, false, List, [], ◌∷◌, drop, length}
-use Rattle.std.proofs.Common.{take, Option, Some, None, slice_get, refl, sym, ap, ◌∙◌, subst, inl, inr, ⊎_elim, arith}
-use Rattle.std.specs.Prelude.{if◌then◌else◌, nat_lt}
-use Rattle.std.proofs.lemmas.List.{take-append-drop}
-use Rattle.ufs_spec.specs.Cells.{Mark}
-use Rattle.ufs_spec.specs.Keys.{Contents, Group, IsKey, Item, content, put_group, put_groups, same_key}
-use Rattle.ufs_spec.specs.Ledger.{Entry, InSlot, Ledger, Name, accepted_groups, entry_of, latest, look, looked_at}
-use Rattle.ufs_spec.specs.Ledger.{looked_on}
-use Rattle.ufs_spec.specs.Plain.{Shape, shape_of_numbers, zero_block}
-use Rattle.ufs_spec.specs.Refusals.{State, numbers_of, plain_now}
-use Rattle.ufs_spec.specs.Translation.{Mended, Translation, is_mended}
-use Rattle.ufs_spec.specs.declared.flash.Key.{Key}
-use Rattle.ufs_spec.specs.declared.flash.Place.{Place}
-use Rattle.ufs_spec.proofs.Facts.{ltb-false, false≢true, none-some, same_Some}
+use Rattle.power_loss.proofs.Common.{◌≡◌, ℕ, zero, suc, ◌-◌, ◌<◌, ◌≤◌, ◌⊎◌, Bool, true, false, List, [], ◌∷◌, drop}
+use Rattle.power_loss.proofs.Common.{length, take, Option, Some, None, slice_get, refl, sym, ap, ◌∙◌, subst, inl, inr}
+use Rattle.power_loss.proofs.Common.{⊎_elim, arith, nat_lt, take-append-drop, Mark, Contents, Group, IsKey, Item}
+use Rattle.power_loss.proofs.Common.{content, put_group, put_groups, same_key, Entry, InSlot, Ledger, Name}
+use Rattle.power_loss.proofs.Common.{accepted_groups, latest, look, looked_at, looked_on, Shape, shape_of_numbers}
+use Rattle.power_loss.proofs.Common.{zero_block, Mended, Translation, is_mended, Key, Place, ltb-false, false≢true}
+use Rattle.power_loss.proofs.Common.{none-some, same_Some, BaseAt, BaseNone, FirstRight, IsLostNumber, IsPageAt}
+use Rattle.power_loss.proofs.Common.{IsPlainMark, book, Valid}
+use Rattle.power_loss.proofs.MachineWords.{State, numbers_of, plain_now, IsTied, IsShown}
+use Rattle.std.specs.Prelude.{if◌then◌else◌}
+use Rattle.ufs_spec.specs.Ledger.{entry_of}
 use Rattle.ufs_spec.proofs.Equalities.{key_self, key_told}
 use Rattle.ufs_laws.proofs.plain_contents.GroupsOfCommands.{many_commands, put_groups-same as put_groups_same}
-use Rattle.power_loss.specs.Book.{BaseAt, BaseNone, FirstRight, IsLostNumber, IsPageAt, IsPlainMark, book}
-use Rattle.power_loss.specs.Exchange.{IsTied}
-use Rattle.power_loss.specs.Invariant.{MendingRight, Valid}
-use Rattle.power_loss.specs.Shown.{IsPageOf, IsShown}
+use Rattle.power_loss.specs.Shown.{IsPageOf}
 use Rattle.power_loss.proofs.books.PagesByName.{new_page, old_page, page_new, page_one}
 use Rattle.power_loss.proofs.collected_blocks.FewestLivePages.{mended_told}
 use Rattle.power_loss.proofs.books.LastOfEachKey.{IsLastOf, NoneOf, latest_cases}
 use Rattle.power_loss.proofs.pending_groups.PendingByFrontier.{put_more}
 use Rattle.power_loss.proofs.stops.ImageContents.{after_none}
+use Rattle.power_loss.proofs.books.LayerParts.{MendingOf}
 
 -- Groups that are put
 
 -- of groups in which the key does not stand it keeps its content
 put_none : (f : Contents) (k : Key) (gs : List Group) → NoneOf k gs → put_groups f gs k ≡ f k
 put_none f k [] none = refl
-put_none f k (g ∷ gs) none =
-    put_none (put_group f g) k gs (λ j i h x a b c. none (suc j) i h x a b c)
+put_none f k (g ∷ gs) none = put_none (put_group f g) k gs (λ j i h x a b c. none (suc j) i h x a b c)
     ∙ here g (λ i x a c. none 0 i g x refl a c)
   where
     here : (g : Group) → ((i : ℕ) (x : Item) → slice_get g i ≡ Some x → x.key ≡ k → ⊥) → put_group f g k ≡ f k
@@ -43,15 +37,14 @@ put_none f k (g ∷ gs) none =
         by false e rest = rest
 
 -- of the last group that has it, it takes the body of its item there
-put_at : (f : Contents) (k : Key) (gs : List Group) (j i : ℕ) (g : Group) (x : Item) → slice_get gs j ≡ Some g →
-    slice_get g i ≡ Some x → x.key ≡ k →
-    ((m : ℕ) (y : Item) → slice_get g m ≡ Some y → y.key ≡ k → y.body ≡ x.body) →
+put_at : (f : Contents) {k : Key} (gs : List Group) (j i : ℕ) (g : Group) (x : Item) → slice_get gs j ≡ Some g →
+    slice_get g i ≡ Some x → x.key ≡ k → ((m : ℕ) (y : Item) → slice_get g m ≡ Some y → y.key ≡ k → y.body ≡ x.body) →
     ((l m : ℕ) (h : Group) (y : Item) → slice_get gs l ≡ Some h → slice_get h m ≡ Some y → y.key ≡ k → l ≤ j) →
     put_groups f gs k ≡ x.body
-put_at f k [] j i g x a b c one last = absurd (none-some g a)
-put_at f k (h ∷ gs) (suc j) i g x a b c one last =
-    put_at (put_group f h) k gs j i g x a b c one (λ l m n y d e z. let u = last (suc l) m n y d e z in omega arith)
-put_at f k (h ∷ gs) zero i g x a b c one last =
+put_at f [] j i g x a b c one last = absurd (none-some g a)
+put_at f {k} (h ∷ gs) (suc j) i g x a b c one last =
+    put_at (put_group f h) gs j i g x a b c one (λ l m n y d e z. let u = last (suc l) m n y d e z in omega arith)
+put_at f {k} (h ∷ gs) zero i g x a b c one last =
     put_none (put_group f h) k gs (λ l m n y d e z. let u = last (suc l) m n y d e z in omega arith)
     ∙ subst (λ (n : Group). put_group f n k ≡ x.body) (sym (same_Some h g a)) (here g i b one)
   where
@@ -77,54 +70,51 @@ HasContent l k None body = body ≡ zero_block
 HasContent l k (Some name) body = IsPageOf l k name body
 
 -- no group of this life has the key: what it began with is there
-first_content : (t : Translation) (k : Key) (m : Mark) (o : Option Name) → Valid t → IsPlainMark (book t) m →
+first_content : {t : Translation} {k : Key} {m : Mark} (o : Option Name) → Valid t → IsPlainMark (book t) m →
     NoneOf k t.ledger.groups → FirstRight (book t) k o → BaseAt (book t) k ⊎ BaseNone (book t) k →
     HasContent t.ledger k o (t.ledger.base k)
-first_content t k m None v plain none first (inl at) = absurd (first at.number at.index _ at.is refl at.below)
-first_content t k m None v plain none first (inr zeros) = zeros.zeros
-first_content t k m (Some name) v plain none first base =
+first_content None v plain none first (inl at) = absurd (first at.number at.index _ at.is refl at.below)
+first_content None v plain none first (inr zeros) = zeros.zeros
+first_content {t} {k} (Some name) v plain none first base =
     record { entry = first.0; is = page; key = first.2; body_is = ⊎_elim lost (last base) first.3 }
   where
     page : entry_of t.ledger name ≡ Some first.0
-    page = old_page (book t) name.number name.index first.0
+    page = old_page (book t) name.number name.index
         (v.book_right.old_within name.number name.index first.0 first.1) first.1
 
     lost : IsLostNumber (book t) name.number → first.0.item.body ≡ t.ledger.base k
     lost at =
         let w = plain.repaired name.number name.index first.0 at first.1 in
-        let p = page_new (book t) w.number w.index w.page w.new w.is in
+        let p = page_new (book t) w.number w.new w.is in
         absurd (none (w.number - t.ledger.greatest_seen - 1) w.index p.group w.page.item p.is p.item (w.key ∙ first.2))
 
-    last : BaseAt (book t) k ⊎ BaseNone (book t) k →
-        (name.number < t.ledger.first_lost)
+    last : BaseAt (book t) k ⊎ BaseNone (book t) k → (name.number < t.ledger.first_lost)
         × ((n i : ℕ) (e : Entry) → t.ledger.entries_before n i ≡ Some e → e.item.key ≡ k → n < t.ledger.first_lost →
-        n ≤ name.number) →
-        first.0.item.body ≡ t.ledger.base k
+        n ≤ name.number) → first.0.item.body ≡ t.ledger.base k
     last (inr zeros) r = absurd (zeros.none name.number name.index first.0 first.1 first.2 r.0)
     last (inl at) r =
         let e : Entry = record { item = record { key = k; body = t.ledger.base k }; size = at.size } in
         let up = r.1 at.number at.index e at.is refl at.below in
         let down = at.last name.number name.index first.0 first.1 first.2 r.0 in
         let number : at.number ≡ name.number = omega arith in
-        let there : IsPageAt (book t) name.number at.index e =
-        subst (λ n. IsPageAt (book t) n at.index e) number
-        (old_page (book t) at.number at.index e (v.book_right.old_within at.number at.index e at.is) at.is) in
+        let there : IsPageAt (book t) name.number at.index e = subst (λ n. IsPageAt (book t) n at.index e) number
+        (old_page (book t) at.number at.index (v.book_right.old_within at.number at.index e at.is) at.is) in
         let index : at.index ≡ name.index =
         v.book_right.differ name.number at.index name.index e first.0 there page (sym first.2) in
         ap (λ (x : Entry). x.item.body) (page_one (book t) name.number name.index first.0 e page
         (subst (λ i. IsPageAt (book t) name.number i e) index there))
 
 -- the last item of the key is the page of the last name
-last_content : (t : Translation) (k : Key) (o : Option Name) → Valid t →
+last_content : {t : Translation} {k : Key} {o : Option Name} → Valid t →
     IsLastOf k t.ledger.greatest_seen t.ledger.groups o →
     HasContent t.ledger k o (put_groups t.ledger.base t.ledger.groups k)
-last_content t k o v r =
+last_content {t} {k} v r =
     subst (λ (x : Option Name). HasContent t.ledger k x (put_groups t.ledger.base t.ledger.groups k)) (sym r.is)
     (record {
       entry = e;
       is = page r.name.index r.item r.has;
       key = r.key;
-      body_is = sym (put_at t.ledger.base k t.ledger.groups r.at r.name.index r.group r.item r.there r.has r.key one
+      body_is = sym (put_at t.ledger.base t.ledger.groups r.at r.name.index r.group r.item r.there r.has r.key one
           r.last);
     })
   where
@@ -147,32 +137,28 @@ last_content t k o v r =
         (same ∙ sym r.key) in
         ap (λ (x : Item). x.body) (same_Some y r.item (sym h ∙ ap (slice_get r.group) index ∙ r.has))
 
-latest_has : (t : Translation) (k : Key) → Valid t → t.work.mending ≡ Mended → IsKey (shape_of_numbers t.numbers) k →
+latest_has : {t : Translation} {k : Key} → Valid t → t.work.mending ≡ Mended → IsKey (shape_of_numbers t.numbers) k →
     HasContent t.ledger k (latest t.ledger k) (put_groups t.ledger.base t.ledger.groups k)
-latest_has t k v mended is =
-    ⊎_elim
-    (last_content t k (latest t.ledger k) v)
+latest_has {t} {k} v mended is = ⊎_elim (last_content v)
     (λ (r : (latest t.ledger k ≡ t.ledger.first_page k) × NoneOf k t.ledger.groups).
     subst (λ (o : Option Name). HasContent t.ledger k o (put_groups t.ledger.base t.ledger.groups k)) (sym r.0)
     (subst (HasContent t.ledger k (t.ledger.first_page k)) (sym (put_none t.ledger.base k t.ledger.groups r.1))
-    (first_content t k marked.mark (t.ledger.first_page k) v marked.more r.1 (v.book_right.first_page k is)
-    (v.book_right.base k is))))
-    (latest_cases k t.ledger.greatest_seen t.ledger.groups (t.ledger.first_page k))
+    (first_content (t.ledger.first_page k) v marked.more r.1 (v.book_right.first_page k is)
+    (v.book_right.base k is)))) (latest_cases k t.ledger.greatest_seen t.ledger.groups (t.ledger.first_page k))
   where
-    marked : MendingRight (book t) t.disk t.ledger t.work.plan t.work.step Mended
-    marked = subst (MendingRight (book t) t.disk t.ledger t.work.plan t.work.step) mended v.mending
+    marked : MendingOf t Mended
+    marked = subst (MendingOf t) mended v.mending
 
 -- Looks
 
 -- what has the content holds it wherever it is looked up
-looked_has : (t : Translation) (k : Key) (o : Option Name) (body : List ℕ) → Valid t → HasContent t.ledger k o body →
+looked_has : {t : Translation} (k : Key) (o : Option Name) (body : List ℕ) → Valid t → HasContent t.ledger k o body →
     IsShown t.ledger k (looked_at t.ledger o) body
-looked_has t k None body v h = h
-looked_has t k (Some name) body v h = by (nat_lt t.ledger.frontier name.number) refl
+looked_has k None body v h = h
+looked_has {t} k (Some name) body v h = by (nat_lt t.ledger.frontier name.number) refl
   where
     on : (x : Option Place) → t.ledger.standing name.number name.index ≡ x →
-        ((p : Place) × (t.ledger.standing name.number name.index ≡ Some p)) →
-        IsShown t.ledger k (looked_on name x) body
+        ((p : Place) × (t.ledger.standing name.number name.index ≡ Some p)) → IsShown t.ledger k (looked_on name x) body
     on (Some p) e there = h
     on None e there = absurd (none-some there.0 (sym e ∙ there.1))
 
@@ -188,13 +174,11 @@ looked_has t k (Some name) body v h = by (nat_lt t.ledger.frontier name.number) 
 -- Repairs change no content
 
 -- all groups give the contents that those of the accepted commands give
-accepted_alone : (t : Translation) → Valid t → put_groups t.ledger.base t.ledger.groups ≡ put_groups t.ledger.base
+accepted_alone : {t : Translation} → Valid t → put_groups t.ledger.base t.ledger.groups ≡ put_groups t.ledger.base
     (accepted_groups t.ledger)
-accepted_alone t v =
-    ap (put_groups base) (sym (take-append-drop repairs groups))
+accepted_alone {t} v = ap (put_groups base) (sym (take-append-drop repairs groups))
     ∙ (put_more base (take repairs groups) (drop repairs groups)
-    ∙ ap (λ f. put_groups f (drop repairs groups)) (after_none base groups repairs repairs v.history.contents
-    (omega arith)))
+    ∙ ap (λ f. put_groups f (drop repairs groups)) (after_none groups repairs repairs v.history.contents (omega arith)))
   where
     base : Contents
     base = t.ledger.base
@@ -209,16 +193,13 @@ accepted_alone t v =
 pub look_shows : (s : State) (k : Key) → IsTied s → is_mended s.translation.work.mending ≡ true →
     IsKey (shape_of_numbers (numbers_of s)) k →
     IsShown s.translation.ledger k (look s.translation.ledger k) (content (plain_now s) k)
-look_shows s k v mended is =
-    subst (IsShown s.translation.ledger k (look s.translation.ledger k)) (sym same)
-    (looked_has s.translation k (latest s.translation.ledger k)
+look_shows s k v mended is = subst (IsShown s.translation.ledger k (look s.translation.ledger k)) (sym same)
+    (looked_has k (latest s.translation.ledger k)
     (put_groups s.translation.ledger.base s.translation.ledger.groups k) v.valid
-    (latest_has s.translation k v.valid (mended_told s.translation.work.mending mended) is))
+    (latest_has v.valid (mended_told s.translation.work.mending mended) is))
   where
     same : content (plain_now s) k ≡ put_groups s.translation.ledger.base s.translation.ledger.groups k
-    same =
-        many_commands s.base s.accepted v.commands k (subst (λ (z : Shape). IsKey z k) (sym v.base.1) is)
+    same = many_commands s.base s.accepted v.commands k (subst (λ (z : Shape). IsKey z k) (sym v.base.1) is)
         ∙ (ap (λ (gs : List Group). put_groups (content s.base) gs k) (sym v.groups)
         ∙ (put_groups_same (content s.base) s.translation.ledger.base (accepted_groups s.translation.ledger) k
-        (sym (v.contents k is))
-        ∙ ap (λ (f : Contents). f k) (sym (accepted_alone s.translation v.valid))))
+        (sym (v.contents k is)) ∙ ap (λ (f : Contents). f k) (sym (accepted_alone v.valid))))

@@ -1,19 +1,15 @@
 -- What is kept shows the blocks of tasks: what other groups, other tasks and fewer pins leave of it.
-use Rattle.std.proofs.Common.{◌≡◌, ℕ, ◌==◌, Bool, true, false, cond, not, if◌then◌else◌, All, List, [], ◌∷◌, ◌++◌, Some}
-use Rattle.std.proofs.Common.{filter, find, fold, map, refl, sym, ap, ◌∙◌, subst}
+use Rattle.power_loss.proofs.Common.{◌≡◌, ℕ, ◌==◌, Bool, true, false, cond, not, if◌then◌else◌, All, List, [], ◌∷◌}
+use Rattle.power_loss.proofs.Common.{◌++◌, Some, fold, map, refl, sym, ap, ◌∙◌, subst, flat_map, list_any, All-cons}
+use Rattle.power_loss.proofs.Common.{All-filter, All-head, All-nil, All-tail, All-weaker, false≢true, none-some}
+use Rattle.power_loss.proofs.Common.{same_Some, eqb-self, eqb-true, cond-false, cond-true, Entry, InSlot, Ledger}
+use Rattle.power_loss.proofs.Common.{Looked, Name, OnPage, Unwritten, moved, Pin, Translation, Key, Numbers}
+use Rattle.power_loss.proofs.MachineWords.{Deed, Sending, Task, is_task_of, task_of, with_deed, abort_moves, fill_moves}
+use Rattle.power_loss.proofs.MachineWords.{IsShown, ShowsBlock, ShowsRight}
+use Rattle.std.proofs.Common.{filter, find}
 use Rattle.std.specs.Prelude.{◌||◌}
-use Rattle.std.specs.List.{flat_map, list_any}
-use Rattle.std.proofs.lemmas.List.Elements.{All-cons, All-filter, All-head, All-nil, All-tail, All-weaker}
-use Rattle.ufs_spec.proofs.Facts.{false≢true, none-some, same_Some, eqb-self, eqb-true, cond-false, cond-true}
-use Rattle.ufs_spec.specs.Exchanges.{Deed, Sending, Task, is_task_of, task_of, with_deed}
-use Rattle.ufs_spec.specs.Ledger.{Entry, InSlot, Ledger, Looked, Name, OnPage, Unwritten, entry_of}
-use Rattle.ufs_spec.specs.Machine.{abort_moves, fill_moves}
-use Rattle.ufs_spec.specs.Moves.{moved}
-use Rattle.ufs_spec.specs.Translation.{Pin, Translation}
-use Rattle.ufs_spec.specs.declared.flash.Key.{Key}
-use Rattle.ufs_spec.specs.declared.configs.Numbers.{Numbers}
+use Rattle.ufs_spec.specs.Ledger.{entry_of}
 use Rattle.ufs_laws.proofs.walk.SmallChanges.{does}
-use Rattle.power_loss.specs.Shown.{IsShown, ShowsBlock, ShowsRight}
 use Rattle.power_loss.proofs.open_tasks.FoundInLists.{found_is, found_map, found_more}
 use Rattle.power_loss.proofs.collected_blocks.FewestLivePages.{in_any}
 use Rattle.power_loss.proofs.ordered_lists.ElementsAndOrders.{found_in, kept_in}
@@ -46,15 +42,13 @@ Show l tasks pins = All (ShowsRight l tasks) pins
 
 pub show_known : (l m : Ledger) (tasks : List Task) (pins : List Pin) → Knows l m → Show l tasks pins →
     Show m tasks pins
-show_known l m tasks pins more h =
-    All-weaker (ShowsRight l tasks) (ShowsRight m tasks)
+show_known l m tasks pins more h = All-weaker (ShowsRight l tasks) (ShowsRight m tasks)
     (λ pin r. record {
       task = r.task;
       there = r.there;
       shows = block_reshown l m pin.looked pin.looked pin.index r.task.deed
           (λ k body. shown_known l m k pin.looked body more) r.shows;
-    })
-    pins h
+    }) pins h
 
 -- Other tasks
 
@@ -69,14 +63,12 @@ Goes tasks others = (tag : ℕ) (task : Task) → task_of tag tasks ≡ Some tas
 
 pub show_goes : (l : Ledger) (tasks others : List Task) (pins : List Pin) → Goes tasks others → Show l tasks pins →
     Show l others pins
-show_goes l tasks others pins goes h =
-    All-weaker (ShowsRight l tasks) (ShowsRight l others)
+show_goes l tasks others pins goes h = All-weaker (ShowsRight l tasks) (ShowsRight l others)
     (λ pin r. let g = goes pin.tag r.task r.there in
-    record { task = g.0; there = g.1; shows = g.2 l pin.looked pin.index r.shows })
-    pins h
+    record { task = g.0; there = g.1; shows = g.2 l pin.looked pin.index r.shows }) pins h
 
 pub more_goes : (tasks : List Task) (task : Task) → Goes tasks (tasks ++ task ∷ [])
-more_goes tasks task tag x found = (x, found_more (is_task_of tag) tasks (task ∷ []) x found, λ l y index h. h)
+more_goes tasks task tag x found = (x, found_more (is_task_of tag) tasks (task ∷ []) found, λ l y index h. h)
 
 pub map_goes : (f : Task → Task) (tasks : List Task) → ((task : Task) → (f task).tag ≡ task.tag) →
     ((task : Task) → SameBlocks task.deed (f task).deed) → Goes tasks (map f tasks)
@@ -143,32 +135,29 @@ found_kept p is (x ∷ xs) a h none = by (p x) (is x) refl refl h (λ k. found_k
     by false true e g k rest = rest k
     by false false e g k rest = cond-false (p x) (Some x) (find p (filter (λ y. not (is y)) xs)) e ∙ rest k
 
-found_among : {A : Type 0} (p is : A → Bool) (xs : List A) (a : A) → find p xs ≡ Some a → is a ≡ true →
+found_among : {A : Type 0} (p is : A → Bool) (xs : List A) {a : A} → find p xs ≡ Some a → is a ≡ true →
     list_any p (filter is xs) ≡ true
-found_among p is xs a h among =
+found_among p is xs {a} h among =
     let r = found_in p xs a h in
     in_any p a (filter is xs) (kept_in is a xs r.0 among) r.1
 
 -- what is kept for tasks that stay shows their blocks
-pub show_left : (l : Ledger) (is : Task → Bool) (tasks : List Task) (pins : List Pin) →
+pub show_left : {l : Ledger} (is : Task → Bool) {tasks : List Task} (pins : List Pin) →
     All (λ pin. ShowsRight l tasks pin × (list_any (is_task_of pin.tag) (filter is tasks) ≡ false)) pins →
     Show l (filter (λ task. not (is task)) tasks) pins
-show_left l is tasks pins h =
+show_left {l} is {tasks} pins h =
     All-weaker (λ pin. ShowsRight l tasks pin × (list_any (is_task_of pin.tag) (filter is tasks) ≡ false))
     (ShowsRight l (filter (λ task. not (is task)) tasks))
     (λ pin r. record {
       task = r.0.task;
-      there = found_kept (is_task_of pin.tag) is tasks r.0.task r.0.there
-          (stays pin r.0 (is r.0.task) refl r.1);
+      there = found_kept (is_task_of pin.tag) is tasks r.0.task r.0.there (stays pin r.0 (is r.0.task) refl r.1);
       shows = r.0.shows;
-    })
-    pins h
+    }) pins h
   where
     stays : (pin : Pin) (r : ShowsRight l tasks pin) (b : Bool) → is r.task ≡ b →
         list_any (is_task_of pin.tag) (filter is tasks) ≡ false → is r.task ≡ false
     stays pin r false e none = e
-    stays pin r true e none =
-        absurd (false≢true (sym none ∙ found_among (is_task_of pin.tag) is tasks r.task r.there e))
+    stays pin r true e none = absurd (false≢true (sym none ∙ found_among (is_task_of pin.tag) is tasks r.there e))
 
 -- Moves
 
@@ -190,10 +179,8 @@ aborted_pins P n (x ∷ ts) t h =
     (λ pin. P pin × (list_any (is_task_of pin.tag) (x ∷ ts) ≡ false))
     (λ pin r. (
       r.0.0,
-      neither (x.tag == pin.tag) (list_any (is_task_of pin.tag) ts) (other_tag pin.tag x.tag r.0.1)
-          r.1,
-    ))
-    (fold moved u (flat_map (abort_moves n) ts)).pins
+      neither (x.tag == pin.tag) (list_any (is_task_of pin.tag) ts) (other_tag pin.tag x.tag r.0.1) r.1,
+    )) (fold moved u (flat_map (abort_moves n) ts)).pins
     (aborted_pins (λ pin. P pin × (not (pin.tag == x.tag) ≡ true)) n ts u
     (filter_passes P (λ pin. not (pin.tag == x.tag)) t.pins h))
   where

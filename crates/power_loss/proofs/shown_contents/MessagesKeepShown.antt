@@ -1,29 +1,22 @@
 -- Each call keeps that what is kept for a READ shows the blocks that the READ sends, and so does a whole life.
-use Rattle.std.proofs.Common.{◌≡◌, ℕ, ◌+◌, ◌==◌, Bool, true, false, not, if◌then◌else◌, List, ◌++◌, Option, Some, None}
-use Rattle.std.proofs.Common.{filter, fold, find, length, map, nat_lt, refl, sym, ap, ◌∙◌, subst}
+use Rattle.power_loss.proofs.Common.{◌≡◌, ℕ, ◌+◌, ◌==◌, Bool, true, false, not, if◌then◌else◌, List, ◌++◌, Option, Some}
+use Rattle.power_loss.proofs.Common.{None, fold, length, map, refl, sym, ap, ◌∙◌, subst, flat_map, All-filter}
+use Rattle.power_loss.proofs.Common.{All-weaker, none-some, same_Some, group_of, Ledger, is_pin_of, moved, Pin}
+use Rattle.power_loss.proofs.MachineWords.{Answering, Awaiting, Deed, Gathering, Good, NotRead, Purpose, ReadBlock}
+use Rattle.power_loss.proofs.MachineWords.{ReadState, Sending, Short, Task, SendingBytes, Unread, WasRead, is_short_of}
+use Rattle.power_loss.proofs.MachineWords.{is_task_of, task_of, with_deed, Host, Spelled, abort_moves, accepts}
+use Rattle.power_loss.proofs.MachineWords.{complete, data_for, data_heard, deed_behind, deed_behind_block, heard}
+use Rattle.power_loss.proofs.MachineWords.{is_aborted, managed, message_fault, moves_behind, replied_by, service}
+use Rattle.power_loss.proofs.MachineWords.{set_deed, short_replied, task_behind, with_moves, without_tasks, opens_short}
+use Rattle.power_loss.proofs.MachineWords.{State, plain_now, numbers_of, Message, IsTied, MayCome, ShowsReads}
+use Rattle.power_loss.proofs.MachineWords.{ShowsRight}
+use Rattle.std.proofs.Common.{filter, find, nat_lt}
 use Rattle.std.specs.Prelude.{slice_get}
-use Rattle.std.specs.List.{flat_map}
-use Rattle.std.proofs.lemmas.List.Elements.{All-filter, All-weaker}
-use Rattle.ufs_spec.proofs.Facts.{none-some, same_Some}
-use Rattle.ufs_spec.specs.Exchanges.{Answering, Awaiting, Deed, Gathering, Good, NotRead, Purpose, ReadBlock, ReadState}
-use Rattle.ufs_spec.specs.Exchanges.{Sending, Short, Task, SendingBytes, Unread, WasRead, is_short_of, is_task_of}
-use Rattle.ufs_spec.specs.Exchanges.{task_of, with_deed}
-use Rattle.ufs_spec.specs.Keys.{group_of}
-use Rattle.ufs_spec.specs.Ledger.{Ledger}
-use Rattle.ufs_spec.specs.Machine.{Host, Spelled, abort_moves, accepts, complete, data_for, data_heard, deed_behind}
-use Rattle.ufs_spec.specs.Machine.{deed_behind_block, deed_behind_sent, heard, is_aborted, managed, message_fault}
-use Rattle.ufs_spec.specs.Machine.{moves_behind, replied_by, service, set_deed, short_replied, task_behind, with_moves}
-use Rattle.ufs_spec.specs.Machine.{without_tasks, opens_short}
-use Rattle.ufs_spec.specs.Moves.{is_pin_of, moved}
-use Rattle.ufs_spec.specs.Refusals.{State, plain_now, numbers_of}
-use Rattle.ufs_spec.specs.Translation.{Pin}
+use Rattle.ufs_spec.specs.Machine.{deed_behind_sent}
 use Rattle.ufs_spec.specs.Commands as command
-use Rattle.ufs_spec.specs.declared.messages.Message.{Message}
 use Rattle.ufs_spec.specs.declared.messages.Message.TheVariants as message
 use Rattle.ufs_laws.proofs.walk.WaysOfCommands.{Accepted, Completion, IsAcceptedDeed, MeetsLock, Told, WhyCompleted}
 use Rattle.ufs_laws.proofs.walk.WaysOfCommands.{completed, completes_by}
-use Rattle.power_loss.specs.Exchange.{IsTied, MayCome}
-use Rattle.power_loss.specs.Shown.{ShowsReads, ShowsRight}
 use Rattle.power_loss.proofs.calls.CallsKeepTied.{operation_is}
 use Rattle.power_loss.proofs.open_tasks.FoundInLists.{found_is}
 use Rattle.power_loss.proofs.host_commands.OpenedByCommands.{is_free}
@@ -83,7 +76,7 @@ without_shows s is h =
     let u = fold moved s.translation (flat_map (abort_moves (numbers_of s)) ts) in
     subst (λ (x : Ledger). Show x (filter (λ task. not (is task)) s.tasks) u.pins)
     (sym (aborted_ledger (numbers_of s) ts s.translation))
-    (show_left l is s.tasks u.pins (aborted_pins (ShowsRight l s.tasks) (numbers_of s) ts s.translation h))
+    (show_left is u.pins (aborted_pins (ShowsRight l s.tasks) (numbers_of s) ts s.translation h))
 
 managed_shows : (s : State) (lun function meant : ℕ) → ShowsReads s → ShowsReads (managed s lun function meant)
 managed_shows s lun function meant h =
@@ -92,16 +85,16 @@ managed_shows s lun function meant h =
 
 -- Messages
 
-pub heard_shows : (s : State) (m : Message) (c : _) → IsTied s → MayCome s (Host (Spelled m c)) →
+pub heard_shows : {s : State} (m : Message) (c : _) → IsTied s → MayCome s (Host (Spelled m c)) →
     message_fault s m ≡ None → ShowsReads s → ShowsReads (heard s m c)
-heard_shows s (message.Command flags lun tag expected taken) c v may free h =
-    command_shows s (record { flags = flags; lun = lun; tag = tag; expected = expected; bytes = taken; cdb = c }) v
+heard_shows {s} (message.Command flags lun tag expected taken) c v may free h =
+    command_shows (record { flags = flags; lun = lun; tag = tag; expected = expected; bytes = taken; cdb = c }) v
     (is_free s tag (opens_short s (message.Command flags lun tag expected taken)) free)
     (λ command e. operation_is c command taken may.1.2 e) h
-heard_shows s (message.DataOut lun tag offset «data») c v may free h =
+heard_shows {s} (message.DataOut lun tag offset «data») c v may free h =
     data_heard_shows s (task_of tag s.tasks) «data».items h
-heard_shows s (message.TaskRequest lun tag function meant) c v may free h = managed_shows s lun function meant h
-heard_shows s m c v may free h = h
+heard_shows {s} (message.TaskRequest lun tag function meant) c v may free h = managed_shows s lun function meant h
+heard_shows m c v may free h = h
 
 -- Replies
 
@@ -114,58 +107,52 @@ sent_same task blocks sent = by (nat_lt (sent + 1) (length blocks))
     by true = λ l x index h. h
     by false = λ l x index h. tt
 
-block_same : (task : Task) (blocks : List ReadBlock) (sent : ℕ) (o : Option ReadBlock) (deed : Deed) →
+block_same : (task : Task) (blocks : List ReadBlock) (sent : ℕ) (o : Option ReadBlock) {deed : Deed} →
     deed_behind_block task blocks sent o ≡ Some deed → SameBlocks (Sending blocks sent) deed
-block_same task blocks sent None deed e = absurd (none-some deed e)
-block_same task blocks sent (Some block) deed e = by block.state e
+block_same task blocks sent None {deed} e = absurd (none-some deed e)
+block_same task blocks sent (Some block) {deed} e = by block.state e
   where
     by : (state : ReadState) →
         deed_behind_block task blocks sent (Some (record { body = block.body; state = state })) ≡ Some deed →
         SameBlocks (Sending blocks sent) deed
-    by Unread k =
-        subst (SameBlocks (Sending blocks sent)) (same_Some (deed_behind_sent task blocks sent) deed k)
+    by Unread k = subst (SameBlocks (Sending blocks sent)) (same_Some (deed_behind_sent task blocks sent) deed k)
         (sent_same task blocks sent)
-    by WasRead k =
-        subst (SameBlocks (Sending blocks sent)) (same_Some (deed_behind_sent task blocks sent) deed k)
+    by WasRead k = subst (SameBlocks (Sending blocks sent)) (same_Some (deed_behind_sent task blocks sent) deed k)
         (sent_same task blocks sent)
     by NotRead k = absurd (none-some deed k)
 
-behind_same : (task : Task) (before deed : Deed) → deed_behind task before ≡ Some deed → SameBlocks before deed
-behind_same task (Sending blocks sent) deed e = block_same task blocks sent (slice_get blocks sent) deed e
-behind_same task (Gathering purpose gathered asked) deed e =
+behind_same : (task : Task) (before : Deed) {deed : Deed} → deed_behind task before ≡ Some deed → SameBlocks before deed
+behind_same task (Sending blocks sent) {deed} e = block_same task blocks sent (slice_get blocks sent) e
+behind_same task (Gathering purpose gathered asked) {deed} e =
     subst (SameBlocks (Gathering purpose gathered asked)) (same_Some (Gathering purpose gathered true) deed e)
     (λ l x index h. tt)
-behind_same task (SendingBytes bytes) deed e =
+behind_same task (SendingBytes bytes) {deed} e =
     subst (SameBlocks (SendingBytes bytes)) (same_Some (Answering Good task.length) deed e) (λ l x index h. tt)
-behind_same task before deed e = absurd (none-some deed e)
+behind_same task before {deed} e = absurd (none-some deed e)
 
 moves_show : (s : State) (task : Task) (deed : Deed) → ShowsReads s → ShowsReads (with_moves s (moves_behind task deed))
-moves_show s task (Sending blocks sent) h =
-    wanted_shows s.translation.ledger s.tasks task.tag (sent + 1) true
+moves_show s task (Sending blocks sent) h = wanted_shows s.translation.ledger s.tasks task.tag (sent + 1) true
     (filter (λ pin. not (is_pin_of task.tag sent pin)) s.translation.pins)
     (All-filter (λ pin. not (is_pin_of task.tag sent pin))
     (ShowsRight s.translation.ledger s.tasks) s.translation.pins h)
-moves_show s task (Awaiting commands) h =
-    show_known s.translation.ledger
+moves_show s task (Awaiting commands) h = show_known s.translation.ledger
     (with_moves s (moves_behind task (Awaiting commands))).translation.ledger s.tasks s.translation.pins
     (λ name e k. k) h
 moves_show s task deed h = h
 
-task_behind_shows : (s : State) (task : Task) (deed : Option Deed) → task_of task.tag s.tasks ≡ Some task →
-    ((d : Deed) → deed ≡ Some d → SameBlocks task.deed d) → ShowsReads s →
-    ShowsReads (task_behind s task deed)
-task_behind_shows s task (Some deed) found same h =
+task_behind_shows : (s : State) {task : Task} (deed : Option Deed) → task_of task.tag s.tasks ≡ Some task →
+    ((d : Deed) → deed ≡ Some d → SameBlocks task.deed d) → ShowsReads s → ShowsReads (task_behind s task deed)
+task_behind_shows s {task} (Some deed) found same h =
     show_goes s.translation.ledger s.tasks (map (with_deed task.tag deed) s.tasks) s.translation.pins
     (set_goes s.tasks task deed found (same deed refl)) h
-task_behind_shows s task None found same h =
+task_behind_shows s {task} None found same h =
     All-weaker (λ pin. ShowsRight l s.tasks pin × (not (pin.tag == task.tag) ≡ true))
     (ShowsRight l (filter (λ t. not (is_task_of task.tag t)) s.tasks))
     (λ pin r. record {
       task = r.0.task;
       there = found_kept (is_task_of pin.tag) (is_task_of task.tag) s.tasks r.0.task r.0.there (apart pin r.0 r.1);
       shows = r.0.shows;
-    })
-    (filter (λ pin. not (pin.tag == task.tag)) s.translation.pins)
+    }) (filter (λ pin. not (pin.tag == task.tag)) s.translation.pins)
     (filter_passes (ShowsRight l s.tasks) (λ pin. not (pin.tag == task.tag)) s.translation.pins h)
   where
     l : Ledger
@@ -188,8 +175,7 @@ short_shows s (Some short) h = by short.awaits
   where
     by : (o : Option ℕ) → ShowsReads (short_replied s (Some (record short { awaits = o })))
     by None = h
-    by (Some commands) =
-        show_known s.translation.ledger
+    by (Some commands) = show_known s.translation.ledger
         (short_replied s (Some (record short { awaits = Some commands }))).translation.ledger s.tasks s.translation.pins
         (λ name e k. k) h
 
@@ -197,7 +183,6 @@ pub replied_shows : (s : State) (tag : ℕ) (o : Option Task) → task_of tag s.
     ShowsReads (replied_by s tag o)
 replied_shows s tag (Some task) e h =
     let own : task.tag ≡ tag = eq_told task.tag tag (found_is (is_task_of tag) s.tasks task e) in
-    task_behind_shows (with_moves s (moves_behind task task.deed)) task (deed_behind task task.deed)
-    (ap (λ (n : ℕ). task_of n s.tasks) own ∙ e)
-    (λ d k. behind_same task task.deed d k) (moves_show s task task.deed h)
+    task_behind_shows (with_moves s (moves_behind task task.deed)) (deed_behind task task.deed)
+    (ap (λ (n : ℕ). task_of n s.tasks) own ∙ e) (λ d k. behind_same task task.deed k) (moves_show s task task.deed h)
 replied_shows s tag None e h = short_shows s (find (is_short_of tag) s.shorts) h

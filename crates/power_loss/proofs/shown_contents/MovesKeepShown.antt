@@ -1,22 +1,14 @@
 -- What the moves of the translation layer leave of what is kept: it shows the same blocks.
-use Rattle.std.proofs.Common.{◌≡◌, ℕ, Bool, true, false, if◌then◌else◌, All, List, [], ◌∷◌, ◌++◌, Option, Some, None}
-use Rattle.std.proofs.Common.{fold, map, nat_lt, refl, sym, ◌∙◌, subst}
+use Rattle.power_loss.proofs.Common.{◌≡◌, ℕ, Bool, true, false, if◌then◌else◌, All, List, [], ◌∷◌, ◌++◌, Option, Some}
+use Rattle.power_loss.proofs.Common.{None, fold, map, refl, sym, ◌∙◌, subst, All-head, All-map, All-push, All-tail}
+use Rattle.power_loss.proofs.Common.{All-weaker, Flight, Group, InSlot, Ledger, Looked, OnPage, Unwritten, looked_on}
+use Rattle.power_loss.proofs.Common.{settled_look, Ending, Keep, TakeStep, end_flight, is_pin_of, moved, settled_pin}
+use Rattle.power_loss.proofs.Common.{with_wanted, Pin, Translation, Key, Place, book, none-some, if_both, Valid}
+use Rattle.power_loss.proofs.MachineWords.{Task, IsShown, ShowsRight}
+use Rattle.std.proofs.Common.{nat_lt}
 use Rattle.std.proofs.lemmas.Bool.{ltb-false}
-use Rattle.std.proofs.lemmas.List.Elements.{All-head, All-map, All-push, All-tail, All-weaker}
-use Rattle.ufs_spec.specs.Disk.{Flight}
-use Rattle.ufs_spec.specs.Exchanges.{Task}
-use Rattle.ufs_spec.specs.Keys.{Group}
-use Rattle.ufs_spec.specs.Ledger.{InSlot, Ledger, Looked, OnPage, Unwritten, looked_on, settled_look}
-use Rattle.ufs_spec.specs.Moves.{Ending, Keep, TakeStep, end_flight, is_pin_of, moved, settled_pin, with_wanted}
-use Rattle.ufs_spec.specs.Translation.{Pin, Translation}
-use Rattle.ufs_spec.specs.declared.flash.Key.{Key}
-use Rattle.ufs_spec.specs.declared.flash.Place.{Place}
-use Rattle.power_loss.specs.Book.{book}
-use Rattle.ufs_spec.proofs.Facts.{none-some, if_both}
 use Rattle.ufs_laws.proofs.walk.LayerEffects.{ComesOf, Effect, PageWritten, RepairOrdered, TaskRead, ended, turned_by}
 use Rattle.ufs_laws.proofs.walk.LayerEffects.{with_effect}
-use Rattle.power_loss.specs.Invariant.{Valid}
-use Rattle.power_loss.specs.Shown.{IsShown, ShowsRight}
 use Rattle.power_loss.proofs.books.PagesByName.{none_some, page_grows}
 use Rattle.power_loss.proofs.shown_blocks.PinsShowBlocks.{Knows, Reshows, Show, block_reshown, show_known, shown_known}
 
@@ -35,8 +27,7 @@ same_shows t u knows same tasks h =
 
 pub wanted_shows : (l : Ledger) (tasks : List Task) (tag index : ℕ) (wanted : Bool) (pins : List Pin) →
     Show l tasks pins → Show l tasks (map (with_wanted tag index wanted) pins)
-wanted_shows l tasks tag index wanted pins h =
-    All-map (ShowsRight l tasks) (with_wanted tag index wanted) pins
+wanted_shows l tasks tag index wanted pins h = All-map (ShowsRight l tasks) (with_wanted tag index wanted) pins
     (All-weaker (ShowsRight l tasks) (λ (pin : Pin). ShowsRight l tasks (with_wanted tag index wanted pin))
     (λ pin r. if_both (ShowsRight l tasks) (is_pin_of tag index pin)
     (record { task = r.task; there = r.there; shows = r.shows }) r) pins h)
@@ -54,58 +45,49 @@ settles t u (InSlot name) v knows k body h = by (nat_lt u.ledger.frontier name.n
     now = shown_known t.ledger u.ledger k (InSlot name) body knows h
 
     on : (x : Option Place) → u.ledger.standing name.number name.index ≡ x →
-        ((p : Place) × (u.ledger.standing name.number name.index ≡ Some p)) →
-        IsShown u.ledger k (looked_on name x) body
+        ((p : Place) × (u.ledger.standing name.number name.index ≡ Some p)) → IsShown u.ledger k (looked_on name x) body
     on (Some p) e there = now
     on None e there = absurd (none_some there.0 (sym e ∙ there.1))
 
     by : (b : Bool) → nat_lt u.ledger.frontier name.number ≡ b →
         IsShown u.ledger k (if b then InSlot name else looked_on name (u.ledger.standing name.number name.index)) body
     by true e = now
-    by false e =
-        on (u.ledger.standing name.number name.index) refl
+    by false e = on (u.ledger.standing name.number name.index) refl
         (v.frontier.stand name.number name.index now.entry (ltb-false u.ledger.frontier name.number e) now.is)
 
 settled_shows : (t u : Translation) → Valid u → Knows t.ledger u.ledger → u.pins ≡ map (settled_pin u.ledger) t.pins →
     StillShow t u
-settled_shows t u v knows same tasks h =
-    subst (Show u.ledger tasks) (sym same)
+settled_shows t u v knows same tasks h = subst (Show u.ledger tasks) (sym same)
     (All-map (ShowsRight u.ledger tasks) (settled_pin u.ledger) t.pins
     (All-weaker (ShowsRight t.ledger tasks) (λ (pin : Pin). ShowsRight u.ledger tasks (settled_pin u.ledger pin))
     (λ pin r. record {
       task = r.task;
       there = r.there;
-      shows =
-          block_reshown t.ledger u.ledger pin.looked (settled_look u.ledger pin.looked) pin.index r.task.deed
+      shows = block_reshown t.ledger u.ledger pin.looked (settled_look u.ledger pin.looked) pin.index r.task.deed
           (settles t u pin.looked v knows) r.shows;
-    })
-    t.pins h))
+    }) t.pins h))
 
 effect_shows : (t : Translation) (o : Option Flight) (e : Effect) → ComesOf t o e →
     ((x : Flight) → o ≡ Some x → Valid (with_effect t e)) → StillShow t (with_effect t e)
 effect_shows t o (TaskRead die tag index) comes v tasks h = wanted_shows t.ledger tasks tag index false t.pins h
 effect_shows t o (PageWritten p tag body) comes v tasks h =
     settled_shows t (with_effect t (PageWritten p tag body)) (v _ comes) (λ name e k. k) refl tasks h
-effect_shows t o (RepairOrdered k left) comes v tasks h =
-    same_shows t (with_effect t (RepairOrdered k left))
+effect_shows t o (RepairOrdered k left) comes v tasks h = same_shows t (with_effect t (RepairOrdered k left))
     (knows_more t (record { key = k; body = t.ledger.base k } ∷ [])) refl tasks h
 effect_shows t o e comes v tasks h = same_shows t (with_effect t e) (λ name x k. k) refl tasks h
 
 pub turn_shows : (t : Translation) → StillShow t (moved t TakeStep)
-turn_shows t =
-    turned_by (StillShow t) t (λ e comes. effect_shows t None e comes (λ x is. absurd (none-some x is)))
+turn_shows t = turned_by (StillShow t) t (λ e comes. effect_shows t None e comes (λ x is. absurd (none-some x is)))
 
 pub end_shows : (t : Translation) (die : ℕ) (flight : Option Flight) (ending : Ending) →
     Valid (end_flight t die flight ending) → StillShow t (end_flight t die flight ending)
-end_shows t die flight ending =
-    ended (λ u. Valid u → StillShow t u) t die flight ending
+end_shows t die flight ending = ended (λ u. Valid u → StillShow t u) t die flight ending
     (λ e comes v. effect_shows t flight e comes (λ x is. v))
 
 -- Pins more
 
 pub kept_pins : (P : Pin → Type 0) (k : ℕ → Key) (f : ℕ → Pin) (xs : List ℕ) (t : Translation) → All P t.pins →
-    All (λ i. P (f i)) xs →
-    All P (fold moved t (map (λ i. Keep (k i) (f i)) xs)).pins
+    All (λ i. P (f i)) xs → All P (fold moved t (map (λ i. Keep (k i) (f i)) xs)).pins
 kept_pins P k f [] t h more = h
 kept_pins P k f (x ∷ xs) t h more =
     kept_pins P k f xs (moved t (Keep (k x) (f x))) (All-push P t.pins (f x) h (All-head (λ i. P (f i)) x xs more))

@@ -1,29 +1,18 @@
 -- Until the first mark of a life is finished, exactly what the life wrote is not finished.
-use Rattle.std.proofs.Common.{◌≡◌, ℕ, ◌<◌, ◌≤◌, ◌⊎◌, ◌&&◌, is_none, if◌then◌else◌, Bool, true, false, List, [], ◌∷◌}
-use Rattle.std.proofs.Common.{Option, Some, None, refl, sym, ap, ◌∙◌, inl, inr, ⊎_elim, arith}
-use Rattle.ufs_spec.specs.Cells.{Cell, Cells, GroupPage, Mark, MarkPage, Nothing}
-use Rattle.ufs_spec.specs.Disk.{Erasing, Flight, ForNobody, ForRest, ForStep, ForTask, Programming, Reader, Reading}
-use Rattle.ufs_spec.specs.Disk.{Spot, erase_failed, erased, program_failed, spot_of}
-use Rattle.ufs_spec.specs.Kept.{IsKept, IsNewestMark, fence_in, recorded_in}
-use Rattle.ufs_spec.specs.Moves.{EndJob, Ending, IsAllowedMove, MayEnd, Move, ReadRight, ReadWrong, TakeStep, WentWell}
-use Rattle.ufs_spec.specs.Moves.{WentWrong, die_idle, end_flight, mark_again, mending_behind, moved, read_right}
-use Rattle.ufs_spec.specs.Moves.{read_wrong}
-use Rattle.ufs_spec.specs.Openings.{IsOpenedTranslation, lost_from, number_of}
-use Rattle.ufs_spec.specs.Translation.{Mended, Mending, Order, OrderMark, OrderPlanMark, OrderRepair, Plan, Repairing}
-use Rattle.ufs_spec.specs.Translation.{Translation, Unmarked, copy_begun, has_mark_number, has_number, live_places}
-use Rattle.ufs_spec.specs.Translation.{mark_ordered, next_order, plan_order, stepped, turned, victim, victim_order}
-use Rattle.ufs_spec.specs.Translation.{wants_collection, with_plan}
-use Rattle.ufs_spec.specs.declared.configs.Numbers.{Numbers}
-use Rattle.ufs_spec.specs.declared.flash.Fence.{Fence}
-use Rattle.ufs_spec.specs.declared.flash.Key.{Key}
-use Rattle.ufs_spec.specs.declared.flash.Place.{Place}
-use Rattle.ufs_spec.specs.declared.flash.Tag.{Tag}
-use Rattle.ufs_spec.proofs.Facts.{false≢true, true≢false}
-use Rattle.ufs_spec.proofs.CellKinds.{mark_not_nothing}
-use Rattle.ufs_spec.proofs.Equalities.{spot_cases}
-use Rattle.ufs_spec.proofs.Updates.{at_place_cases}
-use Rattle.power_loss.specs.Invariant.{Valid}
-use Rattle.power_loss.specs.Losing.{IsStartRight, StartsRight, is_marked}
+use Rattle.power_loss.proofs.Common.{◌≡◌, ℕ, ◌<◌, ◌≤◌, ◌⊎◌, ◌&&◌, is_none, if◌then◌else◌, Bool, true, false, List, []}
+use Rattle.power_loss.proofs.Common.{◌∷◌, Option, Some, None, refl, sym, ap, ◌∙◌, inl, inr, ⊎_elim, arith, Cell, Cells}
+use Rattle.power_loss.proofs.Common.{GroupPage, Mark, MarkPage, Nothing, Erasing, Flight, ForNobody, ForRest, ForStep}
+use Rattle.power_loss.proofs.Common.{ForTask, Programming, Reader, Reading, Spot, erase_failed, erased, program_failed}
+use Rattle.power_loss.proofs.Common.{spot_of, IsKept, IsNewestMark, fence_in, recorded_in, EndJob, Ending}
+use Rattle.power_loss.proofs.Common.{IsAllowedMove, MayEnd, Move, ReadRight, ReadWrong, TakeStep, WentWell, WentWrong}
+use Rattle.power_loss.proofs.Common.{die_idle, end_flight, mark_again, mending_behind, moved, read_right, read_wrong}
+use Rattle.power_loss.proofs.Common.{IsOpenedTranslation, lost_from, number_of, Mended, Mending, Order, OrderMark}
+use Rattle.power_loss.proofs.Common.{OrderPlanMark, OrderRepair, Plan, Repairing, Translation, Unmarked, copy_begun}
+use Rattle.power_loss.proofs.Common.{has_mark_number, has_number, live_places, mark_ordered, next_order, plan_order}
+use Rattle.power_loss.proofs.Common.{stepped, turned, victim, victim_order, wants_collection, with_plan, Numbers, Fence}
+use Rattle.power_loss.proofs.Common.{Key, Place, Tag, false≢true, true≢false, mark_not_nothing, spot_cases}
+use Rattle.power_loss.proofs.Common.{at_place_cases, Valid}
+use Rattle.power_loss.proofs.MachineWords.{IsStartRight, StartsRight, is_marked}
 use Rattle.power_loss.proofs.books.LayerParts.{MendingOf}
 use Rattle.power_loss.proofs.jobs.StandsSecurely.{erase_left, erased_here, erased_other, program_left}
 use Rattle.power_loss.proofs.stops.LeftImage.{opened_below}
@@ -82,12 +71,9 @@ not_more {t} k st unmarked =
     let number = ap number_of k.newest in
     record {
       unfinished = λ p h. ⊎_elim (λ e. ⊎_elim (λ z. inl (e ∙ z)) (λ z. inr (z.0, e ∙ z.1, let l = z.2 in omega arith))
-          (s.unfinished p (sym (k.finished p) ∙ h)))
-          (λ e. inl e)
-          (k.cells p);
+          (s.unfinished p (sym (k.finished p) ∙ h))) (λ e. inl e) (k.cells p);
       own = λ p m h l. ⊎_elim (λ e. k.finished p ∙ s.own p m (sym e ∙ h) (omega arith))
-          (λ e. absurd (mark_not_nothing _ _ (sym e ∙ h) refl))
-          (k.cells p);
+          (λ e. absurd (mark_not_nothing _ _ (sym e ∙ h) refl)) (k.cells p);
       fence = λ f e. k.low ∙ s.fence f (ap fence_in (sym k.newest) ∙ e);
       none = λ e. let l = s.none (ap fence_in (sym k.newest) ∙ e) in let a = k.low in let b = ap recorded_in k.newest in
           omega arith;
@@ -158,7 +144,7 @@ erased_same t s = record {
   newest = refl;
   low = refl;
   finished = λ p. refl;
-  cells = λ p. ⊎_elim (λ k. inr (erased_here t.disk s p k.1)) (λ k. inl (erased_other t.disk s p k.1))
+  cells = λ p. ⊎_elim (λ k. inr (erased_here t.disk p k.1)) (λ k. inl (erased_other t.disk s p k.1))
       (spot_cases (spot_of p) s);
 }
 
@@ -184,17 +170,10 @@ failed_start : (t : Translation) (die : ℕ) (p : Place) {cell : Cell} {left : C
     IsStartRight (record t { disk = program_failed t.disk p left })
 failed_start t die p {cell} {left} v job by st unmarked = record {
   unfinished = λ q h. ⊎_elim (λ e. ⊎_elim (λ z. inl (z ∙ ap t.disk.cells e.0 ∙ blank))
-      (λ z. ⊎_elim (λ w. inr (mark.0, w ∙ mark.1, mark.2))
-      (λ w. inl w) z.1)
-      (by q))
+      (λ z. ⊎_elim (λ w. inr (mark.0, w ∙ mark.1, mark.2)) (λ w. inl w) z.1) (by q))
       (λ e. ⊎_elim
-      (λ z. ⊎_elim
-      (λ w. inl (z ∙ w))
-      (λ w. inr
-      (w.0, z ∙ w.1, w.2))
-      (s.unfinished q (sym e.1 ∙ h)))
-      (λ z. absurd (e.0 z.0))
-      (by q))
+      (λ z. ⊎_elim (λ w. inl (z ∙ w))
+      (λ w. inr (w.0, z ∙ w.1, w.2)) (s.unfinished q (sym e.1 ∙ h))) (λ z. absurd (e.0 z.0)) (by q))
       (at_place_cases t.disk.finished p false q);
   own = λ q m h l. ⊎_elim (λ e. e.1) (λ e. ⊎_elim (λ z. e.1 ∙ s.own q m (sym z ∙ h) l) (λ z. absurd (e.0 z.0)) (by q))
       (at_place_cases t.disk.finished p false q);
@@ -230,31 +209,30 @@ less_start t job by = record {
   cells = λ p. ⊎_elim (λ e. inl e) (λ e. inr e.1) (by p);
 }
 
-end_start : (t : Translation) {die : ℕ} (flight : Option Flight) (ending : Ending) → Valid t →
+end_start : {t : Translation} {die : ℕ} (flight : Option Flight) (ending : Ending) → Valid t →
     t.disk.flights die ≡ flight → MayEnd t.disk die flight ending → IsStartRight t →
     IsStartRight (end_flight t die flight ending)
-end_start t {die} (Some (Reading reader place)) ReadRight v job may st = not_more (right_same t die reader) st
-end_start t {die} (Some (Reading reader place)) ReadWrong v job may st = not_more (wrong_same t die reader) st
-end_start t {die} (Some (Programming p Nothing)) ending v job may st = absurd (v.flights.something die p job)
-end_start t (Some (Programming p (GroupPage tag body))) WentWell v job may st = λ unmarked.
+end_start {t} {die} (Some (Reading reader place)) ReadRight v job may st = not_more (right_same t die reader) st
+end_start {t} {die} (Some (Reading reader place)) ReadWrong v job may st = not_more (wrong_same t die reader) st
+end_start {die = die} (Some (Programming p Nothing)) ending v job may st = absurd (v.flights.something die p job)
+end_start {t} (Some (Programming p (GroupPage tag body))) WentWell v job may st = λ unmarked.
     let m = only_marks t t.work.mending v.mending unmarked job in absurd (page_mark tag body m.0 m.1)
   where
     page_mark : (tag : Tag) (body : List ℕ) (m : Mark) → GroupPage tag body ≡ MarkPage m → ⊥
     page_mark tag body m e = cc
-end_start t {die} (Some (Programming p (GroupPage tag body))) (WentWrong left) v job may st =
-    failed_start t die p v job (program_left t.disk die p (GroupPage tag body) left job may.1) st
-end_start t (Some (Programming p (MarkPage m))) WentWell v job may st = λ unmarked.
+end_start {t} {die} (Some (Programming p (GroupPage tag body))) (WentWrong left) v job may st =
+    failed_start t die p v job (program_left t.disk die left job may.1) st
+end_start {t} (Some (Programming p (MarkPage m))) WentWell v job may st = λ unmarked.
     absurd (true≢false (sym (marked_behind t.work.mending) ∙ unmarked))
-end_start t {die} (Some (Programming p (MarkPage m))) (WentWrong left) v job may st =
-    again_start m.fence
-    (failed_start t die p v job (program_left t.disk die p (MarkPage m) left job may.1) st)
-end_start t (Some (Erasing s)) WentWell v job may st = not_more (erased_same t s) st
-end_start t {die} (Some (Erasing s)) (WentWrong left) v job may st =
-    not_more (less_start t job (erase_left t.disk die s left job may.1)) st
-end_start t flight ending v job may st = absurd (false≢true may.0)
+end_start {t} {die} (Some (Programming p (MarkPage m))) (WentWrong left) v job may st = again_start m.fence
+    (failed_start t die p v job (program_left t.disk die left job may.1) st)
+end_start {t} (Some (Erasing s)) WentWell v job may st = not_more (erased_same t s) st
+end_start {t} {die} (Some (Erasing s)) (WentWrong left) v job may st =
+    not_more (less_start t job (erase_left t.disk die left job may.1)) st
+end_start flight ending v job may st = absurd (false≢true may.0)
 
 pub move_start : (t : Translation) (move : Move) → Valid t → IsAllowedMove t move → IsStartRight t →
     IsStartRight (moved t move)
-move_start t (EndJob die ending) v may st = end_start t (t.disk.flights die) ending v refl may st
+move_start t (EndJob die ending) v may st = end_start (t.disk.flights die) ending v refl may st
 move_start t TakeStep v may st = not_more (turn_same t) st
 move_start t move v may st = not_more (same t) st

@@ -1,27 +1,20 @@
 -- A block of which each page may go loses its pages: what is left shows all that is not lost.
-use Rattle.std.proofs.Common.{◌≡◌, ◌≢◌, ℕ, zero, suc, ◌+◌, ◌<◌, ◌≤◌, ◌⊎◌, true, false, List, Option, Some, None, refl}
-use Rattle.std.proofs.Common.{sym, ap, ◌∙◌, subst, inl, inr, ⊎_elim, arith}
-use Rattle.ufs_spec.specs.Cells.{AreWithin, Cell, Cells, GroupPage, Mark, MarkPage, Nothing, key_of}
-use Rattle.ufs_spec.specs.Disk.{CellCrash, Disk, IsNewestFinished, IsReplaced, MayErase, SpentBy, Spot, Touches}
-use Rattle.ufs_spec.specs.Disk.{spot_of, with_erasing}
-use Rattle.ufs_spec.specs.Kept.{HasPage, IsFenced, IsNewestMark, recorded_in}
-use Rattle.ufs_spec.specs.Ledger.{Entry}
-use Rattle.ufs_spec.specs.Translation.{Mended, Mending, Repairing, Translation, Unmarked}
-use Rattle.ufs_spec.specs.declared.flash.Key.{Key}
-use Rattle.ufs_spec.specs.declared.flash.Place.{Place}
-use Rattle.ufs_spec.specs.declared.flash.Tag.{Tag}
-use Rattle.ufs_spec.proofs.Updates.{at_spot_cases}
-use Rattle.ufs_spec.proofs.CellKinds.{mark_not_nothing}
-use Rattle.ufs_spec.proofs.Facts.{true≢false}
-use Rattle.power_loss.specs.Book.{IsLostNumber, IsOverwritten, IsPageAt, IsPlainMark, IsWritten, book}
-use Rattle.power_loss.specs.Invariant.{Valid}
-use Rattle.power_loss.specs.Losing.{LosesIn, is_marked}
+use Rattle.power_loss.proofs.Common.{◌≡◌, ◌≢◌, ℕ, zero, suc, ◌+◌, ◌<◌, ◌≤◌, ◌⊎◌, true, false, List, Option, Some, None}
+use Rattle.power_loss.proofs.Common.{refl, sym, ap, ◌∙◌, subst, inl, inr, ⊎_elim, arith, AreWithin, Cell, Cells}
+use Rattle.power_loss.proofs.Common.{GroupPage, Mark, MarkPage, Nothing, key_of, CellCrash, Disk, IsNewestFinished}
+use Rattle.power_loss.proofs.Common.{IsReplaced, MayErase, SpentBy, Spot, Touches, spot_of, with_erasing, HasPage}
+use Rattle.power_loss.proofs.Common.{IsFenced, IsNewestMark, recorded_in, Entry, Mended, Mending, Repairing}
+use Rattle.power_loss.proofs.Common.{Translation, Unmarked, Key, Place, Tag, at_spot_cases, mark_not_nothing}
+use Rattle.power_loss.proofs.Common.{true≢false, IsLostNumber, IsOverwritten, IsPageAt, IsPlainMark, IsWritten, book}
+use Rattle.power_loss.proofs.Common.{Valid}
+use Rattle.power_loss.proofs.MachineWords.{LosesIn, is_marked}
 use Rattle.power_loss.proofs.books.LayerParts.{MarksOf, StopLeaves, MendingOf, SecureOf}
 use Rattle.power_loss.proofs.collected_blocks.LivePages.{newest_is}
 use Rattle.power_loss.proofs.spent.ErasedIsSpent.{entry_for, fenced_none, known_one, lost_or_not, old_page}
 use Rattle.power_loss.proofs.stops.LeftCells.{stays, within}
 use Rattle.power_loss.proofs.stops.LeftImage.{Image, IsRepairing, IsShown, all_repairs, finished_parts, image}
 use Rattle.power_loss.proofs.stops.LeftImage.{newest_stays}
+use Rattle.power_loss.proofs.books.PagesByName.{overwritten_twice}
 
 -- Pages that are gone stood on the disk
 
@@ -75,14 +68,8 @@ module _ (t : Translation) (s : Spot) (c left : Cells) (v : Valid t) (may : MayE
   -- what no erase is near is left, if the block counts as being erased
   pub outside : (p : Place) (x : Cell) → x ≢ Nothing → t.disk.cells p ≡ x → (with_erasing t.disk s).erasing
       (spot_of p) ≡ false → left p ≡ x
-  outside p x some h out =
-      ⊎_elim
-      (λ k. absurd (true≢false (sym k.1 ∙ out)))
-      (λ k.
-      ⊎_elim
-      (λ e. e ∙ stays v crash some h (sym k.1 ∙ out))
-      (λ e. absurd (k.0 e.0))
-      (gone p))
+  outside p x some h out = ⊎_elim (λ k. absurd (true≢false (sym k.1 ∙ out)))
+      (λ k. ⊎_elim (λ e. e ∙ stays v crash some h (sym k.1 ∙ out)) (λ e. absurd (k.0 e.0)) (gone p))
       (at_spot_cases t.disk.erasing s true (spot_of p))
 
   -- a page that is gone was spent
@@ -98,24 +85,18 @@ module _ (t : Translation) (s : Spot) (c left : Cells) (v : Valid t) (may : MayE
 
   -- the newest mark of what is left was the newest
   pub newest_was : (m : Option Mark) → IsNewestMark left m → IsNewestMark c m
-  newest_was None n = λ p other h.
-      ⊎_elim
-      (λ e. n p other (e ∙ h))
+  newest_was None n = λ p other h. ⊎_elim (λ e. n p other (e ∙ h))
       (λ e.
       let r = spent p (MarkPage other) (mark_not_nothing _ _ refl) e.0 (sym e.2 ∙ h) in
-      n r.1.stands.place r.0 (mark_left r.0 r.1))
-      (gone p)
+      n r.1.stands.place r.0 (mark_left r.0 r.1)) (gone p)
   newest_was (Some m) n = (
     (n.0.0, was n.0.0 (MarkPage m) (mark_not_nothing _ _ refl) n.0.1),
-    λ p other h.
-        ⊎_elim
-        (λ e. n.1 p other (e ∙ h))
+    λ p other h. ⊎_elim (λ e. n.1 p other (e ∙ h))
         (λ e.
         let r = spent p (MarkPage other) (mark_not_nothing _ _ refl) e.0 (sym e.2 ∙ h) in
         let l = n.1 r.1.stands.place r.0 (mark_left r.0 r.1) in
         let k = r.2 in
-        omega arith)
-        (gone p),
+        omega arith) (gone p),
   )
 
   -- A mark by which pages are judged
@@ -125,9 +106,9 @@ module _ (t : Translation) (s : Spot) (c left : Cells) (v : Valid t) (may : MayE
     Over n k = IsOverwritten (book t) n k (recorded_in t.ledger.newest)
 
     -- so a page that was replaced is overwritten by one that is not lost
-    replaced_over : (tag : Tag) (k : Key) → key_of tag ≡ k → IsReplaced (with_erasing t.disk s) newest tag →
+    replaced_over : {tag : Tag} {k : Key} → key_of tag ≡ k → IsReplaced (with_erasing t.disk s) newest tag →
         Over tag.number k
-    replaced_over tag k key r = ⊎_elim lost free (lost_or_not (book t) r.tag.number)
+    replaced_over {tag} {k} key r = ⊎_elim lost free (lost_or_not)
       where
         known : IsPageAt (book t) r.tag.number r.tag.index (entry_for r.tag r.body)
         known = v.pages.known r.place r.tag r.body r.there
@@ -164,14 +145,11 @@ module _ (t : Translation) (s : Spot) (c left : Cells) (v : Valid t) (may : MayE
             }
 
     -- a page that stands securely is left, or is overwritten
-    secure_left : (n i : ℕ) (e : Entry) → IsPageAt (book t) n i e → (IsLostNumber (book t) n → ⊥) → SecureOf t n i →
-        HasPage left n i ⊎ Over n e.item.key
-    secure_left n i e page free q =
-        ⊎_elim
+    secure_left : {n : ℕ} (i : ℕ) (e : Entry) → IsPageAt (book t) n i e → (IsLostNumber (book t) n → ⊥) →
+        SecureOf t n i → HasPage left n i ⊎ Over n e.item.key
+    secure_left {n} i e page free q = ⊎_elim
         (λ h. inl (q.place, q.tag, q.body, h ∙ stays v crash (some_page refl) q.there q.stays, q.number, q.index))
-        (λ h. lost
-        (spent q.place (GroupPage q.tag q.body) (some_page refl) h.0 q.there))
-        (gone q.place)
+        (λ h. lost (spent q.place (GroupPage q.tag q.body) (some_page refl) h.0 q.there)) (gone q.place)
       where
         by : SpentBy (with_erasing t.disk s) newest (GroupPage q.tag q.body) → HasPage left n i ⊎ Over n e.item.key
         by (inl f) = absurd (free (subst (IsLostNumber (book t)) q.number (judged.fenced q.tag.number f)))
@@ -180,8 +158,7 @@ module _ (t : Translation) (s : Spot) (c left : Cells) (v : Valid t) (may : MayE
             inl (copy.place, copy.tag, q.body, there, sym copy.same.1 ∙ q.number, sym copy.same.2 ∙ q.index)
         by (inr (inr r)) =
             let k = known_one (book t) q.tag page (v.pages.known q.place q.tag q.body q.there) q.number q.index in
-            inr (subst (λ z. Over z e.item.key) q.number
-            (replaced_over q.tag e.item.key (sym (ap (λ x. x.item.key) k)) r))
+            inr (subst (λ z. Over z e.item.key) q.number (replaced_over (sym (ap (λ x. x.item.key) k)) r))
 
         lost : (m : Mark) × IsNewestFinished (with_erasing t.disk s) m × SpentBy (with_erasing t.disk s) m
             (GroupPage q.tag q.body) → HasPage left n i ⊎ Over n e.item.key
@@ -191,48 +168,33 @@ module _ (t : Translation) (s : Spot) (c left : Cells) (v : Valid t) (may : MayE
         IsShown (book t) (recorded_in t.ledger.newest) left o.number o.index o.page →
         IsShown (book t) (recorded_in t.ledger.newest) left n i e
     compose n i e o (inl h) = inr (o, h)
-    compose n i e o (inr h) =
-        inr (
-          record {
-            number = h.0.number;
-            index = h.0.index;
-            page = h.0.page;
-            is = h.0.is;
-            key = h.0.key ∙ o.key;
-            newer = let a = o.newer in let b = h.0.newer in omega arith;
-            within = h.0.within;
-            free = h.0.free;
-          },
-          h.1,
-        )
+    compose n i e o (inr h) = inr (overwritten_twice o h.0, h.1)
 
     -- what is not lost is shown, or a page that overwrites it is
-    shown_step : (n i : ℕ) (e : Entry) → n ≤ t.ledger.frontier → IsPageAt (book t) n i e → (IsLostNumber (book t) n →
-        ⊥) → HasPage left n i ⊎ Over n e.item.key
-    shown_step n i e up page free =
+    shown_step : {n : ℕ} (i : ℕ) (e : Entry) → n ≤ t.ledger.frontier → IsPageAt (book t) n i e →
+        (IsLostNumber (book t) n → ⊥) → HasPage left n i ⊎ Over n e.item.key
+    shown_step {n} i e up page free =
         let q = v.frontier.stand n i e up page in
-        ⊎_elim (λ h. secure_left n i e page free h) (λ h. inr h.by) (v.safe.safe n i e q.0 page q.1 free)
+        ⊎_elim (λ h. secure_left i e page free h) (λ h. inr h.by) (v.safe.safe n i e q.0 page q.1 free)
 
     marked_within : recorded_in t.ledger.newest ≤ t.ledger.frontier
     marked_within = let e = ap recorded_in is in let w = judged.within in omega arith
 
-    shown_by : (fuel n i : ℕ) (e : Entry) → recorded_in t.ledger.newest < n + fuel → n ≤ t.ledger.frontier →
+    shown_by : (fuel : ℕ) {n : ℕ} (i : ℕ) (e : Entry) → recorded_in t.ledger.newest < n + fuel → n ≤ t.ledger.frontier →
         IsPageAt (book t) n i e → (IsLostNumber (book t) n → ⊥) →
         IsShown (book t) (recorded_in t.ledger.newest) left n i e
-    shown_by zero n i e l up page free =
+    shown_by zero {n} i e l up page free =
         ⊎_elim (λ h. inl h) (λ o. let a = o.newer in let b = o.within in absurd (omega arith))
-        (shown_step n i e up page free)
-    shown_by (suc fuel) n i e l up page free =
-        ⊎_elim
-        (λ h. inl h)
+        (shown_step i e up page free)
+    shown_by (suc fuel) {n} i e l up page free = ⊎_elim (λ h. inl h)
         (λ o.
         let a = o.newer in let b = o.within in let w = marked_within in
-        compose n i e o (shown_by fuel o.number o.index o.page (omega arith) (omega arith) o.is o.free))
-        (shown_step n i e up page free)
+        compose n i e o (shown_by fuel o.index o.page (omega arith) (omega arith) o.is o.free))
+        (shown_step i e up page free)
 
-    pub image_left : (m : Mark) → IsNewestMark left (Some m) → Image (book t) t.ledger.frontier
+    pub image_left : {m : Mark} → IsNewestMark left (Some m) → Image (book t) t.ledger.frontier
         (recorded_in t.ledger.newest) c m → Image (book t) t.ledger.frontier (recorded_in t.ledger.newest) left m
-    image_left m n x = record {
+    image_left n x = record {
       right = x.right;
       top = x.top;
       last = x.last;
@@ -246,7 +208,7 @@ module _ (t : Translation) (s : Spot) (c left : Cells) (v : Valid t) (may : MayE
       above = x.above;
       good = x.good;
       whole = x.whole;
-      shown = λ k i e up page free. shown_by (suc (recorded_in t.ledger.newest)) k i e (omega arith) up page free;
+      shown = λ k i e up page free. shown_by (suc (recorded_in t.ledger.newest)) i e (omega arith) up page free;
       numbers = x.numbers;
     }
 
@@ -265,7 +227,7 @@ marked {t} (Repairing left) v e h r = record {
   newest = r.mark;
   is = r.is;
   right = r.right;
-  good = inl (record { fence = r.more.fence; repairs = all_repairs t v e });
+  good = inl (record { fence = r.more.fence; repairs = all_repairs v e });
 }
 marked Mended v e h r = record { newest = r.mark; is = r.is; right = r.right; good = inr r.more }
 
@@ -279,28 +241,23 @@ judged_by t s k = record {
   fenced = λ n f. ⊎_elim (λ r.
       let g : IsFenced (Some r.fence.fence) n = subst (λ z. IsFenced z n) r.fence.is f in
       let l = g.0 in let u = g.1 in let a = r.fence.first in let b = r.fence.last in
-      record { from = omega arith; to = omega arith })
-      (λ p. absurd (fenced_none k.newest.fence n p.none f))
-      k.good;
+      record { from = omega arith; to = omega arith }) (λ p. absurd (fenced_none k.newest.fence n p.none f)) k.good;
   repaired = λ n i e page counts lost far. ⊎_elim (λ r. absurd (counts (subst (λ z. IsFenced z n) (sym r.fence.is)
       (let a = r.fence.first in let b = r.fence.last in let x = lost.from in let y = lost.to in
-      (omega arith, omega arith)))))
-      (λ p. p.repaired n i e lost (old_page (book t) n i e lost.to page))
-      k.good;
+      (omega arith, omega arith))))) (λ p. p.repaired n i e lost (old_page (book t) n i e lost.to page)) k.good;
   one = λ m n. newest_is t s k.newest m k.right n;
   within = k.right.within;
 }
 
-pub left_image : (t : Translation) (s : Spot) (c left : Cells) (m : Option Mark) → Valid t → Marked t →
+pub left_image : {t : Translation} (s : Spot) (c : Cells) {left : Cells} (m : Option Mark) → Valid t → Marked t →
     MayErase t.disk s → StopLeaves t c → IsGone t.disk s c left → IsNewestMark left m → ImageLeft t left m
-left_image t s c left None v k may crash gone n =
-    absurd (newest_was t s c left v may crash gone None n k.right.stands.place k.newest
-    (newest_stays v crash k.right))
-left_image t s c left (Some m) v k may crash gone n =
+left_image {t} s c {left} None v k may crash gone n =
+    absurd (newest_was t s c left v may crash gone None n k.right.stands.place k.newest (newest_stays v crash k.right))
+left_image {t} s c {left} (Some m) v k may crash gone n =
     let b = newest_was t s c left v may crash gone (Some m) n in
     let up = b.1 k.right.stands.place k.newest (newest_stays v crash k.right) in
-    let x = image v crash (finished_parts v crash m k.right k.is k.good b.0.1 up) in
-    record { mark = m; is = refl; image = image_left t s c left v may crash gone k.newest k.is (judged_by t s k) m n x }
+    let x = image v crash (finished_parts v crash k.right k.is k.good b.0.1 up) in
+    record { mark = m; is = refl; image = image_left t s c left v may crash gone k.newest k.is (judged_by t s k) n x }
 
 pub left_within : (t : Translation) (s : Spot) (c left : Cells) → Valid t → StopLeaves t c → LosesIn s c left →
     AreWithin t.numbers left

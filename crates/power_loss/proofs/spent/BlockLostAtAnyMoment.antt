@@ -1,20 +1,12 @@
 -- A block of which each page may go loses its pages, at any moment of a life.
-use Rattle.std.proofs.Common.{◌≡◌, ℕ, suc, ◌≤◌, true, List, length, Option, Some, None, refl, sym, ap, ◌∙◌, subst, inl}
-use Rattle.std.proofs.Common.{inr, ⊎_elim, arith}
-use Rattle.ufs_spec.specs.Cells.{Cell, Cells, GroupPage, Mark, MarkPage, Nothing}
-use Rattle.ufs_spec.specs.Disk.{IsNewestFinished, MayErase, SpentBy, Spot, spot_of, with_erasing}
-use Rattle.ufs_spec.specs.Kept.{Holds, IsFenced, IsKept, IsNewestMark, fence_in, recorded_in}
-use Rattle.ufs_spec.specs.Openings.{number_of}
-use Rattle.ufs_spec.specs.Sound.{CellsSound, CellsSuit}
-use Rattle.ufs_spec.specs.Translation.{Mended, Mending, Repairing, Translation, Unmarked}
-use Rattle.ufs_spec.specs.declared.flash.Fence.{Fence}
-use Rattle.ufs_spec.specs.declared.flash.Place.{Place}
-use Rattle.ufs_spec.specs.declared.flash.Tag.{Tag}
-use Rattle.ufs_spec.proofs.Facts.{cases_Bool, true≢false}
-use Rattle.ufs_spec.proofs.CellKinds.{mark_not_nothing, one_mark, page_not_nothing}
-use Rattle.power_loss.specs.Book.{IsLostNumber, book}
-use Rattle.power_loss.specs.Invariant.{IsPrefix, Valid}
-use Rattle.power_loss.specs.Losing.{IsStartRight, LosesIn, StartsRight, is_marked}
+use Rattle.power_loss.proofs.Common.{◌≡◌, ℕ, suc, ◌≤◌, true, List, length, Option, Some, None, refl, sym, ap, ◌∙◌}
+use Rattle.power_loss.proofs.Common.{subst, inl, inr, ⊎_elim, arith, Cell, Cells, GroupPage, Mark, MarkPage, Nothing}
+use Rattle.power_loss.proofs.Common.{IsNewestFinished, MayErase, SpentBy, Spot, spot_of, with_erasing, Holds, IsFenced}
+use Rattle.power_loss.proofs.Common.{IsKept, IsNewestMark, fence_in, recorded_in, number_of, CellsSound, CellsSuit}
+use Rattle.power_loss.proofs.Common.{Mended, Mending, Repairing, Translation, Unmarked, Fence, Place, Tag, cases_Bool}
+use Rattle.power_loss.proofs.Common.{true≢false, mark_not_nothing, one_mark, page_not_nothing, IsLostNumber, book}
+use Rattle.power_loss.proofs.Common.{IsPrefix, Valid}
+use Rattle.power_loss.proofs.MachineWords.{IsStartRight, LosesIn, StartsRight, is_marked}
 use Rattle.power_loss.proofs.books.LayerParts.{StopLeaves, MendingOf}
 use Rattle.power_loss.proofs.spent.BlockLost.{ImageLeft, IsGone, Judged, image_left, left_image, marked, newest_was}
 use Rattle.power_loss.proofs.spent.BlockLost.{outside, restored_crash, restored_gone, spent, was}
@@ -29,17 +21,12 @@ pub record IsFine (t : Translation) (left : Cells) (m : Option Mark) : Type 0 wh
   pub suits : CellsSuit t.numbers left m
   pub prefix : (kept : ℕ) → IsKept left m kept → IsPrefix t left m kept
 
-image_fine : (t : Translation) {left : Cells} {m : Option Mark} → Valid t → ImageLeft t left m → IsFine t left m
-image_fine t {left} v x =
-    subst (IsFine t left) (sym x.is)
-    (record {
-      sound = image_sound x.image;
-      suits = image_suits x.image;
-      prefix = λ kept k. image_prefix t v x.image k;
-    })
+image_fine : {t : Translation} {left : Cells} {m : Option Mark} → Valid t → ImageLeft t left m → IsFine t left m
+image_fine {t} {left} v x = subst (IsFine t left) (sym x.is)
+    (record { sound = image_sound x.image; suits = image_suits x.image; prefix = λ kept k. image_prefix v x.image k })
 
-stop_fine : (t : Translation) (c : Cells) (m : Option Mark) → Valid t → StopLeaves t c → IsNewestMark c m → IsFine t c m
-stop_fine t c m v crash n = record {
+stop_fine : {t : Translation} {c : Cells} {m : Option Mark} → Valid t → StopLeaves t c → IsNewestMark c m → IsFine t c m
+stop_fine {t} {c} {m} v crash n = record {
   sound = sound t c m v crash n;
   suits = suits t c m v crash n;
   prefix = λ kept k. prefix t c m kept v crash n k;
@@ -52,8 +39,7 @@ module _ (t : Translation) (s : Spot) (c left : Cells) (v : Valid t) (may : MayE
     (gone : IsGone t.disk s c left) (fence : Option Fence) (u : Started t fence) (st : StartsRight t) where
   -- a finished mark stood at the opening
   mark_opened : (m : Mark) (n : IsNewestFinished (with_erasing t.disk s) m) → u.1.opening n.stands.place ≡ MarkPage m
-  mark_opened m n =
-      ⊎_elim (λ e. e)
+  mark_opened m n = ⊎_elim (λ e. e)
       (λ own. absurd (true≢false (sym n.stands.finished ∙ st.own n.stands.place m n.stands.there own.newer)))
       (disk_mark t u m n.stands.there)
 
@@ -80,25 +66,17 @@ module _ (t : Translation) (s : Spot) (c left : Cells) (v : Valid t) (may : MayE
     first = subst (IsNewestMark u.1.opening) is u.1.opened.is_newest
 
     first_stands : t.disk.cells first.0.0 ≡ MarkPage newest
-    first_stands =
-        ⊎_elim (λ e. e ∙ first.0.1)
-        (λ e.
-        absurd (mark_not_nothing _ _ (sym e.0 ∙ first.0.1) refl))
-        (u.1.same first.0.0)
+    first_stands = ⊎_elim (λ e. e ∙ first.0.1)
+        (λ e. absurd (mark_not_nothing _ _ (sym e.0 ∙ first.0.1) refl)) (u.1.same first.0.0)
 
     first_finished : t.disk.finished first.0.0 ≡ true
-    first_finished =
-        ⊎_elim (λ e. e)
-        (λ e.
-        ⊎_elim
-        (λ k. absurd (mark_not_nothing _ _ (sym k ∙ first_stands) refl))
+    first_finished = ⊎_elim (λ e. e)
+        (λ e. ⊎_elim (λ k. absurd (mark_not_nothing _ _ (sym k ∙ first_stands) refl))
         (λ k.
         let same = ap (λ z. z.number) (one_mark k.0 newest (sym k.1 ∙ first_stands)) in
         let l = k.2 in
         let n = ap number_of is in
-        absurd (omega arith))
-        (st.unfinished first.0.0 e))
-        (cases_Bool (t.disk.finished first.0.0))
+        absurd (omega arith)) (st.unfinished first.0.0 e)) (cases_Bool (t.disk.finished first.0.0))
 
     one : (m : Mark) → IsNewestFinished (with_erasing t.disk s) m → m ≡ newest
     one m n =
@@ -109,27 +87,27 @@ module _ (t : Translation) (s : Spot) (c left : Cells) (v : Valid t) (may : MayE
     under : newest.records ≤ t.ledger.greatest_seen
     under = u.1.opened.marks first.0.0 newest first.0.1
 
-    ends_at : (f : Fence) → newest.fence ≡ Some f → (t.ledger.first_lost ≡ f.first) × (newest.records ≡ f.last)
-    ends_at f e = (
+    ends_at : {f : Fence} → newest.fence ≡ Some f → (t.ledger.first_lost ≡ f.first) × (newest.records ≡ f.last)
+    ends_at {f} e = (
       st.fence f (ap fence_in is ∙ e),
       sym (ap recorded_in is) ∙ u.1.opened.sound.fence f (ap fence_in is ∙ e),
     )
 
-    fenced_lost : (o : Option Fence) (n : ℕ) → newest.fence ≡ o → IsFenced o n → IsLostNumber (book t) n
-    fenced_lost None n e h = absurd h
-    fenced_lost (Some f) n e h =
-        let r = ends_at f e in let a = r.0 in let b = r.1 in let x = h.0 in let y = h.1 in let z = under in
+    fenced_lost : (o : Option Fence) {n : ℕ} → newest.fence ≡ o → IsFenced o n → IsLostNumber (book t) n
+    fenced_lost None e h = absurd h
+    fenced_lost (Some f) e h =
+        let r = ends_at e in let a = r.0 in let b = r.1 in let x = h.0 in let y = h.1 in let z = under in
         record { from = omega arith; to = omega arith }
 
     none_else : (o : Option Fence) (n : ℕ) → newest.fence ≡ o → (IsFenced o n → ⊥) → t.ledger.first_lost ≤ n →
         n ≤ newest.records → ⊥
     none_else None n e free l far = let z = st.none (ap fence_in is ∙ e) in let w = ap recorded_in is in omega arith
-    none_else (Some f) n e free l far = let r = ends_at f e in let a = r.0 in let b = r.1 in
+    none_else (Some f) n e free l far = let r = ends_at e in let a = r.0 in let b = r.1 in
         free (omega arith, omega arith)
 
     judged : Judged t s newest
     judged = record {
-      fenced = λ n f. fenced_lost newest.fence n refl f;
+      fenced = λ n f. fenced_lost newest.fence refl f;
       repaired = λ n i e page free lost far. absurd (none_else newest.fence n refl free lost.from far);
       one = one;
       within = let a = under in let b = v.frontier.above in omega arith;
@@ -138,11 +116,8 @@ module _ (t : Translation) (s : Spot) (c left : Cells) (v : Valid t) (may : MayE
     -- where a group page stands no erase is near
     page_stays : (p : Place) (tag : Tag) (body : List ℕ) → t.disk.cells p ≡ GroupPage tag body →
         c p ≡ GroupPage tag body
-    page_stays p tag body h =
-        ⊎_elim
-        (λ e. absurd (page_not_nothing _ _ _ (sym (u.1.blank p (inr e)) ∙ h) refl))
-        (λ e. stays v crash (λ z. page_not_nothing _ _ _ (sym z) refl) h e)
-        (cases_Bool (t.disk.erasing (spot_of p)))
+    page_stays p tag body h = ⊎_elim (λ e. absurd (page_not_nothing _ _ _ (sym (u.1.blank p (inr e)) ∙ h) refl))
+        (λ e. stays v crash (λ z. page_not_nothing _ _ _ (sym z) refl) h e) (cases_Bool (t.disk.erasing (spot_of p)))
 
     loss : (n : IsNewestMark left (Some newest)) → Loss c left newest
     loss n = record {
@@ -151,9 +126,7 @@ module _ (t : Translation) (s : Spot) (c left : Cells) (v : Valid t) (may : MayE
       marks = λ p m h. was t s c left v may crash gone p (MarkPage m) (λ z. mark_not_nothing _ _ (sym z) refl) h;
       may = λ p tag body h. ⊎_elim (λ e. inl (e ∙ h)) (λ e. inr
           (goes tag body (spent t s c left v may crash gone p (GroupPage tag body) (λ z. page_not_nothing _ _ _
-          (sym z) refl) e.0
-          (sym e.2 ∙ h))))
-          (gone p);
+          (sym z) refl) e.0 (sym e.2 ∙ h)))) (gone p);
       place = n.0.0;
       there = n.0.1;
     }
@@ -188,11 +161,10 @@ module _ (t : Translation) (s : Spot) (c left : Cells) (v : Valid t) (may : MayE
     same_fine : Unchanged (book t) (Some newest) c (Some newest) → IsNewestMark left (Some newest) →
         IsFine t left (Some newest)
     same_fine x n = record {
-      sound = less_sound c left newest (loss n) x.opened.sound x.opened.is_kept.from x.opened.is_kept.recorded;
-      suits = less_suits c left newest (loss n) x.opened.sound t.numbers x.opened.suits;
+      sound = less_sound c left newest (loss n) x.opened.sound x.opened.is_kept.recorded;
+      suits = less_suits c left newest (loss n) x.opened.sound x.opened.suits;
       prefix = λ kept k.
-          let e : x.opened.kept ≡ kept = kept_less c left newest (loss n) x.opened.sound x.opened.kept kept
-          x.opened.is_kept k in
+          let e : x.opened.kept ≡ kept = kept_less c left newest (loss n) x.opened.sound x.opened.is_kept k in
           let g = ap length x.none_new in
           let w = v.frontier.within in
           let top = x.opened.is_kept.recorded.marks n.0.0 newest ((loss n).marks n.0.0 newest n.0.1) in
@@ -209,44 +181,40 @@ module _ (t : Translation) (s : Spot) (c left : Cells) (v : Valid t) (may : MayE
     }
 
     fine_of : (m : Option Mark) → IsNewestMark left m → IsFine t left m
-    fine_of m n =
-        ⊎_elim
+    fine_of m n = ⊎_elim
         (λ x.
         let e : m ≡ Some newest = x.newest_is ∙ is in
         subst (IsFine t left) (sym e)
         (same_fine (subst (λ (z : Option Mark × Option Mark). Unchanged (book t) z.0 c z.1) (λ i. (is i, e i)) x)
         (subst (IsNewestMark left) e n)))
-        (λ x.
-        image_fine t v
+        (λ x. image_fine v
         (record {
           mark = x.mark;
           is = x.is;
-          image = image_left t s c left v may crash gone newest is judged x.mark
-              (subst (IsNewestMark left) x.is n) x.image;
-        }))
-        (outcome v crash (newest_was t s c left v may crash gone m n))
+          image = image_left t s c left v may crash gone newest is judged (subst (IsNewestMark left) x.is n) x.image;
+        })) (outcome v crash (newest_was t s c left v may crash gone m n))
 
-  started_fine : (newest : Option Mark) → t.ledger.newest ≡ newest → (m : Option Mark) → IsNewestMark left m →
+  started_fine : (newest : Option Mark) → t.ledger.newest ≡ newest → {m : Option Mark} → IsNewestMark left m →
       IsFine t left m
-  started_fine None is m n =
+  started_fine None is {m} n =
       let e = all_stays is in
-      subst (λ z. IsFine t z m) (sym e) (stop_fine t c m v crash (subst (λ z. IsNewestMark z m) e n))
-  started_fine (Some newest) is m n = fine_of newest is m n
+      subst (λ z. IsFine t z m) (sym e) (stop_fine v crash (subst (λ z. IsNewestMark z m) e n))
+  started_fine (Some newest) is {m} n = fine_of newest is m n
 
 -- At any moment
 
-fine_by : (t : Translation) (s : Spot) {c : Cells} (left : Cells) (m : Option Mark) (w : Mending) → Valid t →
+fine_by : {t : Translation} (s : Spot) {c : Cells} {left : Cells} {m : Option Mark} (w : Mending) → Valid t →
     IsStartRight t → MayErase t.disk s → StopLeaves t c → IsGone t.disk s c left → IsNewestMark left m →
     t.work.mending ≡ w → MendingOf t w → IsFine t left m
-fine_by t s {c} left m (Unmarked fence lost) v st may crash gone n e r =
-    started_fine t s c left v may crash gone fence (lost, r) (st (ap is_marked e)) t.ledger.newest refl m n
-fine_by t s {c} left m (Repairing keys) v st may crash gone n e r =
-    image_fine t v (left_image t s c left m v (marked (Repairing keys) v e refl r) may crash gone n)
-fine_by t s {c} left m Mended v st may crash gone n e r = image_fine t v (left_image t s c left m v
+fine_by {t} s {c} {left} {m} (Unmarked fence lost) v st may crash gone n e r =
+    started_fine t s c left v may crash gone fence (lost, r) (st (ap is_marked e)) t.ledger.newest refl n
+fine_by {t} s {c} {left} {m} (Repairing keys) v st may crash gone n e r =
+    image_fine v (left_image s c m v (marked (Repairing keys) v e refl r) may crash gone n)
+fine_by {t} s {c} {left} {m} Mended v st may crash gone n e r = image_fine v (left_image s c m v
     (marked Mended v e refl r) may crash gone n)
 
-pub fine : (t : Translation) (s : Spot) (c left : Cells) (m : Option Mark) → Valid t → IsStartRight t →
+pub fine : {t : Translation} (s : Spot) (c : Cells) {left : Cells} {m : Option Mark} → Valid t → IsStartRight t →
     MayErase t.disk s → StopLeaves t c → LosesIn s c left → IsNewestMark left m → IsFine t left m
-fine t s c left m v st may crash loses n =
-    fine_by t s left m t.work.mending v st may (restored_crash t.disk s c left loses crash)
+fine {t} s c {left} {m} v st may crash loses n =
+    fine_by s t.work.mending v st may (restored_crash t.disk s c left loses crash)
     (restored_gone t.disk s c left loses) n refl v.mending

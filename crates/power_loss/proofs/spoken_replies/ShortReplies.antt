@@ -1,34 +1,28 @@
 -- Both replies of each open short exchange are messages, in every state that the calls lead to.
-use Rattle.std.proofs.Common.{◌≡◌, ℕ, ◌==◌, ◌≤◌, Bool, true, false, All, List, [], ◌∷◌, length, map, Option, Some, None}
-use Rattle.std.proofs.Common.{refl, sym, subst, inl, inr, arith}
-use Rattle.std.specs.Prelude.{Ok, if◌then◌else◌, find, is_none, nat_le, slice_get}
-use Rattle.std.specs.List.{list_any}
-use Rattle.std.proofs.lemmas.List.Elements.{All-append, All-cons, All-filter, All-map, All-nil}
-use Rattle.std.proofs.lemmas.Option.{get_or_from_slice_get, slice_get_within}
+use Rattle.power_loss.proofs.Common.{◌≡◌, ℕ, ◌==◌, ◌≤◌, Bool, true, false, All, List, [], ◌∷◌, length, map, Option}
+use Rattle.power_loss.proofs.Common.{Some, None, refl, sym, subst, inl, inr, arith, Ok, find, nat_le, list_any}
+use Rattle.power_loss.proofs.Common.{All-append, All-cons, All-filter, All-map, All-nil, get_or_from_slice_get}
+use Rattle.power_loss.proofs.Common.{slice_get_within, Array, Spot, Numbers}
+use Rattle.power_loss.proofs.MachineWords.{Every, IsSpoken, TaskSpeaks, Short, Task, TaskSetFull, is_short_of, response}
+use Rattle.power_loss.proofs.MachineWords.{short_reply, task_of, IsOpened, Life, Allowed, Answer, Call, Done, Due}
+use Rattle.power_loss.proofs.MachineWords.{Faulty, Heard, Host, IsHeard, OfDone, OfHost, OfReply, OfTake, OfTurn, Reply}
+use Rattle.power_loss.proofs.MachineWords.{Spelled, Take, Turn, behind, command_heard, fills, heard, hears, is_durable}
+use Rattle.power_loss.proofs.MachineWords.{lock_applied, managed, observe, opened_with, query_unanswered, replied_by}
+use Rattle.power_loss.proofs.MachineWords.{service, short_locked, short_replied, tag_in, task_locked, with_short}
+use Rattle.power_loss.proofs.MachineWords.{Request, State, locked, lun_of, numbers_of, refusal, most_tasks, Event}
+use Rattle.power_loss.proofs.MachineWords.{Output, Message, Cdb}
+use Rattle.std.specs.Prelude.{if◌then◌else◌, is_none, slice_get}
 use Rattle.ufs_laws.proofs.pages.ByteLists.{bytes-nil}
 use Rattle.ufs_laws.proofs.exchanges.ReplySizes.{reply_speaks, response_fits, size}
 use Rattle.ufs_laws.proofs.exchanges.SpokenCalls.{life_keeps}
 use Rattle.ufs_laws.proofs.exchanges.AbortedTasks.{every_at}
-use Rattle.ufs_laws.specs.Exchange.{Every, IsSpoken}
-use Rattle.ufs_laws.specs.Replies.{ShortSpeaks, ShortsSpeak, TaskSpeaks}
-use Rattle.ufs_spec.specs.Cells.{Array}
-use Rattle.ufs_spec.specs.Disk.{Spot}
-use Rattle.ufs_spec.specs.Exchanges.{Short, Task, TaskSetFull, is_short_of, response, short_reply, task_of}
-use Rattle.ufs_spec.specs.Lives.{IsOpened, Life}
-use Rattle.ufs_spec.specs.Machine.{Allowed, Answer, Call, Done, Due, Faulty, Heard, Host, IsHeard, OfDone, OfHost}
-use Rattle.ufs_spec.specs.Machine.{OfReply, OfTake, OfTurn, Reply, Spelled, Take, Turn, aborts, behind, command_heard}
-use Rattle.ufs_spec.specs.Machine.{fills, heard, hears, is_durable, is_named, lock_applied, managed, observe}
-use Rattle.ufs_spec.specs.Machine.{opened_with, query_unanswered, replied_by, service, service_found, service_of}
-use Rattle.ufs_spec.specs.Machine.{short_locked, short_replied, tag_in, task_locked, with_short}
+use Rattle.ufs_laws.specs.Replies.{ShortSpeaks, ShortsSpeak}
+use Rattle.ufs_spec.specs.Machine.{aborts}
+use Rattle.ufs_spec.specs.Machine.{is_named}
+use Rattle.ufs_spec.specs.Machine.{service_found, service_of}
 use Rattle.ufs_spec.specs.Messages.{IsByte, IsMessage, spelling}
-use Rattle.ufs_spec.specs.Refusals.{Request, State, locked, lun_of, numbers_of, refusal}
-use Rattle.ufs_spec.specs.Stages.{manages_tasks, most_tasks}
-use Rattle.ufs_spec.specs.declared.configs.Numbers.{Numbers}
-use Rattle.ufs_spec.specs.declared.events.Event.{Event}
-use Rattle.ufs_spec.specs.declared.events.Output.{Output}
-use Rattle.ufs_spec.specs.declared.messages.Message.{Message}
+use Rattle.ufs_spec.specs.Stages.{manages_tasks}
 use Rattle.ufs_spec.specs.declared.messages.Message.TheVariants as message
-use Rattle.ufs_spec.specs.declared.scsi.Cdb.{Cdb}
 use Rattle.power_loss.proofs.open_tasks.OpenExchanges.{data_leaves, opened_adds, replied_leaves}
 use Rattle.power_loss.proofs.kept_promises.ShortExchangesEnd.{ends_shorts, given_shorts, managed_shorts}
 
@@ -40,8 +34,7 @@ same_speak s t e h = subst (All ShortSpeaks) (sym e) h
 -- one is opened
 one_speaks : (s : State) (tag : ℕ) (m : Message) → IsMessage m → ShortsSpeak s →
     ShortsSpeak (with_short s (short_reply tag m))
-one_speaks s tag m is h =
-    All-append ShortSpeaks s.shorts (short_reply tag m ∷ []) h
+one_speaks s tag m is h = All-append ShortSpeaks s.shorts (short_reply tag m ∷ []) h
     (All-cons ShortSpeaks (short_reply tag m) [] (record { reply = is; locked_reply = is }) (All-nil ShortSpeaks))
 
 -- A COMMAND
@@ -54,7 +47,7 @@ command_speaks s r is h = by (nat_le most_tasks (length s.tasks))
         (if b then with_short s (short_reply r.tag (response r.lun r.tag r.expected 0 TaskSetFull))
         else opened_with s r (refusal s r))
     by true = one_speaks s r.tag (response r.lun r.tag r.expected 0 TaskSetFull) is h
-    by false = same_speak s (opened_with s r (refusal s r)) (opened_adds s r (refusal s r)).shorts_same h
+    by false = same_speak s (opened_with s r (refusal s r)) (opened_adds r (refusal s r)).shorts_same h
 
 -- A TASK MANAGEMENT REQUEST, whether it is carried out or not
 
@@ -67,8 +60,7 @@ found_byte true = omega arith
 found_byte false = omega arith
 
 service_of_byte : (s : State) (lun function meant : ℕ) → IsByte (service_of s lun function meant)
-service_of_byte s lun function meant =
-    byte_if (is_none (lun_of (numbers_of s) lun)) _ _ (omega arith)
+service_of_byte s lun function meant = byte_if (is_none (lun_of (numbers_of s) lun)) _ _ (omega arith)
     (byte_if (aborts function) _ _ (omega arith)
     (byte_if (function == 0x80) _ _ (found_byte (list_any (is_named lun meant) s.tasks))
     (byte_if (function == 0x81) _ _ (found_byte (list_any (λ (task : Task). task.lun == lun) s.tasks)) (omega arith))))
@@ -86,7 +78,7 @@ heard_speaks s (message.Command flags lun tag expected bytes) c is h =
     (response_fits lun tag expected 0 TaskSetFull is.1 is.2 is.3 (omega arith) tt) h
 heard_speaks s (message.DataOut lun tag offset «data») c is h =
     same_speak s (heard s (message.DataOut lun tag offset «data») c)
-    (data_leaves s tag (task_of tag s.tasks) «data».items refl).shorts h
+    (data_leaves (task_of tag s.tasks) «data».items refl).shorts h
 heard_speaks s (message.TaskRequest lun tag function meant) c is h =
     one_speaks (managed s lun function meant) tag (message.TaskResponse lun tag (service s lun function meant))
     (is.0, is.1, service_byte s lun function meant)
@@ -115,7 +107,7 @@ short_speaks s None h = h
 short_speaks s (Some short) h = All-filter _ ShortSpeaks s.shorts h
 
 replied_speaks : (s : State) (tag : ℕ) (x : Option Task) → ShortsSpeak s → ShortsSpeak (replied_by s tag x)
-replied_speaks s tag (Some task) h = same_speak s (replied_by s tag (Some task)) (replied_leaves s task).shorts h
+replied_speaks s tag (Some task) h = same_speak s (replied_by s tag (Some task)) (replied_leaves task).shorts h
 replied_speaks s tag None h = short_speaks s (find (is_short_of tag) s.shorts) h
 
 -- Every call
@@ -125,15 +117,14 @@ behind_speaks : (s : State) (call : Call) (answer : Answer) → IsSpoken call �
 behind_speaks s (Host x) (OfHost (Ok done)) is h = hears_speaks s x is h
 behind_speaks s (Take die) (OfTake flight) is h = same_speak s (behind s (Take die) (OfTake flight))
     (given_shorts s die flight) h
-behind_speaks s (Done die ending left) (OfDone true) is h =
-    same_speak s (behind s (Done die ending left) (OfDone true))
+behind_speaks s (Done die ending left) (OfDone true) is h = same_speak s (behind s (Done die ending left) (OfDone true))
     (ends_shorts s die (s.translation.disk.flights die) ending left) h
 behind_speaks s Turn (OfTurn due) is h = h
 behind_speaks s Reply (OfReply (Some m)) is h = replied_speaks s (tag_in m) (task_of (tag_in m) s.tasks) h
 behind_speaks s call answer is h = h
 
-locked_speaks : (s : State) (short : Short) → ShortSpeaks short → ShortSpeaks (short_locked s short)
-locked_speaks s short h = by (is_durable s short.awaits)
+locked_speaks : (s : State) {short : Short} → ShortSpeaks short → ShortSpeaks (short_locked s short)
+locked_speaks s {short} h = by (is_durable s short.awaits)
   where
     by : (b : Bool) → ShortSpeaks (if b then short else record short { awaits = None; reply = short.locked_reply })
     by true = h
@@ -142,11 +133,9 @@ locked_speaks s short h = by (is_durable s short.awaits)
 lock_speaks : (s : State) → ShortsSpeak s → ShortsSpeak (lock_applied s)
 lock_speaks s h = by (locked s)
   where
-    by : (b : Bool) → ShortsSpeak (if b then record s {
-      tasks = map (task_locked s) s.tasks;
-      shorts = map (short_locked s) s.shorts;
-    } else s)
-    by true = All-map ShortSpeaks (short_locked s) s.shorts (λ k d inside. locked_speaks s _ (h k d inside))
+    by : (b : Bool) → ShortsSpeak
+        (if b then record s { tasks = map (task_locked s) s.tasks; shorts = map (short_locked s) s.shorts } else s)
+    by true = All-map ShortSpeaks (short_locked s) s.shorts (λ k d inside. locked_speaks s (h k d inside))
     by false = h
 
 pub call_speaks : (s : State) (call : Call) (answer : Answer) → IsSpoken call → Allowed s call answer → ShortsSpeak s →

@@ -1,33 +1,22 @@
 -- In a state that is tied to its dies and commands each call keeps what tasks need for their replies.
-use Rattle.std.proofs.Common.{◌≡◌, ◌⊎◌, ◌+◌, Bool, List, [], ◌∷◌, sym, ◌∙◌, subst, inl, inr}
+use Rattle.power_loss.proofs.Common.{◌≡◌, ◌⊎◌, ◌+◌, Bool, List, [], ◌∷◌, sym, ◌∙◌, subst, inl, inr, IsKey, data_key}
+use Rattle.power_loss.proofs.Common.{Array, Spot, Shape, shape_of_numbers, Numbers, shape_after}
+use Rattle.power_loss.proofs.MachineWords.{Every, IsSpoken, TaskSpeaks, address_of, operation_of, read_10, read_6}
+use Rattle.power_loss.proofs.MachineWords.{IsOpened, Leads, Life, Event, Output, Allowed, Answer, Call, observe}
+use Rattle.power_loss.proofs.MachineWords.{unit_or_first, Request, State, numbers_of, operation_in, plain_now}
+use Rattle.power_loss.proofs.MachineWords.{unit_of_request, Cdb, IsTied, ValidState}
 use Rattle.ufs_laws.proofs.plain_contents.CommandsKeepPlain.{all_kept_plain}
 use Rattle.ufs_laws.proofs.exchanges.TasksSpeak.{ReadsFit, SetsOne, speaks_law}
 use Rattle.ufs_laws.proofs.plain_contents.PlainFromContents.{content_is_block}
 use Rattle.ufs_laws.proofs.walk.TaskLaws.{Any, any_asks, tasks_kept}
-use Rattle.ufs_laws.specs.Exchange.{Every, IsSpoken}
-use Rattle.ufs_laws.specs.Replies.{TaskSpeaks}
-use Rattle.ufs_spec.specs.Cdbs.{address_of, operation_of, read_10, read_6}
-use Rattle.ufs_spec.specs.Keys.{IsKey, data_key}
 use Rattle.ufs_laws.proofs.exchanges.SpokenCalls.{spoken}
-use Rattle.ufs_spec.specs.Cells.{Array}
-use Rattle.ufs_spec.specs.Disk.{Spot}
-use Rattle.ufs_spec.specs.Lives.{IsOpened, Leads, Life}
-use Rattle.ufs_spec.specs.declared.events.Event.{Event}
-use Rattle.ufs_spec.specs.declared.events.Output.{Output}
-use Rattle.ufs_spec.specs.Machine.{Allowed, Answer, Call, observe, unit_or_first}
-use Rattle.ufs_spec.specs.Plain.{Shape, shape_of_numbers}
-use Rattle.ufs_spec.specs.Refusals.{Request, State, numbers_of, operation_in, plain_now, unit_of_request}
-use Rattle.ufs_spec.specs.declared.configs.Numbers.{Numbers}
-use Rattle.ufs_spec.specs.declared.scsi.Cdb.{Cdb}
-use Rattle.power_loss.specs.Exchange.{IsTied, ValidState}
 use Rattle.power_loss.proofs.calls.CallsKeepTied.{operation_is}
 use Rattle.power_loss.proofs.host_commands.PassedCommands.{Passed, passed}
 use Rattle.power_loss.proofs.host_commands.ReadBlocks.{Reads, key_read}
 use Rattle.power_loss.proofs.open_tasks.TaskLists.{each_set}
-use Rattle.ufs_spec.proofs.PlainFacts.{shape_after}
 
 sets_one : (s : State) → IsTied s → SetsOne s
-sets_one s v task deed found all p = each_set TaskSpeaks task.tag task deed s.tasks v.tasks.tasks_differ found p all
+sets_one s v task deed found all p = each_set TaskSpeaks task.tag deed s.tasks v.tasks.tasks_differ found p all
 
 -- What is read
 
@@ -52,7 +41,7 @@ reads_fit s v r c n is e refused reads size i low =
     op = operation_is r.cdb c r.bytes is.1.2 e
 
     key : IsKey (shape_of_numbers (numbers_of s)) (data_key (unit_or_first (unit_of_request s r)) (address_of c + i))
-    key = key_read s r c n size (reads_in r c op reads) p i low
+    key = key_read size (reads_in r c op reads) p i low
 
 -- Every call
 
@@ -62,10 +51,9 @@ each_speaks s call answer v is may all =
     tasks_kept TaskSpeaks (λ task deed. TaskSpeaks (record task { deed = deed })) Any s
     (speaks_law s (sets_one s v) (reads_fit s v)) all call answer is (any_asks call) may
 
-pub event_speaks : (s t : State) (e : Event) (o : Output) → ValidState s → Leads s e o t → Every TaskSpeaks s.tasks →
+pub event_speaks : {s t : State} {e : Event} {o : Output} → ValidState s → Leads s e o t → Every TaskSpeaks s.tasks →
     Every TaskSpeaks t.tasks
-event_speaks s t e o v l all =
-    subst (λ (u : State). Every TaskSpeaks u.tasks) (sym l.next)
+event_speaks {s = s} {e = e} v l all = subst (λ (u : State). Every TaskSpeaks u.tasks) (sym l.next)
     (each_speaks s l.call l.answer v.tied (spoken s e l.call l.is_call) l.right all)
 
 pub life_speaks : ((s t : State) (e : Event) (o : Output) → ValidState s → Leads s e o t → ValidState t) →
@@ -73,7 +61,7 @@ pub life_speaks : ((s t : State) (e : Event) (o : Output) → ValidState s → L
     ValidState s → Every TaskSpeaks s.tasks → Life s es os t → Every TaskSpeaks t.tasks
 life_speaks keeps s [] [] t v all life = subst (λ (u : State). Every TaskSpeaks u.tasks) (sym life) all
 life_speaks keeps s (e ∷ es) (o ∷ os) t v all life =
-    life_speaks keeps life.0 es os t (keeps s life.0 e o v life.1) (event_speaks s life.0 e o v life.1 all) life.2
+    life_speaks keeps life.0 es os t (keeps s life.0 e o v life.1) (event_speaks v life.1 all) life.2
 life_speaks keeps s [] (o ∷ os) t v all life = absurd life
 life_speaks keeps s (e ∷ es) [] t v all life = absurd life
 

@@ -1,17 +1,11 @@
 -- The content of each key in what a stop leaves.
-use Rattle.std.proofs.Common.{◌≡◌, ◌≢◌, ℕ, zero, suc, ◌+◌, ◌-◌, ◌<◌, ◌≤◌, ◌⊎◌, List, [], ◌∷◌, drop, length, take, Some}
-use Rattle.std.proofs.Common.{slice_get, refl, sym, ap, ◌∙◌, subst, inl, inr, ⊎_elim, arith}
-use Rattle.ufs_spec.specs.Cells.{Cells, GroupPage, Mark, key_of}
-use Rattle.ufs_spec.specs.Keys.{Contents, Group, Item, put_group, put_groups, same_key}
-use Rattle.ufs_spec.specs.Kept.{Counts, HasPage, HoldAll, Holds, IsFenced, IsKept, fence_in}
-use Rattle.ufs_spec.specs.Ledger.{Entry}
-use Rattle.ufs_spec.specs.declared.flash.Key.{Key}
-use Rattle.ufs_spec.specs.declared.flash.Place.{Place}
-use Rattle.ufs_spec.specs.declared.flash.Tag.{Tag}
-use Rattle.ufs_spec.proofs.Facts.{at_most, cond-false, cond-true}
+use Rattle.power_loss.proofs.Common.{◌≡◌, ◌≢◌, ℕ, zero, suc, ◌+◌, ◌-◌, ◌<◌, ◌≤◌, ◌⊎◌, List, [], ◌∷◌, drop, length, take}
+use Rattle.power_loss.proofs.Common.{Some, slice_get, refl, sym, ap, ◌∙◌, subst, inl, inr, ⊎_elim, arith, Cells}
+use Rattle.power_loss.proofs.Common.{GroupPage, Mark, key_of, Contents, Group, Item, put_group, put_groups, same_key}
+use Rattle.power_loss.proofs.Common.{Counts, HasPage, HoldAll, Holds, IsFenced, IsKept, fence_in, Entry, Key, Place}
+use Rattle.power_loss.proofs.Common.{Tag, at_most, cond-false, cond-true, BaseAt, BaseNone, Book, HasKey, IsLostNumber}
+use Rattle.power_loss.proofs.Common.{IsOverwritten, IsPageAt, IsPlainMark, IsWritten, same_Some}
 use Rattle.ufs_spec.proofs.Equalities.{key_cases}
-use Rattle.power_loss.specs.Book.{BaseAt, BaseNone, Book, HasKey, IsLostNumber, IsOverwritten, IsPageAt, IsPlainMark}
-use Rattle.power_loss.specs.Book.{IsWritten}
 use Rattle.power_loss.proofs.books.PagesByName.{entry_for, is_old, new_page, old_page, page_new}
 use Rattle.power_loss.proofs.stops.ImagePages.{kept_covers, read_page, shown_kept}
 use Rattle.power_loss.proofs.stops.LeftImage.{Image, IsRepairing}
@@ -20,28 +14,19 @@ use Rattle.power_loss.proofs.stops.LeftImage.{Image, IsRepairing}
 
 -- the group has the key, or it has not
 abbrev Found : Group → Contents → Key → Type 0
-Found g f k =
-    ((i : ℕ) × (item : Item) × (slice_get g i ≡ Some item) × (item.key ≡ k) × (put_group f g k ≡ item.body))
+Found g f k = ((i : ℕ) × (item : Item) × (slice_get g i ≡ Some item) × (item.key ≡ k) × (put_group f g k ≡ item.body))
     ⊎ (((i : ℕ) (item : Item) → slice_get g i ≡ Some item → item.key ≡ k → ⊥) × (put_group f g k ≡ f k))
 
-miss_here : (x : Item) (g : Group) (k : Key) → x.key ≢ k → ((i : ℕ) (item : Item) → slice_get g i ≡ Some item →
+miss_here : (x : Item) (g : Group) {k : Key} → x.key ≢ k → ((i : ℕ) (item : Item) → slice_get g i ≡ Some item →
     item.key ≡ k → ⊥) → (i : ℕ) (item : Item) → slice_get (x ∷ g) i ≡ Some item → item.key ≡ k → ⊥
-miss_here x g k other h zero item is e = other (ap (λ y. y.key) (same x item is) ∙ e)
-  where
-    same : (x y : Item) → Some x ≡ Some y → x ≡ y
-    same x y e = cc
-miss_here x g k other h (suc i) item is e = h i item is e
+miss_here x g other h zero item is e = other (ap (λ y. y.key) (same_Some x item is) ∙ e)
+miss_here x g other h (suc i) item is e = h i item is e
 
 found : (g : Group) (f : Contents) {k : Key} → Found g f k
 found [] f = inr ((λ i item e. cc), refl)
-found (x ∷ g) f {k} =
-    ⊎_elim
-    (λ h. inl (0, x, refl, h.1, cond-true (same_key x.key k) x.body (put_group f g k) h.0))
-    (λ h. ⊎_elim
-    (λ r.
-    inl (suc r.0, r.1, r.2, r.3, cond-false (same_key x.key k) x.body (put_group f g k) h.0 ∙ r.4))
-    (λ r. inr (miss_here x g k h.1 r.0, cond-false (same_key x.key k) x.body (put_group f g k) h.0 ∙ r.1))
-    (found g f))
+found (x ∷ g) f {k} = ⊎_elim (λ h. inl (0, x, refl, h.1, cond-true (same_key x.key k) x.body (put_group f g k) h.0))
+    (λ h. ⊎_elim (λ r. inl (suc r.0, r.1, r.2, r.3, cond-false (same_key x.key k) x.body (put_group f g k) h.0 ∙ r.4))
+    (λ r. inr (miss_here x g h.1 r.0, cond-false (same_key x.key k) x.body (put_group f g k) h.0 ∙ r.1)) (found g f))
     (key_cases x.key k)
 
 -- no group below the bound has the key at or behind the number
@@ -63,8 +48,7 @@ record LastWrite (gs : List Group) (bound : ℕ) (k : Key) (body : List ℕ) : T
   pub last : NoneFrom gs (suc number) bound k
 
 abbrev Cases : Contents → List Group → ℕ → Key → Type 0
-Cases f gs bound k =
-    LastWrite gs bound k (put_groups f (take bound gs) k) ⊎
+Cases f gs bound k = LastWrite gs bound k (put_groups f (take bound gs) k) ⊎
     (NoneFrom gs 0 bound k × (put_groups f (take bound gs) k ≡ f k))
 
 later_next : (g : Group) (gs : List Group) {from bound : ℕ} (k : Key) → NoneFrom gs from bound k →
@@ -75,10 +59,7 @@ later_next g gs k h (suc j) i x item l u is there key = h j i x item (omega arit
 none_next : (g : Group) (gs : List Group) {bound : ℕ} {k : Key} → ((i : ℕ) (item : Item) → slice_get g i ≡ Some item →
     item.key ≡ k → ⊥) → NoneFrom gs 0 bound k → NoneFrom (g ∷ gs) 0 (suc bound) k
 none_next g gs other h zero i x item l u is there key = other i item (subst (λ y. slice_get y i ≡ Some item)
-    (same x g (sym is)) there) key
-  where
-    same : (x y : Group) → Some x ≡ Some y → x ≡ y
-    same x y e = cc
+    (same_Some x g (sym is)) there) key
 none_next g gs other h (suc j) i x item l u is there key = h j i x item (omega arith) (omega arith) is there key
 
 cases_next : (f : Contents) (g : Group) (gs : List Group) (bound : ℕ) (k : Key) → Cases (put_group f g) gs bound k →
@@ -122,21 +103,16 @@ after_cases f (g ∷ gs) (suc bound) {k} = cases_next f g gs bound k (after_case
 new_none : (b : Book) {from kept n : ℕ} (i : ℕ) {k : Key} {e : Entry} → NoneFrom b.groups from
     (kept - b.greatest_seen) k → IsPageAt b n i e → e.item.key ≡ k → b.greatest_seen + from < n → n ≤ kept → ⊥
 new_none b {n} i {e} none is key up far =
-    let g = page_new b n i e (omega arith) is in
+    let g = page_new b n (omega arith) is in
     none (n - b.greatest_seen - 1) i g.group e.item (omega arith) (omega arith) g.is g.item key
 
 -- what overwrites it is of this life
 overwritten_new : (b : Book) {k : Key} {bound : ℕ} (a : BaseAt b k) → (o : IsOverwritten b a.number k bound) →
     b.greatest_seen < o.number
-overwritten_new b a o =
-    ⊎_elim
-    (λ l. ⊎_elim
-    (λ low. absurd (o.free record { from = low; to = l }))
+overwritten_new b a o = ⊎_elim
+    (λ l. ⊎_elim (λ low. absurd (o.free record { from = low; to = l }))
     (λ low. absurd (let z = a.last o.number o.index o.page (is_old b _ _ _ l o.is) o.key low in let n = o.newer in
-    omega arith))
-    (at_most _ _))
-    (λ l. l)
-    (at_most _ _)
+    omega arith)) (at_most _ _)) (λ l. l) (at_most _ _)
 
 last_is : (b : Book) (kept : ℕ) {k : Key} {body : List ℕ} (l : LastWrite b.groups (kept - b.greatest_seen) k body) →
     IsPageAt b (suc (b.greatest_seen + l.number)) l.index (record { item = l.item; size = length l.group })
@@ -164,9 +140,10 @@ module _ {b : Book} {frontier marked : ℕ} {c : Cells} {m : Mark} (x : Image b 
       by_none r e = subst (λ f. IsFenced f t.number) r.none e
 
   -- a page that counts is not lost, or its key is written again at or under what the mark records
-  free_or_written : (p : Place) (t : Tag) (body : List ℕ) → Counts c (Some m) p t body → t.number ≤ b.greatest_seen →
+  free_or_written : {p : Place} {t : Tag} {body : List ℕ} → Counts c (Some m) p t body → t.number ≤ b.greatest_seen →
       (t.number < b.first_lost) ⊎ IsWritten b (key_of t) m.records
-  free_or_written p t body h old = ⊎_elim (λ l. inr (⊎_elim (by_fence l) (by_none l) x.good)) (λ l. inl l) (at_most _ _)
+  free_or_written {p} {t} {body} h old =
+      ⊎_elim (λ l. inr (⊎_elim (by_fence l) (by_none l) x.good)) (λ l. inl l) (at_most _ _)
     where
       e : Entry
       e = entry_for t body
@@ -185,18 +162,14 @@ module _ {b : Book} {frontier marked : ℕ} {c : Cells} {m : Mark} (x : Image b 
   records_within = x.marks x.place m x.there
 
   -- where no group of this life has the key, a page of it that counts is an old one that is not lost
-  old_below : {kept : ℕ} {k : Key} (p : Place) (t : Tag) {body : List ℕ} → frontier ≤ kept → NoneFrom b.groups 0
+  old_below : {kept : ℕ} {k : Key} {p : Place} {t : Tag} {body : List ℕ} → frontier ≤ kept → NoneFrom b.groups 0
       (kept - b.greatest_seen) k → Counts c (Some m) p t body → key_of t ≡ k → t.number ≤ kept →
       (t.number < b.first_lost) × (t.number ≤ b.greatest_seen)
-  old_below p t {body} far none h key up =
-      ⊎_elim
-      (λ l. ⊎_elim
-      (λ low. (low, l))
+  old_below {p = p} {t = t} {body = body} far none h key up = ⊎_elim
+      (λ l. ⊎_elim (λ low. (low, l))
       (λ w. absurd (let z = w.within in let u = w.new in let r = records_within in
-      new_none b w.index none w.is (w.key ∙ key) (omega arith) (omega arith)))
-      (free_or_written p t body h l))
-      (λ l. absurd (new_none b t.index none (x.known p t body h.there) key (omega arith) up))
-      (at_most _ _)
+      new_none b w.index none w.is (w.key ∙ key) (omega arith) (omega arith))) (free_or_written h l))
+      (λ l. absurd (new_none b t.index none (x.known p t body h.there) key (omega arith) up)) (at_most _ _)
 
   -- The content at the life's start
 
@@ -205,25 +178,23 @@ module _ {b : Book} {frontier marked : ℕ} {c : Cells} {m : Mark} (x : Image b 
   base_is k a =
       let l = x.right.old_within a.number a.index (record { item = record { key = k; body = b.base k }; size = a.size })
       a.is in
-      (l, old_page b _ _ _ l a.is)
+      (l, old_page b _ _ l a.is)
 
   -- it is there, where nothing overwrites it
-  base_there : (k : Key) (a : BaseAt b k) → (IsOverwritten b a.number k marked → ⊥) → HasPage c a.number a.index
-  base_there k a none =
+  base_there : {k : Key} (a : BaseAt b k) → (IsOverwritten b a.number k marked → ⊥) → HasPage c a.number a.index
+  base_there {k} a none =
       let l = base_is k a in
       let t = x.top in
-      ⊎_elim
-      (λ h. h)
-      (λ h. absurd (none h.0))
+      ⊎_elim (λ h. h) (λ h. absurd (none h.0))
       (x.shown a.number a.index (record { item = record { key = k; body = b.base k }; size = a.size })
       (omega (arith, l.0)) l.1 (λ z. let u = z.from in let w = a.below in omega arith))
 
-  base_holds : (k : Key) {bound : ℕ} (a : BaseAt b k) → a.number < bound → HasPage c a.number a.index →
+  base_holds : {k : Key} {bound : ℕ} (a : BaseAt b k) → a.number < bound → HasPage c a.number a.index →
       ((p : Place) (t : Tag) (body : List ℕ) → Counts c (Some m) p t body → key_of t ≡ k → t.number < bound →
       t.number ≤ a.number) → Holds c (Some m) bound k (b.base k)
-  base_holds k a low h last =
+  base_holds {k} a low h last =
       let l = base_is k a in
-      let r = read_page x h.2 l.1 h.3 h.4 h.5 in
+      let r = read_page x l.1 h.3 h.4 h.5 in
       let n = h.4 in
       inl (
         h.0,
@@ -248,11 +219,9 @@ module _ {b : Book} {frontier marked : ℕ} {c : Cells} {m : Mark} (x : Image b 
           is_old b _ _ _ (omega arith) (x.known p t body h.there)
 
       at_base : BaseAt b k → Holds c (Some m) b.first_lost k (b.base k)
-      at_base a =
-          base_holds k a a.below
-          (base_there k a (λ o. let z = overwritten_new b a o in let w = o.within in let y = x.above in
-          omega arith))
-          (λ p t body h key l. a.last t.number t.index (entry_for t body) (below p t body h l) key l)
+      at_base a = base_holds a a.below
+          (base_there a (λ o. let z = overwritten_new b a o in let w = o.within in let y = x.above in
+          omega arith)) (λ p t body h key l. a.last t.number t.index (entry_for t body) (below p t body h l) key l)
 
       at_none : BaseNone b k → Holds c (Some m) b.first_lost k (b.base k)
       at_none a = inr (
@@ -279,7 +248,7 @@ module _ {b : Book} {frontier marked : ℕ} {c : Cells} {m : Mark} (x : Image b 
       HasPage c (suc (b.greatest_seen + l.number)) l.index → Holds c (Some m) (suc kept) k body
   last_content kept k body l h =
       let is = last_is b kept l in
-      let r = read_page x h.2 is h.3 h.4 h.5 in
+      let r = read_page x is h.3 h.4 h.5 in
       let n = h.4 in
       let w = l.below in
       inl (
@@ -295,16 +264,12 @@ module _ {b : Book} {frontier marked : ℕ} {c : Cells} {m : Mark} (x : Image b 
         },
       )
 
-  last_holds : (kept : ℕ) (k : Key) {body : List ℕ} → IsKept c (Some m) kept → LastWrite b.groups
+  last_holds : {kept : ℕ} {k : Key} {body : List ℕ} → IsKept c (Some m) kept → LastWrite b.groups
       (kept - b.greatest_seen) k body → Holds c (Some m) (suc kept) k body
-  last_holds kept k {body} is_kept l =
+  last_holds {kept} {k} {body} is_kept l =
       let w = l.below in
-      ⊎_elim
-      (λ h. last_content kept k body l h)
-      (λ h.
-      absurd (last_newest (kept_covers x is_kept) l h.0))
-      (shown_kept x is_kept (omega arith)
-      (last_is b kept l) (λ z. let u = z.to in omega arith))
+      ⊎_elim (λ h. last_content kept k body l h) (λ h. absurd (last_newest (kept_covers x is_kept) l h.0))
+      (shown_kept x is_kept (omega arith) (last_is b kept l) (λ z. let u = z.to in omega arith))
 
   none_holds : (kept : ℕ) (k : Key) → frontier ≤ kept → HasKey b k → NoneFrom b.groups 0 (kept - b.greatest_seen) k →
       Holds c (Some m) (suc kept) k (b.base k)
@@ -318,46 +283,34 @@ module _ {b : Book} {frontier marked : ℕ} {c : Cells} {m : Mark} (x : Image b 
       at_base a =
           let l = base_is k a in
           let u = x.top in
-          base_holds k a (omega (arith, l.0))
-          (base_there k a (λ o.
-          let z = overwritten_new b a o in let w = o.within in let y = x.above in let r =
-          records_within in
+          base_holds a (omega (arith, l.0))
+          (base_there a (λ o.
+          let z = overwritten_new b a o in let w = o.within in let y = x.above in let r = records_within in
           new_none b o.index none o.is o.key (omega arith) (omega arith)))
           (λ p t body h key up.
-          let y = old_below p t far none h key (omega arith) in
-          a.last t.number t.index (entry_for t body)
-          (old p t body h y.1) key y.0)
+          let y = old_below far none h key (omega arith) in
+          a.last t.number t.index (entry_for t body) (old p t body h y.1) key y.0)
 
       at_none : BaseNone b k → Holds c (Some m) (suc kept) k (b.base k)
       at_none a = inr (
         (λ p t body h key. ⊎_elim
-            (λ up. absurd (let y = old_below p t far none h key up in
-            a.none t.number t.index (entry_for t body)
-            (old p t body h y.1) key y.0))
-            (λ l. l)
-            (at_most _ _)),
+            (λ up. absurd (let y = old_below far none h key up in
+            a.none t.number t.index (entry_for t body) (old p t body h y.1) key y.0)) (λ l. l) (at_most _ _)),
         a.zeros,
       )
 
   -- the cells hold what the groups up to the kept number leave
   pub holds_kept : (kept : ℕ) → IsKept c (Some m) kept → HoldAll b.numbers c (Some m) kept
       (put_groups b.base (take (kept - b.greatest_seen) b.groups))
-  holds_kept kept is_kept k has =
-      ⊎_elim
-      (λ l. last_holds kept k is_kept l)
-      (λ h. subst (Holds c (Some m) (suc kept) k) (sym h.1) (none_holds kept k
-      (kept_covers x is_kept) has h.0))
+  holds_kept kept is_kept k has = ⊎_elim (λ l. last_holds is_kept l)
+      (λ h. subst (Holds c (Some m) (suc kept) k) (sym h.1) (none_holds kept k (kept_covers x is_kept) has h.0))
       (after_cases b.base b.groups (kept - b.greatest_seen))
 
 -- Repairs change no content
 
 put_same : (f : Contents) (g : Group) (k : Key) → ((i : ℕ) (item : Item) → slice_get g i ≡ Some item →
     item.body ≡ f item.key) → put_group f g k ≡ f k
-put_same f g k h =
-    ⊎_elim
-    (λ r. r.4 ∙ h r.0 r.1 r.2 ∙ ap f r.3)
-    (λ r. r.1)
-    (found g f)
+put_same f g k h = ⊎_elim (λ r. r.4 ∙ h r.0 r.1 r.2 ∙ ap f r.3) (λ r. r.1) (found g f)
 
 put_nil : {f : Contents} (n : ℕ) → put_groups f (take n []) ≡ f
 put_nil zero = refl
@@ -380,8 +333,8 @@ after_same f (g ∷ gs) (suc r) (suc n) h l =
     ∙ after_same f gs r n (λ j i x item u p q. h (suc j) i x item (omega arith) p q) (omega arith)
     ∙ ap (λ z. put_groups f (take z (drop r gs))) e
 
-pub after_none : (f : Contents) (gs : List Group) (r n : ℕ) → AreSame f gs r → n ≤ r → put_groups f (take n gs) ≡ f
-after_none f gs r n h l =
+pub after_none : {f : Contents} (gs : List Group) (r n : ℕ) → AreSame f gs r → n ≤ r → put_groups f (take n gs) ≡ f
+after_none {f} gs r n h l =
     let e : n - n ≡ 0 = omega arith in
     after_same f gs n n (λ j i x item u p q. h j i x item (omega arith) p q) (omega arith) ∙ ap
     (λ z. put_groups f (take z (drop n gs))) e

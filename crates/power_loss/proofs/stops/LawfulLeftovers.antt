@@ -1,20 +1,11 @@
 -- Lawful leftovers that fit the jobs in flight, of any number of dies, are left by a stop; and a stop leaves no others.
-use Rattle.std.proofs.Common.{◌≡◌, ◌⊎◌, ℕ, zero, suc, List, [], ◌∷◌, Option, Some, slice_get, refl, sym, ◌∙◌, subst}
-use Rattle.std.proofs.Common.{inl, inr, ⊎_elim}
-use Rattle.std.proofs.lemmas.List.Elements.{All-contains, All-nil}
-use Rattle.std.specs.Prelude.{Contains}
+use Rattle.power_loss.proofs.Common.{◌≡◌, ◌⊎◌, ℕ, zero, suc, List, [], ◌∷◌, Option, Some, slice_get, refl, sym, ◌∙◌}
+use Rattle.power_loss.proofs.Common.{subst, inl, inr, ⊎_elim, All-contains, All-nil, Contains, Array, Cell, Nothing}
+use Rattle.power_loss.proofs.Common.{Crash, Erasing, Flight, Programming, Touches, page_of, spot_of, MayBeLeft, Numbers}
+use Rattle.power_loss.proofs.Common.{Page, Place, none-some, place_cases, spot_cases}
+use Rattle.power_loss.proofs.MachineWords.{AreLeftovers, IsLawfulLeftover, IsLeft, IsLeftoverOf, Stops, die_of}
+use Rattle.power_loss.proofs.MachineWords.{page_left, State, numbers_of, Leftover}
 use Rattle.ufs_laws.proofs.array_cells.CrashedCells.{old_left}
-use Rattle.ufs_spec.specs.Cells.{Array, Cell, Nothing}
-use Rattle.ufs_spec.specs.Disk.{Crash, Erasing, Flight, Programming, Touches, page_of, spot_of}
-use Rattle.ufs_spec.specs.Lives.{AreLeftovers, IsLawfulLeftover, IsLeft, IsLeftoverOf, Stops, die_of, page_left}
-use Rattle.ufs_spec.specs.Pages.{MayBeLeft}
-use Rattle.ufs_spec.specs.Refusals.{State, numbers_of}
-use Rattle.ufs_spec.specs.declared.configs.Numbers.{Numbers}
-use Rattle.ufs_spec.specs.declared.events.Leftover.{Leftover}
-use Rattle.ufs_spec.specs.declared.flash.Page.{Page}
-use Rattle.ufs_spec.specs.declared.flash.Place.{Place}
-use Rattle.ufs_spec.proofs.Facts.{none-some}
-use Rattle.ufs_spec.proofs.Equalities.{place_cases, spot_cases}
 use Rattle.power_loss.proofs.stops.LeftoverLists.{contained_cases, first_contained, later_contained, none_apart}
 use Rattle.power_loss.proofs.stops.LeftoverLists.{none_contained}
 use Rattle.power_loss.proofs.die_pages.LeftoversLeaveOneArray.{left_named, named_die}
@@ -36,14 +27,9 @@ page_in (x ∷ xs) (suc i) = page_in xs i
 
 is_named : (l : Leftover) (p : Place) → IsNamed l p ⊎ IsNotNamed l p
 is_named (leftover.Page q page) p = ⊎_elim (λ e. inl (page, (e.1, refl))) (λ n. inr (λ x h. n.1 h.0)) (place_cases _ _)
-is_named (leftover.Block die block pages) p =
-    ⊎_elim
-    (λ e. ⊎_elim
-    (λ h. inl (h.0, (e.1, h.1)))
-    (λ none. inr (λ page h. none page h.1))
-    (page_in pages.items p.page))
-    (λ n. inr (λ page h. n.1 h.0))
-    (spot_cases (spot_of p) (record { die = die; block = block }))
+is_named (leftover.Block die block pages) p = ⊎_elim
+    (λ e. ⊎_elim (λ h. inl (h.0, (e.1, h.1))) (λ none. inr (λ page h. none page h.1)) (page_in pages.items p.page))
+    (λ n. inr (λ page h. n.1 h.0)) (spot_cases (spot_of p) (record { die = die; block = block }))
 
 -- Whether one of several names it
 
@@ -54,23 +40,14 @@ abbrev Unnamed : List Leftover → Place → Type 0
 Unnamed lefts p = (l : Leftover) (page : Page) → Contains lefts l → page_left l p page → ⊥
 
 none_names : (l : Leftover) (ls : List Leftover) (p : Place) → IsNotNamed l p → Unnamed ls p → Unnamed (l ∷ ls) p
-none_names l ls p none rest m page there h =
-    ⊎_elim
-    (λ is. none page (subst (λ x. page_left x p page) is h))
-    (λ later. rest m page later h)
-    (contained_cases {l = l} ls {m = m} there)
+none_names l ls p none rest m page there h = ⊎_elim (λ is. none page (subst (λ x. page_left x p page) is h))
+    (λ later. rest m page later h) (contained_cases {l = l} ls {m = m} there)
 
 chosen : (lefts : List Leftover) {p : Place} → Named lefts p ⊎ Unnamed lefts p
 chosen [] = inr (λ l page h. absurd (none_contained h))
-chosen (l ∷ ls) {p = p} =
-    ⊎_elim
-    (λ h. inl (l, first_contained ls, h))
-    (λ none.
-    ⊎_elim
-    (λ h. inl (h.0, later_contained ls h.1, h.2))
-    (λ rest. inr (none_names l ls p none rest))
-    (chosen ls))
-    (is_named l p)
+chosen (l ∷ ls) {p = p} = ⊎_elim (λ h. inl (l, first_contained ls, h))
+    (λ none. ⊎_elim (λ h. inl (h.0, later_contained ls h.1, h.2)) (λ rest. inr (none_names l ls p none rest))
+    (chosen ls)) (is_named l p)
 
 -- The array that leftovers leave
 
@@ -144,10 +121,9 @@ module _ (s : State) (lefts : List Leftover) (left : Array) (stops : Stops s lef
   abbrev Flies : ℕ → Option Flight
   Flies = s.translation.disk.flights
 
-  touches : (l : Leftover) (p : Place) (page : Page) → Contains lefts l → page_left l p page →
+  touches : {l : Leftover} (p : Place) (page : Page) → Contains lefts l → page_left l p page →
       (intended : Cell) × Touches (Flies p.die) p intended
-  touches l p page there h =
-      named_touches (numbers_of s) (Flies p.die) l p page
+  touches {l} p page there h = named_touches (numbers_of s) (Flies p.die) l p page
       (subst (λ die. IsLeftoverOf (numbers_of s) (Flies die) l) (named_die l p page h)
       (All-contains (λ x. IsLeftoverOf (numbers_of s) (Flies (die_of x)) x) lefts l stops.fit.0 there)) h
 
@@ -156,8 +132,6 @@ module _ (s : State) (lefts : List Leftover) (left : Array) (stops : Stops s lef
 
   pub stops_lawful : (l : Leftover) → Contains lefts l → IsLawfulLeftover s l
   stops_lawful l there p page h =
-      let is : left p ≡ page = left_named s.array lefts stops.fit.1 left stops.is_left p page (l, there, h) in
-      ⊎_elim
-      (λ old. let t = touches l p page there h in (t.0, t.1, inl (sym is ∙ old)))
-      (λ k. subst (LeftAs p) is k)
+      let is : left p ≡ page = left_named s.array lefts stops.fit.1 left stops.is_left p (l, there, h) in
+      ⊎_elim (λ old. let t = touches p page there h in (t.0, t.1, inl (sym is ∙ old))) (λ k. subst (LeftAs p) is k)
       (stops.crash p)

@@ -1,16 +1,10 @@
 -- What a stop at any moment of a valid life shows, cell by cell.
 pub use Rattle.ufs_spec.proofs.CellKinds.{one_mark as same_mark}
-use Rattle.std.proofs.Common.{◌≡◌, ◌≢◌, ℕ, ◌<◌, ◌≤◌, ◌⊎◌, true, false, List, Option, Some, None, refl, sym, ap, ◌∙◌}
-use Rattle.std.proofs.Common.{subst, inl, inr, ⊎_elim, arith}
-use Rattle.ufs_spec.specs.Cells.{AreWithin, Cell, Cells, GroupPage, IsPlace, Mark, MarkPage, Nothing}
-use Rattle.ufs_spec.specs.Disk.{CellCrash, Disk, Erasing, Flight, Programming, Reading, Touches, spot_of}
-use Rattle.ufs_spec.specs.Translation.{MarkStep, Translation}
-use Rattle.ufs_spec.specs.declared.flash.Place.{Place}
-use Rattle.ufs_spec.specs.declared.flash.Tag.{Tag}
-use Rattle.ufs_spec.proofs.CellKinds.{mark_not_nothing, one_mark, page_not_nothing}
-use Rattle.ufs_spec.proofs.Facts.{true≢false}
-use Rattle.power_loss.specs.Book.{IsKnown, book}
-use Rattle.power_loss.specs.Invariant.{StepKindRight, Valid}
+use Rattle.power_loss.proofs.Common.{◌≡◌, ◌≢◌, ℕ, ◌<◌, ◌≤◌, ◌⊎◌, true, false, List, Option, Some, None, refl, sym, ap}
+use Rattle.power_loss.proofs.Common.{◌∙◌, subst, inl, inr, ⊎_elim, arith, AreWithin, Cell, Cells, GroupPage, IsPlace}
+use Rattle.power_loss.proofs.Common.{Mark, MarkPage, Nothing, CellCrash, Disk, Erasing, Flight, Programming, Reading}
+use Rattle.power_loss.proofs.Common.{Touches, spot_of, MarkStep, Translation, Place, Tag, mark_not_nothing, one_mark}
+use Rattle.power_loss.proofs.Common.{page_not_nothing, true≢false, IsKnown, book, StepKindRight, Valid}
 use Rattle.power_loss.proofs.books.LayerParts.{StopLeaves}
 
 -- A cell that a stop leaves
@@ -26,9 +20,7 @@ opened_by f old some touches (inl e) = absurd touches
 -- a page that opens was there or was in flight
 pub opened : (d : Disk) {c : Cells} (p : Place) {x : Cell} → CellCrash d.cells d.flights c → x ≢ Nothing → c p ≡ x →
     (d.cells p ≡ x) ⊎ (d.flights p.die ≡ Some (Programming p x))
-opened d p crash some h =
-    ⊎_elim
-    (λ e. inl (sym e ∙ h))
+opened d p crash some h = ⊎_elim (λ e. inl (sym e ∙ h))
     (λ e.
     inr (opened_by (d.flights p.die) (d.cells p) some e.1 (⊎_elim (λ k. inl (sym h ∙ k)) (λ k. inr (sym h ∙ k)) e.2)))
     (crash p)
@@ -60,15 +52,9 @@ touched {t} (Some (Erasing s)) p intended v job touches =
 module _ {t : Translation} {c : Cells} (v : Valid t) (crash : StopLeaves t c) where
   -- a page where no erase is near stays
   pub stays : {p : Place} {x : Cell} → x ≢ Nothing → t.disk.cells p ≡ x → t.disk.erasing (spot_of p) ≡ false → c p ≡ x
-  stays {p} some here out =
-      ⊎_elim
-      (λ e. e ∙ here)
-      (λ e.
-      ⊎_elim
-      (λ k. absurd (some (sym here ∙ k)))
-      (λ k. absurd (true≢false (sym k ∙ out)))
-      (touched (t.disk.flights p.die) p e.0 v refl e.1))
-      (crash p)
+  stays {p} some here out = ⊎_elim (λ e. e ∙ here)
+      (λ e. ⊎_elim (λ k. absurd (some (sym here ∙ k))) (λ k. absurd (true≢false (sym k ∙ out)))
+      (touched (t.disk.flights p.die) p e.0 v refl e.1)) (crash p)
 
   pub page_stays : {p : Place} {tag : Tag} {body : List ℕ} → t.disk.cells p ≡ GroupPage tag body →
       t.disk.erasing (spot_of p) ≡ false → c p ≡ GroupPage tag body
@@ -85,8 +71,7 @@ module _ {t : Translation} {c : Cells} (v : Valid t) (crash : StopLeaves t c) wh
       ⊎_elim (λ e. v.pages.known p tag body e) (λ e. v.flights.known p.die p tag body e) (page_from t.disk p crash h)
 
   pub recorded : (p : Place) (tag : Tag) (body : List ℕ) → c p ≡ GroupPage tag body → tag.frontier ≤ t.ledger.frontier
-  recorded p tag body h =
-      ⊎_elim (λ e. v.pages.recorded p tag body e) (λ e. v.flights.recorded p.die p tag body e)
+  recorded p tag body h = ⊎_elim (λ e. v.pages.recorded p tag body e) (λ e. v.flights.recorded p.die p tag body e)
       (page_from t.disk p crash h)
 
 -- Nothing stands outside
@@ -102,18 +87,14 @@ untouched_outside {t} (Some (Programming q cell)) {p} v out job touches (inl e) 
 untouched_outside (Some (Erasing s)) v out job touches (inl e) = e ∙ touches.1
 
 pub within : (t : Translation) (c : Cells) → Valid t → StopLeaves t c → AreWithin t.numbers c
-within t c v crash p out =
-    ⊎_elim
-    (λ e. e ∙ v.pages.within p out)
-    (λ e.
-    untouched_outside (t.disk.flights p.die) v out refl e.1 e.2)
-    (crash p)
+within t c v crash p out = ⊎_elim (λ e. e ∙ v.pages.within p out)
+    (λ e. untouched_outside (t.disk.flights p.die) v out refl e.1 e.2) (crash p)
 
 -- the mark in flight has a number above all that stand
-pub flying_above : (t : Translation) {die : ℕ} (p : Place) {m : Mark} → Valid t → t.disk.flights die ≡ Some
+pub flying_above : {t : Translation} {die : ℕ} (p : Place) {m : Mark} → Valid t → t.disk.flights die ≡ Some
     (Programming p (MarkPage m)) → (q : Place) (other : Mark) → t.disk.cells q ≡ MarkPage other →
     other.number < m.number
-flying_above t {die} p {m} v job q other h =
+flying_above {t} {die} p {m} v job q other h =
     let f = v.flights.mark die p m job in
     let s : StepKindRight (book t) t.ledger.marks t.disk.cells t.work.mending t.work.plan (MarkStep m.number m.fence) =
     v.step.kind (record { kind = MarkStep m.number m.fence; there = f.there }) f.step_is in
@@ -122,16 +103,16 @@ flying_above t {die} p {m} v job q other h =
 pub same_program : {p q : Place} {x y : Cell} → Some (Programming p x) ≡ Some (Programming q y) → x ≡ y
 same_program e = cc
 
-pub marks_differ : (t : Translation) (c : Cells) → Valid t → StopLeaves t c → ((p q : Place) (m other : Mark) →
+pub marks_differ : {t : Translation} (c : Cells) → Valid t → StopLeaves t c → ((p q : Place) (m other : Mark) →
     t.disk.cells p ≡ MarkPage m → t.disk.cells q ≡ MarkPage other → m.number ≡ other.number → m ≡ other) →
     (p q : Place) (m other : Mark) → c p ≡ MarkPage m → c q ≡ MarkPage other → m.number ≡ other.number → m ≡ other
-marks_differ t c v crash same p q m other h l n = go (mark_from t.disk c p crash h) (mark_from t.disk c q crash l)
+marks_differ {t} c v crash same p q m other h l n = go (mark_from t.disk c p crash h) (mark_from t.disk c q crash l)
   where
     go : (t.disk.cells p ≡ MarkPage m) ⊎ (t.disk.flights p.die ≡ Some (Programming p (MarkPage m))) →
         (t.disk.cells q ≡ MarkPage other) ⊎ (t.disk.flights q.die ≡ Some (Programming q (MarkPage other))) → m ≡ other
     go (inl a) (inl b) = same p q m other a b n
-    go (inl a) (inr b) = absurd (let x = flying_above t q v b p m a in omega arith)
-    go (inr a) (inl b) = absurd (let x = flying_above t p v a q other b in omega arith)
+    go (inl a) (inr b) = absurd (let x = flying_above q v b p m a in omega arith)
+    go (inr a) (inl b) = absurd (let x = flying_above p v a q other b in omega arith)
     go (inr a) (inr b) =
         let d = v.flights.one_mark p.die q.die p q m other a b in
         one_mark m other (same_program (sym a ∙ ap t.disk.flights d ∙ b))

@@ -1,22 +1,13 @@
 -- What a stop leaves of a life: what the life began with, or an image of its book with a mark that stands.
-use Rattle.std.proofs.Common.{◌≡◌, ℕ, ◌≤◌, ◌⊎◌, List, [], Option, Some, None, slice_get, refl, sym, ap, ◌∙◌, subst, inl}
-use Rattle.std.proofs.Common.{inr, ⊎_elim, arith}
-use Rattle.std.proofs.lemmas.Option.{slice_get_within}
-use Rattle.ufs_spec.specs.Cells.{Cell, Cells, GroupPage, Mark, MarkPage, Nothing}
-use Rattle.ufs_spec.specs.Disk.{Erasing, Flight, Free, Programming, Touches}
-use Rattle.ufs_spec.specs.Keys.{Group, Item}
-use Rattle.ufs_spec.specs.Kept.{HasPage, IsNewestMark, recorded_in}
-use Rattle.ufs_spec.specs.Ledger.{Entry}
-use Rattle.ufs_spec.specs.Openings.{IsFirstFence, number_of}
-use Rattle.ufs_spec.specs.Translation.{Mended, Mending, Repairing, Translation, Unmarked, is_mended}
-use Rattle.ufs_spec.specs.declared.flash.Fence.{Fence}
-use Rattle.ufs_spec.specs.declared.flash.Key.{Key}
-use Rattle.ufs_spec.specs.declared.flash.Place.{Place}
-use Rattle.ufs_spec.specs.declared.flash.Tag.{Tag}
-use Rattle.ufs_spec.proofs.CellKinds.{one_mark}
-use Rattle.power_loss.specs.Book.{AreWholeAbove, Book, BookRight, IsFenceMark, IsKnown, IsLostNumber, IsOverwritten}
-use Rattle.power_loss.specs.Book.{IsPageAt, IsPlainMark, book, last_number}
-use Rattle.power_loss.specs.Invariant.{IsLaterMark, IsSafe, OpeningRight, Valid}
+use Rattle.power_loss.proofs.Common.{◌≡◌, ℕ, ◌≤◌, ◌⊎◌, List, [], Option, Some, None, slice_get, refl, sym, ap, ◌∙◌}
+use Rattle.power_loss.proofs.Common.{subst, inl, inr, ⊎_elim, arith, slice_get_within, Cell, Cells, GroupPage, Mark}
+use Rattle.power_loss.proofs.Common.{MarkPage, Nothing, Erasing, Flight, Free, Programming, Touches, Group, Item}
+use Rattle.power_loss.proofs.Common.{HasPage, IsNewestMark, recorded_in, Entry, IsFirstFence, number_of, Mended}
+use Rattle.power_loss.proofs.Common.{Mending, Repairing, Translation, Unmarked, is_mended, Fence, Key, Place, Tag}
+use Rattle.power_loss.proofs.Common.{one_mark, AreWholeAbove, Book, BookRight, IsFenceMark, IsKnown, IsLostNumber}
+use Rattle.power_loss.proofs.Common.{IsOverwritten, IsPageAt, IsPlainMark, book, last_number, IsLaterMark, IsSafe}
+use Rattle.power_loss.proofs.Common.{Valid}
+use Rattle.power_loss.specs.Invariant.{OpeningRight}
 use Rattle.power_loss.proofs.books.LayerParts.{MarksOf, StopLeaves, MendingOf, OwnMarkOf, SecureOf, UnmarkedOf}
 use Rattle.power_loss.proofs.stops.LeftCells.{blank_there, known, mark_from, mark_stays, marks_differ, page_stays}
 use Rattle.power_loss.proofs.stops.LeftCells.{recorded}
@@ -25,8 +16,7 @@ use Rattle.power_loss.proofs.stops.LeftCells.{recorded}
 
 -- the page is there, or one that overwrites it at or under the bound is
 abbrev pub IsShown : Book → ℕ → Cells → ℕ → ℕ → Entry → Type 0
-IsShown b marked c n i e =
-    HasPage c n i ⊎ ((o : IsOverwritten b n e.item.key marked) × HasPage c o.number o.index)
+IsShown b marked c n i e = HasPage c n i ⊎ ((o : IsOverwritten b n e.item.key marked) × HasPage c o.number o.index)
 
 -- the fence of the mark is what is lost, and all groups of this life are repairs
 pub record IsRepairing (b : Book) (m : Mark) : Type 0 where
@@ -121,28 +111,22 @@ module _ {t : Translation} {c : Cells} (v : Valid t) (crash : StopLeaves t c) wh
   -- Once a mark of this life, or the one it began with, is finished
 
   pub newest_stays : {newest : Mark} (r : MarksOf t newest) → c r.stands.place ≡ MarkPage newest
-  newest_stays {newest} r = mark_stays v crash r.stands.place newest r.stands.there
-      r.stands.stays
+  newest_stays {newest} r = mark_stays v crash r.stands.place newest r.stands.there r.stands.stays
 
   -- the newest mark of the cells is the newest finished one, or a later one
-  newest_or_later : (newest m : Mark) (p : Place) → MarksOf t newest → c p ≡ MarkPage m → newest.number ≤ m.number →
+  newest_or_later : {newest m : Mark} (p : Place) → MarksOf t newest → c p ≡ MarkPage m → newest.number ≤ m.number →
       (m ≡ newest) ⊎ IsLaterMark (book t) t.ledger.frontier newest m
-  newest_or_later newest m p r h up =
-      ⊎_elim
-      (λ e. ⊎_elim
-      (λ l. let n = l.0 in inl (r.same p r.stands.place m newest e r.stands.there (omega arith)))
-      (λ l. inr l)
-      (r.known p m e))
-      (λ e. inr (r.flies p.die p m e))
-      (mark_from t.disk c p crash h)
+  newest_or_later {newest} {m} p r h up = ⊎_elim
+      (λ e. ⊎_elim (λ l. let n = l.0 in inl (r.same p r.stands.place m newest e r.stands.there (omega arith)))
+      (λ l. inr l) (r.known p m e)) (λ e. inr (r.flies p.die p m e)) (mark_from t.disk c p crash h)
 
-  pub finished_parts : {newest : Mark} (m : Mark) {p : Place} (r : MarksOf t newest) → t.ledger.newest ≡ Some newest →
+  pub finished_parts : {newest : Mark} {m : Mark} {p : Place} (r : MarksOf t newest) → t.ledger.newest ≡ Some newest →
       IsRepairing (book t) newest ⊎ IsPlainMark (book t) newest → c p ≡ MarkPage m → newest.number ≤ m.number →
       Parts (book t) t.ledger.frontier (recorded_in t.ledger.newest) c m
-  finished_parts {newest} m {p} r is good h up = record {
+  finished_parts {newest} {m} {p} r is good h up = record {
     marks = λ q other k. ⊎_elim (λ e. ⊎_elim (λ l. l.1) (λ l. l.within) (r.known q other e))
         (λ e. (r.flies q.die q other e).within) (mark_from t.disk c q crash k);
-    same = marks_differ t c v crash r.same;
+    same = marks_differ c v crash r.same;
     place = p;
     there = h;
     above = let e = ap recorded_in is in let a = above in omega arith;
@@ -153,27 +137,25 @@ module _ {t : Translation} {c : Cells} (v : Valid t) (crash : StopLeaves t c) wh
   }
     where
       one : (m ≡ newest) ⊎ IsLaterMark (book t) t.ledger.frontier newest m
-      one = newest_or_later newest m p r h up
+      one = newest_or_later p r h up
 
       above : newest.records ≤ m.records
       above = ⊎_elim (λ e. let x = ap (λ y. y.records) e in omega arith) (λ l. l.above) one
 
   finished : (newest : Mark) (m : Option Mark) (r : MarksOf t newest) → t.ledger.newest ≡ Some newest →
       IsRepairing (book t) newest ⊎ IsPlainMark (book t) newest → IsNewestMark c m → Outcome t c m
-  finished newest None r is good n =
-      absurd (n r.stands.place newest (newest_stays {newest = newest} r))
+  finished newest None r is good n = absurd (n r.stands.place newest (newest_stays {newest = newest} r))
   finished newest (Some m) r is good n =
       inr record {
         mark = m;
         is = refl;
-        image = image (finished_parts m r is good n.0.1 (n.1 r.stands.place newest (newest_stays r)));
+        image = image (finished_parts r is good n.0.1 (n.1 r.stands.place newest (newest_stays r)));
       }
 
 -- Before that
 
 abbrev pub Started : Translation → Option Fence → Type 0
-Started t fence =
-    (lost : List Key) × UnmarkedOf t fence lost
+Started t fence = (lost : List Key) × UnmarkedOf t fence lost
 
 -- two marks of this life with one number are equal
 own_same : (t : Translation) (fence : Option Fence) {m other : Mark} → OwnMarkOf t fence m → OwnMarkOf t fence other →
@@ -221,12 +203,8 @@ module _ (t : Translation) {fence : Option Fence} (u : Started t fence) where
   -- a mark on the disk stood at the opening, or is one of this life
   pub disk_mark : {p : Place} (m : Mark) → t.disk.cells p ≡ MarkPage m → (u.1.opening p ≡ MarkPage m) ⊎
       OwnMarkOf t fence m
-  disk_mark {p} m h =
-      ⊎_elim
-      (λ k. inl (sym k ∙ h))
-      (λ k. inr
-      (subst (OwnMarkOf t fence) (one_mark k.1.0 m (sym k.1.1 ∙ h)) k.1.2))
-      (u.1.same p)
+  disk_mark {p} m h = ⊎_elim (λ k. inl (sym k ∙ h))
+      (λ k. inr (subst (OwnMarkOf t fence) (one_mark k.1.0 m (sym k.1.1 ∙ h)) k.1.2)) (u.1.same p)
 
   flown_mark : (die : ℕ) (p : Place) (m : Mark) → t.disk.flights die ≡ Some (Programming p (MarkPage m)) →
       OwnMarkOf t fence m
@@ -238,9 +216,9 @@ module _ (t : Translation) {fence : Option Fence} (u : Started t fence) where
   shown_mark {c} {p} {m} crash h = ⊎_elim (λ e. disk_mark m e)
       (λ e. inr (flown_mark p.die p m e)) (mark_from t.disk c p {m = m} crash h)
 
-  started_same : {c : Cells} (p q : Place) (m other : Mark) → StopLeaves t c → c p ≡ MarkPage m → c q ≡ MarkPage other →
+  started_same : {c : Cells} (p q : Place) {m other : Mark} → StopLeaves t c → c p ≡ MarkPage m → c q ≡ MarkPage other →
       m.number ≡ other.number → m ≡ other
-  started_same p q m other crash h l n = go (shown_mark crash h) (shown_mark crash l)
+  started_same p q {m} {other} crash h l n = go (shown_mark crash h) (shown_mark crash l)
     where
       go : (u.1.opening p ≡ MarkPage m) ⊎ OwnMarkOf t fence m → (u.1.opening q ≡ MarkPage other) ⊎
           OwnMarkOf t fence other → m ≡ other
@@ -262,9 +240,8 @@ module _ (t : Translation) {fence : Option Fence} (u : Started t fence) where
       OwnMarkOf t fence m → Parts (book t) t.ledger.frontier (recorded_in t.ledger.newest) c m
   started_parts p v crash h own = record {
     marks = λ q other k. ⊎_elim (λ e. let x = u.1.opened.marks q other e in let y = u.1.still in omega arith)
-        (λ e. let x = e.records in let y = u.1.still in omega arith)
-        (shown_mark crash k);
-    same = λ q r a other k l n. started_same q r a other crash k l n;
+        (λ e. let x = e.records in let y = u.1.still in omega arith) (shown_mark crash k);
+    same = λ q r a other k l n. started_same q r crash k l n;
     place = p;
     there = h;
     above = let x = recorded_below in let y = own.records in omega arith;
@@ -276,35 +253,27 @@ module _ (t : Translation) {fence : Option Fence} (u : Started t fence) where
   opening_blank : (p : Place) → t.disk.cells p ≡ Nothing → u.1.opening p ≡ Nothing
   opening_blank p h = ⊎_elim (λ k. sym k ∙ h) (λ k. k.0) (u.1.same p)
 
-touched_alike : (t : Translation) {c : Cells} {fence : Option Fence} (u : Started t fence) (p : Place)
+touched_alike : {t : Translation} {c : Cells} {fence : Option Fence} (u : Started t fence) (p : Place)
     (f : Option Flight) {intended : Cell} → Valid t → NoneOwn t fence c → t.disk.flights p.die ≡ f →
     Touches f p intended → (c p ≡ intended) ⊎ (c p ≡ Nothing) → c p ≡ u.1.opening p
-touched_alike t u p (Some (Programming q cell)) v none job touches (inl k) =
+touched_alike u p (Some (Programming q cell)) v none job touches (inl k) =
     let f = u.1.flies p.die q cell job in absurd (none p f.0 (k ∙ touches.1 ∙ f.1) f.2)
-touched_alike t u p (Some (Programming q cell)) v none job touches (inr k) =
+touched_alike {t} u p (Some (Programming q cell)) v none job touches (inr k) =
     k ∙ sym (opening_blank t u p (blank_there p v (job ∙ λ i. Some (Programming (touches.0 i) cell))))
-touched_alike t u p (Some (Erasing s)) v none job touches k =
-    ⊎_elim (λ e. e ∙ touches.1) (λ e. e) k
+touched_alike {t} u p (Some (Erasing s)) v none job touches k = ⊎_elim (λ e. e ∙ touches.1) (λ e. e) k
     ∙ sym (opening_blank t u p
     (u.1.blank p (inl (subst (λ z. t.disk.blocks z ≡ Free) touches.0 (v.flights.erases p.die s job).free))))
-touched_alike t u p f v none job touches k = absurd touches
+touched_alike u p f v none job touches k = absurd touches
 
-alike : (t : Translation) {c : Cells} {fence : Option Fence} (u : Started t fence) (p : Place) → Valid t →
+alike : {t : Translation} {c : Cells} {fence : Option Fence} (u : Started t fence) (p : Place) → Valid t →
     StopLeaves t c → NoneOwn t fence c → c p ≡ u.1.opening p
-alike t u p v crash none =
-    ⊎_elim
-    (λ e. ⊎_elim
-    (λ k. e ∙ k)
-    (λ k. absurd
-    (none p k.1.0 (e ∙ k.1.1) k.1.2))
-    (u.1.same p))
-    (λ e.
-    touched_alike t u p (t.disk.flights p.die) v none refl e.1 e.2)
-    (crash p)
+alike {t} u p v crash none = ⊎_elim
+    (λ e. ⊎_elim (λ k. e ∙ k) (λ k. absurd (none p k.1.0 (e ∙ k.1.1) k.1.2)) (u.1.same p))
+    (λ e. touched_alike u p (t.disk.flights p.die) v none refl e.1 e.2) (crash p)
 
-unchanged : (t : Translation) (c : Cells) {fence : Option Fence} (u : Started t fence) {m : Option Mark} → Valid t →
+unchanged : {t : Translation} {c : Cells} {fence : Option Fence} (u : Started t fence) {m : Option Mark} → Valid t →
     StopLeaves t c → NoneOwn t fence c → IsNewestMark c m → Unchanged (book t) t.ledger.newest c m
-unchanged t c {fence} u {m} v crash none n = record {
+unchanged {t} {c} u {m} v crash none n = record {
   opened = subst (OpeningRight (book t) t.ledger.newest) (sym e) u.1.opened;
   newest_is = newest_one m t.ledger.newest u.1.opened.sound.marks
       (subst (λ x. IsNewestMark x m) e n) u.1.opened.is_newest;
@@ -312,20 +281,14 @@ unchanged t c {fence} u {m} v crash none n = record {
 }
   where
     e : c ≡ u.1.opening
-    e = λ i p. alike t u p v crash none i
+    e = λ i p. alike u p v crash none i
 
-started : (t : Translation) (c : Cells) {fence : Option Fence} (u : Started t fence) (m : Option Mark) → Valid t →
+started : {t : Translation} (c : Cells) {fence : Option Fence} (u : Started t fence) (m : Option Mark) → Valid t →
     StopLeaves t c → IsNewestMark c m → Outcome t c m
-started t c u None v crash n = inl (unchanged t c u v crash (λ p m h own. n p m h) n)
-started t c {fence} u (Some m) v crash n =
-    ⊎_elim
-    (λ e. inl (unchanged t c u v crash (none (opened_below u.1.opening t.ledger.newest u.1.opened.is_newest e))
-    n))
-    (λ own. inr record {
-      mark = m;
-      is = refl;
-      image = image v crash (started_parts t u n.0.0 v crash n.0.1 own);
-    })
+started {t} c u None v crash n = inl (unchanged u v crash (λ p m h own. n p m h) n)
+started {t} c {fence} u (Some m) v crash n = ⊎_elim
+    (λ e. inl (unchanged u v crash (none (opened_below u.1.opening t.ledger.newest u.1.opened.is_newest e)) n))
+    (λ own. inr record { mark = m; is = refl; image = image v crash (started_parts t u n.0.0 v crash n.0.1 own) })
     (shown_mark t u crash n.0.1)
   where
     none : m.number ≤ number_of t.ledger.newest → NoneOwn t fence c
@@ -333,21 +296,21 @@ started t c {fence} u (Some m) v crash n =
 
 -- What a stop leaves
 
-pub all_repairs : (t : Translation) {left : List Key} → Valid t → t.work.mending ≡ Repairing left →
+pub all_repairs : {t : Translation} {left : List Key} → Valid t → t.work.mending ≡ Repairing left →
     (j i : ℕ) (g : Group) (item : Item) → slice_get t.ledger.groups j ≡ Some g → slice_get g i ≡ Some item →
     item.body ≡ t.ledger.base item.key
-all_repairs t v e j i g item h l =
+all_repairs {t} v e j i g item h l =
     let r = (v.history.mending (ap is_mended e)).0 in
     let w = slice_get_within t.ledger.groups j g h in
     v.history.contents j i g item (omega arith) h l
 
-by_mending : (t : Translation) (c : Cells) (m : Option Mark) (w : Mending) → Valid t → StopLeaves t c →
+by_mending : {t : Translation} (c : Cells) (m : Option Mark) (w : Mending) → Valid t → StopLeaves t c →
     IsNewestMark c m → t.work.mending ≡ w → MendingOf t w → Outcome t c m
-by_mending t c m (Unmarked fence lost) v crash n e r = started t c (lost, r) m v crash n
-by_mending t c m (Repairing left) v crash n e r =
-    finished v crash r.mark m r.right r.is (inl record { fence = r.more.fence; repairs = all_repairs t v e }) n
-by_mending t c m Mended v crash n e r = finished v crash r.mark m r.right r.is (inr r.more) n
+by_mending {t} c m (Unmarked fence lost) v crash n e r = started c (lost, r) m v crash n
+by_mending {t} c m (Repairing left) v crash n e r =
+    finished v crash r.mark m r.right r.is (inl record { fence = r.more.fence; repairs = all_repairs v e }) n
+by_mending c m Mended v crash n e r = finished v crash r.mark m r.right r.is (inr r.more) n
 
 pub outcome : {t : Translation} {c : Cells} {m : Option Mark} → Valid t → StopLeaves t c → IsNewestMark c m →
     Outcome t c m
-outcome {t} {c} {m} v crash n = by_mending t c m t.work.mending v crash n refl v.mending
+outcome {t} {c} {m} v crash n = by_mending c m t.work.mending v crash n refl v.mending

@@ -1,15 +1,11 @@
 -- What a stop leaves of pages, and what it leaves of cells.
-use Rattle.std.proofs.Common.{◌≡◌, ◌⊎◌, ℕ, List, Option, Some, subst, inl, inr, ⊎_elim}
+use Rattle.power_loss.proofs.Common.{◌≡◌, ◌⊎◌, ℕ, List, Option, Some, subst, inl, inr, ⊎_elim, Array, Cell, Cells}
+use Rattle.power_loss.proofs.Common.{DataHold, GroupPage, IsCell, MarkPage, Nothing, Opens, Shows, mark_tag, CellCrash}
+use Rattle.power_loss.proofs.Common.{Crash, Flight, Programming, Touches, page_of, MayBeLeft, Place, Tag, opened_check}
+use Rattle.power_loss.proofs.Common.{torn_is_nothing as wrong_is_nothing}
 use Rattle.ufs_laws.proofs.pages.BlankPages.{blank_opens_not}
 use Rattle.ufs_laws.proofs.pages.PageIsOneCell.{mark_holds, one_cell}
 use Rattle.ufs_laws.proofs.pages.SealedOnce.{one_body, one_tag}
-use Rattle.ufs_spec.specs.Cells.{Array, Cell, Cells, DataHold, GroupPage, IsCell, MarkPage, Nothing, Opens, Shows}
-use Rattle.ufs_spec.specs.Cells.{mark_tag}
-use Rattle.ufs_spec.specs.Disk.{CellCrash, Crash, Flight, Programming, Touches, page_of}
-use Rattle.ufs_spec.specs.Pages.{MayBeLeft}
-use Rattle.ufs_spec.specs.declared.flash.Place.{Place}
-use Rattle.ufs_spec.specs.declared.flash.Tag.{Tag}
-use Rattle.ufs_spec.proofs.SealedPages.{opened_check, torn_is_nothing as wrong_is_nothing}
 use Rattle.ufs_laws.proofs.array_cells.CrashedCells.{intended_shows as intended_of}
 
 -- what a page of a group or a mark opens to keeps the rules of its kind
@@ -64,15 +60,13 @@ module _ (array : Array) (cells : Cells) (flights : ℕ → Option Flight) (left
     cell_crash p = ⊎_elim (λ e. inl (unchanged p e)) (λ x. touched p x.0 x.1 x.2) (crash p)
 
   held_at : AllHold array → (p : Place) (intended : Cell) → Touches (flights p.die) p intended → MayBeLeft (array p)
-      (page_of intended) (left p) → (t : Tag) (body : List ℕ) → Opens (left p) t body → DataHold t body
-  held_at hold p intended h (inl e) t body o = hold p t body (subst (λ page. Opens page t body) e o)
-  held_at hold p intended h (inr (inl e)) t body o = cell_holds intended (intended_right p intended h) t body
+      (page_of intended) (left p) → {t : Tag} {body : List ℕ} → Opens (left p) t body → DataHold t body
+  held_at hold p intended h (inl e) {t} {body} o = hold p t body (subst (λ page. Opens page t body) e o)
+  held_at hold p intended h (inr (inl e)) {t} {body} o = cell_holds intended (intended_right p intended h) t body
       (subst (λ page. Opens page t body) e o)
-  held_at hold p intended h (inr (inr wrong)) t body o = absurd (wrong (opened_check _ _ _ o))
+  held_at hold p intended h (inr (inr wrong)) o = absurd (wrong (opened_check _ _ _ o))
 
   -- the data of pages that are left keep the rules of their kind
   pub left_holds : AllHold array → AllHold left
-  left_holds hold p t body o =
-      ⊎_elim (λ e. hold p t body (subst (λ page. Opens page t body) e o))
-      (λ x. held_at hold p x.0 x.1 x.2 t body o)
-      (crash p)
+  left_holds hold p t body o = ⊎_elim (λ e. hold p t body (subst (λ page. Opens page t body) e o))
+      (λ x. held_at hold p x.0 x.1 x.2 o) (crash p)

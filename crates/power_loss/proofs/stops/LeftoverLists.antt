@@ -1,10 +1,9 @@
 -- Lists of leftovers: what they contain, and that no die has two.
-use Rattle.std.proofs.Common.{◌≡◌, ◌≢◌, ◌⊎◌, ◌<◌, zero, suc, List, [], ◌∷◌, refl, sym, ap, ◌∙◌, inl, inr, ⊎_elim, arith}
-use Rattle.std.proofs.lemmas.Bool.{cases_order}
+use Rattle.power_loss.proofs.Common.{◌≡◌, ◌≢◌, ◌⊎◌, ◌<◌, zero, suc, List, [], ◌∷◌, refl, sym, ap, ◌∙◌, inl, inr, ⊎_elim}
+use Rattle.power_loss.proofs.Common.{arith, cases_order, Contains, slice_index_or}
+use Rattle.power_loss.proofs.MachineWords.{die_of, Leftover}
 use Rattle.std.proofs.lemmas.List.{get_or_default}
-use Rattle.std.specs.Prelude.{AllPairs, Contains, slice_index_or}
-use Rattle.ufs_spec.specs.Lives.{die_of}
-use Rattle.ufs_spec.specs.declared.events.Leftover.{Leftover}
+use Rattle.std.specs.Prelude.{AllPairs}
 
 -- What is contained
 
@@ -43,10 +42,7 @@ apart lefts l m pairs a b low e =
 
 pub one_leftover : (lefts : List Leftover) (l m : Leftover) → Apart lefts → Contains lefts l → Contains lefts m →
     die_of l ≡ die_of m → l ≡ m
-one_leftover lefts l m pairs a b e =
-    ⊎_elim
+one_leftover lefts l m pairs a b e = ⊎_elim
     (λ at. sym a.2 ∙ get_or_default lefts a.0 l m a.1 ∙ ap (λ i. slice_index_or lefts i m) at ∙ b.2)
-    (⊎_elim
-    (λ low. absurd (apart lefts l m pairs a b low e))
-    (λ high. absurd (apart lefts m l pairs b a high (sym e))))
+    (⊎_elim (λ low. absurd (apart lefts l m pairs a b low e)) (λ high. absurd (apart lefts m l pairs b a high (sym e))))
     (cases_order a.0 b.0)

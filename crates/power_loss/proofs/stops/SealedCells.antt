@@ -1,34 +1,22 @@
 -- A page that a life writes shows the cell that it is meant to be.
-use Rattle.std.proofs.Common.{◌≡◌, ℕ, suc, ◌-◌, ◌*◌, ◌<◌, ◌≤◌, ◌^◌, true, false, List, [], ◌∷◌, ◌++◌, All, Option, Some}
-use Rattle.std.proofs.Common.{None, length, map, get_or, replicate, refl, sym, ap, ◌∙◌, ⊎_elim, arith}
-use Rattle.std.specs.Prelude.{nat_le, option_and_then, slice_get}
+use Rattle.power_loss.proofs.Common.{◌≡◌, ℕ, suc, ◌-◌, ◌*◌, ◌<◌, ◌≤◌, ◌^◌, true, false, List, [], ◌∷◌, ◌++◌, All}
+use Rattle.power_loss.proofs.Common.{Option, Some, None, length, map, get_or, replicate, refl, sym, ap, ◌∙◌, ⊎_elim}
+use Rattle.power_loss.proofs.Common.{arith, nat_le, option_and_then, flat_map, get_or-map, length-append, length-map}
+use Rattle.power_loss.proofs.Common.{leb-true, slice_get_within, GroupPage, IsCell, IsFence, Mark, MarkPage, mark_tag}
+use Rattle.power_loss.proofs.Common.{page_of, Group, IsArea, IsBlock, IsData, IsKey, IsSettings, Entry, Name, entry_in}
+use Rattle.power_loss.proofs.Common.{shape_of_numbers, cell_of_entry, tag_of, Numbers, Fence, Key, config_tests, ranges}
+use Rattle.power_loss.proofs.Common.{cases_Bool, cond-false, Book, BookRight, IsPageAt, last_number}
+use Rattle.power_loss.proofs.MachineWords.{IsConfig, AreBytes, UnitSpec, BookFits, EntryFits}
+use Rattle.std.specs.Prelude.{slice_get}
 use Rattle.std.specs.Int.{bytes_high_first}
-use Rattle.std.specs.List.{flat_map}
-use Rattle.std.proofs.lemmas.List.{get_or-map, length-append, length-map}
-use Rattle.std.proofs.lemmas.Bool.{leb-true, leb-false}
-use Rattle.std.proofs.lemmas.Option.{slice_get_within}
+use Rattle.std.proofs.lemmas.Bool.{leb-false}
 use Rattle.std.proofs.Math.Nat.{mul-le-mul_right}
 use Rattle.ufs_laws.proofs.pages.BlankPages.{nothing_is_blank}
 use Rattle.ufs_laws.proofs.pages.ByteLists.{bytes-append, bytes-cons, bytes-filled, bytes-nil, bytes-number}
 use Rattle.ufs_laws.proofs.pages.ByteLists.{bytes-zeros, length-filled}
-use Rattle.ufs_spec.specs.Cells.{GroupPage, IsCell, IsFence, Mark, MarkPage, NumbersFit, UnitFits, mark_tag}
-use Rattle.ufs_spec.specs.Configs.{InRange, IsConfig, UnitInRange}
-use Rattle.ufs_spec.specs.Disk.{page_of}
-use Rattle.ufs_spec.specs.Keys.{Group, IsArea, IsBlock, IsData, IsKey, IsSettings}
-use Rattle.ufs_spec.specs.Ledger.{Entry, Name, entry_in}
-use Rattle.ufs_spec.specs.Messages.{AreBytes}
-use Rattle.ufs_spec.specs.Pages.{IsCheckRight, IsTag, fence_bytes, mark_bytes, numbers_bytes, seal_page, unit_bytes}
-use Rattle.ufs_spec.specs.Plain.{shape_of_numbers}
-use Rattle.ufs_spec.specs.Translation.{cell_of_entry, tag_of}
-use Rattle.ufs_spec.specs.declared.configs.Numbers.{Numbers}
-use Rattle.ufs_spec.specs.declared.configs.UnitSpec.{UnitSpec}
-use Rattle.ufs_spec.specs.declared.flash.Fence.{Fence}
-use Rattle.ufs_spec.specs.declared.flash.Key.{Key}
-use Rattle.ufs_spec.specs.declared.flash.Tag.{Tag}
-use Rattle.ufs_spec.proofs.ConfigFacts.{config_tests, ranges}
-use Rattle.ufs_spec.proofs.Facts.{cases_Bool, cond-false}
-use Rattle.power_loss.specs.Book.{Book, BookRight, IsPageAt, last_number}
-use Rattle.power_loss.specs.Exchange.{BookFits, EntryFits}
+use Rattle.ufs_spec.specs.Cells.{NumbersFit, UnitFits}
+use Rattle.ufs_spec.specs.Configs.{InRange, UnitInRange}
+use Rattle.ufs_spec.specs.Pages.{IsTag, fence_bytes, mark_bytes, numbers_bytes, seal_page, unit_bytes}
 use Rattle.ufs_spec.proofs.SealedPages.{units_length}
 
 pub ranges_of : (n : Numbers) → IsConfig n → InRange n
@@ -89,8 +77,8 @@ key_ranges r IsSettings = record {
 -- Pages of groups
 
 -- a page of the book has a number of the book
-pub number_within : (b : Book) {n : ℕ} (i : ℕ) (e : Entry) → BookRight b → IsPageAt b n i e → n ≤ last_number b
-number_within b {n} i e r is = ⊎_elim old new (cases_Bool (nat_le n b.greatest_seen))
+pub number_within : {b : Book} {n : ℕ} (i : ℕ) (e : Entry) → BookRight b → IsPageAt b n i e → n ≤ last_number b
+number_within {b} {n} i e r is = ⊎_elim old new (cases_Bool (nat_le n b.greatest_seen))
   where
     old : nat_le n b.greatest_seen ≡ true → n ≤ last_number b
     old h = let l = leb-true n b.greatest_seen h in omega arith
@@ -139,15 +127,15 @@ entry_cell r key fits some number reach l =
       λ h. omega (arith, k.kinds),
     )
 
-pub page_cell : (b : Book) (name : Name) (e : Option Entry) (frontier : ℕ) → IsConfig b.numbers → BookRight b →
+pub page_cell : {b : Book} (name : Name) (e : Option Entry) (frontier : ℕ) → IsConfig b.numbers → BookRight b →
     BookFits b → frontier ≤ last_number b → ((x : Entry) → e ≡ Some x → IsPageAt b name.number name.index x) →
     IsCell (page_of (cell_of_entry name e frontier)) (cell_of_entry name e frontier)
-page_cell b name None frontier config right fits reach is = nothing_is_blank
-page_cell b name (Some e) frontier config right fits reach is =
+page_cell name None frontier config right fits reach is = nothing_is_blank
+page_cell {b} name (Some e) frontier config right fits reach is =
     let page = is e refl in
     let entry = fits.entries name.number name.index e page in
     entry_cell (ranges_of b.numbers config) (right.keys name.number name.index e page) entry.0 entry.1
-    (number_within b name.index e right page) reach fits.last
+    (number_within name.index e right page) reach fits.last
 
 -- Marks
 
@@ -182,15 +170,15 @@ numbers_fit {n} r =
     spare_fits : (dies blocks spare : ℕ) → dies ≤ 8 → blocks ≤ 1024 → spare ≤ dies * blocks → spare < 2 ^ 16
     spare_fits dies blocks spare d b s = omega (arith, mul-le-mul_right blocks d)
 
-unit_is_bytes : (u : UnitSpec) → UnitFits u → AreBytes (unit_bytes u)
-unit_is_bytes u f =
+unit_is_bytes : {u : UnitSpec} → UnitFits u → AreBytes (unit_bytes u)
+unit_is_bytes {u} f =
     bytes-append (bytes_high_first 4 u.blocks) (u.boot ∷ u.protect ∷ 0 ∷ 0 ∷ []) (bytes-number 4 u.blocks)
     (bytes-cons u.boot (u.protect ∷ 0 ∷ 0 ∷ []) f.boot (bytes-cons u.protect (0 ∷ 0 ∷ []) f.protect (bytes-zeros 2)))
 
 units_are_bytes : (units : List UnitSpec) → All UnitFits units → AreBytes (flat_map unit_bytes units)
 units_are_bytes [] each = bytes-nil
 units_are_bytes (u ∷ us) each =
-    bytes-append (unit_bytes u) (flat_map unit_bytes us) (unit_is_bytes u (each 0 u (omega arith)))
+    bytes-append (unit_bytes u) (flat_map unit_bytes us) (unit_is_bytes (each 0 u (omega arith)))
     (units_are_bytes us (λ k d lt. each (suc k) d (omega arith)))
 
 fence_is_bytes : (f : Option Fence) → AreBytes (fence_bytes f) × (length (fence_bytes f) ≡ 16)
@@ -201,8 +189,8 @@ fence_is_bytes (Some f) = (
   refl,
 )
 
-numbers_are_bytes : (n : Numbers) → NumbersFit n → AreBytes (numbers_bytes n)
-numbers_are_bytes n f =
+numbers_are_bytes : {n : Numbers} → NumbersFit n → AreBytes (numbers_bytes n)
+numbers_are_bytes {n} f =
     let spare : List ℕ = bytes_high_first 2 n.spare ++ replicate 4 0 in
     let slots : List ℕ = bytes_high_first 2 n.slots ++ spare in
     let pages : List ℕ = bytes_high_first 2 n.pages ++ n.rpmb ∷ 0 ∷ slots in
@@ -228,7 +216,7 @@ mark_is_block {n} f fit =
     let few = fit.units in
     let long = fence.1 in
     let bytes = bytes-append (fence_bytes f ++ numbers_bytes n) (flat_map unit_bytes n.units.items)
-    (bytes-append (fence_bytes f) (numbers_bytes n) fence.0 (numbers_are_bytes n fit))
+    (bytes-append (fence_bytes f) (numbers_bytes n) fence.0 (numbers_are_bytes fit))
     (units_are_bytes n.units.items fit.each_unit) in (
       length-filled 4096 (fence_bytes f ++ numbers_bytes n ++ flat_map unit_bytes n.units.items) (omega arith),
       bytes-filled 4096 (fence_bytes f ++ numbers_bytes n ++ flat_map unit_bytes n.units.items) bytes,
@@ -258,6 +246,3 @@ mark_cell m r fence some number records =
     )
 
 -- Torn pages
-
-sealed_check : (t : Tag) (body : List ℕ) → IsCheckRight (seal_page t body)
-sealed_check t body = refl

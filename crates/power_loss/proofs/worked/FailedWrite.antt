@@ -1,27 +1,16 @@
 -- A write of one block whose program fails: the device is locked, and the write is answered with a write error.
-use Rattle.std.proofs.Common.{◌≡◌, ℕ, true, List, [], ◌∷◌, length, Some, refl, sym, ap, ◌∙◌, subst}
-use Rattle.std.specs.Global.{Vec}
+use Rattle.power_loss.proofs.Common.{◌≡◌, ℕ, true, List, [], ◌∷◌, length, Some, refl, sym, ap, ◌∙◌, subst, Vec, Array}
+use Rattle.power_loss.proofs.Common.{Cell, Cells, at_place, page_of, spot_of, WentWrong, MayBeLeft, Page}
+use Rattle.power_loss.proofs.MachineWords.{write_page, Gets, IsNew, data_program, place_of, state_15, the_data}
+use Rattle.power_loss.proofs.MachineWords.{the_write, write_events, write_outputs, Write, blank_page, Answering}
+use Rattle.power_loss.proofs.MachineWords.{write_error, IsFailure, IsLawfulLeftover, Leads, Life, bad_in, held, Reply}
+use Rattle.power_loss.proofs.MachineWords.{Done, OfDone, IsHeard, OfReply, observe, State, locked, Leftover, ValidState}
 use Rattle.ufs_laws.proofs.new_dies.NewDeviceState.{Open, open_in}
 use Rattle.ufs_laws.proofs.worked_run.RunEvents.{flies_15, is_15}
 use Rattle.ufs_laws.proofs.answers.OnlyAnswers.{reply_gets}
 use Rattle.ufs_laws.proofs.worked_run.RunLife.{write_life}
 use Rattle.ufs_laws.proofs.worked_run.RunStates.{erased_array, marked_array, write_task, writing}
-use Rattle.ufs_laws.specs.GapRows.{write_page}
-use Rattle.ufs_laws.specs.Runs.{Gets, IsNew, data_program, place_of, state_15, the_data, the_write, told, write_events}
-use Rattle.ufs_laws.specs.Runs.{write_outputs}
-use Rattle.ufs_spec.specs.Cells.{Array, Cell, Cells}
-use Rattle.ufs_spec.specs.Commands.{Write}
-use Rattle.ufs_spec.specs.Dies.{blank_page}
-use Rattle.ufs_spec.specs.Disk.{at_place, page_of, spot_of}
-use Rattle.ufs_spec.specs.Exchanges.{Answering, write_error}
-use Rattle.ufs_spec.specs.Lives.{IsFailure, IsLawfulLeftover, Leads, Life, bad_in, held}
-use Rattle.ufs_spec.specs.Machine.{Reply, Done, OfDone, IsHeard, OfReply, observe}
-use Rattle.ufs_spec.specs.Moves.{WentWrong}
-use Rattle.ufs_spec.specs.Pages.{MayBeLeft}
-use Rattle.ufs_spec.specs.Refusals.{State, locked}
-use Rattle.ufs_spec.specs.declared.events.Leftover.{Leftover}
-use Rattle.ufs_spec.specs.declared.flash.Page.{Page}
-use Rattle.power_loss.specs.Exchange.{ValidState}
+use Rattle.ufs_laws.specs.Runs.{told}
 use Rattle.power_loss.specs.StoppedWrites.{IsFailedWrite, write_failed, written_page}
 use Rattle.power_loss.proofs.jobs.LawfulFailures.{failure_leads, program_failure}
 use Rattle.power_loss.proofs.stops.LawfulLeftovers.{stops_lawful}
@@ -107,25 +96,21 @@ module _ (body : List ℕ) (long : length body ≡ 4096) (write block : Vec ℕ)
   the_leftover = leftover.Page (place_of 1) page
 
   here : MayBeLeft (t.array (place_of 1)) (page_of intended) page
-  here =
-      subst (λ old. MayBeLeft old (page_of intended) page)
-      (sym (ap (λ x. x.array (place_of 1)) is ∙ blank_now)) may
+  here = subst (λ old. MayBeLeft old (page_of intended) page) (sym (ap (λ x. x.array (place_of 1)) is ∙ blank_now)) may
 
   lawful : IsLawfulLeftover t the_leftover
-  lawful =
-      stops_lawful t (the_leftover ∷ []) (at_place t.array (place_of 1) page)
-      (page_stops t (place_of 1) intended page flies here)
-      the_leftover (first_contained {l = the_leftover} [])
+  lawful = stops_lawful t (the_leftover ∷ []) (at_place t.array (place_of 1) page)
+      (page_stops t (place_of 1) intended page flies here) the_leftover (first_contained {l = the_leftover} [])
 
   c : Cells
-  c = (program_failure t 0 (place_of 1) intended the_leftover valid flies refl lawful).0
+  c = (program_failure 0 (place_of 1) intended the_leftover valid flies refl lawful).0
 
   left : Array
-  left = (program_failure t 0 (place_of 1) intended the_leftover valid flies refl lawful).1
+  left = (program_failure 0 (place_of 1) intended the_leftover valid flies refl lawful).1
 
   fails_so : IsFailure t 0 (Some (data_program body)) (Some the_leftover) (WentWrong c) left
   unfolding c left
-  fails_so = (program_failure t 0 (place_of 1) intended the_leftover valid flies refl lawful).2
+  fails_so = (program_failure 0 (place_of 1) intended the_leftover valid flies refl lawful).2
 
   left_is : left ≡ at_place t.array (place_of 1) page
   left_is =
@@ -155,7 +140,7 @@ module _ (body : List ℕ) (long : length body ≡ 4096) (write block : Vec ℕ)
 
   fails : Leads t (event.Fail 0 (Some the_leftover)) output.Ended v
   unfolding v
-  fails = failure_leads t 0 {flight = (data_program body)} {l = (Some the_leftover)}
+  fails = failure_leads 0 {flight = (data_program body)} {l = (Some the_leftover)}
       (WentWrong c) left flies refl fails_so
 
   told_so : Leads v event.Reply (told write_failed) u

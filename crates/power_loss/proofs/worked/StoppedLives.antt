@@ -1,33 +1,16 @@
 -- A life of a new device that is stopped: what opens after the stop, and what it has.
-use Rattle.std.proofs.Common.{◌≡◌, ◌++◌, Bool, true, false, if◌then◌else◌, List, [], ◌∷◌, refl, sym, ap, ◌∙◌, subst}
-use Rattle.std.proofs.Common.{inl, inr, ⊎_elim, arith}
-use Rattle.std.specs.Global.{Vec}
+use Rattle.power_loss.proofs.Common.{◌≡◌, ◌++◌, Bool, true, false, if◌then◌else◌, List, [], ◌∷◌, refl, sym, ap, ◌∙◌}
+use Rattle.power_loss.proofs.Common.{subst, inl, inr, ⊎_elim, arith, Vec, Array, Cell, Cells, IsCell, Nothing, Shows}
+use Rattle.power_loss.proofs.Common.{Spot, at_place, IsData, data_key, CellsStandFor, IsCheckRight, Plain, block_at}
+use Rattle.power_loss.proofs.Common.{zero_block, Numbers, Page, Place, new_shape, opened_check, at_place_cases}
+use Rattle.power_loss.proofs.MachineWords.{IsNew, row, IsOpened, Life, Runs, Stops, bad_in, State, Event, Leftover}
+use Rattle.power_loss.proofs.MachineWords.{Output, ValidState, MayBeOpened}
 use Rattle.ufs_laws.proofs.plain_contents.NewDevice.{new_plain, new_zeros}
 use Rattle.ufs_laws.proofs.array_cells.StandsForOne.{plain_one}
 use Rattle.ufs_laws.proofs.pages.PageIsOneCell.{one_cell}
 use Rattle.ufs_laws.proofs.array_cells.StandsForSomething.{new_sound, new_stands_for_zero, new_suits}
 use Rattle.ufs_laws.proofs.plain_contents.PlainFromContents.{same_contents}
-use Rattle.ufs_laws.specs.Runs.{IsNew, row}
-use Rattle.ufs_spec.specs.Cells.{Array, Cell, Cells, IsCell, Nothing, Shows}
-use Rattle.ufs_spec.specs.Configs.{IsConfig}
-use Rattle.ufs_spec.specs.Disk.{Spot, at_place}
-use Rattle.ufs_spec.specs.Keys.{IsData, data_key}
-use Rattle.ufs_spec.specs.Kept.{CellsStandFor}
-use Rattle.ufs_spec.specs.Lives.{IsOpened, Life, Runs, Stops, bad_in}
-use Rattle.ufs_spec.specs.Pages.{IsCheckRight}
-use Rattle.ufs_spec.specs.Plain.{Plain, block_at, zero, zero_block}
-use Rattle.ufs_spec.specs.Refusals.{State}
-use Rattle.ufs_spec.specs.declared.configs.Numbers.{Numbers}
-use Rattle.ufs_spec.specs.declared.events.Event.{Event}
-use Rattle.ufs_spec.specs.declared.events.Leftover.{Leftover}
-use Rattle.ufs_spec.specs.declared.events.Output.{Output}
-use Rattle.ufs_spec.specs.declared.flash.Page.{Page}
-use Rattle.ufs_spec.specs.declared.flash.Place.{Place}
-use Rattle.ufs_spec.proofs.PlainFacts.{new_shape}
-use Rattle.ufs_spec.proofs.SealedPages.{opened_check}
-use Rattle.ufs_spec.proofs.Updates.{at_place_cases}
-use Rattle.power_loss.specs.Exchange.{ValidState}
-use Rattle.power_loss.specs.Runs.{MayBeOpened}
+use Rattle.ufs_spec.specs.Plain.{zero}
 use Rattle.power_loss.proofs.openings.EachSoundArrayOpens.{any_opens}
 use Rattle.power_loss.proofs.lives.EachEventKeeps.{many_events as event_keeps_many}
 use Rattle.power_loss.proofs.openings.OpenedStates.{opened_state as opened_valid}
@@ -49,12 +32,10 @@ put_shown array cells p page x shown is q = by _
 -- a page that does not open may stand where nothing stood
 pub torn_shown : (array : Array) (cells : Cells) {p : Place} (page : Page) → Shows array cells → cells p ≡ Nothing →
     (IsCheckRight page → ⊥) → Shows (at_place array p page) cells
-torn_shown array cells {p} page shown none wrong q =
-    ⊎_elim
+torn_shown array cells {p} page shown none wrong q = ⊎_elim
     (λ h. subst (λ x. IsCell x (cells q)) (sym h.1)
     (subst (IsCell page) (sym (ap cells h.0 ∙ none)) (λ tag body o hold. wrong (opened_check _ _ _ o))))
-    (λ h. subst (λ x. IsCell x (cells q)) (sym h.1) (shown q))
-    (at_place_cases array p page q)
+    (λ h. subst (λ x. IsCell x (cells q)) (sym h.1) (shown q)) (at_place_cases array p page q)
 
 -- A life of a new device
 
@@ -62,9 +43,6 @@ life_runs : (n : Numbers) (s t : State) (es : List Event) (os : List Output) →
 life_runs n s t [] [] life = life
 life_runs n s t (e ∷ es) (o ∷ os) life = (life.0, inl life.1, life_runs n life.0 t es os life.2)
 life_runs n s t es os life = absurd life
-
-row_is : IsConfig row
-row_is = refl
 
 module _ (s : State) (n : IsNew s) where
   new_may : MayBeOpened row n.array
@@ -75,33 +53,31 @@ module _ (s : State) (n : IsNew s) where
   }
 
   pub start_zero : s.base ≡ zero row
-  start_zero =
-      plain_one one_cell same_contents row n.array s.base (zero row) new_may.sound n.opened.stands
+  start_zero = plain_one one_cell same_contents row n.array s.base (zero row) new_may.sound n.opened.stands
       (new_stands_for_zero new_shape new_plain new_zeros row n.array n.blank)
 
   module _ (t : State) (es : List Event) (os : List Output) (lived : Life s es os t) where
     pub valid_after : ValidState t
     valid_after =
-        event_keeps_many s t es os (opened_valid row n.array n.bad s row_is new_may.inside new_may.sound n.opened) lived
+        event_keeps_many s t es os (opened_valid row n.array n.bad s refl new_may.inside new_may.sound n.opened) lived
 
     module _ (lefts : Vec Leftover) (left : Array) (stops : Stops t lefts.items left) where
       leaves : MayBeOpened row left
-      leaves = run_leaves row n.array n.bad s t es os row_is new_may n.opened
+      leaves = run_leaves row n.array n.bad s t es os refl new_may n.opened
           (life_runs row s t es os lived) lefts.items left stops
 
       pub opens_after : (u : State) × IsOpened row left (bad_in t) u
       opens_after = any_opens row left (bad_in t) leaves.inside leaves.sound leaves.suits
 
-      pub run_after : (u : State) → IsOpened row left (bad_in t) u → Runs row s (es ++ event.Stop lefts ∷ [])
+      pub run_after : {u : State} → IsOpened row left (bad_in t) u → Runs row s (es ++ event.Stop lefts ∷ [])
           (os ++ output.Stopped ∷ []) u
-      run_after u opened =
-          more row s t u es os (event.Stop lefts) output.Stopped (life_runs row s t es os lived)
+      run_after {u} opened = more row s t u es os (event.Stop lefts) output.Stopped (life_runs row s t es os lived)
           (inr (left, stops, opened))
 
       -- where what is left shows cells that stand for a plain state, each device that opens over it has that state
-      pub base_after : (c : Cells) (p : Plain) → Shows left c → CellsStandFor row c p → (u : State) (bad : Spot →
+      pub base_after : {c : Cells} {p : Plain} → Shows left c → CellsStandFor row c p → (u : State) (bad : Spot →
           Bool) → IsOpened row left bad u → u.base ≡ p
-      base_after c p shows stands u bad opened =
+      base_after {c} {p} shows stands u bad opened =
           plain_one one_cell same_contents row left u.base p leaves.sound opened.stands (c, shows, stands)
 
 -- the block of a new device

@@ -1,7 +1,11 @@
 -- What stands on the dies once a write of one block was stopped inside its program: the mark, and the block's page or
 -- none; and what each of the two stands for.
-use Rattle.std.proofs.Common.{◌≡◌, ◌==◌, ◌&&◌, ◌||◌, ℕ, Bool, true, false, not, if◌then◌else◌, List, [], ◌∷◌, Some}
-use Rattle.std.proofs.Common.{refl, sym, ap, ◌∙◌, subst, ⊎_elim, arith}
+use Rattle.power_loss.proofs.Common.{◌≡◌, ◌==◌, ◌&&◌, ◌||◌, ℕ, Bool, true, false, not, if◌then◌else◌, List, [], ◌∷◌}
+use Rattle.power_loss.proofs.Common.{Some, refl, sym, ap, ◌∙◌, subst, ⊎_elim, arith, Cell, Cells, MarkPage, Nothing}
+use Rattle.power_loss.proofs.Common.{same_place, at_place, CanApplyAll, IsKey, content, data_key, same_key}
+use Rattle.power_loss.proofs.Common.{CellsStandFor, Holds, IsKept, IsRecorded, apply, shape_of_numbers, zero_block, Key}
+use Rattle.power_loss.proofs.Common.{Place, Tag, kept_shape, new_shape, place_cases}
+use Rattle.power_loss.proofs.MachineWords.{first_mark, write_page, place_of, row}
 use Rattle.ufs_laws.proofs.plain_contents.CommandsKeepPlain.{kept_plain}
 use Rattle.ufs_laws.proofs.worked_rows.GapLists.{kept_next, kept_there}
 use Rattle.ufs_laws.proofs.plain_contents.GroupsOfCommands.{one_command, same_from_true}
@@ -9,18 +13,8 @@ use Rattle.ufs_laws.proofs.worked_rows.ListedCells.{held, newest, not_whole, rec
 use Rattle.ufs_laws.proofs.plain_contents.NewDevice.{new_plain, new_zeros}
 use Rattle.ufs_laws.proofs.new_dies.NewDeviceState.{Open}
 use Rattle.ufs_laws.proofs.worked_run.RunStates.{block_written, writing}
-use Rattle.ufs_laws.specs.GapRows.{Standing, at, cells_of, first_mark, write_page}
-use Rattle.ufs_laws.specs.Runs.{place_of, row}
-use Rattle.ufs_spec.specs.Cells.{Cell, Cells, MarkPage, Nothing, same_place}
-use Rattle.ufs_spec.specs.Disk.{at_place}
-use Rattle.ufs_spec.specs.Keys.{CanApplyAll, IsKey, content, data_key, same_key}
-use Rattle.ufs_spec.specs.Kept.{CellsStandFor, Holds, IsKept, IsRecorded}
-use Rattle.ufs_spec.specs.Plain.{apply, shape_of_numbers, zero, zero_block}
-use Rattle.ufs_spec.specs.declared.flash.Key.{Key}
-use Rattle.ufs_spec.specs.declared.flash.Place.{Place}
-use Rattle.ufs_spec.specs.declared.flash.Tag.{Tag}
-use Rattle.ufs_spec.proofs.PlainFacts.{kept_shape, new_shape}
-use Rattle.ufs_spec.proofs.Equalities.{place_cases}
+use Rattle.ufs_laws.specs.GapRows.{Standing, at, cells_of}
+use Rattle.ufs_spec.specs.Plain.{zero}
 use Rattle.ufs_spec.specs.Commands as command
 
 -- The pages
@@ -41,11 +35,8 @@ pub written_cells : List ℕ → Cells
 written_cells body = cells_of (written_pages body)
 
 pub turned_place : (p q : Place) → same_place p q ≡ same_place q p
-turned_place p q =
-    ⊎_elim
-    (λ h. ap (λ r. same_place r q) h.1 ∙ ap (same_place q) (sym h.1))
-    (λ h. h.0 ∙ sym (⊎_elim (λ k. absurd (h.1 (sym k.1))) (λ k. k.0) (place_cases _ _)))
-    (place_cases _ _)
+turned_place p q = ⊎_elim (λ h. ap (λ r. same_place r q) h.1 ∙ ap (same_place q) (sym h.1))
+    (λ h. h.0 ∙ sym (⊎_elim (λ k. absurd (h.1 (sym k.1))) (λ k. k.0) (place_cases _ _))) (place_cases _ _)
 
 pub marked_either : (b d : Bool) (x : Cell) →
     (if b then x else if d then Nothing else Nothing) ≡ (if b then x else Nothing)
@@ -56,11 +47,8 @@ marked_either false false x = refl
 -- nothing stands outside the mark's page
 pub outside_mark : (p : Place) → (p.die ≡ 0 → ⊥) → marked_cells p ≡ Nothing
 unfolding marked_cells
-outside_mark p other =
-    ⊎_elim
-    (λ h. absurd (other (sym (ap (λ q. q.die) h.1))))
-    (λ h. ap (λ b. if b then MarkPage (first_mark row) else Nothing) h.0)
-    (place_cases _ _)
+outside_mark p other = ⊎_elim (λ h. absurd (other (sym (ap (λ q. q.die) h.1))))
+    (λ h. ap (λ b. if b then MarkPage (first_mark row) else Nothing) h.0) (place_cases _ _)
 
 pub unwritten : marked_cells (place_of 1) ≡ Nothing
 unfolding marked_cells
@@ -84,9 +72,6 @@ put_cells body i p =
 mark_recorded : IsRecorded (cells_of marked_pages) (Some (first_mark row)) 0
 mark_recorded = recorded marked_pages (first_mark row) (place_of 0) refl refl refl
 
-mark_zeros : (k : Key) → Holds (cells_of marked_pages) (Some (first_mark row)) 1 k zero_block
-mark_zeros k = zeros marked_pages (Some (first_mark row)) 1 k refl
-
 -- a new device
 pub marked_stands : CellsStandFor row marked_cells (zero row)
 unfolding marked_cells
@@ -98,7 +83,7 @@ marked_stands = record {
   shape = new_shape row;
   plain = new_plain row;
   holds = λ k key. subst (Holds (cells_of marked_pages) (Some (first_mark row)) 1 k) (sym (new_zeros row k key))
-      (mark_zeros k);
+      (zeros marked_pages (Some (first_mark row)) 1 k refl);
 }
 
 -- What the mark and the block's page stand for
@@ -117,31 +102,27 @@ module _ (body : List ℕ) where
   write_recorded = recorded (written_pages body) (first_mark row) (place_of 0) refl refl refl
 
   write_kept : IsKept (cells_of (written_pages body)) (Some (first_mark row)) 1
-  write_kept =
-      kept_next (written_pages body) (first_mark row) 1 (omega arith) write_recorded
+  write_kept = kept_next (written_pages body) (first_mark row) 1 (omega arith) write_recorded
       (whole (written_pages body) 1 (place_of 1) the_tag body refl refl refl refl)
       (not_whole (written_pages body) 2 refl)
 
   -- the block where the key is its own, else zeros
   write_holds : (k : Key) (b : Bool) → same_key the_key k ≡ b → Holds (cells_of (written_pages body))
       (Some (first_mark row)) 2 k (if b then body else zero_block)
-  write_holds k true e =
-      held (written_pages body) (Some (first_mark row)) 2 k (place_of 1) the_tag body refl (λ h. h)
-      (same_from_true the_key k e)
-      (omega arith) (others k (same_key the_key k))
+  write_holds k true e = held (written_pages body) (Some (first_mark row)) 2 k (place_of 1) the_tag body refl (λ h. h)
+      (same_from_true the_key k e) (omega arith) (others k (same_key the_key k))
     where
       others : (k : Key) (b : Bool) → (not b || (false || (false || true))) && true ≡ true
       others k true = refl
       others k false = refl
-  write_holds k false e =
-      zeros (written_pages body) (Some (first_mark row)) 2 k
+  write_holds k false e = zeros (written_pages body) (Some (first_mark row)) 2 k
       (ap (λ b. (not b || (false || (false || false))) && true) e)
 
   module _ (can : CanApplyAll (zero row) (the_command body ∷ [])) where
     -- the content after the command
-    content_now : (k : Key) → IsKey (shape_of_numbers row) k →
+    content_now : {k : Key} → IsKey (shape_of_numbers row) k →
         content (apply (zero row) (the_command body)) k ≡ (if same_key the_key k then body else zero_block)
-    content_now k key =
+    content_now {k} key =
         one_command (zero row) (the_command body) can.1 k (subst (λ s. IsKey s k) (sym (new_shape row)) key)
         ∙ ap (λ x. if same_key the_key k then x else content (zero row) k)
         (block_written (zero row) body (new_shape row))
@@ -157,7 +138,6 @@ module _ (body : List ℕ) where
       is_kept = write_kept;
       shape = kept_shape (zero row) (the_command body) can.1.0 ∙ new_shape row;
       plain = kept_plain (zero row) (the_command body) (new_plain row) can.0 can.1;
-      holds = λ k key.
-          subst (Holds (cells_of (written_pages body)) (Some (first_mark row)) 2 k) (sym (content_now k key))
+      holds = λ k key. subst (Holds (cells_of (written_pages body)) (Some (first_mark row)) 2 k) (sym (content_now key))
           (write_holds k (same_key the_key k) refl);
     }

@@ -1,33 +1,20 @@
 -- A write of one block, stopped inside its program: the life, its stops and what opens after them.
-use Rattle.std.proofs.Common.{◌≡◌, ◌⊎◌, ◌++◌, ℕ, Bool, List, [], ◌∷◌, length, replicate, take, Some, refl, sym, ap, ◌∙◌}
-use Rattle.std.proofs.Common.{subst, inl, inr, ⊎_elim}
-use Rattle.std.proofs.lemmas.List.Elements.{All-cons, All-nil}
-use Rattle.std.specs.Global.{Vec}
-use Rattle.std.specs.Prelude.{Contains}
+use Rattle.power_loss.proofs.Common.{◌≡◌, ◌⊎◌, ◌++◌, ℕ, Bool, List, [], ◌∷◌, length, replicate, take, Some, refl, sym}
+use Rattle.power_loss.proofs.Common.{ap, ◌∙◌, subst, inl, inr, ⊎_elim, All-cons, All-nil, Vec, Contains, Array, Cell}
+use Rattle.power_loss.proofs.Common.{Cells, Shows, Programming, Spot, at_place, page_of, CanApplyAll, CellsStandFor}
+use Rattle.power_loss.proofs.Common.{IsCheckRight, MayBeLeft, Plain, after, apply, block_at, zero_block, Page, Place}
+use Rattle.power_loss.proofs.Common.{new_shape, at_place_cases}
+use Rattle.power_loss.proofs.MachineWords.{write_page, IsNew, data_program, place_of, row, state_15, the_data}
+use Rattle.power_loss.proofs.MachineWords.{the_write, write_events, write_outputs, Command, Write, IsLeft, IsLeftoverOf}
+use Rattle.power_loss.proofs.MachineWords.{IsOpened, Life, Stops, bad_in, die_of, held, page_left, IsHeard, State}
+use Rattle.power_loss.proofs.MachineWords.{numbers_of, Leftover, ValidState}
 use Rattle.ufs_laws.proofs.array_cells.CrashedCells.{page_left as crash_of_page}
 use Rattle.ufs_laws.proofs.new_dies.NewDeviceState.{Open, open_in}
 use Rattle.ufs_laws.proofs.worked_run.RunEvents.{flies_15, is_15}
 use Rattle.ufs_laws.proofs.worked_run.RunLife.{write_life}
 use Rattle.ufs_laws.proofs.worked_run.RunStates.{block_written, erased_array, marked_array, writing}
-use Rattle.ufs_laws.specs.GapRows.{write_page}
-use Rattle.ufs_laws.specs.Runs.{IsNew, data_program, place_of, row, state_15, the_data, the_write, write_events}
-use Rattle.ufs_laws.specs.Runs.{write_outputs}
-use Rattle.ufs_spec.specs.Cells.{Array, Cell, Cells, Shows}
-use Rattle.ufs_spec.specs.Commands.{Command, Write}
-use Rattle.ufs_spec.specs.Disk.{Programming, Spot, at_place, page_of}
-use Rattle.ufs_spec.specs.Keys.{CanApplyAll}
-use Rattle.ufs_spec.specs.Kept.{CellsStandFor}
-use Rattle.ufs_spec.specs.Lives.{IsLeft, IsLeftoverOf, IsOpened, Life, Stops, bad_in, die_of, held, page_left}
-use Rattle.ufs_spec.specs.Machine.{IsHeard}
-use Rattle.ufs_spec.specs.Pages.{IsCheckRight, MayBeLeft, check_of}
-use Rattle.ufs_spec.specs.Plain.{Plain, after, apply, block_at, zero, zero_block}
-use Rattle.ufs_spec.specs.Refusals.{State, numbers_of}
-use Rattle.ufs_spec.specs.declared.events.Leftover.{Leftover}
-use Rattle.ufs_spec.specs.declared.flash.Page.{Page}
-use Rattle.ufs_spec.specs.declared.flash.Place.{Place}
-use Rattle.ufs_spec.proofs.PlainFacts.{new_shape}
-use Rattle.ufs_spec.proofs.Updates.{at_place_cases}
-use Rattle.power_loss.specs.Exchange.{ValidState}
+use Rattle.ufs_spec.specs.Pages.{check_of}
+use Rattle.ufs_spec.specs.Plain.{zero}
 use Rattle.power_loss.specs.StoppedWrites.{IsStoppedWrite}
 use Rattle.power_loss.proofs.stops.LawfulLeftovers.{none_left}
 use Rattle.power_loss.proofs.stops.LeftoverLists.{first_contained, one_apart, only_contained}
@@ -42,16 +29,12 @@ use Rattle.ufs_spec.specs.declared.events.Leftover.TheVariants as leftover
 module _ (s : State) (p : Place) (cell : Cell) (page : Page)
     (flies : s.translation.disk.flights p.die ≡ Some (Programming p cell))
     (may : MayBeLeft (s.array p) (page_of cell) page) where
-  names_it : (l : Leftover) (q : Place) (x : Page) → Contains (leftover.Page p page ∷ []) l → page_left l q x → p ≡ q
-  names_it l q x there names =
-      (subst (λ m. page_left m q x) (only_contained there) names).0
+  names_it : {l : Leftover} {q : Place} (x : Page) → Contains (leftover.Page p page ∷ []) l → page_left l q x → p ≡ q
+  names_it {q = q} x there names = (subst (λ m. page_left m q x) (only_contained there) names).0
 
   pub one_page_left : IsLeft s.array (leftover.Page p page ∷ []) (at_place s.array p page)
-  one_page_left q =
-      ⊎_elim
-      (λ h. inl (leftover.Page p page, first_contained [], (sym h.0, h.1)))
-      (λ h. inr ((λ l x there names. h.0 (sym (names_it l q x there names))), h.1))
-      (at_place_cases s.array p page q)
+  one_page_left q = ⊎_elim (λ h. inl (leftover.Page p page, first_contained [], (sym h.0, h.1)))
+      (λ h. inr ((λ l x there names. h.0 (sym (names_it x there names))), h.1)) (at_place_cases s.array p page q)
 
   pub page_stops : Stops s (leftover.Page p page ∷ []) (at_place s.array p page)
   page_stops = record {
@@ -91,8 +74,7 @@ module _ (body : List ℕ) (long : length body ≡ 4096) (write block : Vec ℕ)
   lived = write_life s n body long write block w b
 
   pub write_valid : ValidState (state_15 s body)
-  write_valid =
-      valid_after s n (state_15 s body) (write_events write block) (write_outputs body)
+  write_valid = valid_after s n (state_15 s body) (write_events write block) (write_outputs body)
       (write_life s n body long write block w b)
 
   valid : ValidState t
@@ -137,7 +119,7 @@ module _ (body : List ℕ) (long : length body ≡ 4096) (write block : Vec ℕ)
 
     base_is : (u : State) (bad : Spot → Bool) → IsOpened row (left t.array) bad u → u.base ≡ p
     base_is = base_after s n t (write_events write block) (write_outputs body) lived lefts
-        (left t.array) stops c p shows stands
+        (left t.array) stops shows stands
 
     stopped : IsStoppedWrite body write block lefts left k found
     stopped = record {
@@ -152,8 +134,7 @@ module _ (body : List ℕ) (long : length body ≡ 4096) (write block : Vec ℕ)
       stops = stops;
       next = next.0;
       opened = next.1;
-      runs = run_after s n t (write_events write block) (write_outputs body) lived lefts
-          (left t.array) stops next.0 next.1;
+      runs = run_after s n t (write_events write block) (write_outputs body) lived lefts (left t.array) stops next.1;
       prefix = λ u bad opened. base_is u bad opened ∙ is_prefix;
       block_found = ap (block_at 0 0xFF) (base_is next.0 (bad_in t) next.1) ∙ has;
     }
@@ -167,33 +148,27 @@ module _ (body : List ℕ) (long : length body ≡ 4096) (write block : Vec ℕ)
   abbrev LeftAs : List Leftover → (Array → Array) → Type 0
   LeftAs lefts left = Stops t lefts (left t.array)
 
-  pub stopped_old : (lefts : Vec Leftover) → lefts.items ≡ [] → IsStoppedWrite body write block lefts
+  pub stopped_old : {lefts : Vec Leftover} → lefts.items ≡ [] → IsStoppedWrite body write block lefts
       (λ array. array) 0 zero_block
-  stopped_old lefts e =
-      stopped lefts (λ array. array)
+  stopped_old {lefts} e = stopped lefts (λ array. array)
       (subst (λ ls. LeftAs ls (λ array. array)) (sym e) (none_left)) marked_cells
       (zero row) shown marked_stands 0 (sym base) zero_block zero_found
 
   module _ (page : Page) (lefts : Vec Leftover) (e : lefts.items ≡ leftover.Page (place_of 1) page ∷ []) where
     page_is_left : MayBeLeft (t.array (place_of 1)) (page_of intended) page → LeftAs lefts.items (with_page page)
-    page_is_left left =
-        subst (λ ls. LeftAs ls (with_page page)) (sym e)
+    page_is_left left = subst (λ ls. LeftAs ls (with_page page)) (sym e)
         (page_stops t (place_of 1) intended page flies left)
 
     pub stopped_torn : (IsCheckRight page → ⊥) → IsStoppedWrite body write block lefts (with_page page) 0 zero_block
-    stopped_torn wrong =
-        stopped lefts (with_page page) (page_is_left (inr (inr wrong))) marked_cells (zero row)
-        (torn_shown t.array marked_cells page shown unwritten wrong) marked_stands 0
-        (sym base) zero_block zero_found
+    stopped_torn wrong = stopped lefts (with_page page) (page_is_left (inr (inr wrong))) marked_cells (zero row)
+        (torn_shown t.array marked_cells page shown unwritten wrong) marked_stands 0 (sym base) zero_block zero_found
 
   write_taken : apply (zero row) (the_command body) ≡ after t.base (take 1 t.accepted)
-  write_taken =
-      sym (ap (λ cs. after t.base (take 1 cs)) accepted
-      ∙ ap (λ p. apply p (the_command body)) base)
+  write_taken = sym (ap (λ cs. after t.base (take 1 cs)) accepted ∙ ap (λ p. apply p (the_command body)) base)
 
-  pub stopped_new : (lefts : Vec Leftover) → lefts.items ≡ leftover.Page (place_of 1) (page_of intended) ∷ [] →
+  pub stopped_new : {lefts : Vec Leftover} → lefts.items ≡ leftover.Page (place_of 1) (page_of intended) ∷ [] →
       IsStoppedWrite body write block lefts (with_page (page_of intended)) 1 body
-  stopped_new lefts e =
+  stopped_new {lefts} e =
       stopped lefts (with_page (page_of intended)) (page_is_left (page_of intended) lefts e (inr (inl refl)))
       (written_cells body) (apply (zero row) (the_command body))
       (subst (Shows (with_page (page_of intended) t.array)) (put_cells body)
@@ -212,6 +187,5 @@ two_checks (x ∷ xs) e = inl (λ h. let z : [] ≡ x ∷ xs = h in cc)
 
 pub some_torn : (torn : Page) × (IsCheckRight torn → ⊥)
 unfolding with_check
-some_torn =
-    ⊎_elim (λ h. (with_check [], h)) (λ h. (with_check (1 ∷ []), h))
+some_torn = ⊎_elim (λ h. (with_check [], h)) (λ h. (with_check (1 ∷ []), h))
     (two_checks (check_of zero_block (replicate 64 0)) refl)

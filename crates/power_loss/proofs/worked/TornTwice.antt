@@ -1,11 +1,15 @@
 -- Two dies are torn at once: one programs the block's page, the other erases a block.
-use Rattle.std.proofs.Common.{◌≡◌, ◌≢◌, ◌⊎◌, ◌==◌, ◌&&◌, ◌++◌, ℕ, zero, suc, if◌then◌else◌, List, [], ◌∷◌, length, Some}
-use Rattle.std.proofs.Common.{slice_get, refl, sym, ap, ◌∙◌, subst, inl, inr, ⊎_elim, arith}
-use Rattle.std.proofs.lemmas.List.Elements.{All-cons, All-head, All-nil, All-tail}
+use Rattle.power_loss.proofs.Common.{◌≡◌, ◌≢◌, ◌⊎◌, ◌==◌, ◌&&◌, ◌++◌, ℕ, zero, suc, if◌then◌else◌, List, [], ◌∷◌}
+use Rattle.power_loss.proofs.Common.{length, Some, slice_get, refl, sym, ap, ◌∙◌, subst, inl, inr, ⊎_elim, arith}
+use Rattle.power_loss.proofs.Common.{All-cons, All-head, All-nil, All-tail, Vec, Contains, Array, Cell, IsCell}
+use Rattle.power_loss.proofs.Common.{MarkPage, Nothing, Shows, same_place, Touches, page_of, IsCheckRight, MayBeLeft}
+use Rattle.power_loss.proofs.Common.{block_at, Page, Place, none-some, same_Some, opened_check}
+use Rattle.power_loss.proofs.MachineWords.{first_mark, write_page, Gets, IsNew, data_program, place_of, row, the_data}
+use Rattle.power_loss.proofs.MachineWords.{the_write, Write, blank_page, AreLeftovers, IsLawfulLeftover, IsLeftoverOf}
+use Rattle.power_loss.proofs.MachineWords.{IsOpened, Leads, Life, Stops, bad_in, die_of, held, page_left, Take, OfTake}
+use Rattle.power_loss.proofs.MachineWords.{IsHeard, observe, State, numbers_of, Event, Leftover, Output}
 use Rattle.std.proofs.lemmas.List.Kept.{AllPairs-cons}
-use Rattle.std.specs.Global.{Vec}
 use Rattle.std.specs.List.{All}
-use Rattle.std.specs.Prelude.{Contains}
 use Rattle.ufs_laws.proofs.pages.BlankPages.{nothing_is_blank}
 use Rattle.ufs_laws.proofs.lives.LivesJoined.{join}
 use Rattle.ufs_laws.proofs.new_dies.NewDeviceState.{Open, open_in}
@@ -13,26 +17,9 @@ use Rattle.ufs_laws.proofs.worked_run.RunEvents.{is_13}
 use Rattle.ufs_laws.proofs.answers.OnlyAnswers.{flight_gets}
 use Rattle.ufs_laws.proofs.worked_run.RunLife.{pending_life}
 use Rattle.ufs_laws.proofs.worked_run.RunStates.{erased_array, marked_array, pending}
-use Rattle.ufs_laws.specs.GapRows.{first_mark, write_page}
-use Rattle.ufs_laws.specs.Runs.{Gets, IsNew, begins, data_program, pending_events, pending_outputs, place_of, row}
-use Rattle.ufs_laws.specs.Runs.{state_13, the_data, the_write}
-use Rattle.ufs_spec.specs.Cells.{Array, Cell, IsCell, MarkPage, Nothing, Shows, same_place}
-use Rattle.ufs_spec.specs.Commands.{Write}
-use Rattle.ufs_spec.specs.Dies.{blank_page}
-use Rattle.ufs_spec.specs.Disk.{Touches, page_of, spot_of}
-use Rattle.ufs_spec.specs.Lives.{AreLeftovers, IsLawfulLeftover, IsLeftoverOf, IsOpened, Leads, Life, Stops, bad_in}
-use Rattle.ufs_spec.specs.Lives.{die_of, held, page_left}
-use Rattle.ufs_spec.specs.Machine.{Take, OfTake, IsHeard, observe}
-use Rattle.ufs_spec.specs.Pages.{IsCheckRight, MayBeLeft}
-use Rattle.ufs_spec.specs.Plain.{block_at, zero as zero_state}
-use Rattle.ufs_spec.specs.Refusals.{State, numbers_of}
-use Rattle.ufs_spec.specs.declared.events.Event.{Event}
-use Rattle.ufs_spec.specs.declared.events.Leftover.{Leftover}
-use Rattle.ufs_spec.specs.declared.events.Output.{Output}
-use Rattle.ufs_spec.specs.declared.flash.Page.{Page}
-use Rattle.ufs_spec.specs.declared.flash.Place.{Place}
-use Rattle.ufs_spec.proofs.Facts.{none-some, same_Some}
-use Rattle.ufs_spec.proofs.SealedPages.{opened_check}
+use Rattle.ufs_laws.specs.Runs.{begins, pending_events, pending_outputs}
+use Rattle.ufs_laws.specs.Runs.{state_13}
+use Rattle.ufs_spec.specs.Plain.{zero as zero_state}
 use Rattle.power_loss.specs.StoppedWrites.{AreTorn, IsTornTwice, other_erase}
 use Rattle.power_loss.proofs.stops.LawfulLeftovers.{each_stops}
 use Rattle.power_loss.proofs.stops.LeftoverLists.{contained_cases, one_apart, only_contained}
@@ -104,9 +91,6 @@ each_page P [] i {page} all e = absurd (none-some page e)
 each_page P (x ∷ xs) zero {page} all e = subst P (same_Some x page e) (All-head P x xs all)
 each_page P (x ∷ xs) (suc i) all e = each_page P xs i (All-tail P x xs all) e
 
-blank_cell : {page : Page} → (page ≡ blank_page) ⊎ (IsCheckRight page → ⊥) → IsCell page Nothing
-blank_cell h = ⊎_elim (λ e. subst (λ x. IsCell x Nothing) (sym e) nothing_is_blank) (torn_cell) h
-
 -- The life
 
 module _ (body : List ℕ) (long : length body ≡ 4096) (write block : Vec ℕ) (w : IsHeard write.items the_write)
@@ -168,11 +152,9 @@ module _ (body : List ℕ) (long : length body ≡ 4096) (write block : Vec ℕ)
   os = pending_outputs ++ begins other_erase ∷ begins (data_program body) ∷ []
 
   lived : Life s es os t
-  lived =
-      join s (pending_events write block) (event.Take 1 ∷ event.Take 0 ∷ []) pending_outputs
+  lived = join s (pending_events write block) (event.Take 1 ∷ event.Take 0 ∷ []) pending_outputs
       (begins other_erase ∷ begins (data_program body) ∷ []) (state_13 s body) t
-      (pending_life s n body long write block w b)
-      (first, leads_first, (t, leads_second, refl))
+      (pending_life s n body long write block w b) (first, leads_first, (t, leads_second, refl))
 
   flies : t.translation.disk.flights 0 ≡ Some (data_program body)
   flies = ap (λ x. x.translation.disk.flights 0) is ∙ first_flies o body
@@ -188,8 +170,7 @@ module _ (body : List ℕ) (long : length body ≡ 4096) (write block : Vec ℕ)
   base = ap (λ x. x.base) is ∙ busy_base o body ∙ same_base ∙ start_zero s n
 
   shown : Shows t.array marked_cells
-  shown =
-      subst (Shows t.array) (ap (λ x. x.translation.disk.cells) is ∙ busy_cells o body)
+  shown = subst (Shows t.array) (ap (λ x. x.translation.disk.cells) is ∙ busy_cells o body)
       (valid_after s n t es os lived).tied.shown
 
   -- the leftovers
@@ -205,21 +186,18 @@ module _ (body : List ℕ) (long : length body ≡ 4096) (write block : Vec ℕ)
       MayBeLeft (t.array p) (page_of intended) page
 
   page_lawful : IsLawfulLeftover t the_page
-  page_lawful p page h =
-      subst (May p) (sym h.1)
+  page_lawful p page h = subst (May p) (sym h.1)
       (subst (λ q. May q torn) h.0 (
         write_page 1 0xFF 0 body,
         subst (λ f. Touches f (place_of 1) (write_page 1 0xFF 0 body)) (sym flies) (refl, refl),
         inr (inr wrong),
       ))
 
-  block_die : (p : Place) → spot_of p ≡ record { die = 1; block = 0 } → p.die ≡ 1
-  block_die p e = ap (λ x. x.die) e
-
   block_lawful : IsLawfulLeftover t the_block
   block_lawful p page h = (
     Nothing,
-    subst (λ f. Touches f p Nothing) (sym (ap t.translation.disk.flights (block_die p h.0) ∙ erases)) (sym h.0, refl),
+    subst (λ f. Touches f p Nothing) (sym (ap t.translation.disk.flights (ap (λ x. x.die) h.0) ∙ erases))
+        (sym h.0, refl),
     ⊎_elim (λ e. inr (inl e)) (λ bad. inr (inr bad)) (each_page IsBlankOrTorn pages.items p.page all h.1),
   )
 
@@ -227,14 +205,9 @@ module _ (body : List ℕ) (long : length body ≡ 4096) (write block : Vec ℕ)
   both = the_page ∷ the_block ∷ []
 
   lawful : (l : Leftover) → Contains both l → IsLawfulLeftover t l
-  lawful l there =
-      ⊎_elim
-      (λ e. subst (IsLawfulLeftover t) (sym e) page_lawful)
+  lawful l there = ⊎_elim (λ e. subst (IsLawfulLeftover t) (sym e) page_lawful)
       (λ later. subst (IsLawfulLeftover t) (sym (only_contained later)) block_lawful)
       (contained_cases (the_block ∷ []) there)
-
-  pages_are : (numbers_of t).pages ≡ 64
-  pages_are = ap (λ x. (numbers_of x).pages) is ∙ busy_pages o body
 
   abbrev FitsJob : Leftover → Type 0
   FitsJob l = IsLeftoverOf (numbers_of t) (t.translation.disk.flights (die_of l)) l
@@ -247,11 +220,10 @@ module _ (body : List ℕ) (long : length body ≡ 4096) (write block : Vec ℕ)
 
   fit : AreLeftovers t both
   fit = (
-    All-cons FitsJob the_page (the_block ∷ [])
-        (subst (λ f. IsLeftoverOf (numbers_of t) f the_page) (sym flies) refl)
+    All-cons FitsJob the_page (the_block ∷ []) (subst (λ f. IsLeftoverOf (numbers_of t) f the_page) (sym flies) refl)
         (All-cons FitsJob the_block []
         (subst (λ f. IsLeftoverOf (numbers_of t) f the_block) (sym erases)
-        (refl, many ∙ sym pages_are)) (All-nil _)),
+        (refl, many ∙ sym (ap (λ x. (numbers_of x).pages) is ∙ busy_pages o body))) (All-nil _)),
     AllPairs-cons (λ l m. die_of l ≢ die_of m) the_page (the_block ∷ [])
         (All-cons Differs the_block [] differ (All-nil Differs)) (one_apart the_block),
   )
@@ -265,31 +237,25 @@ module _ (body : List ℕ) (long : length body ≡ 4096) (write block : Vec ℕ)
 
   -- what is left shows no new page
 
-  named_shown : (p : Place) (l : Leftover) → Contains both l → page_left l p (left p) → IsCell (left p) (marked_cells p)
-  named_shown p l there h =
-      ⊎_elim
-      (λ e. of_page (subst (λ x. page_left x p (left p)) e h))
+  named_shown : (p : Place) {l : Leftover} → Contains both l → page_left l p (left p) → IsCell (left p) (marked_cells p)
+  named_shown p there h = ⊎_elim (λ e. of_page (subst (λ x. page_left x p (left p)) e h))
       (λ later. of_block (subst (λ x. page_left x p (left p)) (only_contained later) h))
       (contained_cases (the_block ∷ []) there)
     where
       of_page : page_left the_page p (left p) → IsCell (left p) (marked_cells p)
-      of_page g =
-          subst (λ x. IsCell x (marked_cells p)) (sym g.1)
+      of_page g = subst (λ x. IsCell x (marked_cells p)) (sym g.1)
           (subst (IsCell torn) (sym (ap marked_cells (sym g.0) ∙ unwritten)) (torn_cell wrong))
 
       of_block : page_left the_block p (left p) → IsCell (left p) (marked_cells p)
       of_block g =
-          let die : p.die ≡ 1 = block_die p g.0 in
+          let die : p.die ≡ 1 = (ap (λ x. x.die) g.0) in
           subst (IsCell (left p)) (sym (outside_mark p (λ e. omega (arith, die, e))))
-          (blank_cell (each_page IsBlankOrTorn pages.items p.page all g.1))
+          (⊎_elim (λ e. subst (λ x. IsCell x Nothing) (sym e) nothing_is_blank) (torn_cell)
+          (each_page IsBlankOrTorn pages.items p.page all g.1))
 
   shown_left : Shows left marked_cells
-  shown_left p =
-      ⊎_elim
-      (λ h. named_shown p h.0 h.1 h.2)
-      (λ h.
-      subst (λ x. IsCell x (marked_cells p)) (sym h.1) (shown p))
-      (stops_both.is_left p)
+  shown_left p = ⊎_elim (λ h. named_shown p h.1 h.2)
+      (λ h. subst (λ x. IsCell x (marked_cells p)) (sym h.1) (shown p)) (stops_both.is_left p)
 
   module _ (lefts : Vec Leftover) (e : lefts.items ≡ both) where
     stops_so : Stops t lefts.items left
@@ -313,10 +279,10 @@ module _ (body : List ℕ) (long : length body ≡ 4096) (write block : Vec ℕ)
       stops = stops_so;
       next = next.0;
       opened = next.1;
-      runs = run_after s n t es os lived lefts left stops_so next.0 next.1;
-      prefix = λ u bad opened. base_after s n t es os lived lefts left stops_so marked_cells
-          (zero_state row) shown_left marked_stands u bad opened ∙ sym base;
-      block_found = ap (block_at 0 0xFF) (base_after s n t es os lived lefts left stops_so marked_cells
-          (zero_state row) shown_left marked_stands next.0 (bad_in t) next.1)
-          ∙ zero_found;
+      runs = run_after s n t es os lived lefts left stops_so next.1;
+      prefix = λ u bad opened. base_after s n t es os lived lefts left stops_so shown_left marked_stands u bad opened ∙
+          sym base;
+      block_found =
+          ap (block_at 0 0xFF) (base_after s n t es os lived lefts left stops_so shown_left marked_stands next.0
+          (bad_in t) next.1) ∙ zero_found;
     }

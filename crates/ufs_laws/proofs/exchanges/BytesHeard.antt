@@ -8,6 +8,7 @@ use Rattle.ufs_laws.proofs.exchanges.HeardOnce.{no_fault, one_fault}
 use Rattle.ufs_spec.proofs.CdbsBack as cdbs
 use Rattle.ufs_spec.proofs.Facts.{false≢true, same_Some}
 use Rattle.ufs_spec.proofs.ReadBack.{again, message_of, one_message}
+use Rattle.ufs_spec.specs.CdbFields.{named_cdb}
 use Rattle.ufs_spec.specs.Cdbs.{IsCdb, IsTakenCdb, SpellsCdb, cdb_bytes}
 use Rattle.ufs_spec.specs.Machine.{Faulty, Heard, IsCdbIn, IsHeard, Spelled, cdb_of}
 use Rattle.ufs_spec.specs.Messages.{IsByte, IsMessage, IsQuery, IsSense, IsTransferred, Spells, code_of, host_fault_of}
@@ -112,20 +113,20 @@ spells_cdb c bytes = dec_three (is_cdb c) (is_taken c) (same_bytes bytes (cdb_by
 spelled_named : (m : Message) (bytes : List ℕ) → Spells m bytes → message_of (code_of bytes) bytes ≡ m
 spelled_named m bytes h = ap (λ (b : List ℕ). message_of (code_of b) b) h.1 ∙ again m h.0
 
-cdb_named : (c : Cdb) (bytes : List ℕ) → SpellsCdb c bytes → cdbs.named_cdb bytes ≡ Some c
-cdb_named c bytes h = ap cdbs.named_cdb h.2 ∙ cdbs.again c h.0
+cdb_named : (c : Cdb) (bytes : List ℕ) → SpellsCdb c bytes → named_cdb bytes ≡ Some c
+cdb_named c bytes h = ap named_cdb h.2 ∙ cdbs.again c h.0
 
 cdb_in : (o : Option (List ℕ)) → (c : Option Cdb) × IsCdbIn o c
 cdb_in None = (None, refl)
-cdb_in (Some bytes) = by (cdbs.named_cdb bytes) refl
+cdb_in (Some bytes) = by (named_cdb bytes) refl
   where
-    checked : (c : Cdb) → cdbs.named_cdb bytes ≡ Some c → Dec (SpellsCdb c bytes) →
+    checked : (c : Cdb) → named_cdb bytes ≡ Some c → Dec (SpellsCdb c bytes) →
         (c : Option Cdb) × IsCdbIn (Some bytes) c
     checked c e (yes h) = (Some c, h)
     checked c e (no n) =
         (None, λ d h. n (subst (λ (x : Cdb). SpellsCdb x bytes) (same_Some d c (sym (cdb_named d bytes h) ∙ e)) h))
 
-    by : (o : Option Cdb) → cdbs.named_cdb bytes ≡ o → (c : Option Cdb) × IsCdbIn (Some bytes) c
+    by : (o : Option Cdb) → named_cdb bytes ≡ o → (c : Option Cdb) × IsCdbIn (Some bytes) c
     by None e = (None, λ d h. let other : None ≡ Some d = sym e ∙ cdb_named d bytes h in cc)
     by (Some c) e = checked c e (spells_cdb c bytes)
 

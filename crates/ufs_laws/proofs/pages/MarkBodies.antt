@@ -1,9 +1,11 @@
 -- A mark's fence and numbers are read back from its body.
-use Rattle.std.proofs.Common.{◌≡◌, ◌∙◌, ◌-◌, ℕ, zero, suc, ◌^◌, ◌<◌, ◌==◌, false, List, [], ◌∷◌, ◌++◌, All, Option}
+use Rattle.std.proofs.Common.{get_or, ◌+◌, ◌*◌, ◌≡◌, ◌∙◌, ◌-◌, ℕ, zero, suc, ◌^◌, ◌<◌, ◌==◌, false, List, [], ◌∷◌, ◌++◌}
+use Rattle.std.proofs.Common.{All, Option}
 use Rattle.std.proofs.Common.{None, Some, length, refl, sym, ap, drop, replicate, slice_index, append_assoc, arith}
 use Rattle.std.specs.Prelude.{if◌then◌else◌}
 use Rattle.std.specs.List.{flat_map}
 use Rattle.std.proofs.lemmas.Bool.Decides.{nat_tests}
+use Rattle.std.proofs.lemmas.List.{drop-drop}
 use Rattle.byteorder.specs.Endian.{big_number}
 use Rattle.byteorder.specs.Numbers.{big_number-reads_back}
 use Rattle.ufs_spec.specs.Cells.{IsFence, IsMarkBody, NumbersFit, UnitFits}
@@ -15,12 +17,30 @@ use Rattle.ufs_spec.specs.declared.flash.Fence.{Fence}
 
 -- Reading
 
+-- the unit in the first entry
+abbrev pub unit_in : List ℕ → UnitSpec
+unit_in bytes = record { blocks = big_number 4 bytes; boot = slice_index bytes 4; protect = slice_index bytes 5 }
+
 -- the units in the first n entries
 pub units_in : ℕ → List ℕ → List UnitSpec
 units_in zero bytes = []
-units_in (suc n) bytes =
-    record { blocks = big_number 4 bytes; boot = slice_index bytes 4; protect = slice_index bytes 5 }
-    ∷ units_in n (drop 8 bytes)
+units_in (suc n) bytes = unit_in bytes ∷ units_in n (drop 8 bytes)
+
+-- each of them is the one in its entry
+entry_read : (n k : ℕ) (bytes : List ℕ) (other : UnitSpec) → k < n
+    → get_or (units_in n bytes) k other ≡ unit_in (drop (8 * k) bytes)
+unfolding units_in
+entry_read zero k bytes other h = absurd (omega (arith, h))
+entry_read (suc n) zero bytes other h = refl
+entry_read (suc n) (suc k) bytes other h =
+    let entries : 8 + 8 * k ≡ 8 * suc k = omega arith in
+    entry_read n k (drop 8 bytes) other (omega (arith, h))
+    ∙ ap unit_in (drop-drop (8 * k) 8 bytes ∙ ap (λ (j : ℕ). drop j bytes) entries)
+
+units_count : (n : ℕ) (bytes : List ℕ) → length (units_in n bytes) ≡ n
+unfolding units_in
+units_count zero bytes = refl
+units_count (suc n) bytes = omega (arith, units_count n (drop 8 bytes))
 
 -- the fence with these ends, none where the last is 0
 abbrev fence_of : ℕ → ℕ → Option Fence
@@ -120,6 +140,22 @@ numbers_of_mark fence n body h =
     ap numbers_in (h.bytes ∙ parts.1)
     ∙ ap numbers_from (behind_fence fence (numbers_bytes n ++ (flat_map unit_bytes n.units.items ++ parts.0)))
     ∙ numbers_back n parts.0 h.numbers_fit
+
+-- each unit of a mark is read from its entry
+pub unit_of_mark : (fence : Option Fence) (n : Numbers) (body : List ℕ) (k : ℕ) (other : UnitSpec) →
+    IsMarkBody fence n body → k < length n.units.items
+    → unit_in (drop (32 + 8 * k) body) ≡ get_or n.units.items k other
+unit_of_mark fence n body k other h inside =
+    let said : ℕ = slice_index (drop 16 body) 1 in
+    let entries : List ℕ = drop 16 (drop 16 body) in
+    let all : numbers_in body ≡ n = numbers_of_mark fence n body h in
+    let units : units_in said entries ≡ n.units.items = ap (λ (m : Numbers). m.units.items) all in
+    let count : length n.units.items ≡ said = ap length (sym units) ∙ units_count said entries in
+    let start : 16 + (16 + 8 * k) ≡ 32 + 8 * k = omega arith in
+    let there : drop (8 * k) entries ≡ drop (32 + 8 * k) body =
+    drop-drop (8 * k) 16 (drop 16 body) ∙ drop-drop (16 + 8 * k) 16 body ∙ ap (λ (j : ℕ). drop j body) start in
+    ap unit_in (sym there) ∙ sym (entry_read said k entries other (omega (arith, count, inside)))
+    ∙ ap (λ (us : List UnitSpec). get_or us k other) units
 
 -- a body is that of one fence and one configuration
 pub one_fence : (f g : Option Fence) (n m : Numbers) (body : List ℕ) → IsMarkBody f n body → IsMarkBody g m body → f ≡ g

@@ -77,7 +77,7 @@ hold_as_read page t body h hold =
 -- Marks
 
 -- the tag of a mark is that of its number and the frontier that it records
-tag_of_mark : (t : Tag) (m : Mark) → IsTag t → t.kind ≡ 4 → m.number ≡ t.number → m.records ≡ t.frontier →
+pub tag_of_mark : (t : Tag) (m : Mark) → IsTag t → t.kind ≡ 4 → m.number ≡ t.number → m.records ≡ t.frontier →
     t ≡ mark_tag m
 tag_of_mark t m is kind number records =
     let unit : t.unit ≡ 0 = is.unit_of_data_alone (omega arith) in

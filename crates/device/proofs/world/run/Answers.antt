@@ -1,7 +1,7 @@
 use Rattle.std.proofs.Common.{◌∙◌, ◌+◌, ◌≤◌, List, [], length, sym, subst, ap}
 use Rattle.ufs_spec.specs.declared.events.Output.{Output}
 use Rattle.device.specs.Worlds.{IsUnderWay}
-use Rattle.device.proofs.dies_of_world.Runs.{got, run_begins, run_breaks, run_broken, run_ends, run_more}
+use Rattle.device.proofs.dies_of_world.Runs.{run_begins, run_breaks, run_broken, run_ends, run_more}
 use Rattle.device.proofs.world.run.Goals as goal
 
 pub loop-index-init : goal.loop-index-init
@@ -22,9 +22,7 @@ returns-in-Err-clause-broken c =
     (λ blank.
     let u = c.loop-index.invariant.under_way blank in
     run_breaks c.args.config c.args.dies.items c.args.events.now c.loop-index.trace.items c.loop-index.index
-    c.index-events-index.result c.loop-index.world _
-    (got c.args.events.now c.loop-index.index c.index-events-index.result c.loop-index-test.true
-    c.index-events-index.is) u
+    c.index-events-index.result c.loop-index.world _ c.loop-index-test.true c.index-events-index.is u
     (c.in-Err.ensures.played u.now u.fits c.loop-index.invariant.going_on))
 
 pub loop-index-preserved : goal.loop-index-preserved
@@ -35,9 +33,8 @@ loop-index-preserved c = record {
       λ blank.
       let u = c.loop-index.invariant.under_way blank in
       run_more c.args.config c.args.dies.items c.args.events.now c.loop-index.trace.items c.play.new.trace.items
-      c.loop-index.index c.index-events-index.result c.loop-index.world c.play.new.self
-      (got c.args.events.now c.loop-index.index c.index-events-index.result c.loop-index-test.true
-      c.index-events-index.is) u (c.in_default.ensures.played u.now u.fits c.loop-index.invariant.going_on);
+      c.loop-index.index c.index-events-index.result c.loop-index.world c.play.new.self c.loop-index-test.true
+      c.index-events-index.is u (c.in_default.ensures.played u.now u.fits c.loop-index.invariant.going_on);
 }
 
 pub returns-clause-lived : goal.returns-clause-lived

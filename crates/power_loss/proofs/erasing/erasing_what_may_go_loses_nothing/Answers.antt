@@ -7,16 +7,14 @@ pub returns-clause-within : goal.returns-clause-within
 returns-clause-within c = left_within
 
 pub returns-clause-sound : goal.returns-clause-sound
-returns-clause-sound c = λ t s crashed left m v st may crash loses n.
-    (fine t s crashed left m v st may crash loses n).sound
+returns-clause-sound c = λ t s crashed left m v st may crash loses n. (fine s crashed v st may crash loses n).sound
 
 pub returns-clause-suits : goal.returns-clause-suits
-returns-clause-suits c = λ t s crashed left m v st may crash loses n.
-    (fine t s crashed left m v st may crash loses n).suits
+returns-clause-suits c = λ t s crashed left m v st may crash loses n. (fine s crashed v st may crash loses n).suits
 
 pub returns-clause-prefix : goal.returns-clause-prefix
 returns-clause-prefix c = λ t s crashed left m kept v st may crash loses n.
-    (fine t s crashed left m v st may crash loses n).prefix kept
+    (fine s crashed v st may crash loses n).prefix kept
 
 pub returns-clause-opened : goal.returns-clause-opened
 returns-clause-opened c = opened_start

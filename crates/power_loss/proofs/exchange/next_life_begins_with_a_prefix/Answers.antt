@@ -8,7 +8,7 @@ pub returns-clause-suits : goal.returns-clause-suits
 returns-clause-suits c = λ s lefts left v stops. suits_left s v lefts left stops
 
 pub returns-clause-within : goal.returns-clause-within
-returns-clause-within c = λ s lefts left v blank stops. within_left s v lefts left stops blank
+returns-clause-within c = λ s lefts left v blank stops. within_left v stops blank
 
 pub returns-clause-prefix : goal.returns-clause-prefix
-returns-clause-prefix c = λ s t lefts left bad v stops opened. prefix_left s v lefts left stops t bad opened
+returns-clause-prefix c = λ s t lefts left bad v stops opened. prefix_left s v lefts left stops opened

@@ -4,13 +4,13 @@ use Rattle.power_loss.proofs.kept_pages.ReadsAreOfPages.{flying_there, read_ther
 use Rattle.power_loss.proofs.kept.a_page_that_is_read_is_a_groups.Goals as goal
 
 pub returns-clause-task : goal.returns-clause-task
-returns-clause-task c t die tag index place v may = read_there t die (ForTask tag index) place v may
+returns-clause-task c t die tag index place v may = read_there die (ForTask tag index) place v may
 
 pub returns-clause-rest : goal.returns-clause-rest
-returns-clause-rest c t die number index place v may = read_there t die (ForRest number index) place v may
+returns-clause-rest c t die number index place v may = read_there die (ForRest number index) place v may
 
 pub returns-clause-step : goal.returns-clause-step
-returns-clause-step c t die place v may = read_there t die ForStep place v may
+returns-clause-step c t die place v may = read_there die ForStep place v may
 
 pub returns-clause-flying : goal.returns-clause-flying
 returns-clause-flying c = flying_there

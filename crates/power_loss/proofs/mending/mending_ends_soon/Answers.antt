@@ -13,7 +13,7 @@ returns-clause-turn c = λ t v unmended due. turn_takes t unmended due
 
 -- src/mending.rt:17:1
 pub returns-clause-each_move : goal.returns-clause-each_move
-returns-clause-each_move c = λ t move v may. move_keeps_turns t move v
+returns-clause-each_move c = λ t move v may. move_keeps_turns move v
 
 -- src/mending.rt:17:1
 pub returns-clause-moves : goal.returns-clause-moves

@@ -6,7 +6,7 @@ returns-clause-more c = more
 
 pub returns-clause-lives : goal.returns-clause-lives
 returns-clause-lives c = λ n array bad s t es os opened h.
-    let r = lives_of n array bad s t es os opened h in (r.first, r.later, r.lives, r.ends)
+    let r = lives_of opened h in (r.first, r.later, r.lives, r.ends)
 
 pub returns-clause-right : goal.returns-clause-right
 returns-clause-right c = lives_right

@@ -3,7 +3,7 @@ use Rattle.power_loss.proofs.runs.one_array_is_left.Goals as goal
 
 pub returns-clause-named : goal.returns-clause-named
 returns-clause-named c = λ s lefts left l p page stops there names. left_named s.array lefts stops.fit.1 left
-    stops.is_left p page (l, there, names)
+    stops.is_left p (l, there, names)
 
 pub returns-clause-unnamed : goal.returns-clause-unnamed
 returns-clause-unnamed c = λ s lefts left p stops none. left_unnamed s.array lefts stops.fit.1 left stops.is_left p none

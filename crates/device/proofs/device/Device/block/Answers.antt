@@ -1,4 +1,3 @@
-use Rattle.device.specs.Rooms.{core_of}
 use Rattle.device.proofs.due_replies.BlocksOwed.{block_found}
 use Rattle.device.proofs.described.SameDevice.{same_layer}
 use Rattle.device.proofs.device.Device.block.Goals as goal
@@ -7,5 +6,5 @@ pub returns : goal.returns
 returns c =
     λ t h.
     block_found t c.args.self.now.loaded c.args.tag c.pinned.result c.in_ok-looked.looked _ h.valid c.in_ok-looked.was
-    (c.pinned.ensures.described t (same_layer (core_of c.self.inside) c.args.self.now t c.self.view_is h))
+    (c.pinned.ensures.described t (same_layer _ _ t c.self.view_is h))
     (λ x at right. c.block_looked.ensures t x h at right)

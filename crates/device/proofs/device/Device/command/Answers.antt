@@ -22,8 +22,9 @@ returns-then-is_full-clause-heard c =
 pub returns-clause-heard : goal.returns-clause-heard
 returns-clause-heard c =
     λ s bytes h spells none.
-    subst (IsHeardAs s bytes (Ok tt)) (sym c.open_task.ensures.2)
+    let opened = c.open_task.ensures.2 in
+    subst (IsHeardAs s bytes (Ok tt)) (sym opened.more)
     (opened_right c.args.self.now s c.args.flags c.args.lun c.args.tag c.args.expected c.args.cdb.now bytes h spells
-    none
-    c.open_task.ensures.0 c.open_task.ensures.1 (sym c.uses.ensures ∙ c.if-uses.false) (sym c.is_full.ensures
-    ∙ c.if-is_full.false))
+    none opened.layer c.open_task.ensures.0 c.open_task.ensures.1 opened.phase
+    (opened.begun s.translation h.kept.layer_kept) (sym c.uses.ensures ∙ c.if-uses.false)
+    (sym c.is_full.ensures ∙ c.if-is_full.false))

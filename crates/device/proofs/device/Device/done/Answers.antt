@@ -1,7 +1,5 @@
 use Rattle.std.proofs.Common.{◌∙◌, refl, sym, subst, ap}
-use Rattle.device.specs.Describes.{Describes}
-use Rattle.device.specs.Rooms.{core_of}
-use Rattle.device.proofs.described.SameDevice.{layer_is, same_core, same_layer}
+use Rattle.device.proofs.described.SameDevice.{same_core, same_layer}
 use Rattle.std.specs.Prelude.{is_some}
 use Rattle.device.specs.Calls.{lock_told}
 use Rattle.power_loss.proofs.books.PagesByName.{none_some, some_is}
@@ -13,42 +11,38 @@ use Rattle.device.proofs.device.Device.done.Goals as goal
 pub returns-in_default-clause-known : goal.returns-in_default-clause-known
 returns-in_default-clause-known c =
     λ s h.
-    let d : Describes (core_of c.self.inside) s = same_core (core_of c.self.inside) c.args.self.now s c.self.view_is h
-    in
-    sym (ap is_some c.in_default.is) ∙ c.done.ensures.known s.translation (layer_is (core_of c.self.inside) s d)
+    let d = same_core _ _ s c.self.view_is h in
+    sym (ap is_some c.in_default.is) ∙ c.done.ensures.known s.translation d.kept.layer_kept
 
 pub returns-in_default-clause-ended : goal.returns-in_default-clause-ended
 returns-in_default-clause-ended c =
     λ s ending left h is leaves.
-    let d : Describes (core_of c.self.inside) s = same_core (core_of c.self.inside) c.args.self.now s c.self.view_is h
-    in
-    let t = c.done.ensures.told s.translation ending (layer_is (core_of c.self.inside) s d) is in
+    let d = same_core _ _ s c.self.view_is h in
+    let t = c.done.ensures.told s.translation ending d.kept.layer_kept is in
     absurd (none_some t.0 (sym c.in_default.is ∙ t.1))
 
 pub returns-clause-known : goal.returns-clause-known
 returns-clause-known c =
     λ s h.
-    let d : Describes (core_of c.self.inside) s = same_core (core_of c.self.inside) c.args.self.now s c.self.view_is h
-    in
-    sym (ap is_some c.in-Some.is) ∙ c.done.ensures.known s.translation (layer_is (core_of c.self.inside) s d)
+    let d = same_core _ _ s c.self.view_is h in
+    sym (ap is_some c.in-Some.is) ∙ c.done.ensures.known s.translation d.kept.layer_kept
 
 pub returns-clause-ended : goal.returns-clause-ended
 returns-clause-ended c =
     λ s ending left h is leaves.
-    let inner = core_of c.self.inside in
-    let d : Describes inner s = same_core inner c.args.self.now s c.self.view_is h in
-    let layer = layer_is inner s d in
+    let d = same_core _ _ s c.self.view_is h in
+    let layer = d.kept.layer_kept in
     let t = c.done.ensures.told s.translation ending layer is in
-    let may = may_end inner s c.args.die c.args.outcome.now ending left d is leaves in
+    let may = may_end _ s c.args.die c.args.outcome.now ending left d is leaves in
     let ended : IsTold s.translation.disk.cells (s.translation.disk.flights c.args.die) ending c.in-Some.ended =
     subst (IsTold s.translation.disk.cells (s.translation.disk.flights c.args.die) ending)
     (some_is t.0 c.in-Some.ended (sym t.1 ∙ c.in-Some.is)) t.2 in (
       refl,
-      ends_right inner c.end_waiting.new.self s c.args.die c.args.outcome.now ending left c.done.new.self
+      ends_right _ c.end_waiting.new.self s c.args.die c.args.outcome.now ending left c.done.new.self
           c.in-Some.ended d is
           leaves (c.done.ensures.described s.translation ending layer is may) ended
           (λ who place flies. c.done.ensures.read s.translation who place layer flies)
           (λ u kept.
-          c.end_waiting.ensures.described u (same_layer c.tell.new.self _ u c.tell.ensures kept)
+          c.end_waiting.ensures u (same_layer c.tell.new.self _ u c.tell.ensures kept)
           ∙ ap (lock_told u) c.tell.ensures),
     )

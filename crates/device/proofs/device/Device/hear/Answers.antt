@@ -10,7 +10,7 @@ returns-in-DataOut-clause-heard c =
     data_heard_as c.args.self.now c.data_out.new.self s c.in-DataOut.lun c.in-DataOut.tag c.in-DataOut.offset
     c.in-DataOut.data
     c.as_slice.result.now bytes c.data_out.result h (subst (λ m. Spells m bytes) c.in-DataOut.is spells) none
-    c.as_slice.ensures.value c.data_out.ensures.answer c.data_out.ensures.after
+    c.as_slice.ensures.value c.data_out.ensures.heard
 
 pub returns-in_default : goal.returns-in_default
 returns-in_default c = record {

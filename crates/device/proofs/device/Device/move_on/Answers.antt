@@ -1,5 +1,4 @@
 use Rattle.std.proofs.Common.{subst, sym}
-use Rattle.ufs_spec.specs.Moves.{LetGo, WantPage, moved}
 use Rattle.device.specs.declared.tasks.Phase.{Phase}
 use Rattle.device.specs.Replies.{HasMoved}
 use Rattle.device.proofs.described.SameDevice.{same_layer}
@@ -9,6 +8,4 @@ pub returns-in-SendBlock-clause-moved : goal.returns-in-SendBlock-clause-moved
 returns-in-SendBlock-clause-moved c =
     λ t h.
     subst (λ (p : Phase). HasMoved c.set_phase-in-SendBlock.new.self.ftl t c.args.task.tag p) (sym c.in-SendBlock.is)
-    (same_layer c.set_phase-in-SendBlock.new.self _
-    (moved (moved t (LetGo c.args.task.tag 0)) (WantPage c.args.task.tag 1))
-    c.set_phase-in-SendBlock.ensures (c.let_go.ensures.one t h))
+    (same_layer _ _ _ c.set_phase-in-SendBlock.ensures (c.let_go.ensures.one t h))

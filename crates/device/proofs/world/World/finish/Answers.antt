@@ -1,4 +1,4 @@
-use Rattle.std.proofs.Common.{◌≡◌, ◌∙◌, ℕ, Some, None, List, sym, subst, ap, ◌<◌, length}
+use Rattle.std.proofs.Common.{◌≡◌, ◌∙◌, ℕ, Some, None, List, sym, subst, ap}
 use Rattle.ufs_spec.specs.declared.events.Event.TheVariants as event
 use Rattle.ufs_spec.specs.declared.events.Output.TheVariants as output
 use Rattle.device.specs.Describes.{Describes}
@@ -25,12 +25,11 @@ did w die j = record w {
 pub returns-in_err-outcome-clause-went : goal.returns-in_err-outcome-clause-went
 returns-in_err-outcome-clause-went c =
     λ s h.
-    let r = finish_can c.args.self.now s c.args.die c.in_ok-job.job h (sym c.end_job.ensures.what ∙ c.in_ok-job.was) in
     let same : c.end_job.new.self.dies ≡ c.args.self.now.dies = ap (λ (w : WorldState). w.dies) c.end_job.ensures.after
     in
-    absurd (subst (λ (dies : List DieState). (c.args.die < length dies →
-    CanDo (die_at dies c.args.die) c.in_ok-job.job → ⊥) → ⊥) (sym same) (λ no. no r.0 r.1)
-    c.in_err-outcome.ensures.cannot)
+    absurd (c.in_err-outcome.ensures.cannot
+    (subst (λ (dies : List DieState). CanDo (die_at dies c.args.die) c.in_ok-job.job) (sym same)
+    (finish_can c.args.self.now s c.args.die c.in_ok-job.job h (sym c.end_job.ensures.what ∙ c.in_ok-job.was))))
 
 pub returns-clause-went : goal.returns-clause-went
 returns-clause-went c =

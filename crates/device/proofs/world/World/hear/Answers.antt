@@ -1,8 +1,6 @@
 use Rattle.std.proofs.Common.{ℕ, List, refl, subst}
 use Rattle.ufs_spec.specs.declared.events.Event.TheVariants as event
 use Rattle.device.specs.Describes.{IsHeardAs}
-use Rattle.device.specs.Rooms.{world_of}
-use Rattle.device.specs.Worlds.{Fits}
 use Rattle.device.proofs.described.SameDevice.{same_world}
 use Rattle.device.proofs.dies_of_world.WentRight.{heard_went}
 use Rattle.device.proofs.world.World.hear.Goals as goal
@@ -10,8 +8,8 @@ use Rattle.device.proofs.world.World.hear.Goals as goal
 pub returns-clause-went : goal.returns-clause-went
 returns-clause-went c =
     λ s h.
-    let f : Fits (world_of c.self.inside) s = same_world (world_of c.self.inside) c.args.self.now s c.self.view_is h in
-    heard_went (world_of c.self.inside) c.host.new.self s (event.Host c.args.bytes.now) c.args.bytes.now.items
-    c.host.result (λ heard is. (heard, is, refl)) f
+    let f = same_world _ _ s c.self.view_is h in
+    heard_went _ c.host.new.self s (event.Host c.args.bytes.now) c.args.bytes.now.items c.host.result
+    (λ heard is. (heard, is, refl)) f
     (subst (λ (b : List ℕ). IsHeardAs s b c.host.result c.host.new.self) c.as_slice.ensures.value
     (c.host.ensures.heard s f.describes))

@@ -2,8 +2,7 @@ use Rattle.std.proofs.Common.{Some, sym, subst}
 use Rattle.ufs_spec.specs.declared.events.Event.TheVariants as event
 use Rattle.ufs_spec.specs.declared.events.Output.TheVariants as output
 use Rattle.device.specs.Kept.{WorldState}
-use Rattle.device.specs.Rooms.{world_of}
-use Rattle.device.specs.Worlds.{Fits, Went}
+use Rattle.device.specs.Worlds.{Went}
 use Rattle.device.proofs.described.SameDevice.{same_world}
 use Rattle.device.proofs.dies_of_world.WentRight.{given_went}
 use Rattle.device.proofs.world.World.take.Goals as goal
@@ -11,8 +10,7 @@ use Rattle.device.proofs.world.World.take.Goals as goal
 pub returns-clause-went : goal.returns-clause-went
 returns-clause-went c =
     λ s h.
-    let f : Fits (world_of c.self.inside) s = same_world (world_of c.self.inside) c.args.self.now s c.self.view_is h in
+    let f = same_world _ _ s c.self.view_is h in
     subst (λ (w : WorldState). Went s (event.Take c.args.die) w (Some (output.Take c.take-job.result)))
     (sym c.note_job.ensures)
-    (given_went (world_of c.self.inside) c.take-job.new.self s c.args.die c.take-job.result f
-    (c.take-job.ensures.given s f.describes))
+    (given_went _ c.take-job.new.self s c.args.die c.take-job.result f (c.take-job.ensures.given s f.describes))

@@ -1,13 +1,19 @@
-use Rattle.std.proofs.Common.{Option}
-use Rattle.ufs_spec.specs.declared.flash.Job.{Job}
-use Rattle.ftl_core.specs.Core.{Core}
-use Rattle.ftl_core.specs.Describes.{IsTaken}
-use Rattle.ftl_core.proofs.small_calls.Carried.{carried_with}
+use Rattle.std.proofs.Common.{Some, None, rules}
 use Rattle.ftl_core.proofs.job_taken.Takings.{takes_right}
 use Rattle.ftl_core.proofs.ftl.Ftl.take.Goals as goal
 
+pub returns-then-is_some-clause-described : goal.returns-then-is_some-clause-described
+returns-then-is_some-clause-described c =
+    takes_right c.args.self.now c.args.self.now c.args.die None (search rules) (search rules)
+
+pub returns-in_err-flight-clause-described : goal.returns-in_err-flight-clause-described
+returns-in_err-flight-clause-described c =
+    takes_right c.args.self.now c.args.self.now c.args.die _ (search rules) (search rules)
+
+pub returns-in_err-job-clause-described : goal.returns-in_err-job-clause-described
+returns-in_err-job-clause-described c =
+    takes_right c.args.self.now c.args.self.now c.args.die _ (search rules) (search rules)
+
 pub returns-clause-described : goal.returns-clause-described
 returns-clause-described c =
-    λ t h. carried_with (λ (j : Option Job) (x : Core). IsTaken t c.args.die j x)
-    c.start_job.result _ c.start_job.new.self _ c.start_job.ensures.job c.start_job.ensures.after
-    (takes_right c.args.self.now t c.args.die h)
+    takes_right c.args.self.now c.set_book.new.self c.args.die (Some c.in_ok-job.job) (search rules) (search rules)

@@ -1,0 +1,24 @@
+use Rattle.std.proofs.Common.{◌∙◌, refl, sym, subst, ap}
+use Rattle.std.specs.Prelude.{Option, Ok}
+use Rattle.device.specs.Calls.{lock_told}
+use Rattle.device.specs.Hears.{IsDataHeard, task_set}
+use Rattle.device.specs.declared.commands.AskedFor.{AskedFor}
+use Rattle.device.proofs.described.SameDevice.{same_layer}
+use Rattle.device.proofs.device.Device.data_out.Goals as goal
+
+pub returns-clause-heard : goal.returns-clause-heard
+returns-clause-heard c =
+    subst (λ (o : Option AskedFor). IsDataHeard c.args.self.now c.end_waiting.new.self c.args.data.now o (Ok tt))
+    (sym c.in-Some.is ∙ c.asked_for.ensures.what) (
+      refl,
+      record {
+        layer = c.accept-event.new.self.ftl;
+        event = c.accept-event.result;
+        taken = c.accept-event.ensures.taken;
+        told =
+            λ t h.
+            c.end_waiting.ensures t (same_layer c.set_phase.new.self _ t c.set_phase.ensures h)
+            ∙ ap (lock_told t) (c.set_phase.ensures
+            ∙ (λ i. task_set (c.accept-event.ensures.left i) c.in-Some.asked.index (c.after.ensures i)));
+      },
+    )

@@ -1,6 +1,0 @@
-use Rattle.std.proofs.Common.{◌≡◌, ◌++◌}
-use Rattle.device.specs.Kept.{bad_in}
-use Rattle.device.proofs.device.append_bad.Given as goal
-
-abbrev pub invariant-loop-block : goal.invariant-loop-block
-invariant-loop-block g l = l.all.items ≡ l.fn.all.items ++ bad_in g.D.Die.state l.block l.die

@@ -1,0 +1,128 @@
+-- The first pin of a reader, which is its only one.
+use Rattle.std.proofs.Common.{◌≡◌, ◌∙◌, ℕ, suc, ◌==◌, Bool, true, false, List, [], ◌∷◌, Option, Some, None, ap}
+use Rattle.std.proofs.Common.{refl, subst, sym, ⊎_elim}
+use Rattle.std.proofs.lemmas.List.Folds.{find_at}
+use Rattle.std.specs.List.{position_or_len}
+use Rattle.std.specs.Prelude.{◌&&◌, cond, filter, find, map, option_and_then, option_map, position, slice_get}
+use Rattle.ufs_spec.proofs.Facts.{false≢true, none-some, same_Some}
+use Rattle.ufs_spec.proofs.Lists.{find_behind, find_here, position_behind, position_cases, position_here}
+use Rattle.ufs_spec.specs.Ledger.{Entry, Name}
+use Rattle.ufs_spec.specs.Moves as move
+use Rattle.ufs_spec.specs.Translation as layer
+use Rattle.ftl_core.specs.declared.books.Pin.{Pin}
+use Rattle.ftl_core.specs.Describes.{PinKept, PinsKept}
+use Rattle.ftl_core.specs.Moves.{is_pin_of}
+
+-- Lists
+
+module _ {X : Type 0} (test : X → Bool) where
+  -- what is found passes
+  pub found_passes : (xs : List X) (x : X) → find test xs ≡ Some x → test x ≡ true
+  found_passes [] x e = absurd (none-some x e)
+  found_passes (y ∷ ys) x e = by (test y) refl e (found_passes ys x)
+    where
+      by : (b : Bool) → test y ≡ b → cond b (Some y) (find test ys) ≡ Some x →
+          (find test ys ≡ Some x → test x ≡ true) → test x ≡ true
+      by true f h behind = ap test (sym (same_Some y x h)) ∙ f
+      by false f h behind = behind h
+
+  -- it stands at the position of the first that passes
+  pub found_at : (xs : List X) → find test xs ≡ option_and_then (slice_get xs) (position test xs)
+  found_at [] = refl
+  found_at (x ∷ xs) = by (test x) refl (found_at xs)
+    where
+      behind : (k : Option ℕ) → option_and_then (slice_get (x ∷ xs)) (option_map suc k) ≡
+          option_and_then (slice_get xs) k
+      behind None = refl
+      behind (Some k) = refl
+
+      by : (b : Bool) → test x ≡ b → find test xs ≡ option_and_then (slice_get xs) (position test xs) →
+          find test (x ∷ xs) ≡ option_and_then (slice_get (x ∷ xs)) (position test (x ∷ xs))
+      by true e rest =
+          find_here test x xs e ∙ sym (ap (option_and_then (slice_get (x ∷ xs))) (position_here test x xs e))
+      by false e rest = find_behind test x xs e ∙ rest ∙ sym (behind (position test xs))
+          ∙ sym (ap (option_and_then (slice_get (x ∷ xs))) (position_behind test x xs e))
+
+  -- where none has a position, none passes
+  pub position_missed : (xs : List X) → position test xs ≡ None → (j : ℕ) (y : X) → slice_get xs j ≡ Some y →
+      test y ≡ false
+  position_missed xs h = ⊎_elim
+      (λ (r : (i : ℕ) × (x : X) × (position test xs ≡ Some i) × (slice_get xs i ≡ Some x) × (test x ≡ true)).
+      absurd (none-some r.0 (sym h ∙ r.2)))
+      (λ (r : (position test xs ≡ None) × ((j : ℕ) (y : X) → slice_get xs j ≡ Some y → test y ≡ false)). r.1)
+      (position_cases test xs)
+
+  -- all are changed, and pass as before
+  pub found_mapped : (f : X → X) → ((x : X) → test (f x) ≡ test x) → (xs : List X) →
+      find test (map f xs) ≡ option_map f (find test xs)
+  found_mapped f same [] = refl
+  found_mapped f same (x ∷ xs) =
+      (λ i. cond (same x i) (Some (f x)) (found_mapped f same xs i)) ∙ by (test x)
+    where
+      by : (b : Bool) → cond b (Some (f x)) (option_map f (find test xs)) ≡
+          option_map f (cond b (Some x) (find test xs))
+      by true = refl
+      by false = refl
+
+  -- all that pass are kept
+  pub found_kept : (kept : X → Bool) → ((x : X) → test x ≡ true → kept x ≡ true) → (xs : List X) →
+      find test (filter kept xs) ≡ find test xs
+  found_kept kept stays [] = refl
+  found_kept kept stays (x ∷ xs) = by (kept x) (test x) refl refl (found_kept kept stays xs)
+    where
+      by : (a b : Bool) → kept x ≡ a → test x ≡ b → find test (filter kept xs) ≡ find test xs →
+          find test (cond a (x ∷ filter kept xs) (filter kept xs)) ≡ cond b (Some x) (find test xs)
+      by true b e f rest = λ i. cond (f i) (Some x) (rest i)
+      by false true e f rest = absurd (false≢true (sym e ∙ stays x f))
+      by false false e f rest = rest
+
+-- Readers
+
+-- it stands for the first of the reader's task
+abbrev pub FoundKept : ℕ → (Name → Option Entry) → Option Pin → Option layer.Pin → Type 0
+FoundKept frontier entries None None = Unit {0}
+FoundKept frontier entries (Some p) (Some q) = PinKept frontier entries p q
+FoundKept frontier entries p q = ⊥
+
+pub pins_found : (frontier : ℕ) (entries : Name → Option Entry) (reader : ℕ) (ps : List Pin) (qs : List layer.Pin) →
+    PinsKept frontier entries ps qs →
+    FoundKept frontier entries (find (is_pin_of reader) ps) (find (move.is_pin_of reader 0) qs)
+pins_found frontier entries reader [] [] h = tt
+pins_found frontier entries reader [] (q ∷ qs) h = absurd h
+pins_found frontier entries reader (p ∷ ps) [] h = absurd h
+pins_found frontier entries reader (p ∷ ps) (q ∷ qs) h =
+    by (is_pin_of reader p) (move.is_pin_of reader 0 q)
+    ((λ i. (h.0.tag i == reader) && (h.0.first i == 0)) ∙ whole (is_pin_of reader p))
+    (pins_found frontier entries reader ps qs h.1)
+  where
+    whole : (b : Bool) → (b && true) ≡ b
+    whole true = refl
+    whole false = refl
+
+    by : (a b : Bool) → b ≡ a →
+        FoundKept frontier entries (find (is_pin_of reader) ps) (find (move.is_pin_of reader 0) qs) →
+        FoundKept frontier entries (cond a (Some p) (find (is_pin_of reader) ps))
+        (cond b (Some q) (find (move.is_pin_of reader 0) qs))
+    by true true e rest = h.0
+    by true false e rest = cc
+    by false true e rest = cc
+    by false false e rest = rest
+
+-- where the reader keeps something, so does its task
+pub pin_found : (frontier : ℕ) (entries : Name → Option Entry) (reader : ℕ) (ps : List Pin) (qs : List layer.Pin)
+    (p : Pin) → PinsKept frontier entries ps qs → find (is_pin_of reader) ps ≡ Some p →
+    (q : layer.Pin) × (find (move.is_pin_of reader 0) qs ≡ Some q) × PinKept frontier entries p q
+pin_found frontier entries reader ps qs p h e =
+    by (find (is_pin_of reader) ps) (find (move.is_pin_of reader 0) qs) e (pins_found frontier entries reader ps qs h)
+  where
+    by : (o : Option Pin) (r : Option layer.Pin) → o ≡ Some p → FoundKept frontier entries o r →
+        (q : layer.Pin) × (r ≡ Some q) × PinKept frontier entries p q
+    by None r f k = absurd (none-some p f)
+    by (Some x) None f k = absurd k
+    by (Some x) (Some q) f k =
+        (q, refl, subst (λ (z : Pin). PinKept frontier entries z q) (same_Some x p f) k)
+
+-- where the reader's pin stands
+pub found_there : {X : Type 0} (test : X → Bool) (xs : List X) (x : X) → find test xs ≡ Some x →
+    (k : ℕ) × (slice_get xs k ≡ Some x)
+found_there test xs x e = (position_or_len test xs, sym (find_at test xs) ∙ e)

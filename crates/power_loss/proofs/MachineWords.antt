@@ -1,0 +1,53 @@
+-- The words of the machine around the translation layer, of runs, and of what is promised.
+pub use Rattle.power_loss.specs.Collection.{IsBefore}
+pub use Rattle.power_loss.specs.Exchange.{AreApart, BookFits, DeedFits, EntryFits, IsArrayOf, IsSpot, IsTied, MayCome}
+pub use Rattle.power_loss.specs.Exchange.{ShortAwaits, ShortFits, TasksAreRight, TasksDiffer, TasksRight, ValidState}
+pub use Rattle.power_loss.specs.Exchange.{WriteFits, claim_of, claims_of}
+pub use Rattle.power_loss.specs.Losing.{IsStartRight, LosesIn, StartsRight, is_marked}
+pub use Rattle.power_loss.specs.Mending.{AreAllowedMoves, is_marking, mending_turns, turns_left, turns_of}
+pub use Rattle.power_loss.specs.Pending.{FrontierStops, PendingStays, accepted_by, brings_page}
+pub use Rattle.power_loss.specs.Promises.{IsReplied, has_task}
+pub use Rattle.power_loss.specs.Rests.{IsRestOf}
+pub use Rattle.power_loss.specs.Runs.{LivesRight, MayBeOpened, last_state}
+pub use Rattle.power_loss.specs.Shown.{IsShown, ShowsBlock, ShowsReads, ShowsRight}
+pub use Rattle.ufs_laws.specs.Exchange.{Every, IsSpoken}
+pub use Rattle.ufs_laws.specs.GapRows.{first_mark, write_page}
+pub use Rattle.ufs_laws.specs.Replies.{TaskSpeaks}
+pub use Rattle.ufs_laws.specs.Runs.{Gets, IsNew, data_program, place_of, row, state_15, the_data, the_write}
+pub use Rattle.ufs_laws.specs.Runs.{write_events, write_outputs}
+pub use Rattle.ufs_spec.specs.Cdbs.{address_of, blocks_of, operation_of, read_10, read_6}
+pub use Rattle.ufs_spec.specs.Commands.{Command, Write}
+pub use Rattle.ufs_spec.specs.Configs.{IsConfig}
+pub use Rattle.ufs_spec.specs.Dies.{DieState, blank_page}
+pub use Rattle.ufs_spec.specs.Exchanges.{Answering, Awaiting, Deed, ForFrames, ForUnmap, ForWrite, Gathering, Good}
+pub use Rattle.ufs_spec.specs.Exchanges.{NotRead, Purpose, ReadBlock, ReadState, Sending, SendingBytes, Short, Status}
+pub use Rattle.ufs_spec.specs.Exchanges.{Task, TaskSetFull, Unread, WasRead, count_at, invalid_operation, is_asked_in}
+pub use Rattle.ufs_spec.specs.Exchanges.{is_asked_of, is_short_of, is_task_of, no_unit, response, short_reply, task_of}
+pub use Rattle.ufs_spec.specs.Exchanges.{with_deed, without_short, without_task, write_error}
+pub use Rattle.ufs_spec.specs.Lives.{AreLeftovers, Fit, GoesOn, IsCall, IsFailure, IsFinish, IsLawfulLeftover, IsLeft}
+pub use Rattle.ufs_spec.specs.Lives.{IsLeftoverOf, IsLived, IsOpened, Leads, Life, Lived, Lives, Runs, Stops, array_of}
+pub use Rattle.ufs_spec.specs.Lives.{bad_in, die_of, ended_well, held, page_left}
+pub use Rattle.ufs_spec.specs.Machine.{Allowed, Answer, Call, Done, Due, Faulty, Heard, Host, IsCdbIn, IsHeard}
+pub use Rattle.ufs_spec.specs.Machine.{MayLeave, OfDone, OfHost, OfReply, OfTake, OfTurn, Reply, Spelled, Take, Turn}
+pub use Rattle.ufs_spec.specs.Machine.{abort_moves, accepts, array_behind, asked_fault, begun, begun_with, behind}
+pub use Rattle.ufs_spec.specs.Machine.{blocks_expected, blocks_in, claimed_by, command_heard, complete, data_for}
+pub use Rattle.ufs_spec.specs.Machine.{data_heard, deed_behind, deed_behind_block, deed_locked, deed_read, deed_reply}
+pub use Rattle.ufs_spec.specs.Machine.{durable, ends_with, fill_moves, fills, given, heard, hears, in_block, is_aborted}
+pub use Rattle.ufs_spec.specs.Machine.{is_durable, is_to_fill, keeps, kept_at, lock_applied, managed, message_fault}
+pub use Rattle.ufs_spec.specs.Machine.{moves_behind, observe, opened_with, opens_short, query_unanswered, read_begun}
+pub use Rattle.ufs_spec.specs.Machine.{read_blocks, read_noted, replied_by, sending, service, set_deed, short_locked}
+pub use Rattle.ufs_spec.specs.Machine.{short_replied, tag_in, task_behind, task_filled, task_locked, task_read}
+pub use Rattle.ufs_spec.specs.Machine.{task_replied, unit_or_first, with_moves, with_short, with_task, without_tasks}
+pub use Rattle.ufs_spec.specs.Machine.{write_complete, write_deed}
+pub use Rattle.ufs_spec.specs.Messages.{AreBytes}
+pub use Rattle.ufs_spec.specs.Refusals.{BootUnit, DeviceUnit, Line, Lun, ReportLunsUnit, Request, RpmbUnit, State}
+pub use Rattle.ufs_spec.specs.Refusals.{UnitOf, first_line, is_past, lacks_unit, line, lines_behind, locked, lun_of}
+pub use Rattle.ufs_spec.specs.Refusals.{mended, needs_mended, not_taken, numbers_of, operation_in, plain_now, refusal}
+pub use Rattle.ufs_spec.specs.Refusals.{spec_at, takes, unit_in, unit_of_request}
+pub use Rattle.ufs_spec.specs.Stages.{most_tasks}
+pub use Rattle.ufs_spec.specs.declared.configs.UnitSpec.{UnitSpec}
+pub use Rattle.ufs_spec.specs.declared.events.Event.{Event}
+pub use Rattle.ufs_spec.specs.declared.events.Leftover.{Leftover}
+pub use Rattle.ufs_spec.specs.declared.events.Output.{Output}
+pub use Rattle.ufs_spec.specs.declared.messages.Message.{Message}
+pub use Rattle.ufs_spec.specs.declared.scsi.Cdb.{Cdb}

@@ -1,0 +1,2 @@
+pub mod BadListed
+pub mod UsedBlocks

@@ -1,0 +1,6 @@
+use Rattle.std.proofs.Common.{◌≡◌, ◌++◌}
+use Rattle.recovery.specs.Found.{bad_in}
+use Rattle.recovery.proofs.blocks.append_bad.Given as goal
+
+abbrev pub invariant-loop-block : goal.invariant-loop-block
+invariant-loop-block g l = l.all.items ≡ l.fn.all.items ++ bad_in g.D.Die.state l.block l.die

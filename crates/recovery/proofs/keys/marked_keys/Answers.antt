@@ -1,0 +1,30 @@
+use Rattle.std.proofs.Common.{◌∙◌, ◌+◌, Global, List, Some, Vec, add-one, ap, false, subst, sym}
+use Rattle.std.proofs.lemmas.Option.{slice_get-get_or}
+use Rattle.ufs_spec.specs.Plain.{shape_of_numbers as shape}
+use Rattle.ufs_spec.specs.declared.flash.Key.{Key}
+use Rattle.recovery.specs.KeysInOrder.{AreMarked}
+use Rattle.recovery.proofs.key_order.LostKeys.{key_listed, key_skipped}
+use Rattle.recovery.proofs.keys.marked_keys.Goals as goal
+use Rattle.recovery.proofs.keys.marked_keys.Goals.{then-is_marked+in_ok-push, else-is_marked}
+
+pub loop-index-preserved : goal.loop-index-preserved
+loop-index-preserved c =
+    let there = slice_get-get_or c.args.marked.now c.loop-index.index false c.loop-index-test.true in
+    elim c.if-is_marked.branch [
+      | then-is_marked+in_ok-push w ↦
+          subst
+          (λ (keys : List Key). AreMarked (shape c.args.numbers.now) c.args.marked.now (c.loop-index.index + 1)
+          keys)
+          (sym (ap (λ (v : Vec Key Global). v.items) w.keys-is ∙ w.in_ok-push.ensures.items))
+          (rw add-one
+          (key_listed (shape c.args.numbers.now) c.args.marked.now c.loop-index.index c.loop-index.keys.items
+          c.loop-index.invariant w.key_at.result (there ∙ ap Some w.if-is_marked.true) w.key_at.ensures))
+      | else-is_marked w ↦
+          subst
+          (λ (keys : List Key). AreMarked (shape c.args.numbers.now) c.args.marked.now (c.loop-index.index + 1)
+          keys)
+          (sym (ap (λ (v : Vec Key Global). v.items) w.keys-is))
+          (rw add-one
+          (key_skipped (shape c.args.numbers.now) c.args.marked.now c.loop-index.index c.loop-index.keys.items
+          c.loop-index.invariant (there ∙ ap Some w.if-is_marked.false)))
+    ]

@@ -1,0 +1,6 @@
+use Rattle.ufs_spec.specs.Plain.{shape_of_numbers}
+use Rattle.recovery.specs.KeysInOrder.{AreMarked}
+use Rattle.recovery.proofs.keys.marked_keys.Given as goal
+
+abbrev pub invariant-loop-index : goal.invariant-loop-index
+invariant-loop-index l = AreMarked (shape_of_numbers l.numbers) l.marked l.index l.keys.items

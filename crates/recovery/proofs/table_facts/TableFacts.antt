@@ -1,0 +1,58 @@
+-- What holds of each table that was read off pages: its numbers have their ranges, and it has each block.
+use Rattle.std.proofs.Common.{◌≡◌, ◌∙◌, ◌≤◌, ◌^◌, ℕ, Bool, List, length, map, Some, slice_get, ap, subst, sym}
+use Rattle.std.proofs.Common.{⊎_elim, arith}
+use Rattle.std.proofs.lemmas.List.{length-map}
+use Rattle.ufs_spec.specs.Cells.{Array, Cells, IsCell, Mark, MarkPage, Shows}
+use Rattle.ufs_spec.specs.Dies.{DieState}
+use Rattle.ufs_spec.specs.Disk.{Spot}
+use Rattle.ufs_spec.specs.Lives.{Fit, bad_of}
+use Rattle.ufs_spec.specs.Translation.{spots}
+use Rattle.ufs_spec.specs.declared.configs.Numbers.{Numbers}
+use Rattle.ufs_spec.specs.declared.flash.Place.{Place}
+use Rattle.ufs_laws.proofs.pages.PageIsSomeCell.{some_cell}
+use Rattle.recovery.specs.Reading.{IsTable}
+use Rattle.recovery.specs.declared.pages.FoundPage.{FoundPage}
+use Rattle.recovery.specs.declared.reading.Table.{Table}
+use Rattle.recovery.proofs.bad_listed.UsedBlocks.{used_in_order, used_spot}
+
+-- what the pages are, whatever they are
+shown_cells : (array : Array) → (c : Cells) × Shows array c
+shown_cells array = ((λ p. (some_cell (array p)).0), (λ p. (some_cell (array p)).1))
+
+abbrev pub IsTableOf : Numbers → Array → Table → Type 0
+IsTableOf n array t = (c : Cells) → Shows array c → IsTable n c t
+
+pub frontiers_fit : (n : Numbers) (array : Array) (t : Table) → IsTableOf n array t → (i : ℕ) (e : FoundPage) →
+    slice_get t.pages.items i ≡ Some e → e.tag.frontier ≤ 2 ^ 62
+frontiers_fit n array t h i e at = let x = shown_cells array in ((h x.0 x.1).pages.tags i e at).0.frontier_fits
+
+pub records_fit : (n : Numbers) (array : Array) (t : Table) → IsTableOf n array t → t.recorded ≤ 2 ^ 62
+records_fit n array t h =
+    let x = shown_cells array in
+    ⊎_elim
+    (λ zero. omega (arith, zero))
+    (λ r. within r.0 r.1 r.2 r.3)
+    (h x.0 x.1).recorded.1
+  where
+    within : (p : Place) (m : Mark) → (shown_cells array).0 p ≡ MarkPage m → m.records ≡ t.recorded →
+        t.recorded ≤ 2 ^ 62
+    within p m is same =
+        let cell : IsCell (array p) (MarkPage m) = subst (IsCell (array p)) is ((shown_cells array).1 p) in
+        let fits = cell.1.tag_right.frontier_fits in
+        omega (arith, fits, same)
+
+pub each_block : (n : Numbers) (array : Array) (t : Table) (is_bad : Spot → Bool) (bads : List Bool) →
+    IsTableOf n array t → bads ≡ map is_bad (spots n) → length t.used.items ≡ length bads
+each_block n array t is_bad bads h is =
+    let x = shown_cells array in
+    ap length ((h x.0 x.1).used ∙ used_in_order n x.0)
+    ∙ (length-map (spots n) (used_spot n x.0) ∙ sym (ap length is ∙ length-map (spots n) is_bad))
+
+-- which blocks are bad, told of dies that are as they were
+pub bads_of : {D : Type 0} (state : D → DieState) (n m : Numbers) (old new : List D) (bads : List Bool) → n ≡ m →
+    Fit m (map state old) → map state new ≡ map state old →
+    (length new ≡ n.dies → bads ≡ map (bad_of (map state new)) (spots n)) →
+    bads ≡ map (bad_of (map state old)) (spots n)
+bads_of state n m old new bads is fit same told =
+    told (sym (length-map new state) ∙ (ap length same ∙ (fit.0 ∙ ap (λ (x : Numbers). x.dies) (sym is))))
+    ∙ ap (λ (dies : List DieState). map (bad_of dies) (spots n)) same

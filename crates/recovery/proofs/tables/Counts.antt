@@ -1,0 +1,57 @@
+-- One die of a list does a job: what it holds, and the counts of failures.
+use Rattle.std.proofs.Common.{◌≡◌, ℕ, zero, suc, ◌<◌, ◌≤◌, List, [], ◌∷◌, map, refl, ap, arith, get_or, length}
+use Rattle.std.specs.Prelude.{slice_set}
+use Rattle.std.proofs.lemmas.List.Elements.{All-get_or}
+use Rattle.std.specs.Prelude.{slice_index_or}
+use Rattle.ufs_spec.specs.DieLaws.{pages_in}
+use Rattle.ufs_spec.specs.Dies.{DieState, IsOfSize, LiesOnDie, new_die}
+use Rattle.ufs_spec.specs.Lives.{Fit}
+use Rattle.ufs_spec.specs.declared.configs.Numbers.{Numbers}
+use Rattle.ufs_spec.specs.declared.faults.OpenFault.{OpenFault}
+use Rattle.ufs_spec.specs.declared.faults.OpenFault.TheVariants as fault
+use Rattle.recovery.specs.Reading.{IsReadingFault, NoLower}
+
+-- what is told of the one stays, and so does what is told of each
+pub map_stays : {A B : Type 0} (f : A → B) (xs : List A) (i : ℕ) (d y : A) → f y ≡ f (get_or xs i d)
+    → map f (slice_set xs i y) ≡ map f xs
+map_stays f [] i d y same = refl
+map_stays f (z ∷ zs) zero d y same = ap (λ b. b ∷ map f zs) same
+map_stays f (z ∷ zs) (suc i) d y same = ap (λ bs. f z ∷ bs) (map_stays f zs i d y same)
+
+module _ {A : Type 0} (f : A → ℕ) where
+  -- a count that is no lower
+  pub counts_stay : (xs : List A) (i : ℕ) (d y : A) → f (get_or xs i d) ≤ f y
+      → NoLower (map f xs) (map f (slice_set xs i y))
+  counts_stay [] i d y up die = omega arith
+  counts_stay (z ∷ zs) zero d y up zero = up
+  counts_stay (z ∷ zs) zero d y up (suc die) = omega arith
+  counts_stay (z ∷ zs) (suc i) d y up zero = omega arith
+  counts_stay (z ∷ zs) (suc i) d y up (suc die) = counts_stay zs i d y up die
+
+  -- one that rose
+  pub count_rose : (xs : List A) (i : ℕ) (d y : A) → i < length xs → f (get_or xs i d) < f y
+      → get_or (map f xs) i 0 < get_or (map f (slice_set xs i y)) i 0
+  count_rose [] i d y inside up = absurd (omega (arith, inside))
+  count_rose (z ∷ zs) zero d y inside up = up
+  count_rose (z ∷ zs) (suc i) d y inside up = count_rose zs i d y (omega (arith, inside)) up
+
+pub no_lower : (counts : List ℕ) → NoLower counts counts
+no_lower counts die = omega arith
+
+pub no_lower_after : (a b d : List ℕ) → NoLower a b → NoLower b d → NoLower a d
+no_lower_after a b d h k die = omega (arith, h die, k die)
+
+-- a fault of what came later is one of all
+pub fault_later : (a b d : List ℕ) (e : OpenFault) → NoLower a b → IsReadingFault b d e → IsReadingFault a d e
+fault_later a b d fault.NoMemory h k = tt
+fault_later a b d (fault.ReadFault p) h k = omega (arith, h p.die, k)
+fault_later a b d fault.OtherConfig h k = k
+
+-- each page of the sizes lies on its die
+pub lies : (n : Numbers) (dies : List DieState) (d b g : ℕ) → Fit n dies → d < n.dies → b < n.blocks → g < n.pages
+    → LiesOnDie (slice_index_or dies d (new_die 0 0)) b g
+lies n dies d b g fit die block page =
+    let inside : d < length dies = omega (arith, fit.0, die) in
+    let size = All-get_or (IsOfSize n.blocks n.pages) dies d (new_die 0 0) inside fit.1 in
+    let pages = pages_in (slice_index_or dies d (new_die 0 0)) b n.blocks n.pages block size in
+    (omega (arith, size.0, block), omega (arith, pages, page))

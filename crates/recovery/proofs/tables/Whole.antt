@@ -1,0 +1,107 @@
+-- A table grows page by page, block by block and die by die to that of all pages.
+use Rattle.std.proofs.Common.{◌≡◌, ◌∙◌, ℕ, ◌+◌, Bool, List, [], ◌∷◌, ◌++◌, Some, None, ⊎_elim, refl, sym, subst, inl}
+use Rattle.std.specs.Prelude.{slice_get}
+use Rattle.ufs_spec.specs.Cells.{AreWithin, Cells, IsCell, Nothing, Shows}
+use Rattle.ufs_spec.specs.Dies.{DieState}
+use Rattle.ufs_spec.specs.Disk.{at_place}
+use Rattle.ufs_spec.specs.Kept.{IsNewestMark}
+use Rattle.ufs_spec.specs.Lives.{Fit, array_of}
+use Rattle.ufs_spec.specs.Openings.{IsNotHigher}
+use Rattle.ufs_spec.specs.declared.configs.Numbers.{Numbers}
+use Rattle.ufs_spec.specs.declared.flash.Page.{Page}
+use Rattle.ufs_spec.proofs.CellKinds.{mark_not_nothing, page_not_nothing}
+use Rattle.ufs_spec.proofs.Facts.{none-some}
+use Rattle.ufs_laws.proofs.array_cells.StandsForSomething.{within_dies}
+use Rattle.power_loss.proofs.die_pages.BlankOutsideDies.{fit_inside}
+use Rattle.recovery.specs.Listed.{AreListed, IsMarksRecord}
+use Rattle.recovery.specs.Reading.{IsNoted, IsTable, IsTableTo, is_used, newest_in, place_at}
+use Rattle.recovery.specs.declared.pages.FoundPage.{FoundPage}
+use Rattle.recovery.specs.declared.reading.Table.{Table}
+use Rattle.recovery.proofs.tables.Order.{all_is_read, before_is_lower, block_is_read, die_is_read, is_before}
+use Rattle.recovery.proofs.tables.Order.{not_before_itself, nothing_is_read, page_is_read}
+use Rattle.recovery.proofs.tables.Steps.{page_more}
+use Rattle.recovery.proofs.tables.Used.{used_block, used_die}
+
+-- what the dies show lies within them
+pub shown_within : (n : Numbers) (dies : List DieState) (c : Cells) → Fit n dies → Shows (array_of dies) c
+    → AreWithin n c
+shown_within n dies c fit shown = within_dies n (array_of dies) c (fit_inside n dies fit) shown
+
+module _ (n : Numbers) (c : Cells) where
+  none_listed : AreListed (λ p. Nothing) []
+  none_listed = record {
+    there = λ i e h. absurd (none-some e h);
+    tags = λ i e h. absurd (none-some e h);
+    all = λ p t body e. absurd (page_not_nothing Nothing t body e refl);
+    rising = λ i j a b h k less. absurd (none-some a h);
+  }
+
+  pub nothing_read : (t : Table) → t.pages.items ≡ [] → newest_in t ≡ None → t.recorded ≡ 0 → t.used.items ≡ []
+      → IsTableTo n 0 0 0 c t
+  nothing_read t pages newest recorded used = record {
+    seen = λ p. Nothing;
+    are_read = nothing_is_read c;
+    pages = subst (AreListed (λ p. Nothing)) (sym pages) none_listed;
+    newest = subst (IsNewestMark (λ p. Nothing)) (sym newest) (λ p m e. mark_not_nothing Nothing m e refl);
+    recorded =
+        subst (IsMarksRecord (λ p. Nothing)) (sym recorded)
+        (λ p m e. absurd (mark_not_nothing Nothing m e refl), inl refl);
+    used = used;
+  }
+
+  module _ (d b g : ℕ) (t u : Table) (page : Page) (r : IsTableTo n d b g c t) (is : IsCell page (c (place_at d b g)))
+      (noted : IsNoted (place_at d b g) (c (place_at d b g)) t u) where
+    behind : (i : ℕ) (e : FoundPage) → slice_get t.pages.items i ≡ Some e → IsNotHigher e.place (place_at d b g)
+    behind i e h =
+        let there = r.pages.there i e h in
+        ⊎_elim (λ before. before_is_lower d b g e.place before)
+        (λ no. absurd (page_not_nothing (r.seen e.place) e.tag there.0 there.1 (r.are_read.unread e.place no)))
+        (is_before d b g e.place)
+
+    pub page_read : IsTableTo n d b (g + 1) c u
+    page_read =
+        let empty : r.seen (place_at d b g) ≡ Nothing = r.are_read.unread (place_at d b g) (not_before_itself d b g) in
+        let more = page_more r.seen (place_at d b g) page (c (place_at d b g)) t.pages.items (newest_in t) t.recorded
+        empty is behind (record { pages = r.pages; newest = r.newest; recorded = r.recorded }) in
+        let seen : Cells = at_place r.seen (place_at d b g) (c (place_at d b g)) in
+        record {
+          seen = seen;
+          are_read = page_is_read d b g c r.seen r.are_read;
+          pages = subst (AreListed seen) (sym noted.pages) more.pages;
+          newest = subst (IsNewestMark seen) (sym noted.newest) more.newest;
+          recorded = subst (IsMarksRecord seen) (sym noted.recorded) more.recorded;
+          used = noted.used ∙ r.used;
+        }
+
+  module _ (within : AreWithin n c) where
+    pub block_read : (d b : ℕ) (t u : Table) (any : Bool) → IsTableTo n d b n.pages c t → any ≡ is_used n c d b
+        → u.pages.items ≡ t.pages.items → newest_in u ≡ newest_in t → u.recorded ≡ t.recorded
+        → u.used.items ≡ t.used.items ++ any ∷ [] → IsTableTo n d (b + 1) 0 c u
+    block_read d b t u any r is pages newest recorded used = record {
+      seen = r.seen;
+      are_read = block_is_read n c r.seen within d b r.are_read;
+      pages = subst (AreListed r.seen) (sym pages) r.pages;
+      newest = subst (IsNewestMark r.seen) (sym newest) r.newest;
+      recorded = subst (IsMarksRecord r.seen) (sym recorded) r.recorded;
+      used = used ∙ (λ i. r.used i ++ is i ∷ []) ∙ used_block n c d b;
+    }
+
+    pub die_read : (d : ℕ) (t : Table) → IsTableTo n d n.blocks 0 c t → IsTableTo n (d + 1) 0 0 c t
+    die_read d t r = record {
+      seen = r.seen;
+      are_read = die_is_read n c r.seen within d r.are_read;
+      pages = r.pages;
+      newest = r.newest;
+      recorded = r.recorded;
+      used = r.used ∙ used_die n c d;
+    }
+
+    pub all_read : (t : Table) → IsTableTo n n.dies 0 0 c t → IsTable n c t
+    all_read t r =
+        let whole = all_is_read n c r.seen within r.are_read in
+        record {
+          pages = subst (λ (s : Cells). AreListed s t.pages.items) whole r.pages;
+          newest = subst (λ (s : Cells). IsNewestMark s (newest_in t)) whole r.newest;
+          recorded = subst (λ (s : Cells). IsMarksRecord s t.recorded) whole r.recorded;
+          used = r.used;
+        }

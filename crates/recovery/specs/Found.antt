@@ -1,0 +1,51 @@
+-- What is found when the pages of all dies were read (this profile).
+use Rattle.std.specs.Prelude.{◌≡◌, ℕ, Bool, List, map, Option, Some, option_map, slice_get}
+use Rattle.ufs_spec.specs.Cells.{Cells, Mark}
+use Rattle.ufs_spec.specs.Dies.{DieState, is_bad_block}
+use Rattle.ufs_spec.specs.Disk.{Spot}
+use Rattle.ufs_spec.specs.Keys.{below}
+use Rattle.ufs_spec.specs.Kept.{IsKept, IsNewestMark, fence_in}
+use Rattle.ufs_spec.specs.Openings.{AreLost, IsBlockState, IsTop, lost_from}
+use Rattle.ufs_spec.specs.Plain.{shape_of_numbers}
+use Rattle.ufs_spec.specs.Sound.{CellsSuit}
+use Rattle.ufs_spec.specs.Translation.{spots}
+use Rattle.ufs_spec.specs.declared.configs.Numbers.{Numbers}
+use Rattle.ufs_spec.specs.declared.faults.OpenFault.{OpenFault}
+use Rattle.ufs_spec.specs.declared.faults.OpenFault.TheVariants as fault
+use Rattle.ufs_spec.specs.declared.flash.Key.{Key}
+use Rattle.page_tag.specs.Contents.{mark_of}
+use Rattle.recovery.specs.KeysInOrder.{IsIndex, state_of_found}
+use Rattle.recovery.specs.Listed.{IsContentPage}
+use Rattle.recovery.specs.Reading.{IsReadingFault}
+use Rattle.recovery.specs.declared.keys.FoundBlock.{FoundBlock}
+use Rattle.recovery.specs.declared.pages.FoundPage.{FoundPage}
+use Rattle.recovery.specs.declared.found.Found.{Found}
+
+-- for each block of a die whether it is bad, in order
+abbrev pub bad_in : {D : Type 0} → (D → DieState) → ℕ → D → List Bool
+bad_in state blocks die = map (is_bad_block (state die)) (below blocks)
+
+-- the newest mark that was found
+abbrev pub newest_found : Found → Option Mark
+newest_found f = option_map mark_of f.newest
+
+pub record IsFound (n : Numbers) (c : Cells) (bad : Spot → Bool) (f : Found) : Type 0 where
+  pub newest : IsNewestMark c (newest_found f)
+  pub suits : CellsSuit n c (newest_found f)
+  pub kept : IsKept c (newest_found f) f.kept
+  pub greatest_seen : IsTop c (newest_found f) f.greatest_seen
+  pub first_lost : f.first_lost ≡ lost_from (fence_in (newest_found f)) f.kept
+  -- of each key the page that has its content
+  pub contents : (k : Key) (i : ℕ) → IsIndex (shape_of_numbers n) k i →
+      (e : Option FoundPage) × (slice_get f.contents.items i ≡ Some e) × IsContentPage c (newest_found f) f.kept k e
+  pub lost : AreLost c f.first_lost f.greatest_seen f.lost.items
+  -- of each block of each die, in order, what it is
+  pub blocks : (i : ℕ) (s : Spot) → slice_get (spots n) i ≡ Some s →
+      (b : FoundBlock) × (slice_get f.blocks.items i ≡ Some b) × IsBlockState c bad s (state_of_found b)
+
+-- why a scan was refused: memory was refused, the read of the place failed meanwhile, or the dies hold another
+-- configuration
+abbrev pub IsScanFault : Numbers → Cells → List ℕ → List ℕ → OpenFault → Type 0
+IsScanFault n c before after fault.NoMemory = Unit {0}
+IsScanFault n c before after (fault.ReadFault p) = IsReadingFault before after (fault.ReadFault p)
+IsScanFault n c before after fault.OtherConfig = (m : Option Mark) × IsNewestMark c m × (CellsSuit n c m → ⊥)

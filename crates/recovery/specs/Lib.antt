@@ -1,0 +1,6 @@
+pub mod Buckets
+pub mod Found
+pub mod Greatest
+pub mod KeysInOrder
+pub mod Listed
+pub mod Reading

@@ -1,0 +1,111 @@
+-- What a reading of all pages writes down (this profile).
+use Rattle.std.specs.Prelude.{◌≡◌, ◌⊎◌, ℕ, ◌<◌, ◌≤◌, Bool, true, false, List, [], ◌∷◌, ◌++◌, map, Option, Some, None}
+use Rattle.std.specs.Prelude.{if◌then◌else◌, nat_lt, option_map, slice_index_or}
+use Rattle.std.specs.List.{flat_map, list_any}
+use Rattle.ufs_spec.specs.Cells.{Cell, Cells, GroupPage, Mark, MarkPage, Nothing}
+use Rattle.ufs_spec.specs.Keys.{below}
+use Rattle.ufs_spec.specs.Kept.{IsNewestMark}
+use Rattle.ufs_spec.specs.declared.configs.Numbers.{Numbers}
+use Rattle.ufs_spec.specs.declared.faults.OpenFault.{OpenFault}
+use Rattle.ufs_spec.specs.declared.faults.OpenFault.TheVariants as fault
+use Rattle.ufs_spec.specs.declared.flash.Place.{Place}
+use Rattle.page_tag.specs.Contents.{mark_of}
+use Rattle.recovery.specs.Listed.{AreListed, IsMarksRecord}
+use Rattle.recovery.specs.declared.pages.FoundPage.{FoundPage}
+use Rattle.recovery.specs.declared.reading.Table.{Table}
+
+-- ## Blocks
+
+abbrev pub place_at : ℕ → ℕ → ℕ → Place
+place_at die block page = record { die = die; block = block; page = page }
+
+abbrev pub is_something : Cell → Bool
+is_something Nothing = false
+is_something (GroupPage tag body) = true
+is_something (MarkPage m) = true
+
+-- whether a page of the block is anything
+abbrev pub is_used : Numbers → Cells → ℕ → ℕ → Bool
+is_used n c die block = list_any (λ page. is_something (c (place_at die block page))) (below n.pages)
+
+-- for each block before this one of a die, in order, whether a page of it is anything
+abbrev pub used_before : Numbers → Cells → ℕ → ℕ → List Bool
+used_before n c die block =
+    flat_map (λ d. map (is_used n c d) (below n.blocks)) (below die) ++ map (is_used n c die) (below block)
+
+-- ## Tables
+
+-- the newest mark of the table, as one of the cells
+abbrev pub newest_in : Table → Option Mark
+newest_in t = option_map mark_of t.newest
+
+-- what is read off the cells: their pages of groups, their newest mark, the greatest frontier that a mark records, and
+-- for each block of each die, in order, whether a page of it is anything
+pub record IsTable (n : Numbers) (c : Cells) (t : Table) : Type 0 where
+  pub pages : AreListed c t.pages.items
+  pub newest : IsNewestMark c (newest_in t)
+  pub recorded : IsMarksRecord c t.recorded
+  pub used : t.used.items ≡ used_before n c n.dies 0
+
+-- ## Reading page by page
+
+-- the place stands before this page in the order by die, then by block, then by page
+abbrev pub StandsBefore : ℕ → ℕ → ℕ → Place → Type 0
+StandsBefore die block page p =
+    (p.die < die)
+    ⊎ (((p.die ≡ die) × (p.block < block))
+    ⊎ ((p.die ≡ die) × (p.block ≡ block) × (p.page < page)))
+
+-- the cells of the pages before this one, and nothing else
+pub record AreRead (die block page : ℕ) (c seen : Cells) : Type 0 where
+  pub read : (p : Place) → StandsBefore die block page p → seen p ≡ c p
+  pub unread : (p : Place) → (StandsBefore die block page p → ⊥) → seen p ≡ Nothing
+
+-- the table of the pages before this one, and of the blocks before its block
+pub record IsTableTo (n : Numbers) (die block page : ℕ) (c : Cells) (t : Table) : Type 0 where
+  pub seen : Cells
+  pub are_read : AreRead die block page c seen
+  pub pages : AreListed seen t.pages.items
+  pub newest : IsNewestMark seen (newest_in t)
+  pub recorded : IsMarksRecord seen t.recorded
+  pub used : t.used.items ≡ used_before n c die block
+
+-- what a page adds to the list of the pages of groups
+abbrev pub listed : Place → Cell → List FoundPage
+listed p Nothing = []
+listed p (GroupPage tag body) = record { place = p; tag = tag } ∷ []
+listed p (MarkPage m) = []
+
+-- the newer of two marks: the first unless the second has a greater number
+abbrev pub newer : Option Mark → Mark → Mark
+newer None m = m
+newer (Some known) m = if nat_lt known.number m.number then m else known
+
+abbrev pub newest_after : Cell → Option Mark → Option Mark
+newest_after Nothing known = known
+newest_after (GroupPage tag body) known = known
+newest_after (MarkPage m) known = Some (newer known m)
+
+abbrev pub recorded_after : Cell → ℕ → ℕ
+recorded_after Nothing known = known
+recorded_after (GroupPage tag body) known = known
+recorded_after (MarkPage m) known = if nat_lt known m.records then m.records else known
+
+-- the table with a page more
+pub record IsNoted (p : Place) (x : Cell) (old new : Table) : Type 0 where
+  pub pages : new.pages.items ≡ old.pages.items ++ listed p x
+  pub newest : newest_in new ≡ newest_after x (newest_in old)
+  pub recorded : new.recorded ≡ recorded_after x old.recorded
+  pub used : new.used.items ≡ old.used.items
+
+-- ## Failures
+
+-- no count of failures is lower than it was
+abbrev pub NoLower : List ℕ → List ℕ → Type 0
+NoLower before after = (die : ℕ) → slice_index_or before die 0 ≤ slice_index_or after die 0
+
+-- memory was refused, or the die of the place failed meanwhile
+abbrev pub IsReadingFault : List ℕ → List ℕ → OpenFault → Type 0
+IsReadingFault before after fault.NoMemory = Unit {0}
+IsReadingFault before after (fault.ReadFault p) = slice_index_or before p.die 0 < slice_index_or after p.die 0
+IsReadingFault before after fault.OtherConfig = ⊥

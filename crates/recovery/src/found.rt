@@ -1,0 +1,138 @@
+//! What the dies stand for when a device is opened over them.
+ghost use Rattle.std.specs.Prelude.{◌≡◌, ◌≤◌, ◌^◌, ◌↔◌, ℕ, Bool, Some, IfErr, IfOk, IsTrue, length, map, option_map, slice_get};
+ghost use Rattle.ufs_spec.specs.Cells as cells;
+ghost use Rattle.ufs_spec.specs.Cells.{AreWithin, Cells, Shows};
+ghost use Rattle.ufs_spec.specs.Disk.{Spot};
+ghost use Rattle.ufs_spec.specs.Kept.{fence_in};
+ghost use Rattle.ufs_spec.specs.Lives.{Fit, array_of, bad_of};
+ghost use Rattle.ufs_spec.specs.Sound.{CellsSuit};
+ghost use Rattle.ufs_spec.specs.Translation.{spots};
+ghost use Rattle.page_tag.specs.Contents.{mark_of};
+ghost use Rattle.recovery.specs.Found.{IsFound, IsScanFault};
+ghost use Rattle.recovery.specs.Reading.{IsTable, newest_in};
+ghost use Rattle.recovery.specs.declared.pages.FoundPage.{FoundPage};
+
+use crate::blocks::bad_blocks;
+use crate::kept::{first_lost, greatest_seen, kept_number, recorded_frontier};
+use crate::keys::{FoundBlock, are_known, block_states, content_pages, lost_keys};
+use crate::pages::FoundPage;
+use crate::reading::{Table, read_all};
+use nand_model::Die;
+use page_tag::Mark;
+use std::alloc::{AllocError, Global};
+use ufs_spec::{Config, Fence, Key, Numbers, OpenFault};
+
+/// What the dies stand for.
+#[derive(Drop)]
+pub struct Found {
+    /// The newest mark; `None` on dies without a mark.
+    pub newest: Option<Mark>,
+    /// The kept number: from the greatest recorded frontier on, every group up to it is whole.
+    pub kept: u64,
+    /// The greatest number that a page, a mark or the fence says.
+    pub greatest_seen: u64,
+    /// The first number that is lost; above `greatest_seen` if none is.
+    pub first_lost: u64,
+    /// For each key of the device, in order, the page that has its content; `None` if it reads as zeros.
+    pub contents: Vec<Option<FoundPage>>,
+    /// The keys with a lost page, each once, in order.
+    pub lost: Vec<Key>,
+    /// For each block of each die, in order, what it is.
+    pub blocks: Vec<FoundBlock>,
+}
+
+/// Reads all pages of the dies, bad blocks too, each once, and tells what they stand for. It writes
+/// nothing, and after an error the dies are as before too. The dies are as many and as large as the
+/// configuration says.
+///
+/// # Errors
+///
+/// `NoMemory` if memory was refused; `ReadFault` if the read of that place failed in this call;
+/// else `OtherConfig` if the newest mark is of another configuration, or a page is of a unit or an
+/// address that the configuration has not.
+pub fn scan<D: Die>(alloc: Global, dies: &mut [D], config: &Config) -> Result<Found, OpenFault>
+    requires { Fit config.now (map D.state dies.old) }
+    ensures same { map D.state dies.new ≡ map D.state dies.old }
+    ensures found { IfOk result (λ f. (c : Cells) → Shows (array_of (map D.state dies.old)) c →
+        IsFound config.now c (bad_of (map D.state dies.old)) f) }
+    ensures fault { IfErr result (λ e. (c : Cells) → Shows (array_of (map D.state dies.old)) c →
+        IsScanFault config.now c (map D.failed dies.old) (map D.failed dies.new) e) }
+{
+    let numbers = config.numbers();
+    let table = match read_all(alloc, dies, numbers) {
+        Ok(table) => table,
+        Err(fault) => return Err(fault),
+    };
+    if !is_of_config(&table, numbers) {
+        return Err(OpenFault::OtherConfig);
+    }
+    let Ok(bad) = bad_blocks(alloc, dies, numbers) else {
+        return Err(OpenFault::NoMemory);
+    };
+    match found_in(alloc, table, bad.as_slice(), numbers) {
+        Ok(found) => Ok(found),
+        Err(_) => Err(OpenFault::NoMemory),
+    }
+}
+
+/// Whether the newest mark, if there is one, has these numbers, and the device has the key of each page.
+fn is_of_config(table: &Table, numbers: &Numbers) -> bool
+    ensures { (c : Cells) → IsTable numbers.now c table.now →
+        IsTrue result ↔ CellsSuit numbers.now c (newest_in table.now) }
+{
+    has_numbers(&table.newest, numbers) && are_known(table.pages.as_slice(), numbers)
+}
+
+/// Whether the mark, if there is one, has these numbers.
+fn has_numbers(mark: &Option<Mark>, numbers: &Numbers) -> bool
+    ensures { IsTrue result ↔ ((m : cells.Mark) → option_map mark_of mark.now ≡ Some m → m.numbers ≡ numbers.now) }
+{
+    match mark {
+        Some(mark) => mark.numbers == *numbers,
+        None => true,
+    }
+}
+
+/// The fence of the newest mark, if it has one.
+fn fence_of(mark: &Option<Mark>) -> Option<Fence>
+    ensures { result ≡ fence_in (option_map mark_of mark.now) }
+{
+    match mark {
+        Some(mark) => mark.fence,
+        None => None,
+    }
+}
+
+/// What the table of all pages stands for, with which blocks are bad.
+fn found_in(
+    alloc: Global,
+    table: Table,
+    bad: &[bool],
+    numbers: &Numbers,
+) -> Result<Found, AllocError>
+    requires pages { (i : ℕ) (e : FoundPage) → slice_get table.pages.items i ≡ Some e → e.tag.frontier ≤ 2 ^ 62 }
+    requires marks { table.recorded ≤ 2 ^ 62 }
+    requires blocks { length table.used.items ≡ length bad.now }
+    ensures { IfOk result (λ f. (c : Cells) (is_bad : Spot → Bool) → IsTable numbers.now c table →
+        AreWithin numbers.now c → CellsSuit numbers.now c (newest_in table) → bad.now ≡ map is_bad (spots numbers.now) →
+        IsFound numbers.now c is_bad f) }
+{
+    let fence = fence_of(&table.newest);
+    let pages = table.pages.as_slice();
+    let recorded = recorded_frontier(pages, fence, table.recorded);
+    let kept = kept_number(alloc, pages, recorded)?;
+    let first_lost = first_lost(fence, kept);
+    let greatest_seen = greatest_seen(pages, fence, table.recorded);
+    let contents = content_pages(alloc, pages, fence, kept, numbers)?;
+    let lost = lost_keys(alloc, pages, first_lost, numbers)?;
+    let blocks = block_states(alloc, table.used.as_slice(), bad)?;
+    Ok(Found {
+        newest: table.newest,
+        kept,
+        greatest_seen,
+        first_lost,
+        contents,
+        lost,
+        blocks,
+    })
+}

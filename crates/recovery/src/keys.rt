@@ -1,0 +1,368 @@
+//! The keys of a device in order, the page that has the content of each, and the keys with a lost
+//! page.
+ghost use Rattle.std.specs.Prelude.{◌≡◌, ◌↔◌, ℕ, ◌+◌, ◌*◌, ◌/◌, ◌<◌, ◌≤◌, ◌^◌, Bool, true, false, None, replicate, IfOk, IfSome, IsTrue, MatchOption, Option, Some, List, length, map, sum, take, slice_get, slice_index_or};
+ghost use Rattle.ufs_spec.specs.Cells.{Cells, GroupPage, Mark, key_of};
+ghost use Rattle.ufs_spec.specs.Disk.{Spot};
+ghost use Rattle.ufs_spec.specs.Keys.{IsKey, area_pages};
+ghost use Rattle.ufs_spec.specs.Kept.{fence_in};
+ghost use Rattle.ufs_spec.specs.Openings.{AreLost, IsBefore, IsBlockState};
+ghost use Rattle.ufs_spec.specs.Plain.{shape_of_numbers};
+ghost use Rattle.ufs_spec.specs.declared.configs.UnitSpec.{UnitSpec};
+ghost use Rattle.ufs_spec.specs.declared.flash.Place.{Place};
+ghost use Rattle.ufs_spec.specs.declared.flash.Key.{Key};
+ghost use Rattle.ufs_spec.specs.declared.flash.Tag.{Tag};
+ghost use Rattle.recovery.specs.KeysInOrder.{AreKnown, AreMarked, IsIndex, IsLostAmong, TellsUse, found_block, is_fenced, is_newer, key_total, state_of_found, with_page};
+ghost use Rattle.recovery.specs.Listed.{AreListed, IsContentPage};
+
+use crate::pages::FoundPage;
+use std::alloc::{AllocError, Global};
+use ufs_spec::{Fence, Key, Numbers, Tag, UnitSpec};
+
+/// How many pages 128 KiB of the RPMB area have.
+const PAGES_A_STEP: usize = 32;
+
+/// What a block is when a device is opened over written dies.
+#[derive(Clone, Copy, Debug, PartialEq, Eq)]
+pub enum FoundBlock {
+    /// None of its pages is anything.
+    Free,
+    /// One of its pages is a page of a group or a mark.
+    Closed,
+    /// It is bad.
+    Bad,
+}
+
+/// How many keys a device with these numbers has.
+pub fn key_count(numbers: &Numbers) -> usize
+    ensures count { result ≡ key_total (shape_of_numbers numbers.now) }
+    ensures small { result ≤ 2 ^ 36 }
+{
+    settings_index(numbers) + 1
+}
+
+/// The index of the settings, which stand last.
+fn settings_index(numbers: &Numbers) -> usize
+    ensures value { let s = shape_of_numbers numbers.now in result ≡ sum s.blocks + area_pages s }
+    ensures small { result < 2 ^ 36 }
+{
+    block_count(numbers.units.as_slice()) + area_count(numbers)
+}
+
+/// How many pages the RPMB area has.
+fn area_count(numbers: &Numbers) -> usize
+    ensures value { result ≡ area_pages (shape_of_numbers numbers.now) }
+    ensures small { result < 2 ^ 13 }
+{
+    PAGES_A_STEP * numbers.rpmb as usize
+}
+
+/// How many blocks the units have together.
+fn block_count(units: &[UnitSpec]) -> usize
+    requires { length units.now ≤ 8 }
+    ensures count { result ≡ sum (map (λ (u : UnitSpec). u.blocks) units.now) }
+    ensures small { result ≤ 2 ^ 35 }
+{
+    let mut count = 0;
+    for unit in units {
+        count += unit.blocks as usize;
+    }
+    count
+}
+
+/// The index of the key among the keys of the device, which stand by kind, then by unit, then by
+/// address; `None` if the device has not this key.
+pub fn key_index(numbers: &Numbers, key: Key) -> Option<usize>
+    ensures is { let s = shape_of_numbers numbers.now in
+        MatchOption result (IsKey s key → ⊥) (λ i. IsIndex s key i) }
+    ensures known { let s = shape_of_numbers numbers.now in
+        IfSome result (λ i. IsKey s key × (i < key_total s)) }
+    ensures order { let s = shape_of_numbers numbers.now in
+        IfSome result (λ i. (other : Key) (j : ℕ) → IsIndex s other j →
+        (i < j) ↔ IsBefore key other) }
+{
+    match key.kind {
+        Tag::DATA => data_index(numbers.units.as_slice(), key.unit, key.address),
+        Tag::RPMB_AREA => area_index(numbers, key.unit, key.address),
+        Tag::SETTINGS if key.unit == 0 && key.address == 0 => Some(settings_index(numbers)),
+        _ => None,
+    }
+}
+
+/// The index of a block of a unit; `None` if the unit is not there or is smaller.
+fn data_index(units: &[UnitSpec], unit: u8, address: u32) -> Option<usize>
+    requires { length units.now ≤ 8 }
+    ensures { let blocks = map (λ (u : UnitSpec). u.blocks) units.now in
+        MatchOption result
+        ((unit < length blocks) → (address < slice_index_or blocks unit 0) → ⊥)
+        (λ i. (unit < length blocks) × (address < slice_index_or blocks unit 0)
+        × (i ≡ sum (take unit blocks) + address)) }
+{
+    let unit = unit as usize;
+    if unit >= units.len() || address >= units[unit].blocks {
+        return None;
+    }
+    Some(block_count(&units[..unit]) + address as usize)
+}
+
+/// The index of a page of the RPMB area; `None` if the area is smaller.
+fn area_index(numbers: &Numbers, unit: u8, page: u32) -> Option<usize>
+    ensures { let s = shape_of_numbers numbers.now in
+        MatchOption result
+        (unit ≡ 0 → page < area_pages s → ⊥)
+        (λ i. (unit ≡ 0) × (page < area_pages s) × (i ≡ sum s.blocks + page)) }
+{
+    if unit != 0 || page as usize >= area_count(numbers) {
+        return None;
+    }
+    Some(block_count(numbers.units.as_slice()) + page as usize)
+}
+
+/// The key at an index.
+pub fn key_at(numbers: &Numbers, index: usize) -> Key
+    requires { index < key_total (shape_of_numbers numbers.now) }
+    ensures { IsIndex (shape_of_numbers numbers.now) result index }
+{
+    let mut rest = index;
+    for (unit, spec) in numbers.units.as_slice().iter().enumerate() {
+        let blocks = spec.blocks as usize;
+        if rest < blocks {
+            return Key {
+                kind: Tag::DATA,
+                unit: unit as u8,
+                address: rest as u32,
+            };
+        }
+        rest -= blocks;
+    }
+    if rest < area_count(numbers) {
+        return Key {
+            kind: Tag::RPMB_AREA,
+            unit: 0,
+            address: rest as u32,
+        };
+    }
+    Key {
+        kind: Tag::SETTINGS,
+        unit: 0,
+        address: 0,
+    }
+}
+
+/// Whose content the page holds.
+fn key_of(tag: Tag) -> Key
+    ensures { result ≡ key_of tag }
+{
+    Key {
+        kind: tag.kind,
+        unit: tag.unit,
+        address: tag.address,
+    }
+}
+
+/// Whether the device has the key of each page.
+pub fn are_known(pages: &[FoundPage], numbers: &Numbers) -> bool
+    ensures { let s = shape_of_numbers numbers.now in (c : Cells) → AreListed c pages.now →
+        IsTrue result ↔ AreKnown s c }
+{
+    for page in pages {
+        if key_index(numbers, key_of(page.tag)).is_none() {
+            return false;
+        }
+    }
+    true
+}
+
+/// The page that has the content of each key, in the order of the keys: of the pages that have a
+/// number outside the fence and no greater than the kept one, the newest, at the lowest of its
+/// places; `None` for a key without such a page.
+pub fn content_pages(
+    alloc: Global,
+    pages: &[FoundPage],
+    fence: Option<Fence>,
+    kept: u64,
+    numbers: &Numbers,
+) -> Result<Vec<Option<FoundPage>>, AllocError>
+    ensures each_key { let s = shape_of_numbers numbers.now in
+        IfOk result (λ entries. length entries.items ≡ key_total s) }
+    ensures content { let s = shape_of_numbers numbers.now in
+        IfOk result (λ entries. (c : Cells) (m : Option Mark) → AreListed c pages.now →
+        fence_in m ≡ fence → (k : Key) (i : ℕ) → IsIndex s k i →
+        (e : Option FoundPage) × (slice_get entries.items i ≡ Some e)
+        × IsContentPage c m kept k e) }
+{
+    let mut entries = nowhere(alloc, key_count(numbers))?;
+    for page in pages {
+        note(entries.as_mut_slice(), *page, fence, kept, numbers);
+    }
+    Ok(entries)
+}
+
+/// No key has a page.
+fn nowhere(alloc: Global, count: usize) -> Result<Vec<Option<FoundPage>>, AllocError>
+    ensures { IfOk result (λ v. v.items ≡ replicate count None) }
+{
+    let mut all = Vec::with_capacity(alloc, count)?;
+    for _ in 0..count {
+        all.push(None)?;
+    }
+    Ok(all)
+}
+
+/// The page takes its key's place if it has the key's content among the pages so far.
+fn note(
+    entries: &mut [Option<FoundPage>],
+    page: FoundPage,
+    fence: Option<Fence>,
+    kept: u64,
+    numbers: &Numbers,
+)
+    requires { length entries.old ≡ key_total (shape_of_numbers numbers.now) }
+    ensures { let s = shape_of_numbers numbers.now in
+        (k : Key) (i : ℕ) (e : Option FoundPage) → IsIndex s k i →
+        slice_get entries.old i ≡ Some e →
+        slice_get entries.new i ≡ Some (with_page fence kept k page e) }
+{
+    if is_fenced(fence, page.tag.number) || page.tag.number > kept {
+        return;
+    }
+    if let Some(index) = key_index(numbers, key_of(page.tag)) {
+        if is_newer(page, entries[index]) {
+            entries[index] = Some(page);
+        }
+    }
+}
+
+/// Whether the number lies within the fence.
+fn is_fenced(fence: Option<Fence>, number: u64) -> bool
+    ensures { result ≡ is_fenced fence number }
+{
+    match fence {
+        Some(fence) => fence.first <= number && number <= fence.last,
+        None => false,
+    }
+}
+
+/// Whether there is no older page, or its number is smaller.
+fn is_newer(page: FoundPage, old: Option<FoundPage>) -> bool
+    ensures { result ≡ is_newer page old }
+{
+    match old {
+        Some(old) => old.tag.number < page.tag.number,
+        None => true,
+    }
+}
+
+/// The keys with a page whose number is not below the first lost one, each once, in order.
+///
+/// No page has a number above the greatest seen, so these are the keys with a lost page.
+pub fn lost_keys(
+    alloc: Global,
+    pages: &[FoundPage],
+    low: u64,
+    numbers: &Numbers,
+) -> Result<Vec<Key>, AllocError>
+    ensures { let s = shape_of_numbers numbers.now in
+        IfOk result (λ keys. (c : Cells) (top : ℕ) → AreListed c pages.now →
+        ((p : Place) (t : Tag) (body : List ℕ) → c p ≡ GroupPage t body → t.number ≤ top) →
+        AreKnown s c → AreLost c low top keys.items) }
+{
+    let marked = lost_marks(alloc, pages, low, numbers)?;
+    marked_keys(alloc, marked.as_slice(), numbers)
+}
+
+/// For each key in order whether one of its pages has a number that is not below this one.
+fn lost_marks(
+    alloc: Global,
+    pages: &[FoundPage],
+    low: u64,
+    numbers: &Numbers,
+) -> Result<Vec<bool>, AllocError>
+    ensures each_key { let s = shape_of_numbers numbers.now in
+        IfOk result (λ marked. length marked.items ≡ key_total s) }
+    ensures lost { let s = shape_of_numbers numbers.now in
+        IfOk result (λ marked. (k : Key) (i : ℕ) → IsIndex s k i →
+        (slice_get marked.items i ≡ Some true) ↔ IsLostAmong pages.now (length pages.now) low k) }
+{
+    let mut marked = unmarked(alloc, key_count(numbers))?;
+    for page in pages {
+        mark(marked.as_mut_slice(), page.tag, low, numbers);
+    }
+    Ok(marked)
+}
+
+/// No key is marked.
+fn unmarked(alloc: Global, count: usize) -> Result<Vec<bool>, AllocError>
+    ensures { IfOk result (λ v. v.items ≡ replicate count false) }
+{
+    let mut all = Vec::with_capacity(alloc, count)?;
+    for _ in 0..count {
+        all.push(false)?;
+    }
+    Ok(all)
+}
+
+/// Marks the key of a page whose number is not below this one, if the device has the key.
+fn mark(marked: &mut [bool], tag: Tag, low: u64, numbers: &Numbers)
+    requires { length marked.old ≡ key_total (shape_of_numbers numbers.now) }
+    ensures same { let s = shape_of_numbers numbers.now in
+        (k : Key) (i : ℕ) → IsIndex s k i → (k ≡ key_of tag → low ≤ tag.number → ⊥) →
+        slice_get marked.new i ≡ slice_get marked.old i }
+    ensures here { let s = shape_of_numbers numbers.now in
+        low ≤ tag.number → (i : ℕ) → IsIndex s (key_of tag) i → slice_get marked.new i ≡ Some true }
+{
+    if tag.number < low {
+        return;
+    }
+    if let Some(index) = key_index(numbers, key_of(tag)) {
+        marked[index] = true;
+    }
+}
+
+/// The keys that are marked, in order.
+fn marked_keys(alloc: Global, marked: &[bool], numbers: &Numbers) -> Result<Vec<Key>, AllocError>
+    requires { length marked.now ≡ key_total (shape_of_numbers numbers.now) }
+    ensures { let s = shape_of_numbers numbers.now in
+        IfOk result (λ keys. AreMarked s marked.now (length marked.now) keys.items) }
+{
+    let mut keys = Vec::new(alloc);
+    for (index, is_marked) in marked.iter().enumerate() {
+        if *is_marked {
+            keys.push(key_at(numbers, index))?;
+        }
+    }
+    Ok(keys)
+}
+
+/// What each block is: bad, or in use, or free.
+pub fn block_states(
+    alloc: Global,
+    used: &[bool],
+    bad: &[bool],
+) -> Result<Vec<FoundBlock>, AllocError>
+    requires { length used.now ≡ length bad.now }
+    ensures each_block { IfOk result (λ states. length states.items ≡ length bad.now) }
+    ensures states { IfOk result (λ states. (c : Cells) (is_bad : Spot → Bool) (s : Spot) (i : ℕ)
+        (in_use : Bool) → slice_get used.now i ≡ Some in_use → TellsUse c s in_use →
+        slice_get bad.now i ≡ Some (is_bad s) →
+        (b : FoundBlock) × (slice_get states.items i ≡ Some b)
+        × IsBlockState c is_bad s (state_of_found b)) }
+{
+    let mut states = Vec::with_capacity(alloc, bad.len())?;
+    for (index, is_bad) in bad.iter().enumerate() {
+        states.push(found_block(used[index], *is_bad))?;
+    }
+    Ok(states)
+}
+
+/// What a block is.
+fn found_block(is_used: bool, is_bad: bool) -> FoundBlock
+    ensures { result ≡ found_block is_used is_bad }
+{
+    if is_bad {
+        FoundBlock::Bad
+    } else if is_used {
+        FoundBlock::Closed
+    } else {
+        FoundBlock::Free
+    }
+}

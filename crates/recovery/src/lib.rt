@@ -1,0 +1,14 @@
+//! Reads all pages of the dies and says what they stand for.
+#![tactic(auto)]
+
+mod blocks;
+mod found;
+mod kept;
+mod keys;
+mod pages;
+mod reading;
+
+pub use blocks::bad_blocks;
+pub use found::{Found, scan};
+pub use keys::{FoundBlock, key_at, key_count, key_index};
+pub use pages::FoundPage;
