@@ -7,7 +7,7 @@ PROGRAM := crates/ufsim_main/out/ufsim_main
 .PHONY: help demo test install bench wrong-bodies turned-rules lifted-limits
 
 help:
-	@echo 'make demo                 proves and builds the program, and shows a write and a read step by step'
+	@echo 'make demo                 proves and builds the program, and shows a write, a read and stops step by step'
 	@echo 'make test                 proves everything from nothing, runs every test and compares the examples'
 	@echo 'make install PREFIX=DIR   copies the program to DIR/bin/ufsim (without PREFIX: $(PREFIX)/bin/ufsim)'
 	@echo 'make bench                times writes and reads'
@@ -27,6 +27,7 @@ endif
 demo:
 	@sh tools/build.sh
 	@python3 tools/demo.py $(PROGRAM) examples/write_read.txt
+	@python3 tools/demo.py $(PROGRAM) examples/stop_in_write.txt
 
 test:
 	@sh tools/test.sh

@@ -45,7 +45,6 @@ LIMITS = (
     Limit("most_bad", STAGES, "most_bad n = n.spare"),
     Limit("taken_luns", STAGES, "taken_luns = 0x81 ∷ 0xB0 ∷ 0xC4 ∷ 0xD0 ∷ []"),
     Limit("manages_tasks", STAGES, "manages_tasks = true"),
-    Limit("takes_failures", STAGES, "takes_failures = true"),
     Limit("taken_operations", CDBS, "taken_operations = known_operations"),
     Limit("IsTakenCdb", CDBS, "IsTakenCdb cdb = Unit {0}", (
         ("ufs_laws/proofs/exchanges/BytesHeard.antt",

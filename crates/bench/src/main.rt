@@ -1,7 +1,11 @@
-//! Times FUA writes and reads of one block through the device's five calls, and the plain cost of one
-//! SHA-256 over a page, in one run. It prints the times and their ratios on standard error.
+//! Times FUA writes and reads of one block through the device's five calls, scans of dies that are
+//! written in part, and the plain cost of one SHA-256 over a page, in one run. It prints the times and
+//! their ratios on standard error.
 #![tactic(auto)]
 
+mod scans;
+
+use crate::scans::time_scans;
 use anyhow::{Result, ensure};
 use sha2::{Digest, Sha256};
 use std::alloc::Global;
@@ -78,11 +82,11 @@ fn data_out() -> [u8; 32] {
     bytes
 }
 
-/// One SHA-256 over the 4160 bytes of a page that its check covers.
-fn hash_pages() -> u64 {
+/// So many times one SHA-256 over the 4160 bytes of a page that its check covers.
+fn hash_pages(count: u32) -> u64 {
     let page = [0x5Au8; 4160];
     let mut all = 0u64;
-    for _ in 0..COUNT {
+    for _ in 0..count {
         let mut hasher = Sha256::new();
         hasher.update(&page);
         let digest: [u8; 32] = hasher.finalize();
@@ -108,7 +112,7 @@ fn run<R: Clock + Eprint>(rt: &R, bench: &mut Workbench) -> Result<()> {
     }
     let reads = each(start.elapsed(rt)?);
     let start = Instant::now(rt)?;
-    let all = hash_pages();
+    let all = hash_pages(COUNT);
     let hashes = each(start.elapsed(rt)?).max(1);
     eprintln!(rt; "a FUA write of one block: {writes} ns")?;
     eprintln!(rt; "a read of one block: {reads} ns")?;
@@ -122,5 +126,6 @@ fn run<R: Clock + Eprint>(rt: &R, bench: &mut Workbench) -> Result<()> {
 fn main(rt: HostRuntime) -> Result<()> {
     let mut bench = open(rt.alloc())?;
     bench.settle(4, 4);
-    run(&rt, &mut bench)
+    run(&rt, &mut bench)?;
+    time_scans(&rt, rt.alloc())
 }

@@ -6,6 +6,8 @@ use thiserror::Error;
 pub enum Call<'a> {
     /// Run the script in the file of this name.
     Run(&'a str),
+    /// Try stops at each program and erase of the script in the file of this name.
+    Check(&'a str),
 }
 
 /// Why there is nothing to do. The text is what the program prints after its name.

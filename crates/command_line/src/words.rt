@@ -1,7 +1,7 @@
 //! Reads the words with `clap`.
-ghost use Rattle.std.specs.Prelude.{◌≡◌, Some, IfOk, map};
-ghost use Rattle.clap.specs.Words.{app_of, subcommand_rows_of};
-ghost use Rattle.command_line.specs.Program.{program, script_in, script_named, script_of};
+ghost use Rattle.std.specs.Prelude.{◌≡◌, Some, IfOk, codes, map};
+ghost use Rattle.clap.specs.Words.{app_of, first_of, found_of, rows_of, subcommand_rows_of};
+ghost use Rattle.command_line.specs.Program.{IsAsked, IsAskedBy, program, running};
 
 use crate::asked::{Call, CallFault};
 use clap::error::ErrorKind;
@@ -9,10 +9,10 @@ use clap::{Arg, ArgAction, ArgMatches, Command};
 use std::alloc::{AllocError, Global};
 use std::convert::AsStr;
 
-/// What the words ask for, the program's own name first: `ufsim run SCRIPT`. It is `Usage` for any
-/// other words and for a call for help, and `Memory` where memory is refused.
+/// What the words ask for, the program's own name first: `ufsim run SCRIPT` or `ufsim check SCRIPT`. It
+/// is `Usage` for any other words and for a call for help, and `Memory` where memory is refused.
 pub fn call<'a, S: AsStr>(alloc: Global, words: &'a [S]) -> Result<Call<'a>, CallFault>
-    ensures { IfOk result (λ asked. script_named (map S.text words.entry.now) ≡ Some (script_of asked)) }
+    ensures { IfOk result (λ asked. IsAskedBy (map S.text words.entry.now) asked) }
 {
     let Ok(command) = command(alloc) else {
         return Err(CallFault::Memory);
@@ -26,9 +26,20 @@ pub fn call<'a, S: AsStr>(alloc: Global, words: &'a [S]) -> Result<Call<'a>, Cal
     }
 }
 
-// The program with its one command.
+// The program with its commands.
 fn command<'a>(alloc: Global) -> Result<Command<'a>, AllocError>
     ensures { IfOk result (λ command. app_of command ≡ program) }
+{
+    let script = Arg::new(alloc, "script")
+        .required(true)
+        .action(ArgAction::Set);
+    let check = Command::new(alloc, "check").arg(script)?;
+    running(alloc)?.subcommand(check)
+}
+
+// The program with the command `run` alone.
+fn running<'a>(alloc: Global) -> Result<Command<'a>, AllocError>
+    ensures { IfOk result (λ command. app_of command ≡ running) }
 {
     let script = Arg::new(alloc, "script")
         .required(true)
@@ -41,13 +52,25 @@ fn command<'a>(alloc: Global) -> Result<Command<'a>, AllocError>
 
 // What the matches of the program ask for.
 fn asked<'a>(matches: &ArgMatches<'a>) -> Result<Call<'a>, CallFault>
-    ensures { IfOk result (λ asked. script_in (subcommand_rows_of matches.now) ≡ Some (script_of asked)) }
+    ensures { IfOk result (λ asked. IsAsked (subcommand_rows_of matches.now) asked) }
 {
-    let Some(run) = matches.subcommand_matches("run") else {
-        return Err(CallFault::Usage);
-    };
-    match run.get_str("script") {
-        Some(script) => Ok(Call::Run(script)),
+    if let Some(run) = matches.subcommand_matches("run") {
+        let script = script_in(run)?;
+        return Ok(Call::Run(script));
+    }
+    if let Some(check) = matches.subcommand_matches("check") {
+        let script = script_in(check)?;
+        return Ok(Call::Check(script));
+    }
+    Err(CallFault::Usage)
+}
+
+// The script that a command's matches name.
+fn script_in<'a>(matches: &ArgMatches<'a>) -> Result<&'a str, CallFault>
+    ensures { IfOk result (λ script. first_of (codes "script") (rows_of (found_of matches.now)) ≡ Some script.now) }
+{
+    match matches.get_str("script") {
+        Some(script) => Ok(script),
         None => Err(CallFault::Usage),
     }
 }

@@ -5,6 +5,8 @@
 #[cfg(test)]
 mod crates_once;
 #[cfg(test)]
+mod faulty_die;
+#[cfg(test)]
 mod page_contents;
 #[cfg(test)]
 mod plain_rows;

@@ -2,15 +2,13 @@
 //!
 //! The key of address A of unit 0 has the index A, since unit 0 stands first. The device has 417
 //! keys: 256, 64 and 64 blocks, 32 pages of the RPMB area, and the settings.
-ghost use Rattle.std.specs.Prelude.{◌≡◌, ◌<◌, ◌≤◌, ◌^◌, true, map};
-ghost use Rattle.std.specs.List.{All};
-ghost use Rattle.ufs_spec.specs.Dies.{IsOfSize};
-ghost use Rattle.ufs_spec.specs.Lives.{Fit};
+ghost use Rattle.std.specs.Prelude.{◌<◌, ◌≤◌, ◌^◌};
 
+use crate::faulty_die::FaultyDie;
 use nand_model::{Die, MemDie};
 use page_tag::{mark_body, seal};
 use recovery::{Found, FoundBlock, scan};
-use row_config::row_config;
+use row_config::{fit, row_config};
 use std::alloc::Global;
 use std::process::Abort;
 use std::test::Fail;
@@ -143,6 +141,54 @@ fn groups_of_two(rt: HostRuntime) -> Result<(), Fail> {
     Ok(())
 }
 
+/// The first read of a page of die 2 fails; the other dies counted a failure before. The scan tells
+/// the place, and die 2 counts it. The dies stay as they are: a second scan finds what stands, the
+/// page of that read too.
+#[test]
+fn a_read_that_fails(rt: HostRuntime) -> Result<(), Fail> {
+    let config = row_config()?;
+    let mut good = row_dies(rt.alloc())?;
+    put(&rt, good.as_mut_slice(), at(0, 3, 0), &data(5, 1, (0, 1)));
+    put(&rt, good.as_mut_slice(), at(2, 7, 1), &data(6, 2, (0, 1)));
+    let mut dies = Vec::new(rt.alloc());
+    for die in good {
+        dies.push(FaultyDie {
+            die,
+            at: (7, 1),
+            failures: u64::from(dies.len() != 2),
+        })?;
+    }
+    assert!(rt;
+        is_fault_at(
+            scanned(&rt, rt.alloc(), &config, dies.as_mut_slice()),
+            at(2, 7, 1)
+        )
+    );
+    assert!(rt; dies.iter().all(|die| die.failures() == 1));
+    let found = scanned(&rt, rt.alloc(), &config, dies.as_mut_slice())?;
+    assert!(rt; dies.iter().all(|die| die.failures() == 1));
+    assert!(rt; has_numbers(&found, (2, 2, 3)));
+    assert!(rt; lies_at(&found, 5, at(0, 3, 0)) && lies_at(&found, 6, at(2, 7, 1)));
+    assert!(rt; found.lost.is_empty());
+    Ok(())
+}
+
+/// Settings with permanent write protection, and none without a page of them.
+#[test]
+fn permanent_protection(rt: HostRuntime) -> Result<(), Fail> {
+    let config = row_config()?;
+    let mut dies = row_dies(rt.alloc())?;
+    let found = scanned(&rt, rt.alloc(), &config, dies.as_mut_slice())?;
+    assert!(rt; !found.is_permanent);
+    put(&rt, dies.as_mut_slice(), at(1, 0, 0), &settings(1, true));
+    let found = scanned(&rt, rt.alloc(), &config, dies.as_mut_slice())?;
+    assert!(rt; found.is_permanent && lies_at(&found, 416, at(1, 0, 0)));
+    put(&rt, dies.as_mut_slice(), at(1, 0, 1), &settings(2, false));
+    let found = scanned(&rt, rt.alloc(), &config, dies.as_mut_slice())?;
+    assert!(rt; !found.is_permanent && lies_at(&found, 416, at(1, 0, 1)));
+    Ok(())
+}
+
 fn at(die: u8, block: u16, page: u16) -> Place {
     Place { die, block, page }
 }
@@ -171,6 +217,24 @@ fn data(address: u32, number: u64, part: (u16, u16)) -> Page
         frontier: 0,
     };
     seal(&tag, &[0x5A; 4096])
+}
+
+/// A page of the settings, with its group's number and whether write protection is permanent.
+fn settings(number: u64, is_permanent: bool) -> Page
+    requires { (1 ≤ number) × (number ≤ 2 ^ 62) }
+{
+    let tag = Tag {
+        kind: Tag::SETTINGS,
+        unit: 0,
+        address: 0,
+        number,
+        index: 0,
+        size: 1,
+        frontier: 0,
+    };
+    let mut body = [0u8; 4096];
+    body[1] = u8::from(is_permanent);
+    seal(&tag, &body)
 }
 
 /// A mark with its number and what it records.
@@ -209,29 +273,17 @@ fn scanned<D: Die>(
     scan(alloc, dies, config)
 }
 
-/// Whether the dies are as many and as large as the configuration says.
-fn fit<D: Die>(config: &Config, dies: &[D]) -> bool
-    ensures { result ≡ true → Fit config.now (map D.state dies.now) }
-{
-    let numbers = config.numbers();
-    dies.len() == numbers.dies as usize && are_of_size(dies, numbers.blocks, numbers.pages)
-}
-
-/// Whether each of the dies has this size.
-fn are_of_size<D: Die>(dies: &[D], blocks: u16, pages: u16) -> bool
-    ensures { result ≡ true → All (IsOfSize blocks pages) (map D.state dies.now) }
-{
-    for die in dies {
-        if die.blocks() != blocks || die.pages() != pages {
-            return false;
-        }
-    }
-    true
-}
-
 /// Whether the scan was refused for another configuration.
 fn is_other(found: Result<Found, OpenFault>) -> bool {
     matches!(found, Err(OpenFault::OtherConfig))
+}
+
+/// Whether the scan was refused for the read of this place.
+fn is_fault_at(found: Result<Found, OpenFault>, place: Place) -> bool {
+    match found {
+        Err(OpenFault::ReadFault(at)) => at == place,
+        _ => false,
+    }
 }
 
 /// Whether these are the kept number, the greatest seen and the first lost one.

@@ -1,4 +1,5 @@
 pub mod Answered
 pub mod LayerMoves
-pub mod OpensNew
+pub mod Opens
 pub mod SameDevice
+pub mod Unmended

@@ -1,7 +1,16 @@
-pub mod BadMore
+pub mod BlockWritten
 pub mod DieParts
 pub mod DiesFit
+pub mod FailDies
+pub mod FailRight
 pub mod FinishDies
+pub mod JobLeaves
+pub mod LeftDies
+pub mod LeftoversApart
+pub mod LeftoversChecked
+pub mod OpenedWorld
+pub mod OpeningRefused
 pub mod QuietDies
 pub mod Runs
+pub mod StoppedWorld
 pub mod WentRight

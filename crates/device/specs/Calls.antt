@@ -6,7 +6,7 @@ use Rattle.ufs_spec.specs.Keys.{Group, IsKey}
 use Rattle.ufs_spec.specs.Ledger.{look, next_number}
 use Rattle.ufs_spec.specs.Moves.{Accept, Claim, IsAllowedMove, Keep, Release, moved}
 use Rattle.ufs_spec.specs.Plain.{shape_of_numbers}
-use Rattle.ufs_spec.specs.Translation.{Pin, Translation, free_slots, has_number, is_locked}
+use Rattle.ufs_spec.specs.Translation.{Pin, Translation, free_slots, has_number, is_locked, is_mended}
 use Rattle.ufs_spec.specs.declared.flash.Key.{Key}
 use Rattle.ftl_core.specs.Core.{Core}
 use Rattle.ftl_core.specs.Describes.{Describes}
@@ -30,8 +30,9 @@ use Rattle.device.specs.Tasks.{after_lost_read, task_after}
 abbrev pub pin_of_block : Translation → ℕ → Key → Pin
 pin_of_block t tag key = record { tag = tag; index = 0; looked = look t.ledger key; wanted = true }
 
--- a READ looks its address up, and keeps nothing else
+-- a READ of a mended device looks its address up, and keeps nothing else
 pub record MayKeep (t : Translation) (tag : ℕ) (key : Key) : Type 0 where
+  pub mended : is_mended t.work.mending ≡ true
   pub there : IsKey (shape_of_numbers t.numbers) key
   pub of_data : key.kind ≡ 1
   pub new : list_any (keeps_for tag) t.pins ≡ false

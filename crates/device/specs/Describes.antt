@@ -1,6 +1,6 @@
 -- How what the device keeps describes the specified device: one relation for each part of its state, each over the
 -- fields
--- that it reads. A WRITE and a READ have one block so far, and nothing sets a protection.
+-- that it reads. A WRITE and a READ have one block so far, and no command sets a protection.
 use Rattle.std.specs.Prelude.{◌≡◌, ℕ, ◌+◌, ◌≤◌, nat_le, true, false, All, List, [], ◌∷◌, filter, find, length, map}
 use Rattle.std.specs.Prelude.{slice_get, Bool, Option, Some, None, option_map, Result, Ok, Err}
 use Rattle.ufs_spec.specs.Disk.{Flight, job_of}
@@ -151,7 +151,7 @@ IsTold count task = IsToldIn count task.deed
 
 -- what is kept of each part of a state, whether or not a lock was told to it
 pub record Keeps (d : DeviceCore) (s : State) : Type 0 where
-  pub unprotected : (plain_now s).permanent ≡ false
+  pub permanent : d.is_permanent ≡ (plain_now s).permanent
   pub layer_kept : layer.Describes d.ftl s.translation
   pub few : length s.tasks ≤ most_tasks
   pub tasks : TasksKept (before_accepted s.translation.ledger) d.tasks s.tasks

@@ -42,7 +42,7 @@ pub record IsTaskOpened (before after : DeviceCore) (flags lun tag expected : �
     pub layer : Core
     pub phase : Phase
     pub begun : (t : Translation) → Describes before.ftl t →
-        HasBegun layer t tag (planned t lun flags expected taken) phase
+        HasBegun layer t tag (planned before.is_permanent t lun flags expected taken) phase
     pub more : after ≡
         record (with_task before (record { tag = tag; lun = lun; expected = expected; phase = phase })) { ftl = layer }
 

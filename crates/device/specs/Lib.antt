@@ -4,6 +4,7 @@ pub mod Calls
 pub mod Describes
 pub mod Hears
 pub mod Kept
+pub mod Leftovers
 pub mod Plans
 pub mod Replies
 pub mod Rooms

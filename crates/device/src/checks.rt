@@ -2,13 +2,13 @@
 ghost use Rattle.std.specs.Prelude.{◌≡◌, ◌*◌, ◌^◌, ◌≤◌, if◌then◌else◌};
 ghost use Rattle.ufs_spec.specs.Translation.{Translation};
 ghost use Rattle.ftl_core.specs.Describes.{Describes as IsLayer};
-ghost use Rattle.device.specs.Plans.{IsCdbRead, carries, length_of, plan_of, planned, planned_or};
+ghost use Rattle.device.specs.Plans.{IsCdbRead, carries, is_guarded, length_of, plan_of, planned, planned_or};
 ghost use Rattle.device.specs.Plans.{planned_taken, planned_transfer, refusal_of, state_refusal};
 ghost use Rattle.device.specs.Plans.{transfer_of, write_refusal};
 
 use crate::device::Device;
 use crate::tasks::{Plan, Status};
-use ufs_spec::{Cdb, Key, Sense, Tag};
+use ufs_spec::{Cdb, Key, Sense, Tag, UnitSpec};
 
 /// The most blocks of a command. In this first stage one.
 const BLOCKS_A_COMMAND: u16 = 1;
@@ -107,33 +107,33 @@ impl Device {
         taken: Result<Cdb, Sense>,
     ) -> Result<Plan, Status>
         ensures { (t : Translation) → IsLayer self.now.ftl t →
-            result ≡ planned t lun flags expected taken }
+            result ≡ planned self.now.is_permanent t lun flags expected taken }
     {
-        let Some(unit_blocks) = self.ftl.unit_blocks(lun) else {
+        let Some(unit) = self.ftl.unit(lun) else {
             return Err(Status::CheckCondition(Sense::NO_UNIT));
         };
         match taken {
-            Ok(cdb) => self.plan_taken(lun, flags, expected, unit_blocks, &cdb),
+            Ok(cdb) => self.plan_taken(lun, flags, expected, unit, &cdb),
             Err(sense) => Err(Status::CheckCondition(sense)),
         }
     }
 
-    /// What a command that is taken does to a unit of so many blocks.
+    /// What a command that is taken does to the unit.
     fn plan_taken(
         &self,
         lun: u8,
         flags: u8,
         expected: u32,
-        unit_blocks: u32,
+        unit: UnitSpec,
         cdb: &Cdb,
     ) -> Result<Plan, Status>
         ensures { (t : Translation) → IsLayer self.now.ftl t →
-            result ≡ planned_transfer t lun flags expected unit_blocks (transfer_of cdb.now) }
+            result ≡ planned_transfer self.now.is_permanent t lun flags expected unit (transfer_of cdb.now) }
     {
         let Some(transfer) = transfer_of(cdb) else {
             return Err(Status::CheckCondition(Sense::INVALID_OPCODE));
         };
-        if let Some(refused) = self.refusal(unit_blocks, flags, expected, &transfer) {
+        if let Some(refused) = self.refusal(unit, flags, expected, &transfer) {
             return Err(refused);
         }
         let key = Key {
@@ -144,44 +144,52 @@ impl Device {
         Ok(plan_of(&transfer, key, expected))
     }
 
-    /// Why a transfer within a unit of so many blocks is refused, if it is.
+    /// Why a transfer within the unit is refused, if it is.
     fn refusal(
         &self,
-        unit_blocks: u32,
+        unit: UnitSpec,
         flags: u8,
         expected: u32,
         transfer: &Transfer,
     ) -> Option<Status>
         ensures { (t : Translation) → IsLayer self.now.ftl t →
-            result ≡ refusal_of t unit_blocks flags expected transfer.now }
+            result ≡ refusal_of self.now.is_permanent t unit flags expected transfer.now }
     {
         if transfer.blocks > BLOCKS_A_COMMAND || !carries(transfer, flags, expected) {
             return Some(Status::CheckCondition(Sense::INVALID_FIELD));
         }
-        if transfer.address as u64 + transfer.blocks as u64 > unit_blocks as u64 {
+        if transfer.address as u64 + transfer.blocks as u64 > unit.blocks as u64 {
             return Some(Status::CheckCondition(Sense::OUT_OF_RANGE));
         }
-        self.state_refusal(transfer)
+        self.state_refusal(self.is_guarded(unit), transfer)
     }
 
-    /// The checks of what the device is: mended, and for a write not locked and with room.
-    fn state_refusal(&self, transfer: &Transfer) -> Option<Status>
+    /// Whether the unit is one of those that permanent protection protects, and it is set.
+    fn is_guarded(&self, unit: UnitSpec) -> bool
+        ensures { result ≡ is_guarded self.now.is_permanent unit }
+    {
+        unit.protect == 2 && self.is_permanent
+    }
+
+    /// The checks of what the device is: mended, and for a write not locked and with room; the unit
+    /// that is written is not protected.
+    fn state_refusal(&self, guarded: bool, transfer: &Transfer) -> Option<Status>
         ensures { (t : Translation) → IsLayer self.now.ftl t →
-            result ≡ state_refusal t transfer.now }
+            result ≡ state_refusal guarded t transfer.now }
     {
         if !self.ftl.is_mended() {
             return Some(Status::CheckCondition(Sense::NOT_READY));
         }
         if transfer.writes && transfer.blocks > 0 {
-            return self.write_refusal();
+            return self.write_refusal(guarded);
         }
         None
     }
 
-    fn write_refusal(&self) -> Option<Status>
-        ensures { (t : Translation) → IsLayer self.now.ftl t → result ≡ write_refusal t }
+    fn write_refusal(&self, guarded: bool) -> Option<Status>
+        ensures { (t : Translation) → IsLayer self.now.ftl t → result ≡ write_refusal guarded t }
     {
-        if self.ftl.is_locked() {
+        if guarded || self.ftl.is_locked() {
             return Some(Status::CheckCondition(Sense::WRITE_PROTECTED));
         }
         if self.ftl.free_slots() == 0 {

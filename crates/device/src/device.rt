@@ -4,23 +4,22 @@ ghost use Rattle.std.specs.Prelude.{false, if◌then◌else◌, IfErr, IfNone};
 ghost use Rattle.device.specs.Calls.{lock_told, read_told, told};
 ghost use Rattle.device.specs.Tasks.{after_lost_read, task_after};
 ghost use Rattle.std.specs.Prelude.{true, ◌++◌, OnOk};
-ghost use Rattle.std.specs.List.{flat_map};
-ghost use Rattle.ufs_spec.specs.Cells.{Array};
-ghost use Rattle.ufs_spec.specs.Lives.{IsOpened, array_of, bad_of};
+ghost use Rattle.ufs_spec.specs.Cells.{Array, Cells, Shows};
+ghost use Rattle.ufs_spec.specs.Lives.{Fit, IsOpened, array_of, bad_of};
 ghost use Rattle.ufs_spec.specs.Machine.{Done, OfDone, MayLeave, Turn, OfTurn};
 ghost use Rattle.ufs_spec.specs.Moves.{Ending, IsEndingOf, suits};
 ghost use Rattle.ufs_spec.specs.Refusals.{State};
 ghost use Rattle.ufs_spec.specs.Translation.{Translation};
 ghost use Rattle.ftl_core.specs.Describes.{Describes as IsLayer};
 ghost use Rattle.device.specs.Describes.{Describes, IsAnswered, IsGiven};
-ghost use Rattle.device.specs.Kept.{idle_device, new_device};
-ghost use Rattle.recovery.specs.Found.{bad_in};
-ghost use Rattle.device.specs.Worlds.{AreBlank};
+ghost use Rattle.device.specs.Kept.{idle_device};
+ghost use Rattle.recovery.specs.Found.{IsScanFault};
+ghost use Rattle.ufs_spec.specs.Sound.{Sound, Suits};
 
 use crate::tasks::{Loaded, Refused, Task, TaskEvent};
 use ftl_core::{Ended, Ftl};
 use nand_model::Die;
-use recovery::bad_blocks;
+use recovery::scan;
 use std::alloc::{AllocError, Global};
 use std::marker::Model;
 use ufs_spec::{Block, Config, Job, OpenFault, Outcome};
@@ -34,6 +33,9 @@ pub(crate) const ROOM: usize = 32;
 pub struct Device {
     /// The translation layer, which keeps for each READ what its block was when the COMMAND came.
     pub(crate) ftl: Ftl,
+    /// Whether the units that are protected for ever are so from now on, as the settings say that were
+    /// found. No command changes it yet.
+    pub(crate) is_permanent: bool,
     /// The open tasks in the order of their COMMANDs: no two have one tag.
     pub(crate) tasks: Vec<Task>,
     /// The commands that were refused with TASK SET FULL and whose RESPONSE was not handed out yet.
@@ -55,38 +57,43 @@ impl Model for Device {
 }
 
 impl Device {
-    /// Opens a device over new dies of the configuration's number and sizes. It reads no page of them
-    /// and writes nothing.
+    /// Opens a device over the dies, which are as many and as large as the configuration says. It reads
+    /// each of their pages once and writes nothing, and after an error the dies are as before too.
     ///
     /// # Errors
     ///
-    /// `NoMemory` if memory was refused.
-    pub fn open<D: Die>(alloc: Global, config: Config, dies: &[D]) -> Result<Device, OpenFault>
-        ensures opened { IfOk result (λ d. d ≡ new_device config (flat_map (bad_in D.state config.blocks) dies.now)) }
-        ensures refused { IfErr result (λ e. e ≡ OpenFault.NoMemory) }
-        // Over dies whose pages are blank it is the device that the definitions open over them.
-        ensures described { IfOk result (λ d. (s : State) → length dies.now ≡ config.dies → AreBlank (map D.state dies.now) →
-            IsOpened config (array_of (map D.state dies.now)) (bad_of (map D.state dies.now)) s → Describes d s) }
+    /// Those of `recovery::scan`: `NoMemory` if memory was refused, `ReadFault` if the read of that place
+    /// failed, else `OtherConfig` if the dies hold another configuration.
+    pub fn open<D: Die>(alloc: Global, config: Config, dies: &mut [D]) -> Result<Device, OpenFault>
+        requires fit { Fit config (map D.state dies.old) }
+        ensures same { map D.state dies.new ≡ map D.state dies.old }
+        // Over dies whose pages are sound it is the device that the definitions open over them.
+        ensures described { IfOk result (λ d. (s : State) → Sound (array_of (map D.state dies.old)) →
+            IsOpened config (array_of (map D.state dies.old)) (bad_of (map D.state dies.old)) s → Describes d s) }
+        ensures suits { IfOk result (λ d. Sound (array_of (map D.state dies.old)) →
+            Suits config (array_of (map D.state dies.old))) }
+        ensures fault { IfErr result (λ e. (c : Cells) → Shows (array_of (map D.state dies.old)) c →
+            IsScanFault config c (map D.failed dies.old) (map D.failed dies.new) e) }
     {
         config.has_no_fault();
-        let Ok(bad) = bad_blocks(alloc, dies, config.numbers()) else {
+        let found = scan(alloc, dies, &config)?;
+        let is_permanent = found.is_permanent;
+        let Ok(ftl) = Ftl::new(alloc, config, found) else {
             return Err(OpenFault::NoMemory);
         };
-        let Ok(ftl) = Ftl::new(alloc, config, bad.as_slice()) else {
-            return Err(OpenFault::NoMemory);
-        };
-        match Device::idle(alloc, ftl) {
+        match Device::idle(alloc, ftl, is_permanent) {
             Ok(device) => Ok(device),
             Err(_) => Err(OpenFault::NoMemory),
         }
     }
 
     /// A device over this layer, with no task open.
-    fn idle(alloc: Global, ftl: Ftl) -> Result<Device, AllocError>
-        ensures { IfOk result (λ d. d ≡ idle_device ftl) }
+    fn idle(alloc: Global, ftl: Ftl, is_permanent: bool) -> Result<Device, AllocError>
+        ensures { IfOk result (λ d. d ≡ idle_device ftl is_permanent) }
     {
         Ok(Device {
             ftl,
+            is_permanent,
             tasks: Vec::with_capacity(alloc, ROOM)?,
             refused: Vec::with_capacity(alloc, ROOM)?,
             loaded: Vec::with_capacity(alloc, ROOM)?,

@@ -5,10 +5,11 @@
 mod checks;
 mod commands;
 mod device;
+mod leftovers;
 mod replies;
 mod responses;
 mod tasks;
 mod world;
 
 pub use device::Device;
-pub use world::{World, run};
+pub use world::{World, fit, run};

@@ -7,7 +7,7 @@ ghost use Rattle.ufs_spec.specs.Messages.{IsMessage, spelling};
 ghost use Rattle.ufs_spec.specs.Moves.{Acknowledge, LetGo, LetGoAll, WantPage, moved};
 ghost use Rattle.ufs_spec.specs.Plain.{zero_block};
 ghost use Rattle.ufs_spec.specs.Refusals.{State};
-ghost use Rattle.ufs_spec.specs.Translation.{Translation};
+ghost use Rattle.ufs_spec.specs.Translation.{Translation, is_mended};
 ghost use Rattle.power_loss.specs.Book.{book};
 ghost use Rattle.power_loss.specs.Invariant.{LookedRight};
 ghost use Rattle.ftl_core.specs.Describes.{Describes as IsLayer, IsLookedAt};
@@ -142,7 +142,8 @@ impl Device {
 
     /// The block that the task of this tag looked up, once it is there.
     fn block_looked(&self, tag: u8, looked: Looked) -> Option<&Block>
-        ensures { (t : Translation) (kept : LayerLooked) → IsLayer self.now.ftl t → IsLookedAt looked kept →
+        ensures { (t : Translation) (kept : LayerLooked) → IsLayer self.now.ftl t →
+            is_mended t.work.mending ≡ true → IsLookedAt looked kept →
             LookedRight (book t) t.ledger.frontier t.disk.cells t.disk.finished t.disk.erasing kept →
             option_copied result ≡ block_at t.ledger self.now.loaded tag kept }
     {

@@ -1,30 +1,39 @@
 //! A device with its dies, and runs of events over one.
-ghost use Rattle.std.specs.Prelude.{◌≡◌, ◌≢◌, ◌<◌, ◌+◌, ◌^◌, [], false, true, length, replicate, vec_len, None, IfErr, IfNone, IfOk, IsErr, OnErr, OnOk};
-ghost use Rattle.std.specs.Prelude.{IfSome, Some, slice_set, ◌++◌, ◌∷◌};
-ghost use Rattle.ufs_spec.specs.Dies.{CanDo, after_job, outcome_of};
-ghost use Rattle.std.specs.List.{All};
-ghost use Rattle.ufs_spec.specs.Dies.{IsOfSize};
-ghost use Rattle.ufs_spec.specs.Lives.{Fit, IsOpened, array_of, bad_of};
+ghost use Rattle.std.specs.Prelude.{◌≡◌, ◌≢◌, ◌<◌, ◌+◌, ◌^◌, ◌++◌, ◌∷◌, [], false, true, length, map, replicate};
+ghost use Rattle.std.specs.Prelude.{All, AllPairs, Err, IfErr, IfNone, IfOk, IfSome, IsErr, None, Ok, OnErr, OnOk};
+ghost use Rattle.std.specs.Prelude.{Some, option_copied, slice_set};
+ghost use Rattle.ufs_spec.specs.Dies.{CanDo, IsOfSize, after_job, outcome_of, power_cycle_ended};
+ghost use Rattle.ufs_spec.specs.Lives.{Fit, IsOpened, array_of, bad_of, die_of};
 ghost use Rattle.ufs_spec.specs.Refusals.{State};
+ghost use Rattle.ufs_spec.specs.Sound.{Sound, Suits};
 ghost use Rattle.device.specs.Describes.{Describes};
-ghost use Rattle.device.specs.Kept.{IsNewDevice};
-ghost use Rattle.device.specs.Worlds.{AreBlank, Fits, IsLife, IsOpeningFault, IsRunFault, Played, Stepped, Went, die_at, job_at, jobs_given};
+ghost use Rattle.device.specs.Kept.{DeviceCore};
+ghost use Rattle.device.specs.Leftovers.{IsInside, IsLeftRefused, IsOfDie, MayDieLeave};
+ghost use Rattle.device.specs.Worlds.{Fits, IsOpeningFault, IsRunFault, KeepsThePromise, Played, Stepped, Went};
+ghost use Rattle.device.specs.Worlds.{die_at, dies_failed, dies_left, dies_left_by, dies_refused, job_at, jobs_given};
 
 use crate::device::Device;
+use crate::leftovers::{
+    are_apart, die_of, end_power_cycles, fail_on, is_of_job, is_read, leave_on, may_job_leave,
+};
 use nand_model::{Die, MemDie, work};
 use std::alloc::{AllocError, Global};
 use std::marker::Model;
 use ufs_spec::{
-    Config, Event, HostFault, Job, OpenFault, Outcome, Output, RunFault, RunFaultKind, Trace, Upiu,
+    Config, Event, HostFault, Job, Leftover, OpenFault, Outcome, Output, RunFault, RunFaultKind,
+    Trace, Upiu,
 };
 
 /// A device with its dies, and the job that each die has in flight.
 #[derive(Drop)]
 pub struct World {
-    /// Where the memory of a fault's trace comes from.
+    /// Where the memory of a fault's trace, and of the device after a stop, comes from.
     alloc: Global,
+    /// The configuration that the device is opened with again after a stop.
+    config: Config,
     device: Device,
-    /// The dies, of the number and sizes of the configuration. A job in flight has done nothing yet.
+    /// The dies, of the number and sizes of the configuration. A job in flight has done nothing
+    /// yet.
     dies: Vec<MemDie>,
     /// For each die the job that it was given and has not done: as many as dies.
     jobs: Vec<Option<Job>>,
@@ -54,7 +63,7 @@ fn is_of_size(die: &MemDie, blocks: u16, pages: u16) -> bool
 }
 
 /// Whether the dies are as many and as large as the configuration says.
-fn fit(config: &Config, dies: &[MemDie]) -> bool
+pub fn fit(config: &Config, dies: &[MemDie]) -> bool
     ensures fit { result ≡ true → Fit config.now dies.now }
     ensures unfit { result ≡ false → Fit config.now dies.now → ⊥ }
 {
@@ -73,6 +82,33 @@ fn are_of_size(dies: &[MemDie], blocks: u16, pages: u16) -> bool
         }
     }
     true
+}
+
+/// Opens a device over dies that fit the configuration, which stay as they are.
+fn open_device(alloc: Global, config: Config, dies: &mut [MemDie]) -> Result<Device, RunFaultKind>
+    requires fit { Fit config dies.old }
+    ensures same { dies.new ≡ dies.old }
+    ensures described { IfOk result (λ d. (s : State) → Sound (array_of dies.old) →
+        IsOpened config (array_of dies.old) (bad_of dies.old) s → Describes d s) }
+    ensures suits { IfOk result (λ d. Sound (array_of dies.old) → Suits config (array_of dies.old)) }
+    ensures refused { IfErr result (λ k. IsOpeningFault config dies.old k) }
+{
+    match Device::open(alloc, config, dies) {
+        Ok(device) => Ok(device),
+        Err(fault) => Err(kind_of(&fault)),
+    }
+}
+
+/// What a refused opening is to a run: the dies do not fit, or memory was refused.
+fn kind_of(fault: &OpenFault) -> RunFaultKind
+    ensures memory { fault.now ≡ OpenFault.NoMemory → result ≡ RunFaultKind.NoMemory }
+    ensures other { fault.now ≢ OpenFault.NoMemory → result ≡ RunFaultKind.WrongEvent }
+{
+    match fault {
+        OpenFault::NoMemory => RunFaultKind::NoMemory,
+        OpenFault::OtherConfig => RunFaultKind::WrongEvent,
+        OpenFault::ReadFault(_) => RunFaultKind::WrongEvent,
+    }
 }
 
 /// No job in flight on any die.
@@ -104,29 +140,36 @@ impl World {
     ///
     /// # Errors
     ///
-    /// At position 0: `WrongEvent` where the dies do not fit the configuration, `NoMemory` where memory
-    /// was refused. The dies are given up.
+    /// At position 0: `WrongEvent` where the dies do not fit the configuration or hold another one,
+    /// `NoMemory` where memory was refused. The dies are given up.
     pub fn new(alloc: Global, config: Config, dies: Vec<MemDie>) -> Result<World, RunFault>
-        ensures opened { IfOk result (λ w. IsNewDevice config w.core × (w.dies ≡ dies.items)) }
-        ensures idle { IfOk result (λ w. (w.jobs ≡ replicate (length dies.items) None) × (w.steps ≡ 0) × (w.is_over ≡ false)) }
+        ensures dies { IfOk result (λ w. (w.dies ≡ dies.items) × (w.config ≡ config)) }
+        ensures idle { IfOk result (λ w.
+            (w.jobs ≡ replicate (length dies.items) None) × (w.steps ≡ 0) × (w.is_over ≡ false)) }
+        ensures suits { IfOk result (λ w. Fit config dies.items
+            × (Sound (array_of dies.items) → Suits config (array_of dies.items))) }
+        // Over dies whose pages are sound the world fits the state that the definitions open over
+        // them.
+        ensures fits { IfOk result (λ w. Sound (array_of dies.items) → (s : State) →
+            IsOpened config (array_of dies.items) (bad_of dies.items) s → Fits w s) }
         ensures position { IfErr result (λ f. (f.position ≡ 0) × (f.trace.items ≡ [])) }
         ensures never_bad { IfErr result (λ f. f.kind ≢ RunFaultKind.BadLeftover) }
-        // Over dies whose pages are blank the world fits the state that the definitions open over them.
-        ensures fits { IfOk result (λ w. AreBlank dies.items → (s : State) →
-            IsOpened config (array_of dies.items) (bad_of dies.items) s → Fits w s) }
         ensures refused { IfErr result (λ f. IsOpeningFault config dies.items f.kind) }
     {
+        let mut dies = dies;
         if !fit(&config, dies.as_slice()) {
             return Err(fault(alloc, RunFaultKind::WrongEvent, 0));
         }
-        let Ok(device) = Device::open(alloc, config, dies.as_slice()) else {
-            return Err(fault(alloc, RunFaultKind::NoMemory, 0));
+        let device = match open_device(alloc, config.copied(), dies.as_mut_slice()) {
+            Ok(device) => device,
+            Err(kind) => return Err(fault(alloc, kind, 0)),
         };
         let Ok(jobs) = idle(alloc, dies.len()) else {
             return Err(fault(alloc, RunFaultKind::NoMemory, 0));
         };
         Ok(World {
             alloc,
+            config,
             device,
             dies,
             jobs,
@@ -142,12 +185,23 @@ impl World {
         self.dies.as_slice()
     }
 
+    /// The job that the die has in flight; `None` where it has none, or is none of the dies.
+    pub fn job(&self, die: u8) -> Option<&Job>
+        ensures { option_copied result ≡ job_at self.now.jobs die }
+    {
+        match self.jobs.get(die as usize) {
+            Some(Some(job)) => Some(job),
+            _ => None,
+        }
+    }
+
     /// Gives the dies up, as the events so far leave them.
     pub fn into_dies(self) -> Vec<MemDie>
         ensures { result.items ≡ self.dies }
     {
         let World {
             alloc: _,
+            config: _,
             device: _,
             dies,
             jobs: _,
@@ -157,32 +211,43 @@ impl World {
         dies
     }
 
-    /// One event.
+    /// One event. A stop may come at any moment; the device is then opened again over what it
+    /// leaves.
     ///
     /// # Errors
     ///
-    /// `WrongEvent` where a die has no job to finish, and in this first stage for `Fail` and `Stop`. The
-    /// position counts the steps from 1, and the trace is empty. The dies stay as they were, and each
-    /// later step answers `WrongEvent`.
+    /// `WrongEvent` where a die has no job to finish or to fail, or a leftover is not just what the
+    /// job of its die touches; `BadLeftover` where that job may not leave it; and `NoMemory` where
+    /// there was none to open the device again, and the dies then hold what the stop left. At each
+    /// other fault they stay as they were. The position counts the steps from 1, and the trace is
+    /// empty. Each later step answers `WrongEvent`.
     pub fn step(&mut self, event: &Event) -> Result<Output, RunFault>
         ensures over { OnErr result (self.new.is_over ≡ true) }
-        ensures still_over { self.old.is_over ≡ true → IsErr result }
+        ensures still_over { self.old.is_over ≡ true →
+            IfErr result (λ f. (f.kind ≡ RunFaultKind.WrongEvent) × (self.new.dies ≡ self.old.dies)) × IsErr result }
         ensures going_on { OnOk result (self.new.is_over ≡ false) }
-        ensures dies { OnErr result (self.new.dies ≡ self.old.dies) }
-        ensures wrong { IfErr result (λ f. (f.kind ≡ RunFaultKind.WrongEvent) × (f.position ≡ self.new.steps) × (f.trace.items ≡ [])) }
+        ensures fault { IfErr result (λ f. (f.position ≡ self.new.steps) × (f.trace.items ≡ [])) }
         ensures counted { self.old.steps + 1 < 2 ^ 64 → self.new.steps ≡ self.old.steps + 1 }
-        // Over a world that fits a state each event shows what is right there, and the world fits the
-        // state that it leads to; and only an event that does not fit is refused.
-        ensures stepped { (s : State) → Fits self.old s → self.old.is_over ≡ false → Stepped s event.now self.new result }
+        ensures left { OnErr result (IsLeftRefused self.old.dies event.now self.new.dies) }
+        // Over a world that fits a state each event shows what is right there, in the life or over
+        // a stop, and the world fits the state that it leads to; and an event is refused only for
+        // what is told.
+        ensures stepped { (s : State) → Fits self.old s → self.old.is_over ≡ false →
+            Stepped s event.now self.new result }
+        ensures dies { (s : State) → Fits self.old s → self.old.is_over ≡ false →
+            IfErr result (λ f. self.new.dies ≡ dies_refused f.kind self.old.dies event.now) }
     {
         self.steps = self.steps.saturating_add(1);
-        if !self.is_over {
-            if let Some(output) = self.perform(event) {
-                return Ok(output);
+        if self.is_over {
+            return Err(fault(self.alloc, RunFaultKind::WrongEvent, self.steps));
+        }
+        match self.perform(event) {
+            Ok(output) => Ok(output),
+            Err(kind) => {
+                self.is_over = true;
+                Err(fault(self.alloc, kind, self.steps))
             }
         }
-        self.is_over = true;
-        Err(fault(self.alloc, RunFaultKind::WrongEvent, self.steps))
     }
 
     /// One event, and what it showed behind the trace.
@@ -199,21 +264,23 @@ impl World {
         }
     }
 
-    /// What the event shows; `None` where it does not fit.
-    fn perform(&mut self, event: &Event) -> Option<Output>
-        ensures dies { IfNone result (self.new.dies ≡ self.old.dies) }
+    /// What the event shows, or why it is refused.
+    fn perform(&mut self, event: &Event) -> Result<Output, RunFaultKind>
         ensures steps { self.new.steps ≡ self.old.steps }
         ensures is_over { self.new.is_over ≡ self.old.is_over }
+        ensures left { OnErr result (IsLeftRefused self.old.dies event.now self.new.dies) }
         ensures went { (s : State) → Fits self.old s → Went s event.now self.new result }
+        ensures dies { (s : State) → Fits self.old s →
+            IfErr result (λ k. self.new.dies ≡ dies_refused k self.old.dies event.now) }
     {
         match event {
-            Event::Host(bytes) => Some(Output::Host(self.hear(bytes))),
-            Event::Reply => Some(Output::Reply(self.reply())),
-            Event::Take(die) => Some(Output::Take(self.take(*die))),
+            Event::Host(bytes) => Ok(Output::Host(self.hear(bytes))),
+            Event::Reply => Ok(Output::Reply(self.reply())),
+            Event::Take(die) => Ok(Output::Take(self.take(*die))),
             Event::Finish(die) => self.finish(*die),
-            Event::Fail(_, _) => None,
-            Event::Turn => Some(Output::Turn(self.turn())),
-            Event::Stop(_) => None,
+            Event::Fail(die, left) => self.fail(*die, left),
+            Event::Turn => Ok(Output::Turn(self.turn())),
+            Event::Stop(lefts) => self.stop(lefts),
         }
     }
 
@@ -222,7 +289,8 @@ impl World {
         ensures dies { self.new.dies ≡ self.old.dies }
         ensures steps { self.new.steps ≡ self.old.steps }
         ensures is_over { self.new.is_over ≡ self.old.is_over }
-        ensures went { (s : State) → Fits self.old s → Went s (Event.Host bytes.now) self.new (Some (Output.Host result)) }
+        ensures went { (s : State) → Fits self.old s →
+            Went s (Event.Host bytes.now) self.new (Ok (Output.Host result)) }
     {
         self.device.host(bytes.as_slice())
     }
@@ -232,7 +300,7 @@ impl World {
         ensures dies { self.new.dies ≡ self.old.dies }
         ensures steps { self.new.steps ≡ self.old.steps }
         ensures is_over { self.new.is_over ≡ self.old.is_over }
-        ensures went { (s : State) → Fits self.old s → Went s Event.Turn self.new (Some (Output.Turn result)) }
+        ensures went { (s : State) → Fits self.old s → Went s Event.Turn self.new (Ok (Output.Turn result)) }
     {
         self.device.turn()
     }
@@ -242,7 +310,7 @@ impl World {
         ensures dies { self.new.dies ≡ self.old.dies }
         ensures steps { self.new.steps ≡ self.old.steps }
         ensures is_over { self.new.is_over ≡ self.old.is_over }
-        ensures went { (s : State) → Fits self.old s → Went s Event.Reply self.new (Some (Output.Reply result)) }
+        ensures went { (s : State) → Fits self.old s → Went s Event.Reply self.new (Ok (Output.Reply result)) }
     {
         let mut message = Upiu::new();
         if !self.device.reply(&mut message) {
@@ -256,15 +324,15 @@ impl World {
         ensures dies { self.new.dies ≡ self.old.dies }
         ensures steps { self.new.steps ≡ self.old.steps }
         ensures is_over { self.new.is_over ≡ self.old.is_over }
-        ensures went { (s : State) → Fits self.old s → Went s (Event.Take die) self.new (Some (Output.Take result)) }
+        ensures went { (s : State) → Fits self.old s → Went s (Event.Take die) self.new (Ok (Output.Take result)) }
     {
         let job = self.device.take(die);
         self.note_job(die, job);
         job
     }
 
-    /// The die has this job in flight, if it was given one. A die that is given a job is one of ours: the
-    /// layer would have to say how many dies it has, if the test of the index were to go.
+    /// The die has this job in flight, if it was given one. A die that is given a job is one of
+    /// ours: the layer would have to say how many dies it has, if the test of the index were to go.
     fn note_job(&mut self, die: u8, job: Option<Job>)
         ensures { self.new ≡ record self.old { jobs = jobs_given self.old.jobs die job } }
     {
@@ -275,16 +343,210 @@ impl World {
     }
 
     /// The die does its job in flight, and the device is told.
-    fn finish(&mut self, die: u8) -> Option<Output>
-        ensures dies { IfNone result (self.new.dies ≡ self.old.dies) }
+    fn finish(&mut self, die: u8) -> Result<Output, RunFaultKind>
         ensures steps { self.new.steps ≡ self.old.steps }
         ensures is_over { self.new.is_over ≡ self.old.is_over }
+        ensures wrong { IfErr result (λ k. (k ≡ RunFaultKind.WrongEvent) × (self.new.dies ≡ self.old.dies)) }
         ensures went { (s : State) → Fits self.old s → Went s (Event.Finish die) self.new result }
     {
-        let job = self.end_job(die)?;
-        let outcome = self.work(die, &job)?;
+        let Some(job) = self.end_job(die) else {
+            return Err(RunFaultKind::WrongEvent);
+        };
+        let Some(outcome) = self.work(die, &job) else {
+            return Err(RunFaultKind::WrongEvent);
+        };
         self.device.done(die, &outcome);
-        Some(Output::Ended)
+        Ok(Output::Ended)
+    }
+
+    /// The job in flight of the die fails, and leaves this; a read leaves nothing. The device is
+    /// told.
+    fn fail(&mut self, die: u8, left: &Option<Leftover>) -> Result<Output, RunFaultKind>
+        ensures steps { self.new.steps ≡ self.old.steps }
+        ensures is_over { self.new.is_over ≡ self.old.is_over }
+        ensures refused { IfErr result (λ k. (k ≢ RunFaultKind.NoMemory) × (self.new.dies ≡ self.old.dies)) }
+        ensures went { (s : State) → Fits self.old s → Went s (Event.Fail die left.now) self.new result }
+    {
+        match left {
+            None => self.fail_read(die),
+            Some(left) => self.fail_leaving(die, left),
+        }
+    }
+
+    /// The read in flight of the die fails.
+    fn fail_read(&mut self, die: u8) -> Result<Output, RunFaultKind>
+        ensures steps { self.new.steps ≡ self.old.steps }
+        ensures is_over { self.new.is_over ≡ self.old.is_over }
+        ensures refused { IfErr result (λ k. (k ≡ RunFaultKind.WrongEvent) × (self.new.dies ≡ self.old.dies)) }
+        ensures went { (s : State) → Fits self.old s → Went s (Event.Fail die None) self.new result }
+    {
+        if !is_read(&self.job_of(die)) {
+            return Err(RunFaultKind::WrongEvent);
+        }
+        self.end_job(die);
+        self.device.done(die, &Outcome::ReadFailed);
+        Ok(Output::Ended)
+    }
+
+    /// The program or the erase in flight of the die fails, and leaves this; its block is bad.
+    fn fail_leaving(&mut self, die: u8, left: &Leftover) -> Result<Output, RunFaultKind>
+        ensures steps { self.new.steps ≡ self.old.steps }
+        ensures is_over { self.new.is_over ≡ self.old.is_over }
+        ensures refused { IfErr result (λ k. (k ≢ RunFaultKind.NoMemory) × (self.new.dies ≡ self.old.dies)) }
+        ensures went { (s : State) → Fits self.old s → Went s (Event.Fail die (Some left.now)) self.new result }
+    {
+        if !self.is_left_of(die, left) {
+            return Err(RunFaultKind::WrongEvent);
+        }
+        if !self.may_die_leave(die, left) {
+            return Err(RunFaultKind::BadLeftover);
+        }
+        self.leave_failed(die, left);
+        self.end_job(die);
+        self.device.done(die, &Outcome::Failed);
+        Ok(Output::Ended)
+    }
+
+    /// Power goes away: the jobs in flight leave this, each other page is as it was, and the device
+    /// is opened again over the dies.
+    fn stop(&mut self, lefts: &Vec<Leftover>) -> Result<Output, RunFaultKind>
+        ensures steps { self.new.steps ≡ self.old.steps }
+        ensures is_over { self.new.is_over ≡ self.old.is_over }
+        ensures left { OnErr result (IsLeftRefused self.old.dies (Event.Stop lefts.now) self.new.dies) }
+        ensures went { (s : State) → Fits self.old s → Went s (Event.Stop lefts.now) self.new result }
+        ensures dies { (s : State) → Fits self.old s →
+            IfErr result (λ k. self.new.dies ≡ dies_refused k self.old.dies (Event.Stop lefts.now)) }
+    {
+        // The dies fit the configuration, so each leftover has its place on them.
+        let _ = &self.dies;
+        if !self.are_left(lefts.as_slice()) || !are_apart(lefts.as_slice()) {
+            return Err(RunFaultKind::WrongEvent);
+        }
+        if !self.may_all_be_left(lefts.as_slice()) {
+            return Err(RunFaultKind::BadLeftover);
+        }
+        self.leave_all(lefts.as_slice());
+        self.power_off();
+        self.reopen()
+    }
+
+    /// The job that the die has in flight.
+    fn job_of(&self, die: u8) -> Option<Job>
+        ensures what { result ≡ job_at self.now.jobs die }
+        ensures there { IfSome result (λ j. die < length self.now.dies) }
+    {
+        let index = die as usize;
+        if index >= self.jobs.len() {
+            return None;
+        }
+        self.jobs[index]
+    }
+
+    /// Whether the leftover is that of the job that the die has in flight. A device over dies that
+    /// are not sound may ask for a job that a die cannot do, and nothing is left of one.
+    fn is_left_of(&self, die: u8, left: &Leftover) -> bool
+        ensures of { result ≡ true → IsOfDie self.now die left.now }
+        ensures not_of { result ≡ false → IsOfDie self.now die left.now → ⊥ }
+    {
+        let Some(job) = self.job_of(die) else {
+            return false;
+        };
+        self.dies[die as usize].can_do(&job) && is_of_job(&job, left, self.config.numbers().pages)
+    }
+
+    /// Whether that job may leave it.
+    fn may_die_leave(&self, die: u8, left: &Leftover) -> bool
+        requires { IsOfDie self.now die left.now }
+        ensures lawful { result ≡ true → MayDieLeave self.now die left.now }
+        ensures unlawful { result ≡ false → MayDieLeave self.now die left.now → ⊥ }
+    {
+        let Some(job) = self.job_of(die) else {
+            return true;
+        };
+        may_job_leave(&self.dies[die as usize], &job, left)
+    }
+
+    /// Whether each of the leftovers is that of the job that its die has in flight.
+    fn are_left(&self, lefts: &[Leftover]) -> bool
+        ensures all { result ≡ true → All (λ l. IsOfDie self.now (die_of l) l) lefts.now }
+        ensures not_all { result ≡ false → All (λ l. IsOfDie self.now (die_of l) l) lefts.now → ⊥ }
+    {
+        for left in lefts {
+            if !self.is_left_of(die_of(left), left) {
+                return false;
+            }
+        }
+        true
+    }
+
+    /// Whether the jobs of their dies may leave them.
+    fn may_all_be_left(&self, lefts: &[Leftover]) -> bool
+        requires { All (λ l. IsOfDie self.now (die_of l) l) lefts.now }
+        ensures all { result ≡ true → All (λ l. MayDieLeave self.now (die_of l) l) lefts.now }
+        ensures not_all { result ≡ false → All (λ l. MayDieLeave self.now (die_of l) l) lefts.now → ⊥ }
+    {
+        for left in lefts {
+            if !self.may_die_leave(die_of(left), left) {
+                return false;
+            }
+        }
+        true
+    }
+
+    /// The die holds what its failed job leaves.
+    fn leave_failed(&mut self, die: u8, left: &Leftover)
+        requires { IsOfDie self.old die left.now }
+        ensures { self.new ≡ record self.old { dies = dies_failed self.old.dies die left.now } }
+    {
+        fail_on(&mut self.dies[die as usize], left);
+    }
+
+    /// The die of the leftover holds it.
+    fn leave(&mut self, left: &Leftover)
+        requires { IsInside self.old.config left.now }
+        ensures { self.new ≡ record self.old { dies = dies_left_by self.old.dies left.now } }
+    {
+        let index = die_of(left) as usize;
+        leave_on(&mut self.dies[index], left);
+    }
+
+    /// The dies hold the leftovers, one after another.
+    fn leave_all(&mut self, lefts: &[Leftover])
+        requires { All (IsInside self.old.config) lefts.now }
+        ensures { self.new ≡ record self.old { dies = dies_left self.old.dies lefts.now } }
+    {
+        for left in lefts {
+            self.leave(left);
+        }
+    }
+
+    /// The power cycle is over: no die has a job any more, and none may be programmed before an
+    /// erase.
+    fn power_off(&mut self)
+        ensures { self.new ≡ record self.old {
+          dies = map power_cycle_ended self.old.dies;
+          jobs = replicate (length self.old.jobs) None;
+        } }
+    {
+        end_power_cycles(self.dies.as_mut_slice());
+        self.jobs.fill(None);
+    }
+
+    /// The device is opened again over the dies.
+    fn reopen(&mut self) -> Result<Output, RunFaultKind>
+        ensures same { (core : DeviceCore) × (self.new ≡ record self.old { core = core }) }
+        ensures shown { IfOk result (λ o. o ≡ Output.Stopped) }
+        ensures described { OnOk result ((s : State) → Sound (array_of self.old.dies) →
+            IsOpened self.old.config (array_of self.old.dies) (bad_of self.old.dies) s → Describes self.new.core s) }
+        ensures refused { IfErr result (λ k. IsOpeningFault self.old.config self.old.dies k) }
+    {
+        match open_device(self.alloc, self.config.copied(), self.dies.as_mut_slice()) {
+            Ok(device) => {
+                self.device = device;
+                Ok(Output::Stopped)
+            }
+            Err(kind) => Err(kind),
+        }
     }
 
     /// The job that the die had in flight; it has none from now on.
@@ -300,8 +562,8 @@ impl World {
         self.jobs[index].take()
     }
 
-    /// Does the job on the die; `None`, and nothing changes, if it may not be asked of it. A device over
-    /// dies whose pages were not blank may ask so.
+    /// Does the job on the die; `None`, and nothing changes, if it may not be asked of it. A device
+    /// over dies that are not sound may ask so.
     fn work(&mut self, die: u8, job: &Job) -> Option<Outcome>
         requires there { die < length self.old.dies }
         ensures cannot { IfNone result (CanDo (die_at self.old.dies die) job.now → ⊥) }
@@ -329,10 +591,20 @@ impl World {
 
 /// Runs the events over dies, and answers what each showed.
 ///
+/// Stopped at any moment, inside any page program or block erase and under every order of host
+/// messages, die jobs, flushes and collector steps, the device that opens afterwards has its units,
+/// settings, RPMB area, key and counter as after a prefix of the accepted commands, and this prefix
+/// holds every command that was acknowledged as durable.
+///
+/// So it is over dies whose pages are sound, as those of new dies are and those that a run leaves;
+/// where each die does what it reports; and for as long as the openings have memory, as a run to
+/// its end had.
+///
 /// # Errors
 ///
 /// Where an event was refused, or memory: the kind, the position of the event, counted from 1 (0 is
-/// the opening), and the trace of the events before it. The dies are given up.
+/// the opening), and the trace of the events before it, for which the same holds. The dies are
+/// given up.
 pub fn run(
     alloc: Global,
     config: Config,
@@ -340,11 +612,13 @@ pub fn run(
     events: &[Event],
 ) -> Result<Trace, RunFault>
     ensures one_each { IfOk result (λ trace. length trace.items ≡ length events.now) }
-    // Over dies whose pages are blank the trace is that of one life over these events: each message is
-    // answered, each job given and each turn told as the specified device does.
-    ensures lived { IfOk result (λ trace. AreBlank dies.items → IsLife config dies.items events.now trace.items) }
-    // A fault says where: at position 0 the opening was refused; at any other one the event there did not
-    // fit, or memory was refused, and its trace is that of the life before it.
+    // The promise. Each message is answered, each job given and each turn told as the specified
+    // device does, in each of the lives between the stops.
+    ensures promised { IfOk result (λ trace. Sound (array_of dies.items) →
+        KeepsThePromise config dies.items events.now trace.items) }
+    // A fault says where: at position 0 the opening was refused; at any other one the event there
+    // was refused, or memory was, and its trace is that of the events before it and keeps the
+    // promise.
     ensures broken { IfErr result (λ f. IsRunFault config dies.items events.now f.position f) }
 {
     let mut world = World::new(alloc, config, dies)?;

@@ -31,10 +31,27 @@ impl Bench {
         Bench::over(alloc, dies)
     }
 
-    fn over(alloc: Global, dies: Vec<MemDie>) -> Result<Bench, Fail> {
-        let mut bench = Workbench::new(alloc, row_config()?, dies)?;
-        bench.settle(4, 4);
+    /// Over these dies, before any step of its mending.
+    pub fn opened(alloc: Global, dies: Vec<MemDie>) -> Result<Bench, Fail> {
+        let bench = Workbench::new(alloc, row_config()?, dies)?;
         Ok(Bench { bench })
+    }
+
+    fn over(alloc: Global, dies: Vec<MemDie>) -> Result<Bench, Fail> {
+        let mut opened = Bench::opened(alloc, dies)?;
+        opened.bench.settle(4, 4);
+        Ok(opened)
+    }
+
+    /// The dies, as the jobs so far leave them.
+    pub fn into_dies(self) -> Vec<MemDie> {
+        let Bench { bench } = self;
+        let Workbench {
+            device: _,
+            dies,
+            reply: _,
+        } = bench;
+        dies
     }
 
     /// Hands the device a message that it takes.

@@ -5,6 +5,10 @@
 #[cfg(test)]
 mod benches;
 #[cfg(test)]
+mod leftovers;
+#[cfg(test)]
 mod locks;
+#[cfg(test)]
+mod mendings;
 #[cfg(test)]
 mod worlds;

@@ -38,7 +38,7 @@ fn worlds(rt: HostRuntime) -> Result<(), Fail> {
     let mut events = Vec::new(alloc);
     events.push(Event::Turn)?;
     events.push(Event::Take(0))?;
-    events.push(Event::Stop(Vec::new(alloc)))?;
+    events.push(Event::Finish(1))?;
     let ended = run(alloc, row_config()?, dies, events.as_slice());
     assert!(rt;
         ended.is_err_and(|fault| fault.kind == RunFaultKind::WrongEvent

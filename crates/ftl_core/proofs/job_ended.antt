@@ -2,6 +2,12 @@ pub mod ChangeParts
 pub mod ChangesEnded
 pub mod Endings
 pub mod JobsOver
+pub mod MarksEnded
 pub mod ReadsEnded
 pub mod ReadsGiven
+pub mod RepairLedger
+pub mod RepairsEnded
+pub mod StepContent
+pub mod StepsEnded
+pub mod StepsOver
 pub mod UnreadPages

@@ -1,8 +1,10 @@
 pub mod Flown
 pub mod Lowest
+pub mod Mended
 pub mod NextErases
 pub mod NextNames
 pub mod NextPages
 pub mod NextStarts
 pub mod ReadsTaken
+pub mod StepPages
 pub mod Takings

@@ -1,14 +1,17 @@
 -- What the translation layer keeps, as its contracts see it.
 use Rattle.std.specs.Prelude.{ℕ, Bool, List, Option}
 use Rattle.ufs_spec.specs.declared.configs.Numbers.{Numbers}
+use Rattle.ufs_spec.specs.declared.flash.Key.{Key}
 use Rattle.ftl_core.specs.declared.books.BlockState.{BlockState}
 use Rattle.ftl_core.specs.declared.books.Book.{Book}
 use Rattle.ftl_core.specs.declared.books.Stored.{Stored}
 use Rattle.ftl_core.specs.declared.books.Group.{Group}
+use Rattle.ftl_core.specs.declared.books.Mending.{Mending}
 use Rattle.ftl_core.specs.declared.books.Pin.{Pin}
+use Rattle.ftl_core.specs.declared.books.Step.{Step}
 
--- what is kept: by die and block the blocks' states, by die its open block and its job, by address
--- the place of its durable content, and the pending groups in order of number
+-- what is kept: by die and block the blocks' states, by die its open block and its job, by key the place of its durable
+-- content, the pending groups in order of number, and of the mending the keys with a lost page and the step under way
 pub record Core : Type 0 where
   pub numbers : Numbers
   pub states : List BlockState
@@ -19,6 +22,9 @@ pub record Core : Type 0 where
   pub frontier : ℕ
   pub claimed : ℕ
   pub pins : List Pin
-  pub mark : Option ℕ
+  pub mending : Mending
+  pub lost : List Key
+  pub repaired : ℕ
+  pub step : Option Step
+  pub content : List ℕ
   pub next_mark : ℕ
-  pub mended : Bool

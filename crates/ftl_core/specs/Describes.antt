@@ -1,22 +1,21 @@
--- How what the layer keeps describes the translation layer as it is specified. In this stage the first mark has no
--- fence,
--- nothing is repaired, copied or collected, and each group of this life is one page of a unit's data.
-use Rattle.std.specs.Prelude.{◌≡◌, ℕ, suc, ◌-◌, ◌<◌, ◌≤◌, nat_lt, Bool, true, false, List, [], ◌∷◌, count_by, drop}
-use Rattle.std.specs.Prelude.{find, length, map, slice_get, sum_by, Option, Some, None, option_map}
-use Rattle.ufs_spec.specs.Cells.{Cells, GroupPage, MarkPage}
+-- How what the layer keeps describes the translation layer as it is specified. In this stage nothing is copied or
+-- collected, and each group that is accepted is one page of a unit's data.
+use Rattle.std.specs.Prelude.{◌≡◌, ◌≢◌, ℕ, suc, ◌+◌, ◌<◌, ◌≤◌, nat_lt, Bool, true, false, List, [], ◌∷◌, count_by, drop}
+use Rattle.std.specs.Prelude.{All, AllPairs, find, length, map, slice_get, Option, Some, None, option_map}
+use Rattle.ufs_spec.specs.Cells.{Cell, Cells, GroupPage, MarkPage}
 use Rattle.ufs_spec.specs.Disk as disk
-use Rattle.ufs_spec.specs.Disk.{Disk, ForNobody, ForTask, Reader, Spot}
+use Rattle.ufs_spec.specs.Disk.{Disk, ForNobody, ForStep, ForTask, Reader, Spot}
 use Rattle.ufs_spec.specs.Keys as keys
 use Rattle.ufs_spec.specs.Keys.{IsKey}
 use Rattle.ufs_spec.specs.Ledger as ledger
-use Rattle.ufs_spec.specs.Ledger.{Entry, InSlot, Ledger, Name, OnPage, Unwritten, entry_of, latest_durable}
+use Rattle.ufs_spec.specs.Ledger.{Entry, InSlot, Ledger, Name, OnPage, Unwritten, before_accepted, entry_of}
+use Rattle.ufs_spec.specs.Ledger.{latest_durable, pending}
 use Rattle.ufs_spec.specs.Moves.{Ending, ReadRight, ReadWrong, GiveJob, moved}
 use Rattle.ufs_spec.specs.Plain.{shape_of_numbers}
 use Rattle.ufs_spec.specs.Translation as layer
-use Rattle.ufs_spec.specs.Translation.{MarkStep, MayTake, Mended, Mending, Step, Translation, Unmarked, Work}
-use Rattle.ufs_spec.specs.Translation.{flies_name, is_bad, spots}
+use Rattle.ufs_spec.specs.Translation.{MarkStep, MayTake, Mended, Mending, RepairStep, Repairing, Step, Translation}
+use Rattle.ufs_spec.specs.Translation.{Unmarked, Work, flies_name, is_bad, is_mended, spots}
 use Rattle.ufs_spec.specs.declared.configs.Numbers.{Numbers}
-use Rattle.ufs_spec.specs.declared.configs.UnitSpec.{UnitSpec}
 use Rattle.ufs_spec.specs.declared.flash.Job.{Job}
 use Rattle.ufs_spec.specs.declared.flash.Key.{Key}
 use Rattle.ufs_spec.specs.declared.flash.Place.{Place}
@@ -31,14 +30,21 @@ use Rattle.ftl_core.specs.declared.books.Flight.TheVariants as flight
 use Rattle.ftl_core.specs.declared.books.Group.{Group}
 use Rattle.ftl_core.specs.declared.books.Looked.{Looked}
 use Rattle.ftl_core.specs.declared.books.Looked.TheVariants as looked
+use Rattle.ftl_core.specs.declared.books.Mending as kept
+use Rattle.ftl_core.specs.declared.books.Mending.TheVariants as mendings
 use Rattle.ftl_core.specs.declared.books.OpenBlock.{OpenBlock}
 use Rattle.ftl_core.specs.declared.books.Pin.{Pin}
+use Rattle.ftl_core.specs.declared.books.Reader as reader
+use Rattle.ftl_core.specs.declared.books.Reader.TheVariants as readers
+use Rattle.ftl_core.specs.declared.books.Step as kept_step
+use Rattle.ftl_core.specs.declared.books.Step.TheVariants as steps
 use Rattle.ftl_core.specs.declared.books.Stored.{Stored}
 use Rattle.ftl_core.specs.declared.ftl.Ended.{Ended}
 use Rattle.ftl_core.specs.declared.ftl.Ended.TheVariants as ended
+use Rattle.recovery.specs.KeysInOrder.{key_total}
 use Rattle.ftl_core.specs.Core.{Core}
-use Rattle.ftl_core.specs.Moves.{is_pin_of, stored_in}
-use Rattle.ftl_core.specs.Takes.{is_data, next_place}
+use Rattle.ftl_core.specs.Moves.{is_pin_of, repairs_in, stored_in}
+use Rattle.ftl_core.specs.Takes.{is_data, next_place, step_wants}
 
 -- Blocks
 
@@ -70,33 +76,44 @@ IsFilling n blocks die (Some o) =
 abbrev pub IsNext : ℕ → Option OpenBlock → Place → Type 0
 IsNext die filling place = (o : OpenBlock) × (filling ≡ Some o) × (next_place die o ≡ place)
 
--- the reader of a read in flight; none, once it let go
-abbrev pub IsReader : Option ℕ → Reader → Type 0
-IsReader (Some reader) (ForTask tag index) = (tag ≡ reader) × (index ≡ 0)
-IsReader None ForNobody = Unit {0}
-IsReader reader who = ⊥
+-- the reader of a read in flight
+abbrev pub IsReader : reader.Reader → Reader → Type 0
+IsReader (readers.Task tag) (ForTask other index) = (other ≡ tag) × (index ≡ 0)
+IsReader readers.Step ForStep = Unit {0}
+IsReader readers.Nobody ForNobody = Unit {0}
+IsReader who other = ⊥
 
--- the job in flight on a die; an erase is in flight only where no block is open
-abbrev pub IsFlight : Numbers → ℕ → Option OpenBlock → Option Flight → Option disk.Flight → Type 0
-IsFlight n die filling None None = Unit {0}
-IsFlight n die filling (Some (flight.Read place reader)) (Some (disk.Reading who p)) = (p ≡ place) × IsReader reader who
-IsFlight n die filling (Some (flight.Mark place)) (Some (disk.Programming p (MarkPage m))) =
-    (p ≡ place) × IsNext die filling place
-IsFlight n die filling (Some (flight.Group place number)) (Some (disk.Programming p (GroupPage tag body))) =
-    (p ≡ place) × IsNext die filling place × (tag.number ≡ number) × (tag.index ≡ 0)
-IsFlight n die filling (Some (flight.Erase block)) (Some (disk.Erasing s)) =
+-- the page of the step under way: a mark with its number, or the page of a repair
+abbrev pub IsStepCell : Option kept_step.Step → Cell → Type 0
+IsStepCell (Some (steps.Mark n fence)) (MarkPage m) = m.number ≡ n
+IsStepCell (Some (steps.Repair n k from there)) (GroupPage tag body) =
+    (tag.number ≡ n) × (tag.index ≡ 0) × (there ≡ true)
+IsStepCell step cell = ⊥
+
+-- the job in flight on a die; an erase is in flight only where no block is open, and the page of an accepted group only
+-- where no repair is under way
+abbrev pub IsFlight : Numbers → Option kept_step.Step → ℕ → Option OpenBlock → Option Flight → Option disk.Flight →
+    Type 0
+IsFlight n step die filling None None = Unit {0}
+IsFlight n step die filling (Some (flight.Read place reader)) (Some (disk.Reading who p)) =
+    (p ≡ place) × IsReader reader who
+IsFlight n step die filling (Some (flight.Step place)) (Some (disk.Programming p cell)) =
+    (p ≡ place) × IsNext die filling place × IsStepCell step cell
+IsFlight n step die filling (Some (flight.Group place number)) (Some (disk.Programming p (GroupPage tag body))) =
+    (p ≡ place) × IsNext die filling place × (tag.number ≡ number) × (tag.index ≡ 0) × (repairs_in step ≡ 0)
+IsFlight n step die filling (Some (flight.Erase block)) (Some (disk.Erasing s)) =
     (s ≡ spot_at die block) × (block < n.blocks) × (filling ≡ None)
-IsFlight n die filling kept other = ⊥
+IsFlight n step die filling kept other = ⊥
 
-pub record BookKept (n : Numbers) (blocks : Spot → disk.BlockState) (die : ℕ) (b : Book) (f : Option disk.Flight) :
-    Type 0 where
+pub record BookKept (n : Numbers) (blocks : Spot → disk.BlockState) (step : Option kept_step.Step) (die : ℕ) (b : Book)
+    (f : Option disk.Flight) : Type 0 where
   pub filling : IsFilling n blocks die b.filling
-  pub job : IsFlight n die b.filling b.flight f
+  pub job : IsFlight n step die b.filling b.flight f
 
 pub record DiesKept (n : Numbers) (blocks : Spot → disk.BlockState) (flights : ℕ → Option disk.Flight)
-    (books : List Book) : Type 0 where
+    (step : Option kept_step.Step) (books : List Book) : Type 0 where
   pub dies : length books ≡ n.dies
-  pub each : (die : ℕ) (b : Book) → slice_get books die ≡ Some b → BookKept n blocks die b (flights die)
+  pub each : (die : ℕ) (b : Book) → slice_get books die ≡ Some b → BookKept n blocks step die b (flights die)
   pub no_more : (die : ℕ) → n.dies ≤ die → flights die ≡ None
 
 -- Groups
@@ -123,10 +140,6 @@ GroupsKept standing n [] [] = Unit {0}
 GroupsKept standing n (g ∷ gs) (h ∷ hs) = GroupKept standing (suc n) g h × GroupsKept standing (suc n) gs hs
 GroupsKept standing n gs hs = ⊥
 
--- the groups of the ledger that are not durable
-abbrev pub not_durable : Ledger → List keys.Group
-not_durable l = drop (l.frontier - l.greatest_seen) l.groups
-
 -- Places
 
 -- where the page of the name stands
@@ -138,10 +151,10 @@ IsStored standing s name = ⊥
 pub record LedgerKept (n : Numbers) (stored : List (Option Stored)) (kept : List Group) (known : ℕ)
     (l : Ledger) : Type 0 where
   pub frontier : known ≡ l.frontier
-  pub repairs : l.repairs ≡ 0
-  pub groups : GroupsKept l.standing l.frontier kept (not_durable l)
-  pub addresses : length stored ≡ sum_by (λ (u : UnitSpec). u.blocks) n.units.items
-  pub places : (k : Key) → IsKey (shape_of_numbers n) k → k.kind ≡ 1 →
+  -- the groups that are accepted and not durable
+  pub groups : GroupsKept l.standing l.frontier kept (pending l)
+  pub keys : key_total (shape_of_numbers n) ≤ length stored
+  pub places : (k : Key) → IsKey (shape_of_numbers n) k →
       IsStored l.standing (stored_in n stored k) (latest_durable l k)
 
 -- Pins
@@ -192,37 +205,86 @@ ReadsKept flights pins =
     (die tag index : ℕ) (place : Place) → flights die ≡ Some (disk.Reading (ForTask tag index) place) →
     (p : Pin) × (find (is_pin_of tag) pins ≡ Some p) × IsWanted place p
 
+-- a read in flight for the step under way is of the page that it is still to be read from
+abbrev pub StepReadsKept : (ℕ → Option disk.Flight) → Option kept_step.Step → Type 0
+StepReadsKept flights step =
+    (die : ℕ) (place : Place) → flights die ≡ Some (disk.Reading ForStep place) → step_wants step ≡ Some place
+
 -- Mending
 
-abbrev pub mending_kept : Bool → Mending
-mending_kept true = Mended
-mending_kept false = Unmarked None []
+-- how far the mending is, with the keys that have no repair yet
+abbrev pub mending_kept : kept.Mending → List Key → Mending
+mending_kept (mendings.Unmarked fence) left = Unmarked fence left
+mending_kept mendings.Repairing left = Repairing left
+mending_kept mendings.Mended left = Mended
 
--- a mark that is ordered is the step under way
-abbrev pub step_kept : Option ℕ → Option Step
-step_kept None = None
-step_kept (Some n) = Some (record { kind = MarkStep n None; there = true })
+-- the page that a key began with has the content that the key had at the life's start
+abbrev pub FirstsKept : Numbers → Ledger → Type 0
+FirstsKept n l =
+    (k : Key) (name : Name) → IsKey (shape_of_numbers n) k → l.first_page k ≡ Some name →
+    (size : ℕ)
+    × (l.entries_before name.number name.index ≡
+    Some (record { item = record { key = k; body = l.base k }; size = size }))
 
-pub record WorkKept (mended : Bool) (mark : Option ℕ) (next : ℕ) (w : Work) (marks : ℕ) : Type 0 where
-  pub mending : w.mending ≡ mending_kept mended
-  pub step : w.step ≡ step_kept mark
+-- a repair is the last group, of one page with the content that its key had at the life's start; it is read from where
+-- that content stands
+pub record RepairKept (l : Ledger) (number : ℕ) (k : Key) (from : Option Stored) (there : Bool) (content : List ℕ) :
+    Type 0 where
+  pub next : number ≡ suc l.frontier
+  pub last : number ≡ l.greatest_seen + length l.groups
+  -- its page does not stand yet
+  pub new : l.standing number 0 ≡ None
+  pub entry : entry_of l (name_at number) ≡ Some (record { item = record { key = k; body = l.base k }; size = 1 })
+  pub stored : IsStored l.standing from (l.first_page k)
+  pub content_is : there ≡ true → content ≡ l.base k
+
+-- the step under way
+abbrev pub StepKept : Ledger → Option kept_step.Step → List ℕ → Option Step → Type 0
+StepKept l None content None = Unit {0}
+StepKept l (Some (steps.Mark n fence)) content (Some s) = s ≡ record { kind = MarkStep n fence; there = true }
+StepKept l (Some (steps.Repair n k from there)) content (Some s) =
+    (s ≡ record { kind = RepairStep (name_at n) (option_map (λ (at : Stored). at.place) from); there = there })
+    × RepairKept l n k from there content
+StepKept l step content other = ⊥
+
+-- the key that is being repaired, and those that have no repair yet
+abbrev pub keys_to_repair : Option kept_step.Step → List Key → List Key
+keys_to_repair (Some (steps.Repair n k from there)) left = k ∷ left
+keys_to_repair step left = left
+
+-- each key once, and none of them has a durable repair: its content is still that of the life's start
+pub record AreToRepair (l : Ledger) (ks : List Key) : Type 0 where
+  pub differ : AllPairs (λ a b. a ≢ b) ks
+  pub unrepaired : All (λ k. latest_durable l k ≡ l.first_page k) ks
+
+pub record WorkKept (mending : kept.Mending) (left : List Key) (step : Option kept_step.Step) (content : List ℕ)
+    (next : ℕ) (w : Work) (l : Ledger) : Type 0 where
+  pub mending_is : w.mending ≡ mending_kept mending left
+  pub step_is : StepKept l step content w.step
+  pub to_repair : is_mended w.mending ≡ false → AreToRepair l (keys_to_repair step left)
   pub no_plan : w.plan ≡ None
   pub no_rests : w.rests ≡ []
-  pub next_mark : next ≡ suc marks
+  pub next_mark : next ≡ suc l.marks
+  -- once the device is mended each repair is durable
+  pub repaired : is_mended w.mending ≡ true → before_accepted l ≤ l.frontier
 
 -- All of it
 
 pub record Kept (c : Core) (t : Translation) : Type 0 where
   pub numbers : c.numbers ≡ t.numbers
   pub blocks : BlocksKept t.numbers t.disk.blocks c.states c.has_bad
-  pub dies : DiesKept t.numbers t.disk.blocks t.disk.flights c.books
+  pub dies : DiesKept t.numbers t.disk.blocks t.disk.flights c.step c.books
   pub fly : PagesFly t.ledger.standing t.disk.flights
   pub ledger_kept : LedgerKept c.numbers c.places c.groups c.frontier t.ledger
-  pub work : WorkKept c.mended c.mark c.next_mark t.work t.ledger.marks
+  pub work : WorkKept c.mending (drop c.repaired c.lost) c.step c.content c.next_mark t.work t.ledger
   pub claims : c.claimed ≡ t.claims
   pub pins : PinsKept t.ledger.frontier (entry_of t.ledger) c.pins t.pins
   pub differ : ReadersDiffer c.pins
   pub reads : ReadsKept t.disk.flights c.pins
+  pub step_reads : StepReadsKept t.disk.flights c.step
+  -- readers keep something only once the device is mended
+  pub readers : is_mended t.work.mending ≡ false → c.pins ≡ []
+  pub firsts : FirstsKept t.numbers t.ledger
 
 -- what is kept describes the layer, and this is one that a life may come to
 pub record Describes (c : Core) (t : Translation) : Type 0 where

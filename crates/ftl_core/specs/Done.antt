@@ -7,25 +7,25 @@ use Rattle.ftl_core.specs.declared.books.Flight.{Flight}
 use Rattle.ftl_core.specs.declared.books.Flight.TheVariants as flight
 use Rattle.ftl_core.specs.declared.ftl.Ended.{Ended}
 use Rattle.ftl_core.specs.Core.{Core}
-use Rattle.ftl_core.specs.Gives.{GivesIf, change_after, ending, is_read, other_for, read_after}
+use Rattle.ftl_core.specs.Gives.{GivesIf, IsReadAfter, change_after, ending, is_read, other_for}
 
-abbrev pub job_after : Core → ℕ → Book → Flight → Outcome → Core
-job_after c die b (flight.Read place reader) o = read_after c die b reader (is_read o)
-job_after c die b (flight.Mark place) o = change_after c die b (flight.Mark place) (ending o)
-job_after c die b (flight.Group place n) o = change_after c die b (flight.Group place n) (ending o)
-job_after c die b (flight.Erase block) o = change_after c die b (flight.Erase block) (ending o)
+abbrev pub IsJobAfter : Core → ℕ → Book → Flight → Outcome → Core → Type 0
+IsJobAfter c die b (flight.Read place reader) o new = IsReadAfter (is_read o) c die b o reader new
+IsJobAfter c die b (flight.Step place) o new = new ≡ change_after c die b (flight.Step place) (ending o)
+IsJobAfter c die b (flight.Group place n) o new = new ≡ change_after c die b (flight.Group place n) (ending o)
+IsJobAfter c die b (flight.Erase block) o new = new ≡ change_after c die b (flight.Erase block) (ending o)
 
-abbrev pub flight_after : Core → ℕ → Book → Option Flight → Outcome → Core
-flight_after c die b None o = c
-flight_after c die b (Some f) o = job_after c die b f o
+abbrev pub IsFlightAfter : Core → ℕ → Book → Option Flight → Outcome → Core → Type 0
+IsFlightAfter c die b None o new = new ≡ c
+IsFlightAfter c die b (Some f) o new = IsJobAfter c die b f o new
 
-abbrev pub book_after : Core → ℕ → Option Book → Outcome → Core
-book_after c die None o = c
-book_after c die (Some b) o = flight_after c die b b.flight o
+abbrev pub IsBookAfter : Core → ℕ → Option Book → Outcome → Core → Type 0
+IsBookAfter c die None o new = new ≡ c
+IsBookAfter c die (Some b) o new = IsFlightAfter c die b b.flight o new
 
 -- what is kept once the job of the die ended so
-abbrev pub core_ended : Core → ℕ → Outcome → Core
-core_ended c die o = book_after c die (slice_get c.books die) o
+abbrev pub IsCoreEnded : Core → ℕ → Outcome → Core → Type 0
+IsCoreEnded c die o new = IsBookAfter c die (slice_get c.books die) o new
 
 -- a program and an erase give nothing, and a read what its reader looked up
 abbrev pub JobEnds : Core → Flight → Outcome → Option Ended → Type 0

@@ -1,12 +1,17 @@
 -- How a group moves on until it is durable, as the code does it. Describes says what that means.
 use Rattle.std.specs.Prelude.{ℕ, zero, suc, ◌+◌, ◌-◌, nat_le, nat_lt, if◌then◌else◌, List, length, map, slice_get}
-use Rattle.std.specs.Prelude.{slice_set, remove, Option, Some, None}
+use Rattle.std.specs.Prelude.{slice_set, remove, Option, Some, None, true}
 use Rattle.ufs_spec.specs.declared.flash.Key.{Key}
 use Rattle.ufs_spec.specs.declared.flash.Place.{Place}
 use Rattle.ftl_core.specs.declared.books.Stored.{Stored}
+use Rattle.ftl_core.specs.declared.books.Book.{Book}
 use Rattle.ftl_core.specs.declared.books.Group.{Group}
+use Rattle.ftl_core.specs.declared.books.Mending.{Mending}
+use Rattle.ftl_core.specs.declared.books.Mending.TheVariants as mending
+use Rattle.ftl_core.specs.declared.books.Step.{Step}
+use Rattle.ftl_core.specs.declared.books.Step.TheVariants as step
 use Rattle.ftl_core.specs.Core.{Core}
-use Rattle.ftl_core.specs.Moves.{moved_pin, position_of}
+use Rattle.ftl_core.specs.Moves.{mark_ordered, moved_pin, page_written, position_of, went_bad}
 
 -- Groups
 
@@ -70,3 +75,46 @@ settled_by (suc n) c =
 -- every group at the front whose page is written is durable
 abbrev pub settled : Core → Core
 settled c = settled_by (length c.groups) c
+
+-- The step under way
+
+-- a mark with a fence is followed by the repairs; one without ends the mending
+abbrev pub mending_behind : Mending → Mending
+mending_behind (mending.Unmarked (Some fence)) = mending.Repairing
+mending_behind m = mending.Mended
+
+abbrev pub mark_over : Core → Core
+mark_over c = record c { step = None; mending = mending_behind c.mending }
+
+-- the repair is durable: its key reads from this place
+abbrev pub repair_over : Core → Key → Place → Core
+repair_over c k p =
+    noted (record c { step = None; frontier = c.frontier + 1 }) k (record { place = p; number = c.frontier + 1 })
+
+abbrev pub step_over : Core → Option Step → Place → Core
+step_over c None p = c
+step_over c (Some (step.Mark n fence)) p = mark_over c
+step_over c (Some (step.Repair n k from there)) p = repair_over c k p
+
+-- its page is written
+abbrev pub step_written : Core → ℕ → Book → Place → Core
+step_written c die b p = page_written (step_over c c.step p) die b b.filling
+
+-- in place of a failed mark waits one with the next number and the same fence; a failed repair waits again by itself
+abbrev pub step_again : Core → Option Step → Core
+step_again c (Some (step.Mark n fence)) = mark_ordered c fence
+step_again c (Some (step.Repair n k from there)) = c
+step_again c None = c
+
+abbrev pub step_failed : Core → ℕ → Place → Core
+step_failed c die p = went_bad (step_again c c.step) die p.block
+
+-- the content of the step is there
+abbrev pub step_there : Option Step → Option Step
+step_there (Some (step.Repair n k from there)) = Some (step.Repair n k from true)
+step_there (Some (step.Mark n fence)) = Some (step.Mark n fence)
+step_there None = None
+
+abbrev pub with_content : Core → Option (List ℕ) → Core
+with_content c None = c
+with_content c (Some body) = record c { content = body; step = step_there c.step }

@@ -15,11 +15,15 @@ use Rattle.ftl_core.specs.declared.books.Flight.TheVariants as flight
 use Rattle.ftl_core.specs.declared.books.Looked.{Looked}
 use Rattle.ftl_core.specs.declared.books.Looked.TheVariants as looked
 use Rattle.ftl_core.specs.declared.books.Pin.{Pin}
+use Rattle.ftl_core.specs.declared.books.Reader.{Reader}
+use Rattle.ftl_core.specs.declared.books.Reader.TheVariants as reader
+use Rattle.ftl_core.specs.declared.books.Step.{Step}
+use Rattle.ftl_core.specs.declared.books.Step.TheVariants as step
 use Rattle.ftl_core.specs.declared.ftl.Ended.{Ended}
 use Rattle.ftl_core.specs.declared.ftl.Ended.TheVariants as ended
 use Rattle.ftl_core.specs.Core.{Core}
-use Rattle.ftl_core.specs.Moves.{erased, mark_failed, mark_written, page_written, pin_of, went_bad, with_book}
-use Rattle.ftl_core.specs.Ends.{group_written, pending_at, settled}
+use Rattle.ftl_core.specs.Moves.{erased, page_written, pin_of, went_bad, with_book}
+use Rattle.ftl_core.specs.Ends.{group_written, pending_at, settled, step_failed, step_written, with_content}
 
 -- Programs and erases
 
@@ -34,9 +38,9 @@ abbrev pub group_ended : Core → ℕ → Book → Place → ℕ → Bool → Co
 group_ended c die b place n true = settled (page_written (group_written c place (pending_at c n)) die b b.filling)
 group_ended c die b place n false = went_bad c die place.block
 
-abbrev pub mark_ended : Core → ℕ → Book → Place → Bool → Core
-mark_ended c die b place true = mark_written c die b
-mark_ended c die b place false = mark_failed c die place
+abbrev pub step_ended : Core → ℕ → Book → Place → Bool → Core
+step_ended c die b place true = step_written c die b place
+step_ended c die b place false = step_failed c die place
 
 abbrev pub erase_ended : Core → ℕ → ℕ → Bool → Core
 erase_ended c die block true = erased c die block
@@ -44,7 +48,7 @@ erase_ended c die block false = went_bad c die block
 
 abbrev pub change_ended : Core → ℕ → Book → Flight → Bool → Core
 change_ended c die b (flight.Read place reader) well = c
-change_ended c die b (flight.Mark place) well = mark_ended c die b place well
+change_ended c die b (flight.Step place) well = step_ended c die b place well
 change_ended c die b (flight.Group place n) well = group_ended c die b place n well
 change_ended c die b (flight.Erase block) well = erase_ended c die block well
 
@@ -65,14 +69,6 @@ is_read _ = false
 -- the reader's page is no longer to be read
 abbrev pub wanted_no_more : ℕ → Pin → Pin
 wanted_no_more reader p = record p { wanted = if p.reader == reader then false else p.wanted }
-
-abbrev pub read_over : Core → Option ℕ → Core
-read_over c None = c
-read_over c (Some reader) = record c { pins = map (wanted_no_more reader) c.pins }
-
-abbrev pub read_after : Core → ℕ → Book → Option ℕ → Bool → Core
-read_after c die b reader false = c
-read_after c die b reader true = read_over (with_book c die record { filling = b.filling; flight = None }) reader
 
 -- What is given
 
@@ -100,10 +96,32 @@ IsGivenTo o None body = body ≡ None
 IsGivenTo o (Some p) body = IsGiven o p body
 
 -- what the end of a read gives to its reader, if it has one still
-abbrev pub Gives : Core → Outcome → Option ℕ → Ended → Type 0
-Gives c o None e = e ≡ ended.Other
-Gives c o (Some reader) e = (body : Option (List ℕ)) × IsGivenTo o (pin_of c reader) body × (e ≡ ended.Read reader body)
+abbrev pub Gives : Core → Outcome → Reader → Ended → Type 0
+Gives c o (reader.Task tag) e = (body : Option (List ℕ)) × IsGivenTo o (pin_of c tag) body × (e ≡ ended.Read tag body)
+Gives c o r e = e ≡ ended.Other
 
-abbrev pub GivesIf : Bool → Core → Outcome → Option ℕ → Option Ended → Type 0
-GivesIf false c o reader r = r ≡ None
-GivesIf true c o reader r = (e : Ended) × (r ≡ Some e) × Gives c o reader e
+abbrev pub GivesIf : Bool → Core → Outcome → Reader → Option Ended → Type 0
+GivesIf false c o who r = r ≡ None
+GivesIf true c o who r = (e : Ended) × (r ≡ Some e) × Gives c o who e
+
+-- What a read makes of what is kept
+
+-- the body of the page, where it is the one that the step under way is read from
+abbrev pub IsContentOf : Option Step → Page → Option (List ℕ) → Type 0
+IsContentOf (Some (step.Repair n k (Some s) there)) page body = IsBodyOf page k s.number body
+IsContentOf s page body = body ≡ None
+
+-- a failed read gives none
+abbrev pub IsContentRead : Option Step → Outcome → Option (List ℕ) → Type 0
+IsContentRead s (outcome.Read page) body = IsContentOf s page body
+IsContentRead s _ body = body ≡ None
+
+-- what is kept once a read for this reader is over
+abbrev pub IsReadOver : Core → Outcome → Reader → Core → Type 0
+IsReadOver c o (reader.Task tag) new = new ≡ record c { pins = map (wanted_no_more tag) c.pins }
+IsReadOver c o reader.Step new = (body : Option (List ℕ)) × IsContentRead c.step o body × (new ≡ with_content c body)
+IsReadOver c o reader.Nobody new = new ≡ c
+
+abbrev pub IsReadAfter : Bool → Core → ℕ → Book → Outcome → Reader → Core → Type 0
+IsReadAfter false c die b o r new = new ≡ c
+IsReadAfter true c die b o r new = IsReadOver (with_book c die record { filling = b.filling; flight = None }) o r new

@@ -1,12 +1,12 @@
 -- What the layer's steps make of what it keeps, as the code does it. Describes says what that means.
 use Rattle.ufs_spec.specs.declared.configs.Numbers.{Numbers}
-use Rattle.ufs_spec.specs.declared.configs.UnitSpec.{UnitSpec}
-use Rattle.std.specs.Prelude.{ℕ, ◌+◌, ◌-◌, ◌*◌, ◌^◌, ◌==◌, nat_le, nat_lt, Bool, true, false, ◌&&◌, ◌||◌, not}
-use Rattle.std.specs.Prelude.{if◌then◌else◌, List, [], ◌∷◌, ◌++◌, length, map, position, replicate, reverse, take}
-use Rattle.std.specs.Prelude.{sum_by, count_by, slice_get, slice_set, remove, Option, Some, None, unwrap_or, option_map}
+use Rattle.std.specs.Prelude.{ℕ, ◌+◌, ◌-◌, ◌*◌, ◌^◌, ◌==◌, min, nat_le, nat_lt, Bool, true, false, ◌&&◌, ◌||◌, not}
+use Rattle.std.specs.Prelude.{if◌then◌else◌, List, [], ◌∷◌, ◌++◌, length, map, position, replicate, reverse}
+use Rattle.std.specs.Prelude.{count_by, slice_get, slice_set, remove, Option, Some, None, unwrap_or, option_map}
 use Rattle.std.specs.Prelude.{option_and_then, is_none}
 use Rattle.std.specs.List.{list_any}
-use Rattle.ufs_spec.specs.declared.flash.Place.{Place}
+use Rattle.ufs_spec.specs.Plain.{shape_of_numbers, zero_block}
+use Rattle.ufs_spec.specs.declared.flash.Fence.{Fence}
 use Rattle.ufs_spec.specs.declared.flash.Key.{Key}
 use Rattle.ufs_spec.specs.declared.flash.Tag.{Tag}
 use Rattle.ftl_core.specs.declared.books.BlockState.{BlockState}
@@ -19,52 +19,108 @@ use Rattle.ftl_core.specs.declared.books.Stored.{Stored}
 use Rattle.ftl_core.specs.declared.books.Group.{Group}
 use Rattle.ftl_core.specs.declared.books.Looked.{Looked}
 use Rattle.ftl_core.specs.declared.books.Looked.TheVariants as looked
+use Rattle.ftl_core.specs.declared.books.Mending.{Mending}
+use Rattle.ftl_core.specs.declared.books.Mending.TheVariants as mending
 use Rattle.ftl_core.specs.declared.books.Pin.{Pin}
+use Rattle.ftl_core.specs.declared.books.Reader.TheVariants as reader
+use Rattle.ftl_core.specs.declared.books.Step.{Step}
+use Rattle.ftl_core.specs.declared.books.Step.TheVariants as step
 use Rattle.ftl_core.specs.declared.books.Waiting.{Waiting}
 use Rattle.ftl_core.specs.declared.books.Waiting.TheVariants as waiting
+use Rattle.page_tag.specs.declared.contents.Mark.{Mark}
+use Rattle.recovery.specs.KeysInOrder.{index_of}
+use Rattle.recovery.specs.declared.found.Found.{Found}
+use Rattle.recovery.specs.declared.keys.FoundBlock.{FoundBlock}
+use Rattle.recovery.specs.declared.keys.FoundBlock.TheVariants as found
+use Rattle.recovery.specs.declared.pages.FoundPage.{FoundPage}
 use Rattle.ftl_core.specs.Core.{Core}
 
 -- At the start
 
-abbrev pub state_at_start : Bool → BlockState
-state_at_start true = state.Bad
-state_at_start false = state.Free
-
 abbrev pub idle_book : Book
 idle_book = record { filling = None; flight = None }
 
--- new dies, of which some blocks are bad: nothing is stored, and the first mark is not written
-abbrev pub fresh : Numbers → List Bool → Core
-fresh n bad = record {
+abbrev pub state_of_found : FoundBlock → BlockState
+state_of_found found.Free = state.Free
+state_of_found found.Closed = state.Closed
+state_of_found found.Bad = state.Bad
+
+abbrev pub is_bad_found : FoundBlock → Bool
+is_bad_found found.Free = false
+is_bad_found found.Closed = false
+is_bad_found found.Bad = true
+
+abbrev pub stored_of_found : FoundPage → Stored
+stored_of_found page = record { place = page.place; number = page.tag.number }
+
+-- the fence of the first mark: over the lost numbers, if there are any
+abbrev pub first_fence : Found → Option Fence
+first_fence f =
+    if nat_lt f.greatest_seen f.first_lost then None
+    else Some (record { first = f.first_lost; last = f.greatest_seen })
+
+-- the mending is over where a mark stands and nothing is lost
+abbrev pub mending_from : Option Fence → Option Mark → Mending
+mending_from (Some fence) newest = mending.Unmarked (Some fence)
+mending_from None None = mending.Unmarked None
+mending_from None (Some mark) = mending.Mended
+
+abbrev pub first_mending : Found → Mending
+first_mending f = mending_from (first_fence f) f.newest
+
+abbrev pub number_behind : Option Mark → ℕ
+number_behind None = 1
+number_behind (Some mark) = min mark.number (2 ^ 62) + 1
+
+abbrev pub mark_number_behind : Found → ℕ
+mark_number_behind f = number_behind f.newest
+
+-- what is kept when the layer is opened over dies of which this was found
+abbrev pub opened : Numbers → Found → Core
+opened n f = record {
   numbers = n;
-  states = map state_at_start bad;
+  states = map state_of_found f.blocks.items;
   books = replicate n.dies idle_book;
-  has_bad = list_any (λ b. b) bad;
-  places = replicate (sum_by (λ (u : UnitSpec). u.blocks) n.units.items) None;
+  has_bad = list_any is_bad_found f.blocks.items;
+  places = map (option_map stored_of_found) f.contents.items;
   groups = [];
-  frontier = 0;
+  frontier = min f.greatest_seen (2 ^ 62);
   claimed = 0;
   pins = [];
-  mark = None;
-  next_mark = 1;
-  mended = false;
+  mending = first_mending f;
+  lost = f.lost.items;
+  repaired = 0;
+  step = None;
+  content = zero_block;
+  next_mark = mark_number_behind f;
 }
 
--- how many blocks a unit has
-abbrev pub blocks_of : Core → ℕ → Option ℕ
-blocks_of c unit = option_map (λ (u : UnitSpec). u.blocks) (slice_get c.numbers.units.items unit)
+-- a mark without a fence is finished
+abbrev pub is_over : Mending → Bool
+is_over mending.Mended = true
+is_over m = false
 
 -- Room
 
 abbrev pub free_slots : Core → ℕ
 free_slots c = c.numbers.slots - length c.groups - c.claimed
 
+-- how many groups of repairs are under way: one or none
+abbrev pub repairs_in : Option Step → ℕ
+repairs_in (Some (step.Repair n key from there)) = 1
+repairs_in (Some (step.Mark n fence)) = 0
+repairs_in None = 0
+
+-- the greatest number that was given
+abbrev pub last_number : Core → ℕ
+last_number c = c.frontier + length c.groups + repairs_in c.step
+
 -- the number of the next group
 abbrev pub next_number : Core → ℕ
-next_number c = c.frontier + length c.groups + 1
+next_number c = last_number c + 1
 
 abbrev pub has_number : Core → Bool
-has_number c = nat_lt (c.frontier + length c.groups) (2 ^ 62)
+has_number c = nat_lt (last_number c) (2 ^ 62)
 
 abbrev pub is_locked : Core → Bool
 is_locked c = c.has_bad || not (has_number c)
@@ -109,8 +165,8 @@ is_erasable c die block = is_free (state_of c die block) && not (list_any (keeps
 -- What is owed to a die
 
 abbrev pub flight_reads : ℕ → Option Flight → Bool
-flight_reads reader (Some (flight.Read place (Some other))) = reader == other
-flight_reads reader _ = false
+flight_reads tag (Some (flight.Read place (reader.Task other))) = tag == other
+flight_reads tag _ = false
 
 -- the die reads for the reader
 abbrev pub reads_for : ℕ → Book → Bool
@@ -126,7 +182,7 @@ is_owed_by books die p = p.wanted && looks_on die p.looked && not (list_any (rea
 
 -- for a group alone a block is opened only where more than dies + 2 blocks are free
 abbrev pub may_open : Core → Waiting → Bool
-may_open c waiting.Mark = true
+may_open c waiting.Step = true
 may_open c (waiting.Group n) = nat_lt (length c.books + 2) (free_blocks c)
 
 -- the die has this job in flight, over the open block that it had
@@ -150,11 +206,12 @@ single_tag k number frontier =
       frontier = frontier;
     }
 
--- a mark with the next number waits, where one is left
-abbrev pub mark_ordered : Core → Core
-mark_ordered c =
-    if nat_le c.next_mark (2 ^ 62) then record c { mark = Some c.next_mark; next_mark = c.next_mark + 1 }
-    else record c { mark = None }
+-- a mark with the next number and this fence waits, where a number is left
+abbrev pub mark_ordered : Core → Option Fence → Core
+mark_ordered c fence =
+    if nat_le c.next_mark (2 ^ 62)
+    then record c { step = Some (step.Mark c.next_mark fence); next_mark = c.next_mark + 1 }
+    else record c { step = None }
 
 -- the die's open block has one page less, and is closed with its last; no job is in flight
 abbrev pub page_written : Core → ℕ → Book → Option OpenBlock → Core
@@ -179,13 +236,6 @@ erased c die block =
       flight = None;
     }
 
--- a finished mark without a fence ends the mending
-abbrev pub mark_written : Core → ℕ → Book → Core
-mark_written c die b = page_written (record c { mark = None; mended = true }) die b b.filling
-
-abbrev pub mark_failed : Core → ℕ → Place → Core
-mark_failed c die place = went_bad (mark_ordered c) die place.block
-
 -- Looking
 
 abbrev pub same_key : Key → Key → Bool
@@ -198,23 +248,15 @@ is_group_of k g = same_key g.key k
 abbrev pub last_of : Key → List Group → Option ℕ
 last_of k gs = option_map (λ behind. length gs - 1 - behind) (position (is_group_of k) (reverse gs))
 
--- the position of a unit's address among the addresses of all units, in order
-abbrev pub position_within : List UnitSpec → ℕ → ℕ → Option UnitSpec → Option ℕ
-position_within us u a None = None
-position_within us u a (Some s) =
-    if nat_lt a s.blocks then Some (sum_by (λ (t : UnitSpec). t.blocks) (take u us) + a) else None
-
-abbrev pub unit_position : List UnitSpec → ℕ → ℕ → Option ℕ
-unit_position us u a = position_within us u a (slice_get us u)
-
+-- the position of the key among those of the device
 abbrev pub position_of : Numbers → Key → Option ℕ
-position_of n k = if k.kind == 1 then unit_position n.units.items k.unit k.address else None
+position_of n k = index_of (shape_of_numbers n) k
 
 abbrev pub flat : Option (Option Stored) → Option Stored
 flat None = None
 flat (Some s) = s
 
--- where the durable content of the address stands, in a list of all addresses' places
+-- where the durable content of the key stands, in a list of all keys' places
 abbrev pub stored_in : Numbers → List (Option Stored) → Key → Option Stored
 stored_in n places k = option_and_then (λ p. flat (slice_get places p)) (position_of n k)
 
@@ -248,9 +290,9 @@ pins_without ps (Some k) = remove ps k
 
 -- a read in flight for a reader who let go is for nobody
 abbrev pub flight_without : ℕ → Option Flight → Option Flight
-flight_without reader (Some (flight.Read place (Some other))) =
-    Some (flight.Read place (if other == reader then None else Some other))
-flight_without reader f = f
+flight_without tag (Some (flight.Read place (reader.Task other))) =
+    Some (flight.Read place (if other == tag then reader.Nobody else reader.Task other))
+flight_without tag f = f
 
 abbrev pub without_reader : ℕ → Book → Book
 without_reader reader b = record b { flight = flight_without reader b.flight }
@@ -290,8 +332,42 @@ slot_in gs frontier n =
 abbrev pub slot_of : Core → ℕ → Option (List ℕ)
 slot_of c n = slot_in c.groups c.frontier n
 
--- A step
+-- Steps
 
--- a mark is due: the device is not mended, none is under way, and a number is left
+-- the repair of the key waits, with the next number: its content is read from where it stands, or is zeros
+abbrev pub repair_step : Core → Key → Step
+repair_step c k = step.Repair (next_number c) k (stored_of c k) (is_none (stored_of c k))
+
+abbrev pub repair_ordered : Core → Key → Core
+repair_ordered c k =
+    record c { repaired = c.repaired + 1; content = zero_block; step = Some (repair_step c k) }
+
+-- a mark is due where a number is left
+abbrev pub has_mark_number : Core → Bool
+has_mark_number c = nat_le c.next_mark (2 ^ 62)
+
+-- the next key is to be repaired, or the mark that follows the repairs is due
+abbrev pub is_repair_due : Core → Option Key → Bool
+is_repair_due c None = has_mark_number c
+is_repair_due c (Some k) = has_number c
+
+abbrev pub repair_turned : Core → Option Key → Core
+repair_turned c None = mark_ordered c None
+repair_turned c (Some k) = repair_ordered c k
+
+abbrev pub is_step_due : Core → Mending → Bool
+is_step_due c (mending.Unmarked fence) = has_mark_number c
+is_step_due c mending.Repairing = is_repair_due c (slice_get c.lost c.repaired)
+is_step_due c mending.Mended = false
+
 abbrev pub is_turn_due : Core → Bool
-is_turn_due c = not c.mended && is_none c.mark && nat_le c.next_mark (2 ^ 62)
+is_turn_due c = is_none c.step && is_step_due c c.mending
+
+abbrev pub step_turned : Core → Mending → Core
+step_turned c (mending.Unmarked fence) = mark_ordered c fence
+step_turned c mending.Repairing = repair_turned c (slice_get c.lost c.repaired)
+step_turned c mending.Mended = c
+
+-- what one step of the mending makes of what is kept, where one is due
+abbrev pub turned : Core → Core
+turned c = step_turned c c.mending

@@ -1,11 +1,13 @@
 -- Which job a die is given, and what its start makes of what the layer keeps, as the code does it. `IsTaken` of
 -- Describes says what that means.
-use Rattle.std.specs.Prelude.{ℕ, zero, suc, ◌+◌, ◌==◌, nat_le, Bool, true, false, ◌&&◌, not, if◌then◌else◌, is_none}
-use Rattle.std.specs.Prelude.{length, position, slice_get, Option, Some, None, option_and_then, option_map}
+use Rattle.std.specs.Prelude.{ℕ, zero, suc, ◌+◌, ◌==◌, nat_le, Bool, true, false, ◌&&◌, ◌||◌, not, if◌then◌else◌}
+use Rattle.std.specs.Prelude.{is_none, length, position, slice_get, Option, Some, None, option_and_then, option_map}
 use Rattle.std.specs.List.{list_any}
 use Rattle.ufs_spec.specs.Pages.{mark_bytes, seal_page}
 use Rattle.ufs_spec.specs.declared.flash.Job.{Job}
 use Rattle.ufs_spec.specs.declared.flash.Job.TheVariants as job
+use Rattle.ufs_spec.specs.declared.flash.Fence.{Fence}
+use Rattle.ufs_spec.specs.declared.flash.Key.{Key}
 use Rattle.ufs_spec.specs.declared.flash.Place.{Place}
 use Rattle.ftl_core.specs.declared.books.OpenBlock.{OpenBlock}
 use Rattle.ftl_core.specs.declared.books.Book.{Book}
@@ -15,6 +17,9 @@ use Rattle.ftl_core.specs.declared.books.Group.{Group}
 use Rattle.ftl_core.specs.declared.books.Looked.{Looked}
 use Rattle.ftl_core.specs.declared.books.Looked.TheVariants as looked
 use Rattle.ftl_core.specs.declared.books.Pin.{Pin}
+use Rattle.ftl_core.specs.declared.books.Reader.TheVariants as reader
+use Rattle.ftl_core.specs.declared.books.Step.{Step}
+use Rattle.ftl_core.specs.declared.books.Step.TheVariants as step
 use Rattle.ftl_core.specs.declared.books.Waiting.{Waiting}
 use Rattle.ftl_core.specs.declared.books.Waiting.TheVariants as waiting
 use Rattle.ftl_core.specs.Core.{Core}
@@ -44,13 +49,21 @@ flight_writes number _ = false
 abbrev pub writes_group : ℕ → Book → Bool
 writes_group number b = flight_writes number b.flight
 
-abbrev pub is_mark_flight : Option Flight → Bool
-is_mark_flight (Some (flight.Mark place)) = true
-is_mark_flight _ = false
+abbrev pub is_step_flight : Option Flight → Bool
+is_step_flight (Some (flight.Step place)) = true
+is_step_flight _ = false
 
--- the die writes a mark
-abbrev pub writes_mark : Book → Bool
-writes_mark b = is_mark_flight b.flight
+-- the die writes the page of the step under way
+abbrev pub writes_step : Book → Bool
+writes_step b = is_step_flight b.flight
+
+abbrev pub is_step_reading : Option Flight → Bool
+is_step_reading (Some (flight.Read place reader.Step)) = true
+is_step_reading _ = false
+
+-- the die reads for the step under way
+abbrev pub reads_step : Book → Bool
+reads_step b = is_step_reading b.flight
 
 abbrev pub group_waits : Core → ℕ → Option Group → Bool
 group_waits c number None = false
@@ -64,17 +77,18 @@ waits_at c k = group_waits c (c.frontier + k + 1) (slice_get c.groups k)
 abbrev pub number_waiting : Core → Option ℕ
 number_waiting c = option_map (λ k. c.frontier + k + 1) (lowest_below (waits_at c) (length c.groups))
 
--- the number of the mark that waits
-abbrev pub mark_waiting : Core → Option ℕ
-mark_waiting c = if list_any writes_mark c.books then None else c.mark
+-- the page of the step under way can be programmed: its content is there
+abbrev pub is_step_there : Option Step → Bool
+is_step_there None = false
+is_step_there (Some (step.Mark n fence)) = true
+is_step_there (Some (step.Repair n k from there)) = there
 
--- a mark goes before the groups, and these in order of number
-abbrev pub waiting_first : Option ℕ → Option ℕ → Option Waiting
-waiting_first (Some n) g = Some waiting.Mark
-waiting_first None g = option_map waiting.Group g
+abbrev pub step_waits : Core → Bool
+step_waits c = is_step_there c.step && not (list_any writes_step c.books)
 
+-- the page of a step goes before those of groups, and these in order of number
 abbrev pub waiting_of : Core → Option Waiting
-waiting_of c = waiting_first (mark_waiting c) (number_waiting c)
+waiting_of c = if step_waits c then Some waiting.Step else option_map waiting.Group (number_waiting c)
 
 -- What is in flight then
 
@@ -82,7 +96,7 @@ abbrev pub next_place : ℕ → OpenBlock → Place
 next_place die o = record { die = die; block = o.block; page = o.next }
 
 abbrev pub page_flight : Place → Waiting → Flight
-page_flight place waiting.Mark = flight.Mark place
+page_flight place waiting.Step = flight.Step place
 page_flight place (waiting.Group n) = flight.Group place n
 
 -- the block of the die that is erased for what waits, where one may be opened for it
@@ -100,16 +114,35 @@ place_in _ = None
 
 -- the read that the reader is owed
 abbrev pub read_of : Pin → Option Flight
-read_of p = option_map (λ place. flight.Read place (Some p.reader)) (place_in p.looked)
+read_of p = option_map (λ place. flight.Read place (reader.Task p.reader)) (place_in p.looked)
 
 -- the position of the first reader who is owed the read of a page of this die
 abbrev pub first_owed : Core → ℕ → Option ℕ
 first_owed c die = position (is_owed_by c.books die) c.pins
 
+-- where the page stands that the step under way is still to be read from
+abbrev pub step_wants : Option Step → Option Place
+step_wants (Some (step.Repair n k (Some s) false)) = Some s.place
+step_wants s = None
+
+-- the read that the step under way is owed of a page of this die
+abbrev pub step_read_at : Core → ℕ → Option Place → Option Flight
+step_read_at c die None = None
+step_read_at c die (Some place) =
+    if not (place.die == die) || list_any reads_step c.books then None else Some (flight.Read place reader.Step)
+
+abbrev pub step_read : Core → ℕ → Option Flight
+step_read c die = step_read_at c die (step_wants c.step)
+
+-- the read that is owed to the die: to a reader, else to the step under way
+abbrev pub owed_read : Core → ℕ → Option ℕ → Option Flight
+owed_read c die None = step_read c die
+owed_read c die (Some k) = option_and_then read_of (slice_get c.pins k)
+
 -- a read goes before all that waits
-abbrev pub owed_flight : Core → ℕ → Option OpenBlock → Option ℕ → Option Flight
+abbrev pub owed_flight : Core → ℕ → Option OpenBlock → Option Flight → Option Flight
 owed_flight c die filling None = option_and_then (waiting_flight c die filling) (waiting_of c)
-owed_flight c die filling (Some k) = option_and_then read_of (slice_get c.pins k)
+owed_flight c die filling (Some f) = Some f
 
 -- What the die is told
 
@@ -129,20 +162,41 @@ abbrev pub group_job : Core → Place → Option ℕ → Option Job
 group_job c place None = None
 group_job c place (Some k) = group_job_at c place k (slice_get c.groups k)
 
--- the page of a mark holds the configuration and no fence
-abbrev pub mark_program : Core → Place → ℕ → Job
-mark_program c place n = job.Program place (seal_page (single_tag mark_key n c.frontier) (mark_bytes c.numbers None))
+-- the page of a mark holds the configuration and its fence
+abbrev pub mark_program : Core → Place → ℕ → Option Fence → Job
+mark_program c place n fence =
+    job.Program place (seal_page (single_tag mark_key n c.frontier) (mark_bytes c.numbers fence))
+
+-- a tag can name the key
+abbrev pub is_sealable : Key → Bool
+is_sealable k =
+    if k.kind == 1 then nat_le k.unit 7
+    else if k.kind == 2 then k.unit == 0
+    else if k.kind == 3 then (k.unit == 0) && (k.address == 0)
+    else false
+
+-- the page of a repair holds the content of its key
+abbrev pub repair_program : Core → Place → ℕ → Key → Job
+repair_program c place n k = job.Program place (seal_page (single_tag k n c.frontier) c.content)
+
+abbrev pub repair_job : Core → Place → ℕ → Key → Option Job
+repair_job c place n k = if is_sealable k then Some (repair_program c place n k) else None
+
+abbrev pub step_job : Core → Place → Option Step → Option Job
+step_job c place None = None
+step_job c place (Some (step.Mark n fence)) = Some (mark_program c place n fence)
+step_job c place (Some (step.Repair n k from there)) = repair_job c place n k
 
 abbrev pub job_of : Core → ℕ → Flight → Option Job
 job_of c die (flight.Read place reader) = Some (job.Read place)
-job_of c die (flight.Mark place) = option_map (mark_program c place) c.mark
+job_of c die (flight.Step place) = step_job c place c.step
 job_of c die (flight.Group place n) = group_job c place (pending_at c n)
 job_of c die (flight.Erase block) = Some (job.Erase die block)
 
 -- A die with a job in flight is given none
 
 abbrev pub idle_flight : Core → ℕ → Option OpenBlock → Option Flight → Option Flight
-idle_flight c die filling None = owed_flight c die filling (first_owed c die)
+idle_flight c die filling None = owed_flight c die filling (owed_read c die (first_owed c die))
 idle_flight c die filling (Some f) = None
 
 abbrev pub flight_for : Core → ℕ → Option Book → Option Flight

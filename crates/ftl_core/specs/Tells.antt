@@ -1,18 +1,13 @@
 -- What the calls of the layer tell of the layer that is specified.
-use Rattle.std.specs.Prelude.{◌≡◌, ℕ, ◌==◌, Bool, true, find, Option, Some, None, option_map, slice_get}
-use Rattle.ufs_spec.specs.Disk.{ForNobody, ForTask, Reader}
+use Rattle.std.specs.Prelude.{◌≡◌, ℕ, ◌==◌, Bool, true, find, Option, Some, None}
+use Rattle.ufs_spec.specs.Disk.{ForNobody, ForRest, ForStep, ForTask, Reader}
 use Rattle.ufs_spec.specs.Ledger.{Name, OnPage}
 use Rattle.ufs_spec.specs.Moves.{is_pin_of}
 use Rattle.ufs_spec.specs.Translation as layer
 use Rattle.ufs_spec.specs.Translation.{Translation}
-use Rattle.ufs_spec.specs.declared.configs.UnitSpec.{UnitSpec}
 use Rattle.ufs_spec.specs.declared.flash.Place.{Place}
 use Rattle.ftl_core.specs.declared.books.Looked.{Looked}
 use Rattle.ftl_core.specs.Describes.{IsLookedAt}
-
--- how many blocks a unit has
-abbrev pub blocks_of_unit : Translation → ℕ → Option ℕ
-blocks_of_unit t unit = option_map (λ (u : UnitSpec). u.blocks) (slice_get t.numbers.units.items unit)
 
 -- the reader keeps this
 abbrev pub keeps_for : ℕ → layer.Pin → Bool
@@ -33,8 +28,9 @@ pub record IsAwaited (t : Translation) (tag index : ℕ) (place : Place) : Type 
   pub name : Name
   pub looks : pin.looked ≡ OnPage name place
 
--- a read in flight is for a reader who waits for it, or for nobody; steps and rests read nothing yet
+-- a read in flight is for a reader who waits for it, for the step under way, or for nobody; rests read nothing yet
 abbrev pub IsReadOf : Translation → Place → Reader → Type 0
 IsReadOf t place (ForTask tag index) = IsAwaited t tag index place
+IsReadOf t place ForStep = Unit {0}
 IsReadOf t place ForNobody = Unit {0}
-IsReadOf t place reader = ⊥
+IsReadOf t place (ForRest number index) = ⊥

@@ -1,5 +1,5 @@
 //! What the translation layer writes down of blocks, dies, groups and readers.
-use ufs_spec::{Block, Key, Place};
+use ufs_spec::{Block, Fence, Key, Place};
 
 /// What a block is to the device: free to be erased, being filled, full, or bad.
 #[derive(Clone, Copy, Debug, Default, PartialEq, Eq)]
@@ -18,11 +18,21 @@ pub struct OpenBlock {
     pub next: u16,
 }
 
-/// The job in flight on a die. A read is for the reader who waits for it, or for nobody once that one let go.
+/// For whom a page is read: for the reader who waits for it, or for nobody, once that one let go; or for
+/// the step under way.
+#[derive(Clone, Copy, Debug, PartialEq, Eq)]
+pub enum Reader {
+    Task(u8),
+    Step,
+    Nobody,
+}
+
+/// The job in flight on a die: a read; the program of the page of the step under way, or of the pending
+/// group of this number; or an erase.
 #[derive(Clone, Copy, Debug, PartialEq, Eq)]
 pub enum Flight {
-    Read { place: Place, reader: Option<u8> },
-    Mark { place: Place },
+    Read { place: Place, reader: Reader },
+    Step { place: Place },
     Group { place: Place, number: u64 },
     Erase { block: u16 },
 }
@@ -68,9 +78,40 @@ pub struct Pin {
     pub wanted: bool,
 }
 
-/// What waits to be programmed: the mark that is ordered, or the page of the pending group with this number.
+/// How far the mending is.
+#[derive(Clone, Copy, Debug, PartialEq, Eq)]
+pub enum Mending {
+    /// The first mark of this life is not finished. It has this fence.
+    Unmarked(Option<Fence>),
+    /// It is finished, and the keys with a lost page are repaired one after another. A mark without a
+    /// fence comes last.
+    Repairing,
+    /// A mark without a fence is finished.
+    Mended,
+}
+
+/// The step of the mending that is under way.
+#[derive(Clone, Copy, Debug, PartialEq, Eq)]
+pub enum Step {
+    /// A mark with this number and this fence.
+    Mark {
+        number: u64,
+        fence: Option<Fence>,
+    },
+    /// The repair of a key, under this number: its content stands on that page, or is zeros. It can be
+    /// programmed once its content is there.
+    Repair {
+        number: u64,
+        key: Key,
+        from: Option<Stored>,
+        is_there: bool,
+    },
+}
+
+/// What waits to be programmed: the page of the step under way, or that of the pending group with this
+/// number.
 #[derive(Clone, Copy, Debug, PartialEq, Eq)]
 pub enum Waiting {
-    Mark,
+    Step,
     Group(u64),
 }

@@ -1,27 +1,31 @@
 //! The translation layer and its calls.
 ghost use Rattle.std.specs.Prelude.{◌≡◌, ℕ, ◌<◌, ◌≤◌, ◌+◌, ◌^◌, length, IsTrue, vec_capacity, ◌↔◌, IfOk, IsSome, IfSome, vec_len, nat_lt, ◌-◌, ◌&&◌, ◌++◌, ◌∷◌, [], if◌then◌else◌, sum_by, slice_get, map, None, true, option_copied, position, replicate, reverse, Bool, false, find, option_map};
 ghost use Rattle.std.specs.List.{list_any};
-ghost use Rattle.ufs_spec.specs.declared.configs.UnitSpec.{UnitSpec};
-ghost use Rattle.ftl_core.specs.Moves.{accepted, blocks_of, can_accept, fresh, idle_book, slot_of, state_at_start, is_group_of, is_pin_of, looked_by, pin_of, slot_in, unpinned, look_of, last_of, position_of, stored_of, unit_position, with_pin, free_slots, is_locked, has_number, next_number, mark_ordered, flight_without, without_reader, pins_without};
+ghost use Rattle.ftl_core.specs.Moves.{accepted, can_accept, first_fence, first_mending, idle_book, is_bad_found};
+ghost use Rattle.ftl_core.specs.Moves.{is_over, last_number, mark_number_behind, opened, repairs_in, state_of_found};
+ghost use Rattle.ftl_core.specs.Moves.{stored_of_found, slot_of, is_group_of, is_pin_of, looked_by, pin_of, slot_in, unpinned, look_of, last_of, position_of, stored_of, with_pin, free_slots, is_locked, has_number, next_number, flight_without, without_reader, pins_without};
 ghost use Rattle.ufs_spec.specs.Keys.{IsKey};
 ghost use Rattle.ufs_spec.specs.Ledger.{look, next_number as next_of_layer, Entry, before_accepted, entry_of};
 ghost use Rattle.ufs_spec.specs.Moves.{Accept, Acknowledge, Claim, IsAllowedMove, Keep, LetGo, LetGoAll, Release, WantPage, moved, is_pin_of as is_layer_pin_of};
-ghost use Rattle.ufs_spec.specs.Plain.{shape_of_numbers};
-ghost use Rattle.ufs_spec.specs.Translation.{Translation, free_slots as layer_slots, is_locked as is_layer_locked, is_mended, has_number as has_layer_number, spots};
-ghost use Rattle.ufs_spec.specs.Cells.{Cells, Nothing};
+ghost use Rattle.ufs_spec.specs.Plain.{shape_of_numbers, zero_block};
+ghost use Rattle.ufs_spec.specs.Translation.{Translation, free_slots as layer_slots, is_locked as is_layer_locked, is_mended, has_number as has_layer_number};
+ghost use Rattle.ufs_spec.specs.Cells.{AreWithin, Cells};
+ghost use Rattle.ufs_spec.specs.Sound.{CellsSound};
+ghost use Rattle.power_loss.specs.Book.{CellsRight};
+ghost use Rattle.recovery.specs.Found.{IsFound};
 ghost use Rattle.ufs_spec.specs.Disk.{Spot};
 ghost use Rattle.ufs_spec.specs.Openings.{IsOpenedTranslation};
-ghost use Rattle.ufs_spec.specs.declared.flash.Place.{Place};
 ghost use Rattle.ftl_core.specs.Describes.{Describes, IsLookedAt, name_at};
-ghost use Rattle.ftl_core.specs.Tells.{IsPinned, blocks_of_unit, keeps_for};
+ghost use Rattle.ftl_core.specs.Tells.{IsPinned, keeps_for};
 
 mod ends;
 mod takes;
 
-use crate::books::{BlockState, Book, Flight, Group, Looked, Pin, Stored};
+use crate::books::{BlockState, Book, Flight, Group, Looked, Mending, Pin, Reader, Step, Stored};
+use recovery::{Found, FoundBlock, FoundPage, key_index};
 use std::alloc::{AllocError, Global};
 use std::marker::Model;
-use ufs_spec::{Block, Config, Key, Tag, UnitSpec};
+use ufs_spec::{Block, Config, Fence, Key, UnitSpec};
 
 /// No group and no mark has a greater number.
 const LAST_NUMBER: u64 = 0x4000_0000_0000_0000;
@@ -48,22 +52,28 @@ pub struct Ftl {
     books: Vec<Book>,
     /// Whether any block is bad; it stays so.
     has_bad: bool,
-    /// Where the durable content of each address stands, in order by unit and address.
+    /// Where the durable content of each key stands, in the order of keys.
     places: Vec<Option<Stored>>,
     /// The pending groups, in order of number: the first has the number `frontier + 1`.
     groups: Vec<Group>,
-    /// Every group up to this number is durable; no pending group has a number above 2^62.
+    /// Every group up to this number is durable or lost; no number is above 2^62.
     frontier: u64,
     /// How many slots are claimed for groups to come; with the pending groups they are at most `slots`.
     claimed: usize,
     /// What readers keep: one pin a reader, at most 32, with room for all of them.
     pins: Vec<Pin>,
-    /// The number of the mark that is ordered and not finished, from 1 to 2^62.
-    mark: Option<u64>,
+    /// How far the mending is.
+    mending: Mending,
+    /// The keys with a lost page, each once, in order.
+    lost: Vec<Key>,
+    /// How many of them have a repair, or are being repaired.
+    repaired: usize,
+    /// The step of the mending that is under way. Beside a repair no group is pending.
+    step: Option<Step>,
+    /// What the page of the repair under way holds, once it is there.
+    content: Block,
     /// The number of the next mark, from 1 to 2^62 + 1; the last means that none is left.
     next_mark: u64,
-    /// Whether a mark without a fence is finished.
-    mended: bool,
 }
 
 impl Model for Ftl {
@@ -76,32 +86,6 @@ impl Model for Ftl {
     ghost view = { core_of };
 
     ghost invariant = { IsRoomy };
-}
-
-/// How many addresses the units have together.
-fn address_count(units: &[UnitSpec]) -> usize
-    requires { length units.now ≤ 8 }
-    ensures count { result ≡ sum_by (λ (u : UnitSpec). u.blocks) units.now }
-    ensures small { result ≤ 2 ^ 35 }
-{
-    let mut count = 0;
-    for unit in units {
-        count += unit.blocks as usize;
-    }
-    count
-}
-
-/// The position of a unit's address among the addresses of all units, in order; `None` where the
-/// unit is not there or is smaller.
-fn position_of(units: &[UnitSpec], unit: u8, address: u32) -> Option<usize>
-    requires { length units.now ≤ 8 }
-    ensures { result ≡ unit_position units.now unit address }
-{
-    let unit = unit as usize;
-    if unit >= units.len() || address >= units[unit].blocks {
-        return None;
-    }
-    Some(address_count(&units[..unit]) + address as usize)
 }
 
 /// The position of the last pending group of the address.
@@ -188,13 +172,13 @@ fn flight_without(flight: Option<Flight>, reader: u8) -> Option<Flight>
         Some(
             Flight::Read {
                 place,
-                reader: Some(other),
+                reader: Reader::Task(other),
             },
         ) => {
             if other == reader {
                 Some(Flight::Read {
                     place,
-                    reader: None,
+                    reader: Reader::Nobody,
                 })
             } else {
                 flight
@@ -223,31 +207,43 @@ fn forget_reader(books: &mut [Book], reader: u8)
     }
 }
 
-/// What is known of the blocks at the start: bad ones stay bad, and all others are free.
-fn states_of(alloc: Global, bad: &[bool]) -> Result<Vec<BlockState>, AllocError>
-    ensures { IfOk result (λ v. v.items ≡ map state_at_start bad.now) }
+/// What the blocks are when the layer is opened.
+fn states_of(alloc: Global, blocks: &[FoundBlock]) -> Result<Vec<BlockState>, AllocError>
+    ensures { IfOk result (λ v. v.items ≡ map state_of_found blocks.now) }
 {
-    bad.iter()
-        .map(|is_bad| state_at_start(*is_bad))
+    blocks
+        .iter()
+        .map(|block| state_of_found(*block))
         .collect(alloc)
 }
 
-/// What a block is at the start.
-fn state_at_start(is_bad: bool) -> BlockState
-    ensures { result ≡ state_at_start is_bad }
+/// What a block is that was found so.
+fn state_of_found(block: FoundBlock) -> BlockState
+    ensures { result ≡ state_of_found block }
 {
-    if is_bad {
-        BlockState::Bad
-    } else {
-        BlockState::Free
+    match block {
+        FoundBlock::Free => BlockState::Free,
+        FoundBlock::Closed => BlockState::Closed,
+        FoundBlock::Bad => BlockState::Bad,
     }
 }
 
 /// Whether any of the blocks is bad.
-fn any_bad(bad: &[bool]) -> bool
-    ensures { result ≡ list_any (λ b. b) bad.now }
+fn any_bad(blocks: &[FoundBlock]) -> bool
+    ensures { result ≡ list_any is_bad_found blocks.now }
 {
-    bad.iter().any(|is_bad| *is_bad)
+    blocks.iter().any(|block| is_bad_found(*block))
+}
+
+/// Whether the block was found to be bad.
+fn is_bad_found(block: FoundBlock) -> bool
+    ensures { result ≡ is_bad_found block }
+{
+    match block {
+        FoundBlock::Free => false,
+        FoundBlock::Closed => false,
+        FoundBlock::Bad => true,
+    }
 }
 
 /// Dies with no job in flight and no block being filled.
@@ -264,54 +260,133 @@ fn idle_books(alloc: Global, dies: u8) -> Result<Vec<Book>, AllocError>
     Ok(all)
 }
 
-/// No address has durable content.
-fn nowhere(alloc: Global, addresses: usize) -> Result<Vec<Option<Stored>>, AllocError>
-    ensures { IfOk result (λ v. v.items ≡ replicate addresses None) }
+/// Where the content of each key stands when the layer is opened.
+fn places_of(alloc: Global, pages: &[Option<FoundPage>]) -> Result<Vec<Option<Stored>>, AllocError>
+    ensures { IfOk result (λ v. v.items ≡ map (option_map stored_of_found) pages.now) }
 {
-    let mut all = Vec::with_capacity(alloc, addresses)?;
-    for _ in 0..addresses {
-        all.push(None)?;
+    pages.iter().map(|page| stored_in(*page)).collect(alloc)
+}
+
+/// Where a content stands whose page was found, if one was.
+fn stored_in(page: Option<FoundPage>) -> Option<Stored>
+    ensures { result ≡ option_map stored_of_found page }
+{
+    match page {
+        Some(page) => Some(stored_of_found(page)),
+        None => None,
     }
-    Ok(all)
+}
+
+/// Where the content of this page stands.
+fn stored_of_found(page: FoundPage) -> Stored
+    ensures { result ≡ stored_of_found page }
+{
+    Stored {
+        place: page.place,
+        number: page.tag.number,
+    }
+}
+
+/// The fence of the first mark: over the lost numbers, if there are any.
+fn first_fence(found: &Found) -> Option<Fence>
+    ensures { result ≡ first_fence found.now }
+{
+    if found.first_lost > found.greatest_seen {
+        return None;
+    }
+    Some(Fence {
+        first: found.first_lost,
+        last: found.greatest_seen,
+    })
+}
+
+/// How far the mending is when the layer is opened: it is over where a mark stands and nothing is lost.
+fn first_mending(found: &Found) -> Mending
+    ensures { result ≡ first_mending found.now }
+{
+    match first_fence(found) {
+        Some(fence) => Mending::Unmarked(Some(fence)),
+        None if found.newest.is_some() => Mending::Mended,
+        None => Mending::Unmarked(None),
+    }
+}
+
+/// The number of the next mark.
+fn mark_number_behind(found: &Found) -> u64
+    ensures is { result ≡ mark_number_behind found.now }
+    ensures least { 1 ≤ result }
+    ensures greatest { result ≤ 2 ^ 62 + 1 }
+{
+    match &found.newest {
+        Some(mark) => mark.number.min(LAST_NUMBER) + 1,
+        None => 1,
+    }
+}
+
+/// A block of zeros, as a key reads that was never written.
+#[tactic(auto, unfolding(ufs_spec::specs::Plain::zero_block))]
+fn zeros() -> Block
+    ensures { result ≡ zero_block }
+{
+    [0; 4096]
+}
+
+/// How many groups of repairs are under way: one or none.
+fn repairs_in(step: &Option<Step>) -> u64
+    ensures { result ≡ repairs_in step.now }
+{
+    match step {
+        Some(Step::Repair { .. }) => 1,
+        _ => 0,
+    }
 }
 
 impl Ftl {
-    /// The layer over new dies: for each block of each die, in order, whether it is bad.
-    pub fn new(alloc: Global, config: Config, bad: &[bool]) -> Result<Ftl, AllocError>
-        ensures core { IfOk result (λ f. f ≡ fresh config bad.now) }
-        // Over pages that are all blank it is the layer that the definitions open over them.
+    /// The layer over the dies of which a scan found this.
+    pub fn new(alloc: Global, config: Config, found: Found) -> Result<Ftl, AllocError>
+        ensures core { IfOk result (λ f. f ≡ opened config found) }
+        // Over sound pages of which this was found it is the layer that the definitions open over them.
         ensures described { IfOk result (λ f. (cells : Cells) (is_bad : Spot → Bool) (t : Translation) →
-            1 ≤ config.pages → ((p : Place) → cells p ≡ Nothing) → bad.now ≡ map is_bad (spots config) →
-            IsOpenedTranslation config cells is_bad t → Describes f t) }
+            1 ≤ config.pages → CellsRight cells → AreWithin config cells → CellsSound cells t.ledger.newest →
+            IsFound config cells is_bad found → IsOpenedTranslation config cells is_bad t → Describes f t) }
     {
         let numbers = config.numbers();
         let dies = numbers.dies;
         let slots = numbers.slots as usize;
-        let addresses = address_count(numbers.units.as_slice());
-        let states = states_of(alloc, bad)?;
-        let has_bad = any_bad(bad);
+        let states = states_of(alloc, found.blocks.as_slice())?;
+        let has_bad = any_bad(found.blocks.as_slice());
+        let places = places_of(alloc, found.contents.as_slice())?;
+        let mending = first_mending(&found);
+        let next_mark = mark_number_behind(&found);
         Ok(Ftl {
             config,
             states,
             books: idle_books(alloc, dies)?,
             has_bad,
-            places: nowhere(alloc, addresses)?,
+            places,
             groups: Vec::with_capacity(alloc, slots)?,
-            frontier: 0,
+            frontier: found.greatest_seen.min(LAST_NUMBER),
             claimed: 0,
             pins: Vec::with_capacity(alloc, MOST_PINS)?,
-            mark: None,
-            next_mark: 1,
-            mended: false,
+            mending,
+            lost: found.lost,
+            repaired: 0,
+            step: None,
+            content: zeros(),
+            next_mark,
         })
     }
 
     /// Whether a mark without a fence is finished, so that commands are taken.
     pub fn is_mended(&self) -> bool
-        ensures core { result ≡ self.now.mended }
+        ensures core { result ≡ is_over self.now.mending }
         ensures described { (t : Translation) → Describes self.now t → result ≡ is_mended t.work.mending }
     {
-        self.mended
+        match self.mending {
+            Mending::Unmarked(_) => false,
+            Mending::Repairing => false,
+            Mending::Mended => true,
+        }
     }
 
     /// Whether writes are refused from now on: a block is bad (in this first stage none may be), or no
@@ -321,7 +396,14 @@ impl Ftl {
         ensures core { result ≡ is_locked self.now }
         ensures described { (t : Translation) → Describes self.now t → result ≡ is_layer_locked t }
     {
-        self.has_bad || self.frontier + self.groups.len() as u64 >= LAST_NUMBER
+        self.has_bad || self.last_number() >= LAST_NUMBER
+    }
+
+    /// The greatest number that was given: every pending group has one, and so has the repair under way.
+    pub(super) fn last_number(&self) -> u64
+        ensures { result ≡ last_number self.now }
+    {
+        self.frontier + self.groups.len() as u64 + repairs_in(&self.step)
     }
 
     /// The number at or under which every group is durable.
@@ -341,16 +423,17 @@ impl Ftl {
         self.config.numbers().slots as usize - self.groups.len() - self.claimed
     }
 
-    /// How many blocks the unit has; `None` where there is no such unit.
+    /// The unit; `None` where there is no such unit.
     #[tactic(auto, using(crate::proofs::small_calls::CallsDescribed::units_right))]
-    pub fn unit_blocks(&self, unit: u8) -> Option<u32>
-        ensures core { result ≡ blocks_of self.now unit }
-        ensures described { (t : Translation) → Describes self.now t → result ≡ blocks_of_unit t unit }
+    pub fn unit(&self, unit: u8) -> Option<UnitSpec>
+        ensures core { result ≡ slice_get self.now.numbers.units.items unit }
+        ensures described { (t : Translation) → Describes self.now t →
+            result ≡ slice_get t.numbers.units.items unit }
     {
         let units = self.config.numbers().units.as_slice();
         let unit = unit as usize;
         if unit < units.len() {
-            Some(units[unit].blocks)
+            Some(units[unit])
         } else {
             None
         }
@@ -385,8 +468,9 @@ impl Ftl {
     /// its page, or nothing (it reads as zeros).
     pub fn look(&self, key: Key) -> Looked
         ensures core { result ≡ look_of self.now key }
-        ensures described { (t : Translation) → Describes self.now t → IsKey (shape_of_numbers t.numbers) key → key.kind ≡ 1 →
-            IsLookedAt result (look t.ledger key) }
+        // A repair under way is in no slot that is looked up.
+        ensures described { (t : Translation) → Describes self.now t → is_mended t.work.mending ≡ true →
+            IsKey (shape_of_numbers t.numbers) key → key.kind ≡ 1 → IsLookedAt result (look t.ledger key) }
     {
         match last_of(self.groups.as_slice(), key) {
             Some(index) => Looked::Slot(self.frontier + index as u64 + 1),
@@ -395,25 +479,18 @@ impl Ftl {
     }
 
     /// Where the durable content of the address stands.
-    fn stored(&self, key: Key) -> Option<Stored>
+    pub(super) fn stored(&self, key: Key) -> Option<Stored>
         ensures { result ≡ stored_of self.now key }
     {
         let index = self.position(key)?;
         self.places.get(index).copied().flatten()
     }
 
-    /// The position of the address among those of all units.
-    fn position(&self, key: Key) -> Option<usize>
+    /// The position of the key among those of the device.
+    pub(super) fn position(&self, key: Key) -> Option<usize>
         ensures { result ≡ position_of self.now.numbers key }
     {
-        if key.kind != Tag::DATA {
-            return None;
-        }
-        position_of(
-            self.config.numbers().units.as_slice(),
-            key.unit,
-            key.address,
-        )
+        key_index(self.config.numbers(), key)
     }
 
     /// Keeps what was looked up for this reader, who is then owed a read of it where it is a page or
@@ -423,7 +500,7 @@ impl Ftl {
         ensures after { self.new ≡ (if result then with_pin self.old (record { reader = reader; key = key; looked = looked; wanted = true }) else self.old) }
         ensures described_found { (t : Translation) → Describes self.old t → result ≡ nat_lt (length t.pins) 32 }
         // It is what the address looks at, of a reader who keeps nothing yet.
-        ensures described { (t : Translation) → Describes self.old t →
+        ensures described { (t : Translation) → Describes self.old t → is_mended t.work.mending ≡ true →
             IsKey (shape_of_numbers t.numbers) key →
             IsLookedAt looked (look t.ledger key) → list_any (keeps_for reader) t.pins ≡ false →
             Describes self.new (if result
@@ -459,11 +536,14 @@ impl Ftl {
     }
 
     /// What the reader keeps; `None` where it keeps nothing.
-    #[tactic(auto, using(crate::proofs::small_calls::CallsDescribed::pinned_right))]
+    #[tactic(auto, using(crate::proofs::small_calls::CallsDescribed::pinned_right, crate::proofs::small_calls::CallsDescribed::keeps_mended))]
     pub fn pinned(&self, reader: u8) -> Option<Looked>
         ensures core { result ≡ looked_by reader self.now.pins }
         ensures described { (t : Translation) → Describes self.now t →
             IsPinned result (find (is_layer_pin_of reader 0) t.pins) }
+        // Readers keep something only once the device is mended.
+        ensures described_mended { (t : Translation) → Describes self.now t → IsSome result →
+            is_mended t.work.mending ≡ true }
     {
         looked_by(self.pins.as_slice(), reader)
     }
@@ -479,7 +559,7 @@ impl Ftl {
     /// The block in the slot of this number; `None` where no pending group has it.
     pub fn slot(&self, number: u64) -> Option<&Block>
         ensures core { option_copied result ≡ slot_of self.now number }
-        ensures described { (t : Translation) (e : Entry) → Describes self.now t →
+        ensures described { (t : Translation) (e : Entry) → Describes self.now t → is_mended t.work.mending ≡ true →
             t.ledger.frontier < number → entry_of t.ledger (name_at number) ≡ Some e →
             option_copied result ≡ Some e.item.body }
     {
@@ -513,7 +593,7 @@ impl Ftl {
         requires { IsTrue (has_number self.now) }
         ensures { result ≡ next_number self.now }
     {
-        self.frontier + self.groups.len() as u64 + 1
+        self.last_number() + 1
     }
 
     /// Whether a group can be accepted: a slot is claimed and a number is left.
@@ -523,6 +603,6 @@ impl Ftl {
         ensures described { (t : Translation) → Describes self.now t →
             result ≡ (nat_lt 0 t.claims && has_layer_number t) }
     {
-        self.claimed > 0 && self.frontier + (self.groups.len() as u64) < LAST_NUMBER
+        self.claimed > 0 && self.last_number() < LAST_NUMBER
     }
 }

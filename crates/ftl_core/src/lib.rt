@@ -5,5 +5,7 @@
 mod books;
 mod ftl;
 
-pub use books::{BlockState, Book, Flight, Group, Looked, OpenBlock, Pin, Stored, Waiting};
+pub use books::{
+    BlockState, Book, Flight, Group, Looked, Mending, OpenBlock, Pin, Reader, Step, Stored, Waiting,
+};
 pub use ftl::{Ended, Ftl};

@@ -61,6 +61,27 @@ fn blank_blocks(alloc: Global, blocks: u16, pages: u16) -> Result<Vec<MemBlock>,
     Ok(all)
 }
 
+/// The same values.
+fn copied<T: Copy>(alloc: Global, values: &[T]) -> Result<Vec<T>, NoMemory>
+    ensures { IfOk result (λ all. all.items ≡ values.now) }
+{
+    let mut all = Vec::with_capacity(alloc, values.len()).map_err(|_| NoMemory)?;
+    all.extend_from_slice(values).map_err(|_| NoMemory)?;
+    Ok(all)
+}
+
+/// Blocks of the same pages.
+fn copied_blocks(alloc: Global, blocks: &[MemBlock]) -> Result<Vec<MemBlock>, NoMemory>
+    ensures { IfOk result (λ all. all.items ≡ blocks.now) }
+{
+    let mut all = Vec::with_capacity(alloc, blocks.len()).map_err(|_| NoMemory)?;
+    for block in blocks {
+        let pages = copied(alloc, block.pages.as_slice())?;
+        all.push(MemBlock { pages }).map_err(|_| NoMemory)?;
+    }
+    Ok(all)
+}
+
 impl MemBlock {
     fn page(&self, page: usize) -> &Page
         requires { page < length self.now }
@@ -118,6 +139,18 @@ impl MemDie {
             blocks: blank_blocks(alloc, blocks, pages)?,
             ready: repeated(alloc, None, blocks)?,
             bad: repeated(alloc, false, blocks)?,
+        })
+    }
+
+    /// An equal die.
+    pub fn copy(&self, alloc: Global) -> Result<MemDie, NoMemory>
+        ensures { IfOk result (λ die. die ≡ self.now) }
+    {
+        Ok(MemDie {
+            page_count: self.pages(),
+            blocks: copied_blocks(alloc, self.blocks.as_slice())?,
+            ready: copied(alloc, self.ready.as_slice())?,
+            bad: copied(alloc, self.bad.as_slice())?,
         })
     }
 

@@ -1,7 +1,9 @@
 pub mod bad_listed
 pub mod greatest_numbers
 pub mod key_order
+pub mod opened
 pub mod same_numbers
+pub mod settings_pages
 pub mod table_facts
 pub mod tables
 pub mod whole_groups

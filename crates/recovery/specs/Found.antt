@@ -1,9 +1,9 @@
 -- What is found when the pages of all dies were read (this profile).
-use Rattle.std.specs.Prelude.{◌≡◌, ℕ, Bool, List, map, Option, Some, option_map, slice_get}
+use Rattle.std.specs.Prelude.{◌≡◌, ◌+◌, ℕ, Bool, List, length, map, Option, Some, option_map, slice_get, sum}
 use Rattle.ufs_spec.specs.Cells.{Cells, Mark}
 use Rattle.ufs_spec.specs.Dies.{DieState, is_bad_block}
 use Rattle.ufs_spec.specs.Disk.{Spot}
-use Rattle.ufs_spec.specs.Keys.{below}
+use Rattle.ufs_spec.specs.Keys.{area_pages, below, settings_key}
 use Rattle.ufs_spec.specs.Kept.{IsKept, IsNewestMark, fence_in}
 use Rattle.ufs_spec.specs.Openings.{AreLost, IsBlockState, IsTop, lost_from}
 use Rattle.ufs_spec.specs.Plain.{shape_of_numbers}
@@ -15,7 +15,7 @@ use Rattle.ufs_spec.specs.declared.faults.OpenFault.TheVariants as fault
 use Rattle.ufs_spec.specs.declared.flash.Key.{Key}
 use Rattle.page_tag.specs.Contents.{mark_of}
 use Rattle.recovery.specs.KeysInOrder.{IsIndex, state_of_found}
-use Rattle.recovery.specs.Listed.{IsContentPage}
+use Rattle.recovery.specs.Listed.{AreInRange, IsContentPage}
 use Rattle.recovery.specs.Reading.{IsReadingFault}
 use Rattle.recovery.specs.declared.keys.FoundBlock.{FoundBlock}
 use Rattle.recovery.specs.declared.pages.FoundPage.{FoundPage}
@@ -32,6 +32,7 @@ newest_found f = option_map mark_of f.newest
 pub record IsFound (n : Numbers) (c : Cells) (bad : Spot → Bool) (f : Found) : Type 0 where
   pub newest : IsNewestMark c (newest_found f)
   pub suits : CellsSuit n c (newest_found f)
+  pub in_range : AreInRange c
   pub kept : IsKept c (newest_found f) f.kept
   pub greatest_seen : IsTop c (newest_found f) f.greatest_seen
   pub first_lost : f.first_lost ≡ lost_from (fence_in (newest_found f)) f.kept
@@ -40,8 +41,16 @@ pub record IsFound (n : Numbers) (c : Cells) (bad : Spot → Bool) (f : Found) :
       (e : Option FoundPage) × (slice_get f.contents.items i ≡ Some e) × IsContentPage c (newest_found f) f.kept k e
   pub lost : AreLost c f.first_lost f.greatest_seen f.lost.items
   -- of each block of each die, in order, what it is
+  pub as_many : length f.blocks.items ≡ length (spots n)
   pub blocks : (i : ℕ) (s : Spot) → slice_get (spots n) i ≡ Some s →
       (b : FoundBlock) × (slice_get f.blocks.items i ≡ Some b) × IsBlockState c bad s (state_of_found b)
+
+-- the page of the settings is the one that has their content
+abbrev pub HasSettings : Numbers → Cells → Found → Type 0
+HasSettings n c f =
+    (e : Option FoundPage)
+    × (slice_get f.contents.items (sum (shape_of_numbers n).blocks + area_pages (shape_of_numbers n)) ≡ Some e)
+    × IsContentPage c (newest_found f) f.kept settings_key e
 
 -- why a scan was refused: memory was refused, the read of the place failed meanwhile, or the dies hold another
 -- configuration

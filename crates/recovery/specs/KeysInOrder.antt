@@ -1,5 +1,5 @@
 -- The keys of a device in order, each at its index, and what is computed of keys (this profile).
-use Rattle.std.specs.Prelude.{◌≡◌, ◌≢◌, ◌⊎◌, ℕ, ◌+◌, ◌<◌, ◌≤◌, ◌&&◌, Bool, true, false, List, Option, Some, None}
+use Rattle.std.specs.Prelude.{◌≡◌, ◌≢◌, ◌⊎◌, ℕ, ◌+◌, ◌<◌, ◌≤◌, ◌==◌, ◌&&◌, Bool, true, false, List, Option, Some, None}
 use Rattle.std.specs.Prelude.{if◌then◌else◌, length, nat_le, nat_lt, not, slice_get, slice_index_or, sum, take}
 use Rattle.ufs_spec.specs.Cells.{Cells, GroupPage, Nothing, key_of}
 use Rattle.ufs_spec.specs.Disk.{BlockState, Spot, spot_of}
@@ -29,6 +29,26 @@ pub data IsIndex (s : Shape) (k : Key) (i : ℕ) : Type 0 where
       i ≡ sum (take k.unit s.blocks) + k.address → IsIndex s k i
   AtArea : k.kind ≡ 2 → k.unit ≡ 0 → k.address < area_pages s → i ≡ sum s.blocks + k.address → IsIndex s k i
   AtSettings : k.kind ≡ 3 → k.unit ≡ 0 → k.address ≡ 0 → i ≡ sum s.blocks + area_pages s → IsIndex s k i
+
+-- the same as a function
+abbrev pub data_index : Shape → Key → Option ℕ
+data_index s k =
+    if nat_lt k.unit (length s.blocks) && nat_lt k.address (slice_index_or s.blocks k.unit 0)
+    then Some (sum (take k.unit s.blocks) + k.address)
+    else None
+
+abbrev pub area_index : Shape → Key → Option ℕ
+area_index s k = if (k.unit == 0) && nat_lt k.address (area_pages s) then Some (sum s.blocks + k.address) else None
+
+abbrev pub settings_index : Shape → Key → Option ℕ
+settings_index s k = if (k.unit == 0) && (k.address == 0) then Some (sum s.blocks + area_pages s) else None
+
+abbrev pub index_of : Shape → Key → Option ℕ
+index_of s k =
+    if k.kind == 1 then data_index s k
+    else if k.kind == 2 then area_index s k
+    else if k.kind == 3 then settings_index s k
+    else None
 
 -- the device has the key of each page
 abbrev pub AreKnown : Shape → Cells → Type 0

@@ -3,4 +3,5 @@ pub mod Found
 pub mod Greatest
 pub mod KeysInOrder
 pub mod Listed
+pub mod Opened
 pub mod Reading

@@ -1,14 +1,16 @@
 //! What the dies stand for when a device is opened over them.
-ghost use Rattle.std.specs.Prelude.{◌≡◌, ◌≤◌, ◌^◌, ◌↔◌, ℕ, Bool, Some, IfErr, IfOk, IsTrue, length, map, option_map, slice_get};
+ghost use Rattle.std.specs.Prelude.{◌≡◌, ◌≤◌, ◌^◌, ◌↔◌, ◌==◌, ℕ, suc, Bool, List, Some, IfErr, IfOk, IsTrue, length, map, option_map, slice_get, slice_index};
 ghost use Rattle.ufs_spec.specs.Cells as cells;
 ghost use Rattle.ufs_spec.specs.Cells.{AreWithin, Cells, Shows};
 ghost use Rattle.ufs_spec.specs.Disk.{Spot};
-ghost use Rattle.ufs_spec.specs.Kept.{fence_in};
+ghost use Rattle.ufs_spec.specs.Keys.{settings_key};
+ghost use Rattle.ufs_spec.specs.Kept.{Holds, fence_in};
 ghost use Rattle.ufs_spec.specs.Lives.{Fit, array_of, bad_of};
-ghost use Rattle.ufs_spec.specs.Sound.{CellsSuit};
+ghost use Rattle.ufs_spec.specs.Sound.{CellsSound, CellsSuit};
 ghost use Rattle.ufs_spec.specs.Translation.{spots};
 ghost use Rattle.page_tag.specs.Contents.{mark_of};
-ghost use Rattle.recovery.specs.Found.{IsFound, IsScanFault};
+ghost use Rattle.recovery.specs.Found.{IsFound, IsScanFault, newest_found};
+ghost use Rattle.recovery.specs.Listed.{AreInRange};
 ghost use Rattle.recovery.specs.Reading.{IsTable, newest_in};
 ghost use Rattle.recovery.specs.declared.pages.FoundPage.{FoundPage};
 
@@ -17,6 +19,7 @@ use crate::kept::{first_lost, greatest_seen, kept_number, recorded_frontier};
 use crate::keys::{FoundBlock, are_known, block_states, content_pages, lost_keys};
 use crate::pages::FoundPage;
 use crate::reading::{Table, read_all};
+use crate::settings::is_permanent;
 use nand_model::Die;
 use page_tag::Mark;
 use std::alloc::{AllocError, Global};
@@ -39,11 +42,13 @@ pub struct Found {
     pub lost: Vec<Key>,
     /// For each block of each die, in order, what it is.
     pub blocks: Vec<FoundBlock>,
+    /// Whether the settings say that write protection is permanent.
+    pub is_permanent: bool,
 }
 
-/// Reads all pages of the dies, bad blocks too, each once, and tells what they stand for. It writes
-/// nothing, and after an error the dies are as before too. The dies are as many and as large as the
-/// configuration says.
+/// Reads all pages of the dies, bad blocks too, each once, then again the page that has the settings'
+/// content, and tells what they stand for. It writes nothing, and after an error the dies are as
+/// before too. The dies are as many and as large as the configuration says.
 ///
 /// # Errors
 ///
@@ -55,6 +60,10 @@ pub fn scan<D: Die>(alloc: Global, dies: &mut [D], config: &Config) -> Result<Fo
     ensures same { map D.state dies.new ≡ map D.state dies.old }
     ensures found { IfOk result (λ f. (c : Cells) → Shows (array_of (map D.state dies.old)) c →
         IsFound config.now c (bad_of (map D.state dies.old)) f) }
+    // Over sound pages it tells what the settings say.
+    ensures permanent { IfOk result (λ f. (c : Cells) → Shows (array_of (map D.state dies.old)) c →
+        CellsSound c (newest_found f) → (x : List ℕ) →
+        Holds c (newest_found f) (suc f.kept) settings_key x → f.is_permanent ≡ (slice_index x 1 == 1)) }
     ensures fault { IfErr result (λ e. (c : Cells) → Shows (array_of (map D.state dies.old)) c →
         IsScanFault config.now c (map D.failed dies.old) (map D.failed dies.new) e) }
 {
@@ -69,10 +78,14 @@ pub fn scan<D: Die>(alloc: Global, dies: &mut [D], config: &Config) -> Result<Fo
     let Ok(bad) = bad_blocks(alloc, dies, numbers) else {
         return Err(OpenFault::NoMemory);
     };
-    match found_in(alloc, table, bad.as_slice(), numbers) {
-        Ok(found) => Ok(found),
-        Err(_) => Err(OpenFault::NoMemory),
+    let Ok(mut found) = found_in(alloc, table, bad.as_slice(), numbers) else {
+        return Err(OpenFault::NoMemory);
+    };
+    match is_permanent(dies, numbers, &found) {
+        Ok(is_permanent) => found.is_permanent = is_permanent,
+        Err(fault) => return Err(fault),
     }
+    Ok(found)
 }
 
 /// Whether the newest mark, if there is one, has these numbers, and the device has the key of each page.
@@ -113,7 +126,7 @@ fn found_in(
     requires pages { (i : ℕ) (e : FoundPage) → slice_get table.pages.items i ≡ Some e → e.tag.frontier ≤ 2 ^ 62 }
     requires marks { table.recorded ≤ 2 ^ 62 }
     requires blocks { length table.used.items ≡ length bad.now }
-    ensures { IfOk result (λ f. (c : Cells) (is_bad : Spot → Bool) → IsTable numbers.now c table →
+    ensures { IfOk result (λ f. (c : Cells) (is_bad : Spot → Bool) → IsTable numbers.now c table → AreInRange c →
         AreWithin numbers.now c → CellsSuit numbers.now c (newest_in table) → bad.now ≡ map is_bad (spots numbers.now) →
         IsFound numbers.now c is_bad f) }
 {
@@ -134,5 +147,6 @@ fn found_in(
         contents,
         lost,
         blocks,
+        is_permanent: false,
     })
 }

@@ -11,7 +11,7 @@ ghost use Rattle.ufs_spec.specs.declared.configs.UnitSpec.{UnitSpec};
 ghost use Rattle.ufs_spec.specs.declared.flash.Place.{Place};
 ghost use Rattle.ufs_spec.specs.declared.flash.Key.{Key};
 ghost use Rattle.ufs_spec.specs.declared.flash.Tag.{Tag};
-ghost use Rattle.recovery.specs.KeysInOrder.{AreKnown, AreMarked, IsIndex, IsLostAmong, TellsUse, found_block, is_fenced, is_newer, key_total, state_of_found, with_page};
+ghost use Rattle.recovery.specs.KeysInOrder.{AreKnown, AreMarked, IsIndex, IsLostAmong, TellsUse, found_block, index_of, is_fenced, is_newer, key_total, state_of_found, with_page};
 ghost use Rattle.recovery.specs.Listed.{AreListed, IsContentPage};
 
 use crate::pages::FoundPage;
@@ -41,7 +41,7 @@ pub fn key_count(numbers: &Numbers) -> usize
 }
 
 /// The index of the settings, which stand last.
-fn settings_index(numbers: &Numbers) -> usize
+pub(crate) fn settings_index(numbers: &Numbers) -> usize
     ensures value { let s = shape_of_numbers numbers.now in result ≡ sum s.blocks + area_pages s }
     ensures small { result < 2 ^ 36 }
 {
@@ -79,6 +79,7 @@ pub fn key_index(numbers: &Numbers, key: Key) -> Option<usize>
     ensures order { let s = shape_of_numbers numbers.now in
         IfSome result (λ i. (other : Key) (j : ℕ) → IsIndex s other j →
         (i < j) ↔ IsBefore key other) }
+    ensures value { result ≡ index_of (shape_of_numbers numbers.now) key }
 {
     match key.kind {
         Tag::DATA => data_index(numbers.units.as_slice(), key.unit, key.address),

@@ -7,6 +7,7 @@ mod kept;
 mod keys;
 mod pages;
 mod reading;
+mod settings;
 
 pub use blocks::bad_blocks;
 pub use found::{Found, scan};

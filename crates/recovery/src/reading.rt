@@ -83,6 +83,7 @@ pub(crate) fn read_all<D: Die>(
 ) -> Result<Table, OpenFault>
     requires { Fit numbers.now (map D.state dies.old) }
     ensures same { map D.state dies.new ≡ map D.state dies.old }
+    ensures counted { NoLower (map D.failed dies.old) (map D.failed dies.new) }
     ensures read { IfOk result (λ table. (c : Cells) → Shows (array_of (map D.state dies.old)) c →
         IsTable numbers.now c table) }
     ensures fault { IfErr result (IsReadingFault (map D.failed dies.old) (map D.failed dies.new)) }
@@ -194,7 +195,7 @@ fn read_page<D: Die>(
 }
 
 // Reads a page of the dies.
-fn fetch<D: Die>(dies: &mut [D], place: Place, page: &mut Page) -> Result<(), OpenFault>
+pub(crate) fn fetch<D: Die>(dies: &mut [D], place: Place, page: &mut Page) -> Result<(), OpenFault>
     requires die { place.die < length dies.old }
     requires there { let state = slice_index_or (map D.state dies.old) place.die (new_die 0 0) in
         LiesOnDie state place.block place.page }

@@ -1,10 +1,14 @@
-//! The configuration of the worked rows, which tests and programs share.
+//! The configuration of the worked rows, and whether dies have a configuration's sizes: what tests and
+//! programs share.
 #![tactic(auto)]
 
 ghost use Rattle.std.specs.Prelude.{◌≡◌, IfOk};
 ghost use Rattle.row_config.specs.RowShape.{row_shape};
 ghost use Rattle.ufs_spec.specs.Plain.{shape_of_numbers};
 
+mod sizes;
+
+pub use sizes::fit;
 use ufs_spec::{Config, ConfigFault, UnitSpec};
 
 /// 4 dies of 16 blocks of 64 pages, units of 256, 64 and 64 blocks, the last two of them boot units, one

@@ -57,9 +57,15 @@ fn faults_of_lines(rt: HostRuntime) -> Result<(), Fail> {
         ("done 0 fail\n", "", "3: event\n"),
         ("stop 0:odd\n", "", "3: word\n"),
         ("stop x:old\n", "", "3: number\n"),
-        ("stop\n", "", "3: event\n"),
+        ("stop 0:old\n", "", "3: event\n"),
+        ("stop 256:torn\n", "", "3: event\n"),
         (
-            "turn\ntake 0\ndone 0 fail\n",
+            "turn\ntake 0\nstop 0:new 1:new\n",
+            "turn yes\ntake 0 erase 0\n",
+            "5: event\n",
+        ),
+        (
+            "turn\ntake 0\nstop 0:old 0:new\n",
             "turn yes\ntake 0 erase 0\n",
             "5: event\n",
         ),
@@ -149,7 +155,9 @@ fn words_of_the_program(rt: HostRuntime) -> Result<(), Fail> {
     assert!(rt; matches!(call(alloc, &right), Ok(Call::Run("a script"))));
     assert!(rt; is_usage(alloc, &["ufsim"]));
     assert!(rt; is_usage(alloc, &["ufsim", "run"]));
+    assert!(rt; matches!(call(alloc, &["ufsim", "check", "a"]), Ok(Call::Check("a"))));
     assert!(rt; is_usage(alloc, &["ufsim", "run", "a", "b"]));
+    assert!(rt; is_usage(alloc, &["ufsim", "check"]));
     assert!(rt; is_usage(alloc, &["ufsim", "stress"]));
     assert!(rt; is_usage(alloc, &["ufsim", "--help"]));
     assert!(rt; is_usage(alloc, &["ufsim", "Run", "a"]));

@@ -9,4 +9,6 @@ mod messages;
 #[cfg(test)]
 mod scripts;
 #[cfg(test)]
+mod stops;
+#[cfg(test)]
 mod worked_rows;

@@ -35,7 +35,3 @@ taken_luns = []
 -- until task management is built: whether it is carried out
 abbrev pub manages_tasks : Bool
 manages_tasks = false
-
--- until stops and failing dies are built: whether the events Stop and Fail are taken
-abbrev pub takes_failures : Bool
-takes_failures = false

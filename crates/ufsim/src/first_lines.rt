@@ -72,10 +72,9 @@ impl<'a> FirstLines<'a> {
         });
     }
 
-    /// The device of these lines, over new dies: `Config` where it is refused, and `Memory` for want
-    /// of memory.
-    pub fn open(&self, alloc: Global) -> Result<World, Word> {
-        let config = Config::new(
+    /// The configuration of these lines: `Config` where it is refused.
+    pub fn config(&self) -> Result<Config, Word> {
+        Config::new(
             self.dies,
             self.blocks,
             self.pages,
@@ -84,7 +83,13 @@ impl<'a> FirstLines<'a> {
             self.slots,
             self.spare,
         )
-        .map_err(|_| Word::Config)?;
+        .map_err(|_| Word::Config)
+    }
+
+    /// The device of these lines, over new dies: `Config` where it is refused, and `Memory` for want
+    /// of memory.
+    pub fn open(&self, alloc: Global) -> Result<World, Word> {
+        let config = self.config()?;
         let dies = new_dies(alloc, self.dies, self.blocks, self.pages).map_err(|_| Word::Memory)?;
         World::new(alloc, config, dies).map_err(|fault| refused(&fault))
     }

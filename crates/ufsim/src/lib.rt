@@ -2,16 +2,20 @@
 //! of the device, or several, and each has one line of output.
 #![tactic(auto)]
 
+mod check;
 mod commands;
 mod fault;
 mod first_lines;
+mod journal;
+mod leftovers;
 mod lines;
 mod outputs;
+mod reading;
 mod run;
 mod spelling;
 mod words;
 
 pub use command_line::{Call, CallFault, call};
 pub use fault::Word;
-pub use run::run_text;
+pub use run::{check_text, run_text};
 pub use spelling::{bytes, text};

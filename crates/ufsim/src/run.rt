@@ -1,14 +1,16 @@
 //! Runs a script line by line.
 ghost use Rattle.std.specs.Prelude.{◌≡◌, ◌≤◌};
 
-use crate::commands::Command;
+use crate::check::Check;
+use crate::commands::{Command, Content, Left};
 use crate::fault::{ScriptFault, Word};
 use crate::first_lines::FirstLines;
+use crate::leftovers::leftover;
 use crate::outputs::show;
 use device::World;
 use std::alloc::Global;
 use std::io::Write;
-use ufs_spec::{Event, Output, RunFaultKind};
+use ufs_spec::{Event, Job, Output, RunFaultKind};
 
 /// Runs a script over new dies: writes a line of output for each of its lines to `out`, and the one
 /// line of a fault to `faults`. It answers the program's status: 0 where all lines were run, and 1
@@ -17,8 +19,35 @@ pub fn run_text<W: Write, F: Write>(alloc: Global, script: &[u8], out: &mut W, f
     ensures status { result ≤ 1 }
     ensures quiet { result ≡ 0 → faults.new ≡ faults.old }
 {
-    match run_script(alloc, script, out) {
-        Ok(()) => 0,
+    status_of(run_script(alloc, script, out).map(|_| true), faults)
+}
+
+/// Runs a script over new dies, and at each program and each erase that it gives to a die stops the
+/// device in a copy: with the old content, with the new one and with a torn one on all dies that program
+/// or erase. The device is opened again, mended and read by messages, and what it holds is compared with
+/// what each prefix of the accepted commands makes that has every acknowledged one. It writes the line
+/// `check stops S bad B` to `out`, or the one line of a fault to `faults`. The status is 0 if no stop was
+/// bad.
+pub fn check_text<W: Write, F: Write>(
+    alloc: Global,
+    script: &[u8],
+    out: &mut W,
+    faults: &mut F,
+) -> u8
+    ensures status { result ≤ 1 }
+    ensures quiet { result ≡ 0 → faults.new ≡ faults.old }
+{
+    status_of(check_script(alloc, script, out), faults)
+}
+
+// The status of what ended so, whether it went well or not. A fault is told in one line.
+fn status_of<F: Write>(ended: Result<bool, ScriptFault>, faults: &mut F) -> u8
+    ensures status { result ≤ 1 }
+    ensures quiet { result ≡ 0 → faults.new ≡ faults.old }
+{
+    match ended {
+        Ok(true) => 0,
+        Ok(false) => 1,
         Err(fault) => {
             // Where the fault itself cannot be told, the status alone tells it.
             let _ = writeln!(faults, "ufsim: {fault}");
@@ -27,16 +56,29 @@ pub fn run_text<W: Write, F: Write>(alloc: Global, script: &[u8], out: &mut W, f
     }
 }
 
+// Whether no stop was bad.
+fn check_script<W: Write>(alloc: Global, script: &[u8], out: &mut W) -> Result<bool, ScriptFault> {
+    let first = FirstLines::read(script)?;
+    let last = first.last;
+    let mut runner = Runner::new(alloc, &first).map_err(|word| last.fault(word))?;
+    let config = first.config().map_err(|word| last.fault(word))?;
+    runner.check = Some(Check::new(alloc, config).map_err(|word| last.fault(word))?);
+    for line in first.rest {
+        runner.run(line.bytes).map_err(|word| line.fault(word))?;
+    }
+    let (stops, bad) = match &runner.check {
+        Some(check) => (check.stops, check.bad),
+        None => (0, 0),
+    };
+    writeln!(out, "check stops {stops} bad {bad}").map_err(|_| ScriptFault::Output)?;
+    out.flush().map_err(|_| ScriptFault::Output)?;
+    Ok(bad == 0)
+}
+
 fn run_script<W: Write>(alloc: Global, script: &[u8], out: &mut W) -> Result<(), ScriptFault> {
     let first = FirstLines::read(script)?;
     let last = first.last;
-    let world = first.open(alloc).map_err(|word| last.fault(word))?;
-    let mut runner = Runner {
-        alloc,
-        world,
-        dies: first.dies,
-        shown: Vec::new(alloc),
-    };
+    let mut runner = Runner::new(alloc, &first).map_err(|word| last.fault(word))?;
     for line in first.rest {
         runner.run(line.bytes).map_err(|word| line.fault(word))?;
         out.write_all(runner.shown.as_slice())
@@ -52,9 +94,22 @@ struct Runner {
     world: World,
     dies: u8,
     shown: Vec<u8>,
+    // What stops are tried, where the script is checked.
+    check: Option<Check>,
 }
 
 impl Runner {
+    // The device of these lines.
+    fn new(alloc: Global, first: &FirstLines) -> Result<Runner, Word> {
+        Ok(Runner {
+            alloc,
+            world: first.open(alloc)?,
+            dies: first.dies,
+            shown: Vec::new(alloc),
+            check: None,
+        })
+    }
+
     // Runs a line and leaves its output in `shown`.
     fn run(&mut self, line: &[u8]) -> Result<(), Word> {
         let command = Command::read(self.alloc, line)?;
@@ -66,8 +121,7 @@ impl Runner {
             Command::Done { die, is_ok } => self.done(die, is_ok),
             Command::Turn => self.tell(0, &Event::Turn),
             Command::Settle(rounds) => self.settle(rounds),
-            // A stop comes with a later stage.
-            Command::Stop(_) => Err(Word::Event),
+            Command::Stop(left) => self.stop(left.as_slice()),
         }
     }
 
@@ -79,10 +133,36 @@ impl Runner {
     }
 
     fn done(&mut self, die: u32, is_ok: bool) -> Result<(), Word> {
-        match u8::try_from(die) {
-            Ok(small) if is_ok => self.tell(die, &Event::Finish(small)),
-            _ => Err(Word::Event),
+        let Ok(small) = u8::try_from(die) else {
+            return Err(Word::Event);
+        };
+        if is_ok {
+            self.tell(die, &Event::Finish(small))
+        } else {
+            self.fail(small)
         }
+    }
+
+    // The job of the die fails. A program or an erase leaves zeros.
+    fn fail(&mut self, die: u8) -> Result<(), Word> {
+        let left = match self.world.job(die) {
+            Some(Job::Read(_)) => None,
+            _ => Some(leftover(self.alloc, &self.world, die, Content::Torn)?),
+        };
+        self.tell(u32::from(die), &Event::Fail(die, left))
+    }
+
+    // The power fails, and the device is opened again.
+    fn stop(&mut self, left: &[Left]) -> Result<(), Word> {
+        let mut leftovers = Vec::with_capacity(self.alloc, left.len()).map_err(|_| Word::Memory)?;
+        for one in left {
+            let Ok(die) = u8::try_from(one.die) else {
+                return Err(Word::Event);
+            };
+            let leftover = leftover(self.alloc, &self.world, die, one.content)?;
+            leftovers.push(leftover).map_err(|_| Word::Memory)?;
+        }
+        self.tell(0, &Event::Stop(leftovers))
     }
 
     fn settle(&mut self, rounds: u32) -> Result<(), Word> {
@@ -117,9 +197,13 @@ impl Runner {
     }
 
     fn step(&mut self, event: &Event) -> Result<Output, Word> {
-        self.world.step(event).map_err(|fault| match fault.kind {
+        let output = self.world.step(event).map_err(|fault| match fault.kind {
             RunFaultKind::NoMemory => Word::Memory,
             _ => Word::Event,
-        })
+        })?;
+        if let Some(check) = &mut self.check {
+            check.note(self.alloc, &self.world, event, &output)?;
+        }
+        Ok(output)
     }
 }

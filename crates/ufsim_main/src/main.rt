@@ -5,7 +5,7 @@ use std::io::ErrorKind;
 use std::process::ExitCode;
 use std::rt::{Env, Files};
 use std::{env, fs, io};
-use ufsim::{Call, CallFault, call, run_text};
+use ufsim::{Call, CallFault, call, check_text, run_text};
 
 fn main(rt: HostRuntime) -> ExitCode {
     let words = match words(&rt) {
@@ -14,6 +14,7 @@ fn main(rt: HostRuntime) -> ExitCode {
     };
     match call(rt.alloc(), words.as_slice()) {
         Ok(Call::Run(script)) => run(&rt, script),
+        Ok(Call::Check(script)) => check(&rt, script),
         Err(fault) => refused(&rt, fault),
     }
 }
@@ -41,6 +42,17 @@ fn run(rt: &HostRuntime, name: &str) -> ExitCode {
         Ok(script) => {
             let mut out = io::writer(rt);
             let status = run_text(rt.alloc(), script.as_slice(), &mut out, &mut rt.stderr());
+            ExitCode::from(status)
+        }
+        Err(error) => unread(rt, name, error.kind()),
+    }
+}
+
+fn check(rt: &HostRuntime, name: &str) -> ExitCode {
+    match fs::read(rt, name) {
+        Ok(script) => {
+            let mut out = io::writer(rt);
+            let status = check_text(rt.alloc(), script.as_slice(), &mut out, &mut rt.stderr());
             ExitCode::from(status)
         }
         Err(error) => unread(rt, name, error.kind()),

@@ -2,11 +2,13 @@
 //! `five_calls` share. After `new` it takes no memory.
 #![tactic(auto)]
 
-ghost use Rattle.std.specs.Prelude.{◌≡◌, IfOk, IfErr};
-ghost use Rattle.device.specs.Kept.{IsNewDevice};
-ghost use Rattle.ufs_spec.specs.declared.faults.OpenFault.TheVariants as OpenFault;
+ghost use Rattle.std.specs.Prelude.{IfOk};
+ghost use Rattle.ufs_spec.specs.Lives.{IsOpened, array_of, bad_of};
+ghost use Rattle.ufs_spec.specs.Refusals.{State};
+ghost use Rattle.ufs_spec.specs.Sound.{Sound};
+ghost use Rattle.device.specs.Describes.{Describes};
 
-use device::Device;
+use device::{Device, fit};
 use nand_model::{MemDie, work};
 use std::alloc::Global;
 use ufs_spec::{Config, HostFault, NoMemory, OpenFault, Upiu};
@@ -30,11 +32,21 @@ pub fn new_dies(alloc: Global, dies: u8, blocks: u16, pages: u16) -> Result<Vec<
 }
 
 impl Workbench {
-    /// Opens a device over these dies, which are new.
+    /// Opens a device over these dies.
+    ///
+    /// # Errors
+    ///
+    /// `OtherConfig` where the dies are not as many and as large as the configuration says, and else what
+    /// `Device::open` answers. The dies are given up.
     pub fn new(alloc: Global, config: Config, dies: Vec<MemDie>) -> Result<Workbench, OpenFault>
-        ensures { IfOk result (λ w. IsNewDevice config w.device) }
+        ensures { IfOk result (λ w. (s : State) → Sound (array_of dies.items) →
+            IsOpened config (array_of dies.items) (bad_of dies.items) s → Describes w.device s) }
     {
-        let device = Device::open(alloc, config, dies.as_slice())?;
+        let mut dies = dies;
+        if !fit(&config, dies.as_slice()) {
+            return Err(OpenFault::OtherConfig);
+        }
+        let device = Device::open(alloc, config, dies.as_mut_slice())?;
         Ok(Workbench {
             device,
             dies,

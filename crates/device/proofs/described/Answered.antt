@@ -2,20 +2,21 @@
 -- lock is told here, and nothing else is to be shown of a call.
 use Rattle.std.proofs.Common.{◌≡◌, ◌∙◌, ℕ, ◌+◌, ◌-◌, ◌≤◌, Bool, true, false, cond, All, List, [], ◌∷◌, map, refl, sym}
 use Rattle.std.proofs.Common.{ap, subst, arith}
-use Rattle.std.specs.Prelude.{nat_lt, nat_le}
-use Rattle.std.proofs.lemmas.Bool.Decides.{nat_tests}
+use Rattle.std.specs.Prelude.{length, nat_lt, nat_le, slice_get, zero, suc, Some}
 use Rattle.std.proofs.lemmas.List.{length-map}
 use Rattle.std.proofs.lemmas.List.Elements.{All-cons, All-head, All-nil, All-tail}
-use Rattle.ufs_spec.proofs.Facts.{false≢true}
+use Rattle.std.proofs.lemmas.Bool.{le-ltb, lt-ltb}
+use Rattle.ufs_spec.proofs.Facts.{false≢true, leb-false, leb-true, none-some, same_Some}
 use Rattle.ufs_spec.specs.Exchanges.{Answering, Awaiting, Deed, Gathering, Sending, SendingBytes, Short}
 use Rattle.ufs_spec.specs.Ledger.{before_accepted}
 use Rattle.ufs_spec.specs.Machine.{Allowed, Answer, Call, behind, deed_locked, durable, lock_applied, observe}
 use Rattle.ufs_spec.specs.Machine.{short_locked, task_locked}
-use Rattle.ufs_spec.specs.Refusals.{State, locked}
+use Rattle.ufs_spec.specs.Refusals.{State, locked, numbers_of}
 use Rattle.ufs_spec.specs.Stages.{most_tasks}
-use Rattle.ufs_spec.specs.Translation.{Translation}
+use Rattle.ufs_spec.specs.Translation.{Translation, is_mended}
+use Rattle.ufs_spec.specs.declared.configs.Numbers.{Numbers}
 use Rattle.ufs_laws.proofs.exchanges.RequestsSettled.{settled_is}
-use Rattle.power_loss.specs.Exchange.{IsTied, MayCome}
+use Rattle.power_loss.specs.Exchange.{DeedFits, DeedsFit, IsTied, MayCome, claim_of}
 use Rattle.power_loss.specs.Shown.{ShowsReads}
 use Rattle.power_loss.proofs.calls.CallsKeepTied.{call_keeps}
 use Rattle.power_loss.proofs.shown_blocks.LivesShowBlocks.{call_shows}
@@ -29,7 +30,6 @@ use Rattle.device.specs.Kept.{DeviceCore}
 use Rattle.device.specs.Tasks.{write_error, phase_after, task_after}
 use Rattle.device.proofs.open_tasks.OpenTasks.{each_changed, no_requests}
 use Rattle.device.proofs.open_tasks.ReadProgress.{each_goes_on}
-use Rattle.ftl_core.specs.Limits.{in_this_stage}
 use Rattle.ufs_spec.specs.Exchanges as exchange
 use Rattle.ftl_core.specs.Describes as layer_kept
 use Rattle.device.specs.declared.tasks.Phase.TheVariants as phase
@@ -112,20 +112,37 @@ same_progress s task (SendingBytes bytes) = refl
 same_progress s task (Answering status carried) = refl
 
 -- the block of a number is durable for both sides, or for none
-same_test : (before n frontier commands : ℕ) → before ≤ frontier → n ≡ before + commands →
-    nat_lt frontier n ≡ cond (nat_le commands (frontier - before)) false true
-same_test before n frontier commands low is = grind (arith, nat_tests)
+same_test : (before n frontier commands : ℕ) → (nat_le commands (frontier - before) ≡ true → before ≤ frontier) →
+    n ≡ before + commands → nat_lt frontier n ≡ cond (nat_le commands (frontier - before)) false true
+same_test before n frontier commands low is = by (nat_le commands (frontier - before)) refl low
+  where
+    by : (b : Bool) → nat_le commands (frontier - before) ≡ b → (b ≡ true → before ≤ frontier) →
+        nat_lt frontier n ≡ cond b false true
+    by true e below = let above = below refl in let few = leb-true commands (frontier - before) e in
+        le-ltb frontier n (omega arith)
+    by false e below = let many = leb-false commands (frontier - before) e in lt-ltb frontier n (omega arith)
 
-deed_kept : (s : State) (frontier expected : ℕ) (task : exchange.Task) (p : Phase) (deed : Deed) →
-    frontier ≡ s.translation.ledger.frontier →
-    before_accepted s.translation.ledger ≤ s.translation.ledger.frontier →
+-- what waits still, once the lock is told, finds the device mended, and each repair durable
+waits_low : (s : State) (n : Numbers) (accepted claimed commands total : ℕ) (mended b : Bool) →
+    (mended ≡ true → before_accepted s.translation.ledger ≤ s.translation.ledger.frontier) →
+    DeedFits n accepted mended claimed total (cond b (Awaiting commands) (Answering exchange.write_error total)) →
+    b ≡ true → before_accepted s.translation.ledger ≤ s.translation.ledger.frontier
+waits_low s n accepted claimed commands total mended true low fits is = low fits.1
+waits_low s n accepted claimed commands total mended false low fits is = absurd (false≢true is)
+
+deed_kept : (s : State) (n : Numbers) (accepted claimed : ℕ) (mended : Bool) (frontier expected : ℕ)
+    (task : exchange.Task) (p : Phase) (deed : Deed) → frontier ≡ s.translation.ledger.frontier →
+    (mended ≡ true → before_accepted s.translation.ledger ≤ s.translation.ledger.frontier) →
+    DeedFits n accepted mended claimed task.length (deed_locked s task deed) →
     IsDoing (before_accepted s.translation.ledger) expected task.length p deed →
     IsDoing (before_accepted s.translation.ledger) expected task.length (phase_after p (event.Locked frontier))
     (deed_locked s task deed)
-deed_kept s frontier expected task (phase.AwaitFrontier n) (Awaiting commands) same low h =
-    subst (λ b. IsDoing before expected task.length (cond b failed (phase.AwaitFrontier n))
+deed_kept s n all claimed mended frontier expected task (phase.AwaitFrontier m) (Awaiting commands) same low fits h =
+    subst (λ b. IsDoing before expected task.length (cond b failed (phase.AwaitFrontier m))
     (deed_locked s task (Awaiting commands)))
-    (sym (ap (λ f. nat_lt f n) same ∙ same_test before n s.translation.ledger.frontier commands low h.0))
+    (sym (ap (λ f. nat_lt f m) same
+    ∙ same_test before m s.translation.ledger.frontier commands
+    (waits_low s n all claimed commands task.length mended (nat_le commands (durable s)) low fits) h.0))
     (by (nat_le commands (durable s)))
   where
     before : ℕ
@@ -134,38 +151,57 @@ deed_kept s frontier expected task (phase.AwaitFrontier n) (Awaiting commands) s
     failed : Phase
     failed = phase.Answer (status.CheckCondition write_error) 4096
 
-    by : (b : Bool) → IsDoing before expected task.length (cond (cond b false true) failed (phase.AwaitFrontier n))
+    by : (b : Bool) → IsDoing before expected task.length (cond (cond b false true) failed (phase.AwaitFrontier m))
         (cond b (Awaiting commands) (Answering exchange.write_error task.length))
     by true = h
     by false = (refl, h.1)
-deed_kept s frontier expected task (phase.AskData key) (Gathering purpose gathered asked) same low h = h
-deed_kept s frontier expected task (phase.AwaitData key) (Gathering purpose gathered asked) same low h = h
-deed_kept s frontier expected task phase.SendBlock (Sending blocks sent) same low h = h
-deed_kept s frontier expected task (phase.Answer told n) (Answering x carried) same low h = h
-deed_kept s frontier expected task (phase.Answer told n) (Sending blocks sent) same low h = h
-deed_kept s frontier expected task p deed same low h = absurd h
+deed_kept s n all claimed mended frontier expected task (phase.AskData key) (Gathering purpose gathered asked)
+    same low fits h = h
+deed_kept s n all claimed mended frontier expected task (phase.AwaitData key) (Gathering purpose gathered asked)
+    same low fits h = h
+deed_kept s n all claimed mended frontier expected task phase.SendBlock (Sending blocks sent) same low fits h = h
+deed_kept s n all claimed mended frontier expected task (phase.Answer told m) (Answering x carried) same low fits h = h
+deed_kept s n all claimed mended frontier expected task (phase.Answer told m) (Sending blocks sent) same low fits h = h
+deed_kept s n all claimed mended frontier expected task p deed same low fits h = absurd h
 
-task_kept : (s : State) (frontier : ℕ) (a : Task) (b : exchange.Task) → frontier ≡ s.translation.ledger.frontier →
-    before_accepted s.translation.ledger ≤ s.translation.ledger.frontier →
+task_kept : (s : State) (n : Numbers) (accepted claimed : ℕ) (mended : Bool) (frontier : ℕ) (a : Task)
+    (b : exchange.Task) → frontier ≡ s.translation.ledger.frontier →
+    (mended ≡ true → before_accepted s.translation.ledger ≤ s.translation.ledger.frontier) →
+    DeedFits n accepted mended claimed b.length (deed_locked s b b.deed) →
     TaskKept (before_accepted s.translation.ledger) a b →
     TaskKept (before_accepted s.translation.ledger) (task_after (event.Locked frontier) a) (task_locked s b)
-task_kept s frontier a b same low h = record {
+task_kept s n accepted claimed mended frontier a b same low fits h = record {
   lun = h.lun;
   tag = h.tag;
   expected = h.expected;
   request = h.request;
-  doing = deed_kept s frontier a.expected b a.phase b.deed same low h.doing;
+  doing = deed_kept s n accepted claimed mended frontier a.expected b a.phase b.deed same low fits h.doing;
 }
 
-keeps_locked : (e : DeviceCore) (s : State) → Keeps e s →
+-- the tasks fit once the lock is told
+locked_fit : (s : State) (us : List exchange.Task) (k : ℕ) (b : exchange.Task) → slice_get us k ≡ Some b →
+    DeedsFit (numbers_of s) (length s.accepted) (is_mended s.translation.work.mending) (map (task_locked s) us) →
+    DeedFits (numbers_of s) (length s.accepted) (is_mended s.translation.work.mending)
+    (claim_of (numbers_of s) (task_locked s b)) b.length (deed_locked s b b.deed)
+locked_fit s [] k b at fits = absurd (none-some b at)
+locked_fit s (y ∷ us) zero b at fits =
+    subst
+    (λ (z : exchange.Task). DeedFits (numbers_of s) (length s.accepted) (is_mended s.translation.work.mending)
+    (claim_of (numbers_of s) (task_locked s z)) z.length (deed_locked s z z.deed))
+    (same_Some y b at) fits.0
+locked_fit s (y ∷ us) (suc k) b at fits = locked_fit s us k b at fits.1
+
+keeps_locked : (e : DeviceCore) (s : State) → IsTied (with_lock s) → Keeps e s →
     Keeps (record e { tasks = map (task_after (event.Locked s.translation.ledger.frontier)) e.tasks }) (with_lock s)
-keeps_locked e s k = record {
-  unprotected = k.unprotected;
+keeps_locked e s tied k = record {
+  permanent = k.permanent;
   layer_kept = k.layer_kept;
   few = subst (λ n. n ≤ most_tasks) (sym (length-map s.tasks (task_locked s))) k.few;
   tasks =
       each_changed before before (task_after (event.Locked frontier)) (task_locked s) e.tasks s.tasks
-      (λ j a b at h. task_kept s frontier a b refl low h) k.tasks;
+      (λ j a b at h. task_kept s (numbers_of s) (length s.accepted) (claim_of (numbers_of s) (task_locked s b))
+      (is_mended s.translation.work.mending) frontier a b refl tied.repaired
+      (locked_fit s s.tasks j b at tied.tasks.deeds) h) k.tasks;
   blocks = λ tag. k.blocks tag
       ∙ sym (each_goes_on (task_locked s) s.tasks tag (λ x. refl) (λ x. same_progress s x x.deed));
   shorts = kept_shorts s s.shorts e.refused k.shorts;
@@ -178,12 +214,6 @@ keeps_locked e s k = record {
     frontier : ℕ
     frontier = s.translation.ledger.frontier
 
-    low : before_accepted s.translation.ledger ≤ s.translation.ledger.frontier
-    low =
-        let above = k.layer_kept.valid.frontier.above in
-        let none = (in_this_stage e.ftl s.translation k.layer_kept).repairs in
-        omega arith
-
 -- what is kept while a call is answered describes the state once both sides told the lock
 describes_told : (e : DeviceCore) (s : State) → IsTied (lock_applied s) → ShowsReads (lock_applied s) → Keeps e s →
     Describes (lock_told s.translation e) (lock_applied s)
@@ -193,7 +223,7 @@ describes_told e s tied shows k = by (locked s) refl tied shows
         Describes
         (cond b (record e { tasks = map (task_after (event.Locked s.translation.ledger.frontier)) e.tasks }) e)
         (cond b (with_lock s) s)
-    by true is v w = record { tied = v; shows = w; kept = keeps_locked e s k; told = λ l. all_told s s.tasks }
+    by true is v w = record { tied = v; shows = w; kept = keeps_locked e s v k; told = λ l. all_told s s.tasks }
     by false is v w = record { tied = v; shows = w; kept = k; told = λ l. absurd (false≢true (sym is ∙ l)) }
 
 -- Calls

@@ -1,23 +1,25 @@
 -- Where only the translation layer moves, what the device keeps of the tasks stays, if the move leaves what it is to
 -- them.
-use Rattle.std.proofs.Common.{◌≡◌, ◌∙◌, ℕ, Bool, true, false, List, ◌∷◌, Option, None, refl, sym, ap, subst}
-use Rattle.std.specs.Prelude.{if◌then◌else◌}
+use Rattle.std.proofs.Common.{◌≡◌, ◌∙◌, ◌⊎◌, ℕ, Bool, true, false, List, Option, None, inl, inr, refl, sym, ap}
+use Rattle.std.proofs.Common.{subst}
+use Rattle.std.specs.Prelude.{if◌then◌else◌, length}
 use Rattle.ufs_spec.specs.Cells.{Array, Cell, GroupPage, MarkPage, Nothing}
 use Rattle.ufs_spec.specs.Disk.{Erasing, Flight, ForNobody, ForRest, ForStep, ForTask, Programming, Reading}
 use Rattle.ufs_spec.specs.Disk.{program_failed}
 use Rattle.ufs_spec.specs.Ledger.{before_accepted, page_stands}
 use Rattle.ufs_spec.specs.Moves.{Ending, ReadRight, WentWell, WentWrong, TakeStep, job_ended, moved, settled_pin}
-use Rattle.ufs_spec.specs.Refusals.{State}
+use Rattle.ufs_spec.specs.Refusals.{State, numbers_of}
 use Rattle.ufs_spec.specs.Translation as layer
 use Rattle.ufs_spec.specs.Translation.{Order, OrderCopy, OrderRepair, Translation, copy_begun, has_mark_number}
 use Rattle.ufs_spec.specs.Translation.{mark_ordered, name_of, ordered, with_plan}
 use Rattle.ufs_spec.specs.declared.flash.Place.{Place}
 use Rattle.ufs_laws.proofs.walk.LayerEffects.{IsDue, order_due, turned_if}
+use Rattle.power_loss.specs.Exchange.{DeedsFit, IsTied}
 use Rattle.ftl_core.specs.Core.{Core}
 use Rattle.ftl_core.specs.Describes as layer_kept
-use Rattle.ftl_core.specs.Limits.{InThisStage}
 use Rattle.device.specs.Describes.{Keeps, TasksKept}
 use Rattle.device.specs.Kept.{DeviceCore}
+use Rattle.device.proofs.described.Unmended.{kept_else}
 use Rattle.device.proofs.open_tasks.ReadProgress.{progress, read_for, wanted_for, wanted_same}
 
 -- groups count from the same number, and for each tag the same is wanted
@@ -32,7 +34,7 @@ pub layer_moves : (d : DeviceCore) (after : Core) (s : State) (array : Array) (u
     layer_kept.Describes after u → Leaves s.translation u →
     Keeps (record d { ftl = after }) (record s { array = array; translation = u })
 layer_moves d after s array u k layer leaves = record {
-  unprotected = k.unprotected;
+  permanent = k.permanent;
   layer_kept = layer;
   few = k.few;
   tasks = subst (λ n. TasksKept n d.tasks s.tasks) (sym leaves.before) k.tasks;
@@ -46,6 +48,7 @@ layer_moves d after s array u k layer leaves = record {
 
 abbrev pub IsForNone : Flight → Type 0
 IsForNone (Reading ForNobody place) = Unit {0}
+IsForNone (Reading ForStep place) = Unit {0}
 IsForNone (Reading reader place) = ⊥
 IsForNone flight = Unit {0}
 
@@ -65,7 +68,7 @@ job_leaves t die (Programming place (MarkPage m)) (WentWrong left) none =
     by true = record { before = refl; wanted = λ n. refl }
     by false = record { before = refl; wanted = λ n. refl }
 job_leaves t die (Reading (ForTask tag index) place) ending none = absurd none
-job_leaves t die (Reading ForStep place) ending none = absurd none
+job_leaves t die (Reading ForStep place) ReadRight none = record { before = refl; wanted = λ n. refl }
 job_leaves t die (Reading (ForRest number index) place) ending none = absurd none
 job_leaves t die (Reading ForNobody place) ReadRight none = record { before = refl; wanted = λ n. refl }
 job_leaves t die (Programming place Nothing) WentWell none = record { before = refl; wanted = λ n. refl }
@@ -74,32 +77,63 @@ job_leaves t die flight ending none = record { before = refl; wanted = λ n. ref
 
 -- A step
 
--- what a step is to the tasks, where it is no repair; it locks nothing
-pub record StepLeaves (t u : Translation) : Type 0 where
+-- what a step is to the tasks that is no repair; it locks nothing
+pub record Stays (t u : Translation) : Type 0 where
   pub leaves : Leaves t u
   pub frontier : u.ledger.frontier ≡ t.ledger.frontier
   pub lock : layer.is_locked u ≡ layer.is_locked t
 
-copy_leaves : (t : Translation) (p : Place) (cell : Cell) → StepLeaves t (copy_begun t p cell)
-copy_leaves t p (GroupPage tag body) =
-    record { leaves = record { before = refl; wanted = λ n. refl }; frontier = refl; lock = refl }
-copy_leaves t p cell =
+-- a repair comes only before the device is mended; groups count from one number more then
+pub record Repairs (t u : Translation) : Type 0 where
+  pub unmended : layer.is_mended t.work.mending ≡ false
+  pub wanted : (tag : ℕ) → wanted_for tag u.pins ≡ wanted_for tag t.pins
+
+abbrev pub StepLeaves : Translation → Translation → Type 0
+StepLeaves t u = Stays t u ⊎ Repairs t u
+
+nothing_moves : (t : Translation) → Stays t t
+nothing_moves t =
     record { leaves = record { before = refl; wanted = λ n. refl }; frontier = refl; lock = refl }
 
-order_leaves : (t : Translation) (o : Order) → InThisStage t → IsDue t o → StepLeaves t (ordered t o)
-order_leaves t (OrderRepair k left) stage due = absurd (stage.mending (k ∷ left) due.1)
-order_leaves t (OrderCopy victim p left) stage due =
+copy_leaves : (t : Translation) (p : Place) (cell : Cell) → Stays t (copy_begun t p cell)
+copy_leaves t p (GroupPage tag body) =
+    record { leaves = record { before = refl; wanted = λ n. refl }; frontier = refl; lock = refl }
+copy_leaves t p cell = nothing_moves t
+
+order_leaves : (t : Translation) (o : Order) → IsDue t o → StepLeaves t (ordered t o)
+order_leaves t (OrderRepair k left) due =
+    inr (record { unmended = ap layer.is_mended due.1; wanted = λ n. refl })
+order_leaves t (OrderCopy victim p left) due =
     let h = copy_leaves (with_plan t victim left) p (t.disk.cells p) in
-    record {
+    inl (record {
       leaves = record { before = h.leaves.before; wanted = h.leaves.wanted };
       frontier = h.frontier;
       lock = h.lock;
-    }
-order_leaves t order stage due =
-    record { leaves = record { before = refl; wanted = λ n. refl }; frontier = refl; lock = refl }
+    })
+order_leaves t order due =
+    inl (record { leaves = record { before = refl; wanted = λ n. refl }; frontier = refl; lock = refl })
 
-pub step_leaves : (t : Translation) → InThisStage t → StepLeaves t (moved t TakeStep)
-step_leaves t stage =
-    turned_if (StepLeaves t) t
-    (λ none. record { leaves = record { before = refl; wanted = λ n. refl }; frontier = refl; lock = refl })
-    (λ o due. order_leaves t o stage (order_due t o due).1)
+pub step_leaves : (t : Translation) → StepLeaves t (moved t TakeStep)
+step_leaves t =
+    turned_if (StepLeaves t) t (λ none. inl (nothing_moves t)) (λ o due. order_leaves t o (order_due t o due).1)
+
+pub unmended_fit : (s : State) → IsTied s → layer.is_mended s.translation.work.mending ≡ false →
+    DeedsFit (numbers_of s) (length s.accepted) false s.tasks
+unmended_fit s tied unmended =
+    subst (λ b. DeedsFit (numbers_of s) (length s.accepted) b s.tasks) unmended tied.tasks.deeds
+
+-- where the device is not mended, groups may count from another number
+pub unmended_moves : (d : DeviceCore) (after : Core) (s : State) (u : Translation) → Keeps d s → IsTied s →
+    layer_kept.Describes after u → Repairs s.translation u →
+    Keeps (record d { ftl = after }) (record s { translation = u })
+unmended_moves d after s u k tied layer repairs = record {
+  permanent = k.permanent;
+  layer_kept = layer;
+  few = k.few;
+  tasks = kept_else (numbers_of s) (length s.accepted) (before_accepted s.translation.ledger) (before_accepted u.ledger)
+      d.tasks s.tasks (unmended_fit s tied repairs.unmended) k.tasks;
+  blocks = λ tag. progress_with (wanted_for tag u.pins) (wanted_for tag s.translation.pins) (read_for tag d.loaded)
+      (repairs.wanted tag) ∙ k.blocks tag;
+  shorts = k.shorts;
+  power_off = k.power_off;
+}

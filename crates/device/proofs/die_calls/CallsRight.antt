@@ -1,37 +1,29 @@
 -- The calls of the dies and of the device itself are answered as the definitions say.
-use Rattle.std.proofs.Common.{◌≡◌, ◌∙◌, ℕ, ◌==◌, Bool, true, false, List, [], ◌∷◌, ◌++◌, Option, Some, None, length}
-use Rattle.std.proofs.Common.{map, refl, sym, ap, subst, arith, All}
-use Rattle.std.specs.Prelude.{if◌then◌else◌, slice_index_or, ◌-◌, ◌≤◌}
-use Rattle.std.specs.List.{flat_map}
-use Rattle.std.proofs.lemmas.List.{get_or_default, map-append}
-use Rattle.std.proofs.lemmas.List.Folds.{flat_map-map}
+use Rattle.std.proofs.Common.{◌≡◌, ◌∙◌, ℕ, ◌==◌, Bool, true, false, List, [], Option, Some, None, length}
+use Rattle.std.proofs.Common.{refl, sym, ap, subst, arith, All, inl, inr}
+use Rattle.std.specs.Prelude.{if◌then◌else◌, ◌-◌, ◌≤◌}
 use Rattle.ufs_spec.specs.Cells.{Array, Cell, Cells, IsCell}
 use Rattle.ufs_spec.specs.Commands.{Command}
 use Rattle.ufs_spec.specs.Configs.{IsConfig}
-use Rattle.ufs_spec.specs.Dies.{DieState, blank_page, is_bad_block, new_die}
 use Rattle.ufs_spec.specs.Disk.{CellCrash, Flight, Programming, Spot, flight_alone, page_of}
 use Rattle.ufs_spec.specs.Exchanges as exchange
-use Rattle.ufs_spec.specs.Keys.{below}
-use Rattle.ufs_spec.specs.Lives.{IsOpened, bad_of}
+use Rattle.ufs_spec.specs.Lives.{IsOpened}
 use Rattle.ufs_spec.specs.Machine.{Take, OfTake, MayLeave, Turn, OfTurn, behind, durable}
 use Rattle.ufs_spec.specs.Moves.{Ending, GiveJob, IsEndingOf, MayEnd, MayLeaveCells, ReadRight, ReadWrong, TakeStep}
 use Rattle.ufs_spec.specs.Moves.{WentWell, WentWrong, moved}
-use Rattle.ufs_spec.specs.Plain.{Plain, after as after_all}
-use Rattle.ufs_spec.specs.Refusals.{State, locked}
-use Rattle.ufs_spec.specs.Translation.{spots, Pin, is_step_due}
+use Rattle.ufs_spec.specs.Plain.{after as after_all}
+use Rattle.ufs_spec.specs.Refusals.{State, locked, numbers_of}
+use Rattle.ufs_spec.specs.Sound.{Sound}
+use Rattle.ufs_spec.specs.Translation.{Pin, Translation, is_step_due}
 use Rattle.ufs_spec.specs.declared.configs.Numbers.{Numbers}
 use Rattle.ufs_spec.specs.declared.flash.Job.{Job}
 use Rattle.ufs_spec.specs.declared.flash.Outcome.{Outcome}
 use Rattle.ufs_spec.specs.declared.flash.Place.{Place}
 use Rattle.ufs_laws.proofs.array_cells.CrashedCells.{cell_crash}
-use Rattle.ufs_laws.proofs.new_dies.FirstLife.{base_is_zero}
-use Rattle.ufs_laws.proofs.plain_contents.ListParts.{made_of}
-use Rattle.ufs_laws.proofs.array_cells.StandsForSomething.{new_sound}
-use Rattle.power_loss.specs.Exchange.{IsTied}
+use Rattle.power_loss.specs.Exchange.{IsArrayOf, IsTied}
 use Rattle.power_loss.proofs.openings.OpenedStates.{opened_state as opened_valid}
 use Rattle.ftl_core.specs.Core.{Core}
 use Rattle.ftl_core.specs.Describes as layer_kept
-use Rattle.ftl_core.specs.Limits.{in_this_stage}
 use Rattle.device.specs.Describes.{Describes, IsAnswered, IsGiven, TasksKept, IsTold, Keeps, progress_kept, progress_of}
 use Rattle.device.specs.Kept.{DeviceCore, idle_device}
 use Rattle.device.proofs.die_calls.EndsTold.{ending_fits}
@@ -39,9 +31,9 @@ use Rattle.std.proofs.lemmas.List.Elements.{All-nil}
 use Rattle.ufs_spec.specs.Ledger.{before_accepted}
 use Rattle.ufs_spec.specs.Stages.{most_tasks}
 use Rattle.power_loss.proofs.shown_blocks.LivesShowBlocks.{opened_shows}
-use Rattle.device.proofs.described.Answered.{answered}
-use Rattle.device.proofs.described.LayerMoves.{layer_moves, step_leaves}
-use Rattle.ufs_spec.proofs.Lists.{map_twice}
+use Rattle.device.proofs.described.Answered.{IsBehind, answered}
+use Rattle.device.proofs.described.LayerMoves.{StepLeaves, layer_moves, step_leaves, unmended_fit, unmended_moves}
+use Rattle.device.proofs.described.Unmended.{none_waits}
 
 -- A job is given
 
@@ -114,28 +106,37 @@ pub turns_right : (d : DeviceCore) (s : State) (due : Bool) (after : Core) → D
     layer_kept.Describes after (moved s.translation TakeStep) →
     IsAnswered s Turn (OfTurn due) (record d { ftl = after })
 turns_right d s due after h is layer =
-    let step = step_leaves s.translation (in_this_stage d.ftl s.translation h.kept.layer_kept) in
-    answered d (record d { ftl = after }) s Turn (OfTurn due) h tt is
-    (record {
-      keeps = layer_moves d after s s.array (moved s.translation TakeStep) h.kept layer step.leaves;
+    answered d (record d { ftl = after }) s Turn (OfTurn due) h tt is (by (step_leaves s.translation))
+  where
+    turned : Translation
+    turned = moved s.translation TakeStep
+
+    by : StepLeaves s.translation turned → IsBehind (record d { ftl = after }) (record s { translation = turned })
+    by (inl step) = record {
+      keeps = layer_moves d after s s.array turned h.kept layer step.leaves;
       told = λ lock. subst (λ n. All (IsTold n) s.tasks) (sym (λ i. step.frontier i - step.leaves.before i))
           (h.told (sym step.lock ∙ lock));
-    })
+    }
+    by (inr repair) = record {
+      keeps = unmended_moves d after s turned h.kept h.tied layer repair;
+      told = λ lock. none_waits (numbers_of s) (length s.accepted)
+          (turned.ledger.frontier - before_accepted turned.ledger) s.tasks
+          (unmended_fit s h.tied repair.unmended);
+    }
 
--- A new device
+-- A device that is opened
 
-pub opens_right : (n : Numbers) (array : Array) (bad : Spot → Bool) (s : State) (layer : Core) → IsConfig n →
-    ((p : Place) → array p ≡ blank_page) → IsOpened n array bad s → layer_kept.Describes layer s.translation →
-    Describes (idle_device layer) s
-opens_right n array bad s layer config blank opened kept =
+pub opens_right : (n : Numbers) (array : Array) (bad : Spot → Bool) (s : State) (layer : Core) (permanent : Bool) →
+    IsConfig n → IsArrayOf n array → Sound array → IsOpened n array bad s → layer_kept.Describes layer s.translation →
+    permanent ≡ s.base.permanent → Describes (idle_device layer permanent) s
+opens_right n array bad s layer permanent config inside sound opened kept same =
     let t = s.translation in
     record {
-      tied = (opened_valid n array bad s config (λ p outside. blank p) (new_sound array blank) opened).tied;
+      tied = (opened_valid n array bad s config inside sound opened).tied;
       shows = opened_shows n array bad s opened;
       kept = record {
-        unprotected =
-            ap (λ (commands : List Command). (after_all s.base commands).permanent) opened.none_accepted
-            ∙ ap (λ (base : Plain). base.permanent) (base_is_zero n array bad s blank opened);
+        permanent = same
+            ∙ sym (ap (λ (commands : List Command). (after_all s.base commands).permanent) opened.none_accepted);
         layer_kept = kept;
         few = subst (λ us. length us ≤ most_tasks) (sym opened.no_tasks) (omega arith);
         tasks = subst (TasksKept (before_accepted t.ledger) []) (sym opened.no_tasks) tt;

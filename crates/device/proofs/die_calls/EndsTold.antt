@@ -4,9 +4,9 @@ use Rattle.std.proofs.Common.{Option, Some, None, slice_get, refl, sym, ap, subs
 use Rattle.std.specs.Prelude.{Contains, find, if◌then◌else◌, nat_lt, option_map}
 use Rattle.std.proofs.lemmas.List.{append-nil, length-map}
 use Rattle.std.proofs.lemmas.List.Elements.{All-contains}
-use Rattle.ufs_spec.proofs.Facts.{and_parts, eqb-true, none-some, same_Some}
+use Rattle.ufs_spec.proofs.Facts.{and_parts, eqb-true, false≢true, none-some, same_Some}
 use Rattle.ufs_spec.specs.Cells.{Array, Cell, Cells, GroupPage}
-use Rattle.ufs_spec.specs.Disk.{Erasing, Flight, ForNobody, ForTask, Programming, Reader, Reading}
+use Rattle.ufs_spec.specs.Disk.{Erasing, Flight, ForNobody, ForStep, ForTask, Programming, Reader, Reading}
 use Rattle.ufs_spec.specs.Exchanges.{NotRead, ReadState, Sending, WasRead, is_task_of, task_of}
 use Rattle.ufs_spec.specs.Ledger.{before_accepted}
 use Rattle.ufs_spec.specs.Machine.{Done, MayLeave, OfDone, array_behind, deed_read, ends_with, read_noted_behind}
@@ -166,7 +166,7 @@ module _ (d : DeviceCore) (s : State) (die tag : ℕ) (place : Place) (after : C
       subst (λ e. Keeps e (read_state s tag WasRead s.array (over ReadRight)))
       (sym (loads (record d { ftl = after }) new (has_room d s h.kept)))
       (record {
-        unprotected = h.kept.unprotected;
+        permanent = h.kept.permanent;
         layer_kept = layer;
         few = few WasRead;
         tasks = tasks_read before tag d.tasks s.tasks d.loaded h.tied.tasks.tasks_differ reading h.kept.tasks;
@@ -188,7 +188,7 @@ module _ (d : DeviceCore) (s : State) (die tag : ℕ) (place : Place) (after : C
   pub wrong_keeps : layer_kept.Describes after (over ReadWrong) →
       Keeps (told (record d { ftl = after }) (ended.Read tag None)) (read_state s tag NotRead s.array (over ReadWrong))
   wrong_keeps layer = record {
-    unprotected = h.kept.unprotected;
+    permanent = h.kept.permanent;
     layer_kept = layer;
     few = few NotRead;
     tasks = tasks_lost before tag d.tasks s.tasks d.loaded h.tied.tasks.tasks_differ reading h.kept.tasks;
@@ -205,6 +205,10 @@ none_noted s (Reading ForNobody place) ReadRight none = refl
 none_noted s (Reading ForNobody place) ReadWrong none = refl
 none_noted s (Reading ForNobody place) WentWell none = refl
 none_noted s (Reading ForNobody place) (WentWrong cells) none = refl
+none_noted s (Reading ForStep place) ReadRight none = refl
+none_noted s (Reading ForStep place) ReadWrong none = refl
+none_noted s (Reading ForStep place) WentWell none = refl
+none_noted s (Reading ForStep place) (WentWrong cells) none = refl
 none_noted s (Reading reader place) ending none = absurd none
 none_noted s (Programming place cell) ending none = refl
 none_noted s (Erasing spot) ending none = refl
@@ -252,13 +256,14 @@ module _ (d : DeviceCore) (s : State) (die : ℕ) (left : Array) (after : Core) 
       (sym tells)
       (subst (λ u. Keeps (told (record d { ftl = after }) (ended.Read tag None)) (read_state s tag NotRead s.array u))
       (sym same) (wrong_keeps d s die tag place after h w (subst (layer_kept.Describes after) same layer)))
-  task_keeps tag place ending w is fit tells layer = cc
+  task_keeps tag place WentWell w is fit tells layer = absurd (false≢true fit)
+  task_keeps tag place (WentWrong cells) w is fit tells layer = absurd (false≢true fit)
 
   job_keeps : (x : Option Flight) (ending : Ending) →
       ((who : Reader) (place : Place) → s.translation.disk.flights die ≡ Some (Reading who place) →
       IsReadOf s.translation place who) →
       EndKeeps x ending
-  job_keeps None ending reads is fit tells layer = cc
+  job_keeps None ending reads is fit tells layer = absurd (false≢true fit)
   job_keeps (Some (Reading (ForTask tag index) place)) ending reads is fit tells layer =
       let r : IsAwaited s.translation tag index place = reads (ForTask tag index) place is in
       subst (λ k. EndKeeps (Reads tag k place) ending) (sym r.first)
@@ -266,6 +271,8 @@ module _ (d : DeviceCore) (s : State) (die : ℕ) (left : Array) (after : Core) 
       layer
   job_keeps (Some (Reading ForNobody place)) ending reads is fit tells layer =
       nothing_keeps (Reading ForNobody place) ending tt is tells layer
+  job_keeps (Some (Reading ForStep place)) ending reads is fit tells layer =
+      nothing_keeps (Reading ForStep place) ending tt is tells layer
   job_keeps (Some (Reading who place)) ending reads is fit tells layer = absurd (reads who place is)
   job_keeps (Some (Programming place cell)) ending reads is fit tells layer =
       nothing_keeps (Programming place cell) ending tt is tells layer

@@ -5,19 +5,22 @@ use Rattle.std.specs.Prelude.{nat_lt, slice_index_or, slice_set}
 use Rattle.std.proofs.lemmas.Bool.Decides.{eqb_tells}
 use Rattle.std.proofs.lemmas.List.{get_or-set_other, get_or-set_same, get_or_past, length-set, set-get_or}
 use Rattle.std.proofs.lemmas.List.Elements.{All-get_or, All-set}
-use Rattle.ufs_spec.proofs.Facts.{ltb-false}
+use Rattle.ufs_spec.proofs.Facts.{if_both, ltb-false}
 use Rattle.ufs_spec.specs.Cells.{IsPlace}
-use Rattle.ufs_spec.specs.Dies.{DieState, IsOfSize, after_job, blank_page, die_erased, die_programmed, is_bad_block}
-use Rattle.ufs_spec.specs.Dies.{new_die, page_at, pages_of, ready_page}
-use Rattle.ufs_spec.specs.DieLaws.{after_job_size, erased_blank, erased_next, erased_next_elsewhere, has_page, pages_in}
-use Rattle.ufs_spec.specs.DieLaws.{programmed_next, programmed_next_elsewhere, with_block_elsewhere, with_page_there}
+use Rattle.ufs_spec.specs.Dies.{Did, DieState, IsOfSize, after_job, blank_page, die_erased, die_programmed}
+use Rattle.ufs_spec.specs.Dies.{is_bad_block, new_die, page_at, pages_of, ready_page}
+use Rattle.ufs_spec.specs.DieLaws.{after_job_size, did_well, erased_blank, erased_next, erased_next_elsewhere}
+use Rattle.ufs_spec.specs.DieLaws.{has_page, pages_in, programmed_next, programmed_next_elsewhere}
+use Rattle.ufs_spec.specs.DieLaws.{with_block_elsewhere, with_page_there}
 use Rattle.ufs_spec.specs.DieLaws.{with_page_elsewhere_in_block}
-use Rattle.ufs_spec.specs.Disk.{BlockState, Bad, Closed, Filling, Flight, Spot, at_die, at_place, at_spot, job_of}
+use Rattle.ufs_spec.specs.Disk.{BlockState, Closed, Filling, Flight, Spot, at_die, at_place, at_spot, job_of}
 use Rattle.ufs_spec.specs.Disk.{same_spot, spot_of, state_behind}
-use Rattle.ufs_spec.specs.Lives.{Fit, array_of}
+use Rattle.ufs_spec.specs.Lives.{Fit, array_of, bad_of}
 use Rattle.ufs_spec.specs.Machine.{in_block}
+use Rattle.ufs_spec.specs.Translation.{is_bad}
 use Rattle.ufs_spec.specs.declared.configs.Numbers.{Numbers}
 use Rattle.ufs_spec.specs.declared.flash.Job.{Job}
+use Rattle.ufs_spec.specs.declared.flash.Outcome.{Outcome}
 use Rattle.ufs_spec.specs.declared.flash.Page.{Page}
 use Rattle.ufs_spec.specs.declared.flash.Place.{Place}
 use Rattle.ufs_laws.proofs.jobs.JobsInFlight.{at_its_die, at_other}
@@ -60,6 +63,19 @@ put_sizes n dies die j fit l = (
       (after_job_size (die_at dies die) j n.blocks n.pages (die_size n dies die fit l)) fit.1,
 )
 
+-- what a die made of a job has the size that it had
+pub worked_sizes : (n : Numbers) (dies : List DieState) (die : ℕ) (before after : DieState) (j : Job) (o : Outcome) →
+    Fit n dies → die < length dies → before ≡ slice_index_or dies die before → Did 0 0 before j o after →
+    Fit n (slice_set dies die after)
+worked_sizes n dies die before after j o fit l is did = (
+  length-set dies die after ∙ fit.0,
+  All-set (IsOfSize n.blocks n.pages) dies die after
+      (subst (IsOfSize n.blocks n.pages) (sym (did_well 0 before after j o did).1)
+      (after_job_size before j n.blocks n.pages
+      (subst (IsOfSize n.blocks n.pages) (sym is)
+      (All-get_or (IsOfSize n.blocks n.pages) dies die before l fit.1)))) fit.1,
+)
+
 -- a die that is as it was leaves the list
 pub put_same : (dies : List DieState) (die : ℕ) → slice_set dies die (die_at dies die) ≡ dies
 put_same dies die = set-get_or dies die (new_die 0 0)
@@ -92,31 +108,29 @@ put_block {A} f dies spot x l leaves other =
         ∙ ap (λ (k : ℕ). f (die_at dies k) other.block) (sym is)) (λ away. refl)
 
 -- no block is bad or good that was not
-put_bad : (dies : List DieState) (die : ℕ) (x : DieState) (other : Spot) → die < length dies →
-    x.bad ≡ (die_at dies die).bad →
-    is_bad_block (die_at (slice_set dies die x) other.die) other.block ≡ is_bad_block (die_at dies other.die)
-    other.block
+pub put_bad : (dies : List DieState) (die : ℕ) (x : DieState) (other : Spot) → die < length dies →
+    x.bad ≡ (die_at dies die).bad → bad_of (slice_set dies die x) other ≡ bad_of dies other
 put_bad dies die x other l e =
-    by_element (λ (y : DieState). is_bad_block y other.block ≡ is_bad_block (die_at dies other.die) other.block)
-    dies die x (new_die 0 0) other.die l
+    by_element (λ (y : DieState). is_bad_block y other.block ≡ bad_of dies other) dies die x (new_die 0 0) other.die l
     (λ is. ap (λ (bad : List Bool). slice_index_or bad other.block false) e
     ∙ ap (λ (k : ℕ). is_bad_block (die_at dies k) other.block) (sym is)) (λ away. refl)
 
--- a change of one block, that was not bad
-put_blocks : (n : Numbers) (dies : List DieState) (blocks : Spot → BlockState) (spot : Spot) (new : BlockState)
+-- a change of one block, which is bad to its die where it is bad to the layer
+pub put_blocks : (n : Numbers) (dies : List DieState) (blocks : Spot → BlockState) (spot : Spot) (new : BlockState)
     (x : DieState) →
-    spot.die < length dies → x.bad ≡ (die_at dies spot.die).bad → blocks spot ≢ Bad →
+    spot.die < length dies → is_bad_block x spot.block ≡ is_bad new →
+    ((c : ℕ) → c ≢ spot.block → is_bad_block x c ≡ is_bad_block (die_at dies spot.die) c) →
     ((next : ℕ) → new ≡ Filling next → ready_page x spot.block ≡ Some next) →
     ((c : ℕ) → c ≢ spot.block → ready_page x c ≡ ready_page (die_at dies spot.die) c) →
     BlocksFit n dies blocks → BlocksFit n (slice_set dies spot.die x) (at_spot blocks spot new)
-put_blocks n dies blocks spot new x l bad was_good next_here leaves h = record {
+put_blocks n dies blocks spot new x l bad_here bad_leaves next_here leaves h = record {
   ready = λ other next d b e.
       put_block ready_page dies spot x l leaves other
       ∙ ⊎_elim
       (λ (k : (other ≡ spot) × (new ≡ Filling next)). ap ready (k.0) ∙ (at_itself ∙ next_here next k.1))
       (λ (k : (other ≢ spot) × (blocks other ≡ Filling next)). at_another other k.0 ∙ h.ready other next d b k.1)
       (at_spot_is blocks spot new other (Filling next) e);
-  good = λ other d b sure. put_bad dies spot.die x other l bad ∙ h.good other d b (good_before other sure);
+  bad = λ other. sym (put_block is_bad_block dies spot x l bad_leaves other ∙ same_bad other (same_spot other spot));
 }
   where
     before : Spot → Option ℕ
@@ -137,17 +151,15 @@ put_blocks n dies blocks spot new x l bad was_good next_here leaves h = record {
         (λ (k : (other ≢ spot) × (ready other ≡ before other)). k.1)
         (at_spot_cases before spot (ready_page x spot.block) other)
 
-    good_before : (other : Spot) → at_spot blocks spot new other ≢ Bad → blocks other ≢ Bad
-    good_before other sure e =
-        ⊎_elim
-        (λ (k : (other ≡ spot) × (at_spot blocks spot new other ≡ new)). was_good (sym (ap blocks k.0) ∙ e))
-        (λ (k : (other ≢ spot) × (at_spot blocks spot new other ≡ blocks other)). sure (k.1 ∙ e))
-        (at_spot_cases blocks spot new other)
+    same_bad : (other : Spot) (b : Bool) →
+        (if b then is_bad_block x spot.block else bad_of dies other) ≡ is_bad (if b then new else blocks other)
+    same_bad other true = bad_here
+    same_bad other false = sym (h.bad other)
 
 -- Pages
 
 -- the pages of each block, where those of one change
-pages_put : (dies : List DieState) (spot : Spot) (x : DieState) (q : Place) → spot.die < length dies →
+pub pages_put : (dies : List DieState) (spot : Spot) (x : DieState) (q : Place) → spot.die < length dies →
     ((c i : ℕ) → c ≢ spot.block → page_at x c i ≡ page_at (die_at dies spot.die) c i) → (b : Bool) →
     same_spot (spot_of q) spot ≡ b →
     array_of (slice_set dies spot.die x) q ≡ (if b then page_at x spot.block q.page else array_of dies q)
@@ -175,8 +187,8 @@ behind_next pages page next e = by (page + 1 == pages) e
     by true h = cc
     by false h = cc
 
-pub not_bad : (state : BlockState) (next : ℕ) → state ≡ Filling next → state ≢ Bad
-not_bad state next e h = cc
+behind_good : (pages page : ℕ) → is_bad (state_behind pages page) ≡ false
+behind_good pages page = if_both (λ (s : BlockState). is_bad s ≡ false) (page + 1 == pages) refl refl
 
 pub program_blocks : (n : Numbers) (dies : List DieState) (blocks : Spot → BlockState) (p : Place) (content : Page) →
     Fit n dies → p.die < length dies → IsPlace n p → blocks (spot_of p) ≡ Filling p.page → BlocksFit n dies blocks →
@@ -189,8 +201,7 @@ program_blocks n dies blocks p content fit l place fills h =
     let within = place.block in
     let inside : p.block < length die.ready = omega arith in
     put_blocks n dies blocks (spot_of p) (state_behind n.pages p.page) (die_programmed die p.block p.page content) l
-    refl
-    (not_bad (blocks (spot_of p)) p.page fills)
+    (sym (h.bad (spot_of p)) ∙ (ap is_bad fills ∙ sym (behind_good n.pages p.page))) (λ c differ. refl)
     (λ next e. programmed_next die p.block p.page content inside ∙ behind_next n.pages p.page next e)
     (λ c differ. programmed_next_elsewhere die p.block p.page c content differ) h
 
@@ -240,7 +251,7 @@ first_next : (next : ℕ) → Filling 0 ≡ Filling next → Some 0 ≡ Some nex
 first_next next e = cc
 
 pub erase_blocks : (n : Numbers) (dies : List DieState) (blocks : Spot → BlockState) (spot : Spot) → Fit n dies →
-    spot.die < length dies → spot.block < n.blocks → blocks spot ≢ Bad → BlocksFit n dies blocks →
+    spot.die < length dies → spot.block < n.blocks → is_bad (blocks spot) ≡ false → BlocksFit n dies blocks →
     BlocksFit n (slice_set dies spot.die (die_erased (die_at dies spot.die) spot.block))
     (at_spot blocks spot (Filling 0))
 erase_blocks n dies blocks spot fit l within was_good h =
@@ -248,7 +259,8 @@ erase_blocks n dies blocks spot fit l within was_good h =
     let size = die_size n dies spot.die fit l in
     let long : length die.ready ≡ n.blocks = size.2 in
     let inside : spot.block < length die.ready = omega arith in
-    put_blocks n dies blocks spot (Filling 0) (die_erased die spot.block) l refl was_good
+    put_blocks n dies blocks spot (Filling 0) (die_erased die spot.block) l
+    (sym (h.bad spot) ∙ was_good) (λ c differ. refl)
     (λ next e. erased_next die spot.block inside ∙ first_next next e)
     (λ c differ. erased_next_elsewhere die spot.block c differ) h
 

@@ -13,10 +13,10 @@ use Rattle.ufs_spec.specs.Lives.{Fit, IsOpened, array_of, bad_of, ended_well}
 use Rattle.ufs_spec.specs.Machine.{Reply, Done, OfDone, Take, OfTake, Heard, OfHost, Host, OfReply, Turn, OfTurn}
 use Rattle.ufs_spec.specs.Machine.{array_behind, given, hears, in_block, fills, lock_applied, observe, replied}
 use Rattle.ufs_spec.specs.Machine.{with_moves}
-use Rattle.ufs_spec.specs.Moves.{IsEndingOf, TakeStep}
+use Rattle.ufs_spec.specs.Moves.{Ending, IsEndingOf, TakeStep, fits}
 use Rattle.ufs_spec.specs.Openings.{IsBlockState}
 use Rattle.ufs_spec.specs.Refusals.{State}
-use Rattle.ufs_spec.specs.Translation.{MayTake}
+use Rattle.ufs_spec.specs.Translation.{MayTake, is_bad}
 use Rattle.ufs_spec.specs.declared.configs.Numbers.{Numbers}
 use Rattle.ufs_spec.specs.declared.faults.HostFault.{HostFault}
 use Rattle.ufs_spec.specs.declared.flash.Job.{Job}
@@ -33,10 +33,10 @@ use Rattle.ufs_laws.specs.Requests.{HaveNoRequest}
 use Rattle.power_loss.specs.Exchange.{IsTied}
 use Rattle.power_loss.proofs.jobs_owed.ProgramsAndErases.{take_inside}
 use Rattle.power_loss.proofs.books.SmallFacts.{at_die_is, spot_is}
-use Rattle.device.specs.Worlds.{AreBlank, BlocksFit, DiesFit, FitState, die_at, job_at, jobs_given}
-use Rattle.device.proofs.dies_of_world.DieParts.{die_size, erase_blocks, erase_pages, not_bad, program_blocks}
+use Rattle.device.specs.Worlds.{BlocksFit, DiesFit, FitState, die_at, job_at, jobs_given}
+use Rattle.device.proofs.dies_of_world.DieParts.{die_size, erase_blocks, erase_pages, program_blocks}
 use Rattle.device.proofs.dies_of_world.DieParts.{program_pages, put_jobs, put_same, put_sizes}
-use Rattle.device.proofs.dies_of_world.FinishDies.{blocks_behind, flights_behind, layer_behind, seen_behind}
+use Rattle.device.proofs.dies_of_world.FinishDies.{blocks_behind, flights_behind, seen_behind, well_fits}
 use Rattle.device.proofs.dies_of_world.QuietDies.{Seen, hears_same, replied_same, seen, seen_over, step_same, told_same}
 
 -- A fit reads the numbers, the pages and the blocks of a state, and the jobs that are in flight
@@ -143,13 +143,10 @@ page_inside n cells p tag body within e =
     (λ (out : IsPlace n p → ⊥). absurd (let both : Nothing ≡ GroupPage tag body = sym (within p out) ∙ e in cc))
     (is_place n p)
 
-free_good : (state : BlockState) → state ≡ Free → state ≢ Bad
-free_good state e bad = cc
-
 -- the pages and the blocks behind the job are those of the die behind it
-record AreBehind (n : Numbers) (dies : List DieState) (array : Array) (blocks : Spot → BlockState) : Type 0 where
-  pages : array ≡ array_of dies
-  blocks_fit : BlocksFit n dies blocks
+pub record AreBehind (n : Numbers) (dies : List DieState) (array : Array) (blocks : Spot → BlockState) : Type 0 where
+  pub pages : array ≡ array_of dies
+  pub blocks_fit : BlocksFit n dies blocks
 
 module _ (dies : List DieState) (jobs : List (Option Job)) (s : State) (fit : FitState dies jobs s)
     (tied : IsTied s) where
@@ -160,13 +157,13 @@ module _ (dies : List DieState) (jobs : List (Option Job)) (s : State) (fit : Fi
   flights = s.translation.disk.flights
 
   -- it lies on the die that has it
-  lies_home : (die : ℕ) (flight : Flight) → flights die ≡ Some flight → die_of_flight flight ≡ die
+  pub lies_home : (die : ℕ) (flight : Flight) → flights die ≡ Some flight → die_of_flight flight ≡ die
   lies_home die (Reading who p) flies = tied.valid.reads.at_home die who p flies
   lies_home die (Programming p cell) flies = (tied.valid.flights.programs die p cell flies).at_home
   lies_home die (Erasing spot) flies = (tied.valid.flights.erases die spot flies).at_home
 
   -- which is one of the dies
-  is_inside : (die : ℕ) (flight : Flight) → flights die ≡ Some flight → die < length dies
+  pub is_inside : (die : ℕ) (flight : Flight) → flights die ≡ Some flight → die < length dies
   is_inside die flight flies =
       ⊎_elim
       (λ (past : length dies ≤ die).
@@ -188,11 +185,10 @@ module _ (dies : List DieState) (jobs : List (Option Job)) (s : State) (fit : Fi
       (size p.die (Reading who p) flies)
   can_do (Programming p cell) flies =
       let right = tied.valid.flights.programs p.die p cell flies in
-      let place = right.place in
-      let good = not_bad (s.translation.disk.blocks (spot_of p)) p.page right.next in (
+      let place = right.place in (
         has_page (die_at dies p.die) p.block p.page n.blocks n.pages place.block place.page
             (size p.die (Programming p cell) flies),
-        fit.blocks_fit.good (spot_of p) place.die place.block good,
+        sym (fit.blocks_fit.bad (spot_of p)) ∙ ap is_bad right.next,
         fit.blocks_fit.ready (spot_of p) p.page place.die place.block right.next,
       )
   can_do (Erasing spot) flies =
@@ -202,7 +198,7 @@ module _ (dies : List DieState) (jobs : List (Option Job)) (s : State) (fit : Fi
       let long : length (die_at dies spot.die).blocks ≡ n.blocks = its.0 in
       let within = place.block in (
         omega arith,
-        fit.blocks_fit.good spot place.die place.block (free_good (s.translation.disk.blocks spot) right.free),
+        sym (fit.blocks_fit.bad spot) ∙ ap is_bad right.free,
       )
 
   pub can_finish : (die : ℕ) (flight : Flight) → flights die ≡ Some flight → CanDo (die_at dies die) (job_of flight)
@@ -250,7 +246,7 @@ module _ (dies : List DieState) (jobs : List (Option Job)) (s : State) (fit : Fi
       }
   are_behind (Erasing spot) flies =
       let blocks = s.translation.disk.blocks in
-      let good = free_good (blocks spot) (tied.valid.flights.erases spot.die spot flies).free in
+      let good : is_bad (blocks spot) ≡ false = ap is_bad (tied.valid.flights.erases spot.die spot flies).free in
       let within = (fit.erases spot.die spot flies).block in
       let l = is_inside spot.die (Erasing spot) flies in
       record {
@@ -260,29 +256,24 @@ module _ (dies : List DieState) (jobs : List (Option Job)) (s : State) (fit : Fi
         blocks_fit = erase_blocks n dies blocks spot fit.sizes l within good fit.blocks_fit;
       }
 
-  pub finish_fits : (die : ℕ) (flight : Flight) → HaveNoRequest s.tasks → s.translation.work.plan ≡ None →
-      flights die ≡ Some flight →
-      FitState (done_by die flight) (slice_set jobs die None)
-      (observe s (Done die (ended_well flight) s.array) (OfDone true))
-  finish_fits die flight none no_plan flies =
-      let array = array_behind s flight (ended_well flight) s.array in
-      let blocks = blocks_behind s.translation flight in
-      let u = observe s (Done die (ended_well flight) s.array) (OfDone true) in
-      let home = lies_home die flight flies in
+  -- behind the end of a job the dies that hold what is behind it fit
+  pub ended_fits : (die : ℕ) (flight : Flight) (ending : Ending) (left : Array) (after : List DieState) (array : Array)
+      (blocks : Spot → BlockState) → HaveNoRequest s.tasks → flights die ≡ Some flight →
+      fits (Some flight) ending ≡ true → Fit n after → AreBehind n after array blocks →
+      seen (observe s (Done die ending left) (OfDone true))
+      ≡ seen_over array (record { numbers = n; blocks = blocks }) →
+      FitState after (slice_set jobs die None) (observe s (Done die ending left) (OfDone true))
+  ended_fits die flight ending left after array blocks none flies right sizes put looks =
+      let u = observe s (Done die ending left) (OfDone true) in
       let l = is_inside die flight flies in
       let as_many = fit.as_many in
       let inside : die < length jobs = omega arith in
-      let put : AreBehind n (done_by die flight) array blocks =
-      subst (λ (e : ℕ). flights e ≡ Some flight → AreBehind n (done_by e flight) array blocks) home
-      (are_behind flight) flies in
-      let known : FitSeen (done_by die flight) (slice_set jobs die None) (at_die flights die None)
-      (seen_over array (layer_behind s.translation flight)) =
+      let known : FitSeen after (slice_set jobs die None) (at_die flights die None)
+      (seen_over array (record { numbers = n; blocks = blocks })) =
       record {
-        sizes = put_sizes n dies die (job_of flight) fit.sizes l;
+        sizes = sizes;
         pages = put.pages;
-        as_many =
-            length-set jobs die None ∙ fit.as_many
-            ∙ sym (length-set dies die (after_job (die_at dies die) (job_of flight)));
+        as_many = length-set jobs die None ∙ (fit.as_many ∙ (fit.sizes.0 ∙ sym sizes.0));
         jobs_are = put_jobs jobs flights die None inside fit.jobs_are;
         blocks_fit = put.blocks_fit;
         erases = λ other spot e.
@@ -291,12 +282,25 @@ module _ (dies : List DieState) (jobs : List (Option Job)) (s : State) (fit : Fi
             (λ (k : (other ≢ die) × (flights other ≡ Some (Erasing spot))). fit.erases other spot k.1)
             (at_die_is flights die None other (Some (Erasing spot)) e);
       } in
-      subst (FitSeen (done_by die flight) (slice_set jobs die None) u.translation.disk.flights)
-      (sym (seen_behind s die flight no_plan flies))
+      subst (FitSeen after (slice_set jobs die None) u.translation.disk.flights) (sym looks)
       (subst
       (λ (g : ℕ → Option Flight).
-      FitSeen (done_by die flight) (slice_set jobs die None) g (seen_over array (layer_behind s.translation flight)))
-      (sym (flights_behind s die flight none flies home)) known)
+      FitSeen after (slice_set jobs die None) g (seen_over array (record { numbers = n; blocks = blocks })))
+      (sym (flights_behind s die flight ending left none flies (lies_home die flight flies) right)) known)
+
+  pub finish_fits : (die : ℕ) (flight : Flight) → HaveNoRequest s.tasks → s.translation.work.plan ≡ None →
+      flights die ≡ Some flight →
+      FitState (done_by die flight) (slice_set jobs die None)
+      (observe s (Done die (ended_well flight) s.array) (OfDone true))
+  finish_fits die flight none no_plan flies =
+      let array = array_behind s flight (ended_well flight) s.array in
+      let blocks = blocks_behind s.translation flight in
+      let put : AreBehind n (done_by die flight) array blocks =
+      subst (λ (e : ℕ). flights e ≡ Some flight → AreBehind n (done_by e flight) array blocks)
+      (lies_home die flight flies) (are_behind flight) flies in
+      ended_fits die flight (ended_well flight) s.array (done_by die flight) array blocks none flies (well_fits flight)
+      (put_sizes n dies die (job_of flight) fit.sizes (is_inside die flight flies)) put
+      (seen_behind s die flight no_plan flies)
 
 -- The opening
 
@@ -308,13 +312,13 @@ none_ready c bad spot Free next h e = cc
 none_ready c bad spot Closed next h e = cc
 none_ready c bad spot Bad next h e = cc
 
--- a block that is not bad to the state was not bad
-was_good : (c : Cells) (bad : Spot → Bool) (spot : Spot) (state : BlockState) → IsBlockState c bad spot state →
-    state ≢ Bad → bad spot ≡ false
-was_good c bad spot (Filling next) h sure = absurd h
-was_good c bad spot Free h sure = h.0
-was_good c bad spot Closed h sure = h.0
-was_good c bad spot Bad h sure = absurd (sure refl)
+-- the blocks that are bad to the state are those that were bad
+bad_same : (c : Cells) (bad : Spot → Bool) (spot : Spot) (state : BlockState) → IsBlockState c bad spot state →
+    is_bad state ≡ bad spot
+bad_same c bad spot (Filling next) h = absurd h
+bad_same c bad spot Free h = sym h.0
+bad_same c bad spot Closed h = sym h.0
+bad_same c bad spot Bad h = sym h
 
 -- no die has a job
 none_given : (count die : ℕ) → job_at (replicate count None) die ≡ None
@@ -324,9 +328,9 @@ none_given count die =
     ⊎_elim (λ (past : count ≤ die). get_or_past (replicate count none) die none (omega arith))
     (λ (l : die < count). get_or-replicate count die none none l) (split count die)
 
-pub opens_fit : (n : Numbers) (dies : List DieState) (s : State) → Fit n dies → AreBlank dies →
+pub opens_fit : (n : Numbers) (dies : List DieState) (s : State) → Fit n dies →
     IsOpened n (array_of dies) (bad_of dies) s → FitState dies (replicate (length dies) None) s
-opens_fit n dies s sizes blank opened =
+opens_fit n dies s sizes opened =
     let t = opened.translation in
     let blocks = s.translation.disk.blocks in
     record {
@@ -337,7 +341,7 @@ opens_fit n dies s sizes blank opened =
       blocks_fit = record {
         ready = λ spot next d b e. absurd (none_ready opened.cells (bad_of dies) spot (blocks spot) next
             (t.disk.blocks spot) e);
-        good = λ spot d b sure. was_good opened.cells (bad_of dies) spot (blocks spot) (t.disk.blocks spot) sure;
+        bad = λ spot. bad_same opened.cells (bad_of dies) spot (blocks spot) (t.disk.blocks spot);
       };
       erases = λ die spot e. absurd (none-some (Erasing spot) (sym (t.disk.idle die) ∙ e));
     }

@@ -1,14 +1,18 @@
--- What the good end of a job makes of the pages and of the state of each block.
+-- What the end of a job makes of the pages and of the state of each block.
 use Rattle.std.proofs.Common.{◌≡◌, ℕ, true, Option, Some, None, refl, sym, ap, ◌∙◌}
-use Rattle.ufs_spec.specs.Cells.{GroupPage, MarkPage, Nothing}
-use Rattle.ufs_spec.specs.Disk.{BlockState, Erasing, Filling, Flight, ForNobody, ForRest, ForStep, ForTask, Programming}
-use Rattle.ufs_spec.specs.Disk.{Reader, Reading, Spot, at_die, at_spot, programmed, spot_of, state_behind}
-use Rattle.ufs_spec.specs.Exchanges.{ReadState, WasRead}
+use Rattle.ufs_spec.proofs.Facts.{if_both}
+use Rattle.ufs_spec.specs.Cells.{Array, Cell, Cells, GroupPage, MarkPage, Nothing}
+use Rattle.ufs_spec.specs.Disk.{Bad, BlockState, Erasing, Filling, Flight, ForNobody, ForRest, ForStep, ForTask}
+use Rattle.ufs_spec.specs.Disk.{Programming, Reader, Reading, Spot, at_die, at_spot, program_failed, programmed}
+use Rattle.ufs_spec.specs.Disk.{spot_of, state_behind}
+use Rattle.ufs_spec.specs.Exchanges.{NotRead, ReadState, WasRead}
 use Rattle.ufs_spec.specs.Lives.{ended_well}
 use Rattle.ufs_spec.specs.Machine.{Done, OfDone, array_behind, ends_with, observe, read_noted, read_noted_behind}
-use Rattle.ufs_spec.specs.Moves.{die_idle, end_flight, fits, freed, job_ended, read_right}
+use Rattle.ufs_spec.specs.Moves.{Ending, ReadRight, ReadWrong, WentWell, WentWrong, die_idle, end_flight, fits}
+use Rattle.ufs_spec.specs.Moves.{freed, job_ended, read_right, read_wrong}
 use Rattle.ufs_spec.specs.Refusals.{State}
-use Rattle.ufs_spec.specs.Translation.{Plan, Translation}
+use Rattle.ufs_spec.specs.Translation.{Plan, Translation, has_mark_number}
+use Rattle.ufs_spec.specs.declared.flash.Place.{Place}
 use Rattle.ufs_laws.proofs.jobs.JobsInFlight.{jobs_behind}
 use Rattle.ufs_laws.specs.Flights.{die_of_flight}
 use Rattle.ufs_laws.specs.Requests.{HaveNoRequest}
@@ -47,36 +51,93 @@ told_keeps : (s : State) (reader : Reader) (read : ReadState) → (read_noted s 
 told_keeps s (ForTask tag index) read = refl
 told_keeps s reader read = refl
 
-behind_keeps : (s : State) (flight : Flight) → (read_noted_behind s flight (ended_well flight)).translation ≡
-    s.translation
-behind_keeps s (Reading reader place) = told_keeps s reader WasRead
-behind_keeps s (Programming p cell) = refl
-behind_keeps s (Erasing spot) = refl
+behind_keeps : (s : State) (flight : Flight) (ending : Ending) →
+    (read_noted_behind s flight ending).translation ≡ s.translation
+behind_keeps s (Reading reader place) ReadRight = told_keeps s reader WasRead
+behind_keeps s (Reading reader place) ReadWrong = told_keeps s reader NotRead
+behind_keeps s (Reading reader place) WentWell = refl
+behind_keeps s (Reading reader place) (WentWrong left) = refl
+behind_keeps s (Programming p cell) ending = refl
+behind_keeps s (Erasing spot) ending = refl
+
+-- however the job of a die ends
+seen_ended : (s : State) (die : ℕ) (flight : Flight) (ending : Ending) (left : Array) →
+    s.translation.disk.flights die ≡ Some flight →
+    seen (observe s (Done die ending left) (OfDone true))
+    ≡ seen_over (array_behind s flight ending left) (layer_seen (job_ended s.translation die flight ending))
+seen_ended s die flight ending left flies =
+    let array = array_behind s flight ending left in
+    told_same (ends_with s die (s.translation.disk.flights die) ending left)
+    ∙ ap (λ (o : Option Flight). seen (ends_with s die o ending left)) flies
+    ∙ ap (λ (t : Translation). seen_over array (layer_seen (end_flight t die (t.disk.flights die) ending)))
+    (behind_keeps s flight ending)
+    ∙ ap (λ (o : Option Flight). seen_over array (layer_seen (end_flight s.translation die o ending))) flies
 
 pub seen_behind : (s : State) (die : ℕ) (flight : Flight) → s.translation.work.plan ≡ None →
     s.translation.disk.flights die ≡ Some flight →
     seen (observe s (Done die (ended_well flight) s.array) (OfDone true))
     ≡ seen_over (array_behind s flight (ended_well flight) s.array) (layer_behind s.translation flight)
 seen_behind s die flight none flies =
-    let array = array_behind s flight (ended_well flight) s.array in
-    told_same (ends_with s die (s.translation.disk.flights die) (ended_well flight) s.array)
-    ∙ ap (λ (o : Option Flight). seen (ends_with s die o (ended_well flight) s.array)) flies
-    ∙ ap (λ (t : Translation). seen_over array (layer_seen (end_flight t die (t.disk.flights die) (ended_well flight))))
-    (behind_keeps s flight)
-    ∙ ap (λ (o : Option Flight). seen_over array (layer_seen (end_flight s.translation die o (ended_well flight))))
-    flies
-    ∙ ap (seen_over array) (ended_layer s.translation die flight none)
+    seen_ended s die flight (ended_well flight) s.array flies
+    ∙ ap (seen_over (array_behind s flight (ended_well flight) s.array)) (ended_layer s.translation die flight none)
+
+-- A job that fails
+
+-- a read changes nothing
+unread_layer : (t : Translation) (reader : Reader) → layer_seen (read_wrong t reader) ≡ layer_seen t
+unread_layer t (ForTask tag index) = refl
+unread_layer t ForStep = refl
+unread_layer t (ForRest number index) = refl
+unread_layer t ForNobody = refl
+
+pub seen_unread : (s : State) (die : ℕ) (reader : Reader) (place : Place) (left : Array) →
+    s.translation.disk.flights die ≡ Some (Reading reader place) →
+    seen (observe s (Done die ReadWrong left) (OfDone true)) ≡ seen s
+seen_unread s die reader place left flies =
+    seen_ended s die (Reading reader place) ReadWrong left flies
+    ∙ ap (seen_over s.array) (unread_layer (die_idle s.translation die) reader)
+
+-- the block of a program or of an erase is bad
+abbrev pub blocks_failed : Translation → Spot → Spot → BlockState
+blocks_failed t spot = at_spot t.disk.blocks spot Bad
+
+abbrev pub layer_failed : Translation → Spot → LayerSeen
+layer_failed t spot = record { numbers = t.numbers; blocks = blocks_failed t spot }
+
+program_layer : (t : Translation) (die : ℕ) (p : Place) (cell : Cell) (c : Cells) →
+    layer_seen (job_ended t die (Programming p cell) (WentWrong c)) ≡ layer_failed t (spot_of p)
+program_layer t die p Nothing c = refl
+program_layer t die p (GroupPage tag body) c = refl
+program_layer t die p (MarkPage m) c =
+    if_both (λ (u : Translation). layer_seen u ≡ layer_failed t (spot_of p))
+    (has_mark_number (record t { disk = program_failed t.disk p c })) refl refl
+
+pub seen_program_failed : (s : State) (die : ℕ) (p : Place) (cell : Cell) (c : Cells) (left : Array) →
+    s.translation.disk.flights die ≡ Some (Programming p cell) →
+    seen (observe s (Done die (WentWrong c) left) (OfDone true))
+    ≡ seen_over left (layer_failed s.translation (spot_of p))
+seen_program_failed s die p cell c left flies =
+    seen_ended s die (Programming p cell) (WentWrong c) left flies
+    ∙ ap (seen_over left) (program_layer s.translation die p cell c)
+
+pub seen_erase_failed : (s : State) (die : ℕ) (spot : Spot) (c : Cells) (left : Array) →
+    s.translation.disk.flights die ≡ Some (Erasing spot) →
+    seen (observe s (Done die (WentWrong c) left) (OfDone true)) ≡ seen_over left (layer_failed s.translation spot)
+seen_erase_failed s die spot c left flies = seen_ended s die (Erasing spot) (WentWrong c) left flies
+
+-- The jobs in flight
 
 -- the end fits the job
-well_fits : (flight : Flight) → true ≡ fits (Some flight) (ended_well flight)
+pub well_fits : (flight : Flight) → fits (Some flight) (ended_well flight) ≡ true
 well_fits (Reading reader place) = refl
 well_fits (Programming place cell) = refl
 well_fits (Erasing spot) = refl
 
-pub flights_behind : (s : State) (die : ℕ) (flight : Flight) → HaveNoRequest s.tasks →
+pub flights_behind : (s : State) (die : ℕ) (flight : Flight) (ending : Ending) (left : Array) → HaveNoRequest s.tasks →
     s.translation.disk.flights die ≡ Some flight → die_of_flight flight ≡ die →
-    (observe s (Done die (ended_well flight) s.array) (OfDone true)).translation.disk.flights ≡ at_die
-    s.translation.disk.flights die None
-flights_behind s die flight none flies home =
-    jobs_behind s die flight (ended_well flight) s.array none flies home
-    (well_fits flight ∙ ap (λ (o : Option Flight). fits o (ended_well flight)) (sym flies))
+    fits (Some flight) ending ≡ true →
+    (observe s (Done die ending left) (OfDone true)).translation.disk.flights
+    ≡ at_die s.translation.disk.flights die None
+flights_behind s die flight ending left none flies home fit =
+    jobs_behind s die flight ending left none flies home
+    (sym fit ∙ ap (λ (o : Option Flight). fits o ending) (sym flies))

@@ -111,7 +111,7 @@ shorts_right d s r rs h is =
     h.tied.tasks.shorts_differ)))
     (record {
       keeps = record {
-        unprotected = h.kept.unprotected;
+        permanent = h.kept.permanent;
         layer_kept = h.kept.layer_kept;
         few = h.kept.few;
         tasks = h.kept.tasks;

@@ -147,7 +147,7 @@ module _ (d : DeviceCore) (s : State) (k : ℕ) (a : Task) (b : exchange.Task) (
       Keeps (with_layer after (without_task (without_block d n) k)) (task_behind (record s { translation = u }) b None))
       o.kept.tag
       (λ its. record {
-        unprotected = h.kept.unprotected;
+        permanent = h.kept.permanent;
         layer_kept = its;
         few = few_gone;
         tasks = one_gone (before_accepted s.translation.ledger) k d.tasks s.tasks b h.kept.tasks
@@ -182,7 +182,7 @@ module _ (d : DeviceCore) (s : State) (k : ℕ) (a : Task) (b : exchange.Task) (
       (set_deed s b.tag (Gathering purpose gathered true))
   asks after key purpose gathered asked deed doing layer = record {
     keeps = record {
-      unprotected = h.kept.unprotected;
+      permanent = h.kept.permanent;
       layer_kept = layer;
       few = few_set (Gathering purpose gathered true);
       tasks = tasks_set_to (phase.AwaitData key) (Gathering purpose gathered true) (doing.0, refl);
@@ -210,7 +210,7 @@ module _ (d : DeviceCore) (s : State) (k : ℕ) (a : Task) (b : exchange.Task) (
       o.kept.tag
       (λ its. record {
         keeps = record {
-          unprotected = h.kept.unprotected;
+          permanent = h.kept.permanent;
           layer_kept = its;
           few = few_set (Answering Good b.length);
           tasks = tasks_set_to (phase.Answer status.Good carried) (Answering Good b.length) (refl, is);

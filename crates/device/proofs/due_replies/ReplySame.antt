@@ -1,6 +1,6 @@
 -- The reply that a task owes is the one that the definitions say is due.
 use Rattle.std.proofs.Common.{◌≡◌, ◌∙◌, ℕ, suc, ◌+◌, ◌-◌, ◌<◌, ◌≤◌, ◌==◌, Bool, true, false, cond, List, [], ◌∷◌}
-use Rattle.std.proofs.Common.{Option, Some, None, map, refl, sym, ap, subst, ⊎_elim, arith}
+use Rattle.std.proofs.Common.{Option, Some, None, length, map, refl, sym, ap, subst, ⊎_elim, arith}
 use Rattle.std.specs.Prelude.{filter, find, if◌then◌else◌, min, nat_le, nat_lt, option_map, position, slice_get, take}
 use Rattle.std.proofs.lemmas.Bool.{le-ltb}
 use Rattle.std.proofs.lemmas.Bool.Decides.{nat_tests}
@@ -13,9 +13,9 @@ use Rattle.ufs_spec.specs.Ledger.{Entry, InSlot, Ledger, Name, OnPage, Unwritten
 use Rattle.ufs_spec.specs.Machine as machine
 use Rattle.ufs_spec.specs.Machine.{block_reply, deed_reply, is_at_hand, needs_no_read, next_block_reply}
 use Rattle.ufs_spec.specs.Moves.{is_pin_of}
-use Rattle.ufs_spec.specs.Refusals.{State}
+use Rattle.ufs_spec.specs.Refusals.{State, numbers_of}
 use Rattle.ufs_spec.specs.Translation as layer
-use Rattle.ufs_spec.specs.Translation.{Pin}
+use Rattle.ufs_spec.specs.Translation.{Pin, is_mended}
 use Rattle.ufs_spec.specs.declared.flash.Key.{Key}
 use Rattle.ufs_spec.specs.declared.messages.Message.{Message}
 use Rattle.ufs_spec.specs.declared.messages.Message.TheVariants as message
@@ -34,6 +34,7 @@ use Rattle.device.specs.Describes.{progress_in, progress_of}
 use Rattle.device.specs.Kept.{DeviceCore}
 use Rattle.device.specs.Replies.{answer_of, block_at, block_for, block_message, block_of, body_at, body_of, count_of}
 use Rattle.device.specs.Replies.{is_loaded_for, loaded_for, owed_by, owed_in, status_kept}
+use Rattle.device.proofs.described.Unmended.{waits_mended}
 use Rattle.device.proofs.open_tasks.OpenTasks.{position_step}
 use Rattle.device.proofs.open_tasks.ReadProgress.{pin_for, read_for, wanted_for}
 
@@ -193,16 +194,17 @@ module _ (d : DeviceCore) (s : State) (a : Task) (b : exchange.Task) (h : Descri
       ∙ ap (λ z. Some z) (answer_same 0 n exchange.read_error (status_kept told) (sym is.nothing)
       (sym (ap status_kept is.told_is))))
 
-  awaiting_same : (n commands : ℕ) → n ≡ before_accepted s.translation.ledger + commands → b.length ≡ 4096 →
+  awaiting_same : (n commands : ℕ) → b.deed ≡ Awaiting commands →
+      n ≡ before_accepted s.translation.ledger + commands → b.length ≡ 4096 →
       deed_reply s b (Awaiting commands) ≡ owed_in s.translation d.loaded a (phase.AwaitFrontier n)
-  awaiting_same n commands is length =
-      let above = h.tied.valid.frontier.above in
-      let none = (in_this_stage d.ftl s.translation h.kept.layer_kept).repairs in
+  awaiting_same n commands deed is whole =
+      let mended = waits_mended (numbers_of s) (length s.accepted) (is_mended s.translation.work.mending) s.tasks b
+      b.tag commands h.tied.tasks.deeds found deed in
       let l = s.translation.ledger in
       ap (λ (x : Bool). if x then Some (response b.lun b.tag b.expected b.length Good) else None)
-      (same_test (before_accepted l) n l.frontier commands (omega arith) is)
+      (same_test (before_accepted l) n l.frontier commands (h.tied.repaired mended) is)
       ∙ ap (λ (m : Message). if nat_le n l.frontier then Some m else None)
-      (answer_same b.length 4096 Good Good length refl)
+      (answer_same b.length 4096 Good Good whole refl)
 
   asking_same : (gathered : List ℕ) (asked : Bool) → gathered ≡ [] → b.length ≡ 4096 → asked ≡ false →
       (if asked then None else Some (ready_message b gathered)) ≡ Some (message.ReadyToTransfer a.lun a.tag 0 4096)
@@ -218,7 +220,7 @@ module _ (d : DeviceCore) (s : State) (a : Task) (b : exchange.Task) (h : Descri
       asking_same gathered asked is.0.none_gathered is.0.length_is is.1
   same_in (phase.AwaitData key) (Gathering purpose gathered asked) e is =
       ap (λ x. if x then None else Some (ready_message b gathered)) is.1
-  same_in (phase.AwaitFrontier n) (Awaiting commands) e is = awaiting_same n commands is.0 is.1
+  same_in (phase.AwaitFrontier n) (Awaiting commands) e is = awaiting_same n commands e is.0 is.1
   same_in phase.SendBlock (Sending blocks sent) e is = sending_same blocks sent e is
   same_in (phase.Answer told n) (Answering x carried) e is =
       ap (λ z. Some z) (answer_same carried n x (status_kept told) is.1 is.0)

@@ -253,6 +253,7 @@ module _ (d : DeviceCore) (s : State) (r : Request) (h : Describes d s) (free : 
           subst (λ (x : Bool). layer_kept.Describes after
           (if x then moved s.translation (Keep key (pin_of_block s.translation r.tag key)) else s.translation)) room
           (begun.1 (record {
+            mended = checks.mended;
             there = key_told address unit there inside;
             of_data = refl;
             new = nobody d s r h free few;
@@ -311,18 +312,19 @@ module _ (d : DeviceCore) (s : State) (r : Request) (h : Describes d s) (free : 
       u = unit_or_first (unit_of_request s r)
   command_begins unit command x p does there is checks begun = absurd does
 
-  passes_begin : (todo : Plan) (p : Phase) → Passes s r todo → Begins (Ok todo) p →
+  passes_begin : (permanent : Bool) (todo : Plan) (p : Phase) → Passes permanent s r todo → Begins (Ok todo) p →
       IsBehind (opened_core p) (opened_with s r None)
-  passes_begin todo p passes begun =
+  passes_begin permanent todo p passes begun =
       subst (IsBehind (opened_core p)) (sym (ap (begun_with s r) passes.is))
       (command_begins passes.unit passes.command passes.transfer p passes.does passes.there passes.unit_is
-      (checks_told s.translation passes.unit r.flags r.expected passes.transfer passes.none)
+      (checks_told permanent s.translation passes.unit r.flags r.expected passes.transfer passes.none)
       (subst (λ (x : Plan). Begins (Ok x) p) passes.plan_is begun))
 
   -- where the table and the checks agree, what begins is described
-  pub agreed_begins : (x : Option Status) (y : Result Plan kept_status.Status) (p : Phase) → Agrees s r x y →
+  pub agreed_begins : (permanent : Bool) (x : Option Status) (y : Result Plan kept_status.Status) (p : Phase) →
+      Agrees permanent s r x y →
       Begins y p → IsBehind (opened_core p) (opened_with s r x)
-  agreed_begins (Some refused) (Err told) p agrees begun =
+  agreed_begins permanent (Some refused) (Err told) p agrees begun =
       same_phase p (phase.Answer told 0) _ begun.0 (answer_opened None 0 0 refused told 0 begun.1 agrees refl)
-  agreed_begins None (Ok todo) p agrees begun = passes_begin todo p agrees begun
-  agreed_begins x y p agrees begun = absurd agrees
+  agreed_begins permanent None (Ok todo) p agrees begun = passes_begin permanent todo p agrees begun
+  agreed_begins permanent x y p agrees begun = absurd agrees

@@ -7,7 +7,7 @@ use Rattle.ufs_spec.proofs.Facts.{eqb-true, ltb-false, or_parts}
 use Rattle.ufs_spec.specs.Translation.{Translation, free_slots, is_locked, is_mended}
 use Rattle.ufs_spec.specs.declared.configs.UnitSpec.{UnitSpec}
 use Rattle.device.specs.declared.checks.Transfer.{Transfer}
-use Rattle.device.specs.Plans.{carries, refusal_of}
+use Rattle.device.specs.Plans.{carries, is_guarded, refusal_of}
 use Rattle.device.proofs.host_messages.CommandTable.{checked, checks_of}
 
 pub some_told : (n : ℕ) → (n == 0) ≡ false → 1 ≤ n
@@ -39,24 +39,31 @@ one_expected expected blocks few h =
     ceil_one (min expected (4096 * blocks)) (omega arith) (omega arith)
 
 none_checked : (a b c e f g : Bool) → checks_of a b c e f g ≡ None →
-    (a ≡ false) × (c ≡ false) × (g ≡ false)
-none_checked false false false false false false h = (refl, refl, refl)
+    (a ≡ false) × (c ≡ false) × (e ≡ false) × (g ≡ false)
+none_checked false false false false false false h = (refl, refl, refl, refl)
 none_checked a b c e f g h = cc
 
 pub record Checks (t : Translation) (unit : UnitSpec) (x : Transfer) : Type 0 where
   pub few : x.blocks ≤ 1
   pub within : x.address + x.blocks ≤ unit.blocks
+  pub mended : is_mended t.work.mending ≡ true
   pub slots : ((x.writes && nat_lt 0 x.blocks) && (free_slots t == 0)) ≡ false
 
-pub checks_told : (t : Translation) (unit : UnitSpec) (flags expected : ℕ) (x : Transfer) →
-    refusal_of t unit.blocks flags expected x ≡ None → Checks t unit x
-checks_told t unit flags expected x h =
+mended_told : (b : Bool) → not b ≡ false → b ≡ true
+mended_told true e = refl
+mended_told false e = sym e
+
+pub checks_told : (permanent : Bool) (t : Translation) (unit : UnitSpec) (flags expected : ℕ) (x : Transfer) →
+    refusal_of permanent t unit flags expected x ≡ None → Checks t unit x
+checks_told permanent t unit flags expected x h =
     let k = none_checked (nat_lt 1 x.blocks) (not (carries x flags expected))
     (nat_lt unit.blocks (x.address + x.blocks)) (not (is_mended t.work.mending))
-    ((x.writes && nat_lt 0 x.blocks) && is_locked t) ((x.writes && nat_lt 0 x.blocks) && (free_slots t == 0))
-    (sym (checked t unit.blocks flags expected x) ∙ h) in
+    ((x.writes && nat_lt 0 x.blocks) && (is_guarded permanent unit || is_locked t))
+    ((x.writes && nat_lt 0 x.blocks) && (free_slots t == 0))
+    (sym (checked permanent t unit flags expected x) ∙ h) in
     record {
       few = ltb-false 1 x.blocks k.0;
       within = ltb-false unit.blocks (x.address + x.blocks) k.1;
-      slots = k.2;
+      mended = mended_told (is_mended t.work.mending) k.2;
+      slots = k.3;
     }

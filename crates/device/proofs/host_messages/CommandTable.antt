@@ -31,14 +31,14 @@ use Rattle.device.specs.declared.tasks.Status as kept_status
 use Rattle.device.specs.declared.tasks.Status.TheVariants as status
 use Rattle.device.specs.Describes.{cdb_taken}
 use Rattle.device.specs.declared.tasks.Plan.{Plan}
-use Rattle.device.specs.Plans.{IsCdbRead, plan_of, transfer_of, carries, check, planned, planned_in, planned_or}
-use Rattle.device.specs.Plans.{planned_taken, planned_transfer, refusal_of}
+use Rattle.device.specs.Plans.{IsCdbRead, is_guarded, plan_of, transfer_of, carries, check, planned, planned_in}
+use Rattle.device.specs.Plans.{planned_or, planned_taken, planned_transfer, refusal_of}
 use Rattle.device.specs.Replies.{status_kept}
 
--- nothing is protected: no definition sets a protection yet
-pub record IsUnprotected (s : State) : Type 0 where
+-- what is protected: no definition sets fPowerOnWPEn yet
+pub record Protects (s : State) (permanent : Bool) : Type 0 where
   pub power_off : s.power_on ≡ false
-  pub permanent_off : (plain_now s).permanent ≡ false
+  pub permanent_is : permanent ≡ (plain_now s).permanent
 
 -- Lines
 
@@ -100,14 +100,15 @@ read_of address blocks = record { address = address; blocks = blocks; writes = f
 abbrev pub write_of : ℕ → ℕ → Transfer
 write_of address blocks = record { address = address; blocks = blocks; writes = true }
 
-pub checked : (t : Translation) (u flags expected : ℕ) (x : Transfer) →
-    refusal_of t u flags expected x
-    ≡ checks_of (nat_lt 1 x.blocks) (not (carries x flags expected)) (nat_lt u (x.address + x.blocks))
-    (not (is_mended t.work.mending)) ((x.writes && nat_lt 0 x.blocks) && is_locked t)
+pub checked : (permanent : Bool) (t : Translation) (u : UnitSpec) (flags expected : ℕ) (x : Transfer) →
+    refusal_of permanent t u flags expected x
+    ≡ checks_of (nat_lt 1 x.blocks) (not (carries x flags expected)) (nat_lt u.blocks (x.address + x.blocks))
+    (not (is_mended t.work.mending)) ((x.writes && nat_lt 0 x.blocks) && (is_guarded permanent u || is_locked t))
     ((x.writes && nat_lt 0 x.blocks) && (free_slots t == 0))
-checked t u flags expected x =
-    checks_same (nat_lt 1 x.blocks) (not (carries x flags expected)) (nat_lt u (x.address + x.blocks))
-    (not (is_mended t.work.mending)) (x.writes && nat_lt 0 x.blocks) (is_locked t) (free_slots t == 0)
+checked permanent t u flags expected x =
+    checks_same (nat_lt 1 x.blocks) (not (carries x flags expected)) (nat_lt u.blocks (x.address + x.blocks))
+    (not (is_mended t.work.mending)) (x.writes && nat_lt 0 x.blocks) (is_guarded permanent u || is_locked t)
+    (free_slots t == 0)
 
 zero_test : (n : ℕ) → ((n ≡ 0) × ((n == 0) ≡ true) × (nat_lt 0 n ≡ false))
     ⊎ ((1 ≤ n) × ((n == 0) ≡ false) × (nat_lt 0 n ≡ true))
@@ -165,27 +166,29 @@ crowded free blocks h = by (zero_test blocks) (zero_test free)
     by (inr b) (inr f) = let y = f.0 in let z = few in
         le-ltb free blocks (omega arith) ∙ (sym f.1 ∙ sym (ap (λ x. x && (free == 0)) b.2))
 
-not_protected : (a c b p : Bool) → b ≡ false → p ≡ false → ((a && b) || (c && p)) ≡ false
-not_protected true true b p e f = ap (λ x. x || p) e ∙ f
-not_protected true false b p e f = ap (λ x. x || false) e
-not_protected false true b p e f = f
-not_protected false false b p e f = refl
+not_powered : (a b c : Bool) → b ≡ false → ((a && b) || c) ≡ c
+not_powered true true c e = cc
+not_powered true false c e = refl
+not_powered false b c e = refl
 
-refused_write : (w p l : Bool) → p ≡ false → ((w && (p || l)) || false) ≡ (w && l)
-refused_write true true l e = cc
-refused_write true false true e = refl
-refused_write true false false e = refl
-refused_write false p l e = refl
+refused_write : (w p l q : Bool) → p ≡ q → ((w && (p || l)) || false) ≡ (w && (q || l))
+refused_write true p l q e = or_none (p || l) ∙ ap (λ x. x || l) e
+  where
+    or_none : (x : Bool) → (x || false) ≡ x
+    or_none true = refl
+    or_none false = refl
+refused_write false p l q e = refl
 
 -- The lines of one command
 
-read_lines : (s : State) (r : Request) (u : UnitSpec) (address blocks : ℕ) (forced : Bool) → spec_of s r ≡ Some u →
+read_lines : (permanent : Bool) (s : State) (r : Request) (u : UnitSpec) (address blocks : ℕ) (forced : Bool) →
+    spec_of s r ≡ Some u →
     first_line (lines_for s r (cdb.Read10 address blocks forced)) ≡ option_map status_kept
-    (refusal_of s.translation u.blocks r.flags r.expected (read_of address blocks))
-read_lines s r u address blocks forced spec =
+    (refusal_of permanent s.translation u r.flags r.expected (read_of address blocks))
+read_lines permanent s r u address blocks forced spec =
     lines ∙ (lines_checked (nat_lt 1 blocks) (not (carries x r.flags r.expected)) (nat_lt u.blocks (address + blocks))
     (not (mended s)) false false false (λ e. refl)
-    ∙ sym (ap (option_map status_kept) (checked s.translation u.blocks r.flags r.expected x)))
+    ∙ sym (ap (option_map status_kept) (checked permanent s.translation u r.flags r.expected x)))
   where
     x : Transfer
     x = read_of address blocks
@@ -197,27 +200,29 @@ read_lines s r u address blocks forced spec =
         (is_past (cdb.Read10 address blocks forced) (spec i))
         (not (mended s)) false (no_more (free_slots s.translation) i))
 
-write_lines : (s : State) (r : Request) (u : UnitSpec) (address blocks : ℕ) → IsUnprotected s →
+write_lines : (permanent : Bool) (s : State) (r : Request) (u : UnitSpec) (address blocks : ℕ) → Protects s permanent →
     spec_of s r ≡ Some u →
     first_line (lines_for s r (cdb.Write10 address blocks true)) ≡ option_map status_kept
-    (refusal_of s.translation u.blocks r.flags r.expected (write_of address blocks))
-write_lines s r u address blocks bare spec =
+    (refusal_of permanent s.translation u r.flags r.expected (write_of address blocks))
+write_lines permanent s r u address blocks bare spec =
     lines ∙ (lines_checked (nat_lt 1 blocks) (not (carries x r.flags r.expected)) (nat_lt u.blocks (address + blocks))
-    (not (mended s)) (nat_lt 0 blocks && locked s) (nat_lt (free_slots s.translation) blocks)
+    (not (mended s)) (nat_lt 0 blocks && (is_guarded permanent u || locked s))
+    (nat_lt (free_slots s.translation) blocks)
     (nat_lt 0 blocks && (free_slots s.translation == 0)) (crowded (free_slots s.translation) blocks)
-    ∙ sym (ap (option_map status_kept) (checked s.translation u.blocks r.flags r.expected x)))
+    ∙ sym (ap (option_map status_kept) (checked permanent s.translation u r.flags r.expected x)))
   where
     x : Transfer
     x = write_of address blocks
 
-    writes : is_refused_write s (Some u) (cdb.Write10 address blocks true) ≡ (nat_lt 0 blocks && locked s)
-    writes = refused_write (nat_lt 0 blocks) (is_protected s (Some u)) (locked s)
-        (not_protected (u.protect == 1) (u.protect == 2) s.power_on (plain_now s).permanent bare.power_off
-        bare.permanent_off)
+    writes : is_refused_write s (Some u) (cdb.Write10 address blocks true)
+        ≡ (nat_lt 0 blocks && (is_guarded permanent u || locked s))
+    writes = refused_write (nat_lt 0 blocks) (is_protected s (Some u)) (locked s) (is_guarded permanent u)
+        (not_powered (u.protect == 1) s.power_on ((u.protect == 2) && (plain_now s).permanent) bare.power_off
+        ∙ ap (λ (b : Bool). (u.protect == 2) && b) (sym bare.permanent_is))
 
     lines : first_line (lines_for s r (cdb.Write10 address blocks true))
         ≡ first_line (lines_of (nat_lt 1 blocks) (not (carries x r.flags r.expected))
-        (nat_lt u.blocks (address + blocks)) (not (mended s)) (nat_lt 0 blocks && locked s)
+        (nat_lt u.blocks (address + blocks)) (not (mended s)) (nat_lt 0 blocks && (is_guarded permanent u || locked s))
         (nat_lt (free_slots s.translation) blocks))
     lines = (λ i. first_line (lines_of (nat_lt 1 blocks) (write_data (blocks * 4096) r.expected (r.flags == 0x20) i)
         (is_past (cdb.Write10 address blocks true) (spec i))
@@ -236,7 +241,7 @@ Does (cdb.Write10 address blocks forced) t = (forced ≡ true) × (t ≡ write_o
 Does command t = ⊥
 
 -- a request that is not refused: the transfer that it is, and its plan
-pub record Passes (s : State) (r : Request) (plan : Plan) : Type 0 where
+pub record Passes (permanent : Bool) (s : State) (r : Request) (plan : Plan) : Type 0 where
   pub command : Cdb
   pub transfer : Transfer
   pub is : r.cdb ≡ Some command
@@ -244,13 +249,13 @@ pub record Passes (s : State) (r : Request) (plan : Plan) : Type 0 where
   pub unit : UnitSpec
   pub there : slice_get (numbers_of s).units.items r.lun ≡ Some unit
   pub unit_is : unit_of_request s r ≡ Some r.lun
-  pub none : refusal_of s.translation unit.blocks r.flags r.expected transfer ≡ None
+  pub none : refusal_of permanent s.translation unit r.flags r.expected transfer ≡ None
   pub plan_is : plan ≡ plan_of transfer (data_key r.lun transfer.address) r.expected
 
-abbrev pub Agrees : State → Request → Option Status → Result Plan kept_status.Status → Type 0
-Agrees s r (Some refused) (Err told) = refused ≡ status_kept told
-Agrees s r None (Ok plan) = Passes s r plan
-Agrees s r refused told = ⊥
+abbrev pub Agrees : Bool → State → Request → Option Status → Result Plan kept_status.Status → Type 0
+Agrees permanent s r (Some refused) (Err told) = refused ≡ status_kept told
+Agrees permanent s r None (Ok plan) = Passes permanent s r plan
+Agrees permanent s r refused told = ⊥
 
 takes_none : (unit operation : ℕ) → takes (UnitOf unit) operation ≡ false →
     IsTrue (is_among taken_operations operation) → ⊥
@@ -282,14 +287,14 @@ is_lun n byte u h =
     ap (λ (b : Bool). if b then Some (UnitOf byte) else None)
     (lt-ltb byte (length n.units.items) (slice_get_within n.units.items byte u h))
 
-module _ (s : State) (r : Request) (taken : Result Cdb Sense) (bare : IsUnprotected s)
+module _ (permanent : Bool) (s : State) (r : Request) (taken : Result Cdb Sense) (bare : Protects s permanent)
     (is : IsCdbRead r.bytes taken) (cdb_is : r.cdb ≡ cdb_taken taken) where
   -- a transfer that is checked
   transfer_right : (u : UnitSpec) (command : Cdb) (t : Transfer) → r.cdb ≡ Some command → Does command t →
       slice_get (numbers_of s).units.items r.lun ≡ Some u →
       unit_of_request s r ≡ Some r.lun → (o : Option kept_status.Status) →
-      refusal_of s.translation u.blocks r.flags r.expected t ≡ o →
-      Agrees s r (option_map status_kept o) (planned_or r.lun r.expected t o)
+      refusal_of permanent s.translation u r.flags r.expected t ≡ o →
+      Agrees permanent s r (option_map status_kept o) (planned_or r.lun r.expected t o)
   transfer_right u command t e does there unit (Some told) k = refl
   transfer_right u command t e does there unit None k = record {
     command = command;
@@ -306,31 +311,31 @@ module _ (s : State) (r : Request) (taken : Result Cdb Sense) (bare : IsUnprotec
   command_right : (u : UnitSpec) (command : Cdb) → r.cdb ≡ Some command → IsTakenCdb command →
       slice_get (numbers_of s).units.items r.lun ≡ Some u →
       unit_of_request s r ≡ Some r.lun → spec_of s r ≡ Some u →
-      Agrees s r (first_line (lines_for s r command)) (planned_transfer s.translation r.lun r.flags r.expected u.blocks
-      (transfer_of command))
+      Agrees permanent s r (first_line (lines_for s r command))
+      (planned_transfer permanent s.translation r.lun r.flags r.expected u (transfer_of command))
   command_right u (cdb.Read10 address blocks forced) e k there unit spec =
       subst (λ (o : Option Status).
-      Agrees s r o (planned_or r.lun r.expected (read_of address blocks)
-      (refusal_of s.translation u.blocks r.flags r.expected (read_of address blocks))))
-      (sym (read_lines s r u address blocks forced spec))
+      Agrees permanent s r o (planned_or r.lun r.expected (read_of address blocks)
+      (refusal_of permanent s.translation u r.flags r.expected (read_of address blocks))))
+      (sym (read_lines permanent s r u address blocks forced spec))
       (transfer_right u (cdb.Read10 address blocks forced) (read_of address blocks) e refl there unit
-      (refusal_of s.translation u.blocks r.flags r.expected (read_of address blocks)) refl)
+      (refusal_of permanent s.translation u r.flags r.expected (read_of address blocks)) refl)
   command_right u (cdb.Write10 address blocks forced) e k there unit spec =
-      subst (λ (f : Bool). Agrees s r (first_line (lines_for s r (cdb.Write10 address blocks f)))
+      subst (λ (f : Bool). Agrees permanent s r (first_line (lines_for s r (cdb.Write10 address blocks f)))
       (planned_or r.lun r.expected (write_of address blocks)
-      (refusal_of s.translation u.blocks r.flags r.expected (write_of address blocks))))
+      (refusal_of permanent s.translation u r.flags r.expected (write_of address blocks))))
       (sym k)
-      (subst (λ (o : Option Status). Agrees s r o (planned_or r.lun r.expected (write_of address blocks)
-      (refusal_of s.translation u.blocks r.flags r.expected (write_of address blocks))))
-      (sym (write_lines s r u address blocks bare spec))
+      (subst (λ (o : Option Status). Agrees permanent s r o (planned_or r.lun r.expected (write_of address blocks)
+      (refusal_of permanent s.translation u r.flags r.expected (write_of address blocks))))
+      (sym (write_lines permanent s r u address blocks bare spec))
       (transfer_right u (cdb.Write10 address blocks forced) (write_of address blocks) e (k, refl) there unit
-      (refusal_of s.translation u.blocks r.flags r.expected (write_of address blocks)) refl))
+      (refusal_of permanent s.translation u r.flags r.expected (write_of address blocks)) refl))
   command_right u command e k there unit spec = absurd k
 
   spelled_right : (u : UnitSpec) → slice_get (numbers_of s).units.items r.lun ≡ Some u →
       unit_of_request s r ≡ Some r.lun → spec_of s r ≡ Some u → IsTakenOperation r.bytes →
-      (x : Result Cdb Sense) → taken ≡ x → Agrees s r (first_line (lines_behind s r (cdb_taken x)))
-      (planned_taken s.translation r.lun r.flags r.expected u.blocks x)
+      (x : Result Cdb Sense) → taken ≡ x → Agrees permanent s r (first_line (lines_behind s r (cdb_taken x)))
+      (planned_taken permanent s.translation r.lun r.flags r.expected u x)
   spelled_right u there unit spec op (Err sense) e = ap exchange.CheckCondition (sym (is.field sense e op))
   spelled_right u there unit spec op (Ok command) e =
       command_right u command (cdb_is ∙ ap cdb_taken e) (is.read command e).1 there unit spec
@@ -338,32 +343,33 @@ module _ (s : State) (r : Request) (taken : Result Cdb Sense) (bare : IsUnprotec
   operation_right : (u : UnitSpec) → slice_get (numbers_of s).units.items r.lun ≡ Some u →
       unit_of_request s r ≡ Some r.lun → spec_of s r ≡ Some u →
       (b : Bool) → takes (UnitOf r.lun) (operation_in r) ≡ b →
-      Agrees s r (first_line (line (not b) invalid_operation ∷ lines_behind s r r.cdb))
-      (planned_taken s.translation r.lun r.flags r.expected u.blocks taken)
+      Agrees permanent s r (first_line (line (not b) invalid_operation ∷ lines_behind s r r.cdb))
+      (planned_taken permanent s.translation r.lun r.flags r.expected u taken)
   operation_right u there unit spec true e =
-      subst (λ (x : Option Cdb). Agrees s r (first_line (lines_behind s r x))
-      (planned_taken s.translation r.lun r.flags r.expected u.blocks taken)) (sym cdb_is)
+      subst (λ (x : Option Cdb). Agrees permanent s r (first_line (lines_behind s r x))
+      (planned_taken permanent s.translation r.lun r.flags r.expected u taken)) (sym cdb_is)
       (spelled_right u there unit spec (takes_some r.lun (operation_in r) e) taken refl)
   operation_right u there unit spec false e =
-      subst (λ (x : Result Cdb Sense). Agrees s r (Some invalid_operation)
-      (planned_taken s.translation r.lun r.flags r.expected u.blocks x))
+      subst (λ (x : Result Cdb Sense). Agrees permanent s r (Some invalid_operation)
+      (planned_taken permanent s.translation r.lun r.flags r.expected u x))
       (sym (is.operation (takes_none r.lun (operation_in r) e))) refl
 
   unit_right : (x : Option UnitSpec) → slice_get (numbers_of s).units.items r.lun ≡ x →
-      Agrees s r (refusal s r)
-      (planned_in s.translation r.lun r.flags r.expected taken (option_map (λ (u : UnitSpec). u.blocks) x))
+      Agrees permanent s r (refusal s r)
+      (planned_in permanent s.translation r.lun r.flags r.expected taken x)
   unit_right None e =
-      subst (λ (o : Option Status). Agrees s r o (Err (status.CheckCondition NO_UNIT)))
+      subst (λ (o : Option Status). Agrees permanent s r o (Err (status.CheckCondition NO_UNIT)))
       (sym (ap (λ (l : Option Lun). first_line (line (lacks_unit s r l) no_unit ∷ line (not_taken r l) invalid_operation
       ∷ lines_behind s r r.cdb)) (no_lun (numbers_of s) r.lun e))) refl
   unit_right (Some u) e =
       let lun = is_lun (numbers_of s) r.lun u e in
       let unit = ap (unit_in s r) lun in
-      subst (λ (o : Option Status). Agrees s r o (planned_taken s.translation r.lun r.flags r.expected u.blocks taken))
+      subst (λ (o : Option Status). Agrees permanent s r o
+      (planned_taken permanent s.translation r.lun r.flags r.expected u taken))
       (sym (ap (λ (l : Option Lun). first_line (line (lacks_unit s r l) no_unit ∷ line (not_taken r l) invalid_operation
       ∷ lines_behind s r r.cdb)) lun))
       (operation_right u e unit (ap (spec_at (numbers_of s)) unit ∙ e) (takes (UnitOf r.lun) (operation_in r)) refl)
 
   -- the table and the checks agree
-  pub table_right : Agrees s r (refusal s r) (planned s.translation r.lun r.flags r.expected taken)
+  pub table_right : Agrees permanent s r (refusal s r) (planned permanent s.translation r.lun r.flags r.expected taken)
   table_right = unit_right (slice_get (numbers_of s).units.items r.lun) refl

@@ -38,7 +38,7 @@ refused_right : (d : DeviceCore) (s : State) (r : Refused) → Describes d s →
     IsBehind (with_refused d r) (with_short s (short_kept r))
 refused_right d s r h = record {
   keeps = record {
-    unprotected = h.kept.unprotected;
+    permanent = h.kept.permanent;
     layer_kept = h.kept.layer_kept;
     few = h.kept.few;
     tasks = h.kept.tasks;
@@ -135,7 +135,8 @@ module _ (d : DeviceCore) (s : State) (flags lun tag expected : ℕ) (cdb_bytes 
 
   -- it opens a task
   pub opened_right : (after : Core) (taken : Result Cdb Sense) → IsCdbRead cdb_bytes taken → (p : Phase) →
-      HasBegun after s.translation tag (planned s.translation lun flags expected taken) p → uses d tag ≡ false →
+      HasBegun after s.translation tag (planned d.is_permanent s.translation lun flags expected taken) p →
+      uses d tag ≡ false →
       nat_le most_tasks (length d.tasks) ≡ false →
       IsHeardAs s whole (Ok tt)
       (record (with_task d (record { tag = tag; lun = lun; expected = expected; phase = p })) { ftl = after })
@@ -144,10 +145,11 @@ module _ (d : DeviceCore) (s : State) (flags lun tag expected : ℕ) (cdb_bytes 
       (fault_is d s tag h ∙ (λ i. if used i then Some TagInUse else if many i && not (nat_lt (length d.refused) 32) then
       Some Backlog else None))
       (subst (IsBehind _) (sym (command_is (cdb_taken taken) false many))
-      (agreed_begins d s (request (cdb_taken taken)) h free few after (refusal s (request (cdb_taken taken)))
-      (planned s.translation lun flags expected taken) p
-      (table_right s (request (cdb_taken taken)) taken
-      (record { power_off = h.kept.power_off; permanent_off = h.kept.unprotected }) is refl) begun))
+      (agreed_begins d s (request (cdb_taken taken)) h free few after d.is_permanent
+      (refusal s (request (cdb_taken taken)))
+      (planned d.is_permanent s.translation lun flags expected taken) p
+      (table_right d.is_permanent s (request (cdb_taken taken)) taken
+      (record { power_off = h.kept.power_off; permanent_is = h.kept.permanent }) is refl) begun))
     where
       free : task_of tag s.tasks ≡ None
       free = none_found (is_task_of tag) s.tasks

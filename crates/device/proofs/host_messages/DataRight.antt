@@ -113,7 +113,7 @@ module _ (d : DeviceCore) (s : State) (tag : ℕ) (bytes : List ℕ) (key : Key)
   refused_keeps : layer_kept.Describes after (moved s.translation (Release 1)) →
       Keeps (core_with event.BlockRefused) (released s r.b)
   refused_keeps layer = record {
-    unprotected = h.kept.unprotected;
+    permanent = h.kept.permanent;
     layer_kept = layer;
     few = few_set d s r.k r.a r.b h r.opened (Answering exchange.write_error r.b.length);
     tasks = tasks_set_to d s r.k r.a r.b h r.opened (failed write_error 4096)
@@ -129,7 +129,7 @@ module _ (d : DeviceCore) (s : State) (tag : ℕ) (bytes : List ℕ) (key : Key)
       Keeps (core_with (event.BlockAccepted (next_number s.translation.ledger)))
       (written s r.b g.unit g.address bytes)
   accepted_keeps layer = record {
-    unprotected = permanent_still s.base s.accepted g.unit g.address bytes ∙ h.kept.unprotected;
+    permanent = h.kept.permanent ∙ sym (permanent_still s.base s.accepted g.unit g.address bytes);
     layer_kept =
         subst (λ (x : Group). layer_kept.Describes after (moved s.translation (Accept 1 x)))
         (sym (group_one (plain_now s) g.unit g.address bytes long

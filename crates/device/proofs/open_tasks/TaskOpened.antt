@@ -82,7 +82,7 @@ module _ (d : DeviceCore) (s : State) (r : Request) (h : Describes d s) (free : 
       TaskKept (before_accepted s.translation.ledger) a (opened r command n deed) →
       Keeps (with_task (record d { ftl = c }) a) (machine.with_task (record s { translation = u }) r command n deed)
   open_keeps c u command n deed a layer before wants unread task = record {
-    unprotected = h.kept.unprotected;
+    permanent = h.kept.permanent;
     layer_kept = layer;
     few = (let more = length-append s.tasks (b ∷ []) in omega arith);
     tasks = subst (λ m. TasksKept m (d.tasks ++ a ∷ []) (s.tasks ++ b ∷ [])) (sym before)

@@ -1,13 +1,13 @@
 -- One group more is durable: what is kept of groups and places goes on to be what the ledger has.
 use Rattle.std.proofs.Common.{◌≡◌, ◌≢◌, ◌∙◌, ℕ, suc, ◌+◌, ◌<◌, ◌≤◌, true, false, List, [], ◌∷◌, Option, Some, None}
 use Rattle.std.proofs.Common.{length, drop, take, refl, sym, ap, subst, ⊎_elim, arith}
-use Rattle.std.specs.Prelude.{◌-◌, ◌==◌, slice_get, remove, sum_by, option_and_then}
+use Rattle.std.specs.Prelude.{◌-◌, slice_get, remove, option_and_then}
 use Rattle.ufs_spec.specs.Keys as keys
 use Rattle.ufs_spec.specs.Keys.{IsKey, Item}
-use Rattle.ufs_spec.specs.Ledger.{Entry, Ledger, Name, index_in, latest_durable, latest_in, name_or}
+use Rattle.ufs_spec.specs.Ledger.{Entry, Ledger, Name, before_accepted, index_in, latest_durable, latest_in, name_or}
+use Rattle.ufs_spec.specs.Ledger.{pending}
 use Rattle.ufs_spec.specs.Plain.{shape_of_numbers}
 use Rattle.ufs_spec.specs.declared.configs.Numbers.{Numbers}
-use Rattle.ufs_spec.specs.declared.configs.UnitSpec.{UnitSpec}
 use Rattle.ufs_spec.specs.declared.flash.Key.{Key}
 use Rattle.ufs_spec.specs.declared.flash.Place.{Place}
 use Rattle.power_loss.specs.Book.{book}
@@ -15,16 +15,18 @@ use Rattle.power_loss.specs.Invariant.{Valid}
 use Rattle.power_loss.proofs.books.PagesByName.{new_page}
 use Rattle.ufs_spec.specs.Translation.{Translation}
 use Rattle.power_loss.proofs.books.LastOfEachKey.{key_self, key_told}
-use Rattle.power_loss.proofs.books.SmallFacts.{and_true, eq_told, two_ways}
+use Rattle.power_loss.proofs.books.SmallFacts.{two_ways}
+use Rattle.recovery.specs.KeysInOrder.{key_total}
 use Rattle.ftl_core.specs.declared.books.Group.{Group}
 use Rattle.ftl_core.specs.declared.books.Stored.{Stored}
 use Rattle.ftl_core.specs.Core.{Core}
-use Rattle.ftl_core.specs.Describes.{GroupKept, GroupsKept, IsStored, LedgerKept, Standing, not_durable}
+use Rattle.ftl_core.specs.Describes.{GroupKept, GroupsKept, IsStored, LedgerKept, Standing}
 use Rattle.ftl_core.specs.Ends.{group_durable, place_of_group, places_noted}
 use Rattle.ftl_core.specs.Moves.{flat, position_of, stored_of}
-use Rattle.ftl_core.proofs.new_dies.ListParts.{drop_next, latest_more}
+use Rattle.ftl_core.proofs.opened.ListParts.{drop_next, latest_more}
 use Rattle.ftl_core.proofs.pins.PinsSettled.{at_frontier}
-use Rattle.ftl_core.proofs.look_and_accept.UnitPlaces.{HasPosition, has_position, one_position}
+use Rattle.ftl_core.proofs.look_and_accept.KeyPlaces.{HasPosition, has_position, one_position}
+use Rattle.ftl_core.proofs.look_and_accept.Numbers.{behind, pending_mended}
 use Rattle.ufs_spec.proofs.Lists.{set_here, set_other, set_length}
 
 -- The first pending group
@@ -71,7 +73,7 @@ places_other ps s o q a b e f apart =
     (λ i. (sym e i, sym f i))
     (ap flat (set_other ps a b (Some s) apart))
 
-places_length : (ps : List (Option Stored)) (s : Stored) (o : Option ℕ) → length (places_noted ps s o) ≡ length ps
+pub places_length : (ps : List (Option Stored)) (s : Stored) (o : Option ℕ) → length (places_noted ps s o) ≡ length ps
 places_length ps s None = refl
 places_length ps s (Some k) = set_length ps k (Some s)
 
@@ -80,39 +82,39 @@ places_length ps s (Some k) = set_length ps k (Some s)
 index_same : (k : Key) (x : Item) → keys.same_key x.key k ≡ true → index_in k (x ∷ []) ≡ Some 0
 index_same k x e = rw e refl
 
-index_other : (k : Key) (x : Item) → keys.same_key x.key k ≡ false → index_in k (x ∷ []) ≡ None
+pub index_other : (k : Key) (x : Item) → keys.same_key x.key k ≡ false → index_in k (x ∷ []) ≡ None
 index_other k x e = rw e refl
 
 -- Each address
 
-abbrev noted_places : Core → Key → Stored → Core
+abbrev pub noted_places : Core → Key → Stored → Core
 noted_places c k s = record c { places = places_noted c.places s (position_of c.numbers k) }
 
-stored_next : (c : Core) (standing : Standing) (j k : Key) (s : Stored) (x : Item) (older : Option Name) (n : ℕ) →
+pub stored_next : (c : Core) (standing : Standing) (j k : Key) (s : Stored) (x : Item) (older : Option Name) (n : ℕ) →
     x.key ≡ j → s.number ≡ suc n → standing (suc n) 0 ≡ Some s.place →
-    length c.places ≡ sum_by (λ (u : UnitSpec). u.blocks) c.numbers.units.items → IsKey (shape_of_numbers c.numbers) j →
-    j.kind ≡ 1 → IsKey (shape_of_numbers c.numbers) k → k.kind ≡ 1 →
+    key_total (shape_of_numbers c.numbers) ≤ length c.places → IsKey (shape_of_numbers c.numbers) j →
+    IsKey (shape_of_numbers c.numbers) k →
     IsStored standing (stored_of c k) older →
     IsStored standing (stored_of (noted_places c j s) k) (name_or (suc n) (index_in k (x ∷ [])) older)
-stored_next c standing j k s x older n item number stands addresses isj kj isk kk h = ⊎_elim same other
+stored_next c standing j k s x older n item number stands long isj isk h = ⊎_elim same other
     (two_ways (keys.same_key x.key k))
   where
     pj : HasPosition c.numbers j
-    pj = has_position c.numbers j isj kj
+    pj = has_position c.numbers j isj
 
     pk : HasPosition c.numbers k
-    pk = has_position c.numbers k isk kk
+    pk = has_position c.numbers k isk
 
     same : keys.same_key x.key k ≡ true →
         IsStored standing (stored_of (noted_places c j s) k) (name_or (suc n) (index_in k (x ∷ [])) older)
     same e =
         let one : j ≡ k = sym item ∙ key_told x.key k e in
         let at : position_of c.numbers k ≡ position_of c.numbers j = ap (position_of c.numbers) (sym one) in
-        let w = (has_position c.numbers j isj kj).within in
+        let w = (has_position c.numbers j isj).within in
         let stored : stored_of (noted_places c j s) k ≡ Some s =
         ap (λ (o : Option ℕ). option_and_then
         (λ (p : ℕ). flat (slice_get (places_noted c.places s (position_of c.numbers j)) p)) o) at
-        ∙ places_here c.places s (position_of c.numbers j) pj.at pj.is (omega (arith, w, addresses)) in
+        ∙ places_here c.places s (position_of c.numbers j) pj.at pj.is (omega (arith, w, long)) in
         let name : name_or (suc n) (index_in k (x ∷ [])) older ≡ Some (record { number = suc n; index = 0 }) = ap
         (λ (o : Option ℕ). name_or (suc n) o older) (index_same k x e) in
         subst (λ (z : Option Stored × Option Name). IsStored standing z.0 z.1) (λ i. (sym stored i, sym name i))
@@ -124,7 +126,7 @@ stored_next c standing j k s x older n item number stands addresses isj kj isk k
         let differ : j ≢ k = λ f. apart (sym (key_self k) ∙ ap (λ (z : Key). keys.same_key z k) (sym f ∙ sym item) ∙ e)
         in
         let away : pk.at ≢ pj.at = λ f. differ
-        (one_position c.numbers j k isj isk kj kk (pj.is ∙ ap (λ (a : ℕ). Some a) (sym f) ∙ sym pk.is)) in
+        (one_position c.numbers j k isj (pj.is ∙ ap (λ (a : ℕ). Some a) (sym f) ∙ sym pk.is)) in
         let stored : stored_of (noted_places c j s) k ≡ stored_of c k =
         places_other c.places s (position_of c.numbers j) (position_of c.numbers k) pj.at pk.at pj.is pk.is away in
         let name : name_or (suc n) (index_in k (x ∷ [])) older ≡ older = ap (λ (o : Option ℕ). name_or (suc n) o older)
@@ -159,43 +161,51 @@ are_keys t v j i g x at item =
 abbrev pub front_stored : Core → Place → Stored
 front_stored c p = record { place = p; number = c.frontier + 1 }
 
--- the position of the first pending group among the groups of the ledger
-abbrev pending : Ledger → ℕ
-pending l = l.frontier - l.greatest_seen
+-- the position of the first group above the frontier among the groups of the ledger
+abbrev first_above : Ledger → ℕ
+first_above l = l.frontier - l.greatest_seen
 
-durable_next : (l : Ledger) (h : keys.Group) (hs : List keys.Group) (k : Key) → l.greatest_seen ≤ l.frontier →
+pub durable_next : (l : Ledger) (h : keys.Group) (hs : List keys.Group) (k : Key) → l.greatest_seen ≤ l.frontier →
     drop (l.frontier - l.greatest_seen) l.groups ≡ h ∷ hs →
     latest_durable (at_frontier l (suc l.frontier)) k ≡ name_or (suc l.frontier) (index_in k h) (latest_durable l k)
 durable_next l h hs k low e =
-    let r = drop_next l.groups (pending l) h hs e in
-    let one_more : suc l.frontier - l.greatest_seen ≡ suc (pending l) = omega arith in
-    let back : l.greatest_seen + length (take (pending l) l.groups) ≡ l.frontier = sum l.greatest_seen l.frontier
-    (length (take (pending l) l.groups)) low r.2 in
+    let r = drop_next l.groups (first_above l) h hs e in
+    let one_more : suc l.frontier - l.greatest_seen ≡ suc (first_above l) = omega arith in
+    let back : l.greatest_seen + length (take (first_above l) l.groups) ≡ l.frontier = sum l.greatest_seen l.frontier
+    (length (take (first_above l) l.groups)) low r.2 in
     ap (λ (m : ℕ). latest_in k l.greatest_seen (take m l.groups) (l.first_page k)) one_more
     ∙ ap (λ (gs : List keys.Group). latest_in k l.greatest_seen gs (l.first_page k)) r.1
-    ∙ latest_more k l.greatest_seen (take (pending l) l.groups) h (l.first_page k)
+    ∙ latest_more k l.greatest_seen (take (first_above l) l.groups) h (l.first_page k)
     ∙ ap (λ (m : ℕ). name_or (suc m) (index_in k h) (latest_durable l k)) back
   where
     sum : (a b n : ℕ) → a ≤ b → n ≡ b - a → a + n ≡ b
     sum a b n le e = omega arith
 
+-- the first group above the frontier is the first that is kept
+pub front_behind : (c : Core) (l : Ledger) (g : Group) (gs : List Group) →
+    LedgerKept c.numbers c.places c.groups c.frontier l → before_accepted l ≤ l.frontier → c.groups ≡ g ∷ gs →
+    IsFrontKept l.standing l.frontier g gs (behind l)
+front_behind c l g gs h low is = front_kept l.standing l.frontier g gs (behind l)
+    (subst (λ (z : List Group × List keys.Group). GroupsKept l.standing l.frontier z.0 z.1)
+    (λ i. (is i, pending_mended l low i)) h.groups)
+
 -- what is kept of groups and places is what the ledger has then
 pub ledger_next : (c : Core) (l : Ledger) (p : Place) (g : Group) (gs : List Group) →
-    LedgerKept c.numbers c.places c.groups c.frontier l → l.greatest_seen ≤ l.frontier → AreKeys c.numbers l →
+    LedgerKept c.numbers c.places c.groups c.frontier l → before_accepted l ≤ l.frontier → AreKeys c.numbers l →
     c.groups ≡ g ∷ gs → g.written ≡ Some p →
     LedgerKept c.numbers (group_durable c (front_stored c p) (Some g)).places
     (group_durable c (front_stored c p) (Some g)).groups
     (group_durable c (front_stored c p) (Some g)).frontier (at_frontier l (suc l.frontier))
 ledger_next c l p g gs h low are_keys is written = record {
   frontier = let e = h.frontier in omega arith;
-  repairs = h.repairs;
   groups = subst (λ (z : List Group × List keys.Group). GroupsKept l.standing (suc l.frontier) z.0 z.1)
-      (λ i. (sym rest i, sym behind i)) both.more;
-  addresses = places_length c.places s (position_of c.numbers g.key) ∙ h.addresses;
-  places = λ k isk kind. subst (λ (o : Option Name). IsStored l.standing (stored_of (noted_places c g.key s) k) o)
+      (λ i. (sym rest i, sym behind_next i)) both.more;
+  keys = let same = places_length c.places s (position_of c.numbers g.key) in let long = h.keys in
+      omega (arith, same, long);
+  places = λ k isk. subst (λ (o : Option Name). IsStored l.standing (stored_of (noted_places c g.key s) k) o)
       (sym (latest k))
       (stored_next c l.standing g.key k s item
-      (latest_durable l k) l.frontier refl number stands h.addresses key kind_one isk kind (h.places k isk kind));
+      (latest_durable l k) l.frontier refl number stands h.keys key isk (h.places k isk));
 }
   where
     s : Stored
@@ -204,17 +214,23 @@ ledger_next c l p g gs h low are_keys is written = record {
     item : Item
     item = record { key = g.key; body = g.body }
 
-    both : IsFrontKept l.standing l.frontier g gs (not_durable l)
-    both = front_kept l.standing l.frontier g gs (not_durable l)
-        (subst (λ (z : List Group). GroupsKept l.standing l.frontier z (not_durable l)) is h.groups)
+    top : l.greatest_seen ≤ l.frontier
+    top = let a = low in omega arith
+
+    both : IsFrontKept l.standing l.frontier g gs (behind l)
+    both = front_behind c l g gs h low is
 
     rest : remove c.groups 0 ≡ gs
     rest = ap (λ (z : List Group). remove z 0) is
 
-    behind : drop (suc l.frontier - l.greatest_seen) l.groups ≡ both.rest
-    behind = ap (λ (m : ℕ). drop m l.groups) (one_more l.greatest_seen l.frontier low)
-        ∙ (drop_next l.groups (pending l) both.first both.rest both.is).0
+    behind_next : pending (at_frontier l (suc l.frontier)) ≡ both.rest
+    behind_next = pending_mended (at_frontier l (suc l.frontier)) (more (before_accepted l) l.frontier low)
+        ∙ ap (λ (m : ℕ). drop m l.groups) (one_more l.greatest_seen l.frontier top)
+        ∙ (drop_next l.groups (first_above l) both.first both.rest both.is).0
       where
+        more : (a b : ℕ) → a ≤ b → a ≤ suc b
+        more a b le = omega arith
+
         one_more : (a b : ℕ) → a ≤ b → suc b - a ≡ suc (b - a)
         one_more a b le = omega arith
 
@@ -224,15 +240,12 @@ ledger_next c l p g gs h low are_keys is written = record {
     stands : l.standing (suc l.frontier) 0 ≡ Some s.place
     stands = both.kept.stands ∙ written
 
-    kind_one : g.key.kind ≡ 1
-    kind_one = eq_told g.key.kind 1 (and_true (g.key.kind == 1) _ both.kept.data_page).0
-
     key : IsKey (shape_of_numbers c.numbers) g.key
-    key = are_keys (pending l) 0 (item ∷ []) item
-        ((drop_next l.groups (pending l) both.first both.rest both.is).3
+    key = are_keys (first_above l) 0 (item ∷ []) item
+        ((drop_next l.groups (first_above l) both.first both.rest both.is).3
         ∙ ap (λ (z : keys.Group). Some z) both.kept.page) refl
 
     latest : (k : Key) → latest_durable (at_frontier l (suc l.frontier)) k ≡ name_or (suc l.frontier)
         (index_in k (item ∷ [])) (latest_durable l k)
-    latest k = durable_next l both.first both.rest k low both.is
+    latest k = durable_next l both.first both.rest k top both.is
         ∙ ap (λ (z : keys.Group). name_or (suc l.frontier) (index_in k z) (latest_durable l k)) both.kept.page

@@ -7,7 +7,7 @@ use Rattle.ufs_spec.proofs.Facts.{false≢true}
 use Rattle.ufs_spec.specs.Disk as disk
 use Rattle.ufs_spec.specs.Disk.{at_die}
 use Rattle.ufs_spec.specs.Keys as keys
-use Rattle.ufs_spec.specs.Ledger.{Ledger, Name, at_name, latest_durable, same_name}
+use Rattle.ufs_spec.specs.Ledger.{Ledger, Name, at_name, latest_durable, pending, same_name}
 use Rattle.ufs_spec.specs.Translation.{flies_name}
 use Rattle.ufs_spec.specs.declared.configs.Numbers.{Numbers}
 use Rattle.ufs_spec.specs.declared.flash.Place.{Place}
@@ -17,21 +17,12 @@ use Rattle.ftl_core.specs.declared.books.Group.{Group}
 use Rattle.ftl_core.specs.declared.books.Stored.{Stored}
 use Rattle.ftl_core.specs.Core.{Core}
 use Rattle.ftl_core.specs.Describes.{GroupKept, GroupsKept, IsStored, LedgerKept, PagesFly, Standing, name_at}
-use Rattle.ftl_core.specs.Describes.{not_durable}
 use Rattle.ftl_core.specs.Ends.{below, group_written, groups_written, pending_at}
 use Rattle.ftl_core.specs.Moves.{stored_in}
 use Rattle.ftl_core.proofs.job_taken.Flown.{fewer, fly_over}
 use Rattle.ufs_spec.proofs.Lists.{get_there}
 
 -- Groups
-
--- as many groups are pending as the ledger has behind its frontier
-pub groups_length : (standing : Standing) (n : ℕ) (gs : List Group) (hs : List keys.Group) →
-    GroupsKept standing n gs hs → length gs ≡ length hs
-groups_length standing n [] [] h = refl
-groups_length standing n [] (y ∷ hs) h = absurd h
-groups_length standing n (g ∷ gs) [] h = absurd h
-groups_length standing n (g ∷ gs) (y ∷ hs) h = ap suc (groups_length standing (suc n) gs hs h.1)
 
 -- nothing changes for groups whose names are as they were
 groups_same : (standing after : Standing) (n : ℕ) (gs : List Group) (hs : List keys.Group) →
@@ -78,11 +69,25 @@ at_other : (standing : Standing) (name m : Name) (p : Place) → m ≢ name →
 at_other standing name m p apart = ⊎_elim (λ h. absurd (apart (name_is m name h.0 h.1))) (λ h. h.1)
     (at_name_cases standing name (Some p) m.number m.index)
 
-at_here : (standing : Standing) (name m : Name) (p : Place) → m ≡ name →
+pub at_here : (standing : Standing) (name m : Name) (p : Place) → m ≡ name →
     at_name standing name (Some p) m.number m.index ≡ Some p
 at_here standing name m p e =
     ⊎_elim (λ h. h.2) (λ h. absurd (h.0 (ap (λ (z : Name). z.number) e, ap (λ (z : Name). z.index) e)))
     (at_name_cases standing name (Some p) m.number m.index)
+
+-- where the page of a new name stands, what stood does so too
+pub stored_on : (standing : Standing) (name : Name) (p : Place) → standing name.number name.index ≡ None →
+    (s : Option Stored) (o : Option Name) → IsStored standing s o → IsStored (at_name standing name (Some p)) s o
+stored_on standing name p new None None k = tt
+stored_on standing name p new None (Some m) k = absurd k
+stored_on standing name p new (Some s) None k = absurd k
+stored_on standing name p new (Some s) (Some m) k = (
+  k.0,
+  ⊎_elim
+      (λ e. absurd (none_some s.place (sym new ∙ sym (ap (λ (z : Name). standing z.number z.index) e.1) ∙ k.1)))
+      (λ e. at_other standing name m p e.1 ∙ k.1)
+      (name_cases m name),
+)
 
 -- the page of a group in flight stands: no group is durable yet by that
 pub ledger_written : (n : Numbers) (places : List (Option Stored)) (groups : List Group) (frontier : ℕ) (l : Ledger)
@@ -93,28 +98,14 @@ pub ledger_written : (n : Numbers) (places : List (Option Stored)) (groups : Lis
     LedgerKept n places (slice_set groups j (record g { written = Some p })) frontier (with_page l name p)
 ledger_written n places groups frontier l name p j g h is new at = record {
   frontier = h.frontier;
-  repairs = h.repairs;
-  groups = groups_put l.standing (at_name l.standing name (Some p)) p l.frontier j groups (not_durable l) g
+  groups = groups_put l.standing (at_name l.standing name (Some p)) p l.frontier j groups (pending l) g
       (λ m e. at_other l.standing name (name_at m) p (λ f. e (ap (λ (z : Name). z.number) (f ∙ is))))
       (at_here l.standing name (name_at (suc (l.frontier + j))) p (sym is))
       at
       h.groups;
-  addresses = h.addresses;
-  places = λ k isk kind. stays (stored_in n places k) (latest_durable l k) (h.places k isk kind);
+  keys = h.keys;
+  places = λ k isk. stored_on l.standing name p new (stored_in n places k) (latest_durable l k) (h.places k isk);
 }
-  where
-    stays : (s : Option Stored) (o : Option Name) → IsStored l.standing s o →
-        IsStored (at_name l.standing name (Some p)) s o
-    stays None None k = tt
-    stays None (Some m) k = absurd k
-    stays (Some s) None k = absurd k
-    stays (Some s) (Some m) k = (
-      k.0,
-      ⊎_elim
-          (λ e. absurd (none_some s.place (sym new ∙ sym (ap (λ (z : Name). l.standing z.number z.index) e.1) ∙ k.1)))
-          (λ e. at_other l.standing name m p e.1 ∙ k.1)
-          (name_cases m name),
-    )
 
 -- the page that one die wrote flies no more
 pub fly_written : (standing : Standing) (flights : ℕ → Option disk.Flight) (die : ℕ) (name : Name) (p : Place) →

@@ -1,13 +1,13 @@
 -- The page of a group is written, before any group is durable by that.
-use Rattle.std.proofs.Common.{◌≡◌, ◌∙◌, ℕ, suc, ◌+◌, ◌<◌, true, List, Option, Some, None, refl, sym, ap, ⊎_elim, arith}
-use Rattle.std.specs.Prelude.{◌-◌, slice_get, slice_set}
-use Rattle.std.proofs.lemmas.List.{length-drop}
+use Rattle.std.proofs.Common.{◌≡◌, ◌∙◌, ℕ, suc, ◌+◌, ◌<◌, true, List, Option, Some, None, length, drop, refl, sym, ap}
+use Rattle.std.proofs.Common.{subst, ⊎_elim, arith}
+use Rattle.std.specs.Prelude.{slice_get, slice_set}
+use Rattle.std.proofs.lemmas.Option.{slice_get_within}
 use Rattle.ufs_spec.specs.Cells.{GroupPage, key_of}
 use Rattle.ufs_spec.specs.Disk as disk
 use Rattle.ufs_spec.specs.Disk.{at_place, at_spot, programmed}
-use Rattle.ufs_spec.specs.Ledger.{Name}
 use Rattle.ufs_spec.specs.Moves.{step_behind}
-use Rattle.ufs_spec.specs.Translation.{Translation, flies_name, is_bad, name_of}
+use Rattle.ufs_spec.specs.Translation.{Step, Translation, flies_name, is_bad, is_mended, name_of}
 use Rattle.ufs_spec.specs.declared.configs.Numbers.{Numbers}
 use Rattle.ufs_spec.specs.declared.flash.Place.{Place}
 use Rattle.ufs_spec.specs.declared.flash.Tag.{Tag}
@@ -20,15 +20,16 @@ use Rattle.ftl_core.specs.declared.books.Book.{Book}
 use Rattle.ftl_core.specs.declared.books.Group.{Group}
 use Rattle.ftl_core.specs.declared.books.OpenBlock.{OpenBlock}
 use Rattle.ftl_core.specs.Core.{Core}
-use Rattle.ftl_core.specs.Describes.{BlocksKept, Describes, IsFilling, Kept, name_at, spot_at, step_kept}
-use Rattle.ftl_core.specs.Moves.{page_written}
+use Rattle.ftl_core.specs.Describes.{BlocksKept, Describes, IsFilling, Kept, WorkKept, name_at, spot_at}
+use Rattle.ftl_core.specs.Moves.{page_written, repairs_in}
 use Rattle.ftl_core.specs.Takes.{next_place}
-use Rattle.ftl_core.proofs.job_ended.ChangeParts.{blocks_on, blocks_put, closed_fills, filling_kept}
-use Rattle.ftl_core.proofs.job_ended.ChangeParts.{kept_over, page_ends, states_with}
-use Rattle.ftl_core.proofs.job_taken.Flown.{die_within}
+use Rattle.ftl_core.proofs.job_ended.ChangeParts.{blocks_on, blocks_put, closed_fills, elsewhere, filling_kept}
+use Rattle.ftl_core.proofs.job_ended.ChangeParts.{page_ends, states_with}
+use Rattle.ftl_core.proofs.job_taken.Flown.{die_within, dies_put, reads_over, step_reads_over}
 use Rattle.ftl_core.proofs.job_ended.JobsOver.{filling_on, filling_over}
-use Rattle.ftl_core.proofs.group_settled.PageStands.{IsPending, fly_written, groups_length, is_pending, ledger_written}
-use Rattle.ftl_core.proofs.group_settled.PageStands.{with_page}
+use Rattle.ftl_core.proofs.group_settled.PageStands.{IsPending, fly_written, is_pending, ledger_written, with_page}
+use Rattle.ftl_core.proofs.look_and_accept.MoreGroups.{work_more}
+use Rattle.ftl_core.proofs.look_and_accept.Numbers.{groups_left, mended_beside, step_stays}
 
 -- the page stands, and the frontier has not climbed yet
 abbrev pub with_group_page : Translation → Place → Tag → List ℕ → Translation
@@ -45,6 +46,7 @@ pub record IsGroupFlight (c : Core) (t : Translation) (die : ℕ) (b : Book) (o 
   pub filling : b.filling ≡ Some o
   pub flies : t.disk.flights die ≡ Some (disk.Programming (next_place die o) (GroupPage tag body))
   pub first : tag.index ≡ 0
+  pub beside : repairs_in c.step ≡ 0
 
 -- Which group it is
 
@@ -64,11 +66,9 @@ flown_pending c t die b o tag body h f =
     let frontier = h.kept.ledger_kept.frontier in
     let up = above known in
     let to = page_within (book t) tag.number tag.index _ known in
-    let low = h.valid.frontier.above in
-    let long = groups_length t.ledger.standing t.ledger.frontier c.groups _ h.kept.ledger_kept.groups in
-    let behind = length-drop (t.ledger.frontier - t.ledger.greatest_seen) t.ledger.groups in
-    let within = h.valid.frontier.within in
-    is_pending c tag.number (omega (arith, frontier, up)) (omega (arith, frontier, to, low, long, behind, within))
+    let left = groups_left c t h in
+    let none = f.beside in
+    is_pending c tag.number (omega (arith, frontier, up)) (omega (arith, to, left, none))
   where
     above : IsPageAt (book t) tag.number tag.index
         (record { item = record { key = key_of tag; body = body }; size = tag.size }) → t.ledger.frontier < tag.number
@@ -78,11 +78,15 @@ flown_pending c t die b o tag body h f =
         (λ l. l)
         (at_most tag.number t.ledger.frontier)
 
--- All but blocks
+-- so the device is mended
+pub flown_mended : (c : Core) (t : Translation) (n : ℕ) → Describes c t → IsPending c n →
+    is_mended t.work.mending ≡ true
+flown_mended c t n h p =
+    let w = slice_get_within c.groups p.at p.group p.there in
+    let some : 0 < length c.groups = omega (arith, w) in
+    mended_beside c t h some
 
-step_stays : (name : Name) (m : Option ℕ) → step_behind name (step_kept m) ≡ step_kept m
-step_stays name None = refl
-step_stays name (Some n) = refl
+-- All but blocks
 
 -- the page stands, and its block has this state
 abbrev written_at : Translation → ℕ → OpenBlock → Tag → List ℕ → disk.BlockState → Translation
@@ -95,7 +99,7 @@ written_at t die o tag body x = record (with_group_page t (next_place die o) tag
 module _ (c : Core) (t : Translation) (die : ℕ) (b : Book) (o : OpenBlock) (tag : Tag) (body : List ℕ) (j : ℕ)
     (g : Group)
     (h : Describes c t) (f : IsGroupFlight c t die b o tag body) (number : tag.number ≡ suc (c.frontier + j))
-    (at : slice_get c.groups j ≡ Some g) where
+    (at : slice_get c.groups j ≡ Some g) (mended : is_mended t.work.mending ≡ true) where
   -- what is kept, with these states of blocks and this open block of the die
   kept_written : (x : disk.BlockState) (states : List BlockState) (filling : Option OpenBlock) →
       BlocksKept t.numbers (at_spot t.disk.blocks (spot_at die o.block) x) states c.has_bad →
@@ -107,29 +111,33 @@ module _ (c : Core) (t : Translation) (die : ℕ) (b : Book) (o : OpenBlock) (ta
         groups = slice_set c.groups j (record g { written = Some (next_place die o) });
       })
       (written_at t die o tag body x)
-  kept_written x states filling blocks is_open =
-      kept_over c t die o.block b x filling states c.has_bad
-      (slice_set c.groups j (record g { written = Some (next_place die o) })) c.mark c.next_mark c.mended
-      (at_place t.disk.cells (next_place die o) (GroupPage tag body))
-      (at_place t.disk.finished (next_place die o) true) t.disk.erasing
-      (with_page t.ledger (name_of tag) (next_place die o))
-      (record t.work { step = step_behind (name_of tag) t.work.step })
-      h.kept f.there blocks is_open
-      (fly_written t.ledger.standing t.disk.flights die (name_of tag) (next_place die o) h.kept.fly
-      (ap (flies_name (name_of tag)) f.flies ∙ name_self (name_of tag)))
-      (ledger_written c.numbers c.places c.groups c.frontier t.ledger (name_of tag)
-      (next_place die o) j g h.kept.ledger_kept
-      (name_is (name_of tag) (name_at (suc (t.ledger.frontier + j)))
-      (let e = h.kept.ledger_kept.frontier in omega arith) f.first)
-      (flown_new c t die b o tag body h.kept f) at)
-      record {
-        mending = h.kept.work.mending;
-        step = ap (step_behind (name_of tag)) h.kept.work.step ∙ step_stays (name_of tag) c.mark;
-        no_plan = h.kept.work.no_plan;
-        no_rests = h.kept.work.no_rests;
-        next_mark = h.kept.work.next_mark;
-      }
-      h.kept.pins
+  kept_written x states filling blocks is_open = record {
+    numbers = h.kept.numbers;
+    blocks = blocks;
+    dies = dies_put t.numbers t.disk.blocks (at_spot t.disk.blocks (spot_at die o.block) x) t.disk.flights
+        c.step c.books die b (record { filling = filling; flight = None }) None h.kept.dies f.there
+        (elsewhere t.disk.blocks die o.block x) (record { filling = is_open; job = tt });
+    fly = fly_written t.ledger.standing t.disk.flights die (name_of tag) (next_place die o) h.kept.fly
+        (ap (flies_name (name_of tag)) f.flies ∙ name_self (name_of tag));
+    ledger_kept = ledger_written c.numbers c.places c.groups c.frontier t.ledger (name_of tag)
+        (next_place die o) j g h.kept.ledger_kept
+        (name_is (name_of tag) (name_at (suc (t.ledger.frontier + j)))
+        (let e = h.kept.ledger_kept.frontier in omega arith) f.first)
+        (flown_new c t die b o tag body h.kept f) at;
+    work = subst (λ (s : Option Step). WorkKept c.mending (drop c.repaired c.lost) c.step c.content c.next_mark
+        (record t.work { step = s }) (with_page t.ledger (name_of tag) (next_place die o)))
+        (sym (step_stays t.ledger c.step c.content t.work.step (name_of tag) h.kept.work.step_is f.beside))
+        (work_more c.mending (drop c.repaired c.lost) c.step c.content c.next_mark t.work t.ledger
+        (with_page t.ledger (name_of tag) (next_place die o)) mended f.beside refl (h.kept.work.repaired mended)
+        h.kept.work);
+    claims = h.kept.claims;
+    pins = h.kept.pins;
+    differ = h.kept.differ;
+    reads = reads_over t.disk.flights die c.pins h.kept.reads;
+    step_reads = step_reads_over t.disk.flights die c.step h.kept.step_reads;
+    readers = h.kept.readers;
+    firsts = h.kept.firsts;
+  }
 
   -- the group's page is written, and the die's open block has one page less, or is closed
   pub page_kept : Kept (page_written

@@ -1,28 +1,30 @@
 -- What describes a translation layer once the program or the erase of one die ended.
-use Rattle.std.proofs.Common.{◌≡◌, ◌≢◌, ◌∙◌, ◌⊎◌, ℕ, ◌+◌, ◌<◌, Bool, true, false, List, Option, Some, None, map, sym}
-use Rattle.std.proofs.Common.{ap, subst, inl, inr, ⊎_elim, arith, lt-ltb}
+use Rattle.std.proofs.Common.{◌≡◌, ◌≢◌, ◌∙◌, ◌⊎◌, ℕ, ◌+◌, ◌<◌, Bool, true, false, List, [], Option, Some, None, map}
+use Rattle.std.proofs.Common.{sym, ap, subst, inl, inr, ⊎_elim, arith, lt-ltb}
 use Rattle.std.proofs.lemmas.Bool.Decides.{eqb_tells, nat_tests}
-use Rattle.std.specs.Prelude.{◌-◌, ◌*◌, ◌==◌, count_by, nat_lt, slice_get, slice_set}
+use Rattle.std.specs.Prelude.{◌-◌, ◌*◌, ◌==◌, count_by, drop, nat_lt, slice_get, slice_set}
 use Rattle.ufs_spec.specs.Cells.{Cells, Mark}
 use Rattle.ufs_spec.specs.declared.configs.Numbers.{Numbers}
 use Rattle.ufs_spec.specs.declared.flash.Place.{Place}
 use Rattle.ufs_spec.specs.Disk as disk
 use Rattle.ufs_spec.specs.Disk.{Spot, at_die, at_spot, state_behind}
 use Rattle.ufs_spec.specs.Ledger.{Ledger, entry_of}
-use Rattle.ufs_spec.specs.Translation.{Translation, Work, is_bad, spots}
+use Rattle.ufs_spec.specs.Translation.{Translation, Work, is_bad, is_mended, spots}
 use Rattle.power_loss.proofs.books.SmallFacts.{at_spot_cases, if_false, if_true}
 use Rattle.ftl_core.specs.Core.{Core}
 use Rattle.ftl_core.specs.declared.books.BlockState.{BlockState}
 use Rattle.ftl_core.specs.declared.books.BlockState.TheVariants as state
 use Rattle.ftl_core.specs.declared.books.Book.{Book}
 use Rattle.ftl_core.specs.declared.books.Group.{Group}
+use Rattle.ftl_core.specs.declared.books.Mending.{Mending}
 use Rattle.ftl_core.specs.declared.books.OpenBlock.{OpenBlock}
+use Rattle.ftl_core.specs.declared.books.Step.{Step}
 use Rattle.ftl_core.specs.declared.books.Stored.{Stored}
-use Rattle.ftl_core.specs.Describes.{BlocksKept, IsFilling, Kept, LedgerKept, PagesFly, PinsKept}
-use Rattle.ftl_core.specs.Describes.{WorkKept, block_kept, spot_at}
+use Rattle.ftl_core.specs.Describes.{BlocksKept, FirstsKept, IsFilling, IsFlight, Kept, LedgerKept, PagesFly, PinsKept}
+use Rattle.ftl_core.specs.Describes.{StepReadsKept, WorkKept, block_kept, spot_at}
 use Rattle.ftl_core.specs.Moves.{page_written, with_book, with_state}
-use Rattle.ftl_core.proofs.job_taken.Flown.{dies_put, reads_over}
-use Rattle.ftl_core.proofs.new_dies.Spots.{block_lost, block_put}
+use Rattle.ftl_core.proofs.job_taken.Flown.{dies_changed, reads_over, step_reads_over}
+use Rattle.ftl_core.proofs.opened.Spots.{block_lost, block_put}
 
 -- The job that ends
 
@@ -34,16 +36,16 @@ filling_kept c t die b o k there is =
 -- What is known once it ended
 
 -- some of what is kept is other than it was
-abbrev pub changed : Core → List BlockState → List Book → Bool → List Group → Option ℕ → ℕ → Bool → Core
-changed c states books has_bad groups mark next mended =
+abbrev pub changed : Core → List BlockState → List Book → Bool → List Group → Mending → Option Step → ℕ → Core
+changed c states books has_bad groups mending step next =
     record c {
       states = states;
       books = books;
       has_bad = has_bad;
       groups = groups;
-      mark = mark;
+      mending = mending;
+      step = step;
       next_mark = next;
-      mended = mended;
     }
 
 -- one block has this state
@@ -79,25 +81,36 @@ pub elsewhere : (blocks : Spot → disk.BlockState) (die block : ℕ) (x : disk.
 elsewhere blocks die block x s apart = ⊎_elim (λ h. absurd (apart (ap (λ (z : Spot). z.die) h.0))) (λ h. h.1)
     (at_spot_cases blocks (spot_at die block) x s)
 
--- the job of one die ended that was no read: the pins are as they were, and one block has another state
-pub kept_over : (c : Core) (t : Translation) (die block : ℕ) (b : Book) (x : disk.BlockState) (f : Option OpenBlock)
-    (states : List BlockState) (has_bad : Bool) (groups : List Group) (mark : Option ℕ) (next : ℕ) (mended : Bool)
-    (cells : Cells) (finished : Place → Bool) (erasing : Spot → Bool) (ledger : Ledger) (work : Work) →
+-- the jobs of the other dies suit the step that is then under way
+abbrev pub StepSuits : Numbers → Option Step → Option Step → ℕ → List Book → (ℕ → Option disk.Flight) → Type 0
+StepSuits n step after die books flights =
+    (e : ℕ) (y : Book) → e ≢ die → slice_get books e ≡ Some y → IsFlight n step e y.filling y.flight (flights e) →
+    IsFlight n after e y.filling y.flight (flights e)
+
+-- the job of one die ended that was no read: the pins are as they were, one block has another state, and the step may
+-- be another
+pub kept_beside : (c : Core) (t : Translation) (die block : ℕ) (b : Book) (x : disk.BlockState) (f : Option OpenBlock)
+    (states : List BlockState) (has_bad : Bool) (groups : List Group) (mending : Mending) (step : Option Step)
+    (next : ℕ) (cells : Cells) (finished : Place → Bool) (erasing : Spot → Bool) (ledger : Ledger) (work : Work) →
     Kept c t → slice_get c.books die ≡ Some b →
     BlocksKept t.numbers (blocks_with t die block x) states has_bad →
     IsFilling t.numbers (blocks_with t die block x) die f →
     PagesFly ledger.standing (at_die t.disk.flights die None) →
     LedgerKept c.numbers c.places groups c.frontier ledger →
-    WorkKept mended mark next work ledger.marks →
+    WorkKept mending (drop c.repaired c.lost) step c.content next work ledger →
     PinsKept ledger.frontier (entry_of ledger) c.pins t.pins →
-    Kept (changed c states (books_with c die f) has_bad groups mark next mended)
+    StepSuits t.numbers c.step step die c.books t.disk.flights →
+    StepReadsKept (at_die t.disk.flights die None) step →
+    (is_mended work.mending ≡ false → c.pins ≡ []) →
+    FirstsKept t.numbers ledger →
+    Kept (changed c states (books_with c die f) has_bad groups mending step next)
     (over t die (blocks_with t die block x) cells finished erasing ledger work)
-kept_over c t die block b x f states has_bad groups mark next mended cells finished erasing ledger work k there bs fs
-    flies ls ws ps = record {
+kept_beside c t die block b x f states has_bad groups mending step next cells finished erasing ledger work k there bs fs
+    flies ls ws ps suits reads readers firsts = record {
       numbers = k.numbers;
       blocks = bs;
-      dies = dies_put t.numbers t.disk.blocks (blocks_with t die block x) t.disk.flights c.books die b
-          (record { filling = f; flight = None }) None k.dies there (elsewhere t.disk.blocks die block x)
+      dies = dies_changed t.numbers t.disk.blocks (blocks_with t die block x) t.disk.flights c.step step c.books die b
+          (record { filling = f; flight = None }) None k.dies there (elsewhere t.disk.blocks die block x) suits
           (record { filling = fs; job = tt });
       fly = flies;
       ledger_kept = ls;
@@ -106,7 +119,31 @@ kept_over c t die block b x f states has_bad groups mark next mended cells finis
       pins = ps;
       differ = k.differ;
       reads = reads_over t.disk.flights die c.pins k.reads;
+      step_reads = reads;
+      readers = readers;
+      firsts = firsts;
     }
+
+-- the same where the step and the mending stay
+pub kept_over : (c : Core) (t : Translation) (die block : ℕ) (b : Book) (x : disk.BlockState) (f : Option OpenBlock)
+    (states : List BlockState) (has_bad : Bool) (groups : List Group)
+    (cells : Cells) (finished : Place → Bool) (erasing : Spot → Bool) (ledger : Ledger) (work : Work) →
+    Kept c t → slice_get c.books die ≡ Some b →
+    BlocksKept t.numbers (blocks_with t die block x) states has_bad →
+    IsFilling t.numbers (blocks_with t die block x) die f →
+    PagesFly ledger.standing (at_die t.disk.flights die None) →
+    LedgerKept c.numbers c.places groups c.frontier ledger →
+    WorkKept c.mending (drop c.repaired c.lost) c.step c.content c.next_mark work ledger →
+    PinsKept ledger.frontier (entry_of ledger) c.pins t.pins →
+    (is_mended work.mending ≡ false → c.pins ≡ []) →
+    FirstsKept t.numbers ledger →
+    Kept (changed c states (books_with c die f) has_bad groups c.mending c.step c.next_mark)
+    (over t die (blocks_with t die block x) cells finished erasing ledger work)
+kept_over c t die block b x f states has_bad groups cells finished erasing ledger work k there bs fs flies ls ws ps
+    readers firsts =
+    kept_beside c t die block b x f states has_bad groups c.mending c.step c.next_mark cells finished erasing ledger
+    work k there bs fs flies ls ws ps (λ e y apart got is. is)
+    (step_reads_over t.disk.flights die c.step k.step_reads) readers firsts
 
 -- a mark changes nothing of groups and places
 pub ledger_marked : (n : Numbers) (places : List (Option Stored)) (groups : List Group) (frontier : ℕ) (l : Ledger)
@@ -115,9 +152,8 @@ pub ledger_marked : (n : Numbers) (places : List (Option Stored)) (groups : List
     LedgerKept n places groups frontier (record l { newest = newest; marks = marks })
 ledger_marked n places groups frontier l newest marks h = record {
   frontier = h.frontier;
-  repairs = h.repairs;
   groups = h.groups;
-  addresses = h.addresses;
+  keys = h.keys;
   places = h.places;
 }
 

@@ -2,9 +2,9 @@
 use Rattle.std.proofs.Common.{◌≡◌, ◌∙◌, ℕ, ◌<◌, Bool, true, false, List, Option, Some, None, refl, sym, ap, subst}
 use Rattle.std.specs.Prelude.{is_some, slice_get, option_map}
 use Rattle.ufs_spec.proofs.Facts.{false≢true}
-use Rattle.ufs_spec.specs.Cells.{Cells, GroupPage, Mark, MarkPage, Cell}
+use Rattle.ufs_spec.specs.Cells.{Cell, Cells, GroupPage}
 use Rattle.ufs_spec.specs.Disk as disk
-use Rattle.ufs_spec.specs.Disk.{ForNobody, ForTask, Reader, Spot}
+use Rattle.ufs_spec.specs.Disk.{ForNobody, ForStep, ForTask, Reader, Spot}
 use Rattle.ufs_spec.specs.Moves.{EndJob, Ending, IsEndingOf, MayEnd, end_flight, WentWell, WentWrong, moved, suits}
 use Rattle.ufs_spec.specs.Translation.{Translation}
 use Rattle.ufs_spec.specs.declared.flash.Outcome.{Outcome}
@@ -15,21 +15,25 @@ use Rattle.power_loss.proofs.moves.MovesKeepValid.{all_keep}
 use Rattle.ftl_core.specs.declared.books.Book.{Book}
 use Rattle.ftl_core.specs.declared.books.Flight.{Flight}
 use Rattle.ftl_core.specs.declared.books.Flight.TheVariants as flight
+use Rattle.ftl_core.specs.declared.books.Reader as kept
+use Rattle.ftl_core.specs.declared.books.Reader.TheVariants as readers
 use Rattle.ftl_core.specs.declared.ftl.Ended.{Ended}
 use Rattle.ftl_core.specs.declared.ftl.Ended.TheVariants as ended
 use Rattle.ftl_core.specs.Core.{Core}
-use Rattle.ftl_core.specs.Describes.{Describes, IsTold, Kept, spot_at}
-use Rattle.ftl_core.specs.Done.{IsEnded, core_ended, BookEnds, FlightEnds, book_after, flight_after}
-use Rattle.ftl_core.specs.Gives.{GivesIf, is_read, read_after, other_for}
+use Rattle.ftl_core.specs.Describes.{Describes, IsStepCell, IsTold, Kept, spot_at}
+use Rattle.ftl_core.specs.Moves.{repairs_in}
+use Rattle.ftl_core.specs.Done.{BookEnds, FlightEnds, IsBookAfter, IsCoreEnded, IsEnded, IsFlightAfter}
+use Rattle.ftl_core.specs.Gives.{GivesIf, IsReadAfter, is_read, other_for}
 use Rattle.ftl_core.specs.Gives as gives
-use Rattle.ftl_core.proofs.job_ended.ChangesEnded.{erase_ends_well, erase_ends_wrong, group_ends_wrong, mark_ends_well}
-use Rattle.ftl_core.proofs.job_ended.ChangesEnded.{mark_ends_wrong}
+use Rattle.ftl_core.proofs.job_ended.ChangesEnded.{erase_ends_well, erase_ends_wrong, page_ends_wrong}
+use Rattle.ftl_core.proofs.job_ended.StepContent.{step_read_ends}
+use Rattle.ftl_core.proofs.job_ended.StepsEnded.{step_ends_well, step_ends_wrong}
 use Rattle.ftl_core.proofs.group_settled.GroupsEnded.{group_ends_well}
 use Rattle.ftl_core.specs.Takes.{next_place}
 use Rattle.ftl_core.specs.declared.books.OpenBlock.{OpenBlock}
 use Rattle.ftl_core.proofs.job_taken.NextStarts.{outside}
 use Rattle.ftl_core.proofs.job_ended.ReadsEnded.{idle_kept, read_ends, task_kept}
-use Rattle.ftl_core.proofs.job_ended.ReadsGiven.{lost_told, task_told}
+use Rattle.ftl_core.proofs.job_ended.ReadsGiven.{lost_told, step_told, task_told}
 use Rattle.ftl_core.proofs.job_taken.Flown.{flight_cases}
 
 -- Which endings there are
@@ -61,76 +65,84 @@ no_book c t die h there = h.kept.dies.no_more die (outside c t die h.kept there)
 
 -- What is kept
 
-kept_then : (c : Core) (t : Translation) (die : ℕ) (o : Outcome) (ending : Ending) (b : Book) → Describes c t →
-    slice_get c.books die ≡ Some b →
-    IsEndingOf t.disk.cells (t.disk.flights die) o ending →
-    Kept (flight_after c die b b.flight o) (moved t (EndJob die ending))
-kept_then c t die o ending b h there is =
-    flight_cases t.numbers die b.filling Goal (λ flies now. absurd (false≢true now.0)) reads lost marks groups erases
-    b.flight (t.disk.flights die) (h.kept.dies.each die b there).job refl is
+kept_then : (c : Core) (t : Translation) (die : ℕ) (o : Outcome) (ending : Ending) (b : Book) (after : Core) →
+    Describes c t → slice_get c.books die ≡ Some b → IsEndingOf t.disk.cells (t.disk.flights die) o ending →
+    IsFlightAfter c die b b.flight o after → Kept after (moved t (EndJob die ending))
+kept_then c t die o ending b after h there is new =
+    flight_cases t.numbers c.step die b.filling Goal (λ flies now new. absurd (false≢true now.0)) reads contents lost
+    steps groups erases b.flight (t.disk.flights die) (h.kept.dies.each die b there).job refl is new
   where
     Goal : Option Flight → Option disk.Flight → Type 0
-    Goal f g = t.disk.flights die ≡ g → IsEndingOf t.disk.cells g o ending →
-        Kept (flight_after c die b f o) (end_flight t die g ending)
+    Goal f g = t.disk.flights die ≡ g → IsEndingOf t.disk.cells g o ending → IsFlightAfter c die b f o after →
+        Kept after (end_flight t die g ending)
+
+    same : (d : Core) (u : Translation) → Kept d u → after ≡ d → Kept after u
+    same d u k e = subst (λ (x : Core). Kept x u) (sym e) k
 
     reads : (place : Place) (tag : ℕ) →
-        Goal (Some (flight.Read place (Some tag))) (Some (disk.Reading (ForTask tag 0) place))
-    reads place tag flies now =
+        Goal (Some (flight.Read place (readers.Task tag))) (Some (disk.Reading (ForTask tag 0) place))
+    reads place tag flies now new =
         let kept = task_kept c t die tag b place h there flies in
-        read_ends (λ d e. Kept (read_after c die b (Some tag) d)
-        (end_flight t die (Some (disk.Reading (ForTask tag 0) place)) e)) t.disk.cells (ForTask tag 0) place kept kept
-        o ending now
+        read_ends (λ d e. IsReadAfter d c die b o (readers.Task tag) after →
+        Kept after (end_flight t die (Some (disk.Reading (ForTask tag 0) place)) e)) t.disk.cells (ForTask tag 0) place
+        (λ e. same _ _ kept e) (λ e. same _ _ kept e) o ending now new
 
-    lost : (place : Place) → Goal (Some (flight.Read place None)) (Some (disk.Reading ForNobody place))
-    lost place flies now =
+    contents : (place : Place) → Goal (Some (flight.Read place readers.Step)) (Some (disk.Reading ForStep place))
+    contents place flies now new = step_read_ends c t die b place h there flies o ending after now new
+
+    lost : (place : Place) → Goal (Some (flight.Read place readers.Nobody)) (Some (disk.Reading ForNobody place))
+    lost place flies now new =
         let kept = idle_kept c t die b h.kept there in
-        read_ends (λ d e. Kept (read_after c die b None d) (end_flight t die (Some (disk.Reading ForNobody place)) e))
-        t.disk.cells ForNobody place kept kept o ending now
+        read_ends (λ d e. IsReadAfter d c die b o readers.Nobody after →
+        Kept after (end_flight t die (Some (disk.Reading ForNobody place)) e)) t.disk.cells ForNobody place
+        (λ e. same _ _ kept e) (λ e. same _ _ kept e) o ending now new
 
-    marks : (filled : OpenBlock) (m : Mark) → b.filling ≡ Some filled →
-        Goal (Some (flight.Mark (next_place die filled))) (Some (disk.Programming (next_place die filled) (MarkPage m)))
-    marks filled m fills flies now =
-        program_ends (λ out e. Kept (flight_after c die b (Some (flight.Mark (next_place die filled))) out)
-        (end_flight t die (Some (disk.Programming (next_place die filled) (MarkPage m))) e))
-        t.disk.cells (next_place die filled) (MarkPage m) (mark_ends_well c t die b filled m h there fills flies)
-        (λ left. mark_ends_wrong c t die b filled m left h there fills flies) o ending now
+    steps : (filled : OpenBlock) (cell : Cell) → b.filling ≡ Some filled → IsStepCell c.step cell →
+        Goal (Some (flight.Step (next_place die filled))) (Some (disk.Programming (next_place die filled) cell))
+    steps filled cell fills page flies now new =
+        program_ends (λ out e. IsFlightAfter c die b (Some (flight.Step (next_place die filled))) out after →
+        Kept after (end_flight t die (Some (disk.Programming (next_place die filled) cell)) e))
+        t.disk.cells (next_place die filled) cell
+        (λ e. same _ _ (step_ends_well c t die b filled h there fills cell page flies) e)
+        (λ left e. same _ _ (step_ends_wrong c t die b filled h there fills cell left page flies) e) o ending now new
 
     groups : (filled : OpenBlock) (tag : Tag) (body : List ℕ) → b.filling ≡ Some filled → tag.index ≡ 0 →
-        Goal (Some (flight.Group (next_place die filled) tag.number))
+        repairs_in c.step ≡ 0 → Goal (Some (flight.Group (next_place die filled) tag.number))
         (Some (disk.Programming (next_place die filled) (GroupPage tag body)))
-    groups filled tag body fills first flies now =
-        program_ends (λ out e. Kept (flight_after c die b (Some (flight.Group (next_place die filled) tag.number)) out)
-        (end_flight t die (Some (disk.Programming (next_place die filled) (GroupPage tag body))) e))
+    groups filled tag body fills first no_repair flies now new =
+        program_ends (λ out e.
+        IsFlightAfter c die b (Some (flight.Group (next_place die filled) tag.number)) out after →
+        Kept after (end_flight t die (Some (disk.Programming (next_place die filled) (GroupPage tag body))) e))
         t.disk.cells (next_place die filled) (GroupPage tag body)
-        (group_ends_well c t die b filled tag body h
-        (record { there = there; filling = fills; flies = flies; first = first }))
-        (λ left. group_ends_wrong c t die b filled left h there fills) o ending now
+        (λ e. same _ _ (group_ends_well c t die b filled tag body h
+        (record { there = there; filling = fills; flies = flies; first = first; beside = no_repair })) e)
+        (λ left e. same _ _ (page_ends_wrong c t die b filled left h there fills) e) o ending now new
 
     erases : (block : ℕ) → block < t.numbers.blocks → b.filling ≡ None →
         Goal (Some (flight.Erase block)) (Some (disk.Erasing (spot_at die block)))
-    erases block within closed flies now =
-        erase_ends (λ out e. Kept (flight_after c die b (Some (flight.Erase block)) out)
-        (end_flight t die (Some (disk.Erasing (spot_at die block))) e))
-        t.disk.cells (spot_at die block) (erase_ends_well c t die b block h there closed within flies)
-        (erase_ends_wrong c t die b block h there closed within flies) o ending now
+    erases block within closed flies now new =
+        erase_ends (λ out e. IsFlightAfter c die b (Some (flight.Erase block)) out after →
+        Kept after (end_flight t die (Some (disk.Erasing (spot_at die block))) e))
+        t.disk.cells (spot_at die block)
+        (λ e. same _ _ (erase_ends_well c t die b block h there closed within flies) e)
+        (λ left e. same _ _ (erase_ends_wrong c t die b block h there closed within flies left) e) o ending now new
 
-kept_of : (c : Core) (t : Translation) (die : ℕ) (o : Outcome) (ending : Ending) (book : Option Book) → Describes c t →
-    slice_get c.books die ≡ book →
-    IsEndingOf t.disk.cells (t.disk.flights die) o ending → Kept (book_after c die book o) (moved t (EndJob die ending))
-kept_of c t die o ending None h there is =
+kept_of : (c : Core) (t : Translation) (die : ℕ) (o : Outcome) (ending : Ending) (book : Option Book) (after : Core) →
+    Describes c t → slice_get c.books die ≡ book → IsEndingOf t.disk.cells (t.disk.flights die) o ending →
+    IsBookAfter c die book o after → Kept after (moved t (EndJob die ending))
+kept_of c t die o ending None after h there is new =
     absurd (false≢true (subst (λ (g : Option disk.Flight). IsEndingOf t.disk.cells g o ending)
     (no_book c t die h there) is).0)
-kept_of c t die o ending (Some b) h there is = kept_then c t die o ending b h there is
+kept_of c t die o ending (Some b) after h there is new = kept_then c t die o ending b after h there is new
 
 -- what is kept once a job ended so describes the layer in which it did
-pub ends_right : (c after : Core) (die : ℕ) (o : Outcome) → after ≡ core_ended c die o →
+pub ends_right : (c after : Core) (die : ℕ) (o : Outcome) → IsCoreEnded c die o after →
     (t : Translation) (ending : Ending) → Describes c t →
     IsEndingOf t.disk.cells (t.disk.flights die) o ending → MayEnd t.disk die (t.disk.flights die) ending →
     Describes after (moved t (EndJob die ending))
 ends_right c after die o new t ending h is may = record {
   valid = all_keep t (EndJob die ending) h.valid may;
-  kept = subst (λ (x : Core). Kept x (moved t (EndJob die ending))) (sym new)
-      (kept_of c t die o ending (slice_get c.books die) h refl is);
+  kept = kept_of c t die o ending (slice_get c.books die) after h refl is new;
 }
 
 -- What is told
@@ -140,9 +152,10 @@ told_then : (c : Core) (t : Translation) (die : ℕ) (o : Outcome) (ending : End
     IsEndingOf t.disk.cells (t.disk.flights die) o ending → FlightEnds c b.flight o r →
     (e : Ended) × (r ≡ Some e) × IsTold t.disk.cells (t.disk.flights die) ending e
 told_then c t die o ending r b h there is answer =
-    flight_cases t.numbers die b.filling Goal (λ flies now told. absurd (false≢true now.0)) reads lost
-    (λ filled m fills flies now told. programs (next_place die filled) (MarkPage m) now told)
-    (λ filled tag body fills first flies now told. programs (next_place die filled) (GroupPage tag body) now told)
+    flight_cases t.numbers c.step die b.filling Goal (λ flies now told. absurd (false≢true now.0)) reads contents lost
+    (λ filled cell fills page flies now told. programs (next_place die filled) cell now told)
+    (λ filled tag body fills first no_repair flies now told.
+    programs (next_place die filled) (GroupPage tag body) now told)
     (λ block within closed flies now told. (
       ended.Other,
       erase_ends (λ out e. r ≡ option_map other_for (gives.ending out) → r ≡ Some ended.Other) t.disk.cells
@@ -157,10 +170,13 @@ told_then c t die o ending r b h there is answer =
         (e : Ended) × (r ≡ Some e) × IsTold t.disk.cells g ending e
 
     reads : (place : Place) (tag : ℕ) →
-        Goal (Some (flight.Read place (Some tag))) (Some (disk.Reading (ForTask tag 0) place))
+        Goal (Some (flight.Read place (readers.Task tag))) (Some (disk.Reading (ForTask tag 0) place))
     reads place tag flies now told = task_told c t die tag place o ending r h flies now told
 
-    lost : (place : Place) → Goal (Some (flight.Read place None)) (Some (disk.Reading ForNobody place))
+    contents : (place : Place) → Goal (Some (flight.Read place readers.Step)) (Some (disk.Reading ForStep place))
+    contents place flies now told = step_told c t.disk.cells place o ending r now told
+
+    lost : (place : Place) → Goal (Some (flight.Read place readers.Nobody)) (Some (disk.Reading ForNobody place))
     lost place flies now told = lost_told c t.disk.cells place o ending r now told
 
     programs : (p : Place) (cell : Cell) → IsEndingOf t.disk.cells (Some (disk.Programming p cell)) o ending →
@@ -191,7 +207,7 @@ ends_told c die o r answer t ending h is = told_of c t die o ending r (slice_get
 -- Which outcomes are refused
 
 -- a read's outcome is one of a read
-read_known : (c : Core) (reader : Option ℕ) (r : Option Ended) (d : Bool) (o : Outcome) → GivesIf d c o reader r →
+read_known : (c : Core) (reader : kept.Reader) (r : Option Ended) (d : Bool) (o : Outcome) → GivesIf d c o reader r →
     is_some r ≡ d
 read_known c reader r false o gives = ap is_some gives
 read_known c reader r true o gives = ap is_some gives.1
@@ -220,12 +236,14 @@ known_then : (c : Core) (t : Translation) (die : ℕ) (o : Outcome) (r : Option 
     slice_get c.books die ≡ Some b →
     FlightEnds c b.flight o r → is_some r ≡ suits (t.disk.flights die) o
 known_then c t die o r b h there answer =
-    flight_cases t.numbers die b.filling (λ f g. FlightEnds c f o r → is_some r ≡ suits g o)
+    flight_cases t.numbers c.step die b.filling (λ f g. FlightEnds c f o r → is_some r ≡ suits g o)
     (λ told. ap is_some told)
-    (λ place tag told. read_known c (Some tag) r (is_read o) o told ∙ reads_suit (ForTask tag 0) place o)
-    (λ place told. read_known c None r (is_read o) o told ∙ reads_suit ForNobody place o)
-    (λ filled m fills told. ap is_some told ∙ programs_suit (next_place die filled) (MarkPage m) o)
-    (λ filled tag body fills first told. ap is_some told ∙ programs_suit (next_place die filled) (GroupPage tag body) o)
+    (λ place tag told. read_known c (readers.Task tag) r (is_read o) o told ∙ reads_suit (ForTask tag 0) place o)
+    (λ place told. read_known c readers.Step r (is_read o) o told ∙ reads_suit ForStep place o)
+    (λ place told. read_known c readers.Nobody r (is_read o) o told ∙ reads_suit ForNobody place o)
+    (λ filled cell fills page told. ap is_some told ∙ programs_suit (next_place die filled) cell o)
+    (λ filled tag body fills first no_repair told.
+    ap is_some told ∙ programs_suit (next_place die filled) (GroupPage tag body) o)
     (λ block within closed told. ap is_some told ∙ erases_suit (spot_at die block) o)
     b.flight (t.disk.flights die) (h.kept.dies.each die b there).job answer
 

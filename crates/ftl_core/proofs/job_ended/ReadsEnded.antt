@@ -21,9 +21,9 @@ use Rattle.ftl_core.specs.declared.books.Pin.{Pin}
 use Rattle.ftl_core.specs.declared.books.Stored.{Stored}
 use Rattle.ftl_core.specs.Core.{Core}
 use Rattle.ftl_core.specs.Describes.{Describes, Kept, PinKept, IsWanted, ReadsKept}
-use Rattle.ftl_core.specs.Gives.{is_read, read_over, wanted_no_more}
+use Rattle.ftl_core.specs.Gives.{is_read, wanted_no_more}
 use Rattle.ftl_core.specs.Moves.{is_pin_of, with_book}
-use Rattle.ftl_core.proofs.job_taken.Flown.{dies_put, fly_over, reads_over}
+use Rattle.ftl_core.proofs.job_taken.Flown.{dies_put, fly_over, reads_over, step_reads_over}
 use Rattle.power_loss.proofs.open_tasks.TaggedLists.{differ_map}
 use Rattle.ftl_core.proofs.pins.FoundPins.{found_mapped, found_passes}
 use Rattle.ftl_core.proofs.pins.PinsAlike.{pins_mapped}
@@ -78,7 +78,7 @@ pub idle_kept : (c : Core) (t : Translation) (die : ℕ) (b : Book) → Kept c t
 idle_kept c t die b k there = record {
   numbers = k.numbers;
   blocks = k.blocks;
-  dies = dies_put t.numbers t.disk.blocks t.disk.blocks t.disk.flights c.books die b
+  dies = dies_put t.numbers t.disk.blocks t.disk.blocks t.disk.flights c.step c.books die b
       (record { filling = b.filling; flight = None }) None k.dies there
       (λ s apart. refl) (record { filling = (k.dies.each die b there).filling; job = tt });
   fly = fly_over t.ledger.standing t.disk.flights die k.fly;
@@ -88,13 +88,20 @@ idle_kept c t die b k there = record {
   pins = k.pins;
   differ = k.differ;
   reads = reads_over t.disk.flights die c.pins k.reads;
+  step_reads = step_reads_over t.disk.flights die c.step k.step_reads;
+  readers = k.readers;
+  firsts = k.firsts;
 }
+
+-- what is kept once the reader was told
+abbrev pub reader_told : Core → ℕ → Core
+reader_told c reader = record c { pins = map (wanted_no_more reader) c.pins }
 
 -- a read ended that was for a task
 pub task_kept : (c : Core) (t : Translation) (die reader : ℕ) (b : Book) (place : Place) → Describes c t →
     slice_get c.books die ≡ Some b →
     t.disk.flights die ≡ Some (disk.Reading (ForTask reader 0) place) →
-    Kept (read_over (with_book c die record { filling = b.filling; flight = None }) (Some reader))
+    Kept (reader_told (with_book c die record { filling = b.filling; flight = None }) reader)
     (record t {
       disk = record t.disk { flights = at_die t.disk.flights die None };
       pins = map (with_wanted reader 0 false) t.pins;
@@ -112,6 +119,9 @@ task_kept c t die reader b place h there flies = record {
       c.pins t.pins (over_alike t.ledger.frontier (entry_of t.ledger) reader) k.pins;
   differ = differ_map (λ (x : Pin). x.reader) (wanted_no_more reader) (λ x. refl) c.pins k.differ;
   reads = reads;
+  step_reads = k.step_reads;
+  readers = λ e. ap (map (wanted_no_more reader)) (k.readers e);
+  firsts = k.firsts;
 }
   where
     k : Kept (with_book c die record { filling = b.filling; flight = None })

@@ -5,7 +5,7 @@ use Rattle.std.proofs.lemmas.Option.{get_or_from_slice_get, slice_get_within}
 use Rattle.ufs_spec.proofs.Facts.{false≢true, key_is}
 use Rattle.ufs_spec.specs.Cells.{Cells, GroupPage, IsCell, Opens, key_of}
 use Rattle.ufs_spec.specs.Disk as disk
-use Rattle.ufs_spec.specs.Disk.{ForNobody, ForTask, Reader, at_die}
+use Rattle.ufs_spec.specs.Disk.{ForNobody, ForStep, ForTask, Reader, at_die}
 use Rattle.ufs_spec.specs.Ledger.{Entry, Name, OnPage, entry_of}
 use Rattle.ufs_spec.specs.Moves.{Ending, IsAnother, IsEndingOf, ReadRight, ReadWrong, WentWell, WentWrong}
 use Rattle.ufs_spec.specs.Translation as layer
@@ -24,6 +24,8 @@ use Rattle.power_loss.proofs.books.SmallFacts.{and_true, eq_self, eq_told}
 use Rattle.ftl_core.specs.declared.books.Looked.{Looked}
 use Rattle.ftl_core.specs.declared.books.Looked.TheVariants as looked
 use Rattle.ftl_core.specs.declared.books.Pin.{Pin}
+use Rattle.ftl_core.specs.declared.books.Reader as kept
+use Rattle.ftl_core.specs.declared.books.Reader.TheVariants as readers
 use Rattle.ftl_core.specs.declared.books.Stored.{Stored}
 use Rattle.ftl_core.specs.declared.ftl.Ended.{Ended}
 use Rattle.ftl_core.specs.declared.ftl.Ended.TheVariants as ended
@@ -68,7 +70,7 @@ names_told t k n h =
     )
 
 -- the page that was wanted gives its body
-right_body : (page : Page) (cells : Cells) (place : Place) (k : Key) (n : ℕ) (body : Option (List ℕ))
+pub right_body : (page : Page) (cells : Cells) (place : Place) (k : Key) (n : ℕ) (body : Option (List ℕ))
     (w : IsPageOf cells place k n) →
     IsCell page (cells place) → IsBodyOf page k n body → body ≡ Some w.body
 right_body page cells place k n body w cell is = known body refl
@@ -82,7 +84,7 @@ right_body page cells place k n body w cell is = known body refl
         (sym (ap (λ (x : Page). x.body) f.4) ∙ body_opened page w.tag w.body opens)
 
 -- another page gives none
-wrong_body : (page : Page) (cells : Cells) (place : Place) (k : Key) (n : ℕ) (body : Option (List ℕ)) →
+pub wrong_body : (page : Page) (cells : Cells) (place : Place) (k : Key) (n : ℕ) (body : Option (List ℕ)) →
     IsPageOf cells place k n →
     IsAnother page (cells place) → IsBodyOf page k n body → body ≡ None
 wrong_body page cells place k n body w other is = known body refl
@@ -167,7 +169,7 @@ pub task_told : (c : Core) (t : Translation) (die reader : ℕ) (place : Place) 
     (r : Option Ended) → Describes c t →
     t.disk.flights die ≡ Some (disk.Reading (ForTask reader 0) place) →
     IsEndingOf t.disk.cells (Some (disk.Reading (ForTask reader 0) place)) o ending →
-    GivesIf (is_read o) c o (Some reader) r →
+    GivesIf (is_read o) c o (readers.Task reader) r →
     (e : Ended) × (r ≡ Some e) × IsTold t.disk.cells (Some (disk.Reading (ForTask reader 0) place)) ending e
 task_told c t die reader place o ending r h flies is gives = (
   given.0,
@@ -180,8 +182,8 @@ task_told c t die reader place o ending r h flies is gives = (
       given.2.2,
 )
   where
-    given : (e : Ended) × (r ≡ Some e) × Gives c o (Some reader) e
-    given = subst (λ (z : Bool). GivesIf z c o (Some reader) r)
+    given : (e : Ended) × (r ≡ Some e) × Gives c o (readers.Task reader) e
+    given = subst (λ (z : Bool). GivesIf z c o (readers.Task reader) r)
         (read_is_over t.disk.cells (ForTask reader 0) place o ending is) gives
 
     w : (p : Pin) × (find (is_pin_of reader) c.pins ≡ Some p) × IsWanted place p
@@ -190,15 +192,34 @@ task_told c t die reader place o ending r h flies is gives = (
     at : (k : ℕ) × (slice_get c.pins k ≡ Some w.0)
     at = found_there (is_pin_of reader) c.pins w.0 w.1
 
+-- a read for nobody or for the step under way tells nothing
+pub other_told : (c : Core) (cells : Cells) (who : Reader) (reader : kept.Reader) (place : Place) (o : Outcome)
+    (ending : Ending) (r : Option Ended) → ((e : Ended) → Gives c o reader e → e ≡ ended.Other) →
+    ((x : Ending) → IsTold cells (Some (disk.Reading who place)) x ended.Other) →
+    IsEndingOf cells (Some (disk.Reading who place)) o ending → GivesIf (is_read o) c o reader r →
+    (e : Ended) × (r ≡ Some e) × IsTold cells (Some (disk.Reading who place)) ending e
+other_told c cells who reader place o ending r nothing told is gives =
+    let g = subst (λ (z : Bool). GivesIf z c o reader r) (read_is_over cells who place o ending is) gives in
+    (g.0, g.1, subst (IsTold cells (Some (disk.Reading who place)) ending) (sym (nothing g.0 g.2)) (told ending))
+
 pub lost_told : (c : Core) (cells : Cells) (place : Place) (o : Outcome) (ending : Ending) (r : Option Ended) →
-    IsEndingOf cells (Some (disk.Reading ForNobody place)) o ending → GivesIf (is_read o) c o None r →
+    IsEndingOf cells (Some (disk.Reading ForNobody place)) o ending → GivesIf (is_read o) c o readers.Nobody r →
     (e : Ended) × (r ≡ Some e) × IsTold cells (Some (disk.Reading ForNobody place)) ending e
-lost_told c cells place o ending r is gives =
-    let g = subst (λ (z : Bool). GivesIf z c o None r) (read_is_over cells ForNobody place o ending is) gives in
-    (g.0, g.1, by ending g.0 g.2)
+lost_told c cells place o ending r = other_told c cells ForNobody readers.Nobody place o ending r (λ e k. k) by
   where
-    by : (x : Ending) (e : Ended) → e ≡ ended.Other → IsTold cells (Some (disk.Reading ForNobody place)) x e
-    by ReadRight e k = k
-    by ReadWrong e k = k
-    by WentWell e k = k
-    by (WentWrong left) e k = k
+    by : (x : Ending) → IsTold cells (Some (disk.Reading ForNobody place)) x ended.Other
+    by ReadRight = refl
+    by ReadWrong = refl
+    by WentWell = refl
+    by (WentWrong left) = refl
+
+pub step_told : (c : Core) (cells : Cells) (place : Place) (o : Outcome) (ending : Ending) (r : Option Ended) →
+    IsEndingOf cells (Some (disk.Reading ForStep place)) o ending → GivesIf (is_read o) c o readers.Step r →
+    (e : Ended) × (r ≡ Some e) × IsTold cells (Some (disk.Reading ForStep place)) ending e
+step_told c cells place o ending r = other_told c cells ForStep readers.Step place o ending r (λ e k. k) by
+  where
+    by : (x : Ending) → IsTold cells (Some (disk.Reading ForStep place)) x ended.Other
+    by ReadRight = refl
+    by ReadWrong = refl
+    by WentWell = refl
+    by (WentWrong left) = refl

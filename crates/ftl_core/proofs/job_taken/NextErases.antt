@@ -14,7 +14,7 @@ use Rattle.ftl_core.specs.Describes.{Describes, block_kept, spot_at}
 use Rattle.ftl_core.specs.Moves.{free_blocks, is_erasable, is_free, state_of}
 use Rattle.ftl_core.specs.Takes.{found_or, lowest_below}
 use Rattle.ftl_core.proofs.pins.PinsAlike.{pinned_as}
-use Rattle.ftl_core.proofs.new_dies.Spots.{found_lowest, free_counted, same_free, state_there}
+use Rattle.ftl_core.proofs.opened.Spots.{found_lowest, free_counted, same_free, state_there}
 
 -- The lowest that passes
 

@@ -5,20 +5,22 @@ use Rattle.std.proofs.Common.{sym, ap, ⊎_elim, arith, if◌then◌else◌, is_
 use Rattle.std.specs.List.{list_any}
 use Rattle.ufs_spec.specs.Keys as keys
 use Rattle.ufs_spec.specs.Keys.{below}
-use Rattle.ufs_spec.specs.Ledger.{Entry, Name}
+use Rattle.ufs_spec.specs.Ledger.{Entry, Name, accepted_groups, before_accepted, pending}
 use Rattle.ufs_spec.specs.Translation as layer
-use Rattle.ufs_spec.specs.Translation.{Translation, is_rest_of, names_behind, names_of, waiting_name, flies_name}
-use Rattle.ufs_spec.specs.Translation.{some_flight}
+use Rattle.ufs_spec.specs.Translation.{Translation, flies_name, is_mended, is_rest_of, names_behind, names_of}
+use Rattle.ufs_spec.specs.Translation.{some_flight, waiting_name}
 use Rattle.ufs_spec.specs.declared.flash.Place.{Place}
 use Rattle.power_loss.specs.Book.{IsPageAt, book}
 use Rattle.power_loss.proofs.books.PagesByName.{get_splits, new_page}
-use Rattle.power_loss.proofs.books.SmallFacts.{if_false, if_true}
+use Rattle.power_loss.proofs.books.SmallFacts.{if_false, if_true, two_ways}
+use Rattle.power_loss.proofs.books.FrontierClimbs.{get_drop}
 use Rattle.ftl_core.specs.declared.books.Group.{Group}
 use Rattle.ftl_core.specs.Core.{Core}
-use Rattle.ftl_core.specs.Describes.{Describes, GroupKept, GroupsKept, Standing, name_at, not_durable}
+use Rattle.ftl_core.specs.Describes.{Describes, GroupKept, GroupsKept, Standing, name_at}
 use Rattle.ftl_core.specs.Takes.{group_waits, lowest_below, number_waiting, waits_at, writes_group}
 use Rattle.ftl_core.proofs.job_taken.Flown.{writes_agree}
 use Rattle.ftl_core.proofs.job_taken.NextErases.{lowest_alike, lowest_front}
+use Rattle.ftl_core.proofs.job_taken.Mended.{mended_with, no_repair, none_accepted, none_waiting}
 use Rattle.ftl_core.proofs.job_taken.NextPages.{kept_at}
 use Rattle.ufs_spec.proofs.Lists.{find_here, find_behind, get_there}
 
@@ -152,39 +154,47 @@ waits_alike c t h k low =
     (not (some_flight t (flies_name (name_at (t.ledger.frontier + k + 1)))))
     (is_rest_of (name_at (t.ledger.frontier + k + 1)))
     t.work.rests h.kept.work.no_rests
-    ∙ (λ i. not (is_some (at.2.stands i)) && not (sym (writes_agree c t (t.ledger.frontier + k + 1) h.kept) i))
+    ∙ (λ i. not (is_some (at.2.stands i)) && not (sym writes i))
     ∙ ap (λ (z : ℕ). not (is_some g.written) && not (list_any (writes_group (z + k + 1)) c.books))
     (sym h.kept.ledger_kept.frontier)
     ∙ none_is g.written (not (list_any (writes_group (c.frontier + k + 1)) c.books))
     ∙ sym (ap (group_waits c (c.frontier + k + 1)) there.1)
   where
+    writes : list_any (writes_group (t.ledger.frontier + k + 1)) c.books
+        ≡ some_flight t (flies_name (name_at (t.ledger.frontier + k + 1)))
+    writes = writes_agree c t (t.ledger.frontier + k + 1) h.kept
+        (no_repair c t h (mended_with c t h (omega (arith, low))))
+
     there : (g : Group) × (slice_get c.groups k ≡ Some g)
     there = get_there c.groups k low
 
     g : Group
     g = there.0
 
-    at : (y : keys.Group) × (slice_get (not_durable t.ledger) k ≡ Some y)
+    at : (y : keys.Group) × (slice_get (pending t.ledger) k ≡ Some y)
         × GroupKept t.ledger.standing (t.ledger.frontier + k + 1) g y
-    at = kept_at t.ledger.standing t.ledger.frontier c.groups (not_durable t.ledger) k g
+    at = kept_at t.ledger.standing t.ledger.frontier c.groups (pending t.ledger) k g
         h.kept.ledger_kept.groups there.1
 
     none_is : (o : Option Place) (b : Bool) → (not (is_some o) && b) ≡ (is_none o && b)
     none_is None b = refl
     none_is (Some p) b = refl
 
+none_lowest : (test : ℕ → Bool) (n : ℕ) → n ≡ 0 → lowest_below test n ≡ None
+unfolding lowest_below
+none_lowest test zero is = refl
+none_lowest test (suc n) is = absurd (omega arith)
+
 -- the name that waits is that of the first group that waits
-pub next_name : (c : Core) (t : Translation) → Describes c t → waiting_name t ≡ option_map name_at (number_waiting c)
-next_name c t h =
-    ap (λ z. find (layer.waits t) (names_behind (t.ledger.greatest_seen + z) (drop z t.ledger.groups)))
-    h.kept.ledger_kept.repairs
-    ∙ ap (λ z. find (layer.waits t) (names_behind z t.ledger.groups)) (no_more t.ledger.greatest_seen)
-    ∙ skips_names (layer.waits t)
-    (t.ledger.frontier - t.ledger.greatest_seen) t.ledger.greatest_seen t.ledger.groups standing_below
-    ∙ ap (λ z. find (layer.waits t) (names_behind z (not_durable t.ledger)))
-    (up t.ledger.greatest_seen t.ledger.frontier h.valid.frontier.above)
+mended_name : (c : Core) (t : Translation) → Describes c t → before_accepted t.ledger ≤ t.ledger.frontier →
+    waiting_name t ≡ option_map name_at (number_waiting c)
+mended_name c t h low =
+    skips_names (layer.waits t)
+    (t.ledger.frontier - before_accepted t.ledger) (before_accepted t.ledger) (accepted_groups t.ledger) standing_below
+    ∙ ap (λ z. find (layer.waits t) (names_behind z (pending t.ledger)))
+    (up (before_accepted t.ledger) t.ledger.frontier low)
     ∙ found_name t.ledger.standing (layer.waits t) t.ledger.frontier c.groups
-    (not_durable t.ledger) h.kept.ledger_kept.groups
+    (pending t.ledger) h.kept.ledger_kept.groups
     ∙ ap (option_map (λ k. name_at (t.ledger.frontier + k + 1)))
     (lowest_alike (λ k. layer.waits t (name_at (t.ledger.frontier + k + 1))) (waits_at c) (length c.groups)
     (waits_alike c t h))
@@ -192,9 +202,6 @@ next_name c t h =
     (sym h.kept.ledger_kept.frontier)
     ∙ twice (lowest_below (waits_at c) (length c.groups))
   where
-    no_more : (n : ℕ) → n + 0 ≡ n
-    no_more n = omega arith
-
     up : (n m : ℕ) → n ≤ m → n + (m - n) ≡ m
     up n m l = omega arith
 
@@ -203,12 +210,30 @@ next_name c t h =
     twice None = refl
     twice (Some k) = refl
 
-    standing_below : (j i : ℕ) (g : keys.Group) → j < t.ledger.frontier - t.ledger.greatest_seen →
-        slice_get t.ledger.groups j ≡ Some g → i < length g →
-        layer.waits t (record { number = t.ledger.greatest_seen + suc j; index = i }) ≡ false
+    number_is : (top repairs j : ℕ) → top + suc (repairs + j) ≡ top + repairs + suc j
+    number_is top repairs j = omega arith
+
+    standing_below : (j i : ℕ) (g : keys.Group) → j < t.ledger.frontier - before_accepted t.ledger →
+        slice_get (accepted_groups t.ledger) j ≡ Some g → i < length g →
+        layer.waits t (record { number = before_accepted t.ledger + suc j; index = i }) ≡ false
     standing_below j i g l at u =
-        let e = page_there t j i g at u in
-        let p = h.valid.frontier.stand (t.ledger.greatest_seen + suc j) i e.0 (omega arith) e.1 in
+        let e = page_there t (t.ledger.repairs + j) i g (sym (get_drop t.ledger.groups t.ledger.repairs j) ∙ at) u in
+        let p = h.valid.frontier.stand (t.ledger.greatest_seen + suc (t.ledger.repairs + j)) i e.0 (omega arith) e.1 in
         ap (λ (o : Option Place). not (is_some o) && not
-        (some_flight t (flies_name (record { number = t.ledger.greatest_seen + suc j; index = i })))
-        && not (list_any (is_rest_of (record { number = t.ledger.greatest_seen + suc j; index = i })) t.work.rests)) p.1
+        (some_flight t (flies_name (record { number = before_accepted t.ledger + suc j; index = i })))
+        && not (list_any (is_rest_of (record { number = before_accepted t.ledger + suc j; index = i })) t.work.rests))
+        (ap (λ (z : ℕ). t.ledger.standing z i) (sym (number_is t.ledger.greatest_seen t.ledger.repairs j)) ∙ p.1)
+
+-- until the device is mended no group waits
+pub next_name : (c : Core) (t : Translation) → Describes c t → waiting_name t ≡ option_map name_at (number_waiting c)
+next_name c t h =
+    ⊎_elim (λ mended. mended_name c t h (h.kept.work.repaired mended)) none (two_ways (is_mended t.work.mending))
+  where
+    none : is_mended t.work.mending ≡ false → waiting_name t ≡ option_map name_at (number_waiting c)
+    none unmended =
+        ap (λ z. find (layer.waits t) (names_behind (before_accepted t.ledger) z)) (none_accepted t h.valid unmended)
+        ∙ ap (λ (o : Option ℕ). option_map name_at (option_map (λ k. c.frontier + k + 1) o)) (sym none_here)
+      where
+        none_here : lowest_below (waits_at c) (length c.groups) ≡ None
+        none_here = none_lowest (waits_at c) (length c.groups)
+            (ap (λ (gs : List Group). length gs) (none_waiting c t h unmended))

@@ -5,7 +5,7 @@ use Rattle.std.specs.Prelude.{◌&&◌, Contains, find, nat_lt, slice_get, optio
 use Rattle.std.proofs.lemmas.Option.{slice_get_cases}
 use Rattle.ufs_spec.proofs.Facts.{false≢true, true≢false}
 use Rattle.ufs_spec.specs.Disk as disk
-use Rattle.ufs_spec.specs.Disk.{ForTask, at_die, job_of as told_by}
+use Rattle.ufs_spec.specs.Disk.{ForStep, ForTask, at_die, job_of as told_by}
 use Rattle.ufs_spec.specs.Ledger.{Name}
 use Rattle.ufs_spec.specs.Moves.{GiveJob}
 use Rattle.ufs_spec.specs.Translation.{MayTake, Translation, Want, flies_name, is_idle, next_flight, some_flight, taken}
@@ -19,10 +19,10 @@ use Rattle.ftl_core.specs.declared.books.Book.{Book}
 use Rattle.ftl_core.specs.declared.books.Flight.{Flight}
 use Rattle.ftl_core.specs.Core.{Core}
 use Rattle.ftl_core.specs.Describes.{Describes, IsFlight, IsTaken, Kept, PagesFly, ReadsKept, Standing, given}
-use Rattle.ftl_core.specs.Describes.{IsWanted}
+use Rattle.ftl_core.specs.Describes.{IsWanted, StepReadsKept}
 use Rattle.ftl_core.specs.declared.books.Pin.{Pin}
 use Rattle.ftl_core.specs.Moves.{is_pin_of, started}
-use Rattle.ftl_core.specs.Takes.{begun_with, core_taken, flight_taken, job_of, job_taken}
+use Rattle.ftl_core.specs.Takes.{begun_with, core_taken, flight_taken, job_of, job_taken, step_wants}
 use Rattle.ftl_core.proofs.job_taken.Flown.{dies_put, none_flies}
 
 -- the page of no name flies from two dies, if no other die flies that of the new job
@@ -60,20 +60,22 @@ fly_begun standing flights die f h alone = record { one = one; new = new }
         (λ k. h.new d name (sym (ap (flies_name name) k.1) ∙ p))
         (at_die_cases flights die (Some f) d)
 
--- a job that may begin: a page that it writes is new, and a page that it reads for a task is one that its reader wants
+-- a job that may begin: a page that it writes is new, a page that it reads for a task is one that its reader wants, and
+-- one for the step under way the page that this wants
 pub record MayBegin (c : Core) (t : Translation) (job : disk.Flight) : Type 0 where
   pub alone : (name : Name) → flies_name name (Some job) ≡ true →
       (some_flight t (flies_name name) ≡ false) × (t.ledger.standing name.number name.index ≡ None)
   pub wanted : (tag index : ℕ) (place : Place) → job ≡ disk.Reading (ForTask tag index) place →
       (p : Pin) × (find (is_pin_of tag) c.pins ≡ Some p) × IsWanted place p
+  pub step_wanted : (place : Place) → job ≡ disk.Reading ForStep place → step_wants c.step ≡ Some place
 
 pub kept_begun : (c : Core) (t : Translation) (die : ℕ) (b : Book) (f : Flight) (job : disk.Flight) → Kept c t →
-    slice_get c.books die ≡ Some b → IsFlight t.numbers die b.filling (Some f) (Some job) → MayBegin c t job →
+    slice_get c.books die ≡ Some b → IsFlight t.numbers c.step die b.filling (Some f) (Some job) → MayBegin c t job →
     Kept (started c die b f) (taken t die job)
 kept_begun c t die b f job k at is may = record {
   numbers = k.numbers;
   blocks = k.blocks;
-  dies = dies_put t.numbers t.disk.blocks t.disk.blocks t.disk.flights c.books die b
+  dies = dies_put t.numbers t.disk.blocks t.disk.blocks t.disk.flights c.step c.books die b
       (record { filling = b.filling; flight = Some f })
       (Some job) k.dies at (λ s apart. refl) (record { filling = (k.dies.each die b at).filling; job = is });
   fly = fly_begun t.ledger.standing t.disk.flights die job k.fly (λ name flies.
@@ -85,6 +87,9 @@ kept_begun c t die b f job k at is may = record {
   pins = k.pins;
   differ = k.differ;
   reads = reads;
+  step_reads = step_reads;
+  readers = k.readers;
+  firsts = k.firsts;
 }
   where
     some_one : (x y : disk.Flight) → Some x ≡ Some y → x ≡ y
@@ -94,6 +99,12 @@ kept_begun c t die b f job k at is may = record {
     reads e tag index place reading = ⊎_elim
         (λ h. may.wanted tag index place (some_one job (disk.Reading (ForTask tag index) place) (sym h.1 ∙ reading)))
         (λ h. k.reads e tag index place (sym h.1 ∙ reading))
+        (at_die_cases t.disk.flights die (Some job) e)
+
+    step_reads : StepReadsKept (at_die t.disk.flights die (Some job)) c.step
+    step_reads e place reading = ⊎_elim
+        (λ h. may.step_wanted place (some_one job (disk.Reading ForStep place) (sym h.1 ∙ reading)))
+        (λ h. k.step_reads e place (sym h.1 ∙ reading))
         (at_die_cases t.disk.flights die (Some job) e)
 
 -- Idle dies
@@ -171,7 +182,7 @@ nothing_taken c t die h none may = record {
 -- or a job
 pub job_begun : (c : Core) (t : Translation) (die : ℕ) (b : Book) (f : Flight) (job : disk.Flight) → Describes c t →
     slice_get c.books die ≡ Some b → flight_taken c die ≡ Some f → job_of c die f ≡ Some (told_by job) →
-    IsFlight t.numbers die b.filling (Some f) (Some job) → MayBegin c t job → MayTake t die (Some job) →
+    IsFlight t.numbers c.step die b.filling (Some f) (Some job) → MayBegin c t job → MayTake t die (Some job) →
     IsTaken t die (job_taken c die) (core_taken c die)
 job_begun c t die b f job h there taken told is begins may = record {
   job = Some job;

@@ -1,16 +1,19 @@
--- Which reads are owed to a die: those that readers want of its pages, where no die reads for them.
+-- Which reads are owed to a die: those that readers and the step under way want of its pages, where no die reads for
+-- them.
 use Rattle.std.proofs.Common.{◌≡◌, ◌∙◌, ℕ, zero, suc, Bool, true, false, List, [], ◌∷◌, ◌++◌, Option, Some, None, refl}
 use Rattle.std.proofs.Common.{sym, ap, subst, arith}
 use Rattle.std.proofs.lemmas.List.{append-nil}
-use Rattle.std.specs.Prelude.{◌&&◌, ◌==◌, if◌then◌else◌, Contains, filter_map, slice_get, filter, find, not}
+use Rattle.std.proofs.lemmas.List.Elements.{Contains-append_left, filter-append}
+use Rattle.std.specs.Prelude.{◌&&◌, ◌||◌, ◌==◌, if◌then◌else◌, Contains, filter_map, slice_get, filter, find, not}
 use Rattle.std.specs.Prelude.{option_and_then, option_map}
 use Rattle.std.specs.List.{list_any, cons_option}
-use Rattle.ufs_spec.specs.Disk.{ForTask, Reader}
+use Rattle.ufs_spec.specs.Disk.{ForStep, ForTask, Reader}
 use Rattle.ufs_spec.specs.Ledger as ledger
-use Rattle.ufs_spec.specs.Ledger.{Entry, InSlot, Name, OnPage, Unwritten, entry_of}
+use Rattle.ufs_spec.specs.Ledger.{Entry, InSlot, Ledger, Name, OnPage, Unwritten, entry_of}
 use Rattle.ufs_spec.specs.Translation as layer
 use Rattle.ufs_spec.specs.Translation.{Rest, Translation, Want, flies_reader, is_of_die, is_unread, some_flight}
-use Rattle.ufs_spec.specs.Translation.{want_at, want_of_look, want_of_pin, want_of_rest, wants_of_step, wants_on}
+use Rattle.ufs_spec.specs.Translation.{want_at, want_from, want_of_look, want_of_pin, want_of_rest, wants_of_step}
+use Rattle.ufs_spec.specs.Translation.{wants_on}
 use Rattle.ufs_spec.specs.declared.flash.Place.{Place}
 use Rattle.power_loss.proofs.books.PagesByName.{none_some, some_is}
 use Rattle.power_loss.proofs.books.SmallFacts.{and_true, if_false, if_true, eq_told}
@@ -18,18 +21,24 @@ use Rattle.ftl_core.specs.declared.books.Looked.{Looked}
 use Rattle.ftl_core.specs.declared.books.Looked.TheVariants as looked
 use Rattle.ftl_core.specs.declared.books.Pin.{Pin}
 use Rattle.ftl_core.specs.Core.{Core}
-use Rattle.ftl_core.specs.Describes.{IsLookedAt, Kept, PinKept, PinsKept, step_kept, Describes, IsTaken, IsWanted}
+use Rattle.ftl_core.specs.Describes.{Describes, IsLookedAt, IsTaken, IsWanted, Kept, PinKept, PinsKept, StepKept}
 use Rattle.power_loss.proofs.open_tasks.TaggedLists.{found_at}
 use Rattle.ftl_core.specs.Moves.{is_owed_by, is_pin_of, looks_on, reads_for}
-use Rattle.ftl_core.proofs.job_taken.Flown.{reads_agree, die_within, no_job}
+use Rattle.ftl_core.proofs.job_taken.Flown.{die_within, no_job, reads_agree, step_reads_agree}
 use Rattle.ufs_spec.proofs.Facts.{false≢true}
 use Rattle.ufs_spec.specs.Disk as disk
 use Rattle.ftl_core.specs.declared.books.Book.{Book}
+use Rattle.ftl_core.specs.declared.books.Flight.{Flight}
 use Rattle.ftl_core.specs.declared.books.Flight.TheVariants as flight
+use Rattle.ftl_core.specs.declared.books.Reader.TheVariants as reader
+use Rattle.ftl_core.specs.declared.books.Step.{Step}
+use Rattle.ftl_core.specs.declared.books.Step.TheVariants as steps
 use Rattle.ftl_core.specs.declared.books.Stored.{Stored}
 use Rattle.ftl_core.specs.Takes as takes
-use Rattle.ftl_core.specs.Takes.{core_taken, first_owed, idle_flight, job_taken, owed_flight, read_of}
+use Rattle.ftl_core.specs.Takes.{core_taken, first_owed, idle_flight, job_taken, owed_flight, owed_read, read_of}
+use Rattle.ftl_core.specs.Takes.{reads_step, step_read, step_read_at, step_wants}
 use Rattle.ftl_core.proofs.job_taken.NextStarts.{is_free_die, job_begun}
+use Rattle.ftl_core.proofs.pins.FoundPins.{position_missed}
 use Rattle.ftl_core.proofs.pins.PinsAlike.{page_alike, pins_at}
 use Rattle.ufs_spec.proofs.Lists.{position_told}
 
@@ -137,31 +146,78 @@ module _ (g h : Want → Bool) where
 
 -- What a die is owed
 
--- no step and no rest of a page wants a read
-step_wants : (m : Option ℕ) → wants_of_step (step_kept m) ≡ []
-step_wants None = refl
-step_wants (Some n) = refl
+-- the step under way wants one page or none
+step_want : (l : Ledger) (kept : Option Step) (content : List ℕ) (step : Option layer.Step) →
+    StepKept l kept content step → wants_of_step step ≡ cons_option (want_from (step_wants kept)) []
+step_want l None content None h = refl
+step_want l None content (Some s) h = absurd h
+step_want l (Some (steps.Mark n fence)) content None h = absurd h
+step_want l (Some (steps.Mark n fence)) content (Some s) h = ap (λ (x : layer.Step). wants_of_step (Some x)) h
+step_want l (Some (steps.Repair n k from there)) content None h = absurd h
+step_want l (Some (steps.Repair n k None true)) content (Some s) h =
+    ap (λ (x : layer.Step). wants_of_step (Some x)) h.0
+step_want l (Some (steps.Repair n k None false)) content (Some s) h =
+    ap (λ (x : layer.Step). wants_of_step (Some x)) h.0
+step_want l (Some (steps.Repair n k (Some at) true)) content (Some s) h =
+    ap (λ (x : layer.Step). wants_of_step (Some x)) h.0
+step_want l (Some (steps.Repair n k (Some at) false)) content (Some s) h =
+    ap (λ (x : layer.Step). wants_of_step (Some x)) h.0
 
--- a die is owed what pins want of it, and nothing else
-pins_want : (c : Core) (t : Translation) (die : ℕ) → Kept c t →
-    wants_on t die ≡ filter (is_of_die die) (filter (is_unread t) (filter_map want_of_pin t.pins))
-pins_want c t die k =
-    ap (λ (ws : List Want). left (filter_map want_of_pin t.pins ++ ws ++ filter_map want_of_rest t.work.rests))
-    (ap wants_of_step k.work.step ∙ step_wants c.mark)
-    ∙ ap (λ (rs : List Rest). left (filter_map want_of_pin t.pins ++ [] ++ filter_map want_of_rest rs)) k.work.no_rests
-    ∙ ap left (append-nil (filter_map want_of_pin t.pins ++ []) ∙ append-nil (filter_map want_of_pin t.pins))
-  where
-    left : List Want → List Want
-    left ws = filter (is_of_die die) (filter (is_unread t) ws)
+-- those of the wants that are still to be begun on the die
+abbrev left : Translation → ℕ → List Want → List Want
+left t die ws = filter (is_of_die die) (filter (is_unread t) ws)
 
--- where no reader is owed one, none is owed to the die
-pub none_read : (c : Core) (t : Translation) (die : ℕ) → Kept c t →
-    ((j : ℕ) (p : Pin) → slice_get c.pins j ≡ Some p → is_owed_by c.books die p ≡ false) → wants_on t die ≡ []
-none_read c t die k none =
-    pins_want c t die k
-    ∙ none_left (is_unread t) (is_of_die die) t.ledger.frontier (entry_of t.ledger)
+left_joined : (t : Translation) (die : ℕ) (xs ys : List Want) → left t die (xs ++ ys) ≡ left t die xs ++ left t die ys
+left_joined t die xs ys =
+    ap (filter (is_of_die die)) (filter-append (is_unread t) xs ys)
+    ∙ filter-append (is_of_die die) (filter (is_unread t) xs) (filter (is_unread t) ys)
+
+-- a die is owed what pins want of it, and what the step under way wants
+two_want : (c : Core) (t : Translation) (die : ℕ) → Kept c t →
+    wants_on t die
+    ≡ left t die (filter_map want_of_pin t.pins) ++ left t die (cons_option (want_from (step_wants c.step)) [])
+two_want c t die k =
+    ap (λ (rs : List Rest). left t die (filter_map want_of_pin t.pins ++ wants_of_step t.work.step
+    ++ filter_map want_of_rest rs)) k.work.no_rests
+    ∙ ap (left t die) (append-nil (filter_map want_of_pin t.pins ++ wants_of_step t.work.step))
+    ∙ ap (λ (ws : List Want). left t die (filter_map want_of_pin t.pins ++ ws))
+    (step_want t.ledger c.step c.content t.work.step k.work.step_is)
+    ∙ left_joined t die (filter_map want_of_pin t.pins) (cons_option (want_from (step_wants c.step)) [])
+
+-- where no reader is owed one, the step's is left
+step_left : (c : Core) (t : Translation) (die : ℕ) → Kept c t →
+    ((j : ℕ) (p : Pin) → slice_get c.pins j ≡ Some p → is_owed_by c.books die p ≡ false) →
+    wants_on t die ≡ left t die (cons_option (want_from (step_wants c.step)) [])
+step_left c t die k none =
+    two_want c t die k
+    ∙ ap (λ (ws : List Want). ws ++ left t die (cons_option (want_from (step_wants c.step)) []))
+    (none_left (is_unread t) (is_of_die die) t.ledger.frontier (entry_of t.ledger)
     (is_owed_by c.books die) c.pins t.pins
-    (λ p q h. owed_passes c t die p q k h) k.pins none
+    (λ p q h. owed_passes c t die p q k h) k.pins none)
+
+-- whether the step's read is still to be begun on the die
+step_free : (c : Core) (t : Translation) (die : ℕ) (place : Place) → Kept c t →
+    passes (is_unread t) (is_of_die die) (Some (want_at ForStep place))
+    ≡ (not (list_any reads_step c.books) && (place.die == die))
+step_free c t die place k = ap (λ (b : Bool). not b && (place.die == die)) (sym (step_reads_agree c t k))
+
+-- where neither a reader nor the step is owed one, none is owed to the die
+pub none_read : (c : Core) (t : Translation) (die : ℕ) → Kept c t →
+    ((j : ℕ) (p : Pin) → slice_get c.pins j ≡ Some p → is_owed_by c.books die p ≡ false) → step_read c die ≡ None →
+    wants_on t die ≡ []
+none_read c t die k none unread = step_left c t die k none ∙ by (step_wants c.step) unread
+  where
+    passed : (a r : Bool) (f : Flight) → (if not a || r then None else Some f) ≡ None → (not r && a) ≡ false
+    passed true true f e = refl
+    passed true false f e = absurd (none_some f (sym e))
+    passed false true f e = refl
+    passed false false f e = refl
+
+    by : (o : Option Place) → step_read_at c die o ≡ None → left t die (cons_option (want_from o) []) ≡ []
+    by None e = refl
+    by (Some place) e = dropped (is_unread t) (is_of_die die) (Some (want_at ForStep place)) []
+        (step_free c t die place k
+        ∙ passed (place.die == die) (list_any reads_step c.books) (flight.Read place reader.Step) e)
 
 -- the read that a reader is owed is one of them
 one_read : (c : Core) (t : Translation) (die k : ℕ) (p : Pin) (q : layer.Pin) (place : Place) → Kept c t →
@@ -169,9 +225,57 @@ one_read : (c : Core) (t : Translation) (die k : ℕ) (p : Pin) (q : layer.Pin) 
     want_of_pin q ≡ Some (want_at (ForTask p.reader 0) place) →
     Contains (wants_on t die) (want_at (ForTask p.reader 0) place)
 one_read c t die k p q place kept at h owed want =
-    subst (λ (ws : List Want). Contains ws (want_at (ForTask p.reader 0) place)) (sym (pins_want c t die kept))
+    subst (λ (ws : List Want). Contains ws (want_at (ForTask p.reader 0) place)) (sym (two_want c t die kept))
+    (Contains-append_left (left t die (filter_map want_of_pin t.pins))
+    (left t die (cons_option (want_from (step_wants c.step)) [])) (want_at (ForTask p.reader 0) place)
     (one_left (is_unread t) (is_of_die die) t.pins k q (want_at (ForTask p.reader 0) place)
-    at want (ap (passes (is_unread t) (is_of_die die)) (sym want) ∙ sym (owed_passes c t die p q kept h) ∙ owed))
+    at want
+    (ap (passes (is_unread t) (is_of_die die)) (sym want) ∙ sym (owed_passes c t die p q kept h) ∙ owed)))
+
+-- The read that the step under way is owed
+
+pub step_taken : (c : Core) (t : Translation) (die : ℕ) (b : Book) (f : Flight) → Describes c t →
+    slice_get c.books die ≡ Some b → b.flight ≡ None → first_owed c die ≡ None → step_read c die ≡ Some f →
+    IsTaken t die (job_taken c die) (core_taken c die)
+step_taken c t die b f h there idle none_owed read = by (step_wants c.step) refl read
+  where
+    passed : (a r : Bool) (f x : Flight) → (if not a || r then None else Some f) ≡ Some x → (not r && a) ≡ true
+    passed true true f x e = absurd (none_some x e)
+    passed true false f x e = refl
+    passed false r f x e = absurd (none_some x e)
+
+    taken_is : (a r : Bool) (f x : Flight) → (if not a || r then None else Some f) ≡ Some x → Some f ≡ Some x
+    taken_is true true f x e = absurd (none_some x e)
+    taken_is true false f x e = e
+    taken_is false r f x e = absurd (none_some x e)
+
+    same_place : (p q : Place) → disk.Reading ForStep p ≡ disk.Reading ForStep q → p ≡ q
+    same_place p q e = cc
+
+    by : (o : Option Place) → step_wants c.step ≡ o → step_read_at c die o ≡ Some f →
+        IsTaken t die (job_taken c die) (core_taken c die)
+    by None is e = absurd (none_some f e)
+    by (Some place) is e =
+        job_begun c t die b (flight.Read place reader.Step) (disk.Reading ForStep place) h there
+        (ap (takes.flight_for c die) there ∙ ap (idle_flight c die b.filling) idle
+        ∙ ap (λ (k : Option ℕ). owed_flight c die b.filling (owed_read c die k)) none_owed
+        ∙ ap (owed_flight c die b.filling) (read ∙ sym (taken_is (place.die == die) (list_any reads_step c.books)
+        (flight.Read place reader.Step) f e)))
+        refl
+        (refl, tt)
+        (record {
+          alone = λ name e. absurd (false≢true e);
+          wanted = λ tag index p e. cc;
+          step_wanted = λ p e. is ∙ ap (λ (z : Place). Some z) (same_place place p e);
+        }) (
+          is_free_die t die (die_within c t die b h.kept there) (no_job c t die b h.kept there idle),
+          subst (λ (ws : List Want). Contains ws (want_at ForStep place))
+              (sym (step_left c t die h.kept (position_missed (is_owed_by c.books die) c.pins none_owed)
+              ∙ ap (λ (o : Option Place). left t die (cons_option (want_from o) [])) is))
+              (kept_here (is_unread t) (is_of_die die) (want_at ForStep place) []
+              (step_free c t die place h.kept
+              ∙ passed (place.die == die) (list_any reads_step c.books) (flight.Read place reader.Step) f e)),
+        )
 
 -- A read that a reader is owed
 
@@ -194,14 +298,15 @@ owed_told books die p h = by p.looked refl
 pub read_taken : (c : Core) (t : Translation) (die k : ℕ) (b : Book) → Describes c t → slice_get c.books die ≡ Some b →
     b.flight ≡ None → first_owed c die ≡ Some k → IsTaken t die (job_taken c die) (core_taken c die)
 read_taken c t die k b h there idle owed =
-    job_begun c t die b (flight.Read s.place (Some p.reader)) (disk.Reading (ForTask p.reader 0) s.place) h there
-    (ap (takes.flight_for c die) there ∙ ap (idle_flight c die b.filling) idle ∙ ap (owed_flight c die b.filling) owed
-    ∙ ap (option_and_then read_of) at.1
-    ∙ ap (λ (l : Looked). option_map (λ place. flight.Read place (Some p.reader)) (takes.place_in l))
-    told.2)
+    job_begun c t die b (flight.Read s.place (reader.Task p.reader)) (disk.Reading (ForTask p.reader 0) s.place) h there
+    (ap (takes.flight_for c die) there ∙ ap (idle_flight c die b.filling) idle
+    ∙ ap (λ (o : Option ℕ). owed_flight c die b.filling (owed_read c die o)) owed
+    ∙ ap (owed_flight c die b.filling) (ap (option_and_then read_of) at.1
+    ∙ ap (λ (l : Looked). option_map (λ place. flight.Read place (reader.Task p.reader)) (takes.place_in l))
+    told.2))
     refl
     (refl, (refl, refl))
-    (record { alone = λ name e. absurd (false≢true e); wanted = wanted }) (
+    (record { alone = λ name e. absurd (false≢true e); wanted = wanted; step_wanted = λ place e. cc }) (
       is_free_die t die (die_within c t die b h.kept there) (no_job c t die b h.kept there idle),
       one_read c t die k p q.0 s.place h.kept q.1 q.2 at.2 want,
     )

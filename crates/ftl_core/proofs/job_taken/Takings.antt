@@ -1,19 +1,19 @@
 -- The job that a die is given is one that is owed to it.
-use Rattle.std.proofs.Common.{◌≡◌, ◌∙◌, ℕ, ◌+◌, ◌-◌, ◌<◌, Bool, true, false, [], Option, Some, None, length, refl, sym}
-use Rattle.std.proofs.Common.{ap, subst, inl, inr, arith, is_none, lt-ltb}
-use Rattle.std.specs.Prelude.{◌&&◌, if◌then◌else◌, nat_le, nat_lt, not, slice_get, option_and_then, option_map}
+use Rattle.std.proofs.Common.{◌≡◌, ◌∙◌, ℕ, ◌+◌, ◌-◌, ◌<◌, ◌≤◌, Bool, true, false, [], Option, Some, None, length, refl}
+use Rattle.std.proofs.Common.{sym, ap, subst, inl, inr, arith, is_none, lt-ltb}
+use Rattle.std.specs.Prelude.{if◌then◌else◌, nat_le, nat_lt, not, slice_get, option_and_then, option_map}
 use Rattle.std.specs.List.{list_any}
 use Rattle.std.proofs.lemmas.Bool.{lt-leb}
 use Rattle.ufs_spec.proofs.Facts.{false≢true}
-use Rattle.ufs_spec.specs.Cells.{GroupPage, Mark, MarkPage}
+use Rattle.ufs_spec.specs.Cells.{Cell, GroupPage}
 use Rattle.ufs_spec.specs.Disk as disk
 use Rattle.ufs_spec.specs.Disk.{ForTask, job_of as told_by}
 use Rattle.ufs_spec.specs.Keys as keys
-use Rattle.ufs_spec.specs.Ledger.{Name}
+use Rattle.ufs_spec.specs.Ledger.{Name, pending}
 use Rattle.ufs_spec.specs.Translation as layer
-use Rattle.ufs_spec.specs.Translation.{MayTake, Translation, Want, cell_now, flies_mark, flies_name, flight_at}
-use Rattle.ufs_spec.specs.Translation.{flight_for, is_idle, next_erase, next_flight, some_flight, waiting_name}
-use Rattle.ufs_spec.specs.Translation.{waiting_step, want_at, want_of_look, wants_on}
+use Rattle.ufs_spec.specs.Translation.{MayTake, Translation, Want, cell_now, flies_name, flight_at}
+use Rattle.ufs_spec.specs.Translation.{flight_for, is_idle, is_mended, next_erase, next_flight, some_flight}
+use Rattle.ufs_spec.specs.Translation.{waiting_name, waiting_step, want_at, want_of_look, wants_on}
 use Rattle.ufs_spec.specs.declared.flash.Job.{Job}
 use Rattle.ufs_spec.specs.declared.flash.Place.{Place}
 use Rattle.ufs_spec.specs.declared.flash.Tag.{Tag}
@@ -27,69 +27,37 @@ use Rattle.ftl_core.specs.declared.books.OpenBlock.{OpenBlock}
 use Rattle.ftl_core.specs.declared.books.Waiting.{Waiting}
 use Rattle.ftl_core.specs.declared.books.Waiting.TheVariants as waiting
 use Rattle.ftl_core.specs.Core.{Core}
-use Rattle.ftl_core.specs.Describes.{Describes, GroupKept, IsFlight, IsTaken, Kept, name_at, not_durable, spot_at}
-use Rattle.ftl_core.specs.Describes.{step_kept}
+use Rattle.ftl_core.specs.Describes.{Describes, GroupKept, IsFlight, IsTaken, name_at, spot_at}
 use Rattle.ftl_core.specs.Ends.{below, pending_at}
 use Rattle.ftl_core.specs.Moves.{is_owed_by, may_open, single_tag}
 use Rattle.ftl_core.specs.Takes as takes
 use Rattle.ftl_core.specs.Takes.{begun_with, block_for, core_taken, first_owed, flight_taken, group_job, group_job_at}
-use Rattle.ftl_core.specs.Takes.{idle_flight, is_data, job_of, job_taken, lowest_below, mark_program, mark_waiting}
-use Rattle.ftl_core.specs.Takes.{next_place, number_waiting, owed_flight, page_of_group, read_of, waiting_first}
-use Rattle.ftl_core.specs.Takes.{waiting_flight, waiting_of, waits_at, writes_group, writes_mark}
-use Rattle.ftl_core.proofs.job_taken.Flown.{die_within, marks_agree, no_job, writes_agree}
+use Rattle.ftl_core.specs.Takes.{idle_flight, is_data, job_of, job_taken, lowest_below}
+use Rattle.ftl_core.specs.Takes.{next_place, number_waiting, owed_flight, owed_read, page_of_group, step_read}
+use Rattle.ftl_core.specs.Takes.{step_waits, waiting_flight, waiting_of, waits_at, writes_group}
+use Rattle.ftl_core.proofs.job_taken.Flown.{die_within, no_job, writes_agree}
+use Rattle.ftl_core.proofs.job_taken.Mended.{mended_with, no_repair}
 use Rattle.ftl_core.proofs.job_taken.NextErases.{block_next, block_right, erased_next, lowest_passes, opens_alike}
 use Rattle.ftl_core.proofs.job_taken.NextNames.{next_name}
 use Rattle.ftl_core.proofs.job_taken.NextPages.{kept_at, page_of_pending}
 use Rattle.ftl_core.proofs.job_taken.NextStarts.{MayBegin, is_free_die, job_begun, next_may, not_idle, nothing_taken}
 use Rattle.ftl_core.proofs.job_taken.NextStarts.{outside}
 use Rattle.ftl_core.proofs.pins.FoundPins.{position_missed}
-use Rattle.ftl_core.proofs.job_taken.ReadsTaken.{none_read, read_taken}
-use Rattle.ftl_core.proofs.new_dies.Spots.{next_found}
+use Rattle.ftl_core.proofs.job_taken.ReadsTaken.{none_read, read_taken, step_taken}
+use Rattle.ftl_core.proofs.job_taken.StepPages.{StepPage, step_page}
+use Rattle.ftl_core.proofs.opened.Spots.{next_found}
 use Rattle.ufs_spec.proofs.Lists.{get_there}
 
 -- A job that writes no page of a group, and reads none
 
 erase_begins : (c : Core) (t : Translation) (s : disk.Spot) → MayBegin c t (disk.Erasing s)
-erase_begins c t s = record { alone = λ name e. absurd (false≢true e); wanted = λ tag index place e. cc }
-
-mark_begins : (c : Core) (t : Translation) (place : Place) (m : Mark) →
-    MayBegin c t (disk.Programming place (MarkPage m))
-mark_begins c t place m = record { alone = λ name e. absurd (false≢true e); wanted = λ tag index p e. cc }
+erase_begins c t s = record {
+  alone = λ name e. absurd (false≢true e);
+  wanted = λ tag index place e. cc;
+  step_wanted = λ place e. cc;
+}
 
 -- What waits
-
--- the mark as it is programmed now
-abbrev mark_now : Translation → ℕ → Mark
-mark_now t n = record { number = n; records = t.ledger.frontier; fence = None; numbers = t.numbers }
-
--- the step that waits is the mark that waits
-step_is : (c : Core) (t : Translation) → Kept c t →
-    waiting_step t t.work.step ≡ option_map (λ n. MarkPage (mark_now t n)) (mark_waiting c)
-step_is c t k =
-    ap (waiting_step t) k.work.step ∙ by c.mark
-    ∙ ap (λ (b : Bool). option_map (λ n. MarkPage (mark_now t n)) (if b then None else c.mark))
-    (sym (marks_agree c t k))
-  where
-    turned : (b : Bool) (n : ℕ) →
-        (if true && not b then Some (MarkPage (mark_now t n)) else None)
-        ≡ option_map (λ n. MarkPage (mark_now t n)) (if b then None else Some n)
-    turned true n = refl
-    turned false n = refl
-
-    neither : (b : Bool) → None ≡ option_map (λ n. MarkPage (mark_now t n)) (if b then None else None)
-    neither true = refl
-    neither false = refl
-
-    by : (m : Option ℕ) →
-        waiting_step t (step_kept m) ≡ option_map (λ n. MarkPage (mark_now t n))
-        (if some_flight t flies_mark then None else m)
-    by None = neither (some_flight t flies_mark)
-    by (Some n) = turned (some_flight t flies_mark) n
-
--- the mark that waits is the one that is ordered
-mark_is : (b : Bool) (m : Option ℕ) (n : ℕ) → (if b then None else m) ≡ Some n → m ≡ Some n
-mark_is true m n e = absurd (none_some n e)
-mark_is false m n e = e
 
 not-true' : (b : Bool) → not b ≡ true → b ≡ false
 not-true' true e = cc
@@ -110,7 +78,7 @@ pending_here c k low =
     back f k = omega arith
 
 module _ (c : Core) (t : Translation) (die : ℕ) (b : Book) (h : Describes c t) (there : slice_get c.books die ≡ Some b)
-    (idle : b.flight ≡ None) (none_owed : first_owed c die ≡ None) where
+    (idle : b.flight ≡ None) (none_owed : first_owed c die ≡ None) (step_unread : step_read c die ≡ None) where
   flies_none : t.disk.flights die ≡ None
   flies_none = no_job c t die b h.kept there idle
 
@@ -118,22 +86,21 @@ module _ (c : Core) (t : Translation) (die : ℕ) (b : Book) (h : Describes c t)
   free = is_free_die t die (die_within c t die b h.kept there) flies_none
 
   unread : wants_on t die ≡ []
-  unread = none_read c t die h.kept (position_missed (is_owed_by c.books die) c.pins none_owed)
+  unread = none_read c t die h.kept (position_missed (is_owed_by c.books die) c.pins none_owed) step_unread
 
   -- what is in flight then is what waits
   taken_is : (o : Option OpenBlock) → b.filling ≡ o →
       flight_taken c die ≡ option_and_then (waiting_flight c die o) (waiting_of c)
   taken_is o fills =
       ap (takes.flight_for c die) there ∙ ap (idle_flight c die b.filling) idle
-      ∙ ap (owed_flight c die b.filling) none_owed
+      ∙ ap (λ (k : Option ℕ). owed_flight c die b.filling (owed_read c die k)) none_owed
+      ∙ ap (owed_flight c die b.filling) step_unread
       ∙ ap (λ (x : Option OpenBlock). option_and_then (waiting_flight c die x) (waiting_of c)) fills
 
   -- by the definitions too
-  next_is : (o : Option OpenBlock) → b.filling ≡ o →
-      next_flight t die
-      ≡ flight_for t die (option_map (λ n. MarkPage (mark_now t n)) (mark_waiting c))
-      (option_map name_at (number_waiting c))
-  next_is o fills = λ i. flight_for t die (step_is c t h.kept i) (next_name c t h i)
+  next_is : (cell : Option Cell) → waiting_step t t.work.step ≡ cell →
+      next_flight t die ≡ flight_for t die cell (option_map name_at (number_waiting c))
+  next_is cell step = λ i. flight_for t die (step i) (next_name c t h i)
 
   place_is : (o : Option OpenBlock) → b.filling ≡ o → layer.next_place t die ≡ option_map (next_place die) o
   place_is o fills =
@@ -146,7 +113,8 @@ module _ (c : Core) (t : Translation) (die : ℕ) (b : Book) (h : Describes c t)
   nothing_waits none next = nothing_taken c t die h none (inr (unread, next))
 
   next_begun : (f : Flight) (job : disk.Flight) → flight_taken c die ≡ Some f → next_flight t die ≡ Some job →
-      job_of c die f ≡ Some (told_by job) → IsFlight t.numbers die b.filling (Some f) (Some job) → MayBegin c t job →
+      job_of c die f ≡ Some (told_by job) → IsFlight t.numbers c.step die b.filling (Some f) (Some job) →
+      MayBegin c t job →
       IsTaken t die (job_taken c die) (core_taken c die)
   next_begun f job taken next told is begins =
       job_begun c t die b f job h there taken told is begins (next_may t die job free unread next)
@@ -171,42 +139,32 @@ module _ (c : Core) (t : Translation) (die : ℕ) (b : Book) (h : Describes c t)
           (refl, block_right c t die block h (die_within c t die b h.kept there) (is block e), closed)
           (erase_begins c t (spot_at die block))
 
-  -- a mark waits
-  mark_taken : (n : ℕ) (o : Option OpenBlock) → mark_waiting c ≡ Some n → b.filling ≡ o →
+  -- the page of the step under way waits
+  page_taken : StepPage c t → (o : Option OpenBlock) → step_waits c ≡ true → b.filling ≡ o →
       IsTaken t die (job_taken c die) (core_taken c die)
-  mark_taken n None waits fills =
-      erase_taken waiting.Mark fills (ap (λ (m : Option ℕ). waiting_first m (number_waiting c)) waits)
-      (next_is None fills
-      ∙ ap (λ (m : Option ℕ). flight_for t die (option_map (λ n. MarkPage (mark_now t n)) m)
-      (option_map name_at (number_waiting c))) waits
-      ∙ ap (flight_at t die true (MarkPage (mark_now t n))) (place_is None fills)
+  page_taken page None waits fills =
+      erase_taken waiting.Step fills
+      (ap (λ (z : Bool). if z then Some waiting.Step else option_map waiting.Group (number_waiting c)) waits)
+      (next_is (Some page.cell) page.waits
+      ∙ ap (flight_at t die true page.cell) (place_is None fills)
       ∙ erased_next c t die h (die_within c t die b h.kept there))
       (λ block e. e)
-  mark_taken n (Some o) waits fills = next_begun (flight.Mark (next_place die o))
-      (disk.Programming (next_place die o) (MarkPage (mark_now t n)))
+  page_taken page (Some o) waits fills = next_begun (flight.Step (next_place die o))
+      (disk.Programming (next_place die o) page.cell)
       (taken_is (Some o) fills
-      ∙ ap (λ (m : Option ℕ). option_and_then (waiting_flight c die (Some o)) (waiting_first m (number_waiting c)))
-      waits)
-      (next_is (Some o) fills
-      ∙ ap (λ (m : Option ℕ). flight_for t die (option_map (λ n. MarkPage (mark_now t n)) m)
-      (option_map name_at (number_waiting c))) waits
-      ∙ ap (flight_at t die true (MarkPage (mark_now t n))) (place_is (Some o) fills))
-      (ap (option_map (mark_program c (next_place die o))) (mark_is (list_any writes_mark c.books) c.mark n waits)
-      ∙ (λ i. Some (told_by (disk.Programming (next_place die o)
-      (MarkPage (record {
-        number = n;
-        records = h.kept.ledger_kept.frontier i;
-        fence = None;
-        numbers = h.kept.numbers i;
-      }))))))
-      (refl, (o, fills, refl))
-      (mark_begins c t (next_place die o) (mark_now t n))
+      ∙ ap (λ (z : Bool). option_and_then (waiting_flight c die (Some o)) (if z then Some waiting.Step else
+      option_map waiting.Group (number_waiting c))) waits)
+      (next_is (Some page.cell) page.waits
+      ∙ ap (flight_at t die true page.cell) (place_is (Some o) fills))
+      (page.told (next_place die o))
+      (refl, (o, fills, refl), page.is)
+      (page.begins (next_place die o))
 
   -- a group waits
-  group_taken : (k : ℕ) (o : Option OpenBlock) → mark_waiting c ≡ None →
+  group_taken : (k : ℕ) (o : Option OpenBlock) → step_waits c ≡ false → waiting_step t t.work.step ≡ None →
       lowest_below (waits_at c) (length c.groups) ≡ Some k →
       b.filling ≡ o → IsTaken t die (job_taken c die) (core_taken c die)
-  group_taken k o no_mark first fills = by o fills
+  group_taken k o no_step no_page first fills = by o fills
     where
       n : ℕ
       n = c.frontier + k + 1
@@ -215,10 +173,13 @@ module _ (c : Core) (t : Translation) (die : ℕ) (b : Book) (h : Describes c t)
       number = ap (option_map (λ k. c.frontier + k + 1)) first
 
       waits : waiting_of c ≡ Some (waiting.Group n)
-      waits = λ i. waiting_first (no_mark i) (number i)
+      waits = λ i. if no_step i then Some waiting.Step else option_map waiting.Group (number i)
 
       at : (k < length c.groups) × (waits_at c k ≡ true)
       at = lowest_passes (waits_at c) (length c.groups) k first
+
+      mended : is_mended t.work.mending ≡ true
+      mended = mended_with c t h (let low = at.0 in omega (arith, low))
 
       g : (g : Group) × (slice_get c.groups k ≡ Some g)
       g = get_there c.groups k at.0
@@ -230,9 +191,9 @@ module _ (c : Core) (t : Translation) (die : ℕ) (b : Book) (h : Describes c t)
       waits_here = and_true (is_none g.0.written) (not (list_any (writes_group n) c.books))
           (sym (ap (takes.group_waits c n) g.1) ∙ at.1)
 
-      kept : (y : keys.Group) × (slice_get (not_durable t.ledger) k ≡ Some y)
+      kept : (y : keys.Group) × (slice_get (pending t.ledger) k ≡ Some y)
           × GroupKept t.ledger.standing (t.ledger.frontier + k + 1) g.0 y
-      kept = kept_at t.ledger.standing t.ledger.frontier c.groups (not_durable t.ledger) k g.0
+      kept = kept_at t.ledger.standing t.ledger.frontier c.groups (pending t.ledger) k g.0
           h.kept.ledger_kept.groups g.1
 
       same : t.ledger.frontier + k + 1 ≡ n
@@ -246,7 +207,8 @@ module _ (c : Core) (t : Translation) (die : ℕ) (b : Book) (h : Describes c t)
           none_is (Some p) e = cc
 
       unflown : some_flight t (flies_name (name_at n)) ≡ false
-      unflown = sym (writes_agree c t n h.kept) ∙ not-true' (list_any (writes_group n) c.books) waits_here.1
+      unflown = sym (writes_agree c t n h.kept (no_repair c t h mended))
+          ∙ not-true' (list_any (writes_group n) c.books) waits_here.1
 
       job_is : (place : Place) →
           job_of c die (flight.Group place n) ≡ Some (told_by (disk.Programming place (GroupPage tag_now g.0.body)))
@@ -264,13 +226,13 @@ module _ (c : Core) (t : Translation) (die : ℕ) (b : Book) (h : Describes c t)
               ap (λ (z : Name). t.ledger.standing z.number z.index) is ∙ new,
             );
         wanted = λ tag index p e. cc;
+        step_wanted = λ p e. cc;
       }
 
       by : (x : Option OpenBlock) → b.filling ≡ x → IsTaken t die (job_taken c die) (core_taken c die)
       by None e = erase_taken (waiting.Group n) e waits
-          (next_is None e
-          ∙ (λ i. flight_for t die (option_map (λ n. MarkPage (mark_now t n)) (no_mark i))
-          (option_map name_at (number i)))
+          (next_is None no_page
+          ∙ (λ i. flight_for t die None (option_map name_at (number i)))
           ∙ ap (flight_at t die (layer.may_open t) (cell_now t.ledger (name_at n))) (place_is None e)
           ∙ (λ i. if opens_alike c t h i then erased_next c t die h (die_within c t die b h.kept there) i else None)
           ∙ opened (may_open c (waiting.Group n)))
@@ -289,50 +251,53 @@ module _ (c : Core) (t : Translation) (die : ℕ) (b : Book) (h : Describes c t)
       by (Some x) e = next_begun (flight.Group (next_place die x) n)
           (disk.Programming (next_place die x) (GroupPage tag_now g.0.body))
           (taken_is (Some x) e ∙ ap (option_and_then (waiting_flight c die (Some x))) waits)
-          (next_is (Some x) e
-          ∙ (λ i. flight_for t die (option_map (λ n. MarkPage (mark_now t n)) (no_mark i))
-          (option_map name_at (number i)))
+          (next_is None no_page
+          ∙ (λ i. flight_for t die None (option_map name_at (number i)))
           ∙ ap (flight_at t die (layer.may_open t) (cell_now t.ledger (name_at n))) (place_is (Some x) e)
           ∙ ap (λ z. Some (disk.Programming (next_place die x) z)) (page_of_pending c t k g.0 h g.1))
           (job_is (next_place die x))
-          (refl, (x, e, refl), refl, refl)
+          (refl, (x, e, refl), refl, refl, no_repair c t h mended)
           (begins (next_place die x))
 
   -- what waits, if anything does
-  next_taken : IsTaken t die (job_taken c die) (core_taken c die)
-  next_taken = by (mark_waiting c) refl (lowest_below (waits_at c) (length c.groups)) refl
+  next_taken : length c.numbers.units.items ≤ 8 → IsTaken t die (job_taken c die) (core_taken c die)
+  next_taken few = by (step_waits c) refl (lowest_below (waits_at c) (length c.groups)) refl (step_page c t h few)
     where
-      by : (m : Option ℕ) → mark_waiting c ≡ m → (o : Option ℕ) → lowest_below (waits_at c) (length c.groups) ≡ o →
+      by : (m : Bool) → step_waits c ≡ m → (o : Option ℕ) → lowest_below (waits_at c) (length c.groups) ≡ o →
+          (step_waits c ≡ true → StepPage c t) × (step_waits c ≡ false → waiting_step t t.work.step ≡ None) →
           IsTaken t die (job_taken c die) (core_taken c die)
-      by (Some n) e o f = mark_taken n b.filling e refl
-      by None e (Some k) f = group_taken k b.filling e f refl
-      by None e None f = nothing_waits
+      by true e o f page = page_taken (page.0 e) b.filling e refl
+      by false e (Some k) f page = group_taken k b.filling e (page.1 e) f refl
+      by false e None f page = nothing_waits
           (taken_is b.filling refl
           ∙ (λ i. option_and_then (waiting_flight c die b.filling)
-          (waiting_first (e i) (option_map (λ k. c.frontier + k + 1) (f i)))))
-          (next_is b.filling refl
-          ∙ (λ i. flight_for t die (option_map (λ n. MarkPage (mark_now t n)) (e i))
-          (option_map name_at (option_map (λ k. c.frontier + k + 1) (f i)))))
+          (if e i then Some waiting.Step else option_map waiting.Group (option_map (λ k. c.frontier + k + 1) (f i)))))
+          (next_is None (page.1 e)
+          ∙ (λ i. flight_for t die None (option_map name_at (option_map (λ k. c.frontier + k + 1) (f i)))))
 
 -- All dies
 
 -- the job that a die is given is one that it may be given, and what is kept then describes the layer that has given it
 pub takes_right : (c after : Core) (die : ℕ) (told : Option Job) → told ≡ job_taken c die → after ≡ core_taken c die →
-    (t : Translation) → Describes c t → IsTaken t die told after
-takes_right c after die told is new t h =
+    length c.numbers.units.items ≤ 8 → (t : Translation) → Describes c t → IsTaken t die told after
+takes_right c after die told is new few t h =
     subst (λ (z : Option Job × Core). IsTaken t die z.0 z.1) (λ i. (sym is i, sym new i))
     (by_book (slice_get c.books die) refl)
   where
     by_owed : (b : Book) → slice_get c.books die ≡ Some b → b.flight ≡ None → (k : Option ℕ) → first_owed c die ≡ k →
         IsTaken t die (job_taken c die) (core_taken c die)
-    by_owed b there idle None owed = next_taken c t die b h there idle owed
+    by_owed b there idle None owed = by_read (step_read c die) refl
+      where
+        by_read : (f : Option Flight) → step_read c die ≡ f → IsTaken t die (job_taken c die) (core_taken c die)
+        by_read None read = next_taken c t die b h there idle owed read few
+        by_read (Some f) read = step_taken c t die b f h there idle owed read
     by_owed b there idle (Some k) owed = read_taken c t die k b h there idle owed
 
-    busy : (b : Book) (f : Flight) (g : Option disk.Flight) → IsFlight t.numbers die b.filling (Some f) g →
+    busy : (b : Book) (f : Flight) (g : Option disk.Flight) → IsFlight t.numbers c.step die b.filling (Some f) g →
         is_none g ≡ false
     busy b f (Some g) is = refl
     busy b (flight.Read place reader) None is = absurd is
-    busy b (flight.Mark place) None is = absurd is
+    busy b (flight.Step place) None is = absurd is
     busy b (flight.Group place number) None is = absurd is
     busy b (flight.Erase block) None is = absurd is
 
@@ -342,7 +307,7 @@ takes_right c after die told is new t h =
     by_job b there (Some f) job = nothing_taken c t die h
         (ap (takes.flight_for c die) there ∙ ap (idle_flight c die b.filling) job)
         (inl (not_idle t die (inr (busy b f (t.disk.flights die)
-        (subst (λ (x : Option Flight). IsFlight t.numbers die b.filling x (t.disk.flights die)) job
+        (subst (λ (x : Option Flight). IsFlight t.numbers c.step die b.filling x (t.disk.flights die)) job
         (h.kept.dies.each die b there).job)))))
 
     by_book : (o : Option Book) → slice_get c.books die ≡ o → IsTaken t die (job_taken c die) (core_taken c die)

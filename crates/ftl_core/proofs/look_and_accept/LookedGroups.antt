@@ -1,12 +1,12 @@
 -- What the layer looks up is what the ledger has.
-use Rattle.std.proofs.Common.{◌≡◌, ℕ, suc, ◌+◌, ◌-◌, ◌≤◌, length, Option, Some, None, refl, sym, ap}
-use Rattle.std.proofs.Common.{◌∙◌, subst, ⊎_elim, arith, length-drop, lt-ltb, le-ltb}
+use Rattle.std.proofs.Common.{◌≡◌, ℕ, suc, ◌+◌, ◌≤◌, true, Option, Some, None, refl, sym, ap}
+use Rattle.std.proofs.Common.{◌∙◌, subst, ⊎_elim, arith, lt-ltb, le-ltb}
 use Rattle.std.specs.Prelude.{nat_lt}
 use Rattle.ufs_spec.specs.Keys.{IsKey}
 use Rattle.ufs_spec.specs.Ledger as ledger
 use Rattle.ufs_spec.specs.Ledger.{InSlot, Ledger, Name, latest_durable, latest_in, look, looked_on}
 use Rattle.ufs_spec.specs.Plain.{shape_of_numbers}
-use Rattle.ufs_spec.specs.Translation.{Translation}
+use Rattle.ufs_spec.specs.Translation.{Translation, is_mended}
 use Rattle.ufs_spec.specs.declared.configs.Numbers.{Numbers}
 use Rattle.ufs_spec.specs.declared.flash.Key.{Key}
 use Rattle.power_loss.proofs.books.LastOfEachKey.{IsLastOf, NoneOf, latest_cases}
@@ -14,12 +14,12 @@ use Rattle.power_loss.proofs.books.SmallFacts.{if_false, if_true, name_is}
 use Rattle.ftl_core.specs.declared.books.Looked.TheVariants as looked
 use Rattle.ftl_core.specs.declared.books.Stored.{Stored}
 use Rattle.ftl_core.specs.Core.{Core}
-use Rattle.ftl_core.specs.Describes.{Describes, IsLookedAt, IsStored, name_at, not_durable}
+use Rattle.ftl_core.specs.Describes.{Describes, IsLookedAt, IsStored, name_at}
 use Rattle.ftl_core.specs.Moves.{last_of, look_of, looked_at, stored_of}
 use Rattle.power_loss.proofs.kept_pages.LookedUpPages.{latest_splits}
 use Rattle.ftl_core.proofs.look_and_accept.LastGroups.{last_kept, none_kept}
-use Rattle.ftl_core.proofs.group_settled.PageStands.{groups_length}
 use Rattle.ftl_core.proofs.look_and_accept.LookedPages.{durable_within}
+use Rattle.ftl_core.proofs.look_and_accept.Numbers.{behind, kept_groups}
 
 -- the last group of the key is looked at in its slot
 in_slot : (l : Ledger) (name : Name) (gs : Option ℕ) (s : Option Stored) (frontier at : ℕ) → gs ≡ Some at →
@@ -46,48 +46,37 @@ on_page l (Some s) (Some name) frontier r within =
     (le-ltb l.frontier name.number (within name refl)) ∙ ap (looked_on name) r.1))
     (r.0, refl)
 
-module _ (c : Core) (t : Translation) (h : Describes c t) where
-  -- as many groups are kept as are behind the frontier
-  pub groups_left : c.frontier + length c.groups ≡ t.ledger.greatest_seen + length t.ledger.groups
-  groups_left =
-      let f = h.kept.ledger_kept.frontier in
-      let above = h.valid.frontier.above in
-      let within = h.valid.frontier.within in
-      let e = groups_length t.ledger.standing t.ledger.frontier c.groups
-      (not_durable t.ledger) h.kept.ledger_kept.groups in
-      omega (arith, length-drop (t.ledger.frontier - t.ledger.greatest_seen) t.ledger.groups)
-
+module _ (c : Core) (t : Translation) (h : Describes c t) (mended : is_mended t.work.mending ≡ true) where
   -- the layer looks up what the ledger has
-  pub looks : (k : Key) → IsKey (shape_of_numbers t.numbers) k → k.kind ≡ 1 → IsLookedAt (look_of c k) (look t.ledger k)
-  looks k is kind =
+  pub looks : (k : Key) → IsKey (shape_of_numbers t.numbers) k → IsLookedAt (look_of c k) (look t.ledger k)
+  looks k is =
       subst (λ o. IsLookedAt (look_of c k) (ledger.looked_at t.ledger o))
       (sym (latest_splits t.ledger k h.valid.frontier.above h.valid.frontier.within))
-      (⊎_elim pending stored (latest_cases k t.ledger.frontier (not_durable t.ledger) (latest_durable t.ledger k)))
+      (⊎_elim pending stored (latest_cases k t.ledger.frontier (behind t.ledger) (latest_durable t.ledger k)))
     where
-      pending : IsLastOf k t.ledger.frontier (not_durable t.ledger)
-          (latest_in k t.ledger.frontier (not_durable t.ledger) (latest_durable t.ledger k)) →
+      pending : IsLastOf k t.ledger.frontier (behind t.ledger)
+          (latest_in k t.ledger.frontier (behind t.ledger) (latest_durable t.ledger k)) →
           IsLookedAt (look_of c k) (ledger.looked_at t.ledger
-          (latest_in k t.ledger.frontier (not_durable t.ledger) (latest_durable t.ledger k)))
+          (latest_in k t.ledger.frontier (behind t.ledger) (latest_durable t.ledger k)))
       pending l =
           let r = last_kept t.ledger.standing t.ledger.frontier c.groups
-          (not_durable t.ledger) h.kept.ledger_kept.groups k
-          (latest_in k t.ledger.frontier (not_durable t.ledger) (latest_durable t.ledger k)) l in
+          (behind t.ledger) (kept_groups c t h mended) k
+          (latest_in k t.ledger.frontier (behind t.ledger) (latest_durable t.ledger k)) l in
           subst (λ o. IsLookedAt (look_of c k) (ledger.looked_at t.ledger o)) (sym l.is)
           (in_slot t.ledger l.name (last_of k c.groups)
           (stored_of c k) c.frontier l.at r.0 h.kept.ledger_kept.frontier l.number r.1)
 
-      stored : (latest_in k t.ledger.frontier (not_durable t.ledger)
+      stored : (latest_in k t.ledger.frontier (behind t.ledger)
           (latest_durable t.ledger k) ≡ latest_durable t.ledger k)
-          × NoneOf k (not_durable t.ledger) →
+          × NoneOf k (behind t.ledger) →
           IsLookedAt (look_of c k) (ledger.looked_at t.ledger
-          (latest_in k t.ledger.frontier (not_durable t.ledger) (latest_durable t.ledger k)))
+          (latest_in k t.ledger.frontier (behind t.ledger) (latest_durable t.ledger k)))
       stored r =
           subst (λ o. IsLookedAt (look_of c k) (ledger.looked_at t.ledger o)) (sym r.0)
           (subst (λ o. IsLookedAt (looked_at o (stored_of c k) c.frontier)
           (ledger.looked_at t.ledger (latest_durable t.ledger k)))
           (sym (none_kept t.ledger.standing t.ledger.frontier c.groups
-          (not_durable t.ledger) h.kept.ledger_kept.groups k r.1))
+          (behind t.ledger) (kept_groups c t h mended) k r.1))
           (on_page t.ledger (stored_of c k) (latest_durable t.ledger k) c.frontier
-          (h.kept.ledger_kept.places k (subst (λ (n : Numbers). IsKey (shape_of_numbers n) k) (sym h.kept.numbers) is)
-          kind)
-          (λ name e. durable_within t k name c.mended h.valid h.kept.work.mending is e)))
+          (h.kept.ledger_kept.places k (subst (λ (n : Numbers). IsKey (shape_of_numbers n) k) (sym h.kept.numbers) is))
+          (λ name e. durable_within t k name h.valid mended is e)))

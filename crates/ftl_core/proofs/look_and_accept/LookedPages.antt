@@ -1,33 +1,24 @@
 -- What is looked up of a key is of the key: the page of a group that has it, in its slot or where it stands.
-use Rattle.std.proofs.Common.{◌≡◌, ◌<◌, ◌≤◌, Bool, true, false, length, Option, Some, None, refl, sym, ◌∙◌, subst}
+use Rattle.std.proofs.Common.{◌≡◌, ◌<◌, ◌≤◌, true, false, length, Option, Some, None, refl, sym, ◌∙◌, subst}
 use Rattle.std.proofs.Common.{⊎_elim, arith}
 use Rattle.std.specs.Prelude.{nat_lt}
 use Rattle.ufs_spec.proofs.Facts.{ltb-false, ltb-true}
 use Rattle.ufs_spec.specs.Ledger.{InSlot, Name, entry_of, latest, latest_durable, look, looked_at, looked_on}
-use Rattle.ufs_spec.specs.Translation.{Translation}
+use Rattle.ufs_spec.specs.Translation.{Translation, is_mended}
 use Rattle.ufs_spec.specs.declared.flash.Key.{Key}
 use Rattle.ufs_spec.specs.declared.flash.Place.{Place}
 use Rattle.power_loss.specs.Book.{FirstRight, HasKey, book}
-use Rattle.power_loss.specs.Invariant.{MendingRight, Valid}
-use Rattle.power_loss.proofs.books.PagesByName.{some_is, written_more}
+use Rattle.power_loss.specs.Invariant.{Valid}
+use Rattle.power_loss.proofs.books.PagesByName.{some_is}
 use Rattle.power_loss.proofs.books.LastOfEachKey.{IsLastOf, NoneOf, latest_cases}
 use Rattle.power_loss.proofs.kept_pages.LookedUpPages.{AreRewritten, last_page, latest_is_durable, latest_right}
+use Rattle.power_loss.proofs.kept_pages.LookedUpPages.{settled_mended}
 use Rattle.power_loss.proofs.books.SmallFacts.{if_false, if_true, two_ways}
-use Rattle.ftl_core.specs.Describes.{IsLookOf, IsNameOf, mending_kept}
+use Rattle.ftl_core.specs.Describes.{IsLookOf, IsNameOf}
 
--- What is lost is written again
-
--- so it is in a mended device, and where the first mark has no fence
-rewritten_by : (t : Translation) (mended : Bool) → MendingRight (book t) t.disk t.ledger t.work.plan t.work.step
-    (mending_kept mended) → AreRewritten t
-rewritten_by t true m = λ n i e lost old.
-    written_more (book t) e.item.key m.mark.records t.ledger.frontier m.right.within (m.more.repaired n i e lost old)
-rewritten_by t false m = λ n i e lost old. let f = m.fence_right.1 in let a = lost.from in let z = lost.to in absurd
-    (omega arith)
-
-rewritten : (t : Translation) (mended : Bool) → Valid t → t.work.mending ≡ mending_kept mended → AreRewritten t
-rewritten t mended v e = rewritten_by t mended
-    (subst (MendingRight (book t) t.disk t.ledger t.work.plan t.work.step) e v.mending)
+-- once the device is mended what is lost is written again
+rewritten : (t : Translation) → Valid t → is_mended t.work.mending ≡ true → AreRewritten t
+rewritten t v mended = (settled_mended t t.work.mending mended v.mending).0
 
 -- What is looked up
 
@@ -81,13 +72,12 @@ look_there t k (Some name) v s has e = ⊎_elim behind durable (two_ways (nat_lt
             (l.entry, l.is, l.key)
 
 -- the page of a key at the frontier has a number at or under it
-pub durable_within : (t : Translation) (k : Key) (name : Name) (mended : Bool) → Valid t →
-    t.work.mending ≡ mending_kept mended → HasKey (book t) k → latest_durable t.ledger k ≡ Some name →
+pub durable_within : (t : Translation) (k : Key) (name : Name) → Valid t → is_mended t.work.mending ≡ true →
+    HasKey (book t) k → latest_durable t.ledger k ≡ Some name →
     name.number ≤ t.ledger.frontier
-durable_within t k name mended v m has e = (latest_right t k name v (rewritten t mended v m) has e).within
+durable_within t k name v mended has e = (latest_right t k name v (rewritten t v mended) has e).within
 
 -- what is looked up of a key of the device is of the key
-pub looked_there : (t : Translation) (k : Key) (mended : Bool) → Valid t → t.work.mending ≡ mending_kept mended →
-    HasKey (book t) k →
+pub looked_there : (t : Translation) (k : Key) → Valid t → is_mended t.work.mending ≡ true → HasKey (book t) k →
     IsLookOf t.ledger.frontier (entry_of t.ledger) k (look t.ledger k)
-looked_there t k mended v e has = look_there t k (latest t.ledger k) v (rewritten t mended v e) has refl
+looked_there t k v mended has = look_there t k (latest t.ledger k) v (rewritten t v mended) has refl

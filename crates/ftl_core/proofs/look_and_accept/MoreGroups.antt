@@ -1,24 +1,30 @@
 -- A group more, that is accepted behind all others.
-use Rattle.std.proofs.Common.{◌≡◌, ℕ, suc, ◌+◌, ◌-◌, ◌<◌, ◌≤◌, true, List, [], ◌∷◌, ◌++◌, length, Option, Some, None}
-use Rattle.std.proofs.Common.{refl, sym, ap, subst, arith}
+use Rattle.std.proofs.Common.{◌≡◌, ◌∙◌, ℕ, suc, ◌+◌, ◌-◌, ◌<◌, ◌≤◌, true, List, [], ◌∷◌, ◌++◌, length, Option, Some}
+use Rattle.std.proofs.Common.{None, refl, sym, ap, subst, arith}
 use Rattle.std.proofs.lemmas.List.{drop-append-le, take-append-le}
 use Rattle.ufs_spec.specs.Keys as keys
-use Rattle.ufs_spec.specs.Ledger.{InSlot, Ledger, Looked, OnPage, Unwritten, entry_of, latest_durable, latest_in}
+use Rattle.ufs_spec.proofs.Facts.{true≢false}
+use Rattle.ufs_spec.specs.Ledger.{InSlot, Ledger, Looked, OnPage, Unwritten, before_accepted, entry_of, latest_durable}
+use Rattle.ufs_spec.specs.Ledger.{latest_in, pending}
 use Rattle.ufs_spec.specs.Translation as layer
-use Rattle.ufs_spec.specs.Translation.{Translation}
+use Rattle.ufs_spec.specs.Translation.{Translation, Work, is_mended}
 use Rattle.ufs_spec.specs.declared.flash.Key.{Key}
 use Rattle.ufs_spec.specs.declared.flash.Place.{Place}
 use Rattle.power_loss.specs.Book.{book, last_number}
 use Rattle.power_loss.specs.Invariant.{Valid}
 use Rattle.power_loss.proofs.books.PagesByName.{page_grows, page_within}
 use Rattle.ftl_core.specs.declared.books.Group.{Group}
+use Rattle.ftl_core.specs.declared.books.Mending.{Mending}
 use Rattle.ftl_core.specs.declared.books.Pin.{Pin}
+use Rattle.ftl_core.specs.declared.books.Step.{Step}
+use Rattle.ftl_core.specs.declared.books.Step.TheVariants as steps
 use Rattle.ftl_core.specs.Core.{Core}
-use Rattle.ftl_core.specs.Describes.{Describes, GroupsKept, IsLookOf, IsStored, LedgerKept, PinsKept, not_durable}
-use Rattle.ftl_core.specs.Moves.{accepted, stored_of}
+use Rattle.ftl_core.specs.Describes.{Describes, GroupsKept, IsLookOf, IsStored, LedgerKept, PinsKept, StepKept}
+use Rattle.ftl_core.specs.Describes.{WorkKept}
+use Rattle.ftl_core.specs.Moves.{accepted, repairs_in, stored_of}
 use Rattle.ftl_core.specs.Takes.{is_data}
 use Rattle.ftl_core.proofs.look_and_accept.LastGroups.{kept_more}
-use Rattle.ftl_core.proofs.look_and_accept.LookedGroups.{groups_left}
+use Rattle.ftl_core.proofs.look_and_accept.Numbers.{behind, groups_left, kept_groups, pending_mended, repairs_mended}
 
 -- The page of a number that no group has
 
@@ -45,37 +51,71 @@ durable_same l g k w = ap (λ (gs : List keys.Group). latest_in k l.greatest_see
 abbrev pub one_page : Key → List ℕ → keys.Group
 one_page k body = record { key = k; body = body } ∷ []
 
+-- one group more is behind the frontier
+behind_more : (l : Ledger) (g : keys.Group) → before_accepted l ≤ l.frontier →
+    l.frontier - l.greatest_seen ≤ length l.groups → pending (with_group l g) ≡ behind l ++ g ∷ []
+behind_more l g repaired w = pending_mended (with_group l g) repaired
+    ∙ drop-append-le (l.frontier - l.greatest_seen) l.groups (g ∷ []) w
+
 pub ledger_more : (c : Core) (t : Translation) (k : Key) (body : List ℕ) → Describes c t →
-    is_data (record { key = k; written = None; body = body }) ≡ true →
+    is_mended t.work.mending ≡ true → is_data (record { key = k; written = None; body = body }) ≡ true →
     LedgerKept c.numbers c.places (accepted c k body).groups c.frontier (with_group t.ledger (one_page k body))
-ledger_more c t k body h data_page = record {
+ledger_more c t k body h mended data_page = record {
   frontier = h.kept.ledger_kept.frontier;
-  repairs = h.kept.ledger_kept.repairs;
-  groups = subst (GroupsKept t.ledger.standing t.ledger.frontier (c.groups ++ pending ∷ []))
-      (sym (drop-append-le (t.ledger.frontier - t.ledger.greatest_seen) t.ledger.groups (one_page k body ∷ []) within))
-      (kept_more t.ledger.standing t.ledger.frontier c.groups (not_durable t.ledger) pending (one_page k body)
-      h.kept.ledger_kept.groups
+  groups = subst (GroupsKept t.ledger.standing t.ledger.frontier (c.groups ++ last ∷ []))
+      (sym (behind_more t.ledger (one_page k body) (h.kept.work.repaired mended) within))
+      (kept_more t.ledger.standing t.ledger.frontier c.groups (behind t.ledger) last (one_page k body)
+      (kept_groups c t h mended)
       (record {
         page = refl;
         data_page = data_page;
         stands = never_stood t number 0 (t.ledger.standing number 0) h.valid new refl;
       }));
-  addresses = h.kept.ledger_kept.addresses;
-  places = λ j is kind. subst (IsStored t.ledger.standing (stored_of c j))
-      (durable_same t.ledger (one_page k body) j within) (h.kept.ledger_kept.places j is kind);
+  keys = h.kept.ledger_kept.keys;
+  places = λ j is. subst (IsStored t.ledger.standing (stored_of c j))
+      (durable_same t.ledger (one_page k body) j within) (h.kept.ledger_kept.places j is);
 }
   where
     within : t.ledger.frontier - t.ledger.greatest_seen ≤ length t.ledger.groups
     within = let a = h.valid.frontier.above in let w = h.valid.frontier.within in omega arith
 
-    pending : Group
-    pending = record { key = k; written = None; body = body }
+    last : Group
+    last = record { key = k; written = None; body = body }
 
     number : ℕ
     number = suc (t.ledger.frontier + length c.groups)
 
     new : last_number (book t) < suc (t.ledger.frontier + length c.groups)
-    new = let e = groups_left c t h in let f = h.kept.ledger_kept.frontier in omega arith
+    new =
+        let e = groups_left c t h in
+        let f = h.kept.ledger_kept.frontier in
+        let none = repairs_mended c t h mended in
+        omega (arith, e, f, none)
+
+-- What is known of the mending
+
+-- once the device is mended, a group more at the end leaves what is known of steps
+pub work_more : (m : Mending) (left : List Key) (step : Option Step) (content : List ℕ) (next : ℕ) (w : Work)
+    (l after : Ledger) → is_mended w.mending ≡ true → repairs_in step ≡ 0 → after.marks ≡ l.marks →
+    before_accepted after ≤ after.frontier → WorkKept m left step content next w l →
+    WorkKept m left step content next w after
+work_more m left step content next w l after mended none marks repaired k = record {
+  mending_is = k.mending_is;
+  step_is = step_same step w.step none k.step_is;
+  to_repair = λ e. absurd (true≢false (sym mended ∙ e));
+  no_plan = k.no_plan;
+  no_rests = k.no_rests;
+  next_mark = k.next_mark ∙ ap suc (sym marks);
+  repaired = λ e. repaired;
+}
+  where
+    step_same : (s : Option Step) (u : Option layer.Step) → repairs_in s ≡ 0 → StepKept l s content u →
+        StepKept after s content u
+    step_same None None e r = r
+    step_same None (Some x) e r = absurd r
+    step_same (Some (steps.Mark n fence)) None e r = absurd r
+    step_same (Some (steps.Mark n fence)) (Some x) e r = r
+    step_same (Some (steps.Repair n key from there)) u e r = cc
 
 -- Pins
 

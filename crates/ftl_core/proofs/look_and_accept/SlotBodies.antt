@@ -1,19 +1,20 @@
 -- The slot of a pending group has the body of the group's page.
-use Rattle.std.proofs.Common.{◌≡◌, ◌∙◌, ℕ, ◌+◌, ◌-◌, ◌<◌, ◌≤◌, List, [], ◌∷◌, Option, Some, None, drop}
+use Rattle.std.proofs.Common.{◌≡◌, ◌∙◌, ℕ, ◌+◌, ◌-◌, ◌<◌, ◌≤◌, true, List, [], ◌∷◌, Option, Some, None, drop}
 use Rattle.std.proofs.Common.{slice_get, refl, sym, ap, subst, arith}
 use Rattle.std.specs.Prelude.{if◌then◌else◌, nat_le, option_and_then, option_map}
 use Rattle.std.proofs.lemmas.Bool.{lt-leb}
 use Rattle.ufs_spec.specs.Keys as keys
 use Rattle.ufs_spec.specs.Ledger.{Entry, Ledger, entry_in, entry_of, group_at}
-use Rattle.ufs_spec.specs.Translation.{Translation}
+use Rattle.ufs_spec.specs.Translation.{Translation, is_mended}
 use Rattle.power_loss.proofs.books.FrontierClimbs.{get_drop}
 use Rattle.power_loss.proofs.books.SmallFacts.{if_false}
 use Rattle.ftl_core.specs.declared.books.Group.{Group}
 use Rattle.ftl_core.specs.Core.{Core}
 use Rattle.ftl_core.specs.Describes as layer_kept
-use Rattle.ftl_core.specs.Describes.{GroupsKept, name_at}
+use Rattle.ftl_core.specs.Describes.{name_at}
 use Rattle.ftl_core.specs.Moves.{slot_of}
 use Rattle.ftl_core.proofs.look_and_accept.LastGroups.{at_kept}
+use Rattle.ftl_core.proofs.look_and_accept.Numbers.{kept_groups}
 
 -- an entry of a group is an item of a group that there is
 found_entry : (x : Option keys.Group) (i : ℕ) (e : Entry) → option_and_then (λ g. entry_in g i) x ≡ Some e →
@@ -48,10 +49,11 @@ slot_has gs frontier n g new at =
     ∙ ap (option_map (λ (g : Group). g.body)) at
 
 -- the slot of a group that is not durable has the body of the group's page
-pub slot_is : (c : Core) (t : Translation) (n : ℕ) (e : Entry) → layer_kept.Describes c t → t.ledger.frontier < n →
+pub slot_is : (c : Core) (t : Translation) (n : ℕ) (e : Entry) → layer_kept.Describes c t →
+    is_mended t.work.mending ≡ true → t.ledger.frontier < n →
     entry_of t.ledger (name_at n) ≡ Some e →
     slot_of c n ≡ Some e.item.body
-slot_is c t n e h new is =
+slot_is c t n e h mended new is =
     let above = h.valid.frontier.above in
     let r = group_behind t.ledger n e (omega arith) is in
     let at : slice_get (drop (t.ledger.frontier - t.ledger.greatest_seen) t.ledger.groups) (n - t.ledger.frontier - 1) ≡
@@ -59,7 +61,7 @@ slot_is c t n e h new is =
     get_drop t.ledger.groups (t.ledger.frontier - t.ledger.greatest_seen) (n - t.ledger.frontier - 1)
     ∙ (ap (slice_get t.ledger.groups) (back t.ledger.greatest_seen t.ledger.frontier n above new) ∙ r.1) in
     let k = at_kept t.ledger.standing t.ledger.frontier c.groups
-    (drop (t.ledger.frontier - t.ledger.greatest_seen) t.ledger.groups) h.kept.ledger_kept.groups
+    (drop (t.ledger.frontier - t.ledger.greatest_seen) t.ledger.groups) (kept_groups c t h mended)
     (n - t.ledger.frontier - 1) r.0 at in
     subst (λ (z : ℕ). (if nat_le n z then None else option_map (λ (g : Group). g.body) (slice_get c.groups (n - z - 1)))
     ≡ Some e.item.body) (sym h.kept.ledger_kept.frontier)

@@ -21,6 +21,8 @@ use Rattle.ftl_core.specs.declared.books.Flight.{Flight}
 use Rattle.ftl_core.specs.declared.books.Flight.TheVariants as flight
 use Rattle.ftl_core.specs.declared.books.OpenBlock.{OpenBlock}
 use Rattle.ftl_core.specs.declared.books.Pin.{Pin}
+use Rattle.ftl_core.specs.declared.books.Reader.TheVariants as readers
+use Rattle.ftl_core.specs.declared.books.Step.{Step}
 use Rattle.ftl_core.specs.Core.{Core}
 use Rattle.ftl_core.specs.Describes.{BookKept, IsFlight, Kept, PinsKept, ReadersDiffer}
 use Rattle.ftl_core.specs.Moves.{flight_without, is_pin_of, pins_without, without_reader}
@@ -77,17 +79,19 @@ only_one reader (p ∷ ps) differ = by (is_pin_of reader p) refl (only_one reade
 -- The reads in flight
 
 -- the job in flight is as it was, or is a read that is for nobody now
-flight_gone : (n : Numbers) (gone die : ℕ) (filling : Option OpenBlock) (f : Option Flight) (g : Option disk.Flight) →
-    IsFlight n die filling f g → IsFlight n die filling (flight_without gone f) (layer_without (is_for_task gone) g)
-flight_gone n gone die filling f g h =
-    flight_cases n die filling
-    (λ (x : Option Flight) (y : Option disk.Flight). IsFlight n die filling x y →
-    IsFlight n die filling (flight_without gone x) (layer_without (is_for_task gone) y))
-    (λ is. is) (λ place tag is. by place tag (tag == gone)) (λ place is. is) (λ o m fills is. is)
-    (λ o tag body fills first is. is) (λ block within none is. is) f g h h
+flight_gone : (n : Numbers) (step : Option Step) (gone die : ℕ) (filling : Option OpenBlock) (f : Option Flight)
+    (g : Option disk.Flight) →
+    IsFlight n step die filling f g →
+    IsFlight n step die filling (flight_without gone f) (layer_without (is_for_task gone) g)
+flight_gone n step gone die filling f g h =
+    flight_cases n step die filling
+    (λ (x : Option Flight) (y : Option disk.Flight). IsFlight n step die filling x y →
+    IsFlight n step die filling (flight_without gone x) (layer_without (is_for_task gone) y))
+    (λ is. is) (λ place tag is. by place tag (tag == gone)) (λ place is. is) (λ place is. is)
+    (λ o cell fills page is. is) (λ o tag body fills first alone is. is) (λ block within none is. is) f g h h
   where
     by : (place : Place) (tag : ℕ) (b : Bool) →
-        IsFlight n die filling (Some (flight.Read place (if b then None else Some tag)))
+        IsFlight n step die filling (Some (flight.Read place (if b then readers.Nobody else readers.Task tag)))
         (Some (disk.Reading (if b then ForNobody else ForTask tag 0) place))
     by place tag true = (refl, tt)
     by place tag false = (refl, (refl, refl))
@@ -99,12 +103,12 @@ get_map f (x ∷ xs) zero y h = (x, refl, sym (some_is (f x) y h))
 get_map f (x ∷ xs) (suc k) y h = get_map f xs k y h
 
 -- what is known of each die
-pub book_gone : (n : Numbers) (blocks : Spot → disk.BlockState) (gone die : ℕ) (b : Book) (g : Option disk.Flight) →
-    BookKept n blocks die b g →
-    BookKept n blocks die (without_reader gone b) (layer_without (is_for_task gone) g)
-book_gone n blocks gone die b g h = record {
+pub book_gone : (n : Numbers) (blocks : Spot → disk.BlockState) (step : Option Step) (gone die : ℕ) (b : Book)
+    (g : Option disk.Flight) → BookKept n blocks step die b g →
+    BookKept n blocks step die (without_reader gone b) (layer_without (is_for_task gone) g)
+book_gone n blocks step gone die b g h = record {
   filling = h.filling;
-  job = flight_gone n gone die b.filling b.flight g h.job;
+  job = flight_gone n step gone die b.filling b.flight g h.job;
 }
 
 same_names : (reads : Reader → Bool) (name : ledger.Name) (f : Option disk.Flight) →
@@ -134,6 +138,22 @@ reads_before gone (Some (disk.Reading (ForTask a i) p)) tag index place e = by (
         (Some (disk.Reading (ForTask a i) p) ≡ Some (disk.Reading (ForTask tag index) place)) × ((tag == gone) ≡ false)
     by true f x = cc
     by false f x = (x, ap (λ (z : ℕ). z == gone) (sym (same x)) ∙ f)
+
+-- and so was a read for the step under way
+step_before : (gone : ℕ) (g : Option disk.Flight) (place : Place) →
+    layer_without (is_for_task gone) g ≡ Some (disk.Reading ForStep place) → g ≡ Some (disk.Reading ForStep place)
+step_before gone None place e = cc
+step_before gone (Some (disk.Reading ForNobody p)) place e = cc
+step_before gone (Some (disk.Reading ForStep p)) place e = e
+step_before gone (Some (disk.Reading (ForRest m i) p)) place e = cc
+step_before gone (Some (disk.Programming p cell)) place e = cc
+step_before gone (Some (disk.Erasing s)) place e = cc
+step_before gone (Some (disk.Reading (ForTask a i) p)) place e = by (a == gone) e
+  where
+    by : (b : Bool) → Some (disk.Reading (if b then ForNobody else ForTask a i) p) ≡
+        Some (disk.Reading ForStep place) → Some (disk.Reading (ForTask a i) p) ≡ Some (disk.Reading ForStep place)
+    by true x = cc
+    by false x = x
 
 -- What the others keep
 
@@ -167,9 +187,9 @@ let_go_kept c t reader k = record {
     dies = length-map c.books (without_reader reader) ∙ k.dies.dies;
     each = λ die b at.
         let r = get_map (without_reader reader) c.books die b at in
-        subst (λ (x : Book). BookKept t.numbers t.disk.blocks die x
+        subst (λ (x : Book). BookKept t.numbers t.disk.blocks c.step die x
         (layer_without (is_for_task reader) (t.disk.flights die))) (sym r.2)
-        (book_gone t.numbers t.disk.blocks reader die r.0 (t.disk.flights die) (k.dies.each die r.0 r.1));
+        (book_gone t.numbers t.disk.blocks c.step reader die r.0 (t.disk.flights die) (k.dies.each die r.0 r.1));
     no_more = λ die above. ap (layer_without (is_for_task reader)) (k.dies.no_more die above);
   };
   fly = record {
@@ -192,6 +212,9 @@ let_go_kept c t reader k = record {
             (λ p is. ap not (ap (λ (z : ℕ). z == reader) (eq_told p.reader tag is) ∙ r.1)) c.pins ∙ w.1,
         w.2,
       );
+  step_reads = λ die place e. k.step_reads die place (step_before reader (t.disk.flights die) place e);
+  readers = λ e. ap (others reader) (k.readers e);
+  firsts = k.firsts;
 }
 
 -- Each reader keeps one thing
@@ -217,13 +240,14 @@ same_flight c t gone die k = ⊎_elim within past (slice_get_cases c.books die).
     within : ((b : Book) × (die < length c.books) × (slice_get c.books die ≡ Some b) × (get_or c.books die b ≡ b)) →
         layer_without (is_for gone 0) (t.disk.flights die) ≡ layer_without (is_for_task gone) (t.disk.flights die)
     within at =
-        flight_cases t.numbers die at.0.filling
+        flight_cases t.numbers c.step die at.0.filling
         (λ (x : Option Flight) (y : Option disk.Flight). layer_without (is_for gone 0) y ≡ layer_without
         (is_for_task gone) y)
         refl
         (λ place tag. ap (λ (b : Bool). Some (disk.Reading (if b then ForNobody else ForTask tag 0) place))
         (both_ways (tag == gone) 0 refl))
-        (λ place. refl) (λ o m fills. refl) (λ o tag body fills first. refl) (λ block in_it none. refl)
+        (λ place. refl) (λ place. refl) (λ o cell fills page. refl) (λ o tag body fills first alone. refl)
+        (λ block in_it none. refl)
         at.0.flight (t.disk.flights die) (k.dies.each die at.0 at.2).job
 
     past : (length c.books ≤ die) × (slice_get c.books die ≡ None) →

@@ -1,4 +1,4 @@
--- A read in flight is for a reader who keeps its page and waits for it, or for nobody.
+-- A read in flight is for a reader who keeps its page and waits for it, for the step under way, or for nobody.
 use Rattle.std.proofs.Common.{◌≡◌, ◌∙◌, ℕ, Option, Some, None, refl}
 use Rattle.std.proofs.Common.{sym, ap, subst, inl, inr, ◌⊎◌}
 use Rattle.std.specs.Prelude.{slice_get}
@@ -14,6 +14,9 @@ use Rattle.ftl_core.specs.declared.books.Flight.{Flight}
 use Rattle.ftl_core.specs.declared.books.Flight.TheVariants as flight
 use Rattle.ftl_core.specs.declared.books.Looked.{Looked}
 use Rattle.ftl_core.specs.declared.books.OpenBlock.{OpenBlock}
+use Rattle.ftl_core.specs.declared.books.Reader as kept
+use Rattle.ftl_core.specs.declared.books.Reader.TheVariants as readers
+use Rattle.ftl_core.specs.declared.books.Step.{Step}
 use Rattle.ftl_core.specs.Core.{Core}
 use Rattle.ftl_core.specs.Describes.{Describes, IsFlight, IsLookedAt, IsReader}
 use Rattle.ftl_core.proofs.pins.FoundPins.{pin_found}
@@ -23,16 +26,18 @@ use Rattle.ftl_core.proofs.job_taken.NextStarts.{outside}
 
 -- Jobs
 
-reader_is : (n : Numbers) (die : ℕ) (filling : Option OpenBlock) (f : Option Flight) (who : Reader) (place : Place) →
-    IsFlight n die filling f (Some (Reading who place)) → (who ≡ ForNobody) ⊎ ((tag : ℕ) × (who ≡ ForTask tag 0))
-reader_is n die filling (Some (flight.Read p reader)) who place h = known reader who h.1
+reader_is : (n : Numbers) (step : Option Step) (die : ℕ) (filling : Option OpenBlock) (f : Option Flight) (who : Reader)
+    (place : Place) → IsFlight n step die filling f (Some (Reading who place)) →
+    ((who ≡ ForNobody) ⊎ (who ≡ ForStep)) ⊎ ((tag : ℕ) × (who ≡ ForTask tag 0))
+reader_is n step die filling (Some (flight.Read p reader)) who place h = known reader who h.1
   where
-    known : (reader : Option ℕ) (who : Reader) → IsReader reader who → (who ≡ ForNobody)
-        ⊎ ((tag : ℕ) × (who ≡ ForTask tag 0))
-    known (Some reader) (ForTask tag index) h = inr (tag, ap (ForTask tag) h.1)
-    known None ForNobody h = inl refl
+    known : (reader : kept.Reader) (who : Reader) → IsReader reader who →
+        ((who ≡ ForNobody) ⊎ (who ≡ ForStep)) ⊎ ((tag : ℕ) × (who ≡ ForTask tag 0))
+    known (readers.Task reader) (ForTask tag index) h = inr (tag, ap (ForTask tag) h.1)
+    known readers.Step ForStep h = inl (inr refl)
+    known readers.Nobody ForNobody h = inl (inl refl)
     known reader who h = absurd h
-reader_is n die filling f who place h = absurd h
+reader_is n step die filling f who place h = absurd h
 
 task_reads : (c : Core) (t : Translation) (die tag : ℕ) (place : Place) → Describes c t →
     t.disk.flights die ≡ Some (Reading (ForTask tag 0) place) → IsAwaited t tag 0 place
@@ -54,14 +59,15 @@ pub read_awaited : (c : Core) (die : ℕ) (t : Translation) (who : Reader) (plac
     t.disk.flights die ≡ Some (Reading who place) → IsReadOf t place who
 read_awaited c die t who place h flies = by (slice_get c.books die) refl
   where
-    known : (who ≡ ForNobody) ⊎ ((tag : ℕ) × (who ≡ ForTask tag 0)) → IsReadOf t place who
-    known (inl e) = subst (IsReadOf t place) (sym e) tt
+    known : ((who ≡ ForNobody) ⊎ (who ≡ ForStep)) ⊎ ((tag : ℕ) × (who ≡ ForTask tag 0)) → IsReadOf t place who
+    known (inl (inl e)) = subst (IsReadOf t place) (sym e) tt
+    known (inl (inr e)) = subst (IsReadOf t place) (sym e) tt
     known (inr e) = subst (IsReadOf t place) (sym e.1)
         (task_reads c t die e.0 place h (flies ∙ ap (λ (x : Reader). Some (Reading x place)) e.1))
 
     by : (b : Option Book) → slice_get c.books die ≡ b → IsReadOf t place who
     by None e = absurd (none-some _ (sym (h.kept.dies.no_more die (outside c t die h.kept e)) ∙ flies))
     by (Some b) e =
-        known (reader_is t.numbers die b.filling b.flight who place
-        (subst (λ (x : Option disk.Flight). IsFlight t.numbers die b.filling b.flight x) flies
+        known (reader_is t.numbers c.step die b.filling b.flight who place
+        (subst (λ (x : Option disk.Flight). IsFlight t.numbers c.step die b.filling b.flight x) flies
         (h.kept.dies.each die b e).job))

@@ -1,51 +1,43 @@
 -- What the smaller calls tell and make of the layer that is specified.
 use Rattle.std.proofs.Common.{◌≡◌, ◌∙◌, ℕ, suc, ◌+◌, ◌<◌, ◌≤◌, ◌&&◌, ◌||◌, ◌==◌, Bool, true, false, List, [], ◌∷◌}
-use Rattle.std.proofs.Common.{Option, Some, None, length, map, refl, sym, ap, subst, arith}
-use Rattle.std.specs.Prelude.{◌^◌, if◌then◌else◌, find, nat_lt, nat_le, option_and_then, option_map}
+use Rattle.std.proofs.Common.{Option, Some, None, length, drop, max, refl, sym, ap, subst, ⊎_elim, arith}
+use Rattle.std.specs.Prelude.{◌^◌, IsSome, if◌then◌else◌, find, nat_lt, nat_le, option_and_then, option_map}
 use Rattle.std.specs.Prelude.{slice_get}
 use Rattle.std.specs.List.{list_any}
 use Rattle.std.proofs.lemmas.Bool.Decides.{nat_tests}
-use Rattle.ufs_spec.specs.Cells.{Cells, Nothing}
-use Rattle.ufs_spec.specs.Disk.{Spot}
+use Rattle.ufs_spec.proofs.Facts.{cases_Bool, false≢true}
 use Rattle.ufs_spec.specs.Ledger as ledger
-use Rattle.ufs_spec.specs.Ledger.{Entry, Name, before_accepted, entry_of, look}
+use Rattle.ufs_spec.specs.Ledger.{Entry, Ledger, Name, before_accepted, entry_of, look}
 use Rattle.ufs_spec.specs.Keys.{IsKey}
 use Rattle.ufs_spec.specs.Moves as move
 use Rattle.ufs_spec.specs.Moves.{Acknowledge, Claim, Keep, LetGo, LetGoAll, WantPage, moved}
-use Rattle.ufs_spec.specs.Openings.{IsOpenedTranslation}
 use Rattle.ufs_spec.specs.Plain.{shape_of_numbers}
 use Rattle.ufs_spec.specs.Translation as layer
-use Rattle.ufs_spec.specs.Translation.{Translation, spots}
-use Rattle.ufs_spec.specs.declared.configs.Numbers.{Numbers}
-use Rattle.ufs_spec.specs.declared.configs.UnitSpec.{UnitSpec}
+use Rattle.ufs_spec.specs.Translation.{Translation}
 use Rattle.ufs_spec.specs.declared.flash.Key.{Key}
-use Rattle.ufs_spec.specs.declared.flash.Place.{Place}
 use Rattle.power_loss.proofs.moves.MovesKeepValid.{all_keep}
 use Rattle.ftl_core.specs.declared.books.Looked.{Looked}
+use Rattle.ftl_core.specs.declared.books.Mending.{Mending}
 use Rattle.ftl_core.specs.declared.books.Pin.{Pin}
+use Rattle.ftl_core.specs.declared.books.Step.{Step}
+use Rattle.ftl_core.specs.declared.books.Step.TheVariants as steps
 use Rattle.ftl_core.specs.Core.{Core}
-use Rattle.ftl_core.specs.Describes.{Describes, IsLookedAt, PinsKept}
-use Rattle.ftl_core.specs.Moves.{blocks_of, can_accept, free_slots, fresh, has_number, is_pin_of, looked_by, unpinned}
-use Rattle.ftl_core.specs.Moves.{with_pin}
-use Rattle.ftl_core.specs.Tells.{IsPinned, blocks_of_unit, keeps_for}
-use Rattle.ftl_core.proofs.look_and_accept.Looks.{numbers_right, pins_right}
-use Rattle.ftl_core.proofs.new_dies.OpensNew.{opens_right}
+use Rattle.ftl_core.specs.Describes.{Describes, IsLookedAt, PinsKept, StepKept, WorkKept}
+use Rattle.ftl_core.specs.Moves.{can_accept, free_slots, has_number, is_pin_of, last_number, looked_by}
+use Rattle.ftl_core.specs.Moves.{unpinned, with_pin}
+use Rattle.ftl_core.specs.Tells.{IsPinned, keeps_for}
+use Rattle.ftl_core.proofs.look_and_accept.Looks.{pins_right}
+use Rattle.ftl_core.proofs.look_and_accept.Numbers.{numbers_right}
 use Rattle.ftl_core.proofs.pins.FoundPins.{FoundKept, found_at, pins_found}
 use Rattle.ufs_spec.proofs.Lists.{position_none}
 use Rattle.ftl_core.proofs.small_calls.SmallCalls.{claims_right, lets_go_right, slots_right, unpins_right}
 use Rattle.ftl_core.proofs.small_calls.SmallCalls.{wants_no_more}
 
--- The opening, and the units
+-- The units
 
-pub opens_described : (n : Numbers) (bads : List Bool) (c : Core) → c ≡ fresh n bads →
-    (cells : Cells) (is_bad : Spot → Bool) (t : Translation) → 1 ≤ n.pages → ((p : Place) → cells p ≡ Nothing) →
-    bads ≡ map is_bad (spots n) → IsOpenedTranslation n cells is_bad t → Describes c t
-opens_described n bads c is cells is_bad t pages blank listed opened =
-    subst (λ (x : Core). Describes x t) (sym (is ∙ ap (fresh n) listed))
-    (opens_right n cells is_bad t pages blank opened)
-
-pub units_right : (c : Core) (t : Translation) (unit : ℕ) → Describes c t → blocks_of c unit ≡ blocks_of_unit t unit
-units_right c t unit h i = option_map (λ (u : UnitSpec). u.blocks) (slice_get (h.kept.numbers i).units.items unit)
+pub units_right : (c : Core) (t : Translation) (unit : ℕ) → Describes c t →
+    slice_get c.numbers.units.items unit ≡ slice_get t.numbers.units.items unit
+units_right c t unit h i = slice_get (h.kept.numbers i).units.items unit
 
 -- Claims
 
@@ -80,21 +72,21 @@ pins_room c t h =
 -- a reader who keeps nothing keeps what it looked up, where there is room
 pub pins_described : (c after : Core) (t : Translation) (k : Key) (reader : ℕ) (looked : Looked) (room : Bool) →
     after ≡ (if room then with_pin c (record { reader = reader; key = k; looked = looked; wanted = true }) else c) →
-    Describes c t → IsKey (shape_of_numbers t.numbers) k → IsLookedAt looked (look t.ledger k) →
-    list_any (keeps_for reader) t.pins ≡ false →
+    Describes c t → layer.is_mended t.work.mending ≡ true → IsKey (shape_of_numbers t.numbers) k →
+    IsLookedAt looked (look t.ledger k) → list_any (keeps_for reader) t.pins ≡ false →
     Describes after
     (if room then moved t (Keep k (record { tag = reader; index = 0; looked = look t.ledger k; wanted = true })) else t)
-pins_described c after t k reader looked true new h is at none =
+pins_described c after t k reader looked true new h mended is at none =
     subst
     (λ (x : Core). Describes x
     (moved t (Keep k (record { tag = reader; index = 0; looked = look t.ledger k; wanted = true }))))
     (sym new)
-    (pins_right c t k reader looked h is at
+    (pins_right c t k reader looked h mended is at
     (ap (option_and_then (slice_get c.pins)) (position_none (is_pin_of reader) c.pins nobody)))
   where
     nobody : list_any (is_pin_of reader) c.pins ≡ false
     nobody = (same_pins t.ledger.frontier (entry_of t.ledger) reader c.pins t.pins h.kept.pins).1 ∙ none
-pins_described c after t k reader looked false new h is at none = subst (λ (x : Core). Describes x t) (sym new) h
+pins_described c after t k reader looked false new h mended is at none = subst (λ (x : Core). Describes x t) (sym new) h
 
 -- what a reader keeps is what its first pin looks at
 pub pinned_right : (c : Core) (t : Translation) (reader : ℕ) → Describes c t →
@@ -111,6 +103,14 @@ pinned_right c t reader h =
     by (Some p) (Some q) k = k.looked_at
     by None (Some q) k = absurd k
     by (Some p) None k = absurd k
+
+-- it keeps something only once the device is mended
+pub keeps_mended : (c : Core) (t : Translation) (reader : ℕ) → Describes c t → IsSome (looked_by reader c.pins) →
+    layer.is_mended t.work.mending ≡ true
+keeps_mended c t reader h some =
+    ⊎_elim (λ e. e)
+    (λ e. absurd (false≢true (subst (λ (ps : List Pin). IsSome (looked_by reader ps)) (h.kept.readers e) some)))
+    (cases_Bool (layer.is_mended t.work.mending))
 
 pub unpins_told : (c after : Core) (reader : ℕ) → after ≡ unpinned c reader → (t : Translation) → Describes c t →
     Describes after (moved t (LetGoAll reader))
@@ -137,9 +137,42 @@ accepts_where c t h = (λ i. nat_lt 0 (h.kept.claims i) && left i)
     tests a b most e = grind (arith, nat_tests)
 
     left : has_number c ≡ layer.has_number t
-    left = tests (c.frontier + length c.groups) (ledger.next_number t.ledger) (2 ^ 62) (numbers_right c t h)
+    left = tests (last_number c) (ledger.next_number t.ledger) (2 ^ 62) (numbers_right c t h)
 
 -- What is acknowledged
+
+-- what is known of the mending does not depend on it
+work_held : (m : Mending) (left : List Key) (step : Option Step) (content : List ℕ) (next : ℕ) (w : layer.Work)
+    (l : Ledger) (held : ℕ) → WorkKept m left step content next w l →
+    WorkKept m left step content next w (record l { held = held })
+work_held m left step content next w l held k = record {
+  mending_is = k.mending_is;
+  step_is = step_held step w.step k.step_is;
+  to_repair = λ e. let r = k.to_repair e in record { differ = r.differ; unrepaired = r.unrepaired };
+  no_plan = k.no_plan;
+  no_rests = k.no_rests;
+  next_mark = k.next_mark;
+  repaired = k.repaired;
+}
+  where
+    step_held : (s : Option Step) (u : Option layer.Step) → StepKept l s content u →
+        StepKept (record l { held = held }) s content u
+    step_held None None r = r
+    step_held None (Some x) r = absurd r
+    step_held (Some (steps.Mark n fence)) None r = absurd r
+    step_held (Some (steps.Mark n fence)) (Some x) r = r
+    step_held (Some (steps.Repair n key from there)) None r = absurd r
+    step_held (Some (steps.Repair n key from there)) (Some x) r = (
+      r.0,
+      record {
+        next = r.1.next;
+        last = r.1.last;
+        new = r.1.new;
+        entry = r.1.entry;
+        stored = r.1.stored;
+        content_is = r.1.content_is;
+      },
+    )
 
 -- commands that are durable may be acknowledged, and nothing that is kept changes
 pub acknowledges_right : (c : Core) (t : Translation) (count : ℕ) → Describes c t →
@@ -153,16 +186,19 @@ acknowledges_right c t count h allowed = record {
     fly = h.kept.fly;
     ledger_kept = record {
       frontier = h.kept.ledger_kept.frontier;
-      repairs = h.kept.ledger_kept.repairs;
       groups = h.kept.ledger_kept.groups;
-      addresses = h.kept.ledger_kept.addresses;
+      keys = h.kept.ledger_kept.keys;
       places = h.kept.ledger_kept.places;
     };
-    work = h.kept.work;
+    work = work_held c.mending (drop c.repaired c.lost) c.step c.content c.next_mark t.work t.ledger
+        (max t.ledger.held count) h.kept.work;
     claims = h.kept.claims;
     pins = h.kept.pins;
     differ = h.kept.differ;
     reads = h.kept.reads;
+    step_reads = h.kept.step_reads;
+    readers = h.kept.readers;
+    firsts = h.kept.firsts;
   };
 }
 

@@ -1,22 +1,28 @@
 //! How a job in flight ends, and what a step of the device's own orders.
-ghost use Rattle.std.specs.Prelude.{◌≡◌, ℕ, ◌<◌, ◌≤◌, ◌+◌, ◌^◌, IsSome, IfNone, IfSome, length, if◌then◌else◌, map, option_map, position, is_some, Some};
+ghost use Rattle.std.specs.Prelude.{◌≡◌, ℕ, ◌<◌, ◌≤◌, ◌+◌, ◌^◌, IsSome, IfNone, IfSome, IsTrue, List, Option, length, if◌then◌else◌, map, nat_le, option_map, position, is_some, slice_get, Some};
 ghost use Rattle.ftl_core.specs.Ends.{front_durable, front_written, noted, pending_at, settled, group_written};
-ghost use Rattle.ftl_core.specs.Gives.{Gives, GivesIf, IsBodyLooked, IsBodyOf, IsGiven, change_after, change_ended, ending, erase_ended, group_ended, is_read, mark_ended, names, other_for, read_after, read_over, IsGivenTo, wanted_no_more};
-ghost use Rattle.ftl_core.specs.Done.{FlightEnds, IsEnded, core_ended, flight_after};
-ghost use Rattle.ftl_core.specs.Moves.{is_turn_due, moved_pin, erased, mark_failed, mark_ordered, mark_written, page_written, went_bad, pin_of};
+ghost use Rattle.ftl_core.specs.Ends.{mark_over, mending_behind, repair_over, step_failed, step_there, step_written};
+ghost use Rattle.ftl_core.specs.Ends.{with_content};
+ghost use Rattle.ftl_core.specs.Gives.{Gives, GivesIf, IsBodyLooked, IsBodyOf, IsGiven, change_after, change_ended, ending, erase_ended, group_ended, is_read, names, other_for, IsGivenTo, wanted_no_more};
+ghost use Rattle.ftl_core.specs.Gives.{IsContentOf, IsContentRead, IsReadAfter, IsReadOver, step_ended};
+ghost use Rattle.ftl_core.specs.Done.{FlightEnds, IsCoreEnded, IsEnded, IsFlightAfter};
+ghost use Rattle.ftl_core.specs.Moves.{is_repair_due, is_turn_due, moved_pin, erased, has_number, mark_ordered, page_written, went_bad, pin_of};
+ghost use Rattle.ftl_core.specs.Moves.{repair_ordered, repair_turned, repairs_in, turned};
 ghost use Rattle.ufs_spec.specs.Keys.{IsBlock};
 ghost use Rattle.ufs_spec.specs.Moves.{EndJob, Ending, IsEndingOf, MayEnd, TakeStep, moved, suits};
 ghost use Rattle.ufs_spec.specs.Translation.{Translation, is_step_due};
-ghost use Rattle.ufs_spec.specs.Disk.{Reader, Reading};
+ghost use Rattle.ufs_spec.specs.Disk.{Reader as WhoReads, Reading};
 ghost use Rattle.ufs_spec.specs.declared.flash.Place.{Place};
 ghost use Rattle.ftl_core.specs.Describes.{Describes, IsTold};
 ghost use Rattle.ftl_core.specs.Tells.{IsReadOf};
 ghost use Rattle.ftl_core.specs.declared.ftl.Ended.{Ended};
 
-use super::{Ended, Ftl, LAST_NUMBER};
-use crate::books::{BlockState, Book, Flight, Looked, OpenBlock, Pin, Stored};
+use super::{Ended, Ftl, LAST_NUMBER, zeros};
+use crate::books::{
+    BlockState, Book, Flight, Looked, Mending, OpenBlock, Pin, Reader, Step, Stored,
+};
 use page_tag::{one_seal, open};
-use ufs_spec::{Block, Key, Outcome, Page, Place, Tag};
+use ufs_spec::{Block, Fence, Key, Outcome, Page, Place, Tag};
 
 /// Whether the tag is of this address and this number.
 fn names(tag: &Tag, key: Key, number: u64) -> bool
@@ -135,6 +141,65 @@ fn move_pins(pins: &mut [Pin], stored: Stored)
     }
 }
 
+/// How far the mending is once its mark is finished: one with a fence is followed by the repairs.
+fn mending_behind(mending: Mending) -> Mending
+    ensures { result ≡ mending_behind mending }
+{
+    match mending {
+        Mending::Unmarked(Some(_)) => Mending::Repairing,
+        _ => Mending::Mended,
+    }
+}
+
+/// The block that the end of a read gives to the step under way, where the page is the one that it is read
+/// from.
+fn content_read(step: &Option<Step>, outcome: &Outcome) -> Option<Block>
+    ensures { IsContentRead step.now outcome.now result }
+{
+    match outcome {
+        Outcome::Read(page) => content_of_page(step, page),
+        _ => None,
+    }
+}
+
+/// The block of the page, where it is the one that the step under way is read from.
+fn content_of_page(step: &Option<Step>, page: &Page) -> Option<Block>
+    ensures { IsContentOf step.now page.now result }
+{
+    match step {
+        Some(
+            Step::Repair {
+                key,
+                from: Some(stored),
+                ..
+            },
+        ) => body_of(page, *key, stored.number),
+        _ => None,
+    }
+}
+
+/// The content of the step is there.
+fn step_there(step: Option<Step>) -> Option<Step>
+    ensures { result ≡ step_there step }
+{
+    match step {
+        Some(
+            Step::Repair {
+                number,
+                key,
+                from,
+                ..
+            },
+        ) => Some(Step::Repair {
+            number,
+            key,
+            from,
+            is_there: true,
+        }),
+        _ => step,
+    }
+}
+
 impl Ftl {
     /// The die has no job in flight any more, and its open block has one page less.
     fn page_written(&mut self, die: u8, book: Book)
@@ -202,33 +267,84 @@ impl Ftl {
         );
     }
 
-    /// A finished mark without a fence ends the mending.
-    fn mark_done(&mut self, die: u8, book: Book)
-        ensures { self.new ≡ mark_written self.old die book }
+    /// The page of the step under way is written, and the step is over.
+    fn step_written(&mut self, die: u8, book: Book, place: Place)
+        ensures { self.new ≡ step_written self.old die book place }
     {
-        self.mark = None;
-        self.mended = true;
+        match self.step {
+            Some(Step::Mark { .. }) => self.mark_over(),
+            Some(Step::Repair { key, .. }) => self.repair_over(key, place),
+            None => {}
+        }
         self.page_written(die, book);
     }
 
-    /// In place of a failed mark waits one with the next number.
-    fn mark_failed(&mut self, die: u8, place: Place)
-        ensures { self.new ≡ mark_failed self.old die place }
+    /// The mark is finished: repairs follow, or the mending is over.
+    fn mark_over(&mut self)
+        ensures { self.new ≡ mark_over self.old }
     {
-        self.order_mark();
+        self.step = None;
+        self.mending = mending_behind(self.mending);
+    }
+
+    /// The repair is durable: its key reads from this place.
+    fn repair_over(&mut self, key: Key, place: Place)
+        requires under_way { repairs_in self.old.step ≡ 1 }
+        ensures { self.new ≡ repair_over self.old key place }
+    {
+        self.step = None;
+        self.frontier += 1;
+        let stored = Stored {
+            place,
+            number: self.frontier,
+        };
+        self.note_place(key, stored);
+    }
+
+    /// In place of a failed mark waits one with the next number and the same fence. A failed repair waits
+    /// again by itself.
+    fn step_failed(&mut self, die: u8, place: Place)
+        ensures { self.new ≡ step_failed self.old die place }
+    {
+        if let Some(Step::Mark { fence, .. }) = self.step {
+            self.order_mark(fence);
+        }
         self.went_bad(die, place.block);
     }
 
-    /// A mark with the next number waits, where one is left.
-    fn order_mark(&mut self)
-        ensures { self.new ≡ mark_ordered self.old }
+    /// A mark with the next number and this fence waits, where a number is left.
+    fn order_mark(&mut self, fence: Option<Fence>)
+        ensures { self.new ≡ mark_ordered self.old fence }
     {
         if self.next_mark <= LAST_NUMBER {
-            self.mark = Some(self.next_mark);
+            self.step = Some(Step::Mark {
+                number: self.next_mark,
+                fence,
+            });
             self.next_mark += 1;
         } else {
-            self.mark = None;
+            self.step = None;
         }
+    }
+
+    /// The repair of the key waits, with the next number: its content is read from where it stands, or is
+    /// zeros.
+    fn order_repair(&mut self, key: Key)
+        requires idle { repairs_in self.old.step ≡ 0 }
+        requires numbered { IsTrue (has_number self.old) }
+        requires left { self.old.repaired < length self.old.lost }
+        ensures { self.new ≡ repair_ordered self.old key }
+    {
+        let number = self.last_number() + 1;
+        let from = self.stored(key);
+        self.repaired += 1;
+        self.content = zeros();
+        self.step = Some(Step::Repair {
+            number,
+            key,
+            from,
+            is_there: from.is_none(),
+        });
     }
 
     /// The group with this number, if it is pending: its position.
@@ -316,14 +432,14 @@ impl Ftl {
         }
     }
 
-    /// The end of the program of a mark.
-    fn mark_ended(&mut self, die: u8, book: Book, place: Place, is_done: bool)
-        ensures { self.new ≡ mark_ended self.old die book place is_done }
+    /// The end of the program of the page of the step under way.
+    fn step_ended(&mut self, die: u8, book: Book, place: Place, is_done: bool)
+        ensures { self.new ≡ step_ended self.old die book place is_done }
     {
         if is_done {
-            self.mark_done(die, book);
+            self.step_written(die, book, place);
         } else {
-            self.mark_failed(die, place);
+            self.step_failed(die, place);
         }
     }
 
@@ -344,7 +460,7 @@ impl Ftl {
     {
         match flight {
             Flight::Read { .. } => {}
-            Flight::Mark { place } => self.mark_ended(die, book, place, is_done),
+            Flight::Step { place } => self.step_ended(die, book, place, is_done),
             Flight::Group { place, number } => self.group_ended(die, book, place, number, is_done),
             Flight::Erase { block } => self.erase_ended(die, block, is_done),
         }
@@ -376,18 +492,35 @@ impl Ftl {
         }
     }
 
-    /// What the end of the read gives to its reader: the block, where the page is the one that was
-    /// looked up.
-    fn give(&mut self, reader: Option<u8>, outcome: &Outcome) -> Ended
+    /// What the end of the read gives: to its reader the block, where the page is the one that was looked
+    /// up; to the step under way its content.
+    fn give(&mut self, reader: Reader, outcome: &Outcome) -> Ended
         ensures answer { Gives self.old outcome.now reader result }
-        ensures after { self.new ≡ read_over self.old reader }
+        ensures after { IsReadOver self.old outcome.now reader self.new }
     {
-        let Some(reader) = reader else {
-            return Ended::Other;
-        };
-        let body = self.body_for(reader, outcome);
-        end_wants(self.pins.as_mut_slice(), reader);
-        Ended::Read { reader, body }
+        match reader {
+            Reader::Task(tag) => {
+                let body = self.body_for(tag, outcome);
+                end_wants(self.pins.as_mut_slice(), tag);
+                Ended::Read { reader: tag, body }
+            }
+            Reader::Step => {
+                self.take_content(outcome);
+                Ended::Other
+            }
+            Reader::Nobody => Ended::Other,
+        }
+    }
+
+    /// The content of the step under way is there, where the page is the one that it is read from; else it
+    /// is owed again.
+    fn take_content(&mut self, outcome: &Outcome)
+        ensures { (body : Option (List ℕ)) × IsContentRead self.old.step outcome.now body × (self.new ≡ with_content self.old body) }
+    {
+        if let Some(body) = content_read(&self.step, outcome) {
+            self.content = body;
+            self.step = step_there(self.step);
+        }
     }
 
     /// The end of a read.
@@ -395,11 +528,11 @@ impl Ftl {
         &mut self,
         die: u8,
         book: Book,
-        reader: Option<u8>,
+        reader: Reader,
         outcome: &Outcome,
     ) -> Option<Ended>
         ensures answer { GivesIf (is_read outcome.now) self.old outcome.now reader result }
-        ensures after { self.new ≡ read_after self.old die book reader (is_read outcome.now) }
+        ensures after { IsReadAfter (is_read outcome.now) self.old die book outcome.now reader self.new }
     {
         if !is_read(outcome) {
             return None;
@@ -418,7 +551,7 @@ impl Ftl {
     fn job_ended(&mut self, die: u8, book: Book, outcome: &Outcome) -> Option<Ended>
         ensures nothing { IfNone result (self.new ≡ self.old) }
         ensures answer { FlightEnds self.old book.flight outcome.now result }
-        ensures after { self.new ≡ flight_after self.old die book book.flight outcome.now }
+        ensures after { IsFlightAfter self.old die book book.flight outcome.now self.new }
     {
         match book.flight? {
             Flight::Read { reader, .. } => self.read_ended(die, book, reader, outcome),
@@ -431,7 +564,7 @@ impl Ftl {
     pub fn done(&mut self, die: u8, outcome: &Outcome) -> Option<Ended>
         ensures nothing { IfNone result (self.new ≡ self.old) }
         ensures answer { IsEnded self.old die outcome.now result }
-        ensures after { self.new ≡ core_ended self.old die outcome.now }
+        ensures after { IsCoreEnded self.old die outcome.now self.new }
         // It is known exactly where the outcome is of the kind of the job in flight.
         ensures known { (t : Translation) → Describes self.old t → is_some result ≡ suits (t.disk.flights die) outcome.now }
         // What is kept then describes what the end makes of the layer, and the answer tells what it gave.
@@ -442,32 +575,63 @@ impl Ftl {
             IsEndingOf t.disk.cells (t.disk.flights die) outcome.now ending →
             (e : Ended) × (result ≡ Some e) × IsTold t.disk.cells (t.disk.flights die) ending e }
         // A read was for a reader who keeps its page and waits for it, or for nobody.
-        ensures read { (t : Translation) (who : Reader) (place : Place) → Describes self.old t →
+        ensures read { (t : Translation) (who : WhoReads) (place : Place) → Describes self.old t →
             t.disk.flights die ≡ Some (Reading who place) → IsReadOf t place who }
     {
         let book = self.book(die)?;
         self.job_ended(die, book, outcome)
     }
 
-    /// Orders the first mark where the device is not mended and no mark is under way; false, and
-    /// nothing changes, where no step is due.
+    /// Does one step of the mending, where one is due: it orders a mark or a repair. False, and nothing
+    /// changes, where none is due: one is under way, the device is mended, or no number is left.
     pub fn turn(&mut self) -> bool
         ensures due { result ≡ is_turn_due self.old }
-        ensures after { self.new ≡ (if result then mark_ordered self.old else self.old) }
+        ensures after { self.new ≡ (if result then turned self.old else self.old) }
         ensures described_due { (t : Translation) → Describes self.old t → result ≡ is_step_due t }
         ensures described { (t : Translation) → Describes self.old t → Describes self.new (moved t TakeStep) }
     {
-        if !self.is_turn_due() {
+        if self.step.is_some() {
             return false;
         }
-        self.order_mark();
+        match self.mending {
+            Mending::Unmarked(fence) => self.turn_mark(fence),
+            Mending::Repairing => self.turn_repair(),
+            Mending::Mended => false,
+        }
+    }
+
+    /// Orders a mark with this fence, where a number is left.
+    fn turn_mark(&mut self, fence: Option<Fence>) -> bool
+        ensures due { result ≡ nat_le self.old.next_mark (2 ^ 62) }
+        ensures after { self.new ≡ (if result then mark_ordered self.old fence else self.old) }
+    {
+        if self.next_mark > LAST_NUMBER {
+            return false;
+        }
+        self.order_mark(fence);
         true
     }
 
-    /// Whether the device is not mended, no mark is under way, and a number is left.
-    fn is_turn_due(&self) -> bool
-        ensures { result ≡ is_turn_due self.now }
+    /// The next key that has no repair yet.
+    fn next_lost(&self) -> Option<Key>
+        ensures { result ≡ slice_get self.now.lost self.now.repaired }
     {
-        !(self.mended || self.mark.is_some() || self.next_mark > LAST_NUMBER)
+        self.lost.get(self.repaired).copied()
+    }
+
+    /// Orders the repair of the next key, where a number is left, or the mark that follows the repairs.
+    fn turn_repair(&mut self) -> bool
+        requires { repairs_in self.old.step ≡ 0 }
+        ensures due { result ≡ is_repair_due self.old (slice_get self.old.lost self.old.repaired) }
+        ensures after { self.new ≡ (if result then repair_turned self.old (slice_get self.old.lost self.old.repaired) else self.old) }
+    {
+        let Some(key) = self.next_lost() else {
+            return self.turn_mark(None);
+        };
+        if self.last_number() >= LAST_NUMBER {
+            return false;
+        }
+        self.order_repair(key);
+        true
     }
 }

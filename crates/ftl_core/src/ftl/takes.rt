@@ -4,18 +4,22 @@ ghost use Rattle.std.specs.Prelude.{true, false, if◌then◌else◌, unwrap_or,
 ghost use Rattle.std.specs.List.{list_any};
 ghost use Rattle.ftl_core.specs.Ends.{pending_at};
 ghost use Rattle.ftl_core.specs.Takes.{block_for, core_taken, first_owed, group_job, group_job_at, is_data, job_of};
-ghost use Rattle.ftl_core.specs.Takes.{job_taken, lowest_below, mark_program, mark_waiting, next_place, number_waiting};
-ghost use Rattle.ftl_core.specs.Takes.{owed_flight, page_flight, page_of_group, read_of, waiting_flight, waiting_of};
-ghost use Rattle.ftl_core.specs.Takes.{waits_at, writes_group, writes_mark};
+ghost use Rattle.ftl_core.specs.Takes.{is_sealable, is_step_there, job_taken, lowest_below, mark_program};
+ghost use Rattle.ftl_core.specs.Takes.{next_place, number_waiting, owed_flight, owed_read, page_flight, page_of_group};
+ghost use Rattle.ftl_core.specs.Takes.{read_of, reads_step, repair_job, repair_program, step_job, step_read};
+ghost use Rattle.ftl_core.specs.Takes.{step_waits, step_wants, waiting_flight, waiting_of};
+ghost use Rattle.ftl_core.specs.Takes.{waits_at, writes_group, writes_step};
 ghost use Rattle.ftl_core.specs.Moves.{free_blocks, is_erasable, is_owed_by, keeps, looks_on, may_open, reads_for};
 ghost use Rattle.ftl_core.specs.Moves.{single_tag, state_index, state_of, with_book, with_state};
 ghost use Rattle.ufs_spec.specs.Translation.{Translation};
 ghost use Rattle.ftl_core.specs.Describes.{Describes, IsTaken};
 
 use super::Ftl;
-use crate::books::{BlockState, Book, Flight, Group, Looked, OpenBlock, Pin, Waiting};
+use crate::books::{
+    BlockState, Book, Flight, Group, Looked, OpenBlock, Pin, Reader, Step, Waiting,
+};
 use page_tag::{mark_body, seal};
-use ufs_spec::{Block, Job, Key, Page, Place, Tag};
+use ufs_spec::{Fence, Job, Key, Place, Tag};
 
 /// The position of the first reader who is owed the read of a page of this die.
 fn first_owed(pins: &[Pin], books: &[Book], die: u8) -> Option<usize>
@@ -49,7 +53,7 @@ fn read_of(pin: &Pin) -> Option<Flight>
     match pin.looked {
         Looked::Page(stored) => Some(Flight::Read {
             place: stored.place,
-            reader: Some(pin.reader),
+            reader: Reader::Task(pin.reader),
         }),
         _ => None,
     }
@@ -69,7 +73,7 @@ fn reads_for(book: &Book, reader: u8) -> bool
     match book.flight {
         Some(
             Flight::Read {
-                reader: Some(other),
+                reader: Reader::Task(other),
                 ..
             },
         ) => reader == other,
@@ -104,19 +108,80 @@ fn writes_group(book: &Book, number: u64) -> bool
     }
 }
 
-/// Whether some die writes a mark.
-fn is_mark_written_now(books: &[Book]) -> bool
-    ensures { result ≡ list_any writes_mark books.now }
+/// Whether some die writes the page of the step under way.
+fn is_step_written_now(books: &[Book]) -> bool
+    ensures { result ≡ list_any writes_step books.now }
 {
-    books.iter().any(|book| writes_mark(book))
+    books.iter().any(|book| writes_step(book))
 }
 
-/// Whether the die writes a mark.
-fn writes_mark(book: &Book) -> bool
-    ensures { result ≡ writes_mark book.now }
+/// Whether the die writes the page of the step under way.
+fn writes_step(book: &Book) -> bool
+    ensures { result ≡ writes_step book.now }
 {
     match book.flight {
-        Some(Flight::Mark { .. }) => true,
+        Some(Flight::Step { .. }) => true,
+        _ => false,
+    }
+}
+
+/// Whether some die reads for the step under way.
+fn is_step_read_now(books: &[Book]) -> bool
+    ensures { result ≡ list_any reads_step books.now }
+{
+    books.iter().any(|book| reads_step(book))
+}
+
+/// Whether the die reads for the step under way.
+fn reads_step(book: &Book) -> bool
+    ensures { result ≡ reads_step book.now }
+{
+    match book.flight {
+        Some(
+            Flight::Read {
+                reader: Reader::Step,
+                ..
+            },
+        ) => true,
+        _ => false,
+    }
+}
+
+/// Where the page stands that the step under way is still to be read from.
+fn step_wants(step: &Option<Step>) -> Option<Place>
+    ensures { result ≡ step_wants step.now }
+{
+    match step {
+        Some(
+            Step::Repair {
+                from: Some(stored),
+                is_there: false,
+                ..
+            },
+        ) => Some(stored.place),
+        _ => None,
+    }
+}
+
+/// Whether the page of the step under way can be programmed: its content is there.
+fn is_step_there(step: &Option<Step>) -> bool
+    ensures { result ≡ is_step_there step.now }
+{
+    match step {
+        Some(Step::Mark { .. }) => true,
+        Some(Step::Repair { is_there, .. }) => *is_there,
+        None => false,
+    }
+}
+
+/// Whether a tag can name the key of a repair.
+fn is_sealable(key: &Key) -> bool
+    ensures { result ≡ is_sealable key.now }
+{
+    match key.kind {
+        Tag::DATA => key.unit <= 7,
+        Tag::RPMB_AREA => key.unit == 0,
+        Tag::SETTINGS => key.unit == 0 && key.address == 0,
         _ => false,
     }
 }
@@ -159,7 +224,7 @@ fn page_flight(place: Place, waiting: Waiting) -> Flight
     ensures { result ≡ page_flight place waiting }
 {
     match waiting {
-        Waiting::Mark => Flight::Mark { place },
+        Waiting::Step => Flight::Step { place },
         Waiting::Group(number) => Flight::Group { place, number },
     }
 }
@@ -188,6 +253,13 @@ impl Ftl {
         if index < self.states.len() {
             self.states[index] = state;
         }
+    }
+
+    /// The configuration has at most 8 units. It does nothing: its contract says so.
+    fn has_few_units(&self)
+        ensures { length self.now.numbers.units.items ≤ 8 }
+    {
+        let _ = &self.config;
     }
 
     /// What is known of the die; `None` where there is no such die.
@@ -286,23 +358,22 @@ impl Ftl {
         }
     }
 
-    /// The number of the mark that waits.
-    fn waiting_mark(&self) -> Option<u64>
-        ensures { result ≡ mark_waiting self.now }
+    /// Whether the page of the step under way waits.
+    fn step_waits(&self) -> bool
+        ensures { result ≡ step_waits self.now }
     {
-        if is_mark_written_now(self.books.as_slice()) {
-            return None;
-        }
-        self.mark
+        is_step_there(&self.step) && !is_step_written_now(self.books.as_slice())
     }
 
-    /// What waits first: a mark goes before the groups, and these in order of number.
+    /// What waits first: the page of a step goes before those of groups, and these in order of
+    /// number.
     fn waiting(&self) -> Option<Waiting>
         ensures { result ≡ waiting_of self.now }
     {
-        match self.waiting_mark() {
-            Some(_) => Some(Waiting::Mark),
-            None => self.waiting_group().map(Waiting::Group),
+        if self.step_waits() {
+            Some(Waiting::Step)
+        } else {
+            self.waiting_group().map(Waiting::Group)
         }
     }
 
@@ -312,15 +383,16 @@ impl Ftl {
         ensures { result ≡ may_open self.now waiting }
     {
         match waiting {
-            Waiting::Mark => true,
+            Waiting::Step => true,
             Waiting::Group(_) => self.free_blocks() > self.books.len() + 2,
         }
     }
 
-    /// The program of a mark: the configuration and no fence.
-    fn mark_program(&self, place: Place, number: u64) -> Job
+    /// The program of a mark: the configuration and this fence. Until the device is mended the
+    /// frontier is the greatest number seen, which is the last of the fence.
+    fn mark_program(&self, place: Place, number: u64, fence: Option<Fence>) -> Job
         requires { (1 ≤ number) × (number ≤ 2 ^ 62) }
-        ensures { result ≡ mark_program self.now place number }
+        ensures { result ≡ mark_program self.now place number fence }
     {
         let key = Key {
             kind: Tag::MARK,
@@ -328,16 +400,39 @@ impl Ftl {
             address: 0,
         };
         let tag = tag_of(key, number, self.frontier);
-        let body = mark_body(self.config.numbers(), None);
+        let body = mark_body(self.config.numbers(), fence);
         Job::Program(place, seal(&tag, &body))
     }
 
-    /// The program of the mark that is ordered.
-    fn mark_job(&self, place: Place) -> Option<Job>
-        ensures { result ≡ option_map (mark_program self.now place) self.now.mark }
+    /// The program of a repair.
+    fn repair_program(&self, place: Place, number: u64, key: Key) -> Job
+        requires numbered { (1 ≤ number) × (number ≤ 2 ^ 62) }
+        requires named { is_sealable key ≡ true }
+        ensures { result ≡ repair_program self.now place number key }
     {
-        match self.mark {
-            Some(number) => Some(self.mark_program(place, number)),
+        let tag = tag_of(key, number, self.frontier);
+        Job::Program(place, seal(&tag, &self.content))
+    }
+
+    /// The program of the repair, if a tag can name its key.
+    fn repair_job(&self, place: Place, number: u64, key: Key) -> Option<Job>
+        requires { (1 ≤ number) × (number ≤ 2 ^ 62) }
+        ensures { result ≡ repair_job self.now place number key }
+    {
+        if is_sealable(&key) {
+            Some(self.repair_program(place, number, key))
+        } else {
+            None
+        }
+    }
+
+    /// The program of the page of the step under way.
+    fn step_job(&self, place: Place) -> Option<Job>
+        ensures { result ≡ step_job self.now place self.now.step }
+    {
+        match self.step {
+            Some(Step::Mark { number, fence }) => Some(self.mark_program(place, number, fence)),
+            Some(Step::Repair { number, key, .. }) => self.repair_job(place, number, key),
             None => None,
         }
     }
@@ -382,7 +477,7 @@ impl Ftl {
     {
         match flight {
             Flight::Read { place, .. } => Some(Job::Read(place)),
-            Flight::Mark { place } => self.mark_job(place),
+            Flight::Step { place } => self.step_job(place),
             Flight::Group { place, number } => self.group_job(place, number),
             Flight::Erase { block } => Some(Job::Erase { die, block }),
         }
@@ -399,8 +494,8 @@ impl Ftl {
         }
     }
 
-    /// The job of what waits: it goes to the next page of the open block, and a block is erased for it
-    /// if none is open.
+    /// The job of what waits: it goes to the next page of the open block, and a block is erased for
+    /// it if none is open.
     fn waiting_flight(&self, die: u8, book: Book, waiting: Waiting) -> Option<Flight>
         ensures { result ≡ waiting_flight self.now die book.filling waiting }
     {
@@ -411,12 +506,36 @@ impl Ftl {
         Some(page_flight(next_place(die, open), waiting))
     }
 
-    /// The job that an idle die is owed: a read that a reader is owed, else that of what waits first.
-    fn owed_flight(&self, die: u8, book: Book) -> Option<Flight>
-        ensures { result ≡ owed_flight self.now die book.filling (first_owed self.now die) }
+    /// The read that the step under way is owed of a page of this die.
+    fn step_read(&self, die: u8) -> Option<Flight>
+        ensures { result ≡ step_read self.now die }
+    {
+        let place = step_wants(&self.step)?;
+        if place.die != die || is_step_read_now(self.books.as_slice()) {
+            return None;
+        }
+        Some(Flight::Read {
+            place,
+            reader: Reader::Step,
+        })
+    }
+
+    /// The read that is owed to the die: to a reader, else to the step under way.
+    fn owed_read(&self, die: u8) -> Option<Flight>
+        ensures { result ≡ owed_read self.now die (first_owed self.now die) }
     {
         match first_owed(self.pins.as_slice(), self.books.as_slice(), die) {
             Some(index) => read_of(&self.pins[index]),
+            None => self.step_read(die),
+        }
+    }
+
+    /// The job that an idle die is owed: a read, else that of what waits first.
+    fn owed_flight(&self, die: u8, book: Book) -> Option<Flight>
+        ensures { result ≡ owed_flight self.now die book.filling (owed_read self.now die (first_owed self.now die)) }
+    {
+        match self.owed_read(die) {
+            Some(flight) => Some(flight),
             None => match self.waiting() {
                 Some(waiting) => self.waiting_flight(die, book, waiting),
                 None => None,
@@ -424,9 +543,9 @@ impl Ftl {
         }
     }
 
-    /// The next job of the die, which is then in flight: a read that a reader is owed, else the
-    /// program of the first waiting page, else the erase of a block to put it into. `None` where the
-    /// die is not one of the device, has a job in flight, or is owed nothing.
+    /// The next job of the die, which is then in flight: a read that is owed, else the program of
+    /// the first waiting page, else the erase of a block to put it into. `None` where the die is
+    /// not one of the device, has a job in flight, or is owed nothing.
     pub fn take(&mut self, die: u8) -> Option<Job>
         ensures nothing { IfNone result (self.new ≡ self.old) }
         ensures job { result ≡ job_taken self.old die }
@@ -434,6 +553,7 @@ impl Ftl {
         // It is one that the layer owes to the die, in the order of what is owed, and none where none is.
         ensures described { (t : Translation) → Describes self.old t → IsTaken t die result self.new }
     {
+        self.has_few_units();
         let book = self.book(die)?;
         if book.flight.is_some() {
             return None;

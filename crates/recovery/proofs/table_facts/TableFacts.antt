@@ -2,7 +2,7 @@
 use Rattle.std.proofs.Common.{◌≡◌, ◌∙◌, ◌≤◌, ◌^◌, ℕ, Bool, List, length, map, Some, slice_get, ap, subst, sym}
 use Rattle.std.proofs.Common.{⊎_elim, arith}
 use Rattle.std.proofs.lemmas.List.{length-map}
-use Rattle.ufs_spec.specs.Cells.{Array, Cells, IsCell, Mark, MarkPage, Shows}
+use Rattle.ufs_spec.specs.Cells.{Array, Cells, GroupPage, IsCell, Mark, MarkPage, Shows}
 use Rattle.ufs_spec.specs.Dies.{DieState}
 use Rattle.ufs_spec.specs.Disk.{Spot}
 use Rattle.ufs_spec.specs.Lives.{Fit, bad_of}
@@ -10,17 +10,29 @@ use Rattle.ufs_spec.specs.Translation.{spots}
 use Rattle.ufs_spec.specs.declared.configs.Numbers.{Numbers}
 use Rattle.ufs_spec.specs.declared.flash.Place.{Place}
 use Rattle.ufs_laws.proofs.pages.PageIsSomeCell.{some_cell}
+use Rattle.recovery.specs.Listed.{AreInRange}
 use Rattle.recovery.specs.Reading.{IsTable}
 use Rattle.recovery.specs.declared.pages.FoundPage.{FoundPage}
 use Rattle.recovery.specs.declared.reading.Table.{Table}
 use Rattle.recovery.proofs.bad_listed.UsedBlocks.{used_in_order, used_spot}
 
 -- what the pages are, whatever they are
-shown_cells : (array : Array) → (c : Cells) × Shows array c
+pub shown_cells : (array : Array) → (c : Cells) × Shows array c
 shown_cells array = ((λ p. (some_cell (array p)).0), (λ p. (some_cell (array p)).1))
 
 abbrev pub IsTableOf : Numbers → Array → Table → Type 0
 IsTableOf n array t = (c : Cells) → Shows array c → IsTable n c t
+
+-- what pages that open say is in its range
+pub shown_in_range : (array : Array) (c : Cells) → Shows array c → AreInRange c
+shown_in_range array c shown = record {
+  pages = λ p t body is.
+      let cell : IsCell (array p) (GroupPage t body) = subst (IsCell (array p)) is (shown p) in
+      (cell.0.tag_right.number_given.1, cell.0.tag_right.frontier_fits);
+  marks = λ p m is.
+      let cell : IsCell (array p) (MarkPage m) = subst (IsCell (array p)) is (shown p) in
+      (cell.1.tag_right.number_given.1, cell.1.tag_right.frontier_fits);
+}
 
 pub frontiers_fit : (n : Numbers) (array : Array) (t : Table) → IsTableOf n array t → (i : ℕ) (e : FoundPage) →
     slice_get t.pages.items i ≡ Some e → e.tag.frontier ≤ 2 ^ 62

@@ -1,9 +1,11 @@
-use Rattle.std.proofs.Common.{sym, subst, ap, ◌∙◌, length, map}
-use Rattle.ufs_spec.specs.Cells.{AreWithin}
+use Rattle.std.proofs.Common.{sym, subst, ap, ◌∙◌, List, length, map}
+use Rattle.ufs_spec.specs.Cells.{AreWithin, Shows}
+use Rattle.ufs_spec.specs.Dies.{DieState}
 use Rattle.ufs_spec.specs.Lives.{array_of, bad_of}
 use Rattle.ufs_spec.specs.Sound.{CellsSuit}
 use Rattle.ufs_spec.proofs.Facts.{false≢true}
-use Rattle.recovery.proofs.table_facts.TableFacts.{bads_of, each_block, frontiers_fit, records_fit}
+use Rattle.recovery.proofs.settings_pages.SettingsPages.{has_settings, still_found}
+use Rattle.recovery.proofs.table_facts.TableFacts.{bads_of, each_block, frontiers_fit, records_fit, shown_in_range}
 use Rattle.recovery.proofs.tables.Whole.{shown_within}
 use Rattle.recovery.specs.Found.{IsFound}
 use Rattle.recovery.specs.Reading.{newest_in}
@@ -39,15 +41,30 @@ found_in-requires-clause-blocks g c =
     c.in-Ok-bad_blocks.ensures.in_order)
     ∙ sym (ap length c.as_slice.ensures.value)
 
-pub returns-in-Ok-found_in-clause-found : goal.returns-in-Ok-found_in-clause-found
-returns-in-Ok-found_in-clause-found g c = λ cells shown.
+pub is_permanent-requires-clause-settings : goal.is_permanent-requires-clause-settings
+is_permanent-requires-clause-settings g c = λ cells now.
     let dies = map g.D.Die.state c.args.dies.now in
+    let shown = subst (λ (ds : List DieState). Shows (array_of ds) cells) c.in-Ok.ensures.same now in
     let table = c.in-Ok.ensures.read cells shown in
     let is = c.numbers-numbers.ensures.value in
-    subst (λ n. IsFound n cells (bad_of dies) c.in-Ok-found_in.found) is
-    (c.in-Ok-found_in.ensures cells (bad_of dies) table
+    has_settings c.numbers-numbers.result.now cells (bad_of dies) c.in-Ok-found_in.found
+    (c.in-Ok-found_in.ensures cells (bad_of dies) table (shown_in_range (array_of dies) cells shown)
     (subst (λ n. AreWithin n cells) (sym is) (shown_within c.args.config.now dies cells c.requires shown))
     ((c.is_of_config.ensures cells table).0 c.if-not-is_of_config.false)
     (c.as_slice.ensures.value
     ∙ bads_of g.D.Die.state c.numbers-numbers.result.now c.args.config.now c.args.dies.now c.read_all.new.dies
     c.in-Ok-bad_blocks.bad.items is c.requires c.in-Ok.ensures.same c.in-Ok-bad_blocks.ensures.in_order))
+
+pub returns-clause-found : goal.returns-clause-found
+returns-clause-found g c = λ cells shown.
+    let dies = map g.D.Die.state c.args.dies.now in
+    let table = c.in-Ok.ensures.read cells shown in
+    let is = c.numbers-numbers.ensures.value in
+    still_found c.args.config.now cells (bad_of dies) c.in-Ok-found_in.found c.in-Ok-is_permanent.is_permanent
+    (subst (λ n. IsFound n cells (bad_of dies) c.in-Ok-found_in.found) is
+    (c.in-Ok-found_in.ensures cells (bad_of dies) table (shown_in_range (array_of dies) cells shown)
+    (subst (λ n. AreWithin n cells) (sym is) (shown_within c.args.config.now dies cells c.requires shown))
+    ((c.is_of_config.ensures cells table).0 c.if-not-is_of_config.false)
+    (c.as_slice.ensures.value
+    ∙ bads_of g.D.Die.state c.numbers-numbers.result.now c.args.config.now c.args.dies.now c.read_all.new.dies
+    c.in-Ok-bad_blocks.bad.items is c.requires c.in-Ok.ensures.same c.in-Ok-bad_blocks.ensures.in_order)))

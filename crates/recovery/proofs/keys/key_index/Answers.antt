@@ -1,6 +1,7 @@
 use Rattle.std.proofs.Common.{rules, Some}
 use Rattle.ufs_spec.specs.Plain.{shape_of_numbers as shape}
 use Rattle.recovery.proofs.key_order.Indexes.{tells_known, tells_order}
+use Rattle.recovery.proofs.key_order.KeyIndexes.{tells_value}
 use Rattle.recovery.proofs.keys.key_index.Goals as goal
 
 pub returns-in-1-clause-is : goal.returns-in-1-clause-is
@@ -35,3 +36,15 @@ returns-in-3-clause-known c =
 pub returns-in-3-clause-order : goal.returns-in-3-clause-order
 returns-in-3-clause-order c =
     tells_order (shape c.args.numbers.now) c.args.key (Some c.settings_index.result) (returns-in-3-clause-is c)
+
+pub returns-in-1-clause-value : goal.returns-in-1-clause-value
+returns-in-1-clause-value c =
+    tells_value (shape c.args.numbers.now) c.args.key c.data_index.result (returns-in-1-clause-is c)
+
+pub returns-in-2-clause-value : goal.returns-in-2-clause-value
+returns-in-2-clause-value c =
+    tells_value (shape c.args.numbers.now) c.args.key c.area_index.result (returns-in-2-clause-is c)
+
+pub returns-in-3-clause-value : goal.returns-in-3-clause-value
+returns-in-3-clause-value c =
+    tells_value (shape c.args.numbers.now) c.args.key (Some c.settings_index.result) (returns-in-3-clause-is c)

@@ -36,6 +36,9 @@ returns-in-Err g c =
     let before = c.loop-die.invariant in
     record {
       same = c.read_die.ensures.same ∙ before.same;
+      counted =
+          no_lower_after (map g.D.Die.failed c.args.dies.now) (map g.D.Die.failed c.loop-die.dies)
+          (map g.D.Die.failed c.read_die.new.dies) before.counted c.read_die.ensures.counted;
       read = tt;
       fault =
           fault_later (map g.D.Die.failed c.args.dies.now) (map g.D.Die.failed c.loop-die.dies)

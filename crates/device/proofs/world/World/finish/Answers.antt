@@ -1,4 +1,4 @@
-use Rattle.std.proofs.Common.{◌≡◌, ◌∙◌, ℕ, Some, None, List, sym, subst, ap}
+use Rattle.std.proofs.Common.{◌≡◌, ◌∙◌, ℕ, None, List, sym, subst, ap}
 use Rattle.ufs_spec.specs.declared.events.Event.TheVariants as event
 use Rattle.ufs_spec.specs.declared.events.Output.TheVariants as output
 use Rattle.device.specs.Describes.{Describes}
@@ -6,7 +6,7 @@ use Rattle.device.specs.Kept.{WorldState, DeviceCore}
 use Rattle.device.specs.Rooms.{world_of}
 use Rattle.device.specs.Worlds.{Went, die_at}
 use Rattle.device.proofs.dies_of_world.WentRight.{finish_can, finish_went}
-use Rattle.std.specs.Prelude.{slice_set}
+use Rattle.std.specs.Prelude.{slice_set, Ok}
 use Rattle.ufs_spec.specs.Dies.{CanDo, DieState, after_job, outcome_of}
 use Rattle.ufs_spec.specs.declared.flash.Job.{Job}
 use Rattle.device.proofs.world.World.finish.Goals as goal
@@ -22,28 +22,28 @@ did w die j = record w {
   dies = slice_set w.dies die (after_job (die_at w.dies die) j);
 }
 
-pub returns-in_err-outcome-clause-went : goal.returns-in_err-outcome-clause-went
-returns-in_err-outcome-clause-went c =
+pub returns-in_default-work-clause-went : goal.returns-in_default-work-clause-went
+returns-in_default-work-clause-went c =
     λ s h.
     let same : c.end_job.new.self.dies ≡ c.args.self.now.dies = ap (λ (w : WorldState). w.dies) c.end_job.ensures.after
     in
-    absurd (c.in_err-outcome.ensures.cannot
-    (subst (λ (dies : List DieState). CanDo (die_at dies c.args.die) c.in_ok-job.job) (sym same)
-    (finish_can c.args.self.now s c.args.die c.in_ok-job.job h (sym c.end_job.ensures.what ∙ c.in_ok-job.was))))
+    absurd (c.in_default-work.ensures.cannot
+    (subst (λ (dies : List DieState). CanDo (die_at dies c.args.die) c.in-Some.job) (sym same)
+    (finish_can c.args.self.now s c.args.die c.in-Some.job h (sym c.end_job.ensures.what ∙ c.in-Some.is))))
 
 pub returns-clause-went : goal.returns-clause-went
 returns-clause-went c =
     λ s h.
-    let ended : world_of c.self.inside ≡ did c.args.self.now c.args.die c.in_ok-job.job =
-    c.self.view_is ∙ c.in_ok-outcome.ensures.after ∙ ap (λ (w : WorldState). works w c.args.die c.in_ok-job.job)
+    let ended : world_of c.self.inside ≡ did c.args.self.now c.args.die c.in-Some.job =
+    c.self.view_is ∙ c.in-Some-work.ensures.after ∙ ap (λ (w : WorldState). works w c.args.die c.in-Some.job)
     c.end_job.ensures.after in
-    let out : c.in_ok-outcome.outcome ≡ outcome_of (die_at c.args.self.now.dies c.args.die) c.in_ok-job.job =
-    c.in_ok-outcome.ensures.outcome ∙ ap (λ (w : WorldState). outcome_of (die_at w.dies c.args.die) c.in_ok-job.job)
+    let out : c.in-Some-work.outcome ≡ outcome_of (die_at c.args.self.now.dies c.args.die) c.in-Some.job =
+    c.in-Some-work.ensures.outcome ∙ ap (λ (w : WorldState). outcome_of (die_at w.dies c.args.die) c.in-Some.job)
     c.end_job.ensures.after in
     let core : Describes c.self.inside.device s =
     subst (λ (d : DeviceCore). Describes d s) (sym (ap (λ (w : WorldState). w.core) ended)) h.describes in
     subst (λ (w : WorldState). Went s (event.Finish c.args.die) (record w { core = c.done.new.self })
-    (Some output.Ended)) (sym ended)
-    (finish_went c.args.self.now c.done.new.self s c.args.die c.in_ok-job.job c.in_ok-outcome.outcome h
-    (sym c.end_job.ensures.what ∙ c.in_ok-job.was) out
+    (Ok output.Ended)) (sym ended)
+    (finish_went c.args.self.now c.done.new.self s c.args.die c.in-Some.job c.in-Some-work.outcome h
+    (sym c.end_job.ensures.what ∙ c.in-Some.is) out
     (λ ending left is leaves. (c.done.ensures.ended s ending left core is leaves).1))

@@ -1,4 +1,5 @@
-use Rattle.std.proofs.Common.{Some, sym, subst}
+use Rattle.std.proofs.Common.{sym, subst}
+use Rattle.std.specs.Prelude.{Ok}
 use Rattle.ufs_spec.specs.declared.events.Event.TheVariants as event
 use Rattle.ufs_spec.specs.declared.events.Output.TheVariants as output
 use Rattle.device.specs.Kept.{WorldState}
@@ -11,6 +12,6 @@ pub returns-clause-went : goal.returns-clause-went
 returns-clause-went c =
     λ s h.
     let f = same_world _ _ s c.self.view_is h in
-    subst (λ (w : WorldState). Went s (event.Take c.args.die) w (Some (output.Take c.take-job.result)))
+    subst (λ (w : WorldState). Went s (event.Take c.args.die) w (Ok (output.Take c.take-job.result)))
     (sym c.note_job.ensures)
     (given_went _ c.take-job.new.self s c.args.die c.take-job.result f (c.take-job.ensures.given s f.describes))

@@ -1,5 +1,6 @@
 use Rattle.std.proofs.Common.{◌∙◌, rules}
-use Rattle.ftl_core.proofs.look_and_accept.Looks.{accepts_told, numbers_right}
+use Rattle.ftl_core.proofs.look_and_accept.Looks.{accepts_told}
+use Rattle.ftl_core.proofs.look_and_accept.Numbers.{numbers_right}
 use Rattle.ftl_core.proofs.ftl.Ftl.accept.Goals as goal
 
 pub returns-clause-described : goal.returns-clause-described

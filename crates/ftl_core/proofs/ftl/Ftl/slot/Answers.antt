@@ -7,7 +7,8 @@ use Rattle.ftl_core.proofs.ftl.Ftl.slot.Goals as goal
 
 pub returns-clause-described : goal.returns-clause-described
 returns-clause-described c =
-    λ t e h new is.
+    λ t e h mended new is.
     c.slot_in.ensures
     ∙ (ap (λ (gs : List Group). slot_in gs c.self.inside.frontier c.args.number) c.as_slice.ensures.value
-    ∙ (ap (λ (x : Core). slot_of x c.args.number) c.self.view_is ∙ slot_is c.args.self.now t c.args.number e h new is))
+    ∙ (ap (λ (x : Core). slot_of x c.args.number) c.self.view_is
+    ∙ slot_is c.args.self.now t c.args.number e h mended new is))

@@ -1,9 +1,20 @@
-use Rattle.std.proofs.Common.{false, rules, true}
-use Rattle.ftl_core.proofs.small_calls.SmallCalls.{turns_told}
+use Rattle.std.proofs.Common.{◌≡◌, ◌∙◌, false, rules}
+use Rattle.ftl_core.specs.Moves.{is_turn_due}
+use Rattle.ftl_core.proofs.steps_ordered.QuietLayers.{turns_due}
+use Rattle.ftl_core.proofs.steps_ordered.Turns.{turns_told}
 use Rattle.ftl_core.proofs.ftl.Ftl.turn.Goals as goal
 
-pub returns-then-not-is_turn_due-clause-described : goal.returns-then-not-is_turn_due-clause-described
-returns-then-not-is_turn_due-clause-described c = turns_told c.args.self.now _ false (search rules) (search rules)
+pub returns-then-is_some-clause-described : goal.returns-then-is_some-clause-described
+returns-then-is_some-clause-described c = turns_told c.args.self.now _ false (search rules) (search rules)
 
-pub returns-clause-described : goal.returns-clause-described
-returns-clause-described c = turns_told c.args.self.now _ true (search rules) (search rules)
+pub returns-in-Unmarked-clause-described : goal.returns-in-Unmarked-clause-described
+returns-in-Unmarked-clause-described c = turns_told c.args.self.now _ c.turn_mark.result (search rules) (search rules)
+
+pub returns-in-Repairing-clause-described_due : goal.returns-in-Repairing-clause-described_due
+returns-in-Repairing-clause-described_due c =
+    let due : c.turn_repair.result ≡ is_turn_due c.args.self.now = search rules in
+    λ t h. due ∙ turns_due c.args.self.now t h
+
+pub returns-in-Repairing-clause-described : goal.returns-in-Repairing-clause-described
+returns-in-Repairing-clause-described c =
+    turns_told c.args.self.now _ c.turn_repair.result (search rules) (search rules)

@@ -1,0 +1,111 @@
+//! Times scans of dies of three sizes, of whose blocks a quarter is written.
+ghost use Rattle.std.specs.Prelude.{◌<◌, ◌^◌};
+
+use crate::hash_pages;
+use anyhow::{Result, bail, ensure};
+use nand_model::{Die, MemDie};
+use page_tag::seal;
+use recovery::scan;
+use row_config::fit;
+use std::alloc::Global;
+use std::rt::Clock;
+use std::time::Instant;
+use ufs_spec::{Config, Job, NoMemory, Page, Place, Tag, UnitSpec};
+
+/// How many blocks the dies have.
+const SIZES: [u16; 3] = [16, 64, 256];
+
+const PAGES: u16 = 64;
+
+/// Four new dies with so many blocks.
+fn four_dies(alloc: Global, blocks: u16) -> Result<Vec<MemDie>, NoMemory> {
+    let mut dies = Vec::with_capacity(alloc, 4)?;
+    for _ in 0..4u8 {
+        dies.push(MemDie::new(alloc, blocks, PAGES)?)
+            .map_err(|_| NoMemory)?;
+    }
+    Ok(dies)
+}
+
+/// The block of address A of unit 0, as the only page of group A + 1.
+fn data(address: u32) -> Page
+    requires { address < 2 ^ 32 }
+{
+    let tag = Tag {
+        kind: Tag::DATA,
+        unit: 0,
+        address,
+        number: u64::from(address) + 1,
+        index: 0,
+        size: 1,
+        frontier: 0,
+    };
+    seal(&tag, &[0x5A; 4096])
+}
+
+/// Sets the page there.
+fn put(dies: &mut [MemDie], place: Place, page: &Page) -> Result<()> {
+    let die = usize::from(place.die);
+    ensure!(die < dies.len(), "no such die");
+    let die = &mut dies[die];
+    ensure!(die.can_do(&Job::Read(place)), "no such page");
+    die.set_page(place.block, place.page, page);
+    Ok(())
+}
+
+/// Writes the first blocks of each die, a group a page.
+fn write(dies: &mut [MemDie], blocks: u16) -> Result<()> {
+    for die in 0..4u8 {
+        for block in 0..blocks {
+            for page in 0..PAGES {
+                let before = u32::from(die) * u32::from(blocks) + u32::from(block);
+                let address = before * u32::from(PAGES) + u32::from(page);
+                put(dies, Place { die, block, page }, &data(address))?;
+            }
+        }
+    }
+    Ok(())
+}
+
+/// Times a scan of four dies with so many blocks, and as many hashes as it reads pages.
+fn time_size<R: Clock + Eprint>(rt: &R, alloc: Global, blocks: u16) -> Result<()> {
+    let all = 4 * u32::from(blocks) * u32::from(PAGES);
+    let written = all / 4;
+    let unit = UnitSpec {
+        blocks: written,
+        boot: 0,
+        protect: 0,
+    };
+    let config = Config::new(4, blocks, PAGES, &[unit], 1, 64, 4)?;
+    let mut dies = four_dies(alloc, blocks)?;
+    write(dies.as_mut_slice(), blocks / 4)?;
+    ensure!(fit(&config, dies.as_slice()), "the dies do not fit");
+    let start = Instant::now(rt)?;
+    let Ok(found) = scan(alloc, dies.as_mut_slice(), &config) else {
+        bail!("the scan was refused");
+    };
+    let scanned = start.elapsed(rt)?.as_nanos().max(1);
+    ensure!(
+        found.kept == u64::from(written),
+        "not all groups were found"
+    );
+    let start = Instant::now(rt)?;
+    let sum = hash_pages(all);
+    let hashed = start.elapsed(rt)?.as_nanos().max(1);
+    let a_second = u128::from(all).saturating_mul(1_000_000_000) / scanned;
+    let to_all = scanned.saturating_mul(100) / hashed;
+    let to_written = to_all.saturating_mul(4);
+    eprintln!(rt;
+        "a scan of {all} pages, a quarter of them written: {a_second} pages a second ({sum})"
+    )?;
+    eprintln!(rt; "scan to a hash of each page: {to_all} %, of each written page: {to_written} %")?;
+    Ok(())
+}
+
+/// Times a scan of each size.
+pub fn time_scans<R: Clock + Eprint>(rt: &R, alloc: Global) -> Result<()> {
+    for blocks in SIZES {
+        time_size(rt, alloc, blocks)?;
+    }
+    Ok(())
+}

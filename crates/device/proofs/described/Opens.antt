@@ -1,0 +1,111 @@
+-- A device over dies whose pages are sound is the one that the definitions open over them.
+use Rattle.std.proofs.Common.{◌≡◌, ◌∙◌, ℕ, suc, ◌≤◌, ◌==◌, Bool, true, false, List, Option, ap, arith, refl, subst}
+use Rattle.std.specs.Prelude.{slice_index}
+use Rattle.ufs_spec.specs.Cells.{AreWithin, Array, Cells, Shows}
+use Rattle.ufs_spec.specs.Configs.{IsConfig}
+use Rattle.ufs_spec.specs.Disk.{Spot}
+use Rattle.ufs_spec.specs.Keys.{IsSettings, settings_bytes, settings_key}
+use Rattle.ufs_spec.specs.Kept.{Holds, IsKept, IsNewestMark}
+use Rattle.ufs_spec.specs.Lives.{IsOpened}
+use Rattle.ufs_spec.specs.Openings.{IsOpenedTranslation}
+use Rattle.ufs_spec.specs.Pages.{zero_filled}
+use Rattle.ufs_spec.specs.Refusals.{State}
+use Rattle.ufs_spec.specs.Sound.{CellsSound, Sound, Suits}
+use Rattle.ufs_spec.specs.Translation.{Translation}
+use Rattle.ufs_spec.specs.declared.configs.Numbers.{Numbers}
+use Rattle.ufs_laws.proofs.array_cells.StandsForOne.{cells_one, kept_one, mark_one}
+use Rattle.ufs_laws.proofs.pages.PageIsOneCell.{one_cell}
+use Rattle.power_loss.specs.Book.{CellsRight}
+use Rattle.power_loss.specs.Exchange.{IsArrayOf}
+use Rattle.power_loss.proofs.openings.OpenedFromPages.{cells_right, cells_within}
+use Rattle.power_loss.proofs.stops.SealedCells.{ranges_of}
+use Rattle.recovery.specs.Found.{IsFound, newest_found}
+use Rattle.recovery.specs.declared.found.Found.{Found}
+use Rattle.ftl_core.specs.Core.{Core}
+use Rattle.ftl_core.specs.Describes.{Describes as IsLayer}
+use Rattle.device.specs.Describes.{Describes}
+use Rattle.device.specs.Kept.{idle_device}
+use Rattle.device.proofs.die_calls.CallsRight.{opens_right}
+
+-- what a body of settings says of protection
+said_back : (boot : ℕ) (permanent : Bool) (key : Option (List ℕ)) (counter : ℕ) →
+    (slice_index (settings_bytes boot permanent key counter) 1 == 1) ≡ permanent
+unfolding zero_filled
+said_back boot true key counter = refl
+said_back boot false key counter = refl
+
+-- what is found suits the configuration
+pub found_suits : (n : Numbers) (array : Array) (bad : Spot → Bool) (f : Found) (sound : Sound array) →
+    IsFound n sound.cells bad f → Suits n array
+found_suits n array bad f sound found = record {
+  cells = sound.cells;
+  shown = sound.shown;
+  newest = newest_found f;
+  is_newest = found.newest;
+  suit = found.suits;
+}
+
+-- what a scan tells of protection, of the cells that the pages show
+abbrev pub TellsPermanent : Cells → Found → Type 0
+TellsPermanent c f =
+    CellsSound c (newest_found f) → (x : List ℕ) → Holds c (newest_found f) (suc f.kept) settings_key x →
+    f.is_permanent ≡ (slice_index x 1 == 1)
+
+-- what is made of what was found describes any layer that is opened over it
+abbrev pub OpensLayer : Numbers → Found → Core → Type 0
+OpensLayer n f layer =
+    (cells : Cells) (is_bad : Spot → Bool) (t : Translation) → 1 ≤ n.pages → CellsRight cells → AreWithin n cells →
+    CellsSound cells t.ledger.newest → IsFound n cells is_bad f → IsOpenedTranslation n cells is_bad t →
+    IsLayer layer t
+
+module _ (n : Numbers) (array : Array) (bad : Spot → Bool) (s : State) (f : Found) (layer : Core) (config : IsConfig n)
+    (inside : IsArrayOf n array) (sound : Sound array) (opened : IsOpened n array bad s)
+    (found : (c : Cells) → Shows array c → IsFound n c bad f) (told : (c : Cells) → Shows array c → TellsPermanent c f)
+    (opens : OpensLayer n f layer) where
+  found_here : IsFound n opened.cells bad f
+  found_here = found opened.cells opened.shown
+
+  same_cells : sound.cells ≡ opened.cells
+  same_cells = cells_one one_cell array sound.cells opened.cells sound.shown opened.shown
+
+  cells_sound : CellsSound opened.cells sound.newest
+  cells_sound = subst (λ c. CellsSound c sound.newest) same_cells sound.sound
+
+  newest_here : IsNewestMark opened.cells sound.newest
+  newest_here = subst (λ c. IsNewestMark c sound.newest) same_cells sound.is_newest
+
+  sound_here : CellsSound opened.cells s.translation.ledger.newest
+  sound_here = subst (CellsSound opened.cells)
+      (mark_one opened.cells sound.newest sound.newest s.translation.ledger.newest cells_sound newest_here
+      opened.translation.ledger.newest) cells_sound
+
+  same_newest : s.translation.ledger.newest ≡ newest_found f
+  same_newest = mark_one opened.cells sound.newest s.translation.ledger.newest (newest_found f) cells_sound
+      opened.translation.ledger.newest found_here.newest
+
+  same_kept : opened.translation.ledger.kept ≡ f.kept
+  same_kept = kept_one opened.cells (newest_found f) opened.translation.ledger.kept f.kept
+      (subst (λ m. IsKept opened.cells m opened.translation.ledger.kept) same_newest opened.translation.ledger.is_kept)
+      found_here.kept
+
+  held : Holds opened.cells (newest_found f) (suc f.kept) settings_key (s.translation.ledger.base settings_key)
+  held = subst (λ m. Holds opened.cells m (suc f.kept) settings_key (s.translation.ledger.base settings_key))
+      same_newest
+      (subst (λ k. Holds opened.cells s.translation.ledger.newest (suc k) settings_key
+      (s.translation.ledger.base settings_key)) same_kept (opened.translation.ledger.holds settings_key IsSettings))
+
+  permanent_is : f.is_permanent ≡ s.base.permanent
+  permanent_is =
+      told opened.cells opened.shown (subst (CellsSound opened.cells) same_newest sound_here)
+      (s.translation.ledger.base settings_key) held
+      ∙ (ap (λ body. slice_index body 1 == 1) (opened.contents settings_key IsSettings)
+      ∙ said_back s.base.boot s.base.permanent s.base.key s.base.counter)
+
+  layer_is : IsLayer layer s.translation
+  layer_is =
+      let has = (ranges_of n config).has_pages in
+      opens opened.cells bad s.translation (omega arith) (cells_right array opened.shown)
+      (cells_within opened.cells inside opened.shown) sound_here found_here opened.translation
+
+  pub device_opens : Describes (idle_device layer f.is_permanent) s
+  device_opens = opens_right n array bad s layer f.is_permanent config inside sound opened layer_is permanent_is

@@ -1,0 +1,9 @@
+use Rattle.std.proofs.Common.{◌≢◌, ℕ, ◌<◌}
+use Rattle.std.specs.Prelude.{slice_index_or}
+use Rattle.ufs_spec.specs.Lives.{die_of}
+use Rattle.ufs_spec.specs.declared.events.Leftover.{Leftover}
+use Rattle.device.proofs.leftovers.are_apart.Given as goal
+
+abbrev pub invariant-loop-index : goal.invariant-loop-index
+invariant-loop-index l = (i j : ℕ) (d : Leftover) → i < j → j < l.index →
+    die_of (slice_index_or l.leftovers i d) ≢ die_of (slice_index_or l.leftovers j d)

@@ -1,0 +1,23 @@
+use Rattle.std.proofs.Common.{List, sym, subst}
+use Rattle.std.proofs.lemmas.List.{map-id}
+use Rattle.ufs_spec.specs.Cells.{Shows}
+use Rattle.ufs_spec.specs.Dies.{DieState}
+use Rattle.ufs_spec.specs.Lives.{IsOpened, array_of, bad_of}
+use Rattle.ufs_spec.specs.Sound.{Sound}
+use Rattle.device.proofs.dies_of_world.OpeningRefused.{opening_refused}
+use Rattle.device.proofs.world.open_device.Goals as goal
+
+pub returns-in-Ok-clause-described : goal.returns-in-Ok-clause-described
+returns-in-Ok-clause-described c =
+    λ s sound opened.
+    let same = map-id c.args.dies.now in
+    c.in-Ok.ensures.described s (subst (λ (ds : List DieState). Sound (array_of ds)) (sym same) sound)
+    (subst (λ (ds : List DieState). IsOpened c.args.config (array_of ds) (bad_of ds) s) (sym same) opened)
+
+pub returns-in-Err-clause-refused : goal.returns-in-Err-clause-refused
+returns-in-Err-clause-refused c =
+    opening_refused c.args.config c.args.dies.now c.open.new.dies c.in-Err.fault c.kind_of.result c.requires.fit
+    c.kind_of.ensures.memory c.kind_of.ensures.other
+    (λ cells shows.
+    c.in-Err.ensures.fault cells
+    (subst (λ (ds : List DieState). Shows (array_of ds) cells) (sym (map-id c.args.dies.now)) shows))

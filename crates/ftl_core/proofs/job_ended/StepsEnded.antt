@@ -1,0 +1,64 @@
+-- The program of the page of the step under way ends: that of a mark, or of a repair.
+use Rattle.std.proofs.Common.{◌≡◌, ℕ, true, false, Option, Some, None, refl, sym, subst}
+use Rattle.std.specs.Prelude.{slice_get}
+use Rattle.ufs_spec.proofs.Facts.{false≢true}
+use Rattle.ufs_spec.specs.Cells.{Cell, Cells, GroupPage, MarkPage}
+use Rattle.ufs_spec.specs.Disk as disk
+use Rattle.ufs_spec.specs.Moves.{cell_failed, cell_written}
+use Rattle.ufs_spec.specs.Translation.{Translation}
+use Rattle.ftl_core.specs.declared.books.Book.{Book}
+use Rattle.ftl_core.specs.declared.books.OpenBlock.{OpenBlock}
+use Rattle.ftl_core.specs.declared.books.Step.{Step}
+use Rattle.ftl_core.specs.declared.books.Step.TheVariants as steps
+use Rattle.ftl_core.specs.Core.{Core}
+use Rattle.ftl_core.specs.Describes.{Describes, IsStepCell, Kept}
+use Rattle.ftl_core.specs.Ends.{step_again, step_failed, step_over, step_written}
+use Rattle.ftl_core.specs.Moves.{page_written, went_bad}
+use Rattle.ftl_core.specs.Takes.{next_place}
+use Rattle.ftl_core.proofs.job_ended.ChangesEnded.{page_ends_wrong}
+use Rattle.ftl_core.proofs.job_ended.MarksEnded.{mark_ends_well, mark_ends_wrong}
+use Rattle.ftl_core.proofs.job_ended.RepairsEnded.{repair_ends_well}
+
+module _ (c : Core) (t : Translation) (die : ℕ) (b : Book) (o : OpenBlock) (h : Describes c t)
+    (there : slice_get c.books die ≡ Some b) (fills : b.filling ≡ Some o) where
+  back : (step : Option Step) (cell : Cell) → c.step ≡ step → IsStepCell step cell → IsStepCell c.step cell
+  back step cell is page = subst (λ (z : Option Step). IsStepCell z cell) (sym is) page
+
+  well : (step : Option Step) (cell : Cell) → c.step ≡ step → IsStepCell step cell →
+      t.disk.flights die ≡ Some (disk.Programming (next_place die o) cell) →
+      Kept (page_written (step_over c step (next_place die o)) die b b.filling)
+      (cell_written t (next_place die o) cell)
+  well None cell is page flies = absurd page
+  well (Some (steps.Mark n fence)) (MarkPage m) is page flies =
+      mark_ends_well c t die b o m n fence h there fills flies is
+      (back (Some (steps.Mark n fence)) (MarkPage m) is page)
+  well (Some (steps.Mark n fence)) cell is page flies = absurd page
+  well (Some (steps.Repair n k from true)) (GroupPage tag body) is page flies =
+      repair_ends_well c t die b o tag body n k from h there fills flies is
+      (back (Some (steps.Repair n k from true)) (GroupPage tag body) is page)
+  well (Some (steps.Repair n k from false)) (GroupPage tag body) is page flies = absurd (false≢true page.2)
+  well (Some (steps.Repair n k from is_there)) cell is page flies = absurd page
+
+  -- its page is written
+  pub step_ends_well : (cell : Cell) → IsStepCell c.step cell →
+      t.disk.flights die ≡ Some (disk.Programming (next_place die o) cell) →
+      Kept (step_written c die b (next_place die o)) (cell_written t (next_place die o) cell)
+  step_ends_well cell page flies = well c.step cell refl page flies
+
+  wrong : (step : Option Step) (cell : Cell) (left : Cells) → c.step ≡ step → IsStepCell step cell →
+      t.disk.flights die ≡ Some (disk.Programming (next_place die o) cell) →
+      Kept (went_bad (step_again c step) die o.block) (cell_failed t (next_place die o) cell left)
+  wrong None cell left is page flies = absurd page
+  wrong (Some (steps.Mark n fence)) (MarkPage m) left is page flies =
+      mark_ends_wrong c t die b o m n fence left h there fills flies is
+      (back (Some (steps.Mark n fence)) (MarkPage m) is page)
+  wrong (Some (steps.Mark n fence)) cell left is page flies = absurd page
+  wrong (Some (steps.Repair n k from is_there)) (GroupPage tag body) left is page flies =
+      page_ends_wrong c t die b o left h there fills
+  wrong (Some (steps.Repair n k from is_there)) cell left is page flies = absurd page
+
+  -- or its program failed
+  pub step_ends_wrong : (cell : Cell) (left : Cells) → IsStepCell c.step cell →
+      t.disk.flights die ≡ Some (disk.Programming (next_place die o) cell) →
+      Kept (step_failed c die (next_place die o)) (cell_failed t (next_place die o) cell left)
+  step_ends_wrong cell left page flies = wrong c.step cell left refl page flies

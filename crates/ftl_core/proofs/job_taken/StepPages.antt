@@ -1,0 +1,207 @@
+-- The page of the step under way, as it is programmed once its content is there.
+use Rattle.std.proofs.Common.{◌≡◌, ◌∙◌, ℕ, ◌≤◌, Bool, true, false, Option, Some, None, length, refl, sym, ap}
+use Rattle.std.proofs.Common.{subst, arith}
+use Rattle.std.specs.Prelude.{◌&&◌, not, option_map}
+use Rattle.std.specs.List.{list_any}
+use Rattle.std.proofs.lemmas.List.{length-map}
+use Rattle.std.proofs.lemmas.Bool.{le-leb}
+use Rattle.ufs_spec.proofs.Facts.{false≢true}
+use Rattle.ufs_spec.specs.Cells.{Cell, GroupPage, MarkPage}
+use Rattle.ufs_spec.specs.Disk as disk
+use Rattle.ufs_spec.specs.Disk.{ForStep, ForTask, job_of as told_by}
+use Rattle.ufs_spec.specs.Keys.{IsKey, IsArea, IsData, IsSettings}
+use Rattle.ufs_spec.specs.Ledger.{Entry, Name}
+use Rattle.ufs_spec.specs.Openings.{IsFirstFence}
+use Rattle.ufs_spec.specs.Pages.{seal_page}
+use Rattle.ufs_spec.specs.Plain.{Shape, shape_of_numbers}
+use Rattle.ufs_spec.specs.Translation as layer
+use Rattle.ufs_spec.specs.Translation.{MarkStep, Mended, Mending, RepairStep, Repairing, Translation, Unmarked}
+use Rattle.ufs_spec.specs.Translation.{cell_of_entry, flies_mark, flies_name, records_now, some_flight, step_cell}
+use Rattle.ufs_spec.specs.Translation.{step_flies, waiting_step}
+use Rattle.ufs_spec.specs.declared.configs.Numbers.{Numbers}
+use Rattle.ufs_spec.specs.declared.flash.Fence.{Fence}
+use Rattle.ufs_spec.specs.declared.flash.Job.TheVariants as job
+use Rattle.ufs_spec.specs.declared.flash.Key.{Key}
+use Rattle.ufs_spec.specs.declared.flash.Place.{Place}
+use Rattle.power_loss.specs.Book.{book}
+use Rattle.power_loss.specs.Invariant.{FenceRight, MendingRight, Valid}
+use Rattle.power_loss.proofs.books.PagesByName.{none_some}
+use Rattle.power_loss.proofs.books.SmallFacts.{and_true, if_false, if_true, name_told}
+use Rattle.ftl_core.specs.declared.books.Step.{Step}
+use Rattle.ftl_core.specs.declared.books.Step.TheVariants as steps
+use Rattle.ftl_core.specs.declared.books.Stored.{Stored}
+use Rattle.ftl_core.specs.Core.{Core}
+use Rattle.ftl_core.specs.Describes.{Describes, IsStepCell, RepairKept, StepKept, name_at}
+use Rattle.ftl_core.specs.Moves.{single_tag}
+use Rattle.ftl_core.specs.Takes.{is_sealable, is_step_there, repair_program, step_job, step_waits, writes_step}
+use Rattle.ftl_core.proofs.job_taken.Flown.{marks_agree, repairs_agree}
+use Rattle.ftl_core.proofs.job_taken.NextStarts.{MayBegin}
+
+-- What a mark records
+
+-- a mark with a fence is the first of its life: until then the frontier is the fence's last number
+mark_records : (t : Translation) (fence : Option Fence) → Valid t → FenceRight t.work.mending fence →
+    records_now t.ledger fence ≡ t.ledger.frontier
+mark_records t None v right = refl
+mark_records t (Some f) v right = by t.work.mending right v.mending
+  where
+    by : (m : Mending) → FenceRight m (Some f) →
+        MendingRight (book t) t.disk t.ledger t.work.plan t.work.step m → f.last ≡ t.ledger.frontier
+    by (Unmarked first lost) is holds =
+        let fence = subst (IsFirstFence t.ledger.newest t.ledger.first_lost t.ledger.greatest_seen) (sym is)
+        holds.fence_right in
+        fence.1 ∙ sym holds.still
+    by (Repairing left) is holds = absurd (none_some f (sym is.0))
+    by Mended is holds = absurd (none_some f (sym is))
+
+-- Keys
+
+-- a tag can name each key of a device
+sealable : (s : Shape) (k : Key) → length s.blocks ≤ 8 → IsKey s k → is_sealable k ≡ true
+sealable s k few (IsData unit address low within) = le-leb unit 7 (omega arith)
+sealable s k few (IsArea page within) = refl
+sealable s k few IsSettings = refl
+
+repair_sealable : (c : Core) (t : Translation) (number : ℕ) (k : Key) (from : Option Stored) (there : Bool) →
+    Describes c t → length c.numbers.units.items ≤ 8 → RepairKept t.ledger number k from there c.content →
+    is_sealable k ≡ true
+repair_sealable c t number k from there h few r =
+    sealable (shape_of_numbers t.numbers) k
+    (omega (
+      arith,
+      length-map t.numbers.units.items (λ u. u.blocks),
+      ap (λ (n : Numbers). length n.units.items)
+          h.kept.numbers,
+      few,
+    ))
+    (h.valid.book_right.keys number 0 (record { item = record { key = k; body = t.ledger.base k }; size = 1 }) r.entry)
+
+-- The page of the step
+
+-- what is programmed for the step under way, and that it may be
+pub record StepPage (c : Core) (t : Translation) : Type 0 where
+  pub cell : Cell
+  pub waits : waiting_step t t.work.step ≡ Some cell
+  pub is : IsStepCell c.step cell
+  pub told : (place : Place) → step_job c place c.step ≡ Some (told_by (disk.Programming place cell))
+  pub begins : (place : Place) → MayBegin c t (disk.Programming place cell)
+
+-- the page of the step is there and no die writes it
+abbrev is_waiting : Core → Option Step → Bool
+is_waiting c kept = is_step_there kept && not (list_any writes_step c.books)
+
+-- the step waits here and there alike
+waits_alike : (c : Core) (t : Translation) (kept : Option Step) (s : layer.Step) → c.step ≡ kept →
+    s.there ≡ is_step_there kept → step_flies t s.kind ≡ list_any writes_step c.books →
+    (s.there && not (step_flies t s.kind)) ≡ step_waits c
+waits_alike c t kept s is there flies =
+    (λ i. there i && not (flies i)) ∙ ap (is_waiting c) (sym is)
+
+not_true : (b : Bool) → not b ≡ true → b ≡ false
+not_true true e = cc
+not_true false e = refl
+
+mark_page : (c : Core) (t : Translation) (number : ℕ) (fence : Option Fence) → Describes c t →
+    c.step ≡ Some (steps.Mark number fence) →
+    t.work.step ≡ Some (record { kind = MarkStep number fence; there = true }) →
+    waiting_step t t.work.step ≡ Some (step_cell t (MarkStep number fence)) → StepPage c t
+mark_page c t number fence h is step waits = record {
+  cell = step_cell t (MarkStep number fence);
+  waits = waits;
+  is = subst (λ (s : Option Step). IsStepCell s (step_cell t (MarkStep number fence))) (sym is) refl;
+  told = λ place. ap (step_job c place) is
+      ∙ (λ i. Some (told_by (disk.Programming place (MarkPage (record {
+        number = number;
+        records = records i;
+        fence = fence;
+        numbers = h.kept.numbers i;
+      })))));
+  begins = λ place. record {
+    alone = λ name e. absurd (false≢true e);
+    wanted = λ tag index p e. cc;
+    step_wanted = λ p e. cc;
+  };
+}
+  where
+    right : FenceRight t.work.mending fence
+    right = (h.valid.step.kind (record { kind = MarkStep number fence; there = true }) step).fence_right
+
+    records : c.frontier ≡ records_now t.ledger fence
+    records = h.kept.ledger_kept.frontier ∙ sym (mark_records t fence h.valid right)
+
+repair_page : (c : Core) (t : Translation) (number : ℕ) (k : Key) (from : Option Stored) (there : Bool) →
+    Describes c t → length c.numbers.units.items ≤ 8 → c.step ≡ Some (steps.Repair number k from there) →
+    RepairKept t.ledger number k from there c.content → there ≡ true →
+    some_flight t (flies_name (name_at number)) ≡ false →
+    waiting_step t t.work.step ≡ Some (layer.cell_now t.ledger (name_at number)) → StepPage c t
+repair_page c t number k from there h few is r ready unflown waits = record {
+  cell = GroupPage (single_tag k number t.ledger.frontier) (t.ledger.base k);
+  waits = waits
+      ∙ ap (λ (e : Option Entry). Some (cell_of_entry (name_at number) e t.ledger.frontier)) r.entry;
+  is = subst (λ (s : Option Step). IsStepCell s (GroupPage (single_tag k number t.ledger.frontier) (t.ledger.base k)))
+      (sym is) (refl, refl, ready);
+  told = λ place. ap (step_job c place) is
+      ∙ if_true (is_sealable k) (Some (repair_program c place number k)) None
+      (repair_sealable c t number k from there h few r)
+      ∙ (λ i. Some (job.Program place (seal_page (single_tag k number (h.kept.ledger_kept.frontier i))
+      (r.content_is ready i))));
+  begins = λ place. record {
+    alone = λ name e.
+        let same : name ≡ name_at number = name_told name (name_at number) e in (
+          ap (λ (z : Name). some_flight t (flies_name z)) same ∙ unflown,
+          ap (λ (z : Name). t.ledger.standing z.number z.index) same ∙ r.new,
+        );
+    wanted = λ tag index p e. cc;
+    step_wanted = λ p e. cc;
+  };
+}
+
+-- What waits of the step: its page, or nothing
+pub step_page : (c : Core) (t : Translation) → Describes c t → length c.numbers.units.items ≤ 8 →
+    (step_waits c ≡ true → StepPage c t) × (step_waits c ≡ false → waiting_step t t.work.step ≡ None)
+step_page c t h few = by c.step refl t.work.step refl h.kept.work.step_is
+  where
+    none : (s : layer.Step) → t.work.step ≡ Some s → (s.there && not (step_flies t s.kind)) ≡ step_waits c →
+        step_waits c ≡ false → waiting_step t t.work.step ≡ None
+    none s at same fails = ap (waiting_step t) at
+        ∙ if_false (s.there && not (step_flies t s.kind)) (Some (step_cell t s.kind)) None (same ∙ fails)
+
+    one : (s : layer.Step) → t.work.step ≡ Some s → (s.there && not (step_flies t s.kind)) ≡ step_waits c →
+        step_waits c ≡ true → waiting_step t t.work.step ≡ Some (step_cell t s.kind)
+    one s at same does = ap (waiting_step t) at
+        ∙ if_true (s.there && not (step_flies t s.kind)) (Some (step_cell t s.kind)) None (same ∙ does)
+
+    by : (kept : Option Step) → c.step ≡ kept → (step : Option layer.Step) → t.work.step ≡ step →
+        StepKept t.ledger kept c.content step →
+        (step_waits c ≡ true → StepPage c t) × (step_waits c ≡ false → waiting_step t t.work.step ≡ None)
+    by None is None at k = (
+      λ does. absurd (false≢true (sym (ap (is_waiting c) is) ∙ does)),
+      λ fails. ap (waiting_step t) at,
+    )
+    by None is (Some s) at k = absurd k
+    by (Some (steps.Mark number fence)) is None at k = absurd k
+    by (Some (steps.Mark number fence)) is (Some s) at k =
+        let step = at ∙ ap (λ (x : layer.Step). Some x) k in
+        let mark : layer.Step = record { kind = MarkStep number fence; there = true } in
+        let same = waits_alike c t (Some (steps.Mark number fence)) mark is refl
+        (sym (marks_agree c t number fence h.kept is)) in (
+          λ does. mark_page c t number fence h is step
+              (one mark step same does),
+          none mark step same,
+        )
+    by (Some (steps.Repair number key from there)) is None at k = absurd k
+    by (Some (steps.Repair number key from there)) is (Some s) at k =
+        let repair : layer.Step = record {
+          kind = RepairStep (name_at number) (option_map (λ (at : Stored). at.place) from);
+          there = there;
+        } in
+        let step = at ∙ ap (λ (x : layer.Step). Some x) k.0 in
+        let flies = sym (repairs_agree c t number key from there h.kept is) in
+        let same = waits_alike c t (Some (steps.Repair number key from there)) repair is refl flies in (
+          λ does.
+              let parts = and_true there (not (list_any writes_step c.books))
+              (sym (ap (is_waiting c) is) ∙ does) in
+              repair_page c t number key from there h few is k.1 parts.0
+              (flies ∙ not_true (list_any writes_step c.books) parts.1) (one repair step same does),
+          none repair step same,
+        )

@@ -1,3 +1,0 @@
-pub mod ListParts
-pub mod OpensNew
-pub mod Spots

@@ -1,0 +1,5 @@
+pub mod FirstPages
+pub mod FoundBlocks
+pub mod ListParts
+pub mod OpensFound
+pub mod Spots

@@ -1,0 +1,90 @@
+-- What is kept of the blocks is what was found of each.
+use Rattle.std.proofs.Common.{◌≡◌, ◌∙◌, ℕ, suc, ◌+◌, Bool, true, false, List, [], ◌∷◌, Some, length}
+use Rattle.std.proofs.Common.{map, refl, sym, ap, subst, arith}
+use Rattle.std.specs.Prelude.{◌||◌, if◌then◌else◌, nat_lt, count_by, slice_get}
+use Rattle.std.specs.List.{list_any}
+use Rattle.std.proofs.lemmas.Bool.Decides.{nat_tests}
+use Rattle.std.proofs.lemmas.List.Sums.{sum_by-cons}
+use Rattle.ufs_spec.proofs.Facts.{same_Some}
+use Rattle.ufs_spec.proofs.Lists.{map_twice}
+use Rattle.ufs_spec.specs.Disk as disk
+use Rattle.ufs_spec.specs.Disk.{Spot}
+use Rattle.ufs_spec.specs.Translation.{is_bad, spots}
+use Rattle.ufs_spec.specs.declared.configs.Numbers.{Numbers}
+use Rattle.recovery.specs.KeysInOrder.{state_of_found as layer_state}
+use Rattle.recovery.specs.declared.keys.FoundBlock.{FoundBlock}
+use Rattle.recovery.specs.declared.keys.FoundBlock.TheVariants as found
+use Rattle.recovery.specs.declared.found.Found.{Found}
+use Rattle.ftl_core.specs.declared.books.BlockState.{BlockState}
+use Rattle.ftl_core.specs.Describes.{BlocksKept, block_kept}
+use Rattle.ftl_core.specs.Moves.{is_bad_found, state_of_found}
+
+-- Some block is bad
+
+pub some_one : {A : Type 0} (test : A → Bool) (xs : List A) → list_any test xs ≡ nat_lt 0 (count_by test xs)
+some_one test [] = refl
+some_one {A} test (x ∷ xs) = by (test x) (count_by test xs) (some_one test xs)
+    ∙ sym (ap (nat_lt 0) (sum_by-cons (λ (y : A). if test y then 1 else 0) x xs))
+  where
+    by : (b : Bool) (n : ℕ) → list_any test xs ≡ nat_lt 0 n →
+        (b || list_any test xs) ≡ nat_lt 0 ((if b then 1 else 0) + n)
+    by true n e = some_more n
+      where
+        some_more : (m : ℕ) → true ≡ nat_lt 0 (1 + m)
+        some_more m = grind (arith, nat_tests)
+    by false n e = e ∙ ap (nat_lt 0) (omega arith)
+
+any_mapped : {A B : Type 0} (test : B → Bool) (g : A → B) (xs : List A) →
+    list_any test (map g xs) ≡ list_any (λ (x : A). test (g x)) xs
+any_mapped test g [] = refl
+any_mapped test g (x ∷ xs) = ap (λ (b : Bool). test (g x) || b) (any_mapped test g xs)
+
+-- Blocks by their order
+
+-- as many are listed, and each stands for its block
+all_alike : {A B C : Type 0} (f : A → C) (g : B → C) (xs : List A) (ys : List B) → length ys ≡ length xs →
+    ((i : ℕ) (x : A) → slice_get xs i ≡ Some x → (y : B) × (slice_get ys i ≡ Some y) × (f x ≡ g y)) →
+    map g ys ≡ map f xs
+all_alike f g [] [] long each = refl
+all_alike f g [] (y ∷ ys) long each = absurd (omega (arith, long))
+all_alike f g (x ∷ xs) [] long each = absurd (omega (arith, long))
+all_alike {A} {B} {C} f g (x ∷ xs) (y ∷ ys) long each =
+    let r = each 0 x refl in
+    let here : g y ≡ f x = ap g (same_Some y r.0 r.1) ∙ sym r.2 in
+    let behind = all_alike f g xs ys (omega (arith, long)) (λ i z at. each (suc i) z at) in
+    (λ i. here i ∷ behind i)
+
+state_same : (b : FoundBlock) → state_of_found b ≡ block_kept (layer_state b)
+state_same found.Free = refl
+state_same found.Closed = refl
+state_same found.Bad = refl
+
+bad_same : (b : FoundBlock) → is_bad_found b ≡ is_bad (layer_state b)
+bad_same found.Free = refl
+bad_same found.Closed = refl
+bad_same found.Bad = refl
+
+blocks_listed : (n : Numbers) (blocks : Spot → disk.BlockState) (bs : List FoundBlock) →
+    map layer_state bs ≡ map blocks (spots n) →
+    BlocksKept n blocks (map state_of_found bs) (list_any is_bad_found bs)
+blocks_listed n blocks bs same = record {
+  all =
+      ap (λ (f : FoundBlock → BlockState). map f bs) (λ i b. state_same b i)
+      ∙ (sym (map_twice block_kept layer_state bs)
+      ∙ (ap (map block_kept) same ∙ map_twice block_kept blocks (spots n)));
+  bad =
+      ap (λ (f : FoundBlock → Bool). list_any f bs) (λ i b. bad_same b i)
+      ∙ (sym (any_mapped is_bad layer_state bs)
+      ∙ (ap (list_any is_bad) same
+      ∙ (any_mapped is_bad blocks (spots n) ∙ some_one (λ (s : Spot). is_bad (blocks s)) (spots n))));
+}
+
+pub blocks_found : (n m : Numbers) (f : Found) (blocks : Spot → disk.BlockState) → n ≡ m →
+    length f.blocks.items ≡ length (spots n) →
+    ((i : ℕ) (s : Spot) → slice_get (spots n) i ≡ Some s →
+    (b : FoundBlock) × (slice_get f.blocks.items i ≡ Some b) × (blocks s ≡ layer_state b)) →
+    BlocksKept m blocks (map state_of_found f.blocks.items) (list_any is_bad_found f.blocks.items)
+blocks_found n m f blocks same as_many each =
+    subst (λ (x : Numbers). BlocksKept x blocks (map state_of_found f.blocks.items)
+    (list_any is_bad_found f.blocks.items)) same
+    (blocks_listed n blocks f.blocks.items (all_alike blocks layer_state (spots n) f.blocks.items as_many each))

@@ -1,0 +1,285 @@
+-- What is kept over what a scan found is the layer that the definitions open over the same pages.
+use Rattle.std.proofs.Common.{◌≡◌, ◌≢◌, ◌∙◌, ℕ, suc, ◌+◌, ◌<◌, ◌≤◌, Bool, true, false, List, [], ◌∷◌, Option, Some}
+use Rattle.std.proofs.Common.{None, drop, take, length, map, refl, sym, ap, subst, arith}
+use Rattle.std.specs.Prelude.{◌-◌, ◌^◌, if◌then◌else◌, nat_lt, All, min, slice_get, option_and_then, option_map}
+use Rattle.std.specs.Prelude.{replicate, sum}
+use Rattle.std.proofs.Math.Nat.{min-eq_left}
+use Rattle.std.proofs.lemmas.Bool.Decides.{nat_tests}
+use Rattle.std.proofs.lemmas.List.{drop_all, get_or-replicate, length-map, length-replicate, take_all}
+use Rattle.std.proofs.lemmas.List.Elements.{All-cons, All-nil}
+use Rattle.std.proofs.lemmas.Option.{get_or_from_slice_get, slice_get-map, slice_get_within}
+use Rattle.ufs_spec.specs.Cells.{AreWithin, Cells}
+use Rattle.ufs_spec.specs.Cells as cells
+use Rattle.ufs_spec.specs.Disk as disk
+use Rattle.ufs_spec.specs.Disk.{Spot}
+use Rattle.ufs_spec.specs.Keys as keys
+use Rattle.ufs_spec.specs.Keys.{IsKey, area_pages}
+use Rattle.ufs_spec.specs.Kept.{fence_in}
+use Rattle.ufs_spec.specs.Ledger as ledger
+use Rattle.ufs_spec.specs.Ledger.{Entry, Ledger, Name, entry_of, latest_durable}
+use Rattle.ufs_spec.specs.Openings.{IsBlockState, IsMendingAt, IsOpenedTranslation, MayBeMended, number_of}
+use Rattle.ufs_spec.specs.Plain.{Shape, shape_of_numbers}
+use Rattle.ufs_spec.specs.Sound.{CellsSound}
+use Rattle.ufs_spec.specs.Translation as layer
+use Rattle.ufs_spec.specs.Translation.{Mended, Mending, Repairing, Translation, Unmarked, flies_name}
+use Rattle.ufs_spec.specs.declared.configs.Numbers.{Numbers}
+use Rattle.ufs_spec.specs.declared.flash.Fence.{Fence}
+use Rattle.ufs_spec.specs.declared.flash.Key.{Key}
+use Rattle.page_tag.specs.Contents.{mark_of}
+use Rattle.page_tag.specs.declared.contents.Mark.{Mark}
+use Rattle.power_loss.specs.Book.{CellsRight}
+use Rattle.power_loss.proofs.books.PagesByName.{none_some}
+use Rattle.power_loss.proofs.openings.OpenedIsValid.{opening_valid}
+use Rattle.recovery.specs.Found.{IsFound, newest_found}
+use Rattle.recovery.specs.KeysInOrder.{AtSettings, IsIndex, key_total}
+use Rattle.recovery.specs.Opened.{IsFenceFound, IsPageOf, OpensFound}
+use Rattle.recovery.specs.declared.found.Found.{Found}
+use Rattle.recovery.specs.declared.pages.FoundPage.{FoundPage}
+use Rattle.recovery.proofs.key_order.KeyIndexes.{is_index, known_index}
+use Rattle.recovery.proofs.opened.FoundOpens.{found_opens}
+use Rattle.ftl_core.specs.declared.books.Book.{Book}
+use Rattle.ftl_core.specs.declared.books.Stored.{Stored}
+use Rattle.ftl_core.specs.Core.{Core}
+use Rattle.ftl_core.specs.Describes.{AreToRepair, BookKept, Describes, DiesKept, GroupsKept, IsStored}
+use Rattle.ftl_core.specs.Describes.{LedgerKept, PinsKept, Standing, StepKept, WorkKept, mending_kept, spot_at}
+use Rattle.ftl_core.specs.Moves.{first_mending, flat, idle_book, mark_number_behind, mending_from}
+use Rattle.ftl_core.specs.Moves.{number_behind, opened, stored_in, stored_of_found}
+use Rattle.ftl_core.proofs.opened.FirstPages.{firsts_found}
+use Rattle.ftl_core.proofs.opened.FoundBlocks.{blocks_found}
+
+-- Dies
+
+all_of_one : {A : Type 0} (n : ℕ) (x : A) (i : ℕ) (y : A) → slice_get (replicate n x) i ≡ Some y → y ≡ x
+all_of_one n x i y at =
+    let within = slice_get_within (replicate n x) i y at in
+    sym (get_or_from_slice_get (replicate n x) i y y at)
+    ∙ get_or-replicate n i x y (omega (arith, length-replicate n x))
+
+no_filling : (c : Cells) (bad : Spot → Bool) (s : Spot) (x : disk.BlockState) (next : ℕ) → IsBlockState c bad s x →
+    x ≡ disk.Filling next → ⊥
+no_filling c bad s x next h e = subst (IsBlockState c bad s) e h
+
+flies_none : (name : Name) (f : Option disk.Flight) → f ≡ None → flies_name name f ≡ true → ⊥
+flies_none name f e h = let clash : false ≡ true = sym (ap (flies_name name) e) ∙ h in absurd (cc)
+
+book_idle : (n : Numbers) (blocks : Spot → disk.BlockState) (die : ℕ) (b : Book) (f : Option disk.Flight) →
+    b ≡ idle_book → f ≡ None → ((s : Spot) (next : ℕ) → blocks s ≡ disk.Filling next → ⊥) →
+    BookKept n blocks None die b f
+book_idle n blocks die b f same none none_fills =
+    subst (λ (x : Book × Option disk.Flight). BookKept n blocks None die x.0 x.1) (λ i. (sym same i, sym none i))
+    (record { filling = λ block next within e. none_fills (spot_at die block) next e; job = tt })
+
+dies_idle : (n m : Numbers) (blocks : Spot → disk.BlockState) (flights : ℕ → Option disk.Flight) → n ≡ m →
+    ((die : ℕ) → flights die ≡ None) → ((s : Spot) (next : ℕ) → blocks s ≡ disk.Filling next → ⊥) →
+    DiesKept m blocks flights None (replicate n.dies idle_book)
+dies_idle n m blocks flights same idle none_fills = record {
+  dies = length-replicate n.dies idle_book ∙ ap (λ (x : Numbers). x.dies) same;
+  each = λ die b at.
+      book_idle m blocks die b (flights die) (all_of_one n.dies idle_book die b at) (idle die) none_fills;
+  no_more = λ die above. idle die;
+}
+
+-- Groups and places
+
+groups_none : (standing : Standing) (n k r : ℕ) (gs : List keys.Group) → gs ≡ [] →
+    GroupsKept standing n [] (drop k (drop r gs))
+groups_none standing n k r gs none = subst (λ (hs : List keys.Group). GroupsKept standing n [] hs) (sym (all_gone k r gs
+    none)) tt
+  where
+    all_gone : (k r : ℕ) (gs : List keys.Group) → gs ≡ [] → drop k (drop r gs) ≡ []
+    all_gone k r gs none = ap (λ (hs : List keys.Group). drop k (drop r hs)) none
+        ∙ (ap (drop k) (drop_all r [] (omega arith)) ∙ drop_all k [] (omega arith))
+
+-- each key reads as it did at the life's start
+latest_first : (l : Ledger) (k : Key) → l.groups ≡ [] → latest_durable l k ≡ l.first_page k
+latest_first l k none = (λ i. ledger.latest_in k l.greatest_seen (taken_none i) (l.first_page k))
+  where
+    taken_none : take (l.frontier - l.greatest_seen) l.groups ≡ []
+    taken_none = ap (take (l.frontier - l.greatest_seen)) none
+        ∙ take_all (l.frontier - l.greatest_seen) [] (omega arith)
+
+page_stored : (standing : Standing) (e : Option FoundPage) (name : Option Name) → IsPageOf standing e name →
+    IsStored standing (option_map stored_of_found e) name
+page_stored standing None None h = tt
+page_stored standing None (Some name) h = absurd h
+page_stored standing (Some e) None h = absurd h
+page_stored standing (Some e) (Some name) h = h
+
+settings_key : Key
+settings_key = record { kind = 3; unit = 0; address = 0 }
+
+-- the last key of the device has a place
+keys_there : (s : Shape) (contents : List (Option FoundPage)) →
+    ((k : Key) (i : ℕ) → IsIndex s k i → (e : Option FoundPage) × (slice_get contents i ≡ Some e)) →
+    key_total s ≤ length (map (option_map stored_of_found) contents)
+unfolding settings_key
+keys_there s contents all =
+    let r = all settings_key (sum s.blocks + area_pages s) (AtSettings refl refl refl refl) in
+    let within = slice_get_within contents (sum s.blocks + area_pages s) r.0 r.1 in
+    let long = length-map contents (option_map stored_of_found) in
+    omega arith
+
+place_found : (n : Numbers) (contents : List (Option FoundPage)) (k : Key) (i : ℕ) (e : Option FoundPage) →
+    IsIndex (shape_of_numbers n) k i → slice_get contents i ≡ Some e →
+    stored_in n (map (option_map stored_of_found) contents) k ≡ option_map stored_of_found e
+place_found n contents k i e index at =
+    ap (option_and_then (λ (p : ℕ). flat (slice_get (map (option_map stored_of_found) contents) p)))
+    (is_index (shape_of_numbers n) k i index)
+    ∙ ap flat (slice_get-map (option_map stored_of_found) contents i ∙ ap (option_map (option_map stored_of_found)) at)
+
+ledger_found : (n : Numbers) (f : Found) (t : Translation) → OpensFound n f t → t.ledger.groups ≡ [] →
+    t.ledger.frontier ≡ t.ledger.greatest_seen →
+    LedgerKept n (map (option_map stored_of_found) f.contents.items) [] (min f.greatest_seen (2 ^ 62)) t.ledger
+ledger_found n f t h none still = record {
+  frontier = min-eq_left h.seen_within ∙ (h.greatest_seen ∙ sym still);
+  groups = groups_none t.ledger.standing t.ledger.frontier (t.ledger.frontier - ledger.before_accepted t.ledger)
+      t.ledger.repairs t.ledger.groups none;
+  keys = keys_there (shape_of_numbers n) f.contents.items
+      (λ k i index. let r = h.contents k i index in (r.0, r.1));
+  places = λ k has.
+      let index = known_index (shape_of_numbers n) k has in
+      let r = h.contents k index.0 index.1 in
+      subst (λ (x : Option Stored × Option Name). IsStored t.ledger.standing x.0 x.1)
+      (λ i. (
+        sym (place_found n f.contents.items k index.0 r.0 index.1 r.1) i,
+        sym (latest_first t.ledger k none) i,
+      ))
+      (page_stored t.ledger.standing r.0 (t.ledger.first_page k) r.2);
+}
+
+-- The mending
+
+fence_none : (low top : ℕ) (f : Fence) → top < low → (if nat_lt top low then None else Some f) ≡ None
+fence_none low top f l = by (nat_lt top low) (grind (arith, nat_tests, l))
+  where
+    by : (b : Bool) → b ≡ true → (if b then None else Some f) ≡ None
+    by true e = refl
+    by false e = cc
+
+fence_some : (low top : ℕ) (f : Fence) → low ≤ top → (if nat_lt top low then None else Some f) ≡ Some f
+fence_some low top f l = by (nat_lt top low) (grind (arith, nat_tests, l))
+  where
+    by : (b : Bool) → b ≡ false → (if b then None else Some f) ≡ Some f
+    by true e = cc
+    by false e = refl
+
+mended_from : (m : Option Mark) (newest : Option cells.Mark) → option_map mark_of m ≡ newest → newest ≢ None →
+    (left : List Key) → Mended ≡ mending_kept (mending_from None m) left
+mended_from None newest e some left = absurd (some (sym e))
+mended_from (Some m) newest e some left = refl
+
+unmarked_from : (m : Option Mark) (newest : Option cells.Mark) (low top : ℕ) → option_map mark_of m ≡ newest →
+    fence_in newest ≡ None → top < low → (MayBeMended newest low top → ⊥) →
+    (left : List Key) → Unmarked None left ≡ mending_kept (mending_from None m) left
+unmarked_from None newest low top e none l not_mended left = refl
+unmarked_from (Some m) newest low top e none l not_mended left =
+    absurd (not_mended (λ absent. none_some (mark_of m) (sym (e ∙ absent)), none, l))
+
+-- the mending that is due is the one that is kept
+mending_found : (f : Found) (newest : Option cells.Mark) (c : Cells) (low top : ℕ) (w : Mending) →
+    newest_found f ≡ newest → f.first_lost ≡ low → f.greatest_seen ≡ top → IsMendingAt c newest low top w →
+    ((fence : Option Fence) (lost : List Key) → w ≡ Unmarked fence lost →
+    (lost ≡ f.lost.items) × IsFenceFound f fence) →
+    w ≡ mending_kept (first_mending f) f.lost.items
+mending_found f newest c low top Mended marked first seen h lost =
+    mended_from f.newest newest marked h.0 f.lost.items
+    ∙ ap (λ (fence : Option Fence). mending_kept (mending_from fence f.newest) f.lost.items)
+    (sym (fence_none f.first_lost f.greatest_seen (record { first = f.first_lost; last = f.greatest_seen })
+    (omega (arith, first, seen, h.2))))
+mending_found f newest c low top (Repairing left) marked first seen h lost = absurd h
+mending_found f newest c low top (Unmarked None keys) marked first seen h lost =
+    ap (Unmarked None) (lost None keys refl).0
+    ∙ (unmarked_from f.newest newest low top marked h.1.0 h.1.1 h.0 f.lost.items
+    ∙ ap (λ (fence : Option Fence). mending_kept (mending_from fence f.newest) f.lost.items)
+    (sym (fence_none f.first_lost f.greatest_seen (record { first = f.first_lost; last = f.greatest_seen })
+    (omega (arith, first, seen, h.1.1)))))
+mending_found f newest c low top (Unmarked (Some fence) keys) marked first seen h lost =
+    let r = lost (Some fence) keys refl in
+    (λ i. Unmarked (Some (record { first = r.1.0 i; last = r.1.1 i })) (r.0 i))
+    ∙ ap (λ (o : Option Fence). mending_kept (mending_from o f.newest) f.lost.items)
+    (sym (fence_some f.first_lost f.greatest_seen (record { first = f.first_lost; last = f.greatest_seen })
+    (omega (arith, first, seen, h.1.2))))
+
+step_none : (l : Ledger) (content : List ℕ) (o : Option layer.Step) → o ≡ None → StepKept l None content o
+step_none l content None e = tt
+step_none l content (Some s) e = cc
+
+every : {A : Type 0} (P : A → Type 0) → ((x : A) → P x) → (xs : List A) → All P xs
+every P all [] = All-nil P
+every P all (x ∷ xs) = All-cons P x xs (all x) (every P all xs)
+
+next_found : (m : Option Mark) (marks : ℕ) → marks ≡ number_of (option_map mark_of m) →
+    number_of (option_map mark_of m) ≤ 2 ^ 62 → number_behind m ≡ suc marks
+next_found None marks e l = omega (arith, e)
+next_found (Some m) marks e l =
+    let least : min m.number (2 ^ 62) ≡ m.number = min-eq_left l in
+    omega (arith, e, least)
+
+none_dropped : {A : Type 0} (xs : List A) → drop 0 xs ≡ xs
+none_dropped [] = refl
+none_dropped (x ∷ xs) = refl
+
+to_repair_found : (l : Ledger) (ks : List Key) → l.groups ≡ [] → AreToRepair l ks → AreToRepair l (drop 0 ks)
+to_repair_found l ks none h = subst (AreToRepair l) (sym (none_dropped ks)) h
+
+work_found : (n : Numbers) (f : Found) (c : Cells) (bad : Spot → Bool) (t : Translation) (content : List ℕ) →
+    OpensFound n f t → IsOpenedTranslation n c bad t →
+    WorkKept (first_mending f) (drop 0 f.lost.items) None content (mark_number_behind f) t.work t.ledger
+work_found n f c bad t content h o = record {
+  mending_is =
+      mending_found f t.ledger.newest c t.ledger.first_lost t.ledger.greatest_seen t.work.mending h.newest h.first_lost
+      h.greatest_seen o.mending h.lost
+      ∙ ap (mending_kept (first_mending f)) (sym (none_dropped f.lost.items));
+  step_is = step_none t.ledger content t.work.step o.no_step;
+  to_repair = λ un. to_repair_found t.ledger f.lost.items o.ledger.none_new (record {
+    differ = h.differ;
+    unrepaired = every (λ (k : Key). latest_durable t.ledger k ≡ t.ledger.first_page k)
+        (λ k. latest_first t.ledger k o.ledger.none_new) f.lost.items;
+  });
+  no_plan = o.no_plan;
+  no_rests = o.no_rests;
+  next_mark = next_found f.newest t.ledger.marks h.marks h.marks_within;
+  repaired = λ mended. omega (arith, o.ledger.none_repaired, o.ledger.frontier);
+}
+
+-- All of it
+
+pins_none : (frontier : ℕ) (entries : Name → Option Entry) (qs : List layer.Pin) → qs ≡ [] →
+    PinsKept frontier entries [] qs
+pins_none frontier entries [] e = tt
+pins_none frontier entries (q ∷ qs) e = cc
+
+pub opens_right : (n : Numbers) (f : Found) (c : Cells) (bad : Spot → Bool) (t : Translation) → 1 ≤ n.pages →
+    CellsRight c → AreWithin n c → CellsSound c t.ledger.newest → IsFound n c bad f → IsOpenedTranslation n c bad t →
+    Describes (opened n f) t
+opens_right n f c bad t pages right within sound found o =
+    let h = found_opens n c bad f t sound found o in
+    let fills = λ (s : Spot) (next : ℕ) (e : t.disk.blocks s ≡ disk.Filling next). no_filling c bad s
+    (t.disk.blocks s) next (o.disk.blocks s) e in
+    record {
+      valid = opening_valid n c bad t pages right within sound o;
+      kept = record {
+        numbers = sym o.numbers;
+        blocks = blocks_found n t.numbers f t.disk.blocks (sym o.numbers) h.as_many h.blocks;
+        dies = dies_idle n t.numbers t.disk.blocks t.disk.flights (sym o.numbers) o.disk.idle fills;
+        fly = record {
+          one = λ d e name x y. absurd (flies_none name (t.disk.flights d) (o.disk.idle d) x);
+          new = λ d name x. absurd (flies_none name (t.disk.flights d) (o.disk.idle d) x);
+        };
+        ledger_kept = ledger_found n f t h o.ledger.none_new o.ledger.frontier;
+        work = work_found n f c bad t (opened n f).content h o;
+        claims = sym o.no_claims;
+        pins = pins_none t.ledger.frontier (entry_of t.ledger) t.pins o.no_pins;
+        differ = tt;
+        reads = λ die tag index place e. absurd (none_some _ (sym (o.disk.idle die) ∙ e));
+        step_reads = λ die place e. absurd (none_some _ (sym (o.disk.idle die) ∙ e));
+        readers = λ un. refl;
+        firsts = firsts_found n t.numbers c bad t (sym o.numbers) sound o;
+      };
+    }
+
+pub opens_described : (n : Numbers) (f : Found) (kept : Core) → kept ≡ opened n f →
+    (c : Cells) (bad : Spot → Bool) (t : Translation) → 1 ≤ n.pages → CellsRight c → AreWithin n c →
+    CellsSound c t.ledger.newest → IsFound n c bad f → IsOpenedTranslation n c bad t → Describes kept t
+opens_described n f kept is c bad t pages right within sound found o =
+    subst (λ (x : Core). Describes x t) (sym is) (opens_right n f c bad t pages right within sound found o)

@@ -1,0 +1,4 @@
+pub mod MarksOrdered
+pub mod QuietLayers
+pub mod RepairsOrdered
+pub mod Turns

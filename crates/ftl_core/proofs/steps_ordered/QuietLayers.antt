@@ -1,0 +1,170 @@
+-- A layer whose mending has no step under way: when a step is due, and that nothing else is pending.
+use Rattle.std.proofs.Common.{◌≡◌, ◌∙◌, ◌⊎◌, ℕ, zero, suc, ◌+◌, Bool, true, false, List, [], ◌∷◌, Option, Some, None}
+use Rattle.std.proofs.Common.{length, drop, refl, sym, ap, subst, inl, inr, arith}
+use Rattle.std.specs.Prelude.{◌-◌, ◌&&◌, ◌^◌, if◌then◌else◌, nat_le, nat_lt, is_none, is_some, slice_get}
+use Rattle.std.proofs.lemmas.Bool.Decides.{nat_tests}
+use Rattle.std.proofs.lemmas.List.{drop_all}
+use Rattle.ufs_spec.specs.Keys as keys
+use Rattle.ufs_spec.specs.Ledger.{Ledger, pending}
+use Rattle.ufs_spec.specs.Ledger as ledger
+use Rattle.ufs_spec.specs.Translation as layer
+use Rattle.ufs_spec.specs.Translation.{Mending, OrderMark, OrderRepair, Repairing, Translation, due_order, is_mended}
+use Rattle.ufs_spec.specs.declared.flash.Key.{Key}
+use Rattle.power_loss.proofs.books.PagesByName.{none_some}
+use Rattle.power_loss.proofs.books.LayerParts.{MendingOf}
+use Rattle.power_loss.specs.Book.{Book, HasKey, book, last_number}
+use Rattle.power_loss.specs.Invariant.{IsLastRepair}
+use Rattle.ftl_core.specs.declared.books.Group.{Group}
+use Rattle.ftl_core.specs.declared.books.Mending as kept
+use Rattle.ftl_core.specs.declared.books.Mending.TheVariants as mendings
+use Rattle.ftl_core.specs.declared.books.Step as kept_step
+use Rattle.ftl_core.specs.declared.books.Step.TheVariants as steps
+use Rattle.ftl_core.specs.Core.{Core}
+use Rattle.ftl_core.specs.Describes.{Describes, GroupsKept, Kept, Standing, StepKept, mending_kept}
+use Rattle.ftl_core.specs.Moves.{has_mark_number, has_number, is_repair_due, is_step_due, is_turn_due, repairs_in}
+
+-- Lists
+
+abbrev pub at_front : {A : Type 0} → List A → Option A
+at_front [] = None
+at_front (x ∷ xs) = Some x
+
+pub get_dropped : {A : Type 0} (xs : List A) (n : ℕ) → slice_get xs n ≡ at_front (drop n xs)
+get_dropped [] zero = refl
+get_dropped [] (suc n) = refl
+get_dropped (x ∷ xs) zero = refl
+get_dropped (x ∷ xs) (suc n) = get_dropped xs n
+
+-- No step
+
+pub step_kept_none : (l : Ledger) (s : Option kept_step.Step) (content : List ℕ) (o : Option layer.Step) →
+    StepKept l s content o → is_none s ≡ is_none o
+step_kept_none l None content None h = refl
+step_kept_none l None content (Some o) h = absurd h
+step_kept_none l (Some (steps.Mark n fence)) content (Some o) h = refl
+step_kept_none l (Some (steps.Mark n fence)) content None h = absurd h
+step_kept_none l (Some (steps.Repair n k from there)) content (Some o) h = refl
+step_kept_none l (Some (steps.Repair n k from there)) content None h = absurd h
+
+pub none_is : {A : Type 0} (o : Option A) → is_none o ≡ true → o ≡ None
+none_is None e = refl
+none_is (Some x) e = cc
+
+-- the layer has no step where none is kept
+pub no_step : (c : Core) (t : Translation) → Kept c t → c.step ≡ None → t.work.step ≡ None
+no_step c t k none = none_is t.work.step
+    (sym (step_kept_none t.ledger c.step c.content t.work.step k.work.step_is) ∙ ap (λ (o : Option kept_step.Step).
+    is_none o) none)
+
+-- Nothing is pending while keys are repaired
+
+none_kept : (standing : Standing) (n : ℕ) (gs : List Group) (hs : List keys.Group) → hs ≡ [] →
+    GroupsKept standing n gs hs → gs ≡ []
+none_kept standing n [] hs e h = refl
+none_kept standing n (g ∷ gs) [] e h = absurd h
+none_kept standing n (g ∷ gs) (x ∷ hs) e h = cc
+
+-- the groups of accepted commands are none where all are repairs
+pub none_pending : (frontier before repairs : ℕ) (gs : List keys.Group) → repairs ≡ length gs →
+    drop (frontier - before) (drop repairs gs) ≡ []
+none_pending frontier before repairs gs all =
+    ap (drop (frontier - before)) (drop_all repairs gs (omega arith))
+    ∙ drop_all (frontier - before) [] (omega arith)
+
+under_way : (b : Book) {frontier : ℕ} {step : Option layer.Step} → step ≡ None →
+    (frontier ≡ last_number b) ⊎ ((suc frontier ≡ last_number b) × IsLastRepair b step) → frontier ≡ last_number b
+under_way b e (inl h) = h
+under_way b e (inr h) = absurd (none_some _ (sym e ∙ h.1.2))
+
+-- what is known of a layer that repairs these keys, with no step under way
+pub record IsQuiet (c : Core) (t : Translation) (left : List Key) : Type 0 where
+  pub groups : c.groups ≡ []
+  pub repairs : t.ledger.repairs ≡ length t.ledger.groups
+  pub frontier : t.ledger.frontier ≡ t.ledger.greatest_seen + length t.ledger.groups
+  pub keys : (j : ℕ) (k : Key) → slice_get left j ≡ Some k → HasKey (book t) k
+
+pub is_quiet : (c : Core) (t : Translation) (left : List Key) → Describes c t → c.step ≡ None →
+    t.work.mending ≡ Repairing left → IsQuiet c t left
+is_quiet c t left h none repairing = record {
+  groups = none_kept t.ledger.standing t.ledger.frontier c.groups (pending t.ledger)
+      (none_pending t.ledger.frontier (ledger.before_accepted t.ledger) t.ledger.repairs t.ledger.groups all)
+      h.kept.ledger_kept.groups;
+  repairs = all;
+  frontier = under_way (book t) (no_step c t h.kept none) mending.more.under_way;
+  keys = mending.more.keys;
+}
+  where
+    all : t.ledger.repairs ≡ length t.ledger.groups
+    all = (h.valid.history.mending (ap is_mended repairing)).0
+
+    mending : MendingOf t (Repairing left)
+    mending = subst (MendingOf t) repairing h.valid.mending
+
+-- What is due
+
+number_left : (next marks most : ℕ) → next ≡ suc marks → nat_le next most ≡ nat_lt marks most
+number_left next marks most e = grind (arith, nat_tests)
+
+pub mark_number : (c : Core) (t : Translation) → Kept c t → has_mark_number c ≡ layer.has_mark_number t
+mark_number c t k = number_left c.next_mark t.ledger.marks (2 ^ 62) k.work.next_mark
+
+tests : (a b most : ℕ) → a + 1 ≡ b → nat_lt a most ≡ nat_le b most
+tests a b most e = grind (arith, nat_tests)
+
+-- the number of the next repair
+pub next_repair : (c : Core) (t : Translation) (left : List Key) → Kept c t → c.step ≡ None → IsQuiet c t left →
+    c.frontier + length c.groups + repairs_in c.step ≡ t.ledger.greatest_seen + length t.ledger.groups
+next_repair c t left k none q =
+    let long : length c.groups ≡ 0 = ap (λ (gs : List Group). length gs) q.groups in
+    let idle : repairs_in c.step ≡ 0 = ap repairs_in none in
+    let same = k.ledger_kept.frontier in
+    let up = q.frontier in
+    omega arith
+
+pub group_number : (c : Core) (t : Translation) (left : List Key) → Kept c t → c.step ≡ None → IsQuiet c t left →
+    has_number c ≡ layer.has_number t
+group_number c t left k none q =
+    tests (c.frontier + length c.groups + repairs_in c.step) (ledger.next_number t.ledger) (2 ^ 62)
+    (ap (λ (n : ℕ). n + 1) (next_repair c t left k none q))
+
+some_if : {A : Type 0} (b : Bool) (x : A) → b ≡ is_some (if b then Some x else None)
+some_if true x = refl
+some_if false x = refl
+
+-- the step that is due where none is under way
+pub order_is : (c : Core) (t : Translation) → Kept c t → c.step ≡ None →
+    due_order t ≡ layer.next_order t (mending_kept c.mending (drop c.repaired c.lost)) None
+order_is c t k none = (λ i. if is_none (no_step c t k none i) then
+    layer.next_order t (k.work.mending_is i) (k.work.no_plan i) else None)
+
+repair_due : (c : Core) (t : Translation) (left : List Key) → Describes c t → c.step ≡ None →
+    t.work.mending ≡ Repairing left →
+    is_repair_due c (at_front left) ≡ is_some (layer.next_order t (Repairing left) None)
+repair_due c t [] h none repairing = mark_number c t h.kept ∙ some_if (layer.has_mark_number t) (OrderMark None)
+repair_due c t (k ∷ left) h none repairing =
+    group_number c t (k ∷ left) h.kept none (is_quiet c t (k ∷ left) h none repairing)
+    ∙ some_if (layer.has_number t) (OrderRepair k left)
+
+step_due : (c : Core) (t : Translation) (m : kept.Mending) → Describes c t → c.step ≡ None →
+    t.work.mending ≡ mending_kept m (drop c.repaired c.lost) →
+    is_step_due c m ≡ is_some (layer.next_order t (mending_kept m (drop c.repaired c.lost)) None)
+step_due c t (mendings.Unmarked fence) h none is =
+    mark_number c t h.kept ∙ some_if (layer.has_mark_number t) (OrderMark fence)
+step_due c t mendings.Repairing h none is =
+    ap (is_repair_due c) (get_dropped c.lost c.repaired) ∙ repair_due c t (drop c.repaired c.lost) h none is
+step_due c t mendings.Mended h none is = refl
+
+-- a step is due where the definitions have one
+pub turns_due : (c : Core) (t : Translation) → Describes c t → is_turn_due c ≡ layer.is_step_due t
+turns_due c t h = by (is_none c.step) refl
+  where
+    by : (b : Bool) → is_none c.step ≡ b → (is_none c.step && is_step_due c c.mending) ≡ is_some (due_order t)
+    by true e =
+        let none = none_is c.step e in
+        ap (λ (x : Bool). x && is_step_due c c.mending) e
+        ∙ step_due c t c.mending h none h.kept.work.mending_is
+        ∙ ap is_some (sym (order_is c t h.kept none))
+    by false e =
+        ap (λ (x : Bool). x && is_step_due c c.mending) e
+        ∙ sym (ap (λ (x : Bool). is_some (if x then layer.next_order t t.work.mending t.work.plan else None))
+        (sym (step_kept_none t.ledger c.step c.content t.work.step h.kept.work.step_is) ∙ e))

@@ -1,0 +1,265 @@
+-- A repair is ordered: it waits with the next number, and its content is still to be read, or is zeros.
+use Rattle.std.proofs.Common.{◌≡◌, ◌∙◌, ◌⊎◌, ℕ, suc, ◌+◌, Bool, true, false, List, [], ◌∷◌, ◌++◌, Option, Some, None}
+use Rattle.std.proofs.Common.{length, drop, take, refl, sym, ap, subst, inl, inr, arith}
+use Rattle.std.specs.Prelude.{◌-◌, All, is_none, option_map, slice_get}
+use Rattle.std.proofs.lemmas.List.{take-append-le}
+use Rattle.std.proofs.lemmas.List.Elements.{All-head}
+use Rattle.ufs_spec.specs.Cells.{GroupPage}
+use Rattle.ufs_spec.specs.Disk as disk
+use Rattle.ufs_spec.specs.Keys as keys
+use Rattle.ufs_spec.specs.Keys.{IsKey}
+use Rattle.ufs_spec.specs.Ledger as ledger
+use Rattle.ufs_spec.specs.Ledger.{Entry, Ledger, Name, entry_of, latest_durable, latest_in, pending}
+use Rattle.ufs_spec.specs.Plain.{shape_of_numbers, zero_block}
+use Rattle.ufs_spec.specs.Translation as layer
+use Rattle.ufs_spec.specs.Translation.{Repairing, Translation, flies_name, is_mended, name_of, standing_of, with_repair}
+use Rattle.ufs_spec.specs.declared.configs.Numbers.{Numbers}
+use Rattle.ufs_spec.specs.declared.flash.Key.{Key}
+use Rattle.ufs_spec.specs.declared.flash.Place.{Place}
+use Rattle.ufs_spec.specs.declared.flash.Tag.{Tag}
+use Rattle.ufs_spec.proofs.Lists.{grown_length}
+use Rattle.power_loss.proofs.books.PagesByName.{added_page, none_some, page_within}
+use Rattle.power_loss.proofs.books.SmallFacts.{name_self}
+use Rattle.power_loss.specs.Book.{BaseAt, BaseNone, Book, FirstRight, HasKey, book, book_of}
+use Rattle.power_loss.specs.Invariant.{Valid}
+use Rattle.ftl_core.specs.declared.books.Group.{Group}
+use Rattle.ftl_core.specs.declared.books.Mending.TheVariants as mendings
+use Rattle.ftl_core.specs.declared.books.Pin.{Pin}
+use Rattle.ftl_core.specs.declared.books.Step.{Step}
+use Rattle.ftl_core.specs.declared.books.Stored.{Stored}
+use Rattle.ftl_core.specs.Core.{Core}
+use Rattle.ftl_core.specs.Describes.{AreToRepair, Describes, GroupsKept, IsStored, Kept, LedgerKept, PagesFly, PinsKept}
+use Rattle.ftl_core.specs.Describes.{RepairKept, Standing, keys_to_repair, mending_kept, name_at}
+use Rattle.ftl_core.specs.Moves.{next_number, repair_ordered, repair_step, stored_in, stored_of}
+use Rattle.ftl_core.proofs.opened.ListParts.{drop_next}
+use Rattle.ftl_core.proofs.steps_ordered.MarksOrdered.{MayBegin, dies_on, no_reads}
+use Rattle.ftl_core.proofs.steps_ordered.QuietLayers.{IsQuiet, next_repair, none_pending}
+
+-- Where the content stands
+
+-- it is read from where its page stands, and is there at once where none stands
+stored_standing : (l : Ledger) (s : Option Stored) (name : Option Name) → IsStored l.standing s name →
+    option_map (λ (at : Stored). at.place) s ≡ standing_of l name
+stored_standing l None None h = refl
+stored_standing l None (Some name) h = absurd h
+stored_standing l (Some s) None h = absurd h
+stored_standing l (Some s) (Some name) h = sym h.1
+
+none_mapped : {A B : Type 0} (f : A → B) (o : Option A) → is_none (option_map f o) ≡ is_none o
+none_mapped f None = refl
+none_mapped f (Some x) = refl
+
+none_stands : (l : Ledger) (s : Option Stored) (name : Option Name) → IsStored l.standing s name → is_none s ≡ true →
+    name ≡ None
+none_stands l None None h e = refl
+none_stands l None (Some name) h e = absurd h
+none_stands l (Some s) name h e = cc
+
+-- a key of which no page stood had zeros
+zeros_of : (b : Book) (k : Key) → FirstRight b k None → BaseAt b k ⊎ BaseNone b k → zero_block ≡ b.base k
+zeros_of b k first (inl h) = absurd (first h.number h.index _ h.is refl h.below)
+zeros_of b k first (inr h) = sym h.zeros
+
+pub base_zeros : (b : Book) (k : Key) → BaseAt b k ⊎ BaseNone b k → (name : Option Name) → FirstRight b k name →
+    name ≡ None → zero_block ≡ b.base k
+base_zeros b k base None first e = zeros_of b k first base
+base_zeros b k base (Some name) first e = cc
+
+-- The ledger with one repair more
+
+-- the groups up to the frontier are as they were
+durable_same : (l : Ledger) (k : Key) → l.frontier ≡ l.greatest_seen + length l.groups →
+    latest_durable (with_repair l k) ≡ latest_durable l
+durable_same l k up = (λ i key. latest_in key l.greatest_seen (same i) (l.first_page key))
+  where
+    same : take (l.frontier - l.greatest_seen) (l.groups ++ (record { key = k; body = l.base k } ∷ []) ∷ [])
+        ≡ take (l.frontier - l.greatest_seen) l.groups
+    same = take-append-le (l.frontier - l.greatest_seen) l.groups _ (omega (arith, up))
+
+none_more : (standing : Standing) (n : ℕ) (gs : List Group) (hs : List keys.Group) → gs ≡ [] → hs ≡ [] →
+    GroupsKept standing n gs hs
+none_more standing n [] [] e f = tt
+none_more standing n [] (h ∷ hs) e f = cc
+none_more standing n (g ∷ gs) hs e f = cc
+
+repairs_more : (l : Ledger) (k : Key) → l.repairs ≡ length l.groups → pending (with_repair l k) ≡ []
+repairs_more l k all =
+    none_pending l.frontier (l.greatest_seen + (l.repairs + 1)) (l.repairs + 1)
+    (l.groups ++ (record { key = k; body = l.base k } ∷ []) ∷ [])
+    (let up = grown_length l.groups (record { key = k; body = l.base k } ∷ []) in omega (arith, all, up))
+
+ledger_repaired : (n : Numbers) (places : List (Option Stored)) (groups : List Group) (frontier : ℕ) (l : Ledger)
+    (k : Key) → groups ≡ [] → l.repairs ≡ length l.groups → l.frontier ≡ l.greatest_seen + length l.groups →
+    LedgerKept n places groups frontier l → LedgerKept n places groups frontier (with_repair l k)
+ledger_repaired n places groups frontier l k none all up h = record {
+  frontier = h.frontier;
+  groups = none_more l.standing l.frontier groups (pending (with_repair l k)) none (repairs_more l k all);
+  keys = h.keys;
+  places = λ key has. subst (λ (f : Key → Option Name). IsStored l.standing (stored_in n places key) (f key))
+      (sym (durable_same l k up)) (h.places key has);
+}
+
+-- the page of the repair
+repair_entry : (n : Numbers) (l : Ledger) (k : Key) (number : ℕ) → number ≡ suc (l.greatest_seen + length l.groups) →
+    entry_of (with_repair l k) (name_at number) ≡ Some (record { item = record { key = k; body = l.base k }; size = 1 })
+repair_entry n l k number is =
+    added_page (book_of n l) (record { key = k; body = l.base k } ∷ []) number 0
+    (record { item = record { key = k; body = l.base k }; size = 1 })
+    (record { last = is; item = refl; size = refl })
+
+repaired_to_repair : (l : Ledger) (k : Key) (ks : List Key) → l.frontier ≡ l.greatest_seen + length l.groups →
+    AreToRepair l ks → AreToRepair (with_repair l k) ks
+repaired_to_repair l k ks up h = record {
+  differ = h.differ;
+  unrepaired = subst (λ (f : Key → Option Name). All (λ (key : Key). f key ≡ l.first_page key) ks)
+      (sym (durable_same l k up)) h.unrepaired;
+}
+
+-- the step that waits
+repair_kept : (n : Numbers) (l : Ledger) (k : Key) (number : ℕ) (from : Option Stored) →
+    l.standing number 0 ≡ None → l.frontier ≡ l.greatest_seen + length l.groups →
+    number ≡ suc (l.greatest_seen + length l.groups) →
+    IsStored l.standing from (l.first_page k) → (is_none from ≡ true → zero_block ≡ l.base k) →
+    RepairKept (with_repair l k) number k from (is_none from) zero_block
+repair_kept n l k number from new up is at zeros = record {
+  next = omega (arith, up, is);
+  last = (let more = grown_length l.groups (record { key = k; body = l.base k } ∷ []) in omega (arith, is, more));
+  new = new;
+  entry = repair_entry n l k number is;
+  stored = at;
+  content_is = zeros;
+}
+
+abbrev a_repair : ℕ → Option Place → Bool → layer.Step
+a_repair number from there = record { kind = layer.RepairStep (name_at number) from; there = there }
+
+step_is : (l : Ledger) (k : Key) (number other : ℕ) (from : Option Stored) → number ≡ other →
+    IsStored l.standing from (l.first_page k) →
+    a_repair other (standing_of l (l.first_page k)) (is_none (standing_of l (l.first_page k)))
+    ≡ a_repair number (option_map (λ (at : Stored). at.place) from) (is_none from)
+step_is l k number other from same at =
+    (λ i. a_repair (sym same i) (sym (stored_standing l from (l.first_page k) at) i)
+    ((ap (λ (o : Option Place). is_none o) (sym (stored_standing l from (l.first_page k) at))
+    ∙ none_mapped (λ (s : Stored). s.place) from) i))
+
+-- Jobs in flight
+
+-- no die writes a group's page
+none_written : (t : Translation) → Valid t → PagesFly t.ledger.standing t.disk.flights →
+    t.ledger.frontier ≡ t.ledger.greatest_seen + length t.ledger.groups →
+    (die : ℕ) (p : Place) (tag : Tag) (body : List ℕ) →
+    t.disk.flights die ≡ Some (disk.Programming p (GroupPage tag body)) → ⊥
+none_written t v fly up die p tag body at =
+    let known = v.flights.known die p tag body at in
+    let low = page_within (book t) tag.number tag.index _ known in
+    let stands = v.frontier.stand tag.number tag.index _ (omega (arith, low, up)) known in
+    let new = fly.new die (name_of tag) (ap (flies_name (name_of tag)) at ∙ name_self (name_of tag)) in
+    none_some stands.0 (sym new ∙ stands.1)
+
+-- no page stands behind the last number
+stands_not : (t : Translation) (number : ℕ) → Valid t → number ≡ suc (t.ledger.greatest_seen + length t.ledger.groups) →
+    (o : Option Place) → t.ledger.standing number 0 ≡ o → t.ledger.standing number 0 ≡ None
+stands_not t number v is None e = e
+stands_not t number v is (Some p) e =
+    let known = v.frontier.known number 0 p e in
+    let low = page_within (book t) number 0 known.0 known.1 in
+    absurd (omega (arith, low, is))
+
+may_repair : (s : Step) (f : Option disk.Flight) →
+    ((p : Place) (tag : Tag) (body : List ℕ) → f ≡ Some (disk.Programming p (GroupPage tag body)) → ⊥) → MayBegin s f
+may_repair s None none = tt
+may_repair s (Some (disk.Reading who p)) none = tt
+may_repair s (Some (disk.Programming p (GroupPage tag body))) none = absurd (none p tag body refl)
+may_repair s (Some (disk.Programming p cell)) none = tt
+may_repair s (Some (disk.Erasing x)) none = tt
+
+-- Readers
+
+none_pinned : (f g : ℕ) (entries others : Name → Option Entry) (ps : List Pin) (qs : List layer.Pin) → ps ≡ [] →
+    PinsKept f entries ps qs → PinsKept g others ps qs
+none_pinned f g entries others [] [] e h = tt
+none_pinned f g entries others [] (q ∷ qs) e h = absurd h
+none_pinned f g entries others (p ∷ ps) qs e h = cc
+
+no_more_mended : (left : List Key) {A : Type 0} → is_mended (Repairing left) ≡ true → A
+no_more_mended left e = cc
+
+-- The repair
+
+-- the repair of the first of the keys waits
+pub repair_waits : (c : Core) (t : Translation) (k : Key) (left : List Key) → Describes c t → c.step ≡ None →
+    c.mending ≡ mendings.Repairing → drop c.repaired c.lost ≡ k ∷ left → t.work.mending ≡ Repairing (k ∷ left) →
+    IsQuiet c t (k ∷ left) → Kept (repair_ordered c k) (layer.repair_ordered t k left)
+repair_waits c t k left h none repairing at mending q = record {
+  numbers = h.kept.numbers;
+  blocks = h.kept.blocks;
+  dies = dies_on t.numbers t.disk.blocks t.disk.flights c.step (repair_step c k) c.books none
+      (λ die. may_repair (repair_step c k) (t.disk.flights die) (none_written t h.valid h.kept.fly q.frontier die))
+      h.kept.dies;
+  fly = record { one = h.kept.fly.one; new = h.kept.fly.new };
+  ledger_kept = ledger_repaired c.numbers c.places c.groups c.frontier t.ledger k q.groups q.repairs q.frontier
+      h.kept.ledger_kept;
+  work = record {
+    mending_is = ap Repairing (sym next.0) ∙ ap (λ m. mending_kept m (drop (c.repaired + 1) c.lost)) (sym repairing);
+    step_is = (
+      step_is t.ledger k (next_number c) (ledger.next_number t.ledger) (stored_of c k) numbered stored,
+      repair_kept t.numbers t.ledger k (next_number c) (stored_of c k) new q.frontier (omega (arith, numbered)) stored
+          zeros,
+    );
+    to_repair = λ un. subst (λ (ks : List Key). AreToRepair (with_repair t.ledger k) (k ∷ ks)) (sym next.0)
+        (repaired_to_repair t.ledger k (k ∷ left) q.frontier to_repair);
+    no_plan = h.kept.work.no_plan;
+    no_rests = h.kept.work.no_rests;
+    next_mark = h.kept.work.next_mark;
+    repaired = no_more_mended left;
+  };
+  claims = h.kept.claims;
+  pins = none_pinned t.ledger.frontier t.ledger.frontier (entry_of t.ledger) (entry_of (with_repair t.ledger k)) c.pins
+      t.pins pinned h.kept.pins;
+  differ = h.kept.differ;
+  reads = h.kept.reads;
+  step_reads = no_reads t.disk.flights c.step (Some (repair_step c k)) none h.kept.step_reads;
+  readers = λ un. pinned;
+  firsts = h.kept.firsts;
+}
+  where
+    one_more : (n : ℕ) → n + 1 ≡ suc n
+    one_more n = omega arith
+
+    unmended : is_mended t.work.mending ≡ false
+    unmended = ap is_mended mending
+
+    pinned : c.pins ≡ []
+    pinned = h.kept.readers unmended
+
+    next : (drop (c.repaired + 1) c.lost ≡ left) × (slice_get c.lost c.repaired ≡ Some k)
+    next =
+        let r = drop_next c.lost c.repaired k left at in
+        (ap (λ (n : ℕ). drop n c.lost) (one_more c.repaired) ∙ r.0, r.3)
+
+    numbered : next_number c ≡ ledger.next_number t.ledger
+    numbered = ap (λ (n : ℕ). n + 1) (next_repair c t (k ∷ left) h.kept none q)
+
+    new : t.ledger.standing (next_number c) 0 ≡ None
+    new = stands_not t (next_number c) h.valid (omega (arith, numbered)) (t.ledger.standing (next_number c) 0) refl
+
+    to_repair : AreToRepair t.ledger (k ∷ left)
+    to_repair = subst (AreToRepair t.ledger) at
+        (subst (λ (o : Option Step). AreToRepair t.ledger (keys_to_repair o (drop c.repaired c.lost))) none
+        (h.kept.work.to_repair unmended))
+
+    first : latest_durable t.ledger k ≡ t.ledger.first_page k
+    first = All-head (λ (key : Key). latest_durable t.ledger key ≡ t.ledger.first_page key) k left to_repair.unrepaired
+
+    has : HasKey (book t) k
+    has = q.keys 0 k refl
+
+    stored : IsStored t.ledger.standing (stored_of c k) (t.ledger.first_page k)
+    stored = subst (IsStored t.ledger.standing (stored_of c k)) first
+        (h.kept.ledger_kept.places k
+        (subst (λ (n : Numbers). IsKey (shape_of_numbers n) k) (sym h.kept.numbers) has))
+
+    zeros : is_none (stored_of c k) ≡ true → zero_block ≡ t.ledger.base k
+    zeros e = base_zeros (book t) k (h.valid.book_right.base k has) (t.ledger.first_page k)
+        (h.valid.book_right.first_page k has)
+        (none_stands t.ledger (stored_of c k) (t.ledger.first_page k) stored e)

@@ -1,0 +1,3 @@
+pub mod ContentPages
+pub mod FoundOpens
+pub mod LostLists

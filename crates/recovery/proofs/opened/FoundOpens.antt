@@ -1,0 +1,153 @@
+-- What a scan finds is what the definitions open over the same pages.
+use Rattle.std.proofs.Common.{◌≡◌, ◌==◌, suc, ◌∙◌, ℕ, ◌≤◌, ◌^◌, Bool, List, Option, Some, None, refl, ap, arith, subst}
+use Rattle.std.proofs.Common.{sym}
+use Rattle.std.specs.Prelude.{slice_get, slice_index}
+use Rattle.ufs_spec.specs.Cells.{Cells, Mark}
+use Rattle.ufs_spec.specs.Disk.{BlockState, Bad, Closed, Filling, Free, Spot}
+use Rattle.ufs_spec.specs.Keys.{IsSettings, settings_key}
+use Rattle.ufs_spec.specs.Kept.{Holds, IsKept, IsNewestMark, fence_in, recorded_in}
+use Rattle.ufs_spec.specs.Openings.{AreLost, IsAtMost, IsBlockState, IsFirstFence, IsMendingAt, IsOpenedTranslation}
+use Rattle.ufs_spec.specs.Openings.{IsTop, lost_from, number_of}
+use Rattle.ufs_spec.specs.Plain.{shape_of_numbers}
+use Rattle.ufs_spec.specs.Sound.{CellsSound}
+use Rattle.ufs_spec.specs.Translation.{Translation, Unmarked}
+use Rattle.ufs_spec.specs.declared.configs.Numbers.{Numbers}
+use Rattle.ufs_spec.specs.declared.flash.Fence.{Fence}
+use Rattle.ufs_spec.specs.declared.flash.Key.{Key}
+use Rattle.ufs_spec.proofs.Facts.{true≢false}
+use Rattle.ufs_laws.proofs.array_cells.StandsForOne.{kept_one, mark_one}
+use Rattle.recovery.specs.Found.{IsFound, newest_found}
+use Rattle.recovery.specs.KeysInOrder.{IsIndex, state_of_found}
+use Rattle.recovery.specs.Listed.{AreInRange, IsContentPage}
+use Rattle.recovery.specs.Opened.{IsFenceFound, IsPageOf, OpensFound}
+use Rattle.recovery.specs.declared.found.Found.{Found}
+use Rattle.recovery.specs.declared.pages.FoundPage.{FoundPage}
+use Rattle.recovery.proofs.key_order.Indexes.{index_known}
+use Rattle.recovery.proofs.opened.ContentPages.{is_page_of}
+use Rattle.recovery.proofs.opened.LostLists.{lost_differ, lost_one}
+
+-- Numbers
+
+top_one : (c : Cells) (m : Option Mark) (x y : ℕ) → IsTop c m x → IsTop c m y → x ≡ y
+top_one c m x y h g = let l = h.1 y g.0 in let r = g.1 x h.0 in omega (arith, l, r)
+
+-- a newest mark's numbers are in range
+marked : (c : Cells) (m : Option Mark) → AreInRange c → IsNewestMark c m → (number_of m ≤ 2 ^ 62) ×
+    (recorded_in m ≤ 2 ^ 62)
+marked c None range newest = (omega arith, omega arith)
+marked c (Some m) range newest = range.marks newest.0.0 m newest.0.1
+
+-- no number that was seen is above the greatest
+seen_at_most : (c : Cells) (m : Option Mark) → AreInRange c → CellsSound c m → IsNewestMark c m → IsAtMost c m (2 ^ 62)
+seen_at_most c m range sound newest = record {
+  numbers = λ p t body e. (range.pages p t body e).0;
+  frontiers = λ p t body e. (range.pages p t body e).1;
+  marks = λ p other e. (range.marks p other e).1;
+  fence = λ f e. subst (λ (x : ℕ). x ≤ 2 ^ 62) (sound.fence f e) (marked c m range newest).1;
+}
+
+-- Blocks
+
+closed_or_free : (c : Cells) (bad : Spot → Bool) (s : Spot) → IsBlockState c bad s Closed → IsBlockState c bad s Free →
+    ⊥
+closed_or_free c bad s h g = h.1.2 (g.1 h.1.0 h.1.1)
+
+-- an opened block has one state
+state_one : (c : Cells) (bad : Spot → Bool) (s : Spot) (x y : BlockState) → IsBlockState c bad s x →
+    IsBlockState c bad s y → x ≡ y
+state_one c bad s Bad Bad h g = refl
+state_one c bad s Bad Free h g = absurd (true≢false (sym h ∙ g.0))
+state_one c bad s Bad Closed h g = absurd (true≢false (sym h ∙ g.0))
+state_one c bad s Free Bad h g = absurd (true≢false (sym g ∙ h.0))
+state_one c bad s Free Free h g = refl
+state_one c bad s Free Closed h g = absurd (closed_or_free c bad s g h)
+state_one c bad s Closed Bad h g = absurd (true≢false (sym g ∙ h.0))
+state_one c bad s Closed Free h g = absurd (closed_or_free c bad s h g)
+state_one c bad s Closed Closed h g = refl
+state_one c bad s (Filling next) y h g = absurd h
+state_one c bad s x (Filling next) h g = absurd g
+
+-- Mending
+
+-- the fence of the first mark is over the lost numbers
+fence_found : (f : Found) (m : Option Mark) (low top : ℕ) (fence : Option Fence) → low ≡ f.first_lost →
+    top ≡ f.greatest_seen → IsFirstFence m low top fence → IsFenceFound f fence
+fence_found f m low top None first last h = tt
+fence_found f m low top (Some fence) first last h = (h.0 ∙ first, h.1 ∙ last)
+
+module _ (n : Numbers) (c : Cells) (bad : Spot → Bool) (f : Found) (t : Translation)
+    (sound : CellsSound c t.ledger.newest) (found : IsFound n c bad f) (opened : IsOpenedTranslation n c bad t) where
+  pub same_newest : newest_found f ≡ t.ledger.newest
+  same_newest = mark_one c t.ledger.newest (newest_found f) t.ledger.newest sound found.newest opened.ledger.newest
+
+  kept_there : IsKept c t.ledger.newest f.kept
+  kept_there = subst (λ m. IsKept c m f.kept) same_newest found.kept
+
+  pub same_kept : f.kept ≡ opened.ledger.kept
+  same_kept = kept_one c t.ledger.newest f.kept opened.ledger.kept kept_there opened.ledger.is_kept
+
+  top_there : IsTop c t.ledger.newest f.greatest_seen
+  top_there = subst (λ m. IsTop c m f.greatest_seen) same_newest found.greatest_seen
+
+  same_top : f.greatest_seen ≡ t.ledger.greatest_seen
+  same_top = top_one c t.ledger.newest f.greatest_seen t.ledger.greatest_seen top_there opened.ledger.greatest_seen
+
+  same_low : f.first_lost ≡ t.ledger.first_lost
+  same_low = found.first_lost ∙ (λ i. lost_from (fence_in (same_newest i)) (same_kept i)) ∙ sym opened.ledger.first_lost
+
+  content_there : (k : Key) (i : ℕ) → IsIndex (shape_of_numbers n) k i →
+      (e : Option FoundPage) × (slice_get f.contents.items i ≡ Some e)
+      × IsPageOf t.ledger.standing e (t.ledger.first_page k)
+  content_there k i index =
+      let r = found.contents k i index in
+      let page : IsContentPage c t.ledger.newest opened.ledger.kept k r.0 =
+      subst (λ x. IsContentPage c t.ledger.newest x k r.0) same_kept
+      (subst (λ m. IsContentPage c m f.kept k r.0) same_newest r.2) in (
+        r.0,
+        r.1,
+        is_page_of c t.ledger.newest sound t.ledger.standing opened.ledger.standing opened.ledger.kept k r.0
+            (t.ledger.first_page k) page
+            (opened.ledger.first_page k (index_known (shape_of_numbers n) k i index)),
+      )
+
+  lost_there : AreLost c t.ledger.first_lost t.ledger.greatest_seen f.lost.items
+  lost_there = subst (λ x. AreLost c x t.ledger.greatest_seen f.lost.items) same_low
+      (subst (λ x. AreLost c f.first_lost x f.lost.items) same_top found.lost)
+
+  mending_due : (fence : Option Fence) (lost : List Key) → t.work.mending ≡ Unmarked fence lost →
+      (lost ≡ f.lost.items) × IsFenceFound f fence
+  mending_due fence lost is =
+      let due = subst (IsMendingAt c t.ledger.newest t.ledger.first_lost t.ledger.greatest_seen) is opened.mending in (
+        lost_one c t.ledger.first_lost t.ledger.greatest_seen lost f.lost.items due.2 lost_there,
+        fence_found f t.ledger.newest t.ledger.first_lost t.ledger.greatest_seen fence (sym same_low) (sym same_top)
+            due.1,
+      )
+
+  pub found_opens : OpensFound n f t
+  found_opens = record {
+    newest = same_newest;
+    marks = opened.ledger.marks ∙ ap number_of (sym same_newest);
+    marks_within = (marked c (newest_found f) found.in_range found.newest).0;
+    greatest_seen = same_top;
+    seen_within = top_there.1 (2 ^ 62)
+        (seen_at_most c t.ledger.newest found.in_range sound opened.ledger.newest);
+    first_lost = same_low;
+    contents = content_there;
+    lost = mending_due;
+    differ = lost_differ c f.first_lost f.greatest_seen f.lost.items found.lost;
+    as_many = found.as_many;
+    blocks = λ i s at.
+        let r = found.blocks i s at in
+        (r.0, r.1, state_one c bad s (t.disk.blocks s) (state_of_found r.0) (opened.disk.blocks s) r.2);
+  }
+
+  -- what the settings were found to say is what their content at the life's start says
+  pub permanent_opens : (CellsSound c (newest_found f) → (x : List ℕ) →
+      Holds c (newest_found f) (suc f.kept) settings_key x → f.is_permanent ≡ (slice_index x 1 == 1)) →
+      f.is_permanent ≡ (slice_index (t.ledger.base settings_key) 1 == 1)
+  permanent_opens told =
+      let x = t.ledger.base settings_key in
+      told (subst (CellsSound c) (sym same_newest) sound) x
+      (subst (λ m. Holds c m (suc f.kept) settings_key x) (sym same_newest)
+      (subst (λ k. Holds c t.ledger.newest (suc k) settings_key x) (sym same_kept)
+      (opened.ledger.holds settings_key IsSettings)))

@@ -1,0 +1,119 @@
+-- The page that has the settings' content lies on the dies, and over sound pages its body is their content.
+use Rattle.std.proofs.Common.{◌≡◌, ◌∙◌, ◌==◌, ◌<◌, ◌+◌, ℕ, suc, Bool, false, List, Option, Some, None, ap, arith, inl}
+use Rattle.std.proofs.Common.{length, refl}
+use Rattle.std.proofs.Common.{subst, sym, ⊎_elim}
+use Rattle.std.proofs.lemmas.List.{get_or-replicate}
+use Rattle.std.specs.Prelude.{slice_get, slice_index, slice_index_or, sum}
+use Rattle.ufs_spec.specs.Cells.{Array, Cells, GroupPage, IsCell, Shows}
+use Rattle.ufs_spec.specs.Dies.{DieState, LiesOnDie, new_die}
+use Rattle.ufs_spec.specs.Disk.{Spot}
+use Rattle.ufs_spec.specs.Keys.{area_pages, settings_key}
+use Rattle.ufs_spec.specs.Kept.{HasNone, Holds, IsNewest}
+use Rattle.ufs_spec.specs.Lives.{Fit, array_of}
+use Rattle.ufs_spec.specs.Plain.{shape_of_numbers, zero_block}
+use Rattle.ufs_spec.specs.Sound.{CellsSound}
+use Rattle.ufs_spec.specs.declared.configs.Numbers.{Numbers}
+use Rattle.ufs_spec.specs.declared.flash.Page.{Page}
+use Rattle.ufs_spec.specs.declared.flash.Place.{Place}
+use Rattle.ufs_spec.specs.declared.flash.Tag.{Tag}
+use Rattle.ufs_spec.proofs.CellKinds.{page_not_nothing}
+use Rattle.ufs_laws.proofs.array_cells.StandsForOne.{content_one}
+use Rattle.ufs_laws.proofs.deciding.SearchOverPlaces.{is_place}
+use Rattle.recovery.specs.Found.{HasSettings, IsFound, newest_found}
+use Rattle.recovery.specs.KeysInOrder.{AtSettings}
+use Rattle.recovery.specs.Listed.{IsContentPage}
+use Rattle.recovery.specs.declared.found.Found.{Found}
+use Rattle.recovery.specs.declared.pages.FoundPage.{FoundPage}
+use Rattle.recovery.proofs.table_facts.TableFacts.{shown_cells}
+use Rattle.recovery.proofs.tables.Counts.{lies}
+use Rattle.recovery.proofs.tables.Whole.{shown_within}
+
+-- what was found has a page of the settings, or none, as it has of each key
+pub has_settings : (n : Numbers) (c : Cells) (bad : Spot → Bool) (f : Found) → IsFound n c bad f → HasSettings n c f
+has_settings n c bad f found =
+    found.contents settings_key (sum (shape_of_numbers n).blocks + area_pages (shape_of_numbers n))
+    (AtSettings refl refl refl refl)
+
+-- what was found stays so, whatever the settings say
+pub still_found : (n : Numbers) (c : Cells) (bad : Spot → Bool) (f : Found) (is : Bool) → IsFound n c bad f →
+    IsFound n c bad (record f { is_permanent = is })
+still_found n c bad f is found = record {
+  newest = found.newest;
+  suits = found.suits;
+  in_range = found.in_range;
+  kept = found.kept;
+  greatest_seen = found.greatest_seen;
+  first_lost = found.first_lost;
+  contents = found.contents;
+  lost = found.lost;
+  as_many = found.as_many;
+  blocks = found.blocks;
+}
+
+-- What the settings say
+
+abbrev pub says : List ℕ → Bool
+says body = slice_index body 1 == 1
+
+-- zeros say nothing
+zeros_say : false ≡ says zero_block
+unfolding zero_block
+zeros_say = ap (λ (n : ℕ). n == 1) (sym (get_or-replicate 4096 1 0 0 (omega arith)))
+
+-- a page's body is that of what stands there
+body_there : (array : Array) (c : Cells) (p : Place) (t : Tag) (body : List ℕ) → Shows array c →
+    c p ≡ GroupPage t body → (array p).body ≡ body
+body_there array c p t body shown is =
+    let cell : IsCell (array p) (GroupPage t body) = subst (IsCell (array p)) is (shown p) in
+    ap (λ (page : Page). page.body) cell.0.sealed
+
+-- The page that was found for the settings
+
+abbrev pub IsSettingsPage : Array → Found → Option FoundPage → Type 0
+IsSettingsPage array f o =
+    (c : Cells) → Shows array c → IsContentPage c (newest_found f) f.kept settings_key o
+
+pub settings_there : (n : Numbers) (array : Array) (f : Found) (xs : List (Option FoundPage)) (o : Option FoundPage) →
+    ((c : Cells) → Shows array c → HasSettings n c f) → xs ≡ f.contents.items →
+    ((e : Option FoundPage) → slice_get xs (sum (shape_of_numbers n).blocks + area_pages (shape_of_numbers n)) ≡ Some e
+    → o ≡ e) → IsSettingsPage array f o
+settings_there n array f xs o has same told c shown =
+    let h = has c shown in
+    subst (IsContentPage c (newest_found f) f.kept settings_key)
+    (sym (told h.0
+    (ap (λ (ys : List (Option FoundPage)). slice_get ys
+    (sum (shape_of_numbers n).blocks + area_pages (shape_of_numbers n))) same ∙ h.1))) h.2
+
+module _ (n : Numbers) (dies : List DieState) (f : Found) (fit : Fit n dies) (e : FoundPage)
+    (page : IsSettingsPage (array_of dies) f (Some e)) where
+  pub lies_there : (e.place.die < length dies)
+      × LiesOnDie (slice_index_or dies e.place.die (new_die 0 0)) e.place.block e.place.page
+  lies_there =
+      let some = shown_cells (array_of dies) in
+      let h = page some.0 some.1 in
+      let within = shown_within n dies some.0 fit some.1 in
+      ⊎_elim
+      (λ inside. (
+        omega (arith, inside.die, fit.0),
+        lies n dies e.place.die e.place.block e.place.page fit inside.die inside.block inside.page,
+      ))
+      (λ out. absurd (page_not_nothing (some.0 e.place) e.tag h.0 h.1.counts.there (within e.place out)))
+      (is_place n e.place)
+
+-- the page says what the content says
+pub page_says : (array : Array) (f : Found) (e : FoundPage) (is : Bool) → is ≡ says (array e.place).body →
+    IsSettingsPage array f (Some e) → (c : Cells) → Shows array c → CellsSound c (newest_found f) → (x : List ℕ) →
+    Holds c (newest_found f) (suc f.kept) settings_key x → is ≡ says x
+page_says array f e is same page c shown sound x holds =
+    let h = page c shown in
+    same ∙ ap says (body_there array c e.place e.tag h.0 shown h.1.counts.there
+    ∙ content_one c (newest_found f) (suc f.kept) settings_key h.0 x sound (inl (e.place, e.tag, h.1)) holds)
+
+-- without a page the content is zeros
+pub none_says : (array : Array) (f : Found) → IsSettingsPage array f None → (c : Cells) → Shows array c → (x : List ℕ) →
+    Holds c (newest_found f) (suc f.kept) settings_key x → false ≡ says x
+none_says array f page c shown x holds = ⊎_elim
+    (λ (h : (p : Place) × (t : Tag) × IsNewest c (newest_found f) (suc f.kept) settings_key p t x).
+    let l = page c shown h.0 h.1 x h.2.counts h.2.key in let w = h.2.within in absurd (omega (arith, l, w)))
+    (λ (h : HasNone c (newest_found f) (suc f.kept) settings_key × (x ≡ zero_block)).
+    zeros_say ∙ ap says (sym h.1)) holds
