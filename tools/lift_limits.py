@@ -40,7 +40,6 @@ LIMITS = (
          "use Rattle.ufs_spec.specs.Configs.{command_blocks}\n"
          "use Rattle.ufs_spec.specs.declared.configs.Numbers.{Numbers}\n"),
     )),
-    Limit("most_tasks", STAGES, "most_tasks = 32"),
     Limit("collects", STAGES, "collects = true"),
     Limit("most_bad", STAGES, "most_bad n = n.spare"),
     Limit("taken_luns", STAGES, "taken_luns = 0x81 ∷ 0xB0 ∷ 0xC4 ∷ 0xD0 ∷ []"),
@@ -48,17 +47,13 @@ LIMITS = (
     Limit("taken_operations", CDBS, "taken_operations = known_operations"),
     Limit("IsTakenCdb", CDBS, "IsTakenCdb cdb = Unit {0}", (
         ("ufs_laws/proofs/exchanges/BytesHeard.antt",
-         "is_taken (cdb.Read10 address blocks forced) = yes tt\n"
-         "is_taken (cdb.Write10 address blocks forced) = is_true forced\n"
-         "is_taken c = no (λ (h : ⊥). h)\n",
-         "is_taken c = yes tt\n"),
-        ("ufs_laws/proofs/worked_run/MessagesSaid.antt",
-         "    ((omega arith, omega arith), refl, refl),\n  ),\n)\n\npub read_said",
-         "    ((omega arith, omega arith), tt, refl),\n  ),\n)\n\npub read_said"),
+         "is_taken (cdb.Inquiry allocation) = no (λ (h : ⊥). h)\n"
+         "is_taken (cdb.Unmap list) = no (λ (h : ⊥). h)\n"
+         "is_taken (cdb.ReportLuns select allocation) = no (λ (h : ⊥). h)\n"
+         "is_taken (cdb.SecurityIn length) = no (λ (h : ⊥). h)\n"
+         "is_taken (cdb.SecurityOut length) = no (λ (h : ⊥). h)\n",
+         ""),
     )),
-    Limit("read_codes", STAGES,
-          "read_codes = 0x00 ∷ 0x01 ∷ 0x02 ∷ 0x04 ∷ 0x16 ∷ 0x20 ∷ 0x21 ∷ 0x22 ∷ 0x24 ∷ 0x31 ∷ 0x36 ∷ []"),
-    Limit("heard_codes", STAGES, "heard_codes = 0x00 ∷ 0x01 ∷ 0x02 ∷ 0x04 ∷ 0x16 ∷ []"),
 )
 
 # The laws that may fall, or a clause of one as law.clause, and why.

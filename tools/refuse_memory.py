@@ -1,43 +1,87 @@
 #!/usr/bin/env python3
-"""Refuses each allocation of a scan in turn, by the program scan_memory, and sees what the scan makes of it.
+"""Refuses each allocation of the calls that take memory in turn, by the program memory_refused.
 
-usage: refuse_memory.py [FIRST]
+usage: refuse_memory.py
 
-The Nth allocation is refused by `rt try --fail-alloc N`, from FIRST on (1 if it is not given). One before the first
-scan ends the program with status 1. One of the first scan is told as 'no memory', and the scan behind it, over the same
-dies, finds what stands. The last line counts these, and the status is 0 if there are any and none went another way.
+The program is built once, without a proof, and run once for each allocation of each call: it is told to make so
+many allocations before all else that just this one is refused. Where memory is refused to the call, it has to say so,
+and the same call has to be right after that; a call may also do without the memory, and be right at once. Nothing is
+refused in the last runs of a call, and in the first one memory is refused just before it. The last line is
+'N passed, M failed', one for each call; the status is 0 only if none failed.
 """
 import pathlib
+import re
 import subprocess
 import sys
+import tempfile
 
-CRATE = pathlib.Path(__file__).resolve().parent.parent / "crates" / "scan_memory"
-FOUND = "kept 40, seen 81, lost keys 1\n"
+CRATE = pathlib.Path(__file__).resolve().parent.parent / "crates" / "memory_refused"
+
+# For each call how many allocations the program makes before it, and how many runs there are of it: more than it
+# has allocations.
+CALLS = {
+    "MemDie::new": (6, 30),
+    "scan": (100, 24),
+    "Device::open": (100, 34),
+    "World::new": (106, 34),
+    "World::step": (129, 34),
+    "run": (106, 64),
+}
+
+# The number of the allocation that is refused.
+REFUSED = 400
+
+BEFORE = "no memory before the call"
+TOLD = "no memory, and then right"
+RIGHT = "right"
 
 
-def run(number):
-    """What the program prints with this allocation refused, and what is told of the run."""
-    done = subprocess.run(["rt", "try", "--steps", "1", "--fail-alloc", str(number)], cwd=CRATE, capture_output=True,
-                          text=True, check=False)
-    return done.stdout, done.stderr
+def write_cases(folder):
+    """For each call and each run a case, whose words are the call and the allocations to be made first."""
+    for index, (call, (before, runs)) in enumerate(CALLS.items()):
+        for run in range(runs):
+            case = pathlib.Path(folder) / f"{index}_{run}"
+            case.write_text("")
+            case.with_name(case.name + ".args").write_text(f"{call}\n{REFUSED - before - run}\n")
+
+
+def outcomes(printed):
+    """What each call told in each of its runs."""
+    told = {call: [""] * runs for call, (_, runs) in CALLS.items()}
+    for index, run, line in re.findall(r"^== (\d)_(\d+)\n((?!== ).*)$", printed, re.M):
+        call = list(CALLS)[int(index)]
+        told[call][int(run)] = line.removeprefix(call + ": ")
+    return told
+
+
+def judge(call, told):
+    """Whether each allocation of the call was refused, and it told so or was right."""
+    behind = len(told)
+    while behind and told[behind - 1] == RIGHT:
+        behind -= 1
+    if told[0] != BEFORE or told[1] != TOLD or len(told) - behind < 4:
+        print(f"{call}: the numbers in this tool do not fit the program: {told}")
+        return False
+    for run, text in enumerate(told[1:], 1):
+        if text not in (TOLD, RIGHT):
+            print(f"{call}: with its allocation {run} refused the program said {text!r}")
+            return False
+    without = told[:behind].count(RIGHT)
+    print(f"{call}: {told.count(TOLD)} allocations were refused and told, {without} more it could do without")
+    return True
 
 
 def main():
-    """Refuses one after the other, up to the first that is one of the second scan."""
-    number = int(sys.argv[1]) if len(sys.argv) > 1 else 1
-    refused = 0
-    while True:
-        printed, told = run(number)
-        if printed == "no memory\n" + FOUND:
-            refused += 1
-        elif printed.startswith(FOUND):
-            break
-        elif printed or refused or "run=ended status=1 " not in told:
-            print(f"allocation {number}: {printed!r}\n{told}")
-            return 1
-        number += 1
-    print(f"each of the {refused} allocations of a scan was refused: 'no memory', and then what stands")
-    return 0 if refused else 1
+    """Runs the program for all allocations of all calls, and judges each call."""
+    with tempfile.TemporaryDirectory() as folder:
+        write_cases(folder)
+        words = ["rt", "try", "--steps", "1", "--fail-alloc", str(REFUSED), "--cases", folder]
+        done = subprocess.run(words, cwd=CRATE, capture_output=True, text=True, check=False)
+    failed = [judge(call, told) for call, told in outcomes(done.stdout).items()].count(False)
+    if failed:
+        print(done.stderr[-2000:])
+    print(f"{len(CALLS) - failed} passed, {failed} failed")
+    return 1 if failed else 0
 
 
 if __name__ == "__main__":

@@ -786,7 +786,7 @@ RULES = (
         "other_kinds_heard",
         "The kinds that only a device sends are heard, too.",
         "ufs_laws::heard_kinds_are_a_hosts", MESSAGES,
-        ("host_fault_of bytes = fault_among heard_codes bytes", "host_fault_of bytes = fault_among known_codes bytes"),
+        ("host_fault_of bytes = fault_among host_codes bytes", "host_fault_of bytes = fault_among known_codes bytes"),
     ),
     rule(
         "aborting_is_refused",

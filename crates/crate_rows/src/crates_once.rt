@@ -162,8 +162,14 @@ fn cdbs(rt: HostRuntime) {
     assert!(rt; scsi_cdb::read(&write).is_ok_and(|cdb| cdb == taken));
     let verify = [0x2F, 0, 0, 0, 0, 0, 0, 0, 1, 0, 0, 0, 0, 0, 0, 0];
     assert!(rt; is_refused(&verify, Sense::INVALID_OPCODE));
-    // TEST UNIT READY is known, and not taken in this stage.
-    assert!(rt; is_refused(&[0; 16], Sense::INVALID_OPCODE));
+    let ready = scsi_cdb::read(&[0; 16]);
+    assert!(rt; ready.is_ok_and(|cdb| cdb == Cdb::TestUnitReady));
+    // INQUIRY is known, and not taken in this stage.
+    let inquiry = [0x12, 0, 0, 0, 0x24, 0, 0, 0, 0, 0, 0, 0, 0, 0, 0, 0];
+    assert!(rt; is_refused(&inquiry, Sense::INVALID_OPCODE));
+    assert_eq!(rt; scsi_cdb::blocks_of(&taken), 1);
+    assert_eq!(rt; scsi_cdb::address_of(&taken), 255);
+    assert_eq!(rt; scsi_cdb::length_of(0, &taken), 4096);
     let reserved = [0x28, 0x01, 0, 0, 0, 0, 0, 0, 1, 0, 0, 0, 0, 0, 0, 0];
     assert!(rt; is_refused(&reserved, Sense::INVALID_FIELD));
     let sense = [

@@ -1,4 +1,5 @@
 pub mod BlocksOwed
+pub mod BytesSent
 pub mod NoneOwed
 pub mod PinsLetGo
 pub mod RepliesRight

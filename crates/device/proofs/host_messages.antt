@@ -1,5 +1,6 @@
 pub mod AskedData
 pub mod CommandBegins
+pub mod CommandPasses
 pub mod CommandCounts
 pub mod CommandTable
 pub mod CommandTags
@@ -8,3 +9,4 @@ pub mod DataRight
 pub mod FaultsHeard
 pub mod HostRight
 pub mod OneBlock
+pub mod ShortsOpened

@@ -1,3 +1,4 @@
+pub mod FewPins
 pub mod FewRead
 pub mod OpenTasks
 pub mod ReadProgress

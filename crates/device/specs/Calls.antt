@@ -1,13 +1,15 @@
 -- What the calls make of the layer and of what the device keeps.
-use Rattle.std.specs.Prelude.{◌≡◌, ℕ, ◌≤◌, ◌&&◌, not, nat_lt, Bool, false, if◌then◌else◌, List, [], ◌∷◌, ◌++◌, length}
+use Rattle.std.specs.Prelude.{◌≡◌, ℕ, ◌-◌, ◌≤◌, ◌&&◌, not, nat_lt, Bool, false, if◌then◌else◌, List, [], ◌∷◌, ◌++◌}
+use Rattle.std.specs.Prelude.{length}
 use Rattle.std.specs.Prelude.{map, Option, Some, None, true, Result, Ok, Err}
 use Rattle.std.specs.List.{list_any}
 use Rattle.ufs_spec.specs.Keys.{Group, IsKey}
-use Rattle.ufs_spec.specs.Ledger.{look, next_number}
+use Rattle.ufs_spec.specs.Ledger.{Ledger, look, next_number}
 use Rattle.ufs_spec.specs.Moves.{Accept, Claim, IsAllowedMove, Keep, Release, moved}
 use Rattle.ufs_spec.specs.Plain.{shape_of_numbers}
 use Rattle.ufs_spec.specs.Translation.{Pin, Translation, free_slots, has_number, is_locked, is_mended}
 use Rattle.ufs_spec.specs.declared.flash.Key.{Key}
+use Rattle.power_loss.specs.Exchange.{TagsDiffer}
 use Rattle.ftl_core.specs.Core.{Core}
 use Rattle.ftl_core.specs.Describes.{Describes}
 use Rattle.ftl_core.specs.Tells.{keeps_for}
@@ -37,25 +39,37 @@ pub record MayKeep (t : Translation) (tag : ℕ) (key : Key) : Type 0 where
   pub of_data : key.kind ≡ 1
   pub new : list_any (keeps_for tag) t.pins ≡ false
 
--- how far a READ is that begins, and the layer then: it keeps what it looks up
+-- no tag keeps two things
+abbrev pub PinsDiffer : List Pin → Type 0
+PinsDiffer = TagsDiffer (λ (pin : Pin). pin.tag)
+
+-- how far a READ is that begins, and the layer then: it keeps what it looks up. As no tag keeps two things, there is
+-- room wherever a task may be opened
 abbrev pub HasKept : Core → Translation → ℕ → Key → Phase → Type 0
 HasKept after t tag key p =
     (p ≡ (if nat_lt (length t.pins) 32 then phase.SendBlock else phase.Answer status.Busy 0))
+    × PinsDiffer t.pins
     × (MayKeep t tag key →
     Describes after (if nat_lt (length t.pins) 32 then moved t (Keep key (pin_of_block t tag key)) else t))
 
 -- how far a WRITE is that begins, and the layer then: it claims a slot
-abbrev pub HasClaimed : Core → Translation → Key → Phase → Type 0
-HasClaimed after t key p =
-    (p ≡ (if nat_lt 0 (free_slots t) then phase.AskData key else phase.Answer status.Busy 0))
+abbrev pub HasClaimed : Core → Translation → Key → Bool → Phase → Type 0
+HasClaimed after t key forced p =
+    (p ≡ (if nat_lt 0 (free_slots t) then phase.AskData key forced else phase.Answer status.Busy 0))
     × Describes after (if nat_lt 0 (free_slots t) then moved t (Claim 1) else t)
+
+-- the number of the last group, so that what waits for it waits for all that was accepted
+abbrev pub last_number : Ledger → ℕ
+last_number l = next_number l - 1
 
 -- how far a task is that begins what was planned for it, and the layer then
 abbrev pub HasBegun : Core → Translation → ℕ → Result Plan Status → Phase → Type 0
 HasBegun after t tag (Err refused) p = (p ≡ phase.Answer refused 0) × Describes after t
 HasBegun after t tag (Ok (plan.Nothing n)) p = (p ≡ phase.Answer status.Good n) × Describes after t
 HasBegun after t tag (Ok (plan.Read key)) p = HasKept after t tag key p
-HasBegun after t tag (Ok (plan.Write key)) p = HasClaimed after t key p
+HasBegun after t tag (Ok (plan.Write key forced)) p = HasClaimed after t key forced p
+HasBegun after t tag (Ok (plan.Send x)) p = (p ≡ phase.SendData x) × Describes after t
+HasBegun after t tag (Ok plan.Flush) p = (p ≡ phase.AwaitFrontier (last_number t.ledger) 0) × Describes after t
 
 -- A block comes
 

@@ -1,12 +1,11 @@
 -- How what the device keeps describes the specified device: one relation for each part of its state, each over the
--- fields
--- that it reads. A WRITE and a READ have one block so far, and no command sets a protection.
-use Rattle.std.specs.Prelude.{◌≡◌, ℕ, ◌+◌, ◌≤◌, nat_le, true, false, All, List, [], ◌∷◌, filter, find, length, map}
-use Rattle.std.specs.Prelude.{slice_get, Bool, Option, Some, None, option_map, Result, Ok, Err}
+-- fields that it reads. A WRITE and a READ have one block so far, and no command sets a protection.
+use Rattle.std.specs.Prelude.{◌≡◌, ℕ, ◌+◌, ◌≤◌, min, nat_le, true, false, All, List, [], ◌∷◌, filter, find, length, map}
+use Rattle.std.specs.Prelude.{slice_get, Bool, Option, Some, None, option_map, Result}
 use Rattle.ufs_spec.specs.Disk.{Flight, job_of}
 use Rattle.ufs_spec.specs.Exchanges as exchange
 use Rattle.ufs_spec.specs.Exchanges.{Answering, Awaiting, Deed, ForWrite, Gathering, Purpose, ReadBlock, Sending, Short}
-use Rattle.ufs_spec.specs.Exchanges.{NotRead, Unread, WasRead, short_reply, task_of}
+use Rattle.ufs_spec.specs.Exchanges.{NotRead, SendingBytes, Unread, WasRead, short_reply, task_of}
 use Rattle.ufs_spec.specs.Keys.{data_key}
 use Rattle.ufs_spec.specs.Ledger.{before_accepted}
 use Rattle.ufs_spec.specs.Machine.{Allowed, Answer, Call, Heard, Host, IsHeard, OfHost, OfReply, OfTake, Reply, Take}
@@ -14,38 +13,36 @@ use Rattle.ufs_spec.specs.Machine.{durable, observe}
 use Rattle.ufs_spec.specs.Messages.{spelling}
 use Rattle.ufs_spec.specs.Moves.{is_pin_of}
 use Rattle.ufs_spec.specs.Refusals.{State, locked, plain_now}
-use Rattle.ufs_spec.specs.Stages.{most_tasks}
+use Rattle.ufs_spec.specs.Exchanges.{most_tasks}
 use Rattle.ufs_spec.specs.Translation.{Pin}
 use Rattle.ufs_spec.specs.declared.faults.HostFault.{HostFault}
 use Rattle.ufs_spec.specs.declared.flash.Job.{Job}
 use Rattle.ufs_spec.specs.declared.flash.Key.{Key}
 use Rattle.ufs_spec.specs.declared.messages.Message.{Message}
-use Rattle.ufs_spec.specs.declared.scsi.Cdb.{Cdb}
-use Rattle.ufs_spec.specs.declared.scsi.Sense.{Sense}
 use Rattle.power_loss.specs.Exchange.{IsTied}
 use Rattle.power_loss.specs.Shown.{ShowsReads}
 use Rattle.ftl_core.specs.Describes as layer
 use Rattle.device.specs.declared.tasks.Loaded.{Loaded}
 use Rattle.device.specs.declared.tasks.Phase.{Phase}
 use Rattle.device.specs.declared.tasks.Phase.TheVariants as phase
-use Rattle.device.specs.declared.tasks.Refused.{Refused}
+use Rattle.device.specs.declared.tasks.Short as kept
 use Rattle.device.specs.declared.tasks.Status.{Status}
 use Rattle.device.specs.declared.tasks.Status.TheVariants as status
 use Rattle.device.specs.declared.tasks.Task.{Task}
 use Rattle.device.specs.Kept.{DeviceCore}
-use Rattle.device.specs.Replies.{body_of, full_answer, is_loaded_for, status_kept}
-use Rattle.device.specs.Tasks.{read_error}
+use Rattle.device.specs.Replies.{body_of, is_loaded_for, short_message}
+use Rattle.device.specs.Tasks.{data_bytes, data_length, read_error, status_kept}
 
 -- Tasks
 
--- a WRITE of one block with FUA, to this address
-abbrev pub IsWrite : Key → Purpose → Type 0
-IsWrite key (ForWrite unit address blocks forced) = (key ≡ data_key unit address) × (blocks ≡ 1) × (forced ≡ true)
-IsWrite key purpose = ⊥
+-- a WRITE of one block to this address, with FUA or without it
+abbrev pub IsWrite : Key → Bool → Purpose → Type 0
+IsWrite key fua (ForWrite unit address blocks forced) = (key ≡ data_key unit address) × (blocks ≡ 1) × (forced ≡ fua)
+IsWrite key fua purpose = ⊥
 
 -- nothing was gathered yet
-pub record IsGathering (key : Key) (length : ℕ) (purpose : Purpose) (gathered : List ℕ) : Type 0 where
-  pub write : IsWrite key purpose
+pub record IsGathering (key : Key) (fua : Bool) (length : ℕ) (purpose : Purpose) (gathered : List ℕ) : Type 0 where
+  pub write : IsWrite key fua purpose
   pub none_gathered : gathered ≡ []
   pub length_is : length ≡ 4096
 
@@ -74,11 +71,14 @@ pub record IsLost (blocks : List ReadBlock) (sent : ℕ) (told : Status) (length
 
 -- what a phase of the device is to the specified one; a group's number counts from those before the accepted commands
 abbrev pub IsDoing : (before expected length : ℕ) → Phase → Deed → Type 0
-IsDoing before expected length (phase.AskData key) (Gathering purpose gathered asked) =
-    IsGathering key length purpose gathered × (asked ≡ false)
-IsDoing before expected length (phase.AwaitData key) (Gathering purpose gathered asked) =
-    IsGathering key length purpose gathered × (asked ≡ true)
-IsDoing before expected length (phase.AwaitFrontier n) (Awaiting commands) = (n ≡ before + commands) × (length ≡ 4096)
+IsDoing before expected length (phase.AskData key fua) (Gathering purpose gathered asked) =
+    IsGathering key fua length purpose gathered × (asked ≡ false)
+IsDoing before expected length (phase.AwaitData key fua) (Gathering purpose gathered asked) =
+    IsGathering key fua length purpose gathered × (asked ≡ true)
+IsDoing before expected length (phase.AwaitFrontier n size) (Awaiting commands) =
+    (n ≡ before + commands) × (length ≡ size)
+IsDoing before expected length (phase.SendData x) (SendingBytes bytes) =
+    (bytes ≡ data_bytes x) × (length ≡ data_length x) × (1 ≤ min expected (data_length x))
 IsDoing before expected length phase.SendBlock (Sending blocks sent) = IsSending expected length blocks sent
 IsDoing before expected length (phase.Answer told n) (Answering s carried) = (s ≡ status_kept told) × (carried ≡ n)
 IsDoing before expected length (phase.Answer told n) (Sending blocks sent) = IsLost blocks sent told n
@@ -136,8 +136,8 @@ progress_of (Some task) = progress_in task.deed
 
 -- Short exchanges and the lock
 
-abbrev pub short_kept : Refused → Short
-short_kept r = short_reply r.tag (full_answer r)
+abbrev pub short_kept : kept.Short → Short
+short_kept short = short_reply short.tag (short_message short)
 
 -- what waits for commands waits for durable ones
 abbrev pub IsToldIn : ℕ → Deed → Type 0
@@ -156,7 +156,7 @@ pub record Keeps (d : DeviceCore) (s : State) : Type 0 where
   pub few : length s.tasks ≤ most_tasks
   pub tasks : TasksKept (before_accepted s.translation.ledger) d.tasks s.tasks
   pub blocks : (tag : ℕ) → progress_kept s.translation.pins d.loaded tag ≡ progress_of (task_of tag s.tasks)
-  pub shorts : s.shorts ≡ map short_kept d.refused
+  pub shorts : s.shorts ≡ map short_kept d.shorts
   pub power_off : s.power_on ≡ false
 
 pub record Describes (d : DeviceCore) (s : State) : Type 0 where
@@ -192,9 +192,3 @@ pub record IsReplied (s : State) (bytes : List ℕ) (after : DeviceCore) : Type 
   pub reply : Message
   pub shown : bytes ≡ spelling reply
   pub answered : IsAnswered s Reply (OfReply (Some reply)) after
-
--- What is heard
-
-abbrev pub cdb_taken : Result Cdb Sense → Option Cdb
-cdb_taken (Ok c) = Some c
-cdb_taken (Err sense) = None

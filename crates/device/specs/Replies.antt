@@ -1,9 +1,11 @@
 -- Which replies are due, what they say, and what becomes of their tasks.
-use Rattle.std.specs.Prelude.{ℕ, ◌+◌, ◌≤◌, ◌==◌, nat_le, nat_lt, Bool, if◌then◌else◌, find, List, position, remove}
-use Rattle.std.specs.Prelude.{slice_get, take, Option, Some, None, option_map}
+use Rattle.std.specs.Prelude.{ℕ, ◌+◌, ◌≤◌, ◌==◌, ◌++◌, min, nat_le, nat_lt, Bool, true, false, if◌then◌else◌, find}
+use Rattle.std.specs.Prelude.{List, position, remove, slice_get, take, Option, Some, None, option_map}
 use Rattle.ufs_spec.specs.Exchanges as exchange
 use Rattle.ufs_spec.specs.Exchanges.{response}
 use Rattle.ufs_spec.specs.Ledger.{Entry, InSlot, Ledger, Looked, OnPage, Unwritten, before_accepted, entry_of}
+use Rattle.ufs_spec.specs.Machine.{no_sense, query_unanswered}
+use Rattle.ufs_spec.specs.Messages.{zeros}
 use Rattle.ufs_spec.specs.Moves.{Acknowledge, LetGo, LetGoAll, WantPage, is_pin_of, moved}
 use Rattle.ufs_spec.specs.Plain.{zero_block}
 use Rattle.ufs_spec.specs.Translation.{Pin, Translation}
@@ -14,12 +16,17 @@ use Rattle.ftl_core.specs.Describes as layer
 use Rattle.device.specs.declared.tasks.Loaded.{Loaded}
 use Rattle.device.specs.declared.tasks.Phase.{Phase}
 use Rattle.device.specs.declared.tasks.Phase.TheVariants as phase
-use Rattle.device.specs.declared.tasks.Refused.{Refused}
+use Rattle.device.specs.declared.tasks.Short.{Short}
+use Rattle.device.specs.declared.tasks.ShortData.{ShortData}
+use Rattle.device.specs.declared.tasks.ShortReply.{ShortReply}
+use Rattle.device.specs.declared.tasks.ShortReply.TheVariants as reply
 use Rattle.device.specs.declared.tasks.Status.{Status}
 use Rattle.device.specs.declared.tasks.Status.TheVariants as status
 use Rattle.device.specs.declared.tasks.Task.{Task}
+use Rattle.device.specs.declared.tasks.ShortData.TheVariants as sent
 use Rattle.device.specs.Hears.{task_set}
 use Rattle.device.specs.Kept.{DeviceCore}
+use Rattle.device.specs.Tasks.{data_bytes, data_length, status_kept}
 
 -- Blocks
 
@@ -54,12 +61,6 @@ block_for t loaded tag = block_of t.ledger loaded tag (find (is_pin_of tag 0) t.
 
 -- Messages
 
-abbrev pub status_kept : Status → exchange.Status
-status_kept status.Good = exchange.Good
-status_kept (status.CheckCondition sense) = exchange.CheckCondition sense
-status_kept status.Busy = exchange.Busy
-status_kept status.TaskSetFull = exchange.TaskSetFull
-
 abbrev pub answer_of : Task → Status → ℕ → Message
 answer_of t s length = response t.lun t.tag t.expected length (status_kept s)
 
@@ -70,12 +71,28 @@ count_of expected = if nat_lt expected 1 then 1 else if nat_lt 4096 expected the
 abbrev pub block_message : Task → List ℕ → Message
 block_message t block = message.DataIn t.lun t.tag 0 (record { items = take (count_of t.expected) block })
 
+-- data other than a block, with zeros behind them up to eighteen bytes
+abbrev pub data_padded : ShortData → List ℕ
+data_padded (sent.NoSense allocation) = no_sense
+data_padded (sent.Capacity blocks) = data_bytes (sent.Capacity blocks) ++ zeros 10
+
+-- the first of them, as many as the host expects; of a host that expects none the first one
+abbrev pub data_count : ℕ → ShortData → ℕ
+data_count expected x =
+    if nat_lt (min expected (data_length x)) 1 then 1
+    else if nat_lt 18 (min expected (data_length x)) then 18
+    else min expected (data_length x)
+
+abbrev pub data_message : Task → ShortData → Message
+data_message t x = message.DataIn t.lun t.tag 0 (record { items = take (data_count t.expected x) (data_padded x) })
+
 abbrev pub owed_in : Translation → List Loaded → Task → Phase → Option Message
-owed_in t loaded a (phase.AskData key) = Some (message.ReadyToTransfer a.lun a.tag 0 4096)
-owed_in t loaded a (phase.AwaitData key) = None
-owed_in t loaded a (phase.AwaitFrontier n) =
-    if nat_le n t.ledger.frontier then Some (answer_of a status.Good 4096) else None
+owed_in t loaded a (phase.AskData key forced) = Some (message.ReadyToTransfer a.lun a.tag 0 4096)
+owed_in t loaded a (phase.AwaitData key forced) = None
+owed_in t loaded a (phase.AwaitFrontier n size) =
+    if nat_le n t.ledger.frontier then Some (answer_of a status.Good size) else None
 owed_in t loaded a phase.SendBlock = option_map (block_message a) (block_for t loaded a.tag)
+owed_in t loaded a (phase.SendData x) = Some (data_message a x)
 owed_in t loaded a (phase.Answer s n) = Some (answer_of a s n)
 
 -- the reply that the task owes now, by what the layer keeps and what was read
@@ -97,27 +114,41 @@ without_task d k = record d { tasks = remove d.tasks k }
 
 -- what the device keeps, but for its layer, once the task at this position has handed out its reply
 abbrev pub moved_on : DeviceCore → ℕ → Task → Phase → DeviceCore
-moved_on d k a (phase.AskData key) = task_set d k (phase.AwaitData key)
-moved_on d k a (phase.AwaitData key) = d
-moved_on d k a (phase.AwaitFrontier n) = without_task (without_block d a.tag) k
+moved_on d k a (phase.AskData key forced) = task_set d k (phase.AwaitData key forced)
+moved_on d k a (phase.AwaitData key forced) = d
+moved_on d k a (phase.AwaitFrontier n size) = without_task (without_block d a.tag) k
+moved_on d k a (phase.SendData x) = task_set d k (phase.Answer status.Good (data_length x))
 moved_on d k a phase.SendBlock = task_set (without_block d a.tag) k (phase.Answer status.Good 4096)
 moved_on d k a (phase.Answer s n) = without_task (without_block d a.tag) k
 
 -- the layer then: a block that was handed out is let go; a task that ends keeps nothing, and what it waited for is
 -- acknowledged
 abbrev pub HasMoved : Core → Translation → ℕ → Phase → Type 0
-HasMoved after t tag (phase.AskData key) = layer.Describes after t
-HasMoved after t tag (phase.AwaitData key) = layer.Describes after t
-HasMoved after t tag (phase.AwaitFrontier n) =
+HasMoved after t tag (phase.AskData key forced) = layer.Describes after t
+HasMoved after t tag (phase.AwaitData key forced) = layer.Describes after t
+HasMoved after t tag (phase.SendData x) = layer.Describes after t
+HasMoved after t tag (phase.AwaitFrontier n size) =
     (commands : ℕ) → before_accepted t.ledger + commands ≤ t.ledger.frontier →
     layer.Describes after (moved (moved t (Acknowledge commands)) (LetGoAll tag))
 HasMoved after t tag phase.SendBlock = layer.Describes after (moved (moved t (LetGo tag 0)) (WantPage tag 1))
 HasMoved after t tag (phase.Answer s n) = layer.Describes after (moved t (LetGoAll tag))
 
--- Commands that were refused with TASK SET FULL
+-- Short exchanges
 
-abbrev pub full_answer : Refused → Message
-full_answer r = response r.lun r.tag r.expected 0 exchange.TaskSetFull
+-- the function of a query: standard write or standard read
+abbrev pub function_of : Bool → ℕ
+function_of true = 0x81
+function_of false = 0x01
+
+-- what a reply of one says with its tag
+abbrev pub short_said : ℕ → ShortReply → Message
+short_said tag (reply.TaskSetFull lun expected) = response lun tag expected 0 exchange.TaskSetFull
+short_said tag reply.NopIn = message.NopIn tag
+short_said tag (reply.NotManaged lun) = message.TaskResponse lun tag 0x04
+short_said tag (reply.NotQueried writing asked) = query_unanswered tag (function_of writing) asked
+
+abbrev pub short_message : Short → Message
+short_message short = short_said short.tag short.reply
 
 abbrev pub without_first : DeviceCore → DeviceCore
-without_first d = record d { refused = remove d.refused 0 }
+without_first d = record d { shorts = remove d.shorts 0 }

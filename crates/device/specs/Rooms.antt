@@ -10,7 +10,7 @@ core_of d = record {
   ftl = d.ftl;
   is_permanent = d.is_permanent;
   tasks = d.tasks.items;
-  refused = d.refused.items;
+  shorts = d.shorts.items;
   loaded = d.loaded.items;
 }
 
@@ -28,8 +28,8 @@ world_of w = record {
 pub record IsRoomy (d : Inside) : Type 0 where
   pub tasks : 32 ≤ vec_capacity d.tasks
   pub few_tasks : length d.tasks.items ≤ 32
-  pub refused : 32 ≤ vec_capacity d.refused
-  pub few_refused : length d.refused.items ≤ 32
+  pub shorts : 32 ≤ vec_capacity d.shorts
+  pub few_shorts : length d.shorts.items ≤ 32
   pub loaded : 32 ≤ vec_capacity d.loaded
   pub few_loaded : length d.loaded.items ≤ 32
 

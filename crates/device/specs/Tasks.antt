@@ -1,9 +1,15 @@
 -- What becomes of a task.
-use Rattle.std.specs.Prelude.{ℕ, ◌==◌, nat_lt, Bool, if◌then◌else◌}
+use Rattle.std.specs.Prelude.{ℕ, ◌-◌, ◌==◌, ◌++◌, min, nat_lt, take, Bool, true, false, if◌then◌else◌, List}
+use Rattle.byteorder.specs.Endian.{big_bytes}
+use Rattle.ufs_spec.specs.Exchanges as exchange
+use Rattle.ufs_spec.specs.Machine.{no_sense}
 use Rattle.ufs_spec.specs.declared.scsi.Sense.{Sense}
+use Rattle.device.specs.declared.tasks.Status.{Status}
 use Rattle.device.specs.declared.tasks.Status.TheVariants as status
 use Rattle.device.specs.declared.tasks.Phase.{Phase}
 use Rattle.device.specs.declared.tasks.Phase.TheVariants as phase
+use Rattle.device.specs.declared.tasks.ShortData.{ShortData}
+use Rattle.device.specs.declared.tasks.ShortData.TheVariants as sent
 use Rattle.device.specs.declared.tasks.Task.{Task}
 use Rattle.device.specs.declared.tasks.TaskEvent.{TaskEvent}
 use Rattle.device.specs.declared.tasks.TaskEvent.TheVariants as event
@@ -14,18 +20,40 @@ read_error = record { key = 0x03; asc = 0x11; ascq = 0x00 }
 abbrev pub write_error : Sense
 write_error = record { key = 0x03; asc = 0x0C; ascq = 0x00 }
 
+-- how a command ended, in the words of the definitions
+abbrev pub status_kept : Status → exchange.Status
+status_kept status.Good = exchange.Good
+status_kept (status.CheckCondition sense) = exchange.CheckCondition sense
+status_kept status.Busy = exchange.Busy
+status_kept status.TaskSetFull = exchange.TaskSetFull
+
 -- the command failed with this sense, and so many bytes were carried
 abbrev pub failed : Sense → ℕ → Phase
 failed sense carried = phase.Answer (status.CheckCondition sense) carried
 
+-- a WRITE whose block was accepted under this number: with FUA it waits until the block is durable
+abbrev pub block_taken : Bool → ℕ → Phase
+block_taken true number = phase.AwaitFrontier number 4096
+block_taken false number = phase.Answer status.Good 4096
+
+-- the data of a task other than a block
+abbrev pub data_bytes : ShortData → List ℕ
+data_bytes (sent.NoSense allocation) = take allocation no_sense
+data_bytes (sent.Capacity blocks) = big_bytes 4 (blocks - 1) ++ big_bytes 4 4096
+
+abbrev pub data_length : ShortData → ℕ
+data_length (sent.NoSense allocation) = min allocation 18
+data_length (sent.Capacity blocks) = 8
+
 -- the table of a task's phases: how far it is after this happened; what does not concern its phase changes nothing
 abbrev pub phase_after : Phase → TaskEvent → Phase
-phase_after (phase.AskData key) event.DataAskedFor = phase.AwaitData key
-phase_after (phase.AwaitData key) (event.BlockAccepted number) = phase.AwaitFrontier number
-phase_after (phase.AwaitData key) event.BlockRefused = failed write_error 4096
-phase_after (phase.AwaitFrontier number) (event.Locked frontier) =
-    if nat_lt frontier number then failed write_error 4096 else phase.AwaitFrontier number
+phase_after (phase.AskData key forced) event.DataAskedFor = phase.AwaitData key forced
+phase_after (phase.AwaitData key forced) (event.BlockAccepted number) = block_taken forced number
+phase_after (phase.AwaitData key forced) event.BlockRefused = failed write_error 4096
+phase_after (phase.AwaitFrontier number size) (event.Locked frontier) =
+    if nat_lt frontier number then failed write_error size else phase.AwaitFrontier number size
 phase_after phase.SendBlock event.BlockSent = phase.Answer status.Good 4096
+phase_after (phase.SendData x) event.DataSent = phase.Answer status.Good (data_length x)
 phase_after phase.SendBlock event.BlockLost = failed read_error 0
 phase_after p e = p
 

@@ -1,17 +1,21 @@
 //! The checks of a command, in the order in which the first that applies ends it.
-ghost use Rattle.std.specs.Prelude.{◌≡◌, ◌*◌, ◌^◌, ◌≤◌, if◌then◌else◌};
-ghost use Rattle.ufs_spec.specs.Translation.{Translation};
+ghost use Rattle.std.specs.Prelude.{◌≡◌, ℕ, ◌*◌, option_map, IfErr, IfOk, IsOk, None, Some};
+ghost use Rattle.ufs_spec.specs.Cdbs.{IsTakenCdb, direction_of, length_of as length_of_command, operation_of};
+ghost use Rattle.ufs_spec.specs.Refusals.{Request, State, first_line, flushes, is_refused_write, lacks_data};
+ghost use Rattle.ufs_spec.specs.Keys.{data_key};
+ghost use Rattle.ufs_spec.specs.Refusals.{lines_for, needs_mended, slots_needed, spec_of, writes};
+ghost use Rattle.ufs_spec.specs.declared.configs.Numbers.{Numbers};
 ghost use Rattle.ftl_core.specs.Describes.{Describes as IsLayer};
-ghost use Rattle.device.specs.Plans.{IsCdbRead, carries, is_guarded, length_of, plan_of, planned, planned_or};
-ghost use Rattle.device.specs.Plans.{planned_taken, planned_transfer, refusal_of, state_refusal};
-ghost use Rattle.device.specs.Plans.{transfer_of, write_refusal};
+ghost use Rattle.device.specs.Plans.{IsBare, IsPlanned, IsRequest, data_plan, plan_of, read_plan, write_plan};
+ghost use Rattle.device.specs.Tasks.{status_kept};
 
 use crate::device::Device;
-use crate::tasks::{Plan, Status};
+use crate::tasks::{Plan, ShortData, Status};
+use scsi_cdb::{address_of, blocks_of, length_of};
 use ufs_spec::{Cdb, Key, Sense, Tag, UnitSpec};
 
-/// The most blocks of a command. In this first stage one.
-const BLOCKS_A_COMMAND: u16 = 1;
+/// The most blocks of a command. In this stage one.
+const BLOCKS_A_COMMAND: u32 = 1;
 
 /// The flags of a COMMAND whose data go to the device, and of one whose data come from it (JESD220,
 /// 10.7.1).
@@ -19,81 +23,122 @@ const WRITES: u8 = 0x20;
 
 const READS: u8 = 0x40;
 
-/// A command's data: from or to which address, how many bytes, and in which direction.
-#[derive(Clone, Copy, Debug, PartialEq, Eq)]
-pub(crate) struct Transfer {
-    pub address: u32,
-    pub blocks: u16,
-    pub writes: bool,
-}
-
-/// The command that a CDB spells, or the sense of one that is not taken.
-pub(crate) fn read_cdb(cdb: &[u8; 16]) -> Result<Cdb, Sense>
-    ensures { IsCdbRead cdb.now result }
+/// Whether the flag of the direction of the command's data is not set, or the host has fewer bytes to
+/// write than the command.
+fn lacks_data(cdb: &Cdb, flags: u8, expected: u32) -> bool
+    ensures { (r : Request) → IsTakenCdb cdb.now → r.flags ≡ flags → r.expected ≡ expected →
+        result ≡ lacks_data r (direction_of cdb.now) (length_of_command 0 cdb.now) }
 {
-    scsi_cdb::read(cdb)
-}
-
-/// What a READ(10) or a WRITE(10) moves. The other commands of the table are not done yet.
-fn transfer_of(cdb: &Cdb) -> Option<Transfer>
-    ensures { result ≡ transfer_of cdb.now }
-{
+    let length = length_of(0, cdb);
     match cdb {
-        Cdb::Read10 {
-            address,
-            blocks,
-            forced: _,
-        } => Some(Transfer {
-            address: *address,
-            blocks: *blocks,
-            writes: false,
-        }),
-        Cdb::Write10 {
-            address,
-            blocks,
-            forced: _,
-        } => Some(Transfer {
-            address: *address,
-            blocks: *blocks,
-            writes: true,
-        }),
-        _ => None,
+        Cdb::TestUnitReady | Cdb::SynchronizeCache10 { .. } => false,
+        Cdb::Write6 { .. } | Cdb::Write10 { .. } => {
+            length > 0 && (flags != WRITES || expected < length)
+        }
+        _ => length > 0 && flags != READS,
     }
 }
 
-/// How many bytes the transfer has.
-fn length_of(transfer: &Transfer) -> u32
-    ensures { result ≡ length_of transfer.now }
+/// Whether the command is taken only once the device is mended: all but REQUEST SENSE and READ CAPACITY.
+fn needs_mended(cdb: &Cdb) -> bool
+    ensures { IsTakenCdb cdb.now → result ≡ needs_mended (operation_of cdb.now) }
 {
-    transfer.blocks as u32 * 4096
+    !matches!(cdb, Cdb::RequestSense { .. } | Cdb::ReadCapacity10)
 }
 
-/// Whether the COMMAND's flags and expected length carry the data in their direction.
-fn carries(transfer: &Transfer, flags: u8, expected: u32) -> bool
-    ensures { result ≡ carries transfer.now flags expected }
+/// Whether the command writes blocks.
+fn writes(cdb: &Cdb) -> bool
+    ensures { IsTakenCdb cdb.now → result ≡ writes cdb.now }
 {
-    let length = length_of(transfer);
-    if length == 0 {
-        true
-    } else if transfer.writes {
-        flags == WRITES && expected >= length
-    } else {
-        flags == READS
+    match cdb {
+        Cdb::Write6 { .. } => true,
+        Cdb::Write10 { blocks, .. } => *blocks > 0,
+        _ => false,
+    }
+}
+
+/// Whether the command makes all that was accepted durable.
+fn flushes(cdb: &Cdb) -> bool
+    ensures { result ≡ flushes cdb.now }
+{
+    matches!(cdb, Cdb::SynchronizeCache10 { .. })
+}
+
+/// How many slots the command needs: one a block that it writes.
+fn slots_needed(cdb: &Cdb) -> u32
+    ensures { (n : Numbers) → IsTakenCdb cdb.now → result ≡ slots_needed n cdb.now }
+{
+    match cdb {
+        Cdb::Write6 { .. } | Cdb::Write10 { .. } => blocks_of(cdb),
+        _ => 0,
     }
 }
 
 /// What a command that passed the checks does.
-fn plan_of(transfer: &Transfer, key: Key, expected: u32) -> Plan
-    ensures { result ≡ plan_of transfer.now key expected }
+fn plan_of(cdb: &Cdb, unit: UnitSpec, lun: u8, expected: u32) -> Plan
+    ensures { IsTakenCdb cdb.now → result ≡ plan_of unit lun expected cdb.now }
 {
-    if transfer.blocks == 0 || (!transfer.writes && expected == 0) {
-        Plan::Nothing {
-            length: length_of(transfer),
-        }
-    } else if transfer.writes {
-        Plan::Write { key }
+    let key = Key {
+        kind: Tag::DATA,
+        unit: lun,
+        address: address_of(cdb),
+    };
+    match cdb {
+        Cdb::Read6 { .. } | Cdb::Read10 { .. } => read_plan(key, length_of(0, cdb), expected),
+        Cdb::Write6 { .. } => write_plan(key, blocks_of(cdb), false),
+        Cdb::Write10 { forced, .. } => write_plan(key, blocks_of(cdb), *forced),
+        Cdb::RequestSense { allocation } => data_plan(
+            ShortData::NoSense {
+                allocation: *allocation,
+            },
+            expected,
+        ),
+        Cdb::ReadCapacity10 => data_plan(
+            ShortData::Capacity {
+                blocks: unit.blocks,
+            },
+            expected,
+        ),
+        Cdb::SynchronizeCache10 {
+            immediate: false,
+            ..
+        } => Plan::Flush,
+        _ => Plan::Nothing { length: 0 },
+    }
+}
+
+/// What a READ of so many bytes does: it reads nothing for a host that expects nothing.
+fn read_plan(key: Key, length: u32, expected: u32) -> Plan
+    ensures { (blocks : ℕ) → length ≡ blocks * 4096 → key ≡ data_key key.unit key.address →
+        result ≡ read_plan key.unit expected key.address blocks }
+{
+    if length == 0 || expected == 0 {
+        Plan::Nothing { length }
     } else {
         Plan::Read { key }
+    }
+}
+
+/// What a WRITE of so many blocks does.
+fn write_plan(key: Key, blocks: u32, forced: bool) -> Plan
+    ensures { key ≡ data_key key.unit key.address → result ≡ write_plan key.unit key.address blocks forced }
+{
+    if blocks == 0 {
+        Plan::Nothing { length: 0 }
+    } else {
+        Plan::Write { key, forced }
+    }
+}
+
+/// What a command does that sends these data: nothing is sent to a host that expects none.
+fn data_plan(sent: ShortData, expected: u32) -> Plan
+    ensures { result ≡ data_plan expected sent }
+{
+    let length = sent.length();
+    if length == 0 || expected == 0 {
+        Plan::Nothing { length }
+    } else {
+        Plan::Send { data: sent }
     }
 }
 
@@ -104,15 +149,15 @@ impl Device {
         lun: u8,
         flags: u8,
         expected: u32,
-        taken: Result<Cdb, Sense>,
+        cdb: &[u8; 16],
     ) -> Result<Plan, Status>
-        ensures { (t : Translation) → IsLayer self.now.ftl t →
-            result ≡ planned self.now.is_permanent t lun flags expected taken }
+        ensures { (s : State) (r : Request) → IsLayer self.now.ftl s.translation → IsBare s self.now.is_permanent →
+            IsRequest r flags lun expected cdb.now → IsPlanned s r result }
     {
         let Some(unit) = self.ftl.unit(lun) else {
             return Err(Status::CheckCondition(Sense::NO_UNIT));
         };
-        match taken {
+        match scsi_cdb::read(cdb) {
             Ok(cdb) => self.plan_taken(lun, flags, expected, unit, &cdb),
             Err(sense) => Err(Status::CheckCondition(sense)),
         }
@@ -127,74 +172,54 @@ impl Device {
         unit: UnitSpec,
         cdb: &Cdb,
     ) -> Result<Plan, Status>
-        ensures { (t : Translation) → IsLayer self.now.ftl t →
-            result ≡ planned_transfer self.now.is_permanent t lun flags expected unit (transfer_of cdb.now) }
+        ensures planned { IfOk result (λ todo. IsTakenCdb cdb.now → todo ≡ plan_of unit lun expected cdb.now) }
+        ensures passed { IsOk result → (s : State) (r : Request) → IsLayer self.now.ftl s.translation →
+            IsBare s self.now.is_permanent → spec_of s r ≡ Some unit → r.flags ≡ flags → r.expected ≡ expected →
+            IsTakenCdb cdb.now → first_line (lines_for s r cdb.now) ≡ None }
+        ensures refused { IfErr result (λ told. (s : State) (r : Request) → IsLayer self.now.ftl s.translation →
+            IsBare s self.now.is_permanent → spec_of s r ≡ Some unit → r.flags ≡ flags → r.expected ≡ expected →
+            IsTakenCdb cdb.now → first_line (lines_for s r cdb.now) ≡ Some (status_kept told)) }
     {
-        let Some(transfer) = transfer_of(cdb) else {
-            return Err(Status::CheckCondition(Sense::INVALID_OPCODE));
-        };
-        if let Some(refused) = self.refusal(unit, flags, expected, &transfer) {
-            return Err(refused);
+        match self.refusal(unit, flags, expected, cdb) {
+            Some(refused) => Err(refused),
+            None => Ok(plan_of(cdb, unit, lun, expected)),
         }
-        let key = Key {
-            kind: Tag::DATA,
-            unit: lun,
-            address: transfer.address,
-        };
-        Ok(plan_of(&transfer, key, expected))
     }
 
-    /// Why a transfer within the unit is refused, if it is.
-    fn refusal(
-        &self,
-        unit: UnitSpec,
-        flags: u8,
-        expected: u32,
-        transfer: &Transfer,
-    ) -> Option<Status>
-        ensures { (t : Translation) → IsLayer self.now.ftl t →
-            result ≡ refusal_of self.now.is_permanent t unit flags expected transfer.now }
+    /// Why a command of the unit that is taken is refused, if it is.
+    fn refusal(&self, unit: UnitSpec, flags: u8, expected: u32, cdb: &Cdb) -> Option<Status>
+        ensures { (s : State) (r : Request) → IsLayer self.now.ftl s.translation →
+            IsBare s self.now.is_permanent → spec_of s r ≡ Some unit → r.flags ≡ flags → r.expected ≡ expected →
+            IsTakenCdb cdb.now → first_line (lines_for s r cdb.now) ≡ option_map status_kept result }
     {
-        if transfer.blocks > BLOCKS_A_COMMAND || !carries(transfer, flags, expected) {
+        let blocks = blocks_of(cdb);
+        if blocks > BLOCKS_A_COMMAND || lacks_data(cdb, flags, expected) {
             return Some(Status::CheckCondition(Sense::INVALID_FIELD));
         }
-        if transfer.address as u64 + transfer.blocks as u64 > unit.blocks as u64 {
+        if address_of(cdb) as u64 + blocks as u64 > unit.blocks as u64 {
             return Some(Status::CheckCondition(Sense::OUT_OF_RANGE));
         }
-        self.state_refusal(self.is_guarded(unit), transfer)
-    }
-
-    /// Whether the unit is one of those that permanent protection protects, and it is set.
-    fn is_guarded(&self, unit: UnitSpec) -> bool
-        ensures { result ≡ is_guarded self.now.is_permanent unit }
-    {
-        unit.protect == 2 && self.is_permanent
-    }
-
-    /// The checks of what the device is: mended, and for a write not locked and with room; the unit
-    /// that is written is not protected.
-    fn state_refusal(&self, guarded: bool, transfer: &Transfer) -> Option<Status>
-        ensures { (t : Translation) → IsLayer self.now.ftl t →
-            result ≡ state_refusal guarded t transfer.now }
-    {
-        if !self.ftl.is_mended() {
+        if needs_mended(cdb) && !self.ftl.is_mended() {
             return Some(Status::CheckCondition(Sense::NOT_READY));
         }
-        if transfer.writes && transfer.blocks > 0 {
-            return self.write_refusal(guarded);
-        }
-        None
-    }
-
-    fn write_refusal(&self, guarded: bool) -> Option<Status>
-        ensures { (t : Translation) → IsLayer self.now.ftl t → result ≡ write_refusal guarded t }
-    {
-        if guarded || self.ftl.is_locked() {
+        if self.is_refused_write(unit, cdb) {
             return Some(Status::CheckCondition(Sense::WRITE_PROTECTED));
         }
-        if self.ftl.free_slots() == 0 {
+        if self.ftl.free_slots() < slots_needed(cdb) as usize {
             return Some(Status::Busy);
         }
         None
+    }
+
+    /// Whether the command writes to a protected unit or a locked device, or flushes a locked device
+    /// with something pending.
+    fn is_refused_write(&self, unit: UnitSpec, cdb: &Cdb) -> bool
+        ensures { (s : State) → IsLayer self.now.ftl s.translation → IsBare s self.now.is_permanent →
+            IsTakenCdb cdb.now → result ≡ is_refused_write s (Some unit) cdb.now }
+    {
+        let is_protected = unit.protect == 2 && self.is_permanent;
+        let is_locked = self.ftl.is_locked();
+        (writes(cdb) && (is_protected || is_locked))
+            || (flushes(cdb) && is_locked && self.ftl.has_pending())
     }
 }

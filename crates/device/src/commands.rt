@@ -1,36 +1,30 @@
 //! Messages of the host: a COMMAND opens a task, a DATA OUT brings what a task asked for.
 ghost use Rattle.std.specs.Prelude.{◌≡◌, ◌<◌, length, slice_get, position, ◌∷◌, ◌++◌, []};
-ghost use Rattle.std.specs.Prelude.{IfSome, OnErr};
+ghost use Rattle.std.specs.Prelude.{IfSome, OnErr, OnOk};
 ghost use Rattle.std.specs.List.{list_any};
 ghost use Rattle.device.specs.Calls.{HasBegun, HasClaimed, HasKept, HasTaken};
-ghost use Rattle.device.specs.Hears.{IsDataHeard, IsTaskOpened, asked_by, asked_for, asked_of};
-ghost use Rattle.device.specs.Hears.{is_refused_of, key_asked, refused_more, task_set, uses};
-ghost use Rattle.device.specs.Hears.{with_task};
+ghost use Rattle.device.specs.Hears.{IsDataHeard, IsTaskOpened, asked_by, asked_for, asked_in};
+ghost use Rattle.device.specs.Hears.{is_short_of, short_answer, task_set, uses, with_short, with_task};
 ghost use Rattle.device.specs.Tasks.{is_task_of};
 ghost use Rattle.ufs_spec.specs.Refusals.{State};
 ghost use Rattle.device.specs.Describes.{Describes, IsHeardAs};
-ghost use Rattle.device.specs.Plans.{IsCdbRead};
-ghost use Rattle.std.specs.Prelude.{ℕ, List, None, Result, Ok, Err, nat_le, nat_lt, if◌then◌else◌};
+ghost use Rattle.std.specs.Prelude.{ℕ, List, nat_le};
 ghost use Rattle.ufs_spec.specs.Messages.{Spells, host_fault_of};
 ghost use Rattle.ufs_spec.specs.Translation.{Translation};
 ghost use Rattle.ftl_core.specs.Describes.{Describes as IsLayer};
 ghost use Rattle.ufs_spec.specs.declared.Message.{Message};
-ghost use Rattle.ufs_spec.specs.declared.scsi.Cdb.{Cdb};
-ghost use Rattle.ufs_spec.specs.declared.scsi.Sense.{Sense};
 
-use crate::checks::read_cdb;
 use crate::device::{Device, ROOM};
-use crate::tasks::{Phase, Plan, Refused, Status, Task, TaskEvent};
+use crate::responses::STANDARD_WRITE;
+use crate::tasks::{Phase, Plan, Short, ShortReply, Status, Task, TaskEvent};
 use ufs_spec::{HostFault, Key, Message};
 
-/// How many tasks may be open. In this first stage one.
-const OPEN_TASKS: usize = 1;
-
-/// A task whose data came: its position, and their address.
+/// A task whose data came: its position, their address, and whether it has FUA.
 #[derive(Clone, Copy, Debug, PartialEq, Eq)]
 struct AskedFor {
     index: usize,
     key: Key,
+    forced: bool,
 }
 
 /// The position of the task of this tag.
@@ -47,24 +41,28 @@ fn is_task_of(task: &Task, tag: u8) -> bool
     task.tag == tag
 }
 
-fn is_refused(refused: &[Refused], tag: u8) -> bool
-    ensures { result ≡ list_any (is_refused_of tag) refused.now }
+fn is_short(shorts: &[Short], tag: u8) -> bool
+    ensures { result ≡ list_any (is_short_of tag) shorts.now }
 {
-    refused.iter().any(|exchange| is_refused_of(exchange, tag))
+    shorts.iter().any(|short| is_short_of(short, tag))
 }
 
-fn is_refused_of(exchange: &Refused, tag: u8) -> bool
-    ensures { result ≡ is_refused_of tag exchange.now }
+fn is_short_of(short: &Short, tag: u8) -> bool
+    ensures { result ≡ is_short_of tag short.now }
 {
-    exchange.tag == tag
+    short.tag == tag
 }
 
-/// The address that the task asked data for, where it was told so and none came.
-fn key_asked(task: &Task, lun: u8) -> Option<Key>
-    ensures { result ≡ key_asked lun task.now task.now.phase }
+/// What the task at this position asked data for, if it was told so and none came.
+fn asked_of(task: &Task, lun: u8, index: usize) -> Option<AskedFor>
+    ensures { result ≡ asked_in lun index task.now task.now.phase }
 {
     match task.phase {
-        Phase::AwaitData { key } => if task.lun == lun { Some(key) } else { None },
+        Phase::AwaitData { key, forced } if task.lun == lun => Some(AskedFor {
+            index,
+            key,
+            forced,
+        }),
         _ => None,
     }
 }
@@ -74,21 +72,20 @@ impl Device {
     ///
     /// # Errors
     ///
-    /// The lowest fault that applies; nothing changes then. In this first stage only COMMAND and
-    /// DATA OUT are taken.
+    /// The lowest fault that applies; nothing changes then.
     pub fn host(&mut self, bytes: &[u8]) -> Result<(), HostFault>
         ensures refused { OnErr result (self.new ≡ self.old) }
         // The bytes are heard as the one message or fault that they are, and answered as the
         // specified device answers it.
         ensures heard { (s : State) → Describes self.old s → IsHeardAs s bytes.now result self.new }
     {
-        match upiu::read(bytes) {
+        match upiu::read_host(bytes) {
             Ok(message) => self.hear(&message),
             Err(fault) => Err(fault),
         }
     }
 
-    /// Takes a message: no other kind than COMMAND and DATA OUT is read yet.
+    /// Takes a message. NOP OUT, TASK MANAGEMENT REQUEST and QUERY REQUEST open a short exchange.
     fn hear(&mut self, message: &Message) -> Result<(), HostFault>
         ensures refused { OnErr result (self.new ≡ self.old) }
         ensures heard { (s : State) (bytes : List ℕ) → Describes self.old s →
@@ -109,6 +106,22 @@ impl Device {
                 offset,
                 data,
             } => self.data_out(*lun, *tag, *offset, data.as_slice()),
+            Message::NopOut { tag } => self.open_short(*tag, ShortReply::NopIn),
+            Message::TaskRequest { lun, tag, .. } => {
+                self.open_short(*tag, ShortReply::NotManaged { lun: *lun })
+            }
+            Message::QueryRequest {
+                tag,
+                function,
+                asked,
+                ..
+            } => {
+                let reply = ShortReply::NotQueried {
+                    writing: *function == STANDARD_WRITE,
+                    asked: *asked,
+                };
+                self.open_short(*tag, reply)
+            }
             _ => Err(HostFault::Code),
         }
     }
@@ -117,14 +130,14 @@ impl Device {
     fn uses(&self, tag: u8) -> bool
         ensures { result ≡ uses self.now tag }
     {
-        task_at(self.tasks.as_slice(), tag).is_some() || is_refused(self.refused.as_slice(), tag)
+        task_at(self.tasks.as_slice(), tag).is_some() || is_short(self.shorts.as_slice(), tag)
     }
 
     /// Whether as many tasks are open as may be.
     fn is_full(&self) -> bool
-        ensures { result ≡ nat_le 1 (length self.now.tasks) }
+        ensures { result ≡ nat_le 32 (length self.now.tasks) }
     {
-        self.tasks.len() >= OPEN_TASKS
+        self.tasks.len() >= ROOM
     }
 
     /// A COMMAND opens a task, or a short exchange if too many tasks are open. Its CDB is read only
@@ -142,11 +155,11 @@ impl Device {
             Spells (Message.Command flags lun tag expected cdb.now) bytes →
             host_fault_of bytes ≡ None → IsHeardAs s bytes result self.new }
     {
+        if self.is_full() {
+            return self.open_short(tag, ShortReply::TaskSetFull { lun, expected });
+        }
         if self.uses(tag) {
             return Err(HostFault::TagInUse);
-        }
-        if self.is_full() {
-            return self.refuse(Refused { tag, lun, expected });
         }
         self.open_task(flags, lun, tag, expected, cdb);
         Ok(())
@@ -155,10 +168,9 @@ impl Device {
     /// A command becomes a task, refused or not.
     fn open_task(&mut self, flags: u8, lun: u8, tag: u8, expected: u32, cdb: &[u8; 16])
         requires { length self.old.tasks < 32 }
-        ensures { (taken : Result Cdb Sense) × IsCdbRead cdb.now taken
-            × IsTaskOpened self.old self.new flags lun tag expected taken }
+        ensures { IsTaskOpened self.old self.new flags lun tag expected cdb.now }
     {
-        let planned = self.plan(lun, flags, expected, read_cdb(cdb));
+        let planned = self.plan(lun, flags, expected, cdb);
         let phase = self.begin(tag, planned);
         self.push_task(Task {
             tag,
@@ -176,16 +188,20 @@ impl Device {
         self.tasks.push_reserved(task);
     }
 
-    /// The command is answered TASK SET FULL.
-    fn refuse(&mut self, exchange: Refused) -> Result<(), HostFault>
-        ensures answer { result ≡
-            (if nat_lt (length self.old.refused) 32 then Ok tt else Err HostFault.Backlog) }
-        ensures after { self.new ≡ refused_more self.old exchange }
+    /// An exchange of one reply is open from now on, if its tag is free and fewer than 32 are open.
+    fn open_short(&mut self, tag: u8, reply: ShortReply) -> Result<(), HostFault>
+        ensures refused { OnErr result (self.new ≡ self.old) }
+        ensures answer { result ≡ short_answer self.old tag }
+        ensures after { OnOk result (self.new ≡
+            with_short self.old (record { tag = tag; reply = reply })) }
     {
-        if self.refused.len() >= ROOM {
+        if self.uses(tag) {
+            return Err(HostFault::TagInUse);
+        }
+        if self.shorts.len() >= ROOM {
             return Err(HostFault::Backlog);
         }
-        self.refused.push_reserved(exchange);
+        self.shorts.push_reserved(Short { tag, reply });
         Ok(())
     }
 
@@ -196,12 +212,14 @@ impl Device {
             HasBegun self.new.ftl t tag planned result }
     {
         match planned {
-            Ok(Plan::Nothing { length }) => Phase::Answer {
-                status: Status::Good,
-                length,
-            },
+            Ok(Plan::Nothing { length }) => Phase::good(length),
             Ok(Plan::Read { key }) => self.begin_read(tag, key),
-            Ok(Plan::Write { key }) => self.begin_write(key),
+            Ok(Plan::Write { key, forced }) => self.begin_write(key, forced),
+            Ok(Plan::Send { data }) => Phase::SendData { data },
+            Ok(Plan::Flush) => Phase::AwaitFrontier {
+                number: self.ftl.last_number(),
+                length: 0,
+            },
             Err(status) => Phase::Answer { status, length: 0 },
         }
     }
@@ -224,13 +242,13 @@ impl Device {
     }
 
     /// A write claims a slot.
-    fn begin_write(&mut self, key: Key) -> Phase
+    fn begin_write(&mut self, key: Key, forced: bool) -> Phase
         ensures left { self.new ≡ record self.old { ftl = self.new.ftl } }
         ensures begun { (t : Translation) → IsLayer self.old.ftl t →
-            HasClaimed self.new.ftl t key result }
+            HasClaimed self.new.ftl t key forced result }
     {
         if self.ftl.reserve() {
-            Phase::AskData { key }
+            Phase::AskData { key, forced }
         } else {
             Phase::Answer {
                 status: Status::Busy,
@@ -257,8 +275,7 @@ impl Device {
         ensures what { result ≡ asked_by lun index (slice_get self.now.tasks index) }
         ensures within { IfSome result (λ asked. asked.index < length self.now.tasks) }
     {
-        let key = key_asked(&self.tasks[index], lun)?;
-        Some(AskedFor { index, key })
+        asked_of(&self.tasks[index], lun, index)
     }
 
     /// A DATA OUT brings the block that a task asked for.
@@ -271,7 +288,10 @@ impl Device {
             return Err(HostFault::NotAskedFor);
         };
         let event = self.accept(asked.key, data);
-        let phase = Phase::AwaitData { key: asked.key };
+        let phase = Phase::AwaitData {
+            key: asked.key,
+            forced: asked.forced,
+        };
         self.set_phase(asked.index, phase.after(event));
         self.end_waiting();
         Ok(())

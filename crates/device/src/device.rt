@@ -16,7 +16,7 @@ ghost use Rattle.device.specs.Kept.{idle_device};
 ghost use Rattle.recovery.specs.Found.{IsScanFault};
 ghost use Rattle.ufs_spec.specs.Sound.{Sound, Suits};
 
-use crate::tasks::{Loaded, Refused, Task, TaskEvent};
+use crate::tasks::{Loaded, Short, Task, TaskEvent};
 use ftl_core::{Ended, Ftl};
 use nand_model::Die;
 use recovery::scan;
@@ -24,7 +24,7 @@ use std::alloc::{AllocError, Global};
 use std::marker::Model;
 use ufs_spec::{Block, Config, Job, OpenFault, Outcome};
 
-/// How many tasks, how many refused commands and how many blocks there is room for: no list is longer
+/// How many tasks, how many short exchanges and how many blocks there is room for: no list is longer
 /// (JESD220, 10.9).
 pub(crate) const ROOM: usize = 32;
 
@@ -38,8 +38,9 @@ pub struct Device {
     pub(crate) is_permanent: bool,
     /// The open tasks in the order of their COMMANDs: no two have one tag.
     pub(crate) tasks: Vec<Task>,
-    /// The commands that were refused with TASK SET FULL and whose RESPONSE was not handed out yet.
-    pub(crate) refused: Vec<Refused>,
+    /// The exchanges of one reply that was not handed out yet. No tag is in use twice, here or among the
+    /// tasks.
+    pub(crate) shorts: Vec<Short>,
     /// The blocks that dies read and that were not handed out yet: at most one for each open READ.
     pub(crate) loaded: Vec<Loaded>,
 }
@@ -95,7 +96,7 @@ impl Device {
             ftl,
             is_permanent,
             tasks: Vec::with_capacity(alloc, ROOM)?,
-            refused: Vec::with_capacity(alloc, ROOM)?,
+            shorts: Vec::with_capacity(alloc, ROOM)?,
             loaded: Vec::with_capacity(alloc, ROOM)?,
         })
     }

@@ -11,13 +11,13 @@ ghost use Rattle.ufs_spec.specs.Translation.{Translation, is_mended};
 ghost use Rattle.power_loss.specs.Book.{book};
 ghost use Rattle.power_loss.specs.Invariant.{LookedRight};
 ghost use Rattle.ftl_core.specs.Describes.{Describes as IsLayer, IsLookedAt};
-ghost use Rattle.device.specs.declared.tasks.Refused.{Refused};
+ghost use Rattle.device.specs.declared.tasks.Short.{Short};
 ghost use Rattle.device.specs.Describes.{Describes, IsAnswered, IsReplied};
-ghost use Rattle.device.specs.Replies.{HasMoved, answer_of, block_at, block_for, full_answer, is_loaded_for};
+ghost use Rattle.device.specs.Replies.{HasMoved, answer_of, block_at, block_for, is_loaded_for, short_message};
 ghost use Rattle.device.specs.Replies.{loaded_for, moved_on, owed_by, without_block, without_first, without_task};
 
 use crate::device::Device;
-use crate::responses::{BLOCK_BYTES, block_message, full_answer, ready_to_transfer, response};
+use crate::responses::{block_message, data_message, ready_to_transfer, response, short_message};
 use crate::tasks::{Loaded, Phase, Status, Task, TaskEvent};
 use ftl_core::Looked;
 use ufs_spec::{Block, Message, Upiu};
@@ -70,7 +70,7 @@ impl Device {
             self.move_on(due.index, due.task);
             return true;
         }
-        self.reply_refused(into)
+        self.reply_short(into)
     }
 
     /// The first task that owes a reply now, and this reply.
@@ -102,13 +102,14 @@ impl Device {
         ensures message { IfSome result (λ m. IsMessage m) }
     {
         match task.phase {
-            Phase::AskData { key: _ } => Some(ready_to_transfer(task.lun, task.tag)),
-            Phase::AwaitData { key: _ } => None,
-            Phase::AwaitFrontier { number } => self.durable_answer(task, number),
+            Phase::AskData { key: _, forced: _ } => Some(ready_to_transfer(task.lun, task.tag)),
+            Phase::AwaitData { key: _, forced: _ } => None,
+            Phase::AwaitFrontier { number, length } => self.durable_answer(task, number, length),
             Phase::SendBlock => {
                 let block = self.block(task.tag)?;
                 Some(block_message(task, block))
             }
+            Phase::SendData { data } => Some(data_message(task, data)),
             Phase::Answer { status, length } => Some(response(
                 task.lun,
                 task.tag,
@@ -119,16 +120,16 @@ impl Device {
         }
     }
 
-    /// The answer of a write, once the group of this number is durable.
-    fn durable_answer(&self, task: &Task, number: u64) -> Option<Message>
+    /// The answer of a command of so many bytes, once the group of this number is durable.
+    fn durable_answer(&self, task: &Task, number: u64, length: u32) -> Option<Message>
         ensures owed { (t : Translation) → IsLayer self.now.ftl t →
-            result ≡ (if nat_le number t.ledger.frontier then Some (answer_of task.now Status.Good 4096) else None) }
+            result ≡ (if nat_le number t.ledger.frontier then Some (answer_of task.now Status.Good length) else None) }
         ensures message { IfSome result (λ m. IsMessage m) }
     {
         if number > self.ftl.frontier() {
             return None;
         }
-        Some(response(task.lun, task.tag, task.expected, Status::Good, BLOCK_BYTES))
+        Some(response(task.lun, task.tag, task.expected, Status::Good, length))
     }
 
     /// The block that the task of this tag keeps, once it is there.
@@ -169,15 +170,21 @@ impl Device {
         ensures moved { (t : Translation) → IsLayer self.old.ftl t → HasMoved self.new.ftl t task.tag task.phase }
     {
         match task.phase {
-            Phase::AskData { key: _ } => {
+            Phase::AskData { key: _, forced: _ } => {
                 self.set_phase(index, task.phase.after(TaskEvent::DataAskedFor));
             }
-            Phase::AwaitData { key: _ } => {}
+            Phase::AwaitData { key: _, forced: _ } => {}
+            Phase::SendData { data: _ } => {
+                self.set_phase(index, task.phase.after(TaskEvent::DataSent));
+            }
             Phase::SendBlock => {
                 self.let_go(task.tag);
                 self.set_phase(index, task.phase.after(TaskEvent::BlockSent));
             }
-            Phase::AwaitFrontier { number: _ } => self.end_task(index, task.tag),
+            Phase::AwaitFrontier {
+                number: _,
+                length: _,
+            } => self.end_task(index, task.tag),
             Phase::Answer {
                 status: _,
                 length: _,
@@ -221,18 +228,19 @@ impl Device {
         }
     }
 
-    /// Hands out the RESPONSE of the first command that was refused with TASK SET FULL.
-    fn reply_refused(&mut self, into: &mut Upiu) -> bool
-        ensures found { result ≡ nat_lt 0 (length self.old.refused) }
+    /// Hands out the reply of the first short exchange.
+    fn reply_short(&mut self, into: &mut Upiu) -> bool
+        ensures found { result ≡ nat_lt 0 (length self.old.shorts) }
         ensures nothing { result ≡ false → (self.new ≡ self.old) × (into.new ≡ into.old) }
-        ensures said { (r : Refused) → slice_get self.old.refused 0 ≡ Some r → into.new.items ≡ spelling (full_answer r) }
+        ensures said { (short : Short) → slice_get self.old.shorts 0 ≡ Some short →
+            into.new.items ≡ spelling (short_message short) }
         ensures after { result ≡ true → self.new ≡ without_first self.old }
     {
-        if self.refused.is_empty() {
+        if self.shorts.is_empty() {
             return false;
         }
-        let exchange = self.refused.remove(0);
-        upiu::write(&full_answer(&exchange), into);
+        let short = self.shorts.remove(0);
+        upiu::write(&short_message(&short), into);
         true
     }
 }

@@ -1,13 +1,16 @@
 //! The messages that the device sends: what they say and how they are flagged (JESD220, 10.7).
-ghost use Rattle.std.specs.Prelude.{◌≡◌, ◌≤◌, ◌==◌, take, if◌then◌else◌, Some, None, ◌∷◌, []};
+ghost use Rattle.std.specs.Prelude.{◌≡◌, ◌≤◌, ◌==◌, length, take, if◌then◌else◌, Some, None, ◌∷◌, []};
 ghost use Rattle.ufs_spec.specs.Cdbs.{residual_of};
 ghost use Rattle.ufs_spec.specs.Exchanges.{CheckCondition, response, sense_data};
-ghost use Rattle.ufs_spec.specs.Messages.{AreFlags, IsAmong, IsMessage};
+ghost use Rattle.ufs_spec.specs.Machine.{query_unanswered};
+ghost use Rattle.ufs_spec.specs.Messages.{AreFlags, IsAmong, IsMessage, IsQueryFunction};
 ghost use Rattle.ufs_spec.specs.declared.Message.{Message};
-ghost use Rattle.device.specs.Replies.{block_message, count_of, full_answer, status_kept};
+ghost use Rattle.device.specs.Replies.{block_message, count_of, data_message, data_padded};
+ghost use Rattle.device.specs.Replies.{function_of, short_message};
+ghost use Rattle.device.specs.Tasks.{status_kept};
 
-use crate::tasks::{Refused, Status, Task};
-use ufs_spec::{Block, Data, Message, Sense};
+use crate::tasks::{Short, ShortData, ShortReply, Status, Task};
+use ufs_spec::{Asked, Block, Data, Message, Sense, write_u32};
 
 /// How many bytes a block has.
 pub(crate) const BLOCK_BYTES: u32 = 4096;
@@ -31,6 +34,17 @@ const TASK_SET_FULL: u8 = 0x28;
 const TARGET_SUCCESS: u8 = 0x00;
 
 const TARGET_FAILURE: u8 = 0x01;
+
+/// The service response of a function that is not supported (JESD220, 10.7.7).
+const NOT_SUPPORTED: u8 = 0x04;
+
+/// The functions of a query (JESD220, 10.7.8).
+const STANDARD_READ: u8 = 0x01;
+
+pub(crate) const STANDARD_WRITE: u8 = 0x81;
+
+/// The response of a query whose opcode is invalid (JESD220, 10.7.9).
+const INVALID_OPCODE: u8 = 0xFE;
 
 /// The flags of a RESPONSE and its residual count.
 #[derive(Clone, Copy)]
@@ -123,14 +137,14 @@ fn sense_response(lun: u8, tag: u8, residual: Residual, sense: &Sense) -> Messag
     }
 }
 
-/// The DATA IN with the first `count` bytes of a block (JESD220, 10.7.4).
-fn data_in(lun: u8, tag: u8, block: &Block, count: usize) -> Message
-    requires { (1 ≤ count) × (count ≤ 4096) }
-    ensures what { result ≡ Message.DataIn lun tag 0 (record { items = take count block.now }) }
+/// The DATA IN with these bytes, of which there are 1 to 4096 (JESD220, 10.7.4).
+fn data_in(lun: u8, tag: u8, bytes: &[u8]) -> Message
+    requires { (1 ≤ length bytes.now) × (length bytes.now ≤ 4096) }
+    ensures what { result ≡ Message.DataIn lun tag 0 (record { items = bytes.now }) }
     ensures message { IsMessage result }
 {
     let mut data = Data::new();
-    let _ = data.try_extend_from_slice(&block[..count]);
+    let _ = data.try_extend_from_slice(bytes);
     Message::DataIn {
         lun,
         tag,
@@ -139,18 +153,60 @@ fn data_in(lun: u8, tag: u8, block: &Block, count: usize) -> Message
     }
 }
 
-/// The RESPONSE of a command that was refused with TASK SET FULL.
-pub(crate) fn full_answer(exchange: &Refused) -> Message
-    ensures what { result ≡ full_answer exchange.now }
+/// The reply of a short exchange.
+pub(crate) fn short_message(short: &Short) -> Message
+    ensures what { result ≡ short_message short.now }
     ensures message { IsMessage result }
 {
-    response(
-        exchange.lun,
-        exchange.tag,
-        exchange.expected,
-        Status::TaskSetFull,
-        0,
-    )
+    let tag = short.tag;
+    match short.reply {
+        ShortReply::TaskSetFull { lun, expected } => {
+            response(lun, tag, expected, Status::TaskSetFull, 0)
+        }
+        ShortReply::NopIn => Message::NopIn { tag },
+        ShortReply::NotManaged { lun } => task_response(lun, tag),
+        ShortReply::NotQueried { writing, asked } => query_response(tag, writing, asked),
+    }
+}
+
+/// The TASK MANAGEMENT RESPONSE to a function that is not supported.
+fn task_response(lun: u8, tag: u8) -> Message
+    ensures what { result ≡ Message.TaskResponse lun tag 0x04 }
+    ensures message { IsMessage result }
+{
+    Message::TaskResponse {
+        lun,
+        tag,
+        service: NOT_SUPPORTED,
+    }
+}
+
+/// The QUERY RESPONSE to a query that is not answered yet.
+fn query_response(tag: u8, writing: bool, asked: Asked) -> Message
+    ensures what { result ≡ query_unanswered tag (function_of writing) asked }
+    ensures message { IsMessage result }
+{
+    Message::QueryResponse {
+        tag,
+        function: query_function(writing),
+        response: INVALID_OPCODE,
+        asked,
+        length: 0,
+        value: 0,
+        data: Data::new(),
+    }
+}
+
+/// The function of a query.
+fn query_function(writing: bool) -> u8
+    ensures what { result ≡ function_of writing }
+    ensures known { IsQueryFunction result }
+{
+    if writing {
+        STANDARD_WRITE
+    } else {
+        STANDARD_READ
+    }
 }
 
 /// How many bytes of a block a host is sent that expects so many.
@@ -166,7 +222,39 @@ pub(crate) fn block_message(task: &Task, block: &Block) -> Message
     ensures what { result ≡ block_message task.now block.now }
     ensures message { IsMessage result }
 {
-    data_in(task.lun, task.tag, block, count_of(task.expected))
+    data_in(task.lun, task.tag, &block[..count_of(task.expected)])
+}
+
+/// The DATA IN of a task with other data than a block: the first of them, as many as the host
+/// expects, and at least one.
+pub(crate) fn data_message(task: &Task, sent: ShortData) -> Message
+    ensures what { result ≡ data_message task.now sent }
+    ensures message { IsMessage result }
+{
+    let count = (task.expected.min(sent.length()) as usize).clamp(1, 18);
+    let bytes = data_bytes(sent);
+    data_in(task.lun, task.tag, &bytes[..count])
+}
+
+/// The bytes of data that are sent in one DATA IN, with zeros behind them.
+fn data_bytes(sent: ShortData) -> [u8; 18]
+    ensures { result ≡ data_padded sent }
+{
+    match sent {
+        ShortData::NoSense { allocation: _ } => scsi_cdb::no_sense(),
+        ShortData::Capacity { blocks } => capacity_bytes(blocks),
+    }
+}
+
+/// The last address of a unit of so many blocks and the length of a block, with zeros behind them (SBC,
+/// READ CAPACITY(10)). A unit has a block.
+fn capacity_bytes(blocks: u32) -> [u8; 18]
+    ensures { result ≡ data_padded (ShortData.Capacity blocks) }
+{
+    let mut bytes = [0; 18];
+    write_u32(&mut bytes, 0, blocks.saturating_sub(1));
+    write_u32(&mut bytes, 4, BLOCK_BYTES);
+    bytes
 }
 
 /// The READY TO TRANSFER for the one block of a write (JESD220, 10.7.5).

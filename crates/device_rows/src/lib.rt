@@ -5,10 +5,16 @@
 #[cfg(test)]
 mod benches;
 #[cfg(test)]
+mod erases;
+#[cfg(test)]
+mod failures;
+#[cfg(test)]
 mod leftovers;
 #[cfg(test)]
 mod locks;
 #[cfg(test)]
 mod mendings;
+#[cfg(test)]
+mod players;
 #[cfg(test)]
 mod worlds;

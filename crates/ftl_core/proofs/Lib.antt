@@ -6,3 +6,4 @@ pub mod opened
 pub mod pins
 pub mod small_calls
 pub mod steps_ordered
+pub mod stopped

@@ -1,4 +1,3 @@
-pub mod FirstPages
 pub mod FoundBlocks
 pub mod ListParts
 pub mod OpensFound

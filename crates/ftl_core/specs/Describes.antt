@@ -218,14 +218,6 @@ mending_kept (mendings.Unmarked fence) left = Unmarked fence left
 mending_kept mendings.Repairing left = Repairing left
 mending_kept mendings.Mended left = Mended
 
--- the page that a key began with has the content that the key had at the life's start
-abbrev pub FirstsKept : Numbers → Ledger → Type 0
-FirstsKept n l =
-    (k : Key) (name : Name) → IsKey (shape_of_numbers n) k → l.first_page k ≡ Some name →
-    (size : ℕ)
-    × (l.entries_before name.number name.index ≡
-    Some (record { item = record { key = k; body = l.base k }; size = size }))
-
 -- a repair is the last group, of one page with the content that its key had at the life's start; it is read from where
 -- that content stands
 pub record RepairKept (l : Ledger) (number : ℕ) (k : Key) (from : Option Stored) (there : Bool) (content : List ℕ) :
@@ -284,7 +276,6 @@ pub record Kept (c : Core) (t : Translation) : Type 0 where
   pub step_reads : StepReadsKept t.disk.flights c.step
   -- readers keep something only once the device is mended
   pub readers : is_mended t.work.mending ≡ false → c.pins ≡ []
-  pub firsts : FirstsKept t.numbers t.ledger
 
 -- what is kept describes the layer, and this is one that a life may come to
 pub record Describes (c : Core) (t : Translation) : Type 0 where

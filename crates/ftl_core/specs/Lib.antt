@@ -6,5 +6,6 @@ pub mod Gives
 pub mod Limits
 pub mod Moves
 pub mod Rooms
+pub mod Stops
 pub mod Takes
 pub mod Tells

@@ -8,14 +8,17 @@ ghost use Rattle.ufs_spec.specs.Keys.{IsKey};
 ghost use Rattle.ufs_spec.specs.Ledger.{look, next_number as next_of_layer, Entry, before_accepted, entry_of};
 ghost use Rattle.ufs_spec.specs.Moves.{Accept, Acknowledge, Claim, IsAllowedMove, Keep, LetGo, LetGoAll, Release, WantPage, moved, is_pin_of as is_layer_pin_of};
 ghost use Rattle.ufs_spec.specs.Plain.{shape_of_numbers, zero_block};
-ghost use Rattle.ufs_spec.specs.Translation.{Translation, free_slots as layer_slots, is_locked as is_layer_locked, is_mended, has_number as has_layer_number};
+ghost use Rattle.ufs_spec.specs.Translation.{Translation, free_slots as layer_slots, is_locked as is_layer_locked, is_mended, has_number as has_layer_number, has_pending};
 ghost use Rattle.ufs_spec.specs.Cells.{AreWithin, Cells};
 ghost use Rattle.ufs_spec.specs.Sound.{CellsSound};
 ghost use Rattle.power_loss.specs.Book.{CellsRight};
+ghost use Rattle.power_loss.specs.Exchange.{TagsDiffer};
+ghost use Rattle.ufs_spec.specs.Translation.{Pin as LayerPin};
 ghost use Rattle.recovery.specs.Found.{IsFound};
 ghost use Rattle.ufs_spec.specs.Disk.{Spot};
 ghost use Rattle.ufs_spec.specs.Openings.{IsOpenedTranslation};
 ghost use Rattle.ftl_core.specs.Describes.{Describes, IsLookedAt, name_at};
+ghost use Rattle.ftl_core.specs.Stops.{StopsRight};
 ghost use Rattle.ftl_core.specs.Tells.{IsPinned, keeps_for};
 
 mod ends;
@@ -349,6 +352,10 @@ impl Ftl {
         ensures described { IfOk result (λ f. (cells : Cells) (is_bad : Spot → Bool) (t : Translation) →
             1 ≤ config.pages → CellsRight cells → AreWithin config cells → CellsSound cells t.ledger.newest →
             IsFound config cells is_bad found → IsOpenedTranslation config cells is_bad t → Describes f t) }
+        // Whatever a stop leaves then is right.
+        ensures stop { IfOk result (λ f. (cells : Cells) (is_bad : Spot → Bool) (t : Translation) →
+            1 ≤ config.pages → CellsRight cells → AreWithin config cells → CellsSound cells t.ledger.newest →
+            IsFound config cells is_bad found → IsOpenedTranslation config cells is_bad t → StopsRight f t) }
     {
         let numbers = config.numbers();
         let dies = numbers.dies;
@@ -400,8 +407,11 @@ impl Ftl {
     }
 
     /// The greatest number that was given: every pending group has one, and so has the repair under way.
-    pub(super) fn last_number(&self) -> u64
-        ensures { result ≡ last_number self.now }
+    /// What waits for it waits for all that was accepted.
+    #[tactic(auto, using(crate::proofs::look_and_accept::Numbers::numbers_right))]
+    pub fn last_number(&self) -> u64
+        ensures core { result ≡ last_number self.now }
+        ensures described { (t : Translation) → Describes self.now t → result + 1 ≡ next_of_layer t.ledger }
     {
         self.frontier + self.groups.len() as u64 + repairs_in(&self.step)
     }
@@ -412,6 +422,15 @@ impl Ftl {
         ensures described { (t : Translation) → Describes self.now t → result ≡ t.ledger.frontier }
     {
         self.frontier
+    }
+
+    /// Whether something was accepted and is not durable.
+    #[tactic(auto, using(crate::proofs::small_calls::SmallCalls::pending_right))]
+    pub fn has_pending(&self) -> bool
+        ensures core { result ≡ nat_lt 0 (length self.now.groups) }
+        ensures described { (t : Translation) → Describes self.now t → result ≡ has_pending t }
+    {
+        !self.groups.is_empty()
     }
 
     /// How many slots neither a pending group nor a claim holds.
@@ -499,6 +518,9 @@ impl Ftl {
         ensures found { result ≡ nat_lt (length self.old.pins) 32 }
         ensures after { self.new ≡ (if result then with_pin self.old (record { reader = reader; key = key; looked = looked; wanted = true }) else self.old) }
         ensures described_found { (t : Translation) → Describes self.old t → result ≡ nat_lt (length t.pins) 32 }
+        // No reader keeps two things, so that no more is kept than there are readers.
+        ensures described_differ { (t : Translation) → Describes self.old t →
+            TagsDiffer (λ (q : LayerPin). q.tag) t.pins }
         // It is what the address looks at, of a reader who keeps nothing yet.
         ensures described { (t : Translation) → Describes self.old t → is_mended t.work.mending ≡ true →
             IsKey (shape_of_numbers t.numbers) key →
@@ -576,6 +598,10 @@ impl Ftl {
         ensures described { (t : Translation) → Describes self.old t → key.kind ≡ 1 → key.unit ≤ 7 →
             IsAllowedMove t (Accept 1 (record { key = key; body = body.now } ∷ [])) →
             Describes self.new (moved t (Accept 1 (record { key = key; body = body.now } ∷ []))) }
+        // Whatever a stop leaves then is right.
+        ensures stop { (t : Translation) → Describes self.old t → key.kind ≡ 1 → key.unit ≤ 7 →
+            IsAllowedMove t (Accept 1 (record { key = key; body = body.now } ∷ [])) →
+            StopsRight self.new (moved t (Accept 1 (record { key = key; body = body.now } ∷ []))) }
         ensures described_number { (t : Translation) → Describes self.old t → result ≡ next_of_layer t.ledger }
     {
         let number = self.next_number();

@@ -44,7 +44,7 @@ pub use Rattle.ufs_spec.specs.Refusals.{BootUnit, DeviceUnit, Line, Lun, ReportL
 pub use Rattle.ufs_spec.specs.Refusals.{UnitOf, first_line, is_past, lacks_unit, line, lines_behind, locked, lun_of}
 pub use Rattle.ufs_spec.specs.Refusals.{mended, needs_mended, not_taken, numbers_of, operation_in, plain_now, refusal}
 pub use Rattle.ufs_spec.specs.Refusals.{spec_at, takes, unit_in, unit_of_request}
-pub use Rattle.ufs_spec.specs.Stages.{most_tasks}
+pub use Rattle.ufs_spec.specs.Exchanges.{most_tasks}
 pub use Rattle.ufs_spec.specs.declared.configs.UnitSpec.{UnitSpec}
 pub use Rattle.ufs_spec.specs.declared.events.Event.{Event}
 pub use Rattle.ufs_spec.specs.declared.events.Leftover.{Leftover}

@@ -1,4 +1,5 @@
 pub mod EachSoundArrayOpens
+pub mod FirstPages
 pub mod FoundInCells
 pub mod OpenedByName
 pub mod OpenedContents

@@ -2,6 +2,7 @@ pub mod ImageContents
 pub mod ImagePages
 pub mod LawfulLeftovers
 pub mod LeftCells
+pub mod LeftFront
 pub mod LeftImage
 pub mod LeftIsSound
 pub mod LeftPages

@@ -139,6 +139,11 @@ pub record BookRight (b : Book) : Type 0 where
   pub first_lost : b.first_lost ≤ suc b.greatest_seen
   pub base : (k : Key) → HasKey b k → BaseAt b k ⊎ BaseNone b k
   pub first_page : (k : Key) → HasKey b k → FirstRight b k (b.first_page k)
+  -- the page that a key began with has the content that the key had at the life's start
+  pub first_content : (k : Key) (name : Name) → HasKey b k → b.first_page k ≡ Some name →
+      (size : ℕ)
+      × (b.entries_before name.number name.index ≡
+      Some (record { item = record { key = k; body = b.base k }; size = size }))
 
 -- the pages of a group that is wholly there have one size, and all indexes below it
 pub record IsWholeOld (b : Book) (n : ℕ) : Type 0 where

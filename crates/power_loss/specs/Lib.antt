@@ -10,4 +10,5 @@ pub mod Runs
 pub mod OwedJobs
 pub mod Pending
 pub mod StoppedWrites
+pub mod Stops
 pub mod Shown

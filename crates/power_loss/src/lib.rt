@@ -29,6 +29,7 @@ ghost use Rattle.ufs_spec.specs.declared.flash.Place.{Place};
 ghost use Rattle.ufs_spec.specs.declared.flash.Tag.{Tag};
 ghost use Rattle.power_loss.specs.Book.{CellsRight};
 ghost use Rattle.power_loss.specs.Invariant.{IsPrefix, Valid};
+ghost use Rattle.power_loss.specs.Stops.{IsFront};
 
 pub use collection::{
     collection_is_due_when_it_should, the_victim_has_the_fewest_live_pages,
@@ -83,6 +84,9 @@ pub fn a_stop_leaves_a_prefix()
         Valid t → CellCrash t.disk.cells t.disk.flights c → IsNewestMark c m → CellsSuit t.numbers c m }
     ensures prefix { (t : Translation) (c : Cells) (m : Option Mark) (kept : ℕ) →
         Valid t → CellCrash t.disk.cells t.disk.flights c → IsNewestMark c m → IsKept c m kept → IsPrefix t c m kept }
+    // So it stands for what is durable after a front of the groups that are pending.
+    ensures front { (t : Translation) (c : Cells) (m : Option Mark) (kept : ℕ) →
+        Valid t → CellCrash t.disk.cells t.disk.flights c → IsNewestMark c m → IsKept c m kept → IsFront t c m kept }
 {}
 
 /// A block that is given to a die to be erased holds only pages that may go, and none that a task keeps or that the rest of a

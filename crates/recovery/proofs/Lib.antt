@@ -4,6 +4,7 @@ pub mod key_order
 pub mod opened
 pub mod same_numbers
 pub mod settings_pages
+pub mod standing_for
 pub mod table_facts
 pub mod tables
 pub mod whole_groups

@@ -5,3 +5,4 @@ pub mod KeysInOrder
 pub mod Listed
 pub mod Opened
 pub mod Reading
+pub mod Stood

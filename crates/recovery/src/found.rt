@@ -6,12 +6,14 @@ ghost use Rattle.ufs_spec.specs.Disk.{Spot};
 ghost use Rattle.ufs_spec.specs.Keys.{settings_key};
 ghost use Rattle.ufs_spec.specs.Kept.{Holds, fence_in};
 ghost use Rattle.ufs_spec.specs.Lives.{Fit, array_of, bad_of};
-ghost use Rattle.ufs_spec.specs.Sound.{CellsSound, CellsSuit};
+ghost use Rattle.ufs_spec.specs.Plain.{Plain};
+ghost use Rattle.ufs_spec.specs.Sound.{CellsSound, CellsSuit, Sound};
 ghost use Rattle.ufs_spec.specs.Translation.{spots};
 ghost use Rattle.page_tag.specs.Contents.{mark_of};
 ghost use Rattle.recovery.specs.Found.{IsFound, IsScanFault, newest_found};
 ghost use Rattle.recovery.specs.Listed.{AreInRange};
 ghost use Rattle.recovery.specs.Reading.{IsTable, newest_in};
+ghost use Rattle.recovery.specs.Stood.{IsStoodFor};
 ghost use Rattle.recovery.specs.declared.pages.FoundPage.{FoundPage};
 
 use crate::blocks::bad_blocks;
@@ -60,6 +62,10 @@ pub fn scan<D: Die>(alloc: Global, dies: &mut [D], config: &Config) -> Result<Fo
     ensures same { map D.state dies.new ≡ map D.state dies.old }
     ensures found { IfOk result (λ f. (c : Cells) → Shows (array_of (map D.state dies.old)) c →
         IsFound config.now c (bad_of (map D.state dies.old)) f) }
+    // Over sound pages what was found has the contents of the plain state that the dies stand
+    // for, and they stand for no other.
+    ensures stands { IfOk result (λ f. Sound (array_of (map D.state dies.old)) →
+        (p : Plain) × IsStoodFor config.now (array_of (map D.state dies.old)) f p) }
     // Over sound pages it tells what the settings say.
     ensures permanent { IfOk result (λ f. (c : Cells) → Shows (array_of (map D.state dies.old)) c →
         CellsSound c (newest_found f) → (x : List ℕ) →

@@ -5,6 +5,12 @@
 #[cfg(test)]
 mod bad_input;
 #[cfg(test)]
+mod checks;
+#[cfg(test)]
+mod commands;
+#[cfg(test)]
+mod gap;
+#[cfg(test)]
 mod messages;
 #[cfg(test)]
 mod scripts;

@@ -49,28 +49,61 @@ fn read_line(text: Text, high: &str, low: &str) -> Result<Text, Fail> {
         .with("\n")
 }
 
-/// While one task is open further commands get the status 28h; the 33rd of these is refused.
+/// While 32 tasks are open further commands get the status 28h, and the 33rd of these is refused. A
+/// task that ends makes room for another.
 #[test]
 fn task_set_full(rt: HostRuntime) -> Result<(), Fail> {
     let alloc = rt.alloc();
     let mut script = Text::script(alloc)?.with("settle 4\n")?;
-    for high in ["0", "1"] {
+    for high in ["0", "1", "2", "3"] {
         for low in DIGITS {
             script = read_line(script, high, low)?;
         }
     }
-    script = read_line(script, "2", "0")?;
-    script = read_line(script, "2", "1")?;
-    script = script.with("reply\nreply\nreply\n")?;
-    let output = Text::new(alloc)
+    script = read_line(script, "4", "0")?.with("reply\nreply\n")?;
+    script = read_line(script, "4", "0")?.times("reply\n", 65)?;
+    let mut output = Text::new(alloc)
         .with("settle 4\n")?
-        .times("host ok\n", 33)?
+        .times("host ok\n", 64)?
         .with("host fault 9\n")?
         .data_in("22000000", "1000", "00", 4096)?
         .response("21000000", "00000000")?
-        .with("reply ")?
-        .filled("2120000100000128", 12)?
-        .filled("00001000", 20)?
-        .with("\n")?;
+        .with("host ok\n")?;
+    output = read_replies(output)?;
     expect(&rt, alloc, &script, &output)
+}
+
+/// The replies of the tasks behind the first, up to the one that was opened last: each reads as
+/// zeros. Behind them comes the first of the commands that were refused.
+fn read_replies(mut output: Text) -> Result<Text, Fail> {
+    for high in ["0", "1"] {
+        for low in DIGITS {
+            if high != "0" || low != "0" {
+                output = read_reply(output, high, low)?;
+            }
+        }
+    }
+    output = read_reply(output, "4", "0")?;
+    output
+        .with("reply ")?
+        .filled("2120002000000128", 12)?
+        .filled("00001000", 20)?
+        .with("\n")
+}
+
+/// The DATA IN and the RESPONSE of a READ of zeros.
+fn read_reply(output: Text, high: &str, low: &str) -> Result<Text, Fail> {
+    output
+        .with("reply 220000")?
+        .with(high)?
+        .with(low)?
+        .times("00", 6)?
+        .with("10000000000000001000")?
+        .times("00", 12)?
+        .times("00", 4096)?
+        .with("\nreply 210000")?
+        .with(high)?
+        .with(low)?
+        .times("00", 28)?
+        .with("\n")
 }

@@ -2,9 +2,10 @@
 ghost use Rattle.std.specs.Prelude.{◌≡◌, ◌∷◌, ◌*◌, ℕ, length, replicate, slice_index, true, false};
 ghost use Rattle.ufs_spec.specs.Messages.{IsAmong};
 ghost use Rattle.ufs_spec.specs.Cdbs.{carried, cdb_bytes, fixed_sense, known_operations, length_of, operation_of, residual_of, taken_operations, IsCdb, IsTakenCdb};
+ghost use Rattle.ufs_spec.specs.Machine.{no_sense};
 ghost use Rattle.ufs_spec.specs.declared.scsi.TheConstants.Sense.{INVALID_FIELD};
 ghost use Rattle.ufs_spec.specs.declared.Cdb.{Cdb};
-ghost use Rattle.ufs_spec.specs.declared.Cdb.TheVariants.{Inquiry, Read10, Read6, ReadCapacity10, SynchronizeCache10, TestUnitReady, Write10};
+ghost use Rattle.ufs_spec.specs.declared.Cdb.TheVariants.{Inquiry, Read10, Read6, ReadCapacity10, RequestSense, SynchronizeCache10, TestUnitReady, Write10};
 
 /// No two commands have the same bytes.
 pub fn one_cdb()
@@ -23,7 +24,7 @@ pub fn one_operation()
 
 /// The bytes of some commands and sense data: a FUA write of one block at address FFh, a read of 33
 /// blocks, a read of six bytes of 256 blocks, TEST UNIT READY, INQUIRY for 36 bytes, READ CAPACITY,
-/// SYNCHRONIZE CACHE with IMMED, an invalid field in a CDB.
+/// SYNCHRONIZE CACHE with IMMED, an invalid field in a CDB, nothing to tell.
 pub fn worked_bytes()
     ensures write { cdb_bytes (Write10 0xFF 1 true) ≡ 0x2A ∷ 8 ∷ 0 ∷ 0 ∷ 0 ∷ 0xFF ∷ 0 ∷ 0 ∷ 1 ∷ replicate 7 0 }
     ensures read { cdb_bytes (Read10 0 33 false) ≡ 0x28 ∷ 0 ∷ 0 ∷ 0 ∷ 0 ∷ 0 ∷ 0 ∷ 0 ∷ 0x21 ∷ replicate 7 0 }
@@ -34,13 +35,17 @@ pub fn worked_bytes()
     ensures synchronize { cdb_bytes (SynchronizeCache10 0 0 true) ≡ 0x35 ∷ 2 ∷ replicate 14 0 }
     ensures sense { fixed_sense INVALID_FIELD
         ≡ 0x70 ∷ 0 ∷ 5 ∷ 0 ∷ 0 ∷ 0 ∷ 0 ∷ 0x0A ∷ 0 ∷ 0 ∷ 0 ∷ 0 ∷ 0x24 ∷ replicate 5 0 }
+    ensures nothing { no_sense ≡ 0x70 ∷ 0 ∷ 0 ∷ 0 ∷ 0 ∷ 0 ∷ 0 ∷ 0x0A ∷ replicate 10 0 }
 {}
 
-/// Some lengths and residuals: READ(6) of 0, which are 256 blocks; INQUIRY for 64 bytes, which has 36;
-/// two blocks of which nothing was carried; a block of which 512 bytes were expected.
+/// Some lengths and residuals: READ(6) of 0, which are 256 blocks; INQUIRY for 64 bytes, which has
+/// 36; REQUEST SENSE for 4; READ CAPACITY; two blocks of which nothing was carried; a block of which
+/// 512 bytes were expected.
 pub fn worked_residuals()
     ensures blocks { length_of 0 (Read6 0 0) ≡ 256 * 4096 }
     ensures inquiry { length_of 0 (Inquiry 64) ≡ 36 }
+    ensures request { length_of 0 (RequestSense 4) ≡ 4 }
+    ensures capacity { length_of 0 ReadCapacity10 ≡ 8 }
     ensures nothing { residual_of 8192 0 ≡ record { flags = 0x20; count = 8192 } }
     ensures cut { residual_of 512 4096 ≡ record { flags = 0x40; count = 3584 } }
     ensures carried { carried 512 4096 ≡ 512 }

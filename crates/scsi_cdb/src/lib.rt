@@ -5,11 +5,14 @@ ghost use Rattle.std.specs.Prelude.{◌≡◌, ◌↔◌, slice_index, Some, IfO
 ghost use Rattle.ufs_spec.specs.Cdbs.{cdb_bytes, fixed_sense, IsKnownOperation, IsTakenCdb, IsTakenOperation, SpellsCdb};
 ghost use Rattle.ufs_spec.specs.declared.Cdb.{Cdb};
 ghost use Rattle.ufs_spec.specs.CdbFields.{is_forced, is_immediate, named_cdb, named_six, named_ten, named_twelve};
+ghost use Rattle.ufs_spec.specs.Machine.{no_sense};
 ghost use Rattle.scsi_cdb.specs.Reading.{HasSelection, Writes};
 
+pub use demands::{address_of, blocks_of, length_of};
 pub use laws::{one_cdb, one_operation, worked_bytes, worked_residuals};
 use ufs_spec::{Cdb, Sense, read_u16, read_u32};
 
+mod demands;
 mod laws;
 mod operations;
 mod spelling;
@@ -29,12 +32,13 @@ const IMMED: u8 = 0x02;
 /// The 21 bits of an address in bytes 0 to 3 of READ(6) and WRITE(6).
 const SIX_ADDRESS: u32 = 0x1F_FFFF;
 
-/// Reads a CDB: each command of the table is known, and of these READ(10) and WRITE(10) are taken.
+/// Reads a CDB: each command of the table is known, and of these all are taken but INQUIRY, UNMAP,
+/// REPORT LUNS and the SECURITY PROTOCOL commands.
 ///
 /// # Errors
 ///
 /// [`Sense::INVALID_OPCODE`] where the operation code in byte 0 is not taken, else
-/// [`Sense::INVALID_FIELD`] where a byte that no field names is not zero, or a WRITE(10) has no FUA.
+/// [`Sense::INVALID_FIELD`] where a byte or a bit that no field names is not zero.
 pub fn read(bytes: &[u8; 16]) -> Result<Cdb, Sense>
     // What is read is spelled so, each byte of it.
     ensures read { IfOk result (λ cdb. SpellsCdb cdb bytes.now) }
@@ -62,6 +66,14 @@ pub fn sense_bytes(sense: &Sense) -> [u8; 18]
     bytes[12] = sense.asc;
     bytes[13] = sense.ascq;
     bytes
+}
+
+/// The eighteen bytes of fixed sense data that tell of nothing: what REQUEST SENSE answers (SPC,
+/// fixed format sense data).
+pub fn no_sense() -> [u8; 18]
+    ensures { result ≡ no_sense }
+{
+    sense_bytes(&Sense::default())
 }
 
 // The command of the table that the bytes are.
@@ -204,20 +216,35 @@ fn has_selection(cdb: &Cdb) -> bool
     }
 }
 
-// Whether this stage takes the operation code: READ(10) and WRITE(10).
+// Whether this stage takes the operation code: each of the table but those of INQUIRY, UNMAP,
+// REPORT LUNS and the SECURITY PROTOCOL commands.
 fn has_taken_operation(bytes: &[u8; 16]) -> bool
     ensures { IsTrue result ↔ IsTakenOperation bytes.now }
 {
-    matches!(bytes[0], READ_10 | WRITE_10)
+    matches!(
+        bytes[0],
+        TEST_UNIT_READY
+            | REQUEST_SENSE
+            | READ_6
+            | WRITE_6
+            | READ_CAPACITY_10
+            | READ_10
+            | WRITE_10
+            | SYNCHRONIZE_CACHE_10
+    )
 }
 
-// Whether this stage takes the command: a READ(10), and a WRITE(10) only with FUA.
+// Whether this stage takes the command: each of the table but INQUIRY, UNMAP, REPORT LUNS and the
+// SECURITY PROTOCOL commands.
 fn is_taken(cdb: &Cdb) -> bool
     ensures { IsTrue result ↔ IsTakenCdb cdb.now }
 {
-    match cdb {
-        Cdb::Read10 { .. } => true,
-        Cdb::Write10 { forced, .. } => *forced,
-        _ => false,
-    }
+    !matches!(
+        cdb,
+        Cdb::Inquiry { .. }
+            | Cdb::Unmap { .. }
+            | Cdb::ReportLuns { .. }
+            | Cdb::SecurityIn { .. }
+            | Cdb::SecurityOut { .. }
+    )
 }

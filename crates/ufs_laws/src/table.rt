@@ -10,7 +10,7 @@ ghost use Rattle.ufs_spec.specs.Cdbs.{inquiry};
 ghost use Rattle.ufs_spec.specs.Exchanges.{Busy, Status, TaskSetFull, invalid_field, invalid_operation, list_length_error, no_unit, not_ready, out_of_range, response, sequence_error, short_reply, write_protected};
 ghost use Rattle.ufs_spec.specs.Machine.{command_heard, with_short};
 ghost use Rattle.ufs_spec.specs.Messages.{is_among};
-ghost use Rattle.ufs_spec.specs.Stages.{most_tasks};
+ghost use Rattle.ufs_spec.specs.Exchanges.{most_tasks};
 ghost use Rattle.ufs_spec.specs.Refusals.{BootUnit, Request, State, first_line, has_other_response, has_wrong_list, is_boot_read, is_crowded, is_refused_write, is_too_long, lacks_response, lines_for, locked, mended, not_taken, operations_of, refusal};
 ghost use Rattle.ufs_spec.specs.Translation.{free_slots};
 

@@ -141,11 +141,13 @@ IsCdb (ReportLuns select allocation) = (select ≤ 2) × (allocation < 2 ^ 32)
 IsCdb (SecurityIn length) = length < 2 ^ 32
 IsCdb (SecurityOut length) = length < 2 ^ 32
 
--- ## The limit of the first stage: READ(10) and WRITE(10) are taken, and WRITE(10) with FUA alone
+-- ## The limit of this stage: INQUIRY, UNMAP, REPORT LUNS and the security commands are not taken
 
 -- the operation codes that are taken
 abbrev pub taken_operations : List ℕ
-taken_operations = read_10 ∷ write_10 ∷ []
+taken_operations =
+    test_unit_ready ∷ request_sense ∷ read_6 ∷ write_6 ∷ read_capacity_10 ∷ read_10 ∷ write_10
+    ∷ synchronize_cache_10 ∷ []
 
 -- the operation code in byte 0 is one that is taken
 abbrev pub IsTakenOperation : List ℕ → Type 0
@@ -153,8 +155,14 @@ IsTakenOperation bytes = IsAmong taken_operations (slice_index bytes 0)
 
 -- the commands that are taken
 abbrev pub IsTakenCdb : Cdb → Type 0
+IsTakenCdb TestUnitReady = Unit {0}
+IsTakenCdb (RequestSense allocation) = Unit {0}
+IsTakenCdb (Read6 address blocks) = Unit {0}
+IsTakenCdb (Write6 address blocks) = Unit {0}
+IsTakenCdb ReadCapacity10 = Unit {0}
 IsTakenCdb (Read10 address blocks forced) = Unit {0}
-IsTakenCdb (Write10 address blocks forced) = forced ≡ true
+IsTakenCdb (Write10 address blocks forced) = Unit {0}
+IsTakenCdb (SynchronizeCache10 address blocks immediate) = Unit {0}
 IsTakenCdb cdb = ⊥
 
 -- the bytes are those of a command that is taken

@@ -153,6 +153,10 @@ pub record Task : Type 0 where
   pub deed : Deed
   pub request : Option RpmbRequest
 
+-- how many tasks may be open (this profile)
+abbrev pub most_tasks : ℕ
+most_tasks = 32
+
 -- an exchange of one reply: due at once, or once so many accepted commands are durable; if a lock ends it before, the
 -- reply is another one
 pub record Short : Type 0 where

@@ -28,7 +28,8 @@ use Rattle.ufs_spec.specs.Moves.{Accept, Claim, EndJob, Ending, Keep, LetGo, Let
 use Rattle.ufs_spec.specs.Moves.{Release, GiveJob, Acknowledge, TakeStep, WantPage, WentWell, WentWrong, fits}
 use Rattle.ufs_spec.specs.Moves.{is_pin_of, moved}
 use Rattle.ufs_spec.specs.Plain.{block_at}
-use Rattle.ufs_spec.specs.Stages.{manages_tasks, most_tasks}
+use Rattle.ufs_spec.specs.Stages.{manages_tasks}
+use Rattle.ufs_spec.specs.Exchanges.{most_tasks}
 use Rattle.ufs_spec.specs.Refusals.{Request, State, locked, lun_of, numbers_of, sends_frames, plain_now, refusal}
 use Rattle.ufs_spec.specs.Refusals.{slots_needed, spec_of, unit_of_request}
 use Rattle.ufs_spec.specs.Translation.{MayTake, Pin, Rest, is_rest_of, is_step_due}

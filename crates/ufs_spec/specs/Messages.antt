@@ -5,7 +5,6 @@ use Rattle.std.specs.Prelude.{IsTrue, List, [], ◌∷◌, ◌++◌, length, rep
 use Rattle.std.specs.Prelude.{if◌then◌else◌, Option, Some, None}
 use Rattle.byteorder.specs.Endian.{big_bytes}
 use Rattle.ufs_spec.specs.Fields.{field_at}
-use Rattle.ufs_spec.specs.Stages.{heard_codes, read_codes}
 use Rattle.ufs_spec.specs.declared.messages.Asked.{Asked}
 use Rattle.ufs_spec.specs.declared.messages.Message.{Message}
 use Rattle.ufs_spec.specs.declared.messages.Message.TheVariants.{NopOut, Command, DataOut, TaskRequest, QueryRequest}
@@ -217,8 +216,8 @@ fault_among codes bytes =
 
 -- what is wrong with bytes for whoever reads messages of all kinds
 abbrev pub read_fault_of : List ℕ → Option HostFault
-read_fault_of bytes = fault_among read_codes bytes
+read_fault_of bytes = fault_among known_codes bytes
 
 -- what is wrong with bytes from a host
 abbrev pub host_fault_of : List ℕ → Option HostFault
-host_fault_of bytes = fault_among heard_codes bytes
+host_fault_of bytes = fault_among host_codes bytes

@@ -1,24 +1,12 @@
 -- What the device does not take yet. Each limit is one definition here, or one of `taken_operations` and `IsTakenCdb`
 -- (Cdbs), `query_unanswered`, `not_begun`, `filled_registers` and the lines of
 -- `complete` for UNMAP and RPMB (Machine), and goes with the stage that it names.
-use Rattle.std.specs.Prelude.{ℕ, Bool, false, List, [], ◌∷◌}
+use Rattle.std.specs.Prelude.{ℕ, Bool, false, List, []}
 use Rattle.ufs_spec.specs.declared.configs.Numbers.{Numbers}
-
--- until the whole codec is built: the transaction codes that are read, at last `known_codes` (Messages)
-abbrev pub read_codes : List ℕ
-read_codes = 0x01 ∷ 0x02 ∷ []
-
--- until the whole codec is built: those of them that a host's message may have, at last `host_codes` (Messages)
-abbrev pub heard_codes : List ℕ
-heard_codes = 0x01 ∷ 0x02 ∷ []
 
 -- until commands of more blocks are built: how many blocks a command may have, at last `command_blocks` (Configs)
 abbrev pub most_blocks : Numbers → ℕ
 most_blocks n = 1
-
--- until 32 tasks are built, as many as this profile has: how many tasks may be open
-abbrev pub most_tasks : ℕ
-most_tasks = 1
 
 -- until collection is built: whether blocks are collected
 abbrev pub collects : Bool

@@ -1,22 +1,31 @@
 //! Stops a script's device inside each of its programs and erases, and looks whether the device that
 //! opens afterwards holds what a prefix of the accepted commands makes, with each acknowledged one in it.
-use crate::commands::Content;
 use crate::fault::Word;
-use crate::journal::Journal;
-use crate::leftovers::leftover;
-use crate::reading::{blocks_held, copied_dies};
+use crate::reading::{Visit, blocks_held};
+use crate::stopped::{CONTENTS, copied_dies, has_bad, is_at_work, pair_stopped, stopped_dies};
 use device::World;
-use nand_model::{Die, MemDie};
+use journal::{Journal, is_kept};
+use nand_model::MemDie;
 use std::alloc::Global;
-use ufs_spec::{Block, Config, Event, Job, Leftover, Output, Page};
+use ufs_spec::{Block, Config, Event, Job, Output};
 
-/// What a page or block may hold after a stop.
-const CONTENTS: [Content; 3] = [Content::Old, Content::New, Content::Torn];
+/// Which stops are tried at a program or an erase.
+#[derive(Clone, Copy, PartialEq, Eq)]
+pub enum Stops {
+    /// One, with the same content on all dies that program or erase.
+    One,
+    /// Such a one, and in the mending after it a second one at each program and each erase.
+    Second,
+    /// Such a one, and for each two dies that program or erase one with each two contents, where the other
+    /// dies keep what they had.
+    Pairs,
+}
 
 /// What was tried so far.
 #[derive(Drop)]
 pub(crate) struct Check {
     config: Config,
+    tries: Stops,
     journal: Journal,
     /// How many stops were tried.
     pub stops: usize,
@@ -26,11 +35,11 @@ pub(crate) struct Check {
 
 impl Check {
     /// Nothing was tried yet, over new dies.
-    pub fn new(alloc: Global, config: Config) -> Result<Check, Word> {
-        let base = zeros(alloc, &config)?;
+    pub fn new(alloc: Global, config: Config, tries: Stops) -> Result<Check, Word> {
         Ok(Check {
             config,
-            journal: Journal::new(alloc, base),
+            tries,
+            journal: Journal::new(alloc, &[]).map_err(|_| Word::Memory)?,
             stops: 0,
             bad: 0,
         })
@@ -46,16 +55,15 @@ impl Check {
         output: &Output,
     ) -> Result<(), Word> {
         match (event, output) {
-            (Event::Host(message), Output::Host(Ok(_))) => {
-                let units = self.config.numbers().units.as_slice();
-                self.journal.hear(units, message.as_slice())
-            }
+            (Event::Host(message), Output::Host(Ok(_))) => self
+                .journal
+                .hear(alloc, message.as_slice())
+                .map_err(|_| Word::Memory),
             (_, Output::Reply(Some(message))) => {
                 self.journal.tell(message.as_slice());
                 Ok(())
             }
-            (_, Output::Take(Some(Job::Program(_, _)))) => self.stop_here(alloc, world),
-            (_, Output::Take(Some(Job::Erase { .. }))) => self.stop_here(alloc, world),
+            (Event::Take(_), _) if is_write(output) => self.stop_here(alloc, world),
             (Event::Fail(_, Some(_)), _) => {
                 self.journal.lock();
                 Ok(())
@@ -70,7 +78,9 @@ impl Check {
         let dies = copied_dies(alloc, world.dies()).map_err(|_| Word::Memory)?;
         let is_bad = has_bad(dies.as_slice());
         match blocks_held(alloc, &self.config, dies)? {
-            Some(base) => self.journal = Journal::new(alloc, base),
+            Some(base) => {
+                self.journal = Journal::new(alloc, base.as_slice()).map_err(|_| Word::Memory)?;
+            }
             None => self.bad = self.bad.saturating_add(1),
         }
         if is_bad {
@@ -79,93 +89,114 @@ impl Check {
         Ok(())
     }
 
-    // Stops with each content on all dies that program or erase.
+    // The stops at this moment.
     fn stop_here(&mut self, alloc: Global, world: &World) -> Result<(), Word> {
         for content in CONTENTS {
             let dies = stopped_dies(alloc, world, content)?;
-            let is_kept = match blocks_held(alloc, &self.config, dies)? {
-                Some(blocks) => self.journal.is_kept(blocks.as_slice()),
-                None => false,
-            };
-            self.stops = self.stops.saturating_add(1);
-            if !is_kept {
-                self.bad = self.bad.saturating_add(1);
+            match self.tries {
+                Stops::Second => self.stop_twice(alloc, dies)?,
+                _ => self.try_stop(alloc, dies)?,
+            }
+        }
+        match self.tries {
+            Stops::Pairs => self.stop_pairs(alloc, world),
+            _ => Ok(()),
+        }
+    }
+
+    // Opens a device over these dies, lets it mend, and compares what it holds.
+    fn try_stop(&mut self, alloc: Global, dies: Vec<MemDie>) -> Result<(), Word> {
+        let found = blocks_held(alloc, &self.config, dies)?;
+        self.count(alloc, found)
+    }
+
+    // Counts a stop after which these blocks were found; `None` where not each one was read.
+    fn count(&mut self, alloc: Global, found: Option<Vec<Vec<Block>>>) -> Result<(), Word> {
+        let is_good = match found {
+            Some(blocks) => self.is_kept(alloc, blocks.as_slice())?,
+            None => false,
+        };
+        self.stops = self.stops.saturating_add(1);
+        if !is_good {
+            self.bad = self.bad.saturating_add(1);
+        }
+        Ok(())
+    }
+
+    fn is_kept(&self, alloc: Global, found: &[Vec<Block>]) -> Result<bool, Word> {
+        let numbers = self.config.numbers();
+        let held = self.journal.held();
+        is_kept(alloc, numbers, self.journal.commands(), held, found).map_err(|_| Word::Memory)
+    }
+
+    // As `try_stop`, and in the mending a second stop at each program and each erase.
+    fn stop_twice(&mut self, alloc: Global, dies: Vec<MemDie>) -> Result<(), Word> {
+        let Some(mut visit) = Visit::open(alloc, &self.config, dies)? else {
+            return self.count(alloc, None);
+        };
+        for _ in 0..Visit::ROUNDS {
+            let mut is_due = visit.turn()?;
+            for die in 0..visit.dies {
+                if visit.take(die)? {
+                    is_due = true;
+                    self.stop_again(alloc, &visit.world, die)?;
+                    visit.finish(die)?;
+                }
+            }
+            if !is_due {
+                break;
+            }
+        }
+        let found = visit.blocks(self.config.numbers().units.as_slice())?;
+        self.count(alloc, found)
+    }
+
+    // The second stops, where this die was just given a job.
+    fn stop_again(&mut self, alloc: Global, world: &World, die: u8) -> Result<(), Word> {
+        if is_at_work(world, die) {
+            for content in CONTENTS {
+                let dies = stopped_dies(alloc, world, content)?;
+                self.try_stop(alloc, dies)?;
+            }
+        }
+        Ok(())
+    }
+
+    // The stops with two contents on each two dies.
+    fn stop_pairs(&mut self, alloc: Global, world: &World) -> Result<(), Word> {
+        let count = self.config.numbers().dies;
+        for first in 0..count {
+            for second in 0..count {
+                if first < second && is_at_work(world, first) && is_at_work(world, second) {
+                    self.stop_pair(alloc, world, first, second)?;
+                }
+            }
+        }
+        Ok(())
+    }
+
+    fn stop_pair(
+        &mut self,
+        alloc: Global,
+        world: &World,
+        first: u8,
+        second: u8,
+    ) -> Result<(), Word> {
+        for content in CONTENTS {
+            for other in CONTENTS {
+                let dies = pair_stopped(alloc, world, (first, content), (second, other))?;
+                self.try_stop(alloc, dies)?;
             }
         }
         Ok(())
     }
 }
 
-// The blocks of all units of a new device.
-fn zeros(alloc: Global, config: &Config) -> Result<Vec<Block>, Word> {
-    let mut all = Vec::new(alloc);
-    for unit in config.numbers().units.as_slice() {
-        let count = all.len().saturating_add(unit.blocks as usize);
-        all.resize(count, [0; 4096]).map_err(|_| Word::Memory)?;
-    }
-    Ok(all)
-}
-
-// Whether any block of the dies is bad.
-fn has_bad(dies: &[MemDie]) -> bool {
-    dies.iter().any(|die| has_bad_block(die))
-}
-
-fn has_bad_block(die: &MemDie) -> bool {
-    for block in 0..die.blocks() {
-        if die.is_bad(block) {
-            return true;
-        }
-    }
-    false
-}
-
-// Copies of the dies as a stop leaves them with this content in all that is programmed or erased.
-fn stopped_dies(alloc: Global, world: &World, content: Content) -> Result<Vec<MemDie>, Word> {
-    let mut dies = copied_dies(alloc, world.dies()).map_err(|_| Word::Memory)?;
-    for (index, die) in dies.iter_mut().enumerate() {
-        if let Ok(number) = u8::try_from(index) {
-            leave(alloc, world, number, content, die)?;
-        }
-        die.end_power_cycle();
-    }
-    Ok(dies)
-}
-
-// What the job in flight of the die with this number leaves, on a copy of the die.
-fn leave(
-    alloc: Global,
-    world: &World,
-    number: u8,
-    content: Content,
-    die: &mut MemDie,
-) -> Result<(), Word> {
-    match leftover(alloc, world, number, content) {
-        Ok(left) => write_left(die, &left),
-        Err(Word::Memory) => return Err(Word::Memory),
-        Err(_) => {}
-    }
-    Ok(())
-}
-
-// The pages that the leftover names are as it says.
-fn write_left(die: &mut MemDie, left: &Leftover) {
-    match left {
-        Leftover::Page(place, page) => write_page(die, place.block, place.page, page),
-        Leftover::Block { block, pages, .. } => write_block(die, *block, pages.as_slice()),
-    }
-}
-
-fn write_block(die: &mut MemDie, block: u16, pages: &[Page]) {
-    for (index, page) in pages.iter().enumerate() {
-        if let Ok(at) = u16::try_from(index) {
-            write_page(die, block, at, page);
-        }
-    }
-}
-
-fn write_page(die: &mut MemDie, block: u16, page: u16, left: &Page) {
-    if block < die.blocks() && page < die.pages() {
-        die.set_page(block, page, left);
+// Whether a program or an erase was given to a die.
+fn is_write(output: &Output) -> bool {
+    match output {
+        Output::Take(Some(Job::Program(_, _))) => true,
+        Output::Take(Some(Job::Erase { .. })) => true,
+        _ => false,
     }
 }

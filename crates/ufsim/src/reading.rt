@@ -1,13 +1,10 @@
 //! Opens a device again over dies, and reads by messages all that it holds.
 use crate::fault::Word;
-use crate::journal::block_in;
 use device::World;
+use journal::block_in;
 use nand_model::MemDie;
 use std::alloc::Global;
-use ufs_spec::{Block, Config, Event, NoMemory, Output, RunFault, RunFaultKind, UnitSpec, Upiu};
-
-/// How many rounds of mending are waited for.
-const ROUNDS: usize = 1024;
+use ufs_spec::{Block, Config, Event, Output, RunFaultKind, UnitSpec, Upiu};
 
 /// How many replies and jobs a READ of one block may need.
 const READ_ROUNDS: usize = 8;
@@ -16,52 +13,49 @@ const DATA_IN: u8 = 0x22;
 
 const RESPONSE: u8 = 0x21;
 
-/// Equal dies.
-pub(crate) fn copied_dies(alloc: Global, dies: &[MemDie]) -> Result<Vec<MemDie>, NoMemory> {
-    let mut all = Vec::with_capacity(alloc, dies.len()).map_err(|_| NoMemory)?;
-    for die in dies {
-        all.push(die.copy(alloc)?).map_err(|_| NoMemory)?;
-    }
-    Ok(all)
-}
-
-/// The blocks of all units, unit by unit, as a device reads them that is opened over these dies; `None`
-/// where it does not open, or does not answer each READ with its block.
+/// The blocks of each unit as a device reads them that is opened over these dies and mended; `None` where
+/// it does not open, or does not answer each READ with its block.
 pub(crate) fn blocks_held(
     alloc: Global,
     config: &Config,
     dies: Vec<MemDie>,
-) -> Result<Option<Vec<Block>>, Word> {
-    let numbers = config.numbers();
-    let mut visit = match World::new(alloc, config.copied(), dies) {
-        Ok(world) => Visit {
-            alloc,
-            world,
-            dies: numbers.dies,
-        },
-        Err(fault) => return unopened(&fault),
-    };
-    visit.mend()?;
-    visit.blocks(numbers.units.as_slice())
-}
-
-// A device that does not open holds nothing; want of memory is told.
-fn unopened(fault: &RunFault) -> Result<Option<Vec<Block>>, Word> {
-    match fault.kind {
-        RunFaultKind::NoMemory => Err(Word::Memory),
-        _ => Ok(None),
+) -> Result<Option<Vec<Vec<Block>>>, Word> {
+    match Visit::open(alloc, config, dies)? {
+        Some(mut visit) => {
+            visit.mend()?;
+            visit.blocks(config.numbers().units.as_slice())
+        }
+        None => Ok(None),
     }
 }
 
-// A device that is read by messages.
+/// A device that is read by messages.
 #[derive(Drop)]
-struct Visit {
+pub(crate) struct Visit {
     alloc: Global,
-    world: World,
-    dies: u8,
+    pub world: World,
+    pub dies: u8,
 }
 
 impl Visit {
+    /// How many rounds of mending are waited for.
+    pub const ROUNDS: usize = 1024;
+
+    /// Opens a device over these dies; `None` where it does not open.
+    pub fn open(alloc: Global, config: &Config, dies: Vec<MemDie>) -> Result<Option<Visit>, Word> {
+        match World::new(alloc, config.copied(), dies) {
+            Ok(world) => Ok(Some(Visit {
+                alloc,
+                world,
+                dies: config.numbers().dies,
+            })),
+            Err(fault) => match fault.kind {
+                RunFaultKind::NoMemory => Err(Word::Memory),
+                _ => Ok(None),
+            },
+        }
+    }
+
     fn step(&mut self, event: &Event) -> Result<Output, Word> {
         self.world.step(event).map_err(|fault| match fault.kind {
             RunFaultKind::NoMemory => Word::Memory,
@@ -69,10 +63,25 @@ impl Visit {
         })
     }
 
+    /// Whether a step of mending was due.
+    pub fn turn(&mut self) -> Result<bool, Word> {
+        Ok(matches!(self.step(&Event::Turn)?, Output::Turn(true)))
+    }
+
+    /// Whether the die was given a job.
+    pub fn take(&mut self, die: u8) -> Result<bool, Word> {
+        Ok(matches!(self.step(&Event::Take(die))?, Output::Take(Some(_))))
+    }
+
+    /// The job of the die ends well.
+    pub fn finish(&mut self, die: u8) -> Result<(), Word> {
+        self.step(&Event::Finish(die)).map(|_| ())
+    }
+
     // Rounds of a turn and of a job of each die, until none has work.
     fn mend(&mut self) -> Result<(), Word> {
-        for _ in 0..ROUNDS {
-            let is_due = matches!(self.step(&Event::Turn)?, Output::Turn(true));
+        for _ in 0..Self::ROUNDS {
+            let is_due = self.turn()?;
             if !self.work()? && !is_due {
                 break;
             }
@@ -84,36 +93,39 @@ impl Visit {
     fn work(&mut self) -> Result<bool, Word> {
         let mut has_worked = false;
         for die in 0..self.dies {
-            if let Output::Take(Some(_)) = self.step(&Event::Take(die))? {
-                self.step(&Event::Finish(die))?;
+            if self.take(die)? {
+                self.finish(die)?;
                 has_worked = true;
             }
         }
         Ok(has_worked)
     }
 
-    fn blocks(&mut self, units: &[UnitSpec]) -> Result<Option<Vec<Block>>, Word> {
+    /// The blocks of each unit; `None` where a READ has not its block.
+    pub fn blocks(&mut self, units: &[UnitSpec]) -> Result<Option<Vec<Vec<Block>>>, Word> {
         let mut all = Vec::new(self.alloc);
         for (index, unit) in units.iter().enumerate() {
             let Ok(number) = u8::try_from(index) else {
                 return Ok(None);
             };
-            if !self.unit_blocks(number, unit.blocks, &mut all)? {
-                return Ok(None);
+            match self.unit_blocks(number, unit.blocks)? {
+                Some(blocks) => all.push(blocks).map_err(|_| Word::Memory)?,
+                None => return Ok(None),
             }
         }
         Ok(Some(all))
     }
 
-    // Reads the blocks of a unit behind the others; false where a READ has not its block.
-    fn unit_blocks(&mut self, unit: u8, count: u32, all: &mut Vec<Block>) -> Result<bool, Word> {
+    // Reads the blocks of a unit; `None` where a READ has not its block.
+    fn unit_blocks(&mut self, unit: u8, count: u32) -> Result<Option<Vec<Block>>, Word> {
+        let mut all = Vec::new(self.alloc);
         for address in 0..count {
-            let Some(block) = self.block(unit, address)? else {
-                return Ok(false);
-            };
-            all.push(block).map_err(|_| Word::Memory)?;
+            match self.block(unit, address)? {
+                Some(block) => all.push(block).map_err(|_| Word::Memory)?,
+                None => return Ok(None),
+            }
         }
-        Ok(true)
+        Ok(Some(all))
     }
 
     // Reads a block; `None` where the READ is not answered with it and with GOOD.

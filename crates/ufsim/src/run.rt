@@ -1,7 +1,7 @@
 //! Runs a script line by line.
 ghost use Rattle.std.specs.Prelude.{◌≡◌, ◌≤◌};
 
-use crate::check::Check;
+use crate::check::{Check, Stops};
 use crate::commands::{Command, Content, Left};
 use crate::fault::{ScriptFault, Word};
 use crate::first_lines::FirstLines;
@@ -37,7 +37,21 @@ pub fn check_text<W: Write, F: Write>(
     ensures status { result ≤ 1 }
     ensures quiet { result ≡ 0 → faults.new ≡ faults.old }
 {
-    status_of(check_script(alloc, script, out), faults)
+    check_each_text(alloc, script, Stops::One, out, faults)
+}
+
+/// As `check_text`, with the stops that `tries` names. S counts all stops that were tried.
+pub fn check_each_text<W: Write, F: Write>(
+    alloc: Global,
+    script: &[u8],
+    tries: Stops,
+    out: &mut W,
+    faults: &mut F,
+) -> u8
+    ensures status { result ≤ 1 }
+    ensures quiet { result ≡ 0 → faults.new ≡ faults.old }
+{
+    status_of(check_script(alloc, script, tries, out), faults)
 }
 
 // The status of what ended so, whether it went well or not. A fault is told in one line.
@@ -57,12 +71,18 @@ fn status_of<F: Write>(ended: Result<bool, ScriptFault>, faults: &mut F) -> u8
 }
 
 // Whether no stop was bad.
-fn check_script<W: Write>(alloc: Global, script: &[u8], out: &mut W) -> Result<bool, ScriptFault> {
+fn check_script<W: Write>(
+    alloc: Global,
+    script: &[u8],
+    tries: Stops,
+    out: &mut W,
+) -> Result<bool, ScriptFault> {
     let first = FirstLines::read(script)?;
     let last = first.last;
     let mut runner = Runner::new(alloc, &first).map_err(|word| last.fault(word))?;
     let config = first.config().map_err(|word| last.fault(word))?;
-    runner.check = Some(Check::new(alloc, config).map_err(|word| last.fault(word))?);
+    let check = Check::new(alloc, config, tries).map_err(|word| last.fault(word))?;
+    runner.check = Some(check);
     for line in first.rest {
         runner.run(line.bytes).map_err(|word| line.fault(word))?;
     }

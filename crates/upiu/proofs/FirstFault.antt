@@ -2,10 +2,10 @@
 use Rattle.std.proofs.Common.{◌≡◌, ◌<◌, ◌≤◌, ◌∙◌, ◌⊎◌, ◌==◌, ◌&&◌, Some, None, List, ℕ, Bool, true}
 use Rattle.std.proofs.Common.{◌||◌, ◌+◌, [], ◌∷◌, nat_lt, false, not, length, sym, ap, subst, inl, inr}
 use Rattle.std.proofs.lemmas.Bool.{cond-false, cond-true, le-ltb, lt-ltb, or_from}
-use Rattle.ufs_spec.specs.Messages.{code_of, has_digest, has_extra_header, has_wrong_length, is_among, may_have}
-use Rattle.ufs_spec.specs.Messages.{padding, read_fault_of, segment_length}
+use Rattle.ufs_spec.specs.Messages.{code_of, has_digest, has_extra_header, has_wrong_length}
+use Rattle.ufs_spec.specs.Messages.{is_among, known_codes, may_have, padding, read_fault_of}
+use Rattle.ufs_spec.specs.Messages.{segment_length}
 use Rattle.ufs_spec.specs.Fields.{field_at}
-use Rattle.ufs_spec.specs.Stages.{read_codes}
 use Rattle.ufs_spec.specs.declared.faults.HostFault.TheVariants.{Short, Length, Digest, Ehs, Code}
 
 pub short_told : (bytes : List ℕ) → length bytes < 32 → Some Short ≡ read_fault_of bytes
@@ -32,13 +32,13 @@ module _ (bytes : List ℕ) (long : 32 ≤ length bytes) where
 
       -- and without an extra header segment
       module _ (alone : has_extra_header bytes ≡ false) where
-        pub code_told : is_among read_codes (code_of bytes) ≡ false → Some Code ≡ read_fault_of bytes
+        pub code_told : is_among known_codes (code_of bytes) ≡ false → Some Code ≡ read_fault_of bytes
         code_told other =
             sym
             (cond-false _ _ _ (le-ltb _ _ long) ∙ cond-false _ _ _ right ∙ cond-false _ _ _ plain
             ∙ cond-false _ _ _ alone ∙ cond-true _ _ _ (ap not other))
 
-        pub nothing_told : is_among read_codes (code_of bytes) ≡ true → None ≡ read_fault_of bytes
+        pub nothing_told : is_among known_codes (code_of bytes) ≡ true → None ≡ read_fault_of bytes
         nothing_told taken =
             sym
             (cond-false _ _ _ (le-ltb _ _ long) ∙ cond-false _ _ _ right ∙ cond-false _ _ _ plain

@@ -1,2 +1,4 @@
 pub mod FirstFault
+pub mod FromFields
+pub mod HostFault
 pub mod Spelled

@@ -1,19 +1,46 @@
 //! What is wrong with the bytes of a message, before its fields are read.
-ghost use Rattle.std.specs.Prelude.{◌≡◌, ◌≤◌, length};
-ghost use Rattle.ufs_spec.specs.Messages.{code_of, has_digest, has_extra_header, has_wrong_length, is_among, may_have};
+ghost use Rattle.std.specs.Prelude.{◌≡◌, ◌≤◌, [], ◌∷◌, length};
+ghost use Rattle.ufs_spec.specs.Messages.{code_of, has_digest, has_extra_header, has_wrong_length};
+ghost use Rattle.ufs_spec.specs.Messages.{host_codes, host_fault_of, is_among, known_codes, may_have};
 ghost use Rattle.ufs_spec.specs.Messages.{read_fault_of, segment_length};
-ghost use Rattle.ufs_spec.specs.Stages.{read_codes};
 
 use ufs_spec::{HostFault, read_u16, read_u32};
 
 /// The bytes of a header.
 pub const HEADER: usize = 32;
 
+/// The transaction code of a NOP OUT.
+pub const NOP_OUT: u8 = 0x00;
+
 /// The transaction code of a COMMAND.
 pub const COMMAND: u8 = 0x01;
 
 /// The transaction code of a DATA OUT.
 pub const DATA_OUT: u8 = 0x02;
+
+/// The transaction code of a TASK MANAGEMENT REQUEST.
+pub const TASK_REQUEST: u8 = 0x04;
+
+/// The transaction code of a QUERY REQUEST.
+pub const QUERY_REQUEST: u8 = 0x16;
+
+/// The transaction code of a NOP IN.
+pub const NOP_IN: u8 = 0x20;
+
+/// The transaction code of a RESPONSE.
+pub const RESPONSE: u8 = 0x21;
+
+/// The transaction code of a DATA IN.
+pub const DATA_IN: u8 = 0x22;
+
+/// The transaction code of a TASK MANAGEMENT RESPONSE.
+pub const TASK_RESPONSE: u8 = 0x24;
+
+/// The transaction code of a READY TO TRANSFER.
+pub const READY_TO_TRANSFER: u8 = 0x31;
+
+/// The transaction code of a QUERY RESPONSE.
+pub const QUERY_RESPONSE: u8 = 0x36;
 
 // The bytes of the longest data segment.
 const LONGEST: usize = 4096;
@@ -25,7 +52,7 @@ const CODE_BITS: u8 = 0x3F;
 const DIGEST_BITS: u8 = 0xC0;
 
 /// The first fault that the bytes have, of those that come before a message's fields: too short, a
-/// wrong length, a digest, an extra header segment, a code that is not taken.
+/// wrong length, a digest, an extra header segment, a code that is no kind's.
 pub fn first_fault(bytes: &[u8]) -> Option<HostFault>
     ensures { result ≡ read_fault_of bytes.now }
 {
@@ -37,10 +64,22 @@ pub fn first_fault(bytes: &[u8]) -> Option<HostFault>
         Some(HostFault::Digest)
     } else if has_extra_header(bytes) {
         Some(HostFault::Ehs)
-    } else if !is_read(code(bytes)) {
+    } else if !is_known(code(bytes)) {
         Some(HostFault::Code)
     } else {
         None
+    }
+}
+
+/// The first fault that the bytes of a host have, of those that come before a message's fields: a
+/// code of a kind that a device sends is one too.
+pub fn host_fault(bytes: &[u8]) -> Option<HostFault>
+    ensures { result ≡ host_fault_of bytes.now }
+{
+    match first_fault(bytes) {
+        Some(fault) => Some(fault),
+        None if is_of_host(code(bytes)) => None,
+        None => Some(HostFault::Code),
     }
 }
 
@@ -76,11 +115,31 @@ fn has_extra_header(bytes: &[u8]) -> bool
     bytes[8] != 0
 }
 
-// Whether messages of this code are read.
-fn is_read(code: u8) -> bool
-    ensures { result ≡ is_among read_codes code }
+// Whether this is the code of a kind.
+fn is_known(code: u8) -> bool
+    ensures { result ≡ is_among known_codes code }
 {
-    matches!(code, COMMAND | DATA_OUT)
+    is_of_host(code) || is_of_device(code)
+}
+
+// Whether this is the code of a kind that a host sends.
+fn is_of_host(code: u8) -> bool
+    ensures { result ≡ is_among host_codes code }
+{
+    matches!(
+        code,
+        NOP_OUT | COMMAND | DATA_OUT | TASK_REQUEST | QUERY_REQUEST
+    )
+}
+
+// Whether this is the code of a kind that a device sends.
+fn is_of_device(code: u8) -> bool
+    ensures { result ≡ is_among (0x20 ∷ 0x21 ∷ 0x22 ∷ 0x24 ∷ 0x31 ∷ 0x36 ∷ []) code }
+{
+    matches!(
+        code,
+        NOP_IN | RESPONSE | DATA_IN | TASK_RESPONSE | READY_TO_TRANSFER | QUERY_RESPONSE
+    )
 }
 
 // Whether the data segment is too long, is not of a length that the message's kind may have, or is

@@ -3,7 +3,7 @@ ghost use Rattle.std.specs.Prelude.{◌≡◌, ◌∷◌, ◌++◌, []};
 ghost use Rattle.ufs_spec.specs.Messages.{host_fault_of, read_fault_of, spelling, zeros, IsMessage};
 ghost use Rattle.ufs_spec.specs.declared.HostFault.{HostFault};
 ghost use Rattle.ufs_spec.specs.declared.Message.{Message};
-ghost use Rattle.ufs_spec.specs.declared.Message.TheVariants.{Command, ReadyToTransfer, Response};
+ghost use Rattle.ufs_spec.specs.declared.Message.TheVariants.{Command, NopIn, NopOut, ReadyToTransfer, Response};
 
 /// No two messages have one spelling.
 pub fn one_spelling()
@@ -12,7 +12,8 @@ pub fn one_spelling()
 {}
 
 /// The bytes of some messages: a FUA write of one block at address FFh, the READY TO TRANSFER that
-/// answers it, its RESPONSE, and the RESPONSE to a read of 33 blocks, with its sense data.
+/// answers it, its RESPONSE, the RESPONSE to a read of 33 blocks, with its sense data, a NOP OUT and
+/// the NOP IN that answers it.
 pub fn worked_messages()
     ensures command { spelling (Command 0x20 0 7 4096 (0x2A ∷ 8 ∷ 0 ∷ 0 ∷ 0 ∷ 0xFF ∷ 0 ∷ 0 ∷ 1 ∷ zeros 7))
         ≡ (1 ∷ 0x20 ∷ 0 ∷ 7 ∷ zeros 8) ++ (0 ∷ 0 ∷ 0x10 ∷ 0 ∷ 0x2A ∷ 8 ∷ 0 ∷ 0 ∷ 0 ∷ 0xFF ∷ 0 ∷ 0 ∷ 1 ∷ zeros 7) }
@@ -22,14 +23,17 @@ pub fn worked_messages()
     ensures check { let sense = 0 ∷ 0x12 ∷ 0x70 ∷ 0 ∷ 5 ∷ 0 ∷ 0 ∷ 0 ∷ 0 ∷ 0x0A ∷ 0 ∷ 0 ∷ 0 ∷ 0 ∷ 0x24 ∷ zeros 5 in
         spelling (Response 0x20 0 1 1 2 0x21000 (Some sense))
         ≡ (0x21 ∷ 0x20 ∷ 0 ∷ 1 ∷ 0 ∷ 0 ∷ 1 ∷ 2 ∷ 0 ∷ 0 ∷ 0 ∷ 0x14 ∷ 0 ∷ 2 ∷ 0x10 ∷ 0 ∷ zeros 16) ++ sense }
+    ensures nop_out { spelling (NopOut 5) ≡ (0 ∷ 0 ∷ 0 ∷ 5 ∷ zeros 28) }
+    ensures nop_in { spelling (NopIn 5) ≡ (0x20 ∷ 0 ∷ 0 ∷ 5 ∷ zeros 28) }
 {}
 
-/// The faults of some bytes: 31 zeros, 33 zeros, a NOP OUT with HD set, one without, which this
-/// stage does not take, and a code that no kind has.
+/// The faults of some bytes: 31 zeros, 33 zeros, a NOP OUT with HD set, one without, which has none,
+/// a NOP IN, which no host sends, and a code that no kind has.
 pub fn worked_faults()
     ensures short { host_fault_of (zeros 31) ≡ Some HostFault.Short }
     ensures long { host_fault_of (zeros 33) ≡ Some HostFault.Length }
     ensures digest { host_fault_of (0x80 ∷ 0 ∷ 0 ∷ 5 ∷ zeros 28) ≡ Some HostFault.Digest }
-    ensures code { host_fault_of (0 ∷ 0 ∷ 0 ∷ 5 ∷ zeros 28) ≡ Some HostFault.Code }
+    ensures taken { host_fault_of (0 ∷ 0 ∷ 0 ∷ 5 ∷ zeros 28) ≡ None }
+    ensures code { host_fault_of (0x20 ∷ 0 ∷ 0 ∷ 5 ∷ zeros 28) ≡ Some HostFault.Code }
     ensures no_kind { read_fault_of (0x3F ∷ 0 ∷ 0 ∷ 5 ∷ zeros 28) ≡ Some HostFault.Code }
 {}

@@ -3,11 +3,12 @@
 #![tactic(auto)]
 
 mod checks;
+mod fields;
 mod headers;
 mod laws;
 mod reading;
 mod writing;
 
 pub use laws::{one_spelling, worked_faults, worked_messages};
-pub use reading::read;
+pub use reading::{read, read_host};
 pub use writing::write;

@@ -1,16 +1,17 @@
 //! Reading a message.
-ghost use Rattle.std.specs.Prelude.{◌≡◌, ◌≤◌, ◌+◌, ◌↔◌, drop, length, IfErr, IfOk, IsTrue};
-ghost use Rattle.ufs_spec.specs.Messages.{code_of, read_fault_of, padding, segment_length, zeros, IsAmong, Spells};
-ghost use Rattle.ufs_spec.specs.Stages.{read_codes};
+ghost use Rattle.std.specs.Prelude.{◌≡◌, ◌≤◌, ◌+◌, ◌↔◌, [], ◌∷◌, drop, length, IfErr, IfOk, IsTrue};
+ghost use Rattle.ufs_spec.specs.Messages.{code_of, host_fault_of, known_codes, read_fault_of, padding};
+ghost use Rattle.ufs_spec.specs.Messages.{is_among, segment_length, zeros, IsAmong, Spells};
 ghost use Rattle.ufs_spec.specs.declared.HostFault.{HostFault};
 ghost use Rattle.ufs_spec.specs.declared.Message.{Message};
-ghost use Rattle.upiu.specs.Reading.{named_command, named_data_out, named_message, HasFlags, Passes};
+ghost use Rattle.upiu.specs.Reading.{named_message, HasSets, Passes};
 
-use crate::checks::{COMMAND, HEADER, code, first_fault, stated_length};
+use crate::checks::{HEADER, first_fault, host_fault, stated_length};
+use crate::fields::message_in;
 use crate::headers::header_bytes;
-use ufs_spec::{Data, HostFault, Message, read_u32};
+use ufs_spec::{HostFault, Message};
 
-/// Reads a message of a host (JESD220, 10.5 to 10.7).
+/// Reads a message of any kind (JESD220, 10.5 to 10.7).
 ///
 /// # Errors
 ///
@@ -20,13 +21,36 @@ pub fn read(bytes: &[u8]) -> Result<Message, HostFault>
     // What is read has no fault and is spelled so, each byte of it.
     ensures read { IfOk result (λ message. (read_fault_of bytes.now ≡ None) × Spells message bytes.now) }
     // What is spelled so is read.
-    ensures taken { (message : Message) → IsAmong read_codes (code_of bytes.now) → Spells message bytes.now →
+    ensures taken { (message : Message) → IsAmong known_codes (code_of bytes.now) → Spells message bytes.now →
         result ≡ Ok message }
     ensures first { (fault : HostFault) → read_fault_of bytes.now ≡ Some fault → result ≡ Err fault }
     ensures reserved { IfErr result (λ fault. read_fault_of bytes.now ≡ None →
         (fault ≡ HostFault.Reserved) × ((message : Message) → Spells message bytes.now → ⊥)) }
 {
     match first_fault(bytes) {
+        Some(fault) => Err(fault),
+        None => read_fields(bytes),
+    }
+}
+
+/// Reads a message of a host (JESD220, 10.5 to 10.7): a kind that a device sends is a wrong
+/// transaction code.
+///
+/// # Errors
+///
+/// The first of [`HostFault::Short`] to [`HostFault::Code`] that the bytes have, and
+/// [`HostFault::Reserved`] where they have none of these and spell no message.
+pub fn read_host(bytes: &[u8]) -> Result<Message, HostFault>
+    // What is read has no fault and is spelled so, each byte of it.
+    ensures read { IfOk result (λ message. (host_fault_of bytes.now ≡ None) × Spells message bytes.now) }
+    // What is spelled so is read.
+    ensures taken { (message : Message) → host_fault_of bytes.now ≡ None → Spells message bytes.now →
+        result ≡ Ok message }
+    ensures first { (fault : HostFault) → host_fault_of bytes.now ≡ Some fault → result ≡ Err fault }
+    ensures reserved { IfErr result (λ fault. host_fault_of bytes.now ≡ None →
+        (fault ≡ HostFault.Reserved) × ((message : Message) → Spells message bytes.now → ⊥)) }
+{
+    match host_fault(bytes) {
         Some(fault) => Err(fault),
         None => read_fields(bytes),
     }
@@ -47,50 +71,6 @@ fn read_fields(bytes: &[u8]) -> Result<Message, HostFault>
     }
 }
 
-// The message that the fields name, whether or not the bytes spell it.
-fn message_in(bytes: &[u8]) -> Message
-    requires { Passes bytes.now }
-    ensures { result ≡ named_message bytes.now }
-{
-    if code(bytes) == COMMAND {
-        command_in(bytes)
-    } else {
-        data_out_in(bytes)
-    }
-}
-
-// The COMMAND that the fields name.
-fn command_in(bytes: &[u8]) -> Message
-    requires { HEADER ≤ length bytes.now }
-    ensures { result ≡ named_command bytes.now }
-{
-    let mut cdb = [0; 16];
-    cdb.copy_from_slice(&bytes[16..32]);
-    Message::Command {
-        flags: bytes[1],
-        lun: bytes[2],
-        tag: bytes[3],
-        expected: read_u32(bytes, 12),
-        cdb,
-    }
-}
-
-// The DATA OUT that the fields name.
-fn data_out_in(bytes: &[u8]) -> Message
-    requires fits { segment_length bytes.now ≤ 4096 }
-    requires within { HEADER + segment_length bytes.now ≤ length bytes.now }
-    ensures { result ≡ named_data_out bytes.now }
-{
-    let mut data = Data::new();
-    let _ = data.try_extend_from_slice(&bytes[HEADER..HEADER + stated_length(bytes)]);
-    Message::DataOut {
-        lun: bytes[2],
-        tag: bytes[3],
-        offset: read_u32(bytes, 12),
-        data,
-    }
-}
-
 // Whether the bytes spell the message that their fields name: its fields are in their sets, the
 // header says nothing else, and what follows the data segment is zero.
 fn is_spelled(message: &Message, bytes: &[u8]) -> bool
@@ -100,17 +80,54 @@ fn is_spelled(message: &Message, bytes: &[u8]) -> bool
 {
     let header = header_bytes(message);
     let padding = &bytes[HEADER + stated_length(bytes)..];
-    has_flags(message) && bytes.starts_with(&header) && are_zeros(padding)
+    has_sets(message) && bytes.starts_with(&header) && are_zeros(padding)
 }
 
-// Whether the flags of a COMMAND are in their set.
-fn has_flags(message: &Message) -> bool
-    ensures { IsTrue result ↔ HasFlags message.now }
+// Whether the fields that do not take every value of a byte are in their sets.
+fn has_sets(message: &Message) -> bool
+    ensures { IsTrue result ↔ HasSets message.now }
 {
     match message {
-        Message::Command { flags, .. } => matches!(flags, 0x00 | 0x20 | 0x40),
+        Message::Command { flags, .. } => are_flags(*flags),
+        Message::QueryRequest { function, .. } | Message::QueryResponse { function, .. } => {
+            is_query_function(*function)
+        }
+        Message::Response {
+            flags,
+            response,
+            status,
+            ..
+        } => are_flags(*flags) && is_response(*response) && is_status(*status),
         _ => true,
     }
+}
+
+// Whether these are flags of a COMMAND or a RESPONSE.
+fn are_flags(flags: u8) -> bool
+    ensures { result ≡ is_among (0x00 ∷ 0x20 ∷ 0x40 ∷ []) flags }
+{
+    matches!(flags, 0x00 | 0x20 | 0x40)
+}
+
+// Whether this is the function of a query: standard read or standard write.
+fn is_query_function(function: u8) -> bool
+    ensures { result ≡ is_among (0x01 ∷ 0x81 ∷ []) function }
+{
+    matches!(function, 0x01 | 0x81)
+}
+
+// Whether this is the response of a RESPONSE: success or failure of the target.
+fn is_response(response: u8) -> bool
+    ensures { result ≡ is_among (0x00 ∷ 0x01 ∷ []) response }
+{
+    matches!(response, 0x00 | 0x01)
+}
+
+// Whether this is the status of a RESPONSE.
+fn is_status(status: u8) -> bool
+    ensures { result ≡ is_among (0x00 ∷ 0x02 ∷ 0x08 ∷ 0x28 ∷ []) status }
+{
+    matches!(status, 0x00 | 0x02 | 0x08 | 0x28)
 }
 
 // Whether all bytes are zero.

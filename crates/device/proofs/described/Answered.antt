@@ -12,7 +12,7 @@ use Rattle.ufs_spec.specs.Ledger.{before_accepted}
 use Rattle.ufs_spec.specs.Machine.{Allowed, Answer, Call, behind, deed_locked, durable, lock_applied, observe}
 use Rattle.ufs_spec.specs.Machine.{short_locked, task_locked}
 use Rattle.ufs_spec.specs.Refusals.{State, locked, numbers_of}
-use Rattle.ufs_spec.specs.Stages.{most_tasks}
+use Rattle.ufs_spec.specs.Exchanges.{most_tasks}
 use Rattle.ufs_spec.specs.Translation.{Translation, is_mended}
 use Rattle.ufs_spec.specs.declared.configs.Numbers.{Numbers}
 use Rattle.ufs_laws.proofs.exchanges.RequestsSettled.{settled_is}
@@ -21,7 +21,7 @@ use Rattle.power_loss.specs.Shown.{ShowsReads}
 use Rattle.power_loss.proofs.calls.CallsKeepTied.{call_keeps}
 use Rattle.power_loss.proofs.shown_blocks.LivesShowBlocks.{call_shows}
 use Rattle.device.specs.declared.tasks.Phase.{Phase}
-use Rattle.device.specs.declared.tasks.Refused.{Refused}
+use Rattle.device.specs.declared.tasks.Short as kept
 use Rattle.device.specs.declared.tasks.Task.{Task}
 use Rattle.device.specs.Calls.{lock_told}
 use Rattle.device.specs.Describes.{Describes, IsAnswered, IsDoing, IsTold, IsToldIn, Keeps, TaskKept, progress_in}
@@ -54,12 +54,12 @@ all_stay s (y ∷ us) h = λ i.
     record y { deed = told_stays s y y.deed (All-head (IsTold (durable s)) y us h) i }
     ∷ all_stay s us (All-tail (IsTold (durable s)) y us h) i
 
--- a TASK SET FULL waits for nothing
-shorts_stay : (s : State) (rs : List Refused) → map (short_locked s) (map short_kept rs) ≡ map short_kept rs
+-- a short exchange of this device waits for nothing
+shorts_stay : (s : State) (rs : List kept.Short) → map (short_locked s) (map short_kept rs) ≡ map short_kept rs
 shorts_stay s [] = refl
 shorts_stay s (r ∷ rs) = ap (λ (xs : List Short). short_kept r ∷ xs) (shorts_stay s rs)
 
-kept_shorts : (s : State) (shorts : List Short) (rs : List Refused) → shorts ≡ map short_kept rs →
+kept_shorts : (s : State) (shorts : List Short) (rs : List kept.Short) → shorts ≡ map short_kept rs →
     map (short_locked s) shorts ≡ map short_kept rs
 kept_shorts s shorts rs is = ap (map (short_locked s)) is ∙ shorts_stay s rs
 
@@ -67,7 +67,7 @@ abbrev with_lock : State → State
 with_lock s = record s { tasks = map (task_locked s) s.tasks; shorts = map (short_locked s) s.shorts }
 
 -- so the lock changes nothing
-lock_stays : (s : State) (rs : List Refused) → s.shorts ≡ map short_kept rs →
+lock_stays : (s : State) (rs : List kept.Short) → s.shorts ≡ map short_kept rs →
     (locked s ≡ true → All (IsTold (durable s)) s.tasks) →
     lock_applied s ≡ s
 lock_stays s rs shorts told = by (locked s) told
@@ -137,8 +137,9 @@ deed_kept : (s : State) (n : Numbers) (accepted claimed : ℕ) (mended : Bool) (
     IsDoing (before_accepted s.translation.ledger) expected task.length p deed →
     IsDoing (before_accepted s.translation.ledger) expected task.length (phase_after p (event.Locked frontier))
     (deed_locked s task deed)
-deed_kept s n all claimed mended frontier expected task (phase.AwaitFrontier m) (Awaiting commands) same low fits h =
-    subst (λ b. IsDoing before expected task.length (cond b failed (phase.AwaitFrontier m))
+deed_kept s n all claimed mended frontier expected task (phase.AwaitFrontier m size) (Awaiting commands) same low fits h
+    =
+    subst (λ b. IsDoing before expected task.length (cond b failed (phase.AwaitFrontier m size))
     (deed_locked s task (Awaiting commands)))
     (sym (ap (λ f. nat_lt f m) same
     ∙ same_test before m s.translation.ledger.frontier commands
@@ -149,17 +150,18 @@ deed_kept s n all claimed mended frontier expected task (phase.AwaitFrontier m) 
     before = before_accepted s.translation.ledger
 
     failed : Phase
-    failed = phase.Answer (status.CheckCondition write_error) 4096
+    failed = phase.Answer (status.CheckCondition write_error) size
 
-    by : (b : Bool) → IsDoing before expected task.length (cond (cond b false true) failed (phase.AwaitFrontier m))
+    by : (b : Bool) → IsDoing before expected task.length (cond (cond b false true) failed (phase.AwaitFrontier m size))
         (cond b (Awaiting commands) (Answering exchange.write_error task.length))
     by true = h
     by false = (refl, h.1)
-deed_kept s n all claimed mended frontier expected task (phase.AskData key) (Gathering purpose gathered asked)
+deed_kept s n all claimed mended frontier expected task (phase.AskData key fua) (Gathering purpose gathered asked)
     same low fits h = h
-deed_kept s n all claimed mended frontier expected task (phase.AwaitData key) (Gathering purpose gathered asked)
+deed_kept s n all claimed mended frontier expected task (phase.AwaitData key fua) (Gathering purpose gathered asked)
     same low fits h = h
 deed_kept s n all claimed mended frontier expected task phase.SendBlock (Sending blocks sent) same low fits h = h
+deed_kept s n all claimed mended frontier expected task (phase.SendData x) (SendingBytes bytes) same low fits h = h
 deed_kept s n all claimed mended frontier expected task (phase.Answer told m) (Answering x carried) same low fits h = h
 deed_kept s n all claimed mended frontier expected task (phase.Answer told m) (Sending blocks sent) same low fits h = h
 deed_kept s n all claimed mended frontier expected task p deed same low fits h = absurd h
@@ -204,7 +206,7 @@ keeps_locked e s tied k = record {
       (locked_fit s s.tasks j b at tied.tasks.deeds) h) k.tasks;
   blocks = λ tag. k.blocks tag
       ∙ sym (each_goes_on (task_locked s) s.tasks tag (λ x. refl) (λ x. same_progress s x x.deed));
-  shorts = kept_shorts s s.shorts e.refused k.shorts;
+  shorts = kept_shorts s s.shorts e.shorts k.shorts;
   power_off = k.power_off;
 }
   where
@@ -264,7 +266,7 @@ pub answered : (d e : DeviceCore) (s : State) (call : Call) (answer : Answer) �
     IsBehind e (behind s call answer) → IsAnswered s call answer e
 answered d e s call answer h may right b =
     let v = behind s call answer in
-    let is = observed e s call answer b.keeps ∙ lock_stays v e.refused b.keeps.shorts b.told in
+    let is = observed e s call answer b.keeps ∙ lock_stays v e.shorts b.keeps.shorts b.told in
     record {
       right = right;
       describes =

@@ -36,13 +36,14 @@ none_waits n accepted count (y ∷ us) h =
 doing_else : (n : Numbers) (accepted claimed total before other expected : ℕ) (p : Phase) (deed : Deed) →
     DeedFits n accepted false claimed total deed → IsDoing before expected total p deed →
     IsDoing other expected total p deed
-doing_else n accepted claimed total before other expected (phase.AwaitFrontier m) (Awaiting commands) fits h =
+doing_else n accepted claimed total before other expected (phase.AwaitFrontier m size) (Awaiting commands) fits h =
     absurd (false≢true fits.1)
-doing_else n accepted claimed total before other expected (phase.AskData key) (Gathering purpose gathered asked) fits h
-    = h
-doing_else n accepted claimed total before other expected (phase.AwaitData key) (Gathering purpose gathered asked) fits
-    h = h
+doing_else n accepted claimed total before other expected (phase.AskData key fua) (Gathering purpose gathered asked)
+    fits h = h
+doing_else n accepted claimed total before other expected (phase.AwaitData key fua) (Gathering purpose gathered asked)
+    fits h = h
 doing_else n accepted claimed total before other expected phase.SendBlock (Sending blocks sent) fits h = h
+doing_else n accepted claimed total before other expected (phase.SendData x) (SendingBytes bytes) fits h = h
 doing_else n accepted claimed total before other expected (phase.Answer told m) (Answering x carried) fits h = h
 doing_else n accepted claimed total before other expected (phase.Answer told m) (Sending blocks sent) fits h = h
 doing_else n accepted claimed total before other expected p deed fits h = absurd h

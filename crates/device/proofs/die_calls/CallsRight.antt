@@ -29,7 +29,7 @@ use Rattle.device.specs.Kept.{DeviceCore, idle_device}
 use Rattle.device.proofs.die_calls.EndsTold.{ending_fits}
 use Rattle.std.proofs.lemmas.List.Elements.{All-nil}
 use Rattle.ufs_spec.specs.Ledger.{before_accepted}
-use Rattle.ufs_spec.specs.Stages.{most_tasks}
+use Rattle.ufs_spec.specs.Exchanges.{most_tasks}
 use Rattle.power_loss.proofs.shown_blocks.LivesShowBlocks.{opened_shows}
 use Rattle.device.proofs.described.Answered.{IsBehind, answered}
 use Rattle.device.proofs.described.LayerMoves.{StepLeaves, layer_moves, step_leaves, unmended_fit, unmended_moves}

@@ -15,7 +15,7 @@ use Rattle.ufs_spec.specs.Moves.{EndJob, Ending, IsEndingOf, Means, ReadRight, R
 use Rattle.ufs_spec.specs.Moves.{cell_read, end_flight, fits, is_pin_of, is_read_ending, is_read_job, is_read_outcome}
 use Rattle.ufs_spec.specs.Moves.{job_ended, moved, with_wanted}
 use Rattle.ufs_spec.specs.Refusals.{State}
-use Rattle.ufs_spec.specs.Stages.{most_tasks}
+use Rattle.ufs_spec.specs.Exchanges.{most_tasks}
 use Rattle.ufs_spec.specs.Translation.{Pin, Translation}
 use Rattle.ufs_spec.specs.declared.flash.Outcome.{Outcome}
 use Rattle.ufs_spec.specs.declared.flash.Outcome.TheVariants as outcome
@@ -35,7 +35,7 @@ use Rattle.ftl_core.specs.declared.ftl.Ended.{Ended}
 use Rattle.ftl_core.specs.declared.ftl.Ended.TheVariants as ended
 use Rattle.device.specs.declared.tasks.Loaded.{Loaded}
 use Rattle.device.specs.Calls.{lock_told, told}
-use Rattle.device.specs.Describes.{Describes, IsAnswered, Keeps, progress_kept, progress_in, progress_of}
+use Rattle.device.specs.Describes.{Describes, IsAnswered, Keeps, Progress, progress_kept, progress_in, progress_of}
 use Rattle.device.specs.Kept.{DeviceCore}
 use Rattle.device.proofs.described.Answered.{answered_told}
 use Rattle.device.proofs.open_tasks.FewRead.{has_room}
@@ -164,26 +164,32 @@ module _ (d : DeviceCore) (s : State) (die tag : ℕ) (place : Place) (after : C
       (read_state s tag WasRead s.array (over ReadRight))
   right_keeps page body cell layer =
       subst (λ e. Keeps e (read_state s tag WasRead s.array (over ReadRight)))
-      (sym (loads (record d { ftl = after }) new (has_room d s h.kept)))
+      (sym (loads (record d { ftl = after }) new
+      (has_room (map (task_read tag 0 WasRead) s.tasks) d.loaded new (few WasRead)
+      (λ n. ap (λ (p : Progress). p.read) (blocks_then n)))))
       (record {
         permanent = h.kept.permanent;
         layer_kept = layer;
         few = few WasRead;
         tasks = tasks_read before tag d.tasks s.tasks d.loaded h.tied.tasks.tasks_differ reading h.kept.tasks;
-        blocks =
-            blocks WasRead (d.loaded ++ new ∷ [])
-            ((λ i. progress (unwanted i) ((read_more tag d.loaded new
-            ∙ (λ j. reading.none_read j ++ cond (eq_self tag j) (body ∷ []) [])) i))
-            ∙ ap (λ b. progress (Some false) (b ∷ [])) (content_read d s tag 0 place page body before h w reading cell))
-            (λ n other. read_more n d.loaded new
-            ∙ (ap (λ b. read_for n d.loaded ++ cond b (body ∷ []) []) (other_way n tag other)
-            ∙ append-nil (read_for n d.loaded)));
+        blocks = blocks_then;
         shorts = h.kept.shorts;
         power_off = h.kept.power_off;
       })
     where
       new : Loaded
       new = record { tag = tag; body = body }
+
+      blocks_then : (n : ℕ) →
+          progress_kept pins (d.loaded ++ new ∷ []) n ≡ progress_of (task_of n (map (task_read tag 0 WasRead) s.tasks))
+      blocks_then =
+          blocks WasRead (d.loaded ++ new ∷ [])
+          ((λ i. progress (unwanted i) ((read_more tag d.loaded new
+          ∙ (λ j. reading.none_read j ++ cond (eq_self tag j) (body ∷ []) [])) i))
+          ∙ ap (λ b. progress (Some false) (b ∷ [])) (content_read d s tag 0 place page body before h w reading cell))
+          (λ n other. read_more n d.loaded new
+          ∙ (ap (λ b. read_for n d.loaded ++ cond b (body ∷ []) []) (other_way n tag other)
+          ∙ append-nil (read_for n d.loaded)))
 
   pub wrong_keeps : layer_kept.Describes after (over ReadWrong) →
       Keeps (told (record d { ftl = after }) (ended.Read tag None)) (read_state s tag NotRead s.array (over ReadWrong))

@@ -16,12 +16,14 @@ use Rattle.power_loss.proofs.books.SmallFacts.{eq_self, if_false, if_true}
 use Rattle.power_loss.proofs.open_tasks.TaskLists.{found_short, found_task, no_task_found}
 use Rattle.device.specs.Describes.{Describes, IsAnswered, short_kept}
 use Rattle.device.specs.Kept.{DeviceCore}
-use Rattle.device.specs.Replies.{HasMoved, answer_of, block_for, block_message, full_answer, moved_on, owed_by, owed_in}
-use Rattle.device.specs.Replies.{without_first}
+use Rattle.device.specs.Replies.{HasMoved, answer_of, block_for, block_message, data_message, moved_on, owed_by}
+use Rattle.device.specs.Replies.{owed_in, short_message, short_said, without_first}
 use Rattle.device.specs.declared.tasks.Loaded.{Loaded}
 use Rattle.device.specs.declared.tasks.Phase.{Phase}
 use Rattle.device.specs.declared.tasks.Phase.TheVariants as phase
-use Rattle.device.specs.declared.tasks.Refused.{Refused}
+use Rattle.device.specs.declared.tasks.Short as kept
+use Rattle.device.specs.declared.tasks.ShortReply.{ShortReply}
+use Rattle.device.specs.declared.tasks.ShortReply.TheVariants as short_reply
 use Rattle.device.specs.declared.tasks.Status.TheVariants as status
 use Rattle.device.specs.declared.tasks.Task.{Task}
 use Rattle.device.proofs.described.Answered.{answered, answered_as, stays}
@@ -36,18 +38,19 @@ use Rattle.power_loss.proofs.host_commands.HandedOutReplies.{one_tag as same_tag
 reply_tag : (t : Translation) (loaded : List Loaded) (a : Task) (p : Phase) (m : Message) →
     owed_in t loaded a p ≡ Some m →
     tag_in m ≡ a.tag
-reply_tag t loaded a (phase.AskData key) m h = same_tag _ m a.tag h refl
-reply_tag t loaded a (phase.AwaitData key) m h = absurd (none-some m h)
-reply_tag t loaded a (phase.AwaitFrontier n) m h = by (nat_le n t.ledger.frontier) h
+reply_tag t loaded a (phase.AskData key fua) m h = same_tag _ m a.tag h refl
+reply_tag t loaded a (phase.AwaitData key fua) m h = absurd (none-some m h)
+reply_tag t loaded a (phase.AwaitFrontier n size) m h = by (nat_le n t.ledger.frontier) h
   where
-    by : (x : Bool) → (if x then Some (answer_of a status.Good 4096) else None) ≡ Some m → tag_in m ≡ a.tag
-    by true e = same_tag (answer_of a status.Good 4096) m a.tag e refl
+    by : (x : Bool) → (if x then Some (answer_of a status.Good size) else None) ≡ Some m → tag_in m ≡ a.tag
+    by true e = same_tag (answer_of a status.Good size) m a.tag e refl
     by false e = absurd (none-some m e)
 reply_tag t loaded a phase.SendBlock m h = by (block_for t loaded a.tag) h
   where
     by : (x : Option (List ℕ)) → option_map (block_message a) x ≡ Some m → tag_in m ≡ a.tag
     by None e = absurd (none-some m e)
     by (Some body) e = same_tag (block_message a body) m a.tag e refl
+reply_tag t loaded a (phase.SendData x) m h = same_tag (data_message a x) m a.tag h refl
 reply_tag t loaded a (phase.Answer told n) m h = same_tag (answer_of a told n) m a.tag h refl
 
 -- Replies of tasks
@@ -68,14 +71,14 @@ replies_right d e s k task m h there due left layer =
     (inl (k, r.0, r.1.theirs, same_reply d s task r.0 h r.1.kept found ∙ due)) path
     (moves_on d s k task r.0 h r.1 e.ftl m due layer))
 
--- Replies to commands that were refused
+-- Replies of short exchanges
 
-pub first_of : (rs : List Refused) → nat_lt 0 (length rs) ≡ true →
-    (r : Refused) × (more : List Refused) × (rs ≡ r ∷ more)
+pub first_of : (rs : List kept.Short) → nat_lt 0 (length rs) ≡ true →
+    (r : kept.Short) × (more : List kept.Short) × (rs ≡ r ∷ more)
 first_of [] some = cc
 first_of (r ∷ rs) some = (r, rs, refl)
 
-pub none_in : (rs : List Refused) → nat_lt 0 (length rs) ≡ false → rs ≡ []
+pub none_in : (rs : List kept.Short) → nat_lt 0 (length rs) ≡ false → rs ≡ []
 none_in [] none = refl
 none_in (r ∷ rs) none = absurd (no none)
   where
@@ -97,18 +100,26 @@ first_goes all xs x is differ =
     ∙ (if_false (not (x.tag == x.tag)) (x ∷ without_short x.tag xs) (without_short x.tag xs) (ap not (eq_self x.tag))
     ∙ none_goes x.tag xs (subst ShortsDiffer is differ).0)
 
-pub shorts_right : (d : DeviceCore) (s : State) (r : Refused) (rs : List Refused) → Describes d s → d.refused ≡ r ∷ rs →
-    IsAnswered s Reply (OfReply (Some (full_answer r))) (without_first d)
+-- the reply of a short exchange has its tag
+said_tag : (tag : ℕ) (reply : ShortReply) → tag_in (short_said tag reply) ≡ tag
+said_tag tag (short_reply.TaskSetFull lun expected) = refl
+said_tag tag short_reply.NopIn = refl
+said_tag tag (short_reply.NotManaged lun) = refl
+said_tag tag (short_reply.NotQueried writing asked) = refl
+
+pub shorts_right : (d : DeviceCore) (s : State) (r : kept.Short) (rs : List kept.Short) → Describes d s →
+    d.shorts ≡ r ∷ rs → IsAnswered s Reply (OfReply (Some (short_message r))) (without_first d)
 shorts_right d s r rs h is =
     let all : s.shorts ≡ short_kept r ∷ map short_kept rs = h.kept.shorts ∙ ap (map short_kept) is in
     let at : slice_get s.shorts 0 ≡ Some (short_kept r) = ap (λ (xs : List Short). slice_get xs 0) all in
-    answered_as d (without_first d) s (record s { shorts = map short_kept rs }) Reply (OfReply (Some (full_answer r)))
-    h tt
+    answered_as d (without_first d) s (record s { shorts = map short_kept rs }) Reply
+    (OfReply (Some (short_message r))) h tt
     (inr (0, short_kept r, at, refl, refl))
-    (ap (replied_by s r.tag) (no_task_found s.shorts s.tasks 0 (short_kept r) h.tied.tasks.apart at)
+    (ap (λ (n : ℕ). replied_by s n (task_of n s.tasks)) (said_tag r.tag r.reply)
+    ∙ (ap (replied_by s r.tag) (no_task_found s.shorts s.tasks 0 (short_kept r) h.tied.tasks.apart at)
     ∙ (ap (short_replied s) (found_short s.shorts 0 (short_kept r) h.tied.tasks.shorts_differ at)
     ∙ ap (λ (xs : List Short). record s { shorts = xs }) (first_goes s.shorts (map short_kept rs) (short_kept r) all
-    h.tied.tasks.shorts_differ)))
+    h.tied.tasks.shorts_differ))))
     (record {
       keeps = record {
         permanent = h.kept.permanent;
@@ -116,7 +127,7 @@ shorts_right d s r rs h is =
         few = h.kept.few;
         tasks = h.kept.tasks;
         blocks = h.kept.blocks;
-        shorts = ap (map short_kept) (sym (ap (λ (xs : List Refused). remove xs 0) is));
+        shorts = ap (map short_kept) (sym (ap (λ (xs : List kept.Short). remove xs 0) is));
         power_off = h.kept.power_off;
       };
       told = h.told;
@@ -130,7 +141,7 @@ OwesNone d t = (k : ℕ) (task : Task) → slice_get d.tasks k ≡ Some task →
 no_message : (x y : Option Message) (m : Message) → x ≡ Some m → x ≡ y → y ≡ None → ⊥
 no_message x y m e f g = cc
 
-none_due : (d : DeviceCore) (s : State) → Describes d s → OwesNone d s.translation → d.refused ≡ [] →
+none_due : (d : DeviceCore) (s : State) → Describes d s → OwesNone d s.translation → d.shorts ≡ [] →
     (m : Message) → Due s m → ⊥
 none_due d s h none empty m (inl due) =
     let r = our_task (before_accepted s.translation.ledger) due.0 d.tasks s.tasks due.1 h.kept.tasks due.2 in
@@ -141,6 +152,6 @@ none_due d s h none empty m (inr due) =
     none-some due.1
     (sym (ap (λ (xs : List Short). slice_get xs due.0) (h.kept.shorts ∙ ap (map short_kept) empty)) ∙ due.2)
 
-pub silence_right : (d : DeviceCore) (s : State) → Describes d s → OwesNone d s.translation → d.refused ≡ [] →
+pub silence_right : (d : DeviceCore) (s : State) → Describes d s → OwesNone d s.translation → d.shorts ≡ [] →
     IsAnswered s Reply (OfReply None) d
 silence_right d s h none empty = answered d d s Reply (OfReply None) h tt (none_due d s h none empty) (stays d s h)

@@ -15,7 +15,7 @@ use Rattle.ufs_spec.specs.Machine.{deed_behind, deed_behind_state, durable, move
 use Rattle.ufs_spec.specs.Machine.{with_moves}
 use Rattle.ufs_spec.specs.Moves.{Acknowledge, LetGo, LetGoAll, WantPage, moved}
 use Rattle.ufs_spec.specs.Refusals.{State, locked}
-use Rattle.ufs_spec.specs.Stages.{most_tasks}
+use Rattle.ufs_spec.specs.Exchanges.{most_tasks}
 use Rattle.ufs_spec.specs.Translation.{Pin, Translation}
 use Rattle.ufs_spec.specs.declared.flash.Key.{Key}
 use Rattle.ufs_spec.specs.declared.messages.Message.{Message}
@@ -25,6 +25,7 @@ use Rattle.ftl_core.specs.Describes as layer_kept
 use Rattle.device.specs.declared.tasks.Loaded.{Loaded}
 use Rattle.device.specs.declared.tasks.Phase.{Phase}
 use Rattle.device.specs.declared.tasks.Phase.TheVariants as phase
+use Rattle.device.specs.declared.tasks.ShortData.{ShortData}
 use Rattle.device.specs.declared.tasks.Status.TheVariants as status
 use Rattle.device.specs.declared.tasks.Task.{Task}
 use Rattle.device.specs.Describes.{Describes, IsDoing, IsTold, IsToldIn, Keeps, Progress, TasksKept, is_lost}
@@ -33,6 +34,7 @@ use Rattle.device.specs.Hears.{task_set, tasks_set}
 use Rattle.device.specs.Kept.{DeviceCore}
 use Rattle.device.specs.Replies.{HasMoved, is_loaded_for, loaded_without, moved_on, owed_by, owed_in, without_block}
 use Rattle.device.specs.Replies.{without_task}
+use Rattle.device.specs.Tasks.{data_length}
 use Rattle.device.proofs.described.Answered.{IsBehind}
 use Rattle.device.proofs.open_tasks.OpenTasks.{IsOpen, one_changed, one_gone}
 use Rattle.device.proofs.open_tasks.ReadProgress.{by_tag, deed_changes, deed_set, none_read, others_go_on, others_left}
@@ -173,27 +175,45 @@ module _ (d : DeviceCore) (s : State) (k : ℕ) (a : Task) (b : exchange.Task) (
   told_gone : locked s ≡ true → All (IsTold (durable s)) (exchange.without_task b.tag s.tasks)
   told_gone lock = All-filter (λ x. not (exchange.is_task_of b.tag x)) (IsTold (durable s)) s.tasks (h.told lock)
 
-  asks : (after : Core) (key : Key) (purpose : Purpose) (gathered : List ℕ) (asked : Bool) →
-      b.deed ≡ Gathering purpose gathered asked →
-      IsDoing (before_accepted s.translation.ledger) a.expected b.length (phase.AskData key)
-      (Gathering purpose gathered asked) →
-      layer_kept.Describes after s.translation →
-      IsBehind (with_layer after (task_set d k (phase.AwaitData key)))
-      (set_deed s b.tag (Gathering purpose gathered true))
-  asks after key purpose gathered asked deed doing layer = record {
+  -- it does something else, which tells as much of blocks, over the layer as it is
+  does_now : (after : Core) (p : Phase) (deed : Deed) →
+      IsDoing (before_accepted s.translation.ledger) a.expected b.length p deed →
+      progress_in b.deed ≡ progress_in deed → IsToldIn (durable s) deed → layer_kept.Describes after s.translation →
+      IsBehind (with_layer after (task_set d k p)) (set_deed s b.tag deed)
+  does_now after p deed doing same told layer = record {
     keeps = record {
       permanent = h.kept.permanent;
       layer_kept = layer;
-      few = few_set (Gathering purpose gathered true);
-      tasks = tasks_set_to (phase.AwaitData key) (Gathering purpose gathered true) (doing.0, refl);
+      few = few_set deed;
+      tasks = tasks_set_to p deed doing;
       blocks =
-          blocks_set_to s.translation.pins d.loaded (Gathering purpose gathered true)
-          (h.kept.blocks b.tag ∙ (ap progress_of found ∙ ap progress_in deed)) (λ n other. refl);
+          blocks_set_to s.translation.pins d.loaded deed (h.kept.blocks b.tag ∙ (ap progress_of found ∙ same))
+          (λ n other. refl);
       shorts = h.kept.shorts;
       power_off = h.kept.power_off;
     };
-    told = λ lock. set_told (durable s) b.tag (Gathering purpose gathered true) s.tasks tt (h.told lock);
+    told = λ lock. set_told (durable s) b.tag deed s.tasks told (h.told lock);
   }
+
+  asks : (after : Core) (key : Key) (fua : Bool) (purpose : Purpose) (gathered : List ℕ) (asked : Bool) →
+      b.deed ≡ Gathering purpose gathered asked →
+      IsDoing (before_accepted s.translation.ledger) a.expected b.length (phase.AskData key fua)
+      (Gathering purpose gathered asked) →
+      layer_kept.Describes after s.translation →
+      IsBehind (with_layer after (task_set d k (phase.AwaitData key fua)))
+      (set_deed s b.tag (Gathering purpose gathered true))
+  asks after key fua purpose gathered asked deed doing layer =
+      does_now after (phase.AwaitData key fua) (Gathering purpose gathered true) (doing.0, refl) (ap progress_in deed)
+      tt layer
+
+  -- its data were handed out, which are no block
+  sends_data : (after : Core) (x : ShortData) (bytes : List ℕ) → b.deed ≡ SendingBytes bytes →
+      b.length ≡ data_length x → layer_kept.Describes after s.translation →
+      IsBehind (with_layer after (task_set d k (phase.Answer status.Good (data_length x))))
+      (set_deed s b.tag (Answering Good b.length))
+  sends_data after x bytes deed is layer =
+      does_now after (phase.Answer status.Good (data_length x)) (Answering Good b.length) (refl, is)
+      (ap progress_in deed) tt layer
 
   -- its block was handed out, and none is behind it
   abbrev sent : ℕ → Translation
@@ -273,10 +293,11 @@ module _ (d : DeviceCore) (s : State) (k : ℕ) (a : Task) (b : exchange.Task) (
       IsDoing (before_accepted s.translation.ledger) a.expected b.length p deed →
       owed_in s.translation d.loaded a p ≡ Some m →
       HasMoved after s.translation a.tag p → IsBehind (with_layer after (moved_on d k a p)) (task_does s b deed)
-  moves_in after (phase.AskData key) (Gathering purpose gathered asked) m e doing due layer =
-      asks after key purpose gathered asked e doing layer
-  moves_in after (phase.AwaitData key) deed m e doing due layer = absurd (none-some m due)
-  moves_in after (phase.AwaitFrontier n) (Awaiting commands) m e doing due layer =
+  moves_in after (phase.AskData key fua) (Gathering purpose gathered asked) m e doing due layer =
+      asks after key fua purpose gathered asked e doing layer
+  moves_in after (phase.AwaitData key fua) deed m e doing due layer = absurd (none-some m due)
+  moves_in after (phase.SendData x) (SendingBytes bytes) m e doing due layer = sends_data after x bytes e doing.1 layer
+  moves_in after (phase.AwaitFrontier n size) (Awaiting commands) m e doing due layer =
       let frontier = s.translation.ledger.frontier in
       let low = leb-true n frontier (durable_told (nat_le n frontier) _ m due) in
       let is = doing.0 in

@@ -7,7 +7,8 @@ use Rattle.std.proofs.lemmas.Bool.Decides.{nat_tests}
 use Rattle.ufs_spec.proofs.Facts.{and_parts, eqb-true, false≢true, ltb-false, ltb-true, none-some, same_Some}
 use Rattle.ufs_spec.specs.Exchanges as exchange
 use Rattle.ufs_spec.specs.Exchanges.{Answering, Awaiting, Deed, Gathering, Good, NotRead, ReadBlock, ReadState, Sending}
-use Rattle.ufs_spec.specs.Exchanges.{Unread, WasRead, count_at, ready_message, response, task_of}
+use Rattle.ufs_spec.specs.Exchanges.{SendingBytes, Unread, WasRead, bytes_sent, count_at, ready_message, response}
+use Rattle.ufs_spec.specs.Exchanges.{task_of}
 use Rattle.ufs_spec.specs.Ledger as ledger
 use Rattle.ufs_spec.specs.Ledger.{Entry, InSlot, Ledger, Name, OnPage, Unwritten, before_accepted, entry_of}
 use Rattle.ufs_spec.specs.Machine as machine
@@ -27,14 +28,17 @@ use Rattle.ftl_core.specs.Limits.{in_this_stage}
 use Rattle.device.specs.declared.tasks.Loaded.{Loaded}
 use Rattle.device.specs.declared.tasks.Phase.{Phase}
 use Rattle.device.specs.declared.tasks.Phase.TheVariants as phase
+use Rattle.device.specs.declared.tasks.ShortData.{ShortData}
 use Rattle.device.specs.declared.tasks.Status.{Status}
 use Rattle.device.specs.declared.tasks.Task.{Task}
 use Rattle.device.specs.Describes.{Describes, IsDoing, IsLost, IsSending, Progress, TaskKept, is_lost, progress_by}
 use Rattle.device.specs.Describes.{progress_in, progress_of}
 use Rattle.device.specs.Kept.{DeviceCore}
 use Rattle.device.specs.Replies.{answer_of, block_at, block_for, block_message, block_of, body_at, body_of, count_of}
-use Rattle.device.specs.Replies.{is_loaded_for, loaded_for, owed_by, owed_in, status_kept}
+use Rattle.device.specs.Replies.{data_message, is_loaded_for, loaded_for, owed_by, owed_in}
+use Rattle.device.specs.Tasks.{data_bytes, data_length, status_kept}
 use Rattle.device.proofs.described.Unmended.{waits_mended}
+use Rattle.device.proofs.due_replies.BytesSent.{bytes_same}
 use Rattle.device.proofs.open_tasks.OpenTasks.{position_step}
 use Rattle.device.proofs.open_tasks.ReadProgress.{pin_for, read_for, wanted_for}
 
@@ -194,17 +198,17 @@ module _ (d : DeviceCore) (s : State) (a : Task) (b : exchange.Task) (h : Descri
       ∙ ap (λ z. Some z) (answer_same 0 n exchange.read_error (status_kept told) (sym is.nothing)
       (sym (ap status_kept is.told_is))))
 
-  awaiting_same : (n commands : ℕ) → b.deed ≡ Awaiting commands →
-      n ≡ before_accepted s.translation.ledger + commands → b.length ≡ 4096 →
-      deed_reply s b (Awaiting commands) ≡ owed_in s.translation d.loaded a (phase.AwaitFrontier n)
-  awaiting_same n commands deed is whole =
+  awaiting_same : (n size commands : ℕ) → b.deed ≡ Awaiting commands →
+      n ≡ before_accepted s.translation.ledger + commands → b.length ≡ size →
+      deed_reply s b (Awaiting commands) ≡ owed_in s.translation d.loaded a (phase.AwaitFrontier n size)
+  awaiting_same n size commands deed is whole =
       let mended = waits_mended (numbers_of s) (length s.accepted) (is_mended s.translation.work.mending) s.tasks b
       b.tag commands h.tied.tasks.deeds found deed in
       let l = s.translation.ledger in
       ap (λ (x : Bool). if x then Some (response b.lun b.tag b.expected b.length Good) else None)
       (same_test (before_accepted l) n l.frontier commands (h.tied.repaired mended) is)
       ∙ ap (λ (m : Message). if nat_le n l.frontier then Some m else None)
-      (answer_same b.length 4096 Good Good whole refl)
+      (answer_same b.length size Good Good whole refl)
 
   asking_same : (gathered : List ℕ) (asked : Bool) → gathered ≡ [] → b.length ≡ 4096 → asked ≡ false →
       (if asked then None else Some (ready_message b gathered)) ≡ Some (message.ReadyToTransfer a.lun a.tag 0 4096)
@@ -213,14 +217,23 @@ module _ (d : DeviceCore) (s : State) (a : Task) (b : exchange.Task) (h : Descri
       ∙ (ap (λ x. Some (ready_message b x)) none
       ∙ (λ i. Some (message.ReadyToTransfer (k.lun i) (k.tag i) 0 (count_at (length i) 0))))
 
+  -- the first of the data, as many as the host expects
+  data_same : (bytes : List ℕ) (x : ShortData) → bytes ≡ data_bytes x → b.length ≡ data_length x →
+      1 ≤ min a.expected (data_length x) →
+      exchange.data_message b 0 (take (bytes_sent b) bytes) ≡ data_message a x
+  data_same bytes x is length some =
+      (λ i. message.DataIn (k.lun i) (k.tag i) 0 (record { items = take (min (k.expected i) (length i)) (is i) }))
+      ∙ ap (λ (xs : List ℕ). message.DataIn a.lun a.tag 0 (record { items = xs })) (bytes_same a.expected x some)
+
   same_in : (p : Phase) (deed : Deed) → b.deed ≡ deed →
       IsDoing (before_accepted s.translation.ledger) a.expected b.length p deed →
       deed_reply s b deed ≡ owed_in s.translation d.loaded a p
-  same_in (phase.AskData key) (Gathering purpose gathered asked) e is =
+  same_in (phase.AskData key fua) (Gathering purpose gathered asked) e is =
       asking_same gathered asked is.0.none_gathered is.0.length_is is.1
-  same_in (phase.AwaitData key) (Gathering purpose gathered asked) e is =
+  same_in (phase.AwaitData key fua) (Gathering purpose gathered asked) e is =
       ap (λ x. if x then None else Some (ready_message b gathered)) is.1
-  same_in (phase.AwaitFrontier n) (Awaiting commands) e is = awaiting_same n commands e is.0 is.1
+  same_in (phase.AwaitFrontier n size) (Awaiting commands) e is = awaiting_same n size commands e is.0 is.1
+  same_in (phase.SendData x) (SendingBytes bytes) e is = ap (λ z. Some z) (data_same bytes x is.0 is.1 is.2)
   same_in phase.SendBlock (Sending blocks sent) e is = sending_same blocks sent e is
   same_in (phase.Answer told n) (Answering x carried) e is =
       ap (λ z. Some z) (answer_same carried n x (status_kept told) is.1 is.0)

@@ -1,54 +1,56 @@
--- What a COMMAND begins: a task that answers, a READ that keeps its block, a WRITE that claims a slot.
-use Rattle.std.proofs.Common.{◌≡◌, ◌∙◌, ℕ, suc, ◌+◌, ◌<◌, ◌≤◌, Bool, true, false, List, [], ◌∷◌, ◌++◌, Option, Some}
-use Rattle.std.proofs.Common.{None, get_or, length, refl, sym, ap, subst, arith}
-use Rattle.std.specs.Prelude.{◌*◌, ◌||◌, ◌&&◌, ◌==◌, cond, if◌then◌else◌, find, nat_lt, option_map, slice_get, Result}
-use Rattle.std.specs.Prelude.{Ok, Err}
+-- What a COMMAND begins: a task that answers or sends, a READ that keeps its block, a WRITE that claims a slot, a flush
+-- that waits for all that was accepted.
+use Rattle.std.proofs.Common.{◌≡◌, ◌∙◌, ℕ, suc, ◌+◌, ◌<◌, ◌≤◌, Bool, true, false, List, [], ◌∷◌, ◌++◌, Option}
+use Rattle.std.proofs.Common.{Some, None, get_or, length, refl, sym, ap, subst, arith}
+use Rattle.std.specs.Prelude.{◌*◌, ◌||◌, ◌&&◌, ◌==◌, cond, if◌then◌else◌, find, min, nat_lt, nat_le, option_map}
+use Rattle.std.specs.Prelude.{slice_get, Result, Ok, Err}
+use Rattle.std.specs.Int.{div_ceil}
 use Rattle.std.specs.Option.{option_or}
-use Rattle.std.specs.List.{All}
 use Rattle.std.proofs.lemmas.Bool.{lt-ltb}
-use Rattle.std.proofs.lemmas.List.{get_or-map, length-map}
-use Rattle.std.proofs.lemmas.List.Elements.{All-head}
+use Rattle.std.proofs.lemmas.List.{get_or-map, length-map, length-take}
 use Rattle.std.proofs.lemmas.List.Folds.{find-append}
 use Rattle.std.proofs.lemmas.Option.{slice_get_within, get_or_from_slice_get}
-use Rattle.ufs_spec.proofs.Facts.{eqb-true, none-some, or_parts}
-use Rattle.ufs_spec.specs.Exchanges as exchange
-use Rattle.ufs_spec.specs.Exchanges.{Answering, Deed, ForWrite, Gathering, Good, ReadBlock, Sending, Status, Unread}
-use Rattle.ufs_spec.specs.Exchanges.{task_of}
+use Rattle.ufs_spec.proofs.Facts.{none-some, or_parts}
+use Rattle.ufs_spec.specs.Cdbs.{IsTakenCdb, six_blocks}
+use Rattle.ufs_spec.specs.Exchanges.{Answering, Awaiting, Deed, ForWrite, Gathering, Good, ReadBlock, Sending}
+use Rattle.ufs_spec.specs.Exchanges.{SendingBytes, Status, Unread, most_tasks, task_of}
 use Rattle.ufs_spec.specs.Keys.{IsData, IsKey, data_key}
-use Rattle.ufs_spec.specs.Ledger.{Looked, look}
-use Rattle.ufs_spec.specs.Machine.{begun_with, blocks_expected, keeps, opened_with, read_blocks, sending, unit_or_first}
-use Rattle.ufs_spec.specs.Machine.{with_moves, write_begun}
+use Rattle.ufs_spec.specs.Ledger.{Looked, before_accepted, look}
+use Rattle.ufs_spec.specs.Machine.{begun_with, capacity_bytes, data_begun, durable, flush_begun, keeps}
+use Rattle.ufs_spec.specs.Machine.{no_sense, opened_with, read_begun, read_blocks, sending, unit_or_first, with_moves}
 use Rattle.ufs_spec.specs.Machine as machine
 use Rattle.ufs_spec.specs.Moves.{Claim, Keep, is_pin_of, moved}
 use Rattle.ufs_spec.specs.Plain.{block_at, shape_of_numbers}
-use Rattle.ufs_spec.specs.Refusals.{Request, State, numbers_of, plain_now, unit_of_request}
-use Rattle.ufs_spec.specs.Stages.{most_tasks}
+use Rattle.ufs_spec.specs.Refusals.{Request, State, locked, mended, numbers_of, plain_now}
+use Rattle.ufs_spec.specs.Refusals.{refusal, unit_of_request}
 use Rattle.ufs_spec.specs.Translation.{Pin, free_slots}
 use Rattle.ufs_spec.specs.declared.flash.Key.{Key}
 use Rattle.ufs_spec.specs.declared.configs.UnitSpec.{UnitSpec}
 use Rattle.ufs_spec.specs.declared.scsi.Cdb.{Cdb}
 use Rattle.ufs_spec.specs.declared.scsi.Cdb.TheVariants as cdb
-use Rattle.power_loss.specs.Shown.{ShowsRight}
 use Rattle.power_loss.proofs.books.SmallFacts.{eq_self}
 use Rattle.power_loss.proofs.open_tasks.TaggedLists.{other_way}
 use Rattle.ftl_core.specs.Core.{Core}
 use Rattle.ftl_core.specs.Describes as layer_kept
-use Rattle.device.specs.declared.checks.Transfer.{Transfer}
 use Rattle.device.specs.declared.tasks.Phase.{Phase}
 use Rattle.device.specs.declared.tasks.Phase.TheVariants as phase
 use Rattle.device.specs.declared.tasks.Plan.{Plan}
 use Rattle.device.specs.declared.tasks.Plan.TheVariants as plan
+use Rattle.device.specs.declared.tasks.ShortData.{ShortData}
+use Rattle.device.specs.declared.tasks.ShortData.TheVariants as sent
 use Rattle.device.specs.declared.tasks.Status as kept_status
 use Rattle.device.specs.declared.tasks.Status.TheVariants as status
 use Rattle.device.specs.Describes.{Describes}
-use Rattle.device.specs.Calls.{HasBegun, pin_of_block}
+use Rattle.device.specs.Calls.{HasBegun, last_number, pin_of_block}
 use Rattle.device.specs.Hears.{with_task}
 use Rattle.device.specs.Kept.{DeviceCore}
-use Rattle.device.specs.Plans.{plan_of}
-use Rattle.device.specs.Replies.{status_kept}
+use Rattle.device.specs.Plans.{IsPlanned, Passes, data_plan, plan_of}
+use Rattle.device.specs.Tasks.{data_bytes, data_length, status_kept}
 use Rattle.device.proofs.described.Answered.{IsBehind}
-use Rattle.device.proofs.host_messages.CommandCounts.{Checks, checks_told, none_expected, one_expected, some_told}
-use Rattle.device.proofs.host_messages.CommandTable.{Agrees, Does, Passes, read_of, write_of}
+use Rattle.device.proofs.host_messages.CommandPasses.{IsFree, flush_durable, free_told, none_expected, one_expected}
+use Rattle.device.proofs.host_messages.CommandPasses.{some_told}
+use Rattle.device.proofs.host_messages.OneBlock.{number_awaited}
+use Rattle.device.proofs.open_tasks.FewPins.{pin_has_room}
 use Rattle.device.proofs.open_tasks.ReadProgress.{pin_for, wanted_for}
 use Rattle.device.proofs.open_tasks.TaskOpened.{Wants, nobody, none_wanted, open_keeps, open_told, opens_still}
 
@@ -95,7 +97,7 @@ module _ (d : DeviceCore) (s : State) (r : Request) (h : Describes d s) (free : 
       layer_kept.Describes after s.translation → answer ≡ status_kept told → carried ≡ m →
       IsBehind (opened_core (phase.Answer told m)) (machine.with_task s r command n (Answering answer carried))
   answer_opened command n carried answer told m layer same count =
-      opens_still d s r h free few after command n (Answering answer carried) _ layer refl tt
+      opens_still d s r h free few after command n (Answering answer carried) _ layer refl (λ l. tt)
       (record { lun = refl; tag = refl; expected = refl; request = refl; doing = (same, count) })
 
   -- a READ of one block
@@ -137,36 +139,22 @@ module _ (d : DeviceCore) (s : State) (r : Request) (h : Describes d s) (free : 
             readable = refl;
           };
         });
-    told = open_told d s r h free few (Some command) n (Sending (block_now r.lun address ∷ []) 0) tt;
+    told = open_told d s r h free few (Some command) n (Sending (block_now r.lun address ∷ []) 0) (λ l. tt);
   }
-
-  -- the layer keeps nothing yet, so that there is room
-  no_pins : s.translation.pins ≡ []
-  no_pins = by s.translation.pins h.shows
-    where
-      by : (pins : List Pin) → All (ShowsRight s.translation.ledger s.tasks) pins → pins ≡ []
-      by [] shows = refl
-      by (pin ∷ pins) shows = absurd
-          (none s.tasks few (All-head (ShowsRight s.translation.ledger s.tasks) pin pins shows).there)
-        where
-          none : (us : List exchange.Task) → length us < most_tasks → {u : exchange.Task} →
-              task_of pin.tag us ≡ Some u → ⊥
-          none [] less {u} e = none-some u e
-          none (u ∷ us) less e = omega arith
-
-  room : nat_lt (length s.translation.pins) 32 ≡ true
-  room = ap (λ (pins : List Pin). nat_lt (length pins) 32) no_pins
 
   -- a WRITE of one block
 
-  write_opened : (command : Cdb) (address : ℕ) → layer_kept.Describes after (moved s.translation (Claim 1)) →
-      IsBehind (opened_core (phase.AskData (data_key r.lun address)))
-      (machine.with_task (with_moves s (Claim 1 ∷ [])) r (Some command) 4096
-      (Gathering (ForWrite r.lun address 1 true) [] false))
-  write_opened command address layer = record {
+  abbrev gathering : ℕ → Bool → Deed
+  gathering address forced = Gathering (ForWrite r.lun address 1 forced) [] false
+
+  write_opened : (command : Cdb) (address : ℕ) (forced : Bool) →
+      layer_kept.Describes after (moved s.translation (Claim 1)) →
+      IsBehind (opened_core (phase.AskData (data_key r.lun address) forced))
+      (machine.with_task (with_moves s (Claim 1 ∷ [])) r (Some command) 4096 (gathering address forced))
+  write_opened command address forced layer = record {
     keeps =
         open_keeps d s r h free few after (moved s.translation (Claim 1)) (Some command) 4096
-        (Gathering (ForWrite r.lun address 1 true) [] false) _ layer refl
+        (gathering address forced) _ layer refl
         (none_wanted d s r h free few, λ n other. refl) refl
         (record {
           lun = refl;
@@ -175,7 +163,7 @@ module _ (d : DeviceCore) (s : State) (r : Request) (h : Describes d s) (free : 
           request = refl;
           doing = (record { write = (refl, refl, refl); none_gathered = refl; length_is = refl }, refl);
         });
-    told = open_told d s r h free few (Some command) 4096 (Gathering (ForWrite r.lun address 1 true) [] false) tt;
+    told = open_told d s r h free few (Some command) 4096 (gathering address forced) (λ l. tt);
   }
 
   -- What the table lets through
@@ -201,130 +189,185 @@ module _ (d : DeviceCore) (s : State) (r : Request) (h : Describes d s) (free : 
       machine.with_task (with_moves s (keeps s r.tag unit address count)) r (Some command) n
       (sending (read_blocks s unit address count) n)
 
-  abbrev write_at : Cdb → ℕ → ℕ → ℕ → Bool → State
-  write_at command unit address blocks b =
-      if b then machine.with_task s r (Some command) 0 (Answering Good 0)
-      else machine.with_task (with_moves s (Claim blocks ∷ [])) r (Some command) (4096 * blocks)
-      (Gathering (ForWrite unit address blocks true) [] false)
-
   zero_more : (n : ℕ) → n + 0 ≡ n
   zero_more n = omega arith
 
-  read_begins : (unit : UnitSpec) (command : Cdb) (address blocks : ℕ) (p : Phase) →
-      slice_get (numbers_of s).units.items r.lun ≡ Some unit → (u : ℕ) → u ≡ r.lun →
-      Checks s.translation unit (read_of address blocks) → (b : Bool) →
+  read_begins : (unit : UnitSpec) (command : Cdb) (address blocks n : ℕ) (p : Phase) →
+      slice_get (numbers_of s).units.items r.lun ≡ Some unit → (u : ℕ) → u ≡ r.lun → n ≡ 4096 * blocks →
+      blocks ≤ 1 → address + blocks ≤ unit.blocks → mended s ≡ true → (b : Bool) →
       ((blocks == 0) || (r.expected == 0)) ≡ b →
-      Begins (Ok (if b then plan.Nothing (blocks * 4096) else plan.Read (data_key r.lun address))) p →
-      IsBehind (opened_core p) (read_at command u address (4096 * blocks) (blocks_expected r (4096 * blocks)))
-  read_begins unit command address blocks p there u same checks true e begun =
-      subst (IsBehind (opened_core p)) (sym (ap (read_at command u address n) (none_expected r.expected blocks e)))
-      (same_phase p (phase.Answer status.Good (blocks * 4096)) _ begun.0
-      (answer_opened (Some command) n n Good status.Good (blocks * 4096) begun.1 refl (omega arith)))
-    where
-      n : ℕ
-      n = 4096 * blocks
-  read_begins unit command address blocks p there u same checks false e begun =
+      Begins (Ok (if b then plan.Nothing (4096 * blocks) else plan.Read (data_key r.lun address))) p →
+      IsBehind (opened_core p) (read_begun s r command u address n)
+  read_begins unit command address blocks n p there u same long less within is_mended true e begun =
+      subst (IsBehind (opened_core p))
+      (sym (ap (read_at command u address n)
+      (ap (λ (m : ℕ). div_ceil (min r.expected m) 4096) long ∙ none_expected r.expected blocks e)))
+      (same_phase p (phase.Answer status.Good (4096 * blocks)) _ begun.0
+      (answer_opened (Some command) n n Good status.Good (4096 * blocks) begun.1 refl long))
+  read_begins unit command address blocks n p there u same long less within is_mended false e begun =
       subst (IsBehind (opened_core p)) (sym state)
       (same_phase p phase.SendBlock _ (begun.0 ∙ ap (λ (x : Bool). if x then phase.SendBlock
       else phase.Answer status.Busy 0) room)
       (read_opened command n address size (some_told r.expected both.1) layer))
     where
-      n : ℕ
-      n = 4096 * blocks
-
       key : Key
       key = data_key r.lun address
 
       both : ((blocks == 0) ≡ false) × ((r.expected == 0) ≡ false)
       both = or_parts (blocks == 0) (r.expected == 0) e
 
-      size : 4096 * blocks ≡ 4096
-      size = let few = checks.few in let some = some_told blocks both.0 in omega arith
+      size : n ≡ 4096
+      size = let some = some_told blocks both.0 in omega arith
 
       inside : suc address ≤ unit.blocks
-      inside = let within = checks.within in let some = some_told blocks both.0 in omega arith
+      inside = let some = some_told blocks both.0 in omega arith
 
-      state : read_at command u address n (blocks_expected r n) ≡ reading_at command n r.lun address
-      state = ap (read_at command u address n) (one_expected r.expected blocks checks.few e)
+      state : read_begun s r command u address n ≡ reading_at command n r.lun address
+      state =
+          ap (read_at command u address n)
+          (ap (λ (m : ℕ). div_ceil (min r.expected m) 4096) long ∙ one_expected r.expected blocks less e)
           ∙ (λ i. reading_at command n (same i) (zero_more address i))
+
+      -- there is room, as no tag keeps two things
+      room : nat_lt (length s.translation.pins) 32 ≡ true
+      room = pin_has_room d s h begun.1 few
 
       layer : layer_kept.Describes after (moved s.translation (Keep key (pin_of_block s.translation r.tag key)))
       layer =
           subst (λ (x : Bool). layer_kept.Describes after
           (if x then moved s.translation (Keep key (pin_of_block s.translation r.tag key)) else s.translation)) room
-          (begun.1 (record {
-            mended = checks.mended;
+          (begun.2 (record {
+            mended = is_mended;
             there = key_told address unit there inside;
             of_data = refl;
             new = nobody d s r h free few;
           }))
 
-  write_begins : (command : Cdb) (address blocks : ℕ) (p : Phase) (u : ℕ) → u ≡ r.lun → (unit : UnitSpec) →
-      Checks s.translation unit (write_of address blocks) → (b : Bool) → (blocks == 0) ≡ b →
-      Begins (Ok (if b || false then plan.Nothing (blocks * 4096) else plan.Write (data_key r.lun address))) p →
-      IsBehind (opened_core p) (write_at command u address blocks b)
-  write_begins command address blocks p u same unit checks true e begun =
-      same_phase p (phase.Answer status.Good (blocks * 4096)) _ begun.0
-      (answer_opened (Some command) 0 0 Good status.Good (blocks * 4096) begun.1 refl (let z = eqb-true blocks 0 e in
-      omega arith))
-  write_begins command address blocks p u same unit checks false e begun =
+  abbrev write_at : Cdb → ℕ → ℕ → ℕ → Bool → Bool → State
+  write_at command unit address blocks forced b =
+      if b then machine.with_task s r (Some command) 0 (Answering Good 0)
+      else machine.with_task (with_moves s (Claim blocks ∷ [])) r (Some command) (4096 * blocks)
+      (Gathering (ForWrite unit address blocks forced) [] false)
+
+  write_begins : (command : Cdb) (address blocks : ℕ) (forced : Bool) (p : Phase) (u : ℕ) → u ≡ r.lun → blocks ≤ 1 →
+      blocks ≤ free_slots s.translation → (b : Bool) → (blocks == 0) ≡ b →
+      Begins (Ok (if b then plan.Nothing 0 else plan.Write (data_key r.lun address) forced)) p →
+      IsBehind (opened_core p) (write_at command u address blocks forced b)
+  write_begins command address blocks forced p u same less slots true e begun =
+      same_phase p (phase.Answer status.Good 0) _ begun.0
+      (answer_opened (Some command) 0 0 Good status.Good 0 begun.1 refl refl)
+  write_begins command address blocks forced p u same less slots false e begun =
       subst (IsBehind (opened_core p))
       (sym (λ i. machine.with_task (with_moves s (Claim (one i) ∷ [])) r (Some command) (4096 * one i)
-      (Gathering (ForWrite (same i) address (one i) true) [] false)))
-      (same_phase p (phase.AskData (data_key r.lun address)) _
-      (begun.0 ∙ ap (λ (x : Bool). if x then phase.AskData (data_key r.lun address) else phase.Answer status.Busy 0)
-      slots)
-      (write_opened command address
+      (Gathering (ForWrite (same i) address (one i) forced) [] false)))
+      (same_phase p (phase.AskData (data_key r.lun address) forced) _
+      (begun.0 ∙ ap (λ (x : Bool). if x then phase.AskData (data_key r.lun address) forced
+      else phase.Answer status.Busy 0) left)
+      (write_opened command address forced
       (subst (λ (x : Bool). layer_kept.Describes after (if x then moved s.translation (Claim 1) else s.translation))
-      slots begun.1)))
+      left begun.1)))
     where
-      some : 1 ≤ blocks
-      some = some_told blocks e
-
       one : blocks ≡ 1
-      one = let few = checks.few in let low = some_told blocks e in omega arith
+      one = let low = some_told blocks e in omega arith
 
-      left : (free_slots s.translation == 0) ≡ false
-      left = sym (ap (λ (x : Bool). x && (free_slots s.translation == 0)) (lt-ltb 0 blocks some)) ∙ checks.slots
+      left : nat_lt 0 (free_slots s.translation) ≡ true
+      left = let low = some_told blocks e in lt-ltb 0 (free_slots s.translation) (omega arith)
 
-      slots : nat_lt 0 (free_slots s.translation) ≡ true
-      slots = lt-ltb 0 (free_slots s.translation) (some_told (free_slots s.translation) left)
+  -- data that are sent in one message
+
+  abbrev data_at : Cdb → ℕ → List ℕ → Bool → State
+  data_at command n bytes b =
+      machine.with_task s r (Some command) n (if b then Answering Good n else SendingBytes bytes)
+
+  data_begins : (command : Cdb) (x : ShortData) (p : Phase) → length (data_bytes x) ≡ data_length x →
+      Begins (Ok (data_plan r.expected x)) p → IsBehind (opened_core p) (data_begun s r command (data_bytes x))
+  data_begins command x p long begun =
+      subst (IsBehind (opened_core p))
+      (sym (λ i. data_at command (long i) (data_bytes x) (min r.expected (long i) == 0)))
+      (by (min r.expected (data_length x) == 0) refl begun)
+    where
+      by : (b : Bool) → (min r.expected (data_length x) == 0) ≡ b →
+          Begins (Ok (if b then plan.Nothing (data_length x) else plan.Send x)) p →
+          IsBehind (opened_core p) (data_at command (data_length x) (data_bytes x) b)
+      by true e k =
+          same_phase p (phase.Answer status.Good (data_length x)) _ k.0
+          (answer_opened (Some command) (data_length x) (data_length x) Good status.Good (data_length x) k.1 refl refl)
+      by false e k =
+          same_phase p (phase.SendData x) _ k.0
+          (opens_still d s r h free few after (Some command) (data_length x) (SendingBytes (data_bytes x)) _ k.1 refl
+          (λ l. tt)
+          (record {
+            lun = refl;
+            tag = refl;
+            expected = refl;
+            request = refl;
+            doing = (refl, refl, some_told (min r.expected (data_length x)) e);
+          }))
+
+  -- a flush
+
+  flush_begins : (command : Cdb) (immediate : Bool) (p : Phase) →
+      (locked s ≡ true → nat_le (length s.accepted) (durable s) ≡ true) →
+      Begins (Ok (if immediate then plan.Nothing 0 else plan.Flush)) p →
+      IsBehind (opened_core p) (flush_begun s r command immediate)
+  flush_begins command true p told begun =
+      same_phase p (phase.Answer status.Good 0) _ begun.0
+      (answer_opened (Some command) 0 0 Good status.Good 0 begun.1 refl refl)
+  flush_begins command false p told begun =
+      same_phase p (phase.AwaitFrontier (last_number s.translation.ledger) 0) _ begun.0
+      (opens_still d s r h free few after (Some command) 0 (Awaiting (length s.accepted)) _ begun.1 refl told
+      (record { lun = refl; tag = refl; expected = refl; request = refl; doing = (last, refl) }))
+    where
+      last : last_number s.translation.ledger ≡ before_accepted s.translation.ledger + length s.accepted
+      last = let next = number_awaited s h.tied h.kept.layer_kept.valid.history.within in omega arith
 
   -- a command that passed begins
-  command_begins : (unit : UnitSpec) (command : Cdb) (x : Transfer) (p : Phase) → Does command x →
-      slice_get (numbers_of s).units.items r.lun ≡ Some unit → unit_of_request s r ≡ Some r.lun →
-      Checks s.translation unit x → Begins (Ok (plan_of x (data_key r.lun x.address) r.expected)) p →
+  command_begins : (unit : UnitSpec) (command : Cdb) (p : Phase) → IsTakenCdb command →
+      slice_get (numbers_of s).units.items r.lun ≡ Some unit → IsFree s r unit command →
+      Begins (Ok (plan_of unit r.lun r.expected command)) p →
       IsBehind (opened_core p) (begun_with s r (Some command))
-  command_begins unit (cdb.Read10 address blocks forced) x p does there is checks begun =
-      read_begins unit (cdb.Read10 address blocks forced) address blocks p there (unit_or_first (unit_of_request s r))
-      (ap unit_or_first is) (subst (Checks s.translation unit) does checks) ((blocks == 0) || (r.expected == 0)) refl
-      (subst (λ (y : Transfer). Begins (Ok (plan_of y (data_key r.lun y.address) r.expected)) p) does begun)
-  command_begins unit (cdb.Write10 address blocks forced) x p does there is checks begun =
-      subst (IsBehind (opened_core p)) (sym (ap (write_begun s r command u address blocks) does.0))
-      (write_begins command address blocks p u (ap unit_or_first is) unit
-      (subst (Checks s.translation unit) does.1 checks) (blocks == 0) refl
-      (subst (λ (y : Transfer). Begins (Ok (plan_of y (data_key r.lun y.address) r.expected)) p) does.1 begun))
-    where
-      command : Cdb
-      command = cdb.Write10 address blocks forced
+  command_begins unit cdb.TestUnitReady p taken there k begun =
+      same_phase p (phase.Answer status.Good 0) _ begun.0
+      (answer_opened (Some cdb.TestUnitReady) 0 0 Good status.Good 0 begun.1 refl refl)
+  command_begins unit (cdb.RequestSense allocation) p taken there k begun =
+      data_begins (cdb.RequestSense allocation) (sent.NoSense allocation) p (length-take allocation no_sense) begun
+  command_begins unit cdb.ReadCapacity10 p taken there k begun =
+      subst (IsBehind (opened_core p))
+      (sym (ap (λ (o : Option UnitSpec). data_begun s r cdb.ReadCapacity10 (capacity_bytes o)) k.spec_is))
+      (data_begins cdb.ReadCapacity10 (sent.Capacity unit.blocks) p refl begun)
+  command_begins unit (cdb.Read6 address blocks) p taken there k begun =
+      read_begins unit (cdb.Read6 address blocks) address (six_blocks blocks) (six_blocks blocks * 4096) p there
+      (unit_or_first (unit_of_request s r)) (ap unit_or_first k.unit_is) (omega arith) k.few k.within (k.mended refl)
+      ((six_blocks blocks == 0) || (r.expected == 0)) refl begun
+  command_begins unit (cdb.Read10 address blocks forced) p taken there k begun =
+      read_begins unit (cdb.Read10 address blocks forced) address blocks (4096 * blocks) p there
+      (unit_or_first (unit_of_request s r)) (ap unit_or_first k.unit_is) refl k.few k.within (k.mended refl)
+      ((blocks == 0) || (r.expected == 0)) refl begun
+  command_begins unit (cdb.Write6 address blocks) p taken there k begun =
+      write_begins (cdb.Write6 address blocks) address (six_blocks blocks) false p
+      (unit_or_first (unit_of_request s r)) (ap unit_or_first k.unit_is) k.few k.slots (six_blocks blocks == 0) refl
+      begun
+  command_begins unit (cdb.Write10 address blocks forced) p taken there k begun =
+      write_begins (cdb.Write10 address blocks forced) address blocks forced p
+      (unit_or_first (unit_of_request s r)) (ap unit_or_first k.unit_is) k.few k.slots (blocks == 0) refl begun
+  command_begins unit (cdb.SynchronizeCache10 address blocks immediate) p taken there k begun =
+      flush_begins (cdb.SynchronizeCache10 address blocks immediate) immediate p
+      (flush_durable s true h.tied k.refused refl) begun
+  command_begins unit command p taken there k begun = absurd taken
 
-      u : ℕ
-      u = unit_or_first (unit_of_request s r)
-  command_begins unit command x p does there is checks begun = absurd does
-
-  passes_begin : (permanent : Bool) (todo : Plan) (p : Phase) → Passes permanent s r todo → Begins (Ok todo) p →
-      IsBehind (opened_core p) (opened_with s r None)
-  passes_begin permanent todo p passes begun =
+  passes_begin : (todo : Plan) (p : Phase) → Passes s r todo → Begins (Ok todo) p →
+      IsBehind (opened_core p) (begun_with s r r.cdb)
+  passes_begin todo p passes begun =
       subst (IsBehind (opened_core p)) (sym (ap (begun_with s r) passes.is))
-      (command_begins passes.unit passes.command passes.transfer p passes.does passes.there passes.unit_is
-      (checks_told permanent s.translation passes.unit r.flags r.expected passes.transfer passes.none)
-      (subst (λ (x : Plan). Begins (Ok x) p) passes.plan_is begun))
+      (command_begins passes.unit passes.command p passes.taken passes.there (free_told s r todo passes)
+      (subst (λ (x : Plan). Begins (Ok x) p) passes.todo_is begun))
 
-  -- where the table and the checks agree, what begins is described
-  pub agreed_begins : (permanent : Bool) (x : Option Status) (y : Result Plan kept_status.Status) (p : Phase) →
-      Agrees permanent s r x y →
-      Begins y p → IsBehind (opened_core p) (opened_with s r x)
-  agreed_begins permanent (Some refused) (Err told) p agrees begun =
-      same_phase p (phase.Answer told 0) _ begun.0 (answer_opened None 0 0 refused told 0 begun.1 agrees refl)
-  agreed_begins permanent None (Ok todo) p agrees begun = passes_begin permanent todo p agrees begun
-  agreed_begins permanent x y p agrees begun = absurd agrees
+  -- what is planned begins, and is described then
+  pub planned_begins : (y : Result Plan kept_status.Status) (p : Phase) → IsPlanned s r y → Begins y p →
+      IsBehind (opened_core p) (opened_with s r (refusal s r))
+  planned_begins (Err told) p planned begun =
+      subst (IsBehind (opened_core p)) (sym (ap (opened_with s r) planned))
+      (same_phase p (phase.Answer told 0) _ begun.0
+      (answer_opened None 0 0 (status_kept told) told 0 begun.1 refl refl))
+  planned_begins (Ok todo) p planned begun =
+      subst (IsBehind (opened_core p)) (sym (ap (opened_with s r) planned.passed)) (passes_begin todo p planned begun)

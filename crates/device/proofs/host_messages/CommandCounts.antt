@@ -1,69 +1,63 @@
--- What the checks of a COMMAND that passes tell of its blocks.
-use Rattle.std.proofs.Common.{◌≡◌, ◌∙◌, ◌⊎◌, ℕ, ◌+◌, ◌≤◌, Bool, true, false, None, sym, ap, refl, inl, inr, arith}
-use Rattle.std.specs.Prelude.{◌*◌, ◌/◌, ◌%◌, ◌||◌, ◌&&◌, ◌==◌, min, nat_lt, not}
-use Rattle.std.specs.Int.{div_ceil}
-use Rattle.std.proofs.lemmas.Bool.Decides.{nat_tests}
-use Rattle.ufs_spec.proofs.Facts.{eqb-true, ltb-false, or_parts}
-use Rattle.ufs_spec.specs.Translation.{Translation, free_slots, is_locked, is_mended}
+-- What the checks of a COMMAND that passes tell of its unit, its blocks and the device.
+use Rattle.std.proofs.Common.{◌≡◌, ◌∙◌, ℕ, ◌+◌, ◌≤◌, Bool, true, false, Some, sym, ap, refl, subst, arith}
+use Rattle.std.specs.Prelude.{nat_lt, not, Option}
+use Rattle.ufs_spec.proofs.Facts.{ltb-false, not-false}
+use Rattle.ufs_spec.specs.Cdbs.{IsTakenCdb, address_of, blocks_of, operation_of}
+use Rattle.ufs_spec.specs.Refusals.{Request, State, is_crowded, is_past, is_too_long, mended, needs_mended}
+use Rattle.ufs_spec.specs.Refusals.{numbers_of, slots_needed, spec_of, unit_of_request}
+use Rattle.ufs_spec.specs.Translation.{free_slots}
 use Rattle.ufs_spec.specs.declared.configs.UnitSpec.{UnitSpec}
-use Rattle.device.specs.declared.checks.Transfer.{Transfer}
-use Rattle.device.specs.Plans.{carries, is_guarded, refusal_of}
-use Rattle.device.proofs.host_messages.CommandTable.{checked, checks_of}
+use Rattle.ufs_spec.specs.declared.scsi.Cdb.{Cdb}
+use Rattle.ufs_spec.specs.declared.scsi.Cdb.TheVariants as cdb
+use Rattle.power_loss.proofs.host_commands.PassedCommands.{Passed, passed, ready_now}
+use Rattle.device.specs.declared.tasks.Plan.{Plan}
+use Rattle.device.specs.Plans.{Passes}
+use Rattle.device.proofs.host_messages.CommandTable.{spec_is, unit_is}
 
-pub some_told : (n : ℕ) → (n == 0) ≡ false → 1 ≤ n
-some_told n h = grind (arith, nat_tests)
+-- what a request that passes has, of each command
+pub record Counts (s : State) (r : Request) (unit : UnitSpec) (command : Cdb) : Type 0 where
+  pub unit_is : unit_of_request s r ≡ Some r.lun
+  pub spec_is : spec_of s r ≡ Some unit
+  pub few : blocks_of command ≤ 1
+  pub within : address_of command + blocks_of command ≤ unit.blocks
+  pub ready : needs_mended (operation_of command) ≡ true → mended s ≡ true
+  pub slots : slots_needed (numbers_of s) command ≤ free_slots s.translation
 
-none_least : (a b : ℕ) → (b ≡ 0) ⊎ (a ≡ 0) → min a (4096 * b) ≡ 0
-none_least a b (inl h) = omega arith
-none_least a b (inr h) = omega arith
+few_told : (s : State) (command : Cdb) → IsTakenCdb command → is_too_long (numbers_of s) command ≡ false →
+    blocks_of command ≤ 1
+few_told s cdb.TestUnitReady k h = ltb-false 1 0 h
+few_told s (cdb.RequestSense allocation) k h = ltb-false 1 0 h
+few_told s (cdb.Read6 address blocks) k h = ltb-false 1 (blocks_of (cdb.Read6 address blocks)) h
+few_told s (cdb.Write6 address blocks) k h = ltb-false 1 (blocks_of (cdb.Write6 address blocks)) h
+few_told s cdb.ReadCapacity10 k h = ltb-false 1 0 h
+few_told s (cdb.Read10 address blocks forced) k h = ltb-false 1 blocks h
+few_told s (cdb.Write10 address blocks forced) k h = ltb-false 1 blocks h
+few_told s (cdb.SynchronizeCache10 address blocks immediate) k h = ltb-false 1 0 h
+few_told s command k h = absurd k
 
-pub none_expected : (expected blocks : ℕ) → ((blocks == 0) || (expected == 0)) ≡ true →
-    div_ceil (min expected (4096 * blocks)) 4096 ≡ 0
-none_expected expected blocks h =
-    ap (λ (n : ℕ). div_ceil n 4096) (none_least expected blocks (by (blocks == 0) (expected == 0) refl refl h))
-  where
-    by : (a b : Bool) → (blocks == 0) ≡ a → (expected == 0) ≡ b → (a || b) ≡ true → (blocks ≡ 0) ⊎ (expected ≡ 0)
-    by true b e f k = inl (eqb-true blocks 0 e)
-    by false true e f k = inr (eqb-true expected 0 f)
-    by false false e f k = cc
+slots_told : (s : State) (command : Cdb) → IsTakenCdb command → is_crowded s command ≡ false →
+    slots_needed (numbers_of s) command ≤ free_slots s.translation
+slots_told s cdb.TestUnitReady k h = ltb-false (free_slots s.translation) 0 h
+slots_told s (cdb.RequestSense allocation) k h = ltb-false (free_slots s.translation) 0 h
+slots_told s (cdb.Read6 address blocks) k h = ltb-false (free_slots s.translation) 0 h
+slots_told s (cdb.Write6 address blocks) k h =
+    ltb-false (free_slots s.translation) (blocks_of (cdb.Write6 address blocks)) h
+slots_told s cdb.ReadCapacity10 k h = ltb-false (free_slots s.translation) 0 h
+slots_told s (cdb.Read10 address blocks forced) k h = ltb-false (free_slots s.translation) 0 h
+slots_told s (cdb.Write10 address blocks forced) k h = ltb-false (free_slots s.translation) blocks h
+slots_told s (cdb.SynchronizeCache10 address blocks immediate) k h = ltb-false (free_slots s.translation) 0 h
+slots_told s command k h = absurd k
 
-ceil_one : (n : ℕ) → 1 ≤ n → n ≤ 4096 → n / 4096 + min 1 (n % 4096) ≡ 1
-ceil_one n low high = omega arith
-
-pub one_expected : (expected blocks : ℕ) → blocks ≤ 1 → ((blocks == 0) || (expected == 0)) ≡ false →
-    div_ceil (min expected (4096 * blocks)) 4096 ≡ 1
-one_expected expected blocks few h =
-    let both = or_parts (blocks == 0) (expected == 0) h in
-    let some : 1 ≤ blocks = some_told blocks both.0 in
-    let more : 1 ≤ expected = some_told expected both.1 in
-    ceil_one (min expected (4096 * blocks)) (omega arith) (omega arith)
-
-none_checked : (a b c e f g : Bool) → checks_of a b c e f g ≡ None →
-    (a ≡ false) × (c ≡ false) × (e ≡ false) × (g ≡ false)
-none_checked false false false false false false h = (refl, refl, refl, refl)
-none_checked a b c e f g h = cc
-
-pub record Checks (t : Translation) (unit : UnitSpec) (x : Transfer) : Type 0 where
-  pub few : x.blocks ≤ 1
-  pub within : x.address + x.blocks ≤ unit.blocks
-  pub mended : is_mended t.work.mending ≡ true
-  pub slots : ((x.writes && nat_lt 0 x.blocks) && (free_slots t == 0)) ≡ false
-
-mended_told : (b : Bool) → not b ≡ false → b ≡ true
-mended_told true e = refl
-mended_told false e = sym e
-
-pub checks_told : (permanent : Bool) (t : Translation) (unit : UnitSpec) (flags expected : ℕ) (x : Transfer) →
-    refusal_of permanent t unit flags expected x ≡ None → Checks t unit x
-checks_told permanent t unit flags expected x h =
-    let k = none_checked (nat_lt 1 x.blocks) (not (carries x flags expected))
-    (nat_lt unit.blocks (x.address + x.blocks)) (not (is_mended t.work.mending))
-    ((x.writes && nat_lt 0 x.blocks) && (is_guarded permanent unit || is_locked t))
-    ((x.writes && nat_lt 0 x.blocks) && (free_slots t == 0))
-    (sym (checked permanent t unit flags expected x) ∙ h) in
+pub counted : (s : State) (r : Request) (todo : Plan) (p : Passes s r todo) → Counts s r p.unit p.command
+counted s r todo p =
+    let spec = spec_is s r p.unit p.there in
+    let k = passed s r p.command p.is p.passed in
+    let past = subst (λ (u : Option UnitSpec). is_past p.command u ≡ false) spec k.within in
     record {
-      few = ltb-false 1 x.blocks k.0;
-      within = ltb-false unit.blocks (x.address + x.blocks) k.1;
-      mended = mended_told (is_mended t.work.mending) k.2;
-      slots = k.3;
+      unit_is = unit_is s r p.unit p.there;
+      spec_is = spec;
+      few = few_told s p.command p.taken k.not_long;
+      within = ltb-false p.unit.blocks (address_of p.command + blocks_of p.command) past;
+      ready = λ needs. ready_now s p.command needs k.ready;
+      slots = slots_told s p.command p.taken k.room;
     }

@@ -1,48 +1,44 @@
 -- The table by which a command is refused, against the checks of the code: they end a command with the same status.
 use Rattle.ufs_spec.proofs.Facts.{true≢false}
-use Rattle.std.proofs.Common.{IsTrue, get_or, ◌≡◌, ◌∙◌, ◌⊎◌, ℕ, zero, suc, ◌+◌, ◌<◌, ◌≤◌, Bool, true, false, List, []}
-use Rattle.std.proofs.Common.{◌∷◌, Option, Some, None, length, refl, sym, ap, subst, inl, inr, ⊎_elim, arith}
-use Rattle.std.specs.Prelude.{◌*◌, ◌||◌, ◌&&◌, ◌==◌, if◌then◌else◌, nat_lt, nat_le, not, slice_get, option_map, Result}
-use Rattle.std.specs.Prelude.{Ok, Err}
-use Rattle.std.proofs.lemmas.Bool.{le-ltb, lt-ltb, ltb-false}
-use Rattle.std.proofs.lemmas.Bool.Decides.{nat_tests}
+use Rattle.std.proofs.Common.{IsTrue, get_or, ◌≡◌, ◌∙◌, ◌⊎◌, ℕ, ◌+◌, ◌<◌, ◌≤◌, Bool, true, false, List, []}
+use Rattle.std.proofs.Common.{◌∷◌, Option, Some, None, length, refl, sym, ap, subst, ⊎_elim, arith}
+use Rattle.std.specs.Prelude.{◌||◌, ◌&&◌, ◌==◌, if◌then◌else◌, nat_lt, not, slice_get, slice_index, option_map}
+use Rattle.std.specs.Prelude.{Result, Ok, Err, IfErr, IfOk, IsOk}
+use Rattle.std.proofs.lemmas.Bool.{le-ltb, lt-ltb}
 use Rattle.std.proofs.lemmas.Option.{slice_get_cases, slice_get_within}
-use Rattle.ufs_spec.specs.Cdbs.{IsTakenCdb, IsTakenOperation, read_10, taken_operations, write_10}
+use Rattle.ufs_spec.specs.Cdbs.{IsTakenCdb, IsTakenOperation, SpellsCdb, address_of, blocks_of, cdb_bytes}
+use Rattle.ufs_spec.specs.Cdbs.{direction_of, inquiry, length_of, operation_of, read_10, read_6, read_capacity_10}
+use Rattle.ufs_spec.specs.Cdbs.{report_luns, request_sense, synchronize_cache_10, taken_operations, test_unit_ready}
+use Rattle.ufs_spec.specs.Cdbs.{unmap, write_10, write_6}
+use Rattle.ufs_spec.specs.Exchanges as exchange
 use Rattle.ufs_spec.specs.Exchanges.{Busy, Status, invalid_field, invalid_operation, list_length_error, no_unit}
 use Rattle.ufs_spec.specs.Exchanges.{not_ready, out_of_range, sequence_error, write_protected}
-use Rattle.ufs_spec.specs.Exchanges as exchange
-use Rattle.ufs_spec.specs.Keys.{data_key}
+use Rattle.ufs_spec.specs.Machine.{IsCdbIn}
 use Rattle.ufs_spec.specs.Messages.{is_among}
-use Rattle.ufs_spec.specs.Refusals.{Line, Lun, Request, State, UnitOf, all_but_security, first_line, is_past}
-use Rattle.ufs_spec.specs.Refusals.{is_protected, is_refused_write, lacks_unit, line, lines_behind, lines_for, locked}
-use Rattle.ufs_spec.specs.Refusals.{lun_of, mended, not_taken, numbers_of, operation_in, plain_now, refusal, spec_at}
-use Rattle.ufs_spec.specs.Refusals.{spec_of, takes, unit_in, unit_of_request}
-use Rattle.ufs_spec.specs.Translation.{Translation, free_slots, is_locked, is_mended}
+use Rattle.ufs_spec.specs.Refusals.{Line, Lun, Request, State, UnitOf, first_line, is_past}
+use Rattle.ufs_spec.specs.Refusals.{is_protected, is_refused_write, lacks_data, lacks_unit, line, lines_behind}
+use Rattle.ufs_spec.specs.Refusals.{lines_for, lun_of, mended, needs_mended, not_taken, numbers_of, operation_in}
+use Rattle.ufs_spec.specs.Refusals.{plain_now, refusal, slots_needed, spec_at, spec_of, takes, unit_in}
+use Rattle.ufs_spec.specs.Refusals.{unit_of_request}
+use Rattle.ufs_spec.specs.Translation.{free_slots}
 use Rattle.ufs_spec.specs.declared.configs.Numbers.{Numbers}
 use Rattle.ufs_spec.specs.declared.configs.UnitSpec.{UnitSpec}
 use Rattle.ufs_spec.specs.declared.scsi.Cdb.{Cdb}
 use Rattle.ufs_spec.specs.declared.scsi.Cdb.TheVariants as cdb
 use Rattle.ufs_spec.specs.declared.scsi.Sense.{Sense}
-use Rattle.ufs_spec.specs.declared.scsi.TheConstants.Sense.{INVALID_FIELD, NOT_READY, NO_UNIT, OUT_OF_RANGE}
-use Rattle.ufs_spec.specs.declared.scsi.TheConstants.Sense.{WRITE_PROTECTED}
-use Rattle.power_loss.proofs.books.SmallFacts.{and_true, eq_told}
-use Rattle.device.specs.declared.checks.Transfer.{Transfer}
+use Rattle.ufs_spec.specs.declared.scsi.TheConstants.Sense.{INVALID_FIELD, INVALID_OPCODE, NOT_READY, NO_UNIT}
+use Rattle.ufs_spec.specs.declared.scsi.TheConstants.Sense.{OUT_OF_RANGE, WRITE_PROTECTED}
+use Rattle.ftl_core.specs.Core.{Core}
+use Rattle.ftl_core.specs.Describes.{Describes}
+use Rattle.device.specs.declared.tasks.Plan.{Plan}
 use Rattle.device.specs.declared.tasks.Status as kept_status
 use Rattle.device.specs.declared.tasks.Status.TheVariants as status
-use Rattle.device.specs.Describes.{cdb_taken}
-use Rattle.device.specs.declared.tasks.Plan.{Plan}
-use Rattle.device.specs.Plans.{IsCdbRead, is_guarded, plan_of, transfer_of, carries, check, planned, planned_in}
-use Rattle.device.specs.Plans.{planned_or, planned_taken, planned_transfer, refusal_of}
-use Rattle.device.specs.Replies.{status_kept}
-
--- what is protected: no definition sets fPowerOnWPEn yet
-pub record Protects (s : State) (permanent : Bool) : Type 0 where
-  pub power_off : s.power_on ≡ false
-  pub permanent_is : permanent ≡ (plain_now s).permanent
+use Rattle.device.specs.Plans.{IsBare, IsPlanned, IsRequest, Passes, plan_of}
+use Rattle.device.specs.Tasks.{status_kept}
 
 -- Lines
 
--- the lines of a READ or a WRITE: the other lines never apply
+-- the lines of a command that is taken: the other lines never apply
 abbrev lines_of : Bool → Bool → Bool → Bool → Bool → Bool → List Line
 lines_of a b c e f g =
     line a invalid_field
@@ -56,6 +52,42 @@ lines_of a b c e f g =
     ∷ line g Busy
     ∷ []
 
+abbrev lines_in : State → Request → UnitSpec → Cdb → List Line
+lines_in s r u c =
+    lines_of (nat_lt 1 (blocks_of c)) (lacks_data r (direction_of c) (length_of 0 c))
+    (nat_lt u.blocks (address_of c + blocks_of c)) (needs_mended (operation_of c) && not (mended s))
+    (is_refused_write s (Some u) c) (nat_lt (free_slots s.translation) (slots_needed (numbers_of s) c))
+
+lines_are : (s : State) (r : Request) (u : UnitSpec) (c : Cdb) → IsTakenCdb c → spec_of s r ≡ Some u →
+    first_line (lines_for s r c) ≡ first_line (lines_in s r u c)
+lines_are s r u c taken spec = by c taken ∙ lines
+  where
+    at : Option UnitSpec → Option Status
+    at x = first_line (lines_of (nat_lt 1 (blocks_of c)) (lacks_data r (direction_of c) (length_of 0 c))
+        (is_past c x) (needs_mended (operation_of c) && not (mended s))
+        (is_refused_write s x c) (nat_lt (free_slots s.translation) (slots_needed (numbers_of s) c)))
+
+    lines : at (spec_of s r) ≡ first_line (lines_in s r u c)
+    lines = ap at spec
+
+    by : (c : Cdb) → IsTakenCdb c → first_line (lines_for s r c) ≡ first_line
+        (lines_of (nat_lt 1 (blocks_of c)) (lacks_data r (direction_of c) (length_of 0 c))
+        (is_past c (spec_of s r)) (needs_mended (operation_of c) && not (mended s))
+        (is_refused_write s (spec_of s r) c) (nat_lt (free_slots s.translation) (slots_needed (numbers_of s) c)))
+    by cdb.TestUnitReady k = refl
+    by (cdb.RequestSense allocation) k = refl
+    by (cdb.Read6 address blocks) k = refl
+    by (cdb.Write6 address blocks) k = refl
+    by cdb.ReadCapacity10 k = refl
+    by (cdb.Read10 address blocks forced) k = refl
+    by (cdb.Write10 address blocks forced) k = refl
+    by (cdb.SynchronizeCache10 address blocks immediate) k = refl
+    by command k = absurd k
+
+abbrev check : Sense → Option kept_status.Status
+check sense = Some (status.CheckCondition sense)
+
+-- what the code's checks give, in their order
 abbrev pub checks_of : Bool → Bool → Bool → Bool → Bool → Bool → Option kept_status.Status
 checks_of a b c e f g =
     if a then check INVALID_FIELD
@@ -66,209 +98,56 @@ checks_of a b c e f g =
     else if g then Some status.Busy
     else None
 
--- the last line needs to be the same only where the first does not apply
-lines_checked : (a b c e f g h : Bool) → (a ≡ false → g ≡ h) →
-    first_line (lines_of a b c e f g) ≡ option_map status_kept (checks_of a b c e f h)
-lines_checked true b c e f g h same = refl
-lines_checked false true c e f g h same = refl
-lines_checked false false true e f g h same = refl
-lines_checked false false false true f g h same = refl
-lines_checked false false false false true g h same = refl
-lines_checked false false false false false true true same = refl
-lines_checked false false false false false true false same = cc (same refl)
-lines_checked false false false false false false true same = cc (same refl)
-lines_checked false false false false false false false same = refl
+checks_told : (a b c e f g : Bool) →
+    first_line (lines_of a b c e f g) ≡ option_map status_kept (checks_of a b c e f g)
+checks_told true b c e f g = refl
+checks_told false true c e f g = refl
+checks_told false false true e f g = refl
+checks_told false false false true f g = refl
+checks_told false false false false true g = refl
+checks_told false false false false false true = refl
+checks_told false false false false false false = refl
 
-checks_same : (a b c e w l z : Bool) →
-    (if a then check INVALID_FIELD else if b then check INVALID_FIELD else if c then check OUT_OF_RANGE
-    else if e then check NOT_READY
-    else if w then (if l then check WRITE_PROTECTED else if z then Some status.Busy else None)
-    else None)
-    ≡ checks_of a b c e (w && l) (w && z)
-checks_same true b c e w l z = refl
-checks_same false true c e w l z = refl
-checks_same false false true e w l z = refl
-checks_same false false false true w l z = refl
-checks_same false false false false true l z = refl
-checks_same false false false false false l z = refl
+-- the checks in the words of the code
+abbrev pub checks_for : State → Request → UnitSpec → Cdb → Option kept_status.Status
+checks_for s r u c =
+    checks_of (nat_lt 1 (blocks_of c)) (lacks_data r (direction_of c) (length_of 0 c))
+    (nat_lt u.blocks (address_of c + blocks_of c)) (needs_mended (operation_of c) && not (mended s))
+    (is_refused_write s (Some u) c) (nat_lt (free_slots s.translation) (slots_needed (numbers_of s) c))
 
--- Transfers
+pub table_checked : (s : State) (r : Request) (u : UnitSpec) (c : Cdb) → IsTakenCdb c → spec_of s r ≡ Some u →
+    first_line (lines_for s r c) ≡ option_map status_kept (checks_for s r u c)
+table_checked s r u c taken spec =
+    lines_are s r u c taken spec
+    ∙ checks_told (nat_lt 1 (blocks_of c)) (lacks_data r (direction_of c) (length_of 0 c))
+    (nat_lt u.blocks (address_of c + blocks_of c)) (needs_mended (operation_of c) && not (mended s))
+    (is_refused_write s (Some u) c) (nat_lt (free_slots s.translation) (slots_needed (numbers_of s) c))
 
-abbrev pub read_of : ℕ → ℕ → Transfer
-read_of address blocks = record { address = address; blocks = blocks; writes = false }
+pub told_by : (s : State) (r : Request) (u : UnitSpec) (c : Cdb) → IsTakenCdb c → spec_of s r ≡ Some u →
+    (a b p e f g : Bool) → nat_lt 1 (blocks_of c) ≡ a → lacks_data r (direction_of c) (length_of 0 c) ≡ b →
+    nat_lt u.blocks (address_of c + blocks_of c) ≡ p → (needs_mended (operation_of c) && not (mended s)) ≡ e →
+    is_refused_write s (Some u) c ≡ f → nat_lt (free_slots s.translation) (slots_needed (numbers_of s) c) ≡ g →
+    first_line (lines_for s r c) ≡ option_map status_kept (checks_of a b p e f g)
+told_by s r u c taken spec a b p e f g ka kb kp ke kf kg =
+    table_checked s r u c taken spec
+    ∙ (λ i. option_map status_kept (checks_of (ka i) (kb i) (kp i) (ke i) (kf i) (kg i)))
 
-abbrev pub write_of : ℕ → ℕ → Transfer
-write_of address blocks = record { address = address; blocks = blocks; writes = true }
+-- a command that needs a mended device, and one that does not or finds one
+pub unmended : (a b : Bool) → a ≡ true → not b ≡ true → (a && not b) ≡ true
+unmended true false e k = refl
+unmended true true e k = absurd (true≢false (sym k))
+unmended false b e k = absurd (true≢false (sym e))
 
-pub checked : (permanent : Bool) (t : Translation) (u : UnitSpec) (flags expected : ℕ) (x : Transfer) →
-    refusal_of permanent t u flags expected x
-    ≡ checks_of (nat_lt 1 x.blocks) (not (carries x flags expected)) (nat_lt u.blocks (x.address + x.blocks))
-    (not (is_mended t.work.mending)) ((x.writes && nat_lt 0 x.blocks) && (is_guarded permanent u || is_locked t))
-    ((x.writes && nat_lt 0 x.blocks) && (free_slots t == 0))
-checked permanent t u flags expected x =
-    checks_same (nat_lt 1 x.blocks) (not (carries x flags expected)) (nat_lt u.blocks (x.address + x.blocks))
-    (not (is_mended t.work.mending)) (x.writes && nat_lt 0 x.blocks) (is_guarded permanent u || is_locked t)
-    (free_slots t == 0)
+pub needs_none : (a b : Bool) → a ≡ false → (a && b) ≡ false
+needs_none false b e = refl
+needs_none true b e = absurd (true≢false e)
 
-zero_test : (n : ℕ) → ((n ≡ 0) × ((n == 0) ≡ true) × (nat_lt 0 n ≡ false))
-    ⊎ ((1 ≤ n) × ((n == 0) ≡ false) × (nat_lt 0 n ≡ true))
-zero_test zero = inl (refl, refl, refl)
-zero_test (suc n) = inr (omega arith, grind (arith, nat_tests), lt-ltb 0 (suc n) (omega arith))
+pub is_ready : (a b : Bool) → not b ≡ false → (a && not b) ≡ false
+is_ready true true e = refl
+is_ready false b e = refl
+is_ready true false e = absurd (true≢false e)
 
-read_data : (n : ℕ) (f : Bool) → (nat_lt 0 n && not f) ≡ not (if n == 0 then true else f)
-read_data n f = by (n == 0) (nat_lt 0 n) f (zero_test n)
-  where
-    by : (z m f : Bool) → ((n ≡ 0) × (z ≡ true) × (m ≡ false)) ⊎ ((1 ≤ n) × (z ≡ false) × (m ≡ true)) →
-        (m && not f) ≡ not (if z then true else f)
-    by true true f (inl h) = cc h.2
-    by true false f h = refl
-    by false true f h = refl
-    by false false f (inl h) = cc h.1
-    by true true f (inr h) = cc h.1
-    by false false f (inr h) = cc h.2
-
--- with enough to write there is not too little
-enough_test : (n expected : ℕ) → nat_lt expected n ≡ not (nat_le n expected)
-enough_test n expected = grind (arith, nat_tests)
-
-write_data : (n expected : ℕ) (f : Bool) → (nat_lt 0 n && (not f || nat_lt expected n)) ≡ not (if n == 0 then true
-    else f && nat_le n expected)
-write_data n expected f = by (n == 0) (nat_lt 0 n) f (nat_lt expected n) (nat_le n expected) (zero_test n)
-    (enough_test n expected)
-  where
-    by : (z m f l k : Bool) → ((n ≡ 0) × (z ≡ true) × (m ≡ false)) ⊎ ((1 ≤ n) × (z ≡ false) × (m ≡ true)) → l ≡ not k →
-        (m && (not f || l)) ≡ not (if z then true else f && k)
-    by true true f l k (inl h) e = cc h.2
-    by true true f l k (inr h) e = cc h.1
-    by true false f l k h e = refl
-    by false true true l k h e = e
-    by false true false l k h e = refl
-    by false false f l k (inl h) e = cc h.1
-    by false false f l k (inr h) e = cc h.2
-
-no_more : (n : ℕ) → nat_lt n 0 ≡ false
-no_more n = le-ltb n 0 (omega arith)
-
-crowded : (free blocks : ℕ) → nat_lt 1 blocks ≡ false → nat_lt free blocks ≡ (nat_lt 0 blocks && (free == 0))
-crowded free blocks h = by (zero_test blocks) (zero_test free)
-  where
-    few : blocks ≤ 1
-    few = ltb-false 1 blocks h
-
-    by : ((blocks ≡ 0) × ((blocks == 0) ≡ true) × (nat_lt 0 blocks ≡ false))
-        ⊎ ((1 ≤ blocks) × ((blocks == 0) ≡ false) × (nat_lt 0 blocks ≡ true)) →
-        ((free ≡ 0) × ((free == 0) ≡ true) × (nat_lt 0 free ≡ false))
-        ⊎ ((1 ≤ free) × ((free == 0) ≡ false) × (nat_lt 0 free ≡ true)) →
-        nat_lt free blocks ≡ (nat_lt 0 blocks && (free == 0))
-    by (inl b) f = let z = b.0 in le-ltb free blocks (omega arith) ∙ sym (ap (λ x. x && (free == 0)) b.2)
-    by (inr b) (inl f) = let z = f.0 in let y = b.0 in
-        lt-ltb free blocks (omega arith) ∙ (sym f.1 ∙ sym (ap (λ x. x && (free == 0)) b.2))
-    by (inr b) (inr f) = let y = f.0 in let z = few in
-        le-ltb free blocks (omega arith) ∙ (sym f.1 ∙ sym (ap (λ x. x && (free == 0)) b.2))
-
-not_powered : (a b c : Bool) → b ≡ false → ((a && b) || c) ≡ c
-not_powered true true c e = cc
-not_powered true false c e = refl
-not_powered false b c e = refl
-
-refused_write : (w p l q : Bool) → p ≡ q → ((w && (p || l)) || false) ≡ (w && (q || l))
-refused_write true p l q e = or_none (p || l) ∙ ap (λ x. x || l) e
-  where
-    or_none : (x : Bool) → (x || false) ≡ x
-    or_none true = refl
-    or_none false = refl
-refused_write false p l q e = refl
-
--- The lines of one command
-
-read_lines : (permanent : Bool) (s : State) (r : Request) (u : UnitSpec) (address blocks : ℕ) (forced : Bool) →
-    spec_of s r ≡ Some u →
-    first_line (lines_for s r (cdb.Read10 address blocks forced)) ≡ option_map status_kept
-    (refusal_of permanent s.translation u r.flags r.expected (read_of address blocks))
-read_lines permanent s r u address blocks forced spec =
-    lines ∙ (lines_checked (nat_lt 1 blocks) (not (carries x r.flags r.expected)) (nat_lt u.blocks (address + blocks))
-    (not (mended s)) false false false (λ e. refl)
-    ∙ sym (ap (option_map status_kept) (checked permanent s.translation u r.flags r.expected x)))
-  where
-    x : Transfer
-    x = read_of address blocks
-
-    lines : first_line (lines_for s r (cdb.Read10 address blocks forced))
-        ≡ first_line (lines_of (nat_lt 1 blocks) (not (carries x r.flags r.expected))
-        (nat_lt u.blocks (address + blocks)) (not (mended s)) false false)
-    lines = λ i. first_line (lines_of (nat_lt 1 blocks) (read_data (blocks * 4096) (r.flags == 0x40) i)
-        (is_past (cdb.Read10 address blocks forced) (spec i))
-        (not (mended s)) false (no_more (free_slots s.translation) i))
-
-write_lines : (permanent : Bool) (s : State) (r : Request) (u : UnitSpec) (address blocks : ℕ) → Protects s permanent →
-    spec_of s r ≡ Some u →
-    first_line (lines_for s r (cdb.Write10 address blocks true)) ≡ option_map status_kept
-    (refusal_of permanent s.translation u r.flags r.expected (write_of address blocks))
-write_lines permanent s r u address blocks bare spec =
-    lines ∙ (lines_checked (nat_lt 1 blocks) (not (carries x r.flags r.expected)) (nat_lt u.blocks (address + blocks))
-    (not (mended s)) (nat_lt 0 blocks && (is_guarded permanent u || locked s))
-    (nat_lt (free_slots s.translation) blocks)
-    (nat_lt 0 blocks && (free_slots s.translation == 0)) (crowded (free_slots s.translation) blocks)
-    ∙ sym (ap (option_map status_kept) (checked permanent s.translation u r.flags r.expected x)))
-  where
-    x : Transfer
-    x = write_of address blocks
-
-    writes : is_refused_write s (Some u) (cdb.Write10 address blocks true)
-        ≡ (nat_lt 0 blocks && (is_guarded permanent u || locked s))
-    writes = refused_write (nat_lt 0 blocks) (is_protected s (Some u)) (locked s) (is_guarded permanent u)
-        (not_powered (u.protect == 1) s.power_on ((u.protect == 2) && (plain_now s).permanent) bare.power_off
-        ∙ ap (λ (b : Bool). (u.protect == 2) && b) (sym bare.permanent_is))
-
-    lines : first_line (lines_for s r (cdb.Write10 address blocks true))
-        ≡ first_line (lines_of (nat_lt 1 blocks) (not (carries x r.flags r.expected))
-        (nat_lt u.blocks (address + blocks)) (not (mended s)) (nat_lt 0 blocks && (is_guarded permanent u || locked s))
-        (nat_lt (free_slots s.translation) blocks))
-    lines = (λ i. first_line (lines_of (nat_lt 1 blocks) (write_data (blocks * 4096) r.expected (r.flags == 0x20) i)
-        (is_past (cdb.Write10 address blocks true) (spec i))
-        (not (mended s)) (is_refused_write s (spec i) (cdb.Write10 address blocks true))
-        (nat_lt (free_slots s.translation) blocks)))
-        ∙ (λ i. first_line (lines_of (nat_lt 1 blocks) (not (carries x r.flags r.expected))
-        (nat_lt u.blocks (address + blocks)) (not (mended s)) (writes i)
-        (nat_lt (free_slots s.translation) blocks)))
-
--- The whole table
-
--- the command is this transfer
-abbrev pub Does : Cdb → Transfer → Type 0
-Does (cdb.Read10 address blocks forced) t = t ≡ read_of address blocks
-Does (cdb.Write10 address blocks forced) t = (forced ≡ true) × (t ≡ write_of address blocks)
-Does command t = ⊥
-
--- a request that is not refused: the transfer that it is, and its plan
-pub record Passes (permanent : Bool) (s : State) (r : Request) (plan : Plan) : Type 0 where
-  pub command : Cdb
-  pub transfer : Transfer
-  pub is : r.cdb ≡ Some command
-  pub does : Does command transfer
-  pub unit : UnitSpec
-  pub there : slice_get (numbers_of s).units.items r.lun ≡ Some unit
-  pub unit_is : unit_of_request s r ≡ Some r.lun
-  pub none : refusal_of permanent s.translation unit r.flags r.expected transfer ≡ None
-  pub plan_is : plan ≡ plan_of transfer (data_key r.lun transfer.address) r.expected
-
-abbrev pub Agrees : Bool → State → Request → Option Status → Result Plan kept_status.Status → Type 0
-Agrees permanent s r (Some refused) (Err told) = refused ≡ status_kept told
-Agrees permanent s r None (Ok plan) = Passes permanent s r plan
-Agrees permanent s r refused told = ⊥
-
-takes_none : (unit operation : ℕ) → takes (UnitOf unit) operation ≡ false →
-    IsTrue (is_among taken_operations operation) → ⊥
-takes_none unit operation h k = by (operation == read_10) (operation == write_10) refl refl k
-  where
-    by : (a b : Bool) → (operation == read_10) ≡ a → (operation == write_10) ≡ b → IsTrue (a || (b || false)) → ⊥
-    by true b e f k = true≢false (subst (λ n. takes (UnitOf unit) n ≡ false) (eq_told operation read_10 e) h)
-    by false true e f k = true≢false (subst (λ n. takes (UnitOf unit) n ≡ false) (eq_told operation write_10 f) h)
-    by false false e f k = true≢false (sym k)
-
-takes_some : (unit operation : ℕ) → takes (UnitOf unit) operation ≡ true → IsTrue (is_among taken_operations operation)
-takes_some unit operation h =
-    (and_true (is_among all_but_security operation) (is_among taken_operations operation) h).1
+-- Units
 
 no_lun : (n : Numbers) (byte : ℕ) → slice_get n.units.items byte ≡ None → lun_of n byte ≡ None
 no_lun n byte h =
@@ -287,89 +166,162 @@ is_lun n byte u h =
     ap (λ (b : Bool). if b then Some (UnitOf byte) else None)
     (lt-ltb byte (length n.units.items) (slice_get_within n.units.items byte u h))
 
-module _ (permanent : Bool) (s : State) (r : Request) (taken : Result Cdb Sense) (bare : Protects s permanent)
-    (is : IsCdbRead r.bytes taken) (cdb_is : r.cdb ≡ cdb_taken taken) where
-  -- a transfer that is checked
-  transfer_right : (u : UnitSpec) (command : Cdb) (t : Transfer) → r.cdb ≡ Some command → Does command t →
-      slice_get (numbers_of s).units.items r.lun ≡ Some u →
-      unit_of_request s r ≡ Some r.lun → (o : Option kept_status.Status) →
-      refusal_of permanent s.translation u r.flags r.expected t ≡ o →
-      Agrees permanent s r (option_map status_kept o) (planned_or r.lun r.expected t o)
-  transfer_right u command t e does there unit (Some told) k = refl
-  transfer_right u command t e does there unit None k = record {
-    command = command;
-    transfer = t;
-    is = e;
-    does = does;
-    unit = u;
-    there = there;
-    unit_is = unit;
-    none = k;
-    plan_is = refl;
-  }
+pub unit_is : (s : State) (r : Request) (u : UnitSpec) → slice_get (numbers_of s).units.items r.lun ≡ Some u →
+    unit_of_request s r ≡ Some r.lun
+unit_is s r u there = ap (unit_in s r) (is_lun (numbers_of s) r.lun u there)
 
-  command_right : (u : UnitSpec) (command : Cdb) → r.cdb ≡ Some command → IsTakenCdb command →
-      slice_get (numbers_of s).units.items r.lun ≡ Some u →
-      unit_of_request s r ≡ Some r.lun → spec_of s r ≡ Some u →
-      Agrees permanent s r (first_line (lines_for s r command))
-      (planned_transfer permanent s.translation r.lun r.flags r.expected u (transfer_of command))
-  command_right u (cdb.Read10 address blocks forced) e k there unit spec =
-      subst (λ (o : Option Status).
-      Agrees permanent s r o (planned_or r.lun r.expected (read_of address blocks)
-      (refusal_of permanent s.translation u r.flags r.expected (read_of address blocks))))
-      (sym (read_lines permanent s r u address blocks forced spec))
-      (transfer_right u (cdb.Read10 address blocks forced) (read_of address blocks) e refl there unit
-      (refusal_of permanent s.translation u r.flags r.expected (read_of address blocks)) refl)
-  command_right u (cdb.Write10 address blocks forced) e k there unit spec =
-      subst (λ (f : Bool). Agrees permanent s r (first_line (lines_for s r (cdb.Write10 address blocks f)))
-      (planned_or r.lun r.expected (write_of address blocks)
-      (refusal_of permanent s.translation u r.flags r.expected (write_of address blocks))))
-      (sym k)
-      (subst (λ (o : Option Status). Agrees permanent s r o (planned_or r.lun r.expected (write_of address blocks)
-      (refusal_of permanent s.translation u r.flags r.expected (write_of address blocks))))
-      (sym (write_lines permanent s r u address blocks bare spec))
-      (transfer_right u (cdb.Write10 address blocks forced) (write_of address blocks) e (k, refl) there unit
-      (refusal_of permanent s.translation u r.flags r.expected (write_of address blocks)) refl))
-  command_right u command e k there unit spec = absurd k
+pub spec_is : (s : State) (r : Request) (u : UnitSpec) → slice_get (numbers_of s).units.items r.lun ≡ Some u →
+    spec_of s r ≡ Some u
+spec_is s r u there = ap (spec_at (numbers_of s)) (unit_is s r u there) ∙ there
 
-  spelled_right : (u : UnitSpec) → slice_get (numbers_of s).units.items r.lun ≡ Some u →
-      unit_of_request s r ≡ Some r.lun → spec_of s r ≡ Some u → IsTakenOperation r.bytes →
-      (x : Result Cdb Sense) → taken ≡ x → Agrees permanent s r (first_line (lines_behind s r (cdb_taken x)))
-      (planned_taken permanent s.translation r.lun r.flags r.expected u x)
-  spelled_right u there unit spec op (Err sense) e = ap exchange.CheckCondition (sym (is.field sense e op))
-  spelled_right u there unit spec op (Ok command) e =
-      command_right u command (cdb_is ∙ ap cdb_taken e) (is.read command e).1 there unit spec
+-- Operation codes: an ordinary unit takes all that are taken
 
-  operation_right : (u : UnitSpec) → slice_get (numbers_of s).units.items r.lun ≡ Some u →
-      unit_of_request s r ≡ Some r.lun → spec_of s r ≡ Some u →
-      (b : Bool) → takes (UnitOf r.lun) (operation_in r) ≡ b →
-      Agrees permanent s r (first_line (line (not b) invalid_operation ∷ lines_behind s r r.cdb))
-      (planned_taken permanent s.translation r.lun r.flags r.expected u taken)
-  operation_right u there unit spec true e =
-      subst (λ (x : Option Cdb). Agrees permanent s r (first_line (lines_behind s r x))
-      (planned_taken permanent s.translation r.lun r.flags r.expected u taken)) (sym cdb_is)
-      (spelled_right u there unit spec (takes_some r.lun (operation_in r) e) taken refl)
-  operation_right u there unit spec false e =
-      subst (λ (x : Result Cdb Sense). Agrees permanent s r (Some invalid_operation)
-      (planned_taken permanent s.translation r.lun r.flags r.expected u x))
-      (sym (is.operation (takes_none r.lun (operation_in r) e))) refl
+among_all : (a b c d e f g h q u p : Bool) →
+    ((a || (b || (c || (d || (q || (e || (f || (g || (h || (u || (p || false)))))))))))
+    && (a || (b || (c || (d || (e || (f || (g || (h || false)))))))))
+    ≡ (a || (b || (c || (d || (e || (f || (g || (h || false))))))))
+among_all true b c d e f g h q u p = refl
+among_all false true c d e f g h q u p = refl
+among_all false false true d e f g h q u p = refl
+among_all false false false true e f g h q u p = refl
+among_all false false false false true f g h true u p = refl
+among_all false false false false true f g h false u p = refl
+among_all false false false false false true g h true u p = refl
+among_all false false false false false true g h false u p = refl
+among_all false false false false false false true h true u p = refl
+among_all false false false false false false true h false u p = refl
+among_all false false false false false false false true true u p = refl
+among_all false false false false false false false true false u p = refl
+among_all false false false false false false false false true u p = refl
+among_all false false false false false false false false false true p = refl
+among_all false false false false false false false false false false true = refl
+among_all false false false false false false false false false false false = refl
 
-  unit_right : (x : Option UnitSpec) → slice_get (numbers_of s).units.items r.lun ≡ x →
-      Agrees permanent s r (refusal s r)
-      (planned_in permanent s.translation r.lun r.flags r.expected taken x)
-  unit_right None e =
-      subst (λ (o : Option Status). Agrees permanent s r o (Err (status.CheckCondition NO_UNIT)))
-      (sym (ap (λ (l : Option Lun). first_line (line (lacks_unit s r l) no_unit ∷ line (not_taken r l) invalid_operation
-      ∷ lines_behind s r r.cdb)) (no_lun (numbers_of s) r.lun e))) refl
-  unit_right (Some u) e =
-      let lun = is_lun (numbers_of s) r.lun u e in
-      let unit = ap (unit_in s r) lun in
-      subst (λ (o : Option Status). Agrees permanent s r o
-      (planned_taken permanent s.translation r.lun r.flags r.expected u taken))
-      (sym (ap (λ (l : Option Lun). first_line (line (lacks_unit s r l) no_unit ∷ line (not_taken r l) invalid_operation
-      ∷ lines_behind s r r.cdb)) lun))
-      (operation_right u e unit (ap (spec_at (numbers_of s)) unit ∙ e) (takes (UnitOf r.lun) (operation_in r)) refl)
+takes_taken : (unit n : ℕ) → takes (UnitOf unit) n ≡ is_among taken_operations n
+takes_taken unit n =
+    among_all (n == test_unit_ready) (n == request_sense) (n == read_6) (n == write_6) (n == read_capacity_10)
+    (n == read_10) (n == write_10) (n == synchronize_cache_10) (n == inquiry) (n == unmap) (n == report_luns)
 
-  -- the table and the checks agree
-  pub table_right : Agrees permanent s r (refusal s r) (planned permanent s.translation r.lun r.flags r.expected taken)
-  table_right = unit_right (slice_get (numbers_of s).units.items r.lun) refl
+taken_first : (c : Cdb) → IsTakenCdb c → is_among taken_operations (slice_index (cdb_bytes c) 0) ≡ true
+taken_first cdb.TestUnitReady k = refl
+taken_first (cdb.RequestSense allocation) k = refl
+taken_first (cdb.Read6 address blocks) k = refl
+taken_first (cdb.Write6 address blocks) k = refl
+taken_first cdb.ReadCapacity10 k = refl
+taken_first (cdb.Read10 address blocks forced) k = refl
+taken_first (cdb.Write10 address blocks forced) k = refl
+taken_first (cdb.SynchronizeCache10 address blocks immediate) k = refl
+taken_first command k = absurd k
+
+-- The command of a request
+
+abbrev not_read : Sense → Result Cdb Sense
+not_read sense = Err sense
+
+abbrev is_read : Cdb → Result Cdb Sense
+is_read command = Ok command
+
+abbrev Reads : List ℕ → Result Cdb Sense → Type 0
+Reads bytes x = (c : Cdb) → SpellsCdb c bytes → x ≡ Ok c
+
+-- nothing is spelled where nothing is read
+none_spelled : (bytes : List ℕ) (x : Option Cdb) (sense : Sense) → Reads bytes (Err sense) → IsCdbIn (Some bytes) x →
+    x ≡ None
+none_spelled bytes None sense reads is = refl
+none_spelled bytes (Some c) sense reads is = absurd (none c (reads c is))
+  where
+    none : (c : Cdb) → not_read sense ≡ Ok c → ⊥
+    none c e = cc
+
+-- what is read is what the request spells
+one_spelled : (bytes : List ℕ) (x : Option Cdb) (command : Cdb) → SpellsCdb command bytes →
+    Reads bytes (Ok command) → IsCdbIn (Some bytes) x → x ≡ Some command
+one_spelled bytes None command spells reads is = absurd (is command spells)
+one_spelled bytes (Some c) command spells reads is = same c (reads c is)
+  where
+    same : (c : Cdb) → is_read command ≡ Ok c → Some c ≡ Some command
+    same c e = cc
+
+-- The whole table
+
+module _ (s : State) (r : Request) (flags lun expected : ℕ) (bytes : List ℕ)
+    (is : IsRequest r flags lun expected bytes) where
+  abbrev refused_in : Option Lun → Option Cdb → Option Status
+  refused_in l c =
+      first_line (line (lacks_unit s r l) no_unit ∷ line (not_taken r l) invalid_operation ∷ lines_behind s r c)
+
+  abbrev refused_by : Bool → Option Cdb → Option Status
+  refused_by b c = first_line (line (not b) invalid_operation ∷ lines_behind s r c)
+
+  -- there is no such unit
+  pub unit_lacks : slice_get (numbers_of s).units.items lun ≡ None →
+      IsPlanned s r (Err (status.CheckCondition NO_UNIT))
+  unit_lacks h =
+      ap (λ (l : Option Lun). refused_in l r.cdb)
+      (no_lun (numbers_of s) r.lun (ap (slice_get (numbers_of s).units.items) is.lun_is ∙ h))
+
+  module _ (u : UnitSpec) (h : slice_get (numbers_of s).units.items lun ≡ Some u) where
+    there : slice_get (numbers_of s).units.items r.lun ≡ Some u
+    there = ap (slice_get (numbers_of s).units.items) is.lun_is ∙ h
+
+    pub spec : spec_of s r ≡ Some u
+    spec = spec_is s r u there
+
+    refused_there : (b : Bool) (c : Option Cdb) → is_among taken_operations (slice_index bytes 0) ≡ b → r.cdb ≡ c →
+        refusal s r ≡ refused_by b c
+    refused_there b c e k =
+        ap (λ (l : Option Lun). refused_in l r.cdb) (is_lun (numbers_of s) r.lun u there)
+        ∙ (ap (λ (t : Bool). refused_by t r.cdb)
+        (takes_taken r.lun (operation_in r)
+        ∙ (ap (λ (x : List ℕ). is_among taken_operations (slice_index x 0)) is.bytes_are ∙ e))
+        ∙ ap (refused_by b) k)
+
+    -- the CDB spells no command that is taken
+    pub unread : (sense : Sense) → Reads bytes (Err sense) →
+        ((IsTakenOperation bytes → ⊥) → not_read sense ≡ Err INVALID_OPCODE) →
+        (IsTakenOperation bytes → sense ≡ INVALID_FIELD) →
+        IsPlanned s r (Err (status.CheckCondition sense))
+    unread sense reads operation field = by (is_among taken_operations (slice_index bytes 0)) refl
+      where
+        none : r.cdb ≡ None
+        none = none_spelled bytes r.cdb sense reads is.spelled
+
+        senses : (x y : Sense) → not_read x ≡ Err y → x ≡ y
+        senses x y e = cc
+
+        by : (b : Bool) → is_among taken_operations (slice_index bytes 0) ≡ b →
+            refusal s r ≡ Some (exchange.CheckCondition sense)
+        by true e = refused_there true None e none ∙ ap (λ x. Some (exchange.CheckCondition x)) (sym (field e))
+        by false e =
+            refused_there false None e none
+            ∙ ap (λ x. Some (exchange.CheckCondition x))
+            (sym (senses sense INVALID_OPCODE (operation (λ k. true≢false (sym (sym e ∙ k))))))
+
+    module _ (command : Cdb) (spells : SpellsCdb command bytes) (reads : Reads bytes (Ok command)) where
+      refused_read : refusal s r ≡ first_line (lines_for s r command)
+      refused_read =
+          refused_there true (Some command)
+          (ap (λ (x : List ℕ). is_among taken_operations (slice_index x 0)) spells.2
+          ∙ taken_first command spells.1)
+          (one_spelled bytes r.cdb command spells reads is.spelled)
+
+      -- what the checks behind say is what the table says
+      pub read_planned : (core : Core) (permanent : Bool) (result : Result Plan kept_status.Status) →
+          Describes core s.translation → IsBare s permanent →
+          IfOk result (λ todo. IsTakenCdb command → todo ≡ plan_of u lun expected command) →
+          (IsOk result → first_line (lines_for s r command) ≡ None) →
+          IfErr result (λ told. (s : State) (r : Request) → Describes core s.translation → IsBare s permanent →
+          spec_of s r ≡ Some u → r.flags ≡ flags → r.expected ≡ expected → IsTakenCdb command →
+          first_line (lines_for s r command) ≡ Some (status_kept told)) →
+          IsPlanned s r result
+      read_planned core permanent (Err told) h bare planned passed refused =
+          refused_read ∙ refused s r h bare spec is.flags_are is.expected_is spells.1
+      read_planned core permanent (Ok todo) h bare planned passed refused = record {
+        passed = refused_read ∙ passed refl;
+        unit = u;
+        there = there;
+        command = command;
+        is = one_spelled bytes r.cdb command spells reads is.spelled;
+        taken = spells.1;
+        todo_is = planned spells.1 ∙ sym (λ i. plan_of u (is.lun_is i) (is.expected_is i) command);
+      }

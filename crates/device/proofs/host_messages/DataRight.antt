@@ -7,12 +7,12 @@ use Rattle.std.proofs.lemmas.List.{length-map}
 use Rattle.arrayvec.specs.ArrayVec.{ArrayVec}
 use Rattle.ufs_spec.proofs.Facts.{false≢true}
 use Rattle.ufs_spec.specs.Exchanges as exchange
-use Rattle.ufs_spec.specs.Exchanges.{Answering, Awaiting, Deed, ForFrames, ForUnmap, ForWrite, Gathering, is_asked_of}
+use Rattle.ufs_spec.specs.Exchanges.{Answering, Deed, ForFrames, ForUnmap, ForWrite, Gathering, is_asked_of}
 use Rattle.ufs_spec.specs.Exchanges.{task_of, with_deed}
 use Rattle.ufs_spec.specs.Keys.{Group, data_key}
 use Rattle.ufs_spec.specs.Ledger.{before_accepted, next_number}
 use Rattle.ufs_spec.specs.Machine.{Call, Host, IsHeard, OfHost, Spelled, accepts, asked_fault, data_for, data_heard}
-use Rattle.ufs_spec.specs.Machine.{result_of, set_deed, with_moves, write_complete}
+use Rattle.ufs_spec.specs.Machine.{result_of, set_deed, with_moves, write_complete, write_deed}
 use Rattle.ufs_spec.specs.Messages.{AreBytes, Spells, host_fault_of}
 use Rattle.ufs_spec.specs.declared.faults.HostFault.{HostFault}
 use Rattle.ufs_spec.specs.declared.faults.HostFault.TheVariants.{NotAskedFor}
@@ -37,7 +37,7 @@ use Rattle.device.specs.Describes.{Describes, IsAnswered, IsDoing, IsHeardAs, Ke
 use Rattle.device.specs.Describes.{progress_of}
 use Rattle.device.specs.Hears.{IsDataHeard, asked_for, task_set}
 use Rattle.device.specs.Kept.{DeviceCore}
-use Rattle.device.specs.Tasks.{failed, phase_after, write_error}
+use Rattle.device.specs.Tasks.{block_taken, failed, phase_after, write_error}
 use Rattle.device.proofs.described.Answered.{answered, answered_told, stays}
 use Rattle.device.proofs.host_messages.AskedData.{AreAsked, data_asked}
 use Rattle.device.proofs.host_messages.OneBlock.{accepts_one, can_write_one, group_one, number_awaited, permanent_still}
@@ -48,39 +48,46 @@ use Rattle.device.proofs.due_replies.ReplyMoves.{blocks_set_to, few_set, tasks_s
 -- The WRITE
 
 -- the task gathers the data of this one block, and none came yet
-record GathersOne (length : ℕ) (key : Key) (deed : Deed) : Type 0 where
+record GathersOne (length : ℕ) (key : Key) (forced : Bool) (deed : Deed) : Type 0 where
   unit : ℕ
   address : ℕ
   key_is : key ≡ data_key unit address
-  deed_is : deed ≡ Gathering (ForWrite unit address 1 true) [] true
+  deed_is : deed ≡ Gathering (ForWrite unit address 1 forced) [] true
   length_is : length ≡ 4096
 
-gathers_one : (before expected length : ℕ) (key : Key) (deed : Deed) →
-    IsDoing before expected length (phase.AwaitData key) deed → GathersOne length key deed
-gathers_one before expected length key (Gathering (ForWrite unit address blocks forced) gathered asked) h = record {
+gathers_one : (before expected length : ℕ) (key : Key) (forced : Bool) (deed : Deed) →
+    IsDoing before expected length (phase.AwaitData key forced) deed → GathersOne length key forced deed
+gathers_one before expected length key forced (Gathering (ForWrite unit address blocks fua) gathered asked) h = record {
   unit = unit;
   address = address;
   key_is = h.0.write.0;
   deed_is = λ i. Gathering (ForWrite unit address (h.0.write.1 i) (h.0.write.2 i)) (h.0.none_gathered i) (h.1 i);
   length_is = h.0.length_is;
 }
-gathers_one before expected length key (Gathering purpose gathered asked) h = absurd h.0.write
-gathers_one before expected length key deed h = absurd h
+gathers_one before expected length key forced (Gathering purpose gathered asked) h = absurd h.0.write
+gathers_one before expected length key forced deed h = absurd h
 
 abbrev released : State → exchange.Task → State
 released s b = set_deed (with_moves s (Release 1 ∷ [])) b.tag (Answering exchange.write_error b.length)
 
-abbrev written : State → exchange.Task → ℕ → ℕ → List ℕ → State
-written s b unit address bytes = set_deed (accepts s (write_one unit address bytes) 1) b.tag
-    (Awaiting (length s.accepted + 1))
+abbrev written : State → exchange.Task → Bool → ℕ → ℕ → List ℕ → State
+written s b forced unit address bytes = set_deed (accepts s (write_one unit address bytes) 1) b.tag
+    (write_deed forced (length s.accepted + 1) b.length)
+
+-- nothing is kept for a WRITE whose block was accepted
+none_kept : (forced : Bool) (position n : ℕ) → progress_in (write_deed forced position n) ≡ progress_in
+    (Answering exchange.write_error 0)
+none_kept true position n = refl
+none_kept false position n = refl
 
 abbrev call_of : ℕ → ℕ → ℕ → ArrayVec ℕ → Call
 call_of lun tag offset «data» = Host (Spelled (message.DataOut lun tag offset «data») None)
 
 -- the WRITE whose data are all there, the layer then, and what its task is told
-module _ (d : DeviceCore) (s : State) (tag : ℕ) (bytes : List ℕ) (key : Key) (h : Describes d s)
+module _ (d : DeviceCore) (s : State) (tag : ℕ) (bytes : List ℕ) (key : Key) (forced : Bool)
+    (h : Describes d s)
     (r : Stands (before_accepted s.translation.ledger) tag d.tasks s.tasks)
-    (g : GathersOne r.b.length key r.b.deed) (long : length bytes ≡ 4096) (are : AreBytes bytes) (after : Core)
+    (g : GathersOne r.b.length key forced r.b.deed) (long : length bytes ≡ 4096) (are : AreBytes bytes) (after : Core)
     (e : TaskEvent) where
   fits : WriteFits (numbers_of s) (is_mended s.translation.work.mending) g.unit g.address 1 r.b.length []
       (claim_of (numbers_of s) r.b)
@@ -99,7 +106,7 @@ module _ (d : DeviceCore) (s : State) (tag : ℕ) (bytes : List ℕ) (key : Key)
       omega arith
 
   abbrev core_with : TaskEvent → DeviceCore
-  core_with x = record (task_set d r.k (phase_after (phase.AwaitData key) x)) { ftl = after }
+  core_with x = record (task_set d r.k (phase_after (phase.AwaitData key forced) x)) { ftl = after }
 
   -- nothing is kept for a WRITE, before and after
   blocks : (deed : Deed) → progress_in deed ≡ progress_in (Answering exchange.write_error 0) →
@@ -123,23 +130,29 @@ module _ (d : DeviceCore) (s : State) (tag : ℕ) (bytes : List ℕ) (key : Key)
     power_off = h.kept.power_off;
   }
 
-  -- any other accepts the block, and the task waits for it
+  -- any other accepts the block: with FUA the task waits for it, else it was done
+  taken_does : (fua : Bool) → IsDoing (before_accepted s.translation.ledger) r.a.expected r.b.length
+      (block_taken fua (next_number s.translation.ledger)) (write_deed fua (length s.accepted + 1) r.b.length)
+  taken_does true = (number_awaited s h.tied h.kept.layer_kept.valid.history.within, g.length_is)
+  taken_does false = (refl, g.length_is)
+
   accepted_keeps :
       layer_kept.Describes after (moved s.translation (Accept 1 (group_of_block (data_key g.unit g.address) bytes))) →
       Keeps (core_with (event.BlockAccepted (next_number s.translation.ledger)))
-      (written s r.b g.unit g.address bytes)
+      (written s r.b forced g.unit g.address bytes)
   accepted_keeps layer = record {
     permanent = h.kept.permanent ∙ sym (permanent_still s.base s.accepted g.unit g.address bytes);
     layer_kept =
         subst (λ (x : Group). layer_kept.Describes after (moved s.translation (Accept 1 x)))
         (sym (group_one (plain_now s) g.unit g.address bytes long
         (can_write_one s g.unit g.address bytes h.tied fits.unit_in fits.within))) layer;
-    few = few_set d s r.k r.a r.b h r.opened (Awaiting (length s.accepted + 1));
+    few = few_set d s r.k r.a r.b h r.opened (write_deed forced (length s.accepted + 1) r.b.length);
     tasks =
-        tasks_set_to d s r.k r.a r.b h r.opened (phase.AwaitFrontier (next_number s.translation.ledger))
-        (Awaiting (length s.accepted + 1))
-        (number_awaited s h.tied h.kept.layer_kept.valid.history.within, g.length_is);
-    blocks = blocks (Awaiting (length s.accepted + 1)) refl;
+        tasks_set_to d s r.k r.a r.b h r.opened (block_taken forced (next_number s.translation.ledger))
+        (write_deed forced (length s.accepted + 1) r.b.length) (taken_does forced);
+    blocks =
+        blocks (write_deed forced (length s.accepted + 1) r.b.length)
+        (none_kept forced (length s.accepted + 1) r.b.length);
     shorts = h.kept.shorts;
     power_off = h.kept.power_off;
   }
@@ -168,7 +181,7 @@ module _ (d : DeviceCore) (s : State) (tag : ℕ) (bytes : List ℕ) (key : Key)
 
   -- the data complete the WRITE
   completes : HasTaken after s.translation key bytes e →
-      Keeps (core_with e) (write_complete s r.b g.unit g.address 1 true bytes)
+      Keeps (core_with e) (write_complete s r.b g.unit g.address 1 forced bytes)
   completes taken = by (locked s) refl
     where
       its : (b : Bool) → locked s ≡ b → Takes (data_key g.unit g.address) (not b)
@@ -176,22 +189,22 @@ module _ (d : DeviceCore) (s : State) (tag : ℕ) (bytes : List ℕ) (key : Key)
           (subst (λ (k : Key). Takes k (takes_block s.translation)) g.key_is taken)
 
       by : (x : Bool) → locked s ≡ x → Keeps (core_with e) (cond x (released s r.b)
-          (written s r.b g.unit g.address bytes))
+          (written s r.b forced g.unit g.address bytes))
       by true is =
           let now = its true is in
           subst (λ (x : TaskEvent). Keeps (core_with x) (released s r.b)) (sym now.0)
           (refused_keeps (now.1 (λ no. absurd (false≢true no))))
       by false is =
           let now = its false is in
-          subst (λ (x : TaskEvent). Keeps (core_with x) (written s r.b g.unit g.address bytes)) (sym now.0)
+          subst (λ (x : TaskEvent). Keeps (core_with x) (written s r.b forced g.unit g.address bytes)) (sym now.0)
           (accepted_keeps (now.1 (λ yes. may_accept is)))
 
-  path : data_heard s (task_of tag s.tasks) bytes ≡ write_complete s r.b g.unit g.address 1 true bytes
+  path : data_heard s (task_of tag s.tasks) bytes ≡ write_complete s r.b g.unit g.address 1 forced bytes
   path =
       ap (λ o. data_heard s o bytes) r.found
       ∙ (ap (λ (deed : Deed). data_for s r.b deed bytes) g.deed_is
-      ∙ ap (λ less. cond less (set_deed s r.b.tag (Gathering (ForWrite g.unit g.address 1 true) bytes false))
-      (write_complete s r.b g.unit g.address 1 true bytes))
+      ∙ ap (λ less. cond less (set_deed s r.b.tag (Gathering (ForWrite g.unit g.address 1 forced) bytes false))
+      (write_complete s r.b g.unit g.address 1 forced bytes))
       (le-ltb (length bytes) r.b.length (let size = g.length_is in omega arith)))
 
 -- what a DATA OUT is answered, whether it was asked for or not
@@ -211,17 +224,17 @@ each_right d e s lun tag offset «data» whole asked is result h heard is_is (in
 each_right d e s lun tag offset «data» whole asked is result h heard is_is (inr (x, told)) did =
     let its = subst (λ (y : Option AskedFor). IsDataHeard d e «data».items y result) x.asked_is did in
     let r = x.stands in
-    let g = gathers_one (before_accepted s.translation.ledger) r.a.expected r.b.length x.key r.b.deed
+    let g = gathers_one (before_accepted s.translation.ledger) r.a.expected r.b.length x.key x.forced r.b.deed
     (subst (λ p. IsDoing (before_accepted s.translation.ledger) r.a.expected r.b.length p r.b.deed) x.phase_is
     r.opened.kept.doing) in
     let new = its.1 in
-    let next = record (task_set d r.k (phase_after (phase.AwaitData x.key) new.event)) { ftl = new.layer } in
+    let next = record (task_set d r.k (phase_after (phase.AwaitData x.key x.forced) new.event)) { ftl = new.layer } in
     subst (λ (y : Result Unit HostFault). IsAnswered s (call_of lun tag offset «data») (OfHost y) e) (sym its.0)
     (answered_told d next e s (call_of lun tag offset «data»)
     (OfHost (Ok tt)) h (whole, heard) (ap (λ (b : Bool). result_of (asked_fault b)) (sym (is_is ∙ told)))
     (subst (Keeps next)
-    (sym (path d s tag «data».items x.key h r g x.count_is heard.0.0.3.2 new.layer new.event))
-    (completes d s tag «data».items x.key h r g x.count_is heard.0.0.3.2 new.layer new.event
+    (sym (path d s tag «data».items x.key x.forced h r g x.count_is heard.0.0.3.2 new.layer new.event))
+    (completes d s tag «data».items x.key x.forced h r g x.count_is heard.0.0.3.2 new.layer new.event
     (new.taken s.translation h.kept.layer_kept)))
     new.told)
 

@@ -1,19 +1,25 @@
 -- What a host's bytes are answered.
-use Rattle.std.proofs.Common.{◌≡◌, ◌∙◌, ℕ, true, false, List, None, refl, sym, ap}
-use Rattle.std.specs.Prelude.{Err}
-use Rattle.std.proofs.lemmas.Bool.{false≢true}
-use Rattle.ufs_spec.specs.Machine.{Faulty, Host, IsHeard, OfHost}
-use Rattle.ufs_spec.specs.Messages.{Spells, code_of, host_fault_of, is_among, spelling}
-use Rattle.ufs_spec.specs.Stages.{heard_codes}
+use Rattle.std.proofs.Common.{◌≡◌, ◌==◌, ℕ, List, [], ◌∷◌, None, Some, refl, sym, ap, subst}
+use Rattle.std.specs.Prelude.{OnErr, OnOk, Result, Err}
+use Rattle.ufs_spec.specs.Machine as machine
+use Rattle.ufs_spec.specs.Machine.{Faulty, Host, IsHeard, OfHost, cdb_of, heard, message_fault, query_unanswered}
+use Rattle.ufs_spec.specs.Exchanges.{short_reply}
+use Rattle.ufs_spec.specs.Messages.{IsQueryFunction, Spells, host_fault_of}
 use Rattle.ufs_spec.specs.Refusals.{State}
 use Rattle.ufs_spec.specs.declared.faults.HostFault.{HostFault}
+use Rattle.ufs_spec.specs.declared.faults.HostFault.TheVariants.{Code}
 use Rattle.arrayvec.specs.ArrayVec.{ArrayVec}
+use Rattle.ufs_spec.specs.declared.messages.Asked.{Asked}
 use Rattle.ufs_spec.specs.declared.messages.Message.{Message}
 use Rattle.ufs_spec.specs.declared.messages.Message.TheVariants as message
-use Rattle.upiu.proofs.Spelled.{passes}
+use Rattle.upiu.proofs.HostFault.{of_each}
+use Rattle.device.specs.declared.tasks.ShortReply.TheVariants as reply
 use Rattle.device.specs.Describes.{Describes, IsHeardAs}
+use Rattle.device.specs.Hears.{short_answer, with_short}
 use Rattle.device.specs.Kept.{DeviceCore}
+use Rattle.device.specs.Replies.{function_of}
 use Rattle.device.proofs.described.Answered.{answered, stays}
+use Rattle.device.proofs.host_messages.ShortsOpened.{short_heard, spelled_heard}
 
 -- what is no message is told its fault, and changes nothing
 pub faults_right : (d : DeviceCore) (s : State) (bytes : List ℕ) (fault : HostFault) → Describes d s →
@@ -24,21 +30,80 @@ faults_right d s bytes fault h heard = record {
   answered = answered d d s (Host (Faulty fault)) (OfHost (Err fault)) h (bytes, heard) refl (stays d s h);
 }
 
--- bytes without an early fault spell no message of a kind that is not taken
-pub no_other_kind : {P : Type 0} (bytes : List ℕ) (m : Message) → Spells m bytes → host_fault_of bytes ≡ None →
-    is_among heard_codes (code_of (spelling m)) ≡ false → P
-no_other_kind bytes m spells none other =
-    let here : is_among heard_codes (code_of (spelling m)) ≡ true =
-    ap (λ (b : List ℕ). is_among heard_codes (code_of b)) (sym spells.1) ∙ (passes bytes none).code in
-    absurd (false≢true (sym other ∙ here))
+-- a query that is taken is a standard read or a standard write
+function_is : (function : ℕ) → IsQueryFunction function → function_of (function == 0x81) ≡ function
+function_is function among =
+    of_each (λ (n : ℕ). function_of (n == 0x81) ≡ n) (0x01 ∷ 0x81 ∷ []) function (refl, (refl, tt)) among
 
--- a message that is neither a COMMAND nor a DATA OUT is not read
-pub neither_kind : {P : Type 0} (bytes : List ℕ) (m : Message) →
+-- messages that open a short exchange
+module _ (d e : DeviceCore) (s : State) (bytes : List ℕ) (answer : Result Unit HostFault) (h : Describes d s)
+    (none : host_fault_of bytes ≡ None) (refused : OnErr answer (e ≡ d)) where
+  pub nop_right : (tag : ℕ) → Spells (message.NopOut tag) bytes → answer ≡ short_answer d tag →
+      OnOk answer (e ≡ with_short d (record { tag = tag; reply = reply.NopIn })) → IsHeardAs s bytes answer e
+  nop_right tag spells told taken =
+      short_heard d e s bytes (message.NopOut tag) None (record { tag = tag; reply = reply.NopIn }) answer h spells none
+      refl refl refl told refused taken
+
+  -- no tasks are managed, so that nothing is aborted
+  pub managing_right : (lun tag function meant : ℕ) → Spells (message.TaskRequest lun tag function meant) bytes →
+      answer ≡ short_answer d tag →
+      OnOk answer (e ≡ with_short d (record { tag = tag; reply = reply.NotManaged lun })) → IsHeardAs s bytes answer e
+  managing_right lun tag function meant spells told taken =
+      short_heard d e s bytes (message.TaskRequest lun tag function meant) None
+      (record { tag = tag; reply = reply.NotManaged lun }) answer h spells none refl refl refl told refused taken
+
+  pub query_right : (tag function : ℕ) (asked : Asked) (size value : ℕ) («data» : ArrayVec ℕ) →
+      Spells (message.QueryRequest tag function asked size value «data») bytes → answer ≡ short_answer d tag →
+      OnOk answer (e ≡ with_short d (record { tag = tag; reply = reply.NotQueried (function == 0x81) asked })) →
+      IsHeardAs s bytes answer e
+  query_right tag function asked size value «data» spells told taken =
+      short_heard d e s bytes (message.QueryRequest tag function asked size value «data») None
+      (record { tag = tag; reply = reply.NotQueried (function == 0x81) asked }) answer h spells none refl refl
+      (ap (λ (n : ℕ). machine.with_short s (short_reply tag (query_unanswered tag n asked)))
+      (sym (function_is function spells.0.1)))
+      told refused taken
+
+-- a kind of message that a device sends has a wrong transaction code
+abbrev IsOfDevice : State → Message → Type 0
+IsOfDevice s m = (message_fault s m ≡ Some Code) × (cdb_of m ≡ None)
+
+pub device_kind : (d : DeviceCore) (s : State) (bytes : List ℕ) (m : Message) → Describes d s →
     ((flags lun tag expected : ℕ) (cdb : List ℕ) → m ≡ message.Command flags lun tag expected cdb → ⊥) →
     ((lun tag offset : ℕ) («data» : ArrayVec ℕ) → m ≡ message.DataOut lun tag offset «data» → ⊥) →
-    Spells m bytes → host_fault_of bytes ≡ None → P
-neither_kind bytes (message.Command flags lun tag expected cdb) command data_out spells none =
-    absurd (command flags lun tag expected cdb refl)
-neither_kind bytes (message.DataOut lun tag offset «data») command data_out spells none =
-    absurd (data_out lun tag offset «data» refl)
-neither_kind bytes m command data_out spells none = no_other_kind bytes m spells none refl
+    ((tag : ℕ) → m ≡ message.NopOut tag → ⊥) →
+    ((lun tag function meant : ℕ) → m ≡ message.TaskRequest lun tag function meant → ⊥) →
+    ((tag function : ℕ) (asked : Asked) (size value : ℕ) («data» : ArrayVec ℕ) →
+    m ≡ message.QueryRequest tag function asked size value «data» → ⊥) →
+    Spells m bytes → host_fault_of bytes ≡ None → IsHeardAs s bytes (Err Code) d
+device_kind d s bytes m h command data_out nop managing query spells none =
+    let is = by m command data_out nop managing query in
+    spelled_heard d d s s bytes m None (Err Code) h spells none (cdb_none m is.1) (ap machine.result_of (sym is.0)) refl
+    (stays d s h)
+  where
+    cdb_none : (m : Message) → cdb_of m ≡ None → machine.IsCdbIn (cdb_of m) None
+    cdb_none m is = subst (λ x. machine.IsCdbIn x None) (sym is) refl
+
+    by : (m : Message) →
+        ((flags lun tag expected : ℕ) (cdb : List ℕ) → m ≡ message.Command flags lun tag expected cdb → ⊥) →
+        ((lun tag offset : ℕ) («data» : ArrayVec ℕ) → m ≡ message.DataOut lun tag offset «data» → ⊥) →
+        ((tag : ℕ) → m ≡ message.NopOut tag → ⊥) →
+        ((lun tag function meant : ℕ) → m ≡ message.TaskRequest lun tag function meant → ⊥) →
+        ((tag function : ℕ) (asked : Asked) (size value : ℕ) («data» : ArrayVec ℕ) →
+        m ≡ message.QueryRequest tag function asked size value «data» → ⊥) → IsOfDevice s m
+    by (message.Command flags lun tag expected cdb) command data_out nop managing query =
+        absurd (command flags lun tag expected cdb refl)
+    by (message.DataOut lun tag offset «data») command data_out nop managing query =
+        absurd (data_out lun tag offset «data» refl)
+    by (message.NopOut tag) command data_out nop managing query = absurd (nop tag refl)
+    by (message.TaskRequest lun tag function meant) command data_out nop managing query =
+        absurd (managing lun tag function meant refl)
+    by (message.QueryRequest tag function asked size value «data») command data_out nop managing query =
+        absurd (query tag function asked size value «data» refl)
+    by (message.NopIn tag) command data_out nop managing query = (refl, refl)
+    by (message.Response flags lun tag response status residual sense) command data_out nop managing query =
+        (refl, refl)
+    by (message.DataIn lun tag offset «data») command data_out nop managing query = (refl, refl)
+    by (message.TaskResponse lun tag service) command data_out nop managing query = (refl, refl)
+    by (message.ReadyToTransfer lun tag offset count) command data_out nop managing query = (refl, refl)
+    by (message.QueryResponse tag function response asked size value «data») command data_out nop managing query =
+        (refl, refl)

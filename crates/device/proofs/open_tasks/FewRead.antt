@@ -1,18 +1,18 @@
 -- There is room for each block that is read: no more blocks were read than tasks are open.
-use Rattle.std.proofs.Common.{◌≡◌, ◌∙◌, ℕ, suc, ◌+◌, ◌≤◌, ◌==◌, Bool, true, false, cond, List, [], ◌∷◌, length, map}
-use Rattle.std.proofs.Common.{Option, Some, None, refl, sym, ap, subst, arith}
+use Rattle.std.proofs.Common.{◌≡◌, ◌∙◌, ℕ, suc, ◌+◌, ◌≤◌, ◌==◌, Bool, true, false, cond, List, [], ◌∷◌, ◌++◌, length}
+use Rattle.std.proofs.Common.{map, Option, Some, None, refl, sym, ap, subst, arith}
 use Rattle.std.specs.Prelude.{◌||◌, filter, find, nat_lt, not, slice_get}
 use Rattle.std.specs.List.{list_any}
 use Rattle.std.proofs.lemmas.Bool.{lt-ltb}
+use Rattle.std.proofs.lemmas.List.{length-append}
 use Rattle.ufs_spec.proofs.Facts.{eqb-true}
 use Rattle.ufs_spec.specs.Exchanges as exchange
-use Rattle.ufs_spec.specs.Exchanges.{NotRead, ReadBlock, ReadState, Sending, Unread, WasRead, is_task_of, task_of}
-use Rattle.ufs_spec.specs.Refusals.{State}
+use Rattle.ufs_spec.specs.Exchanges.{NotRead, ReadBlock, ReadState, Sending, Unread, WasRead, is_task_of}
+use Rattle.ufs_spec.specs.Exchanges.{most_tasks, task_of}
 use Rattle.power_loss.proofs.books.SmallFacts.{eq_self}
 use Rattle.power_loss.proofs.open_tasks.TaggedLists.{other_way}
 use Rattle.device.specs.declared.tasks.Loaded.{Loaded}
-use Rattle.device.specs.Describes.{Keeps, Progress, progress_by, progress_in, progress_of, progress_of_block}
-use Rattle.device.specs.Kept.{DeviceCore}
+use Rattle.device.specs.Describes.{progress_by, progress_in, progress_of, progress_of_block}
 use Rattle.device.specs.Replies.{body_of, is_loaded_for}
 use Rattle.device.proofs.open_tasks.ReadProgress.{read_for}
 
@@ -135,10 +135,10 @@ one_each us ls h tag = subst (λ bs. length bs ≤ cond (list_any (is_task_of ta
     by (Some task) e = subst (λ b. length (progress_in task.deed).read ≤ cond b 1 0)
         (sym (any_found (is_task_of tag) us task e)) (at_most_one task task.deed)
 
--- so there is room for one more
-pub has_room : (d : DeviceCore) (s : State) → Keeps d s → nat_lt (length d.loaded) 32 ≡ true
-has_room d s k =
-    let few = fewer s.tasks d.loaded (one_each s.tasks d.loaded (λ tag. ap (λ (p : Progress). p.read) (k.blocks tag)))
-    in
-    let most = k.few in
-    lt-ltb (length d.loaded) 32 (omega arith)
+-- so there is room for one more: with it, no more blocks are read than tasks are open
+pub has_room : (us : List exchange.Task) (ls : List Loaded) (new : Loaded) → length us ≤ most_tasks →
+    ((tag : ℕ) → read_for tag (ls ++ new ∷ []) ≡ (progress_of (task_of tag us)).read) → nat_lt (length ls) 32 ≡ true
+has_room us ls new most same =
+    let few = fewer us (ls ++ new ∷ []) (one_each us (ls ++ new ∷ []) same) in
+    let long = length-append ls (new ∷ []) in
+    lt-ltb (length ls) 32 (omega arith)

@@ -13,7 +13,7 @@ use Rattle.ufs_spec.specs.Ledger.{before_accepted}
 use Rattle.ufs_spec.specs.Machine as machine
 use Rattle.ufs_spec.specs.Machine.{durable}
 use Rattle.ufs_spec.specs.Refusals.{Request, State, locked}
-use Rattle.ufs_spec.specs.Stages.{most_tasks}
+use Rattle.ufs_spec.specs.Exchanges.{most_tasks}
 use Rattle.ufs_spec.specs.Translation.{Pin, Translation}
 use Rattle.ufs_spec.specs.declared.scsi.Cdb.{Cdb}
 use Rattle.power_loss.specs.Shown.{ShowsRight}
@@ -110,14 +110,16 @@ module _ (d : DeviceCore) (s : State) (r : Request) (h : Describes d s) (free : 
       or_none None = refl
       or_none (Some x) = refl
 
-  -- the new task waits for no commands
-  pub open_told : (command : Option Cdb) (n : ℕ) (deed : Deed) → IsToldIn (durable s) deed → locked s ≡ true →
-      All (IsTold (durable s)) (s.tasks ++ opened r command n deed ∷ [])
-  open_told command n deed new lock = All-push (IsTold (durable s)) s.tasks (opened r command n deed) (h.told lock) new
+  -- where the device is locked the new task waits for durable commands alone
+  pub open_told : (command : Option Cdb) (n : ℕ) (deed : Deed) → (locked s ≡ true → IsToldIn (durable s) deed) →
+      locked s ≡ true → All (IsTold (durable s)) (s.tasks ++ opened r command n deed ∷ [])
+  open_told command n deed new lock =
+      All-push (IsTold (durable s)) s.tasks (opened r command n deed) (h.told lock) (new lock)
 
   -- where the layer stays
   pub opens_still : (c : Core) (command : Option Cdb) (n : ℕ) (deed : Deed) (a : Task) →
-      layer_kept.Describes c s.translation → progress_in deed ≡ no_progress → IsToldIn (durable s) deed →
+      layer_kept.Describes c s.translation → progress_in deed ≡ no_progress →
+      (locked s ≡ true → IsToldIn (durable s) deed) →
       TaskKept (before_accepted s.translation.ledger) a (opened r command n deed) →
       IsBehind (with_task (record d { ftl = c }) a) (machine.with_task s r command n deed)
   opens_still c command n deed a layer none new task = record {

@@ -81,7 +81,6 @@ next_of c u p h m f = record {
       );
   step_reads = h.step_reads;
   readers = λ e. absurd (true≢false (sym m.mended ∙ e));
-  firsts = h.firsts;
 }
   where
     number : c.frontier + 1 ≡ suc u.ledger.frontier

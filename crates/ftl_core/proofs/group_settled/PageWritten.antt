@@ -136,7 +136,6 @@ module _ (c : Core) (t : Translation) (die : ℕ) (b : Book) (o : OpenBlock) (ta
     reads = reads_over t.disk.flights die c.pins h.kept.reads;
     step_reads = step_reads_over t.disk.flights die c.step h.kept.step_reads;
     readers = h.kept.readers;
-    firsts = h.kept.firsts;
   }
 
   -- the group's page is written, and the die's open block has one page less, or is closed

@@ -20,7 +20,7 @@ use Rattle.ftl_core.specs.declared.books.Mending.{Mending}
 use Rattle.ftl_core.specs.declared.books.OpenBlock.{OpenBlock}
 use Rattle.ftl_core.specs.declared.books.Step.{Step}
 use Rattle.ftl_core.specs.declared.books.Stored.{Stored}
-use Rattle.ftl_core.specs.Describes.{BlocksKept, FirstsKept, IsFilling, IsFlight, Kept, LedgerKept, PagesFly, PinsKept}
+use Rattle.ftl_core.specs.Describes.{BlocksKept, IsFilling, IsFlight, Kept, LedgerKept, PagesFly, PinsKept}
 use Rattle.ftl_core.specs.Describes.{StepReadsKept, WorkKept, block_kept, spot_at}
 use Rattle.ftl_core.specs.Moves.{page_written, with_book, with_state}
 use Rattle.ftl_core.proofs.job_taken.Flown.{dies_changed, reads_over, step_reads_over}
@@ -102,11 +102,10 @@ pub kept_beside : (c : Core) (t : Translation) (die block : ℕ) (b : Book) (x :
     StepSuits t.numbers c.step step die c.books t.disk.flights →
     StepReadsKept (at_die t.disk.flights die None) step →
     (is_mended work.mending ≡ false → c.pins ≡ []) →
-    FirstsKept t.numbers ledger →
     Kept (changed c states (books_with c die f) has_bad groups mending step next)
     (over t die (blocks_with t die block x) cells finished erasing ledger work)
 kept_beside c t die block b x f states has_bad groups mending step next cells finished erasing ledger work k there bs fs
-    flies ls ws ps suits reads readers firsts = record {
+    flies ls ws ps suits reads readers = record {
       numbers = k.numbers;
       blocks = bs;
       dies = dies_changed t.numbers t.disk.blocks (blocks_with t die block x) t.disk.flights c.step step c.books die b
@@ -121,7 +120,6 @@ kept_beside c t die block b x f states has_bad groups mending step next cells fi
       reads = reads_over t.disk.flights die c.pins k.reads;
       step_reads = reads;
       readers = readers;
-      firsts = firsts;
     }
 
 -- the same where the step and the mending stay
@@ -136,14 +134,13 @@ pub kept_over : (c : Core) (t : Translation) (die block : ℕ) (b : Book) (x : d
     WorkKept c.mending (drop c.repaired c.lost) c.step c.content c.next_mark work ledger →
     PinsKept ledger.frontier (entry_of ledger) c.pins t.pins →
     (is_mended work.mending ≡ false → c.pins ≡ []) →
-    FirstsKept t.numbers ledger →
     Kept (changed c states (books_with c die f) has_bad groups c.mending c.step c.next_mark)
     (over t die (blocks_with t die block x) cells finished erasing ledger work)
 kept_over c t die block b x f states has_bad groups cells finished erasing ledger work k there bs fs flies ls ws ps
-    readers firsts =
+    readers =
     kept_beside c t die block b x f states has_bad groups c.mending c.step c.next_mark cells finished erasing ledger
     work k there bs fs flies ls ws ps (λ e y apart got is. is)
-    (step_reads_over t.disk.flights die c.step k.step_reads) readers firsts
+    (step_reads_over t.disk.flights die c.step k.step_reads) readers
 
 -- a mark changes nothing of groups and places
 pub ledger_marked : (n : Numbers) (places : List (Option Stored)) (groups : List Group) (frontier : ℕ) (l : Ledger)

@@ -166,7 +166,7 @@ module _ (c : Core) (t : Translation) (die : ℕ) (b : Book) (o : OpenBlock) (m 
       h.kept.pins
       (suits_next c t die (next_place die o) (MarkPage m) h flies page None refl)
       (none_reads c t die (next_place die o) (MarkPage m) h flies page None)
-      (λ e. h.kept.readers (not_before t.work.mending e)) h.kept.firsts
+      (λ e. h.kept.readers (not_before t.work.mending e))
 
   mark_on : Kept (changed c c.states (books_with c die (Some (record { block = o.block; next = o.next + 1 })))
       c.has_bad c.groups (ends.mending_behind c.mending) None c.next_mark)
@@ -262,7 +262,7 @@ module _ (c : Core) (t : Translation) (die : ℕ) (b : Book) (o : OpenBlock) (m 
       }
       h.kept.pins
       (suits_next c t die (next_place die o) (MarkPage m) h flies page s no_repair)
-      (none_reads c t die (next_place die o) (MarkPage m) h flies page s) h.kept.readers h.kept.firsts
+      (none_reads c t die (next_place die o) (MarkPage m) h flies page s) h.kept.readers
 
   failed_fence : m.fence ≡ fence
   failed_fence =

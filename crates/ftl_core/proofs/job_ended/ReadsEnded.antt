@@ -90,7 +90,6 @@ idle_kept c t die b k there = record {
   reads = reads_over t.disk.flights die c.pins k.reads;
   step_reads = step_reads_over t.disk.flights die c.step k.step_reads;
   readers = k.readers;
-  firsts = k.firsts;
 }
 
 -- what is kept once the reader was told
@@ -121,7 +120,6 @@ task_kept c t die reader b place h there flies = record {
   reads = reads;
   step_reads = k.step_reads;
   readers = λ e. ap (map (wanted_no_more reader)) (k.readers e);
-  firsts = k.firsts;
 }
   where
     k : Kept (with_book c die record { filling = b.filling; flight = None })

@@ -173,7 +173,7 @@ module _ (c : Core) (t : Translation) (die : ℕ) (b : Book) (o : OpenBlock) (ta
       h.kept.pins
       (suits_next c t die place (GroupPage tag body) h flies page None refl)
       (none_reads c t die place (GroupPage tag body) h flies page None)
-      h.kept.readers h.kept.firsts
+      h.kept.readers
 
   -- The frontier climbs
 
@@ -229,7 +229,6 @@ module _ (c : Core) (t : Translation) (die : ℕ) (b : Book) (o : OpenBlock) (ta
     reads = k0.reads;
     step_reads = k0.step_reads;
     readers = k0.readers;
-    firsts = k0.firsts;
   }
 
   page_over : Kept (page_written (repair_over c k place) die b (Some o))

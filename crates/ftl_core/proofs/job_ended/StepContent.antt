@@ -27,7 +27,7 @@ use Rattle.ftl_core.specs.declared.books.Step.{Step}
 use Rattle.ftl_core.specs.declared.books.Step.TheVariants as steps
 use Rattle.ftl_core.specs.declared.books.Stored.{Stored}
 use Rattle.ftl_core.specs.Core.{Core}
-use Rattle.ftl_core.specs.Describes.{AreToRepair, Describes, FirstsKept, IsStepCell, IsStored, Kept}
+use Rattle.ftl_core.specs.Describes.{AreToRepair, Describes, IsStepCell, IsStored, Kept}
 use Rattle.ftl_core.specs.Describes.{Standing, StepKept, StepReadsKept, keys_to_repair}
 use Rattle.ftl_core.specs.Ends as ends
 use Rattle.ftl_core.specs.Ends.{with_content}
@@ -71,10 +71,10 @@ pub record IsBasePage (t : Translation) (place : Place) (k : Key) (n : ℕ) : Ty
   pub page : IsPageOf t.disk.cells place k n
   pub content : page.body ≡ t.ledger.base k
 
-base_page : (t : Translation) (k : Key) (s : Stored) → Valid t → FirstsKept t.numbers t.ledger →
-    is_mended t.work.mending ≡ false → IsKey (shape_of_numbers t.numbers) k →
+base_page : (t : Translation) (k : Key) (s : Stored) → Valid t → is_mended t.work.mending ≡ false →
+    IsKey (shape_of_numbers t.numbers) k →
     IsStored t.ledger.standing (Some s) (t.ledger.first_page k) → IsBasePage t s.place k s.number
-base_page t k s v firsts not_mended known stands =
+base_page t k s v not_mended known stands =
     record {
       page = record {
         tag = secure.tag;
@@ -98,7 +98,7 @@ base_page t k s v firsts not_mended known stands =
 
     first : (size : ℕ) × (t.ledger.entries_before r.0.number r.0.index ≡
         Some (record { item = record { key = k; body = t.ledger.base k }; size = size }))
-    first = firsts k r.0 known r.1
+    first = v.book_right.first_content k r.0 known r.1
 
     same : entry_for secure.tag secure.body ≡
         record { item = record { key = k; body = t.ledger.base k }; size = first.0 }
@@ -193,13 +193,12 @@ module _ (c : Core) (t : Translation) (die : ℕ) (b : Book) (place : Place) (h 
     reads = reads_over t.disk.flights die c.pins h.kept.reads;
     step_reads = one_read;
     readers = h.kept.readers;
-    firsts = h.kept.firsts;
   }
 
   -- the page of the step's place
   wanted : IsBasePage t place step_read.key step_read.stored.number
   wanted = subst (λ (p : Place). IsBasePage t p step_read.key step_read.stored.number) step_read.place_is
-      (base_page t step_read.key step_read.stored h.valid h.kept.firsts (unmended t _ _ false h.valid repair.step)
+      (base_page t step_read.key step_read.stored h.valid (unmended t _ _ false h.valid repair.step)
       (key_known t step_read.number step_read.key (Some step_read.stored) false c.content h.valid repair.right)
       repair.right.stored)
 

@@ -89,7 +89,6 @@ kept_begun c t die b f job k at is may = record {
   reads = reads;
   step_reads = step_reads;
   readers = k.readers;
-  firsts = k.firsts;
 }
   where
     some_one : (x y : disk.Flight) → Some x ≡ Some y → x ≡ y

@@ -73,7 +73,6 @@ pins_right c t k reader looked h mended is at none = record {
         );
     step_reads = h.kept.step_reads;
     readers = λ e. absurd (true≢false (sym mended ∙ e));
-    firsts = h.kept.firsts;
   };
 }
   where
@@ -132,7 +131,6 @@ accepts_right c t k body h kind unit may = record {
     reads = h.kept.reads;
     step_reads = h.kept.step_reads;
     readers = h.kept.readers;
-    firsts = h.kept.firsts;
   };
 }
 

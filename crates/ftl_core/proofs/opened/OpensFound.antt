@@ -44,7 +44,6 @@ use Rattle.ftl_core.specs.Describes.{AreToRepair, BookKept, Describes, DiesKept,
 use Rattle.ftl_core.specs.Describes.{LedgerKept, PinsKept, Standing, StepKept, WorkKept, mending_kept, spot_at}
 use Rattle.ftl_core.specs.Moves.{first_mending, flat, idle_book, mark_number_behind, mending_from}
 use Rattle.ftl_core.specs.Moves.{number_behind, opened, stored_in, stored_of_found}
-use Rattle.ftl_core.proofs.opened.FirstPages.{firsts_found}
 use Rattle.ftl_core.proofs.opened.FoundBlocks.{blocks_found}
 
 -- Dies
@@ -274,7 +273,6 @@ opens_right n f c bad t pages right within sound found o =
         reads = λ die tag index place e. absurd (none_some _ (sym (o.disk.idle die) ∙ e));
         step_reads = λ die place e. absurd (none_some _ (sym (o.disk.idle die) ∙ e));
         readers = λ un. refl;
-        firsts = firsts_found n t.numbers c bad t (sym o.numbers) sound o;
       };
     }
 

@@ -214,7 +214,6 @@ let_go_kept c t reader k = record {
       );
   step_reads = λ die place e. k.step_reads die place (step_before reader (t.disk.flights die) place e);
   readers = λ e. ap (others reader) (k.readers e);
-  firsts = k.firsts;
 }
 
 -- Each reader keeps one thing

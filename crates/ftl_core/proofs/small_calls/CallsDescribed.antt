@@ -15,6 +15,7 @@ use Rattle.ufs_spec.specs.Plain.{shape_of_numbers}
 use Rattle.ufs_spec.specs.Translation as layer
 use Rattle.ufs_spec.specs.Translation.{Translation}
 use Rattle.ufs_spec.specs.declared.flash.Key.{Key}
+use Rattle.power_loss.specs.Exchange.{TagsDiffer}
 use Rattle.power_loss.proofs.moves.MovesKeepValid.{all_keep}
 use Rattle.ftl_core.specs.declared.books.Looked.{Looked}
 use Rattle.ftl_core.specs.declared.books.Mending.{Mending}
@@ -22,7 +23,7 @@ use Rattle.ftl_core.specs.declared.books.Pin.{Pin}
 use Rattle.ftl_core.specs.declared.books.Step.{Step}
 use Rattle.ftl_core.specs.declared.books.Step.TheVariants as steps
 use Rattle.ftl_core.specs.Core.{Core}
-use Rattle.ftl_core.specs.Describes.{Describes, IsLookedAt, PinsKept, StepKept, WorkKept}
+use Rattle.ftl_core.specs.Describes.{Describes, IsLookedAt, PinsKept, ReadersDiffer, StepKept, WorkKept}
 use Rattle.ftl_core.specs.Moves.{can_accept, free_slots, has_number, is_pin_of, last_number, looked_by}
 use Rattle.ftl_core.specs.Moves.{unpinned, with_pin}
 use Rattle.ftl_core.specs.Tells.{IsPinned, keeps_for}
@@ -68,6 +69,21 @@ pub pins_room : (c : Core) (t : Translation) → Describes c t → nat_lt (lengt
 pins_room c t h =
     ap (λ (n : ℕ). nat_lt n 32)
     (same_pins t.ledger.frontier (entry_of t.ledger) 0 c.pins t.pins h.kept.pins).0
+
+tags_differ : (frontier : ℕ) (entries : Name → Option Entry) (ps : List Pin) (qs : List layer.Pin) →
+    PinsKept frontier entries ps qs → ReadersDiffer ps → TagsDiffer (λ (q : layer.Pin). q.tag) qs
+tags_differ frontier entries [] [] h differ = tt
+tags_differ frontier entries [] (q ∷ qs) h differ = absurd h
+tags_differ frontier entries (p ∷ ps) [] h differ = absurd h
+tags_differ frontier entries (p ∷ ps) (q ∷ qs) h differ = (
+  ap (λ (n : ℕ). list_any (keeps_for n) qs) h.0.tag
+      ∙ (sym (same_pins frontier entries p.reader ps qs h.1).1 ∙ differ.0),
+  tags_differ frontier entries ps qs h.1 differ.1,
+)
+
+-- no reader keeps two things
+pub pins_differ : (c : Core) (t : Translation) → Describes c t → TagsDiffer (λ (q : layer.Pin). q.tag) t.pins
+pins_differ c t h = tags_differ t.ledger.frontier (entry_of t.ledger) c.pins t.pins h.kept.pins h.kept.differ
 
 -- a reader who keeps nothing keeps what it looked up, where there is room
 pub pins_described : (c after : Core) (t : Translation) (k : Key) (reader : ℕ) (looked : Looked) (room : Bool) →
@@ -198,7 +214,6 @@ acknowledges_right c t count h allowed = record {
     reads = h.kept.reads;
     step_reads = h.kept.step_reads;
     readers = h.kept.readers;
-    firsts = h.kept.firsts;
   };
 }
 

@@ -57,6 +57,10 @@ slots_right c t h =
     h.kept.ledger_kept.groups in
     (λ i. (h.kept.numbers i).slots - pages i - h.kept.claims i)
 
+pub pending_right : (c : Core) (t : Translation) → Describes c t → nat_lt 0 (length c.groups) ≡ layer.has_pending t
+pending_right c t h = ap (nat_lt 0)
+    (one_page_each t.ledger.standing t.ledger.frontier c.groups (pending t.ledger) h.kept.ledger_kept.groups)
+
 -- How far the mending is
 
 pub mended_right : (c : Core) (t : Translation) → Describes c t → is_over c.mending ≡ layer.is_mended t.work.mending
@@ -131,7 +135,6 @@ claimed_right c t n m k same = record {
   reads = k.reads;
   step_reads = k.step_reads;
   readers = k.readers;
-  firsts = k.firsts;
 }
 
 pub claims_right : (c : Core) (t : Translation) → Describes c t → nat_lt 0 (free_slots c) ≡ true →

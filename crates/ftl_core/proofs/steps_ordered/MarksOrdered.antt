@@ -115,5 +115,4 @@ mark_waits c t fence n m k none next same marks = record {
   reads = k.reads;
   step_reads = no_reads t.disk.flights c.step (Some (steps.Mark n fence)) none k.step_reads;
   readers = k.readers;
-  firsts = k.firsts;
 }

@@ -220,7 +220,6 @@ repair_waits c t k left h none repairing at mending q = record {
   reads = h.kept.reads;
   step_reads = no_reads t.disk.flights c.step (Some (repair_step c k)) none h.kept.step_reads;
   readers = λ un. pinned;
-  firsts = h.kept.firsts;
 }
   where
     one_more : (n : ℕ) → n + 1 ≡ suc n

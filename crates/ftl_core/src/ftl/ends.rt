@@ -14,6 +14,7 @@ ghost use Rattle.ufs_spec.specs.Translation.{Translation, is_step_due};
 ghost use Rattle.ufs_spec.specs.Disk.{Reader as WhoReads, Reading};
 ghost use Rattle.ufs_spec.specs.declared.flash.Place.{Place};
 ghost use Rattle.ftl_core.specs.Describes.{Describes, IsTold};
+ghost use Rattle.ftl_core.specs.Stops.{StopsRight};
 ghost use Rattle.ftl_core.specs.Tells.{IsReadOf};
 ghost use Rattle.ftl_core.specs.declared.ftl.Ended.{Ended};
 
@@ -571,6 +572,10 @@ impl Ftl {
         ensures described { (t : Translation) (ending : Ending) → Describes self.old t →
             IsEndingOf t.disk.cells (t.disk.flights die) outcome.now ending → MayEnd t.disk die (t.disk.flights die) ending →
             Describes self.new (moved t (EndJob die ending)) }
+        // Whatever a stop leaves then is right.
+        ensures stop { (t : Translation) (ending : Ending) → Describes self.old t →
+            IsEndingOf t.disk.cells (t.disk.flights die) outcome.now ending → MayEnd t.disk die (t.disk.flights die) ending →
+            StopsRight self.new (moved t (EndJob die ending)) }
         ensures told { (t : Translation) (ending : Ending) → Describes self.old t →
             IsEndingOf t.disk.cells (t.disk.flights die) outcome.now ending →
             (e : Ended) × (result ≡ Some e) × IsTold t.disk.cells (t.disk.flights die) ending e }
@@ -589,6 +594,8 @@ impl Ftl {
         ensures after { self.new ≡ (if result then turned self.old else self.old) }
         ensures described_due { (t : Translation) → Describes self.old t → result ≡ is_step_due t }
         ensures described { (t : Translation) → Describes self.old t → Describes self.new (moved t TakeStep) }
+        // Whatever a stop leaves then is right.
+        ensures stop { (t : Translation) → Describes self.old t → StopsRight self.new (moved t TakeStep) }
     {
         if self.step.is_some() {
             return false;

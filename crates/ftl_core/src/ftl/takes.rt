@@ -12,7 +12,9 @@ ghost use Rattle.ftl_core.specs.Takes.{waits_at, writes_group, writes_step};
 ghost use Rattle.ftl_core.specs.Moves.{free_blocks, is_erasable, is_owed_by, keeps, looks_on, may_open, reads_for};
 ghost use Rattle.ftl_core.specs.Moves.{single_tag, state_index, state_of, with_book, with_state};
 ghost use Rattle.ufs_spec.specs.Translation.{Translation};
-ghost use Rattle.ftl_core.specs.Describes.{Describes, IsTaken};
+ghost use Rattle.ftl_core.specs.Describes.{Describes, IsTaken, spot_at};
+ghost use Rattle.ftl_core.specs.Stops.{MayGo, StopsRightGiven};
+ghost use Rattle.ufs_spec.specs.declared.flash.Job.TheVariants as job;
 
 use super::Ftl;
 use crate::books::{
@@ -552,6 +554,11 @@ impl Ftl {
         ensures after { self.new ≡ core_taken self.old die }
         // It is one that the layer owes to the die, in the order of what is owed, and none where none is.
         ensures described { (t : Translation) → Describes self.old t → IsTaken t die result self.new }
+        // Whatever a stop leaves then is right, with the job in flight.
+        ensures stop { (t : Translation) → Describes self.old t → StopsRightGiven t die result self.new }
+        // An erase is of a block that no pin is in, and of which each page that opens is spent.
+        ensures erase { (t : Translation) (at block : ℕ) → Describes self.old t → result ≡ Some (job.Erase at block) →
+            MayGo t die (spot_at at block) }
     {
         self.has_few_units();
         let book = self.book(die)?;

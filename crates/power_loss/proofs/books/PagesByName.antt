@@ -293,4 +293,5 @@ book_grows b g may r = record {
   first_lost = r.first_lost;
   base = λ k h. base_grows g (r.base k h);
   first_page = λ k h. first_grows b g k (b.first_page k) (r.first_page k h);
+  first_content = r.first_content;
 }

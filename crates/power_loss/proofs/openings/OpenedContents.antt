@@ -4,6 +4,7 @@ use Rattle.power_loss.proofs.Common.{inr, ⊎_elim, arith, GroupPage, Spot, Coun
 use Rattle.power_loss.proofs.Common.{Name, IsFirst, zero_block, SamePage, Translation, Fence, Key, Place, Tag, at_most}
 use Rattle.power_loss.proofs.Common.{BaseAt, BaseNone, BookRight, FirstRight, HasKey, IsPageAt, book}
 use Rattle.ufs_spec.specs.Kept.{HasNone, IsNewest}
+use Rattle.power_loss.proofs.openings.FirstPages.{first_held}
 use Rattle.power_loss.proofs.openings.OpenedByName.{Opened, low_cases, low_within, no_group, old_page, old_within}
 use Rattle.power_loss.proofs.openings.OpenedByName.{only_old, page_is_old, shown}
 
@@ -138,4 +139,8 @@ module _ {bad : Spot → Bool} {t : Translation} (o : Opened bad t) where
     first_lost = (low_within o).1;
     base = λ k has. base_is has;
     first_page = λ k has. first_is k has;
+    first_content = λ k name has first.
+        first_held t.disk.cells t.ledger.newest o.start.ledger.kept k (t.ledger.base k) (t.ledger.first_page k) name
+        (t.ledger.entries_before name.number name.index) o.sound (o.start.ledger.first_page k has)
+        (o.start.ledger.holds k has) first (o.start.ledger.entries_before name.number name.index);
   }

@@ -97,9 +97,12 @@ is_cdb command = yes tt
 
 -- whether it is taken; a case for each limit
 is_taken : (c : Cdb) → Dec (IsTakenCdb c)
-is_taken (cdb.Read10 address blocks forced) = yes tt
-is_taken (cdb.Write10 address blocks forced) = is_true forced
-is_taken c = no (λ (h : ⊥). h)
+is_taken (cdb.Inquiry allocation) = no (λ (h : ⊥). h)
+is_taken (cdb.Unmap list) = no (λ (h : ⊥). h)
+is_taken (cdb.ReportLuns select allocation) = no (λ (h : ⊥). h)
+is_taken (cdb.SecurityIn length) = no (λ (h : ⊥). h)
+is_taken (cdb.SecurityOut length) = no (λ (h : ⊥). h)
+is_taken command = yes tt
 
 -- ## What bytes spell
 

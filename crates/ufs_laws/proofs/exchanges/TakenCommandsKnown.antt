@@ -1,7 +1,7 @@
 -- A command that was taken never ends with an invalid operation code.
 use Rattle.std.proofs.Common.{◌≡◌, ◌≢◌, ℕ, ◌+◌, ◌*◌, ◌==◌, Bool, true, false, if◌then◌else◌, List, [], ◌∷◌, ◌++◌}
 use Rattle.std.proofs.Common.{Option, Some, None, refl, sym, ap, ◌∙◌, subst, arith, inl, inr}
-use Rattle.std.specs.Prelude.{slice_get, slice_index}
+use Rattle.std.specs.Prelude.{length, slice_get, slice_index, take}
 use Rattle.ufs_laws.proofs.walk.WaysOfCommands.{IsAnswerTo}
 use Rattle.ufs_laws.proofs.walk.TaskLaws.{Any, any_asks, IsTaskLaw, task_for, tasks_kept}
 use Rattle.ufs_laws.specs.Exchange.{AllKnown, Every, IsKnownDeed, IsKnownTask, IsRequest, IsSpoken}
@@ -10,15 +10,16 @@ use Rattle.ufs_spec.specs.Cells.{Array}
 use Rattle.ufs_spec.specs.Disk.{Spot}
 use Rattle.ufs_spec.specs.Lives.{IsOpened}
 use Rattle.ufs_spec.specs.declared.configs.Numbers.{Numbers}
-use Rattle.ufs_spec.specs.Cdbs.{operation_of, taken_operations}
-use Rattle.ufs_spec.specs.Exchanges.{Answering, CheckCondition, Deed, ForFrames, ForUnmap, ForWrite, Gathering, Good}
-use Rattle.ufs_spec.specs.Exchanges.{Purpose, ReadBlock, Sending, Status, Task, invalid_field, invalid_operation}
-use Rattle.ufs_spec.specs.Exchanges.{no_unit, write_error}
-use Rattle.ufs_spec.specs.Machine.{Answer, Call, IsCdbIn, begun, blocks_expected, deed_behind, observe, read_begun}
+use Rattle.ufs_spec.specs.Cdbs.{carried, length_of, operation_of, taken_operations}
+use Rattle.ufs_spec.specs.Exchanges.{Answering, Awaiting, CheckCondition, Deed, ForFrames, ForUnmap, ForWrite}
+use Rattle.ufs_spec.specs.Exchanges.{Gathering, Good, Purpose, ReadBlock, Sending, Status, Task, invalid_field}
+use Rattle.ufs_spec.specs.Exchanges.{invalid_operation, no_unit, write_error}
+use Rattle.ufs_spec.specs.Machine.{Answer, Call, IsCdbIn, begun, blocks_expected, capacity_bytes, data_begun}
+use Rattle.ufs_spec.specs.Machine.{deed_behind, flush_begun, no_sense, observe, read_begun, sending_bytes}
 use Rattle.ufs_spec.specs.Machine.{read_blocks, sending, unit_or_first, write_begun, write_deed, with_block, Allowed}
 use Rattle.ufs_spec.specs.Messages.{IsAmong}
 use Rattle.ufs_spec.specs.Refusals.{Lun, Request, State, first_line, lacks_unit, lines_behind, lun_of, not_taken}
-use Rattle.ufs_spec.specs.Refusals.{numbers_of, operation_in, refusal, unit_of_request}
+use Rattle.ufs_spec.specs.Refusals.{numbers_of, operation_in, refusal, slots_needed, spec_of, unit_of_request}
 use Rattle.ufs_spec.specs.declared.scsi.Cdb.{Cdb}
 use Rattle.ufs_spec.specs.declared.scsi.Cdb.TheVariants as cdb
 use Rattle.ufs_spec.proofs.CdbsBack.{first_byte}
@@ -111,10 +112,37 @@ write_known s r c unit address blocks forced =
     (task_for r (Some c) 0 (Answering Good 0), refl, refl, good_known)
     (task_for r (Some c) (4096 * blocks) (Gathering (ForWrite unit address blocks forced) [] false), refl, refl, tt)
 
+data_known : (s : State) (r : Request) (c : Cdb) (bytes : List ℕ) → Begins s (data_begun s r c bytes) c
+data_known s r c bytes = (
+  task_for r (Some c) (length bytes) (sending_bytes r bytes),
+  refl,
+  refl,
+  if_both IsKnownDeed (carried r.expected (length bytes) == 0) good_known tt,
+)
+
+flush_known : (s : State) (r : Request) (c : Cdb) (immediate : Bool) → Begins s (flush_begun s r c immediate) c
+flush_known s r c immediate = (
+  task_for r (Some c) 0 (if immediate then Answering Good 0 else Awaiting (length s.accepted)),
+  refl,
+  refl,
+  if_both IsKnownDeed immediate good_known tt,
+)
+
 pub begins : (s : State) (r : Request) (unit : ℕ) (c : Cdb) → IsAmong taken_operations (operation_of c) →
     Begins s (begun s r unit c) c
+begins s r unit cdb.TestUnitReady is =
+    (task_for r (Some cdb.TestUnitReady) 0 (Answering Good 0), refl, refl, good_known)
+begins s r unit (cdb.RequestSense allocation) is =
+    data_known s r (cdb.RequestSense allocation) (take allocation no_sense)
+begins s r unit (cdb.Read6 address blocks) is = read_known s r (cdb.Read6 address blocks) unit address
+    (length_of 0 (cdb.Read6 address blocks))
+begins s r unit (cdb.Write6 address blocks) is = write_known s r (cdb.Write6 address blocks) unit address
+    (slots_needed (numbers_of s) (cdb.Write6 address blocks)) false
+begins s r unit cdb.ReadCapacity10 is = data_known s r cdb.ReadCapacity10 (capacity_bytes (spec_of s r))
 begins s r unit (cdb.Read10 address blocks forced) is = read_known s r (cdb.Read10 address blocks forced) unit address
     (4096 * blocks)
+begins s r unit (cdb.SynchronizeCache10 address blocks immediate) is =
+    flush_known s r (cdb.SynchronizeCache10 address blocks immediate) immediate
 begins s r unit (cdb.Write10 address blocks forced) is = write_known s r (cdb.Write10 address blocks forced) unit
     address blocks forced
 begins s r unit command is = cc

@@ -1,16 +1,15 @@
 -- A task management request that is answered other than 00h changes no task; and which kinds of messages are heard.
-use Rattle.std.proofs.Common.{◌≡◌, ◌≢◌, ℕ, ◌==◌, Bool, true, false, cond, if◌then◌else◌, List, [], ◌∷◌, Option, Some}
-use Rattle.std.proofs.Common.{None, ap, ne_eqb, ◌∙◌, refl, sym, ⊎_elim}
+use Rattle.std.proofs.Common.{◌≡◌, ◌≢◌, ℕ, ◌==◌, Bool, true, false, cond, if◌then◌else◌, List, Option, Some}
+use Rattle.std.proofs.Common.{None, ap, ne_eqb, ◌∙◌, refl, sym}
 use Rattle.std.specs.Prelude.{is_none}
-use Rattle.std.specs.List.{list_all, list_any}
-use Rattle.std.proofs.lemmas.Bool.{and_parts, eqb-true, false≢true, not-false, or_cases}
+use Rattle.std.specs.List.{list_any}
+use Rattle.std.proofs.lemmas.Bool.{not-false}
 use Rattle.std.proofs.lemmas.Option.{none-some}
 use Rattle.ufs_spec.specs.Exchanges.{Task, short_reply}
 use Rattle.ufs_spec.specs.Machine.{IsHeard, Spelled, aborts, carried_out, service_found, heard, is_aborted, is_named}
 use Rattle.ufs_spec.specs.Machine.{service, service_of, with_short, without_tasks}
 use Rattle.ufs_spec.specs.Messages.{IsAmong, code_of, fault_among, has_digest, has_extra_header, has_other_code}
 use Rattle.ufs_spec.specs.Messages.{has_wrong_length, host_codes, is_among, is_short, known_codes, read_fault_of}
-use Rattle.ufs_spec.specs.Stages.{heard_codes, read_codes}
 use Rattle.ufs_spec.specs.Refusals.{Lun, State, lun_of, numbers_of}
 use Rattle.ufs_spec.specs.declared.faults.HostFault.{HostFault}
 use Rattle.ufs_spec.specs.declared.faults.HostFault.TheVariants as fault
@@ -71,19 +70,9 @@ is_taken codes bytes none =
     let code = none_told (has_other_code codes bytes) fault.Code _ extra.1 in
     not-false (is_among codes (code_of bytes)) code.0
 
--- a code that is among some is among all
-among_all : (some all : List ℕ) → list_all (is_among all) some ≡ true → (n : ℕ) → is_among some n ≡ true →
-    is_among all n ≡ true
-among_all [] all every n h = absurd (false≢true h)
-among_all (x ∷ xs) all every n h =
-    let both = and_parts (is_among all x) (list_all (is_among all) xs) every in
-    ⊎_elim (λ (e : (n == x) ≡ true). ap (is_among all) (eqb-true n x e) ∙ both.0)
-    (λ (e : is_among xs n ≡ true). among_all xs all both.1 n e)
-    (or_cases (n == x) (is_among xs n) h)
-
 pub heard_kind : (bytes : List ℕ) (m : Message) (c : Option Cdb) → IsHeard bytes (Spelled m c) →
     IsAmong host_codes (code_of bytes)
-heard_kind bytes m c h = among_all heard_codes host_codes refl (code_of bytes) (is_taken heard_codes bytes h.1)
+heard_kind bytes m c h = is_taken host_codes bytes h.1
 
 pub read_kind : (bytes : List ℕ) → read_fault_of bytes ≡ None → IsAmong known_codes (code_of bytes)
-read_kind bytes none = among_all read_codes known_codes refl (code_of bytes) (is_taken read_codes bytes none)
+read_kind bytes none = is_taken known_codes bytes none

@@ -17,7 +17,7 @@ use Rattle.ufs_spec.specs.Machine.{result_of, service, set_deed, short_replied, 
 use Rattle.ufs_spec.specs.Machine.{unit_or_first, with_moves, with_short, with_task, without_tasks}
 use Rattle.ufs_spec.specs.Moves.{EndJob, Ending, GiveJob, ReadRight, ReadWrong, TakeStep, WentWell, WentWrong}
 use Rattle.ufs_spec.specs.Refusals.{Request, State, refusal, unit_of_request}
-use Rattle.ufs_spec.specs.Stages.{most_tasks}
+use Rattle.ufs_spec.specs.Exchanges.{most_tasks}
 use Rattle.ufs_spec.specs.declared.faults.HostFault.{HostFault}
 use Rattle.ufs_spec.specs.declared.faults.HostFault.TheVariants.{NotAskedFor, TagInUse}
 use Rattle.ufs_spec.specs.declared.messages.Message.{Message}

@@ -6,9 +6,9 @@ use Rattle.std.proofs.lemmas.List.{append-nil, length-append}
 use Rattle.ufs_laws.specs.Runs.{IsSaid, the_data, the_read, the_write}
 use Rattle.ufs_spec.specs.Cdbs.{cdb_bytes}
 use Rattle.ufs_spec.specs.Keys.{IsBlock}
-use Rattle.ufs_spec.specs.Stages.{heard_codes}
 use Rattle.ufs_spec.specs.Messages.{AreBytes, code_of, has_digest, has_extra_header, has_other_code, header}
-use Rattle.ufs_spec.specs.Messages.{host_fault_of, may_have, padding, segment_length, spelling, transfer, zeros}
+use Rattle.ufs_spec.specs.Messages.{host_codes, host_fault_of, may_have, padding, segment_length, spelling, transfer}
+use Rattle.ufs_spec.specs.Messages.{zeros}
 use Rattle.ufs_spec.specs.declared.faults.HostFault.{HostFault}
 use Rattle.ufs_spec.specs.declared.faults.HostFault.TheVariants.{Code, Digest, Ehs, Length, Short}
 use Rattle.ufs_spec.specs.declared.messages.Message.{Message}
@@ -42,7 +42,7 @@ write_said = (
   (
     ((refl, omega arith, omega arith, omega arith, refl, looked_at (cdb_bytes write_cdb) refl), refl),
     refl,
-    ((omega arith, omega arith), refl, refl),
+    ((omega arith, omega arith), tt, refl),
   ),
 )
 
@@ -73,7 +73,7 @@ fault_of n bytes =
     || not (n == 32 + segment_length bytes + padding (segment_length bytes)) then Some Length
     else if has_digest bytes then Some Digest
     else if has_extra_header bytes then Some Ehs
-    else if has_other_code heard_codes bytes then Some Code
+    else if has_other_code host_codes bytes then Some Code
     else None
 
 right_header : (rest : List ℕ) → length rest ≡ 4096 → host_fault_of (data_header 4096 ++ rest) ≡ None

@@ -4,11 +4,13 @@ use Rattle.ufs_spec.specs.Dies.{DieState}
 use Rattle.ufs_spec.specs.Lives.{array_of, bad_of}
 use Rattle.ufs_spec.specs.Sound.{CellsSuit}
 use Rattle.ufs_spec.proofs.Facts.{false≢true}
+use Rattle.power_loss.proofs.die_pages.BlankOutsideDies.{fit_inside}
 use Rattle.recovery.proofs.settings_pages.SettingsPages.{has_settings, still_found}
 use Rattle.recovery.proofs.table_facts.TableFacts.{bads_of, each_block, frontiers_fit, records_fit, shown_in_range}
 use Rattle.recovery.proofs.tables.Whole.{shown_within}
 use Rattle.recovery.specs.Found.{IsFound}
 use Rattle.recovery.specs.Reading.{newest_in}
+use Rattle.recovery.proofs.standing_for.FoundStands.{found_stands}
 use Rattle.recovery.proofs.found.scan.Goals as goal
 
 pub returns-then-not-is_of_config-clause-fault : goal.returns-then-not-is_of_config-clause-fault
@@ -68,3 +70,9 @@ returns-clause-found g c = λ cells shown.
     (c.as_slice.ensures.value
     ∙ bads_of g.D.Die.state c.numbers-numbers.result.now c.args.config.now c.args.dies.now c.read_all.new.dies
     c.in-Ok-bad_blocks.bad.items is c.requires c.in-Ok.ensures.same c.in-Ok-bad_blocks.ensures.in_order)))
+
+pub returns-clause-stands : goal.returns-clause-stands
+returns-clause-stands g c =
+    let dies = map g.D.Die.state c.args.dies.now in
+    found_stands c.args.config.now (array_of dies) (bad_of dies) _ (fit_inside c.args.config.now dies c.requires)
+    (returns-clause-found g c)

@@ -8,5 +8,5 @@ read_fields-requires c = passes _ (sym c.in-None.ensures)
 pub returns-in-Some-clause-taken : goal.returns-in-Some-clause-taken
 returns-in-Some-clause-taken c =
     λ message taken spells.
-    (let told : Some c.in-Some.fault ≡ None = c.in-Some.ensures ∙ clear c.args.bytes.now message taken spells in
+    (let told : Some c.in-Some.fault ≡ None = c.in-Some.ensures ∙ clear c.args.bytes.now message spells in
     cc)

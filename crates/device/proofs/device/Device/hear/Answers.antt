@@ -1,7 +1,7 @@
 use Rattle.std.proofs.Common.{refl, subst}
 use Rattle.ufs_spec.specs.Messages.{Spells}
 use Rattle.device.proofs.host_messages.DataRight.{data_heard_as}
-use Rattle.device.proofs.host_messages.HostRight.{neither_kind}
+use Rattle.device.proofs.host_messages.HostRight.{device_kind, managing_right, nop_right, query_right}
 use Rattle.device.proofs.device.Device.hear.Goals as goal
 
 pub returns-in-DataOut-clause-heard : goal.returns-in-DataOut-clause-heard
@@ -12,10 +12,35 @@ returns-in-DataOut-clause-heard c =
     c.as_slice.result.now bytes c.data_out.result h (subst (λ m. Spells m bytes) c.in-DataOut.is spells) none
     c.as_slice.ensures.value c.data_out.ensures.heard
 
+pub returns-in-NopOut-clause-heard : goal.returns-in-NopOut-clause-heard
+returns-in-NopOut-clause-heard c =
+    λ s bytes h spells none.
+    nop_right c.args.self.now c.open_short.new.self s bytes c.open_short.result h none
+    c.open_short.ensures.refused c.in-NopOut.tag (subst (λ m. Spells m bytes) c.in-NopOut.is spells)
+    c.open_short.ensures.answer c.open_short.ensures.after
+
+pub returns-in-TaskRequest-clause-heard : goal.returns-in-TaskRequest-clause-heard
+returns-in-TaskRequest-clause-heard c =
+    λ s bytes h spells none.
+    managing_right c.args.self.now c.open_short-in-TaskRequest.new.self s bytes c.open_short-in-TaskRequest.result h
+    none c.open_short-in-TaskRequest.ensures.refused c.in-TaskRequest.lun c.in-TaskRequest.tag c.in-TaskRequest.function
+    c.in-TaskRequest.meant (subst (λ m. Spells m bytes) c.in-TaskRequest.is spells)
+    c.open_short-in-TaskRequest.ensures.answer c.open_short-in-TaskRequest.ensures.after
+
+pub returns-in-QueryRequest-clause-heard : goal.returns-in-QueryRequest-clause-heard
+returns-in-QueryRequest-clause-heard c =
+    λ s bytes h spells none.
+    query_right c.args.self.now c.open_short-in-QueryRequest.new.self s bytes c.open_short-in-QueryRequest.result h
+    none c.open_short-in-QueryRequest.ensures.refused c.in-QueryRequest.tag c.in-QueryRequest.function
+    c.in-QueryRequest.asked c.in-QueryRequest.length c.in-QueryRequest.value c.in-QueryRequest.data
+    (subst (λ m. Spells m bytes) c.in-QueryRequest.is spells)
+    c.open_short-in-QueryRequest.ensures.answer c.open_short-in-QueryRequest.ensures.after
+
 pub returns-in_default : goal.returns-in_default
 returns-in_default c = record {
   refused = refl;
   heard =
       λ s bytes h spells none.
-      neither_kind bytes c.args.message.now c.in_default.not-Command c.in_default.not-DataOut spells none;
+      device_kind c.args.self.now s bytes c.args.message.now h c.in_default.not-Command c.in_default.not-DataOut
+      c.in_default.not-NopOut c.in_default.not-TaskRequest c.in_default.not-QueryRequest spells none;
 }

@@ -24,6 +24,6 @@ returns-in-Err c = record {
       λ s h.
       faults_right c.args.self.now s c.args.bytes.now c.in-Err.fault h
       (fault_heard c.args.bytes.now c.in-Err.fault
-      (λ f is. ap (fault_or c.in-Err.fault) (sym c.in-Err.is ∙ c.read.ensures.first f is))
+      (λ f is. ap (fault_or c.in-Err.fault) (sym c.in-Err.is ∙ c.read_host.ensures.first f is))
       (λ none. c.in-Err.ensures.reserved none));
 }

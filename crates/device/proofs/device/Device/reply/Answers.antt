@@ -1,9 +1,9 @@
 use Rattle.std.proofs.Common.{◌∙◌, List, Some, None, ap, slice_get, sym, subst}
 use Rattle.ufs_spec.specs.Machine.{Reply, OfReply}
 use Rattle.device.specs.Describes.{IsAnswered}
-use Rattle.device.specs.declared.tasks.Refused.{Refused}
+use Rattle.device.specs.declared.tasks.Short.{Short}
 use Rattle.device.specs.Kept.{DeviceCore}
-use Rattle.device.specs.Replies.{full_answer}
+use Rattle.device.specs.Replies.{short_message}
 use Rattle.device.proofs.due_replies.RepliesRight.{first_of, none_in, replies_right, shorts_right, silence_right}
 use Rattle.device.proofs.device.Device.reply.Goals as goal
 
@@ -23,18 +23,18 @@ returns-in-Some-clause-replied c =
 pub returns-clause-replied : goal.returns-clause-replied
 returns-clause-replied c =
     λ s h yes.
-    let r = first_of c.args.self.now.refused (sym c.reply_refused.ensures.found ∙ yes) in
+    let r = first_of c.args.self.now.shorts (sym c.reply_short.ensures.found ∙ yes) in
     record {
-      reply = full_answer r.0;
-      shown = c.reply_refused.ensures.said r.0 (ap (λ (rs : List Refused). slice_get rs 0) r.2);
+      reply = short_message r.0;
+      shown = c.reply_short.ensures.said r.0 (ap (λ (rs : List Short). slice_get rs 0) r.2);
       answered =
-          subst (λ (x : DeviceCore). IsAnswered s Reply (OfReply (Some (full_answer r.0))) x)
-          (sym (c.reply_refused.ensures.after yes)) (shorts_right c.args.self.now s r.0 r.1 h r.2);
+          subst (λ (x : DeviceCore). IsAnswered s Reply (OfReply (Some (short_message r.0))) x)
+          (sym (c.reply_short.ensures.after yes)) (shorts_right c.args.self.now s r.0 r.1 h r.2);
     }
 
 pub returns-clause-silent : goal.returns-clause-silent
 returns-clause-silent c =
     λ s h no.
-    subst (λ (x : DeviceCore). IsAnswered s Reply (OfReply None) x) (sym (c.reply_refused.ensures.nothing no).0)
+    subst (λ (x : DeviceCore). IsAnswered s Reply (OfReply None) x) (sym (c.reply_short.ensures.nothing no).0)
     (silence_right c.args.self.now s h (λ k task. c.in_default.ensures.none s.translation k task h.kept.layer_kept)
-    (none_in c.args.self.now.refused (sym c.reply_refused.ensures.found ∙ no)))
+    (none_in c.args.self.now.shorts (sym c.reply_short.ensures.found ∙ no)))

@@ -1,6 +1,7 @@
 use Rattle.std.proofs.Common.{rules}
 use Rattle.ftl_core.proofs.job_ended.Endings.{ends_known, ends_right, ends_told}
 use Rattle.ftl_core.proofs.pins.ReadsAwaited.{read_awaited}
+use Rattle.ftl_core.proofs.stopped.EachStop.{stops_right}
 use Rattle.ftl_core.proofs.ftl.Ftl.done.Goals as goal
 
 pub returns-in_err-book-clause-described : goal.returns-in_err-book-clause-described
@@ -26,3 +27,10 @@ returns-clause-told c =
 
 pub returns-clause-read : goal.returns-clause-read
 returns-clause-read c = read_awaited c.args.self.now c.args.die
+
+pub returns-in_err-book-clause-stop : goal.returns-in_err-book-clause-stop
+returns-in_err-book-clause-stop c = λ t ending h is may.
+    stops_right _ _ (returns-in_err-book-clause-described c t ending h is may)
+
+pub returns-clause-stop : goal.returns-clause-stop
+returns-clause-stop c = λ t ending h is may. stops_right _ _ (returns-clause-described c t ending h is may)

@@ -2,6 +2,7 @@ use Rattle.std.proofs.Common.{◌≡◌, ◌∙◌, false, rules}
 use Rattle.ftl_core.specs.Moves.{is_turn_due}
 use Rattle.ftl_core.proofs.steps_ordered.QuietLayers.{turns_due}
 use Rattle.ftl_core.proofs.steps_ordered.Turns.{turns_told}
+use Rattle.ftl_core.proofs.stopped.EachStop.{stops_right}
 use Rattle.ftl_core.proofs.ftl.Ftl.turn.Goals as goal
 
 pub returns-then-is_some-clause-described : goal.returns-then-is_some-clause-described
@@ -18,3 +19,16 @@ returns-in-Repairing-clause-described_due c =
 pub returns-in-Repairing-clause-described : goal.returns-in-Repairing-clause-described
 returns-in-Repairing-clause-described c =
     turns_told c.args.self.now _ c.turn_repair.result (search rules) (search rules)
+
+pub returns-then-is_some-clause-stop : goal.returns-then-is_some-clause-stop
+returns-then-is_some-clause-stop c = λ t h. stops_right _ _ (returns-then-is_some-clause-described c t h)
+
+pub returns-in-Unmarked-clause-stop : goal.returns-in-Unmarked-clause-stop
+returns-in-Unmarked-clause-stop c = λ t h. stops_right _ _ (returns-in-Unmarked-clause-described c t h)
+
+pub returns-in-Repairing-clause-stop : goal.returns-in-Repairing-clause-stop
+returns-in-Repairing-clause-stop c = λ t h. stops_right _ _ (returns-in-Repairing-clause-described c t h)
+
+pub returns-in-Mended-clause-stop : goal.returns-in-Mended-clause-stop
+returns-in-Mended-clause-stop c = λ t h.
+    stops_right _ _ (turns_told c.args.self.now _ false (search rules) (search rules) t h)

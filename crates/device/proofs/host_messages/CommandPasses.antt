@@ -1,0 +1,196 @@
+-- What the table tells of a command that it lets through: no line of it applies.
+use Rattle.std.proofs.Common.{◌≡◌, ◌∙◌, ℕ, zero, suc, ◌+◌, ◌-◌, ◌<◌, ◌≤◌, Bool, true, false, List, [], ◌∷◌, length}
+use Rattle.std.proofs.Common.{Option, Some, None, ◌⊎◌, drop, refl, sym, ap, inl, inr, arith}
+use Rattle.std.specs.Prelude.{◌*◌, ◌/◌, ◌%◌, ◌==◌, ◌||◌, ◌&&◌, if◌then◌else◌, min, nat_le, nat_lt, not, slice_get}
+use Rattle.std.specs.Int.{div_ceil}
+use Rattle.std.specs.List.{list_any, sum_by}
+use Rattle.std.proofs.lemmas.Bool.{le-leb, lt-ltb}
+use Rattle.std.proofs.lemmas.Bool.Decides.{nat_tests}
+use Rattle.std.proofs.lemmas.List.{length-drop}
+use Rattle.std.proofs.lemmas.List.Sums.{get_or-le-sum_by}
+use Rattle.std.proofs.lemmas.Option.{slice_get_within}
+use Rattle.ufs_spec.proofs.Facts.{eqb-true, false≢true, ltb-false, none-some, or_parts}
+use Rattle.ufs_spec.specs.Cdbs.{IsTakenCdb, address_of, blocks_of, direction_of, operation_of}
+use Rattle.ufs_spec.specs.Exchanges.{Busy, Status, Task, invalid_field, invalid_operation, list_length_error}
+use Rattle.ufs_spec.specs.Exchanges.{no_unit, not_ready, out_of_range, sequence_error, write_protected}
+use Rattle.ufs_spec.specs.Keys.{Group}
+use Rattle.ufs_spec.specs.Machine.{durable}
+use Rattle.ufs_spec.specs.Refusals.{Request, State, UnitOf, first_line, has_other_response, has_wrong_list}
+use Rattle.ufs_spec.specs.Refusals.{is_crowded, is_past, is_refused_write, is_security_out, is_too_long, lacks_data}
+use Rattle.ufs_spec.specs.Refusals.{lacks_response, lacks_unit, length_in, lines_behind, lines_for, locked, lun_of}
+use Rattle.ufs_spec.specs.Refusals.{mended, needs_mended, not_taken, numbers_of, refusal, sends_frames, slots_needed}
+use Rattle.ufs_spec.specs.Refusals.{spec_at, spec_of, unit_in, unit_of_request}
+use Rattle.ufs_spec.specs.Translation.{free_slots, has_pending}
+use Rattle.ufs_spec.specs.declared.configs.UnitSpec.{UnitSpec}
+use Rattle.ufs_spec.specs.declared.scsi.Cdb.{Cdb}
+use Rattle.ufs_spec.specs.declared.scsi.Cdb.TheVariants as cdb
+use Rattle.ufs_laws.proofs.plain_contents.GroupsOfCommands.{length-groups}
+use Rattle.power_loss.specs.Exchange.{IsTied}
+use Rattle.device.specs.declared.tasks.Plan.{Plan}
+use Rattle.device.specs.Plans.{Passes}
+
+-- Lines
+
+-- where no line applies, the first does not, nor one behind it
+not_here : (b : Bool) (x : Status) (rest : Option Status) → (if b then Some x else rest) ≡ None →
+    (b ≡ false) × (rest ≡ None)
+not_here true x rest h = absurd (none-some x (sym h))
+not_here false x rest h = (refl, h)
+
+pub record Checked (s : State) (r : Request) (command : Cdb) : Type 0 where
+  pub too_long : is_too_long (numbers_of s) command ≡ false
+  pub past : is_past command (spec_of s r) ≡ false
+  pub unmended : (needs_mended (operation_of command) && not (mended s)) ≡ false
+  pub refused : is_refused_write s (spec_of s r) command ≡ false
+  pub crowded : is_crowded s command ≡ false
+
+checked : (s : State) (r : Request) (command : Cdb) → r.cdb ≡ Some command → refusal s r ≡ None → Checked s r command
+checked s r command is none =
+    let a = not_here (lacks_unit s r (lun_of (numbers_of s) r.lun)) no_unit _ none in
+    let b = not_here (not_taken r (lun_of (numbers_of s) r.lun)) invalid_operation _ a.1 in
+    let lines : first_line (lines_for s r command) ≡ None =
+    sym (ap (λ (c : Option Cdb). first_line (lines_behind s r c)) is) ∙ b.1 in
+    let c = not_here (is_too_long (numbers_of s) command) invalid_field _ lines in
+    let d = not_here (has_wrong_list command) list_length_error _ c.1 in
+    let e = not_here (lacks_data r (direction_of command) (length_in s command)) invalid_field _ d.1 in
+    let f = not_here (is_past command (spec_of s r)) out_of_range _ e.1 in
+    let g = not_here (needs_mended (operation_of command) && not (mended s)) not_ready _ f.1 in
+    let i = not_here (is_refused_write s (spec_of s r) command) write_protected _ g.1 in
+    let j = not_here (lacks_response s command) sequence_error _ i.1 in
+    let k = not_here (has_other_response s command) invalid_field _ j.1 in
+    let l = not_here (is_crowded s command) Busy _ k.1 in
+    record { too_long = c.0; past = f.0; unmended = g.0; refused = i.0; crowded = l.0 }
+
+-- The unit
+
+unit_told : (s : State) (r : Request) (unit : UnitSpec) → slice_get (numbers_of s).units.items r.lun ≡ Some unit →
+    unit_of_request s r ≡ Some r.lun
+unit_told s r unit there =
+    let low : nat_lt r.lun (length (numbers_of s).units.items) ≡ true =
+    lt-ltb r.lun (length (numbers_of s).units.items) (slice_get_within (numbers_of s).units.items r.lun unit there) in
+    let lun : lun_of (numbers_of s) r.lun ≡ Some (UnitOf r.lun) =
+    ap (λ (b : Bool). if b then Some (UnitOf r.lun) else None) low in
+    ap (unit_in s r) lun
+
+-- what is known of a command that passed
+pub record IsFree (s : State) (r : Request) (unit : UnitSpec) (command : Cdb) : Type 0 where
+  pub unit_is : unit_of_request s r ≡ Some r.lun
+  pub spec_is : spec_of s r ≡ Some unit
+  pub few : blocks_of command ≤ 1
+  pub within : address_of command + blocks_of command ≤ unit.blocks
+  pub mended : needs_mended (operation_of command) ≡ true → mended s ≡ true
+  pub slots : slots_needed (numbers_of s) command ≤ free_slots s.translation
+  pub refused : is_refused_write s (spec_of s r) command ≡ false
+
+few_told : (s : State) (command : Cdb) → IsTakenCdb command → is_too_long (numbers_of s) command ≡ false →
+    blocks_of command ≤ 1
+few_told s cdb.TestUnitReady taken h = ltb-false 1 (blocks_of cdb.TestUnitReady) h
+few_told s (cdb.RequestSense allocation) taken h = ltb-false 1 (blocks_of (cdb.RequestSense allocation)) h
+few_told s (cdb.Read6 address blocks) taken h = ltb-false 1 (blocks_of (cdb.Read6 address blocks)) h
+few_told s (cdb.Write6 address blocks) taken h = ltb-false 1 (blocks_of (cdb.Write6 address blocks)) h
+few_told s cdb.ReadCapacity10 taken h = ltb-false 1 (blocks_of cdb.ReadCapacity10) h
+few_told s (cdb.Read10 address blocks forced) taken h = ltb-false 1 (blocks_of (cdb.Read10 address blocks forced)) h
+few_told s (cdb.Write10 address blocks forced) taken h = ltb-false 1 (blocks_of (cdb.Write10 address blocks forced)) h
+few_told s (cdb.SynchronizeCache10 address blocks immediate) taken h =
+    ltb-false 1 (blocks_of (cdb.SynchronizeCache10 address blocks immediate)) h
+few_told s command taken h = absurd taken
+
+mended_told : (a b : Bool) → (a && not b) ≡ false → a ≡ true → b ≡ true
+mended_told true true h e = refl
+mended_told true false h e = sym h
+mended_told false b h e = absurd (false≢true e)
+
+pub free_told : (s : State) (r : Request) (todo : Plan) → (h : Passes s r todo) → IsFree s r h.unit h.command
+free_told s r todo h =
+    let k = checked s r h.command h.is h.passed in
+    let unit = unit_told s r h.unit h.there in
+    let spec : spec_of s r ≡ Some h.unit = ap (spec_at (numbers_of s)) unit ∙ h.there in
+    record {
+      unit_is = unit;
+      spec_is = spec;
+      few = few_told s h.command h.taken k.too_long;
+      within = ltb-false h.unit.blocks (address_of h.command + blocks_of h.command)
+          (sym (ap (is_past h.command) spec) ∙ k.past);
+      mended = mended_told (needs_mended (operation_of h.command)) (mended s) k.unmended;
+      slots = ltb-false (free_slots s.translation) (slots_needed (numbers_of s) h.command)
+          (or_parts
+          (is_security_out h.command && list_any (λ (task : Task). sends_frames task.command) s.tasks)
+          (nat_lt (free_slots s.translation) (slots_needed (numbers_of s) h.command)) k.crowded).1;
+      refused = k.refused;
+    }
+
+-- How many blocks a READ sends
+
+pub some_told : (n : ℕ) → (n == 0) ≡ false → 1 ≤ n
+some_told n h = grind (arith, nat_tests)
+
+none_least : (a b : ℕ) → (b ≡ 0) ⊎ (a ≡ 0) → min a (4096 * b) ≡ 0
+none_least a b (inl h) = omega arith
+none_least a b (inr h) = omega arith
+
+pub none_expected : (expected blocks : ℕ) → ((blocks == 0) || (expected == 0)) ≡ true →
+    div_ceil (min expected (4096 * blocks)) 4096 ≡ 0
+none_expected expected blocks h =
+    ap (λ (n : ℕ). div_ceil n 4096) (none_least expected blocks (by (blocks == 0) (expected == 0) refl refl h))
+  where
+    by : (a b : Bool) → (blocks == 0) ≡ a → (expected == 0) ≡ b → (a || b) ≡ true → (blocks ≡ 0) ⊎ (expected ≡ 0)
+    by true b e f k = inl (eqb-true blocks 0 e)
+    by false true e f k = inr (eqb-true expected 0 f)
+    by false false e f k = absurd (false≢true k)
+
+ceil_one : (n : ℕ) → 1 ≤ n → n ≤ 4096 → n / 4096 + min 1 (n % 4096) ≡ 1
+ceil_one n low high = omega arith
+
+pub one_expected : (expected blocks : ℕ) → blocks ≤ 1 → ((blocks == 0) || (expected == 0)) ≡ false →
+    div_ceil (min expected (4096 * blocks)) 4096 ≡ 1
+one_expected expected blocks few h =
+    let both = or_parts (blocks == 0) (expected == 0) h in
+    let some : 1 ≤ blocks = some_told blocks both.0 in
+    let more : 1 ≤ expected = some_told expected both.1 in
+    ceil_one (min expected (4096 * blocks)) (omega arith) (omega arith)
+
+-- What is durable of a locked device
+
+get_dropped : (xs : List Group) (k i : ℕ) → slice_get (drop k xs) i ≡ slice_get xs (i + k)
+get_dropped xs zero i = ap (slice_get xs) (none i)
+  where
+    none : (i : ℕ) → i ≡ i + 0
+    none i = omega arith
+get_dropped [] (suc k) i = refl
+get_dropped (x ∷ xs) (suc k) i = get_dropped xs k i ∙ ap (slice_get (x ∷ xs)) (more i k)
+  where
+    more : (i k : ℕ) → suc (i + k) ≡ i + suc k
+    more i k = omega arith
+
+none_left : (groups : List Group) (r k : ℕ) → ((j : ℕ) (g : Group) → slice_get groups j ≡ Some g → 0 < length g) →
+    nat_lt 0 (sum_by length (drop k (drop r groups))) ≡ false → length (drop r groups) ≤ k
+none_left groups r k some none = by (drop k (drop r groups)) refl none
+  where
+    by : (gs : List Group) → drop k (drop r groups) ≡ gs → nat_lt 0 (sum_by length gs) ≡ false →
+        length (drop r groups) ≤ k
+    by [] e h = let size = ap length e in let all = length-drop k (drop r groups) in omega arith
+    by (g ∷ gs) e h =
+        let there : slice_get groups (0 + k + r) ≡ Some g =
+        sym (get_dropped groups r (0 + k)) ∙ (sym (get_dropped (drop r groups) k 0)
+        ∙ ap (λ (xs : List Group). slice_get xs 0) e) in
+        let long = some (0 + k + r) g there in
+        let least : length g ≤ sum_by length (g ∷ gs) = get_or-le-sum_by length (g ∷ gs) 0 g (omega arith) in
+        let short = ltb-false 0 (sum_by length (g ∷ gs)) h in
+        absurd (omega arith)
+
+-- where nothing is pending all that was accepted is durable
+pub all_durable : (s : State) → IsTied s → has_pending s.translation ≡ false →
+    nat_le (length s.accepted) (durable s) ≡ true
+all_durable s v none =
+    let l = s.translation.ledger in
+    let few = none_left l.groups l.repairs (durable s) v.valid.book_right.some none in
+    let same = ap length v.groups in
+    let count = length-groups s.base s.accepted in
+    le-leb (length s.accepted) (durable s) (omega arith)
+
+-- a flush that passed finds all durable where the device is locked
+pub flush_durable : (s : State) (b : Bool) → IsTied s → (b && locked s && has_pending s.translation) ≡ false →
+    b ≡ true → locked s ≡ true → nat_le (length s.accepted) (durable s) ≡ true
+flush_durable s b v refused is lock =
+    all_durable s v
+    (sym (λ i. is i && lock i && has_pending s.translation) ∙ refused)

@@ -1,0 +1,165 @@
+//! Stops inside the first mark, and inside erases, page by page of the block.
+use crate::players::{EACH_LEFT, Left, Player, write_of};
+use nand_model::{Die, MemDie};
+use std::alloc::Global;
+use std::process::Abort;
+use std::test::Fail;
+use ufs_spec::{Config, ConfigFault, Event, Job, Leftover, Output, Page, UnitSpec};
+use workbench::new_dies;
+
+/// Two dies of 20 blocks of 16 pages, and a unit of 64 blocks.
+fn small_config() -> Result<Config, ConfigFault> {
+    let units = [UnitSpec {
+        blocks: 64,
+        boot: 0,
+        protect: 0,
+    }];
+    Config::new(2, 20, 16, &units, 1, 64, 0)
+}
+
+/// Such dies, of which the first block of each holds what an older stop left: pages that do not
+/// open.
+fn torn_dies(rt: &impl Abort, alloc: Global) -> Result<Vec<MemDie>, Fail> {
+    let left = Page {
+        body: [0x11; 4096],
+        spare: [0x22; 96],
+    };
+    let mut dies = new_dies(alloc, 2, 20, 16)?;
+    for index in 0..2usize {
+        for page in 0..16u16 {
+            assert!(rt;
+                index < dies.len() && 0 < dies[index].blocks() && page < dies[index].pages()
+            );
+            dies[index].set_page(0, page, &left);
+        }
+    }
+    Ok(dies)
+}
+
+/// A device at its first step.
+fn begun(rt: &impl Abort, alloc: Global) -> Result<Player, Fail> {
+    let dies = torn_dies(rt, alloc)?;
+    Ok(Player::new(rt, alloc, small_config()?, dies, 0, Left::Old))
+}
+
+/// A stop inside the erase that the die has in flight: one page is left so, the others otherwise.
+fn stop_in_erase(
+    rt: &impl Abort,
+    player: &mut Player,
+    job: &Job,
+    odd: u16,
+    left: Left,
+    others: Left,
+) -> Result<(), Fail> {
+    let Job::Erase { die, block } = job else {
+        panic!(rt; "the die erases");
+    };
+    let mut pages = Vec::new(player.alloc);
+    for page in 0..16u16 {
+        let kind = if page == odd { left } else { others };
+        pages.push(player.erased_page(rt, *die, *block, page, kind))?;
+    }
+    let mut lefts = Vec::new(player.alloc);
+    lefts.push(Leftover::Block {
+        die: *die,
+        block: *block,
+        pages,
+    })?;
+    let output = player.step(rt, &Event::Stop(lefts));
+    assert!(rt; matches!(output, Output::Stopped));
+    player.settle(rt, 4, 2)
+}
+
+/// A write is GOOD.
+fn expect_good(rt: &impl Abort, player: &mut Player, address: u8, byte: u8) -> Result<(), Fail> {
+    let answer = player.write(rt, address, byte)?;
+    assert_eq!(rt; answer.len(), 32);
+    assert_eq!(rt; answer.get(7).copied(), Some(0));
+    Ok(())
+}
+
+/// The block is read.
+fn expect_read(rt: &impl Abort, player: &mut Player, address: u8, byte: u8) -> Result<(), Fail> {
+    let reply = player.read(rt, address)?;
+    player.expect_block(rt, &reply, byte);
+    Ok(())
+}
+
+/// Each page of the erase that the first mark needs is left old, new and torn, the others
+/// otherwise: the device opens, and takes a write.
+#[test]
+fn a_stop_in_the_first_erase(rt: HostRuntime) -> Result<(), Fail> {
+    for odd in 0..16u16 {
+        for left in EACH_LEFT {
+            for others in EACH_LEFT {
+                if others == left {
+                    continue;
+                }
+                let mut player = begun(&rt, rt.alloc())?;
+                player.step(&rt, &Event::Turn);
+                let Some(job) = player.take(&rt, 0) else {
+                    panic!(rt; "an erase is owed");
+                };
+                stop_in_erase(&rt, &mut player, &job, odd, left, others)?;
+                expect_good(&rt, &mut player, 3, 0x33)?;
+                expect_read(&rt, &mut player, 3, 0x33)?;
+            }
+        }
+    }
+    Ok(())
+}
+
+/// The same in the erase that a write needs: the write before it, which was acknowledged, is there;
+/// the write itself is not, and may be done again.
+#[test]
+fn a_stop_in_the_erase_of_a_write(rt: HostRuntime) -> Result<(), Fail> {
+    for odd in 0..16u16 {
+        for left in EACH_LEFT {
+            for others in EACH_LEFT {
+                if others == left {
+                    continue;
+                }
+                let mut player = begun(&rt, rt.alloc())?;
+                player.settle(&rt, 4, 1)?;
+                expect_good(&rt, &mut player, 0, 0x11)?;
+                player.send(&rt, &write_of(1))?;
+                player.hear(&rt, 0)?;
+                player.send_block(&rt, 0x22)?;
+                let Some(job) = player.take(&rt, 1) else {
+                    panic!(rt; "an erase is owed");
+                };
+                stop_in_erase(&rt, &mut player, &job, odd, left, others)?;
+                expect_read(&rt, &mut player, 0, 0x11)?;
+                expect_read(&rt, &mut player, 1, 0)?;
+                expect_good(&rt, &mut player, 1, 0x33)?;
+                expect_read(&rt, &mut player, 1, 0x33)?;
+            }
+        }
+    }
+    Ok(())
+}
+
+/// The page of the first mark is left old, new and torn: the device is mended, and takes a write.
+#[test]
+fn a_stop_in_the_first_mark(rt: HostRuntime) -> Result<(), Fail> {
+    for left in EACH_LEFT {
+        let mut player = begun(&rt, rt.alloc())?;
+        player.step(&rt, &Event::Turn);
+        player.work(&rt, 0)?;
+        let Some(Job::Program(place, page)) = player.take(&rt, 0) else {
+            panic!(rt; "the program of the mark is owed");
+        };
+        let page = player.page_left(&rt, place, page, left);
+        let mut lefts = Vec::new(rt.alloc());
+        lefts.push(Leftover::Page(place, page))?;
+        let output = player.step(&rt, &Event::Stop(lefts));
+        assert!(rt; matches!(output, Output::Stopped));
+        // With the whole mark on its die nothing is left to mend.
+        let turned = player.step(&rt, &Event::Turn);
+        assert!(rt; matches!(turned, Output::Turn(due) if due == (left != Left::New)));
+        player.settle(&rt, 4, 2)?;
+        expect_good(&rt, &mut player, 3, 0x33)?;
+        expect_read(&rt, &mut player, 3, 0x33)?;
+    }
+    Ok(())
+}

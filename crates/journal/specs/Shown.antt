@@ -1,0 +1,19 @@
+-- What it means that found blocks are those of a plain device.
+use Rattle.std.specs.Prelude.{◌≡◌, ◌<◌, ℕ, List, [], length, slice_get, slice_index_or, Some}
+use Rattle.ufs_spec.specs.Commands.{Command, Write}
+use Rattle.ufs_spec.specs.Plain.{Plain, FitsIn, block_at, unit_of}
+use Rattle.ufs_spec.specs.declared.configs.Numbers.{Numbers}
+
+-- at this address of this unit the block of the plain device was found
+abbrev pub IsShownAt : List (List (List ℕ)) → Plain → ℕ → ℕ → Type 0
+IsShownAt found p unit address = slice_get (slice_index_or found unit []) address ≡ Some (block_at unit address p)
+
+-- so it is at each address of each unit
+abbrev pub Shows : List (List (List ℕ)) → Plain → Type 0
+Shows found p =
+    (unit address : ℕ) → unit < length p.units → address < length (unit_of unit p) → IsShownAt found p unit address
+
+-- the command is a write of blocks that are there
+abbrev pub IsWriteWithin : Numbers → Command → Type 0
+IsWriteWithin n (Write unit address blocks) = FitsIn n (Write unit address blocks)
+IsWriteWithin n _ = ⊥

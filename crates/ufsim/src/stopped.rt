@@ -1,0 +1,116 @@
+//! The dies as a stop leaves them, on copies.
+use crate::commands::Content;
+use crate::fault::Word;
+use crate::leftovers::leftover;
+use device::World;
+use nand_model::{Die, MemDie};
+use std::alloc::Global;
+use ufs_spec::{Job, Leftover, NoMemory, Page};
+
+/// What a page or block may hold after a stop.
+pub(crate) const CONTENTS: [Content; 3] = [Content::Old, Content::New, Content::Torn];
+
+/// Equal dies.
+pub(crate) fn copied_dies(alloc: Global, dies: &[MemDie]) -> Result<Vec<MemDie>, NoMemory> {
+    let mut all = Vec::with_capacity(alloc, dies.len()).map_err(|_| NoMemory)?;
+    for die in dies {
+        all.push(die.copy(alloc)?).map_err(|_| NoMemory)?;
+    }
+    Ok(all)
+}
+
+/// Whether any block of the dies is bad.
+pub(crate) fn has_bad(dies: &[MemDie]) -> bool {
+    dies.iter().any(|die| has_bad_block(die))
+}
+
+fn has_bad_block(die: &MemDie) -> bool {
+    for block in 0..die.blocks() {
+        if die.is_bad(block) {
+            return true;
+        }
+    }
+    false
+}
+
+/// Whether the die has a program or an erase in flight.
+pub(crate) fn is_at_work(world: &World, die: u8) -> bool {
+    match world.job(die) {
+        Some(Job::Program(_, _)) => true,
+        Some(Job::Erase { .. }) => true,
+        _ => false,
+    }
+}
+
+/// Copies of the dies as a stop leaves them with this content in all that is programmed or erased.
+pub(crate) fn stopped_dies(
+    alloc: Global,
+    world: &World,
+    content: Content,
+) -> Result<Vec<MemDie>, Word> {
+    let mut dies = copied_dies(alloc, world.dies()).map_err(|_| Word::Memory)?;
+    for (index, die) in dies.iter_mut().enumerate() {
+        if let Ok(number) = u8::try_from(index) {
+            leave(alloc, world, number, content, die)?;
+        }
+        die.end_power_cycle();
+    }
+    Ok(dies)
+}
+
+/// Copies of the dies as a stop leaves them with these contents on two dies. The others keep what they had.
+pub(crate) fn pair_stopped(
+    alloc: Global,
+    world: &World,
+    first: (u8, Content),
+    second: (u8, Content),
+) -> Result<Vec<MemDie>, Word> {
+    let mut dies = copied_dies(alloc, world.dies()).map_err(|_| Word::Memory)?;
+    for (index, die) in dies.iter_mut().enumerate() {
+        if index == first.0 as usize {
+            leave(alloc, world, first.0, first.1, die)?;
+        } else if index == second.0 as usize {
+            leave(alloc, world, second.0, second.1, die)?;
+        }
+        die.end_power_cycle();
+    }
+    Ok(dies)
+}
+
+// What the job in flight of the die with this number leaves, on a copy of the die.
+fn leave(
+    alloc: Global,
+    world: &World,
+    number: u8,
+    content: Content,
+    die: &mut MemDie,
+) -> Result<(), Word> {
+    match leftover(alloc, world, number, content) {
+        Ok(left) => write_left(die, &left),
+        Err(Word::Memory) => return Err(Word::Memory),
+        Err(_) => {}
+    }
+    Ok(())
+}
+
+// The pages that the leftover names are as it says.
+fn write_left(die: &mut MemDie, left: &Leftover) {
+    match left {
+        Leftover::Page(place, page) => write_page(die, place.block, place.page, page),
+        Leftover::Block { block, pages, .. } => write_block(die, *block, pages.as_slice()),
+    }
+}
+
+fn write_block(die: &mut MemDie, block: u16, pages: &[Page]) {
+    for (index, page) in pages.iter().enumerate() {
+        if let Ok(at) = u16::try_from(index) {
+            write_page(die, block, at, page);
+        }
+    }
+}
+
+fn write_page(die: &mut MemDie, block: u16, page: u16, left: &Page) {
+    if block < die.blocks() && page < die.pages() {
+        die.set_page(block, page, left);
+    }
+}
