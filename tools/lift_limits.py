@@ -34,12 +34,6 @@ class Limit(NamedTuple):
 
 
 LIMITS = (
-    Limit("most_blocks", STAGES, "most_blocks n = command_blocks n", (
-        (STAGES,
-         "use Rattle.ufs_spec.specs.declared.configs.Numbers.{Numbers}\n",
-         "use Rattle.ufs_spec.specs.Configs.{command_blocks}\n"
-         "use Rattle.ufs_spec.specs.declared.configs.Numbers.{Numbers}\n"),
-    )),
     Limit("collects", STAGES, "collects = true"),
     Limit("most_bad", STAGES, "most_bad n = n.spare"),
     Limit("taken_luns", STAGES, "taken_luns = 0x81 ∷ 0xB0 ∷ 0xC4 ∷ 0xD0 ∷ []"),

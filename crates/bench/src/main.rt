@@ -3,8 +3,10 @@
 //! their ratios on standard error.
 #![tactic(auto)]
 
+mod groups;
 mod scans;
 
+use crate::groups::time_groups;
 use crate::scans::time_scans;
 use anyhow::{Result, ensure};
 use sha2::{Digest, Sha256};
@@ -127,5 +129,6 @@ fn main(rt: HostRuntime) -> Result<()> {
     let mut bench = open(rt.alloc())?;
     bench.settle(4, 4);
     run(&rt, &mut bench)?;
+    time_groups(&rt, rt.alloc())?;
     time_scans(&rt, rt.alloc())
 }

@@ -1,5 +1,7 @@
+pub mod BlocksBehind
 pub mod BlocksOwed
 pub mod BytesSent
+pub mod DeedsBehind
 pub mod NoneOwed
 pub mod PinsLetGo
 pub mod RepliesRight

@@ -1,5 +1,6 @@
 pub mod FewPins
 pub mod FewRead
+pub mod KeptByTag
 pub mod OpenTasks
 pub mod ReadProgress
 pub mod ReadsEnded

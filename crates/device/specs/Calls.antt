@@ -1,18 +1,17 @@
 -- What the calls make of the layer and of what the device keeps.
-use Rattle.std.specs.Prelude.{◌≡◌, ℕ, ◌-◌, ◌≤◌, ◌&&◌, not, nat_lt, Bool, false, if◌then◌else◌, List, [], ◌∷◌, ◌++◌}
-use Rattle.std.specs.Prelude.{length}
-use Rattle.std.specs.Prelude.{map, Option, Some, None, true, Result, Ok, Err}
+use Rattle.std.specs.Prelude.{◌≡◌, ℕ, ◌+◌, ◌-◌, ◌≤◌, ◌<◌, nat_le, nat_lt, Bool, true, false, if◌then◌else◌, List, []}
+use Rattle.std.specs.Prelude.{◌∷◌, ◌++◌, fold, length, map, replicate, Option, Some, None, Result, Ok, Err}
 use Rattle.std.specs.List.{list_any}
-use Rattle.ufs_spec.specs.Keys.{Group, IsKey}
-use Rattle.ufs_spec.specs.Ledger.{Ledger, look, next_number}
-use Rattle.ufs_spec.specs.Moves.{Accept, Claim, IsAllowedMove, Keep, Release, moved}
-use Rattle.ufs_spec.specs.Plain.{shape_of_numbers}
-use Rattle.ufs_spec.specs.Translation.{Pin, Translation, free_slots, has_number, is_locked, is_mended}
+use Rattle.ufs_spec.specs.Keys.{IsKey}
+use Rattle.ufs_spec.specs.Ledger.{Ledger, next_number}
+use Rattle.ufs_spec.specs.Moves.{Accept, Claim, IsAllowedMove, Move, Release, moved}
+use Rattle.ufs_spec.specs.Plain.{shape_of_numbers, zero_block}
+use Rattle.ufs_spec.specs.Translation.{Translation, free_slots, is_locked, is_mended}
 use Rattle.ufs_spec.specs.declared.flash.Key.{Key}
-use Rattle.power_loss.specs.Exchange.{TagsDiffer}
 use Rattle.ftl_core.specs.Core.{Core}
 use Rattle.ftl_core.specs.Describes.{Describes}
-use Rattle.ftl_core.specs.Tells.{keeps_for}
+use Rattle.ftl_core.specs.Moves.{claim_filled, claims_for}
+use Rattle.ftl_core.specs.Tells.{PinsDiffer, claims_of_blocks, group_of_blocks, keeps_for, keeps_of, key_behind}
 use Rattle.ftl_core.specs.declared.ftl.Ended.{Ended}
 use Rattle.ftl_core.specs.declared.ftl.Ended.TheVariants as ended
 use Rattle.device.specs.declared.tasks.Status.{Status}
@@ -23,75 +22,110 @@ use Rattle.device.specs.declared.tasks.Plan.{Plan}
 use Rattle.device.specs.declared.tasks.Plan.TheVariants as plan
 use Rattle.device.specs.declared.tasks.TaskEvent.{TaskEvent}
 use Rattle.device.specs.declared.tasks.TaskEvent.TheVariants as event
+use Rattle.device.specs.declared.tasks.Transfer.{Transfer}
 use Rattle.device.specs.Kept.{DeviceCore}
-use Rattle.device.specs.Tasks.{after_lost_read, task_after}
+use Rattle.device.specs.Tasks.{after_lost_read, next_transfer, task_after}
 
 -- A task begins
 
--- what a READ keeps of its block
-abbrev pub pin_of_block : Translation → ℕ → Key → Pin
-pin_of_block t tag key = record { tag = tag; index = 0; looked = look t.ledger key; wanted = true }
-
--- a READ of a mended device looks its address up, and keeps nothing else
-pub record MayKeep (t : Translation) (tag : ℕ) (key : Key) : Type 0 where
+-- a READ of a mended device looks these addresses up, and keeps nothing else
+pub record MayKeep (t : Translation) (tag : ℕ) (key : Key) (blocks : ℕ) : Type 0 where
   pub mended : is_mended t.work.mending ≡ true
-  pub there : IsKey (shape_of_numbers t.numbers) key
   pub of_data : key.kind ≡ 1
+  pub there : (i : ℕ) → i < blocks → IsKey (shape_of_numbers t.numbers) (key_behind key i)
   pub new : list_any (keeps_for tag) t.pins ≡ false
 
--- no tag keeps two things
-abbrev pub PinsDiffer : List Pin → Type 0
-PinsDiffer = TagsDiffer (λ (pin : Pin). pin.tag)
+-- whether there is room for so many pins more
+abbrev pub has_room : Translation → ℕ → Bool
+has_room t blocks = nat_le (length t.pins + blocks) 1024
 
--- how far a READ is that begins, and the layer then: it keeps what it looks up. As no tag keeps two things, there is
+-- how far a READ is that begins, and the layer then: it keeps what it looks up. As no block is kept twice, there is
 -- room wherever a task may be opened
-abbrev pub HasKept : Core → Translation → ℕ → Key → Phase → Type 0
-HasKept after t tag key p =
-    (p ≡ (if nat_lt (length t.pins) 32 then phase.SendBlock else phase.Answer status.Busy 0))
-    × PinsDiffer t.pins
-    × (MayKeep t tag key →
-    Describes after (if nat_lt (length t.pins) 32 then moved t (Keep key (pin_of_block t tag key)) else t))
+pub record HasKept (before after : Core) (t : Translation) (tag : ℕ) (key : Key) (blocks size : ℕ)
+    (p : Phase) : Type 0 where
+  pub phase_is : p ≡
+      (if has_room t blocks then phase.SendBlocks (record { blocks = blocks; sent = 0; length = size })
+      else phase.Answer status.Busy 0)
+  pub differ : PinsDiffer t.pins
+  pub layer : MayKeep t tag key blocks →
+      Describes after (if has_room t blocks then fold moved t (keeps_of t tag key blocks) else t)
+  pub claims : claims_for after ≡ claims_for before
 
--- how far a WRITE is that begins, and the layer then: it claims a slot
-abbrev pub HasClaimed : Core → Translation → Key → Bool → Phase → Type 0
-HasClaimed after t key forced p =
-    (p ≡ (if nat_lt 0 (free_slots t) then phase.AskData key forced else phase.Answer status.Busy 0))
-    × Describes after (if nat_lt 0 (free_slots t) then moved t (Claim 1) else t)
+-- what other tags have claimed stays so
+abbrev pub OthersClaim : Core → Core → ℕ → Type 0
+OthersClaim before after tag = (other : ℕ) → (other ≡ tag → ⊥) → claims_for after other ≡ claims_for before other
+
+-- whether so many slots are free
+abbrev pub has_slots : Translation → ℕ → Bool
+has_slots t blocks = nat_le blocks (free_slots t)
+
+-- how far a WRITE is that begins, and the layer then: it claims a slot for each block
+pub record HasClaimed (before after : Core) (t : Translation) (tag : ℕ) (key : Key) (blocks : ℕ) (forced : Bool)
+    (p : Phase) : Type 0 where
+  pub phase_is : p ≡
+      (if has_slots t blocks
+      then phase.AskData (record { key = key; blocks = blocks; gathered = 0; forced = forced })
+      else phase.Answer status.Busy 0)
+  pub layer : Describes after (if has_slots t blocks then moved t (Claim blocks) else t)
+  pub claims : claims_for before tag ≡ [] → claims_for after tag ≡
+      (if has_slots t blocks then claims_of_blocks tag (replicate blocks zero_block) else [])
+  pub others : OthersClaim before after tag
 
 -- the number of the last group, so that what waits for it waits for all that was accepted
 abbrev pub last_number : Ledger → ℕ
 last_number l = next_number l - 1
 
+-- nothing of the layer changes that shows
+abbrev pub IsSameLayer : Core → Core → Translation → Type 0
+IsSameLayer before after t = Describes after t × (claims_for after ≡ claims_for before)
+
 -- how far a task is that begins what was planned for it, and the layer then
-abbrev pub HasBegun : Core → Translation → ℕ → Result Plan Status → Phase → Type 0
-HasBegun after t tag (Err refused) p = (p ≡ phase.Answer refused 0) × Describes after t
-HasBegun after t tag (Ok (plan.Nothing n)) p = (p ≡ phase.Answer status.Good n) × Describes after t
-HasBegun after t tag (Ok (plan.Read key)) p = HasKept after t tag key p
-HasBegun after t tag (Ok (plan.Write key forced)) p = HasClaimed after t key forced p
-HasBegun after t tag (Ok (plan.Send x)) p = (p ≡ phase.SendData x) × Describes after t
-HasBegun after t tag (Ok plan.Flush) p = (p ≡ phase.AwaitFrontier (last_number t.ledger) 0) × Describes after t
+abbrev pub HasBegun : Core → Core → Translation → ℕ → Result Plan Status → Phase → Type 0
+HasBegun before after t tag (Err refused) p = (p ≡ phase.Answer refused 0) × IsSameLayer before after t
+HasBegun before after t tag (Ok (plan.Nothing n)) p = (p ≡ phase.Answer status.Good n) × IsSameLayer before after t
+HasBegun before after t tag (Ok (plan.Read key blocks size)) p = HasKept before after t tag key blocks size p
+HasBegun before after t tag (Ok (plan.Write key blocks forced)) p = HasClaimed before after t tag key blocks forced p
+HasBegun before after t tag (Ok (plan.Send x)) p = (p ≡ phase.SendData x) × IsSameLayer before after t
+HasBegun before after t tag (Ok plan.Flush) p =
+    (p ≡ phase.AwaitFrontier (last_number t.ledger) 0) × IsSameLayer before after t
 
--- A block comes
+-- Blocks come
 
-abbrev pub group_of_block : Key → List ℕ → Group
-group_of_block key body = record { key = key; body = body } ∷ []
-
--- a block is accepted where the device is not locked, a slot is claimed and a number is left
-abbrev pub takes_block : Translation → Bool
-takes_block t = not (is_locked t) && (nat_lt 0 t.claims && has_number t)
-
--- the block may be accepted for its address
-pub record MayAccept (t : Translation) (key : Key) (body : List ℕ) : Type 0 where
+-- the blocks may be accepted as a group, from this address on
+pub record MayAccept (t : Translation) (key : Key) (bodies : List (List ℕ)) : Type 0 where
   pub of_data : key.kind ≡ 1
   pub of_unit : key.unit ≤ 7
-  pub allowed : IsAllowedMove t (Accept 1 (group_of_block key body))
+  pub allowed : IsAllowedMove t (Accept (length bodies) (group_of_blocks key bodies))
 
--- what its task is told, and the layer then: the block is accepted, or the claimed slot is given back
-abbrev pub HasTaken : Core → Translation → Key → List ℕ → TaskEvent → Type 0
-HasTaken after t key body e =
-    (e ≡ (if takes_block t then event.BlockAccepted (next_number t.ledger) else event.BlockRefused))
-    × ((takes_block t ≡ true → MayAccept t key body) →
-    Describes after (moved t (if takes_block t then Accept 1 (group_of_block key body) else Release 1)))
+-- where all blocks of a task came: they are accepted as a group, or the claimed slots are given back where the device
+-- is locked
+abbrev pub taken_move : Translation → Key → List (List ℕ) → Move
+taken_move t key bodies =
+    if is_locked t then Release (length bodies) else Accept (length bodies) (group_of_blocks key bodies)
+
+-- what its task is told, and the layer then
+pub record HasTaken (before after : Core) (t : Translation) (tag : ℕ) (key : Key) (e : TaskEvent) : Type 0 where
+  pub event_is : e ≡ (if is_locked t then event.GroupRefused else event.GroupAccepted (next_number t.ledger))
+  pub layer : (bodies : List (List ℕ)) → claims_for before tag ≡ claims_of_blocks tag bodies →
+      (is_locked t ≡ false → MayAccept t key bodies) → Describes after (moved t (taken_move t key bodies))
+  pub claims : claims_for after tag ≡ []
+  pub others : OthersClaim before after tag
+
+-- a block came, and more are to come: it lies in its slot
+pub record HasFilled (before after : Core) (t : Translation) (tag index : ℕ) (bytes : List ℕ) : Type 0 where
+  pub layer : Describes after t
+  pub claims : claims_for after tag ≡ map (claim_filled tag index bytes) (claims_for before tag)
+  pub others : OthersClaim before after tag
+
+-- a block came, and with the last of them the group is taken
+abbrev pub HasGatheredThen : Core → Core → Translation → ℕ → Transfer → List ℕ → TaskEvent → Option Transfer → Type 0
+HasGatheredThen before after t tag x bytes e (Some more) =
+    (e ≡ event.BlockGathered) × HasFilled before after t tag x.gathered bytes
+HasGatheredThen before after t tag x bytes e None =
+    (between : Core) × HasFilled before between t tag x.gathered bytes × HasTaken between after t tag x.key e
+
+abbrev pub HasGathered : Core → Core → Translation → ℕ → Transfer → List ℕ → TaskEvent → Type 0
+HasGathered before after t tag x bytes e = HasGatheredThen before after t tag x bytes e (next_transfer x)
 
 -- What the end of a job told
 

@@ -1,7 +1,11 @@
 -- How what the device keeps describes the specified device: one relation for each part of its state, each over the
--- fields that it reads. A WRITE and a READ have one block so far, and no command sets a protection.
-use Rattle.std.specs.Prelude.{◌≡◌, ℕ, ◌+◌, ◌≤◌, min, nat_le, true, false, All, List, [], ◌∷◌, filter, find, length, map}
-use Rattle.std.specs.Prelude.{slice_get, Bool, Option, Some, None, option_map, Result}
+-- fields that it reads. No command sets a protection yet.
+use Rattle.std.specs.Prelude.{◌≡◌, ℕ, zero, suc, ◌+◌, ◌*◌, ◌≤◌, ◌<◌, ◌==◌, ◌&&◌, min, nat_le, nat_lt, true, false}
+use Rattle.std.specs.Prelude.{All, List}
+use Rattle.std.specs.Prelude.{[], ◌∷◌, drop, filter, find, if◌then◌else◌, length, map, slice_get, take, Bool, Option}
+use Rattle.std.specs.Prelude.{Some}
+use Rattle.std.specs.Prelude.{None, option_map, Result}
+use Rattle.std.specs.Int.{div_ceil}
 use Rattle.ufs_spec.specs.Disk.{Flight, job_of}
 use Rattle.ufs_spec.specs.Exchanges as exchange
 use Rattle.ufs_spec.specs.Exchanges.{Answering, Awaiting, Deed, ForWrite, Gathering, Purpose, ReadBlock, Sending, Short}
@@ -12,77 +16,93 @@ use Rattle.ufs_spec.specs.Machine.{Allowed, Answer, Call, Heard, Host, IsHeard, 
 use Rattle.ufs_spec.specs.Machine.{durable, observe}
 use Rattle.ufs_spec.specs.Messages.{spelling}
 use Rattle.ufs_spec.specs.Moves.{is_pin_of}
+use Rattle.ufs_spec.specs.Plain.{zero_block}
 use Rattle.ufs_spec.specs.Refusals.{State, locked, plain_now}
 use Rattle.ufs_spec.specs.Exchanges.{most_tasks}
 use Rattle.ufs_spec.specs.Translation.{Pin}
 use Rattle.ufs_spec.specs.declared.faults.HostFault.{HostFault}
 use Rattle.ufs_spec.specs.declared.flash.Job.{Job}
-use Rattle.ufs_spec.specs.declared.flash.Key.{Key}
 use Rattle.ufs_spec.specs.declared.messages.Message.{Message}
 use Rattle.power_loss.specs.Exchange.{IsTied}
 use Rattle.power_loss.specs.Shown.{ShowsReads}
 use Rattle.ftl_core.specs.Describes as layer
+use Rattle.ftl_core.specs.Moves.{claims_for}
+use Rattle.ftl_core.specs.Tells.{claims_of_blocks}
+use Rattle.ftl_core.specs.declared.books.Claimed.{Claimed}
 use Rattle.device.specs.declared.tasks.Loaded.{Loaded}
 use Rattle.device.specs.declared.tasks.Phase.{Phase}
 use Rattle.device.specs.declared.tasks.Phase.TheVariants as phase
+use Rattle.device.specs.declared.tasks.Sending.{Sending as Sends}
 use Rattle.device.specs.declared.tasks.Short as kept
 use Rattle.device.specs.declared.tasks.Status.{Status}
 use Rattle.device.specs.declared.tasks.Status.TheVariants as status
 use Rattle.device.specs.declared.tasks.Task.{Task}
+use Rattle.device.specs.declared.tasks.Transfer.{Transfer}
 use Rattle.device.specs.Kept.{DeviceCore}
 use Rattle.device.specs.Replies.{body_of, is_loaded_for, short_message}
 use Rattle.device.specs.Tasks.{data_bytes, data_length, read_error, status_kept}
 
 -- Tasks
 
--- a WRITE of one block to this address, with FUA or without it
-abbrev pub IsWrite : Key → Bool → Purpose → Type 0
-IsWrite key fua (ForWrite unit address blocks forced) = (key ≡ data_key unit address) × (blocks ≡ 1) × (forced ≡ fua)
-IsWrite key fua purpose = ⊥
+-- a WRITE of these blocks, with FUA or without it
+abbrev pub IsWrite : Transfer → Purpose → Type 0
+IsWrite x (ForWrite unit address blocks forced) =
+    (x.key ≡ data_key unit address) × (blocks ≡ x.blocks) × (forced ≡ x.forced)
+IsWrite x purpose = ⊥
 
--- nothing was gathered yet
-pub record IsGathering (key : Key) (fua : Bool) (length : ℕ) (purpose : Purpose) (gathered : List ℕ) : Type 0 where
-  pub write : IsWrite key fua purpose
-  pub none_gathered : gathered ≡ []
-  pub length_is : length ≡ 4096
+-- so many blocks came, and more are to come
+pub record IsGathering (x : Transfer) (total : ℕ) (purpose : Purpose) (gathered : List ℕ) : Type 0 where
+  pub write : IsWrite x purpose
+  pub came : length gathered ≡ 4096 * x.gathered
+  pub more : x.gathered < x.blocks
+  pub total_is : total ≡ 4096 * x.blocks
+
+abbrev pub is_unread : exchange.ReadState → Bool
+is_unread Unread = true
+is_unread WasRead = false
+is_unread NotRead = false
 
 abbrev pub is_lost : exchange.ReadState → Bool
 is_lost Unread = false
 is_lost WasRead = false
 is_lost NotRead = true
 
--- the block of a READ was not handed out yet
-pub record IsSending (expected length : ℕ) (blocks : List ReadBlock) (sent : ℕ) : Type 0 where
-  pub block : ReadBlock
-  pub one : blocks ≡ block ∷ []
-  pub none_sent : sent ≡ 0
-  pub length_is : length ≡ 4096
-  pub some : 1 ≤ expected
-  pub readable : is_lost block.state ≡ false
+-- so many blocks of a READ were handed out, and more follow: all that its host expects. The next one can be read, and
+-- those behind it were not read yet
+pub record IsSending (x : Sends) (expected total : ℕ) (blocks : List ReadBlock) (sent : ℕ) : Type 0 where
+  pub count : length blocks ≡ x.blocks
+  pub sent_is : sent ≡ x.sent
+  pub more : x.sent < x.blocks
+  pub total_is : total ≡ x.length
+  pub all : x.blocks ≡ div_ceil (min expected x.length) 4096
+  pub few : x.blocks ≤ 32
+  pub readable : (block : ReadBlock) → slice_get blocks sent ≡ Some block → is_lost block.state ≡ false
+  pub behind : (i : ℕ) (block : ReadBlock) → sent < i → slice_get blocks i ≡ Some block → block.state ≡ Unread
 
--- the block of a READ could not be read
-pub record IsLost (blocks : List ReadBlock) (sent : ℕ) (told : Status) (length : ℕ) : Type 0 where
+-- the next block of a READ could not be read
+pub record IsLost (blocks : List ReadBlock) (sent : ℕ) (told : Status) (size : ℕ) : Type 0 where
   pub block : ReadBlock
-  pub one : blocks ≡ block ∷ []
-  pub none_sent : sent ≡ 0
+  pub there : slice_get blocks sent ≡ Some block
   pub lost : block.state ≡ NotRead
   pub told_is : told ≡ status.CheckCondition read_error
-  pub nothing : length ≡ 0
+  pub carried : size ≡ 4096 * sent
+  pub few : length blocks ≤ 32
+  pub behind : (i : ℕ) (other : ReadBlock) → sent < i → slice_get blocks i ≡ Some other → other.state ≡ Unread
 
 -- what a phase of the device is to the specified one; a group's number counts from those before the accepted commands
-abbrev pub IsDoing : (before expected length : ℕ) → Phase → Deed → Type 0
-IsDoing before expected length (phase.AskData key fua) (Gathering purpose gathered asked) =
-    IsGathering key fua length purpose gathered × (asked ≡ false)
-IsDoing before expected length (phase.AwaitData key fua) (Gathering purpose gathered asked) =
-    IsGathering key fua length purpose gathered × (asked ≡ true)
-IsDoing before expected length (phase.AwaitFrontier n size) (Awaiting commands) =
-    (n ≡ before + commands) × (length ≡ size)
-IsDoing before expected length (phase.SendData x) (SendingBytes bytes) =
-    (bytes ≡ data_bytes x) × (length ≡ data_length x) × (1 ≤ min expected (data_length x))
-IsDoing before expected length phase.SendBlock (Sending blocks sent) = IsSending expected length blocks sent
-IsDoing before expected length (phase.Answer told n) (Answering s carried) = (s ≡ status_kept told) × (carried ≡ n)
-IsDoing before expected length (phase.Answer told n) (Sending blocks sent) = IsLost blocks sent told n
-IsDoing before expected length kept deed = ⊥
+abbrev pub IsDoing : (before expected total : ℕ) → Phase → Deed → Type 0
+IsDoing before expected total (phase.AskData x) (Gathering purpose gathered asked) =
+    IsGathering x total purpose gathered × (asked ≡ false)
+IsDoing before expected total (phase.AwaitData x) (Gathering purpose gathered asked) =
+    IsGathering x total purpose gathered × (asked ≡ true)
+IsDoing before expected total (phase.AwaitFrontier n size) (Awaiting commands) =
+    (n ≡ before + commands) × (total ≡ size)
+IsDoing before expected total (phase.SendData x) (SendingBytes bytes) =
+    (bytes ≡ data_bytes x) × (total ≡ data_length x) × (1 ≤ min expected (data_length x))
+IsDoing before expected total (phase.SendBlocks x) (Sending blocks sent) = IsSending x expected total blocks sent
+IsDoing before expected total (phase.Answer told n) (Answering s carried) = (s ≡ status_kept told) × (carried ≡ n)
+IsDoing before expected total (phase.Answer told n) (Sending blocks sent) = IsLost blocks sent told n
+IsDoing before expected total kept deed = ⊥
 
 pub record TaskKept (before : ℕ) (a : Task) (b : exchange.Task) : Type 0 where
   pub lun : b.lun ≡ a.lun
@@ -100,39 +120,71 @@ TasksKept before ours theirs = ⊥
 
 -- Blocks of READs
 
--- how far the block of a READ is: whether its page is still wanted, if something is kept for it, and what was read
-pub record Progress : Type 0 where
-  pub wanted : Option Bool
-  pub read : List (List ℕ)
+-- whether the page of the block of this index is wanted, if something is kept for it
+abbrev pub wanted_kept : List Pin → ℕ → ℕ → Option Bool
+wanted_kept pins tag index = option_map (λ (pin : Pin). pin.wanted) (find (is_pin_of tag index) pins)
 
--- what is kept for a tag: among the pins of the layer, and among the blocks that were read
-abbrev pub progress_kept : List Pin → List Loaded → ℕ → Progress
-progress_kept pins loaded tag =
-    record {
-      wanted = option_map (λ (pin : Pin). pin.wanted) (find (is_pin_of tag 0) pins);
-      read = map body_of (filter (is_loaded_for tag) loaded);
-    }
+-- what was read for a tag
+abbrev pub read_kept : List Loaded → ℕ → List (List ℕ)
+read_kept loaded tag = map body_of (filter (is_loaded_for tag) loaded)
 
-abbrev pub no_progress : Progress
-no_progress = record { wanted = None; read = [] }
+abbrev pub wanted_of : Bool → Option ReadBlock → Option Bool
+wanted_of next None = None
+wanted_of next (Some block) = Some (next && is_unread block.state)
 
-abbrev pub progress_by : List ℕ → exchange.ReadState → Progress
-progress_by body Unread = record { wanted = Some true; read = [] }
-progress_by body WasRead = record { wanted = Some false; read = body ∷ [] }
-progress_by body NotRead = record { wanted = Some false; read = [] }
+-- the blocks that were not handed out are kept, and the next one is wanted until it was read
+abbrev pub wanted_in : ℕ → Deed → Option Bool
+wanted_in index (Sending blocks sent) =
+    if nat_lt index sent then None else wanted_of (index == sent) (slice_get blocks index)
+wanted_in index deed = None
 
-abbrev pub progress_of_block : Option ReadBlock → Progress
-progress_of_block None = no_progress
-progress_of_block (Some block) = progress_by block.body block.state
+abbrev pub read_by : List ℕ → exchange.ReadState → List (List ℕ)
+read_by body Unread = []
+read_by body WasRead = body ∷ []
+read_by body NotRead = []
 
-abbrev pub progress_in : Deed → Progress
-progress_in (Sending blocks sent) = progress_of_block (slice_get blocks sent)
-progress_in deed = no_progress
+abbrev pub read_of : Option ReadBlock → List (List ℕ)
+read_of None = []
+read_of (Some block) = read_by block.body block.state
 
--- what is kept for a task, or for a tag that none has
-abbrev pub progress_of : Option exchange.Task → Progress
-progress_of None = no_progress
-progress_of (Some task) = progress_in task.deed
+-- the next block, once it was read
+abbrev pub read_in : Deed → List (List ℕ)
+read_in (Sending blocks sent) = read_of (slice_get blocks sent)
+read_in deed = []
+
+-- what is kept and what was read for a task, or for a tag that none has
+abbrev pub wanted_by : ℕ → Option exchange.Task → Option Bool
+wanted_by index None = None
+wanted_by index (Some task) = wanted_in index task.deed
+
+abbrev pub read_for : Option exchange.Task → List (List ℕ)
+read_for None = []
+read_for (Some task) = read_in task.deed
+
+-- Blocks of WRITEs
+
+-- the first block of the bytes, or zeros where it did not come
+abbrev pub block_or_zeros : List ℕ → List ℕ
+block_or_zeros bytes = if nat_lt (length bytes) 4096 then zero_block else take 4096 bytes
+
+-- so many blocks of the bytes
+abbrev pub blocks_gathered : ℕ → List ℕ → List (List ℕ)
+blocks_gathered zero bytes = []
+blocks_gathered (suc n) bytes = block_or_zeros bytes ∷ blocks_gathered n (drop 4096 bytes)
+
+abbrev pub claims_for_purpose : ℕ → Purpose → List ℕ → List Claimed
+claims_for_purpose tag (ForWrite unit address blocks forced) gathered =
+    claims_of_blocks tag (blocks_gathered blocks gathered)
+claims_for_purpose tag purpose gathered = []
+
+-- a WRITE that gathers has claimed a slot for each of its blocks, in which it lies once it came
+abbrev pub claims_in : ℕ → Deed → List Claimed
+claims_in tag (Gathering purpose gathered asked) = claims_for_purpose tag purpose gathered
+claims_in tag deed = []
+
+abbrev pub claims_by : ℕ → Option exchange.Task → List Claimed
+claims_by tag None = []
+claims_by tag (Some task) = claims_in tag task.deed
 
 -- Short exchanges and the lock
 
@@ -155,7 +207,9 @@ pub record Keeps (d : DeviceCore) (s : State) : Type 0 where
   pub layer_kept : layer.Describes d.ftl s.translation
   pub few : length s.tasks ≤ most_tasks
   pub tasks : TasksKept (before_accepted s.translation.ledger) d.tasks s.tasks
-  pub blocks : (tag : ℕ) → progress_kept s.translation.pins d.loaded tag ≡ progress_of (task_of tag s.tasks)
+  pub wanted : (tag index : ℕ) → wanted_kept s.translation.pins tag index ≡ wanted_by index (task_of tag s.tasks)
+  pub read : (tag : ℕ) → read_kept d.loaded tag ≡ read_for (task_of tag s.tasks)
+  pub claims : (tag : ℕ) → claims_for d.ftl tag ≡ claims_by tag (task_of tag s.tasks)
   pub shorts : s.shorts ≡ map short_kept d.shorts
   pub power_off : s.power_on ≡ false
 

@@ -1,6 +1,7 @@
 -- What a command does, or the status that ends it: the first line of the table that applies decides.
 use Rattle.std.specs.Prelude.{◌≡◌, ℕ, ◌*◌, ◌==◌, ◌||◌, min, Bool, false, if◌then◌else◌, List, Some, None, Result, Ok}
 use Rattle.std.specs.Prelude.{Err, slice_get}
+use Rattle.std.specs.Int.{div_ceil}
 use Rattle.ufs_spec.specs.Cdbs.{IsTakenCdb, six_blocks}
 use Rattle.ufs_spec.specs.Keys.{data_key}
 use Rattle.ufs_spec.specs.Machine.{IsCdbIn}
@@ -32,13 +33,15 @@ pub record IsRequest (r : Request) (flags lun expected : ℕ) (bytes : List ℕ)
 
 -- Plans
 
+-- the blocks that are sent are those that the host expects
 abbrev pub read_plan : ℕ → ℕ → ℕ → ℕ → Plan
 read_plan lun expected address blocks =
-    if (blocks == 0) || (expected == 0) then plan.Nothing (4096 * blocks) else plan.Read (data_key lun address)
+    if (blocks == 0) || (expected == 0) then plan.Nothing (4096 * blocks)
+    else plan.Read (data_key lun address) (div_ceil (min expected (4096 * blocks)) 4096) (4096 * blocks)
 
 abbrev pub write_plan : ℕ → ℕ → ℕ → Bool → Plan
 write_plan lun address blocks forced =
-    if blocks == 0 then plan.Nothing 0 else plan.Write (data_key lun address) forced
+    if blocks == 0 then plan.Nothing 0 else plan.Write (data_key lun address) blocks forced
 
 abbrev pub data_plan : ℕ → ShortData → Plan
 data_plan expected x = if min expected (data_length x) == 0 then plan.Nothing (data_length x) else plan.Send x

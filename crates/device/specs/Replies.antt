@@ -1,5 +1,6 @@
 -- Which replies are due, what they say, and what becomes of their tasks.
-use Rattle.std.specs.Prelude.{ℕ, ◌+◌, ◌≤◌, ◌==◌, ◌++◌, min, nat_le, nat_lt, Bool, true, false, if◌then◌else◌, find}
+use Rattle.std.specs.Prelude.{◌≡◌, ℕ, ◌+◌, ◌-◌, ◌*◌, ◌≤◌, ◌==◌, ◌++◌, min, nat_le, nat_lt, Bool, true, false}
+use Rattle.std.specs.Prelude.{if◌then◌else◌, find}
 use Rattle.std.specs.Prelude.{List, position, remove, slice_get, take, Option, Some, None, option_map}
 use Rattle.ufs_spec.specs.Exchanges as exchange
 use Rattle.ufs_spec.specs.Exchanges.{response}
@@ -13,9 +14,11 @@ use Rattle.ufs_spec.specs.declared.messages.Message.{Message}
 use Rattle.ufs_spec.specs.declared.messages.Message.TheVariants as message
 use Rattle.ftl_core.specs.Core.{Core}
 use Rattle.ftl_core.specs.Describes as layer
+use Rattle.ftl_core.specs.Moves.{claims_for}
 use Rattle.device.specs.declared.tasks.Loaded.{Loaded}
 use Rattle.device.specs.declared.tasks.Phase.{Phase}
 use Rattle.device.specs.declared.tasks.Phase.TheVariants as phase
+use Rattle.device.specs.declared.tasks.Sending.{Sending}
 use Rattle.device.specs.declared.tasks.Short.{Short}
 use Rattle.device.specs.declared.tasks.ShortData.{ShortData}
 use Rattle.device.specs.declared.tasks.ShortReply.{ShortReply}
@@ -26,7 +29,7 @@ use Rattle.device.specs.declared.tasks.Task.{Task}
 use Rattle.device.specs.declared.tasks.ShortData.TheVariants as sent
 use Rattle.device.specs.Hears.{task_set}
 use Rattle.device.specs.Kept.{DeviceCore}
-use Rattle.device.specs.Tasks.{data_bytes, data_length, status_kept}
+use Rattle.device.specs.Tasks.{data_bytes, data_length, next_sending, sent_next, status_kept}
 
 -- Blocks
 
@@ -55,21 +58,26 @@ abbrev pub block_of : Ledger → List Loaded → ℕ → Option Pin → Option (
 block_of l loaded tag None = None
 block_of l loaded tag (Some pin) = block_at l loaded tag pin.looked
 
--- the block that is kept for a tag, once it is there
-abbrev pub block_for : Translation → List Loaded → ℕ → Option (List ℕ)
-block_for t loaded tag = block_of t.ledger loaded tag (find (is_pin_of tag 0) t.pins)
+-- the block of this index that is kept for a tag, once it is there
+abbrev pub block_for : Translation → List Loaded → ℕ → ℕ → Option (List ℕ)
+block_for t loaded tag index = block_of t.ledger loaded tag (find (is_pin_of tag index) t.pins)
 
 -- Messages
 
 abbrev pub answer_of : Task → Status → ℕ → Message
 answer_of t s length = response t.lun t.tag t.expected length (status_kept s)
 
--- the first of the block's bytes, as many as the host expects; of a host that expects none the first one
-abbrev pub count_of : ℕ → ℕ
-count_of expected = if nat_lt expected 1 then 1 else if nat_lt 4096 expected then 4096 else expected
+-- so many of these bytes, of 1 to 4096
+abbrev pub count_in : ℕ → ℕ
+count_in rest = if nat_lt rest 1 then 1 else if nat_lt 4096 rest then 4096 else rest
 
-abbrev pub block_message : Task → List ℕ → Message
-block_message t block = message.DataIn t.lun t.tag 0 (record { items = take (count_of t.expected) block })
+-- how many bytes of the next block are sent: the block, or the rest of what the host expects; at least one
+abbrev pub count_of : ℕ → Sending → ℕ
+count_of expected x = count_in (min expected x.length - 4096 * x.sent)
+
+abbrev pub block_message : Task → Sending → List ℕ → Message
+block_message t x block =
+    message.DataIn t.lun t.tag (4096 * x.sent) (record { items = take (count_of t.expected x) block })
 
 -- data other than a block, with zeros behind them up to eighteen bytes
 abbrev pub data_padded : ShortData → List ℕ
@@ -87,11 +95,11 @@ abbrev pub data_message : Task → ShortData → Message
 data_message t x = message.DataIn t.lun t.tag 0 (record { items = take (data_count t.expected x) (data_padded x) })
 
 abbrev pub owed_in : Translation → List Loaded → Task → Phase → Option Message
-owed_in t loaded a (phase.AskData key forced) = Some (message.ReadyToTransfer a.lun a.tag 0 4096)
-owed_in t loaded a (phase.AwaitData key forced) = None
+owed_in t loaded a (phase.AskData x) = Some (message.ReadyToTransfer a.lun a.tag (4096 * x.gathered) 4096)
+owed_in t loaded a (phase.AwaitData x) = None
 owed_in t loaded a (phase.AwaitFrontier n size) =
     if nat_le n t.ledger.frontier then Some (answer_of a status.Good size) else None
-owed_in t loaded a phase.SendBlock = option_map (block_message a) (block_for t loaded a.tag)
+owed_in t loaded a (phase.SendBlocks x) = option_map (block_message a x) (block_for t loaded a.tag x.sent)
 owed_in t loaded a (phase.SendData x) = Some (data_message a x)
 owed_in t loaded a (phase.Answer s n) = Some (answer_of a s n)
 
@@ -114,24 +122,29 @@ without_task d k = record d { tasks = remove d.tasks k }
 
 -- what the device keeps, but for its layer, once the task at this position has handed out its reply
 abbrev pub moved_on : DeviceCore → ℕ → Task → Phase → DeviceCore
-moved_on d k a (phase.AskData key forced) = task_set d k (phase.AwaitData key forced)
-moved_on d k a (phase.AwaitData key forced) = d
+moved_on d k a (phase.AskData x) = task_set d k (phase.AwaitData x)
+moved_on d k a (phase.AwaitData x) = d
 moved_on d k a (phase.AwaitFrontier n size) = without_task (without_block d a.tag) k
 moved_on d k a (phase.SendData x) = task_set d k (phase.Answer status.Good (data_length x))
-moved_on d k a phase.SendBlock = task_set (without_block d a.tag) k (phase.Answer status.Good 4096)
+moved_on d k a (phase.SendBlocks x) = task_set (without_block d a.tag) k (sent_next x (next_sending x))
 moved_on d k a (phase.Answer s n) = without_task (without_block d a.tag) k
 
 -- the layer then: a block that was handed out is let go; a task that ends keeps nothing, and what it waited for is
 -- acknowledged
-abbrev pub HasMoved : Core → Translation → ℕ → Phase → Type 0
-HasMoved after t tag (phase.AskData key forced) = layer.Describes after t
-HasMoved after t tag (phase.AwaitData key forced) = layer.Describes after t
-HasMoved after t tag (phase.SendData x) = layer.Describes after t
-HasMoved after t tag (phase.AwaitFrontier n size) =
+abbrev pub IsLayerMoved : Core → Translation → ℕ → Phase → Type 0
+IsLayerMoved after t tag (phase.AskData x) = layer.Describes after t
+IsLayerMoved after t tag (phase.AwaitData x) = layer.Describes after t
+IsLayerMoved after t tag (phase.SendData x) = layer.Describes after t
+IsLayerMoved after t tag (phase.AwaitFrontier n size) =
     (commands : ℕ) → before_accepted t.ledger + commands ≤ t.ledger.frontier →
     layer.Describes after (moved (moved t (Acknowledge commands)) (LetGoAll tag))
-HasMoved after t tag phase.SendBlock = layer.Describes after (moved (moved t (LetGo tag 0)) (WantPage tag 1))
-HasMoved after t tag (phase.Answer s n) = layer.Describes after (moved t (LetGoAll tag))
+IsLayerMoved after t tag (phase.SendBlocks x) =
+    layer.Describes after (moved (moved t (LetGo tag x.sent)) (WantPage tag (x.sent + 1)))
+IsLayerMoved after t tag (phase.Answer s n) = layer.Describes after (moved t (LetGoAll tag))
+
+-- what was claimed stays so
+abbrev pub HasMoved : Core → Core → Translation → ℕ → Phase → Type 0
+HasMoved before after t tag p = IsLayerMoved after t tag p × (claims_for after ≡ claims_for before)
 
 -- Short exchanges
 

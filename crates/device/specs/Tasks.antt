@@ -1,5 +1,6 @@
 -- What becomes of a task.
-use Rattle.std.specs.Prelude.{ℕ, ◌-◌, ◌==◌, ◌++◌, min, nat_lt, take, Bool, true, false, if◌then◌else◌, List}
+use Rattle.std.specs.Prelude.{ℕ, ◌+◌, ◌-◌, ◌*◌, ◌==◌, ◌++◌, min, nat_lt, take, Bool, true, false, if◌then◌else◌, List}
+use Rattle.std.specs.Prelude.{Option, Some, None}
 use Rattle.byteorder.specs.Endian.{big_bytes}
 use Rattle.ufs_spec.specs.Exchanges as exchange
 use Rattle.ufs_spec.specs.Machine.{no_sense}
@@ -8,11 +9,13 @@ use Rattle.device.specs.declared.tasks.Status.{Status}
 use Rattle.device.specs.declared.tasks.Status.TheVariants as status
 use Rattle.device.specs.declared.tasks.Phase.{Phase}
 use Rattle.device.specs.declared.tasks.Phase.TheVariants as phase
+use Rattle.device.specs.declared.tasks.Sending.{Sending}
 use Rattle.device.specs.declared.tasks.ShortData.{ShortData}
 use Rattle.device.specs.declared.tasks.ShortData.TheVariants as sent
 use Rattle.device.specs.declared.tasks.Task.{Task}
 use Rattle.device.specs.declared.tasks.TaskEvent.{TaskEvent}
 use Rattle.device.specs.declared.tasks.TaskEvent.TheVariants as event
+use Rattle.device.specs.declared.tasks.Transfer.{Transfer}
 
 abbrev pub read_error : Sense
 read_error = record { key = 0x03; asc = 0x11; ascq = 0x00 }
@@ -31,10 +34,29 @@ status_kept status.TaskSetFull = exchange.TaskSetFull
 abbrev pub failed : Sense → ℕ → Phase
 failed sense carried = phase.Answer (status.CheckCondition sense) carried
 
--- a WRITE whose block was accepted under this number: with FUA it waits until the block is durable
-abbrev pub block_taken : Bool → ℕ → Phase
-block_taken true number = phase.AwaitFrontier number 4096
-block_taken false number = phase.Answer status.Good 4096
+-- a WRITE whose group was accepted under this number: with FUA it waits until the group is durable
+abbrev pub group_done : Bool → ℕ → ℕ → Phase
+group_done true number size = phase.AwaitFrontier number size
+group_done false number size = phase.Answer status.Good size
+
+abbrev pub group_taken : Transfer → ℕ → Phase
+group_taken x number = group_done x.forced number (4096 * x.blocks)
+
+-- what is still to come of a WRITE once one block more came
+abbrev pub next_transfer : Transfer → Option Transfer
+next_transfer x = if nat_lt (x.gathered + 1) x.blocks then Some (record x { gathered = x.gathered + 1 }) else None
+
+-- what is still to be sent of a READ once one block more was handed out
+abbrev pub next_sending : Sending → Option Sending
+next_sending x = if nat_lt (x.sent + 1) x.blocks then Some (record x { sent = x.sent + 1 }) else None
+
+abbrev pub asked_next : Transfer → Option Transfer → Phase
+asked_next x None = phase.AwaitData x
+asked_next x (Some y) = phase.AskData y
+
+abbrev pub sent_next : Sending → Option Sending → Phase
+sent_next x None = phase.Answer status.Good x.length
+sent_next x (Some y) = phase.SendBlocks y
 
 -- the data of a task other than a block
 abbrev pub data_bytes : ShortData → List ℕ
@@ -47,14 +69,15 @@ data_length (sent.Capacity blocks) = 8
 
 -- the table of a task's phases: how far it is after this happened; what does not concern its phase changes nothing
 abbrev pub phase_after : Phase → TaskEvent → Phase
-phase_after (phase.AskData key forced) event.DataAskedFor = phase.AwaitData key forced
-phase_after (phase.AwaitData key forced) (event.BlockAccepted number) = block_taken forced number
-phase_after (phase.AwaitData key forced) event.BlockRefused = failed write_error 4096
+phase_after (phase.AskData x) event.DataAskedFor = phase.AwaitData x
+phase_after (phase.AwaitData x) event.BlockGathered = asked_next x (next_transfer x)
+phase_after (phase.AwaitData x) (event.GroupAccepted number) = group_taken x number
+phase_after (phase.AwaitData x) event.GroupRefused = failed write_error (4096 * x.blocks)
 phase_after (phase.AwaitFrontier number size) (event.Locked frontier) =
     if nat_lt frontier number then failed write_error size else phase.AwaitFrontier number size
-phase_after phase.SendBlock event.BlockSent = phase.Answer status.Good 4096
+phase_after (phase.SendBlocks x) event.BlockSent = sent_next x (next_sending x)
 phase_after (phase.SendData x) event.DataSent = phase.Answer status.Good (data_length x)
-phase_after phase.SendBlock event.BlockLost = failed read_error 0
+phase_after (phase.SendBlocks x) event.BlockLost = failed read_error (4096 * x.sent)
 phase_after p e = p
 
 abbrev pub task_after : TaskEvent → Task → Task

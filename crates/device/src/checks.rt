@@ -1,6 +1,6 @@
 //! The checks of a command, in the order in which the first that applies ends it.
-ghost use Rattle.std.specs.Prelude.{◌≡◌, ℕ, ◌*◌, option_map, IfErr, IfOk, IsOk, None, Some};
-ghost use Rattle.ufs_spec.specs.Cdbs.{IsTakenCdb, direction_of, length_of as length_of_command, operation_of};
+ghost use Rattle.std.specs.Prelude.{◌≡◌, ◌≤◌, ℕ, ◌*◌, option_map, IfErr, IfOk, IsOk, None, Some};
+ghost use Rattle.ufs_spec.specs.Cdbs.{IsTakenCdb, blocks_of, direction_of, length_of as length_of_command, operation_of};
 ghost use Rattle.ufs_spec.specs.Refusals.{Request, State, first_line, flushes, is_refused_write, lacks_data};
 ghost use Rattle.ufs_spec.specs.Keys.{data_key};
 ghost use Rattle.ufs_spec.specs.Refusals.{lines_for, needs_mended, slots_needed, spec_of, writes};
@@ -10,12 +10,13 @@ ghost use Rattle.device.specs.Plans.{IsBare, IsPlanned, IsRequest, data_plan, pl
 ghost use Rattle.device.specs.Tasks.{status_kept};
 
 use crate::device::Device;
+use crate::responses::BLOCK_BYTES;
 use crate::tasks::{Plan, ShortData, Status};
 use scsi_cdb::{address_of, blocks_of, length_of};
 use ufs_spec::{Cdb, Key, Sense, Tag, UnitSpec};
 
-/// The most blocks of a command. In this stage one.
-const BLOCKS_A_COMMAND: u32 = 1;
+/// The most blocks of a command (this profile).
+const BLOCKS_A_COMMAND: u32 = 32;
 
 /// The flags of a COMMAND whose data go to the device, and of one whose data come from it (JESD220,
 /// 10.7.1).
@@ -76,6 +77,7 @@ fn slots_needed(cdb: &Cdb) -> u32
 
 /// What a command that passed the checks does.
 fn plan_of(cdb: &Cdb, unit: UnitSpec, lun: u8, expected: u32) -> Plan
+    requires { blocks_of cdb.now ≤ 32 }
     ensures { IsTakenCdb cdb.now → result ≡ plan_of unit lun expected cdb.now }
 {
     let key = Key {
@@ -109,24 +111,34 @@ fn plan_of(cdb: &Cdb, unit: UnitSpec, lun: u8, expected: u32) -> Plan
 
 /// What a READ of so many bytes does: it reads nothing for a host that expects nothing.
 fn read_plan(key: Key, length: u32, expected: u32) -> Plan
+    requires { length ≤ 131072 }
     ensures { (blocks : ℕ) → length ≡ blocks * 4096 → key ≡ data_key key.unit key.address →
         result ≡ read_plan key.unit expected key.address blocks }
 {
     if length == 0 || expected == 0 {
         Plan::Nothing { length }
     } else {
-        Plan::Read { key }
+        Plan::Read {
+            key,
+            blocks: expected.min(length).div_ceil(BLOCK_BYTES) as u16,
+            length,
+        }
     }
 }
 
 /// What a WRITE of so many blocks does.
 fn write_plan(key: Key, blocks: u32, forced: bool) -> Plan
+    requires { blocks ≤ 32 }
     ensures { key ≡ data_key key.unit key.address → result ≡ write_plan key.unit key.address blocks forced }
 {
     if blocks == 0 {
         Plan::Nothing { length: 0 }
     } else {
-        Plan::Write { key, forced }
+        Plan::Write {
+            key,
+            blocks: blocks as u16,
+            forced,
+        }
     }
 }
 
@@ -188,9 +200,10 @@ impl Device {
 
     /// Why a command of the unit that is taken is refused, if it is.
     fn refusal(&self, unit: UnitSpec, flags: u8, expected: u32, cdb: &Cdb) -> Option<Status>
-        ensures { (s : State) (r : Request) → IsLayer self.now.ftl s.translation →
+        ensures what { (s : State) (r : Request) → IsLayer self.now.ftl s.translation →
             IsBare s self.now.is_permanent → spec_of s r ≡ Some unit → r.flags ≡ flags → r.expected ≡ expected →
             IsTakenCdb cdb.now → first_line (lines_for s r cdb.now) ≡ option_map status_kept result }
+        ensures few { result ≡ None → blocks_of cdb.now ≤ 32 }
     {
         let blocks = blocks_of(cdb);
         if blocks > BLOCKS_A_COMMAND || lacks_data(cdb, flags, expected) {

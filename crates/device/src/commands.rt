@@ -2,7 +2,7 @@
 ghost use Rattle.std.specs.Prelude.{◌≡◌, ◌<◌, length, slice_get, position, ◌∷◌, ◌++◌, []};
 ghost use Rattle.std.specs.Prelude.{IfSome, OnErr, OnOk};
 ghost use Rattle.std.specs.List.{list_any};
-ghost use Rattle.device.specs.Calls.{HasBegun, HasClaimed, HasKept, HasTaken};
+ghost use Rattle.device.specs.Calls.{HasBegun, HasClaimed, HasGathered, HasKept, HasTaken};
 ghost use Rattle.device.specs.Hears.{IsDataHeard, IsTaskOpened, asked_by, asked_for, asked_in};
 ghost use Rattle.device.specs.Hears.{is_short_of, short_answer, task_set, uses, with_short, with_task};
 ghost use Rattle.device.specs.Tasks.{is_task_of};
@@ -16,15 +16,14 @@ ghost use Rattle.ufs_spec.specs.declared.Message.{Message};
 
 use crate::device::{Device, ROOM};
 use crate::responses::STANDARD_WRITE;
-use crate::tasks::{Phase, Plan, Short, ShortReply, Status, Task, TaskEvent};
+use crate::tasks::{Phase, Plan, Sending, Short, ShortReply, Status, Task, TaskEvent, Transfer};
 use ufs_spec::{HostFault, Key, Message};
 
-/// A task whose data came: its position, their address, and whether it has FUA.
+/// A task whose data came: its position, and what is to come.
 #[derive(Clone, Copy, Debug, PartialEq, Eq)]
 struct AskedFor {
     index: usize,
-    key: Key,
-    forced: bool,
+    transfer: Transfer,
 }
 
 /// The position of the task of this tag.
@@ -53,16 +52,14 @@ fn is_short_of(short: &Short, tag: u8) -> bool
     short.tag == tag
 }
 
-/// What the task at this position asked data for, if it was told so and none came.
-fn asked_of(task: &Task, lun: u8, index: usize) -> Option<AskedFor>
-    ensures { result ≡ asked_in lun index task.now task.now.phase }
+/// What the task at this position asked data for at this offset, if it was told so and none came.
+fn asked_of(task: &Task, lun: u8, offset: u32, index: usize) -> Option<AskedFor>
+    ensures { result ≡ asked_in lun offset index task.now task.now.phase }
 {
     match task.phase {
-        Phase::AwaitData { key, forced } if task.lun == lun => Some(AskedFor {
-            index,
-            key,
-            forced,
-        }),
+        Phase::AwaitData { transfer } if task.lun == lun && transfer.offset() == offset => {
+            Some(AskedFor { index, transfer })
+        }
         _ => None,
     }
 }
@@ -209,12 +206,24 @@ impl Device {
     fn begin(&mut self, tag: u8, planned: Result<Plan, Status>) -> Phase
         ensures left { self.new ≡ record self.old { ftl = self.new.ftl } }
         ensures begun { (t : Translation) → IsLayer self.old.ftl t →
-            HasBegun self.new.ftl t tag planned result }
+            HasBegun self.old.ftl self.new.ftl t tag planned result }
     {
         match planned {
             Ok(Plan::Nothing { length }) => Phase::good(length),
-            Ok(Plan::Read { key }) => self.begin_read(tag, key),
-            Ok(Plan::Write { key, forced }) => self.begin_write(key, forced),
+            Ok(
+                Plan::Read {
+                    key,
+                    blocks,
+                    length,
+                },
+            ) => self.begin_read(tag, key, blocks, length),
+            Ok(
+                Plan::Write {
+                    key,
+                    blocks,
+                    forced,
+                },
+            ) => self.begin_write(tag, key, blocks, forced),
             Ok(Plan::Send { data }) => Phase::SendData { data },
             Ok(Plan::Flush) => Phase::AwaitFrontier {
                 number: self.ftl.last_number(),
@@ -225,14 +234,18 @@ impl Device {
     }
 
     /// A read keeps what it looks up.
-    fn begin_read(&mut self, tag: u8, key: Key) -> Phase
+    fn begin_read(&mut self, tag: u8, key: Key, blocks: u16, length: u32) -> Phase
         ensures left { self.new ≡ record self.old { ftl = self.new.ftl } }
         ensures begun { (t : Translation) → IsLayer self.old.ftl t →
-            HasKept self.new.ftl t tag key result }
+            HasKept self.old.ftl self.new.ftl t tag key blocks length result }
     {
-        let looked = self.ftl.look(key);
-        if self.ftl.pin(tag, key, looked) {
-            Phase::SendBlock
+        if self.ftl.keep(tag, key, blocks) {
+            let sending = Sending {
+                blocks,
+                sent: 0,
+                length,
+            };
+            Phase::SendBlocks { sending }
         } else {
             Phase::Answer {
                 status: Status::Busy,
@@ -241,14 +254,20 @@ impl Device {
         }
     }
 
-    /// A write claims a slot.
-    fn begin_write(&mut self, key: Key, forced: bool) -> Phase
+    /// A write claims a slot for each of its blocks.
+    fn begin_write(&mut self, tag: u8, key: Key, blocks: u16, forced: bool) -> Phase
         ensures left { self.new ≡ record self.old { ftl = self.new.ftl } }
         ensures begun { (t : Translation) → IsLayer self.old.ftl t →
-            HasClaimed self.new.ftl t key forced result }
+            HasClaimed self.old.ftl self.new.ftl t tag key blocks forced result }
     {
-        if self.ftl.reserve() {
-            Phase::AskData { key, forced }
+        if self.ftl.reserve(tag, blocks) {
+            let transfer = Transfer {
+                key,
+                blocks,
+                gathered: 0,
+                forced,
+            };
+            Phase::AskData { transfer }
         } else {
             Phase::Answer {
                 status: Status::Busy,
@@ -257,40 +276,39 @@ impl Device {
         }
     }
 
-    /// The task that asked for these data, and their address.
+    /// The task that asked for these data, and what is to come.
     fn asked_for(&self, lun: u8, tag: u8, offset: u32, count: usize) -> Option<AskedFor>
         ensures what { result ≡ asked_for self.now lun tag offset count }
         ensures within { IfSome result (λ asked. asked.index < length self.now.tasks) }
     {
-        if offset != 0 || count != 4096 {
+        if count != 4096 {
             return None;
         }
         let index = task_at(self.tasks.as_slice(), tag)?;
-        self.asked_by(lun, index)
+        self.asked_by(lun, offset, index)
     }
 
     /// The same of the task at this position.
-    fn asked_by(&self, lun: u8, index: usize) -> Option<AskedFor>
+    fn asked_by(&self, lun: u8, offset: u32, index: usize) -> Option<AskedFor>
         requires { index < length self.now.tasks }
-        ensures what { result ≡ asked_by lun index (slice_get self.now.tasks index) }
+        ensures what { result ≡ asked_by lun offset index (slice_get self.now.tasks index) }
         ensures within { IfSome result (λ asked. asked.index < length self.now.tasks) }
     {
-        asked_of(&self.tasks[index], lun, index)
+        asked_of(&self.tasks[index], lun, offset, index)
     }
 
     /// A DATA OUT brings the block that a task asked for.
     fn data_out(&mut self, lun: u8, tag: u8, offset: u32, data: &[u8]) -> Result<(), HostFault>
         ensures refused { OnErr result (self.new ≡ self.old) }
-        ensures heard { IsDataHeard self.old self.new data.now
+        ensures heard { IsDataHeard self.old self.new tag data.now
             (asked_for self.old lun tag offset (length data.now)) result }
     {
         let Some(asked) = self.asked_for(lun, tag, offset, data.len()) else {
             return Err(HostFault::NotAskedFor);
         };
-        let event = self.accept(asked.key, data);
+        let event = self.gather(tag, asked.transfer, data);
         let phase = Phase::AwaitData {
-            key: asked.key,
-            forced: asked.forced,
+            transfer: asked.transfer,
         };
         self.set_phase(asked.index, phase.after(event));
         self.end_waiting();
@@ -306,22 +324,36 @@ impl Device {
         task.phase = phase;
     }
 
-    /// Accepts the block for its address, unless the device is locked. The task that asked for it
-    /// claimed a slot, and a device that is not locked has a number left. No invariant of the
-    /// device says so yet, and so the layer is asked.
-    fn accept(&mut self, key: Key, bytes: &[u8]) -> TaskEvent
+    /// A block that came lies in the slot that was claimed for it. With the last one the group is
+    /// accepted.
+    fn gather(&mut self, tag: u8, transfer: Transfer, bytes: &[u8]) -> TaskEvent
         requires { length bytes.now ≡ 4096 }
         ensures left { self.new ≡ record self.old { ftl = self.new.ftl } }
         ensures taken { (t : Translation) → IsLayer self.old.ftl t →
-            HasTaken self.new.ftl t key bytes.now result }
+            HasGathered self.old.ftl self.new.ftl t tag transfer bytes.now result }
     {
-        if self.ftl.is_locked() || !self.ftl.can_accept() {
-            self.ftl.release();
-            return TaskEvent::BlockRefused;
-        }
         let mut body = [0u8; 4096];
         body.copy_from_slice(bytes);
-        let number = self.ftl.accept(key, &body);
-        TaskEvent::BlockAccepted { number }
+        self.ftl.fill(tag, transfer.gathered, &body);
+        if transfer.next().is_some() {
+            TaskEvent::BlockGathered
+        } else {
+            self.accept(tag, transfer.key)
+        }
+    }
+
+    /// Accepts the blocks that came for the task of this tag as a group, from this address on, unless the
+    /// device is locked. A device that is not locked has a number left.
+    fn accept(&mut self, tag: u8, key: Key) -> TaskEvent
+        ensures left { self.new ≡ record self.old { ftl = self.new.ftl } }
+        ensures taken { (t : Translation) → IsLayer self.old.ftl t →
+            HasTaken self.old.ftl self.new.ftl t tag key result }
+    {
+        if self.ftl.is_locked() {
+            self.ftl.release(tag);
+            return TaskEvent::GroupRefused;
+        }
+        let number = self.ftl.accept(tag, key);
+        TaskEvent::GroupAccepted { number }
     }
 }

@@ -31,7 +31,7 @@ pub(crate) const ROOM: usize = 32;
 /// A device: the translation layer, and the tasks that are open.
 #[derive(Drop)]
 pub struct Device {
-    /// The translation layer, which keeps for each READ what its block was when the COMMAND came.
+    /// The translation layer, which keeps for each READ what its blocks were when the COMMAND came.
     pub(crate) ftl: Ftl,
     /// Whether the units that are protected for ever are so from now on, as the settings say that were
     /// found. No command changes it yet.
@@ -164,7 +164,7 @@ impl Device {
         }
     }
 
-    /// A lock ends each task that waits for a block to become durable.
+    /// A lock ends each task that waits for a group to become durable.
     pub(crate) fn end_waiting(&mut self)
         ensures { (t : Translation) → IsLayer self.old.ftl t → self.new ≡ lock_told t self.old }
     {

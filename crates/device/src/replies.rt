@@ -11,6 +11,7 @@ ghost use Rattle.ufs_spec.specs.Translation.{Translation, is_mended};
 ghost use Rattle.power_loss.specs.Book.{book};
 ghost use Rattle.power_loss.specs.Invariant.{LookedRight};
 ghost use Rattle.ftl_core.specs.Describes.{Describes as IsLayer, IsLookedAt};
+ghost use Rattle.ftl_core.specs.Moves.{claims_for};
 ghost use Rattle.device.specs.declared.tasks.Short.{Short};
 ghost use Rattle.device.specs.Describes.{Describes, IsAnswered, IsReplied};
 ghost use Rattle.device.specs.Replies.{HasMoved, answer_of, block_at, block_for, is_loaded_for, short_message};
@@ -102,12 +103,12 @@ impl Device {
         ensures message { IfSome result (λ m. IsMessage m) }
     {
         match task.phase {
-            Phase::AskData { key: _, forced: _ } => Some(ready_to_transfer(task.lun, task.tag)),
-            Phase::AwaitData { key: _, forced: _ } => None,
+            Phase::AskData { transfer } => Some(ready_to_transfer(task.lun, task.tag, transfer)),
+            Phase::AwaitData { transfer: _ } => None,
             Phase::AwaitFrontier { number, length } => self.durable_answer(task, number, length),
-            Phase::SendBlock => {
-                let block = self.block(task.tag)?;
-                Some(block_message(task, block))
+            Phase::SendBlocks { sending } => {
+                let block = self.block(task.tag, sending.sent)?;
+                Some(block_message(task, sending, block))
             }
             Phase::SendData { data } => Some(data_message(task, data)),
             Phase::Answer { status, length } => Some(response(
@@ -132,12 +133,12 @@ impl Device {
         Some(response(task.lun, task.tag, task.expected, Status::Good, length))
     }
 
-    /// The block that the task of this tag keeps, once it is there.
-    fn block(&self, tag: u8) -> Option<&Block>
+    /// The block of this index that the task of this tag keeps, once it is there.
+    fn block(&self, tag: u8, index: u16) -> Option<&Block>
         ensures { (t : Translation) → IsLayer self.now.ftl t →
-            option_copied result ≡ block_for t self.now.loaded tag }
+            option_copied result ≡ block_for t self.now.loaded tag index }
     {
-        let looked = self.ftl.pinned(tag)?;
+        let looked = self.ftl.pinned(tag, index)?;
         self.block_looked(tag, looked)
     }
 
@@ -150,7 +151,7 @@ impl Device {
     {
         match looked {
             Looked::Nothing => Some(zeros()),
-            Looked::Slot(number) => self.ftl.slot(number),
+            Looked::Slot { number, index } => self.ftl.slot(number, index),
             Looked::Page(_) => self.loaded_block(tag),
         }
     }
@@ -167,18 +168,19 @@ impl Device {
     fn move_on(&mut self, index: usize, task: Task)
         requires { index < length self.old.tasks }
         ensures left { self.new ≡ record (moved_on self.old index task task.phase) { ftl = self.new.ftl } }
-        ensures moved { (t : Translation) → IsLayer self.old.ftl t → HasMoved self.new.ftl t task.tag task.phase }
+        ensures moved { (t : Translation) → IsLayer self.old.ftl t →
+            HasMoved self.old.ftl self.new.ftl t task.tag task.phase }
     {
         match task.phase {
-            Phase::AskData { key: _, forced: _ } => {
+            Phase::AskData { transfer: _ } => {
                 self.set_phase(index, task.phase.after(TaskEvent::DataAskedFor));
             }
-            Phase::AwaitData { key: _, forced: _ } => {}
+            Phase::AwaitData { transfer: _ } => {}
             Phase::SendData { data: _ } => {
                 self.set_phase(index, task.phase.after(TaskEvent::DataSent));
             }
-            Phase::SendBlock => {
-                self.let_go(task.tag);
+            Phase::SendBlocks { sending } => {
+                self.block_sent(task.tag, sending.sent);
                 self.set_phase(index, task.phase.after(TaskEvent::BlockSent));
             }
             Phase::AwaitFrontier {
@@ -192,6 +194,17 @@ impl Device {
         }
     }
 
+    /// The block of this index, which the task of this tag kept, was handed out, and the next one is wanted.
+    fn block_sent(&mut self, tag: u8, index: u16)
+        ensures left { self.new ≡ record (without_block self.old tag) { ftl = self.new.ftl } }
+        ensures one { (t : Translation) → IsLayer self.old.ftl t →
+            IsLayer self.new.ftl (moved (moved t (LetGo tag index)) (WantPage tag (index + 1))) }
+        ensures same_claims { claims_for self.new.ftl ≡ claims_for self.old.ftl }
+    {
+        self.ftl.want_next(tag, index);
+        self.unload(tag);
+    }
+
     /// The task of this tag keeps nothing any more.
     fn let_go(&mut self, tag: u8)
         ensures left { self.new ≡ record (without_block self.old tag) { ftl = self.new.ftl } }
@@ -199,8 +212,7 @@ impl Device {
         ensures told { (t : Translation) (count : ℕ) → IsLayer self.old.ftl t →
             before_accepted t.ledger + count ≤ t.ledger.frontier →
             IsLayer self.new.ftl (moved (moved t (Acknowledge count)) (LetGoAll tag)) }
-        ensures one { (t : Translation) → IsLayer self.old.ftl t →
-            IsLayer self.new.ftl (moved (moved t (LetGo tag 0)) (WantPage tag 1)) }
+        ensures same_claims { claims_for self.new.ftl ≡ claims_for self.old.ftl }
     {
         self.ftl.unpin(tag);
         self.unload(tag);
@@ -214,6 +226,7 @@ impl Device {
         ensures told { (t : Translation) (count : ℕ) → IsLayer self.old.ftl t →
             before_accepted t.ledger + count ≤ t.ledger.frontier →
             IsLayer self.new.ftl (moved (moved t (Acknowledge count)) (LetGoAll tag)) }
+        ensures same_claims { claims_for self.new.ftl ≡ claims_for self.old.ftl }
     {
         self.let_go(tag);
         self.tasks.remove(index);

@@ -1,5 +1,5 @@
 //! The messages that the device sends: what they say and how they are flagged (JESD220, 10.7).
-ghost use Rattle.std.specs.Prelude.{◌≡◌, ◌≤◌, ◌==◌, length, take, if◌then◌else◌, Some, None, ◌∷◌, []};
+ghost use Rattle.std.specs.Prelude.{◌≡◌, ◌≤◌, ◌==◌, ◌*◌, length, take, if◌then◌else◌, Some, None, ◌∷◌, []};
 ghost use Rattle.ufs_spec.specs.Cdbs.{residual_of};
 ghost use Rattle.ufs_spec.specs.Exchanges.{CheckCondition, response, sense_data};
 ghost use Rattle.ufs_spec.specs.Machine.{query_unanswered};
@@ -9,7 +9,7 @@ ghost use Rattle.device.specs.Replies.{block_message, count_of, data_message, da
 ghost use Rattle.device.specs.Replies.{function_of, short_message};
 ghost use Rattle.device.specs.Tasks.{status_kept};
 
-use crate::tasks::{Short, ShortData, ShortReply, Status, Task};
+use crate::tasks::{Sending, Short, ShortData, ShortReply, Status, Task, Transfer};
 use ufs_spec::{Asked, Block, Data, Message, Sense, write_u32};
 
 /// How many bytes a block has.
@@ -137,10 +137,10 @@ fn sense_response(lun: u8, tag: u8, residual: Residual, sense: &Sense) -> Messag
     }
 }
 
-/// The DATA IN with these bytes, of which there are 1 to 4096 (JESD220, 10.7.4).
-fn data_in(lun: u8, tag: u8, bytes: &[u8]) -> Message
+/// The DATA IN with these bytes at this offset, of which there are 1 to 4096 (JESD220, 10.7.4).
+fn data_in(lun: u8, tag: u8, offset: u32, bytes: &[u8]) -> Message
     requires { (1 ≤ length bytes.now) × (length bytes.now ≤ 4096) }
-    ensures what { result ≡ Message.DataIn lun tag 0 (record { items = bytes.now }) }
+    ensures what { result ≡ Message.DataIn lun tag offset (record { items = bytes.now }) }
     ensures message { IsMessage result }
 {
     let mut data = Data::new();
@@ -148,7 +148,7 @@ fn data_in(lun: u8, tag: u8, bytes: &[u8]) -> Message
     Message::DataIn {
         lun,
         tag,
-        offset: 0,
+        offset,
         data,
     }
 }
@@ -209,20 +209,24 @@ fn query_function(writing: bool) -> u8
     }
 }
 
-/// How many bytes of a block a host is sent that expects so many.
-fn count_of(expected: u32) -> usize
-    ensures what { result ≡ count_of expected }
+/// How many bytes the DATA IN of the next block has: the block, or the rest of what the host expects, and
+/// at least one.
+fn count_of(expected: u32, sending: Sending) -> usize
+    ensures what { result ≡ count_of expected sending }
     ensures some { (1 ≤ result) × (result ≤ 4096) }
 {
-    (expected as usize).clamp(1, BLOCK_BYTES as usize)
+    let sent = expected.min(sending.length);
+    let rest = sent.saturating_sub(sending.offset());
+    (rest as usize).clamp(1, BLOCK_BYTES as usize)
 }
 
-/// The DATA IN of the task's block.
-pub(crate) fn block_message(task: &Task, block: &Block) -> Message
-    ensures what { result ≡ block_message task.now block.now }
+/// The DATA IN of the task's next block.
+pub(crate) fn block_message(task: &Task, sending: Sending, block: &Block) -> Message
+    ensures what { result ≡ block_message task.now sending block.now }
     ensures message { IsMessage result }
 {
-    data_in(task.lun, task.tag, &block[..count_of(task.expected)])
+    let count = count_of(task.expected, sending);
+    data_in(task.lun, task.tag, sending.offset(), &block[..count])
 }
 
 /// The DATA IN of a task with other data than a block: the first of them, as many as the host
@@ -233,7 +237,7 @@ pub(crate) fn data_message(task: &Task, sent: ShortData) -> Message
 {
     let count = (task.expected.min(sent.length()) as usize).clamp(1, 18);
     let bytes = data_bytes(sent);
-    data_in(task.lun, task.tag, &bytes[..count])
+    data_in(task.lun, task.tag, 0, &bytes[..count])
 }
 
 /// The bytes of data that are sent in one DATA IN, with zeros behind them.
@@ -257,15 +261,15 @@ fn capacity_bytes(blocks: u32) -> [u8; 18]
     bytes
 }
 
-/// The READY TO TRANSFER for the one block of a write (JESD220, 10.7.5).
-pub(crate) fn ready_to_transfer(lun: u8, tag: u8) -> Message
-    ensures what { result ≡ Message.ReadyToTransfer lun tag 0 4096 }
+/// The READY TO TRANSFER for the next block of a write (JESD220, 10.7.5).
+pub(crate) fn ready_to_transfer(lun: u8, tag: u8, transfer: Transfer) -> Message
+    ensures what { result ≡ Message.ReadyToTransfer lun tag (4096 * transfer.gathered) 4096 }
     ensures message { IsMessage result }
 {
     Message::ReadyToTransfer {
         lun,
         tag,
-        offset: 0,
+        offset: transfer.offset(),
         count: BLOCK_BYTES,
     }
 }

@@ -1,6 +1,6 @@
 //! The tasks that are open, and what each still owes its host (JESD220, 10.9).
-ghost use Rattle.std.specs.Prelude.{◌≡◌};
-ghost use Rattle.device.specs.Tasks.{block_taken, data_length, failed, phase_after, task_after};
+ghost use Rattle.std.specs.Prelude.{◌≡◌, ◌*◌};
+ghost use Rattle.device.specs.Tasks.{data_length, failed, group_taken, next_sending, next_transfer, phase_after, task_after};
 
 use crate::responses::BLOCK_BYTES;
 use ufs_spec::{Asked, Block, Key, Sense};
@@ -15,17 +15,91 @@ pub enum Status {
     TaskSetFull,
 }
 
+/// The blocks of a WRITE: so many from this address on, of which so many came; and whether it has FUA.
+#[derive(Clone, Copy, Debug, PartialEq, Eq)]
+pub struct Transfer {
+    pub key: Key,
+    pub blocks: u16,
+    pub gathered: u16,
+    pub forced: bool,
+}
+
+impl Transfer {
+    /// What is still to come once one block more came; `None` if that was the last.
+    pub(crate) fn next(self) -> Option<Transfer>
+        ensures { result ≡ next_transfer self }
+    {
+        if self.gathered as u32 + 1 < self.blocks as u32 {
+            Some(Transfer {
+                key: self.key,
+                blocks: self.blocks,
+                gathered: self.gathered + 1,
+                forced: self.forced,
+            })
+        } else {
+            None
+        }
+    }
+
+    /// How many bytes it has.
+    pub(crate) fn length(self) -> u32
+        ensures { result ≡ 4096 * self.blocks }
+    {
+        BLOCK_BYTES * self.blocks as u32
+    }
+
+    /// Where the block that comes next lies in its data.
+    pub(crate) fn offset(self) -> u32
+        ensures { result ≡ 4096 * self.gathered }
+    {
+        BLOCK_BYTES * self.gathered as u32
+    }
+}
+
+/// The blocks of a READ: so many that its host expects, of which so many were handed out; and how many
+/// bytes the command has.
+#[derive(Clone, Copy, Debug, PartialEq, Eq)]
+pub struct Sending {
+    pub blocks: u16,
+    pub sent: u16,
+    pub length: u32,
+}
+
+impl Sending {
+    /// What is still to be sent once one block more was handed out; `None` if that was the last.
+    pub(crate) fn next(self) -> Option<Sending>
+        ensures { result ≡ next_sending self }
+    {
+        if self.sent as u32 + 1 < self.blocks as u32 {
+            Some(Sending {
+                blocks: self.blocks,
+                sent: self.sent + 1,
+                length: self.length,
+            })
+        } else {
+            None
+        }
+    }
+
+    /// How many bytes were handed out: where the next block lies in its data.
+    pub(crate) fn offset(self) -> u32
+        ensures { result ≡ 4096 * self.sent }
+    {
+        BLOCK_BYTES * self.sent as u32
+    }
+}
+
 /// How far a task is.
 #[derive(Clone, Copy, Debug, PartialEq, Eq)]
 pub enum Phase {
-    /// A READY TO TRANSFER for a block of this address is due.
-    AskData { key: Key, forced: bool },
+    /// A READY TO TRANSFER for the next block is due.
+    AskData { transfer: Transfer },
     /// Its DATA OUT has not come.
-    AwaitData { key: Key, forced: bool },
+    AwaitData { transfer: Transfer },
     /// GOOD is due once every group up to this number is durable; `length` bytes were the command's.
     AwaitFrontier { number: u64, length: u32 },
-    /// A DATA IN is due once the block that the task keeps is there.
-    SendBlock,
+    /// A DATA IN is due once the next block that the task keeps is there.
+    SendBlocks { sending: Sending },
     /// A DATA IN with these data is due.
     SendData { data: ShortData },
     /// The RESPONSE is due: `length` bytes were the command's or were carried.
@@ -37,15 +111,17 @@ pub enum Phase {
 pub enum TaskEvent {
     /// Its READY TO TRANSFER was handed out.
     DataAskedFor,
-    /// The block that it asked for came, and was accepted under this number.
-    BlockAccepted { number: u64 },
-    /// The block that it asked for came, and the device is locked: it is told as not written.
-    BlockRefused,
-    /// The DATA IN with its block was handed out.
+    /// A block that it asked for came, and more are to come.
+    BlockGathered,
+    /// The last block that it asked for came, and its group was accepted under this number.
+    GroupAccepted { number: u64 },
+    /// The last block that it asked for came, and the device is locked: it is told as not written.
+    GroupRefused,
+    /// The DATA IN with its next block was handed out.
     BlockSent,
     /// The DATA IN with its other data was handed out.
     DataSent,
-    /// The die could not read its block: nothing was carried.
+    /// The die could not read its next block: what is before it was carried.
     BlockLost,
     /// The device is locked from now on, and each group up to this number is durable. What waits for
     /// a later one is told that it was not written, though it was carried.
@@ -73,18 +149,36 @@ impl Phase {
         }
     }
 
-    /// A WRITE whose block was accepted under this number: with FUA it is answered once the block is
+    /// A WRITE whose group was accepted under this number: with FUA it is answered once the group is
     /// durable, else at once.
-    fn accepted(forced: bool, number: u64) -> Phase
-        ensures { result ≡ block_taken forced number }
+    fn accepted(transfer: Transfer, number: u64) -> Phase
+        ensures { result ≡ group_taken transfer number }
     {
-        if forced {
-            Phase::AwaitFrontier {
-                number,
-                length: BLOCK_BYTES,
-            }
+        let length = transfer.length();
+        if transfer.forced {
+            Phase::AwaitFrontier { number, length }
         } else {
-            Phase::good(BLOCK_BYTES)
+            Phase::good(length)
+        }
+    }
+
+    /// A WRITE of which a block came: the next one is asked for.
+    fn gathered(transfer: Transfer) -> Phase
+        ensures { result ≡ phase_after (Phase.AwaitData transfer) TaskEvent.BlockGathered }
+    {
+        match transfer.next() {
+            Some(transfer) => Phase::AskData { transfer },
+            None => Phase::AwaitData { transfer },
+        }
+    }
+
+    /// A READ of which a block was handed out: the next one follows, or GOOD.
+    fn sent(sending: Sending) -> Phase
+        ensures { result ≡ phase_after (Phase.SendBlocks sending) TaskEvent.BlockSent }
+    {
+        match sending.next() {
+            Some(sending) => Phase::SendBlocks { sending },
+            None => Phase::good(sending.length),
         }
     }
 
@@ -94,20 +188,21 @@ impl Phase {
         ensures { result ≡ phase_after self event }
     {
         match (self, event) {
-            (Phase::AskData { key, forced }, TaskEvent::DataAskedFor) => {
-                Phase::AwaitData { key, forced }
+            (Phase::AskData { transfer }, TaskEvent::DataAskedFor) => Phase::AwaitData { transfer },
+            (Phase::AwaitData { transfer }, TaskEvent::BlockGathered) => Phase::gathered(transfer),
+            (Phase::AwaitData { transfer }, TaskEvent::GroupAccepted { number }) => {
+                Phase::accepted(transfer, number)
             }
-            (Phase::AwaitData { key: _, forced }, TaskEvent::BlockAccepted { number }) => {
-                Phase::accepted(forced, number)
-            }
-            (Phase::AwaitData { key: _, forced: _ }, TaskEvent::BlockRefused) => {
-                Phase::failed(Sense::WRITE_ERROR, BLOCK_BYTES)
+            (Phase::AwaitData { transfer }, TaskEvent::GroupRefused) => {
+                Phase::failed(Sense::WRITE_ERROR, transfer.length())
             }
             (Phase::AwaitFrontier { number, length }, TaskEvent::Locked { frontier })
                 if number > frontier => { Phase::failed(Sense::WRITE_ERROR, length) }
-            (Phase::SendBlock, TaskEvent::BlockSent) => Phase::good(BLOCK_BYTES),
+            (Phase::SendBlocks { sending }, TaskEvent::BlockSent) => Phase::sent(sending),
             (Phase::SendData { data }, TaskEvent::DataSent) => Phase::good(data.length()),
-            (Phase::SendBlock, TaskEvent::BlockLost) => Phase::failed(Sense::READ_ERROR, 0),
+            (Phase::SendBlocks { sending }, TaskEvent::BlockLost) => {
+                Phase::failed(Sense::READ_ERROR, sending.offset())
+            }
             (phase, _) => phase,
         }
     }
@@ -178,7 +273,7 @@ pub enum ShortReply {
     NotQueried { writing: bool, asked: Asked },
 }
 
-/// A block that a die read for the task of this tag gave.
+/// A block that a die read for the task of this tag gave: the next one that it sends.
 #[derive(Clone, Copy)]
 pub struct Loaded {
     pub tag: u8,
@@ -190,8 +285,10 @@ pub struct Loaded {
 pub enum Plan {
     /// It is answered GOOD at once: it has no block, or its host takes none.
     Nothing { length: u32 },
-    Read { key: Key },
-    Write { key: Key, forced: bool },
+    /// It sends so many blocks from this address on, of a command of so many bytes.
+    Read { key: Key, blocks: u16, length: u32 },
+    /// It asks for so many blocks from this address on.
+    Write { key: Key, blocks: u16, forced: bool },
     /// It sends these data, of which its host takes some.
     Send { data: ShortData },
     /// It is answered GOOD once all that was accepted before it is durable.

@@ -1,6 +1,9 @@
 pub mod FrontDurable
 pub mod FrontLedger
+pub mod FrontPages
+pub mod FrontPlaces
 pub mod GroupsEnded
+pub mod NotedPlaces
 pub mod PageStands
 pub mod PageWritten
 pub mod Settling

@@ -7,6 +7,7 @@ pub mod ReadsEnded
 pub mod ReadsGiven
 pub mod RepairLedger
 pub mod RepairsEnded
+pub mod SameClaims
 pub mod StepContent
 pub mod StepsEnded
 pub mod StepsOver

@@ -1,8 +1,10 @@
+pub mod GroupsAccepted
+pub mod KeptBlocks
 pub mod KeyPlaces
-pub mod LastGroups
-pub mod LookedGroups
+pub mod KeysBehind
+pub mod LastPages
 pub mod LookedPages
-pub mod Looks
+pub mod LookedUp
 pub mod MoreGroups
 pub mod Numbers
 pub mod SlotBodies

@@ -1,5 +1,7 @@
 pub mod FoundPins
 pub mod PinsAlike
+pub mod PinsDiffer
 pub mod PinsGone
 pub mod PinsSettled
+pub mod PinsWanted
 pub mod ReadsAwaited

@@ -1,2 +1,4 @@
-pub mod CallsDescribed
+pub mod Claims
+pub mod PinCalls
+pub mod ReadersClaims
 pub mod SmallCalls

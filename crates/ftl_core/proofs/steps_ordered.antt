@@ -1,4 +1,5 @@
 pub mod MarksOrdered
+pub mod NonePending
 pub mod QuietLayers
 pub mod RepairsOrdered
 pub mod Turns

@@ -4,23 +4,26 @@ use Rattle.ufs_spec.specs.declared.configs.Numbers.{Numbers}
 use Rattle.ufs_spec.specs.declared.flash.Key.{Key}
 use Rattle.ftl_core.specs.declared.books.BlockState.{BlockState}
 use Rattle.ftl_core.specs.declared.books.Book.{Book}
+use Rattle.ftl_core.specs.declared.books.Claimed.{Claimed}
 use Rattle.ftl_core.specs.declared.books.Stored.{Stored}
-use Rattle.ftl_core.specs.declared.books.Group.{Group}
 use Rattle.ftl_core.specs.declared.books.Mending.{Mending}
+use Rattle.ftl_core.specs.declared.books.Pending.{Pending}
 use Rattle.ftl_core.specs.declared.books.Pin.{Pin}
 use Rattle.ftl_core.specs.declared.books.Step.{Step}
 
 -- what is kept: by die and block the blocks' states, by die its open block and its job, by key the place of its durable
--- content, the pending groups in order of number, and of the mending the keys with a lost page and the step under way
+-- content, the pages of pending groups in order of number and index, the slots that are claimed for groups to come, the
+-- greatest number that was given, and of the mending the keys with a lost page and the step under way
 pub record Core : Type 0 where
   pub numbers : Numbers
   pub states : List BlockState
   pub books : List Book
   pub has_bad : Bool
   pub places : List (Option Stored)
-  pub groups : List Group
+  pub pages : List Pending
+  pub claims : List Claimed
   pub frontier : ℕ
-  pub claimed : ℕ
+  pub last : ℕ
   pub pins : List Pin
   pub mending : Mending
   pub lost : List Key

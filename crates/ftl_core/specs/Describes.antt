@@ -1,38 +1,37 @@
 -- How what the layer keeps describes the translation layer as it is specified. In this stage nothing is copied or
--- collected, and each group that is accepted is one page of a unit's data.
+-- collected, and the pages of each group that is accepted are data of a unit.
 use Rattle.std.specs.Prelude.{◌≡◌, ◌≢◌, ℕ, suc, ◌+◌, ◌<◌, ◌≤◌, nat_lt, Bool, true, false, List, [], ◌∷◌, count_by, drop}
 use Rattle.std.specs.Prelude.{All, AllPairs, find, length, map, slice_get, Option, Some, None, option_map}
+use Rattle.std.specs.List.{list_any}
 use Rattle.ufs_spec.specs.Cells.{Cell, Cells, GroupPage, MarkPage}
 use Rattle.ufs_spec.specs.Disk as disk
 use Rattle.ufs_spec.specs.Disk.{Disk, ForNobody, ForStep, ForTask, Reader, Spot}
-use Rattle.ufs_spec.specs.Keys as keys
 use Rattle.ufs_spec.specs.Keys.{IsKey}
 use Rattle.ufs_spec.specs.Ledger as ledger
 use Rattle.ufs_spec.specs.Ledger.{Entry, InSlot, Ledger, Name, OnPage, Unwritten, before_accepted, entry_of}
-use Rattle.ufs_spec.specs.Ledger.{latest_durable, pending}
+use Rattle.ufs_spec.specs.Ledger.{latest_durable, next_number, pending}
 use Rattle.ufs_spec.specs.Moves.{Ending, ReadRight, ReadWrong, GiveJob, moved}
 use Rattle.ufs_spec.specs.Plain.{shape_of_numbers}
 use Rattle.ufs_spec.specs.Translation as layer
 use Rattle.ufs_spec.specs.Translation.{MarkStep, MayTake, Mended, Mending, RepairStep, Repairing, Step, Translation}
-use Rattle.ufs_spec.specs.Translation.{Unmarked, Work, flies_name, is_bad, is_mended, spots}
+use Rattle.ufs_spec.specs.Translation.{Unmarked, Work, flies_name, is_bad, is_mended, names_behind, spots}
 use Rattle.ufs_spec.specs.declared.configs.Numbers.{Numbers}
 use Rattle.ufs_spec.specs.declared.flash.Job.{Job}
 use Rattle.ufs_spec.specs.declared.flash.Key.{Key}
 use Rattle.ufs_spec.specs.declared.flash.Place.{Place}
 use Rattle.ufs_spec.specs.declared.flash.Tag.{Tag}
-use Rattle.power_loss.specs.Exchange.{TagsDiffer}
 use Rattle.power_loss.specs.Invariant.{Valid}
 use Rattle.ftl_core.specs.declared.books.BlockState.{BlockState}
 use Rattle.ftl_core.specs.declared.books.BlockState.TheVariants as state
 use Rattle.ftl_core.specs.declared.books.Book.{Book}
 use Rattle.ftl_core.specs.declared.books.Flight.{Flight}
 use Rattle.ftl_core.specs.declared.books.Flight.TheVariants as flight
-use Rattle.ftl_core.specs.declared.books.Group.{Group}
 use Rattle.ftl_core.specs.declared.books.Looked.{Looked}
 use Rattle.ftl_core.specs.declared.books.Looked.TheVariants as looked
 use Rattle.ftl_core.specs.declared.books.Mending as kept
 use Rattle.ftl_core.specs.declared.books.Mending.TheVariants as mendings
 use Rattle.ftl_core.specs.declared.books.OpenBlock.{OpenBlock}
+use Rattle.ftl_core.specs.declared.books.Pending.{Pending}
 use Rattle.ftl_core.specs.declared.books.Pin.{Pin}
 use Rattle.ftl_core.specs.declared.books.Reader as reader
 use Rattle.ftl_core.specs.declared.books.Reader.TheVariants as readers
@@ -44,7 +43,7 @@ use Rattle.ftl_core.specs.declared.ftl.Ended.TheVariants as ended
 use Rattle.recovery.specs.KeysInOrder.{key_total}
 use Rattle.ftl_core.specs.Core.{Core}
 use Rattle.ftl_core.specs.Moves.{is_pin_of, repairs_in, stored_in}
-use Rattle.ftl_core.specs.Takes.{is_data, next_place, step_wants}
+use Rattle.ftl_core.specs.Takes.{is_group_page, next_place, step_wants}
 
 -- Blocks
 
@@ -78,7 +77,7 @@ IsNext die filling place = (o : OpenBlock) × (filling ≡ Some o) × (next_plac
 
 -- the reader of a read in flight
 abbrev pub IsReader : reader.Reader → Reader → Type 0
-IsReader (readers.Task tag) (ForTask other index) = (other ≡ tag) × (index ≡ 0)
+IsReader (readers.Task tag i) (ForTask other index) = (other ≡ tag) × (index ≡ i)
 IsReader readers.Step ForStep = Unit {0}
 IsReader readers.Nobody ForNobody = Unit {0}
 IsReader who other = ⊥
@@ -99,8 +98,8 @@ IsFlight n step die filling (Some (flight.Read place reader)) (Some (disk.Readin
     (p ≡ place) × IsReader reader who
 IsFlight n step die filling (Some (flight.Step place)) (Some (disk.Programming p cell)) =
     (p ≡ place) × IsNext die filling place × IsStepCell step cell
-IsFlight n step die filling (Some (flight.Group place number)) (Some (disk.Programming p (GroupPage tag body))) =
-    (p ≡ place) × IsNext die filling place × (tag.number ≡ number) × (tag.index ≡ 0) × (repairs_in step ≡ 0)
+IsFlight n step die filling (Some (flight.Group place number i)) (Some (disk.Programming p (GroupPage tag body))) =
+    (p ≡ place) × IsNext die filling place × (tag.number ≡ number) × (tag.index ≡ i) × (repairs_in step ≡ 0)
 IsFlight n step die filling (Some (flight.Erase block)) (Some (disk.Erasing s)) =
     (s ≡ spot_at die block) × (block < n.blocks) × (filling ≡ None)
 IsFlight n step die filling kept other = ⊥
@@ -126,19 +125,27 @@ pub record PagesFly (standing : Standing) (flights : ℕ → Option disk.Flight)
   pub one : (d e : ℕ) (name : Name) → flies_name name (flights d) ≡ true → flies_name name (flights e) ≡ true → d ≡ e
   pub new : (d : ℕ) (name : Name) → flies_name name (flights d) ≡ true → standing name.number name.index ≡ None
 
-abbrev pub name_at : ℕ → Name
-name_at n = record { number = n; index = 0 }
+abbrev pub name_at : ℕ → ℕ → Name
+name_at n i = record { number = n; index = i }
 
-pub record GroupKept (standing : Standing) (n : ℕ) (g : Group) (h : keys.Group) : Type 0 where
-  pub page : h ≡ record { key = g.key; body = g.body } ∷ []
-  pub data_page : is_data g ≡ true
-  pub stands : standing n 0 ≡ g.written
+-- the page of this name: its number, its index, what it holds, the size of its group, and where it stands
+pub record PageKept (standing : Standing) (entries : Name → Option Entry) (p : Pending) (name : Name) : Type 0 where
+  pub number : p.number ≡ name.number
+  pub index : p.index ≡ name.index
+  pub entry : entries name ≡ Some (record { item = record { key = p.key; body = p.body }; size = p.size })
+  pub group_page : is_group_page p ≡ true
+  pub stands : standing name.number name.index ≡ p.written
 
--- groups numbered from the one behind n on
-abbrev pub GroupsKept : Standing → ℕ → List Group → List keys.Group → Type 0
-GroupsKept standing n [] [] = Unit {0}
-GroupsKept standing n (g ∷ gs) (h ∷ hs) = GroupKept standing (suc n) g h × GroupsKept standing (suc n) gs hs
-GroupsKept standing n gs hs = ⊥
+-- page by page
+abbrev pub PagesKept : Standing → (Name → Option Entry) → List Pending → List Name → Type 0
+PagesKept standing entries [] [] = Unit {0}
+PagesKept standing entries (p ∷ ps) (name ∷ names) =
+    PageKept standing entries p name × PagesKept standing entries ps names
+PagesKept standing entries ps names = ⊥
+
+-- the names of the pages of groups that are accepted and not durable, by number and index
+abbrev pub names_pending : Ledger → List Name
+names_pending l = names_behind l.frontier (pending l)
 
 -- Places
 
@@ -148,11 +155,13 @@ IsStored standing None None = Unit {0}
 IsStored standing (Some s) (Some name) = (name.number ≡ s.number) × (standing name.number name.index ≡ Some s.place)
 IsStored standing s name = ⊥
 
-pub record LedgerKept (n : Numbers) (stored : List (Option Stored)) (kept : List Group) (known : ℕ)
+pub record LedgerKept (n : Numbers) (stored : List (Option Stored)) (kept : List Pending) (known last : ℕ)
     (l : Ledger) : Type 0 where
   pub frontier : known ≡ l.frontier
-  -- the groups that are accepted and not durable
-  pub groups : GroupsKept l.standing l.frontier kept (pending l)
+  pub last_given : suc last ≡ next_number l
+  -- the pages of groups that are accepted and not durable; before the device is mended there are none, and the number
+  -- behind the frontier may be a repair's
+  pub pages : PagesKept l.standing (entry_of l) kept (names_pending l)
   pub keys : key_total (shape_of_numbers n) ≤ length stored
   pub places : (k : Key) → IsKey (shape_of_numbers n) k →
       IsStored l.standing (stored_in n stored k) (latest_durable l k)
@@ -162,7 +171,7 @@ pub record LedgerKept (n : Numbers) (stored : List (Option Stored)) (kept : List
 -- what was looked up
 abbrev pub IsLookedAt : Looked → ledger.Looked → Type 0
 IsLookedAt looked.Nothing Unwritten = Unit {0}
-IsLookedAt (looked.Slot n) (InSlot name) = name ≡ name_at n
+IsLookedAt (looked.Slot n i) (InSlot name) = name ≡ name_at n i
 IsLookedAt (looked.Page s) (OnPage name place) = (name.number ≡ s.number) × (place ≡ s.place)
 IsLookedAt kept other = ⊥
 
@@ -178,7 +187,7 @@ IsLookOf frontier entries k (OnPage name place) = IsNameOf entries k name
 
 pub record PinKept (frontier : ℕ) (entries : Name → Option Entry) (p : Pin) (q : layer.Pin) : Type 0 where
   pub tag : q.tag ≡ p.reader
-  pub first : q.index ≡ 0
+  pub index : q.index ≡ p.index
   pub looked_at : IsLookedAt p.looked q.looked
   pub there : IsLookOf frontier entries p.key q.looked
   pub wanted : q.wanted ≡ p.wanted
@@ -188,9 +197,10 @@ PinsKept frontier entries [] [] = Unit {0}
 PinsKept frontier entries (p ∷ ps) (q ∷ qs) = PinKept frontier entries p q × PinsKept frontier entries ps qs
 PinsKept frontier entries ps qs = ⊥
 
--- no reader keeps two things
+-- no block of a reader is kept twice
 abbrev pub ReadersDiffer : List Pin → Type 0
-ReadersDiffer = TagsDiffer (λ (p : Pin). p.reader)
+ReadersDiffer [] = Unit {0}
+ReadersDiffer (p ∷ ps) = (list_any (is_pin_of p.reader p.index) ps ≡ false) × ReadersDiffer ps
 
 -- the pin is of the page at this place, which is still to be read
 pub record IsWanted (place : Place) (p : Pin) : Type 0 where
@@ -203,7 +213,7 @@ pub record IsWanted (place : Place) (p : Pin) : Type 0 where
 abbrev pub ReadsKept : (ℕ → Option disk.Flight) → List Pin → Type 0
 ReadsKept flights pins =
     (die tag index : ℕ) (place : Place) → flights die ≡ Some (disk.Reading (ForTask tag index) place) →
-    (p : Pin) × (find (is_pin_of tag) pins ≡ Some p) × IsWanted place p
+    (p : Pin) × (find (is_pin_of tag index) pins ≡ Some p) × IsWanted place p
 
 -- a read in flight for the step under way is of the page that it is still to be read from
 abbrev pub StepReadsKept : (ℕ → Option disk.Flight) → Option kept_step.Step → Type 0
@@ -226,7 +236,7 @@ pub record RepairKept (l : Ledger) (number : ℕ) (k : Key) (from : Option Store
   pub last : number ≡ l.greatest_seen + length l.groups
   -- its page does not stand yet
   pub new : l.standing number 0 ≡ None
-  pub entry : entry_of l (name_at number) ≡ Some (record { item = record { key = k; body = l.base k }; size = 1 })
+  pub entry : entry_of l (name_at number 0) ≡ Some (record { item = record { key = k; body = l.base k }; size = 1 })
   pub stored : IsStored l.standing from (l.first_page k)
   pub content_is : there ≡ true → content ≡ l.base k
 
@@ -235,7 +245,7 @@ abbrev pub StepKept : Ledger → Option kept_step.Step → List ℕ → Option S
 StepKept l None content None = Unit {0}
 StepKept l (Some (steps.Mark n fence)) content (Some s) = s ≡ record { kind = MarkStep n fence; there = true }
 StepKept l (Some (steps.Repair n k from there)) content (Some s) =
-    (s ≡ record { kind = RepairStep (name_at n) (option_map (λ (at : Stored). at.place) from); there = there })
+    (s ≡ record { kind = RepairStep (name_at n 0) (option_map (λ (at : Stored). at.place) from); there = there })
     × RepairKept l n k from there content
 StepKept l step content other = ⊥
 
@@ -267,9 +277,9 @@ pub record Kept (c : Core) (t : Translation) : Type 0 where
   pub blocks : BlocksKept t.numbers t.disk.blocks c.states c.has_bad
   pub dies : DiesKept t.numbers t.disk.blocks t.disk.flights c.step c.books
   pub fly : PagesFly t.ledger.standing t.disk.flights
-  pub ledger_kept : LedgerKept c.numbers c.places c.groups c.frontier t.ledger
+  pub ledger_kept : LedgerKept c.numbers c.places c.pages c.frontier c.last t.ledger
   pub work : WorkKept c.mending (drop c.repaired c.lost) c.step c.content c.next_mark t.work t.ledger
-  pub claims : c.claimed ≡ t.claims
+  pub claims : length c.claims ≡ t.claims
   pub pins : PinsKept t.ledger.frontier (entry_of t.ledger) c.pins t.pins
   pub differ : ReadersDiffer c.pins
   pub reads : ReadsKept t.disk.flights c.pins

@@ -12,7 +12,7 @@ use Rattle.ftl_core.specs.Gives.{GivesIf, IsReadAfter, change_after, ending, is_
 abbrev pub IsJobAfter : Core → ℕ → Book → Flight → Outcome → Core → Type 0
 IsJobAfter c die b (flight.Read place reader) o new = IsReadAfter (is_read o) c die b o reader new
 IsJobAfter c die b (flight.Step place) o new = new ≡ change_after c die b (flight.Step place) (ending o)
-IsJobAfter c die b (flight.Group place n) o new = new ≡ change_after c die b (flight.Group place n) (ending o)
+IsJobAfter c die b (flight.Group place n i) o new = new ≡ change_after c die b (flight.Group place n i) (ending o)
 IsJobAfter c die b (flight.Erase block) o new = new ≡ change_after c die b (flight.Erase block) (ending o)
 
 abbrev pub IsFlightAfter : Core → ℕ → Book → Option Flight → Outcome → Core → Type 0

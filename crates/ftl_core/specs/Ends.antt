@@ -1,43 +1,50 @@
 -- How a group moves on until it is durable, as the code does it. Describes says what that means.
-use Rattle.std.specs.Prelude.{ℕ, zero, suc, ◌+◌, ◌-◌, nat_le, nat_lt, if◌then◌else◌, List, length, map, slice_get}
-use Rattle.std.specs.Prelude.{slice_set, remove, Option, Some, None, true}
+use Rattle.std.specs.Prelude.{ℕ, zero, suc, ◌+◌, ◌==◌, ◌&&◌, min, not, Bool, if◌then◌else◌, List, filter, fold, length}
+use Rattle.std.specs.Prelude.{is_none, map, position, slice_get, slice_set, Option, Some, None, true}
+use Rattle.std.specs.List.{list_any}
 use Rattle.ufs_spec.specs.declared.flash.Key.{Key}
 use Rattle.ufs_spec.specs.declared.flash.Place.{Place}
 use Rattle.ftl_core.specs.declared.books.Stored.{Stored}
 use Rattle.ftl_core.specs.declared.books.Book.{Book}
-use Rattle.ftl_core.specs.declared.books.Group.{Group}
+use Rattle.ftl_core.specs.declared.books.Pending.{Pending}
 use Rattle.ftl_core.specs.declared.books.Mending.{Mending}
 use Rattle.ftl_core.specs.declared.books.Mending.TheVariants as mending
 use Rattle.ftl_core.specs.declared.books.Step.{Step}
 use Rattle.ftl_core.specs.declared.books.Step.TheVariants as step
 use Rattle.ftl_core.specs.Core.{Core}
-use Rattle.ftl_core.specs.Moves.{mark_ordered, moved_pin, page_written, position_of, went_bad}
+use Rattle.ftl_core.specs.Moves.{is_named, mark_ordered, moved_pin, page_written, position_of, went_bad}
+
+-- Pages of groups
+
+-- the position of the page of a pending group with this number and index
+abbrev pub pending_at : Core → ℕ → ℕ → Option ℕ
+pending_at c number index = position (is_named number index) c.pages
+
+-- the page at this position is written there
+abbrev pub pages_written : List Pending → ℕ → Place → Option Pending → List Pending
+pages_written ps k place None = ps
+pages_written ps k place (Some p) = slice_set ps k (record p { written = Some place })
+
+abbrev pub pending_written : Core → Place → Option ℕ → Core
+pending_written c place None = c
+pending_written c place (Some k) = record c { pages = pages_written c.pages k place (slice_get c.pages k) }
 
 -- Groups
 
-abbrev pub below : ℕ → ℕ → Option ℕ
-below k n = if nat_lt k n then Some k else None
+abbrev pub is_of_group : ℕ → Pending → Bool
+is_of_group number p = p.number == number
 
--- the position of the pending group with this number
-abbrev pub pending_at : Core → ℕ → Option ℕ
-pending_at c n = if nat_le n c.frontier then None else below (n - c.frontier - 1) (length c.groups)
+-- a page of this group is not written yet
+abbrev pub is_unwritten : ℕ → Pending → Bool
+is_unwritten number p = is_of_group number p && is_none p.written
 
--- the page of the pending group at this position is written there
-abbrev pub groups_written : List Group → ℕ → Place → Option Group → List Group
-groups_written gs k p None = gs
-groups_written gs k p (Some g) = slice_set gs k (record g { written = Some p })
+abbrev pub whole_group : List Pending → Option Pending → Option ℕ
+whole_group ps None = None
+whole_group ps (Some p) = if list_any (is_unwritten p.number) ps then None else Some p.number
 
-abbrev pub group_written : Core → Place → Option ℕ → Core
-group_written c p None = c
-group_written c p (Some k) = record c { groups = groups_written c.groups k p (slice_get c.groups k) }
-
-abbrev pub place_of_group : Option Group → Option Place
-place_of_group None = None
-place_of_group (Some g) = g.written
-
--- where the page of the first pending group stands, once it is written
-abbrev pub front_written : Core → Option Place
-front_written c = place_of_group (slice_get c.groups 0)
+-- the number of the first pending group, if all its pages are written
+abbrev pub front_written : Core → Option ℕ
+front_written c = whole_group c.pages (slice_get c.pages 0)
 
 abbrev pub places_noted : List (Option Stored) → Stored → Option ℕ → List (Option Stored)
 places_noted ps s None = ps
@@ -47,34 +54,49 @@ places_noted ps s (Some k) = slice_set ps k (Some s)
 abbrev pub noted : Core → Key → Stored → Core
 noted c k s = record c { places = places_noted c.places s (position_of c.numbers k) }
 
--- the first group is pending no more
-abbrev pub without_first : Core → Core
-without_first c = record c { groups = remove c.groups 0; frontier = c.frontier + 1 }
+-- who keeps the slot of the page keeps its place
+abbrev pub pins_moved : Core → ℕ → Stored → Core
+pins_moved c index s = record c { pins = map (moved_pin index s) c.pins }
 
--- who keeps the slot of the group keeps its page
-abbrev pub pins_moved : Core → Stored → Core
-pins_moved c s = record c { pins = map (moved_pin s) c.pins }
+-- the page is durable: its address reads from where it is written, and so does who keeps its slot
+abbrev pub page_durable_at : Core → Pending → Option Place → Core
+page_durable_at c p None = c
+page_durable_at c p (Some place) =
+    pins_moved (noted c p.key (record { place = place; number = p.number })) p.index
+    (record { place = place; number = p.number })
 
-abbrev pub group_durable : Core → Stored → Option Group → Core
-group_durable c s None = c
-group_durable c s (Some g) = pins_moved (noted (without_first c) g.key s) s
+abbrev pub page_durable : Core → Pending → Core
+page_durable c p = page_durable_at c p p.written
 
--- the first group is durable: its address reads from this place, and so does who keeps its slot
-abbrev pub front_durable : Core → Place → Core
-front_durable c p = group_durable c (record { place = p; number = c.frontier + 1 }) (slice_get c.groups 0)
+-- the page, if it is of the group with this number
+abbrev pub durable_at : Core → ℕ → Option Pending → Core
+durable_at c number None = c
+durable_at c number (Some p) = if is_of_group number p then page_durable c p else c
 
--- so many groups at most become durable, each only while its page is written and it is the first
+-- the number behind the frontier, if it was given
+abbrev pub risen : Core → ℕ
+risen c = min (c.frontier + 1) c.last
+
+-- the group with this number is durable, each of its pages in order, and pending no more
+abbrev pub group_durable : Core → ℕ → Core
+group_durable c number =
+    record (fold page_durable c (filter (is_of_group number) c.pages)) {
+      pages = filter (λ p. not (is_of_group number p)) c.pages;
+      frontier = risen c;
+    }
+
+-- so many groups at most become durable, each only while it is wholly written and the first
 unfoldable pub settled_by : ℕ → Core → Core
 settled_by zero c = c
 settled_by (suc n) c =
-    elim (front_written c) as (λ p. Core) [
+    elim (front_written c) as (λ number. Core) [
       | None ↦ c
-      | Some p ↦ settled_by n (front_durable c p)
+      | Some number ↦ settled_by n (group_durable c number)
     ]
 
--- every group at the front whose page is written is durable
+-- every group at the front that is wholly written is durable
 abbrev pub settled : Core → Core
-settled c = settled_by (length c.groups) c
+settled c = settled_by (length c.pages) c
 
 -- The step under way
 
@@ -89,7 +111,7 @@ mark_over c = record c { step = None; mending = mending_behind c.mending }
 -- the repair is durable: its key reads from this place
 abbrev pub repair_over : Core → Key → Place → Core
 repair_over c k p =
-    noted (record c { step = None; frontier = c.frontier + 1 }) k (record { place = p; number = c.frontier + 1 })
+    noted (record c { step = None; frontier = risen c }) k (record { place = p; number = risen c })
 
 abbrev pub step_over : Core → Option Step → Place → Core
 step_over c None p = c

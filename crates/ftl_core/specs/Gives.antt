@@ -22,8 +22,8 @@ use Rattle.ftl_core.specs.declared.books.Step.TheVariants as step
 use Rattle.ftl_core.specs.declared.ftl.Ended.{Ended}
 use Rattle.ftl_core.specs.declared.ftl.Ended.TheVariants as ended
 use Rattle.ftl_core.specs.Core.{Core}
-use Rattle.ftl_core.specs.Moves.{erased, page_written, pin_of, went_bad, with_book}
-use Rattle.ftl_core.specs.Ends.{group_written, pending_at, settled, step_failed, step_written, with_content}
+use Rattle.ftl_core.specs.Moves.{erased, is_pin_of, page_written, pin_of, went_bad, with_book}
+use Rattle.ftl_core.specs.Ends.{pending_at, pending_written, settled, step_failed, step_written, with_content}
 
 -- Programs and erases
 
@@ -34,9 +34,10 @@ ending outcome.Failed = Some false
 ending _ = None
 
 -- a page whose program failed waits again by itself
-abbrev pub group_ended : Core → ℕ → Book → Place → ℕ → Bool → Core
-group_ended c die b place n true = settled (page_written (group_written c place (pending_at c n)) die b b.filling)
-group_ended c die b place n false = went_bad c die place.block
+abbrev pub group_ended : Core → ℕ → Book → Place → ℕ → ℕ → Bool → Core
+group_ended c die b place n i true =
+    settled (page_written (pending_written c place (pending_at c n i)) die b b.filling)
+group_ended c die b place n i false = went_bad c die place.block
 
 abbrev pub step_ended : Core → ℕ → Book → Place → Bool → Core
 step_ended c die b place true = step_written c die b place
@@ -49,7 +50,7 @@ erase_ended c die block false = went_bad c die block
 abbrev pub change_ended : Core → ℕ → Book → Flight → Bool → Core
 change_ended c die b (flight.Read place reader) well = c
 change_ended c die b (flight.Step place) well = step_ended c die b place well
-change_ended c die b (flight.Group place n) well = group_ended c die b place n well
+change_ended c die b (flight.Group place n i) well = group_ended c die b place n i well
 change_ended c die b (flight.Erase block) well = erase_ended c die block well
 
 abbrev pub change_after : Core → ℕ → Book → Flight → Option Bool → Core
@@ -66,9 +67,9 @@ is_read (outcome.Read page) = true
 is_read outcome.ReadFailed = true
 is_read _ = false
 
--- the reader's page is no longer to be read
-abbrev pub wanted_no_more : ℕ → Pin → Pin
-wanted_no_more reader p = record p { wanted = if p.reader == reader then false else p.wanted }
+-- the page of this block of the reader is no longer to be read
+abbrev pub wanted_no_more : ℕ → ℕ → Pin → Pin
+wanted_no_more reader index p = record p { wanted = if is_pin_of reader index p then false else p.wanted }
 
 -- What is given
 
@@ -97,7 +98,8 @@ IsGivenTo o (Some p) body = IsGiven o p body
 
 -- what the end of a read gives to its reader, if it has one still
 abbrev pub Gives : Core → Outcome → Reader → Ended → Type 0
-Gives c o (reader.Task tag) e = (body : Option (List ℕ)) × IsGivenTo o (pin_of c tag) body × (e ≡ ended.Read tag body)
+Gives c o (reader.Task tag index) e =
+    (body : Option (List ℕ)) × IsGivenTo o (pin_of c tag index) body × (e ≡ ended.Read tag body)
 Gives c o r e = e ≡ ended.Other
 
 abbrev pub GivesIf : Bool → Core → Outcome → Reader → Option Ended → Type 0
@@ -118,7 +120,7 @@ IsContentRead s _ body = body ≡ None
 
 -- what is kept once a read for this reader is over
 abbrev pub IsReadOver : Core → Outcome → Reader → Core → Type 0
-IsReadOver c o (reader.Task tag) new = new ≡ record c { pins = map (wanted_no_more tag) c.pins }
+IsReadOver c o (reader.Task tag index) new = new ≡ record c { pins = map (wanted_no_more tag index) c.pins }
 IsReadOver c o reader.Step new = (body : Option (List ℕ)) × IsContentRead c.step o body × (new ≡ with_content c body)
 IsReadOver c o reader.Nobody new = new ≡ c
 

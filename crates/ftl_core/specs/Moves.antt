@@ -1,10 +1,11 @@
 -- What the layer's steps make of what it keeps, as the code does it. Describes says what that means.
 use Rattle.ufs_spec.specs.declared.configs.Numbers.{Numbers}
 use Rattle.std.specs.Prelude.{ℕ, ◌+◌, ◌-◌, ◌*◌, ◌^◌, ◌==◌, min, nat_le, nat_lt, Bool, true, false, ◌&&◌, ◌||◌, not}
-use Rattle.std.specs.Prelude.{if◌then◌else◌, List, [], ◌∷◌, ◌++◌, length, map, position, replicate, reverse}
-use Rattle.std.specs.Prelude.{count_by, slice_get, slice_set, remove, Option, Some, None, unwrap_or, option_map}
-use Rattle.std.specs.Prelude.{option_and_then, is_none}
+use Rattle.std.specs.Prelude.{if◌then◌else◌, List, [], ◌++◌, length, map, position, replicate, reverse}
+use Rattle.std.specs.Prelude.{count_by, slice_get, slice_set, Option, Some, None, unwrap_or, option_map}
+use Rattle.std.specs.Prelude.{filter, find, option_and_then, is_none}
 use Rattle.std.specs.List.{list_any}
+use Rattle.ufs_spec.specs.Keys.{below}
 use Rattle.ufs_spec.specs.Plain.{shape_of_numbers, zero_block}
 use Rattle.ufs_spec.specs.declared.flash.Fence.{Fence}
 use Rattle.ufs_spec.specs.declared.flash.Key.{Key}
@@ -16,7 +17,8 @@ use Rattle.ftl_core.specs.declared.books.Book.{Book}
 use Rattle.ftl_core.specs.declared.books.Flight.{Flight}
 use Rattle.ftl_core.specs.declared.books.Flight.TheVariants as flight
 use Rattle.ftl_core.specs.declared.books.Stored.{Stored}
-use Rattle.ftl_core.specs.declared.books.Group.{Group}
+use Rattle.ftl_core.specs.declared.books.Claimed.{Claimed}
+use Rattle.ftl_core.specs.declared.books.Pending.{Pending}
 use Rattle.ftl_core.specs.declared.books.Looked.{Looked}
 use Rattle.ftl_core.specs.declared.books.Looked.TheVariants as looked
 use Rattle.ftl_core.specs.declared.books.Mending.{Mending}
@@ -83,9 +85,10 @@ opened n f = record {
   books = replicate n.dies idle_book;
   has_bad = list_any is_bad_found f.blocks.items;
   places = map (option_map stored_of_found) f.contents.items;
-  groups = [];
+  pages = [];
+  claims = [];
   frontier = min f.greatest_seen (2 ^ 62);
-  claimed = 0;
+  last = min f.greatest_seen (2 ^ 62);
   pins = [];
   mending = first_mending f;
   lost = f.lost.items;
@@ -103,7 +106,7 @@ is_over m = false
 -- Room
 
 abbrev pub free_slots : Core → ℕ
-free_slots c = c.numbers.slots - length c.groups - c.claimed
+free_slots c = c.numbers.slots - length c.pages - length c.claims
 
 -- how many groups of repairs are under way: one or none
 abbrev pub repairs_in : Option Step → ℕ
@@ -111,23 +114,15 @@ repairs_in (Some (step.Repair n key from there)) = 1
 repairs_in (Some (step.Mark n fence)) = 0
 repairs_in None = 0
 
--- the greatest number that was given
-abbrev pub last_number : Core → ℕ
-last_number c = c.frontier + length c.groups + repairs_in c.step
-
 -- the number of the next group
 abbrev pub next_number : Core → ℕ
-next_number c = last_number c + 1
+next_number c = c.last + 1
 
 abbrev pub has_number : Core → Bool
-has_number c = nat_lt (last_number c) (2 ^ 62)
+has_number c = nat_lt c.last (2 ^ 62)
 
 abbrev pub is_locked : Core → Bool
 is_locked c = c.has_bad || not (has_number c)
-
--- a slot is claimed and a number is left
-abbrev pub can_accept : Core → Bool
-can_accept c = nat_lt 0 c.claimed && has_number c
 
 -- Blocks and dies
 
@@ -164,13 +159,13 @@ is_erasable c die block = is_free (state_of c die block) && not (list_any (keeps
 
 -- What is owed to a die
 
-abbrev pub flight_reads : ℕ → Option Flight → Bool
-flight_reads tag (Some (flight.Read place (reader.Task other))) = tag == other
-flight_reads tag _ = false
+abbrev pub flight_reads : ℕ → ℕ → Option Flight → Bool
+flight_reads tag index (Some (flight.Read place (reader.Task other i))) = (tag == other) && (index == i)
+flight_reads tag index _ = false
 
--- the die reads for the reader
-abbrev pub reads_for : ℕ → Book → Bool
-reads_for reader b = flight_reads reader b.flight
+-- the die reads for this block of the reader
+abbrev pub reads_for : ℕ → ℕ → Book → Bool
+reads_for reader index b = flight_reads reader index b.flight
 
 abbrev pub looks_on : ℕ → Looked → Bool
 looks_on die (looked.Page s) = s.place.die == die
@@ -178,12 +173,12 @@ looks_on die _ = false
 
 -- the reader is owed the read of a page of this die: it wants it, and no die reads for it
 abbrev pub is_owed_by : List Book → ℕ → Pin → Bool
-is_owed_by books die p = p.wanted && looks_on die p.looked && not (list_any (reads_for p.reader) books)
+is_owed_by books die p = p.wanted && looks_on die p.looked && not (list_any (reads_for p.reader p.index) books)
 
 -- for a group alone a block is opened only where more than dies + 2 blocks are free
 abbrev pub may_open : Core → Waiting → Bool
 may_open c waiting.Step = true
-may_open c (waiting.Group n) = nat_lt (length c.books + 2) (free_blocks c)
+may_open c (waiting.Group n i) = nat_lt (length c.books + 2) (free_blocks c)
 
 -- the die has this job in flight, over the open block that it had
 abbrev pub started : Core → ℕ → Book → Flight → Core
@@ -193,18 +188,22 @@ started c die b f = with_book c die record { filling = b.filling; flight = Some 
 abbrev pub mark_key : Key
 mark_key = record { kind = 4; unit = 0; address = 0 }
 
--- the tag of a group of one page, or of a mark
-abbrev pub single_tag : Key → ℕ → ℕ → Tag
-single_tag k number frontier =
+-- the tag of a page of a group
+abbrev pub tag_of_page : Key → (number index size frontier : ℕ) → Tag
+tag_of_page k number index size frontier =
     record {
       kind = k.kind;
       unit = k.unit;
       address = k.address;
       number = number;
-      index = 0;
-      size = 1;
+      index = index;
+      size = size;
       frontier = frontier;
     }
+
+-- the tag of a group of one page, or of a mark
+abbrev pub single_tag : Key → ℕ → ℕ → Tag
+single_tag k number frontier = tag_of_page k number 0 1 frontier
 
 -- a mark with the next number and this fence waits, where a number is left
 abbrev pub mark_ordered : Core → Option Fence → Core
@@ -241,12 +240,16 @@ erased c die block =
 abbrev pub same_key : Key → Key → Bool
 same_key j k = (j.kind == k.kind) && (j.unit == k.unit) && (j.address == k.address)
 
-abbrev pub is_group_of : Key → Group → Bool
-is_group_of k g = same_key g.key k
+abbrev pub is_page_of : Key → Pending → Bool
+is_page_of k p = same_key p.key k
 
--- the position of the last pending group of the address
-abbrev pub last_of : Key → List Group → Option ℕ
-last_of k gs = option_map (λ behind. length gs - 1 - behind) (position (is_group_of k) (reverse gs))
+-- the position of the last page of a pending group that is of the address
+abbrev pub last_of : Key → List Pending → Option ℕ
+last_of k ps = option_map (λ behind. length ps - 1 - behind) (position (is_page_of k) (reverse ps))
+
+-- that page
+abbrev pub last_page : Key → List Pending → Option Pending
+last_page k ps = option_and_then (slice_get ps) (last_of k ps)
 
 -- the position of the key among those of the device
 abbrev pub position_of : Numbers → Key → Option ℕ
@@ -263,74 +266,148 @@ stored_in n places k = option_and_then (λ p. flat (slice_get places p)) (positi
 abbrev pub stored_of : Core → Key → Option Stored
 stored_of c k = stored_in c.numbers c.places k
 
-abbrev pub looked_at : Option ℕ → Option Stored → ℕ → Looked
-looked_at (Some i) s frontier = looked.Slot (frontier + i + 1)
-looked_at None (Some s) frontier = looked.Page s
-looked_at None None frontier = looked.Nothing
+abbrev pub looked_at : Option Pending → Option Stored → Looked
+looked_at (Some p) s = looked.Slot p.number p.index
+looked_at None (Some s) = looked.Page s
+looked_at None None = looked.Nothing
 
 -- what holds the content of the address after all pending groups
 abbrev pub look_of : Core → Key → Looked
-look_of c k = looked_at (last_of k c.groups) (stored_of c k) c.frontier
+look_of c k = looked_at (last_page k c.pages) (stored_of c k)
 
-abbrev pub is_pin_of : ℕ → Pin → Bool
-is_pin_of reader p = p.reader == reader
+-- the pin is of this block of the reader
+abbrev pub is_pin_of : ℕ → ℕ → Pin → Bool
+is_pin_of reader index p = (p.reader == reader) && (p.index == index)
 
--- what the reader keeps
-abbrev pub pin_of : Core → ℕ → Option Pin
-pin_of c reader = option_and_then (slice_get c.pins) (position (is_pin_of reader) c.pins)
+-- the pin is of the reader
+abbrev pub is_of_reader : ℕ → Pin → Bool
+is_of_reader reader p = p.reader == reader
+
+-- what is kept of this block of the reader
+abbrev pub pin_of : Core → ℕ → ℕ → Option Pin
+pin_of c reader index = find (is_pin_of reader index) c.pins
 
 -- what it looks at
-abbrev pub looked_by : ℕ → List Pin → Option Looked
-looked_by reader ps = option_map (λ (p : Pin). p.looked)
-    (option_and_then (slice_get ps) (position (is_pin_of reader) ps))
+abbrev pub looked_by : ℕ → ℕ → List Pin → Option Looked
+looked_by reader index ps = option_map (λ (p : Pin). p.looked) (find (is_pin_of reader index) ps)
 
-abbrev pub pins_without : List Pin → Option ℕ → List Pin
-pins_without ps None = ps
-pins_without ps (Some k) = remove ps k
+-- the address that lies so many behind this one, and the last there is where there are fewer
+abbrev pub key_at : Key → ℕ → Key
+key_at k i = record { kind = k.kind; unit = k.unit; address = min (k.address + i) 4294967295 }
+
+-- what is kept of one of the blocks of a reader: what its address has now. The first is wanted
+abbrev pub pin_now : Core → ℕ → Key → ℕ → Pin
+pin_now c reader k i =
+    record { reader = reader; index = i; key = key_at k i; looked = look_of c (key_at k i); wanted = i == 0 }
+
+-- each of so many blocks from an address on is kept
+abbrev pub kept_all : Core → ℕ → Key → ℕ → Core
+kept_all c reader k n = record c { pins = c.pins ++ map (pin_now c reader k) (below n) }
 
 -- a read in flight for a reader who let go is for nobody
 abbrev pub flight_without : ℕ → Option Flight → Option Flight
-flight_without tag (Some (flight.Read place (reader.Task other))) =
-    Some (flight.Read place (if other == tag then reader.Nobody else reader.Task other))
+flight_without tag (Some (flight.Read place (reader.Task other i))) =
+    Some (flight.Read place (if other == tag then reader.Nobody else reader.Task other i))
 flight_without tag f = f
 
 abbrev pub without_reader : ℕ → Book → Book
 without_reader reader b = record b { flight = flight_without reader b.flight }
 
+-- the same of one block of the reader alone
+abbrev pub flight_without_block : ℕ → ℕ → Option Flight → Option Flight
+flight_without_block tag index (Some (flight.Read place (reader.Task other i))) =
+    Some (flight.Read place (if (other == tag) && (i == index) then reader.Nobody else reader.Task other i))
+flight_without_block tag index f = f
+
+abbrev pub without_block : ℕ → ℕ → Book → Book
+without_block reader index b = record b { flight = flight_without_block reader index b.flight }
+
+-- the reader keeps nothing any more
 abbrev pub unpinned : Core → ℕ → Core
 unpinned c reader =
     record c {
       books = map (without_reader reader) c.books;
-      pins = pins_without c.pins (position (is_pin_of reader) c.pins);
+      pins = filter (λ p. not (is_of_reader reader p)) c.pins;
     }
 
--- who kept the slot of the group keeps its page from now on
-abbrev pub now_stored : Stored → Looked → Looked
-now_stored s (looked.Slot n) = if n == s.number then looked.Page s else looked.Slot n
-now_stored s (looked.Page t) = looked.Page t
-now_stored s looked.Nothing = looked.Nothing
+-- the page of this block of the reader is wanted from now on
+abbrev pub wanted_now : ℕ → ℕ → Pin → Pin
+wanted_now reader index p = record p { wanted = if is_pin_of reader index p then true else p.wanted }
 
-abbrev pub moved_pin : Stored → Pin → Pin
-moved_pin s p = record p { looked = now_stored s p.looked }
-
-abbrev pub with_pin : Core → Pin → Core
-with_pin c p = record c { pins = c.pins ++ p ∷ [] }
-
--- one group more, with the next number, in the place of a claimed slot
-abbrev pub accepted : Core → Key → List ℕ → Core
-accepted c k body =
+-- a block of the reader is kept no more, and the next one is wanted
+abbrev pub next_wanted : Core → ℕ → ℕ → Core
+next_wanted c reader index =
     record c {
-      claimed = c.claimed - 1;
-      groups = c.groups ++ record { key = k; written = None; body = body } ∷ [];
+      books = map (without_block reader index) c.books;
+      pins = map (wanted_now reader (index + 1)) (filter (λ p. not (is_pin_of reader index p)) c.pins);
     }
 
--- the block in the slot of this number, where the first of these groups is the one behind the frontier
-abbrev pub slot_in : List Group → ℕ → ℕ → Option (List ℕ)
-slot_in gs frontier n =
-    if nat_le n frontier then None else option_map (λ (g : Group). g.body) (slice_get gs (n - frontier - 1))
+-- who kept the slot of a page keeps its place from now on
+abbrev pub now_stored : ℕ → Stored → Looked → Looked
+now_stored index s (looked.Slot n i) =
+    if (n == s.number) && (i == index) then looked.Page s else looked.Slot n i
+now_stored index s (looked.Page t) = looked.Page t
+now_stored index s looked.Nothing = looked.Nothing
 
-abbrev pub slot_of : Core → ℕ → Option (List ℕ)
-slot_of c n = slot_in c.groups c.frontier n
+abbrev pub moved_pin : ℕ → Stored → Pin → Pin
+moved_pin index s p = record p { looked = now_stored index s p.looked }
+
+-- the block in the slot of the page with this number and index
+abbrev pub is_named : ℕ → ℕ → Pending → Bool
+is_named number index p = (p.number == number) && (p.index == index)
+
+abbrev pub slot_of : Core → ℕ → ℕ → Option (List ℕ)
+slot_of c number index = option_map (λ (p : Pending). p.body) (find (is_named number index) c.pages)
+
+-- Claims
+
+abbrev pub is_claim_of : ℕ → Claimed → Bool
+is_claim_of reader claim = claim.reader == reader
+
+-- the slots that the reader has claimed, in the order of its blocks
+abbrev pub claims_for : Core → ℕ → List Claimed
+claims_for c reader = filter (is_claim_of reader) c.claims
+
+abbrev pub empty_claim : ℕ → ℕ → Claimed
+empty_claim reader i = record { reader = reader; index = i; body = zero_block }
+
+-- a slot is claimed for each of so many blocks
+abbrev pub claimed_all : Core → ℕ → ℕ → Core
+claimed_all c reader n = record c { claims = c.claims ++ map (empty_claim reader) (below n) }
+
+-- the reader has claimed nothing any more
+abbrev pub released : Core → ℕ → Core
+released c reader = record c { claims = filter (λ claim. not (is_claim_of reader claim)) c.claims }
+
+-- what came for this block of the reader lies in its slot
+abbrev pub claim_filled : ℕ → ℕ → List ℕ → Claimed → Claimed
+claim_filled reader index body claim =
+    record claim { body = if (claim.reader == reader) && (claim.index == index) then body else claim.body }
+
+abbrev pub filled : Core → ℕ → ℕ → List ℕ → Core
+filled c reader index body = record c { claims = map (claim_filled reader index body) c.claims }
+
+-- the page of a group for which this slot was claimed, from an address on
+abbrev pub page_claimed : Key → (number size : ℕ) → Claimed → Pending
+page_claimed k number size claim =
+    record {
+      key = key_at k claim.index;
+      number = number;
+      index = claim.index;
+      size = size;
+      written = None;
+      body = claim.body;
+    }
+
+-- the pages of the group that takes the place of all that the reader claimed
+abbrev pub pages_claimed : Core → ℕ → Key → List Pending
+pages_claimed c reader k =
+    map (page_claimed k (next_number c) (length (claims_for c reader))) (claims_for c reader)
+
+-- one group more, with the next number, in the place of the slots that the reader claimed
+abbrev pub accepted : Core → ℕ → Key → Core
+accepted c reader k =
+    record (released c reader) { pages = c.pages ++ pages_claimed c reader k; last = next_number c }
 
 -- Steps
 
@@ -340,7 +417,12 @@ repair_step c k = step.Repair (next_number c) k (stored_of c k) (is_none (stored
 
 abbrev pub repair_ordered : Core → Key → Core
 repair_ordered c k =
-    record c { repaired = c.repaired + 1; content = zero_block; step = Some (repair_step c k) }
+    record c {
+      last = next_number c;
+      repaired = c.repaired + 1;
+      content = zero_block;
+      step = Some (repair_step c k);
+    }
 
 -- a mark is due where a number is left
 abbrev pub has_mark_number : Core → Bool

@@ -4,7 +4,6 @@ use Rattle.ftl_core.specs.declared.ftl.Ftl.TheInside.{Inside}
 use Rattle.ftl_core.specs.declared.books.Step.{Step}
 use Rattle.ftl_core.specs.declared.books.Step.TheVariants as step
 use Rattle.ftl_core.specs.Core.{Core}
-use Rattle.ftl_core.specs.Moves.{repairs_in}
 
 abbrev pub core_of : Inside → Core
 core_of f = record {
@@ -13,9 +12,10 @@ core_of f = record {
   books = f.books.items;
   has_bad = f.has_bad;
   places = f.places.items;
-  groups = f.groups.items;
+  pages = f.pages.items;
+  claims = f.claims.items;
   frontier = f.frontier;
-  claimed = f.claimed;
+  last = f.last;
   pins = f.pins.items;
   mending = f.mending;
   lost = f.lost.items;
@@ -34,14 +34,16 @@ IsStep None = Unit {0}
 IsStep (Some (step.Mark n fence)) = IsNumber n
 IsStep (Some (step.Repair n key from there)) = IsNumber n
 
--- each pending group and each claim has a slot, and no number goes above the last
+-- each page of a pending group and each claim has a slot, and no number goes above the last
 pub record IsRoomy (f : Inside) : Type 0 where
-  pub slots : length f.groups.items + f.claimed ≤ f.config.slots
-  pub room : f.config.slots ≤ vec_capacity f.groups
-  pub numbers : f.frontier + length f.groups.items + repairs_in f.step ≤ 2 ^ 62
+  pub slots : length f.pages.items + length f.claims.items ≤ f.config.slots
+  pub room : f.config.slots ≤ vec_capacity f.pages
+  pub claim_room : f.config.slots ≤ vec_capacity f.claims
+  pub frontier : f.frontier ≤ f.last
+  pub numbers : f.last ≤ 2 ^ 62
   pub first_mark : 1 ≤ f.next_mark
   pub last_mark : f.next_mark ≤ 2 ^ 62 + 1
   pub step : IsStep f.step
-  pub pins : length f.pins.items ≤ 32
-  pub pin_room : 32 ≤ vec_capacity f.pins
+  pub pins : length f.pins.items ≤ 1024
+  pub pin_room : 1024 ≤ vec_capacity f.pins
   pub units : length f.config.units.items ≤ 8

@@ -1,7 +1,8 @@
 -- Which job a die is given, and what its start makes of what the layer keeps, as the code does it. `IsTaken` of
 -- Describes says what that means.
-use Rattle.std.specs.Prelude.{ℕ, zero, suc, ◌+◌, ◌==◌, nat_le, Bool, true, false, ◌&&◌, ◌||◌, not, if◌then◌else◌}
-use Rattle.std.specs.Prelude.{is_none, length, position, slice_get, Option, Some, None, option_and_then, option_map}
+use Rattle.std.specs.Prelude.{ℕ, zero, suc, ◌==◌, ◌^◌, nat_le, nat_lt, Bool, true, false, ◌&&◌, ◌||◌, not}
+use Rattle.std.specs.Prelude.{if◌then◌else◌}
+use Rattle.std.specs.Prelude.{find, is_none, List, position, slice_get, Option, Some, None, option_and_then, option_map}
 use Rattle.std.specs.List.{list_any}
 use Rattle.ufs_spec.specs.Pages.{mark_bytes, seal_page}
 use Rattle.ufs_spec.specs.declared.flash.Job.{Job}
@@ -13,7 +14,7 @@ use Rattle.ftl_core.specs.declared.books.OpenBlock.{OpenBlock}
 use Rattle.ftl_core.specs.declared.books.Book.{Book}
 use Rattle.ftl_core.specs.declared.books.Flight.{Flight}
 use Rattle.ftl_core.specs.declared.books.Flight.TheVariants as flight
-use Rattle.ftl_core.specs.declared.books.Group.{Group}
+use Rattle.ftl_core.specs.declared.books.Pending.{Pending}
 use Rattle.ftl_core.specs.declared.books.Looked.{Looked}
 use Rattle.ftl_core.specs.declared.books.Looked.TheVariants as looked
 use Rattle.ftl_core.specs.declared.books.Pin.{Pin}
@@ -23,8 +24,8 @@ use Rattle.ftl_core.specs.declared.books.Step.TheVariants as step
 use Rattle.ftl_core.specs.declared.books.Waiting.{Waiting}
 use Rattle.ftl_core.specs.declared.books.Waiting.TheVariants as waiting
 use Rattle.ftl_core.specs.Core.{Core}
-use Rattle.ftl_core.specs.Ends.{pending_at}
-use Rattle.ftl_core.specs.Moves.{is_erasable, is_owed_by, mark_key, may_open, single_tag, started}
+use Rattle.ftl_core.specs.Moves.{is_erasable, is_named, is_owed_by, mark_key, may_open, single_tag, started}
+use Rattle.ftl_core.specs.Moves.{tag_of_page}
 
 -- The lowest number
 
@@ -41,13 +42,13 @@ lowest_below test (suc n) = found_or (lowest_below test n) (test n) n
 
 -- What waits
 
-abbrev pub flight_writes : ℕ → Option Flight → Bool
-flight_writes number (Some (flight.Group place other)) = number == other
-flight_writes number _ = false
+abbrev pub flight_writes : ℕ → ℕ → Option Flight → Bool
+flight_writes number index (Some (flight.Group place n i)) = (number == n) && (index == i)
+flight_writes number index _ = false
 
--- the die writes the page of the group with this number
-abbrev pub writes_group : ℕ → Book → Bool
-writes_group number b = flight_writes number b.flight
+-- the die writes the page of the group with this number that has this index
+abbrev pub writes_page : ℕ → ℕ → Book → Bool
+writes_page number index b = flight_writes number index b.flight
 
 abbrev pub is_step_flight : Option Flight → Bool
 is_step_flight (Some (flight.Step place)) = true
@@ -65,17 +66,16 @@ is_step_reading _ = false
 abbrev pub reads_step : Book → Bool
 reads_step b = is_step_reading b.flight
 
-abbrev pub group_waits : Core → ℕ → Option Group → Bool
-group_waits c number None = false
-group_waits c number (Some g) = is_none g.written && not (list_any (writes_group number) c.books)
+-- the page is neither written nor in flight
+abbrev pub page_waits : List Book → Pending → Bool
+page_waits books p = is_none p.written && not (list_any (writes_page p.number p.index) books)
 
--- the page of the pending group at this position is neither written nor in flight
-abbrev pub waits_at : Core → ℕ → Bool
-waits_at c k = group_waits c (c.frontier + k + 1) (slice_get c.groups k)
+-- the pending page that waits first
+abbrev pub page_waiting : Core → Option Pending
+page_waiting c = find (page_waits c.books) c.pages
 
--- the number of the group that waits first
-abbrev pub number_waiting : Core → Option ℕ
-number_waiting c = option_map (λ k. c.frontier + k + 1) (lowest_below (waits_at c) (length c.groups))
+abbrev pub waiting_page : Pending → Waiting
+waiting_page p = waiting.Group p.number p.index
 
 -- the page of the step under way can be programmed: its content is there
 abbrev pub is_step_there : Option Step → Bool
@@ -86,9 +86,9 @@ is_step_there (Some (step.Repair n k from there)) = there
 abbrev pub step_waits : Core → Bool
 step_waits c = is_step_there c.step && not (list_any writes_step c.books)
 
--- the page of a step goes before those of groups, and these in order of number
+-- the page of a step goes before those of groups, and these in order of number and index
 abbrev pub waiting_of : Core → Option Waiting
-waiting_of c = if step_waits c then Some waiting.Step else option_map waiting.Group (number_waiting c)
+waiting_of c = if step_waits c then Some waiting.Step else option_map waiting_page (page_waiting c)
 
 -- What is in flight then
 
@@ -97,7 +97,7 @@ next_place die o = record { die = die; block = o.block; page = o.next }
 
 abbrev pub page_flight : Place → Waiting → Flight
 page_flight place waiting.Step = flight.Step place
-page_flight place (waiting.Group n) = flight.Group place n
+page_flight place (waiting.Group n i) = flight.Group place n i
 
 -- the block of the die that is erased for what waits, where one may be opened for it
 abbrev pub block_for : Core → ℕ → Waiting → Option ℕ
@@ -114,7 +114,7 @@ place_in _ = None
 
 -- the read that the reader is owed
 abbrev pub read_of : Pin → Option Flight
-read_of p = option_map (λ place. flight.Read place (reader.Task p.reader)) (place_in p.looked)
+read_of p = option_map (λ place. flight.Read place (reader.Task p.reader p.index)) (place_in p.looked)
 
 -- the position of the first reader who is owed the read of a page of this die
 abbrev pub first_owed : Core → ℕ → Option ℕ
@@ -146,21 +146,28 @@ owed_flight c die filling (Some f) = Some f
 
 -- What the die is told
 
--- only data of a unit is programmed as a group
-abbrev pub is_data : Group → Bool
-is_data g = (g.key.kind == 1) && nat_le g.key.unit 7
+-- how many pages a group has at most
+abbrev pub most_pages : ℕ
+most_pages = 32
 
--- the page of the group that is pending at this position
-abbrev pub page_of_group : Core → Place → ℕ → Group → Job
-page_of_group c place k g = job.Program place (seal_page (single_tag g.key (c.frontier + k + 1) c.frontier) g.body)
+-- only data of a unit is programmed as a group, and only what its tag can name
+abbrev pub is_group_page : Pending → Bool
+is_group_page p =
+    (p.key.kind == 1) && nat_le p.key.unit 7 && nat_le 1 p.number && nat_le p.number (2 ^ 62) && nat_lt p.index p.size
+    && nat_le p.size most_pages
 
-abbrev pub group_job_at : Core → Place → ℕ → Option Group → Option Job
-group_job_at c place k None = None
-group_job_at c place k (Some g) = if is_data g then Some (page_of_group c place k g) else None
+-- the page of a pending group
+abbrev pub page_of_group : Core → Place → Pending → Job
+page_of_group c place p =
+    job.Program place (seal_page (tag_of_page p.key p.number p.index p.size c.frontier) p.body)
 
-abbrev pub group_job : Core → Place → Option ℕ → Option Job
-group_job c place None = None
-group_job c place (Some k) = group_job_at c place k (slice_get c.groups k)
+abbrev pub group_job_of : Core → Place → Option Pending → Option Job
+group_job_of c place None = None
+group_job_of c place (Some p) = if is_group_page p then Some (page_of_group c place p) else None
+
+-- the program of the page with this number and index, if it is pending
+abbrev pub group_job : Core → Place → ℕ → ℕ → Option Job
+group_job c place number index = group_job_of c place (find (is_named number index) c.pages)
 
 -- the page of a mark holds the configuration and its fence
 abbrev pub mark_program : Core → Place → ℕ → Option Fence → Job
@@ -190,7 +197,7 @@ step_job c place (Some (step.Repair n k from there)) = repair_job c place n k
 abbrev pub job_of : Core → ℕ → Flight → Option Job
 job_of c die (flight.Read place reader) = Some (job.Read place)
 job_of c die (flight.Step place) = step_job c place c.step
-job_of c die (flight.Group place n) = group_job c place (pending_at c n)
+job_of c die (flight.Group place n i) = group_job c place n i
 job_of c die (flight.Erase block) = Some (job.Erase die block)
 
 -- A die with a job in flight is given none

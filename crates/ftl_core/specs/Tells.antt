@@ -1,11 +1,15 @@
 -- What the calls of the layer tell of the layer that is specified.
-use Rattle.std.specs.Prelude.{◌≡◌, ℕ, ◌==◌, Bool, true, find, Option, Some, None}
+use Rattle.std.specs.Prelude.{◌≡◌, ℕ, ◌+◌, ◌==◌, Bool, true, false, List, [], ◌∷◌, find, map, Option, Some, None}
+use Rattle.std.specs.List.{list_any}
 use Rattle.ufs_spec.specs.Disk.{ForNobody, ForRest, ForStep, ForTask, Reader}
-use Rattle.ufs_spec.specs.Ledger.{Name, OnPage}
-use Rattle.ufs_spec.specs.Moves.{is_pin_of}
+use Rattle.ufs_spec.specs.Keys.{Group, below}
+use Rattle.ufs_spec.specs.Ledger.{Name, OnPage, look}
+use Rattle.ufs_spec.specs.Moves.{Keep, Move, is_pin_of}
 use Rattle.ufs_spec.specs.Translation as layer
 use Rattle.ufs_spec.specs.Translation.{Translation}
+use Rattle.ufs_spec.specs.declared.flash.Key.{Key}
 use Rattle.ufs_spec.specs.declared.flash.Place.{Place}
+use Rattle.ftl_core.specs.declared.books.Claimed.{Claimed}
 use Rattle.ftl_core.specs.declared.books.Looked.{Looked}
 use Rattle.ftl_core.specs.Describes.{IsLookedAt}
 
@@ -21,9 +25,8 @@ IsPinned kept other = ⊥
 
 -- the reader keeps the page there and waits for it
 pub record IsAwaited (t : Translation) (tag index : ℕ) (place : Place) : Type 0 where
-  pub first : index ≡ 0
   pub pin : layer.Pin
-  pub kept : find (is_pin_of tag 0) t.pins ≡ Some pin
+  pub kept : find (is_pin_of tag index) t.pins ≡ Some pin
   pub wanted : pin.wanted ≡ true
   pub name : Name
   pub looks : pin.looked ≡ OnPage name place
@@ -34,3 +37,41 @@ IsReadOf t place (ForTask tag index) = IsAwaited t tag index place
 IsReadOf t place ForStep = Unit {0}
 IsReadOf t place ForNobody = Unit {0}
 IsReadOf t place (ForRest number index) = ⊥
+
+-- no block of a reader is kept twice
+abbrev pub PinsDiffer : List layer.Pin → Type 0
+PinsDiffer [] = Unit {0}
+PinsDiffer (pin ∷ pins) = (list_any (is_pin_of pin.tag pin.index) pins ≡ false) × PinsDiffer pins
+
+-- the address that lies so many behind this one
+abbrev pub key_behind : Key → ℕ → Key
+key_behind k i = record { kind = k.kind; unit = k.unit; address = k.address + i }
+
+-- what is kept of each of so many blocks of a reader, from an address on: what its address has now. The first is wanted
+abbrev pub keep_at : Translation → ℕ → Key → ℕ → Move
+keep_at t reader k i =
+    Keep (key_behind k i)
+    (record { tag = reader; index = i; looked = look t.ledger (key_behind k i); wanted = i == 0 })
+
+abbrev pub keeps_of : Translation → ℕ → Key → ℕ → List Move
+keeps_of t reader k n = map (keep_at t reader k) (below n)
+
+-- the items of a group of these blocks, from an address on
+abbrev pub items_behind : Key → ℕ → List (List ℕ) → Group
+items_behind k i [] = []
+items_behind k i (body ∷ bodies) = record { key = key_behind k i; body = body } ∷ items_behind k (i + 1) bodies
+
+abbrev pub group_of_blocks : Key → List (List ℕ) → Group
+group_of_blocks k bodies = items_behind k 0 bodies
+
+-- what lies in the slots that the reader has claimed
+abbrev pub claim_at : ℕ → ℕ → List ℕ → Claimed
+claim_at reader i body = record { reader = reader; index = i; body = body }
+
+abbrev pub claims_behind : ℕ → ℕ → List (List ℕ) → List Claimed
+claims_behind reader i [] = []
+claims_behind reader i (body ∷ bodies) = claim_at reader i body ∷ claims_behind reader (i + 1) bodies
+
+-- these blocks lie in the slots that a reader has claimed, each in that of its index
+abbrev pub claims_of_blocks : ℕ → List (List ℕ) → List Claimed
+claims_of_blocks reader bodies = claims_behind reader 0 bodies

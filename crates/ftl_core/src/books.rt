@@ -18,23 +18,34 @@ pub struct OpenBlock {
     pub next: u16,
 }
 
-/// For whom a page is read: for the reader who waits for it, or for nobody, once that one let go; or for
-/// the step under way.
+/// For whom a page is read: for the block of this index of a reader who waits for it, or for nobody, once
+/// that one let go; or for the step under way.
 #[derive(Clone, Copy, Debug, PartialEq, Eq)]
 pub enum Reader {
-    Task(u8),
+    Task { tag: u8, index: u16 },
     Step,
     Nobody,
 }
 
-/// The job in flight on a die: a read; the program of the page of the step under way, or of the pending
-/// group of this number; or an erase.
+/// The job in flight on a die: a read; the program of the page of the step under way, or of the page of
+/// this index in the pending group of this number; or an erase.
 #[derive(Clone, Copy, Debug, PartialEq, Eq)]
 pub enum Flight {
-    Read { place: Place, reader: Reader },
-    Step { place: Place },
-    Group { place: Place, number: u64 },
-    Erase { block: u16 },
+    Read {
+        place: Place,
+        reader: Reader,
+    },
+    Step {
+        place: Place,
+    },
+    Group {
+        place: Place,
+        number: u64,
+        index: u16,
+    },
+    Erase {
+        block: u16,
+    },
 }
 
 /// What is known of a die. An open block always has room.
@@ -51,28 +62,43 @@ pub struct Stored {
     pub number: u64,
 }
 
-/// A pending group: one page, and where this is written, once it is. Its number follows from its position.
+/// A page of a pending group: the group's number and how many pages it has, which of them this is, and
+/// where it is written, once it is.
 #[derive(Clone, Copy)]
-pub struct Group {
+pub struct Pending {
     pub key: Key,
+    pub number: u64,
+    pub index: u16,
+    pub size: u16,
     pub written: Option<Place>,
     pub body: Block,
 }
 
-/// What holds the content of an address: nothing (it reads as zeros), the slot of the pending group
-/// of this number, or a page.
+/// A slot that is claimed for the block of this index of a reader who gathers blocks for a group to come,
+/// and what came for it: zeros until it does.
+#[derive(Clone, Copy)]
+pub struct Claimed {
+    pub reader: u8,
+    pub index: u16,
+    pub body: Block,
+}
+
+/// What holds the content of an address: nothing (it reads as zeros), the slot of the page of this index
+/// in the pending group of this number, or a page of a die.
 #[derive(Clone, Copy, Debug, Default, PartialEq, Eq)]
 pub enum Looked {
     #[default]
     Nothing,
-    Slot(u64),
+    Slot { number: u64, index: u16 },
     Page(Stored),
 }
 
-/// What a reader keeps from being erased or given up, and whether its page is still to be read.
+/// What a reader keeps of its block of this index from being erased or given up, and whether its page is
+/// still to be read.
 #[derive(Clone, Copy, Debug, Default, PartialEq, Eq)]
 pub struct Pin {
     pub reader: u8,
+    pub index: u16,
     pub key: Key,
     pub looked: Looked,
     pub wanted: bool,
@@ -108,10 +134,10 @@ pub enum Step {
     },
 }
 
-/// What waits to be programmed: the page of the step under way, or that of the pending group with this
-/// number.
+/// What waits to be programmed: the page of the step under way, or that of this index in the pending group
+/// of this number.
 #[derive(Clone, Copy, Debug, PartialEq, Eq)]
 pub enum Waiting {
     Step,
-    Group(u64),
+    Group { number: u64, index: u16 },
 }

@@ -1,30 +1,32 @@
 //! The translation layer and its calls.
-ghost use Rattle.std.specs.Prelude.{◌≡◌, ℕ, ◌<◌, ◌≤◌, ◌+◌, ◌^◌, length, IsTrue, vec_capacity, ◌↔◌, IfOk, IsSome, IfSome, vec_len, nat_lt, ◌-◌, ◌&&◌, ◌++◌, ◌∷◌, [], if◌then◌else◌, sum_by, slice_get, map, None, true, option_copied, position, replicate, reverse, Bool, false, find, option_map};
+ghost use Rattle.std.specs.Prelude.{◌≡◌, ℕ, ◌<◌, ◌≤◌, ◌+◌, ◌^◌, length, IsTrue, vec_capacity, IfOk, IsSome, IfSome, nat_le, nat_lt, ◌-◌, ◌++◌, ◌∷◌, [], if◌then◌else◌, slice_get, map, filter, not, None, true, option_copied, position, replicate, reverse, Bool, false, find, option_map, fold, List};
 ghost use Rattle.std.specs.List.{list_any};
-ghost use Rattle.ftl_core.specs.Moves.{accepted, can_accept, first_fence, first_mending, idle_book, is_bad_found};
-ghost use Rattle.ftl_core.specs.Moves.{is_over, last_number, mark_number_behind, opened, repairs_in, state_of_found};
-ghost use Rattle.ftl_core.specs.Moves.{stored_of_found, slot_of, is_group_of, is_pin_of, looked_by, pin_of, slot_in, unpinned, look_of, last_of, position_of, stored_of, with_pin, free_slots, is_locked, has_number, next_number, flight_without, without_reader, pins_without};
-ghost use Rattle.ufs_spec.specs.Keys.{IsKey};
-ghost use Rattle.ufs_spec.specs.Ledger.{look, next_number as next_of_layer, Entry, before_accepted, entry_of};
-ghost use Rattle.ufs_spec.specs.Moves.{Accept, Acknowledge, Claim, IsAllowedMove, Keep, LetGo, LetGoAll, Release, WantPage, moved, is_pin_of as is_layer_pin_of};
+ghost use Rattle.ftl_core.specs.Moves.{accepted, first_fence, first_mending, idle_book, is_bad_found};
+ghost use Rattle.ftl_core.specs.Moves.{is_over, mark_number_behind, opened, state_of_found};
+ghost use Rattle.ftl_core.specs.Moves.{stored_of_found, slot_of, is_page_of, is_pin_of, is_of_reader, looked_by, pin_of, pin_now, key_at, kept_all, next_wanted, unpinned, look_of, last_of, last_page, position_of, stored_of, free_slots, is_locked, has_number, next_number, without_reader, without_block, flight_without, flight_without_block, wanted_now, is_named};
+ghost use Rattle.ftl_core.specs.Moves.{is_claim_of, claims_for, claimed_all, empty_claim, released, claim_filled, filled, page_claimed};
+ghost use Rattle.ufs_spec.specs.Configs.{InRange};
+ghost use Rattle.ufs_spec.specs.Keys.{IsKey, below};
+ghost use Rattle.ufs_spec.specs.Ledger.{next_number as next_of_layer, Entry, before_accepted, entry_of};
+ghost use Rattle.ufs_spec.specs.Moves.{Accept, Acknowledge, Claim, IsAllowedMove, LetGo, LetGoAll, Release, WantPage, moved, is_pin_of as is_layer_pin_of};
 ghost use Rattle.ufs_spec.specs.Plain.{shape_of_numbers, zero_block};
-ghost use Rattle.ufs_spec.specs.Translation.{Translation, free_slots as layer_slots, is_locked as is_layer_locked, is_mended, has_number as has_layer_number, has_pending};
+ghost use Rattle.ufs_spec.specs.Translation.{Translation, free_slots as layer_slots, is_locked as is_layer_locked, is_mended, has_pending};
 ghost use Rattle.ufs_spec.specs.Cells.{AreWithin, Cells};
 ghost use Rattle.ufs_spec.specs.Sound.{CellsSound};
 ghost use Rattle.power_loss.specs.Book.{CellsRight};
-ghost use Rattle.power_loss.specs.Exchange.{TagsDiffer};
-ghost use Rattle.ufs_spec.specs.Translation.{Pin as LayerPin};
 ghost use Rattle.recovery.specs.Found.{IsFound};
 ghost use Rattle.ufs_spec.specs.Disk.{Spot};
 ghost use Rattle.ufs_spec.specs.Openings.{IsOpenedTranslation};
-ghost use Rattle.ftl_core.specs.Describes.{Describes, IsLookedAt, name_at};
+ghost use Rattle.ftl_core.specs.Describes.{Describes, name_at};
 ghost use Rattle.ftl_core.specs.Stops.{StopsRight};
-ghost use Rattle.ftl_core.specs.Tells.{IsPinned, keeps_for};
+ghost use Rattle.ftl_core.specs.Tells.{IsPinned, PinsDiffer, claims_of_blocks, group_of_blocks, keeps_for, keeps_of, key_behind};
 
 mod ends;
 mod takes;
 
-use crate::books::{BlockState, Book, Flight, Group, Looked, Mending, Pin, Reader, Step, Stored};
+use crate::books::{
+    BlockState, Book, Claimed, Flight, Looked, Mending, Pending, Pin, Reader, Step, Stored,
+};
 use recovery::{Found, FoundBlock, FoundPage, key_index};
 use std::alloc::{AllocError, Global};
 use std::marker::Model;
@@ -33,11 +35,11 @@ use ufs_spec::{Block, Config, Fence, Key, UnitSpec};
 /// No group and no mark has a greater number.
 const LAST_NUMBER: u64 = 0x4000_0000_0000_0000;
 
-/// How many readers may keep what they looked up.
-const MOST_PINS: usize = 32;
+/// How many blocks readers may keep: each of 32 tasks those of a command.
+const MOST_PINS: usize = 1024;
 
-/// How a job ended, for whoever waits for it: a read gives its reader the block, or nothing where it
-/// failed or the page is not the one that was looked up.
+/// How a job ended, for whoever waits for it: a read gives its reader the block that it wants next, or
+/// nothing where it failed or the page is not the one that was looked up.
 #[derive(Drop)]
 pub enum Ended {
     Read { reader: u8, body: Option<Block> },
@@ -57,13 +59,15 @@ pub struct Ftl {
     has_bad: bool,
     /// Where the durable content of each key stands, in the order of keys.
     places: Vec<Option<Stored>>,
-    /// The pending groups, in order of number: the first has the number `frontier + 1`.
-    groups: Vec<Group>,
-    /// Every group up to this number is durable or lost; no number is above 2^62.
+    /// The pages of pending groups, in order of number and index. With the claims they are at most `slots`.
+    pages: Vec<Pending>,
+    /// The slots that are claimed for groups to come, those of a reader in the order of its blocks.
+    claims: Vec<Claimed>,
+    /// Every group up to this number is durable or lost. It is at most `last`.
     frontier: u64,
-    /// How many slots are claimed for groups to come; with the pending groups they are at most `slots`.
-    claimed: usize,
-    /// What readers keep: one pin a reader, at most 32, with room for all of them.
+    /// The greatest number that was given. It is at most 2^62.
+    last: u64,
+    /// What readers keep, each block of a reader once: at most 1024, with room for all of them.
     pins: Vec<Pin>,
     /// How far the mending is.
     mending: Mending,
@@ -91,80 +95,137 @@ impl Model for Ftl {
     ghost invariant = { IsRoomy };
 }
 
-/// The position of the last pending group of the address.
-fn last_of(groups: &[Group], key: Key) -> Option<usize>
-    ensures { result ≡ last_of key groups.now }
+/// The position of the last page of a pending group that is of the address.
+fn last_of(pages: &[Pending], key: Key) -> Option<usize>
+    ensures what { result ≡ last_of key pages.now }
+    ensures less { IfSome result (λ k. k < length pages.now) }
 {
-    match groups_behind(groups, key) {
-        Some(behind) => Some(groups.len() - 1 - behind),
+    match pages_behind(pages, key) {
+        Some(behind) => Some(pages.len() - 1 - behind),
         None => None,
     }
 }
 
-/// How many pending groups stand behind the last one of the address.
-fn groups_behind(groups: &[Group], key: Key) -> Option<usize>
-    ensures what { result ≡ position (is_group_of key) (reverse groups.now) }
-    ensures less { IfSome result (λ k. k < length groups.now) }
+/// How many pages of pending groups are behind the last one of the address.
+fn pages_behind(pages: &[Pending], key: Key) -> Option<usize>
+    ensures what { result ≡ position (is_page_of key) (reverse pages.now) }
+    ensures less { IfSome result (λ k. k < length pages.now) }
 {
-    groups
-        .iter()
-        .rev()
-        .position(|group| is_group_of(group, key))
+    pages.iter().rev().position(|page| is_page_of(page, key))
 }
 
-/// Whether the group is of this address.
-fn is_group_of(group: &Group, key: Key) -> bool
-    ensures { result ≡ is_group_of key group.now }
+/// Whether the page is of this address.
+fn is_page_of(page: &Pending, key: Key) -> bool
+    ensures { result ≡ is_page_of key page.now }
 {
-    group.key.kind == key.kind && group.key.unit == key.unit && group.key.address == key.address
+    page.key.kind == key.kind && page.key.unit == key.unit && page.key.address == key.address
 }
 
-/// Whether the pin is this reader's.
-fn is_pin_of(pin: &Pin, reader: u8) -> bool
-    ensures { result ≡ is_pin_of reader pin.now }
+/// The last page of a pending group that is of the address.
+fn last_page(pages: &[Pending], key: Key) -> Option<&Pending>
+    ensures { option_copied result ≡ last_page key pages.now }
+{
+    let index = last_of(pages, key)?;
+    Some(&pages[index])
+}
+
+/// Whether the pin is of this block of the reader.
+fn is_pin_of(pin: &Pin, reader: u8, index: u16) -> bool
+    ensures { result ≡ is_pin_of reader index pin.now }
+{
+    pin.reader == reader && pin.index == index
+}
+
+/// Whether the pin is of the reader.
+fn is_of_reader(pin: &Pin, reader: u8) -> bool
+    ensures { result ≡ is_of_reader reader pin.now }
 {
     pin.reader == reader
 }
 
-/// The position of the reader's pin.
-fn pin_at(pins: &[Pin], reader: u8) -> Option<usize>
-    ensures what { result ≡ position (is_pin_of reader) pins.now }
-    ensures less { IfSome result (λ k. k < length pins.now) }
-{
-    pins.iter().position(|pin| is_pin_of(pin, reader))
-}
-
-/// The reader's pin is gone, if it has one.
-fn drop_pin(pins: &mut Vec<Pin>, reader: u8)
-    ensures left { pins.new.items ≡ pins_without pins.old.items (position (is_pin_of reader) pins.old.items) }
+/// The reader keeps nothing any more.
+fn drop_pins(pins: &mut Vec<Pin>, reader: u8)
+    ensures left { pins.new.items ≡ filter (λ p. not (is_of_reader reader p)) pins.old.items }
     ensures room { vec_capacity pins.new ≡ vec_capacity pins.old }
     ensures fewer { length pins.new.items ≤ length pins.old.items }
 {
-    if let Some(index) = pin_at(pins.as_slice(), reader) {
-        pins.remove(index);
+    pins.retain(|pin| !is_of_reader(pin, reader));
+}
+
+/// This block of the reader is kept no more.
+fn drop_pin(pins: &mut Vec<Pin>, reader: u8, index: u16)
+    ensures left { pins.new.items ≡ filter (λ p. not (is_pin_of reader index p)) pins.old.items }
+    ensures room { vec_capacity pins.new ≡ vec_capacity pins.old }
+    ensures fewer { length pins.new.items ≤ length pins.old.items }
+{
+    pins.retain(|pin| !is_pin_of(pin, reader, index));
+}
+
+/// What is kept of a block, once the page of this block of the reader is wanted.
+fn wanted_now(pin: Pin, reader: u8, index: usize) -> Pin
+    ensures { result ≡ wanted_now reader index pin }
+{
+    let mut now = pin;
+    if pin.reader == reader && pin.index as usize == index {
+        now.wanted = true;
+    }
+    now
+}
+
+/// The page of this block of the reader is wanted from now on.
+fn want(pins: &mut [Pin], reader: u8, index: usize)
+    ensures { pins.new ≡ map (wanted_now reader index) pins.old }
+{
+    for pin in pins.iter_mut() {
+        *pin = wanted_now(*pin, reader, index);
     }
 }
 
-/// What the reader keeps; `None` where it keeps nothing.
-fn looked_by(pins: &[Pin], reader: u8) -> Option<Looked>
-    ensures { result ≡ looked_by reader pins.now }
+/// The pin of this block of the reader; `None` where there is none.
+fn pin_found(pins: &[Pin], reader: u8, index: u16) -> Option<&Pin>
+    ensures { option_copied result ≡ find (is_pin_of reader index) pins.now }
 {
-    let index = pin_at(pins, reader)?;
-    Some(pins[index].looked)
+    pins.iter().find(|pin| is_pin_of(pin, reader, index))
 }
 
-/// The block in the slot of this number, where the first of these groups is the one behind the frontier.
-fn slot_in(groups: &[Group], frontier: u64, number: u64) -> Option<&Block>
-    ensures { option_copied result ≡ slot_in groups.now frontier number }
+/// What is kept of this block of the reader; `None` where nothing is.
+fn found_pin(pins: &[Pin], reader: u8, index: u16) -> Option<Pin>
+    ensures { result ≡ find (is_pin_of reader index) pins.now }
 {
-    if number <= frontier {
-        return None;
+    pin_found(pins, reader, index).copied()
+}
+
+/// What is looked at for this block of the reader; `None` where nothing is kept.
+fn looked_by(pins: &[Pin], reader: u8, index: u16) -> Option<Looked>
+    ensures { result ≡ looked_by reader index pins.now }
+{
+    let pin = found_pin(pins, reader, index)?;
+    Some(pin.looked)
+}
+
+/// Whether the page has this number and index.
+fn is_named(page: &Pending, number: u64, index: u16) -> bool
+    ensures { result ≡ is_named number index page.now }
+{
+    page.number == number && page.index == index
+}
+
+/// The page of a pending group with this number and index.
+fn page_named(pages: &[Pending], number: u64, index: u16) -> Option<&Pending>
+    ensures { option_copied result ≡ find (is_named number index) pages.now }
+{
+    pages.iter().find(|page| is_named(page, number, index))
+}
+
+/// The address that lies so many behind this one, and the last there is where there are fewer.
+fn key_at(key: Key, index: u16) -> Key
+    ensures { result ≡ key_at key index }
+{
+    Key {
+        kind: key.kind,
+        unit: key.unit,
+        address: key.address.saturating_add(index as u32),
     }
-    let index = (number - frontier - 1) as usize;
-    if index >= groups.len() {
-        return None;
-    }
-    Some(&groups[index].body)
 }
 
 /// The job in flight, which is for nobody if it is a read for this reader.
@@ -175,10 +236,34 @@ fn flight_without(flight: Option<Flight>, reader: u8) -> Option<Flight>
         Some(
             Flight::Read {
                 place,
-                reader: Reader::Task(other),
+                reader: Reader::Task { tag, index: _ },
             },
         ) => {
-            if other == reader {
+            if tag == reader {
+                Some(Flight::Read {
+                    place,
+                    reader: Reader::Nobody,
+                })
+            } else {
+                flight
+            }
+        }
+        _ => flight,
+    }
+}
+
+/// The job in flight, which is for nobody if it is a read for this block of the reader.
+fn flight_without_block(flight: Option<Flight>, reader: u8, block: u16) -> Option<Flight>
+    ensures { result ≡ flight_without_block reader block flight }
+{
+    match flight {
+        Some(
+            Flight::Read {
+                place,
+                reader: Reader::Task { tag, index },
+            },
+        ) => {
+            if tag == reader && index == block {
                 Some(Flight::Read {
                     place,
                     reader: Reader::Nobody,
@@ -201,12 +286,138 @@ fn without_reader(book: Book, reader: u8) -> Book
     }
 }
 
+/// What is known of a die once the reader let go of this block.
+fn without_block(book: Book, reader: u8, index: u16) -> Book
+    ensures { result ≡ without_block reader index book }
+{
+    Book {
+        filling: book.filling,
+        flight: flight_without_block(book.flight, reader, index),
+    }
+}
+
 /// The reads in flight for this reader are for nobody from now on.
 fn forget_reader(books: &mut [Book], reader: u8)
     ensures { books.new ≡ map (without_reader reader) books.old }
 {
     for book in books.iter_mut() {
         *book = without_reader(*book, reader);
+    }
+}
+
+/// The reads in flight for this block of the reader are for nobody from now on.
+fn forget_block(books: &mut [Book], reader: u8, index: u16)
+    ensures { books.new ≡ map (without_block reader index) books.old }
+{
+    for book in books.iter_mut() {
+        *book = without_block(*book, reader, index);
+    }
+}
+
+/// Whether the slot is claimed by the reader.
+fn is_claim_of(claim: &Claimed, reader: u8) -> bool
+    ensures { result ≡ is_claim_of reader claim.now }
+{
+    claim.reader == reader
+}
+
+/// A slot that is claimed for this block of the reader, before it came.
+fn empty_claim(reader: u8, index: u16) -> Claimed
+    ensures { result ≡ empty_claim reader index }
+{
+    Claimed {
+        reader,
+        index,
+        body: zeros(),
+    }
+}
+
+/// A slot is claimed for each of so many blocks of the reader.
+fn push_claims(claims: &mut Vec<Claimed>, reader: u8, blocks: u16)
+    requires { length claims.old.items + blocks ≤ vec_capacity claims.old }
+    ensures more { claims.new.items ≡ claims.old.items ++ map (empty_claim reader) (below blocks) }
+    ensures long { length claims.new.items ≡ length claims.old.items + blocks }
+    ensures room { vec_capacity claims.new ≡ vec_capacity claims.old }
+{
+    for index in 0..blocks {
+        claims.push_reserved(empty_claim(reader, index));
+    }
+}
+
+/// The reader has claimed nothing any more.
+fn drop_claims(claims: &mut Vec<Claimed>, reader: u8)
+    ensures left { claims.new.items ≡ filter (λ claim. not (is_claim_of reader claim)) claims.old.items }
+    ensures dropped { length claims.new.items + length (filter (is_claim_of reader) claims.old.items) ≡
+        length claims.old.items }
+    ensures room { vec_capacity claims.new ≡ vec_capacity claims.old }
+    ensures fewer { length claims.new.items ≤ length claims.old.items }
+{
+    claims.retain(|claim| !is_claim_of(claim, reader));
+}
+
+/// How many slots the reader has claimed.
+fn count_claims(claims: &[Claimed], reader: u8) -> usize
+    ensures what { result ≡ length (filter (is_claim_of reader) claims.now) }
+    ensures fewer { result ≤ length claims.now }
+{
+    claims
+        .iter()
+        .filter(|claim| is_claim_of(claim, reader))
+        .count()
+}
+
+/// What came lies in the slot, if this is claimed for the block of this index of the reader.
+fn fill_claim(claim: &mut Claimed, reader: u8, index: u16, body: &Block)
+    ensures { claim.new ≡ claim_filled reader index body.now claim.old }
+{
+    if claim.reader == reader && claim.index == index {
+        claim.body = *body;
+    }
+}
+
+/// What came for this block of the reader lies in its slot.
+fn fill_claims(claims: &mut [Claimed], reader: u8, index: u16, body: &Block)
+    ensures { claims.new ≡ map (claim_filled reader index body.now) claims.old }
+{
+    for claim in claims.iter_mut() {
+        fill_claim(claim, reader, index, body);
+    }
+}
+
+/// The page of a group for which the slot was claimed, from an address on.
+fn page_claimed(claim: &Claimed, key: Key, number: u64, size: u16) -> Pending
+    ensures { result ≡ page_claimed key number size claim.now }
+{
+    Pending {
+        key: key_at(key, claim.index),
+        number,
+        index: claim.index,
+        size,
+        written: None,
+        body: claim.body,
+    }
+}
+
+/// The pages of the group that takes the place of all that the reader claimed wait from now on.
+fn push_pages(
+    pages: &mut Vec<Pending>,
+    claims: &[Claimed],
+    reader: u8,
+    key: Key,
+    number: u64,
+    size: u16,
+)
+    requires { length pages.old.items + length claims.now ≤ vec_capacity pages.old }
+    ensures more { pages.new.items ≡
+        pages.old.items ++ map (page_claimed key number size) (filter (is_claim_of reader) claims.now) }
+    ensures long { length pages.new.items ≡
+        length pages.old.items + length (filter (is_claim_of reader) claims.now) }
+    ensures room { vec_capacity pages.new ≡ vec_capacity pages.old }
+{
+    for claim in claims.iter() {
+        if is_claim_of(claim, reader) {
+            pages.push_reserved(page_claimed(claim, key, number, size));
+        }
     }
 }
 
@@ -334,16 +545,6 @@ fn zeros() -> Block
     [0; 4096]
 }
 
-/// How many groups of repairs are under way: one or none.
-fn repairs_in(step: &Option<Step>) -> u64
-    ensures { result ≡ repairs_in step.now }
-{
-    match step {
-        Some(Step::Repair { .. }) => 1,
-        _ => 0,
-    }
-}
-
 impl Ftl {
     /// The layer over the dies of which a scan found this.
     pub fn new(alloc: Global, config: Config, found: Found) -> Result<Ftl, AllocError>
@@ -365,15 +566,17 @@ impl Ftl {
         let places = places_of(alloc, found.contents.as_slice())?;
         let mending = first_mending(&found);
         let next_mark = mark_number_behind(&found);
+        let last = found.greatest_seen.min(LAST_NUMBER);
         Ok(Ftl {
             config,
             states,
             books: idle_books(alloc, dies)?,
             has_bad,
             places,
-            groups: Vec::with_capacity(alloc, slots)?,
-            frontier: found.greatest_seen.min(LAST_NUMBER),
-            claimed: 0,
+            pages: Vec::with_capacity(alloc, slots)?,
+            claims: Vec::with_capacity(alloc, slots)?,
+            frontier: last,
+            last,
             pins: Vec::with_capacity(alloc, MOST_PINS)?,
             mending,
             lost: found.lost,
@@ -403,17 +606,17 @@ impl Ftl {
         ensures core { result ≡ is_locked self.now }
         ensures described { (t : Translation) → Describes self.now t → result ≡ is_layer_locked t }
     {
-        self.has_bad || self.last_number() >= LAST_NUMBER
+        self.has_bad || self.last >= LAST_NUMBER
     }
 
     /// The greatest number that was given: every pending group has one, and so has the repair under way.
     /// What waits for it waits for all that was accepted.
     #[tactic(auto, using(crate::proofs::look_and_accept::Numbers::numbers_right))]
     pub fn last_number(&self) -> u64
-        ensures core { result ≡ last_number self.now }
+        ensures core { result ≡ self.now.last }
         ensures described { (t : Translation) → Describes self.now t → result + 1 ≡ next_of_layer t.ledger }
     {
-        self.frontier + self.groups.len() as u64 + repairs_in(&self.step)
+        self.last
     }
 
     /// The number at or under which every group is durable.
@@ -427,10 +630,10 @@ impl Ftl {
     /// Whether something was accepted and is not durable.
     #[tactic(auto, using(crate::proofs::small_calls::SmallCalls::pending_right))]
     pub fn has_pending(&self) -> bool
-        ensures core { result ≡ nat_lt 0 (length self.now.groups) }
+        ensures core { result ≡ nat_lt 0 (length self.now.pages) }
         ensures described { (t : Translation) → Describes self.now t → result ≡ has_pending t }
     {
-        !self.groups.is_empty()
+        !self.pages.is_empty()
     }
 
     /// How many slots neither a pending group nor a claim holds.
@@ -439,11 +642,11 @@ impl Ftl {
         ensures core { result ≡ free_slots self.now }
         ensures described { (t : Translation) → Describes self.now t → result ≡ layer_slots t }
     {
-        self.config.numbers().slots as usize - self.groups.len() - self.claimed
+        self.config.numbers().slots as usize - self.pages.len() - self.claims.len()
     }
 
     /// The unit; `None` where there is no such unit.
-    #[tactic(auto, using(crate::proofs::small_calls::CallsDescribed::units_right))]
+    #[tactic(auto, using(crate::proofs::small_calls::SmallCalls::units_right))]
     pub fn unit(&self, unit: u8) -> Option<UnitSpec>
         ensures core { result ≡ slice_get self.now.numbers.units.items unit }
         ensures described { (t : Translation) → Describes self.now t →
@@ -458,41 +661,58 @@ impl Ftl {
         }
     }
 
-    /// Claims one slot for a group to come, where one is free.
-    #[tactic(auto, using(crate::proofs::small_calls::CallsDescribed::room_right, crate::proofs::small_calls::CallsDescribed::claims_described))]
-    pub fn reserve(&mut self) -> bool
-        ensures found { result ≡ nat_lt 0 (free_slots self.old) }
-        ensures after { self.new ≡ (if result then record self.old { claimed = self.old.claimed + 1 } else self.old) }
-        ensures described_found { (t : Translation) → Describes self.old t → result ≡ nat_lt 0 (layer_slots t) }
+    /// Claims a slot for each of so many blocks of this reader, where as many are free; else nothing.
+    pub fn reserve(&mut self, reader: u8, blocks: u16) -> bool
+        ensures found { result ≡ nat_le blocks (free_slots self.old) }
+        ensures after { self.new ≡ (if result then claimed_all self.old reader blocks else self.old) }
+        ensures described_found { (t : Translation) → Describes self.old t → result ≡ nat_le blocks (layer_slots t) }
         ensures described { (t : Translation) → Describes self.old t →
-            Describes self.new (if result then moved t (Claim 1) else t) }
+            Describes self.new (if result then moved t (Claim blocks) else t) }
+        // The slots of a reader who had claimed none hold zeros, and those of the others what they held.
+        ensures claims { claims_for self.old reader ≡ [] → claims_for self.new reader ≡
+            (if result then claims_of_blocks reader (replicate blocks zero_block) else []) }
+        ensures other_claims { (other : ℕ) → (other ≡ reader → ⊥) → claims_for self.new other ≡ claims_for self.old other }
     {
-        if self.free_slots() == 0 {
+        if self.free_slots() < blocks as usize {
             return false;
         }
-        self.claimed += 1;
+        push_claims(&mut self.claims, reader, blocks);
         true
     }
 
-    /// Gives a claimed slot back.
-    #[tactic(auto, using(crate::proofs::small_calls::SmallCalls::releases_right))]
-    pub fn release(&mut self)
-        ensures after { self.new ≡ record self.old { claimed = self.old.claimed - 1 } }
-        ensures described { (t : Translation) → Describes self.old t → Describes self.new (moved t (Release 1)) }
+    /// Gives back all slots that the reader has claimed.
+    pub fn release(&mut self, reader: u8)
+        ensures after { self.new ≡ released self.old reader }
+        ensures described { (t : Translation) → Describes self.old t →
+            Describes self.new (moved t (Release (length (claims_for self.old reader)))) }
+        ensures claims { claims_for self.new reader ≡ [] }
+        ensures other_claims { (other : ℕ) → (other ≡ reader → ⊥) → claims_for self.new other ≡ claims_for self.old other }
     {
-        self.claimed = self.claimed.saturating_sub(1);
+        drop_claims(&mut self.claims, reader);
     }
 
-    /// What holds the content of the address after all pending groups: the slot of the last of these, or
-    /// its page, or nothing (it reads as zeros).
-    pub fn look(&self, key: Key) -> Looked
-        ensures core { result ≡ look_of self.now key }
-        // A repair under way is in no slot that is looked up.
-        ensures described { (t : Translation) → Describes self.now t → is_mended t.work.mending ≡ true →
-            IsKey (shape_of_numbers t.numbers) key → key.kind ≡ 1 → IsLookedAt result (look t.ledger key) }
+    /// Puts a block that came into the slot that was claimed for it: that of this index of the reader.
+    pub fn fill(&mut self, reader: u8, index: u16, body: &Block)
+        ensures after { self.new ≡ filled self.old reader index body.now }
+        // What is claimed shows in the layer by its number alone.
+        ensures described { (t : Translation) → Describes self.old t → Describes self.new t }
+        ensures claims { claims_for self.new reader ≡
+            map (claim_filled reader index body.now) (claims_for self.old reader) }
+        ensures other_claims { (other : ℕ) → (other ≡ reader → ⊥) → claims_for self.new other ≡ claims_for self.old other }
     {
-        match last_of(self.groups.as_slice(), key) {
-            Some(index) => Looked::Slot(self.frontier + index as u64 + 1),
+        fill_claims(self.claims.as_mut_slice(), reader, index, body);
+    }
+
+    /// What holds the content of the address after all pending groups: the slot of the last page of these,
+    /// or its page, or nothing (it reads as zeros).
+    fn look(&self, key: Key) -> Looked
+        ensures { result ≡ look_of self.now key }
+    {
+        match last_page(self.pages.as_slice(), key) {
+            Some(page) => Looked::Slot {
+                number: page.number,
+                index: page.index,
+            },
             None => self.stored(key).map_or(Looked::Nothing, Looked::Page),
         }
     }
@@ -512,33 +732,63 @@ impl Ftl {
         key_index(self.config.numbers(), key)
     }
 
-    /// Keeps what was looked up for this reader, who is then owed a read of it where it is a page or
-    /// becomes one; false, and nothing is kept, where 32 readers keep something.
-    pub fn pin(&mut self, reader: u8, key: Key, looked: Looked) -> bool
-        ensures found { result ≡ nat_lt (length self.old.pins) 32 }
-        ensures after { self.new ≡ (if result then with_pin self.old (record { reader = reader; key = key; looked = looked; wanted = true }) else self.old) }
-        ensures described_found { (t : Translation) → Describes self.old t → result ≡ nat_lt (length t.pins) 32 }
-        // No reader keeps two things, so that no more is kept than there are readers.
-        ensures described_differ { (t : Translation) → Describes self.old t →
-            TagsDiffer (λ (q : LayerPin). q.tag) t.pins }
-        // It is what the address looks at, of a reader who keeps nothing yet.
+    /// Keeps for this reader what each of so many addresses has now, from this one on. The reader is owed
+    /// the read of one at a time, the first of them first: where it is a page or becomes one. False, and
+    /// nothing is kept, where more than 1024 blocks would be kept.
+    pub fn keep(&mut self, reader: u8, key: Key, blocks: u16) -> bool
+        ensures found { result ≡ nat_le (length self.old.pins + blocks) 1024 }
+        ensures after { self.new ≡ (if result then kept_all self.old reader key blocks else self.old) }
+        ensures described_found { (t : Translation) → Describes self.old t →
+            result ≡ nat_le (length t.pins + blocks) 1024 }
+        // No block of a reader is kept twice, so that no more is kept than readers have blocks.
+        ensures described_differ { (t : Translation) → Describes self.old t → PinsDiffer t.pins }
+        // It is what the addresses look at, of a reader who keeps nothing yet.
         ensures described { (t : Translation) → Describes self.old t → is_mended t.work.mending ≡ true →
-            IsKey (shape_of_numbers t.numbers) key →
-            IsLookedAt looked (look t.ledger key) → list_any (keeps_for reader) t.pins ≡ false →
-            Describes self.new (if result
-            then moved t (Keep key (record { tag = reader; index = 0; looked = look t.ledger key; wanted = true }))
-            else t) }
+            key.kind ≡ 1 →
+            ((i : ℕ) → i < blocks → IsKey (shape_of_numbers t.numbers) (key_behind key i)) →
+            list_any (keeps_for reader) t.pins ≡ false →
+            Describes self.new (if result then fold moved t (keeps_of t reader key blocks) else t) }
+        ensures same_claims { claims_for self.new ≡ claims_for self.old }
     {
-        if self.pins.len() >= MOST_PINS {
+        self.has_numbers_in_range();
+        if self.pins.len() + blocks as usize > MOST_PINS {
             return false;
         }
+        self.pin_all(reader, key, blocks);
+        true
+    }
+
+    /// The numbers of the configuration are in their ranges. It does nothing: its contract says so.
+    fn has_numbers_in_range(&self)
+        ensures { InRange self.now.numbers }
+    {
+        let _ = self.config.numbers();
+    }
+
+    /// Keeps each of the blocks.
+    fn pin_all(&mut self, reader: u8, key: Key, blocks: u16)
+        requires { length self.old.pins + blocks ≤ 1024 }
+        ensures { self.new ≡ kept_all self.old reader key blocks }
+    {
+        for index in 0..blocks {
+            self.pin(reader, key, index);
+        }
+    }
+
+    /// Keeps one of the blocks.
+    fn pin(&mut self, reader: u8, key: Key, index: u16)
+        requires { length self.old.pins < 1024 }
+        ensures { self.new ≡ record self.old { pins = self.old.pins ++ pin_now self.old reader key index ∷ [] } }
+    {
+        let key = key_at(key, index);
+        let looked = self.look(key);
         self.pins.push_reserved(Pin {
             reader,
+            index,
             key,
             looked,
-            wanted: true,
+            wanted: index == 0,
         });
-        true
     }
 
     /// The reader keeps nothing any more.
@@ -549,86 +799,95 @@ impl Ftl {
         ensures described_told { (t : Translation) (count : ℕ) → Describes self.old t →
             before_accepted t.ledger + count ≤ t.ledger.frontier →
             Describes self.new (moved (moved t (Acknowledge count)) (LetGoAll reader)) }
-        // A reader keeps one block, so that its first is all it keeps, and none behind it can be wanted.
-        ensures described_one { (t : Translation) (next : ℕ) → Describes self.old t → 0 < next →
-            Describes self.new (moved (moved t (LetGo reader 0)) (WantPage reader next)) }
+        ensures same_claims { claims_for self.new ≡ claims_for self.old }
     {
         forget_reader(self.books.as_mut_slice(), reader);
-        drop_pin(&mut self.pins, reader);
+        drop_pins(&mut self.pins, reader);
     }
 
-    /// What the reader keeps; `None` where it keeps nothing.
-    #[tactic(auto, using(crate::proofs::small_calls::CallsDescribed::pinned_right, crate::proofs::small_calls::CallsDescribed::keeps_mended))]
-    pub fn pinned(&self, reader: u8) -> Option<Looked>
-        ensures core { result ≡ looked_by reader self.now.pins }
+    /// The reader keeps this block no more, and wants the next one.
+    pub fn want_next(&mut self, reader: u8, index: u16)
+        ensures after { self.new ≡ next_wanted self.old reader index }
+        ensures described { (t : Translation) → Describes self.old t →
+            Describes self.new (moved (moved t (LetGo reader index)) (WantPage reader (index + 1))) }
+        ensures same_claims { claims_for self.new ≡ claims_for self.old }
+    {
+        forget_block(self.books.as_mut_slice(), reader, index);
+        drop_pin(&mut self.pins, reader, index);
+        want(self.pins.as_mut_slice(), reader, index as usize + 1);
+    }
+
+    /// What is looked at for this block of the reader; `None` where nothing is kept.
+    #[tactic(auto, using(crate::proofs::small_calls::PinCalls::pinned_right, crate::proofs::small_calls::PinCalls::keeps_mended))]
+    pub fn pinned(&self, reader: u8, index: u16) -> Option<Looked>
+        ensures core { result ≡ looked_by reader index self.now.pins }
         ensures described { (t : Translation) → Describes self.now t →
-            IsPinned result (find (is_layer_pin_of reader 0) t.pins) }
+            IsPinned result (find (is_layer_pin_of reader index) t.pins) }
         // Readers keep something only once the device is mended.
         ensures described_mended { (t : Translation) → Describes self.now t → IsSome result →
             is_mended t.work.mending ≡ true }
     {
-        looked_by(self.pins.as_slice(), reader)
+        looked_by(self.pins.as_slice(), reader, index)
     }
 
-    /// The pin of the reader, if it keeps something.
-    fn pin_of(&self, reader: u8) -> Option<Pin>
-        ensures { result ≡ pin_of self.now reader }
+    /// What is kept of this block of the reader.
+    fn pin_of(&self, reader: u8, index: u16) -> Option<Pin>
+        ensures { result ≡ pin_of self.now reader index }
     {
-        let index = pin_at(self.pins.as_slice(), reader)?;
-        Some(self.pins[index])
+        found_pin(self.pins.as_slice(), reader, index)
     }
 
-    /// The block in the slot of this number; `None` where no pending group has it.
-    pub fn slot(&self, number: u64) -> Option<&Block>
-        ensures core { option_copied result ≡ slot_of self.now number }
+    /// The block in the slot of the page with this number and index; `None` where no pending group has it.
+    pub fn slot(&self, number: u64, index: u16) -> Option<&Block>
+        ensures core { option_copied result ≡ slot_of self.now number index }
         ensures described { (t : Translation) (e : Entry) → Describes self.now t → is_mended t.work.mending ≡ true →
-            t.ledger.frontier < number → entry_of t.ledger (name_at number) ≡ Some e →
+            t.ledger.frontier < number → entry_of t.ledger (name_at number index) ≡ Some e →
             option_copied result ≡ Some e.item.body }
     {
-        slot_in(self.groups.as_slice(), self.frontier, number)
+        let page = page_named(self.pages.as_slice(), number, index)?;
+        Some(&page.body)
     }
 
-    /// Puts a group of one page behind all that are pending, in the place of a claimed slot, and
-    /// answers its number.
-    pub fn accept(&mut self, key: Key, body: &Block) -> u64
-        requires claimed { 0 < self.old.claimed }
+    /// Puts the group of the blocks that came for this reader behind all that are pending, in the place of
+    /// the slots that it claimed, from an address on, and answers its number.
+    pub fn accept(&mut self, reader: u8, key: Key) -> u64
         requires numbered { IsTrue (has_number self.old) }
         ensures number { result ≡ next_number self.old }
-        ensures after { self.new ≡ accepted self.old key body.now }
-        ensures described { (t : Translation) → Describes self.old t → key.kind ≡ 1 → key.unit ≤ 7 →
-            IsAllowedMove t (Accept 1 (record { key = key; body = body.now } ∷ [])) →
-            Describes self.new (moved t (Accept 1 (record { key = key; body = body.now } ∷ []))) }
+        ensures after { self.new ≡ accepted self.old reader key }
+        ensures described { (t : Translation) (bodies : List (List ℕ)) → Describes self.old t →
+            key.kind ≡ 1 → key.unit ≤ 7 → claims_for self.old reader ≡ claims_of_blocks reader bodies →
+            IsAllowedMove t (Accept (length bodies) (group_of_blocks key bodies)) →
+            Describes self.new (moved t (Accept (length bodies) (group_of_blocks key bodies))) }
         // Whatever a stop leaves then is right.
-        ensures stop { (t : Translation) → Describes self.old t → key.kind ≡ 1 → key.unit ≤ 7 →
-            IsAllowedMove t (Accept 1 (record { key = key; body = body.now } ∷ [])) →
-            StopsRight self.new (moved t (Accept 1 (record { key = key; body = body.now } ∷ []))) }
+        ensures stop { (t : Translation) (bodies : List (List ℕ)) → Describes self.old t →
+            key.kind ≡ 1 → key.unit ≤ 7 → claims_for self.old reader ≡ claims_of_blocks reader bodies →
+            IsAllowedMove t (Accept (length bodies) (group_of_blocks key bodies)) →
+            StopsRight self.new (moved t (Accept (length bodies) (group_of_blocks key bodies))) }
         ensures described_number { (t : Translation) → Describes self.old t → result ≡ next_of_layer t.ledger }
+        ensures claims { claims_for self.new reader ≡ [] }
+        ensures other_claims { (other : ℕ) → (other ≡ reader → ⊥) → claims_for self.new other ≡ claims_for self.old other }
     {
+        self.has_numbers_in_range();
         let number = self.next_number();
-        self.claimed -= 1;
-        self.groups.push_reserved(Group {
+        let size = count_claims(self.claims.as_slice(), reader) as u16;
+        push_pages(
+            &mut self.pages,
+            self.claims.as_slice(),
+            reader,
             key,
-            written: None,
-            body: *body,
-        });
+            number,
+            size,
+        );
+        drop_claims(&mut self.claims, reader);
+        self.last = number;
         number
     }
 
     /// The number of the next group.
-    fn next_number(&self) -> u64
+    pub(super) fn next_number(&self) -> u64
         requires { IsTrue (has_number self.now) }
         ensures { result ≡ next_number self.now }
     {
-        self.last_number() + 1
-    }
-
-    /// Whether a group can be accepted: a slot is claimed and a number is left.
-    #[tactic(auto, using(crate::proofs::small_calls::CallsDescribed::accepts_where))]
-    pub fn can_accept(&self) -> bool
-        ensures core { result ≡ can_accept self.now }
-        ensures described { (t : Translation) → Describes self.now t →
-            result ≡ (nat_lt 0 t.claims && has_layer_number t) }
-    {
-        self.claimed > 0 && self.last_number() < LAST_NUMBER
+        self.last + 1
     }
 }

@@ -6,6 +6,7 @@ mod books;
 mod ftl;
 
 pub use books::{
-    BlockState, Book, Flight, Group, Looked, Mending, OpenBlock, Pin, Reader, Step, Stored, Waiting,
+    BlockState, Book, Claimed, Flight, Looked, Mending, OpenBlock, Pending, Pin, Reader, Step,
+    Stored, Waiting,
 };
 pub use ftl::{Ended, Ftl};

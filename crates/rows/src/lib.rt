@@ -11,6 +11,8 @@ mod commands;
 #[cfg(test)]
 mod gap;
 #[cfg(test)]
+mod groups;
+#[cfg(test)]
 mod messages;
 #[cfg(test)]
 mod scripts;

@@ -45,7 +45,7 @@ in_range n =
     && is_between 64 1024 n.slots
     && is_between 0 (n.dies * n.blocks) n.spare
 
--- how many blocks a command may have in a configuration once all stages are built, each of them a page of its group
+-- how many blocks a command may have in a configuration, each of them a page of its group
 abbrev pub command_blocks : Numbers → ℕ
 command_blocks n = greatest_command
 

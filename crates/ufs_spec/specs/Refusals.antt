@@ -15,7 +15,7 @@ use Rattle.ufs_spec.specs.Exchanges.{list_length_error, no_unit, not_ready, out_
 use Rattle.ufs_spec.specs.Exchanges.{write_protected}
 use Rattle.ufs_spec.specs.Messages.{is_among}
 use Rattle.ufs_spec.specs.Plain.{Plain, after}
-use Rattle.ufs_spec.specs.Stages.{most_blocks, taken_luns}
+use Rattle.ufs_spec.specs.Stages.{taken_luns}
 use Rattle.ufs_spec.specs.Translation.{Translation, free_slots, has_pending, is_locked, is_mended}
 use Rattle.ufs_spec.specs.declared.configs.Numbers.{Numbers}
 use Rattle.ufs_spec.specs.declared.configs.UnitSpec.{UnitSpec}
@@ -162,7 +162,7 @@ is_frames n = nat_le 512 n && nat_le n 4096 && (n % 512 == 0)
 abbrev pub is_too_long : Numbers → Cdb → Bool
 is_too_long n (cdb.SecurityIn size) = not (is_frames size)
 is_too_long n (cdb.SecurityOut size) = not (is_frames size)
-is_too_long n command = nat_lt (most_blocks n) (blocks_of command)
+is_too_long n command = nat_lt (command_blocks n) (blocks_of command)
 
 -- 5: UNMAP's list is not of 0, 8 or 24 bytes
 abbrev pub has_wrong_list : Cdb → Bool

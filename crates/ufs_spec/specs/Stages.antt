@@ -4,10 +4,6 @@
 use Rattle.std.specs.Prelude.{ℕ, Bool, false, List, []}
 use Rattle.ufs_spec.specs.declared.configs.Numbers.{Numbers}
 
--- until commands of more blocks are built: how many blocks a command may have, at last `command_blocks` (Configs)
-abbrev pub most_blocks : Numbers → ℕ
-most_blocks n = 1
-
 -- until collection is built: whether blocks are collected
 abbrev pub collects : Bool
 collects = false

@@ -24,12 +24,12 @@ use Rattle.device.specs.declared.tasks.Phase.{Phase}
 use Rattle.device.specs.declared.tasks.Short as kept
 use Rattle.device.specs.declared.tasks.Task.{Task}
 use Rattle.device.specs.Calls.{lock_told}
-use Rattle.device.specs.Describes.{Describes, IsAnswered, IsDoing, IsTold, IsToldIn, Keeps, TaskKept, progress_in}
-use Rattle.device.specs.Describes.{short_kept}
+use Rattle.device.specs.Describes.{Describes, IsAnswered, IsDoing, IsTold, IsToldIn, Keeps, TaskKept, claims_in}
+use Rattle.device.specs.Describes.{read_in, short_kept, wanted_in}
 use Rattle.device.specs.Kept.{DeviceCore}
 use Rattle.device.specs.Tasks.{write_error, phase_after, task_after}
 use Rattle.device.proofs.open_tasks.OpenTasks.{each_changed, no_requests}
-use Rattle.device.proofs.open_tasks.ReadProgress.{each_goes_on}
+use Rattle.device.proofs.open_tasks.KeptByTag.{KeptForAll, SameDeed, all_kept, each_changes}
 use Rattle.ufs_spec.specs.Exchanges as exchange
 use Rattle.ftl_core.specs.Describes as layer_kept
 use Rattle.device.specs.declared.tasks.Phase.TheVariants as phase
@@ -98,18 +98,28 @@ all_told s [] = All-nil (IsTold (durable s))
 all_told s (y ∷ us) = All-cons (IsTold (durable s)) (task_locked s y) (map (task_locked s) us) (deed_told s y y.deed)
     (all_told s us)
 
-same_progress : (s : State) (task : exchange.Task) (deed : Deed) → progress_in (deed_locked s task deed) ≡ progress_in
-    deed
-same_progress s task (Awaiting commands) = by (nat_le commands (durable s))
+-- what a deed tells of blocks it tells once the lock is told
+same_told : {X : Type 0} (G : Deed → X) → ((commands n : ℕ) (status : exchange.Status) →
+    G (Answering status n) ≡ G (Awaiting commands)) → (s : State) (task : exchange.Task) (deed : Deed) →
+    G (deed_locked s task deed) ≡ G deed
+same_told G same s task (Awaiting commands) = by (nat_le commands (durable s))
   where
-    by : (b : Bool) → progress_in (cond b (Awaiting commands) (Answering exchange.write_error task.length)) ≡
-        progress_in (Awaiting commands)
+    by : (b : Bool) → G (cond b (Awaiting commands) (Answering exchange.write_error task.length)) ≡ G
+        (Awaiting commands)
     by true = refl
-    by false = refl
-same_progress s task (Gathering purpose gathered asked) = refl
-same_progress s task (Sending blocks sent) = refl
-same_progress s task (SendingBytes bytes) = refl
-same_progress s task (Answering status carried) = refl
+    by false = same commands task.length exchange.write_error
+same_told G same s task (Gathering purpose gathered asked) = refl
+same_told G same s task (Sending blocks sent) = refl
+same_told G same s task (SendingBytes bytes) = refl
+same_told G same s task (Answering status carried) = refl
+
+lock_same : (s : State) → SameDeed (task_locked s)
+lock_same s = record {
+  tags = λ x. refl;
+  wanted = λ index x. same_told (wanted_in index) (λ commands n status. refl) s x x.deed;
+  read = λ x. same_told read_in (λ commands n status. refl) s x x.deed;
+  claims = λ tag x. same_told (claims_in tag) (λ commands n status. refl) s x x.deed;
+}
 
 -- the block of a number is durable for both sides, or for none
 same_test : (before n frontier commands : ℕ) → (nat_le commands (frontier - before) ≡ true → before ≤ frontier) →
@@ -156,11 +166,11 @@ deed_kept s n all claimed mended frontier expected task (phase.AwaitFrontier m s
         (cond b (Awaiting commands) (Answering exchange.write_error task.length))
     by true = h
     by false = (refl, h.1)
-deed_kept s n all claimed mended frontier expected task (phase.AskData key fua) (Gathering purpose gathered asked)
+deed_kept s n all claimed mended frontier expected task (phase.AskData x) (Gathering purpose gathered asked)
     same low fits h = h
-deed_kept s n all claimed mended frontier expected task (phase.AwaitData key fua) (Gathering purpose gathered asked)
+deed_kept s n all claimed mended frontier expected task (phase.AwaitData x) (Gathering purpose gathered asked)
     same low fits h = h
-deed_kept s n all claimed mended frontier expected task phase.SendBlock (Sending blocks sent) same low fits h = h
+deed_kept s n all claimed mended frontier expected task (phase.SendBlocks x) (Sending blocks sent) same low fits h = h
 deed_kept s n all claimed mended frontier expected task (phase.SendData x) (SendingBytes bytes) same low fits h = h
 deed_kept s n all claimed mended frontier expected task (phase.Answer told m) (Answering x carried) same low fits h = h
 deed_kept s n all claimed mended frontier expected task (phase.Answer told m) (Sending blocks sent) same low fits h = h
@@ -204,8 +214,9 @@ keeps_locked e s tied k = record {
       (λ j a b at h. task_kept s (numbers_of s) (length s.accepted) (claim_of (numbers_of s) (task_locked s b))
       (is_mended s.translation.work.mending) frontier a b refl tied.repaired
       (locked_fit s s.tasks j b at tied.tasks.deeds) h) k.tasks;
-  blocks = λ tag. k.blocks tag
-      ∙ sym (each_goes_on (task_locked s) s.tasks tag (λ x. refl) (λ x. same_progress s x x.deed));
+  wanted = λ tag. (kept tag).wanted;
+  read = λ tag. (kept tag).read;
+  claims = λ tag. (kept tag).claims;
   shorts = kept_shorts s s.shorts e.shorts k.shorts;
   power_off = k.power_off;
 }
@@ -215,6 +226,9 @@ keeps_locked e s tied k = record {
 
     frontier : ℕ
     frontier = s.translation.ledger.frontier
+
+    kept : KeptForAll s.translation.pins e.loaded e.ftl (map (task_locked s) s.tasks)
+    kept = each_changes s.translation.pins e.loaded e.ftl s.tasks (task_locked s) (all_kept e s k) (lock_same s)
 
 -- what is kept while a call is answered describes the state once both sides told the lock
 describes_told : (e : DeviceCore) (s : State) → IsTied (lock_applied s) → ShowsReads (lock_applied s) → Keeps e s →

@@ -1,6 +1,6 @@
 -- Where only the translation layer moves, what the device keeps of the tasks stays, if the move leaves what it is to
 -- them.
-use Rattle.std.proofs.Common.{◌≡◌, ◌∙◌, ◌⊎◌, ℕ, Bool, true, false, List, Option, None, inl, inr, refl, sym, ap}
+use Rattle.std.proofs.Common.{◌≡◌, ◌∙◌, ◌⊎◌, ℕ, Bool, true, false, None, inl, inr, refl, sym, ap}
 use Rattle.std.proofs.Common.{subst}
 use Rattle.std.specs.Prelude.{if◌then◌else◌, length}
 use Rattle.ufs_spec.specs.Cells.{Array, Cell, GroupPage, MarkPage, Nothing}
@@ -17,29 +17,28 @@ use Rattle.ufs_laws.proofs.walk.LayerEffects.{IsDue, order_due, turned_if}
 use Rattle.power_loss.specs.Exchange.{DeedsFit, IsTied}
 use Rattle.ftl_core.specs.Core.{Core}
 use Rattle.ftl_core.specs.Describes as layer_kept
-use Rattle.device.specs.Describes.{Keeps, TasksKept}
+use Rattle.ftl_core.specs.Moves.{claims_for}
+use Rattle.device.specs.Describes.{Keeps, TasksKept, wanted_kept}
 use Rattle.device.specs.Kept.{DeviceCore}
 use Rattle.device.proofs.described.Unmended.{kept_else}
-use Rattle.device.proofs.open_tasks.ReadProgress.{progress, read_for, wanted_for, wanted_same}
+use Rattle.device.proofs.open_tasks.ReadProgress.{wanted_same}
 
--- groups count from the same number, and for each tag the same is wanted
+-- groups count from the same number, and for each block the same is wanted
 pub record Leaves (t u : Translation) : Type 0 where
   pub before : before_accepted u.ledger ≡ before_accepted t.ledger
-  pub wanted : (tag : ℕ) → wanted_for tag u.pins ≡ wanted_for tag t.pins
-
-progress_with : (a b : Option Bool) (read : List (List ℕ)) → a ≡ b → progress a read ≡ progress b read
-progress_with a b read is = ap (λ x. progress x read) is
+  pub wanted : (tag index : ℕ) → wanted_kept u.pins tag index ≡ wanted_kept t.pins tag index
 
 pub layer_moves : (d : DeviceCore) (after : Core) (s : State) (array : Array) (u : Translation) → Keeps d s →
-    layer_kept.Describes after u → Leaves s.translation u →
+    layer_kept.Describes after u → claims_for after ≡ claims_for d.ftl → Leaves s.translation u →
     Keeps (record d { ftl = after }) (record s { array = array; translation = u })
-layer_moves d after s array u k layer leaves = record {
+layer_moves d after s array u k layer claims leaves = record {
   permanent = k.permanent;
   layer_kept = layer;
   few = k.few;
   tasks = subst (λ n. TasksKept n d.tasks s.tasks) (sym leaves.before) k.tasks;
-  blocks = λ tag. progress_with (wanted_for tag u.pins) (wanted_for tag s.translation.pins) (read_for tag d.loaded)
-      (leaves.wanted tag) ∙ k.blocks tag;
+  wanted = λ tag index. leaves.wanted tag index ∙ k.wanted tag index;
+  read = k.read;
+  claims = λ tag. (λ i. claims i tag) ∙ k.claims tag;
   shorts = k.shorts;
   power_off = k.power_off;
 }
@@ -56,8 +55,8 @@ pub job_leaves : (t : Translation) (die : ℕ) (flight : Flight) (ending : Endin
     Leaves t (job_ended t die flight ending)
 job_leaves t die (Programming place (GroupPage tag body)) WentWell none = record {
   before = refl;
-  wanted = λ n. wanted_same (settled_pin (page_stands t.ledger (name_of tag) place)) (λ pin. refl) (λ pin. refl)
-      (λ pin. refl) n t.pins;
+  wanted = λ n k. wanted_same (settled_pin (page_stands t.ledger (name_of tag) place)) (λ pin. refl) (λ pin. refl)
+      (λ pin. refl) n k t.pins;
 }
 job_leaves t die (Programming place (MarkPage m)) (WentWrong left) none =
     by (has_mark_number (record t { disk = program_failed t.disk place left }))
@@ -65,15 +64,15 @@ job_leaves t die (Programming place (MarkPage m)) (WentWrong left) none =
     by : (b : Bool) → Leaves t
         (if b then mark_ordered (record t { disk = program_failed t.disk place left }) m.fence
         else record (record t { disk = program_failed t.disk place left }) { work = record t.work { step = None } })
-    by true = record { before = refl; wanted = λ n. refl }
-    by false = record { before = refl; wanted = λ n. refl }
+    by true = record { before = refl; wanted = λ n k. refl }
+    by false = record { before = refl; wanted = λ n k. refl }
 job_leaves t die (Reading (ForTask tag index) place) ending none = absurd none
-job_leaves t die (Reading ForStep place) ReadRight none = record { before = refl; wanted = λ n. refl }
+job_leaves t die (Reading ForStep place) ReadRight none = record { before = refl; wanted = λ n k. refl }
 job_leaves t die (Reading (ForRest number index) place) ending none = absurd none
-job_leaves t die (Reading ForNobody place) ReadRight none = record { before = refl; wanted = λ n. refl }
-job_leaves t die (Programming place Nothing) WentWell none = record { before = refl; wanted = λ n. refl }
-job_leaves t die (Erasing spot) WentWell none = record { before = refl; wanted = λ n. refl }
-job_leaves t die flight ending none = record { before = refl; wanted = λ n. refl }
+job_leaves t die (Reading ForNobody place) ReadRight none = record { before = refl; wanted = λ n k. refl }
+job_leaves t die (Programming place Nothing) WentWell none = record { before = refl; wanted = λ n k. refl }
+job_leaves t die (Erasing spot) WentWell none = record { before = refl; wanted = λ n k. refl }
+job_leaves t die flight ending none = record { before = refl; wanted = λ n k. refl }
 
 -- A step
 
@@ -86,23 +85,23 @@ pub record Stays (t u : Translation) : Type 0 where
 -- a repair comes only before the device is mended; groups count from one number more then
 pub record Repairs (t u : Translation) : Type 0 where
   pub unmended : layer.is_mended t.work.mending ≡ false
-  pub wanted : (tag : ℕ) → wanted_for tag u.pins ≡ wanted_for tag t.pins
+  pub wanted : (tag index : ℕ) → wanted_kept u.pins tag index ≡ wanted_kept t.pins tag index
 
 abbrev pub StepLeaves : Translation → Translation → Type 0
 StepLeaves t u = Stays t u ⊎ Repairs t u
 
 nothing_moves : (t : Translation) → Stays t t
 nothing_moves t =
-    record { leaves = record { before = refl; wanted = λ n. refl }; frontier = refl; lock = refl }
+    record { leaves = record { before = refl; wanted = λ n k. refl }; frontier = refl; lock = refl }
 
 copy_leaves : (t : Translation) (p : Place) (cell : Cell) → Stays t (copy_begun t p cell)
 copy_leaves t p (GroupPage tag body) =
-    record { leaves = record { before = refl; wanted = λ n. refl }; frontier = refl; lock = refl }
+    record { leaves = record { before = refl; wanted = λ n k. refl }; frontier = refl; lock = refl }
 copy_leaves t p cell = nothing_moves t
 
 order_leaves : (t : Translation) (o : Order) → IsDue t o → StepLeaves t (ordered t o)
 order_leaves t (OrderRepair k left) due =
-    inr (record { unmended = ap layer.is_mended due.1; wanted = λ n. refl })
+    inr (record { unmended = ap layer.is_mended due.1; wanted = λ n k. refl })
 order_leaves t (OrderCopy victim p left) due =
     let h = copy_leaves (with_plan t victim left) p (t.disk.cells p) in
     inl (record {
@@ -111,7 +110,7 @@ order_leaves t (OrderCopy victim p left) due =
       lock = h.lock;
     })
 order_leaves t order due =
-    inl (record { leaves = record { before = refl; wanted = λ n. refl }; frontier = refl; lock = refl })
+    inl (record { leaves = record { before = refl; wanted = λ n k. refl }; frontier = refl; lock = refl })
 
 pub step_leaves : (t : Translation) → StepLeaves t (moved t TakeStep)
 step_leaves t =
@@ -124,16 +123,17 @@ unmended_fit s tied unmended =
 
 -- where the device is not mended, groups may count from another number
 pub unmended_moves : (d : DeviceCore) (after : Core) (s : State) (u : Translation) → Keeps d s → IsTied s →
-    layer_kept.Describes after u → Repairs s.translation u →
+    layer_kept.Describes after u → claims_for after ≡ claims_for d.ftl → Repairs s.translation u →
     Keeps (record d { ftl = after }) (record s { translation = u })
-unmended_moves d after s u k tied layer repairs = record {
+unmended_moves d after s u k tied layer claims repairs = record {
   permanent = k.permanent;
   layer_kept = layer;
   few = k.few;
   tasks = kept_else (numbers_of s) (length s.accepted) (before_accepted s.translation.ledger) (before_accepted u.ledger)
       d.tasks s.tasks (unmended_fit s tied repairs.unmended) k.tasks;
-  blocks = λ tag. progress_with (wanted_for tag u.pins) (wanted_for tag s.translation.pins) (read_for tag d.loaded)
-      (repairs.wanted tag) ∙ k.blocks tag;
+  wanted = λ tag index. repairs.wanted tag index ∙ k.wanted tag index;
+  read = k.read;
+  claims = λ tag. (λ i. claims i tag) ∙ k.claims tag;
   shorts = k.shorts;
   power_off = k.power_off;
 }

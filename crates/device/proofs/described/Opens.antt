@@ -1,5 +1,5 @@
 -- A device over dies whose pages are sound is the one that the definitions open over them.
-use Rattle.std.proofs.Common.{◌≡◌, ◌∙◌, ℕ, suc, ◌≤◌, ◌==◌, Bool, true, false, List, Option, ap, arith, refl, subst}
+use Rattle.std.proofs.Common.{◌≡◌, ◌∙◌, ℕ, suc, ◌≤◌, ◌==◌, Bool, true, false, List, [], Option, ap, arith, refl, subst}
 use Rattle.std.specs.Prelude.{slice_index}
 use Rattle.ufs_spec.specs.Cells.{AreWithin, Array, Cells, Shows}
 use Rattle.ufs_spec.specs.Configs.{IsConfig}
@@ -23,6 +23,7 @@ use Rattle.recovery.specs.Found.{IsFound, newest_found}
 use Rattle.recovery.specs.declared.found.Found.{Found}
 use Rattle.ftl_core.specs.Core.{Core}
 use Rattle.ftl_core.specs.Describes.{Describes as IsLayer}
+use Rattle.ftl_core.specs.Moves.{claims_for}
 use Rattle.device.specs.Describes.{Describes}
 use Rattle.device.specs.Kept.{idle_device}
 use Rattle.device.proofs.die_calls.CallsRight.{opens_right}
@@ -61,7 +62,7 @@ OpensLayer n f layer =
 module _ (n : Numbers) (array : Array) (bad : Spot → Bool) (s : State) (f : Found) (layer : Core) (config : IsConfig n)
     (inside : IsArrayOf n array) (sound : Sound array) (opened : IsOpened n array bad s)
     (found : (c : Cells) → Shows array c → IsFound n c bad f) (told : (c : Cells) → Shows array c → TellsPermanent c f)
-    (opens : OpensLayer n f layer) where
+    (opens : OpensLayer n f layer) (none : (tag : ℕ) → claims_for layer tag ≡ []) where
   found_here : IsFound n opened.cells bad f
   found_here = found opened.cells opened.shown
 
@@ -108,4 +109,4 @@ module _ (n : Numbers) (array : Array) (bad : Spot → Bool) (s : State) (f : Fo
       (cells_within opened.cells inside opened.shown) sound_here found_here opened.translation
 
   pub device_opens : Describes (idle_device layer f.is_permanent) s
-  device_opens = opens_right n array bad s layer f.is_permanent config inside sound opened layer_is permanent_is
+  device_opens = opens_right n array bad s layer f.is_permanent config inside sound opened layer_is none permanent_is

@@ -38,11 +38,11 @@ doing_else : (n : Numbers) (accepted claimed total before other expected : ℕ) 
     IsDoing other expected total p deed
 doing_else n accepted claimed total before other expected (phase.AwaitFrontier m size) (Awaiting commands) fits h =
     absurd (false≢true fits.1)
-doing_else n accepted claimed total before other expected (phase.AskData key fua) (Gathering purpose gathered asked)
+doing_else n accepted claimed total before other expected (phase.AskData x) (Gathering purpose gathered asked)
     fits h = h
-doing_else n accepted claimed total before other expected (phase.AwaitData key fua) (Gathering purpose gathered asked)
+doing_else n accepted claimed total before other expected (phase.AwaitData x) (Gathering purpose gathered asked)
     fits h = h
-doing_else n accepted claimed total before other expected phase.SendBlock (Sending blocks sent) fits h = h
+doing_else n accepted claimed total before other expected (phase.SendBlocks x) (Sending blocks sent) fits h = h
 doing_else n accepted claimed total before other expected (phase.SendData x) (SendingBytes bytes) fits h = h
 doing_else n accepted claimed total before other expected (phase.Answer told m) (Answering x carried) fits h = h
 doing_else n accepted claimed total before other expected (phase.Answer told m) (Sending blocks sent) fits h = h

@@ -24,7 +24,9 @@ use Rattle.power_loss.specs.Exchange.{IsArrayOf, IsTied}
 use Rattle.power_loss.proofs.openings.OpenedStates.{opened_state as opened_valid}
 use Rattle.ftl_core.specs.Core.{Core}
 use Rattle.ftl_core.specs.Describes as layer_kept
-use Rattle.device.specs.Describes.{Describes, IsAnswered, IsGiven, TasksKept, IsTold, Keeps, progress_kept, progress_of}
+use Rattle.ftl_core.specs.Moves.{claims_for}
+use Rattle.device.specs.Describes.{Describes, IsAnswered, IsGiven, TasksKept, IsTold, Keeps, claims_by, read_for}
+use Rattle.device.specs.Describes.{wanted_by, wanted_kept}
 use Rattle.device.specs.Kept.{DeviceCore, idle_device}
 use Rattle.device.proofs.die_calls.EndsTold.{ending_fits}
 use Rattle.std.proofs.lemmas.List.Elements.{All-nil}
@@ -39,13 +41,13 @@ use Rattle.device.proofs.described.Unmended.{none_waits}
 
 -- it leaves all that is kept, and locks nothing
 gives : (d : DeviceCore) (s : State) (die : ℕ) (flight : Option Flight) (after : Core) → Keeps d s →
-    layer_kept.Describes after (layer_kept.given s.translation die flight) →
+    layer_kept.Describes after (layer_kept.given s.translation die flight) → claims_for after ≡ claims_for d.ftl →
     Keeps (record d { ftl = after }) (behind s (Take die) (OfTake flight))
-gives d s die None after k layer = layer_moves d after s s.array s.translation k layer
-    (record { before = refl; wanted = λ tag. refl })
-gives d s die (Some flight) after k layer =
-    layer_moves d after s s.array (moved s.translation (GiveJob die flight)) k layer
-    (record { before = refl; wanted = λ tag. refl })
+gives d s die None after k layer claims = layer_moves d after s s.array s.translation k layer claims
+    (record { before = refl; wanted = λ tag index. refl })
+gives d s die (Some flight) after k layer claims =
+    layer_moves d after s s.array (moved s.translation (GiveJob die flight)) k layer claims
+    (record { before = refl; wanted = λ tag index. refl })
 
 gives_told : (s : State) (die : ℕ) (flight : Option Flight) → (locked s ≡ true → All (IsTold (durable s)) s.tasks) →
     locked (behind s (Take die) (OfTake flight)) ≡ true → All (IsTold (durable (behind s (Take die) (OfTake flight))))
@@ -54,15 +56,15 @@ gives_told s die None told lock = told lock
 gives_told s die (Some flight) told lock = told lock
 
 pub gives_right : (d : DeviceCore) (s : State) (die : ℕ) (job : Option Job) (after : Core) → Describes d s →
-    layer_kept.IsTaken s.translation die job after →
+    layer_kept.IsTaken s.translation die job after → claims_for after ≡ claims_for d.ftl →
     IsGiven s die job (record d { ftl = after })
-gives_right d s die job after h taken = record {
+gives_right d s die job after h taken claims = record {
   flight = taken.job;
   shown = taken.shown;
   answered =
       answered d (record d { ftl = after }) s (Take die) (OfTake taken.job) h tt taken.right
       (record {
-        keeps = gives d s die taken.job after h.kept taken.describes;
+        keeps = gives d s die taken.job after h.kept taken.describes claims;
         told = gives_told s die taken.job h.told;
       });
 }
@@ -103,9 +105,9 @@ may_end d s die o ending left h is leaves = (
 
 pub turns_right : (d : DeviceCore) (s : State) (due : Bool) (after : Core) → Describes d s →
     due ≡ is_step_due s.translation →
-    layer_kept.Describes after (moved s.translation TakeStep) →
+    layer_kept.Describes after (moved s.translation TakeStep) → claims_for after ≡ claims_for d.ftl →
     IsAnswered s Turn (OfTurn due) (record d { ftl = after })
-turns_right d s due after h is layer =
+turns_right d s due after h is layer claims =
     answered d (record d { ftl = after }) s Turn (OfTurn due) h tt is (by (step_leaves s.translation))
   where
     turned : Translation
@@ -113,12 +115,12 @@ turns_right d s due after h is layer =
 
     by : StepLeaves s.translation turned → IsBehind (record d { ftl = after }) (record s { translation = turned })
     by (inl step) = record {
-      keeps = layer_moves d after s s.array turned h.kept layer step.leaves;
+      keeps = layer_moves d after s s.array turned h.kept layer claims step.leaves;
       told = λ lock. subst (λ n. All (IsTold n) s.tasks) (sym (λ i. step.frontier i - step.leaves.before i))
           (h.told (sym step.lock ∙ lock));
     }
     by (inr repair) = record {
-      keeps = unmended_moves d after s turned h.kept h.tied layer repair;
+      keeps = unmended_moves d after s turned h.kept h.tied layer claims repair;
       told = λ lock. none_waits (numbers_of s) (length s.accepted)
           (turned.ledger.frontier - before_accepted turned.ledger) s.tasks
           (unmended_fit s h.tied repair.unmended);
@@ -128,8 +130,8 @@ turns_right d s due after h is layer =
 
 pub opens_right : (n : Numbers) (array : Array) (bad : Spot → Bool) (s : State) (layer : Core) (permanent : Bool) →
     IsConfig n → IsArrayOf n array → Sound array → IsOpened n array bad s → layer_kept.Describes layer s.translation →
-    permanent ≡ s.base.permanent → Describes (idle_device layer permanent) s
-opens_right n array bad s layer permanent config inside sound opened kept same =
+    ((tag : ℕ) → claims_for layer tag ≡ []) → permanent ≡ s.base.permanent → Describes (idle_device layer permanent) s
+opens_right n array bad s layer permanent config inside sound opened kept none same =
     let t = s.translation in
     record {
       tied = (opened_valid n array bad s config inside sound opened).tied;
@@ -140,8 +142,10 @@ opens_right n array bad s layer permanent config inside sound opened kept same =
         layer_kept = kept;
         few = subst (λ us. length us ≤ most_tasks) (sym opened.no_tasks) (omega arith);
         tasks = subst (TasksKept (before_accepted t.ledger) []) (sym opened.no_tasks) tt;
-        blocks = λ tag. ap (λ (pins : List Pin). progress_kept pins [] tag) opened.translation.no_pins
-            ∙ sym (ap (λ us. progress_of (exchange.task_of tag us)) opened.no_tasks);
+        wanted = λ tag index. ap (λ (pins : List Pin). wanted_kept pins tag index) opened.translation.no_pins
+            ∙ sym (ap (λ us. wanted_by index (exchange.task_of tag us)) opened.no_tasks);
+        read = λ tag. sym (ap (λ us. read_for (exchange.task_of tag us)) opened.no_tasks);
+        claims = λ tag. none tag ∙ sym (ap (λ us. claims_by tag (exchange.task_of tag us)) opened.no_tasks);
         shorts = opened.no_shorts;
         power_off = opened.power_off;
       };

@@ -7,10 +7,10 @@ use Rattle.std.proofs.lemmas.List.Elements.{All-contains}
 use Rattle.ufs_spec.proofs.Facts.{and_parts, eqb-true, false≢true, none-some, same_Some}
 use Rattle.ufs_spec.specs.Cells.{Array, Cell, Cells, GroupPage}
 use Rattle.ufs_spec.specs.Disk.{Erasing, Flight, ForNobody, ForStep, ForTask, Programming, Reader, Reading}
-use Rattle.ufs_spec.specs.Exchanges.{NotRead, ReadState, Sending, WasRead, is_task_of, task_of}
+use Rattle.ufs_spec.specs.Exchanges.{NotRead, ReadState, WasRead, task_of}
 use Rattle.ufs_spec.specs.Ledger.{before_accepted}
-use Rattle.ufs_spec.specs.Machine.{Done, MayLeave, OfDone, array_behind, deed_read, ends_with, read_noted_behind}
-use Rattle.ufs_spec.specs.Machine.{task_read, with_moves}
+use Rattle.ufs_spec.specs.Machine.{Done, MayLeave, OfDone, array_behind, ends_with, read_noted_behind, task_read}
+use Rattle.ufs_spec.specs.Machine.{with_moves}
 use Rattle.ufs_spec.specs.Moves.{EndJob, Ending, IsEndingOf, Means, ReadRight, ReadWrong, WentWell, WentWrong, agree}
 use Rattle.ufs_spec.specs.Moves.{cell_read, end_flight, fits, is_pin_of, is_read_ending, is_read_job, is_read_outcome}
 use Rattle.ufs_spec.specs.Moves.{job_ended, moved, with_wanted}
@@ -30,20 +30,22 @@ use Rattle.power_loss.proofs.open_tasks.TaggedLists.{other_way}
 use Rattle.ftl_core.specs.Core.{Core}
 use Rattle.ftl_core.specs.Describes as layer_kept
 use Rattle.ftl_core.specs.Describes.{IsTold}
+use Rattle.ftl_core.specs.Moves.{claims_for}
 use Rattle.ftl_core.specs.Tells.{IsAwaited, IsReadOf}
 use Rattle.ftl_core.specs.declared.ftl.Ended.{Ended}
 use Rattle.ftl_core.specs.declared.ftl.Ended.TheVariants as ended
 use Rattle.device.specs.declared.tasks.Loaded.{Loaded}
 use Rattle.device.specs.Calls.{lock_told, told}
-use Rattle.device.specs.Describes.{Describes, IsAnswered, Keeps, Progress, progress_kept, progress_in, progress_of}
+use Rattle.device.specs.Describes.{Describes, IsAnswered, Keeps, claims_by, claims_in, is_unread, read_by, read_for}
+use Rattle.device.specs.Describes.{read_in, read_kept, read_of}
 use Rattle.device.specs.Kept.{DeviceCore}
 use Rattle.device.proofs.described.Answered.{answered_told}
 use Rattle.device.proofs.open_tasks.FewRead.{has_room}
 use Rattle.device.proofs.described.LayerMoves.{IsForNone, Leaves, job_leaves, layer_moves}
-use Rattle.device.proofs.open_tasks.ReadProgress.{by_tag, one_goes_on, others_go_on, progress, read_for, read_more}
-use Rattle.device.proofs.open_tasks.ReadProgress.{wanted_for}
-use Rattle.device.proofs.open_tasks.ReadsEnded.{IsReading, is_reading, reads_one, tasks_lost, tasks_read, wanted_else}
-use Rattle.device.proofs.open_tasks.ReadsEnded.{wanted_over}
+use Rattle.device.proofs.open_tasks.KeptByTag.{KeptFor, KeptForAll, all_kept, one_changes}
+use Rattle.device.proofs.open_tasks.ReadProgress.{read_more, want_other_tag}
+use Rattle.device.proofs.open_tasks.ReadsEnded.{IsReading, is_reading, read_then, reads_one, task_ended, tasks_lost}
+use Rattle.device.proofs.open_tasks.ReadsEnded.{tasks_read, wanted_then}
 
 -- An ending that may come fits the job
 
@@ -77,25 +79,25 @@ bodies_same : (a b : Tag) (x y : List ℕ) → GroupPage a x ≡ GroupPage b y �
 bodies_same a b x y e = cc
 
 -- the page that was read for a READ is the block that it sends
-content_read : (d : DeviceCore) (s : State) (tag index : ℕ) (place : Place) (page : Tag) (body : List ℕ) (before : ℕ) →
+content_read : (d : DeviceCore) (s : State) (tag index : ℕ) (place : Place) (page : Tag) (body : List ℕ) →
     Describes d s →
-    (w : IsAwaited s.translation tag index place) → (r : IsReading before tag d.tasks s.tasks d.loaded) →
+    (w : IsAwaited s.translation tag index place) → (r : IsReading tag index s.tasks) →
     s.translation.disk.cells place ≡ GroupPage page body →
     body ≡ r.block.body
-content_read d s tag index place page body before h w r cell =
-    let its = and_parts _ _ (found_is (is_pin_of tag 0) s.translation.pins w.pin w.kept) in
+content_read d s tag index place page body h w r cell =
+    let its = and_parts _ _ (found_is (is_pin_of tag index) s.translation.pins w.pin w.kept) in
     let tag_is : w.pin.tag ≡ tag = eqb-true w.pin.tag tag its.0 in
-    let index_is : w.pin.index ≡ 0 = eqb-true w.pin.index 0 its.1 in
-    let among = found_among (is_pin_of tag 0) s.translation.pins w.pin w.kept in
+    let index_is : w.pin.index ≡ index = eqb-true w.pin.index index its.1 in
+    let among = found_among (is_pin_of tag index) s.translation.pins w.pin w.kept in
     let g : IsGroupPage t.disk.cells t.disk.finished t.disk.erasing w.name place =
     subst (LookedRight (book t) t.ledger.frontier t.disk.cells t.disk.finished t.disk.erasing) w.looks
     (All-contains (λ pin. LookedRight (book t) t.ledger.frontier t.disk.cells t.disk.finished t.disk.erasing pin.looked)
     t.pins w.pin
     h.tied.valid.pins.each among) in
     bodies_same page g.tag body g.body (sym cell ∙ g.there)
-    ∙ page_body s w.pin r.task (r.block ∷ []) 0 r.block w.name place h.tied h.shows among
+    ∙ page_body s w.pin r.task r.blocks index r.block w.name place h.tied h.shows among
     (ap (λ n. task_of n s.tasks) tag_is ∙ r.found) r.deed
-    (ap (slice_get (r.block ∷ [])) index_is) w.looks g
+    (ap (slice_get r.blocks) index_is ∙ r.there) w.looks g
   where
     t : Translation
     t = s.translation
@@ -108,71 +110,75 @@ loads : (d : DeviceCore) (x : Loaded) → nat_lt (length d.loaded) 32 ≡ true �
 loads d x room = if_true (nat_lt (length d.loaded) 32) (record d { loaded = d.loaded ++ x ∷ [] }) d room
 
 -- the state once a read for a task ended
-abbrev read_state : State → ℕ → ReadState → Array → Translation → State
-read_state s tag state array u = record s {
-  tasks = map (task_read tag 0 state) s.tasks;
+abbrev read_state : State → ℕ → ℕ → ReadState → Array → Translation → State
+read_state s tag index state array u = record s {
+  tasks = map (task_read tag index state) s.tasks;
   array = array;
   translation = u;
 }
 
-module _ (d : DeviceCore) (s : State) (die tag : ℕ) (place : Place) (after : Core) (h : Describes d s)
-    (w : IsAwaited s.translation tag 0 place) where
+module _ (d : DeviceCore) (s : State) (die tag index : ℕ) (place : Place) (after : Core) (h : Describes d s)
+    (w : IsAwaited s.translation tag index place) (same : claims_for after ≡ claims_for d.ftl) where
   abbrev before : ℕ
   before = before_accepted s.translation.ledger
 
   -- the layer, and the state, once the read ended
   abbrev over : Ending → Translation
-  over ending = job_ended s.translation die (Reading (ForTask tag 0) place) ending
+  over ending = job_ended s.translation die (Reading (ForTask tag index) place) ending
 
   abbrev pins : List Pin
-  pins = map (with_wanted tag 0 false) s.translation.pins
+  pins = map (with_wanted tag index false) s.translation.pins
 
-  reading : IsReading before tag d.tasks s.tasks d.loaded
-  reading = is_reading before tag d.tasks s.tasks s.translation.pins d.loaded h.kept.tasks (h.kept.blocks tag)
+  reading : IsReading tag index s.tasks
+  reading = is_reading tag index s.tasks s.translation.pins (h.kept.wanted tag index)
       (ap (option_map (λ (pin : Pin). pin.wanted)) w.kept ∙ ap (λ b. Some b) w.wanted)
 
-  task_is : (state : ReadState) → progress_of (task_of tag (map (task_read tag 0 state) s.tasks)) ≡ progress_in
-      (deed_read 0 state (Sending (reading.block ∷ []) 0))
-  task_is state =
-      one_goes_on (task_read tag 0 state) s.tasks tag reading.task (reads_one tag state).tags reading.found
-      ∙ (ap (λ b. progress_in (if b then record reading.task { deed = deed_read 0 state reading.task.deed }
-      else reading.task).deed)
-      (found_is (is_task_of tag) s.tasks reading.task reading.found)
-      ∙ ap (λ deed. progress_in (deed_read 0 state deed)) reading.deed)
+  few : (state : ReadState) → length (map (task_read tag index state) s.tasks) ≤ most_tasks
+  few state = subst (λ n. n ≤ most_tasks) (sym (length-map s.tasks (task_read tag index state))) h.kept.few
 
-  few : (state : ReadState) → length (map (task_read tag 0 state) s.tasks) ≤ most_tasks
-  few state = subst (λ n. n ≤ most_tasks) (sym (length-map s.tasks (task_read tag 0 state))) h.kept.few
+  none_read : read_kept d.loaded tag ≡ []
+  none_read =
+      h.kept.read tag
+      ∙ (ap read_for reading.found ∙ (ap read_in reading.deed ∙ (ap read_of reading.there
+      ∙ ap (read_by reading.block.body) reading.unread)))
 
   -- what is kept for the tag is its task's; what is kept for another is as it was
-  blocks : (state : ReadState) (loaded : List Loaded) → progress_kept pins loaded tag ≡ progress_in
-      (deed_read 0 state (Sending (reading.block ∷ []) 0)) →
-      ((n : ℕ) → (n == tag) ≡ false → read_for n loaded ≡ read_for n d.loaded) →
-      (n : ℕ) → progress_kept pins loaded n ≡ progress_of (task_of n (map (task_read tag 0 state) s.tasks))
-  blocks state loaded this others =
-      by_tag (λ n. progress_kept pins loaded n ≡ progress_of (task_of n (map (task_read tag 0 state) s.tasks))) tag
-      (this ∙ sym (task_is state))
-      (λ n other.
-      (λ i. progress (wanted_else tag n s.translation.pins other i) (others n other i))
-      ∙ (h.kept.blocks n ∙ sym (others_go_on (task_read tag 0 state) s.tasks tag n (reads_one tag state) other)))
-
-  unwanted : wanted_for tag pins ≡ Some false
-  unwanted = wanted_over tag s.translation.pins w.pin w.kept
+  kept_then : (state : ReadState) (loaded : List Loaded) → is_unread state ≡ false →
+      read_kept loaded tag ≡ read_by reading.block.body state →
+      ((n : ℕ) → (n == tag) ≡ false → read_kept loaded n ≡ read_kept d.loaded n) →
+      KeptForAll pins loaded after (map (task_read tag index state) s.tasks)
+  kept_then state loaded ends this others =
+      one_changes s.translation.pins pins d.loaded loaded d.ftl after s.tasks (task_read tag index state) tag
+      reading.task (all_kept d s h.kept) (reads_one tag index state) reading.found
+      (subst (λ task. KeptFor pins loaded after tag (Some task)) (sym (task_ended tag index s.tasks reading state))
+      (record {
+        wanted = wanted_then tag index s.tasks reading state ends s.translation.pins (h.kept.wanted tag);
+        read = this ∙ sym (read_then tag index s.tasks reading state);
+        claims = (λ i. same i tag) ∙ (h.kept.claims tag
+            ∙ (ap (claims_by tag) reading.found ∙ ap (claims_in tag) reading.deed));
+      }))
+      (λ n other. record {
+        wanted = λ k. want_other_tag tag index false n k s.translation.pins other;
+        read_is = others n other;
+        claims = λ i. same i n;
+      })
 
   pub right_keeps : (page : Tag) (body : List ℕ) → s.translation.disk.cells place ≡ GroupPage page body →
       layer_kept.Describes after (over ReadRight) →
       Keeps (told (record d { ftl = after }) (ended.Read tag (Some body)))
-      (read_state s tag WasRead s.array (over ReadRight))
+      (read_state s tag index WasRead s.array (over ReadRight))
   right_keeps page body cell layer =
-      subst (λ e. Keeps e (read_state s tag WasRead s.array (over ReadRight)))
+      subst (λ e. Keeps e (read_state s tag index WasRead s.array (over ReadRight)))
       (sym (loads (record d { ftl = after }) new
-      (has_room (map (task_read tag 0 WasRead) s.tasks) d.loaded new (few WasRead)
-      (λ n. ap (λ (p : Progress). p.read) (blocks_then n)))))
+      (has_room (map (task_read tag index WasRead) s.tasks) d.loaded new (few WasRead) (λ n. (kept n).read))))
       (record {
         permanent = h.kept.permanent;
         layer_kept = layer;
         few = few WasRead;
-        tasks = tasks_read before tag d.tasks s.tasks d.loaded h.tied.tasks.tasks_differ reading h.kept.tasks;
-        blocks = blocks_then;
+        tasks = tasks_read before tag index s.tasks h.tied.tasks.tasks_differ reading d.tasks h.kept.tasks;
+        wanted = λ n. (kept n).wanted;
+        read = λ n. (kept n).read;
+        claims = λ n. (kept n).claims;
         shorts = h.kept.shorts;
         power_off = h.kept.power_off;
       })
@@ -180,28 +186,33 @@ module _ (d : DeviceCore) (s : State) (die tag : ℕ) (place : Place) (after : C
       new : Loaded
       new = record { tag = tag; body = body }
 
-      blocks_then : (n : ℕ) →
-          progress_kept pins (d.loaded ++ new ∷ []) n ≡ progress_of (task_of n (map (task_read tag 0 WasRead) s.tasks))
-      blocks_then =
-          blocks WasRead (d.loaded ++ new ∷ [])
-          ((λ i. progress (unwanted i) ((read_more tag d.loaded new
-          ∙ (λ j. reading.none_read j ++ cond (eq_self tag j) (body ∷ []) [])) i))
-          ∙ ap (λ b. progress (Some false) (b ∷ [])) (content_read d s tag 0 place page body before h w reading cell))
+      kept : KeptForAll pins (d.loaded ++ new ∷ []) after (map (task_read tag index WasRead) s.tasks)
+      kept =
+          kept_then WasRead (d.loaded ++ new ∷ []) refl
+          (read_more tag d.loaded new
+          ∙ ((λ i. none_read i ++ cond (eq_self tag i) (body ∷ []) [])
+          ∙ ap (λ b. b ∷ []) (content_read d s tag index place page body h w reading cell)))
           (λ n other. read_more n d.loaded new
-          ∙ (ap (λ b. read_for n d.loaded ++ cond b (body ∷ []) []) (other_way n tag other)
-          ∙ append-nil (read_for n d.loaded)))
+          ∙ (ap (λ b. read_kept d.loaded n ++ cond b (body ∷ []) []) (other_way n tag other)
+          ∙ append-nil (read_kept d.loaded n)))
 
   pub wrong_keeps : layer_kept.Describes after (over ReadWrong) →
-      Keeps (told (record d { ftl = after }) (ended.Read tag None)) (read_state s tag NotRead s.array (over ReadWrong))
+      Keeps (told (record d { ftl = after }) (ended.Read tag None))
+      (read_state s tag index NotRead s.array (over ReadWrong))
   wrong_keeps layer = record {
     permanent = h.kept.permanent;
     layer_kept = layer;
     few = few NotRead;
-    tasks = tasks_lost before tag d.tasks s.tasks d.loaded h.tied.tasks.tasks_differ reading h.kept.tasks;
-    blocks = blocks NotRead d.loaded (λ i. progress (unwanted i) (reading.none_read i)) (λ n other. refl);
+    tasks = tasks_lost before tag index s.tasks h.tied.tasks.tasks_differ reading d.tasks h.kept.tasks;
+    wanted = λ n. (kept n).wanted;
+    read = λ n. (kept n).read;
+    claims = λ n. (kept n).claims;
     shorts = h.kept.shorts;
     power_off = h.kept.power_off;
   }
+    where
+      kept : KeptForAll pins d.loaded after (map (task_read tag index NotRead) s.tasks)
+      kept = kept_then NotRead d.loaded refl none_read (λ n other. refl)
 
 -- Each job
 
@@ -223,7 +234,8 @@ moved_is : (t : Translation) (die : ℕ) (flight : Flight) (ending : Ending) →
     moved t (EndJob die ending) ≡ job_ended t die flight ending
 moved_is t die flight ending e = ap (λ (x : Option Flight). end_flight t die x ending) e
 
-module _ (d : DeviceCore) (s : State) (die : ℕ) (left : Array) (after : Core) (e : Ended) (h : Describes d s) where
+module _ (d : DeviceCore) (s : State) (die : ℕ) (left : Array) (after : Core) (e : Ended) (h : Describes d s)
+    (claims : claims_for after ≡ claims_for d.ftl) where
   abbrev Reads : ℕ → ℕ → Place → Option Flight
   Reads tag index place = Some (Reading (ForTask tag index) place)
 
@@ -244,26 +256,28 @@ module _ (d : DeviceCore) (s : State) (die : ℕ) (left : Array) (after : Core) 
       (with_moves (record x { array = array_behind s flight ending left }) (EndJob die ending ∷ [])))
       (sym (none_noted s flight ending none))
       (layer_moves d after s (array_behind s flight ending left) (moved s.translation (EndJob die ending)) h.kept layer
-      (subst (Leaves s.translation) (sym (moved_is s.translation die flight ending is))
+      claims (subst (Leaves s.translation) (sym (moved_is s.translation die flight ending is))
       (job_leaves s.translation die flight ending none))))
 
-  task_keeps : (tag : ℕ) (place : Place) (ending : Ending) → IsAwaited s.translation tag 0 place →
-      EndKeeps (Reads tag 0 place) ending
-  task_keeps tag place ReadRight w is fit tells layer =
-      let same = moved_is s.translation die (Reading (ForTask tag 0) place) ReadRight is in
-      subst (λ x. Keeps (told (record d { ftl = after }) x) (ends_with s die (Reads tag 0 place) ReadRight left))
+  task_keeps : (tag index : ℕ) (place : Place) (ending : Ending) → IsAwaited s.translation tag index place →
+      EndKeeps (Reads tag index place) ending
+  task_keeps tag index place ReadRight w is fit tells layer =
+      let same = moved_is s.translation die (Reading (ForTask tag index) place) ReadRight is in
+      subst (λ x. Keeps (told (record d { ftl = after }) x) (ends_with s die (Reads tag index place) ReadRight left))
       (sym tells.3)
       (subst (λ u. Keeps (told (record d { ftl = after }) (ended.Read tag (Some tells.1)))
-      (read_state s tag WasRead s.array u)) (sym same)
-      (right_keeps d s die tag place after h w tells.0 tells.1 tells.2 (subst (layer_kept.Describes after) same layer)))
-  task_keeps tag place ReadWrong w is fit tells layer =
-      let same = moved_is s.translation die (Reading (ForTask tag 0) place) ReadWrong is in
-      subst (λ x. Keeps (told (record d { ftl = after }) x) (ends_with s die (Reads tag 0 place) ReadWrong left))
+      (read_state s tag index WasRead s.array u)) (sym same)
+      (right_keeps d s die tag index place after h w claims tells.0 tells.1 tells.2
+      (subst (layer_kept.Describes after) same layer)))
+  task_keeps tag index place ReadWrong w is fit tells layer =
+      let same = moved_is s.translation die (Reading (ForTask tag index) place) ReadWrong is in
+      subst (λ x. Keeps (told (record d { ftl = after }) x) (ends_with s die (Reads tag index place) ReadWrong left))
       (sym tells)
-      (subst (λ u. Keeps (told (record d { ftl = after }) (ended.Read tag None)) (read_state s tag NotRead s.array u))
-      (sym same) (wrong_keeps d s die tag place after h w (subst (layer_kept.Describes after) same layer)))
-  task_keeps tag place WentWell w is fit tells layer = absurd (false≢true fit)
-  task_keeps tag place (WentWrong cells) w is fit tells layer = absurd (false≢true fit)
+      (subst (λ u. Keeps (told (record d { ftl = after }) (ended.Read tag None))
+      (read_state s tag index NotRead s.array u))
+      (sym same) (wrong_keeps d s die tag index place after h w claims (subst (layer_kept.Describes after) same layer)))
+  task_keeps tag index place WentWell w is fit tells layer = absurd (false≢true fit)
+  task_keeps tag index place (WentWrong cells) w is fit tells layer = absurd (false≢true fit)
 
   job_keeps : (x : Option Flight) (ending : Ending) →
       ((who : Reader) (place : Place) → s.translation.disk.flights die ≡ Some (Reading who place) →
@@ -271,10 +285,7 @@ module _ (d : DeviceCore) (s : State) (die : ℕ) (left : Array) (after : Core) 
       EndKeeps x ending
   job_keeps None ending reads is fit tells layer = absurd (false≢true fit)
   job_keeps (Some (Reading (ForTask tag index) place)) ending reads is fit tells layer =
-      let r : IsAwaited s.translation tag index place = reads (ForTask tag index) place is in
-      subst (λ k. EndKeeps (Reads tag k place) ending) (sym r.first)
-      (task_keeps tag place ending (subst (λ k. IsAwaited s.translation tag k place) r.first r)) is fit tells
-      layer
+      task_keeps tag index place ending (reads (ForTask tag index) place is) is fit tells layer
   job_keeps (Some (Reading ForNobody place)) ending reads is fit tells layer =
       nothing_keeps (Reading ForNobody place) ending tt is tells layer
   job_keeps (Some (Reading ForStep place)) ending reads is fit tells layer =
@@ -290,13 +301,15 @@ pub ends_right : (d new : DeviceCore) (s : State) (die : ℕ) (o : Outcome) (end
     (after : Core)
     (e : Ended) → Describes d s → IsEndingOf s.translation.disk.cells (s.translation.disk.flights die) o ending →
     MayLeave s die ending left → layer_kept.Describes after (moved s.translation (EndJob die ending)) →
+    claims_for after ≡ claims_for d.ftl →
     IsTold s.translation.disk.cells (s.translation.disk.flights die) ending e →
     ((who : Reader) (place : Place) → s.translation.disk.flights die ≡ Some (Reading who place) →
     IsReadOf s.translation place who) →
     ((t : Translation) → layer_kept.Describes (told (record d { ftl = after }) e).ftl t →
     new ≡ lock_told t (told (record d { ftl = after }) e)) →
     IsAnswered s (Done die ending left) (OfDone true) new
-ends_right d new s die o ending left after e h is leaves layer tells reads told_then =
+ends_right d new s die o ending left after e h is leaves layer claims tells reads told_then =
     let fit = ending_fits s.translation.disk.cells (s.translation.disk.flights die) o ending is in
     answered_told d (told (record d { ftl = after }) e) new s (Done die ending left) (OfDone true) h leaves (sym fit)
-    (job_keeps d s die left after e h (s.translation.disk.flights die) ending reads refl fit tells layer) told_then
+    (job_keeps d s die left after e h claims (s.translation.disk.flights die) ending reads refl fit tells layer)
+    told_then

@@ -17,18 +17,18 @@ abbrev IsRight : Translation → ledger.Looked → Type 0
 IsRight t kept = LookedRight (book t) t.ledger.frontier t.disk.cells t.disk.finished t.disk.erasing kept
 
 -- what is said of whatever the reader looks at is said of what is kept for it
-pub block_found : (t : Translation) (loaded : List Loaded) (tag : ℕ) (kept : Option Looked) (looked : Looked)
-    (body : Option (List ℕ)) → Valid t → kept ≡ Some looked → IsPinned kept (find (is_pin_of tag 0) t.pins) →
+pub block_found : (t : Translation) (loaded : List Loaded) (tag index : ℕ) (kept : Option Looked) (looked : Looked)
+    (body : Option (List ℕ)) → Valid t → kept ≡ Some looked → IsPinned kept (find (is_pin_of tag index) t.pins) →
     ((x : ledger.Looked) → IsLookedAt looked x → IsRight t x → body ≡ block_at t.ledger loaded tag x) →
-    body ≡ block_for t loaded tag
-block_found t loaded tag kept looked body v is pinned told =
-    by (find (is_pin_of tag 0) t.pins) refl
-    (subst (λ (o : Option Looked). IsPinned o (find (is_pin_of tag 0) t.pins)) is pinned)
+    body ≡ block_for t loaded tag index
+block_found t loaded tag index kept looked body v is pinned told =
+    by (find (is_pin_of tag index) t.pins) refl
+    (subst (λ (o : Option Looked). IsPinned o (find (is_pin_of tag index) t.pins)) is pinned)
   where
-    by : (pin : Option Pin) → find (is_pin_of tag 0) t.pins ≡ pin → IsPinned (Some looked) pin →
+    by : (pin : Option Pin) → find (is_pin_of tag index) t.pins ≡ pin → IsPinned (Some looked) pin →
         body ≡ block_of t.ledger loaded tag pin
     by None found at = absurd at
     by (Some pin) found at =
         told pin.looked at
         (all_in (λ (p : Pin). IsRight t p.looked) pin t.pins v.pins.each
-        (found_in (is_pin_of tag 0) t.pins pin found).0)
+        (found_in (is_pin_of tag index) t.pins pin found).0)

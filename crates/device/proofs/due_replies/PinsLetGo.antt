@@ -1,68 +1,98 @@
--- What is kept for a tag whose pins are let go: its first pin, or all of them.
-use Rattle.std.proofs.Common.{◌≡◌, ◌∙◌, ℕ, ◌==◌, ◌&&◌, Bool, true, false, cond, List, [], ◌∷◌, Option, Some, None, map}
-use Rattle.std.proofs.Common.{refl, sym, ap}
+-- What is kept for a tag whose pins are let go: the one that was handed out, or all of them.
+use Rattle.std.proofs.Common.{◌≡◌, ◌∙◌, ℕ, ◌+◌, ◌==◌, ◌&&◌, Bool, true, false, cond, List, [], ◌∷◌, Option, Some}
+use Rattle.std.proofs.Common.{None, map, refl, sym, ap, arith}
+use Rattle.std.proofs.lemmas.Bool.Decides.{nat_tests}
 use Rattle.std.specs.Prelude.{filter, if◌then◌else◌, not, option_map}
 use Rattle.ufs_spec.proofs.Facts.{and_parts, eqb-true}
 use Rattle.ufs_spec.specs.Disk.{Erasing, Flight, ForNobody, ForRest, ForStep, ForTask, Programming, Reader, Reading}
 use Rattle.ufs_spec.specs.Moves.{LetGo, LetGoAll, WantPage, is_for, is_for_task, is_pin_of, moved, with_wanted}
 use Rattle.ufs_spec.specs.Moves.{without_reader}
 use Rattle.ufs_spec.specs.Translation.{Pin, Translation}
-use Rattle.device.proofs.open_tasks.ReadProgress.{find_gone, find_left, want_set_else, wanted_for}
+use Rattle.device.specs.Describes.{wanted_kept}
+use Rattle.device.proofs.open_tasks.ReadProgress.{want_other_index, want_other_tag, want_set, wanted_gone, wanted_left}
+
+not_next : (n : ℕ) → (n == (n + 1)) ≡ false
+not_next n = grind (arith, nat_tests)
+
+not_before : (n : ℕ) → ((n + 1) == n) ≡ false
+not_before n = grind (arith, nat_tests)
 
 -- those of a reader
-pub gone_pins : (one : ℕ) (pins : List Pin) → wanted_for one (filter (λ pin. not (pin.tag == one)) pins) ≡ None
-gone_pins one pins =
-    ap (option_map (λ (pin : Pin). pin.wanted)) (find_gone (is_pin_of one 0) (λ pin. not (pin.tag == one))
-    (λ pin e. ap not (and_parts _ _ e).0) pins)
+pub gone_pins : (one index : ℕ) (pins : List Pin) →
+    wanted_kept (filter (λ pin. not (pin.tag == one)) pins) one index ≡ None
+gone_pins one index pins =
+    wanted_gone (λ pin. not (pin.tag == one)) pins one index (λ pin e. ap not (and_parts _ _ e).0)
 
-pub other_pins : (one tag : ℕ) (pins : List Pin) → (tag == one) ≡ false →
-    wanted_for tag (filter (λ pin. not (pin.tag == one)) pins) ≡ wanted_for tag pins
-other_pins one tag pins other =
-    ap (option_map (λ (pin : Pin). pin.wanted))
-    (find_left (is_pin_of tag 0) (λ pin. not (pin.tag == one))
-    (λ pin e. ap not (ap (λ (n : ℕ). n == one) (eqb-true pin.tag tag (and_parts _ _ e).0) ∙ other)) pins)
+pub other_pins : (one tag index : ℕ) (pins : List Pin) → (tag == one) ≡ false →
+    wanted_kept (filter (λ pin. not (pin.tag == one)) pins) tag index ≡ wanted_kept pins tag index
+other_pins one tag index pins other =
+    wanted_left (λ pin. not (pin.tag == one)) pins tag index
+    (λ pin e. ap not (ap (λ (n : ℕ). n == one) (eqb-true pin.tag tag (and_parts _ _ e).0) ∙ other))
 
--- its first one, where it wants none behind it
-pub wants_next : (one tag : ℕ) (pins : List Pin) → wanted_for tag (map (with_wanted one 1 true) pins) ≡ wanted_for tag
-    pins
-wants_next one tag pins =
-    want_set_else one 1 true tag pins
-    (λ pin e. ap (λ (n : ℕ). (pin.tag == one) && (n == 1)) (eqb-true pin.index 0 (and_parts _ _ e).1)
-    ∙ right (pin.tag == one))
+-- what is left of the pins of a reader whose block of an index was handed out: the one behind it is wanted
+abbrev left : ℕ → ℕ → List Pin → List Pin
+left one sent pins = filter (λ pin. not (is_pin_of one sent pin)) pins
+
+abbrev pub with_next : ℕ → ℕ → List Pin → List Pin
+with_next one sent pins = map (with_wanted one (sent + 1) true) (left one sent pins)
+
+-- a pin of another index is another
+else_index : (one tag index i : ℕ) → (index == i) ≡ false → (pin : Pin) → is_pin_of tag index pin ≡ true →
+    is_pin_of one i pin ≡ false
+else_index one tag index i other pin e =
+    ap (λ (b : Bool). (pin.tag == one) && b)
+    (ap (λ (n : ℕ). n == i) (eqb-true pin.index index (and_parts _ _ e).1) ∙ other)
+    ∙ right (pin.tag == one)
   where
     right : (b : Bool) → (b && false) ≡ false
     right true = refl
     right false = refl
 
-pub gone_first : (one : ℕ) (pins : List Pin) →
-    wanted_for one (map (with_wanted one 1 true) (filter (λ pin. not (is_pin_of one 0 pin)) pins)) ≡ None
-gone_first one pins =
-    wants_next one one (filter (λ pin. not (is_pin_of one 0 pin)) pins)
-    ∙ ap (option_map (λ (pin : Pin). pin.wanted)) (find_gone (is_pin_of one 0) (λ pin. not (is_pin_of one 0 pin))
-    (λ pin e. ap not e) pins)
+index_left : (one sent index : ℕ) (pins : List Pin) → (index == sent) ≡ false →
+    wanted_kept (left one sent pins) one index ≡ wanted_kept pins one index
+index_left one sent index pins other =
+    wanted_left (λ pin. not (is_pin_of one sent pin)) pins one index
+    (λ pin e. ap not (else_index one one index sent other pin e))
 
-pub other_first : (one tag : ℕ) (pins : List Pin) → (tag == one) ≡ false →
-    wanted_for tag (map (with_wanted one 1 true) (filter (λ pin. not (is_pin_of one 0 pin)) pins)) ≡ wanted_for tag pins
-other_first one tag pins other =
-    wants_next one tag (filter (λ pin. not (is_pin_of one 0 pin)) pins)
-    ∙ ap (option_map (λ (pin : Pin). pin.wanted))
-    (find_left (is_pin_of tag 0) (λ pin. not (is_pin_of one 0 pin))
-    (λ pin e. ap (λ b. not (b && (pin.index == 0))) (ap (λ (n : ℕ). n == one) (eqb-true pin.tag tag (and_parts _ _ e).0)
-    ∙ other)) pins)
+pub next_of_others : (one sent tag index : ℕ) (pins : List Pin) → (tag == one) ≡ false →
+    wanted_kept (with_next one sent pins) tag index ≡ wanted_kept pins tag index
+next_of_others one sent tag index pins other =
+    want_other_tag one (sent + 1) true tag index (left one sent pins) other
+    ∙ wanted_left (λ pin. not (is_pin_of one sent pin)) pins tag index
+    (λ pin e. ap not (ap (λ (b : Bool). b && (pin.index == sent))
+    (ap (λ (n : ℕ). n == one) (eqb-true pin.tag tag (and_parts _ _ e).0) ∙ other)))
 
--- to let go of all after the first is to let go of all
-pub gone_again : (t : Translation) (one : ℕ) → moved (moved (moved t (LetGo one 0)) (WantPage one 1)) (LetGoAll one) ≡
-    moved
-    t (LetGoAll one)
-gone_again t one i = record t {
+pub next_elsewhere : (one sent index : ℕ) (pins : List Pin) → (index == sent) ≡ false →
+    (index == (sent + 1)) ≡ false → wanted_kept (with_next one sent pins) one index ≡ wanted_kept pins one index
+next_elsewhere one sent index pins first second =
+    want_other_index one (sent + 1) true one index (left one sent pins) second ∙ index_left one sent index pins first
+
+-- the one that was handed out is gone
+pub next_gone : (one sent : ℕ) (pins : List Pin) → wanted_kept (with_next one sent pins) one sent ≡ None
+next_gone one sent pins =
+    want_other_index one (sent + 1) true one sent (left one sent pins) (not_next sent)
+    ∙ wanted_gone (λ pin. not (is_pin_of one sent pin)) pins one sent (λ pin e. ap not e)
+
+-- the one behind it is wanted, if it is there
+pub next_is_wanted : (one sent : ℕ) (pins : List Pin) →
+    wanted_kept (with_next one sent pins) one (sent + 1)
+    ≡ option_map (λ (b : Bool). true) (wanted_kept pins one (sent + 1))
+next_is_wanted one sent pins =
+    want_set one (sent + 1) true (left one sent pins)
+    ∙ ap (option_map (λ (b : Bool). true)) (index_left one sent (sent + 1) pins (not_before sent))
+
+-- to let go of all after one of them is to let go of all
+pub gone_again : (t : Translation) (one sent : ℕ) →
+    moved (moved (moved t (LetGo one sent)) (WantPage one (sent + 1))) (LetGoAll one) ≡ moved t (LetGoAll one)
+gone_again t one sent i = record t {
   disk = record t.disk { flights = λ die. flight (t.disk.flights die) i };
   pins = pins t.pins i;
 }
   where
     reader : (who : Reader) (place : _) →
-        without_reader (is_for_task one) (Some (Reading (if is_for one 0 who then ForNobody else who) place)) ≡
+        without_reader (is_for_task one) (Some (Reading (if is_for one sent who then ForNobody else who) place)) ≡
         without_reader (is_for_task one) (Some (Reading who place))
-    reader (ForTask other index) place = by (other == one) (index == 0) refl
+    reader (ForTask other index) place = by (other == one) (index == sent) refl
       where
         by : (a b : Bool) → (other == one) ≡ a →
             without_reader (is_for_task one) (Some (Reading (if a && b then ForNobody else ForTask other index) place))
@@ -74,8 +104,8 @@ gone_again t one i = record t {
     reader (ForRest number index) place = refl
     reader ForNobody place = refl
 
-    flight : (o : Option Flight) → without_reader (is_for_task one) (without_reader (is_for one 0) o) ≡ without_reader
-        (is_for_task one) o
+    flight : (o : Option Flight) →
+        without_reader (is_for_task one) (without_reader (is_for one sent) o) ≡ without_reader (is_for_task one) o
     flight (Some (Reading who place)) = reader who place
     flight (Some (Programming place cell)) = refl
     flight (Some (Erasing spot)) = refl
@@ -83,34 +113,35 @@ gone_again t one i = record t {
 
     pins : (qs : List Pin) →
         filter (λ pin. not (pin.tag == one))
-        (map (with_wanted one 1 true) (filter (λ pin. not (is_pin_of one 0 pin)) qs)) ≡ filter
+        (map (with_wanted one (sent + 1) true) (filter (λ pin. not (is_pin_of one sent pin)) qs)) ≡ filter
         (λ pin. not (pin.tag == one)) qs
     pins [] = refl
-    pins (q ∷ qs) = by (q.tag == one) (q.index == 0) refl (pins qs)
+    pins (q ∷ qs) = by (q.tag == one) (q.index == sent) refl (pins qs)
       where
         rest : List Pin
-        rest = filter (λ pin. not (is_pin_of one 0 pin)) qs
+        rest = filter (λ pin. not (is_pin_of one sent pin)) qs
 
         kept : (b : Bool) (x : Bool) → (q.tag == one) ≡ x →
             filter (λ pin. not (pin.tag == one)) ((if b then record q { wanted = true } else q) ∷ map
-            (with_wanted one 1 true) rest)
+            (with_wanted one (sent + 1) true) rest)
             ≡ cond (not x) ((if b then record q { wanted = true } else q) ∷ filter (λ pin. not (pin.tag == one))
-            (map (with_wanted one 1 true) rest))
-            (filter (λ pin. not (pin.tag == one)) (map (with_wanted one 1 true) rest))
+            (map (with_wanted one (sent + 1) true) rest))
+            (filter (λ pin. not (pin.tag == one)) (map (with_wanted one (sent + 1) true) rest))
         kept true x e = ap (λ z. cond (not z) (record q { wanted = true } ∷ filter (λ pin. not (pin.tag == one))
-            (map (with_wanted one 1 true) rest))
-            (filter (λ pin. not (pin.tag == one)) (map (with_wanted one 1 true) rest))) e
+            (map (with_wanted one (sent + 1) true) rest))
+            (filter (λ pin. not (pin.tag == one)) (map (with_wanted one (sent + 1) true) rest))) e
         kept false x e = ap (λ z.
-            cond (not z) (q ∷ filter (λ pin. not (pin.tag == one)) (map (with_wanted one 1 true) rest))
-            (filter (λ pin. not (pin.tag == one)) (map (with_wanted one 1 true) rest))) e
+            cond (not z) (q ∷ filter (λ pin. not (pin.tag == one)) (map (with_wanted one (sent + 1) true) rest))
+            (filter (λ pin. not (pin.tag == one)) (map (with_wanted one (sent + 1) true) rest))) e
 
         by : (x y : Bool) → (q.tag == one) ≡ x →
-            filter (λ pin. not (pin.tag == one)) (map (with_wanted one 1 true) rest) ≡ filter
+            filter (λ pin. not (pin.tag == one)) (map (with_wanted one (sent + 1) true) rest) ≡ filter
             (λ pin. not (pin.tag == one)) qs →
-            filter (λ pin. not (pin.tag == one)) (map (with_wanted one 1 true) (cond (not (x && y)) (q ∷ rest) rest))
+            filter (λ pin. not (pin.tag == one))
+            (map (with_wanted one (sent + 1) true) (cond (not (x && y)) (q ∷ rest) rest))
             ≡ cond (not x) (q ∷ filter (λ pin. not (pin.tag == one)) qs) (filter (λ pin. not (pin.tag == one)) qs)
         by true true e same = same
-        by true false e same = kept ((q.tag == one) && (q.index == 1)) true e ∙ same
+        by true false e same = kept ((q.tag == one) && (q.index == (sent + 1))) true e ∙ same
         by false y e same =
-            kept ((q.tag == one) && (q.index == 1)) false e
-            ∙ (λ i. (if e i && (q.index == 1) then record q { wanted = true } else q) ∷ same i)
+            kept ((q.tag == one) && (q.index == (sent + 1))) false e
+            ∙ (λ i. (if e i && (q.index == (sent + 1)) then record q { wanted = true } else q) ∷ same i)

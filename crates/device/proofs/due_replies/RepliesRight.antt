@@ -28,7 +28,7 @@ use Rattle.device.specs.declared.tasks.Status.TheVariants as status
 use Rattle.device.specs.declared.tasks.Task.{Task}
 use Rattle.device.proofs.described.Answered.{answered, answered_as, stays}
 use Rattle.device.proofs.open_tasks.OpenTasks.{our_task, their_task}
-use Rattle.device.proofs.due_replies.ReplyMoves.{moves_on, task_does}
+use Rattle.device.proofs.due_replies.DeedsBehind.{moves_on, task_does}
 use Rattle.device.proofs.due_replies.ReplySame.{same_reply}
 use Rattle.power_loss.proofs.host_commands.HandedOutReplies.{one_tag as same_tag}
 
@@ -38,18 +38,18 @@ use Rattle.power_loss.proofs.host_commands.HandedOutReplies.{one_tag as same_tag
 reply_tag : (t : Translation) (loaded : List Loaded) (a : Task) (p : Phase) (m : Message) →
     owed_in t loaded a p ≡ Some m →
     tag_in m ≡ a.tag
-reply_tag t loaded a (phase.AskData key fua) m h = same_tag _ m a.tag h refl
-reply_tag t loaded a (phase.AwaitData key fua) m h = absurd (none-some m h)
+reply_tag t loaded a (phase.AskData x) m h = same_tag _ m a.tag h refl
+reply_tag t loaded a (phase.AwaitData x) m h = absurd (none-some m h)
 reply_tag t loaded a (phase.AwaitFrontier n size) m h = by (nat_le n t.ledger.frontier) h
   where
     by : (x : Bool) → (if x then Some (answer_of a status.Good size) else None) ≡ Some m → tag_in m ≡ a.tag
     by true e = same_tag (answer_of a status.Good size) m a.tag e refl
     by false e = absurd (none-some m e)
-reply_tag t loaded a phase.SendBlock m h = by (block_for t loaded a.tag) h
+reply_tag t loaded a (phase.SendBlocks x) m h = by (block_for t loaded a.tag x.sent) h
   where
-    by : (x : Option (List ℕ)) → option_map (block_message a) x ≡ Some m → tag_in m ≡ a.tag
+    by : (o : Option (List ℕ)) → option_map (block_message a x) o ≡ Some m → tag_in m ≡ a.tag
     by None e = absurd (none-some m e)
-    by (Some body) e = same_tag (block_message a body) m a.tag e refl
+    by (Some body) e = same_tag (block_message a x body) m a.tag e refl
 reply_tag t loaded a (phase.SendData x) m h = same_tag (data_message a x) m a.tag h refl
 reply_tag t loaded a (phase.Answer told n) m h = same_tag (answer_of a told n) m a.tag h refl
 
@@ -57,7 +57,8 @@ reply_tag t loaded a (phase.Answer told n) m h = same_tag (answer_of a told n) m
 
 pub replies_right : (d e : DeviceCore) (s : State) (k : ℕ) (task : Task) (m : Message) → Describes d s →
     slice_get d.tasks k ≡ Some task → owed_by s.translation d.loaded task ≡ Some m →
-    e ≡ record (moved_on d k task task.phase) { ftl = e.ftl } → HasMoved e.ftl s.translation task.tag task.phase →
+    e ≡ record (moved_on d k task task.phase) { ftl = e.ftl } →
+    HasMoved d.ftl e.ftl s.translation task.tag task.phase →
     IsAnswered s Reply (OfReply (Some m)) e
 replies_right d e s k task m h there due left layer =
     let r = their_task (before_accepted s.translation.ledger) k d.tasks s.tasks task h.kept.tasks there in
@@ -126,7 +127,9 @@ shorts_right d s r rs h is =
         layer_kept = h.kept.layer_kept;
         few = h.kept.few;
         tasks = h.kept.tasks;
-        blocks = h.kept.blocks;
+        wanted = h.kept.wanted;
+        read = h.kept.read;
+        claims = h.kept.claims;
         shorts = ap (map short_kept) (sym (ap (λ (xs : List kept.Short). remove xs 0) is));
         power_off = h.kept.power_off;
       };

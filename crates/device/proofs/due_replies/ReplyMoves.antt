@@ -1,58 +1,52 @@
--- What a reply makes of a task is what the definitions make of it.
-use Rattle.std.proofs.Common.{◌≡◌, ◌∙◌, ℕ, ◌≤◌, ◌==◌, Bool, true, false, All, List, [], ◌∷◌, Option, Some, None, length}
+-- What is kept of all tasks once one of them has handed out a reply: it does something else from now on, or it goes.
+use Rattle.std.proofs.Common.{◌≡◌, ◌∙◌, ℕ, ◌+◌, ◌≤◌, ◌==◌, Bool, true, false, All, List, [], Option, Some, None, length}
 use Rattle.std.proofs.Common.{map, refl, sym, ap, subst, arith}
 use Rattle.std.specs.Option.{option_to_list}
-use Rattle.std.specs.Prelude.{filter, if◌then◌else◌, max, nat_le, not, position, slice_get}
+use Rattle.std.specs.Prelude.{filter, if◌then◌else◌, not, position, slice_get}
 use Rattle.std.proofs.lemmas.List.{length-map}
 use Rattle.std.proofs.lemmas.List.Elements.{All-filter, All-map, All-weaker}
 use Rattle.std.proofs.lemmas.List.Filters.{length-filter_both}
-use Rattle.ufs_spec.proofs.Facts.{false≢true, leb-true, none-some}
 use Rattle.ufs_spec.specs.Exchanges as exchange
-use Rattle.ufs_spec.specs.Exchanges.{Answering, Awaiting, Deed, Gathering, Good, NotRead, Purpose, ReadBlock, ReadState}
-use Rattle.ufs_spec.specs.Exchanges.{Sending, SendingBytes, Unread, WasRead, task_of, with_deed}
+use Rattle.ufs_spec.specs.Exchanges.{Deed, NotRead, ReadBlock, ReadState}
+use Rattle.ufs_spec.specs.Exchanges.{Sending, Unread, WasRead, task_of, with_deed}
 use Rattle.ufs_spec.specs.Ledger.{before_accepted}
-use Rattle.ufs_spec.specs.Machine.{deed_behind, deed_behind_state, durable, moves_behind, set_deed, task_behind}
-use Rattle.ufs_spec.specs.Machine.{with_moves}
-use Rattle.ufs_spec.specs.Moves.{Acknowledge, LetGo, LetGoAll, WantPage, moved}
+use Rattle.ufs_spec.specs.Machine.{durable, set_deed, task_behind}
+use Rattle.ufs_spec.specs.Moves.{LetGo, LetGoAll, WantPage, moved}
 use Rattle.ufs_spec.specs.Refusals.{State, locked}
 use Rattle.ufs_spec.specs.Exchanges.{most_tasks}
 use Rattle.ufs_spec.specs.Translation.{Pin, Translation}
-use Rattle.ufs_spec.specs.declared.flash.Key.{Key}
-use Rattle.ufs_spec.specs.declared.messages.Message.{Message}
 use Rattle.power_loss.proofs.open_tasks.TaskLists.{found_task}
 use Rattle.ftl_core.specs.Core.{Core}
 use Rattle.ftl_core.specs.Describes as layer_kept
+use Rattle.ftl_core.specs.Moves.{claims_for}
+use Rattle.ftl_core.specs.declared.books.Claimed.{Claimed}
 use Rattle.device.specs.declared.tasks.Loaded.{Loaded}
 use Rattle.device.specs.declared.tasks.Phase.{Phase}
-use Rattle.device.specs.declared.tasks.Phase.TheVariants as phase
-use Rattle.device.specs.declared.tasks.ShortData.{ShortData}
-use Rattle.device.specs.declared.tasks.Status.TheVariants as status
 use Rattle.device.specs.declared.tasks.Task.{Task}
-use Rattle.device.specs.Describes.{Describes, IsDoing, IsTold, IsToldIn, Keeps, Progress, TasksKept, is_lost}
-use Rattle.device.specs.Describes.{progress_by, progress_in, progress_kept, progress_of, progress_of_block}
+use Rattle.device.specs.Describes.{Describes, IsDoing, IsTold, IsToldIn, Keeps, TasksKept}
+use Rattle.device.specs.Describes.{claims_by, claims_in, read_by, read_for, read_in, read_kept, read_of}
+use Rattle.device.specs.Describes.{wanted_by, wanted_in, wanted_kept}
 use Rattle.device.specs.Hears.{task_set, tasks_set}
 use Rattle.device.specs.Kept.{DeviceCore}
-use Rattle.device.specs.Replies.{HasMoved, is_loaded_for, loaded_without, moved_on, owed_by, owed_in, without_block}
+use Rattle.device.specs.Replies.{is_loaded_for, loaded_without, without_block}
 use Rattle.device.specs.Replies.{without_task}
-use Rattle.device.specs.Tasks.{data_length}
 use Rattle.device.proofs.described.Answered.{IsBehind}
 use Rattle.device.proofs.open_tasks.OpenTasks.{IsOpen, one_changed, one_gone}
-use Rattle.device.proofs.open_tasks.ReadProgress.{by_tag, deed_changes, deed_set, none_read, others_go_on, others_left}
-use Rattle.device.proofs.open_tasks.ReadProgress.{others_read, progress, read_for, task_gone}
-use Rattle.device.proofs.due_replies.PinsLetGo.{gone_pins, other_pins, gone_first, other_first, gone_again}
+use Rattle.device.proofs.open_tasks.KeptByTag.{KeptFor, KeptForAll, all_kept, deed_changed, one_goes}
+use Rattle.device.proofs.open_tasks.ReadProgress.{none_read, others_read}
+use Rattle.device.proofs.due_replies.PinsLetGo.{gone_pins, next_of_others, other_pins, with_next}
 
 -- What stays
 
-one_read : (deed : Deed) → (o : Option (List ℕ)) × ((progress_in deed).read ≡ option_to_list o)
+one_read : (deed : Deed) → (o : Option (List ℕ)) × (read_in deed ≡ option_to_list o)
 one_read (Sending blocks sent) = of_block (slice_get blocks sent)
   where
-    of_state : (body : List ℕ) (state : ReadState) → (o : Option (List ℕ))
-        × ((progress_by body state).read ≡ option_to_list o)
+    of_state : (body : List ℕ) (state : ReadState) → (o : Option (List ℕ)) × (read_by body state ≡ option_to_list o)
     of_state body Unread = (None, refl)
     of_state body WasRead = (Some body, refl)
     of_state body NotRead = (None, refl)
 
-    of_block : (o : Option ReadBlock) → (p : Option (List ℕ)) × ((progress_of_block o).read ≡ option_to_list p)
+    of_block : (o : Option ReadBlock) → (p : Option (List ℕ)) × (read_of o ≡ option_to_list p)
     of_block None = (None, refl)
     of_block (Some block) = of_state block.body block.state
 one_read deed = (None, refl)
@@ -67,12 +61,22 @@ set_told n tag deed us new h =
     by x k true = new
     by x k false = k
 
--- what the definitions make of a task
-abbrev pub task_does : State → exchange.Task → Deed → State
-task_does s b deed = task_behind (with_moves s (moves_behind b deed)) b (deed_behind b deed)
+-- a deed that says as much of blocks as another
+pub record SaysAsMuch (tag : ℕ) (old new : Deed) : Type 0 where
+  pub wanted : (index : ℕ) → wanted_in index old ≡ wanted_in index new
+  pub read : read_in old ≡ read_in new
+  pub claims : claims_in tag old ≡ claims_in tag new
 
-abbrev with_held : Translation → ℕ → Translation
+abbrev pub with_held : Translation → ℕ → Translation
 with_held t held = record t { ledger = record t.ledger { held = held } }
+
+-- what the device keeps, over the layer as it is then
+abbrev pub with_layer : Core → DeviceCore → DeviceCore
+with_layer after e = record e { ftl = after }
+
+-- the layer once a block of a task was handed out
+abbrev pub sent_layer : Translation → ℕ → ℕ → Translation
+sent_layer t tag n = moved (moved t (LetGo tag n)) (WantPage tag (n + 1))
 
 -- One task hands out a reply
 
@@ -99,26 +103,35 @@ module _ (d : DeviceCore) (s : State) (k : ℕ) (a : Task) (b : exchange.Task) (
         doing = doing;
       }))
 
-  -- what is kept for the other tags stays
-  pub blocks_set_to : (pins : List Pin) (loaded : List Loaded) (deed : Deed) →
-      progress_kept pins loaded b.tag ≡ progress_in deed →
-      ((n : ℕ) → (n == b.tag) ≡ false → progress_kept pins loaded n ≡ progress_kept s.translation.pins d.loaded n) →
-      (n : ℕ) → progress_kept pins loaded n ≡ progress_of (task_of n (map (with_deed b.tag deed) s.tasks))
-  blocks_set_to pins loaded deed this others =
-      by_tag (λ n. progress_kept pins loaded n ≡ progress_of (task_of n (map (with_deed b.tag deed) s.tasks))) b.tag
-      (this ∙ sym (deed_set b.tag deed s.tasks b found))
-      (λ n other. others n other
-      ∙ (h.kept.blocks n ∙ sym (others_go_on (with_deed b.tag deed) s.tasks b.tag n (deed_changes b.tag deed)
-      other)))
-
   abbrev unloaded : List Loaded
   unloaded = loaded_without d.loaded (position (is_loaded_for b.tag) d.loaded)
 
-  none_left : read_for b.tag unloaded ≡ []
+  none_left : read_kept unloaded b.tag ≡ []
   none_left =
       let one = one_read b.deed in
-      none_read b.tag d.loaded one.0 (ap (λ (p : Progress). p.read) (h.kept.blocks b.tag ∙ ap progress_of found)
-      ∙ one.1)
+      none_read b.tag d.loaded one.0 (h.kept.read b.tag ∙ (ap read_for found ∙ one.1))
+
+  -- what its tag has claimed stays
+  claims_stay : (after : Core) (claims : List Claimed) → claims_for after ≡ claims_for d.ftl →
+      claims_in b.tag b.deed ≡ claims → claims_for after b.tag ≡ claims
+  claims_stay after claims same is =
+      ap (λ (f : ℕ → List Claimed). f b.tag) same ∙ (h.kept.claims b.tag ∙ (ap (claims_by b.tag) found ∙ is))
+
+  -- what is kept for each tag, where only that of this one changes
+  set_kept : (pins : List Pin) (loaded : List Loaded) (after : Core) (deed : Deed) →
+      claims_for after ≡ claims_for d.ftl → KeptFor pins loaded after b.tag (Some (record b { deed = deed })) →
+      ((n index : ℕ) → (n == b.tag) ≡ false →
+      wanted_kept pins n index ≡ wanted_kept s.translation.pins n index) →
+      ((n : ℕ) → (n == b.tag) ≡ false → read_kept loaded n ≡ read_kept d.loaded n) →
+      KeptForAll pins loaded after (map (with_deed b.tag deed) s.tasks)
+  set_kept pins loaded after deed claims this wanted read =
+      deed_changed s.translation.pins pins d.loaded loaded d.ftl after s.tasks b.tag b deed (all_kept d s h.kept) found
+      this
+      (λ n other. record {
+        wanted = λ index. wanted n index other;
+        read_is = read n other;
+        claims = ap (λ (f : ℕ → List Claimed). f n) claims;
+      })
 
   pub few_set : (deed : Deed) → length (map (with_deed b.tag deed) s.tasks) ≤ most_tasks
   few_set deed = subst (λ n. n ≤ most_tasks) (sym (length-map s.tasks (with_deed b.tag deed))) h.kept.few
@@ -134,16 +147,12 @@ module _ (d : DeviceCore) (s : State) (k : ℕ) (a : Task) (b : exchange.Task) (
       twice true = refl
       twice false = refl
 
-  -- what the device keeps then, over the layer as it is then
-  abbrev with_layer : Core → DeviceCore → DeviceCore
-  with_layer after e = record e { ftl = after }
-
   -- it goes, and keeps nothing
-  goes : (after : Core) (held : ℕ) → layer_kept.Describes after (moved (with_held s.translation held) (LetGoAll a.tag))
-      →
+  pub goes : (after : Core) (held : ℕ) → claims_for after ≡ claims_for d.ftl → claims_in b.tag b.deed ≡ [] →
+      layer_kept.Describes after (moved (with_held s.translation held) (LetGoAll a.tag)) →
       Keeps (with_layer after (without_task (without_block d a.tag) k))
       (task_behind (record s { translation = with_held s.translation held }) b None)
-  goes after held layer =
+  goes after held claims none layer =
       subst
       (λ n. layer_kept.Describes after (moved u (LetGoAll n)) →
       Keeps (with_layer after (without_task (without_block d n) k)) (task_behind (record s { translation = u }) b None))
@@ -154,16 +163,9 @@ module _ (d : DeviceCore) (s : State) (k : ℕ) (a : Task) (b : exchange.Task) (
         few = few_gone;
         tasks = one_gone (before_accepted s.translation.ledger) k d.tasks s.tasks b h.kept.tasks
             h.tied.tasks.tasks_differ o.theirs;
-        blocks =
-            by_tag
-            (λ n. progress_kept (filter (λ pin. not (pin.tag == b.tag)) s.translation.pins) unloaded n
-            ≡ progress_of (task_of n (exchange.without_task b.tag s.tasks)))
-            b.tag
-            ((λ i. progress (gone_pins b.tag s.translation.pins i) (none_left i))
-            ∙ sym (ap progress_of (task_gone b.tag s.tasks)))
-            (λ n other.
-            (λ i. progress (other_pins b.tag n s.translation.pins other i) (others_read b.tag n d.loaded other i))
-            ∙ (h.kept.blocks n ∙ sym (ap progress_of (others_left b.tag n s.tasks other))));
+        wanted = λ n. (kept n).wanted;
+        read = λ n. (kept n).read;
+        claims = λ n. (kept n).claims;
         shorts = h.kept.shorts;
         power_off = h.kept.power_off;
       })
@@ -172,151 +174,93 @@ module _ (d : DeviceCore) (s : State) (k : ℕ) (a : Task) (b : exchange.Task) (
       u : Translation
       u = with_held s.translation held
 
-  told_gone : locked s ≡ true → All (IsTold (durable s)) (exchange.without_task b.tag s.tasks)
+      pins : List Pin
+      pins = filter (λ pin. not (pin.tag == b.tag)) s.translation.pins
+
+      kept : KeptForAll pins unloaded after (exchange.without_task b.tag s.tasks)
+      kept =
+          one_goes s.translation.pins pins d.loaded unloaded d.ftl after s.tasks b.tag (all_kept d s h.kept)
+          (record {
+            wanted = λ index. gone_pins b.tag index s.translation.pins;
+            read = none_left;
+            claims = claims_stay after [] claims none;
+          })
+          (λ n other. record {
+            wanted = λ index. other_pins b.tag n index s.translation.pins other;
+            read_is = others_read b.tag n d.loaded other;
+            claims = ap (λ (f : ℕ → List Claimed). f n) claims;
+          })
+
+  pub told_gone : locked s ≡ true → All (IsTold (durable s)) (exchange.without_task b.tag s.tasks)
   told_gone lock = All-filter (λ x. not (exchange.is_task_of b.tag x)) (IsTold (durable s)) s.tasks (h.told lock)
 
   -- it does something else, which tells as much of blocks, over the layer as it is
-  does_now : (after : Core) (p : Phase) (deed : Deed) →
-      IsDoing (before_accepted s.translation.ledger) a.expected b.length p deed →
-      progress_in b.deed ≡ progress_in deed → IsToldIn (durable s) deed → layer_kept.Describes after s.translation →
+  pub does_now : (after : Core) (p : Phase) (deed : Deed) →
+      IsDoing (before_accepted s.translation.ledger) a.expected b.length p deed → SaysAsMuch b.tag b.deed deed →
+      IsToldIn (durable s) deed → layer_kept.Describes after s.translation → claims_for after ≡ claims_for d.ftl →
       IsBehind (with_layer after (task_set d k p)) (set_deed s b.tag deed)
-  does_now after p deed doing same told layer = record {
+  does_now after p deed doing same told layer claims = record {
     keeps = record {
       permanent = h.kept.permanent;
       layer_kept = layer;
       few = few_set deed;
       tasks = tasks_set_to p deed doing;
-      blocks =
-          blocks_set_to s.translation.pins d.loaded deed (h.kept.blocks b.tag ∙ (ap progress_of found ∙ same))
-          (λ n other. refl);
+      wanted = λ n. (kept n).wanted;
+      read = λ n. (kept n).read;
+      claims = λ n. (kept n).claims;
       shorts = h.kept.shorts;
       power_off = h.kept.power_off;
     };
     told = λ lock. set_told (durable s) b.tag deed s.tasks told (h.told lock);
   }
+    where
+      kept : KeptForAll s.translation.pins d.loaded after (map (with_deed b.tag deed) s.tasks)
+      kept =
+          set_kept s.translation.pins d.loaded after deed claims
+          (record {
+            wanted = λ index. h.kept.wanted b.tag index ∙ (ap (wanted_by index) found ∙ same.wanted index);
+            read = h.kept.read b.tag ∙ (ap read_for found ∙ same.read);
+            claims = claims_stay after (claims_in b.tag deed) claims same.claims;
+          })
+          (λ n index other. refl) (λ n other. refl)
 
-  asks : (after : Core) (key : Key) (fua : Bool) (purpose : Purpose) (gathered : List ℕ) (asked : Bool) →
-      b.deed ≡ Gathering purpose gathered asked →
-      IsDoing (before_accepted s.translation.ledger) a.expected b.length (phase.AskData key fua)
-      (Gathering purpose gathered asked) →
-      layer_kept.Describes after s.translation →
-      IsBehind (with_layer after (task_set d k (phase.AwaitData key fua)))
-      (set_deed s b.tag (Gathering purpose gathered true))
-  asks after key fua purpose gathered asked deed doing layer =
-      does_now after (phase.AwaitData key fua) (Gathering purpose gathered true) (doing.0, refl) (ap progress_in deed)
-      tt layer
-
-  -- its data were handed out, which are no block
-  sends_data : (after : Core) (x : ShortData) (bytes : List ℕ) → b.deed ≡ SendingBytes bytes →
-      b.length ≡ data_length x → layer_kept.Describes after s.translation →
-      IsBehind (with_layer after (task_set d k (phase.Answer status.Good (data_length x))))
-      (set_deed s b.tag (Answering Good b.length))
-  sends_data after x bytes deed is layer =
-      does_now after (phase.Answer status.Good (data_length x)) (Answering Good b.length) (refl, is)
-      (ap progress_in deed) tt layer
-
-  -- its block was handed out, and none is behind it
-  abbrev sent : ℕ → Translation
-  sent tag = moved (moved s.translation (LetGo tag 0)) (WantPage tag 1)
-
-  sends : (after : Core) (carried : ℕ) → b.length ≡ carried → layer_kept.Describes after (sent a.tag) →
-      IsBehind (with_layer after (task_set (without_block d a.tag) k (phase.Answer status.Good carried)))
-      (set_deed (record s { translation = sent b.tag }) b.tag (Answering Good b.length))
-  sends after carried is layer =
+  -- its next block was handed out
+  pub sends : (after : Core) (n : ℕ) (p : Phase) (deed : Deed) →
+      IsDoing (before_accepted s.translation.ledger) a.expected b.length p deed → IsToldIn (durable s) deed →
+      ((index : ℕ) → wanted_kept (with_next b.tag n s.translation.pins) b.tag index ≡ wanted_in index deed) →
+      read_in deed ≡ [] → claims_in b.tag b.deed ≡ claims_in b.tag deed → claims_for after ≡ claims_for d.ftl →
+      layer_kept.Describes after (sent_layer s.translation a.tag n) →
+      IsBehind (with_layer after (task_set (without_block d a.tag) k p))
+      (set_deed (record s { translation = sent_layer s.translation b.tag n }) b.tag deed)
+  sends after n p deed doing told wanted read claims_same claims layer =
       subst
-      (λ n. layer_kept.Describes after (sent n) →
-      IsBehind (with_layer after (task_set (without_block d n) k (phase.Answer status.Good carried)))
-      (set_deed (record s { translation = sent b.tag }) b.tag (Answering Good b.length)))
+      (λ tag. layer_kept.Describes after (sent_layer s.translation tag n) →
+      IsBehind (with_layer after (task_set (without_block d tag) k p))
+      (set_deed (record s { translation = sent_layer s.translation b.tag n }) b.tag deed))
       o.kept.tag
       (λ its. record {
         keeps = record {
           permanent = h.kept.permanent;
           layer_kept = its;
-          few = few_set (Answering Good b.length);
-          tasks = tasks_set_to (phase.Answer status.Good carried) (Answering Good b.length) (refl, is);
-          blocks =
-              blocks_set_to (sent b.tag).pins unloaded (Answering Good b.length)
-              (λ i. progress (gone_first b.tag s.translation.pins i) (none_left i))
-              (λ n other. λ i. progress (other_first b.tag n s.translation.pins other i)
-              (others_read b.tag n d.loaded other i));
+          few = few_set deed;
+          tasks = tasks_set_to p deed doing;
+          wanted = λ tag. (kept tag).wanted;
+          read = λ tag. (kept tag).read;
+          claims = λ tag. (kept tag).claims;
           shorts = h.kept.shorts;
           power_off = h.kept.power_off;
         };
-        told = λ lock. set_told (durable s) b.tag (Answering Good b.length) s.tasks tt (h.told lock);
+        told = λ lock. set_told (durable s) b.tag deed s.tasks told (h.told lock);
       })
       layer
-
-  ends : (after : Core) → layer_kept.Describes after (moved s.translation (LetGoAll a.tag)) →
-      IsBehind (with_layer after (without_task (without_block d a.tag) k)) (task_behind s b None)
-  ends after layer = record { keeps = goes after s.translation.ledger.held layer; told = told_gone }
-
-  awaits : (after : Core) (commands : ℕ) →
-      layer_kept.Describes after (moved (moved s.translation (Acknowledge commands)) (LetGoAll a.tag)) →
-      IsBehind (with_layer after (without_task (without_block d a.tag) k))
-      (task_behind (with_moves s (Acknowledge commands ∷ [])) b None)
-  awaits after commands layer = record {
-    keeps = goes after (max s.translation.ledger.held commands) layer;
-    told = told_gone;
-  }
-
-  loses : (after : Core) → layer_kept.Describes after (moved s.translation (LetGoAll a.tag)) →
-      IsBehind (with_layer after (without_task (without_block d a.tag) k))
-      (task_behind (with_moves s (LetGo b.tag 0 ∷ WantPage b.tag 1 ∷ [])) b None)
-  loses after layer = subst (IsBehind (with_layer after (without_task (without_block d a.tag) k))) (sym same)
-      (ends after layer)
     where
-      same : task_behind (with_moves s (LetGo b.tag 0 ∷ WantPage b.tag 1 ∷ [])) b None ≡ task_behind s b None
-      same =
-          ap (λ (u : Translation). record s { tasks = exchange.without_task b.tag s.tasks; translation = u })
-          (gone_again s.translation b.tag)
-
-  sending_path : (blocks : List ReadBlock) (sent : ℕ) (block : ReadBlock) (x : Option Deed) → blocks ≡ block ∷ [] →
-      sent ≡ 0 →
-      deed_behind_state b (block ∷ []) 0 block.state ≡ x →
-      task_does s b (Sending blocks sent) ≡ task_behind (with_moves s (LetGo b.tag 0 ∷ WantPage b.tag 1 ∷ [])) b x
-  sending_path blocks sent block x is zero_sent e =
-      (λ i. task_does s b (Sending (is i) (zero_sent i)))
-      ∙ ap (task_behind (with_moves s (LetGo b.tag 0 ∷ WantPage b.tag 1 ∷ [])) b) e
-
-  sent_deed : (block : ReadBlock) (state : ReadState) → is_lost state ≡ false →
-      deed_behind_state b (block ∷ []) 0 state ≡ Some (Answering Good b.length)
-  sent_deed block Unread e = refl
-  sent_deed block WasRead e = refl
-  sent_deed block NotRead e = absurd (false≢true (sym e))
-
-  -- a block that is durable is told so
-  durable_told : (x : Bool) (m n : Message) → (if x then Some m else None) ≡ Some n → x ≡ true
-  durable_told true m n e = refl
-  durable_told false m n e = absurd (none-some n e)
-
-  moves_in : (after : Core) (p : Phase) (deed : Deed) (m : Message) → b.deed ≡ deed →
-      IsDoing (before_accepted s.translation.ledger) a.expected b.length p deed →
-      owed_in s.translation d.loaded a p ≡ Some m →
-      HasMoved after s.translation a.tag p → IsBehind (with_layer after (moved_on d k a p)) (task_does s b deed)
-  moves_in after (phase.AskData key fua) (Gathering purpose gathered asked) m e doing due layer =
-      asks after key fua purpose gathered asked e doing layer
-  moves_in after (phase.AwaitData key fua) deed m e doing due layer = absurd (none-some m due)
-  moves_in after (phase.SendData x) (SendingBytes bytes) m e doing due layer = sends_data after x bytes e doing.1 layer
-  moves_in after (phase.AwaitFrontier n size) (Awaiting commands) m e doing due layer =
-      let frontier = s.translation.ledger.frontier in
-      let low = leb-true n frontier (durable_told (nat_le n frontier) _ m due) in
-      let is = doing.0 in
-      awaits after commands (layer commands (omega arith))
-  moves_in after phase.SendBlock (Sending blocks sent) m e doing due layer =
-      subst (IsBehind (with_layer after (moved_on d k a phase.SendBlock)))
-      (sym (sending_path blocks sent doing.block (Some (Answering Good b.length)) doing.one doing.none_sent
-      (sent_deed doing.block doing.block.state doing.readable)))
-      (sends after 4096 doing.length_is layer)
-  moves_in after (phase.Answer told n) (Answering x carried) m e doing due layer = ends after layer
-  moves_in after (phase.Answer told n) (Sending blocks sent) m e doing due layer =
-      subst (IsBehind (with_layer after (moved_on d k a (phase.Answer told n))))
-      (sym (sending_path blocks sent doing.block None doing.one doing.none_sent
-      (ap (deed_behind_state b (doing.block ∷ []) 0) doing.lost)))
-      (loses after layer)
-  moves_in after p deed m e doing due layer = absurd doing
-
-  -- what a reply makes of the task
-  pub moves_on : (after : Core) (m : Message) → owed_by s.translation d.loaded a ≡ Some m →
-      HasMoved after s.translation a.tag a.phase →
-      IsBehind (with_layer after (moved_on d k a a.phase)) (task_does s b b.deed)
-  moves_on after m due layer = moves_in after a.phase b.deed m refl o.kept.doing due layer
+      kept : KeptForAll (with_next b.tag n s.translation.pins) unloaded after (map (with_deed b.tag deed) s.tasks)
+      kept =
+          set_kept (with_next b.tag n s.translation.pins) unloaded after deed claims
+          (record {
+            wanted = wanted;
+            read = none_left ∙ sym read;
+            claims = claims_stay after (claims_in b.tag deed) claims claims_same;
+          })
+          (λ tag index other. next_of_others b.tag n tag index s.translation.pins other)
+          (λ tag other. others_read b.tag tag d.loaded other)

@@ -1,37 +1,33 @@
--- What a COMMAND begins: a task that answers or sends, a READ that keeps its block, a WRITE that claims a slot, a flush
--- that waits for all that was accepted.
-use Rattle.std.proofs.Common.{◌≡◌, ◌∙◌, ℕ, suc, ◌+◌, ◌<◌, ◌≤◌, Bool, true, false, List, [], ◌∷◌, ◌++◌, Option}
-use Rattle.std.proofs.Common.{Some, None, get_or, length, refl, sym, ap, subst, arith}
-use Rattle.std.specs.Prelude.{◌*◌, ◌||◌, ◌&&◌, ◌==◌, cond, if◌then◌else◌, find, min, nat_lt, nat_le, option_map}
-use Rattle.std.specs.Prelude.{slice_get, Result, Ok, Err}
+-- What a COMMAND begins: a task that answers or sends, a READ that keeps its blocks, a WRITE that claims a slot for
+-- each of its blocks, a flush that waits for all that was accepted.
+use Rattle.std.proofs.Common.{◌≡◌, ◌∙◌, ℕ, suc, ◌+◌, ◌<◌, ◌≤◌, Bool, true, false, List, [], ◌∷◌, Option}
+use Rattle.std.proofs.Common.{Some, None, get_or, length, replicate, refl, sym, ap, subst, arith}
+use Rattle.std.specs.Prelude.{◌*◌, ◌||◌, ◌==◌, fold, if◌then◌else◌, min, nat_le, slice_get, Result, Ok, Err}
 use Rattle.std.specs.Int.{div_ceil}
-use Rattle.std.specs.Option.{option_or}
-use Rattle.std.proofs.lemmas.Bool.{lt-ltb}
+use Rattle.std.proofs.lemmas.Bool.{le-leb}
 use Rattle.std.proofs.lemmas.List.{get_or-map, length-map, length-take}
-use Rattle.std.proofs.lemmas.List.Folds.{find-append}
 use Rattle.std.proofs.lemmas.Option.{slice_get_within, get_or_from_slice_get}
-use Rattle.ufs_spec.proofs.Facts.{none-some, or_parts}
 use Rattle.ufs_spec.specs.Cdbs.{IsTakenCdb, six_blocks}
-use Rattle.ufs_spec.specs.Exchanges.{Answering, Awaiting, Deed, ForWrite, Gathering, Good, ReadBlock, Sending}
-use Rattle.ufs_spec.specs.Exchanges.{SendingBytes, Status, Unread, most_tasks, task_of}
+use Rattle.ufs_spec.specs.Exchanges.{Answering, Awaiting, Deed, ForWrite, Gathering, Good}
+use Rattle.ufs_spec.specs.Exchanges.{SendingBytes, Status, most_tasks, task_of}
 use Rattle.ufs_spec.specs.Keys.{IsData, IsKey, data_key}
-use Rattle.ufs_spec.specs.Ledger.{Looked, before_accepted, look}
+use Rattle.ufs_spec.specs.Ledger.{before_accepted}
 use Rattle.ufs_spec.specs.Machine.{begun_with, capacity_bytes, data_begun, durable, flush_begun, keeps}
 use Rattle.ufs_spec.specs.Machine.{no_sense, opened_with, read_begun, read_blocks, sending, unit_or_first, with_moves}
 use Rattle.ufs_spec.specs.Machine as machine
-use Rattle.ufs_spec.specs.Moves.{Claim, Keep, is_pin_of, moved}
-use Rattle.ufs_spec.specs.Plain.{block_at, shape_of_numbers}
-use Rattle.ufs_spec.specs.Refusals.{Request, State, locked, mended, numbers_of, plain_now}
+use Rattle.ufs_spec.specs.Moves.{Claim, moved}
+use Rattle.ufs_spec.specs.Plain.{shape_of_numbers, zero_block}
+use Rattle.ufs_spec.specs.Refusals.{Request, State, locked, mended, numbers_of}
 use Rattle.ufs_spec.specs.Refusals.{refusal, unit_of_request}
-use Rattle.ufs_spec.specs.Translation.{Pin, free_slots}
-use Rattle.ufs_spec.specs.declared.flash.Key.{Key}
+use Rattle.ufs_spec.specs.Translation.{free_slots}
 use Rattle.ufs_spec.specs.declared.configs.UnitSpec.{UnitSpec}
 use Rattle.ufs_spec.specs.declared.scsi.Cdb.{Cdb}
 use Rattle.ufs_spec.specs.declared.scsi.Cdb.TheVariants as cdb
-use Rattle.power_loss.proofs.books.SmallFacts.{eq_self}
-use Rattle.power_loss.proofs.open_tasks.TaggedLists.{other_way}
+use Rattle.ufs_laws.proofs.plain_contents.ListParts.{length-made}
 use Rattle.ftl_core.specs.Core.{Core}
 use Rattle.ftl_core.specs.Describes as layer_kept
+use Rattle.ftl_core.specs.Moves.{claims_for}
+use Rattle.ftl_core.specs.Tells.{claims_of_blocks}
 use Rattle.device.specs.declared.tasks.Phase.{Phase}
 use Rattle.device.specs.declared.tasks.Phase.TheVariants as phase
 use Rattle.device.specs.declared.tasks.Plan.{Plan}
@@ -40,136 +36,80 @@ use Rattle.device.specs.declared.tasks.ShortData.{ShortData}
 use Rattle.device.specs.declared.tasks.ShortData.TheVariants as sent
 use Rattle.device.specs.declared.tasks.Status as kept_status
 use Rattle.device.specs.declared.tasks.Status.TheVariants as status
+use Rattle.device.specs.declared.tasks.Transfer.{Transfer}
 use Rattle.device.specs.Describes.{Describes}
-use Rattle.device.specs.Calls.{HasBegun, last_number, pin_of_block}
-use Rattle.device.specs.Hears.{with_task}
+use Rattle.device.specs.Calls.{HasBegun, IsSameLayer, OthersClaim, has_room, has_slots, last_number}
 use Rattle.device.specs.Kept.{DeviceCore}
 use Rattle.device.specs.Plans.{IsPlanned, Passes, data_plan, plan_of}
 use Rattle.device.specs.Tasks.{data_bytes, data_length, status_kept}
 use Rattle.device.proofs.described.Answered.{IsBehind}
-use Rattle.device.proofs.host_messages.CommandPasses.{IsFree, flush_durable, free_told, none_expected, one_expected}
+use Rattle.device.proofs.host_messages.BlocksKept.{sends}
+use Rattle.device.proofs.host_messages.CommandPasses.{IsFree, flush_durable, free_told, none_expected, some_expected}
 use Rattle.device.proofs.host_messages.CommandPasses.{some_told}
-use Rattle.device.proofs.host_messages.OneBlock.{number_awaited}
+use Rattle.device.proofs.host_messages.NumbersAwaited.{number_awaited}
+use Rattle.device.proofs.host_messages.ReadOpened.{block_now, core_opened, read_opened, reading_at, sending_now}
+use Rattle.device.proofs.host_messages.SlotsClaimed.{none_gathered}
 use Rattle.device.proofs.open_tasks.FewPins.{pin_has_room}
-use Rattle.device.proofs.open_tasks.ReadProgress.{pin_for, wanted_for}
-use Rattle.device.proofs.open_tasks.TaskOpened.{Wants, nobody, none_wanted, open_keeps, open_told, opens_still}
-
-abbrev wanted : Option Pin → Option Bool
-wanted o = option_map (λ (pin : Pin). pin.wanted) o
-
--- a pin more for a tag that had none
-wants_one : (pins : List Pin) (tag : ℕ) (looked : Looked) → wanted_for tag pins ≡ None →
-    Wants pins (pins ++ record { tag = tag; index = 0; looked = looked; wanted = true } ∷ []) tag (Some true)
-wants_one pins tag looked none = (
-  more tag ∙ (ap (λ b. wanted (option_or (pin_for tag pins) (cond (b && true) (Some pin) None))) (eq_self tag)
-      ∙ last (pin_for tag pins) none),
-  λ n other. more n ∙ (ap (λ b. wanted (option_or (pin_for n pins) (cond (b && true) (Some pin) None)))
-      (other_way n tag other) ∙ still (pin_for n pins)),
-)
-  where
-    pin : Pin
-    pin = record { tag = tag; index = 0; looked = looked; wanted = true }
-
-    more : (n : ℕ) → wanted_for n (pins ++ pin ∷ []) ≡ wanted
-        (option_or (pin_for n pins) (find (is_pin_of n 0) (pin ∷ [])))
-    more n = ap wanted (find-append (is_pin_of n 0) pins (pin ∷ []))
-
-    last : (o : Option Pin) → wanted o ≡ None → wanted (option_or o (Some pin)) ≡ Some true
-    last None e = refl
-    last (Some x) e = absurd (none-some x.wanted (sym e))
-
-    still : (o : Option Pin) → wanted (option_or o None) ≡ wanted o
-    still None = refl
-    still (Some x) = refl
+use Rattle.device.proofs.open_tasks.TaskOpened.{nobody, none_claimed, none_wanted, open_keeps, open_told}
+use Rattle.device.proofs.open_tasks.TaskOpened.{opens_still}
 
 module _ (d : DeviceCore) (s : State) (r : Request) (h : Describes d s) (free : task_of r.tag s.tasks ≡ None)
     (few : length s.tasks < most_tasks) (after : Core) where
-  -- the device with the new task, over the layer as it is then
-  abbrev opened_core : Phase → DeviceCore
-  opened_core p =
-      record (with_task d (record { tag = r.tag; lun = r.lun; expected = r.expected; phase = p })) { ftl = after }
-
-  same_phase : (p q : Phase) (v : State) → p ≡ q → IsBehind (opened_core q) v → IsBehind (opened_core p) v
-  same_phase p q v same = subst (λ (x : Phase). IsBehind (opened_core x) v) (sym same)
+  same_phase : (p q : Phase) (v : State) → p ≡ q → IsBehind (core_opened d r after q) v →
+      IsBehind (core_opened d r after p) v
+  same_phase p q v same = subst (λ (x : Phase). IsBehind (core_opened d r after x) v) (sym same)
 
   -- a task that answers at once
   answer_opened : (command : Option Cdb) (n carried : ℕ) (answer : Status) (told : kept_status.Status) (m : ℕ) →
-      layer_kept.Describes after s.translation → answer ≡ status_kept told → carried ≡ m →
-      IsBehind (opened_core (phase.Answer told m)) (machine.with_task s r command n (Answering answer carried))
+      IsSameLayer d.ftl after s.translation → answer ≡ status_kept told → carried ≡ m →
+      IsBehind (core_opened d r after (phase.Answer told m))
+      (machine.with_task s r command n (Answering answer carried))
   answer_opened command n carried answer told m layer same count =
-      opens_still d s r h free few after command n (Answering answer carried) _ layer refl (λ l. tt)
+      opens_still d s r h free few after command n (Answering answer carried) _ layer
+      (record { wanted = λ i. refl; read = refl; claims = refl }) (λ l. tt)
       (record { lun = refl; tag = refl; expected = refl; request = refl; doing = (same, count) })
 
-  -- a READ of one block
+  -- a WRITE of so many blocks
 
-  abbrev block_now : ℕ → ℕ → ReadBlock
-  block_now unit address = record { body = block_at unit address (plain_now s); state = Unread }
+  abbrev gathering : ℕ → ℕ → Bool → Deed
+  gathering address blocks forced = Gathering (ForWrite r.lun address blocks forced) [] false
 
-  abbrev reading_at : Cdb → ℕ → ℕ → ℕ → State
-  reading_at command n unit address =
-      machine.with_task
-      (with_moves s
-      (Keep (data_key unit address) (pin_of_block s.translation r.tag (data_key unit address)) ∷ []))
-      r (Some command) n (Sending (block_now unit address ∷ []) 0)
+  abbrev transfer_now : ℕ → ℕ → Bool → Transfer
+  transfer_now address blocks forced =
+      record { key = data_key r.lun address; blocks = blocks; gathered = 0; forced = forced }
 
-  read_opened : (command : Cdb) (n address : ℕ) → n ≡ 4096 → 1 ≤ r.expected →
-      layer_kept.Describes after
-      (moved s.translation
-      (Keep (data_key r.lun address) (pin_of_block s.translation r.tag (data_key r.lun address)))) →
-      IsBehind (opened_core phase.SendBlock) (reading_at command n r.lun address)
-  read_opened command n address size some layer = record {
+  write_opened : (command : Cdb) (address blocks : ℕ) (forced : Bool) → 1 ≤ blocks →
+      layer_kept.Describes after (moved s.translation (Claim blocks)) →
+      claims_for after r.tag ≡ claims_of_blocks r.tag (replicate blocks zero_block) → OthersClaim d.ftl after r.tag →
+      IsBehind (core_opened d r after (phase.AskData (transfer_now address blocks forced)))
+      (machine.with_task (with_moves s (Claim blocks ∷ [])) r (Some command) (4096 * blocks)
+      (gathering address blocks forced))
+  write_opened command address blocks forced some layer own others = record {
     keeps =
-        open_keeps d s r h free few after
-        (moved s.translation
-        (Keep (data_key r.lun address) (pin_of_block s.translation r.tag (data_key r.lun address))))
-        (Some command) n (Sending (block_now r.lun address ∷ []) 0) _ layer refl
-        (wants_one s.translation.pins r.tag (look s.translation.ledger (data_key r.lun address))
-        (none_wanted d s r h free few)) refl
+        open_keeps d s r h free few after (moved s.translation (Claim blocks)) (Some command) (4096 * blocks)
+        (gathering address blocks forced) _ layer refl
+        (record {
+          wanted = none_wanted d s r h free few;
+          unread = refl;
+          claims = own ∙ ap (claims_of_blocks r.tag) (none_gathered blocks);
+          others_want = λ n i other. refl;
+          others_claim = others;
+        })
         (record {
           lun = refl;
           tag = refl;
           expected = refl;
           request = refl;
-          doing = record {
-            block = block_now r.lun address;
-            one = refl;
-            none_sent = refl;
-            length_is = size;
-            some = some;
-            readable = refl;
-          };
+          doing = (record { write = (refl, refl, refl); came = refl; more = some; total_is = refl }, refl);
         });
-    told = open_told d s r h free few (Some command) n (Sending (block_now r.lun address ∷ []) 0) (λ l. tt);
-  }
-
-  -- a WRITE of one block
-
-  abbrev gathering : ℕ → Bool → Deed
-  gathering address forced = Gathering (ForWrite r.lun address 1 forced) [] false
-
-  write_opened : (command : Cdb) (address : ℕ) (forced : Bool) →
-      layer_kept.Describes after (moved s.translation (Claim 1)) →
-      IsBehind (opened_core (phase.AskData (data_key r.lun address) forced))
-      (machine.with_task (with_moves s (Claim 1 ∷ [])) r (Some command) 4096 (gathering address forced))
-  write_opened command address forced layer = record {
-    keeps =
-        open_keeps d s r h free few after (moved s.translation (Claim 1)) (Some command) 4096
-        (gathering address forced) _ layer refl
-        (none_wanted d s r h free few, λ n other. refl) refl
-        (record {
-          lun = refl;
-          tag = refl;
-          expected = refl;
-          request = refl;
-          doing = (record { write = (refl, refl, refl); none_gathered = refl; length_is = refl }, refl);
-        });
-    told = open_told d s r h free few (Some command) 4096 (gathering address forced) (λ l. tt);
+    told =
+        open_told d s r h free few (Some command) (4096 * blocks) (gathering address blocks forced) (λ l. tt);
   }
 
   -- What the table lets through
 
   abbrev Begins : Result Plan kept_status.Status → Phase → Type 0
-  Begins todo p = HasBegun after s.translation r.tag todo p
+  Begins todo p = HasBegun d.ftl after s.translation r.tag todo p
 
   key_told : (address : ℕ) (unit : UnitSpec) → slice_get (numbers_of s).units.items r.lun ≡ Some unit →
       suc address ≤ unit.blocks →
@@ -183,65 +123,70 @@ module _ (d : DeviceCore) (s : State) (r : Request) (h : Describes d s) (free : 
       let blocks : (get_or units r.lun unit).blocks ≡ unit.blocks = ap (λ (u : UnitSpec). u.blocks) is in
       IsData r.lun address (omega arith) (omega arith)
 
-  -- the state behind a READ of so many blocks that are sent
-  abbrev read_at : Cdb → ℕ → ℕ → ℕ → ℕ → State
-  read_at command unit address n count =
-      machine.with_task (with_moves s (keeps s r.tag unit address count)) r (Some command) n
-      (sending (read_blocks s unit address count) n)
+  -- how many blocks are sent, of a READ of so many
+  abbrev sent_of : ℕ → ℕ
+  sent_of blocks = div_ceil (min r.expected (4096 * blocks)) 4096
 
-  zero_more : (n : ℕ) → n + 0 ≡ n
-  zero_more n = omega arith
+  -- the state behind a READ of which so many blocks are sent
+  abbrev read_at : Cdb → (address n m : ℕ) → State
+  read_at command address n m =
+      machine.with_task (with_moves s (keeps s r.tag r.lun address m)) r (Some command) n
+      (sending (read_blocks s r.lun address m) n)
 
-  read_begins : (unit : UnitSpec) (command : Cdb) (address blocks n : ℕ) (p : Phase) →
-      slice_get (numbers_of s).units.items r.lun ≡ Some unit → (u : ℕ) → u ≡ r.lun → n ≡ 4096 * blocks →
-      blocks ≤ 1 → address + blocks ≤ unit.blocks → mended s ≡ true → (b : Bool) →
-      ((blocks == 0) || (r.expected == 0)) ≡ b →
-      Begins (Ok (if b then plan.Nothing (4096 * blocks) else plan.Read (data_key r.lun address))) p →
-      IsBehind (opened_core p) (read_begun s r command u address n)
-  read_begins unit command address blocks n p there u same long less within is_mended true e begun =
-      subst (IsBehind (opened_core p))
-      (sym (ap (read_at command u address n)
-      (ap (λ (m : ℕ). div_ceil (min r.expected m) 4096) long ∙ none_expected r.expected blocks e)))
+  read_begins : (unit : UnitSpec) (command : Cdb) (address blocks : ℕ) (p : Phase) →
+      slice_get (numbers_of s).units.items r.lun ≡ Some unit → blocks ≤ 32 → address + blocks ≤ unit.blocks →
+      mended s ≡ true → (b : Bool) → ((blocks == 0) || (r.expected == 0)) ≡ b →
+      Begins (Ok (if b then plan.Nothing (4096 * blocks)
+      else plan.Read (data_key r.lun address) (sent_of blocks) (4096 * blocks))) p →
+      IsBehind (core_opened d r after p) (read_begun s r command r.lun address (4096 * blocks))
+  read_begins unit command address blocks p there less within is_mended true e begun =
+      subst (IsBehind (core_opened d r after p))
+      (sym (ap (read_at command address (4096 * blocks)) (none_expected r.expected blocks e)))
       (same_phase p (phase.Answer status.Good (4096 * blocks)) _ begun.0
-      (answer_opened (Some command) n n Good status.Good (4096 * blocks) begun.1 refl long))
-  read_begins unit command address blocks n p there u same long less within is_mended false e begun =
-      subst (IsBehind (opened_core p)) (sym state)
-      (same_phase p phase.SendBlock _ (begun.0 ∙ ap (λ (x : Bool). if x then phase.SendBlock
-      else phase.Answer status.Busy 0) room)
-      (read_opened command n address size (some_told r.expected both.1) layer))
+      (answer_opened (Some command) (4096 * blocks) (4096 * blocks) Good status.Good (4096 * blocks) begun.1 refl refl))
+  read_begins unit command address blocks p there less within is_mended false e begun =
+      subst (IsBehind (core_opened d r after p)) (sym state)
+      (same_phase p (phase.SendBlocks (sending_now m 0 n)) _ (begun.phase_is
+      ∙ ap (λ (x : Bool). if x then phase.SendBlocks (sending_now m 0 n) else phase.Answer status.Busy 0) room)
+      (read_opened d s r h free few after command n address m sent.0 most refl layer begun.claims))
     where
-      key : Key
-      key = data_key r.lun address
+      n : ℕ
+      n = 4096 * blocks
 
-      both : ((blocks == 0) ≡ false) × ((r.expected == 0) ≡ false)
-      both = or_parts (blocks == 0) (r.expected == 0) e
+      m : ℕ
+      m = sent_of blocks
 
-      size : n ≡ 4096
-      size = let some = some_told blocks both.0 in omega arith
+      sent : (1 ≤ m) × (m ≤ blocks)
+      sent = some_expected r.expected blocks e
 
-      inside : suc address ≤ unit.blocks
-      inside = let some = some_told blocks both.0 in omega arith
+      most : m ≤ 32
+      most = let few = sent.1 in omega arith
 
-      state : read_begun s r command u address n ≡ reading_at command n r.lun address
+      state : read_begun s r command r.lun address n ≡ reading_at s r command n address m
       state =
-          ap (read_at command u address n)
-          (ap (λ (m : ℕ). div_ceil (min r.expected m) 4096) long ∙ one_expected r.expected blocks less e)
-          ∙ (λ i. reading_at command n (same i) (zero_more address i))
+          ap (machine.with_task (with_moves s (keeps s r.tag r.lun address m)) r (Some command) n)
+          (sends (read_blocks s r.lun address m) n (some_of (length-made (block_now s r.lun address) m)))
+        where
+          some_of : length (read_blocks s r.lun address m) ≡ m → 1 ≤ length (read_blocks s r.lun address m)
+          some_of is = let some = sent.0 in omega arith
 
-      -- there is room, as no tag keeps two things
-      room : nat_lt (length s.translation.pins) 32 ≡ true
-      room = pin_has_room d s h begun.1 few
+      -- there is room, as no block is kept twice
+      room : has_room s.translation m ≡ true
+      room = pin_has_room d s m h begun.differ few most
 
-      layer : layer_kept.Describes after (moved s.translation (Keep key (pin_of_block s.translation r.tag key)))
+      layer : layer_kept.Describes after (fold moved s.translation (keeps s r.tag r.lun address m))
       layer =
           subst (λ (x : Bool). layer_kept.Describes after
-          (if x then moved s.translation (Keep key (pin_of_block s.translation r.tag key)) else s.translation)) room
-          (begun.2 (record {
+          (if x then fold moved s.translation (keeps s r.tag r.lun address m) else s.translation)) room
+          (begun.layer (record {
             mended = is_mended;
-            there = key_told address unit there inside;
             of_data = refl;
+            there = λ i low. key_told (address + i) unit there (inside i low);
             new = nobody d s r h free few;
           }))
+        where
+          inside : (i : ℕ) → i < m → suc (address + i) ≤ unit.blocks
+          inside i low = let most = sent.1 in omega arith
 
   abbrev write_at : Cdb → ℕ → ℕ → ℕ → Bool → Bool → State
   write_at command unit address blocks forced b =
@@ -249,29 +194,27 @@ module _ (d : DeviceCore) (s : State) (r : Request) (h : Describes d s) (free : 
       else machine.with_task (with_moves s (Claim blocks ∷ [])) r (Some command) (4096 * blocks)
       (Gathering (ForWrite unit address blocks forced) [] false)
 
-  write_begins : (command : Cdb) (address blocks : ℕ) (forced : Bool) (p : Phase) (u : ℕ) → u ≡ r.lun → blocks ≤ 1 →
+  write_begins : (command : Cdb) (address blocks : ℕ) (forced : Bool) (p : Phase) (u : ℕ) → u ≡ r.lun →
       blocks ≤ free_slots s.translation → (b : Bool) → (blocks == 0) ≡ b →
-      Begins (Ok (if b then plan.Nothing 0 else plan.Write (data_key r.lun address) forced)) p →
-      IsBehind (opened_core p) (write_at command u address blocks forced b)
-  write_begins command address blocks forced p u same less slots true e begun =
+      Begins (Ok (if b then plan.Nothing 0 else plan.Write (data_key r.lun address) blocks forced)) p →
+      IsBehind (core_opened d r after p) (write_at command u address blocks forced b)
+  write_begins command address blocks forced p u same slots true e begun =
       same_phase p (phase.Answer status.Good 0) _ begun.0
       (answer_opened (Some command) 0 0 Good status.Good 0 begun.1 refl refl)
-  write_begins command address blocks forced p u same less slots false e begun =
-      subst (IsBehind (opened_core p))
-      (sym (λ i. machine.with_task (with_moves s (Claim (one i) ∷ [])) r (Some command) (4096 * one i)
-      (Gathering (ForWrite (same i) address (one i) forced) [] false)))
-      (same_phase p (phase.AskData (data_key r.lun address) forced) _
-      (begun.0 ∙ ap (λ (x : Bool). if x then phase.AskData (data_key r.lun address) forced
+  write_begins command address blocks forced p u same slots false e begun =
+      subst (λ (x : ℕ). IsBehind (core_opened d r after p) (write_at command x address blocks forced false)) (sym same)
+      (same_phase p (phase.AskData (transfer_now address blocks forced)) _
+      (begun.phase_is ∙ ap (λ (x : Bool). if x then phase.AskData (transfer_now address blocks forced)
       else phase.Answer status.Busy 0) left)
-      (write_opened command address forced
-      (subst (λ (x : Bool). layer_kept.Describes after (if x then moved s.translation (Claim 1) else s.translation))
-      left begun.1)))
+      (write_opened command address blocks forced (some_told blocks e)
+      (subst (λ (x : Bool). layer_kept.Describes after (if x then moved s.translation (Claim blocks)
+      else s.translation)) left begun.layer)
+      (subst (λ (x : Bool). claims_for after r.tag
+      ≡ (if x then claims_of_blocks r.tag (replicate blocks zero_block) else [])) left
+      (begun.claims (none_claimed d s r h free few))) begun.others))
     where
-      one : blocks ≡ 1
-      one = let low = some_told blocks e in omega arith
-
-      left : nat_lt 0 (free_slots s.translation) ≡ true
-      left = let low = some_told blocks e in lt-ltb 0 (free_slots s.translation) (omega arith)
+      left : has_slots s.translation blocks ≡ true
+      left = le-leb blocks (free_slots s.translation) slots
 
   -- data that are sent in one message
 
@@ -280,22 +223,23 @@ module _ (d : DeviceCore) (s : State) (r : Request) (h : Describes d s) (free : 
       machine.with_task s r (Some command) n (if b then Answering Good n else SendingBytes bytes)
 
   data_begins : (command : Cdb) (x : ShortData) (p : Phase) → length (data_bytes x) ≡ data_length x →
-      Begins (Ok (data_plan r.expected x)) p → IsBehind (opened_core p) (data_begun s r command (data_bytes x))
+      Begins (Ok (data_plan r.expected x)) p →
+      IsBehind (core_opened d r after p) (data_begun s r command (data_bytes x))
   data_begins command x p long begun =
-      subst (IsBehind (opened_core p))
+      subst (IsBehind (core_opened d r after p))
       (sym (λ i. data_at command (long i) (data_bytes x) (min r.expected (long i) == 0)))
       (by (min r.expected (data_length x) == 0) refl begun)
     where
       by : (b : Bool) → (min r.expected (data_length x) == 0) ≡ b →
           Begins (Ok (if b then plan.Nothing (data_length x) else plan.Send x)) p →
-          IsBehind (opened_core p) (data_at command (data_length x) (data_bytes x) b)
+          IsBehind (core_opened d r after p) (data_at command (data_length x) (data_bytes x) b)
       by true e k =
           same_phase p (phase.Answer status.Good (data_length x)) _ k.0
           (answer_opened (Some command) (data_length x) (data_length x) Good status.Good (data_length x) k.1 refl refl)
       by false e k =
           same_phase p (phase.SendData x) _ k.0
-          (opens_still d s r h free few after (Some command) (data_length x) (SendingBytes (data_bytes x)) _ k.1 refl
-          (λ l. tt)
+          (opens_still d s r h free few after (Some command) (data_length x) (SendingBytes (data_bytes x)) _ k.1
+          (record { wanted = λ i. refl; read = refl; claims = refl }) (λ l. tt)
           (record {
             lun = refl;
             tag = refl;
@@ -309,65 +253,77 @@ module _ (d : DeviceCore) (s : State) (r : Request) (h : Describes d s) (free : 
   flush_begins : (command : Cdb) (immediate : Bool) (p : Phase) →
       (locked s ≡ true → nat_le (length s.accepted) (durable s) ≡ true) →
       Begins (Ok (if immediate then plan.Nothing 0 else plan.Flush)) p →
-      IsBehind (opened_core p) (flush_begun s r command immediate)
+      IsBehind (core_opened d r after p) (flush_begun s r command immediate)
   flush_begins command true p told begun =
       same_phase p (phase.Answer status.Good 0) _ begun.0
       (answer_opened (Some command) 0 0 Good status.Good 0 begun.1 refl refl)
   flush_begins command false p told begun =
       same_phase p (phase.AwaitFrontier (last_number s.translation.ledger) 0) _ begun.0
-      (opens_still d s r h free few after (Some command) 0 (Awaiting (length s.accepted)) _ begun.1 refl told
+      (opens_still d s r h free few after (Some command) 0 (Awaiting (length s.accepted)) _ begun.1
+      (record { wanted = λ i. refl; read = refl; claims = refl }) told
       (record { lun = refl; tag = refl; expected = refl; request = refl; doing = (last, refl) }))
     where
       last : last_number s.translation.ledger ≡ before_accepted s.translation.ledger + length s.accepted
       last = let next = number_awaited s h.tied h.kept.layer_kept.valid.history.within in omega arith
 
+  bytes_of : (blocks : ℕ) → 4096 * blocks ≡ blocks * 4096
+  bytes_of blocks = omega arith
+
+  abbrev unit_now : State → Request → ℕ
+  unit_now s r = unit_or_first (unit_of_request s r)
+
   -- a command that passed begins
   command_begins : (unit : UnitSpec) (command : Cdb) (p : Phase) → IsTakenCdb command →
       slice_get (numbers_of s).units.items r.lun ≡ Some unit → IsFree s r unit command →
       Begins (Ok (plan_of unit r.lun r.expected command)) p →
-      IsBehind (opened_core p) (begun_with s r (Some command))
+      IsBehind (core_opened d r after p) (begun_with s r (Some command))
   command_begins unit cdb.TestUnitReady p taken there k begun =
       same_phase p (phase.Answer status.Good 0) _ begun.0
       (answer_opened (Some cdb.TestUnitReady) 0 0 Good status.Good 0 begun.1 refl refl)
   command_begins unit (cdb.RequestSense allocation) p taken there k begun =
       data_begins (cdb.RequestSense allocation) (sent.NoSense allocation) p (length-take allocation no_sense) begun
   command_begins unit cdb.ReadCapacity10 p taken there k begun =
-      subst (IsBehind (opened_core p))
+      subst (IsBehind (core_opened d r after p))
       (sym (ap (λ (o : Option UnitSpec). data_begun s r cdb.ReadCapacity10 (capacity_bytes o)) k.spec_is))
       (data_begins cdb.ReadCapacity10 (sent.Capacity unit.blocks) p refl begun)
   command_begins unit (cdb.Read6 address blocks) p taken there k begun =
-      read_begins unit (cdb.Read6 address blocks) address (six_blocks blocks) (six_blocks blocks * 4096) p there
-      (unit_or_first (unit_of_request s r)) (ap unit_or_first k.unit_is) (omega arith) k.few k.within (k.mended refl)
-      ((six_blocks blocks == 0) || (r.expected == 0)) refl begun
+      subst (λ (n : ℕ). IsBehind (core_opened d r after p)
+      (read_begun s r (cdb.Read6 address blocks) (unit_now s r) address n))
+      (bytes_of (six_blocks blocks))
+      (subst (λ (u : ℕ). IsBehind (core_opened d r after p) (read_begun s r (cdb.Read6 address blocks) u address
+      (4096 * six_blocks blocks))) (sym (ap unit_or_first k.unit_is))
+      (read_begins unit (cdb.Read6 address blocks) address (six_blocks blocks) p there k.few k.within (k.mended refl)
+      ((six_blocks blocks == 0) || (r.expected == 0)) refl begun))
   command_begins unit (cdb.Read10 address blocks forced) p taken there k begun =
-      read_begins unit (cdb.Read10 address blocks forced) address blocks (4096 * blocks) p there
-      (unit_or_first (unit_of_request s r)) (ap unit_or_first k.unit_is) refl k.few k.within (k.mended refl)
-      ((blocks == 0) || (r.expected == 0)) refl begun
+      subst (λ (u : ℕ). IsBehind (core_opened d r after p) (read_begun s r (cdb.Read10 address blocks forced) u address
+      (4096 * blocks))) (sym (ap unit_or_first k.unit_is))
+      (read_begins unit (cdb.Read10 address blocks forced) address blocks p there k.few k.within (k.mended refl)
+      ((blocks == 0) || (r.expected == 0)) refl begun)
   command_begins unit (cdb.Write6 address blocks) p taken there k begun =
-      write_begins (cdb.Write6 address blocks) address (six_blocks blocks) false p
-      (unit_or_first (unit_of_request s r)) (ap unit_or_first k.unit_is) k.few k.slots (six_blocks blocks == 0) refl
-      begun
+      write_begins (cdb.Write6 address blocks) address (six_blocks blocks) false p (unit_now s r)
+      (ap unit_or_first k.unit_is) k.slots (six_blocks blocks == 0) refl begun
   command_begins unit (cdb.Write10 address blocks forced) p taken there k begun =
-      write_begins (cdb.Write10 address blocks forced) address blocks forced p
-      (unit_or_first (unit_of_request s r)) (ap unit_or_first k.unit_is) k.few k.slots (blocks == 0) refl begun
+      write_begins (cdb.Write10 address blocks forced) address blocks forced p (unit_now s r)
+      (ap unit_or_first k.unit_is) k.slots (blocks == 0) refl begun
   command_begins unit (cdb.SynchronizeCache10 address blocks immediate) p taken there k begun =
       flush_begins (cdb.SynchronizeCache10 address blocks immediate) immediate p
       (flush_durable s true h.tied k.refused refl) begun
   command_begins unit command p taken there k begun = absurd taken
 
   passes_begin : (todo : Plan) (p : Phase) → Passes s r todo → Begins (Ok todo) p →
-      IsBehind (opened_core p) (begun_with s r r.cdb)
+      IsBehind (core_opened d r after p) (begun_with s r r.cdb)
   passes_begin todo p passes begun =
-      subst (IsBehind (opened_core p)) (sym (ap (begun_with s r) passes.is))
+      subst (IsBehind (core_opened d r after p)) (sym (ap (begun_with s r) passes.is))
       (command_begins passes.unit passes.command p passes.taken passes.there (free_told s r todo passes)
       (subst (λ (x : Plan). Begins (Ok x) p) passes.todo_is begun))
 
   -- what is planned begins, and is described then
   pub planned_begins : (y : Result Plan kept_status.Status) (p : Phase) → IsPlanned s r y → Begins y p →
-      IsBehind (opened_core p) (opened_with s r (refusal s r))
+      IsBehind (core_opened d r after p) (opened_with s r (refusal s r))
   planned_begins (Err told) p planned begun =
-      subst (IsBehind (opened_core p)) (sym (ap (opened_with s r) planned))
+      subst (IsBehind (core_opened d r after p)) (sym (ap (opened_with s r) planned))
       (same_phase p (phase.Answer told 0) _ begun.0
       (answer_opened None 0 0 (status_kept told) told 0 begun.1 refl refl))
   planned_begins (Ok todo) p planned begun =
-      subst (IsBehind (opened_core p)) (sym (ap (opened_with s r) planned.passed)) (passes_begin todo p planned begun)
+      subst (IsBehind (core_opened d r after p)) (sym (ap (opened_with s r) planned.passed))
+      (passes_begin todo p planned begun)

@@ -1,5 +1,5 @@
 -- What the table tells of a command that it lets through: no line of it applies.
-use Rattle.std.proofs.Common.{◌≡◌, ◌∙◌, ℕ, zero, suc, ◌+◌, ◌-◌, ◌<◌, ◌≤◌, Bool, true, false, List, [], ◌∷◌, length}
+use Rattle.std.proofs.Common.{◌≡◌, ◌∙◌, ℕ, zero, suc, ◌+◌, ◌<◌, ◌≤◌, Bool, true, false, List, [], ◌∷◌, length}
 use Rattle.std.proofs.Common.{Option, Some, None, ◌⊎◌, drop, refl, sym, ap, inl, inr, arith}
 use Rattle.std.specs.Prelude.{◌*◌, ◌/◌, ◌%◌, ◌==◌, ◌||◌, ◌&&◌, if◌then◌else◌, min, nat_le, nat_lt, not, slice_get}
 use Rattle.std.specs.Int.{div_ceil}
@@ -76,23 +76,23 @@ unit_told s r unit there =
 pub record IsFree (s : State) (r : Request) (unit : UnitSpec) (command : Cdb) : Type 0 where
   pub unit_is : unit_of_request s r ≡ Some r.lun
   pub spec_is : spec_of s r ≡ Some unit
-  pub few : blocks_of command ≤ 1
+  pub few : blocks_of command ≤ 32
   pub within : address_of command + blocks_of command ≤ unit.blocks
   pub mended : needs_mended (operation_of command) ≡ true → mended s ≡ true
   pub slots : slots_needed (numbers_of s) command ≤ free_slots s.translation
   pub refused : is_refused_write s (spec_of s r) command ≡ false
 
 few_told : (s : State) (command : Cdb) → IsTakenCdb command → is_too_long (numbers_of s) command ≡ false →
-    blocks_of command ≤ 1
-few_told s cdb.TestUnitReady taken h = ltb-false 1 (blocks_of cdb.TestUnitReady) h
-few_told s (cdb.RequestSense allocation) taken h = ltb-false 1 (blocks_of (cdb.RequestSense allocation)) h
-few_told s (cdb.Read6 address blocks) taken h = ltb-false 1 (blocks_of (cdb.Read6 address blocks)) h
-few_told s (cdb.Write6 address blocks) taken h = ltb-false 1 (blocks_of (cdb.Write6 address blocks)) h
-few_told s cdb.ReadCapacity10 taken h = ltb-false 1 (blocks_of cdb.ReadCapacity10) h
-few_told s (cdb.Read10 address blocks forced) taken h = ltb-false 1 (blocks_of (cdb.Read10 address blocks forced)) h
-few_told s (cdb.Write10 address blocks forced) taken h = ltb-false 1 (blocks_of (cdb.Write10 address blocks forced)) h
+    blocks_of command ≤ 32
+few_told s cdb.TestUnitReady taken h = ltb-false 32 (blocks_of cdb.TestUnitReady) h
+few_told s (cdb.RequestSense allocation) taken h = ltb-false 32 (blocks_of (cdb.RequestSense allocation)) h
+few_told s (cdb.Read6 address blocks) taken h = ltb-false 32 (blocks_of (cdb.Read6 address blocks)) h
+few_told s (cdb.Write6 address blocks) taken h = ltb-false 32 (blocks_of (cdb.Write6 address blocks)) h
+few_told s cdb.ReadCapacity10 taken h = ltb-false 32 (blocks_of cdb.ReadCapacity10) h
+few_told s (cdb.Read10 address blocks forced) taken h = ltb-false 32 (blocks_of (cdb.Read10 address blocks forced)) h
+few_told s (cdb.Write10 address blocks forced) taken h = ltb-false 32 (blocks_of (cdb.Write10 address blocks forced)) h
 few_told s (cdb.SynchronizeCache10 address blocks immediate) taken h =
-    ltb-false 1 (blocks_of (cdb.SynchronizeCache10 address blocks immediate)) h
+    ltb-false 32 (blocks_of (cdb.SynchronizeCache10 address blocks immediate)) h
 few_told s command taken h = absurd taken
 
 mended_told : (a b : Bool) → (a && not b) ≡ false → a ≡ true → b ≡ true
@@ -138,16 +138,17 @@ none_expected expected blocks h =
     by false true e f k = inr (eqb-true expected 0 f)
     by false false e f k = absurd (false≢true k)
 
-ceil_one : (n : ℕ) → 1 ≤ n → n ≤ 4096 → n / 4096 + min 1 (n % 4096) ≡ 1
-ceil_one n low high = omega arith
+ceil_some : (n b : ℕ) → 1 ≤ n → n ≤ 4096 * b → (1 ≤ n / 4096 + min 1 (n % 4096)) × (n / 4096 + min 1 (n % 4096) ≤ b)
+ceil_some n b low high = (omega arith, omega arith)
 
-pub one_expected : (expected blocks : ℕ) → blocks ≤ 1 → ((blocks == 0) || (expected == 0)) ≡ false →
-    div_ceil (min expected (4096 * blocks)) 4096 ≡ 1
-one_expected expected blocks few h =
+-- at least one, and no more than it has
+pub some_expected : (expected blocks : ℕ) → ((blocks == 0) || (expected == 0)) ≡ false →
+    (1 ≤ div_ceil (min expected (4096 * blocks)) 4096) × (div_ceil (min expected (4096 * blocks)) 4096 ≤ blocks)
+some_expected expected blocks h =
     let both = or_parts (blocks == 0) (expected == 0) h in
     let some : 1 ≤ blocks = some_told blocks both.0 in
     let more : 1 ≤ expected = some_told expected both.1 in
-    ceil_one (min expected (4096 * blocks)) (omega arith) (omega arith)
+    ceil_some (min expected (4096 * blocks)) blocks (omega arith) (omega arith)
 
 -- What is durable of a locked device
 

@@ -1,7 +1,7 @@
 -- The table by which a command is refused, against the checks of the code: they end a command with the same status.
 use Rattle.ufs_spec.proofs.Facts.{true≢false}
-use Rattle.std.proofs.Common.{IsTrue, get_or, ◌≡◌, ◌∙◌, ◌⊎◌, ℕ, ◌+◌, ◌<◌, ◌≤◌, Bool, true, false, List, []}
-use Rattle.std.proofs.Common.{◌∷◌, Option, Some, None, length, refl, sym, ap, subst, ⊎_elim, arith}
+use Rattle.std.proofs.Common.{get_or, ◌≡◌, ◌∙◌, ℕ, ◌+◌, ◌<◌, Bool, true, false, List, []}
+use Rattle.std.proofs.Common.{◌∷◌, Option, Some, None, length, refl, sym, ap, ⊎_elim}
 use Rattle.std.specs.Prelude.{◌||◌, ◌&&◌, ◌==◌, if◌then◌else◌, nat_lt, not, slice_get, slice_index, option_map}
 use Rattle.std.specs.Prelude.{Result, Ok, Err, IfErr, IfOk, IsOk}
 use Rattle.std.proofs.lemmas.Bool.{le-ltb, lt-ltb}
@@ -16,9 +16,9 @@ use Rattle.ufs_spec.specs.Exchanges.{not_ready, out_of_range, sequence_error, wr
 use Rattle.ufs_spec.specs.Machine.{IsCdbIn}
 use Rattle.ufs_spec.specs.Messages.{is_among}
 use Rattle.ufs_spec.specs.Refusals.{Line, Lun, Request, State, UnitOf, first_line, is_past}
-use Rattle.ufs_spec.specs.Refusals.{is_protected, is_refused_write, lacks_data, lacks_unit, line, lines_behind}
+use Rattle.ufs_spec.specs.Refusals.{is_refused_write, lacks_data, lacks_unit, line, lines_behind}
 use Rattle.ufs_spec.specs.Refusals.{lines_for, lun_of, mended, needs_mended, not_taken, numbers_of, operation_in}
-use Rattle.ufs_spec.specs.Refusals.{plain_now, refusal, slots_needed, spec_at, spec_of, takes, unit_in}
+use Rattle.ufs_spec.specs.Refusals.{refusal, slots_needed, spec_at, spec_of, takes, unit_in}
 use Rattle.ufs_spec.specs.Refusals.{unit_of_request}
 use Rattle.ufs_spec.specs.Translation.{free_slots}
 use Rattle.ufs_spec.specs.declared.configs.Numbers.{Numbers}
@@ -33,7 +33,7 @@ use Rattle.ftl_core.specs.Describes.{Describes}
 use Rattle.device.specs.declared.tasks.Plan.{Plan}
 use Rattle.device.specs.declared.tasks.Status as kept_status
 use Rattle.device.specs.declared.tasks.Status.TheVariants as status
-use Rattle.device.specs.Plans.{IsBare, IsPlanned, IsRequest, Passes, plan_of}
+use Rattle.device.specs.Plans.{IsBare, IsPlanned, IsRequest, plan_of}
 use Rattle.device.specs.Tasks.{status_kept}
 
 -- Lines
@@ -54,7 +54,7 @@ lines_of a b c e f g =
 
 abbrev lines_in : State → Request → UnitSpec → Cdb → List Line
 lines_in s r u c =
-    lines_of (nat_lt 1 (blocks_of c)) (lacks_data r (direction_of c) (length_of 0 c))
+    lines_of (nat_lt 32 (blocks_of c)) (lacks_data r (direction_of c) (length_of 0 c))
     (nat_lt u.blocks (address_of c + blocks_of c)) (needs_mended (operation_of c) && not (mended s))
     (is_refused_write s (Some u) c) (nat_lt (free_slots s.translation) (slots_needed (numbers_of s) c))
 
@@ -63,7 +63,7 @@ lines_are : (s : State) (r : Request) (u : UnitSpec) (c : Cdb) → IsTakenCdb c 
 lines_are s r u c taken spec = by c taken ∙ lines
   where
     at : Option UnitSpec → Option Status
-    at x = first_line (lines_of (nat_lt 1 (blocks_of c)) (lacks_data r (direction_of c) (length_of 0 c))
+    at x = first_line (lines_of (nat_lt 32 (blocks_of c)) (lacks_data r (direction_of c) (length_of 0 c))
         (is_past c x) (needs_mended (operation_of c) && not (mended s))
         (is_refused_write s x c) (nat_lt (free_slots s.translation) (slots_needed (numbers_of s) c)))
 
@@ -71,7 +71,7 @@ lines_are s r u c taken spec = by c taken ∙ lines
     lines = ap at spec
 
     by : (c : Cdb) → IsTakenCdb c → first_line (lines_for s r c) ≡ first_line
-        (lines_of (nat_lt 1 (blocks_of c)) (lacks_data r (direction_of c) (length_of 0 c))
+        (lines_of (nat_lt 32 (blocks_of c)) (lacks_data r (direction_of c) (length_of 0 c))
         (is_past c (spec_of s r)) (needs_mended (operation_of c) && not (mended s))
         (is_refused_write s (spec_of s r) c) (nat_lt (free_slots s.translation) (slots_needed (numbers_of s) c)))
     by cdb.TestUnitReady k = refl
@@ -111,7 +111,7 @@ checks_told false false false false false false = refl
 -- the checks in the words of the code
 abbrev pub checks_for : State → Request → UnitSpec → Cdb → Option kept_status.Status
 checks_for s r u c =
-    checks_of (nat_lt 1 (blocks_of c)) (lacks_data r (direction_of c) (length_of 0 c))
+    checks_of (nat_lt 32 (blocks_of c)) (lacks_data r (direction_of c) (length_of 0 c))
     (nat_lt u.blocks (address_of c + blocks_of c)) (needs_mended (operation_of c) && not (mended s))
     (is_refused_write s (Some u) c) (nat_lt (free_slots s.translation) (slots_needed (numbers_of s) c))
 
@@ -119,12 +119,12 @@ pub table_checked : (s : State) (r : Request) (u : UnitSpec) (c : Cdb) → IsTak
     first_line (lines_for s r c) ≡ option_map status_kept (checks_for s r u c)
 table_checked s r u c taken spec =
     lines_are s r u c taken spec
-    ∙ checks_told (nat_lt 1 (blocks_of c)) (lacks_data r (direction_of c) (length_of 0 c))
+    ∙ checks_told (nat_lt 32 (blocks_of c)) (lacks_data r (direction_of c) (length_of 0 c))
     (nat_lt u.blocks (address_of c + blocks_of c)) (needs_mended (operation_of c) && not (mended s))
     (is_refused_write s (Some u) c) (nat_lt (free_slots s.translation) (slots_needed (numbers_of s) c))
 
 pub told_by : (s : State) (r : Request) (u : UnitSpec) (c : Cdb) → IsTakenCdb c → spec_of s r ≡ Some u →
-    (a b p e f g : Bool) → nat_lt 1 (blocks_of c) ≡ a → lacks_data r (direction_of c) (length_of 0 c) ≡ b →
+    (a b p e f g : Bool) → nat_lt 32 (blocks_of c) ≡ a → lacks_data r (direction_of c) (length_of 0 c) ≡ b →
     nat_lt u.blocks (address_of c + blocks_of c) ≡ p → (needs_mended (operation_of c) && not (mended s)) ≡ e →
     is_refused_write s (Some u) c ≡ f → nat_lt (free_slots s.translation) (slots_needed (numbers_of s) c) ≡ g →
     first_line (lines_for s r c) ≡ option_map status_kept (checks_of a b p e f g)

@@ -1,76 +1,218 @@
--- Fewer pins than tasks may be open: each pin is of an open task, and no two are of one.
-use Rattle.std.proofs.Common.{◌≡◌, ◌∙◌, ℕ, suc, ◌<◌, ◌≤◌, ◌==◌, Bool, true, false, cond, List, [], ◌∷◌, length}
-use Rattle.std.proofs.Common.{Some, ap, arith}
-use Rattle.std.specs.Prelude.{is_some, nat_lt, not}
-use Rattle.std.specs.List.{All, list_any}
-use Rattle.std.proofs.lemmas.Bool.{lt-ltb}
-use Rattle.std.proofs.lemmas.List.Elements.{All-head, All-tail}
-use Rattle.ufs_spec.proofs.Facts.{false≢true, or_parts}
+-- There is room for what a READ keeps: each pin is of a block of an open task, no two are of the same, and a task has
+-- at most 32 blocks.
+use Rattle.std.proofs.Common.{◌≡◌, ◌∙◌, ℕ, ◌+◌, ◌*◌, ◌<◌, ◌≤◌, ◌==◌, Bool, true, false, cond, List, [], ◌∷◌, length}
+use Rattle.std.proofs.Common.{map, Option, Some, None, inl, inr, refl, sym, ap, subst, arith}
+use Rattle.std.specs.Prelude.{◌&&◌, ◌||◌, filter, find, nat_lt, not, option_map, slice_get}
+use Rattle.std.specs.List.{AllByRecursion, IsDistinct, list_any}
+use Rattle.std.proofs.Math.Dec.{eqb}
+use Rattle.std.proofs.lemmas.Bool.{le-leb}
+use Rattle.std.proofs.lemmas.Bool.Decides.{nat_tests}
+use Rattle.std.proofs.lemmas.List.{length-map}
+use Rattle.std.proofs.lemmas.List.Filters.{length-filter_both}
+use Rattle.std.proofs.lemmas.Option.{slice_get_within}
+use Rattle.std.proofs.lemmas.Map.Steps.{length-le_from_distinct_below}
+use Rattle.std.proofs.lemmas.Map.Views.{any-filter_same}
+use Rattle.ufs_spec.proofs.Facts.{and_parts, eqb-true, false≢true, none-some, or_parts, same_Some}
 use Rattle.ufs_spec.specs.Exchanges as exchange
-use Rattle.ufs_spec.specs.Exchanges.{is_task_of, most_tasks, task_of, without_task}
+use Rattle.ufs_spec.specs.Exchanges.{Answering, Awaiting, Deed, Gathering, ReadBlock, Sending, SendingBytes}
+use Rattle.ufs_spec.specs.Exchanges.{is_task_of, most_tasks, task_of}
+use Rattle.ufs_spec.specs.Ledger.{before_accepted}
+use Rattle.ufs_spec.specs.Moves.{is_pin_of}
 use Rattle.ufs_spec.specs.Refusals.{State}
 use Rattle.ufs_spec.specs.Translation.{Pin}
-use Rattle.power_loss.specs.Shown.{ShowsRight}
-use Rattle.device.specs.Calls.{PinsDiffer}
-use Rattle.device.specs.Describes.{Describes}
+use Rattle.power_loss.proofs.books.SmallFacts.{eq_self}
+use Rattle.power_loss.proofs.open_tasks.TaggedLists.{any_fewer, other_way}
+use Rattle.ftl_core.specs.Tells.{PinsDiffer}
+use Rattle.device.specs.declared.tasks.Phase.{Phase}
+use Rattle.device.specs.declared.tasks.Phase.TheVariants as phase
+use Rattle.device.specs.Calls.{has_room}
+use Rattle.device.specs.Describes.{Describes, IsDoing, Keeps, wanted_by, wanted_in, wanted_of}
 use Rattle.device.specs.Kept.{DeviceCore}
-use Rattle.device.proofs.open_tasks.ReadProgress.{others_left}
+use Rattle.device.proofs.open_tasks.FewRead.{any_found}
+use Rattle.device.proofs.open_tasks.OpenTasks.{StandsOrNot, tag_stands}
 
--- One task less
+-- Pins of one tag
 
-no_longer : (tag : ℕ) (us : List exchange.Task) → length (without_task tag us) ≤ length us
-no_longer tag [] = omega arith
-no_longer tag (u ∷ us) = by (is_task_of tag u) (no_longer tag us)
+abbrev of_tag : ℕ → Pin → Bool
+of_tag tag pin = pin.tag == tag
+
+abbrev indexes : ℕ → List Pin → List ℕ
+indexes tag pins = map (λ (pin : Pin). pin.index) (filter (of_tag tag) pins)
+
+-- where no pin of the tag has this index
+none_of : (tag index : ℕ) (pins : List Pin) → list_any (is_pin_of tag index) pins ≡ false →
+    AllByRecursion (λ y. eqb index y ≡ false) (indexes tag pins)
+none_of tag index [] h = tt
+none_of tag index (p ∷ pins) h =
+    let both = or_parts (is_pin_of tag index p) (list_any (is_pin_of tag index) pins) h in
+    by (p.tag == tag) both.0 (none_of tag index pins both.1)
   where
-    by : (b : Bool) → length (without_task tag us) ≤ length us →
-        length (cond (not b) (u ∷ without_task tag us) (without_task tag us)) ≤ suc (length us)
-    by true h = omega arith
-    by false h = omega arith
+    by : (b : Bool) → (b && (p.index == index)) ≡ false → AllByRecursion (λ y. eqb index y ≡ false) (indexes tag pins) →
+        AllByRecursion (λ y. eqb index y ≡ false)
+        (map (λ (pin : Pin). pin.index) (cond b (p ∷ filter (of_tag tag) pins) (filter (of_tag tag) pins)))
+    by true e rest = (other_way p.index index e, rest)
+    by false e rest = rest
 
-shorter : (tag : ℕ) (us : List exchange.Task) → is_some (task_of tag us) ≡ true →
-    suc (length (without_task tag us)) ≤ length us
-shorter tag [] there = absurd (false≢true there)
-shorter tag (u ∷ us) there = by (is_task_of tag u) there (no_longer tag us) (shorter tag us)
+indexes_differ : (tag : ℕ) (pins : List Pin) → PinsDiffer pins → IsDistinct eqb (indexes tag pins)
+unfolding IsDistinct
+indexes_differ tag [] h = tt
+indexes_differ tag (p ∷ pins) h = by (p.tag == tag) refl (indexes_differ tag pins h.1)
   where
-    by : (b : Bool) → is_some (cond b (Some u) (task_of tag us)) ≡ true → length (without_task tag us) ≤ length us →
-        (is_some (task_of tag us) ≡ true → suc (length (without_task tag us)) ≤ length us) →
-        suc (length (cond (not b) (u ∷ without_task tag us) (without_task tag us))) ≤ suc (length us)
-    by true h most rest = omega arith
-    by false h most rest = let less = rest h in omega arith
+    by : (b : Bool) → (p.tag == tag) ≡ b → IsDistinct eqb (indexes tag pins) →
+        IsDistinct eqb
+        (map (λ (pin : Pin). pin.index) (cond b (p ∷ filter (of_tag tag) pins) (filter (of_tag tag) pins)))
+    by true e rest = (
+      none_of tag p.index pins
+          (subst (λ n. list_any (is_pin_of n p.index) pins ≡ false) (eqb-true p.tag tag e) h.0),
+      rest,
+    )
+    by false e rest = rest
 
--- Pins of different tasks
+same_way : (m n : ℕ) → eqb m n ≡ (n == m)
+same_way m n = grind (arith, nat_tests)
 
--- each pin is of a task
-abbrev AreThere : List exchange.Task → List Pin → Type 0
-AreThere us [] = Unit {0}
-AreThere us (p ∷ ps) = (is_some (task_of p.tag us) ≡ true) × AreThere us ps
+any_index : (tag index : ℕ) (pins : List Pin) →
+    list_any (eqb index) (indexes tag pins) ≡ list_any (is_pin_of tag index) pins
+any_index tag index [] = refl
+any_index tag index (p ∷ pins) = by (p.tag == tag) (any_index tag index pins)
+  where
+    by : (b : Bool) → list_any (eqb index) (indexes tag pins) ≡ list_any (is_pin_of tag index) pins →
+        list_any (eqb index)
+        (map (λ (pin : Pin). pin.index) (cond b (p ∷ filter (of_tag tag) pins) (filter (of_tag tag) pins)))
+        ≡ ((b && (p.index == index)) || list_any (is_pin_of tag index) pins)
+    by true rest = λ i. same_way index p.index i || rest i
+    by false rest = rest
 
--- where the task of one tag goes, the pins of others have theirs
-still_there : (one : ℕ) (us : List exchange.Task) (ps : List Pin) → list_any (λ (p : Pin). p.tag == one) ps ≡ false →
-    AreThere us ps → AreThere (without_task one us) ps
-still_there one us [] other h = tt
-still_there one us (p ∷ ps) other h =
-    let both = or_parts (p.tag == one) (list_any (λ (q : Pin). q.tag == one) ps) other in
-    (ap is_some (others_left one p.tag us both.0) ∙ h.0, still_there one us ps both.1 h.1)
-
--- a list without two of one tag, each of a task, is no longer than the tasks
-no_more_pins : (us : List exchange.Task) (ps : List Pin) → PinsDiffer ps → AreThere us ps → length ps ≤ length us
-no_more_pins us [] differ h = omega arith
-no_more_pins us (p ∷ ps) differ h =
-    let rest = no_more_pins (without_task p.tag us) ps differ.1 (still_there p.tag us ps differ.0 h.1) in
-    let less = shorter p.tag us h.0 in
+-- no more than the indexes that there are
+few_of : (tag : ℕ) (pins : List Pin) → PinsDiffer pins →
+    ((index : ℕ) → list_any (is_pin_of tag index) pins ≡ true → index < 32) → length (filter (of_tag tag) pins) ≤ 32
+few_of tag pins differ low =
+    let most = length-le_from_distinct_below (indexes tag pins) 32 (indexes_differ tag pins differ)
+    (λ q e. low q (sym (any_index tag q pins) ∙ e)) in
+    let same = length-map (filter (of_tag tag) pins) (λ (pin : Pin). pin.index) in
     omega arith
 
-all_there : (s : State) (ps : List Pin) → All (ShowsRight s.translation.ledger s.tasks) ps → AreThere s.tasks ps
-all_there s [] shows = tt
-all_there s (p ∷ ps) shows = (
-  ap is_some (All-head (ShowsRight s.translation.ledger s.tasks) p ps shows).there,
-  all_there s ps (All-tail (ShowsRight s.translation.ledger s.tasks) p ps shows),
-)
+-- Pins of all tasks
 
--- so a task more finds room for its pin
-pub pin_has_room : (d : DeviceCore) (s : State) → Describes d s → PinsDiffer s.translation.pins →
-    length s.tasks < most_tasks → nat_lt (length s.translation.pins) 32 ≡ true
-pin_has_room d s h differ few =
-    let most = no_more_pins s.tasks s.translation.pins differ (all_there s s.translation.pins h.shows) in
-    lt-ltb (length s.translation.pins) 32 (omega arith)
+differ_left : (stays : Pin → Bool) (pins : List Pin) → PinsDiffer pins → PinsDiffer (filter stays pins)
+differ_left stays [] h = tt
+differ_left stays (p ∷ pins) h =
+    by (stays p) (any_fewer (is_pin_of p.tag p.index) stays pins h.0) (differ_left stays pins h.1)
+  where
+    by : (b : Bool) → list_any (is_pin_of p.tag p.index) (filter stays pins) ≡ false →
+        PinsDiffer (filter stays pins) → PinsDiffer (cond b (p ∷ filter stays pins) (filter stays pins))
+    by true first rest = (first, rest)
+    by false first rest = rest
+
+-- each is of a task, and has one of 32 indexes
+abbrev AreOf : List exchange.Task → List Pin → Type 0
+AreOf us pins = (tag index : ℕ) → list_any (is_pin_of tag index) pins ≡ true →
+    (index < 32) × (list_any (is_task_of tag) us ≡ true)
+
+-- those that are not of the first task are of the others
+are_left : (u : exchange.Task) (us : List exchange.Task) (pins : List Pin) → AreOf (u ∷ us) pins →
+    AreOf us (filter (λ pin. not (of_tag u.tag pin)) pins)
+are_left u us pins h tag index = by (tag == u.tag) refl
+  where
+    left : List Pin
+    left = filter (λ pin. not (of_tag u.tag pin)) pins
+
+    same : (b : Bool) → (tag == u.tag) ≡ b →
+        list_any (is_pin_of tag index) left ≡ (not b && list_any (is_pin_of tag index) pins)
+    same b e = any-filter_same (is_pin_of tag index) (λ pin. not (of_tag u.tag pin)) (not b)
+        (λ pin is. ap not (ap (λ (n : ℕ). n == u.tag) (eqb-true pin.tag tag (and_parts _ _ is).0) ∙ e)) pins
+
+    by : (b : Bool) → (tag == u.tag) ≡ b → list_any (is_pin_of tag index) left ≡ true →
+        (index < 32) × (list_any (is_task_of tag) us ≡ true)
+    by true e there = absurd (false≢true (sym (same true e) ∙ there))
+    by false e there =
+        let its = h tag index (sym (same false e) ∙ there) in
+        (its.0, ap (λ b. b || list_any (is_task_of tag) us) (sym (other_way tag u.tag e)) ∙ its.1)
+
+few_pins : (us : List exchange.Task) (pins : List Pin) → PinsDiffer pins → AreOf us pins →
+    length pins ≤ 32 * length us
+few_pins [] [] differ h = omega arith
+few_pins [] (p ∷ pins) differ h = absurd (false≢true (h p.tag p.index here).1)
+  where
+    here : list_any (is_pin_of p.tag p.index) (p ∷ pins) ≡ true
+    here = ap (λ b. b || list_any (is_pin_of p.tag p.index) pins)
+        (λ i. eq_self p.tag i && eq_self p.index i)
+few_pins (u ∷ us) pins differ h =
+    let mine = few_of u.tag pins differ (λ index e. (h u.tag index e).0) in
+    let rest = few_pins us (filter (λ pin. not (of_tag u.tag pin)) pins)
+    (differ_left (λ pin. not (of_tag u.tag pin)) pins differ) (are_left u us pins h) in
+    let both = length-filter_both (of_tag u.tag) (λ pin. not (of_tag u.tag pin)) (λ pin. refl) pins in
+    omega arith
+
+-- What is kept
+
+some_found : {X : Type 0} (p : X → Bool) (xs : List X) → list_any p xs ≡ true → (x : X) × (find p xs ≡ Some x)
+some_found p [] h = absurd (false≢true h)
+some_found p (x ∷ xs) h = by (p x) h (some_found p xs)
+  where
+    by : (b : Bool) → (b || list_any p xs) ≡ true → (list_any p xs ≡ true → (y : _) × (find p xs ≡ Some y)) →
+        (y : _) × (cond b (Some x) (find p xs) ≡ Some y)
+    by true e rest = (x, refl)
+    by false e rest = rest e
+
+-- a task that keeps something sends blocks, of which this is one
+kept_block : (index : ℕ) (wanted : Bool) (deed : Deed) → wanted_in index deed ≡ Some wanted →
+    (blocks : List ReadBlock) × (sent : ℕ) × (deed ≡ Sending blocks sent) × (index < length blocks)
+kept_block index wanted (Sending blocks sent) e = (blocks, sent, refl, by (nat_lt index sent) e)
+  where
+    of_block : (o : Option ReadBlock) → slice_get blocks index ≡ o → wanted_of (index == sent) o ≡ Some wanted →
+        index < length blocks
+    of_block None at k = absurd (none-some wanted k)
+    of_block (Some block) at k = slice_get_within blocks index block at
+
+    by : (b : Bool) → cond b None (wanted_of (index == sent) (slice_get blocks index)) ≡ Some wanted →
+        index < length blocks
+    by true k = absurd (none-some wanted k)
+    by false k = of_block (slice_get blocks index) refl k
+kept_block index wanted (Gathering purpose gathered asked) e = absurd (none-some wanted e)
+kept_block index wanted (SendingBytes bytes) e = absurd (none-some wanted e)
+kept_block index wanted (Awaiting commands) e = absurd (none-some wanted e)
+kept_block index wanted (Answering told carried) e = absurd (none-some wanted e)
+
+few_blocks : (before expected total : ℕ) (p : Phase) (blocks : List ReadBlock) (sent : ℕ) →
+    IsDoing before expected total p (Sending blocks sent) → length blocks ≤ 32
+few_blocks before expected total (phase.SendBlocks x) blocks sent h =
+    let count = h.count in let few = h.few in omega arith
+few_blocks before expected total (phase.Answer told n) blocks sent h = h.few
+few_blocks before expected total p blocks sent h = absurd h
+
+kept_for_task : (d : DeviceCore) (s : State) → Keeps d s → AreOf s.tasks s.translation.pins
+kept_for_task d s k tag index there =
+    of_task (task_of tag s.tasks) refl (sym (k.wanted tag index) ∙ ap (option_map (λ (pin : Pin). pin.wanted)) found.1)
+  where
+    found : (pin : Pin) × (find (is_pin_of tag index) s.translation.pins ≡ Some pin)
+    found = some_found (is_pin_of tag index) s.translation.pins there
+
+    before : ℕ
+    before = before_accepted s.translation.ledger
+
+    its : (task : exchange.Task) → task_of tag s.tasks ≡ Some task → wanted_in index task.deed ≡ Some found.0.wanted →
+        StandsOrNot before tag d.tasks s.tasks → index < 32
+    its task is wanted (inl none) = absurd (none-some task (sym none.1 ∙ is))
+    its task is wanted (inr r) =
+        let b = kept_block index found.0.wanted task.deed wanted in
+        let deed = ap (λ (x : exchange.Task). x.deed) (same_Some r.b task (sym r.found ∙ is)) ∙ b.2 in
+        let few = few_blocks before r.a.expected r.b.length r.a.phase b.0 b.1
+        (subst (IsDoing before r.a.expected r.b.length r.a.phase) deed r.opened.kept.doing) in
+        let within = b.3 in
+        omega arith
+
+    of_task : (o : Option exchange.Task) → task_of tag s.tasks ≡ o → wanted_by index o ≡ Some found.0.wanted →
+        (index < 32) × (list_any (is_task_of tag) s.tasks ≡ true)
+    of_task None is wanted = absurd (none-some found.0.wanted wanted)
+    of_task (Some task) is wanted = (
+      its task is wanted (tag_stands before tag d.tasks s.tasks k.tasks),
+      any_found (is_task_of tag) s.tasks task is,
+    )
+
+-- so a task more finds room for its blocks
+pub pin_has_room : (d : DeviceCore) (s : State) (blocks : ℕ) → Describes d s → PinsDiffer s.translation.pins →
+    length s.tasks < most_tasks → blocks ≤ 32 → has_room s.translation blocks ≡ true
+pin_has_room d s blocks h differ few most =
+    let pins = few_pins s.tasks s.translation.pins differ (kept_for_task d s h.kept) in
+    le-leb (length s.translation.pins + blocks) 1024 (omega arith)

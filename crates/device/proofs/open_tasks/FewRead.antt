@@ -12,49 +12,48 @@ use Rattle.ufs_spec.specs.Exchanges.{most_tasks, task_of}
 use Rattle.power_loss.proofs.books.SmallFacts.{eq_self}
 use Rattle.power_loss.proofs.open_tasks.TaggedLists.{other_way}
 use Rattle.device.specs.declared.tasks.Loaded.{Loaded}
-use Rattle.device.specs.Describes.{progress_by, progress_in, progress_of, progress_of_block}
+use Rattle.device.specs.Describes.{read_by, read_for, read_in, read_kept, read_of}
 use Rattle.device.specs.Replies.{body_of, is_loaded_for}
-use Rattle.device.proofs.open_tasks.ReadProgress.{read_for}
 
 -- Blocks of one tag and of the others
 
 abbrev others : ℕ → List Loaded → List Loaded
 others tag ls = filter (λ l. not (is_loaded_for tag l)) ls
 
-count_both : (tag : ℕ) (ls : List Loaded) → length ls ≡ length (read_for tag ls) + length (others tag ls)
+count_both : (tag : ℕ) (ls : List Loaded) → length ls ≡ length (read_kept ls tag) + length (others tag ls)
 count_both tag [] = refl
 count_both tag (l ∷ ls) = by (l.tag == tag) (count_both tag ls)
   where
-    by : (b : Bool) → length ls ≡ length (read_for tag ls) + length (others tag ls) →
+    by : (b : Bool) → length ls ≡ length (read_kept ls tag) + length (others tag ls) →
         suc (length ls) ≡ length
         (map body_of (cond b (l ∷ filter (is_loaded_for tag) ls) (filter (is_loaded_for tag) ls)))
         + length (cond (not b) (l ∷ others tag ls) (others tag ls))
     by true h = omega arith
     by false h = omega arith
 
-none_else : (one : ℕ) (ls : List Loaded) → read_for one (others one ls) ≡ []
+none_else : (one : ℕ) (ls : List Loaded) → read_kept (others one ls) one ≡ []
 none_else one [] = refl
 none_else one (l ∷ ls) = by (l.tag == one) refl (none_else one ls)
   where
-    by : (b : Bool) → (l.tag == one) ≡ b → read_for one (others one ls) ≡ [] →
-        read_for one (cond (not b) (l ∷ others one ls) (others one ls)) ≡ []
+    by : (b : Bool) → (l.tag == one) ≡ b → read_kept (others one ls) one ≡ [] →
+        read_kept (cond (not b) (l ∷ others one ls) (others one ls)) one ≡ []
     by true e h = h
     by false e h = ap (λ z. map body_of (cond z (l ∷ filter (is_loaded_for one) (others one ls))
         (filter (is_loaded_for one) (others one ls)))) e ∙ h
 
-same_else : (one tag : ℕ) (ls : List Loaded) → (tag == one) ≡ false → read_for tag (others one ls) ≡ read_for tag ls
+same_else : (one tag : ℕ) (ls : List Loaded) → (tag == one) ≡ false → read_kept (others one ls) tag ≡ read_kept ls tag
 same_else one tag [] other = refl
 same_else one tag (l ∷ ls) other = by (l.tag == one) refl (same_else one tag ls other)
   where
-    rest : (b : Bool) → read_for tag (others one ls) ≡ read_for tag ls →
+    rest : (b : Bool) → read_kept (others one ls) tag ≡ read_kept ls tag →
         map body_of (cond b (l ∷ filter (is_loaded_for tag) (others one ls))
         (filter (is_loaded_for tag) (others one ls)))
         ≡ map body_of (cond b (l ∷ filter (is_loaded_for tag) ls) (filter (is_loaded_for tag) ls))
     rest true h = ap (λ bs. l.body ∷ bs) h
     rest false h = h
 
-    by : (b : Bool) → (l.tag == one) ≡ b → read_for tag (others one ls) ≡ read_for tag ls →
-        read_for tag (cond (not b) (l ∷ others one ls) (others one ls)) ≡ read_for tag (l ∷ ls)
+    by : (b : Bool) → (l.tag == one) ≡ b → read_kept (others one ls) tag ≡ read_kept ls tag →
+        read_kept (cond (not b) (l ∷ others one ls) (others one ls)) tag ≡ read_kept (l ∷ ls) tag
     by true e h = h ∙ sym (ap
         (λ z. map body_of (cond z (l ∷ filter (is_loaded_for tag) ls) (filter (is_loaded_for tag) ls)))
         (ap (λ (n : ℕ). n == tag) (eqb-true l.tag one e) ∙ other_way tag one other))
@@ -64,13 +63,13 @@ same_else one tag (l ∷ ls) other = by (l.tag == one) refl (same_else one tag l
 
 -- a tag has at most one block, and none where no task has the tag
 abbrev OneEach : List exchange.Task → List Loaded → Type 0
-OneEach us ls = (tag : ℕ) → length (read_for tag ls) ≤ cond (list_any (is_task_of tag) us) 1 0
+OneEach us ls = (tag : ℕ) → length (read_kept ls tag) ≤ cond (list_any (is_task_of tag) us) 1 0
 
 fewer : (us : List exchange.Task) (ls : List Loaded) → OneEach us ls → length ls ≤ length us
 fewer [] [] h = omega arith
 fewer [] (l ∷ ls) h = absurd (let none = here l.tag refl in let few = h l.tag in omega arith)
   where
-    here : (n : ℕ) → l.tag ≡ n → 1 ≤ length (read_for n (l ∷ ls))
+    here : (n : ℕ) → l.tag ≡ n → 1 ≤ length (read_kept (l ∷ ls) n)
     here n e =
         let one = ap (λ z. length
         (map body_of (cond z (l ∷ filter (is_loaded_for n) ls) (filter (is_loaded_for n) ls))))
@@ -82,19 +81,19 @@ fewer (u ∷ us) ls h =
     let one = most (list_any (is_task_of u.tag) (u ∷ us)) (h u.tag) in
     omega arith
   where
-    most : (b : Bool) → length (read_for u.tag ls) ≤ cond b 1 0 → length (read_for u.tag ls) ≤ 1
+    most : (b : Bool) → length (read_kept ls u.tag) ≤ cond b 1 0 → length (read_kept ls u.tag) ≤ 1
     most true k = k
     most false k = omega arith
 
     at : (tag : ℕ) (b : Bool) → (tag == u.tag) ≡ b →
-        length (read_for tag (others u.tag ls)) ≤ cond (list_any (is_task_of tag) us) 1 0
+        length (read_kept (others u.tag ls) tag) ≤ cond (list_any (is_task_of tag) us) 1 0
     at tag true e =
         subst (λ n. n ≤ cond (list_any (is_task_of tag) us) 1 0)
-        (sym (ap length (subst (λ n. read_for n (others u.tag ls) ≡ []) (sym (eqb-true tag u.tag e))
+        (sym (ap length (subst (λ n. read_kept (others u.tag ls) n ≡ []) (sym (eqb-true tag u.tag e))
         (none_else u.tag ls)))) (omega arith)
     at tag false e =
         subst (λ n. n ≤ cond (list_any (is_task_of tag) us) 1 0) (sym (ap length (same_else u.tag tag ls e)))
-        (subst (λ z. length (read_for tag ls) ≤ cond (z || list_any (is_task_of tag) us) 1 0) (other_way tag u.tag e)
+        (subst (λ z. length (read_kept ls tag) ≤ cond (z || list_any (is_task_of tag) us) 1 0) (other_way tag u.tag e)
         (h tag))
 
     each : OneEach us (others u.tag ls)
@@ -102,7 +101,7 @@ fewer (u ∷ us) ls h =
 
 -- What is read of tasks
 
-any_found : {X : Type 0} (p : X → Bool) (xs : List X) (x : X) → find p xs ≡ Some x → list_any p xs ≡ true
+pub any_found : {X : Type 0} (p : X → Bool) (xs : List X) (x : X) → find p xs ≡ Some x → list_any p xs ≡ true
 any_found p [] x e = cc
 any_found p (y ∷ ys) x e = by (p y) e (λ k. any_found p ys x k)
   where
@@ -111,33 +110,33 @@ any_found p (y ∷ ys) x e = by (p y) e (λ k. any_found p ys x k)
     by true k rest = refl
     by false k rest = rest k
 
-at_most_one : (task : exchange.Task) (deed : exchange.Deed) → length (progress_in deed).read ≤ 1
+at_most_one : (task : exchange.Task) (deed : exchange.Deed) → length (read_in deed) ≤ 1
 at_most_one task (Sending blocks sent) = of_block (slice_get blocks sent)
   where
-    of_state : (body : List ℕ) (state : ReadState) → length (progress_by body state).read ≤ 1
+    of_state : (body : List ℕ) (state : ReadState) → length (read_by body state) ≤ 1
     of_state body Unread = omega arith
     of_state body WasRead = omega arith
     of_state body NotRead = omega arith
 
-    of_block : (o : Option ReadBlock) → length (progress_of_block o).read ≤ 1
+    of_block : (o : Option ReadBlock) → length (read_of o) ≤ 1
     of_block None = omega arith
     of_block (Some block) = of_state block.body block.state
 at_most_one task deed = omega arith
 
 one_each : (us : List exchange.Task) (ls : List Loaded) →
-    ((tag : ℕ) → read_for tag ls ≡ (progress_of (task_of tag us)).read) → OneEach us ls
+    ((tag : ℕ) → read_kept ls tag ≡ read_for (task_of tag us)) → OneEach us ls
 one_each us ls h tag = subst (λ bs. length bs ≤ cond (list_any (is_task_of tag) us) 1 0) (sym (h tag))
     (by (task_of tag us) refl)
   where
     by : (o : Option exchange.Task) → task_of tag us ≡ o →
-        length (progress_of o).read ≤ cond (list_any (is_task_of tag) us) 1 0
+        length (read_for o) ≤ cond (list_any (is_task_of tag) us) 1 0
     by None e = omega arith
-    by (Some task) e = subst (λ b. length (progress_in task.deed).read ≤ cond b 1 0)
+    by (Some task) e = subst (λ b. length (read_in task.deed) ≤ cond b 1 0)
         (sym (any_found (is_task_of tag) us task e)) (at_most_one task task.deed)
 
 -- so there is room for one more: with it, no more blocks are read than tasks are open
 pub has_room : (us : List exchange.Task) (ls : List Loaded) (new : Loaded) → length us ≤ most_tasks →
-    ((tag : ℕ) → read_for tag (ls ++ new ∷ []) ≡ (progress_of (task_of tag us)).read) → nat_lt (length ls) 32 ≡ true
+    ((tag : ℕ) → read_kept (ls ++ new ∷ []) tag ≡ read_for (task_of tag us)) → nat_lt (length ls) 32 ≡ true
 has_room us ls new most same =
     let few = fewer us (ls ++ new ∷ []) (one_each us (ls ++ new ∷ []) same) in
     let long = length-append ls (new ∷ []) in

@@ -1,4 +1,4 @@
--- How far the READs are: what is kept for each tag where tasks, pins and blocks that were read come, change and go.
+-- How far the READs are: what is found for each tag where tasks, pins and blocks that were read come, change and go.
 use Rattle.std.proofs.Common.{◌≡◌, ◌∙◌, ℕ, suc, ◌==◌, ◌&&◌, Bool, true, false, cond, List, [], ◌∷◌, ◌++◌, map, Option}
 use Rattle.std.proofs.Common.{Some, None, refl, sym, ap, subst}
 use Rattle.std.specs.Prelude.{filter, find, if◌then◌else◌, not, option_map, position}
@@ -6,7 +6,7 @@ use Rattle.std.specs.Option.{option_or, option_to_list}
 use Rattle.std.proofs.lemmas.List.Elements.{filter-append}
 use Rattle.std.proofs.lemmas.List.{map-append}
 use Rattle.std.proofs.lemmas.List.Folds.{find-append}
-use Rattle.ufs_spec.proofs.Facts.{eqb-true, false≢true}
+use Rattle.ufs_spec.proofs.Facts.{and_parts, eqb-true, false≢true}
 use Rattle.ufs_spec.specs.Exchanges as exchange
 use Rattle.ufs_spec.specs.Exchanges.{Deed, is_task_of, task_of, with_deed}
 use Rattle.ufs_spec.specs.Moves.{is_pin_of, with_wanted}
@@ -14,12 +14,9 @@ use Rattle.ufs_spec.specs.Translation.{Pin}
 use Rattle.power_loss.proofs.open_tasks.FoundInLists.{found_is}
 use Rattle.power_loss.proofs.open_tasks.TaggedLists.{other_way}
 use Rattle.device.specs.declared.tasks.Loaded.{Loaded}
-use Rattle.device.specs.Describes.{Progress, progress_in, progress_of}
+use Rattle.device.specs.Describes.{read_kept, wanted_kept}
 use Rattle.device.specs.Replies.{body_of, is_loaded_for, loaded_without}
 use Rattle.device.proofs.open_tasks.OpenTasks.{position_step}
-
-abbrev pub progress : Option Bool → List (List ℕ) → Progress
-progress wanted read = record { wanted = wanted; read = read }
 
 -- What is found in a list
 
@@ -68,22 +65,21 @@ find_gone p q goes (x ∷ xs) = by (q x) refl (find_gone p q goes xs)
 abbrev pub KeepsTag : (exchange.Task → exchange.Task) → Type 0
 KeepsTag f = (x : exchange.Task) → (f x).tag ≡ x.tag
 
-tag_kept : (f : exchange.Task → exchange.Task) (tag : ℕ) (us : List exchange.Task) → KeepsTag f →
+pub tag_kept : (f : exchange.Task → exchange.Task) (tag : ℕ) (us : List exchange.Task) → KeepsTag f →
     task_of tag (map f us) ≡ option_map f (task_of tag us)
 tag_kept f tag us same = find_map (is_task_of tag) f (λ x. ap (λ (n : ℕ). n == tag) (same x)) us
 
-progress_mapped : (f : exchange.Task → exchange.Task) (o : Option exchange.Task) →
-    ((x : exchange.Task) → o ≡ Some x → progress_in (f x).deed ≡ progress_in x.deed) →
-    progress_of (option_map f o) ≡ progress_of o
-progress_mapped f None same = refl
-progress_mapped f (Some x) same = same x refl
+mapped_same : {X : Type 0} (G : Option exchange.Task → X) (f : exchange.Task → exchange.Task)
+    (o : Option exchange.Task) → ((x : exchange.Task) → o ≡ Some x → G (Some (f x)) ≡ G (Some x)) →
+    G (option_map f o) ≡ G o
+mapped_same G f None same = refl
+mapped_same G f (Some x) same = same x refl
 
--- no change tells how far a READ is
-pub each_goes_on : (f : exchange.Task → exchange.Task) (us : List exchange.Task) (tag : ℕ) → KeepsTag f →
-    ((x : exchange.Task) → progress_in (f x).deed ≡ progress_in x.deed) →
-    progress_of (task_of tag (map f us)) ≡ progress_of (task_of tag us)
-each_goes_on f us tag tags same = ap progress_of (tag_kept f tag us tags) ∙ progress_mapped f (task_of tag us)
-    (λ x e. same x)
+-- what no change of a task changes
+pub each_goes_on : {X : Type 0} (G : Option exchange.Task → X) (f : exchange.Task → exchange.Task)
+    (us : List exchange.Task) (tag : ℕ) → KeepsTag f → ((x : exchange.Task) → G (Some (f x)) ≡ G (Some x)) →
+    G (task_of tag (map f us)) ≡ G (task_of tag us)
+each_goes_on G f us tag tags same = ap G (tag_kept f tag us tags) ∙ mapped_same G f (task_of tag us) (λ x e. same x)
 
 -- a change of the task of one tag
 pub record ChangesOne (f : exchange.Task → exchange.Task) (tag : ℕ) : Type 0 where
@@ -92,16 +88,15 @@ pub record ChangesOne (f : exchange.Task → exchange.Task) (tag : ℕ) : Type 0
 
 -- leaves the tasks of other tags
 pub others_go_on : (f : exchange.Task → exchange.Task) (us : List exchange.Task) (one tag : ℕ) → ChangesOne f one →
-    (tag == one) ≡ false → progress_of (task_of tag (map f us)) ≡ progress_of (task_of tag us)
+    (tag == one) ≡ false → task_of tag (map f us) ≡ task_of tag us
 others_go_on f us one tag h other =
-    ap progress_of (tag_kept f tag us h.tags)
-    ∙ progress_mapped f (task_of tag us) (λ x e. ap (λ (y : exchange.Task). progress_in y.deed)
+    tag_kept f tag us h.tags
+    ∙ mapped_same (λ o. o) f (task_of tag us) (λ x e. ap (λ y. Some y)
     (h.others x (ap (λ (n : ℕ). n == one) (eqb-true x.tag tag (found_is (is_task_of tag) us x e)) ∙ other)))
 
 pub one_goes_on : (f : exchange.Task → exchange.Task) (us : List exchange.Task) (tag : ℕ) (b : exchange.Task) →
-    KeepsTag f →
-    task_of tag us ≡ Some b → progress_of (task_of tag (map f us)) ≡ progress_in (f b).deed
-one_goes_on f us tag b tags found = ap progress_of (tag_kept f tag us tags ∙ ap (option_map f) found)
+    KeepsTag f → task_of tag us ≡ Some b → task_of tag (map f us) ≡ Some (f b)
+one_goes_on f us tag b tags found = tag_kept f tag us tags ∙ ap (option_map f) found
 
 pub deed_changes : (tag : ℕ) (deed : Deed) → ChangesOne (with_deed tag deed) tag
 deed_changes tag deed = record {
@@ -113,12 +108,12 @@ deed_changes tag deed = record {
     by x true = refl
     by x false = refl
 
--- the deed of the task of a tag, once it is set
+-- the task of a tag, once its deed is set
 pub deed_set : (tag : ℕ) (deed : Deed) (us : List exchange.Task) (b : exchange.Task) → task_of tag us ≡ Some b →
-    progress_of (task_of tag (map (with_deed tag deed) us)) ≡ progress_in deed
+    task_of tag (map (with_deed tag deed) us) ≡ Some (record b { deed = deed })
 deed_set tag deed us b found =
     one_goes_on (with_deed tag deed) us tag b (deed_changes tag deed).tags found
-    ∙ ap (λ z. progress_in (cond z (record b { deed = deed }) b).deed) (found_is (is_task_of tag) us b found)
+    ∙ ap (λ z. Some (cond z (record b { deed = deed }) b)) (found_is (is_task_of tag) us b found)
 
 -- by the tag that is asked for: the one, or another
 pub by_tag : (P : ℕ → Type 0) (one : ℕ) → P one → ((tag : ℕ) → (tag == one) ≡ false → P tag) → (tag : ℕ) → P tag
@@ -145,54 +140,110 @@ task_more tag us b = find-append (is_task_of tag) us (b ∷ [])
 
 -- Pins
 
-abbrev pub pin_for : ℕ → List Pin → Option Pin
-pin_for tag pins = find (is_pin_of tag 0) pins
+-- a change of pins that keeps whose they are, and of which block
+abbrev pub KeepsPin : (Pin → Pin) → Type 0
+KeepsPin f = (tag index : ℕ) (pin : Pin) → is_pin_of tag index (f pin) ≡ is_pin_of tag index pin
 
-abbrev pub wanted_for : ℕ → List Pin → Option Bool
-wanted_for tag pins = option_map (λ (pin : Pin). pin.wanted) (pin_for tag pins)
+-- what is kept after it
+pub wanted_mapped : (f : Pin → Pin) (pins : List Pin) (tag index : ℕ) → KeepsPin f →
+    wanted_kept (map f pins) tag index
+    ≡ option_map (λ (pin : Pin). pin.wanted) (option_map f (find (is_pin_of tag index) pins))
+wanted_mapped f pins tag index keeps =
+    ap (option_map (λ (pin : Pin). pin.wanted)) (find_map (is_pin_of tag index) f (keeps tag index) pins)
 
--- a change of pins that keeps whose they are and whether they are wanted
+option_same : (f : Pin → Pin) (o : Option Pin) → ((pin : Pin) → o ≡ Some pin → (f pin).wanted ≡ pin.wanted) →
+    option_map (λ (pin : Pin). pin.wanted) (option_map f o) ≡ option_map (λ (pin : Pin). pin.wanted) o
+option_same f None same = refl
+option_same f (Some pin) same = ap (λ b. Some b) (same pin refl)
+
+-- a change that keeps whether they are wanted as well
 pub wanted_same : (f : Pin → Pin) → ((pin : Pin) → (f pin).tag ≡ pin.tag) → ((pin : Pin) → (f pin).index ≡ pin.index) →
-    ((pin : Pin) → (f pin).wanted ≡ pin.wanted) → (tag : ℕ) (pins : List Pin) →
-    wanted_for tag (map f pins) ≡ wanted_for tag pins
-wanted_same f tags indexes wanted tag pins =
-    ap (option_map (λ (pin : Pin). pin.wanted))
-    (find_map (is_pin_of tag 0) f (λ pin i. (tags pin i == tag) && (indexes pin i == 0)) pins) ∙ by (pin_for tag pins)
-  where
-    by : (o : Option Pin) → option_map (λ (pin : Pin). pin.wanted) (option_map f o) ≡ option_map
-        (λ (pin : Pin). pin.wanted) o
-    by None = refl
-    by (Some pin) = ap (λ b. Some b) (wanted pin)
+    ((pin : Pin) → (f pin).wanted ≡ pin.wanted) → (tag index : ℕ) (pins : List Pin) →
+    wanted_kept (map f pins) tag index ≡ wanted_kept pins tag index
+wanted_same f tags indexes wanted tag index pins =
+    wanted_mapped f pins tag index (λ n k pin i. (tags pin i == n) && (indexes pin i == k))
+    ∙ option_same f (find (is_pin_of tag index) pins) (λ pin e. wanted pin)
 
--- to set whether a pin is wanted that is not the first of the tag
-pub want_set_else : (one index : ℕ) (wanted : Bool) (tag : ℕ) (pins : List Pin) →
-    ((pin : Pin) → is_pin_of tag 0 pin ≡ true → is_pin_of one index pin ≡ false) →
-    wanted_for tag (map (with_wanted one index wanted) pins) ≡ wanted_for tag pins
-want_set_else one index wanted tag pins differ =
-    ap (option_map (λ (pin : Pin). pin.wanted)) (find_map (is_pin_of tag 0) (with_wanted one index wanted)
-    (λ pin. same pin (is_pin_of one index pin)) pins) ∙ by (pin_for tag pins) refl
+want_keeps : (one k : ℕ) (wanted : Bool) → KeepsPin (with_wanted one k wanted)
+want_keeps one k wanted tag index pin = by (is_pin_of one k pin)
   where
-    same : (pin : Pin) (b : Bool) → is_pin_of tag 0 (if b then record pin { wanted = wanted } else pin) ≡ is_pin_of tag
-        0 pin
-    same pin true = refl
-    same pin false = refl
+    by : (b : Bool) →
+        is_pin_of tag index (if b then record pin { wanted = wanted } else pin) ≡ is_pin_of tag index pin
+    by true = refl
+    by false = refl
 
-    by : (o : Option Pin) → pin_for tag pins ≡ o →
-        option_map (λ (pin : Pin). pin.wanted) (option_map (with_wanted one index wanted) o) ≡ option_map
-        (λ (pin : Pin). pin.wanted) o
+-- to set whether another pin is wanted
+pub want_set_else : (one k : ℕ) (wanted : Bool) (tag index : ℕ) (pins : List Pin) →
+    ((pin : Pin) → is_pin_of tag index pin ≡ true → is_pin_of one k pin ≡ false) →
+    wanted_kept (map (with_wanted one k wanted) pins) tag index ≡ wanted_kept pins tag index
+want_set_else one k wanted tag index pins differ =
+    wanted_mapped (with_wanted one k wanted) pins tag index (want_keeps one k wanted)
+    ∙ option_same (with_wanted one k wanted) (find (is_pin_of tag index) pins)
+    (λ pin e. ap (λ b. (if b then record pin { wanted = wanted } else pin).wanted)
+    (differ pin (found_is (is_pin_of tag index) pins pin e)))
+
+-- that of another tag
+pub want_other_tag : (one k : ℕ) (wanted : Bool) (tag index : ℕ) (pins : List Pin) → (tag == one) ≡ false →
+    wanted_kept (map (with_wanted one k wanted) pins) tag index ≡ wanted_kept pins tag index
+want_other_tag one k wanted tag index pins other =
+    want_set_else one k wanted tag index pins
+    (λ pin e. ap (λ (n : ℕ). (n == one) && (pin.index == k)) (eqb-true pin.tag tag (and_parts _ _ e).0)
+    ∙ ap (λ b. b && (pin.index == k)) other)
+
+-- that of another index
+pub want_other_index : (one k : ℕ) (wanted : Bool) (tag index : ℕ) (pins : List Pin) → (index == k) ≡ false →
+    wanted_kept (map (with_wanted one k wanted) pins) tag index ≡ wanted_kept pins tag index
+want_other_index one k wanted tag index pins other =
+    want_set_else one k wanted tag index pins
+    (λ pin e. ap (λ (n : ℕ). (pin.tag == one) && (n == k)) (eqb-true pin.index index (and_parts _ _ e).1)
+    ∙ (ap (λ b. (pin.tag == one) && b) other ∙ right (pin.tag == one)))
+  where
+    right : (b : Bool) → (b && false) ≡ false
+    right true = refl
+    right false = refl
+
+-- to set whether the pin itself is wanted, if it is there
+pub want_set : (one k : ℕ) (wanted : Bool) (pins : List Pin) →
+    wanted_kept (map (with_wanted one k wanted) pins) one k ≡ option_map (λ b. wanted) (wanted_kept pins one k)
+want_set one k wanted pins =
+    wanted_mapped (with_wanted one k wanted) pins one k (want_keeps one k wanted)
+    ∙ by (find (is_pin_of one k) pins) refl
+  where
+    by : (o : Option Pin) → find (is_pin_of one k) pins ≡ o →
+        option_map (λ (pin : Pin). pin.wanted) (option_map (with_wanted one k wanted) o)
+        ≡ option_map (λ b. wanted) (option_map (λ (pin : Pin). pin.wanted) o)
     by None e = refl
     by (Some pin) e = ap (λ b. Some (if b then record pin { wanted = wanted } else pin).wanted)
-        (differ pin (found_is (is_pin_of tag 0) pins pin e))
+        (found_is (is_pin_of one k) pins pin e)
+
+-- where pins go
+pub wanted_left : (stays : Pin → Bool) (pins : List Pin) (tag index : ℕ) →
+    ((pin : Pin) → is_pin_of tag index pin ≡ true → stays pin ≡ true) →
+    wanted_kept (filter stays pins) tag index ≡ wanted_kept pins tag index
+wanted_left stays pins tag index stay =
+    ap (option_map (λ (pin : Pin). pin.wanted)) (find_left (is_pin_of tag index) stays stay pins)
+
+pub wanted_gone : (stays : Pin → Bool) (pins : List Pin) (tag index : ℕ) →
+    ((pin : Pin) → is_pin_of tag index pin ≡ true → stays pin ≡ false) →
+    wanted_kept (filter stays pins) tag index ≡ None
+wanted_gone stays pins tag index go =
+    ap (option_map (λ (pin : Pin). pin.wanted)) (find_gone (is_pin_of tag index) stays go pins)
+
+-- where pins come
+pub wanted_more : (pins more : List Pin) (tag index : ℕ) →
+    wanted_kept (pins ++ more) tag index ≡ option_or (wanted_kept pins tag index) (wanted_kept more tag index)
+wanted_more pins more tag index =
+    ap (option_map (λ (pin : Pin). pin.wanted)) (find-append (is_pin_of tag index) pins more)
+    ∙ by (find (is_pin_of tag index) pins) (find (is_pin_of tag index) more)
+  where
+    by : (a b : Option Pin) → option_map (λ (pin : Pin). pin.wanted) (option_or a b)
+        ≡ option_or (option_map (λ (pin : Pin). pin.wanted) a) (option_map (λ (pin : Pin). pin.wanted) b)
+    by None b = refl
+    by (Some pin) b = refl
 
 -- Blocks that were read
 
-abbrev pub read_for : ℕ → List Loaded → List (List ℕ)
-read_for tag ls = map body_of (filter (is_loaded_for tag) ls)
-
 -- the first block of a tag goes
-unloaded : ℕ → List Loaded → List Loaded
-unloaded tag ls = loaded_without ls (position (is_loaded_for tag) ls)
-
 unloaded_step : (one : ℕ) (l : Loaded) (ls : List Loaded) →
     loaded_without (l ∷ ls) (position (is_loaded_for one) (l ∷ ls))
     ≡ cond (l.tag == one) ls (l ∷ loaded_without ls (position (is_loaded_for one) ls))
@@ -206,32 +257,32 @@ unloaded_step one l ls = ap (loaded_without (l ∷ ls)) (position_step (is_loade
     by false (Some k) = refl
 
 pub others_read : (one tag : ℕ) (ls : List Loaded) → (tag == one) ≡ false →
-    read_for tag (loaded_without ls (position (is_loaded_for one) ls)) ≡ read_for tag ls
+    read_kept (loaded_without ls (position (is_loaded_for one) ls)) tag ≡ read_kept ls tag
 others_read one tag [] other = refl
-others_read one tag (l ∷ ls) other = ap (read_for tag) (unloaded_step one l ls)
+others_read one tag (l ∷ ls) other = ap (λ (xs : List Loaded). read_kept xs tag) (unloaded_step one l ls)
     ∙ by (l.tag == one) refl (others_read one tag ls other)
   where
     rest : List Loaded
     rest = loaded_without ls (position (is_loaded_for one) ls)
 
-    same : (c : Bool) → read_for tag rest ≡ read_for tag ls →
+    same : (c : Bool) → read_kept rest tag ≡ read_kept ls tag →
         map body_of (cond c (l ∷ filter (is_loaded_for tag) rest) (filter (is_loaded_for tag) rest))
         ≡ map body_of (cond c (l ∷ filter (is_loaded_for tag) ls) (filter (is_loaded_for tag) ls))
     same true k = ap (λ bs. l.body ∷ bs) k
     same false k = k
 
-    by : (b : Bool) → (l.tag == one) ≡ b → read_for tag rest ≡ read_for tag ls →
-        read_for tag (cond b ls (l ∷ rest)) ≡ read_for tag (l ∷ ls)
+    by : (b : Bool) → (l.tag == one) ≡ b → read_kept rest tag ≡ read_kept ls tag →
+        read_kept (cond b ls (l ∷ rest)) tag ≡ read_kept (l ∷ ls) tag
     by true e k =
         sym (ap (λ z. map body_of (cond z (l ∷ filter (is_loaded_for tag) ls) (filter (is_loaded_for tag) ls)))
         (ap (λ (n : ℕ). n == tag) (eqb-true l.tag one e) ∙ other_way tag one other))
     by false e k = same (l.tag == tag) k
 
 -- where a tag has at most one block, none is left
-pub none_read : (one : ℕ) (ls : List Loaded) (o : Option (List ℕ)) → read_for one ls ≡ option_to_list o →
-    read_for one (loaded_without ls (position (is_loaded_for one) ls)) ≡ []
+pub none_read : (one : ℕ) (ls : List Loaded) (o : Option (List ℕ)) → read_kept ls one ≡ option_to_list o →
+    read_kept (loaded_without ls (position (is_loaded_for one) ls)) one ≡ []
 none_read one [] o is = refl
-none_read one (l ∷ ls) o is = ap (read_for one) (unloaded_step one l ls)
+none_read one (l ∷ ls) o is = ap (λ (xs : List Loaded). read_kept xs one) (unloaded_step one l ls)
     ∙ by (l.tag == one) refl o is (λ k. none_read one ls o k)
   where
     rest : List Loaded
@@ -239,19 +290,19 @@ none_read one (l ∷ ls) o is = ap (read_for one) (unloaded_step one l ls)
 
     by : (b : Bool) → (l.tag == one) ≡ b → (o : Option (List ℕ)) →
         map body_of (cond b (l ∷ filter (is_loaded_for one) ls) (filter (is_loaded_for one) ls)) ≡ option_to_list o →
-        (read_for one ls ≡ option_to_list o → read_for one rest ≡ []) → read_for one (cond b ls (l ∷ rest)) ≡ []
+        (read_kept ls one ≡ option_to_list o → read_kept rest one ≡ []) → read_kept (cond b ls (l ∷ rest)) one ≡ []
     by true e None k more = cc
     by true e (Some body) k more = cc
     by false e x k more = ap
         (λ z. map body_of (cond z (l ∷ filter (is_loaded_for one) rest) (filter (is_loaded_for one) rest))) e ∙ more k
 
 -- one block more
-pub read_more : (tag : ℕ) (ls : List Loaded) (l : Loaded) → read_for tag (ls ++ l ∷ []) ≡ read_for tag ls ++ cond
+pub read_more : (tag : ℕ) (ls : List Loaded) (l : Loaded) → read_kept (ls ++ l ∷ []) tag ≡ read_kept ls tag ++ cond
     (l.tag == tag) (l.body ∷ []) []
 read_more tag ls l =
     ap (map body_of) (filter-append (is_loaded_for tag) ls (l ∷ []))
     ∙ (map-append body_of (filter (is_loaded_for tag) ls) (filter (is_loaded_for tag) (l ∷ []))
-    ∙ ap (λ xs. read_for tag ls ++ xs) (by (l.tag == tag)))
+    ∙ ap (λ xs. read_kept ls tag ++ xs) (by (l.tag == tag)))
   where
     by : (b : Bool) → map body_of (cond b (l ∷ []) []) ≡ cond b (l.body ∷ []) []
     by true = refl

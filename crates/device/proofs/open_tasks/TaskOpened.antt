@@ -1,7 +1,6 @@
 -- A COMMAND opens a task: what the device keeps then is kept of the state with the new task.
-use Rattle.std.proofs.Common.{◌≡◌, ◌∙◌, ℕ, ◌<◌, ◌==◌, Bool, true, false, cond, All, List, [], ◌∷◌, ◌++◌, Option, Some}
+use Rattle.std.proofs.Common.{◌≡◌, ◌∙◌, ℕ, ◌<◌, ◌==◌, Bool, true, false, All, List, [], ◌∷◌, ◌++◌, Option}
 use Rattle.std.proofs.Common.{None, length, refl, sym, ap, subst, arith}
-use Rattle.std.specs.Option.{option_or}
 use Rattle.std.specs.Prelude.{◌||◌}
 use Rattle.std.specs.List.{list_any}
 use Rattle.std.proofs.lemmas.List.{length-append}
@@ -17,19 +16,19 @@ use Rattle.ufs_spec.specs.Exchanges.{most_tasks}
 use Rattle.ufs_spec.specs.Translation.{Pin, Translation}
 use Rattle.ufs_spec.specs.declared.scsi.Cdb.{Cdb}
 use Rattle.power_loss.specs.Shown.{ShowsRight}
-use Rattle.power_loss.proofs.books.SmallFacts.{eq_self}
-use Rattle.power_loss.proofs.open_tasks.TaggedLists.{other_way}
 use Rattle.ftl_core.specs.Core.{Core}
 use Rattle.ftl_core.specs.Describes as layer_kept
+use Rattle.ftl_core.specs.Moves.{claims_for}
 use Rattle.ftl_core.specs.Tells.{keeps_for}
 use Rattle.device.specs.declared.tasks.Task.{Task}
-use Rattle.device.specs.Describes.{Describes, IsTold, IsToldIn, Keeps, Progress, TaskKept, TasksKept, no_progress}
-use Rattle.device.specs.Describes.{progress_in, progress_of}
+use Rattle.device.specs.Calls.{IsSameLayer, OthersClaim}
+use Rattle.device.specs.Describes.{Describes, IsTold, IsToldIn, Keeps, TaskKept, TasksKept, claims_in, read_in}
+use Rattle.device.specs.Describes.{wanted_in, wanted_kept}
 use Rattle.device.specs.Hears.{with_task}
 use Rattle.device.specs.Kept.{DeviceCore}
 use Rattle.device.proofs.described.Answered.{IsBehind}
+use Rattle.device.proofs.open_tasks.KeptByTag.{KeptFor, KeptForAll, all_kept, one_comes, others_claim}
 use Rattle.device.proofs.open_tasks.OpenTasks.{one_more}
-use Rattle.device.proofs.open_tasks.ReadProgress.{by_tag, progress, read_for, task_more, wanted_for}
 
 -- the specified task that is opened
 abbrev pub opened : Request → Option Cdb → ℕ → Deed → exchange.Task
@@ -44,19 +43,36 @@ opened r command n deed =
       request = None;
     }
 
--- no other tag wants another page
-abbrev pub Wants : List Pin → List Pin → ℕ → Option Bool → Type 0
-Wants before pins tag wanted = (wanted_for tag pins ≡ wanted)
-    × ((n : ℕ) → (n == tag) ≡ false → wanted_for n pins ≡ wanted_for n before)
+-- the deed tells of no block
+pub record TellsNothing (tag : ℕ) (deed : Deed) : Type 0 where
+  pub wanted : (index : ℕ) → wanted_in index deed ≡ None
+  pub read : read_in deed ≡ []
+  pub claims : claims_in tag deed ≡ []
+
+-- what is kept for the tag is what its deed tells, and for other tags nothing changes
+pub record TagBegins (before : List Pin) (old : Core) (tag : ℕ) (deed : Deed) (pins : List Pin) (new : Core) : Type 0
+  where
+    pub wanted : (index : ℕ) → wanted_kept pins tag index ≡ wanted_in index deed
+    pub unread : read_in deed ≡ []
+    pub claims : claims_for new tag ≡ claims_in tag deed
+    pub others_want : (n index : ℕ) → (n == tag) ≡ false → wanted_kept pins n index ≡ wanted_kept before n index
+    pub others_claim : OthersClaim old new tag
+
+-- where no claim changes, none of others does
+pub no_claim : (old new : Core) (tag : ℕ) → claims_for new ≡ claims_for old → OthersClaim old new tag
+no_claim old new tag same n other i = same i n
 
 module _ (d : DeviceCore) (s : State) (r : Request) (h : Describes d s) (free : task_of r.tag s.tasks ≡ None)
     (few : length s.tasks < most_tasks) where
   -- nothing is kept for the tag
-  none_kept : progress (wanted_for r.tag s.translation.pins) (read_for r.tag d.loaded) ≡ no_progress
-  none_kept = h.kept.blocks r.tag ∙ ap progress_of free
+  none_kept : KeptFor s.translation.pins d.loaded d.ftl r.tag None
+  none_kept = subst (KeptFor s.translation.pins d.loaded d.ftl r.tag) free (all_kept d s h.kept r.tag)
 
-  pub none_wanted : wanted_for r.tag s.translation.pins ≡ None
-  none_wanted = ap (λ (p : Progress). p.wanted) none_kept
+  pub none_wanted : (index : ℕ) → wanted_kept s.translation.pins r.tag index ≡ None
+  none_wanted = none_kept.wanted
+
+  pub none_claimed : claims_for d.ftl r.tag ≡ []
+  none_claimed = none_kept.claims
 
   nobody_in : (pins : List Pin) → All (ShowsRight s.translation.ledger s.tasks) pins →
       list_any (keeps_for r.tag) pins ≡ false
@@ -78,27 +94,18 @@ module _ (d : DeviceCore) (s : State) (r : Request) (h : Describes d s) (free : 
   pub open_keeps : (c : Core) (u : Translation) (command : Option Cdb) (n : ℕ) (deed : Deed) (a : Task) →
       layer_kept.Describes c u →
       before_accepted u.ledger ≡ before_accepted s.translation.ledger →
-      Wants s.translation.pins u.pins r.tag (progress_in deed).wanted → (progress_in deed).read ≡ [] →
+      TagBegins s.translation.pins d.ftl r.tag deed u.pins c →
       TaskKept (before_accepted s.translation.ledger) a (opened r command n deed) →
       Keeps (with_task (record d { ftl = c }) a) (machine.with_task (record s { translation = u }) r command n deed)
-  open_keeps c u command n deed a layer before wants unread task = record {
+  open_keeps c u command n deed a layer before begins task = record {
     permanent = h.kept.permanent;
     layer_kept = layer;
     few = (let more = length-append s.tasks (b ∷ []) in omega arith);
     tasks = subst (λ m. TasksKept m (d.tasks ++ a ∷ []) (s.tasks ++ b ∷ [])) (sym before)
         (one_more (before_accepted s.translation.ledger) d.tasks s.tasks a b h.kept.tasks task);
-    blocks =
-        by_tag (λ m. progress (wanted_for m u.pins) (read_for m d.loaded) ≡ progress_of (task_of m (s.tasks ++ b ∷ [])))
-        r.tag
-        ((λ i. progress (wants.0 i) ((ap (λ (p : Progress). p.read) none_kept ∙ sym unread) i))
-        ∙ sym (ap progress_of (task_more r.tag s.tasks b
-        ∙ (λ i. option_or (free i) (cond (eq_self r.tag i) (Some b) None)))))
-        (λ m other.
-        ap (λ w. progress w (read_for m d.loaded)) (wants.1 m other)
-        ∙ (h.kept.blocks m
-        ∙ sym (ap progress_of (task_more m s.tasks b
-        ∙ (ap (λ x. option_or (task_of m s.tasks) (cond x (Some b) None)) (other_way m r.tag other)
-        ∙ or_none (task_of m s.tasks))))));
+    wanted = λ tag. (kept tag).wanted;
+    read = λ tag. (kept tag).read;
+    claims = λ tag. (kept tag).claims;
     shorts = h.kept.shorts;
     power_off = h.kept.power_off;
   }
@@ -106,9 +113,19 @@ module _ (d : DeviceCore) (s : State) (r : Request) (h : Describes d s) (free : 
       b : exchange.Task
       b = opened r command n deed
 
-      or_none : (o : Option exchange.Task) → option_or o None ≡ o
-      or_none None = refl
-      or_none (Some x) = refl
+      kept : KeptForAll u.pins d.loaded c (s.tasks ++ b ∷ [])
+      kept =
+          one_comes s.translation.pins u.pins d.loaded d.loaded d.ftl c s.tasks b (all_kept d s h.kept) free
+          (record {
+            wanted = begins.wanted;
+            read = none_kept.read ∙ sym begins.unread;
+            claims = begins.claims;
+          })
+          (λ tag other. record {
+            wanted = λ index. begins.others_want tag index other;
+            read_is = refl;
+            claims = others_claim d.ftl c r.tag tag begins.others_claim other;
+          })
 
   -- where the device is locked the new task waits for durable commands alone
   pub open_told : (command : Option Cdb) (n : ℕ) (deed : Deed) → (locked s ≡ true → IsToldIn (durable s) deed) →
@@ -118,14 +135,19 @@ module _ (d : DeviceCore) (s : State) (r : Request) (h : Describes d s) (free : 
 
   -- where the layer stays
   pub opens_still : (c : Core) (command : Option Cdb) (n : ℕ) (deed : Deed) (a : Task) →
-      layer_kept.Describes c s.translation → progress_in deed ≡ no_progress →
-      (locked s ≡ true → IsToldIn (durable s) deed) →
+      IsSameLayer d.ftl c s.translation → TellsNothing r.tag deed → (locked s ≡ true → IsToldIn (durable s) deed) →
       TaskKept (before_accepted s.translation.ledger) a (opened r command n deed) →
       IsBehind (with_task (record d { ftl = c }) a) (machine.with_task s r command n deed)
   opens_still c command n deed a layer none new task = record {
     keeps =
-        open_keeps c s.translation command n deed a layer refl
-        (none_wanted ∙ sym (ap (λ (p : Progress). p.wanted) none), λ m other. refl) (ap (λ (p : Progress). p.read) none)
+        open_keeps c s.translation command n deed a layer.0 refl
+        (record {
+          wanted = λ index. none_wanted index ∙ sym (none.wanted index);
+          unread = none.read;
+          claims = (λ i. layer.1 i r.tag) ∙ (none_claimed ∙ sym none.claims);
+          others_want = λ m index other. refl;
+          others_claim = no_claim d.ftl c r.tag layer.1;
+        })
         task;
     told = open_told command n deed new;
   }

@@ -1,165 +1,82 @@
--- One group more is durable: what is kept of groups and places goes on to be what the ledger has.
-use Rattle.std.proofs.Common.{◌≡◌, ◌≢◌, ◌∙◌, ℕ, suc, ◌+◌, ◌<◌, ◌≤◌, true, false, List, [], ◌∷◌, Option, Some, None}
-use Rattle.std.proofs.Common.{length, drop, take, refl, sym, ap, subst, ⊎_elim, arith}
-use Rattle.std.specs.Prelude.{◌-◌, slice_get, remove, option_and_then}
+-- One group more is durable: what is kept of pages and places goes on to be what the ledger has.
+use Rattle.std.proofs.Common.{◌≡◌, ◌∙◌, ℕ, suc, ◌+◌, ◌<◌, ◌≤◌, Bool, true, false, List, [], ◌∷◌, ◌++◌, Option, Some}
+use Rattle.std.proofs.Common.{None, length, drop, map, take, refl, sym, ap, subst, ⊎_elim, arith}
+use Rattle.std.specs.Prelude.{◌-◌, filter, fold, if◌then◌else◌, is_some, slice_get}
+use Rattle.std.specs.List.{list_any}
+use Rattle.std.proofs.lemmas.Option.{slice_get_within}
 use Rattle.ufs_spec.specs.Keys as keys
 use Rattle.ufs_spec.specs.Keys.{IsKey, Item}
-use Rattle.ufs_spec.specs.Ledger.{Entry, Ledger, Name, before_accepted, index_in, latest_durable, latest_in, name_or}
-use Rattle.ufs_spec.specs.Ledger.{pending}
+use Rattle.ufs_spec.specs.Ledger.{Entry, Ledger, Name, all_stand, before_accepted, climbed, entry_of, index_in}
+use Rattle.ufs_spec.specs.Ledger.{latest_durable, latest_in, name_or, pending}
+use Rattle.ufs_spec.specs.Moves.{KeysDiffer}
 use Rattle.ufs_spec.specs.Plain.{shape_of_numbers}
+use Rattle.ufs_spec.specs.Translation.{Translation, names_behind}
 use Rattle.ufs_spec.specs.declared.configs.Numbers.{Numbers}
 use Rattle.ufs_spec.specs.declared.flash.Key.{Key}
-use Rattle.ufs_spec.specs.declared.flash.Place.{Place}
-use Rattle.power_loss.specs.Book.{book}
+use Rattle.power_loss.specs.Book.{IsPageAt, book}
 use Rattle.power_loss.specs.Invariant.{Valid}
 use Rattle.power_loss.proofs.books.PagesByName.{new_page}
-use Rattle.ufs_spec.specs.Translation.{Translation}
-use Rattle.power_loss.proofs.books.LastOfEachKey.{key_self, key_told}
-use Rattle.power_loss.proofs.books.SmallFacts.{two_ways}
-use Rattle.recovery.specs.KeysInOrder.{key_total}
-use Rattle.ftl_core.specs.declared.books.Group.{Group}
+use Rattle.power_loss.proofs.books.SmallFacts.{if_false, if_true, two_ways}
+use Rattle.ftl_core.specs.declared.books.Pending.{Pending}
 use Rattle.ftl_core.specs.declared.books.Stored.{Stored}
 use Rattle.ftl_core.specs.Core.{Core}
-use Rattle.ftl_core.specs.Describes.{GroupKept, GroupsKept, IsStored, LedgerKept, Standing}
-use Rattle.ftl_core.specs.Ends.{group_durable, place_of_group, places_noted}
-use Rattle.ftl_core.specs.Moves.{flat, position_of, stored_of}
-use Rattle.ftl_core.proofs.opened.ListParts.{drop_next, latest_more}
-use Rattle.ftl_core.proofs.pins.PinsSettled.{at_frontier}
-use Rattle.ftl_core.proofs.look_and_accept.KeyPlaces.{HasPosition, has_position, one_position}
+use Rattle.ftl_core.specs.Describes.{IsStored, LedgerKept, PagesKept, Standing}
+use Rattle.ftl_core.specs.Ends.{front_written, group_durable, is_of_group, is_unwritten, page_durable, risen}
+use Rattle.ftl_core.specs.Ends.{whole_group}
+use Rattle.ftl_core.specs.Moves.{stored_of}
+use Rattle.ftl_core.proofs.group_settled.FrontPages.{AreItemPages, AreStandingPages, FrontPages, behind_front}
+use Rattle.ftl_core.proofs.group_settled.FrontPages.{front_pages, front_standing, front_whole, group_stands, of_front}
+use Rattle.ftl_core.proofs.group_settled.FrontPlaces.{places_same, stored_next}
+use Rattle.ftl_core.proofs.group_settled.Settling.{only_places, others, whole}
 use Rattle.ftl_core.proofs.look_and_accept.Numbers.{behind, pending_mended}
-use Rattle.ufs_spec.proofs.Lists.{set_here, set_other, set_length}
+use Rattle.ftl_core.proofs.opened.ListParts.{drop_next, latest_more}
+use Rattle.ftl_core.proofs.pins.PinsSettled.{at_frontier, moved_all, pins_all}
 
--- The first pending group
+-- The groups of this life
 
--- its page is written
-pub record IsFront (gs : List Group) (p : Place) : Type 0 where
-  pub first : Group
-  pub rest : List Group
-  pub is : gs ≡ first ∷ rest
-  pub written : first.written ≡ Some p
+-- each page is of a key of the device
+abbrev AreKeys : Numbers → Ledger → Type 0
+AreKeys n l = (j i : ℕ) (g : keys.Group) (x : Item) → slice_get l.groups j ≡ Some g → slice_get g i ≡ Some x →
+    IsKey (shape_of_numbers n) x.key
 
-pub front : (gs : List Group) (p : Place) → place_of_group (slice_get gs 0) ≡ Some p → IsFront gs p
-front [] p e = cc
-front (g ∷ gs) p e = record { first = g; rest = gs; is = refl; written = e }
+pub record GroupsRight (n : Numbers) (l : Ledger) : Type 0 where
+  pub are_keys : AreKeys n l
+  pub differ : (j : ℕ) (g : keys.Group) → slice_get l.groups j ≡ Some g → KeysDiffer g
+  pub some : (j : ℕ) (g : keys.Group) → slice_get l.groups j ≡ Some g → 0 < length g
 
--- the groups of the ledger begin with it too
-pub record IsFrontKept (standing : Standing) (n : ℕ) (g : Group) (gs : List Group) (hs : List keys.Group) : Type 0 where
-  pub first : keys.Group
-  pub rest : List keys.Group
-  pub is : hs ≡ first ∷ rest
-  pub kept : GroupKept standing (suc n) g first
-  pub more : GroupsKept standing (suc n) gs rest
+pub groups_right : (t : Translation) → Valid t → GroupsRight t.numbers t.ledger
+groups_right t v = record {
+  are_keys = λ j i g x at item. v.book_right.keys (suc (t.ledger.greatest_seen + j)) i (entry g x)
+      (page j i g x at item);
+  differ = λ j g at i m a b here there same. v.book_right.differ (suc (t.ledger.greatest_seen + j)) i m (entry g a)
+      (entry g b) (page j i g a at here) (page j m g b at there) same;
+  some = v.book_right.some;
+}
+  where
+    entry : keys.Group → Item → Entry
+    entry g x = record { item = x; size = length g }
 
-pub front_kept : (standing : Standing) (n : ℕ) (g : Group) (gs : List Group) (hs : List keys.Group) →
-    GroupsKept standing n (g ∷ gs) hs → IsFrontKept standing n g gs hs
-front_kept standing n g gs [] h = absurd h
-front_kept standing n g gs (x ∷ hs) h = record { first = x; rest = hs; is = refl; kept = h.0; more = h.1 }
+    position : (a b : ℕ) → b ≡ suc (a + b) - a - 1
+    position a b = omega arith
 
--- The places of addresses
-
-places_here : (ps : List (Option Stored)) (s : Stored) (o : Option ℕ) (at : ℕ) → o ≡ Some at → at < length ps →
-    option_and_then (λ (p : ℕ). flat (slice_get (places_noted ps s o) p)) o ≡ Some s
-places_here ps s o at e l =
-    subst (λ (z : Option ℕ). option_and_then (λ (p : ℕ). flat (slice_get (places_noted ps s z) p)) z ≡ Some s) (sym e)
-    (ap flat (set_here ps at (Some s) l))
-
-places_other : (ps : List (Option Stored)) (s : Stored) (o q : Option ℕ) (a b : ℕ) → o ≡ Some a → q ≡ Some b → b ≢ a →
-    option_and_then (λ (p : ℕ). flat (slice_get (places_noted ps s o) p)) q ≡ option_and_then
-    (λ (p : ℕ). flat (slice_get ps p)) q
-places_other ps s o q a b e f apart =
-    subst (λ (z : Option ℕ × Option ℕ). option_and_then
-    (λ (p : ℕ). flat (slice_get (places_noted ps s z.0) p)) z.1 ≡ option_and_then
-    (λ (p : ℕ). flat (slice_get ps p)) z.1)
-    (λ i. (sym e i, sym f i))
-    (ap flat (set_other ps a b (Some s) apart))
-
-pub places_length : (ps : List (Option Stored)) (s : Stored) (o : Option ℕ) → length (places_noted ps s o) ≡ length ps
-places_length ps s None = refl
-places_length ps s (Some k) = set_length ps k (Some s)
+    page : (j i : ℕ) (g : keys.Group) (x : Item) → slice_get t.ledger.groups j ≡ Some g → slice_get g i ≡ Some x →
+        IsPageAt (book t) (suc (t.ledger.greatest_seen + j)) i (record { item = x; size = length g })
+    page j i g x at item =
+        new_page (book t) (suc (t.ledger.greatest_seen + j)) i (record { item = x; size = length g }) (omega arith)
+        (record {
+          group = g;
+          is = subst (λ (m : ℕ). slice_get t.ledger.groups m ≡ Some g) (position t.ledger.greatest_seen j) at;
+          item = item;
+          size = refl;
+        })
 
 -- The page of a key at the frontier
 
-index_same : (k : Key) (x : Item) → keys.same_key x.key k ≡ true → index_in k (x ∷ []) ≡ Some 0
+pub index_same : (k : Key) (x : Item) → keys.same_key x.key k ≡ true → index_in k (x ∷ []) ≡ Some 0
 index_same k x e = rw e refl
 
 pub index_other : (k : Key) (x : Item) → keys.same_key x.key k ≡ false → index_in k (x ∷ []) ≡ None
 index_other k x e = rw e refl
-
--- Each address
-
-abbrev pub noted_places : Core → Key → Stored → Core
-noted_places c k s = record c { places = places_noted c.places s (position_of c.numbers k) }
-
-pub stored_next : (c : Core) (standing : Standing) (j k : Key) (s : Stored) (x : Item) (older : Option Name) (n : ℕ) →
-    x.key ≡ j → s.number ≡ suc n → standing (suc n) 0 ≡ Some s.place →
-    key_total (shape_of_numbers c.numbers) ≤ length c.places → IsKey (shape_of_numbers c.numbers) j →
-    IsKey (shape_of_numbers c.numbers) k →
-    IsStored standing (stored_of c k) older →
-    IsStored standing (stored_of (noted_places c j s) k) (name_or (suc n) (index_in k (x ∷ [])) older)
-stored_next c standing j k s x older n item number stands long isj isk h = ⊎_elim same other
-    (two_ways (keys.same_key x.key k))
-  where
-    pj : HasPosition c.numbers j
-    pj = has_position c.numbers j isj
-
-    pk : HasPosition c.numbers k
-    pk = has_position c.numbers k isk
-
-    same : keys.same_key x.key k ≡ true →
-        IsStored standing (stored_of (noted_places c j s) k) (name_or (suc n) (index_in k (x ∷ [])) older)
-    same e =
-        let one : j ≡ k = sym item ∙ key_told x.key k e in
-        let at : position_of c.numbers k ≡ position_of c.numbers j = ap (position_of c.numbers) (sym one) in
-        let w = (has_position c.numbers j isj).within in
-        let stored : stored_of (noted_places c j s) k ≡ Some s =
-        ap (λ (o : Option ℕ). option_and_then
-        (λ (p : ℕ). flat (slice_get (places_noted c.places s (position_of c.numbers j)) p)) o) at
-        ∙ places_here c.places s (position_of c.numbers j) pj.at pj.is (omega (arith, w, long)) in
-        let name : name_or (suc n) (index_in k (x ∷ [])) older ≡ Some (record { number = suc n; index = 0 }) = ap
-        (λ (o : Option ℕ). name_or (suc n) o older) (index_same k x e) in
-        subst (λ (z : Option Stored × Option Name). IsStored standing z.0 z.1) (λ i. (sym stored i, sym name i))
-        (sym number, stands)
-
-    other : keys.same_key x.key k ≡ false →
-        IsStored standing (stored_of (noted_places c j s) k) (name_or (suc n) (index_in k (x ∷ [])) older)
-    other e =
-        let differ : j ≢ k = λ f. apart (sym (key_self k) ∙ ap (λ (z : Key). keys.same_key z k) (sym f ∙ sym item) ∙ e)
-        in
-        let away : pk.at ≢ pj.at = λ f. differ
-        (one_position c.numbers j k isj (pj.is ∙ ap (λ (a : ℕ). Some a) (sym f) ∙ sym pk.is)) in
-        let stored : stored_of (noted_places c j s) k ≡ stored_of c k =
-        places_other c.places s (position_of c.numbers j) (position_of c.numbers k) pj.at pk.at pj.is pk.is away in
-        let name : name_or (suc n) (index_in k (x ∷ [])) older ≡ older = ap (λ (o : Option ℕ). name_or (suc n) o older)
-        (index_other k x e) in
-        subst (λ (z : Option Stored × Option Name). IsStored standing z.0 z.1) (λ i. (sym stored i, sym name i)) h
-      where
-        apart : true ≡ false → ⊥
-        apart e = cc
-
--- each page of a group of this life is of a key of the device
-abbrev pub AreKeys : Numbers → Ledger → Type 0
-AreKeys n l = (j i : ℕ) (g : keys.Group) (x : Item) → slice_get l.groups j ≡ Some g → slice_get g i ≡ Some x →
-    IsKey (shape_of_numbers n) x.key
-
--- each page of a group of this life is of a key of the device
-pub are_keys : (t : Translation) → Valid t → AreKeys t.numbers t.ledger
-are_keys t v j i g x at item =
-    let e : Entry = record { item = x; size = length g } in
-    v.book_right.keys (suc (t.ledger.greatest_seen + j)) i e
-    (new_page (book t) (suc (t.ledger.greatest_seen + j)) i e (omega arith)
-    (record {
-      group = g;
-      is = subst (λ (m : ℕ). slice_get t.ledger.groups m ≡ Some g)
-          (position t.ledger.greatest_seen j) at;
-      item = item;
-      size = refl;
-    }))
-  where
-    position : (a b : ℕ) → b ≡ suc (a + b) - a - 1
-    position a b = omega arith
-
-abbrev pub front_stored : Core → Place → Stored
-front_stored c p = record { place = p; number = c.frontier + 1 }
 
 -- the position of the first group above the frontier among the groups of the ledger
 abbrev first_above : Ledger → ℕ
@@ -181,71 +98,197 @@ durable_next l h hs k low e =
     sum : (a b n : ℕ) → a ≤ b → n ≡ b - a → a + n ≡ b
     sum a b n le e = omega arith
 
--- the first group above the frontier is the first that is kept
-pub front_behind : (c : Core) (l : Ledger) (g : Group) (gs : List Group) →
-    LedgerKept c.numbers c.places c.groups c.frontier l → before_accepted l ≤ l.frontier → c.groups ≡ g ∷ gs →
-    IsFrontKept l.standing l.frontier g gs (behind l)
-front_behind c l g gs h low is = front_kept l.standing l.frontier g gs (behind l)
-    (subst (λ (z : List Group × List keys.Group). GroupsKept l.standing l.frontier z.0 z.1)
-    (λ i. (is i, pending_mended l low i)) h.groups)
+-- The first pending group
 
--- what is kept of groups and places is what the ledger has then
-pub ledger_next : (c : Core) (l : Ledger) (p : Place) (g : Group) (gs : List Group) →
-    LedgerKept c.numbers c.places c.groups c.frontier l → before_accepted l ≤ l.frontier → AreKeys c.numbers l →
-    c.groups ≡ g ∷ gs → g.written ≡ Some p →
-    LedgerKept c.numbers (group_durable c (front_stored c p) (Some g)).places
-    (group_durable c (front_stored c p) (Some g)).groups
-    (group_durable c (front_stored c p) (Some g)).frontier (at_frontier l (suc l.frontier))
-ledger_next c l p g gs h low are_keys is written = record {
+-- the first page is of it
+record IsFirst (n : ℕ) (ps : List Pending) : Type 0 where
+  first : Pending
+  rest : List Pending
+  is : ps ≡ first ∷ rest
+  number : first.number ≡ n
+
+first_page : (st : Standing) (n i : ℕ) (front more : List Pending) (g : keys.Group) → AreItemPages st n i front g →
+    0 < length g → IsFirst n (front ++ more)
+first_page st n i [] more [] h some = absurd (omega arith)
+first_page st n i [] more (x ∷ g) h some = absurd h
+first_page st n i (p ∷ ps) more [] h some = absurd h
+first_page st n i (p ∷ ps) more (x ∷ g) h some =
+    record { first = p; rest = ps ++ more; is = refl; number = h.0.number }
+
+front_first : (l : Ledger) (g : keys.Group) (gs : List keys.Group) (ps : List Pending) → FrontPages l g gs ps →
+    0 < length g → IsFirst (suc l.frontier) ps
+front_first l g gs ps f some = subst (IsFirst (suc l.frontier)) (sym f.is)
+    (first_page l.standing (suc l.frontier) 0 f.front f.rest g f.items some)
+
+-- all its pages stand
+pub record IsNextWhole (c : Core) (l : Ledger) (number : ℕ) : Type 0 where
+  pub group : keys.Group
+  pub groups : List keys.Group
+  pub is : behind l ≡ group ∷ groups
+  pub there : slice_get l.groups (l.frontier - l.greatest_seen) ≡ Some group
+  pub pages : FrontPages l group groups c.pages
+  pub number_is : number ≡ suc l.frontier
+  pub stand : AreStandingPages l.standing (suc l.frontier) 0 pages.front group
+
+abbrev pub BehindKept : Core → Ledger → Type 0
+BehindKept c l = PagesKept l.standing (entry_of l) c.pages (names_behind l.frontier (behind l))
+
+module _ (c : Core) (l : Ledger) (h : BehindKept c l) (low : l.greatest_seen ≤ l.frontier)
+    (some : (j : ℕ) (g : keys.Group) → slice_get l.groups j ≡ Some g → 0 < length g) where
+  group_there : (g : keys.Group) (gs : List keys.Group) → behind l ≡ g ∷ gs →
+      slice_get l.groups (l.frontier - l.greatest_seen) ≡ Some g
+  group_there g gs e = (drop_next l.groups (l.frontier - l.greatest_seen) g gs e).3
+
+  group_pages : (g : keys.Group) (gs : List keys.Group) → behind l ≡ g ∷ gs → FrontPages l g gs c.pages
+  group_pages g gs e = front_pages l g gs c.pages low (group_there g gs e)
+      (subst (λ (hs : List keys.Group). PagesKept l.standing (entry_of l) c.pages (names_behind l.frontier hs)) e h)
+
+  group_first : (g : keys.Group) (gs : List keys.Group) → behind l ≡ g ∷ gs → IsFirst (suc l.frontier) c.pages
+  group_first g gs e = front_first l g gs c.pages (group_pages g gs e)
+      (some (l.frontier - l.greatest_seen) g (group_there g gs e))
+
+  -- where the code finds a whole group, it is the first one behind the frontier
+  pub next_whole : (number : ℕ) → front_written c ≡ Some number → IsNextWhole c l number
+  next_whole number e = by (behind l) refl
+    where
+      heads : (p q : Pending) (ps qs : List Pending) → p ∷ ps ≡ q ∷ qs → p ≡ q
+      heads p q ps qs e = cc
+
+      by : (hs : List keys.Group) → behind l ≡ hs → IsNextWhole c l number
+      by [] f =
+          let w = whole c.pages number e in
+          absurd (subst (λ (z : List Pending × List keys.Group). PagesKept l.standing (entry_of l) z.0
+          (names_behind l.frontier z.1)) (λ i. (w.is i, f i)) h)
+      by (g ∷ gs) f =
+          let w = whole c.pages number e in
+          let first = group_first g gs f in
+          let same = heads w.first first.first w.rest first.rest (sym w.is ∙ first.is) in
+          let number_is : number ≡ suc l.frontier =
+          sym w.number_is ∙ ap (λ (p : Pending). p.number) same ∙ first.number in
+          record {
+            group = g;
+            groups = gs;
+            is = f;
+            there = group_there g gs f;
+            pages = group_pages g gs f;
+            number_is = number_is;
+            stand = front_standing l g gs c.pages (group_pages g gs f)
+                (subst (λ (n : ℕ). list_any (is_unwritten n) c.pages ≡ false) number_is w.written);
+          }
+
+  -- and where it finds none, the frontier stays
+  pub none_whole : front_written c ≡ None →
+      climbed (λ (m i : ℕ). is_some (l.standing m i)) l.frontier (behind l) ≡ l.frontier
+  none_whole e = by (behind l) refl
+    where
+      unwritten : (ps : List Pending) (p : Pending) (rest : List Pending) → ps ≡ p ∷ rest →
+          whole_group ps (slice_get ps 0) ≡ None → list_any (is_unwritten p.number) ps ≡ true
+      unwritten ps p rest is none =
+          one (list_any (is_unwritten p.number) ps) p.number
+          (sym (ap (λ (qs : List Pending). whole_group ps (slice_get qs 0)) is) ∙ none)
+        where
+          one : (b : Bool) (n : ℕ) → (if b then None else Some n) ≡ None → b ≡ true
+          one true n e = refl
+          one false n e = cc
+
+      apart : true ≡ false → ⊥
+      apart e = cc
+
+      by : (hs : List keys.Group) → behind l ≡ hs →
+          climbed (λ (m i : ℕ). is_some (l.standing m i)) l.frontier hs ≡ l.frontier
+      by [] f = refl
+      by (g ∷ gs) f =
+          let first = group_first g gs f in
+          ⊎_elim
+          (λ stands. absurd (apart (sym (unwritten c.pages first.first first.rest first.is e)
+          ∙ ap (λ (n : ℕ). list_any (is_unwritten n) c.pages) first.number
+          ∙ front_whole l g gs c.pages (group_pages g gs f) stands)))
+          (λ not_all. if_false (all_stand (λ (i : ℕ). is_some (l.standing (suc l.frontier) i)) (length g))
+          (climbed (λ (m i : ℕ). is_some (l.standing m i)) (suc l.frontier) gs) l.frontier not_all)
+          (two_ways (all_stand (λ (i : ℕ). is_some (l.standing (suc l.frontier) i)) (length g)))
+
+-- it goes on over one that is whole
+pub goes_on : (c : Core) (l : Ledger) (number : ℕ) (w : IsNextWhole c l number) →
+    climbed (λ (m i : ℕ). is_some (l.standing m i)) l.frontier (behind l) ≡
+    climbed (λ (m i : ℕ). is_some (l.standing m i)) (suc l.frontier) w.groups
+goes_on c l number w =
+    ap (climbed (λ (m i : ℕ). is_some (l.standing m i)) l.frontier) w.is
+    ∙ if_true (all_stand (λ (i : ℕ). is_some (l.standing (suc l.frontier) i)) (length w.group))
+    (climbed (λ (m i : ℕ). is_some (l.standing m i)) (suc l.frontier) w.groups) l.frontier
+    (group_stands l.standing (suc l.frontier) w.pages.front w.group w.stand)
+
+-- One group more
+
+-- these pages are durable, and those are still pending
+abbrev pub made : Core → List Pending → List Pending → Core
+made c front rest = record c {
+  places = (fold page_durable c front).places;
+  pins = map (moved_all front) c.pins;
+  pages = rest;
+  frontier = c.frontier + 1;
+}
+
+-- that is what the code makes of it
+pub made_is : (c : Core) (l : Ledger) (number : ℕ) →
+    LedgerKept c.numbers c.places c.pages c.frontier c.last l → (w : IsNextWhole c l number) →
+    group_durable c number ≡ made c w.pages.front w.pages.rest
+made_is c l number h w =
+    ap (λ (z : Core). record z { pages = others number c.pages; frontier = risen c })
+    (only_places c (filter (is_of_group number) c.pages))
+    ∙ (λ i. record c {
+      places = (fold page_durable c (front i)).places;
+      pins = (pins_all (filter (is_of_group number) c.pages) c
+          ∙ ap (λ (ps : List Pending). map (moved_all ps) c.pins) front) i;
+      pages = rest i;
+      frontier = up i;
+    })
+  where
+    front : filter (is_of_group number) c.pages ≡ w.pages.front
+    front = ap (λ (n : ℕ). filter (is_of_group n) c.pages) w.number_is
+        ∙ of_front l w.group w.groups c.pages w.pages
+
+    rest : others number c.pages ≡ w.pages.rest
+    rest = ap (λ (n : ℕ). others n c.pages) w.number_is ∙ behind_front l w.group w.groups c.pages w.pages
+
+    up : risen c ≡ c.frontier + 1
+    up =
+        let within = slice_get_within l.groups (l.frontier - l.greatest_seen) w.group w.there in
+        let last = h.last_given in
+        let same = h.frontier in
+        omega (arith, within, last, same)
+
+-- what is kept of pages and places is what the ledger has then
+pub ledger_next : (c : Core) (l : Ledger) (number : ℕ) →
+    LedgerKept c.numbers c.places c.pages c.frontier c.last l → before_accepted l ≤ l.frontier →
+    GroupsRight c.numbers l → (w : IsNextWhole c l number) →
+    LedgerKept c.numbers (made c w.pages.front w.pages.rest).places w.pages.rest (c.frontier + 1) c.last
+    (at_frontier l (suc l.frontier))
+ledger_next c l number h low right w = record {
   frontier = let e = h.frontier in omega arith;
-  groups = subst (λ (z : List Group × List keys.Group). GroupsKept l.standing (suc l.frontier) z.0 z.1)
-      (λ i. (sym rest i, sym behind_next i)) both.more;
-  keys = let same = places_length c.places s (position_of c.numbers g.key) in let long = h.keys in
-      omega (arith, same, long);
-  places = λ k isk. subst (λ (o : Option Name). IsStored l.standing (stored_of (noted_places c g.key s) k) o)
-      (sym (latest k))
-      (stored_next c l.standing g.key k s item
-      (latest_durable l k) l.frontier refl number stands h.keys key isk (h.places k isk));
+  last_given = h.last_given;
+  pages = subst (λ (hs : List keys.Group). PagesKept l.standing (entry_of l) w.pages.rest
+      (names_behind (suc l.frontier) hs)) (sym behind_next) w.pages.more;
+  keys = let same = places_same w.pages.front c in let long = h.keys in omega (arith, same, long);
+  places = λ k isk. subst (λ (z : Option Stored × Option Name). IsStored l.standing z.0 z.1)
+      (λ i. (
+        ap (λ (z : Core). stored_of z k) (only_places c w.pages.front) i,
+        sym (durable_next l w.group w.groups k top w.is) i,
+      ))
+      (stored_next l.standing (suc l.frontier) w.pages.front w.group c k (latest_durable l k) w.stand h.keys
+      (λ j x at. right.are_keys (l.frontier - l.greatest_seen) j w.group x w.there at)
+      (right.differ (l.frontier - l.greatest_seen) w.group w.there) isk (h.places k isk));
 }
   where
-    s : Stored
-    s = front_stored c p
-
-    item : Item
-    item = record { key = g.key; body = g.body }
-
     top : l.greatest_seen ≤ l.frontier
     top = let a = low in omega arith
 
-    both : IsFrontKept l.standing l.frontier g gs (behind l)
-    both = front_behind c l g gs h low is
-
-    rest : remove c.groups 0 ≡ gs
-    rest = ap (λ (z : List Group). remove z 0) is
-
-    behind_next : pending (at_frontier l (suc l.frontier)) ≡ both.rest
+    behind_next : pending (at_frontier l (suc l.frontier)) ≡ w.groups
     behind_next = pending_mended (at_frontier l (suc l.frontier)) (more (before_accepted l) l.frontier low)
         ∙ ap (λ (m : ℕ). drop m l.groups) (one_more l.greatest_seen l.frontier top)
-        ∙ (drop_next l.groups (first_above l) both.first both.rest both.is).0
+        ∙ (drop_next l.groups (first_above l) w.group w.groups w.is).0
       where
         more : (a b : ℕ) → a ≤ b → a ≤ suc b
         more a b le = omega arith
 
         one_more : (a b : ℕ) → a ≤ b → suc b - a ≡ suc (b - a)
         one_more a b le = omega arith
-
-    number : s.number ≡ suc l.frontier
-    number = let e = h.frontier in omega arith
-
-    stands : l.standing (suc l.frontier) 0 ≡ Some s.place
-    stands = both.kept.stands ∙ written
-
-    key : IsKey (shape_of_numbers c.numbers) g.key
-    key = are_keys (first_above l) 0 (item ∷ []) item
-        ((drop_next l.groups (first_above l) both.first both.rest both.is).3
-        ∙ ap (λ (z : keys.Group). Some z) both.kept.page) refl
-
-    latest : (k : Key) → latest_durable (at_frontier l (suc l.frontier)) k ≡ name_or (suc l.frontier)
-        (index_in k (item ∷ [])) (latest_durable l k)
-    latest k = durable_next l both.first both.rest k top both.is
-        ∙ ap (λ (z : keys.Group). name_or (suc l.frontier) (index_in k z) (latest_durable l k)) both.kept.page

@@ -1,63 +1,28 @@
--- The page of a pending group stands: what is kept of groups, places and pins before any group becomes durable.
-use Rattle.std.proofs.Common.{◌≡◌, ◌≢◌, ◌∙◌, ℕ, zero, suc, ◌+◌, ◌<◌, ◌≤◌, true, false, List, [], ◌∷◌, Option, Some}
-use Rattle.std.proofs.Common.{None, length, refl, sym, ap, subst, ⊎_elim, arith, lt-ltb}
-use Rattle.std.proofs.lemmas.Bool.{lt-leb}
-use Rattle.std.specs.Prelude.{◌-◌, ◌==◌, nat_le, nat_lt, slice_get, slice_set}
-use Rattle.ufs_spec.proofs.Facts.{false≢true}
+-- The page of a pending group stands: what is kept of pages, places and flights before any group becomes durable.
+use Rattle.std.proofs.Common.{◌≡◌, ◌≢◌, ◌∙◌, ℕ, true, false, List, Option, Some, None, refl, sym, ap, subst}
+use Rattle.std.proofs.Common.{⊎_elim}
+use Rattle.std.specs.Prelude.{◌==◌, slice_get, slice_set}
+use Rattle.ufs_spec.proofs.Facts.{false≢true, same_Some}
+use Rattle.ufs_spec.proofs.Lists.{set_length}
 use Rattle.ufs_spec.specs.Disk as disk
 use Rattle.ufs_spec.specs.Disk.{at_die}
-use Rattle.ufs_spec.specs.Keys as keys
-use Rattle.ufs_spec.specs.Ledger.{Ledger, Name, at_name, latest_durable, pending, same_name}
+use Rattle.ufs_spec.specs.Ledger.{Entry, Ledger, Name, at_name, entry_of, latest_durable, pending, same_name}
 use Rattle.ufs_spec.specs.Translation.{flies_name}
 use Rattle.ufs_spec.specs.declared.configs.Numbers.{Numbers}
 use Rattle.ufs_spec.specs.declared.flash.Place.{Place}
-use Rattle.power_loss.proofs.books.PagesByName.{none_some, some_is}
-use Rattle.power_loss.proofs.books.SmallFacts.{at_name_cases, eq_self, if_false, if_true, name_is, name_cases}
-use Rattle.ftl_core.specs.declared.books.Group.{Group}
+use Rattle.power_loss.proofs.books.PagesByName.{none_some}
+use Rattle.power_loss.proofs.books.SmallFacts.{at_name_cases, eq_self, if_true, name_is, name_cases}
+use Rattle.power_loss.proofs.ordered_lists.ElementsAndOrders.{IsIn}
+use Rattle.ftl_core.specs.declared.books.Pending.{Pending}
 use Rattle.ftl_core.specs.declared.books.Stored.{Stored}
 use Rattle.ftl_core.specs.Core.{Core}
-use Rattle.ftl_core.specs.Describes.{GroupKept, GroupsKept, IsStored, LedgerKept, PagesFly, Standing, name_at}
-use Rattle.ftl_core.specs.Ends.{below, group_written, groups_written, pending_at}
+use Rattle.ftl_core.specs.Describes.{IsStored, LedgerKept, PageKept, PagesFly, PagesKept, Standing, names_pending}
+use Rattle.ftl_core.specs.Ends.{pages_written, pending_at, pending_written}
 use Rattle.ftl_core.specs.Moves.{stored_in}
 use Rattle.ftl_core.proofs.job_taken.Flown.{fewer, fly_over}
-use Rattle.ufs_spec.proofs.Lists.{get_there}
-
--- Groups
-
--- nothing changes for groups whose names are as they were
-groups_same : (standing after : Standing) (n : ℕ) (gs : List Group) (hs : List keys.Group) →
-    ((m : ℕ) → n < m → after m 0 ≡ standing m 0) → GroupsKept standing n gs hs → GroupsKept after n gs hs
-groups_same standing after n [] [] stands h = tt
-groups_same standing after n [] (y ∷ hs) stands h = absurd h
-groups_same standing after n (g ∷ gs) [] stands h = absurd h
-groups_same standing after n (g ∷ gs) (y ∷ hs) stands h = (
-  record { page = h.0.page; data_page = h.0.data_page; stands = stands (suc n) (omega arith) ∙ h.0.stands },
-  groups_same standing after (suc n) gs hs (λ m l. stands m (omega arith)) h.1,
-)
-
--- the page of one group stands
-groups_put : (standing after : Standing) (p : Place) (n j : ℕ) (gs : List Group) (hs : List keys.Group) (g : Group) →
-    ((m : ℕ) → m ≢ suc (n + j) → after m 0 ≡ standing m 0) → after (suc (n + j)) 0 ≡ Some p → slice_get gs j ≡ Some g →
-    GroupsKept standing n gs hs → GroupsKept after n (slice_set gs j (record g { written = Some p })) hs
-groups_put standing after p n j [] hs g stands here at h = cc
-groups_put standing after p n j (x ∷ gs) [] g stands here at h = absurd h
-groups_put standing after p n zero (x ∷ gs) (y ∷ hs) g stands here at h =
-    let first : suc (n + 0) ≡ suc n = omega arith in (
-      subst (λ (z : Group). GroupKept after (suc n) (record z { written = Some p }) y) (some_is x g at)
-          (record {
-            page = h.0.page;
-            data_page = h.0.data_page;
-            stands = ap (λ (m : ℕ). after m 0) (sym first)
-                ∙ here;
-          }),
-      groups_same standing after (suc n) gs hs (λ m l. stands m (λ e. omega arith)) h.1,
-    )
-groups_put standing after p n (suc j) (x ∷ gs) (y ∷ hs) g stands here at h =
-    let shift : suc (n + suc j) ≡ suc (suc n + j) = omega arith in (
-      record { page = h.0.page; data_page = h.0.data_page; stands = stands (suc n) (λ e. omega arith) ∙ h.0.stands },
-      groups_put standing after p (suc n) j gs hs g (λ m l. stands m (λ e. l (e ∙ shift)))
-          (ap (λ (m : ℕ). after m 0) (sym shift) ∙ here) at h.1,
-    )
+use Rattle.ftl_core.proofs.opened.ListParts.{get_set}
+use Rattle.ftl_core.proofs.pages.NamesBehind.{names_differ}
+use Rattle.ftl_core.proofs.pages.PagesNamed.{pages_get, pages_kept, position_named, same_count}
 
 -- The ledger
 
@@ -89,22 +54,73 @@ stored_on standing name p new (Some s) (Some m) k = (
       (name_cases m name),
 )
 
+-- the page at a position stands under the name at that position
+page_at : (st : Standing) (en : Name → Option Entry) (ps : List Pending) (names : List Name) (k : ℕ) (p : Pending)
+    (name : Name) → PagesKept st en ps names → slice_get ps k ≡ Some p → slice_get names k ≡ Some name →
+    PageKept st en p name
+page_at st en ps names k p name h at named =
+    let r = pages_get st en ps names k p h at in
+    subst (PageKept st en p) (same_Some r.0 name (sym r.1 ∙ named)) r.2
+
+-- the page of one name stands, and each name has one position
+pages_put : (st : Standing) (en : Name → Option Entry) (name : Name) (place : Place) (ps : List Pending)
+    (names : List Name) (k : ℕ) (p : Pending) → PagesKept st en ps names → slice_get ps k ≡ Some p →
+    slice_get names k ≡ Some name →
+    ((i j : ℕ) (m : Name) → slice_get names i ≡ Some m → slice_get names j ≡ Some m → i ≡ j) →
+    PagesKept (at_name st name (Some place)) en (slice_set ps k (record p { written = Some place })) names
+pages_put st en name place ps names k p h at named differ =
+    pages_kept (at_name st name (Some place)) en (slice_set ps k (record p { written = Some place })) names
+    (set_length ps k (record p { written = Some place }) ∙ same_count st en ps names h) each
+  where
+    here : PageKept st en p name
+    here = page_at st en ps names k p name h at named
+
+    put : PageKept (at_name st name (Some place)) en (record p { written = Some place }) name
+    put = record {
+      number = here.number;
+      index = here.index;
+      entry = here.entry;
+      group_page = here.group_page;
+      stands = at_here st name name place refl;
+    }
+
+    stays : (j : ℕ) (q : Pending) (m : Name) → j ≢ k → slice_get ps j ≡ Some q → slice_get names j ≡ Some m →
+        PageKept (at_name st name (Some place)) en q m
+    stays j q m apart got is =
+        let there = page_at st en ps names j q m h got is in
+        record {
+          number = there.number;
+          index = there.index;
+          entry = there.entry;
+          group_page = there.group_page;
+          stands = at_other st name m place
+              (λ e. apart (differ j k name (is ∙ ap (λ (z : Name). Some z) e) named)) ∙ there.stands;
+        }
+
+    each : (j : ℕ) (q : Pending) (m : Name) →
+        slice_get (slice_set ps k (record p { written = Some place })) j ≡ Some q → slice_get names j ≡ Some m →
+        PageKept (at_name st name (Some place)) en q m
+    each j q m got is = ⊎_elim
+        (λ (e : (j ≡ k) × (record p { written = Some place } ≡ q)).
+        subst (λ (z : Pending × Name). PageKept (at_name st name (Some place)) en z.0 z.1)
+        (λ i. (e.1 i, same_Some name m (sym named ∙ sym (ap (slice_get names) e.0) ∙ is) i)) put)
+        (λ (e : (j ≢ k) × (slice_get ps j ≡ Some q)). stays j q m e.0 e.1 is)
+        (get_set ps k (record p { written = Some place }) j q got)
+
 -- the page of a group in flight stands: no group is durable yet by that
-pub ledger_written : (n : Numbers) (places : List (Option Stored)) (groups : List Group) (frontier : ℕ) (l : Ledger)
-    (name : Name) (p : Place) (j : ℕ) (g : Group) →
-    LedgerKept n places groups frontier l → name ≡ name_at (suc (l.frontier + j)) →
-    l.standing name.number name.index ≡ None →
-    slice_get groups j ≡ Some g →
-    LedgerKept n places (slice_set groups j (record g { written = Some p })) frontier (with_page l name p)
-ledger_written n places groups frontier l name p j g h is new at = record {
+pub ledger_written : (n : Numbers) (places : List (Option Stored)) (pages : List Pending) (frontier last : ℕ)
+    (l : Ledger) (name : Name) (place : Place) (k : ℕ) (p : Pending) →
+    LedgerKept n places pages frontier last l → l.standing name.number name.index ≡ None →
+    slice_get pages k ≡ Some p → slice_get (names_pending l) k ≡ Some name →
+    LedgerKept n places (slice_set pages k (record p { written = Some place })) frontier last (with_page l name place)
+ledger_written n places pages frontier last l name place k p h new at named = record {
   frontier = h.frontier;
-  groups = groups_put l.standing (at_name l.standing name (Some p)) p l.frontier j groups (pending l) g
-      (λ m e. at_other l.standing name (name_at m) p (λ f. e (ap (λ (z : Name). z.number) (f ∙ is))))
-      (at_here l.standing name (name_at (suc (l.frontier + j))) p (sym is))
-      at
-      h.groups;
+  last_given = h.last_given;
+  pages = pages_put l.standing (entry_of l) name place pages (names_pending l) k p h.pages at named
+      (names_differ l.frontier (pending l));
   keys = h.keys;
-  places = λ k isk. stored_on l.standing name p new (stored_in n places k) (latest_durable l k) (h.places k isk);
+  places = λ key isk. stored_on l.standing name place new (stored_in n places key) (latest_durable l key)
+      (h.places key isk);
 }
 
 -- the page that one die wrote flies no more
@@ -125,38 +141,27 @@ fly_written standing flights die name p h flown = record { one = (fly_over stand
         ∙ h.new d m (fewer flights die (flies_name m) d refl f))
         (name_cases m name)
 
--- Which group
+-- Which page
 
--- the pending group with this number
-pub record IsPending (c : Core) (n : ℕ) : Type 0 where
+-- the pending page with this name
+pub record IsPending (c : Core) (l : Ledger) (name : Name) : Type 0 where
   pub at : ℕ
-  pub group : Group
-  pub is : pending_at c n ≡ Some at
-  pub there : slice_get c.groups at ≡ Some group
-  pub number : n ≡ suc (c.frontier + at)
+  pub page : Pending
+  pub is : pending_at c name.number name.index ≡ Some at
+  pub there : slice_get c.pages at ≡ Some page
+  pub named : slice_get (names_pending l) at ≡ Some name
 
--- a number above the frontier, and not above that of the last group, is of a pending one
-pub is_pending : (c : Core) (n : ℕ) → c.frontier < n → n ≤ c.frontier + length c.groups → IsPending c n
-is_pending c n above within =
-    let low : n - c.frontier - 1 < length c.groups = omega arith in
-    let x = get_there c.groups (n - c.frontier - 1) low in
-    record {
-      at = n - c.frontier - 1;
-      group = x.0;
-      is = if_false (nat_le n c.frontier) None (below (n - c.frontier - 1) (length c.groups))
-          (lt-leb n c.frontier above)
-          ∙ if_true (nat_lt (n - c.frontier - 1) (length c.groups)) (Some (n - c.frontier - 1)) None
-          (lt-ltb (n - c.frontier - 1) (length c.groups) low);
-      there = x.1;
-      number = omega arith;
-    }
+pub is_pending : (c : Core) (l : Ledger) (name : Name) → PagesKept l.standing (entry_of l) c.pages (names_pending l) →
+    IsIn name (names_pending l) → IsPending c l name
+is_pending c l name h here =
+    let r = position_named l.standing (entry_of l) c.pages (names_pending l) name h here in
+    record { at = r.0; page = r.1; is = r.2; there = r.3; named = r.4 }
 
--- its page is written
-pub pending_written : (c : Core) (n : ℕ) (p : Place) (h : IsPending c n) →
-    group_written c p (pending_at c n) ≡ record c {
-      groups = slice_set c.groups h.at
-          (record h.group { written = Some p });
+-- it is written
+pub written_there : (c : Core) (l : Ledger) (name : Name) (place : Place) (h : IsPending c l name) →
+    pending_written c place (pending_at c name.number name.index) ≡ record c {
+      pages = slice_set c.pages h.at (record h.page { written = Some place });
     }
-pending_written c n p h =
-    ap (group_written c p) h.is
-    ∙ ap (λ (o : Option Group). record c { groups = groups_written c.groups h.at p o }) h.there
+written_there c l name place h =
+    ap (pending_written c place) h.is
+    ∙ ap (λ (o : Option Pending). record c { pages = pages_written c.pages h.at place o }) h.there

@@ -1,26 +1,31 @@
 -- The page of a group is written, before any group is durable by that.
-use Rattle.std.proofs.Common.{◌≡◌, ◌∙◌, ℕ, suc, ◌+◌, ◌<◌, true, List, Option, Some, None, length, drop, refl, sym, ap}
-use Rattle.std.proofs.Common.{subst, ⊎_elim, arith}
-use Rattle.std.specs.Prelude.{slice_get, slice_set}
-use Rattle.std.proofs.lemmas.Option.{slice_get_within}
-use Rattle.ufs_spec.specs.Cells.{GroupPage, key_of}
+use Rattle.std.proofs.Common.{◌≡◌, ◌∙◌, ℕ, suc, ◌+◌, ◌<◌, ◌≤◌, true, false, List, Option, Some, None, length, drop}
+use Rattle.std.proofs.Common.{refl, sym, ap, subst, ⊎_elim, arith}
+use Rattle.std.specs.Prelude.{◌-◌, slice_get, slice_set}
+use Rattle.ufs_spec.specs.Cells.{GroupPage}
 use Rattle.ufs_spec.specs.Disk as disk
-use Rattle.ufs_spec.specs.Disk.{at_place, at_spot, programmed}
+use Rattle.ufs_spec.specs.Disk.{at_spot, programmed}
+use Rattle.ufs_spec.specs.Keys as keys
+use Rattle.ufs_spec.specs.Ledger.{Name, same_name}
 use Rattle.ufs_spec.specs.Moves.{step_behind}
-use Rattle.ufs_spec.specs.Translation.{Step, Translation, flies_name, is_bad, is_mended, name_of}
+use Rattle.ufs_spec.specs.Translation.{Mended, Mending, RepairStep, Repairing, Step, Translation, Unmarked, flies_name}
+use Rattle.ufs_spec.specs.Translation.{is_bad, is_mended, name_of, names_behind}
 use Rattle.ufs_spec.specs.declared.configs.Numbers.{Numbers}
 use Rattle.ufs_spec.specs.declared.flash.Place.{Place}
 use Rattle.ufs_spec.specs.declared.flash.Tag.{Tag}
-use Rattle.power_loss.specs.Book.{IsPageAt, book}
+use Rattle.power_loss.specs.Book.{book, last_number}
+use Rattle.power_loss.proofs.books.FrontierClimbs.{get_drop, in_group}
+use Rattle.power_loss.specs.Invariant.{IsLastRepair, MendingRight, Valid}
 use Rattle.power_loss.proofs.books.PagesByName.{at_most, none_some, page_within}
-use Rattle.power_loss.proofs.books.SmallFacts.{name_is, name_self}
+use Rattle.power_loss.proofs.books.SmallFacts.{if_true, name_self, two_ways}
+use Rattle.power_loss.proofs.ordered_lists.ElementsAndOrders.{IsIn}
 use Rattle.ftl_core.specs.declared.books.BlockState.{BlockState}
 use Rattle.ftl_core.specs.declared.books.BlockState.TheVariants as state
 use Rattle.ftl_core.specs.declared.books.Book.{Book}
-use Rattle.ftl_core.specs.declared.books.Group.{Group}
 use Rattle.ftl_core.specs.declared.books.OpenBlock.{OpenBlock}
+use Rattle.ftl_core.specs.declared.books.Pending.{Pending}
 use Rattle.ftl_core.specs.Core.{Core}
-use Rattle.ftl_core.specs.Describes.{BlocksKept, Describes, IsFilling, Kept, WorkKept, name_at, spot_at}
+use Rattle.ftl_core.specs.Describes.{BlocksKept, Describes, IsFilling, Kept, WorkKept, names_pending, spot_at}
 use Rattle.ftl_core.specs.Moves.{page_written, repairs_in}
 use Rattle.ftl_core.specs.Takes.{next_place}
 use Rattle.ftl_core.proofs.job_ended.ChangeParts.{blocks_on, blocks_put, closed_fills, elsewhere, filling_kept}
@@ -29,7 +34,8 @@ use Rattle.ftl_core.proofs.job_taken.Flown.{die_within, dies_put, reads_over, st
 use Rattle.ftl_core.proofs.job_ended.JobsOver.{filling_on, filling_over}
 use Rattle.ftl_core.proofs.group_settled.PageStands.{IsPending, fly_written, is_pending, ledger_written, with_page}
 use Rattle.ftl_core.proofs.look_and_accept.MoreGroups.{work_more}
-use Rattle.ftl_core.proofs.look_and_accept.Numbers.{groups_left, mended_beside, step_stays}
+use Rattle.ftl_core.proofs.look_and_accept.Numbers.{IsRepair, behind, pending_mended, step_stays}
+use Rattle.ftl_core.proofs.pages.NamesBehind.{names_in}
 
 -- the page stands, and the frontier has not climbed yet
 abbrev pub with_group_page : Translation → Place → Tag → List ℕ → Translation
@@ -39,52 +45,94 @@ with_group_page t p tag body = record t {
   work = record t.work { step = step_behind (name_of tag) t.work.step };
 }
 
--- the page of the group that is pending at a position is in flight to the next page of the die's open block
+-- a page of a group is in flight to the next page of the die's open block
 pub record IsGroupFlight (c : Core) (t : Translation) (die : ℕ) (b : Book) (o : OpenBlock) (tag : Tag)
     (body : List ℕ) : Type 0 where
   pub there : slice_get c.books die ≡ Some b
   pub filling : b.filling ≡ Some o
   pub flies : t.disk.flights die ≡ Some (disk.Programming (next_place die o) (GroupPage tag body))
-  pub first : tag.index ≡ 0
   pub beside : repairs_in c.step ≡ 0
 
--- Which group it is
+-- Which page it is
 
--- its page does not stand yet
+-- it does not stand yet
 flown_new : (c : Core) (t : Translation) (die : ℕ) (b : Book) (o : OpenBlock) (tag : Tag) (body : List ℕ) → Kept c t →
     IsGroupFlight c t die b o tag body →
     t.ledger.standing tag.number tag.index ≡ None
 flown_new c t die b o tag body k f = k.fly.new die (name_of tag)
     (ap (flies_name (name_of tag)) f.flies ∙ name_self (name_of tag))
 
--- it is pending: what is in flight does not stand yet
-pub flown_pending : (c : Core) (t : Translation) (die : ℕ) (b : Book) (o : OpenBlock) (tag : Tag) (body : List ℕ) →
-    Describes c t → IsGroupFlight c t die b o tag body →
-    IsPending c tag.number
-flown_pending c t die b o tag body h f =
+-- so its group is above the frontier
+flown_above : (c : Core) (t : Translation) (die : ℕ) (b : Book) (o : OpenBlock) (tag : Tag) (body : List ℕ) →
+    Describes c t → IsGroupFlight c t die b o tag body → t.ledger.frontier < tag.number
+flown_above c t die b o tag body h f =
     let known = h.valid.flights.known die (next_place die o) tag body f.flies in
-    let frontier = h.kept.ledger_kept.frontier in
-    let up = above known in
-    let to = page_within (book t) tag.number tag.index _ known in
-    let left = groups_left c t h in
-    let none = f.beside in
-    is_pending c tag.number (omega (arith, frontier, up)) (omega (arith, to, left, none))
+    ⊎_elim
+    (λ l. let s = h.valid.frontier.stand tag.number tag.index _ l known in
+    absurd (none_some s.0 (sym (flown_new c t die b o tag body h.kept f) ∙ s.1)))
+    (λ l. l)
+    (at_most tag.number t.ledger.frontier)
+
+-- a step that the page of no group ends repairs nothing
+stays_none : (u : Option Step) → ((name : Name) → step_behind name u ≡ u) → IsRepair u → ⊥
+stays_none u stays r =
+    none_some _ (sym (ap (step_behind r.0) r.3
+    ∙ if_true (same_name r.0 r.0) None (Some (record { kind = RepairStep r.0 r.1; there = r.2 })) (name_self r.0))
+    ∙ stays r.0 ∙ r.3)
+
+-- until the device is mended no group is above the frontier but the one that is being repaired
+none_above : (t : Translation) → Valid t → (IsRepair t.work.step → ⊥) → is_mended t.work.mending ≡ false →
+    t.ledger.frontier ≡ last_number (book t)
+none_above t v none e = by t.work.mending v.mending e
   where
-    above : IsPageAt (book t) tag.number tag.index
-        (record { item = record { key = key_of tag; body = body }; size = tag.size }) → t.ledger.frontier < tag.number
-    above known = ⊎_elim
-        (λ l. let s = h.valid.frontier.stand tag.number tag.index _ l known in
-        absurd (none_some s.0 (sym (flown_new c t die b o tag body h.kept f) ∙ s.1)))
-        (λ l. l)
-        (at_most tag.number t.ledger.frontier)
+    by : (m : Mending) → MendingRight (book t) t.disk t.ledger t.work.plan t.work.step m → is_mended m ≡ false →
+        t.ledger.frontier ≡ last_number (book t)
+    by (Unmarked fence lost) r e =
+        let long = ap (λ (gs : List keys.Group). length gs) r.none_new in
+        let still = r.still in
+        omega (arith, long, still)
+    by (Repairing left) r e =
+        ⊎_elim (λ f. f)
+        (λ (f : (suc t.ledger.frontier ≡ last_number (book t)) × IsLastRepair (book t) t.work.step).
+        absurd (none (_, f.1.0, f.1.1, f.1.2))) r.more.under_way
+    by Mended r e = cc
 
 -- so the device is mended
-pub flown_mended : (c : Core) (t : Translation) (n : ℕ) → Describes c t → IsPending c n →
-    is_mended t.work.mending ≡ true
-flown_mended c t n h p =
-    let w = slice_get_within c.groups p.at p.group p.there in
-    let some : 0 < length c.groups = omega (arith, w) in
-    mended_beside c t h some
+pub flown_mended : (c : Core) (t : Translation) (die : ℕ) (b : Book) (o : OpenBlock) (tag : Tag) (body : List ℕ) →
+    Describes c t → IsGroupFlight c t die b o tag body → is_mended t.work.mending ≡ true
+flown_mended c t die b o tag body h f =
+    let known = h.valid.flights.known die (next_place die o) tag body f.flies in
+    let above = flown_above c t die b o tag body h f in
+    let within = page_within (book t) tag.number tag.index _ known in
+    ⊎_elim (λ e. e)
+    (λ e.
+    let last = none_above t h.valid (stays_none t.work.step
+    (λ name. step_stays t.ledger c.step c.content t.work.step name h.kept.work.step_is f.beside)) e in
+    absurd (omega (arith, above, within, last)))
+    (two_ways (is_mended t.work.mending))
+
+-- it is pending
+pub flown_pending : (c : Core) (t : Translation) (die : ℕ) (b : Book) (o : OpenBlock) (tag : Tag) (body : List ℕ) →
+    Describes c t → IsGroupFlight c t die b o tag body → IsPending c t.ledger (name_of tag)
+flown_pending c t die b o tag body h f =
+    let known = h.valid.flights.known die (next_place die o) tag body f.flies in
+    let above = flown_above c t die b o tag body h f in
+    let seen = h.valid.frontier.above in
+    let g = in_group (book t) tag.number tag.index _ (omega (arith, above, seen)) known in
+    is_pending c t.ledger (name_of tag) h.kept.ledger_kept.pages
+    (subst (λ (gs : List keys.Group). IsIn (name_of tag) (names_behind t.ledger.frontier gs))
+    (sym (pending_mended t.ledger (h.kept.work.repaired (flown_mended c t die b o tag body h f))))
+    (names_in t.ledger.frontier (behind t.ledger) (name_of tag) (record {
+      above = above;
+      group = g.0;
+      is = get_drop t.ledger.groups (t.ledger.frontier - t.ledger.greatest_seen) (tag.number - t.ledger.frontier - 1)
+          ∙ ap (slice_get t.ledger.groups) (index t.ledger.greatest_seen t.ledger.frontier tag.number seen above)
+          ∙ g.1;
+      index = g.2;
+    })))
+  where
+    index : (top frontier n : ℕ) → top ≤ frontier → frontier < n → frontier - top + (n - frontier - 1) ≡ n - top - 1
+    index top frontier n low l = omega arith
 
 -- All but blocks
 
@@ -97,9 +145,9 @@ written_at t die o tag body x = record (with_group_page t (next_place die o) tag
 }
 
 module _ (c : Core) (t : Translation) (die : ℕ) (b : Book) (o : OpenBlock) (tag : Tag) (body : List ℕ) (j : ℕ)
-    (g : Group)
-    (h : Describes c t) (f : IsGroupFlight c t die b o tag body) (number : tag.number ≡ suc (c.frontier + j))
-    (at : slice_get c.groups j ≡ Some g) (mended : is_mended t.work.mending ≡ true) where
+    (p : Pending)
+    (h : Describes c t) (f : IsGroupFlight c t die b o tag body) (at : slice_get c.pages j ≡ Some p)
+    (named : slice_get (names_pending t.ledger) j ≡ Some (name_of tag)) (mended : is_mended t.work.mending ≡ true) where
   -- what is kept, with these states of blocks and this open block of the die
   kept_written : (x : disk.BlockState) (states : List BlockState) (filling : Option OpenBlock) →
       BlocksKept t.numbers (at_spot t.disk.blocks (spot_at die o.block) x) states c.has_bad →
@@ -108,7 +156,7 @@ module _ (c : Core) (t : Translation) (die : ℕ) (b : Book) (o : OpenBlock) (ta
       (record c {
         states = states;
         books = slice_set c.books die (record { filling = filling; flight = None });
-        groups = slice_set c.groups j (record g { written = Some (next_place die o) });
+        pages = slice_set c.pages j (record p { written = Some (next_place die o) });
       })
       (written_at t die o tag body x)
   kept_written x states filling blocks is_open = record {
@@ -119,11 +167,8 @@ module _ (c : Core) (t : Translation) (die : ℕ) (b : Book) (o : OpenBlock) (ta
         (elsewhere t.disk.blocks die o.block x) (record { filling = is_open; job = tt });
     fly = fly_written t.ledger.standing t.disk.flights die (name_of tag) (next_place die o) h.kept.fly
         (ap (flies_name (name_of tag)) f.flies ∙ name_self (name_of tag));
-    ledger_kept = ledger_written c.numbers c.places c.groups c.frontier t.ledger (name_of tag)
-        (next_place die o) j g h.kept.ledger_kept
-        (name_is (name_of tag) (name_at (suc (t.ledger.frontier + j)))
-        (let e = h.kept.ledger_kept.frontier in omega arith) f.first)
-        (flown_new c t die b o tag body h.kept f) at;
+    ledger_kept = ledger_written c.numbers c.places c.pages c.frontier c.last t.ledger (name_of tag)
+        (next_place die o) j p h.kept.ledger_kept (flown_new c t die b o tag body h.kept f) at named;
     work = subst (λ (s : Option Step). WorkKept c.mending (drop c.repaired c.lost) c.step c.content c.next_mark
         (record t.work { step = s }) (with_page t.ledger (name_of tag) (next_place die o)))
         (sym (step_stays t.ledger c.step c.content t.work.step (name_of tag) h.kept.work.step_is f.beside))
@@ -140,10 +185,10 @@ module _ (c : Core) (t : Translation) (die : ℕ) (b : Book) (o : OpenBlock) (ta
 
   -- the group's page is written, and the die's open block has one page less, or is closed
   pub page_kept : Kept (page_written
-      (record c { groups = slice_set c.groups j (record g { written = Some (next_place die o) }) }) die b (Some o))
+      (record c { pages = slice_set c.pages j (record p { written = Some (next_place die o) }) }) die b (Some o))
       (with_group_page t (next_place die o) tag body)
   page_kept =
-      page_ends (record c { groups = slice_set c.groups j (record g { written = Some (next_place die o) }) })
+      page_ends (record c { pages = slice_set c.pages j (record p { written = Some (next_place die o) }) })
       die b o t.numbers.pages
       (written_at t die o tag body) (ap (λ (n : Numbers). n.pages) h.kept.numbers)
       (h.valid.blocks.filling (spot_at die o.block) o.next is_open.1)

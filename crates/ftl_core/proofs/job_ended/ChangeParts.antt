@@ -15,9 +15,9 @@ use Rattle.ftl_core.specs.Core.{Core}
 use Rattle.ftl_core.specs.declared.books.BlockState.{BlockState}
 use Rattle.ftl_core.specs.declared.books.BlockState.TheVariants as state
 use Rattle.ftl_core.specs.declared.books.Book.{Book}
-use Rattle.ftl_core.specs.declared.books.Group.{Group}
 use Rattle.ftl_core.specs.declared.books.Mending.{Mending}
 use Rattle.ftl_core.specs.declared.books.OpenBlock.{OpenBlock}
+use Rattle.ftl_core.specs.declared.books.Pending.{Pending}
 use Rattle.ftl_core.specs.declared.books.Step.{Step}
 use Rattle.ftl_core.specs.declared.books.Stored.{Stored}
 use Rattle.ftl_core.specs.Describes.{BlocksKept, IsFilling, IsFlight, Kept, LedgerKept, PagesFly, PinsKept}
@@ -36,13 +36,13 @@ filling_kept c t die b o k there is =
 -- What is known once it ended
 
 -- some of what is kept is other than it was
-abbrev pub changed : Core → List BlockState → List Book → Bool → List Group → Mending → Option Step → ℕ → Core
-changed c states books has_bad groups mending step next =
+abbrev pub changed : Core → List BlockState → List Book → Bool → List Pending → Mending → Option Step → ℕ → Core
+changed c states books has_bad pages mending step next =
     record c {
       states = states;
       books = books;
       has_bad = has_bad;
-      groups = groups;
+      pages = pages;
       mending = mending;
       step = step;
       next_mark = next;
@@ -90,21 +90,21 @@ StepSuits n step after die books flights =
 -- the job of one die ended that was no read: the pins are as they were, one block has another state, and the step may
 -- be another
 pub kept_beside : (c : Core) (t : Translation) (die block : ℕ) (b : Book) (x : disk.BlockState) (f : Option OpenBlock)
-    (states : List BlockState) (has_bad : Bool) (groups : List Group) (mending : Mending) (step : Option Step)
+    (states : List BlockState) (has_bad : Bool) (pages : List Pending) (mending : Mending) (step : Option Step)
     (next : ℕ) (cells : Cells) (finished : Place → Bool) (erasing : Spot → Bool) (ledger : Ledger) (work : Work) →
     Kept c t → slice_get c.books die ≡ Some b →
     BlocksKept t.numbers (blocks_with t die block x) states has_bad →
     IsFilling t.numbers (blocks_with t die block x) die f →
     PagesFly ledger.standing (at_die t.disk.flights die None) →
-    LedgerKept c.numbers c.places groups c.frontier ledger →
+    LedgerKept c.numbers c.places pages c.frontier c.last ledger →
     WorkKept mending (drop c.repaired c.lost) step c.content next work ledger →
     PinsKept ledger.frontier (entry_of ledger) c.pins t.pins →
     StepSuits t.numbers c.step step die c.books t.disk.flights →
     StepReadsKept (at_die t.disk.flights die None) step →
     (is_mended work.mending ≡ false → c.pins ≡ []) →
-    Kept (changed c states (books_with c die f) has_bad groups mending step next)
+    Kept (changed c states (books_with c die f) has_bad pages mending step next)
     (over t die (blocks_with t die block x) cells finished erasing ledger work)
-kept_beside c t die block b x f states has_bad groups mending step next cells finished erasing ledger work k there bs fs
+kept_beside c t die block b x f states has_bad pages mending step next cells finished erasing ledger work k there bs fs
     flies ls ws ps suits reads readers = record {
       numbers = k.numbers;
       blocks = bs;
@@ -124,32 +124,33 @@ kept_beside c t die block b x f states has_bad groups mending step next cells fi
 
 -- the same where the step and the mending stay
 pub kept_over : (c : Core) (t : Translation) (die block : ℕ) (b : Book) (x : disk.BlockState) (f : Option OpenBlock)
-    (states : List BlockState) (has_bad : Bool) (groups : List Group)
+    (states : List BlockState) (has_bad : Bool) (pages : List Pending)
     (cells : Cells) (finished : Place → Bool) (erasing : Spot → Bool) (ledger : Ledger) (work : Work) →
     Kept c t → slice_get c.books die ≡ Some b →
     BlocksKept t.numbers (blocks_with t die block x) states has_bad →
     IsFilling t.numbers (blocks_with t die block x) die f →
     PagesFly ledger.standing (at_die t.disk.flights die None) →
-    LedgerKept c.numbers c.places groups c.frontier ledger →
+    LedgerKept c.numbers c.places pages c.frontier c.last ledger →
     WorkKept c.mending (drop c.repaired c.lost) c.step c.content c.next_mark work ledger →
     PinsKept ledger.frontier (entry_of ledger) c.pins t.pins →
     (is_mended work.mending ≡ false → c.pins ≡ []) →
-    Kept (changed c states (books_with c die f) has_bad groups c.mending c.step c.next_mark)
+    Kept (changed c states (books_with c die f) has_bad pages c.mending c.step c.next_mark)
     (over t die (blocks_with t die block x) cells finished erasing ledger work)
-kept_over c t die block b x f states has_bad groups cells finished erasing ledger work k there bs fs flies ls ws ps
+kept_over c t die block b x f states has_bad pages cells finished erasing ledger work k there bs fs flies ls ws ps
     readers =
-    kept_beside c t die block b x f states has_bad groups c.mending c.step c.next_mark cells finished erasing ledger
+    kept_beside c t die block b x f states has_bad pages c.mending c.step c.next_mark cells finished erasing ledger
     work k there bs fs flies ls ws ps (λ e y apart got is. is)
     (step_reads_over t.disk.flights die c.step k.step_reads) readers
 
 -- a mark changes nothing of groups and places
-pub ledger_marked : (n : Numbers) (places : List (Option Stored)) (groups : List Group) (frontier : ℕ) (l : Ledger)
-    (newest : Option Mark) (marks : ℕ) →
-    LedgerKept n places groups frontier l →
-    LedgerKept n places groups frontier (record l { newest = newest; marks = marks })
-ledger_marked n places groups frontier l newest marks h = record {
+pub ledger_marked : (n : Numbers) (places : List (Option Stored)) (pages : List Pending) (frontier last : ℕ)
+    (l : Ledger) (newest : Option Mark) (marks : ℕ) →
+    LedgerKept n places pages frontier last l →
+    LedgerKept n places pages frontier last (record l { newest = newest; marks = marks })
+ledger_marked n places pages frontier last l newest marks h = record {
   frontier = h.frontier;
-  groups = h.groups;
+  last_given = h.last_given;
+  pages = h.pages;
   keys = h.keys;
   places = h.places;
 }

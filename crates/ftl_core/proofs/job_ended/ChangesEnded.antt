@@ -26,7 +26,7 @@ pub page_ends_wrong : (c : Core) (t : Translation) (die : ℕ) (b : Book) (o : O
     Describes c t → slice_get c.books die ≡ Some b → b.filling ≡ Some o →
     Kept (went_bad c die o.block) (record t { disk = disk.program_failed t.disk (next_place die o) left })
 page_ends_wrong c t die b o left h there fills =
-    kept_over c t die o.block b disk.Bad None (states_with c die o.block state.Bad) true c.groups left
+    kept_over c t die o.block b disk.Bad None (states_with c die o.block state.Bad) true c.pages left
     (at_place t.disk.finished (next_place die o) false) t.disk.erasing t.ledger t.work
     h.kept there (blocks_lost c t die o.block h.kept (die_within c t die b h.kept there) is_open.0)
     (filling_over t.numbers t.disk.blocks die o disk.Bad bad_fills is_open)
@@ -49,10 +49,10 @@ module _ (c : Core) (t : Translation) (die : ℕ) (b : Book) (block : ℕ) (h : 
       (erasing : Spot → Bool) →
       BlocksKept t.numbers (blocks_with t die block x) states has_bad →
       IsFilling t.numbers (blocks_with t die block x) die f →
-      Kept (changed c states (books_with c die f) has_bad c.groups c.mending c.step c.next_mark)
+      Kept (changed c states (books_with c die f) has_bad c.pages c.mending c.step c.next_mark)
       (over t die (blocks_with t die block x) cells t.disk.finished erasing t.ledger t.work)
   erase_parts x states f has_bad cells erasing bs fs =
-      kept_over c t die block b x f states has_bad c.groups cells t.disk.finished erasing t.ledger t.work h.kept there
+      kept_over c t die block b x f states has_bad c.pages cells t.disk.finished erasing t.ledger t.work h.kept there
       bs fs (fly_over t.ledger.standing t.disk.flights die h.kept.fly)
       h.kept.ledger_kept h.kept.work h.kept.pins h.kept.readers
 

@@ -79,13 +79,13 @@ kept_then c t die o ending b after h there is new =
     same : (d : Core) (u : Translation) → Kept d u → after ≡ d → Kept after u
     same d u k e = subst (λ (x : Core). Kept x u) (sym e) k
 
-    reads : (place : Place) (tag : ℕ) →
-        Goal (Some (flight.Read place (readers.Task tag))) (Some (disk.Reading (ForTask tag 0) place))
-    reads place tag flies now new =
-        let kept = task_kept c t die tag b place h there flies in
-        read_ends (λ d e. IsReadAfter d c die b o (readers.Task tag) after →
-        Kept after (end_flight t die (Some (disk.Reading (ForTask tag 0) place)) e)) t.disk.cells (ForTask tag 0) place
-        (λ e. same _ _ kept e) (λ e. same _ _ kept e) o ending now new
+    reads : (place : Place) (tag index : ℕ) →
+        Goal (Some (flight.Read place (readers.Task tag index))) (Some (disk.Reading (ForTask tag index) place))
+    reads place tag index flies now new =
+        let kept = task_kept c t die tag index b place h there flies in
+        read_ends (λ d e. IsReadAfter d c die b o (readers.Task tag index) after →
+        Kept after (end_flight t die (Some (disk.Reading (ForTask tag index) place)) e)) t.disk.cells
+        (ForTask tag index) place (λ e. same _ _ kept e) (λ e. same _ _ kept e) o ending now new
 
     contents : (place : Place) → Goal (Some (flight.Read place readers.Step)) (Some (disk.Reading ForStep place))
     contents place flies now new = step_read_ends c t die b place h there flies o ending after now new
@@ -106,16 +106,16 @@ kept_then c t die o ending b after h there is new =
         (λ e. same _ _ (step_ends_well c t die b filled h there fills cell page flies) e)
         (λ left e. same _ _ (step_ends_wrong c t die b filled h there fills cell left page flies) e) o ending now new
 
-    groups : (filled : OpenBlock) (tag : Tag) (body : List ℕ) → b.filling ≡ Some filled → tag.index ≡ 0 →
-        repairs_in c.step ≡ 0 → Goal (Some (flight.Group (next_place die filled) tag.number))
+    groups : (filled : OpenBlock) (tag : Tag) (body : List ℕ) → b.filling ≡ Some filled → repairs_in c.step ≡ 0 →
+        Goal (Some (flight.Group (next_place die filled) tag.number tag.index))
         (Some (disk.Programming (next_place die filled) (GroupPage tag body)))
-    groups filled tag body fills first no_repair flies now new =
+    groups filled tag body fills no_repair flies now new =
         program_ends (λ out e.
-        IsFlightAfter c die b (Some (flight.Group (next_place die filled) tag.number)) out after →
+        IsFlightAfter c die b (Some (flight.Group (next_place die filled) tag.number tag.index)) out after →
         Kept after (end_flight t die (Some (disk.Programming (next_place die filled) (GroupPage tag body))) e))
         t.disk.cells (next_place die filled) (GroupPage tag body)
         (λ e. same _ _ (group_ends_well c t die b filled tag body h
-        (record { there = there; filling = fills; flies = flies; first = first; beside = no_repair })) e)
+        (record { there = there; filling = fills; flies = flies; beside = no_repair })) e)
         (λ left e. same _ _ (page_ends_wrong c t die b filled left h there fills) e) o ending now new
 
     erases : (block : ℕ) → block < t.numbers.blocks → b.filling ≡ None →
@@ -154,7 +154,7 @@ told_then : (c : Core) (t : Translation) (die : ℕ) (o : Outcome) (ending : End
 told_then c t die o ending r b h there is answer =
     flight_cases t.numbers c.step die b.filling Goal (λ flies now told. absurd (false≢true now.0)) reads contents lost
     (λ filled cell fills page flies now told. programs (next_place die filled) cell now told)
-    (λ filled tag body fills first no_repair flies now told.
+    (λ filled tag body fills no_repair flies now told.
     programs (next_place die filled) (GroupPage tag body) now told)
     (λ block within closed flies now told. (
       ended.Other,
@@ -169,9 +169,9 @@ told_then c t die o ending r b h there is answer =
     Goal f g = t.disk.flights die ≡ g → IsEndingOf t.disk.cells g o ending → FlightEnds c f o r →
         (e : Ended) × (r ≡ Some e) × IsTold t.disk.cells g ending e
 
-    reads : (place : Place) (tag : ℕ) →
-        Goal (Some (flight.Read place (readers.Task tag))) (Some (disk.Reading (ForTask tag 0) place))
-    reads place tag flies now told = task_told c t die tag place o ending r h flies now told
+    reads : (place : Place) (tag index : ℕ) →
+        Goal (Some (flight.Read place (readers.Task tag index))) (Some (disk.Reading (ForTask tag index) place))
+    reads place tag index flies now told = task_told c t die tag index place o ending r h flies now told
 
     contents : (place : Place) → Goal (Some (flight.Read place readers.Step)) (Some (disk.Reading ForStep place))
     contents place flies now told = step_told c t.disk.cells place o ending r now told
@@ -238,11 +238,12 @@ known_then : (c : Core) (t : Translation) (die : ℕ) (o : Outcome) (r : Option 
 known_then c t die o r b h there answer =
     flight_cases t.numbers c.step die b.filling (λ f g. FlightEnds c f o r → is_some r ≡ suits g o)
     (λ told. ap is_some told)
-    (λ place tag told. read_known c (readers.Task tag) r (is_read o) o told ∙ reads_suit (ForTask tag 0) place o)
+    (λ place tag index told.
+    read_known c (readers.Task tag index) r (is_read o) o told ∙ reads_suit (ForTask tag index) place o)
     (λ place told. read_known c readers.Step r (is_read o) o told ∙ reads_suit ForStep place o)
     (λ place told. read_known c readers.Nobody r (is_read o) o told ∙ reads_suit ForNobody place o)
     (λ filled cell fills page told. ap is_some told ∙ programs_suit (next_place die filled) cell o)
-    (λ filled tag body fills first no_repair told.
+    (λ filled tag body fills no_repair told.
     ap is_some told ∙ programs_suit (next_place die filled) (GroupPage tag body) o)
     (λ block within closed told. ap is_some told ∙ erases_suit (spot_at die block) o)
     b.flight (t.disk.flights die) (h.kept.dies.each die b there).job answer

@@ -8,7 +8,7 @@ use Rattle.ufs_spec.specs.declared.configs.Numbers.{Numbers}
 use Rattle.ufs_spec.specs.declared.flash.Fence.{Fence}
 use Rattle.ufs_spec.specs.declared.flash.Key.{Key}
 use Rattle.ufs_spec.specs.Disk as disk
-use Rattle.ufs_spec.specs.Disk.{Spot, at_place, state_behind}
+use Rattle.ufs_spec.specs.Disk.{at_place, state_behind}
 use Rattle.ufs_spec.specs.declared.flash.Place.{Place}
 use Rattle.ufs_spec.specs.Ledger.{Ledger, Name, before_accepted}
 use Rattle.ufs_spec.specs.Moves.{cell_failed, freed, mark_again}
@@ -140,17 +140,17 @@ module _ (c : Core) (t : Translation) (die : ℕ) (b : Book) (o : OpenBlock) (m 
   mark_parts : (x : disk.BlockState) (states : List BlockState) (f : Option OpenBlock) →
       BlocksKept t.numbers (blocks_with t die o.block x) states c.has_bad →
       IsFilling t.numbers (blocks_with t die o.block x) die f →
-      Kept (changed c states (books_with c die f) c.has_bad c.groups (ends.mending_behind c.mending) None c.next_mark)
+      Kept (changed c states (books_with c die f) c.has_bad c.pages (ends.mending_behind c.mending) None c.next_mark)
       (mark_stands t die o m x)
   mark_parts x states f bs fs =
-      kept_beside c t die o.block b x f states c.has_bad c.groups (ends.mending_behind c.mending) None c.next_mark
+      kept_beside c t die o.block b x f states c.has_bad c.pages (ends.mending_behind c.mending) None c.next_mark
       (at_place t.disk.cells (next_place die o) (MarkPage m))
       (at_place t.disk.finished (next_place die o) true) t.disk.erasing
       (record t.ledger { newest = Some m })
       (record t.work { mending = mending_behind t.work.mending; plan = None; step = None })
       h.kept there bs fs
       (fly_over t.ledger.standing t.disk.flights die h.kept.fly)
-      (ledger_marked c.numbers c.places c.groups c.frontier t.ledger (Some m) t.ledger.marks h.kept.ledger_kept)
+      (ledger_marked c.numbers c.places c.pages c.frontier c.last t.ledger (Some m) t.ledger.marks h.kept.ledger_kept)
       record {
         mending_is = ap mending_behind h.kept.work.mending_is ∙ mended_behind c.mending left;
         step_is = tt;
@@ -169,7 +169,7 @@ module _ (c : Core) (t : Translation) (die : ℕ) (b : Book) (o : OpenBlock) (m 
       (λ e. h.kept.readers (not_before t.work.mending e))
 
   mark_on : Kept (changed c c.states (books_with c die (Some (record { block = o.block; next = o.next + 1 })))
-      c.has_bad c.groups (ends.mending_behind c.mending) None c.next_mark)
+      c.has_bad c.pages (ends.mending_behind c.mending) None c.next_mark)
       (mark_stands t die o m (disk.Filling (o.next + 1)))
   mark_on = mark_parts (disk.Filling (o.next + 1)) c.states (Some (record { block = o.block; next = o.next + 1 }))
       (blocks_on t.numbers t.disk.blocks c.states c.has_bad (spot_at die o.block) o.next
@@ -177,7 +177,7 @@ module _ (c : Core) (t : Translation) (die : ℕ) (b : Book) (o : OpenBlock) (m 
       (filling_on t.numbers t.disk.blocks die o (o.next + 1) filling)
 
   mark_last : Kept (changed c (states_with c die o.block state.Closed)
-      (books_with c die None) c.has_bad c.groups (ends.mending_behind c.mending) None c.next_mark)
+      (books_with c die None) c.has_bad c.pages (ends.mending_behind c.mending) None c.next_mark)
       (mark_stands t die o m disk.Closed)
   mark_last = mark_parts disk.Closed (states_with c die o.block state.Closed) None
       (blocks_put c t die o.block disk.Closed h.kept (die_within c t die b h.kept there) filling.0
@@ -241,13 +241,13 @@ module _ (c : Core) (t : Translation) (die : ℕ) (b : Book) (o : OpenBlock) (m 
       (at_place t.disk.finished (next_place die o) false) t.disk.erasing
       (record t.ledger { marks = marks }) (record t.work { step = w }))
   fail_parts s next marks w no_repair same is numbered =
-      kept_beside c t die o.block b disk.Bad None (states_with c die o.block state.Bad) true c.groups c.mending s next
+      kept_beside c t die o.block b disk.Bad None (states_with c die o.block state.Bad) true c.pages c.mending s next
       cells (at_place t.disk.finished (next_place die o) false) t.disk.erasing
       (record t.ledger { marks = marks }) (record t.work { step = w })
       h.kept there (blocks_lost c t die o.block h.kept (die_within c t die b h.kept there) failed_filling.0)
       (filling_over t.numbers t.disk.blocks die o disk.Bad bad_fills failed_filling)
       (fly_over t.ledger.standing t.disk.flights die h.kept.fly)
-      (ledger_marked c.numbers c.places c.groups c.frontier t.ledger t.ledger.newest marks h.kept.ledger_kept)
+      (ledger_marked c.numbers c.places c.pages c.frontier c.last t.ledger t.ledger.newest marks h.kept.ledger_kept)
       record {
         mending_is = h.kept.work.mending_is;
         step_is = is;

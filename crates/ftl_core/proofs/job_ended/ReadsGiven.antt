@@ -5,11 +5,11 @@ use Rattle.std.proofs.lemmas.Option.{get_or_from_slice_get, slice_get_within}
 use Rattle.ufs_spec.proofs.Facts.{false≢true, key_is}
 use Rattle.ufs_spec.specs.Cells.{Cells, GroupPage, IsCell, Opens, key_of}
 use Rattle.ufs_spec.specs.Disk as disk
-use Rattle.ufs_spec.specs.Disk.{ForNobody, ForStep, ForTask, Reader, at_die}
+use Rattle.ufs_spec.specs.Disk.{ForNobody, ForStep, ForTask, Reader}
 use Rattle.ufs_spec.specs.Ledger.{Entry, Name, OnPage, entry_of}
 use Rattle.ufs_spec.specs.Moves.{Ending, IsAnother, IsEndingOf, ReadRight, ReadWrong, WentWell, WentWrong}
 use Rattle.ufs_spec.specs.Translation as layer
-use Rattle.ufs_spec.specs.Translation.{Translation, name_of}
+use Rattle.ufs_spec.specs.Translation.{Translation}
 use Rattle.ufs_spec.specs.declared.flash.Key.{Key}
 use Rattle.ufs_spec.specs.declared.flash.Outcome.{Outcome}
 use Rattle.ufs_spec.specs.declared.flash.Outcome.TheVariants as outcome
@@ -34,7 +34,7 @@ use Rattle.ftl_core.specs.Describes.{Describes, IsLookOf, IsLookedAt, IsTold, Is
 use Rattle.ftl_core.specs.Gives.{Gives, GivesIf, IsBodyLooked, IsBodyOf, IsGivenTo, is_read, names}
 use Rattle.ftl_core.proofs.pins.PinsAlike.{page_alike, pins_at}
 use Rattle.ftl_core.proofs.job_ended.ReadsEnded.{read_ends}
-use Rattle.ftl_core.proofs.pins.FoundPins.{found_at, found_there}
+use Rattle.ftl_core.proofs.pins.FoundPins.{found_there}
 use Rattle.ftl_core.specs.Moves.{is_pin_of}
 
 -- What is given
@@ -137,13 +137,13 @@ page_of_pin c t k x s h at looks =
     of_key = subst (IsLookOf t.ledger.frontier (entry_of t.ledger) x.key) name.1 r.2.there
 
 -- what its reader is told, who wants the page
-given_told : (cells : Cells) (reader : ℕ) (place : Place) (o : Outcome) (ending : Ending) (e : Ended) (x : Pin)
+given_told : (cells : Cells) (reader index : ℕ) (place : Place) (o : Outcome) (ending : Ending) (e : Ended) (x : Pin)
     (s : Stored) (given : Option (List ℕ)) →
     x.looked ≡ looked.Page s → IsPageOf cells place x.key s.number →
-    IsEndingOf cells (Some (disk.Reading (ForTask reader 0) place)) o ending →
+    IsEndingOf cells (Some (disk.Reading (ForTask reader index) place)) o ending →
     IsGivenTo o (Some x) given → e ≡ ended.Read reader given →
-    IsTold cells (Some (disk.Reading (ForTask reader 0) place)) ending e
-given_told cells reader place (outcome.Read page) ReadRight e x s given looks w is gives told = (
+    IsTold cells (Some (disk.Reading (ForTask reader index) place)) ending e
+given_told cells reader index place (outcome.Read page) ReadRight e x s given looks w is gives told = (
   w.tag,
   w.body,
   w.there,
@@ -151,46 +151,46 @@ given_told cells reader place (outcome.Read page) ReadRight e x s given looks w 
       (right_body page cells place x.key s.number given w is.1
       (subst (λ (l : Looked). IsBodyLooked page x.key l given) looks gives)),
 )
-given_told cells reader place (outcome.Read page) ReadWrong e x s given looks w is gives told =
+given_told cells reader index place (outcome.Read page) ReadWrong e x s given looks w is gives told =
     told ∙ ap (ended.Read reader)
     (wrong_body page cells place x.key s.number given w is.1
     (subst (λ (l : Looked). IsBodyLooked page x.key l given) looks gives))
-given_told cells reader place outcome.ReadFailed ReadWrong e x s given looks w is gives told = told
+given_told cells reader index place outcome.ReadFailed ReadWrong e x s given looks w is gives told = told
     ∙ ap (ended.Read reader) gives
-given_told cells reader place outcome.Done ending e x s given looks w is gives told = absurd (false≢true is.0)
-given_told cells reader place outcome.Failed ending e x s given looks w is gives told = absurd (false≢true is.0)
-given_told cells reader place o ending e x s given looks w is gives told = absurd is.1
+given_told cells reader index place outcome.Done ending e x s given looks w is gives told = absurd (false≢true is.0)
+given_told cells reader index place outcome.Failed ending e x s given looks w is gives told = absurd (false≢true is.0)
+given_told cells reader index place o ending e x s given looks w is gives told = absurd is.1
 
 read_is_over : (cells : Cells) (who : Reader) (place : Place) (o : Outcome) (ending : Ending) →
     IsEndingOf cells (Some (disk.Reading who place)) o ending → is_read o ≡ true
 read_is_over cells who place = read_ends (λ (d : Bool) (e : Ending). d ≡ true) cells who place refl refl
 
-pub task_told : (c : Core) (t : Translation) (die reader : ℕ) (place : Place) (o : Outcome) (ending : Ending)
+pub task_told : (c : Core) (t : Translation) (die reader index : ℕ) (place : Place) (o : Outcome) (ending : Ending)
     (r : Option Ended) → Describes c t →
-    t.disk.flights die ≡ Some (disk.Reading (ForTask reader 0) place) →
-    IsEndingOf t.disk.cells (Some (disk.Reading (ForTask reader 0) place)) o ending →
-    GivesIf (is_read o) c o (readers.Task reader) r →
-    (e : Ended) × (r ≡ Some e) × IsTold t.disk.cells (Some (disk.Reading (ForTask reader 0) place)) ending e
-task_told c t die reader place o ending r h flies is gives = (
+    t.disk.flights die ≡ Some (disk.Reading (ForTask reader index) place) →
+    IsEndingOf t.disk.cells (Some (disk.Reading (ForTask reader index) place)) o ending →
+    GivesIf (is_read o) c o (readers.Task reader index) r →
+    (e : Ended) × (r ≡ Some e) × IsTold t.disk.cells (Some (disk.Reading (ForTask reader index) place)) ending e
+task_told c t die reader index place o ending r h flies is gives = (
   given.0,
   given.1,
-  given_told t.disk.cells reader place o ending given.0 w.0 w.2.stored given.2.0 w.2.looks
+  given_told t.disk.cells reader index place o ending given.0 w.0 w.2.stored given.2.0 w.2.looks
       (subst (λ (p : Place). IsPageOf t.disk.cells p w.0.key w.2.stored.number) w.2.place_is
       (page_of_pin c t at.0 w.0 w.2.stored h at.1 w.2.looks))
       is
-      (subst (λ (p : Option Pin). IsGivenTo o p given.2.0) (sym (found_at (is_pin_of reader) c.pins) ∙ w.1) given.2.1)
+      (subst (λ (p : Option Pin). IsGivenTo o p given.2.0) w.1 given.2.1)
       given.2.2,
 )
   where
-    given : (e : Ended) × (r ≡ Some e) × Gives c o (readers.Task reader) e
-    given = subst (λ (z : Bool). GivesIf z c o (readers.Task reader) r)
-        (read_is_over t.disk.cells (ForTask reader 0) place o ending is) gives
+    given : (e : Ended) × (r ≡ Some e) × Gives c o (readers.Task reader index) e
+    given = subst (λ (z : Bool). GivesIf z c o (readers.Task reader index) r)
+        (read_is_over t.disk.cells (ForTask reader index) place o ending is) gives
 
-    w : (p : Pin) × (find (is_pin_of reader) c.pins ≡ Some p) × IsWanted place p
-    w = h.kept.reads die reader 0 place flies
+    w : (p : Pin) × (find (is_pin_of reader index) c.pins ≡ Some p) × IsWanted place p
+    w = h.kept.reads die reader index place flies
 
     at : (k : ℕ) × (slice_get c.pins k ≡ Some w.0)
-    at = found_there (is_pin_of reader) c.pins w.0 w.1
+    at = found_there (is_pin_of reader index) c.pins w.0 w.1
 
 -- a read for nobody or for the step under way tells nothing
 pub other_told : (c : Core) (cells : Cells) (who : Reader) (reader : kept.Reader) (place : Place) (o : Outcome)

@@ -1,29 +1,32 @@
 -- The repair that is the last group becomes durable: the frontier climbs over it alone, and what is kept of places is
 -- what the ledger has then.
-use Rattle.std.proofs.Common.{◌≡◌, ◌≢◌, ◌∙◌, ℕ, zero, suc, ◌+◌, ◌≤◌, Bool, true, List, [], ◌∷◌, Option}
-use Rattle.std.proofs.Common.{Some, length, drop, map, sym, ap, subst, ⊎_elim, arith}
+use Rattle.std.proofs.Common.{◌≡◌, ◌≢◌, ◌∙◌, ℕ, zero, suc, ◌≤◌, Bool, true, List, [], ◌∷◌, Option}
+use Rattle.std.proofs.Common.{Some, length, drop, map, refl, sym, ap, subst, ⊎_elim, arith}
 use Rattle.std.specs.Prelude.{◌-◌, ◌&&◌, slice_get}
 use Rattle.std.specs.List.{slice_index_or}
 use Rattle.ufs_spec.specs.Keys as keys
 use Rattle.ufs_spec.specs.Keys.{IsKey, Item}
-use Rattle.ufs_spec.specs.Ledger.{Entry, Ledger, Name, all_stand, climbed, latest_durable, name_or, pending}
+use Rattle.ufs_spec.specs.Ledger.{Entry, Ledger, Name, all_stand, climbed, entry_of, index_in, latest_durable}
+use Rattle.ufs_spec.specs.Ledger.{name_or}
 use Rattle.ufs_spec.specs.Plain.{shape_of_numbers}
 use Rattle.ufs_spec.specs.Translation as layer
 use Rattle.ufs_spec.specs.declared.flash.Key.{Key}
 use Rattle.power_loss.specs.Book.{Book, IsPageAt, last_number}
 use Rattle.power_loss.proofs.books.LastOfEachKey.{key_told}
-use Rattle.power_loss.proofs.books.PagesByName.{page_new, some_is}
+use Rattle.recovery.specs.KeysInOrder.{key_total}
+use Rattle.power_loss.proofs.books.PagesByName.{none_some, page_new, some_is}
 use Rattle.power_loss.proofs.books.SmallFacts.{if_true, two_ways}
-use Rattle.ftl_core.specs.declared.books.Group.{Group}
 use Rattle.ftl_core.specs.declared.books.Pin.{Pin}
 use Rattle.ftl_core.specs.declared.books.Stored.{Stored}
 use Rattle.ftl_core.specs.Core.{Core}
-use Rattle.ftl_core.specs.Describes.{AreToRepair, GroupsKept, IsStored, LedgerKept, PinsKept, Standing}
-use Rattle.ftl_core.specs.Ends.{places_noted}
+use Rattle.ftl_core.specs.Describes.{AreToRepair, IsStored, LedgerKept, PinsKept, Standing, names_pending}
+use Rattle.ftl_core.specs.Ends.{places_noted, risen}
 use Rattle.ftl_core.specs.Moves.{position_of, stored_of}
-use Rattle.ftl_core.proofs.group_settled.FrontLedger.{durable_next, index_other, noted_places, places_length}
-use Rattle.ftl_core.proofs.group_settled.FrontLedger.{stored_next}
-use Rattle.ftl_core.proofs.look_and_accept.Numbers.{behind, none_pending}
+use Rattle.ftl_core.proofs.group_settled.FrontLedger.{durable_next, index_other}
+use Rattle.ftl_core.proofs.group_settled.NotedPlaces.{places_length}
+use Rattle.ftl_core.proofs.group_settled.FrontPlaces.{stored_next}
+use Rattle.ftl_core.proofs.look_and_accept.Numbers.{behind}
+use Rattle.ftl_core.proofs.steps_ordered.NonePending.{no_names, none_kept}
 use Rattle.ftl_core.proofs.pins.PinsSettled.{at_frontier}
 
 -- The last group
@@ -63,13 +66,6 @@ climbs_one stands frontier x gs is there =
 
 -- What is kept
 
--- no group is kept where there is none
-pub groups_empty : (standing : Standing) (n : ℕ) (gs : List Group) (hs : List keys.Group) → length gs ≡ 0 →
-    length hs ≡ 0 → GroupsKept standing n gs hs
-groups_empty standing n [] [] none empty = tt
-groups_empty standing n [] (y ∷ hs) none empty = absurd (omega arith)
-groups_empty standing n (g ∷ gs) hs none empty = absurd (omega arith)
-
 -- where readers keep nothing, nothing is settled
 pub pins_empty : (frontier after : ℕ) (entries now : Name → Option Entry) (f : layer.Pin → layer.Pin) (ps : List Pin)
     (qs : List layer.Pin) → ps ≡ [] → PinsKept frontier entries ps qs → PinsKept after now ps (map f qs)
@@ -77,21 +73,47 @@ pins_empty frontier after entries now f [] [] none h = tt
 pins_empty frontier after entries now f [] (q ∷ qs) none h = absurd h
 pins_empty frontier after entries now f (p ∷ ps) qs none h = cc
 
+-- a repair has one item
+one_at : (x y : Item) (i : ℕ) → slice_get (x ∷ []) i ≡ Some y → (i ≡ 0) × (x ≡ y)
+one_at x y zero h = (refl, some_is x y h)
+one_at x y (suc i) h = absurd (none_some y h)
+
+-- the repaired key reads from its new page, and each other one from where it did, as behind a group of one page
+stored_repaired : (c : Core) (standing : Standing) (k j : Key) (s : Stored) (x : Item) (older : Option Name) (n : ℕ) →
+    x.key ≡ k → s.number ≡ n → standing n 0 ≡ Some s.place →
+    key_total (shape_of_numbers c.numbers) ≤ length c.places → IsKey (shape_of_numbers c.numbers) k →
+    IsKey (shape_of_numbers c.numbers) j → IsStored standing (stored_of c j) older →
+    IsStored standing (stored_of (record c { places = places_noted c.places s (position_of c.numbers k) }) j)
+    (name_or n (index_in j (x ∷ [])) older)
+stored_repaired c standing k j s x older n item number stands long isk isj h =
+    stored_next standing n
+    ((record { key = k; number = s.number; index = 0; size = 1; written = Some s.place; body = x.body }) ∷ []) (x ∷ [])
+    c j older
+    (record { number = number; index = refl; key = sym item; place = s.place; written = refl; stands = stands }, tt)
+    long
+    (λ i y at. subst (λ (z : Item). IsKey (shape_of_numbers c.numbers) z.key) (one_at x y i at).1
+    (subst (IsKey (shape_of_numbers c.numbers)) (sym item) isk))
+    (λ a b y z here there e. (one_at x y a here).0 ∙ sym (one_at x z b there).0) isj h
+
+-- the frontier climbs over a repair, which has the last number that was given
 pub ledger_repaired : (c : Core) (l : Ledger) (k : Key) (s : Stored) (x : Item) →
-    LedgerKept c.numbers c.places c.groups c.frontier l → l.greatest_seen ≤ l.frontier → l.repairs ≡ length l.groups →
-    length c.groups ≡ 0 → behind l ≡ (x ∷ []) ∷ [] → x.key ≡ k → IsKey (shape_of_numbers c.numbers) k →
-    s.number ≡ suc l.frontier → l.standing (suc l.frontier) 0 ≡ Some s.place →
-    LedgerKept c.numbers (places_noted c.places s (position_of c.numbers k)) c.groups (c.frontier + 1)
+    LedgerKept c.numbers c.places c.pages c.frontier c.last l → l.greatest_seen ≤ l.frontier →
+    l.repairs ≡ length l.groups →
+    c.pages ≡ [] → behind l ≡ (x ∷ []) ∷ [] → x.key ≡ k → IsKey (shape_of_numbers c.numbers) k →
+    risen c ≡ suc l.frontier → s.number ≡ suc l.frontier → l.standing (suc l.frontier) 0 ≡ Some s.place →
+    LedgerKept c.numbers (places_noted c.places s (position_of c.numbers k)) c.pages (risen c) c.last
     (at_frontier l (suc l.frontier))
-ledger_repaired c l k s x h low all none is item known number stands = record {
-  frontier = let e = h.frontier in omega arith;
-  groups = groups_empty l.standing (suc l.frontier) c.groups (pending (at_frontier l (suc l.frontier))) none
-      (none_pending (at_frontier l (suc l.frontier)) all);
+ledger_repaired c l k s x h low all none is item known up number stands = record {
+  frontier = up;
+  last_given = h.last_given;
+  pages = none_kept l.standing (entry_of l) c.pages (names_pending (at_frontier l (suc l.frontier))) none
+      (no_names (at_frontier l (suc l.frontier)) all);
   keys = let same = places_length c.places s (position_of c.numbers k) in let long = h.keys in
       omega (arith, same, long);
-  places = λ j isj. subst (λ (o : Option Name). IsStored l.standing (stored_of (noted_places c k s) j) o)
+  places = λ j isj. subst (λ (o : Option Name). IsStored l.standing
+      (stored_of (record c { places = places_noted c.places s (position_of c.numbers k) }) j) o)
       (sym (durable_next l (x ∷ []) [] j low is))
-      (stored_next c l.standing k j s x (latest_durable l j) l.frontier item number stands h.keys known isj
+      (stored_repaired c l.standing k j s x (latest_durable l j) (suc l.frontier) item number stands h.keys known isj
       (h.places j isj));
 }
 

@@ -5,7 +5,7 @@ use Rattle.std.specs.Prelude.{is_some, option_map, slice_get}
 use Rattle.ufs_spec.proofs.Facts.{false≢true}
 use Rattle.ufs_spec.specs.Cells.{GroupPage}
 use Rattle.ufs_spec.specs.Disk as disk
-use Rattle.ufs_spec.specs.Disk.{Spot, at_die, at_place, at_spot, programmed, state_behind}
+use Rattle.ufs_spec.specs.Disk.{at_place, at_spot, programmed, state_behind}
 use Rattle.ufs_spec.specs.Keys.{IsKey, Item}
 use Rattle.ufs_spec.specs.Ledger.{Ledger, Name, climbed, entry_of, is_standing}
 use Rattle.ufs_spec.specs.Moves as moves
@@ -30,7 +30,7 @@ use Rattle.ftl_core.specs.declared.books.Stored.{Stored}
 use Rattle.ftl_core.specs.Core.{Core}
 use Rattle.ftl_core.specs.Describes.{AreToRepair, BlocksKept, Describes, IsFilling, IsStepCell, Kept, LedgerKept}
 use Rattle.ftl_core.specs.Describes.{RepairKept, StepKept, keys_to_repair, name_at, spot_at}
-use Rattle.ftl_core.specs.Ends.{noted, repair_over}
+use Rattle.ftl_core.specs.Ends.{noted, repair_over, risen}
 use Rattle.ftl_core.specs.Moves.{page_written, stored_in}
 use Rattle.ftl_core.specs.Takes.{next_place}
 use Rattle.ftl_core.proofs.group_settled.FrontDurable.{climbed_of, raised_to}
@@ -39,12 +39,14 @@ use Rattle.ftl_core.proofs.group_settled.PageWritten.{with_group_page}
 use Rattle.ftl_core.proofs.job_ended.ChangeParts.{blocks_on, blocks_put, books_with, changed, closed_fills}
 use Rattle.ftl_core.proofs.job_ended.ChangeParts.{filling_kept, kept_beside, page_ends, states_with}
 use Rattle.ftl_core.proofs.job_ended.JobsOver.{filling_on, filling_over}
-use Rattle.ftl_core.proofs.job_ended.RepairLedger.{climbs_one, groups_empty, last_alone, ledger_repaired, pins_empty}
+use Rattle.ftl_core.proofs.job_ended.RepairLedger.{climbs_one, last_alone, ledger_repaired, pins_empty}
 use Rattle.ftl_core.proofs.job_ended.RepairLedger.{repaired_left}
 use Rattle.ftl_core.proofs.job_ended.StepsOver.{none_reads, suits_next}
 use Rattle.ftl_core.proofs.job_taken.Flown.{die_within}
-use Rattle.ftl_core.proofs.look_and_accept.Numbers.{behind, none_pending, none_unmended}
+use Rattle.ftl_core.proofs.job_taken.Mended.{none_waiting}
+use Rattle.ftl_core.proofs.look_and_accept.Numbers.{behind}
 use Rattle.ftl_core.proofs.pins.PinsSettled.{at_frontier}
+use Rattle.ftl_core.proofs.steps_ordered.NonePending.{no_names, none_kept}
 
 -- The repair that is under way
 
@@ -54,7 +56,7 @@ repair_step name from there = record { kind = RepairStep name from; there = ther
 -- it is the step under way of the layer too
 pub record IsRepairOf (l : Ledger) (n : ℕ) (k : Key) (from : Option Stored) (there : Bool) (content : List ℕ)
     (w : Option layer.Step) : Type 0 where
-  pub step : w ≡ Some (repair_step (name_at n) (option_map (λ (at : Stored). at.place) from) there)
+  pub step : w ≡ Some (repair_step (name_at n 0) (option_map (λ (at : Stored). at.place) from) there)
   pub right : RepairKept l n k from there content
 
 pub repair_of : (l : Ledger) (n : ℕ) (k : Key) (from : Option Stored) (there : Bool) (content : List ℕ)
@@ -113,19 +115,19 @@ module _ (c : Core) (t : Translation) (die : ℕ) (b : Book) (o : OpenBlock) (ta
       (subst (λ (z : Option Step). StepKept t.ledger z c.content t.work.step) step h.kept.work.step_is)
 
   not_mended : is_mended t.work.mending ≡ false
-  not_mended = unmended t (name_at n) _ true h.valid repair.step
+  not_mended = unmended t (name_at n 0) _ true h.valid repair.step
 
   cell : (tag.number ≡ n) × (tag.index ≡ 0)
   cell = let p = subst (λ (z : Option Step). IsStepCell z (GroupPage tag body)) step page in (p.0, p.1)
 
-  same_name : name ≡ name_at n
-  same_name = name_is name (name_at n) cell.0 cell.1
+  same_name : name ≡ name_at n 0
+  same_name = name_is name (name_at n 0) cell.0 cell.1
 
   flown : flies_name name (t.disk.flights die) ≡ true
   flown = ap (flies_name name) flies ∙ name_self name
 
-  no_groups : length c.groups ≡ 0
-  no_groups = none_unmended c t h not_mended
+  no_pages : c.pages ≡ []
+  no_pages = none_waiting c t h not_mended
 
   all_repairs : t.ledger.repairs ≡ length t.ledger.groups
   all_repairs = (h.valid.history.mending not_mended).0
@@ -137,10 +139,11 @@ module _ (c : Core) (t : Translation) (die : ℕ) (b : Book) (o : OpenBlock) (ta
   to_repair = subst (λ (z : Option Step). AreToRepair t.ledger (keys_to_repair z left)) step
       (h.kept.work.to_repair not_mended)
 
-  ledger_stands : LedgerKept c.numbers c.places c.groups c.frontier (with_page t.ledger name place)
+  ledger_stands : LedgerKept c.numbers c.places c.pages c.frontier c.last (with_page t.ledger name place)
   ledger_stands = record {
     frontier = h.kept.ledger_kept.frontier;
-    groups = groups_empty _ t.ledger.frontier c.groups _ no_groups (none_pending t.ledger all_repairs);
+    last_given = h.kept.ledger_kept.last_given;
+    pages = none_kept _ _ c.pages _ no_pages (no_names (with_page t.ledger name place) all_repairs);
     keys = h.kept.ledger_kept.keys;
     places = λ j isj. stored_on t.ledger.standing name place (h.kept.fly.new die name flown)
         (stored_in c.numbers c.places j) _ (h.kept.ledger_kept.places j isj);
@@ -150,17 +153,17 @@ module _ (c : Core) (t : Translation) (die : ℕ) (b : Book) (o : OpenBlock) (ta
   page_stands : (x : disk.BlockState) (states : List BlockState) (f : Option OpenBlock) →
       BlocksKept t.numbers (at_spot t.disk.blocks (spot_at die o.block) x) states c.has_bad →
       IsFilling t.numbers (at_spot t.disk.blocks (spot_at die o.block) x) die f →
-      Kept (changed c states (books_with c die f) c.has_bad c.groups c.mending None c.next_mark)
+      Kept (changed c states (books_with c die f) c.has_bad c.pages c.mending None c.next_mark)
       (repair_written t die o tag body x)
   page_stands x states f bs fs =
-      kept_beside c t die o.block b x f states c.has_bad c.groups c.mending None c.next_mark
+      kept_beside c t die o.block b x f states c.has_bad c.pages c.mending None c.next_mark
       (at_place t.disk.cells place (GroupPage tag body)) (at_place t.disk.finished place true) t.disk.erasing
       (with_page t.ledger name place) (record t.work { step = step_behind name t.work.step })
       h.kept there bs fs (fly_written t.ledger.standing t.disk.flights die name place h.kept.fly flown) ledger_stands
       record {
         mending_is = h.kept.work.mending_is;
         step_is = subst (StepKept (with_page t.ledger name place) None c.content)
-            (sym (ends_with_page name (name_at n) _ t.work.step same_name repair.step)) tt;
+            (sym (ends_with_page name (name_at n 0) _ t.work.step same_name repair.step)) tt;
         to_repair = λ e. record {
           differ = λ i j d less within. to_repair.differ (suc i) (suc j) d (omega arith) (omega arith);
           unrepaired = λ i d within. to_repair.unrepaired (suc i) d (omega arith);
@@ -188,29 +191,31 @@ module _ (c : Core) (t : Translation) (die : ℕ) (b : Book) (o : OpenBlock) (ta
       (key_known t n k from true c.content h.valid repair.right)
 
   abbrev stored : Stored
-  stored = record { place = place; number = c.frontier + 1 }
+  stored = record { place = place; number = risen c }
 
-  number : stored.number ≡ suc t.ledger.frontier
-  number = let e = h.kept.ledger_kept.frontier in omega arith
+  -- it has the last number that was given
+  number : risen c ≡ suc t.ledger.frontier
+  number = let e = h.kept.ledger_kept.frontier in let given = h.kept.ledger_kept.last_given in
+      let next = repair.right.next in let last = repair.right.last in omega arith
 
   stands : (with_page t.ledger name place).standing (suc t.ledger.frontier) 0 ≡ Some place
-  stands = at_here t.ledger.standing name (name_at (suc t.ledger.frontier)) place
-      (ap name_at (sym repair.right.next) ∙ sym same_name)
+  stands = at_here t.ledger.standing name (name_at (suc t.ledger.frontier) 0) place
+      (ap (λ (m : ℕ). name_at m 0) (sym repair.right.next) ∙ sym same_name)
 
   page_durable : (x : disk.BlockState) (states : List BlockState) (f : Option OpenBlock) →
-      Kept (changed c states (books_with c die f) c.has_bad c.groups c.mending None c.next_mark)
+      Kept (changed c states (books_with c die f) c.has_bad c.pages c.mending None c.next_mark)
       (repair_written t die o tag body x) →
-      Kept (noted (record (changed c states (books_with c die f) c.has_bad c.groups c.mending None c.next_mark) {
-        frontier = c.frontier + 1;
+      Kept (noted (record (changed c states (books_with c die f) c.has_bad c.pages c.mending None c.next_mark) {
+        frontier = risen c;
       }) k stored) (raised_to (repair_written t die o tag body x) (suc t.ledger.frontier))
   page_durable x states f k0 = record {
     numbers = k0.numbers;
     blocks = k0.blocks;
     dies = k0.dies;
     fly = k0.fly;
-    ledger_kept = ledger_repaired (changed c states (books_with c die f) c.has_bad c.groups c.mending None c.next_mark)
-        (with_page t.ledger name place) k stored item k0.ledger_kept low all_repairs no_groups alone refl known number
-        stands;
+    ledger_kept = ledger_repaired (changed c states (books_with c die f) c.has_bad c.pages c.mending None c.next_mark)
+        (with_page t.ledger name place) k stored item k0.ledger_kept low all_repairs no_pages alone refl known number
+        number stands;
     work = record {
       mending_is = k0.work.mending_is;
       step_is = k0.work.step_is;

@@ -6,7 +6,7 @@ use Rattle.ufs_spec.specs.Cells.{Cell, GroupPage, Mark, MarkPage}
 use Rattle.ufs_spec.specs.declared.configs.Numbers.{Numbers}
 use Rattle.ufs_spec.specs.declared.flash.Place.{Place}
 use Rattle.ufs_spec.specs.Disk as disk
-use Rattle.ufs_spec.specs.Disk.{ForStep, at_die}
+use Rattle.ufs_spec.specs.Disk.{at_die}
 use Rattle.ufs_spec.specs.Ledger.{Name}
 use Rattle.ufs_spec.specs.Translation.{Translation, flies_name, name_of}
 use Rattle.power_loss.proofs.books.SmallFacts.{at_die_cases, name_is, name_self}
@@ -32,7 +32,7 @@ flight_suits n step after die filling None None cells none h = tt
 flight_suits n step after die filling (Some (flight.Read place reader)) (Some (disk.Reading who p)) cells none h = h
 flight_suits n step after die filling (Some (flight.Step place)) (Some (disk.Programming p cell)) cells none h =
     (h.0, h.1, cells p cell refl h.2)
-flight_suits n step after die filling (Some (flight.Group place number))
+flight_suits n step after die filling (Some (flight.Group place number i))
     (Some (disk.Programming p (GroupPage tag body))) cells none h = (h.0, h.1, h.2, h.3, none h.4)
 flight_suits n step after die filling (Some (flight.Erase block)) (Some (disk.Erasing s)) cells none h = h
 flight_suits n step after die filling f g cells none h = absurd h

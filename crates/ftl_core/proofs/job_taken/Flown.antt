@@ -1,7 +1,7 @@
 -- Jobs in flight: what the books say of them is what the definitions say, and one die's job changes.
 use Rattle.std.proofs.Common.{◌≡◌, ◌≢◌, ◌∙◌, ◌⊎◌, ℕ, zero, suc, ◌<◌, ◌≤◌, Bool, true, false, List, [], ◌∷◌, Option}
 use Rattle.std.proofs.Common.{Some, None, refl, sym, ap, subst, inl, inr, ⊎_elim, arith}
-use Rattle.std.specs.Prelude.{◌||◌, ◌&&◌, ◌==◌, slice_get, slice_set}
+use Rattle.std.specs.Prelude.{◌||◌, slice_get, slice_set}
 use Rattle.std.specs.List.{list_any}
 use Rattle.std.proofs.lemmas.Bool.{cases_lt}
 use Rattle.std.proofs.lemmas.List.Folds.{list_any-append}
@@ -34,7 +34,7 @@ use Rattle.ftl_core.specs.Core.{Core}
 use Rattle.ftl_core.specs.Describes.{BookKept, DiesKept, IsFilling, IsFlight, IsStepCell, Kept, PagesFly, ReadsKept}
 use Rattle.ftl_core.specs.Describes.{Standing, StepReadsKept, name_at, spot_at}
 use Rattle.ftl_core.specs.Moves.{flight_reads, reads_for, repairs_in}
-use Rattle.ftl_core.specs.Takes.{flight_writes, is_step_flight, is_step_reading, next_place, reads_step, writes_group}
+use Rattle.ftl_core.specs.Takes.{flight_writes, is_step_flight, is_step_reading, next_place, reads_step, writes_page}
 use Rattle.ftl_core.specs.Takes.{writes_step}
 use Rattle.ftl_core.proofs.opened.ListParts.{get_set}
 use Rattle.ufs_spec.proofs.Lists.{set_length, any_here, any_told, get_there}
@@ -92,23 +92,23 @@ none_flies n flights is idle above none e = ⊎_elim low (λ l. ap is (above e l
 module _ (n : Numbers) (step : Option Step) (die : ℕ) (filling : Option OpenBlock)
     (P : Option Flight → Option disk.Flight → Type 0)
     (none : P None None)
-    (reads : (place : Place) (tag : ℕ) →
-    P (Some (flight.Read place (reader.Task tag))) (Some (disk.Reading (ForTask tag 0) place)))
+    (reads : (place : Place) (tag index : ℕ) →
+    P (Some (flight.Read place (reader.Task tag index))) (Some (disk.Reading (ForTask tag index) place)))
     (reads_on : (place : Place) → P (Some (flight.Read place reader.Step)) (Some (disk.Reading ForStep place)))
     (gone : (place : Place) → P (Some (flight.Read place reader.Nobody)) (Some (disk.Reading ForNobody place)))
     (pages : (o : OpenBlock) (cell : Cell) → filling ≡ Some o → IsStepCell step cell →
     P (Some (flight.Step (next_place die o))) (Some (disk.Programming (next_place die o) cell)))
-    (groups : (o : OpenBlock) (tag : Tag) (body : List ℕ) → filling ≡ Some o → tag.index ≡ 0 → repairs_in step ≡ 0 →
-    P (Some (flight.Group (next_place die o) tag.number))
+    (groups : (o : OpenBlock) (tag : Tag) (body : List ℕ) → filling ≡ Some o → repairs_in step ≡ 0 →
+    P (Some (flight.Group (next_place die o) tag.number tag.index))
     (Some (disk.Programming (next_place die o) (GroupPage tag body))))
     (erases : (block : ℕ) → block < n.blocks → filling ≡ None →
     P (Some (flight.Erase block)) (Some (disk.Erasing (spot_at die block)))) where
   pub flight_cases : (f : Option Flight) (g : Option disk.Flight) → IsFlight n step die filling f g → P f g
   flight_cases None None h = none
-  flight_cases (Some (flight.Read place (reader.Task r))) (Some (disk.Reading (ForTask tag index) p)) h =
+  flight_cases (Some (flight.Read place (reader.Task r n))) (Some (disk.Reading (ForTask tag index) p)) h =
       subst (λ (z : Place × ℕ × ℕ).
-      P (Some (flight.Read place (reader.Task r))) (Some (disk.Reading (ForTask z.1 z.2) z.0)))
-      (λ i. (sym h.0 i, sym h.1.0 i, sym h.1.1 i)) (reads place r)
+      P (Some (flight.Read place (reader.Task r n))) (Some (disk.Reading (ForTask z.1 z.2) z.0)))
+      (λ i. (sym h.0 i, sym h.1.0 i, sym h.1.1 i)) (reads place r n)
   flight_cases (Some (flight.Read place reader.Step)) (Some (disk.Reading ForStep p)) h =
       subst (λ (z : Place). P (Some (flight.Read place reader.Step)) (Some (disk.Reading ForStep z))) (sym h.0)
       (reads_on place)
@@ -119,10 +119,10 @@ module _ (n : Numbers) (step : Option Step) (die : ℕ) (filling : Option OpenBl
   flight_cases (Some (flight.Step place)) (Some (disk.Programming p cell)) h =
       subst (λ (z : Place × Place). P (Some (flight.Step z.0)) (Some (disk.Programming z.1 cell)))
       (λ i. (h.1.2 i, (h.1.2 ∙ sym h.0) i)) (pages h.1.0 cell h.1.1 h.2)
-  flight_cases (Some (flight.Group place number)) (Some (disk.Programming p (GroupPage tag body))) h =
-      subst (λ (z : Place × ℕ × Place). P (Some (flight.Group z.0 z.1))
-      (Some (disk.Programming z.2 (GroupPage tag body))))
-      (λ i. (h.1.2 i, h.2 i, (h.1.2 ∙ sym h.0) i)) (groups h.1.0 tag body h.1.1 h.3 h.4)
+  flight_cases (Some (flight.Group place number n)) (Some (disk.Programming p (GroupPage tag body))) h =
+      subst (λ (z : Place × ℕ × ℕ × Place). P (Some (flight.Group z.0 z.1 z.2))
+      (Some (disk.Programming z.3 (GroupPage tag body))))
+      (λ i. (h.1.2 i, h.2 i, h.3 i, (h.1.2 ∙ sym h.0) i)) (groups h.1.0 tag body h.1.1 h.4)
   flight_cases (Some (flight.Erase block)) (Some (disk.Erasing s)) h =
       subst (λ (z : Spot). P (Some (flight.Erase block)) (Some (disk.Erasing z))) (sym h.0) (erases block h.1 h.2)
   flight_cases f g h = absurd h
@@ -157,18 +157,15 @@ books_agree c t kept is k same = same_tests (list_any kept c.books) (some_flight
         let b = get_there c.books r.0 (omega (arith, w, d)) in
         any_here kept c.books r.0 b.0 b.1 (same r.0 b.0 (k.dies.each r.0 b.0 b.1).job ∙ r.2)
 
-and_true_right : (b : Bool) → b ≡ (b && true)
-and_true_right true = refl
-and_true_right false = refl
-
--- whether a die reads for the reader
-pub reads_agree : (c : Core) (t : Translation) (reader : ℕ) → Kept c t →
-    list_any (reads_for reader) c.books ≡ some_flight t (flies_reader (ForTask reader 0))
-reads_agree c t reader k = books_agree c t (reads_for reader) (flies_reader (ForTask reader 0)) k
+-- whether a die reads for this block of the reader
+pub reads_agree : (c : Core) (t : Translation) (reader index : ℕ) → Kept c t →
+    list_any (reads_for reader index) c.books ≡ some_flight t (flies_reader (ForTask reader index))
+reads_agree c t reader index k = books_agree c t (reads_for reader index) (flies_reader (ForTask reader index)) k
     (λ die b h. flight_cases t.numbers c.step die b.filling
-    (λ (f : Option Flight) (g : Option disk.Flight). flight_reads reader f ≡ flies_reader (ForTask reader 0) g)
-    refl (λ place tag. and_true_right (reader == tag)) (λ place. refl) (λ place. refl) (λ o cell fills page. refl)
-    (λ o tag body fills first no_repair. refl) (λ block within none. refl) b.flight (t.disk.flights die) h)
+    (λ (f : Option Flight) (g : Option disk.Flight).
+    flight_reads reader index f ≡ flies_reader (ForTask reader index) g)
+    refl (λ place tag i. refl) (λ place. refl) (λ place. refl) (λ o cell fills page. refl)
+    (λ o tag body fills no_repair. refl) (λ block within none. refl) b.flight (t.disk.flights die) h)
 
 -- whether a die reads for the step under way
 pub step_reads_agree : (c : Core) (t : Translation) → Kept c t →
@@ -176,8 +173,8 @@ pub step_reads_agree : (c : Core) (t : Translation) → Kept c t →
 step_reads_agree c t k = books_agree c t reads_step (flies_reader ForStep) k
     (λ die b h. flight_cases t.numbers c.step die b.filling
     (λ (f : Option Flight) (g : Option disk.Flight). is_step_reading f ≡ flies_reader ForStep g)
-    refl (λ place tag. refl) (λ place. refl) (λ place. refl) (λ o cell fills page. refl)
-    (λ o tag body fills first no_repair. refl) (λ block within none. refl) b.flight (t.disk.flights die) h)
+    refl (λ place tag i. refl) (λ place. refl) (λ place. refl) (λ o cell fills page. refl)
+    (λ o tag body fills no_repair. refl) (λ block within none. refl) b.flight (t.disk.flights die) h)
 
 -- the page of a mark is of no name
 no_name : (step : Option Step) (name : Name) (place : Place) (cell : Cell) → repairs_in step ≡ 0 →
@@ -186,16 +183,15 @@ no_name (Some (steps.Mark n fence)) name place (MarkPage m) none page = refl
 no_name (Some (steps.Repair n k from there)) name place cell none page = absurd (omega arith)
 no_name step name place cell none page = absurd page
 
--- whether a die writes the page of the group with this number
-pub writes_agree : (c : Core) (t : Translation) (number : ℕ) → Kept c t → repairs_in c.step ≡ 0 →
-    list_any (writes_group number) c.books ≡ some_flight t (flies_name (name_at number))
-writes_agree c t number k no_repairs = books_agree c t (writes_group number) (flies_name (name_at number)) k
+-- whether a die writes the page of the group with this number that has this index
+pub writes_agree : (c : Core) (t : Translation) (name : Name) → Kept c t → repairs_in c.step ≡ 0 →
+    list_any (writes_page name.number name.index) c.books ≡ some_flight t (flies_name name)
+writes_agree c t name k no_repairs = books_agree c t (writes_page name.number name.index) (flies_name name) k
     (λ die b h. flight_cases t.numbers c.step die b.filling
-    (λ (f : Option Flight) (g : Option disk.Flight). flight_writes number f ≡ flies_name (name_at number) g)
-    refl (λ place tag. refl) (λ place. refl) (λ place. refl)
-    (λ o cell fills page. no_name c.step (name_at number) (next_place die o) cell no_repairs page)
-    (λ o tag body fills first no_repair.
-    and_true_right (number == tag.number) ∙ ap (λ (i : ℕ). (number == tag.number) && (0 == i)) (sym first))
+    (λ (f : Option Flight) (g : Option disk.Flight). flight_writes name.number name.index f ≡ flies_name name g)
+    refl (λ place tag i. refl) (λ place. refl) (λ place. refl)
+    (λ o cell fills page. no_name c.step name (next_place die o) cell no_repairs page)
+    (λ o tag body fills no_repair. refl)
     (λ block within none. refl) b.flight (t.disk.flights die) h)
 
 -- a page of the step under way that is a mark
@@ -210,30 +206,30 @@ pub marks_agree : (c : Core) (t : Translation) (number : ℕ) (fence : Option Fe
 marks_agree c t number fence k is = books_agree c t writes_step flies_mark k
     (λ die b h. flight_cases t.numbers (Some (steps.Mark number fence)) die b.filling
     (λ (f : Option Flight) (g : Option disk.Flight). is_step_flight f ≡ flies_mark g)
-    refl (λ place tag. refl) (λ place. refl) (λ place. refl)
+    refl (λ place tag i. refl) (λ place. refl) (λ place. refl)
     (λ o cell fills page. mark_page number fence (next_place die o) cell page)
-    (λ o tag body fills first no_repair. refl) (λ block within none. refl) b.flight (t.disk.flights die)
+    (λ o tag body fills no_repair. refl) (λ block within none. refl) b.flight (t.disk.flights die)
     (subst (λ (s : Option Step). IsFlight t.numbers s die b.filling b.flight (t.disk.flights die)) is h))
 
 -- a page of the step under way that is a repair
 repair_page : (number : ℕ) (key : Key) (from : Option Stored) (there : Bool) (place : Place) (cell : Cell) →
     IsStepCell (Some (steps.Repair number key from there)) cell →
-    true ≡ flies_name (name_at number) (Some (disk.Programming place cell))
+    true ≡ flies_name (name_at number 0) (Some (disk.Programming place cell))
 repair_page number key from there place (GroupPage tag body) page =
-    sym (name_self (name_at number))
-    ∙ ap (same_name (name_at number)) (name_is (name_at number) (name_of tag) (sym page.0) (sym page.1))
+    sym (name_self (name_at number 0))
+    ∙ ap (same_name (name_at number 0)) (name_is (name_at number 0) (name_of tag) (sym page.0) (sym page.1))
 repair_page number key from there place cell page = absurd page
 
 -- whether a die writes the page of the repair that is the step under way
 pub repairs_agree : (c : Core) (t : Translation) (number : ℕ) (key : Key) (from : Option Stored) (there : Bool) →
     Kept c t → c.step ≡ Some (steps.Repair number key from there) →
-    list_any writes_step c.books ≡ some_flight t (flies_name (name_at number))
-repairs_agree c t number key from there k is = books_agree c t writes_step (flies_name (name_at number)) k
+    list_any writes_step c.books ≡ some_flight t (flies_name (name_at number 0))
+repairs_agree c t number key from there k is = books_agree c t writes_step (flies_name (name_at number 0)) k
     (λ die b h. flight_cases t.numbers (Some (steps.Repair number key from there)) die b.filling
-    (λ (f : Option Flight) (g : Option disk.Flight). is_step_flight f ≡ flies_name (name_at number) g)
-    refl (λ place tag. refl) (λ place. refl) (λ place. refl)
+    (λ (f : Option Flight) (g : Option disk.Flight). is_step_flight f ≡ flies_name (name_at number 0) g)
+    refl (λ place tag i. refl) (λ place. refl) (λ place. refl)
     (λ o cell fills page. repair_page number key from there (next_place die o) cell page)
-    (λ o tag body fills first no_repair. absurd (omega (arith, no_repair))) (λ block within none. refl)
+    (λ o tag body fills no_repair. absurd (omega (arith, no_repair))) (λ block within none. refl)
     b.flight (t.disk.flights die)
     (subst (λ (s : Option Step). IsFlight t.numbers s die b.filling b.flight (t.disk.flights die)) is h))
 

@@ -1,20 +1,21 @@
--- Until the device is mended no group is accepted, and once it is no repair is under way.
-use Rattle.std.proofs.Common.{◌≡◌, ◌∙◌, ℕ, zero, suc, ◌-◌, ◌<◌, true, false, List, [], ◌∷◌, Option, Some}
-use Rattle.std.proofs.Common.{None, length, drop, refl, sym, ap, subst, ⊎_elim, arith}
+-- Until the device is mended no group is accepted and no page is pending, and once it is no repair is under way.
+use Rattle.std.proofs.Common.{◌≡◌, ◌∙◌, ℕ, zero, suc, ◌-◌, Bool, true, false, List, [], ◌∷◌, Option, Some, None, drop}
+use Rattle.std.proofs.Common.{find, refl, sym, ap, subst, ⊎_elim}
 use Rattle.std.proofs.Math.Seq.{drop-length}
 use Rattle.ufs_spec.proofs.Facts.{false≢true}
 use Rattle.ufs_spec.specs.Keys as keys
-use Rattle.ufs_spec.specs.Ledger.{accepted_groups, before_accepted}
+use Rattle.ufs_spec.specs.Ledger.{Entry, Name, accepted_groups, before_accepted, entry_of}
 use Rattle.ufs_spec.specs.Translation as layer
-use Rattle.ufs_spec.specs.Translation.{Translation, is_mended}
+use Rattle.ufs_spec.specs.Translation.{Translation, is_mended, names_behind}
 use Rattle.power_loss.specs.Book.{book}
 use Rattle.power_loss.specs.Invariant.{StepKindRight, Valid}
+use Rattle.power_loss.proofs.books.PagesByName.{none_some}
 use Rattle.power_loss.proofs.books.SmallFacts.{two_ways}
-use Rattle.ftl_core.specs.declared.books.Group.{Group}
+use Rattle.ftl_core.specs.declared.books.Pending.{Pending}
 use Rattle.ftl_core.specs.declared.books.Step.{Step}
 use Rattle.ftl_core.specs.declared.books.Step.TheVariants as steps
 use Rattle.ftl_core.specs.Core.{Core}
-use Rattle.ftl_core.specs.Describes.{Describes, GroupsKept, Standing, StepKept}
+use Rattle.ftl_core.specs.Describes.{Describes, PagesKept, Standing, StepKept}
 use Rattle.ftl_core.specs.Moves.{repairs_in}
 
 -- until the device is mended no group is accepted
@@ -26,23 +27,26 @@ drop_nothing : {A : Type 0} (n : ℕ) → drop {A = A} n [] ≡ []
 drop_nothing zero = refl
 drop_nothing (suc n) = refl
 
-no_groups : (standing : Standing) (n : ℕ) (gs : List Group) → GroupsKept standing n gs [] → gs ≡ []
-no_groups standing n [] h = refl
-no_groups standing n (g ∷ gs) h = absurd h
+no_pages : (standing : Standing) (entries : Name → Option Entry) (ps : List Pending) →
+    PagesKept standing entries ps [] → ps ≡ []
+no_pages standing entries [] h = refl
+no_pages standing entries (p ∷ ps) h = absurd h
 
--- and none is pending
-pub none_waiting : (c : Core) (t : Translation) → Describes c t → is_mended t.work.mending ≡ false → c.groups ≡ []
+-- and no page is pending
+pub none_waiting : (c : Core) (t : Translation) → Describes c t → is_mended t.work.mending ≡ false → c.pages ≡ []
 none_waiting c t h unmended =
-    no_groups t.ledger.standing t.ledger.frontier c.groups
-    (subst (λ (hs : List keys.Group). GroupsKept t.ledger.standing t.ledger.frontier c.groups hs)
+    no_pages t.ledger.standing (entry_of t.ledger) c.pages
+    (subst (λ (gs : List keys.Group).
+    PagesKept t.ledger.standing (entry_of t.ledger) c.pages (names_behind t.ledger.frontier gs))
     (ap (drop (t.ledger.frontier - before_accepted t.ledger)) (none_accepted t h.valid unmended)
-    ∙ drop_nothing (t.ledger.frontier - before_accepted t.ledger)) h.kept.ledger_kept.groups)
+    ∙ drop_nothing (t.ledger.frontier - before_accepted t.ledger)) h.kept.ledger_kept.pages)
 
--- where a group is pending, the device is mended
-pub mended_with : (c : Core) (t : Translation) → Describes c t → 0 < length c.groups → is_mended t.work.mending ≡ true
-mended_with c t h some = ⊎_elim
+-- where a page is pending, the device is mended
+pub mended_with : (c : Core) (t : Translation) (test : Pending → Bool) (p : Pending) → Describes c t →
+    find test c.pages ≡ Some p → is_mended t.work.mending ≡ true
+mended_with c t test p h found = ⊎_elim
     (λ mended. mended)
-    (λ unmended. let none = ap (λ (gs : List Group). length gs) (none_waiting c t h unmended) in absurd (omega arith))
+    (λ unmended. absurd (none_some p (sym (ap (find test) (none_waiting c t h unmended)) ∙ found)))
     (two_ways (is_mended t.work.mending))
 
 -- a device that is mended repairs nothing

@@ -1,7 +1,7 @@
 -- The block of a die that is erased next.
 use Rattle.std.proofs.Common.{◌≡◌, ◌∙◌, ℕ, zero, suc, ◌+◌, ◌*◌, ◌<◌, ◌&&◌, not, Bool, true, false, Option, Some, None}
 use Rattle.std.proofs.Common.{length, slice_get, count_by, option_map, refl, sym, ap, arith}
-use Rattle.std.specs.Prelude.{if◌then◌else◌, nat_lt, unwrap_or}
+use Rattle.std.specs.Prelude.{nat_lt, unwrap_or}
 use Rattle.ufs_spec.specs.Disk as disk
 use Rattle.ufs_spec.specs.Disk.{Spot}
 use Rattle.ufs_spec.specs.Ledger.{entry_of}
@@ -18,7 +18,7 @@ use Rattle.ftl_core.proofs.opened.Spots.{found_lowest, free_counted, same_free, 
 
 -- The lowest that passes
 
-pub lowest_alike : (p q : ℕ → Bool) (n : ℕ) → ((k : ℕ) → k < n → p k ≡ q k) → lowest_below p n ≡ lowest_below q n
+lowest_alike : (p q : ℕ → Bool) (n : ℕ) → ((k : ℕ) → k < n → p k ≡ q k) → lowest_below p n ≡ lowest_below q n
 unfolding lowest_below
 lowest_alike p q zero same = refl
 lowest_alike p q (suc n) same =
@@ -26,29 +26,8 @@ lowest_alike p q (suc n) same =
     let e = same n (omega arith) in
     λ i. found_or (r i) (e i) n
 
--- the first number passes, or what is found is behind it
-pub lowest_front : (p : ℕ → Bool) (n : ℕ) →
-    lowest_below p (suc n) ≡ (if p 0 then Some 0 else option_map suc (lowest_below (λ k. p (suc k)) n))
-unfolding lowest_below
-lowest_front p zero = by (p 0)
-  where
-    by : (b : Bool) → found_or None b 0 ≡ (if b then Some 0 else None)
-    by true = refl
-    by false = refl
-lowest_front p (suc n) =
-    ap (λ (o : Option ℕ). found_or o (p (suc n)) (suc n)) (lowest_front p n)
-    ∙ by (p 0) (lowest_below (λ k. p (suc k)) n) (p (suc n))
-  where
-    by : (a : Bool) (o : Option ℕ) (b : Bool) →
-        found_or (if a then Some 0 else option_map suc o) b (suc n) ≡
-        (if a then Some 0 else option_map suc (found_or o b n))
-    by true o b = refl
-    by false (Some k) b = refl
-    by false None true = refl
-    by false None false = refl
-
 -- what is found passes, and is below the bound
-pub lowest_passes : (p : ℕ → Bool) (n b : ℕ) → lowest_below p n ≡ Some b → (b < n) × (p b ≡ true)
+lowest_passes : (p : ℕ → Bool) (n b : ℕ) → lowest_below p n ≡ Some b → (b < n) × (p b ≡ true)
 unfolding lowest_below
 lowest_passes p zero b h = cc
 lowest_passes p (suc n) b h = by (lowest_below p n) (p n) refl refl h (λ e. lowest_passes p n b e)

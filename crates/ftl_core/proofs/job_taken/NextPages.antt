@@ -1,75 +1,75 @@
--- The page that a pending group is programmed as.
-use Rattle.std.proofs.Common.{◌≡◌, ◌∙◌, ℕ, zero, suc, ◌+◌, ◌-◌, ◌≤◌, List, [], ◌∷◌, Some, length, slice_get, refl, sym}
-use Rattle.std.proofs.Common.{ap, subst, arith}
-use Rattle.std.proofs.lemmas.Option.{slice_get_within}
+-- Pending pages and their names: which of them passes a test first, and what it is programmed as.
+use Rattle.std.proofs.Common.{◌≡◌, ◌∙◌, Bool, true, false, List, [], ◌∷◌, Option, Some, refl, sym, ap, subst}
+use Rattle.std.specs.Prelude.{cond, find, option_map}
 use Rattle.ufs_spec.specs.Cells.{GroupPage}
-use Rattle.ufs_spec.specs.Keys as keys
-use Rattle.ufs_spec.specs.Ledger.{accepted_groups, before_accepted, pending}
+use Rattle.ufs_spec.specs.Ledger.{Entry, Name, entry_of}
 use Rattle.ufs_spec.specs.Translation.{Translation, cell_now, cell_of_entry}
-use Rattle.power_loss.specs.Book.{IsPageAt, book}
-use Rattle.power_loss.proofs.books.PagesByName.{new_page}
-use Rattle.power_loss.proofs.books.FrontierClimbs.{get_drop}
-use Rattle.ftl_core.specs.declared.books.Group.{Group}
+use Rattle.power_loss.proofs.ordered_lists.ElementsAndOrders.{IsIn, at_has}
+use Rattle.ftl_core.specs.declared.books.Pending.{Pending}
 use Rattle.ftl_core.specs.Core.{Core}
-use Rattle.ftl_core.specs.Describes.{Describes, GroupKept, GroupsKept, Standing, name_at}
-use Rattle.ftl_core.specs.Moves.{single_tag}
-use Rattle.ftl_core.proofs.job_taken.Mended.{mended_with}
+use Rattle.ftl_core.specs.Describes.{Describes, PageKept, PagesKept, Standing, name_at, names_pending}
+use Rattle.ftl_core.specs.Moves.{is_named, tag_of_page}
+use Rattle.ftl_core.proofs.pages.NamesBehind.{name_is}
+use Rattle.ftl_core.proofs.pages.PagesNamed.{page_named, pages_get}
+use Rattle.ftl_core.proofs.pins.FoundPins.{found_there}
 
--- what is kept of the group at a position
-pub kept_at : (standing : Standing) (n : ℕ) (gs : List Group) (hs : List keys.Group) (k : ℕ) (g : Group) →
-    GroupsKept standing n gs hs → slice_get gs k ≡ Some g →
-    (h : keys.Group) × (slice_get hs k ≡ Some h) × GroupKept standing (n + k + 1) g h
-kept_at standing n [] hs k g is at = cc
-kept_at standing n (x ∷ gs) [] k g is at = absurd is
-kept_at standing n (x ∷ gs) (h ∷ hs) zero g is at = (
-  h,
-  refl,
-  subst (λ z. GroupKept standing z g h) (first n)
-      (subst (λ z. GroupKept standing (suc n) z h) (same x g at) is.0),
-)
+abbrev pub page_name : Pending → Name
+page_name p = name_at p.number p.index
+
+module _ (standing : Standing) (entries : Name → Option Entry) where
+  -- a page is kept under the name that it says
+  named : (p : Pending) (name : Name) → PageKept standing entries p name → name ≡ page_name p
+  named p name k = name_is name (sym k.number) (sym k.index)
+
+  -- the first page that passes has the first name that does, where each page passes if its name does
+  pub pages_found : (test : Pending → Bool) (is : Name → Bool) (ps : List Pending) (names : List Name) →
+      ((p : Pending) (name : Name) → PageKept standing entries p name → test p ≡ is name) →
+      PagesKept standing entries ps names → find is names ≡ option_map page_name (find test ps)
+  pages_found test is [] [] same k = refl
+  pages_found test is [] (name ∷ names) same k = absurd k
+  pages_found test is (p ∷ ps) [] same k = absurd k
+  pages_found test is (p ∷ ps) (name ∷ names) same k =
+      by (test p) (is name) (same p name k.0) (pages_found test is ps names same k.1)
+    where
+      by : (a b : Bool) → a ≡ b → find is names ≡ option_map page_name (find test ps) →
+          cond b (Some name) (find is names) ≡ option_map page_name (cond a (Some p) (find test ps))
+      by true true e rest = ap (λ (z : Name). Some z) (named p name k.0)
+      by true false e rest = cc
+      by false true e rest = cc
+      by false false e rest = rest
+
+  -- what is found among the pages is kept under its name, which is among the names
+  pub kept_found : (test : Pending → Bool) (ps : List Pending) (names : List Name) (p : Pending) →
+      PagesKept standing entries ps names → find test ps ≡ Some p →
+      IsIn (page_name p) names × PageKept standing entries p (page_name p)
+  kept_found test ps names p k found =
+      let at = found_there test ps p found in
+      let r = pages_get standing entries ps names at.0 p k at.1 in
+      let e = named p r.0 r.2 in
+      (at_has names at.0 (page_name p) (r.1 ∙ ap Some e), subst (PageKept standing entries p) e r.2)
+
+-- the pending page of a name is found by it, and is what the name is programmed as now
+pub record IsProgrammed (c : Core) (t : Translation) (name : Name) : Type 0 where
+  pub page : Pending
+  pub found : find (is_named name.number name.index) c.pages ≡ Some page
+  pub kept : PageKept t.ledger.standing (entry_of t.ledger) page name
+  pub cell : cell_now t.ledger name ≡ GroupPage
+      (tag_of_page page.key page.number page.index page.size c.frontier) page.body
+
+pub page_programmed : (c : Core) (t : Translation) (test : Pending → Bool) (p : Pending) → Describes c t →
+    find test c.pages ≡ Some p → IsProgrammed c t (page_name p)
+page_programmed c t test p h found = record {
+  page = q.0;
+  found = q.1;
+  kept = q.2;
+  cell = ap (λ (e : Option Entry). cell_of_entry (page_name p) e t.ledger.frontier) q.2.entry
+      ∙ (λ i. GroupPage (tag_of_page q.0.key (sym q.2.number i) (sym q.2.index i) q.0.size
+      (sym h.kept.ledger_kept.frontier i)) q.0.body);
+}
   where
-    first : (n : ℕ) → suc n ≡ n + 0 + 1
-    first n = omega arith
-
-    same : (x g : Group) → Some x ≡ Some g → x ≡ g
-    same x g e = cc
-kept_at standing n (x ∷ gs) (h ∷ hs) (suc k) g is at =
-    let r = kept_at standing (suc n) gs hs k g is.1 at in
-    (r.0, r.1, subst (λ z. GroupKept standing z g r.0) (next n k) r.2)
-  where
-    next : (n k : ℕ) → suc n + k + 1 ≡ n + suc k + 1
-    next n k = omega arith
-
--- the entry of the name of a group of one page
-one_entry : (t : Translation) (k : ℕ) (g : Group) (h : keys.Group) → before_accepted t.ledger ≤ t.ledger.frontier →
-    slice_get (pending t.ledger) k ≡ Some h → h ≡ record { key = g.key; body = g.body } ∷ [] →
-    IsPageAt (book t) (t.ledger.frontier + k + 1) 0 (record { item = record { key = g.key; body = g.body }; size = 1 })
-one_entry t k g h above at page =
-    new_page (book t) (t.ledger.frontier + k + 1) 0 (record { item = record { key = g.key; body = g.body }; size = 1 })
-    (omega arith)
-    (record {
-      group = h;
-      is = ap (slice_get t.ledger.groups) (back t.ledger.greatest_seen t.ledger.repairs t.ledger.frontier k above)
-          ∙ sym (get_drop t.ledger.groups t.ledger.repairs (t.ledger.frontier - before_accepted t.ledger + k))
-          ∙ sym (get_drop (accepted_groups t.ledger) (t.ledger.frontier - before_accepted t.ledger) k) ∙ at;
-      item = ap (λ (z : keys.Group). slice_get z 0) page;
-      size = sym (ap (λ (z : keys.Group). length z) page);
-    })
-  where
-    back : (top repairs frontier k : ℕ) → top + repairs ≤ frontier →
-        frontier + k + 1 - top - 1 ≡ repairs + (frontier - (top + repairs) + k)
-    back top repairs frontier k l = omega arith
-
--- the page of the pending group at a position, as it is programmed now
-pub page_of_pending : (c : Core) (t : Translation) (k : ℕ) (g : Group) → Describes c t → slice_get c.groups k ≡ Some g →
-    cell_now t.ledger (name_at (c.frontier + k + 1)) ≡ GroupPage
-    (single_tag g.key (c.frontier + k + 1) c.frontier) g.body
-page_of_pending c t k g h at =
-    let r = kept_at t.ledger.standing t.ledger.frontier c.groups
-    (pending t.ledger) k g h.kept.ledger_kept.groups at in
-    let low = (slice_get_within c.groups k g at) in
-    let mended = mended_with c t h (omega (arith, low)) in
-    subst (λ (z : ℕ). cell_now t.ledger (name_at (z + k + 1)) ≡ GroupPage (single_tag g.key (z + k + 1) z) g.body)
-    (sym h.kept.ledger_kept.frontier)
-    (ap (λ z. cell_of_entry (name_at (t.ledger.frontier + k + 1)) z t.ledger.frontier)
-    (one_entry t k g r.0 (h.kept.work.repaired mended) r.1 r.2.page))
+    q : (q : Pending) × (find (is_named p.number p.index) c.pages ≡ Some q)
+        × PageKept t.ledger.standing (entry_of t.ledger) q (page_name p)
+    q = page_named t.ledger.standing (entry_of t.ledger) c.pages (names_pending t.ledger) (page_name p)
+        h.kept.ledger_kept.pages
+        (kept_found t.ledger.standing (entry_of t.ledger) test c.pages (names_pending t.ledger) p
+        h.kept.ledger_kept.pages found).0

@@ -66,7 +66,7 @@ pub record MayBegin (c : Core) (t : Translation) (job : disk.Flight) : Type 0 wh
   pub alone : (name : Name) → flies_name name (Some job) ≡ true →
       (some_flight t (flies_name name) ≡ false) × (t.ledger.standing name.number name.index ≡ None)
   pub wanted : (tag index : ℕ) (place : Place) → job ≡ disk.Reading (ForTask tag index) place →
-      (p : Pin) × (find (is_pin_of tag) c.pins ≡ Some p) × IsWanted place p
+      (p : Pin) × (find (is_pin_of tag index) c.pins ≡ Some p) × IsWanted place p
   pub step_wanted : (place : Place) → job ≡ disk.Reading ForStep place → step_wants c.step ≡ Some place
 
 pub kept_begun : (c : Core) (t : Translation) (die : ℕ) (b : Book) (f : Flight) (job : disk.Flight) → Kept c t →

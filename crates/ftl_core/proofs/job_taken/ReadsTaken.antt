@@ -16,13 +16,14 @@ use Rattle.ufs_spec.specs.Translation.{want_at, want_from, want_of_look, want_of
 use Rattle.ufs_spec.specs.Translation.{wants_on}
 use Rattle.ufs_spec.specs.declared.flash.Place.{Place}
 use Rattle.power_loss.proofs.books.PagesByName.{none_some, some_is}
-use Rattle.power_loss.proofs.books.SmallFacts.{and_true, if_false, if_true, eq_told}
+use Rattle.power_loss.proofs.books.SmallFacts.{and_true, if_false, if_true, eq_self, eq_told}
+use Rattle.std.proofs.lemmas.Bool.Decides.{nat_tests}
 use Rattle.ftl_core.specs.declared.books.Looked.{Looked}
 use Rattle.ftl_core.specs.declared.books.Looked.TheVariants as looked
 use Rattle.ftl_core.specs.declared.books.Pin.{Pin}
 use Rattle.ftl_core.specs.Core.{Core}
-use Rattle.ftl_core.specs.Describes.{Describes, IsLookedAt, IsTaken, IsWanted, Kept, PinKept, PinsKept, StepKept}
-use Rattle.power_loss.proofs.open_tasks.TaggedLists.{found_at}
+use Rattle.ftl_core.specs.Describes.{Describes, IsLookedAt, IsTaken, IsWanted, Kept, PinKept, PinsKept, ReadersDiffer}
+use Rattle.ftl_core.specs.Describes.{StepKept}
 use Rattle.ftl_core.specs.Moves.{is_owed_by, is_pin_of, looks_on, reads_for}
 use Rattle.ftl_core.proofs.job_taken.Flown.{die_within, no_job, reads_agree, step_reads_agree}
 use Rattle.ufs_spec.proofs.Facts.{false≢true}
@@ -40,7 +41,32 @@ use Rattle.ftl_core.specs.Takes.{reads_step, step_read, step_read_at, step_wants
 use Rattle.ftl_core.proofs.job_taken.NextStarts.{is_free_die, job_begun}
 use Rattle.ftl_core.proofs.pins.FoundPins.{position_missed}
 use Rattle.ftl_core.proofs.pins.PinsAlike.{page_alike, pins_at}
-use Rattle.ufs_spec.proofs.Lists.{position_told}
+use Rattle.ufs_spec.proofs.Lists.{any_none, find_behind, find_here, position_told}
+
+-- The pin of a block
+
+-- a pin is found by its reader and index: no other has both
+pub own_pin : (ps : List Pin) (k : ℕ) (p : Pin) → ReadersDiffer ps → slice_get ps k ≡ Some p →
+    find (is_pin_of p.reader p.index) ps ≡ Some p
+own_pin [] k p differ e = absurd (none_some p e)
+own_pin (x ∷ xs) zero p differ e =
+    subst (λ (z : Pin). find (is_pin_of z.reader z.index) (x ∷ xs) ≡ Some z) (some_is x p e)
+    (find_here (is_pin_of x.reader x.index) x xs (both (x.reader == x.reader) (x.index == x.index) (eq_self x.reader)
+    (eq_self x.index)))
+  where
+    both : (a b : Bool) → a ≡ true → b ≡ true → (a && b) ≡ true
+    both a b e f = λ i. e i && f i
+own_pin (x ∷ xs) (suc k) p differ e =
+    find_behind (is_pin_of p.reader p.index) x xs
+    (apart (x.reader == p.reader) (x.index == p.index) (p.reader == x.reader) (p.index == x.index)
+    (turned x.reader p.reader) (turned x.index p.index) (any_none (is_pin_of x.reader x.index) xs k p differ.0 e))
+    ∙ own_pin xs k p differ.1 e
+  where
+    turned : (m n : ℕ) → (m == n) ≡ (n == m)
+    turned m n = grind (arith, nat_tests)
+
+    apart : (a b c d : Bool) → a ≡ c → b ≡ d → (c && d) ≡ false → (a && b) ≡ false
+    apart a b c d e f h = (λ i. e i && f i) ∙ h
 
 -- What a pin wants
 
@@ -50,14 +76,14 @@ passes g h None = false
 passes g h (Some w) = g w && h w
 
 -- what a pin wants passes if its reader is owed the read of a page of the die
-want_passes : (unread : Reader → Bool) (die reader : ℕ) (w u : Bool) (kept : Looked) (look : ledger.Looked) →
-    IsLookedAt kept look →
-    u ≡ unread (ForTask reader 0) →
+want_passes : (unread : Reader → Bool) (die : ℕ) (reader : Reader) (w u : Bool) (kept : Looked)
+    (look : ledger.Looked) → IsLookedAt kept look →
+    u ≡ unread reader →
     (w && looks_on die kept && u)
-    ≡ passes (λ (x : Want). unread x.reader) (is_of_die die) (if w then want_of_look (ForTask reader 0) look else None)
+    ≡ passes (λ (x : Want). unread x.reader) (is_of_die die) (if w then want_of_look reader look else None)
 want_passes unread die reader false u kept look h same = refl
 want_passes unread die reader true u looked.Nothing Unwritten h same = refl
-want_passes unread die reader true u (looked.Slot n) (InSlot name) h same = refl
+want_passes unread die reader true u (looked.Slot n i) (InSlot name) h same = refl
 want_passes unread die reader true u (looked.Page s) (OnPage name place) h same =
     turned (s.place.die == die) u
     ∙ (λ i. same i && (sym h.1 i).die == die)
@@ -77,11 +103,11 @@ owed_passes : (c : Core) (t : Translation) (die : ℕ) (p : Pin) (q : layer.Pin)
     PinKept t.ledger.frontier (entry_of t.ledger) p q →
     is_owed_by c.books die p ≡ passes (is_unread t) (is_of_die die) (want_of_pin q)
 owed_passes c t die p q k h =
-    want_passes (is_free t) die p.reader p.wanted
-    (not (list_any (reads_for p.reader) c.books)) p.looked q.looked h.looked_at
-    (ap not (reads_agree c t p.reader k))
+    want_passes (is_free t) die (ForTask p.reader p.index) p.wanted
+    (not (list_any (reads_for p.reader p.index) c.books)) p.looked q.looked h.looked_at
+    (ap not (reads_agree c t p.reader p.index k))
     ∙ (λ i. passes (is_unread t) (is_of_die die)
-    (if sym h.wanted i then want_of_look (ForTask (sym h.tag i) (sym h.first i)) q.looked else None))
+    (if sym h.wanted i then want_of_look (ForTask (sym h.tag i) (sym h.index i)) q.looked else None))
 
 -- Lists of wants
 
@@ -222,13 +248,13 @@ none_read c t die k none unread = step_left c t die k none ∙ by (step_wants c.
 -- the read that a reader is owed is one of them
 one_read : (c : Core) (t : Translation) (die k : ℕ) (p : Pin) (q : layer.Pin) (place : Place) → Kept c t →
     slice_get t.pins k ≡ Some q → PinKept t.ledger.frontier (entry_of t.ledger) p q → is_owed_by c.books die p ≡ true →
-    want_of_pin q ≡ Some (want_at (ForTask p.reader 0) place) →
-    Contains (wants_on t die) (want_at (ForTask p.reader 0) place)
+    want_of_pin q ≡ Some (want_at (ForTask p.reader p.index) place) →
+    Contains (wants_on t die) (want_at (ForTask p.reader p.index) place)
 one_read c t die k p q place kept at h owed want =
-    subst (λ (ws : List Want). Contains ws (want_at (ForTask p.reader 0) place)) (sym (two_want c t die kept))
+    subst (λ (ws : List Want). Contains ws (want_at (ForTask p.reader p.index) place)) (sym (two_want c t die kept))
     (Contains-append_left (left t die (filter_map want_of_pin t.pins))
-    (left t die (cons_option (want_from (step_wants c.step)) [])) (want_at (ForTask p.reader 0) place)
-    (one_left (is_unread t) (is_of_die die) t.pins k q (want_at (ForTask p.reader 0) place)
+    (left t die (cons_option (want_from (step_wants c.step)) [])) (want_at (ForTask p.reader p.index) place)
+    (one_left (is_unread t) (is_of_die die) t.pins k q (want_at (ForTask p.reader p.index) place)
     at want
     (ap (passes (is_unread t) (is_of_die die)) (sym want) ∙ sym (owed_passes c t die p q kept h) ∙ owed)))
 
@@ -283,8 +309,8 @@ owed_told : (books : List Book) (die : ℕ) (p : Pin) → is_owed_by books die p
     (p.wanted ≡ true) × (s : Stored) × (p.looked ≡ looked.Page s) × (s.place.die ≡ die)
 owed_told books die p h = by p.looked refl
   where
-    r : ((p.wanted && looks_on die p.looked) ≡ true) × (not (list_any (reads_for p.reader) books) ≡ true)
-    r = and_true (p.wanted && looks_on die p.looked) (not (list_any (reads_for p.reader) books)) h
+    r : ((p.wanted && looks_on die p.looked) ≡ true) × (not (list_any (reads_for p.reader p.index) books) ≡ true)
+    r = and_true (p.wanted && looks_on die p.looked) (not (list_any (reads_for p.reader p.index) books)) h
 
     u : (p.wanted ≡ true) × (looks_on die p.looked ≡ true)
     u = and_true p.wanted (looks_on die p.looked) r.0
@@ -293,16 +319,17 @@ owed_told books die p h = by p.looked refl
         (s.place.die ≡ die)
     by (looked.Page s) e = (u.0, s, e, eq_told s.place.die die (sym (ap (looks_on die) e) ∙ u.1))
     by looked.Nothing e = absurd (false≢true (sym (ap (looks_on die) e) ∙ u.1))
-    by (looked.Slot n) e = absurd (false≢true (sym (ap (looks_on die) e) ∙ u.1))
+    by (looked.Slot n i) e = absurd (false≢true (sym (ap (looks_on die) e) ∙ u.1))
 
 pub read_taken : (c : Core) (t : Translation) (die k : ℕ) (b : Book) → Describes c t → slice_get c.books die ≡ Some b →
     b.flight ≡ None → first_owed c die ≡ Some k → IsTaken t die (job_taken c die) (core_taken c die)
 read_taken c t die k b h there idle owed =
-    job_begun c t die b (flight.Read s.place (reader.Task p.reader)) (disk.Reading (ForTask p.reader 0) s.place) h there
+    job_begun c t die b (flight.Read s.place (reader.Task p.reader p.index))
+    (disk.Reading (ForTask p.reader p.index) s.place) h there
     (ap (takes.flight_for c die) there ∙ ap (idle_flight c die b.filling) idle
     ∙ ap (λ (o : Option ℕ). owed_flight c die b.filling (owed_read c die o)) owed
     ∙ ap (owed_flight c die b.filling) (ap (option_and_then read_of) at.1
-    ∙ ap (λ (l : Looked). option_map (λ place. flight.Read place (reader.Task p.reader)) (takes.place_in l))
+    ∙ ap (λ (l : Looked). option_map (λ place. flight.Read place (reader.Task p.reader p.index)) (takes.place_in l))
     told.2))
     refl
     (refl, (refl, refl))
@@ -329,22 +356,28 @@ read_taken c t die k b h there idle owed =
     page : (name : Name) × (q.0.looked ≡ OnPage name s.place) × (name.number ≡ s.number)
     page = page_alike s q.0.looked (subst (λ (l : Looked). IsLookedAt l q.0.looked) told.2 q.2.looked_at)
 
-    want : layer.want_of_pin q.0 ≡ Some (want_at (ForTask p.reader 0) s.place)
+    want : layer.want_of_pin q.0 ≡ Some (want_at (ForTask p.reader p.index) s.place)
     want =
-        (λ i. if (q.2.wanted ∙ told.0) i then want_of_look (ForTask (q.2.tag i) (q.2.first i)) (page.1 i) else None)
+        (λ i. if (q.2.wanted ∙ told.0) i then want_of_look (ForTask (q.2.tag i) (q.2.index i)) (page.1 i) else None)
 
     wanted : (tag index : ℕ) (place : Place) →
-        disk.Reading (ForTask p.reader 0) s.place ≡ disk.Reading (ForTask tag index) place →
-        (x : Pin) × (find (is_pin_of tag) c.pins ≡ Some x) × IsWanted place x
+        disk.Reading (ForTask p.reader p.index) s.place ≡ disk.Reading (ForTask tag index) place →
+        (x : Pin) × (find (is_pin_of tag index) c.pins ≡ Some x) × IsWanted place x
     wanted tag index place e = (
       p,
-      ap (λ (z : ℕ). find (is_pin_of z) c.pins) (sym (tag_is e))
-          ∙ found_at (λ (x : Pin). x.reader) c.pins k p h.kept.differ at.1,
+      (λ i. find (is_pin_of (sym (tag_is e) i) (sym (index_is e) i)) c.pins)
+          ∙ own_pin c.pins k p h.kept.differ at.1,
       record { stored = s; looks = told.2; place_is = place_is e; wanted = told.0 },
     )
       where
-        tag_is : disk.Reading (ForTask p.reader 0) s.place ≡ disk.Reading (ForTask tag index) place → p.reader ≡ tag
+        tag_is : disk.Reading (ForTask p.reader p.index) s.place ≡ disk.Reading (ForTask tag index) place →
+            p.reader ≡ tag
         tag_is e = cc
 
-        place_is : disk.Reading (ForTask p.reader 0) s.place ≡ disk.Reading (ForTask tag index) place → s.place ≡ place
+        index_is : disk.Reading (ForTask p.reader p.index) s.place ≡ disk.Reading (ForTask tag index) place →
+            p.index ≡ index
+        index_is e = cc
+
+        place_is : disk.Reading (ForTask p.reader p.index) s.place ≡ disk.Reading (ForTask tag index) place →
+            s.place ≡ place
         place_is e = cc

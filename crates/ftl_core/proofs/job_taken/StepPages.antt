@@ -132,12 +132,12 @@ mark_page c t number fence h is step waits = record {
 repair_page : (c : Core) (t : Translation) (number : ℕ) (k : Key) (from : Option Stored) (there : Bool) →
     Describes c t → length c.numbers.units.items ≤ 8 → c.step ≡ Some (steps.Repair number k from there) →
     RepairKept t.ledger number k from there c.content → there ≡ true →
-    some_flight t (flies_name (name_at number)) ≡ false →
-    waiting_step t t.work.step ≡ Some (layer.cell_now t.ledger (name_at number)) → StepPage c t
+    some_flight t (flies_name (name_at number 0)) ≡ false →
+    waiting_step t t.work.step ≡ Some (layer.cell_now t.ledger (name_at number 0)) → StepPage c t
 repair_page c t number k from there h few is r ready unflown waits = record {
   cell = GroupPage (single_tag k number t.ledger.frontier) (t.ledger.base k);
   waits = waits
-      ∙ ap (λ (e : Option Entry). Some (cell_of_entry (name_at number) e t.ledger.frontier)) r.entry;
+      ∙ ap (λ (e : Option Entry). Some (cell_of_entry (name_at number 0) e t.ledger.frontier)) r.entry;
   is = subst (λ (s : Option Step). IsStepCell s (GroupPage (single_tag k number t.ledger.frontier) (t.ledger.base k)))
       (sym is) (refl, refl, ready);
   told = λ place. ap (step_job c place) is
@@ -147,7 +147,7 @@ repair_page c t number k from there h few is r ready unflown waits = record {
       (r.content_is ready i))));
   begins = λ place. record {
     alone = λ name e.
-        let same : name ≡ name_at number = name_told name (name_at number) e in (
+        let same : name ≡ name_at number 0 = name_told name (name_at number 0) e in (
           ap (λ (z : Name). some_flight t (flies_name z)) same ∙ unflown,
           ap (λ (z : Name). t.ledger.standing z.number z.index) same ∙ r.new,
         );
@@ -192,7 +192,7 @@ step_page c t h few = by c.step refl t.work.step refl h.kept.work.step_is
     by (Some (steps.Repair number key from there)) is None at k = absurd k
     by (Some (steps.Repair number key from there)) is (Some s) at k =
         let repair : layer.Step = record {
-          kind = RepairStep (name_at number) (option_map (λ (at : Stored). at.place) from);
+          kind = RepairStep (name_at number 0) (option_map (λ (at : Stored). at.place) from);
           there = there;
         } in
         let step = at ∙ ap (λ (x : layer.Step). Some x) k.0 in

@@ -1,52 +1,47 @@
 -- The job that a die is given is one that is owed to it.
-use Rattle.std.proofs.Common.{◌≡◌, ◌∙◌, ℕ, ◌+◌, ◌-◌, ◌<◌, ◌≤◌, Bool, true, false, [], Option, Some, None, length, refl}
-use Rattle.std.proofs.Common.{sym, ap, subst, inl, inr, arith, is_none, lt-ltb}
-use Rattle.std.specs.Prelude.{if◌then◌else◌, nat_le, nat_lt, not, slice_get, option_and_then, option_map}
+use Rattle.std.proofs.Common.{◌≡◌, ◌∙◌, ℕ, ◌≤◌, Bool, true, false, [], Option, Some, None, length, refl}
+use Rattle.std.proofs.Common.{sym, ap, subst, inl, inr, is_none}
+use Rattle.std.specs.Prelude.{if◌then◌else◌, not, slice_get, option_and_then, option_map}
 use Rattle.std.specs.List.{list_any}
-use Rattle.std.proofs.lemmas.Bool.{lt-leb}
 use Rattle.ufs_spec.proofs.Facts.{false≢true}
 use Rattle.ufs_spec.specs.Cells.{Cell, GroupPage}
 use Rattle.ufs_spec.specs.Disk as disk
-use Rattle.ufs_spec.specs.Disk.{ForTask, job_of as told_by}
-use Rattle.ufs_spec.specs.Keys as keys
-use Rattle.ufs_spec.specs.Ledger.{Name, pending}
+use Rattle.ufs_spec.specs.Disk.{job_of as told_by}
+use Rattle.ufs_spec.specs.Ledger.{Name, entry_of}
 use Rattle.ufs_spec.specs.Translation as layer
-use Rattle.ufs_spec.specs.Translation.{MayTake, Translation, Want, cell_now, flies_name, flight_at}
-use Rattle.ufs_spec.specs.Translation.{flight_for, is_idle, is_mended, next_erase, next_flight, some_flight}
-use Rattle.ufs_spec.specs.Translation.{waiting_name, waiting_step, want_at, want_of_look, wants_on}
+use Rattle.ufs_spec.specs.Translation.{Translation, cell_now, flies_name, flight_at, flight_for, is_idle, is_mended}
+use Rattle.ufs_spec.specs.Translation.{name_of, next_flight, some_flight, waiting_step, wants_on}
 use Rattle.ufs_spec.specs.declared.flash.Job.{Job}
 use Rattle.ufs_spec.specs.declared.flash.Place.{Place}
 use Rattle.ufs_spec.specs.declared.flash.Tag.{Tag}
 use Rattle.power_loss.proofs.books.PagesByName.{none_some}
-use Rattle.power_loss.proofs.books.SmallFacts.{and_true, if_false, if_true, name_told}
+use Rattle.power_loss.proofs.books.SmallFacts.{and_true, if_true, name_is, name_told}
 use Rattle.ftl_core.specs.declared.books.Book.{Book}
 use Rattle.ftl_core.specs.declared.books.Flight.{Flight}
 use Rattle.ftl_core.specs.declared.books.Flight.TheVariants as flight
-use Rattle.ftl_core.specs.declared.books.Group.{Group}
 use Rattle.ftl_core.specs.declared.books.OpenBlock.{OpenBlock}
+use Rattle.ftl_core.specs.declared.books.Pending.{Pending}
 use Rattle.ftl_core.specs.declared.books.Waiting.{Waiting}
 use Rattle.ftl_core.specs.declared.books.Waiting.TheVariants as waiting
 use Rattle.ftl_core.specs.Core.{Core}
-use Rattle.ftl_core.specs.Describes.{Describes, GroupKept, IsFlight, IsTaken, name_at, spot_at}
-use Rattle.ftl_core.specs.Ends.{below, pending_at}
-use Rattle.ftl_core.specs.Moves.{is_owed_by, may_open, single_tag}
+use Rattle.ftl_core.specs.Describes.{Describes, IsFlight, IsTaken, PageKept, names_pending, spot_at}
+use Rattle.ftl_core.specs.Moves.{is_owed_by, may_open, tag_of_page}
 use Rattle.ftl_core.specs.Takes as takes
-use Rattle.ftl_core.specs.Takes.{begun_with, block_for, core_taken, first_owed, flight_taken, group_job, group_job_at}
-use Rattle.ftl_core.specs.Takes.{idle_flight, is_data, job_of, job_taken, lowest_below}
-use Rattle.ftl_core.specs.Takes.{next_place, number_waiting, owed_flight, owed_read, page_of_group, step_read}
-use Rattle.ftl_core.specs.Takes.{step_waits, waiting_flight, waiting_of, waits_at, writes_group}
+use Rattle.ftl_core.specs.Takes.{block_for, core_taken, first_owed, flight_taken, group_job_of, idle_flight}
+use Rattle.ftl_core.specs.Takes.{is_group_page, job_of, job_taken, next_place, owed_flight, owed_read, page_of_group}
+use Rattle.ftl_core.specs.Takes.{page_waiting, page_waits, step_read, step_waits, waiting_flight, waiting_of}
+use Rattle.ftl_core.specs.Takes.{waiting_page, writes_page}
 use Rattle.ftl_core.proofs.job_taken.Flown.{die_within, no_job, writes_agree}
 use Rattle.ftl_core.proofs.job_taken.Mended.{mended_with, no_repair}
-use Rattle.ftl_core.proofs.job_taken.NextErases.{block_next, block_right, erased_next, lowest_passes, opens_alike}
+use Rattle.ftl_core.proofs.job_taken.NextErases.{block_next, block_right, erased_next, opens_alike}
 use Rattle.ftl_core.proofs.job_taken.NextNames.{next_name}
-use Rattle.ftl_core.proofs.job_taken.NextPages.{kept_at, page_of_pending}
+use Rattle.ftl_core.proofs.job_taken.NextPages.{IsProgrammed, kept_found, page_name, page_programmed}
 use Rattle.ftl_core.proofs.job_taken.NextStarts.{MayBegin, is_free_die, job_begun, next_may, not_idle, nothing_taken}
 use Rattle.ftl_core.proofs.job_taken.NextStarts.{outside}
-use Rattle.ftl_core.proofs.pins.FoundPins.{position_missed}
+use Rattle.ftl_core.proofs.pins.FoundPins.{found_passes, position_missed}
 use Rattle.ftl_core.proofs.job_taken.ReadsTaken.{none_read, read_taken, step_taken}
 use Rattle.ftl_core.proofs.job_taken.StepPages.{StepPage, step_page}
 use Rattle.ftl_core.proofs.opened.Spots.{next_found}
-use Rattle.ufs_spec.proofs.Lists.{get_there}
 
 -- A job that writes no page of a group, and reads none
 
@@ -62,20 +57,6 @@ erase_begins c t s = record {
 not-true' : (b : Bool) → not b ≡ true → b ≡ false
 not-true' true e = cc
 not-true' false e = refl
-
--- the group at a position is the one that is pending with its number
-pending_here : (c : Core) (k : ℕ) → k < length c.groups → pending_at c (c.frontier + k + 1) ≡ Some k
-pending_here c k low =
-    if_false (nat_le n c.frontier) None (below (n - c.frontier - 1) (length c.groups))
-    (lt-leb n c.frontier (omega arith))
-    ∙ ap (λ (z : ℕ). below z (length c.groups)) (back c.frontier k)
-    ∙ if_true (nat_lt k (length c.groups)) (Some k) None (lt-ltb k (length c.groups) low)
-  where
-    n : ℕ
-    n = c.frontier + k + 1
-
-    back : (f k : ℕ) → f + k + 1 - f - 1 ≡ k
-    back f k = omega arith
 
 module _ (c : Core) (t : Translation) (die : ℕ) (b : Book) (h : Describes c t) (there : slice_get c.books die ≡ Some b)
     (idle : b.flight ≡ None) (none_owed : first_owed c die ≡ None) (step_unread : step_read c die ≡ None) where
@@ -99,7 +80,7 @@ module _ (c : Core) (t : Translation) (die : ℕ) (b : Book) (h : Describes c t)
 
   -- by the definitions too
   next_is : (cell : Option Cell) → waiting_step t t.work.step ≡ cell →
-      next_flight t die ≡ flight_for t die cell (option_map name_at (number_waiting c))
+      next_flight t die ≡ flight_for t die cell (option_map page_name (page_waiting c))
   next_is cell step = λ i. flight_for t die (step i) (next_name c t h i)
 
   place_is : (o : Option OpenBlock) → b.filling ≡ o → layer.next_place t die ≡ option_map (next_place die) o
@@ -144,7 +125,7 @@ module _ (c : Core) (t : Translation) (die : ℕ) (b : Book) (h : Describes c t)
       IsTaken t die (job_taken c die) (core_taken c die)
   page_taken page None waits fills =
       erase_taken waiting.Step fills
-      (ap (λ (z : Bool). if z then Some waiting.Step else option_map waiting.Group (number_waiting c)) waits)
+      (ap (λ (z : Bool). if z then Some waiting.Step else option_map waiting_page (page_waiting c)) waits)
       (next_is (Some page.cell) page.waits
       ∙ ap (flight_at t die true page.cell) (place_is None fills)
       ∙ erased_next c t die h (die_within c t die b h.kept there))
@@ -153,74 +134,60 @@ module _ (c : Core) (t : Translation) (die : ℕ) (b : Book) (h : Describes c t)
       (disk.Programming (next_place die o) page.cell)
       (taken_is (Some o) fills
       ∙ ap (λ (z : Bool). option_and_then (waiting_flight c die (Some o)) (if z then Some waiting.Step else
-      option_map waiting.Group (number_waiting c))) waits)
+      option_map waiting_page (page_waiting c))) waits)
       (next_is (Some page.cell) page.waits
       ∙ ap (flight_at t die true page.cell) (place_is (Some o) fills))
       (page.told (next_place die o))
       (refl, (o, fills, refl), page.is)
       (page.begins (next_place die o))
 
-  -- a group waits
-  group_taken : (k : ℕ) (o : Option OpenBlock) → step_waits c ≡ false → waiting_step t t.work.step ≡ None →
-      lowest_below (waits_at c) (length c.groups) ≡ Some k →
-      b.filling ≡ o → IsTaken t die (job_taken c die) (core_taken c die)
-  group_taken k o no_step no_page first fills = by o fills
+  -- a page of a group waits
+  group_taken : (p : Pending) (o : Option OpenBlock) → step_waits c ≡ false → waiting_step t t.work.step ≡ None →
+      page_waiting c ≡ Some p → b.filling ≡ o → IsTaken t die (job_taken c die) (core_taken c die)
+  group_taken p o no_step no_page first fills = by o fills
     where
-      n : ℕ
-      n = c.frontier + k + 1
-
-      number : number_waiting c ≡ Some n
-      number = ap (option_map (λ k. c.frontier + k + 1)) first
-
-      waits : waiting_of c ≡ Some (waiting.Group n)
-      waits = λ i. if no_step i then Some waiting.Step else option_map waiting.Group (number i)
-
-      at : (k < length c.groups) × (waits_at c k ≡ true)
-      at = lowest_passes (waits_at c) (length c.groups) k first
+      waits : waiting_of c ≡ Some (waiting_page p)
+      waits = λ i. if no_step i then Some waiting.Step else option_map waiting_page (first i)
 
       mended : is_mended t.work.mending ≡ true
-      mended = mended_with c t h (let low = at.0 in omega (arith, low))
+      mended = mended_with c t (page_waits c.books) p h first
 
-      g : (g : Group) × (slice_get c.groups k ≡ Some g)
-      g = get_there c.groups k at.0
+      r : IsProgrammed c t (page_name p)
+      r = page_programmed c t (page_waits c.books) p h first
 
       tag_now : Tag
-      tag_now = single_tag g.0.key n c.frontier
+      tag_now = tag_of_page r.page.key r.page.number r.page.index r.page.size c.frontier
 
-      waits_here : (is_none g.0.written ≡ true) × (not (list_any (writes_group n) c.books) ≡ true)
-      waits_here = and_true (is_none g.0.written) (not (list_any (writes_group n) c.books))
-          (sym (ap (takes.group_waits c n) g.1) ∙ at.1)
+      k : PageKept t.ledger.standing (entry_of t.ledger) p (page_name p)
+      k = (kept_found t.ledger.standing (entry_of t.ledger) (page_waits c.books) c.pages (names_pending t.ledger) p
+          h.kept.ledger_kept.pages first).1
 
-      kept : (y : keys.Group) × (slice_get (pending t.ledger) k ≡ Some y)
-          × GroupKept t.ledger.standing (t.ledger.frontier + k + 1) g.0 y
-      kept = kept_at t.ledger.standing t.ledger.frontier c.groups (pending t.ledger) k g.0
-          h.kept.ledger_kept.groups g.1
+      waits_here : (is_none p.written ≡ true) × (not (list_any (writes_page p.number p.index) c.books) ≡ true)
+      waits_here = and_true (is_none p.written) (not (list_any (writes_page p.number p.index) c.books))
+          (found_passes (page_waits c.books) c.pages p first)
 
-      same : t.ledger.frontier + k + 1 ≡ n
-      same = ap (λ (z : ℕ). z + k + 1) (sym h.kept.ledger_kept.frontier)
-
-      new : t.ledger.standing n 0 ≡ None
-      new = ap (λ (z : ℕ). t.ledger.standing z 0) (sym same) ∙ kept.2.stands ∙ none_is g.0.written waits_here.0
+      new : t.ledger.standing p.number p.index ≡ None
+      new = k.stands ∙ none_is p.written waits_here.0
         where
           none_is : (o : Option Place) → is_none o ≡ true → o ≡ None
           none_is None e = refl
           none_is (Some p) e = cc
 
-      unflown : some_flight t (flies_name (name_at n)) ≡ false
-      unflown = sym (writes_agree c t n h.kept (no_repair c t h mended))
-          ∙ not-true' (list_any (writes_group n) c.books) waits_here.1
+      unflown : some_flight t (flies_name (page_name p)) ≡ false
+      unflown = sym (writes_agree c t (page_name p) h.kept (no_repair c t h mended))
+          ∙ not-true' (list_any (writes_page p.number p.index) c.books) waits_here.1
 
-      job_is : (place : Place) →
-          job_of c die (flight.Group place n) ≡ Some (told_by (disk.Programming place (GroupPage tag_now g.0.body)))
+      job_is : (place : Place) → job_of c die (flight.Group place p.number p.index)
+          ≡ Some (told_by (disk.Programming place (GroupPage tag_now r.page.body)))
       job_is place =
-          ap (group_job c place) (pending_here c k at.0)
-          ∙ ap (group_job_at c place k) g.1
-          ∙ if_true (is_data g.0) (Some (page_of_group c place k g.0)) None kept.2.data_page
+          ap (group_job_of c place) r.found
+          ∙ if_true (is_group_page r.page) (Some (page_of_group c place r.page)) None r.kept.group_page
 
-      begins : (place : Place) → MayBegin c t (disk.Programming place (GroupPage tag_now g.0.body))
+      begins : (place : Place) → MayBegin c t (disk.Programming place (GroupPage tag_now r.page.body))
       begins place = record {
         alone = λ name e.
-            let is : name ≡ name_at n = name_told name (name_at n) e in (
+            let is : name ≡ page_name p = name_told name (name_of tag_now) e
+            ∙ name_is (name_of tag_now) (page_name p) r.kept.number r.kept.index in (
               ap (λ (z : Name). some_flight t (flies_name z)) is
                   ∙ unflown,
               ap (λ (z : Name). t.ledger.standing z.number z.index) is ∙ new,
@@ -230,13 +197,13 @@ module _ (c : Core) (t : Translation) (die : ℕ) (b : Book) (h : Describes c t)
       }
 
       by : (x : Option OpenBlock) → b.filling ≡ x → IsTaken t die (job_taken c die) (core_taken c die)
-      by None e = erase_taken (waiting.Group n) e waits
+      by None e = erase_taken (waiting_page p) e waits
           (next_is None no_page
-          ∙ (λ i. flight_for t die None (option_map name_at (number i)))
-          ∙ ap (flight_at t die (layer.may_open t) (cell_now t.ledger (name_at n))) (place_is None e)
+          ∙ (λ i. flight_for t die None (option_map page_name (first i)))
+          ∙ ap (flight_at t die (layer.may_open t) (cell_now t.ledger (page_name p))) (place_is None e)
           ∙ (λ i. if opens_alike c t h i then erased_next c t die h (die_within c t die b h.kept there) i else None)
-          ∙ opened (may_open c (waiting.Group n)))
-          (λ block e. opened_is (may_open c (waiting.Group n)) block e)
+          ∙ opened (may_open c (waiting_page p)))
+          (λ block e. opened_is (may_open c (waiting_page p)) block e)
         where
           opened : (a : Bool) → (if a then option_map (λ block. disk.Erasing (spot_at die block))
               (block_next c die) else None)
@@ -248,32 +215,32 @@ module _ (c : Core) (t : Translation) (die : ℕ) (b : Book) (h : Describes c t)
               block_next c die ≡ Some block
           opened_is true block e = e
           opened_is false block e = absurd (none_some block e)
-      by (Some x) e = next_begun (flight.Group (next_place die x) n)
-          (disk.Programming (next_place die x) (GroupPage tag_now g.0.body))
+      by (Some x) e = next_begun (flight.Group (next_place die x) p.number p.index)
+          (disk.Programming (next_place die x) (GroupPage tag_now r.page.body))
           (taken_is (Some x) e ∙ ap (option_and_then (waiting_flight c die (Some x))) waits)
           (next_is None no_page
-          ∙ (λ i. flight_for t die None (option_map name_at (number i)))
-          ∙ ap (flight_at t die (layer.may_open t) (cell_now t.ledger (name_at n))) (place_is (Some x) e)
-          ∙ ap (λ z. Some (disk.Programming (next_place die x) z)) (page_of_pending c t k g.0 h g.1))
+          ∙ (λ i. flight_for t die None (option_map page_name (first i)))
+          ∙ ap (flight_at t die (layer.may_open t) (cell_now t.ledger (page_name p))) (place_is (Some x) e)
+          ∙ ap (λ z. Some (disk.Programming (next_place die x) z)) r.cell)
           (job_is (next_place die x))
-          (refl, (x, e, refl), refl, refl, no_repair c t h mended)
+          (refl, (x, e, refl), r.kept.number, r.kept.index, no_repair c t h mended)
           (begins (next_place die x))
 
   -- what waits, if anything does
   next_taken : length c.numbers.units.items ≤ 8 → IsTaken t die (job_taken c die) (core_taken c die)
-  next_taken few = by (step_waits c) refl (lowest_below (waits_at c) (length c.groups)) refl (step_page c t h few)
+  next_taken few = by (step_waits c) refl (page_waiting c) refl (step_page c t h few)
     where
-      by : (m : Bool) → step_waits c ≡ m → (o : Option ℕ) → lowest_below (waits_at c) (length c.groups) ≡ o →
+      by : (m : Bool) → step_waits c ≡ m → (o : Option Pending) → page_waiting c ≡ o →
           (step_waits c ≡ true → StepPage c t) × (step_waits c ≡ false → waiting_step t t.work.step ≡ None) →
           IsTaken t die (job_taken c die) (core_taken c die)
       by true e o f page = page_taken (page.0 e) b.filling e refl
-      by false e (Some k) f page = group_taken k b.filling e (page.1 e) f refl
+      by false e (Some p) f page = group_taken p b.filling e (page.1 e) f refl
       by false e None f page = nothing_waits
           (taken_is b.filling refl
           ∙ (λ i. option_and_then (waiting_flight c die b.filling)
-          (if e i then Some waiting.Step else option_map waiting.Group (option_map (λ k. c.frontier + k + 1) (f i)))))
+          (if e i then Some waiting.Step else option_map waiting_page (f i))))
           (next_is None (page.1 e)
-          ∙ (λ i. flight_for t die None (option_map name_at (option_map (λ k. c.frontier + k + 1) (f i)))))
+          ∙ (λ i. flight_for t die None (option_map page_name (f i))))
 
 -- All dies
 
@@ -298,7 +265,7 @@ takes_right c after die told is new few t h =
     busy b f (Some g) is = refl
     busy b (flight.Read place reader) None is = absurd is
     busy b (flight.Step place) None is = absurd is
-    busy b (flight.Group place number) None is = absurd is
+    busy b (flight.Group place number index) None is = absurd is
     busy b (flight.Erase block) None is = absurd is
 
     by_job : (b : Book) → slice_get c.books die ≡ Some b → (f : Option Flight) → b.flight ≡ f →

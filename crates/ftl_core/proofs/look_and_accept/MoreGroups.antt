@@ -1,41 +1,31 @@
--- A group more, that is accepted behind all others.
-use Rattle.std.proofs.Common.{◌≡◌, ◌∙◌, ℕ, suc, ◌+◌, ◌-◌, ◌<◌, ◌≤◌, true, List, [], ◌∷◌, ◌++◌, length, Option, Some}
-use Rattle.std.proofs.Common.{None, refl, sym, ap, subst, arith}
-use Rattle.std.proofs.lemmas.List.{drop-append-le, take-append-le}
+-- A group more, that is accepted behind all others: its pages are kept behind those that are, and what is known of the
+-- ledger, of the mending and of pins stays.
+use Rattle.std.proofs.Common.{◌≡◌, ◌∙◌, ℕ, suc, ◌+◌, ◌-◌, ◌≤◌, true, List, [], ◌∷◌, ◌++◌, length, Option, Some}
+use Rattle.std.proofs.Common.{None, sym, ap, subst, arith}
+use Rattle.std.proofs.lemmas.List.{append-nil, length-drop, take-append-le}
 use Rattle.ufs_spec.specs.Keys as keys
 use Rattle.ufs_spec.proofs.Facts.{true≢false}
-use Rattle.ufs_spec.specs.Ledger.{InSlot, Ledger, Looked, OnPage, Unwritten, before_accepted, entry_of, latest_durable}
-use Rattle.ufs_spec.specs.Ledger.{latest_in, pending}
+use Rattle.ufs_spec.specs.Ledger.{Entry, InSlot, Ledger, Looked, Name, OnPage, Unwritten, before_accepted, entry_of}
+use Rattle.ufs_spec.specs.Ledger.{latest_durable, latest_in, next_number, pending}
 use Rattle.ufs_spec.specs.Translation as layer
-use Rattle.ufs_spec.specs.Translation.{Translation, Work, is_mended}
+use Rattle.ufs_spec.specs.Translation.{Translation, Work, is_mended, names_behind, names_of}
 use Rattle.ufs_spec.specs.declared.flash.Key.{Key}
-use Rattle.ufs_spec.specs.declared.flash.Place.{Place}
-use Rattle.power_loss.specs.Book.{book, last_number}
-use Rattle.power_loss.specs.Invariant.{Valid}
-use Rattle.power_loss.proofs.books.PagesByName.{page_grows, page_within}
-use Rattle.ftl_core.specs.declared.books.Group.{Group}
+use Rattle.ufs_spec.proofs.Lists.{grown_length}
+use Rattle.power_loss.specs.Book.{book}
+use Rattle.power_loss.proofs.books.PagesByName.{page_grows}
 use Rattle.ftl_core.specs.declared.books.Mending.{Mending}
+use Rattle.ftl_core.specs.declared.books.Pending.{Pending}
 use Rattle.ftl_core.specs.declared.books.Pin.{Pin}
 use Rattle.ftl_core.specs.declared.books.Step.{Step}
 use Rattle.ftl_core.specs.declared.books.Step.TheVariants as steps
 use Rattle.ftl_core.specs.Core.{Core}
-use Rattle.ftl_core.specs.Describes.{Describes, GroupsKept, IsLookOf, IsStored, LedgerKept, PinsKept, StepKept}
-use Rattle.ftl_core.specs.Describes.{WorkKept}
-use Rattle.ftl_core.specs.Moves.{accepted, repairs_in, stored_of}
-use Rattle.ftl_core.specs.Takes.{is_data}
-use Rattle.ftl_core.proofs.look_and_accept.LastGroups.{kept_more}
-use Rattle.ftl_core.proofs.look_and_accept.Numbers.{behind, groups_left, kept_groups, pending_mended, repairs_mended}
-
--- The page of a number that no group has
-
--- it stands nowhere
-never_stood : (t : Translation) (n i : ℕ) (o : Option Place) → Valid t → last_number (book t) < n →
-    t.ledger.standing n i ≡ o → o ≡ None
-never_stood t n i None v l e = refl
-never_stood t n i (Some p) v l e =
-    let k = v.frontier.known n i p e in
-    let w = page_within (book t) n i k.0 k.1 in
-    absurd (omega arith)
+use Rattle.ftl_core.specs.Describes.{Describes, IsLookOf, IsStored, LedgerKept, PagesKept, PinsKept, StepKept, WorkKept}
+use Rattle.ftl_core.specs.Describes.{names_pending}
+use Rattle.ftl_core.specs.Moves as core
+use Rattle.ftl_core.specs.Moves.{repairs_in, stored_of}
+use Rattle.ftl_core.proofs.look_and_accept.Numbers.{pending_mended}
+use Rattle.ftl_core.proofs.pages.NamesBehind.{names_more}
+use Rattle.ftl_core.proofs.pages.PagesNamed.{pages_known, pages_more}
 
 -- The ledger
 
@@ -48,49 +38,47 @@ durable_same : (l : Ledger) (g : keys.Group) (k : Key) → l.frontier - l.greate
 durable_same l g k w = ap (λ (gs : List keys.Group). latest_in k l.greatest_seen gs (l.first_page k))
     (sym (take-append-le (l.frontier - l.greatest_seen) l.groups (g ∷ []) w))
 
-abbrev pub one_page : Key → List ℕ → keys.Group
-one_page k body = record { key = k; body = body } ∷ []
+-- the names of the group come behind those that are pending
+names_grow : (l : Ledger) (g : keys.Group) → l.greatest_seen ≤ l.frontier →
+    l.frontier ≤ l.greatest_seen + length l.groups → before_accepted l ≤ l.frontier →
+    pending (with_group l g) ≡ pending l ++ g ∷ [] →
+    names_pending (with_group l g) ≡ names_pending l ++ names_of (next_number l) g
+names_grow l g above within repaired pends =
+    ap (names_behind l.frontier) pends
+    ∙ (names_more l.frontier (pending l) (g ∷ [])
+    ∙ ap (λ (names : List Name). names_pending l ++ names)
+    (append-nil (names_of (l.frontier + length (pending l) + 1) g) ∙ ap (λ (n : ℕ). names_of n g) number))
+  where
+    number : l.frontier + length (pending l) + 1 ≡ next_number l
+    number =
+        let long = length-drop (l.frontier - l.greatest_seen) l.groups in
+        let same = ap (λ (gs : List keys.Group). length gs) (pending_mended l repaired) in
+        omega (arith, long, same, above, within)
 
--- one group more is behind the frontier
-behind_more : (l : Ledger) (g : keys.Group) → before_accepted l ≤ l.frontier →
-    l.frontier - l.greatest_seen ≤ length l.groups → pending (with_group l g) ≡ behind l ++ g ∷ []
-behind_more l g repaired w = pending_mended (with_group l g) repaired
-    ∙ drop-append-le (l.frontier - l.greatest_seen) l.groups (g ∷ []) w
-
-pub ledger_more : (c : Core) (t : Translation) (k : Key) (body : List ℕ) → Describes c t →
-    is_mended t.work.mending ≡ true → is_data (record { key = k; written = None; body = body }) ≡ true →
-    LedgerKept c.numbers c.places (accepted c k body).groups c.frontier (with_group t.ledger (one_page k body))
-ledger_more c t k body h mended data_page = record {
+pub ledger_more : (c : Core) (t : Translation) (g : keys.Group) (ps : List Pending) → Describes c t →
+    is_mended t.work.mending ≡ true → pending (with_group t.ledger g) ≡ pending t.ledger ++ g ∷ [] →
+    PagesKept t.ledger.standing (entry_of (with_group t.ledger g)) ps (names_of (next_number t.ledger) g) →
+    LedgerKept c.numbers c.places (c.pages ++ ps) c.frontier (core.next_number c) (with_group t.ledger g)
+ledger_more c t g ps h mended pends new = record {
   frontier = h.kept.ledger_kept.frontier;
-  groups = subst (GroupsKept t.ledger.standing t.ledger.frontier (c.groups ++ last ∷ []))
-      (sym (behind_more t.ledger (one_page k body) (h.kept.work.repaired mended) within))
-      (kept_more t.ledger.standing t.ledger.frontier c.groups (behind t.ledger) last (one_page k body)
-      (kept_groups c t h mended)
-      (record {
-        page = refl;
-        data_page = data_page;
-        stands = never_stood t number 0 (t.ledger.standing number 0) h.valid new refl;
-      }));
+  last_given =
+      let e = h.kept.ledger_kept.last_given in
+      let long = grown_length t.ledger.groups g in
+      omega (arith, e, long);
+  pages = subst (PagesKept t.ledger.standing (entry_of (with_group t.ledger g)) (c.pages ++ ps))
+      (sym (names_grow t.ledger g h.valid.frontier.above h.valid.frontier.within
+      (h.kept.work.repaired mended) pends))
+      (pages_more t.ledger.standing (entry_of (with_group t.ledger g)) c.pages ps (names_pending t.ledger)
+      (names_of (next_number t.ledger) g)
+      (pages_known t.ledger.standing (entry_of t.ledger) (entry_of (with_group t.ledger g)) c.pages
+      (names_pending t.ledger)
+      (λ (name : Name) (e : Entry) known. page_grows (book t) g name.number name.index e known)
+      h.kept.ledger_kept.pages) new);
   keys = h.kept.ledger_kept.keys;
   places = λ j is. subst (IsStored t.ledger.standing (stored_of c j))
-      (durable_same t.ledger (one_page k body) j within) (h.kept.ledger_kept.places j is);
+      (durable_same t.ledger g j (let a = h.valid.frontier.above in let w = h.valid.frontier.within in omega arith))
+      (h.kept.ledger_kept.places j is);
 }
-  where
-    within : t.ledger.frontier - t.ledger.greatest_seen ≤ length t.ledger.groups
-    within = let a = h.valid.frontier.above in let w = h.valid.frontier.within in omega arith
-
-    last : Group
-    last = record { key = k; written = None; body = body }
-
-    number : ℕ
-    number = suc (t.ledger.frontier + length c.groups)
-
-    new : last_number (book t) < suc (t.ledger.frontier + length c.groups)
-    new =
-        let e = groups_left c t h in
-        let f = h.kept.ledger_kept.frontier in
-        let none = repairs_mended c t h mended in
-        omega (arith, e, f, none)
 
 -- What is known of the mending
 
@@ -129,7 +117,7 @@ pins_kept_more t g (p ∷ ps) [] r = absurd r
 pins_kept_more t g (p ∷ ps) (q ∷ qs) r = (
   record {
     tag = r.0.tag;
-    first = r.0.first;
+    index = r.0.index;
     looked_at = r.0.looked_at;
     there = there_more p.key q.looked r.0.there;
     wanted = r.0.wanted;

@@ -1,32 +1,33 @@
--- The numbers of groups: behind the frontier come those of the pending groups, or that of the repair under way.
-use Rattle.std.proofs.Common.{◌≡◌, ◌∙◌, ◌⊎◌, ℕ, suc, ◌+◌, ◌-◌, ◌<◌, ◌≤◌, Bool, true, false, List, [], ◌∷◌, Option}
-use Rattle.std.proofs.Common.{Some, None, length, drop, refl, sym, ap, subst, inl, inr, ⊎_elim, arith}
-use Rattle.std.proofs.lemmas.List.{drop-drop, length-drop}
+-- The numbers of groups: behind the frontier come those of the pending groups, or that of the repair under way. The
+-- pages that are kept are those of the pending groups.
+use Rattle.std.proofs.Common.{◌≡◌, ◌∙◌, ◌⊎◌, ℕ, suc, ◌+◌, ◌-◌, ◌<◌, ◌≤◌, Bool, true, false, List, Option}
+use Rattle.std.proofs.Common.{Some, None, length, drop, refl, sym, ap, subst, inl, inr, ⊎_elim, arith, sum_by}
+use Rattle.std.proofs.lemmas.List.{drop-drop, length-drop, nil_from_length}
 use Rattle.ufs_spec.specs.Keys as keys
 use Rattle.ufs_spec.specs.Ledger as ledger
-use Rattle.ufs_spec.specs.Ledger.{Ledger, Name, before_accepted, pending}
+use Rattle.ufs_spec.specs.Ledger.{Entry, Ledger, Name, before_accepted, entry_of, pending}
 use Rattle.ufs_spec.specs.Moves.{step_behind}
 use Rattle.ufs_spec.specs.Translation as layer
-use Rattle.ufs_spec.specs.Translation.{Mended, Mending, RepairStep, Repairing, Translation, Unmarked, is_mended}
+use Rattle.ufs_spec.specs.Translation.{RepairStep, Repairing, Translation, is_mended}
+use Rattle.ufs_spec.specs.Translation.{names_behind, pending_pages}
 use Rattle.ufs_spec.specs.declared.flash.Key.{Key}
 use Rattle.ufs_spec.specs.declared.flash.Place.{Place}
 use Rattle.ufs_spec.proofs.Facts.{cases_Bool, true≢false}
-use Rattle.power_loss.specs.Book.{book, last_number}
-use Rattle.power_loss.specs.Invariant.{IsLastRepair, MendingRight, Valid}
-use Rattle.ftl_core.specs.declared.books.Group.{Group}
+use Rattle.power_loss.specs.Invariant.{Valid}
+use Rattle.ftl_core.specs.declared.books.Pending.{Pending}
 use Rattle.ftl_core.specs.declared.books.Step as kept_step
 use Rattle.ftl_core.specs.declared.books.Step.TheVariants as steps
 use Rattle.ftl_core.specs.Core.{Core}
-use Rattle.ftl_core.specs.Describes.{Describes, GroupsKept, Standing, StepKept}
+use Rattle.ftl_core.specs.Describes.{Describes, PagesKept, Standing, StepKept}
 use Rattle.ftl_core.specs.Moves.{next_number, repairs_in}
+use Rattle.ftl_core.proofs.pages.NamesBehind.{count_names}
+use Rattle.ftl_core.proofs.pages.PagesNamed.{same_count}
 
--- as many groups are kept as there are
-pub groups_length : (standing : Standing) (n : ℕ) (gs : List Group) (hs : List keys.Group) →
-    GroupsKept standing n gs hs → length gs ≡ length hs
-groups_length standing n [] [] h = refl
-groups_length standing n [] (y ∷ hs) h = absurd h
-groups_length standing n (g ∷ gs) [] h = absurd h
-groups_length standing n (g ∷ gs) (y ∷ hs) h = ap suc (groups_length standing (suc n) gs hs h.1)
+-- as many pages are kept as the groups have
+pub pages_length : (standing : Standing) (entries : Name → Option Entry) (n : ℕ) (ps : List Pending)
+    (gs : List keys.Group) → PagesKept standing entries ps (names_behind n gs) → length ps ≡ sum_by length gs
+pages_length standing entries n ps gs h =
+    same_count standing entries ps (names_behind n gs) h ∙ count_names n gs
 
 -- The step under way
 
@@ -64,11 +65,6 @@ repairs_behind l (Some (steps.Repair n k from there)) content (Some s) h =
 
 -- How far the mending is
 
--- the groups are all there is behind the frontier, or one of them, which is the last, is being repaired
-abbrev pub GroupsBehind : Ledger → Bool → Type 0
-GroupsBehind l true = before_accepted l ≤ l.frontier
-GroupsBehind l false = l.repairs ≡ length l.groups
-
 module _ (t : Translation) (v : Valid t) where
   -- a repair is under way while keys are repaired alone
   repairing : IsRepair t.work.step → (left : List Key) × (t.work.mending ≡ Repairing left)
@@ -79,20 +75,6 @@ module _ (t : Translation) (v : Valid t) where
     where
       false_is : false ≡ true → ⊥
       false_is e = cc
-
-  -- until the device is mended all groups are repairs, and all but the one under way are at or under the frontier
-  behind_unmended : (m : Mending) → MendingRight (book t) t.disk t.ledger t.work.plan t.work.step m →
-      is_mended m ≡ false → (t.ledger.frontier ≡ last_number (book t))
-      ⊎ ((suc t.ledger.frontier ≡ last_number (book t)) × IsRepair t.work.step)
-  behind_unmended (Unmarked fence lost) r e =
-      let long = ap (λ (gs : List keys.Group). length gs) r.none_new in
-      let still = r.still in
-      inl (omega (arith, long, still))
-  behind_unmended (Repairing left) r e =
-      ⊎_elim (λ h. inl h)
-      (λ (h : (suc t.ledger.frontier ≡ last_number (book t)) × IsLastRepair (book t) t.work.step).
-      inr (h.0, (_, h.1.0, h.1.1, h.1.2))) r.more.under_way
-  behind_unmended Mended r e = cc
 
 -- the groups above the frontier
 abbrev pub behind : Ledger → List keys.Group
@@ -136,60 +118,34 @@ module _ (c : Core) (t : Translation) (h : Describes c t) where
       ⊎_elim (λ k. k.0) (λ k. absurd (no_repair_mended t h.valid k.2 e))
       (repairs_behind t.ledger c.step c.content t.work.step h.kept.work.step_is)
 
-  kept_length : length c.groups ≡ length (pending t.ledger)
-  kept_length = groups_length t.ledger.standing t.ledger.frontier c.groups (pending t.ledger) h.kept.ledger_kept.groups
+  -- as many pages are kept as are pending
+  pub kept_length : length c.pages ≡ pending_pages t.ledger
+  kept_length = pages_length t.ledger.standing (entry_of t.ledger) t.ledger.frontier c.pages (pending t.ledger)
+      h.kept.ledger_kept.pages
 
   -- and before that no group is accepted
-  pub none_unmended : is_mended t.work.mending ≡ false → length c.groups ≡ 0
-  none_unmended e = kept_length ∙ none_pending t.ledger (h.valid.history.mending e).0
+  pub none_unmended : is_mended t.work.mending ≡ false → length c.pages ≡ 0
+  none_unmended e =
+      kept_length
+      ∙ ap (λ (gs : List keys.Group). sum_by length gs)
+      (nil_from_length (pending t.ledger) (none_pending t.ledger (h.valid.history.mending e).0))
 
-  pub mended_beside : 0 < length c.groups → is_mended t.work.mending ≡ true
+  pub mended_beside : 0 < length c.pages → is_mended t.work.mending ≡ true
   mended_beside some =
       ⊎_elim (λ e. e) (λ e. let none = none_unmended e in absurd (omega (arith, some, none)))
       (cases_Bool (is_mended t.work.mending))
 
-  -- where a group is pending no repair is under way
-  pub no_repair_beside : 0 < length c.groups → repairs_in c.step ≡ 0
-  no_repair_beside some = repairs_mended (mended_beside some)
+  -- once the device is mended the pages that are kept are those of all groups above the frontier
+  pub kept_pages : is_mended t.work.mending ≡ true →
+      PagesKept t.ledger.standing (entry_of t.ledger) c.pages (names_behind t.ledger.frontier (behind t.ledger))
+  kept_pages e =
+      subst (λ (gs : List keys.Group). PagesKept t.ledger.standing (entry_of t.ledger) c.pages
+      (names_behind t.ledger.frontier gs)) (pending_mended t.ledger (h.kept.work.repaired e)) h.kept.ledger_kept.pages
 
-  pub kept_groups : is_mended t.work.mending ≡ true →
-      GroupsKept t.ledger.standing t.ledger.frontier c.groups (behind t.ledger)
-  kept_groups e = subst (GroupsKept t.ledger.standing t.ledger.frontier c.groups)
-      (pending_mended t.ledger (h.kept.work.repaired e)) h.kept.ledger_kept.groups
-
-  -- the numbers behind the frontier are those of the groups that are kept and of the repair under way
-  pub groups_left : c.frontier + length c.groups + repairs_in c.step ≡
-      t.ledger.greatest_seen + length t.ledger.groups
-  groups_left = ⊎_elim mended unmended (cases_Bool (is_mended t.work.mending))
-    where
-      mended : is_mended t.work.mending ≡ true → c.frontier + length c.groups + repairs_in c.step ≡
-          t.ledger.greatest_seen + length t.ledger.groups
-      mended e =
-          let none = repairs_mended e in
-          let long = groups_length t.ledger.standing t.ledger.frontier c.groups (behind t.ledger) (kept_groups e) in
-          let rest = length-drop (t.ledger.frontier - t.ledger.greatest_seen) t.ledger.groups in
-          let above = h.valid.frontier.above in
-          let within = h.valid.frontier.within in
-          let same = h.kept.ledger_kept.frontier in
-          omega (arith, none, long, rest, above, within, same)
-
-      unmended : is_mended t.work.mending ≡ false → c.frontier + length c.groups + repairs_in c.step ≡
-          t.ledger.greatest_seen + length t.ledger.groups
-      unmended e =
-          let long = none_unmended e in
-          let same = h.kept.ledger_kept.frontier in
-          ⊎_elim
-          (λ (k : (repairs_in c.step ≡ 0) × (IsRepair t.work.step → ⊥)).
-          let none = k.0 in
-          ⊎_elim
-          (λ (f : t.ledger.frontier ≡ last_number (book t)). omega (arith, long, same, none, f))
-          (λ (f : (suc t.ledger.frontier ≡ last_number (book t)) × IsRepair t.work.step). absurd (k.1 f.1))
-          (behind_unmended t h.valid t.work.mending h.valid.mending e))
-          (λ (k : (repairs_in c.step ≡ 1) × (suc t.ledger.frontier ≡ t.ledger.greatest_seen + length t.ledger.groups)
-          × IsRepair t.work.step).
-          let one = k.0 in let last = k.1 in omega (arith, long, same, one, last))
-          (repairs_behind t.ledger c.step c.content t.work.step h.kept.work.step_is)
+  -- the greatest number that was given is that of the last group
+  pub last_right : c.last ≡ t.ledger.greatest_seen + length t.ledger.groups
+  last_right = let e = h.kept.ledger_kept.last_given in omega (arith, e)
 
   -- the next number is the ledger's
   pub numbers_right : next_number c ≡ ledger.next_number t.ledger
-  numbers_right = ap (λ (n : ℕ). n + 1) groups_left
+  numbers_right = let e = h.kept.ledger_kept.last_given in omega (arith, e)

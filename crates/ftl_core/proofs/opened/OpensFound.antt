@@ -13,7 +13,7 @@ use Rattle.ufs_spec.specs.Cells as cells
 use Rattle.ufs_spec.specs.Disk as disk
 use Rattle.ufs_spec.specs.Disk.{Spot}
 use Rattle.ufs_spec.specs.Keys as keys
-use Rattle.ufs_spec.specs.Keys.{IsKey, area_pages}
+use Rattle.ufs_spec.specs.Keys.{area_pages}
 use Rattle.ufs_spec.specs.Kept.{fence_in}
 use Rattle.ufs_spec.specs.Ledger as ledger
 use Rattle.ufs_spec.specs.Ledger.{Entry, Ledger, Name, entry_of, latest_durable}
@@ -22,6 +22,7 @@ use Rattle.ufs_spec.specs.Plain.{Shape, shape_of_numbers}
 use Rattle.ufs_spec.specs.Sound.{CellsSound}
 use Rattle.ufs_spec.specs.Translation as layer
 use Rattle.ufs_spec.specs.Translation.{Mended, Mending, Repairing, Translation, Unmarked, flies_name}
+use Rattle.ufs_spec.specs.Translation.{names_behind}
 use Rattle.ufs_spec.specs.declared.configs.Numbers.{Numbers}
 use Rattle.ufs_spec.specs.declared.flash.Fence.{Fence}
 use Rattle.ufs_spec.specs.declared.flash.Key.{Key}
@@ -40,8 +41,9 @@ use Rattle.recovery.proofs.opened.FoundOpens.{found_opens}
 use Rattle.ftl_core.specs.declared.books.Book.{Book}
 use Rattle.ftl_core.specs.declared.books.Stored.{Stored}
 use Rattle.ftl_core.specs.Core.{Core}
-use Rattle.ftl_core.specs.Describes.{AreToRepair, BookKept, Describes, DiesKept, GroupsKept, IsStored}
-use Rattle.ftl_core.specs.Describes.{LedgerKept, PinsKept, Standing, StepKept, WorkKept, mending_kept, spot_at}
+use Rattle.ftl_core.specs.Describes.{AreToRepair, BookKept, Describes, DiesKept, IsStored}
+use Rattle.ftl_core.specs.Describes.{LedgerKept, PagesKept, PinsKept, Standing, StepKept, WorkKept, mending_kept}
+use Rattle.ftl_core.specs.Describes.{spot_at}
 use Rattle.ftl_core.specs.Moves.{first_mending, flat, idle_book, mark_number_behind, mending_from}
 use Rattle.ftl_core.specs.Moves.{number_behind, opened, stored_in, stored_of_found}
 use Rattle.ftl_core.proofs.opened.FoundBlocks.{blocks_found}
@@ -78,12 +80,12 @@ dies_idle n m blocks flights same idle none_fills = record {
   no_more = λ die above. idle die;
 }
 
--- Groups and places
+-- Pages and places
 
-groups_none : (standing : Standing) (n k r : ℕ) (gs : List keys.Group) → gs ≡ [] →
-    GroupsKept standing n [] (drop k (drop r gs))
-groups_none standing n k r gs none = subst (λ (hs : List keys.Group). GroupsKept standing n [] hs) (sym (all_gone k r gs
-    none)) tt
+pages_none : (standing : Standing) (entries : Name → Option Entry) (n k r : ℕ) (gs : List keys.Group) → gs ≡ [] →
+    PagesKept standing entries [] (names_behind n (drop k (drop r gs)))
+pages_none standing entries n k r gs none =
+    subst (λ (hs : List keys.Group). PagesKept standing entries [] (names_behind n hs)) (sym (all_gone k r gs none)) tt
   where
     all_gone : (k r : ℕ) (gs : List keys.Group) → gs ≡ [] → drop k (drop r gs) ≡ []
     all_gone k r gs none = ap (λ (hs : List keys.Group). drop k (drop r hs)) none
@@ -128,11 +130,15 @@ place_found n contents k i e index at =
 
 ledger_found : (n : Numbers) (f : Found) (t : Translation) → OpensFound n f t → t.ledger.groups ≡ [] →
     t.ledger.frontier ≡ t.ledger.greatest_seen →
-    LedgerKept n (map (option_map stored_of_found) f.contents.items) [] (min f.greatest_seen (2 ^ 62)) t.ledger
+    LedgerKept n (map (option_map stored_of_found) f.contents.items) [] (min f.greatest_seen (2 ^ 62))
+    (min f.greatest_seen (2 ^ 62)) t.ledger
 ledger_found n f t h none still = record {
   frontier = min-eq_left h.seen_within ∙ (h.greatest_seen ∙ sym still);
-  groups = groups_none t.ledger.standing t.ledger.frontier (t.ledger.frontier - ledger.before_accepted t.ledger)
-      t.ledger.repairs t.ledger.groups none;
+  last_given = (let least : min f.greatest_seen (2 ^ 62) ≡ f.greatest_seen = min-eq_left h.seen_within in
+      let same = h.greatest_seen in
+      let long = ap (λ (gs : List keys.Group). length gs) none in omega (arith, least, same, long));
+  pages = pages_none t.ledger.standing (entry_of t.ledger) t.ledger.frontier
+      (t.ledger.frontier - ledger.before_accepted t.ledger) t.ledger.repairs t.ledger.groups none;
   keys = keys_there (shape_of_numbers n) f.contents.items
       (λ k i index. let r = h.contents k i index in (r.0, r.1));
   places = λ k has.

@@ -1,10 +1,10 @@
--- The first pin of a reader, which is its only one.
+-- The pin of a block of a reader, which is the only one of this block.
 use Rattle.std.proofs.Common.{◌≡◌, ◌∙◌, ℕ, suc, ◌==◌, Bool, true, false, List, [], ◌∷◌, Option, Some, None, ap}
 use Rattle.std.proofs.Common.{refl, subst, sym, ⊎_elim}
 use Rattle.std.proofs.lemmas.List.Folds.{find_at}
 use Rattle.std.specs.List.{position_or_len}
 use Rattle.std.specs.Prelude.{◌&&◌, cond, filter, find, map, option_and_then, option_map, position, slice_get}
-use Rattle.ufs_spec.proofs.Facts.{false≢true, none-some, same_Some}
+use Rattle.ufs_spec.proofs.Facts.{and_parts, eqb-true, false≢true, none-some, same_Some}
 use Rattle.ufs_spec.proofs.Lists.{find_behind, find_here, position_behind, position_cases, position_here}
 use Rattle.ufs_spec.specs.Ledger.{Entry, Name}
 use Rattle.ufs_spec.specs.Moves as move
@@ -78,42 +78,49 @@ module _ {X : Type 0} (test : X → Bool) where
 
 -- Readers
 
--- it stands for the first of the reader's task
+-- one test passes on both sides
+pub same_test : (frontier : ℕ) (entries : Name → Option Entry) (reader index : ℕ) (p : Pin) (q : layer.Pin) →
+    PinKept frontier entries p q → move.is_pin_of reader index q ≡ is_pin_of reader index p
+same_test frontier entries reader index p q h = λ i. (h.tag i == reader) && (h.index i == index)
+
+-- a pin of a block is of its reader and its index
+pub pin_told : (reader index : ℕ) (p : Pin) → is_pin_of reader index p ≡ true → (p.reader ≡ reader) × (p.index ≡ index)
+pin_told reader index p h =
+    let r = and_parts (p.reader == reader) (p.index == index) h in
+    (eqb-true p.reader reader r.0, eqb-true p.index index r.1)
+
+-- it stands for that of the task's block
 abbrev pub FoundKept : ℕ → (Name → Option Entry) → Option Pin → Option layer.Pin → Type 0
 FoundKept frontier entries None None = Unit {0}
 FoundKept frontier entries (Some p) (Some q) = PinKept frontier entries p q
 FoundKept frontier entries p q = ⊥
 
-pub pins_found : (frontier : ℕ) (entries : Name → Option Entry) (reader : ℕ) (ps : List Pin) (qs : List layer.Pin) →
-    PinsKept frontier entries ps qs →
-    FoundKept frontier entries (find (is_pin_of reader) ps) (find (move.is_pin_of reader 0) qs)
-pins_found frontier entries reader [] [] h = tt
-pins_found frontier entries reader [] (q ∷ qs) h = absurd h
-pins_found frontier entries reader (p ∷ ps) [] h = absurd h
-pins_found frontier entries reader (p ∷ ps) (q ∷ qs) h =
-    by (is_pin_of reader p) (move.is_pin_of reader 0 q)
-    ((λ i. (h.0.tag i == reader) && (h.0.first i == 0)) ∙ whole (is_pin_of reader p))
-    (pins_found frontier entries reader ps qs h.1)
+pub pins_found : (frontier : ℕ) (entries : Name → Option Entry) (reader index : ℕ) (ps : List Pin)
+    (qs : List layer.Pin) → PinsKept frontier entries ps qs →
+    FoundKept frontier entries (find (is_pin_of reader index) ps) (find (move.is_pin_of reader index) qs)
+pins_found frontier entries reader index [] [] h = tt
+pins_found frontier entries reader index [] (q ∷ qs) h = absurd h
+pins_found frontier entries reader index (p ∷ ps) [] h = absurd h
+pins_found frontier entries reader index (p ∷ ps) (q ∷ qs) h =
+    by (is_pin_of reader index p) (move.is_pin_of reader index q) (same_test frontier entries reader index p q h.0)
+    (pins_found frontier entries reader index ps qs h.1)
   where
-    whole : (b : Bool) → (b && true) ≡ b
-    whole true = refl
-    whole false = refl
-
     by : (a b : Bool) → b ≡ a →
-        FoundKept frontier entries (find (is_pin_of reader) ps) (find (move.is_pin_of reader 0) qs) →
-        FoundKept frontier entries (cond a (Some p) (find (is_pin_of reader) ps))
-        (cond b (Some q) (find (move.is_pin_of reader 0) qs))
+        FoundKept frontier entries (find (is_pin_of reader index) ps) (find (move.is_pin_of reader index) qs) →
+        FoundKept frontier entries (cond a (Some p) (find (is_pin_of reader index) ps))
+        (cond b (Some q) (find (move.is_pin_of reader index) qs))
     by true true e rest = h.0
     by true false e rest = cc
     by false true e rest = cc
     by false false e rest = rest
 
 -- where the reader keeps something, so does its task
-pub pin_found : (frontier : ℕ) (entries : Name → Option Entry) (reader : ℕ) (ps : List Pin) (qs : List layer.Pin)
-    (p : Pin) → PinsKept frontier entries ps qs → find (is_pin_of reader) ps ≡ Some p →
-    (q : layer.Pin) × (find (move.is_pin_of reader 0) qs ≡ Some q) × PinKept frontier entries p q
-pin_found frontier entries reader ps qs p h e =
-    by (find (is_pin_of reader) ps) (find (move.is_pin_of reader 0) qs) e (pins_found frontier entries reader ps qs h)
+pub pin_found : (frontier : ℕ) (entries : Name → Option Entry) (reader index : ℕ) (ps : List Pin) (qs : List layer.Pin)
+    (p : Pin) → PinsKept frontier entries ps qs → find (is_pin_of reader index) ps ≡ Some p →
+    (q : layer.Pin) × (find (move.is_pin_of reader index) qs ≡ Some q) × PinKept frontier entries p q
+pin_found frontier entries reader index ps qs p h e =
+    by (find (is_pin_of reader index) ps) (find (move.is_pin_of reader index) qs) e
+    (pins_found frontier entries reader index ps qs h)
   where
     by : (o : Option Pin) (r : Option layer.Pin) → o ≡ Some p → FoundKept frontier entries o r →
         (q : layer.Pin) × (r ≡ Some q) × PinKept frontier entries p q

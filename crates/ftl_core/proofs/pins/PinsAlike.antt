@@ -59,7 +59,7 @@ page_alike s (OnPage name place) h = (name, ap (OnPage name) h.1, h.0)
 looks_alike : (s : Spot) (kept : Looked) (q : ledger.Looked) → IsLookedAt kept q →
     keeps_page s.die s.block kept ≡ layer.looks_into s q
 looks_alike s looked.Nothing Unwritten is = refl
-looks_alike s (looked.Slot n) (InSlot name) is = refl
+looks_alike s (looked.Slot n i) (InSlot name) is = refl
 looks_alike s (looked.Page p) (OnPage name place) is = ap (λ z. same_spot (spot_of z) s) (sym is.1)
 looks_alike s kept q is = absurd is
 

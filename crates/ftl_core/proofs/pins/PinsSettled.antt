@@ -1,8 +1,12 @@
 -- What readers keep when one group more is durable: who kept its slot keeps its page.
-use Rattle.std.proofs.Common.{◌≡◌, ◌≢◌, ◌∙◌, ℕ, suc, ◌<◌, ◌≤◌, Bool, true, false, List, [], ◌∷◌, Option, Some, None}
-use Rattle.std.proofs.Common.{map, refl, sym, ap, subst, ⊎_elim, arith, lt-ltb, le-ltb}
-use Rattle.std.specs.Prelude.{◌==◌, if◌then◌else◌, nat_lt}
+use Rattle.std.proofs.Common.{◌≡◌, ◌≢◌, ◌∙◌, ℕ, zero, suc, ◌+◌, ◌<◌, ◌≤◌, Bool, true, false, List, [], ◌∷◌, Option}
+use Rattle.std.proofs.Common.{Some, None, length, map, refl, sym, ap, subst, ⊎_elim, arith, lt-ltb, le-ltb}
+use Rattle.std.specs.Prelude.{◌==◌, ◌&&◌, fold, if◌then◌else◌, nat_lt}
+use Rattle.std.proofs.lemmas.Bool.{ne_eqb}
 use Rattle.std.proofs.lemmas.Bool.Decides.{eqb_tells}
+use Rattle.ufs_spec.proofs.Facts.{and_from, eq-eqb}
+use Rattle.ufs_spec.proofs.Lists.{map_twice}
+use Rattle.ufs_spec.specs.Keys.{Item}
 use Rattle.ufs_spec.specs.Ledger as ledger
 use Rattle.ufs_spec.specs.Ledger.{Entry, InSlot, Ledger, Name, OnPage, Unwritten, looked_on, settled_look}
 use Rattle.ufs_spec.specs.Moves.{settled_pin}
@@ -12,10 +16,14 @@ use Rattle.ufs_spec.specs.declared.flash.Place.{Place}
 use Rattle.power_loss.proofs.books.SmallFacts.{if_false, if_true}
 use Rattle.ftl_core.specs.declared.books.Looked.{Looked}
 use Rattle.ftl_core.specs.declared.books.Looked.TheVariants as looked
+use Rattle.ftl_core.specs.declared.books.Pending.{Pending}
 use Rattle.ftl_core.specs.declared.books.Pin.{Pin}
 use Rattle.ftl_core.specs.declared.books.Stored.{Stored}
-use Rattle.ftl_core.specs.Describes.{IsLookOf, IsLookedAt, IsWanted, PinsKept, name_at}
+use Rattle.ftl_core.specs.Core.{Core}
+use Rattle.ftl_core.specs.Describes.{IsLookOf, IsLookedAt, IsWanted, PinsKept, Standing, name_at}
+use Rattle.ftl_core.specs.Ends.{page_durable, page_durable_at}
 use Rattle.ftl_core.specs.Moves.{moved_pin, now_stored}
+use Rattle.ftl_core.proofs.group_settled.FrontPages.{AreStandingPages}
 use Rattle.ftl_core.proofs.pins.PinsAlike.{pins_mapped}
 
 -- the ledger with another frontier
@@ -77,64 +85,198 @@ pins_twice l a b (q ∷ qs) le =
 
 -- One group more
 
+-- what is looked at once the page is durable, if it is written
+abbrev now_by : Pending → Option Place → Looked → Looked
+now_by p None x = x
+now_by p (Some place) x = now_stored p.index (record { place = place; number = p.number }) x
+
+-- page by page
+abbrev pub now_all : List Pending → Looked → Looked
+now_all [] x = x
+now_all (p ∷ ps) x = now_all ps (now_by p p.written x)
+
+abbrev pub moved_all : List Pending → Pin → Pin
+moved_all ps pin = record pin { looked = now_all ps pin.looked }
+
+-- so the pins are moved
+pub pins_all : (ps : List Pending) (c : Core) → (fold page_durable c ps).pins ≡ map (moved_all ps) c.pins
+pins_all [] c = sym (same c.pins)
+  where
+    same : (pins : List Pin) → map (λ (pin : Pin). pin) pins ≡ pins
+    same [] = refl
+    same (pin ∷ pins) = ap (λ (rest : List Pin). pin ∷ rest) (same pins)
+pins_all (p ∷ ps) c = by p.written (pins_all ps (page_durable c p))
+  where
+    by : (o : Option Place) →
+        (fold page_durable (page_durable_at c p o) ps).pins ≡ map (moved_all ps) (page_durable_at c p o).pins →
+        (fold page_durable (page_durable_at c p o) ps).pins ≡
+        map (λ (pin : Pin). record pin { looked = now_all ps (now_by p o pin.looked) }) c.pins
+    by None r = r
+    by (Some place) r =
+        r ∙ map_twice (moved_all ps) (moved_pin p.index (record { place = place; number = p.number })) c.pins
+
+-- who looks at nothing or at a page goes on to
+now_nothing : (ps : List Pending) → now_all ps looked.Nothing ≡ looked.Nothing
+now_nothing [] = refl
+now_nothing (p ∷ ps) = ap (now_all ps) (by p.written) ∙ now_nothing ps
+  where
+    by : (o : Option Place) → now_by p o looked.Nothing ≡ looked.Nothing
+    by None = refl
+    by (Some place) = refl
+
+now_page : (ps : List Pending) (s : Stored) → now_all ps (looked.Page s) ≡ looked.Page s
+now_page [] s = refl
+now_page (p ∷ ps) s = ap (now_all ps) (by p.written) ∙ now_page ps s
+  where
+    by : (o : Option Place) → now_by p o (looked.Page s) ≡ looked.Page s
+    by None = refl
+    by (Some place) = refl
+
+slot_stays : (n i : ℕ) (p : Pending) (place : Place) → ((n == p.number) && (i == p.index)) ≡ false →
+    p.written ≡ Some place → now_by p p.written (looked.Slot n i) ≡ looked.Slot n i
+slot_stays n i p place e written =
+    ap (λ (o : Option Place). now_by p o (looked.Slot n i)) written
+    ∙ if_false ((n == p.number) && (i == p.index)) (looked.Page (record { place = place; number = p.number }))
+    (looked.Slot n i) e
+
+slot_moves : (n i : ℕ) (p : Pending) (place : Place) → p.number ≡ n → p.index ≡ i → p.written ≡ Some place →
+    now_by p p.written (looked.Slot n i) ≡ looked.Page (record { place = place; number = n })
+slot_moves n i p place number index written =
+    ap (λ (o : Option Place). now_by p o (looked.Slot n i)) written
+    ∙ if_true ((n == p.number) && (i == p.index)) (looked.Page (record { place = place; number = p.number }))
+    (looked.Slot n i)
+    (and_from (n == p.number) (i == p.index) (eq-eqb n p.number (sym number)) (eq-eqb i p.index (sym index)))
+    ∙ ap (λ (m : ℕ). looked.Page (record { place = place; number = m })) number
+
+-- who looks at the slot of another group does so too
+now_other : (st : Standing) (n i : ℕ) (ps : List Pending) (xs : List Item) → AreStandingPages st n i ps xs →
+    (m j : ℕ) → m ≢ n → now_all ps (looked.Slot m j) ≡ looked.Slot m j
+now_other st n i [] xs h m j apart = refl
+now_other st n i (p ∷ ps) [] h m j apart = absurd h
+now_other st n i (p ∷ ps) (x ∷ xs) h m j apart =
+    ap (now_all ps) (slot_stays m j p h.0.place
+    (ap (λ (b : Bool). b && (j == p.index)) (ne_eqb m p.number (λ e. apart (e ∙ h.0.number)))) h.0.written)
+    ∙ now_other st n (suc i) ps xs h.1 m j apart
+
+-- and who looks at a slot of this one looks at its page
+record IsMoved (st : Standing) (n j : ℕ) (ps : List Pending) : Type 0 where
+  place : Place
+  stands : st n j ≡ Some place
+  moved : now_all ps (looked.Slot n j) ≡ looked.Page (record { place = place; number = n })
+
+now_here : (st : Standing) (n i : ℕ) (ps : List Pending) (xs : List Item) → AreStandingPages st n i ps xs →
+    (j : ℕ) → j < length xs → IsMoved st n (i + j) ps
+now_here st n i [] [] h j l = absurd (omega arith)
+now_here st n i [] (x ∷ xs) h j l = absurd h
+now_here st n i (p ∷ ps) [] h j l = absurd h
+now_here st n i (p ∷ ps) (x ∷ xs) h zero l =
+    subst (λ (m : ℕ). IsMoved st n m (p ∷ ps)) (same i) (record {
+      place = h.0.place;
+      stands = h.0.stands;
+      moved = ap (now_all ps) (slot_moves n i p h.0.place h.0.number h.0.index h.0.written) ∙ now_page ps _;
+    })
+  where
+    same : (i : ℕ) → i ≡ i + 0
+    same i = omega arith
+now_here st n i (p ∷ ps) (x ∷ xs) h (suc j) l = on (now_here st n (suc i) ps xs h.1 j (omega arith))
+  where
+    apart : (i j : ℕ) → i + suc j ≡ i → ⊥
+    apart i j e = omega arith
+
+    next : (i j : ℕ) → suc i + j ≡ i + suc j
+    next i j = omega arith
+
+    none : ((n == p.number) && ((i + suc j) == p.index)) ≡ false
+    none = ap (λ (b : Bool). (n == p.number) && b)
+        (ne_eqb (i + suc j) p.index (λ e. apart i j (e ∙ h.0.index))) ∙ and_with_false (n == p.number)
+      where
+        and_with_false : (b : Bool) → (b && false) ≡ false
+        and_with_false true = refl
+        and_with_false false = refl
+
+    on : IsMoved st n (suc i + j) ps → IsMoved st n (i + suc j) (p ∷ ps)
+    on m = record {
+      place = m.place;
+      stands = ap (st n) (sym (next i j)) ∙ m.stands;
+      moved = ap (now_all ps) (slot_stays n (i + suc j) p h.0.place none h.0.written)
+          ∙ ap (λ (z : ℕ). now_all ps (looked.Slot n z)) (sym (next i j)) ∙ m.moved;
+    }
+
 -- what is kept of one look, with this frontier
 abbrev IsLooked : ℕ → (Name → Option Entry) → Key → Looked → ledger.Looked → Type 0
 IsLooked frontier entries k x y = IsLookedAt x y × IsLookOf frontier entries k y
 
-module _ (l : Ledger) (entries : Name → Option Entry) (s : Stored) (number : s.number ≡ suc l.frontier)
-    (stands : l.standing (suc l.frontier) 0 ≡ Some s.place) where
-  slot_settles : (k : Key) (n : ℕ) → IsLookOf l.frontier entries k (InSlot (name_at n)) →
-      IsLooked (suc l.frontier) entries k (now_stored s (looked.Slot n))
-      (settled_look (at_frontier l (suc l.frontier)) (InSlot (name_at n)))
-  slot_settles k n there = ⊎_elim (λ h. page h.0 h.1) (λ h. slot h.0 h.1) (eqb_tells n s.number)
+module _ (l : Ledger) (entries : Name → Option Entry) (g : List Item) (ps : List Pending)
+    (stand : AreStandingPages l.standing (suc l.frontier) 0 ps g)
+    (inside : (j : ℕ) (e : Entry) → entries (name_at (suc l.frontier) j) ≡ Some e → j < length g) where
+  slot_settles : (k : Key) (n j : ℕ) → IsLookOf l.frontier entries k (InSlot (name_at n j)) →
+      IsLooked (suc l.frontier) entries k (now_all ps (looked.Slot n j))
+      (settled_look (at_frontier l (suc l.frontier)) (InSlot (name_at n j)))
+  slot_settles k n j there = ⊎_elim (λ h. page h.1) (λ h. slot h.1) (eqb_tells n (suc l.frontier))
     where
-      page : (n == s.number) ≡ true → n ≡ s.number →
-          IsLooked (suc l.frontier) entries k (now_stored s (looked.Slot n))
-          (settled_look (at_frontier l (suc l.frontier)) (InSlot (name_at n)))
-      page t e =
-          let at : n ≡ suc l.frontier = e ∙ number in
-          let told : settled_look (at_frontier l (suc l.frontier)) (InSlot (name_at n)) ≡ OnPage (name_at n) s.place =
-          if_false (nat_lt (suc l.frontier) n) (InSlot (name_at n)) (looked_on (name_at n) (l.standing n 0))
+      page : n ≡ suc l.frontier → IsLooked (suc l.frontier) entries k (now_all ps (looked.Slot n j))
+          (settled_look (at_frontier l (suc l.frontier)) (InSlot (name_at n j)))
+      page at =
+          let named : (e : Entry) × (entries (name_at n j) ≡ Some e) × (e.item.key ≡ k) = there.1 in
+          let low = inside j named.0 (ap (λ (m : ℕ). entries (name_at m j)) (sym at) ∙ named.1) in
+          let m : IsMoved l.standing (suc l.frontier) j ps =
+          subst (λ (z : ℕ). IsMoved l.standing (suc l.frontier) z ps) (same j)
+          (now_here l.standing (suc l.frontier) 0 ps g stand j low) in
+          let told : settled_look (at_frontier l (suc l.frontier)) (InSlot (name_at n j)) ≡
+          OnPage (name_at n j) m.place =
+          if_false (nat_lt (suc l.frontier) n) (InSlot (name_at n j)) (looked_on (name_at n j) (l.standing n j))
           (le-ltb (suc l.frontier) n (omega arith))
-          ∙ ap (looked_on (name_at n)) (ap (λ (m : ℕ). l.standing m 0) at ∙ stands) in
+          ∙ ap (looked_on (name_at n j)) (ap (λ (z : ℕ). l.standing z j) at ∙ m.stands) in
+          let now = ap (λ (z : ℕ). now_all ps (looked.Slot z j)) at ∙ m.moved in
           subst (λ (z : Looked × ledger.Looked). IsLooked (suc l.frontier) entries k z.0 z.1)
-          (λ i. (sym (if_true (n == s.number) (looked.Page s) (looked.Slot n) t) i, sym told i))
-          ((e, refl), there.1)
+          (λ i. (sym now i, sym told i))
+          ((at, refl), there.1)
+        where
+          same : (j : ℕ) → 0 + j ≡ j
+          same j = omega arith
 
-      slot : (n == s.number) ≡ false → n ≢ s.number →
-          IsLooked (suc l.frontier) entries k (now_stored s (looked.Slot n))
-          (settled_look (at_frontier l (suc l.frontier)) (InSlot (name_at n)))
-      slot t e =
+      slot : n ≢ suc l.frontier → IsLooked (suc l.frontier) entries k (now_all ps (looked.Slot n j))
+          (settled_look (at_frontier l (suc l.frontier)) (InSlot (name_at n j)))
+      slot e =
           let before = there.0 in
-          let above : suc l.frontier < n = omega (arith, before, number, e) in
+          let above : suc l.frontier < n = omega (arith, before, e) in
           subst (λ (z : Looked × ledger.Looked). IsLooked (suc l.frontier) entries k z.0 z.1)
           (λ i. (
-            sym (if_false (n == s.number) (looked.Page s) (looked.Slot n) t) i,
-            sym (if_true (nat_lt (suc l.frontier) n) (InSlot (name_at n)) (looked_on (name_at n) (l.standing n 0))
+            sym (now_other l.standing (suc l.frontier) 0 ps g stand n j e) i,
+            sym (if_true (nat_lt (suc l.frontier) n) (InSlot (name_at n j))
+                (looked_on (name_at n j) (l.standing n j))
                 (lt-ltb (suc l.frontier) n above)) i,
           ))
           (refl, (above, there.1))
 
   look_settles : (k : Key) (x : Looked) (y : ledger.Looked) → IsLookedAt x y → IsLookOf l.frontier entries k y →
-      IsLooked (suc l.frontier) entries k (now_stored s x) (settled_look (at_frontier l (suc l.frontier)) y)
-  look_settles k looked.Nothing Unwritten at there = (tt, tt)
-  look_settles k (looked.Slot n) (InSlot name) at there =
-      subst (λ (z : Name). IsLooked (suc l.frontier) entries k (now_stored s (looked.Slot n))
+      IsLooked (suc l.frontier) entries k (now_all ps x) (settled_look (at_frontier l (suc l.frontier)) y)
+  look_settles k looked.Nothing Unwritten at there =
+      subst (λ (z : Looked). IsLooked (suc l.frontier) entries k z Unwritten) (sym (now_nothing ps)) (tt, tt)
+  look_settles k (looked.Slot n j) (InSlot name) at there =
+      subst (λ (z : Name). IsLooked (suc l.frontier) entries k (now_all ps (looked.Slot n j))
       (settled_look (at_frontier l (suc l.frontier)) (InSlot z)))
-      (sym at) (slot_settles k n (subst (λ (z : Name). IsLookOf l.frontier entries k (InSlot z)) at there))
-  look_settles k (looked.Page t) (OnPage name place) at there = (at, there)
+      (sym at) (slot_settles k n j (subst (λ (z : Name). IsLookOf l.frontier entries k (InSlot z)) at there))
+  look_settles k (looked.Page t) (OnPage name place) at there =
+      subst (λ (z : Looked). IsLooked (suc l.frontier) entries k z (OnPage name place)) (sym (now_page ps t))
+      (at, there)
   look_settles k x y at there = absurd at
 
   -- what readers keep goes on to be what the layer has
-  pub pins_settle : (ps : List Pin) (qs : List layer.Pin) → PinsKept l.frontier entries ps qs →
-      PinsKept (suc l.frontier) entries (map (moved_pin s) ps) (map (settled_pin (at_frontier l (suc l.frontier))) qs)
-  pins_settle ps qs h =
-      pins_mapped l.frontier (suc l.frontier) entries entries (moved_pin s)
-      (settled_pin (at_frontier l (suc l.frontier))) ps qs
+  pub pins_settle : (pins : List Pin) (qs : List layer.Pin) → PinsKept l.frontier entries pins qs →
+      PinsKept (suc l.frontier) entries (map (moved_all ps) pins)
+      (map (settled_pin (at_frontier l (suc l.frontier))) qs)
+  pins_settle pins qs h =
+      pins_mapped l.frontier (suc l.frontier) entries entries (moved_all ps)
+      (settled_pin (at_frontier l (suc l.frontier))) pins qs
       (λ p q k. let r = look_settles p.key p.looked q.looked k.looked_at k.there in
-      record { tag = k.tag; first = k.first; looked_at = r.0; there = r.1; wanted = k.wanted }) h
+      record { tag = k.tag; index = k.index; looked_at = r.0; there = r.1; wanted = k.wanted }) h
 
 -- who wants a page goes on to want it
-pub still_wanted : (s : Stored) (place : Place) (p : Pin) → IsWanted place p → IsWanted place (moved_pin s p)
-still_wanted s place p w =
-    record { stored = w.stored; looks = ap (now_stored s) w.looks; place_is = w.place_is; wanted = w.wanted }
+pub still_wanted : (ps : List Pending) (place : Place) (p : Pin) → IsWanted place p → IsWanted place (moved_all ps p)
+still_wanted ps place p w = record {
+  stored = w.stored;
+  looks = ap (now_all ps) w.looks ∙ now_page ps w.stored;
+  place_is = w.place_is;
+  wanted = w.wanted;
+}

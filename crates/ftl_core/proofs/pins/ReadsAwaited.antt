@@ -4,7 +4,7 @@ use Rattle.std.proofs.Common.{sym, ap, subst, inl, inr, ◌⊎◌}
 use Rattle.std.specs.Prelude.{slice_get}
 use Rattle.ufs_spec.proofs.Facts.{none-some}
 use Rattle.ufs_spec.specs.Disk as disk
-use Rattle.ufs_spec.specs.Disk.{ForNobody, ForRest, ForStep, ForTask, Reader, Reading, Spot}
+use Rattle.ufs_spec.specs.Disk.{ForNobody, ForStep, ForTask, Reader, Reading}
 use Rattle.ufs_spec.specs.Ledger.{OnPage, entry_of}
 use Rattle.ufs_spec.specs.Translation.{Translation}
 use Rattle.ufs_spec.specs.declared.configs.Numbers.{Numbers}
@@ -28,26 +28,25 @@ use Rattle.ftl_core.proofs.job_taken.NextStarts.{outside}
 
 reader_is : (n : Numbers) (step : Option Step) (die : ℕ) (filling : Option OpenBlock) (f : Option Flight) (who : Reader)
     (place : Place) → IsFlight n step die filling f (Some (Reading who place)) →
-    ((who ≡ ForNobody) ⊎ (who ≡ ForStep)) ⊎ ((tag : ℕ) × (who ≡ ForTask tag 0))
+    ((who ≡ ForNobody) ⊎ (who ≡ ForStep)) ⊎ ((tag : ℕ) × (index : ℕ) × (who ≡ ForTask tag index))
 reader_is n step die filling (Some (flight.Read p reader)) who place h = known reader who h.1
   where
     known : (reader : kept.Reader) (who : Reader) → IsReader reader who →
-        ((who ≡ ForNobody) ⊎ (who ≡ ForStep)) ⊎ ((tag : ℕ) × (who ≡ ForTask tag 0))
-    known (readers.Task reader) (ForTask tag index) h = inr (tag, ap (ForTask tag) h.1)
+        ((who ≡ ForNobody) ⊎ (who ≡ ForStep)) ⊎ ((tag : ℕ) × (index : ℕ) × (who ≡ ForTask tag index))
+    known (readers.Task reader i) (ForTask tag index) h = inr (tag, index, refl)
     known readers.Step ForStep h = inl (inr refl)
     known readers.Nobody ForNobody h = inl (inl refl)
     known reader who h = absurd h
 reader_is n step die filling f who place h = absurd h
 
-task_reads : (c : Core) (t : Translation) (die tag : ℕ) (place : Place) → Describes c t →
-    t.disk.flights die ≡ Some (Reading (ForTask tag 0) place) → IsAwaited t tag 0 place
-task_reads c t die tag place h flies =
-    let w = h.kept.reads die tag 0 place flies in
-    let q = pin_found t.ledger.frontier (entry_of t.ledger) tag c.pins t.pins w.0 h.kept.pins w.1 in
+task_reads : (c : Core) (t : Translation) (die tag index : ℕ) (place : Place) → Describes c t →
+    t.disk.flights die ≡ Some (Reading (ForTask tag index) place) → IsAwaited t tag index place
+task_reads c t die tag index place h flies =
+    let w = h.kept.reads die tag index place flies in
+    let q = pin_found t.ledger.frontier (entry_of t.ledger) tag index c.pins t.pins w.0 h.kept.pins w.1 in
     let page = page_alike w.2.stored q.0.looked
     (subst (λ (l : Looked). IsLookedAt l q.0.looked) w.2.looks q.2.looked_at) in
     record {
-      first = refl;
       pin = q.0;
       kept = q.1;
       wanted = q.2.wanted ∙ w.2.wanted;
@@ -59,11 +58,12 @@ pub read_awaited : (c : Core) (die : ℕ) (t : Translation) (who : Reader) (plac
     t.disk.flights die ≡ Some (Reading who place) → IsReadOf t place who
 read_awaited c die t who place h flies = by (slice_get c.books die) refl
   where
-    known : ((who ≡ ForNobody) ⊎ (who ≡ ForStep)) ⊎ ((tag : ℕ) × (who ≡ ForTask tag 0)) → IsReadOf t place who
+    known : ((who ≡ ForNobody) ⊎ (who ≡ ForStep)) ⊎ ((tag : ℕ) × (index : ℕ) × (who ≡ ForTask tag index)) →
+        IsReadOf t place who
     known (inl (inl e)) = subst (IsReadOf t place) (sym e) tt
     known (inl (inr e)) = subst (IsReadOf t place) (sym e) tt
-    known (inr e) = subst (IsReadOf t place) (sym e.1)
-        (task_reads c t die e.0 place h (flies ∙ ap (λ (x : Reader). Some (Reading x place)) e.1))
+    known (inr e) = subst (IsReadOf t place) (sym e.2)
+        (task_reads c t die e.0 e.1 place h (flies ∙ ap (λ (x : Reader). Some (Reading x place)) e.2))
 
     by : (b : Option Book) → slice_get c.books die ≡ b → IsReadOf t place who
     by None e = absurd (none-some _ (sym (h.kept.dies.no_more die (outside c t die h.kept e)) ∙ flies))

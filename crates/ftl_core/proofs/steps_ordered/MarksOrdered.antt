@@ -14,14 +14,13 @@ use Rattle.ufs_spec.specs.declared.flash.Place.{Place}
 use Rattle.ftl_core.specs.declared.books.Book.{Book}
 use Rattle.ftl_core.specs.declared.books.Flight.{Flight}
 use Rattle.ftl_core.specs.declared.books.Flight.TheVariants as flight
-use Rattle.ftl_core.specs.declared.books.Group.{Group}
 use Rattle.ftl_core.specs.declared.books.OpenBlock.{OpenBlock}
 use Rattle.ftl_core.specs.declared.books.Step.{Step}
 use Rattle.ftl_core.specs.declared.books.Step.TheVariants as steps
-use Rattle.ftl_core.specs.declared.books.Stored.{Stored}
 use Rattle.ftl_core.specs.Core.{Core}
-use Rattle.ftl_core.specs.Describes.{AreToRepair, DiesKept, IsFlight, Kept, LedgerKept, StepReadsKept, keys_to_repair}
+use Rattle.ftl_core.specs.Describes.{AreToRepair, DiesKept, IsFlight, Kept, StepReadsKept, keys_to_repair}
 use Rattle.ftl_core.specs.Moves.{repairs_in}
+use Rattle.ftl_core.proofs.job_ended.ChangeParts.{ledger_marked}
 
 -- Jobs in flight, where no step was under way
 
@@ -35,7 +34,7 @@ job_on : (n : Numbers) (s : Step) (die : ℕ) (filling : Option OpenBlock) (f : 
 job_on n s die filling None None may h = tt
 job_on n s die filling (Some (flight.Read place r)) (Some (disk.Reading who p)) may h = h
 job_on n s die filling (Some (flight.Step place)) (Some (disk.Programming p cell)) may h = absurd h.2
-job_on n s die filling (Some (flight.Group place number)) (Some (disk.Programming p (GroupPage tag body))) may h =
+job_on n s die filling (Some (flight.Group place number i)) (Some (disk.Programming p (GroupPage tag body))) may h =
     (h.0, h.1, h.2, h.3, may)
 job_on n s die filling (Some (flight.Erase block)) (Some (disk.Erasing spot)) may h = h
 job_on n s die filling f g may h = absurd h
@@ -65,16 +64,6 @@ no_reads flights step next none h die place at =
 
 -- The mark
 
-ledger_marked : (n : Numbers) (places : List (Option Stored)) (groups : List Group) (frontier : ℕ) (l : Ledger)
-    (marks : ℕ) → LedgerKept n places groups frontier l →
-    LedgerKept n places groups frontier (record l { marks = marks })
-ledger_marked n places groups frontier l marks h = record {
-  frontier = h.frontier;
-  groups = h.groups;
-  keys = h.keys;
-  places = h.places;
-}
-
 marked_to_repair : (l : Ledger) (marks : ℕ) (ks : List Key) → AreToRepair l ks →
     AreToRepair (record l { marks = marks }) ks
 marked_to_repair l marks ks h = record { differ = h.differ; unrepaired = h.unrepaired }
@@ -97,7 +86,7 @@ mark_waits c t fence n m k none next same marks = record {
   dies = dies_on t.numbers t.disk.blocks t.disk.flights c.step (steps.Mark n fence) c.books none
       (λ die. may_mark n fence (t.disk.flights die)) k.dies;
   fly = k.fly;
-  ledger_kept = ledger_marked c.numbers c.places c.groups c.frontier t.ledger m k.ledger_kept;
+  ledger_kept = ledger_marked c.numbers c.places c.pages c.frontier c.last t.ledger t.ledger.newest m k.ledger_kept;
   work = record {
     mending_is = k.work.mending_is;
     step_is = ap (λ (x : ℕ). record { kind = layer.MarkStep x fence; there = true }) (sym same);

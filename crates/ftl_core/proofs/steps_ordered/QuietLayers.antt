@@ -1,11 +1,9 @@
 -- A layer whose mending has no step under way: when a step is due, and that nothing else is pending.
 use Rattle.std.proofs.Common.{◌≡◌, ◌∙◌, ◌⊎◌, ℕ, zero, suc, ◌+◌, Bool, true, false, List, [], ◌∷◌, Option, Some, None}
 use Rattle.std.proofs.Common.{length, drop, refl, sym, ap, subst, inl, inr, arith}
-use Rattle.std.specs.Prelude.{◌-◌, ◌&&◌, ◌^◌, if◌then◌else◌, nat_le, nat_lt, is_none, is_some, slice_get}
+use Rattle.std.specs.Prelude.{◌&&◌, ◌^◌, if◌then◌else◌, nat_le, nat_lt, is_none, is_some, slice_get}
 use Rattle.std.proofs.lemmas.Bool.Decides.{nat_tests}
-use Rattle.std.proofs.lemmas.List.{drop_all}
-use Rattle.ufs_spec.specs.Keys as keys
-use Rattle.ufs_spec.specs.Ledger.{Ledger, pending}
+use Rattle.ufs_spec.specs.Ledger.{Ledger}
 use Rattle.ufs_spec.specs.Ledger as ledger
 use Rattle.ufs_spec.specs.Translation as layer
 use Rattle.ufs_spec.specs.Translation.{Mending, OrderMark, OrderRepair, Repairing, Translation, due_order, is_mended}
@@ -14,14 +12,15 @@ use Rattle.power_loss.proofs.books.PagesByName.{none_some}
 use Rattle.power_loss.proofs.books.LayerParts.{MendingOf}
 use Rattle.power_loss.specs.Book.{Book, HasKey, book, last_number}
 use Rattle.power_loss.specs.Invariant.{IsLastRepair}
-use Rattle.ftl_core.specs.declared.books.Group.{Group}
 use Rattle.ftl_core.specs.declared.books.Mending as kept
 use Rattle.ftl_core.specs.declared.books.Mending.TheVariants as mendings
 use Rattle.ftl_core.specs.declared.books.Step as kept_step
 use Rattle.ftl_core.specs.declared.books.Step.TheVariants as steps
 use Rattle.ftl_core.specs.Core.{Core}
-use Rattle.ftl_core.specs.Describes.{Describes, GroupsKept, Kept, Standing, StepKept, mending_kept}
-use Rattle.ftl_core.specs.Moves.{has_mark_number, has_number, is_repair_due, is_step_due, is_turn_due, repairs_in}
+use Rattle.ftl_core.specs.Describes.{Describes, Kept, StepKept, mending_kept}
+use Rattle.ftl_core.proofs.job_taken.Mended.{none_waiting}
+use Rattle.ftl_core.proofs.look_and_accept.Numbers.{numbers_right}
+use Rattle.ftl_core.specs.Moves.{has_mark_number, has_number, is_repair_due, is_step_due, is_turn_due}
 
 -- Lists
 
@@ -56,20 +55,7 @@ no_step c t k none = none_is t.work.step
     (sym (step_kept_none t.ledger c.step c.content t.work.step k.work.step_is) ∙ ap (λ (o : Option kept_step.Step).
     is_none o) none)
 
--- Nothing is pending while keys are repaired
-
-none_kept : (standing : Standing) (n : ℕ) (gs : List Group) (hs : List keys.Group) → hs ≡ [] →
-    GroupsKept standing n gs hs → gs ≡ []
-none_kept standing n [] hs e h = refl
-none_kept standing n (g ∷ gs) [] e h = absurd h
-none_kept standing n (g ∷ gs) (x ∷ hs) e h = cc
-
--- the groups of accepted commands are none where all are repairs
-pub none_pending : (frontier before repairs : ℕ) (gs : List keys.Group) → repairs ≡ length gs →
-    drop (frontier - before) (drop repairs gs) ≡ []
-none_pending frontier before repairs gs all =
-    ap (drop (frontier - before)) (drop_all repairs gs (omega arith))
-    ∙ drop_all (frontier - before) [] (omega arith)
+-- While keys are repaired
 
 under_way : (b : Book) {frontier : ℕ} {step : Option layer.Step} → step ≡ None →
     (frontier ≡ last_number b) ⊎ ((suc frontier ≡ last_number b) × IsLastRepair b step) → frontier ≡ last_number b
@@ -78,7 +64,7 @@ under_way b e (inr h) = absurd (none_some _ (sym e ∙ h.1.2))
 
 -- what is known of a layer that repairs these keys, with no step under way
 pub record IsQuiet (c : Core) (t : Translation) (left : List Key) : Type 0 where
-  pub groups : c.groups ≡ []
+  pub pages : c.pages ≡ []
   pub repairs : t.ledger.repairs ≡ length t.ledger.groups
   pub frontier : t.ledger.frontier ≡ t.ledger.greatest_seen + length t.ledger.groups
   pub keys : (j : ℕ) (k : Key) → slice_get left j ≡ Some k → HasKey (book t) k
@@ -86,17 +72,12 @@ pub record IsQuiet (c : Core) (t : Translation) (left : List Key) : Type 0 where
 pub is_quiet : (c : Core) (t : Translation) (left : List Key) → Describes c t → c.step ≡ None →
     t.work.mending ≡ Repairing left → IsQuiet c t left
 is_quiet c t left h none repairing = record {
-  groups = none_kept t.ledger.standing t.ledger.frontier c.groups (pending t.ledger)
-      (none_pending t.ledger.frontier (ledger.before_accepted t.ledger) t.ledger.repairs t.ledger.groups all)
-      h.kept.ledger_kept.groups;
-  repairs = all;
+  pages = none_waiting c t h (ap is_mended repairing);
+  repairs = (h.valid.history.mending (ap is_mended repairing)).0;
   frontier = under_way (book t) (no_step c t h.kept none) mending.more.under_way;
   keys = mending.more.keys;
 }
   where
-    all : t.ledger.repairs ≡ length t.ledger.groups
-    all = (h.valid.history.mending (ap is_mended repairing)).0
-
     mending : MendingOf t (Repairing left)
     mending = subst (MendingOf t) repairing h.valid.mending
 
@@ -111,21 +92,8 @@ mark_number c t k = number_left c.next_mark t.ledger.marks (2 ^ 62) k.work.next_
 tests : (a b most : ℕ) → a + 1 ≡ b → nat_lt a most ≡ nat_le b most
 tests a b most e = grind (arith, nat_tests)
 
--- the number of the next repair
-pub next_repair : (c : Core) (t : Translation) (left : List Key) → Kept c t → c.step ≡ None → IsQuiet c t left →
-    c.frontier + length c.groups + repairs_in c.step ≡ t.ledger.greatest_seen + length t.ledger.groups
-next_repair c t left k none q =
-    let long : length c.groups ≡ 0 = ap (λ (gs : List Group). length gs) q.groups in
-    let idle : repairs_in c.step ≡ 0 = ap repairs_in none in
-    let same = k.ledger_kept.frontier in
-    let up = q.frontier in
-    omega arith
-
-pub group_number : (c : Core) (t : Translation) (left : List Key) → Kept c t → c.step ≡ None → IsQuiet c t left →
-    has_number c ≡ layer.has_number t
-group_number c t left k none q =
-    tests (c.frontier + length c.groups + repairs_in c.step) (ledger.next_number t.ledger) (2 ^ 62)
-    (ap (λ (n : ℕ). n + 1) (next_repair c t left k none q))
+pub group_number : (c : Core) (t : Translation) → Describes c t → has_number c ≡ layer.has_number t
+group_number c t h = tests c.last (ledger.next_number t.ledger) (2 ^ 62) (numbers_right c t h)
 
 some_if : {A : Type 0} (b : Bool) (x : A) → b ≡ is_some (if b then Some x else None)
 some_if true x = refl
@@ -142,8 +110,7 @@ repair_due : (c : Core) (t : Translation) (left : List Key) → Describes c t �
     is_repair_due c (at_front left) ≡ is_some (layer.next_order t (Repairing left) None)
 repair_due c t [] h none repairing = mark_number c t h.kept ∙ some_if (layer.has_mark_number t) (OrderMark None)
 repair_due c t (k ∷ left) h none repairing =
-    group_number c t (k ∷ left) h.kept none (is_quiet c t (k ∷ left) h none repairing)
-    ∙ some_if (layer.has_number t) (OrderRepair k left)
+    group_number c t h ∙ some_if (layer.has_number t) (OrderRepair k left)
 
 step_due : (c : Core) (t : Translation) (m : kept.Mending) → Describes c t → c.step ≡ None →
     t.work.mending ≡ mending_kept m (drop c.repaired c.lost) →

@@ -6,13 +6,13 @@ use Rattle.std.proofs.lemmas.List.{take-append-le}
 use Rattle.std.proofs.lemmas.List.Elements.{All-head}
 use Rattle.ufs_spec.specs.Cells.{GroupPage}
 use Rattle.ufs_spec.specs.Disk as disk
-use Rattle.ufs_spec.specs.Keys as keys
 use Rattle.ufs_spec.specs.Keys.{IsKey}
 use Rattle.ufs_spec.specs.Ledger as ledger
-use Rattle.ufs_spec.specs.Ledger.{Entry, Ledger, Name, entry_of, latest_durable, latest_in, pending}
+use Rattle.ufs_spec.specs.Ledger.{Entry, Ledger, Name, entry_of, latest_durable, latest_in}
 use Rattle.ufs_spec.specs.Plain.{shape_of_numbers, zero_block}
 use Rattle.ufs_spec.specs.Translation as layer
-use Rattle.ufs_spec.specs.Translation.{Repairing, Translation, flies_name, is_mended, name_of, standing_of, with_repair}
+use Rattle.ufs_spec.specs.Translation.{Repairing, Translation, flies_name, is_mended, name_of}
+use Rattle.ufs_spec.specs.Translation.{standing_of, with_repair}
 use Rattle.ufs_spec.specs.declared.configs.Numbers.{Numbers}
 use Rattle.ufs_spec.specs.declared.flash.Key.{Key}
 use Rattle.ufs_spec.specs.declared.flash.Place.{Place}
@@ -22,18 +22,20 @@ use Rattle.power_loss.proofs.books.PagesByName.{added_page, none_some, page_with
 use Rattle.power_loss.proofs.books.SmallFacts.{name_self}
 use Rattle.power_loss.specs.Book.{BaseAt, BaseNone, Book, FirstRight, HasKey, book, book_of}
 use Rattle.power_loss.specs.Invariant.{Valid}
-use Rattle.ftl_core.specs.declared.books.Group.{Group}
 use Rattle.ftl_core.specs.declared.books.Mending.TheVariants as mendings
+use Rattle.ftl_core.specs.declared.books.Pending.{Pending}
 use Rattle.ftl_core.specs.declared.books.Pin.{Pin}
 use Rattle.ftl_core.specs.declared.books.Step.{Step}
 use Rattle.ftl_core.specs.declared.books.Stored.{Stored}
 use Rattle.ftl_core.specs.Core.{Core}
-use Rattle.ftl_core.specs.Describes.{AreToRepair, Describes, GroupsKept, IsStored, Kept, LedgerKept, PagesFly, PinsKept}
-use Rattle.ftl_core.specs.Describes.{RepairKept, Standing, keys_to_repair, mending_kept, name_at}
+use Rattle.ftl_core.specs.Describes.{AreToRepair, Describes, IsStored, Kept, LedgerKept, PagesFly, PinsKept}
+use Rattle.ftl_core.specs.Describes.{RepairKept, keys_to_repair, mending_kept, name_at, names_pending}
 use Rattle.ftl_core.specs.Moves.{next_number, repair_ordered, repair_step, stored_in, stored_of}
+use Rattle.ftl_core.proofs.look_and_accept.Numbers.{numbers_right}
 use Rattle.ftl_core.proofs.opened.ListParts.{drop_next}
 use Rattle.ftl_core.proofs.steps_ordered.MarksOrdered.{MayBegin, dies_on, no_reads}
-use Rattle.ftl_core.proofs.steps_ordered.QuietLayers.{IsQuiet, next_repair, none_pending}
+use Rattle.ftl_core.proofs.steps_ordered.NonePending.{no_names, none_kept}
+use Rattle.ftl_core.proofs.steps_ordered.QuietLayers.{IsQuiet}
 
 -- Where the content stands
 
@@ -76,32 +78,26 @@ durable_same l k up = (λ i key. latest_in key l.greatest_seen (same i) (l.first
         ≡ take (l.frontier - l.greatest_seen) l.groups
     same = take-append-le (l.frontier - l.greatest_seen) l.groups _ (omega (arith, up))
 
-none_more : (standing : Standing) (n : ℕ) (gs : List Group) (hs : List keys.Group) → gs ≡ [] → hs ≡ [] →
-    GroupsKept standing n gs hs
-none_more standing n [] [] e f = tt
-none_more standing n [] (h ∷ hs) e f = cc
-none_more standing n (g ∷ gs) hs e f = cc
-
-repairs_more : (l : Ledger) (k : Key) → l.repairs ≡ length l.groups → pending (with_repair l k) ≡ []
-repairs_more l k all =
-    none_pending l.frontier (l.greatest_seen + (l.repairs + 1)) (l.repairs + 1)
-    (l.groups ++ (record { key = k; body = l.base k } ∷ []) ∷ [])
-    (let up = grown_length l.groups (record { key = k; body = l.base k } ∷ []) in omega (arith, all, up))
-
-ledger_repaired : (n : Numbers) (places : List (Option Stored)) (groups : List Group) (frontier : ℕ) (l : Ledger)
-    (k : Key) → groups ≡ [] → l.repairs ≡ length l.groups → l.frontier ≡ l.greatest_seen + length l.groups →
-    LedgerKept n places groups frontier l → LedgerKept n places groups frontier (with_repair l k)
-ledger_repaired n places groups frontier l k none all up h = record {
+ledger_repaired : (n : Numbers) (places : List (Option Stored)) (pages : List Pending) (frontier last : ℕ) (l : Ledger)
+    (k : Key) → pages ≡ [] → l.repairs ≡ length l.groups → l.frontier ≡ l.greatest_seen + length l.groups →
+    LedgerKept n places pages frontier last l → LedgerKept n places pages frontier (last + 1) (with_repair l k)
+ledger_repaired n places pages frontier last l k none all up h = record {
   frontier = h.frontier;
-  groups = none_more l.standing l.frontier groups (pending (with_repair l k)) none (repairs_more l k all);
+  last_given = (let given = h.last_given in let longer = more in omega (arith, given, longer));
+  pages = none_kept l.standing (entry_of (with_repair l k)) pages (names_pending (with_repair l k)) none
+      (no_names (with_repair l k) (let longer = more in omega (arith, all, longer)));
   keys = h.keys;
   places = λ key has. subst (λ (f : Key → Option Name). IsStored l.standing (stored_in n places key) (f key))
       (sym (durable_same l k up)) (h.places key has);
 }
+  where
+    more : length (with_repair l k).groups ≡ suc (length l.groups)
+    more = grown_length l.groups (record { key = k; body = l.base k } ∷ [])
 
 -- the page of the repair
 repair_entry : (n : Numbers) (l : Ledger) (k : Key) (number : ℕ) → number ≡ suc (l.greatest_seen + length l.groups) →
-    entry_of (with_repair l k) (name_at number) ≡ Some (record { item = record { key = k; body = l.base k }; size = 1 })
+    entry_of (with_repair l k) (name_at number 0)
+    ≡ Some (record { item = record { key = k; body = l.base k }; size = 1 })
 repair_entry n l k number is =
     added_page (book_of n l) (record { key = k; body = l.base k } ∷ []) number 0
     (record { item = record { key = k; body = l.base k }; size = 1 })
@@ -131,7 +127,7 @@ repair_kept n l k number from new up is at zeros = record {
 }
 
 abbrev a_repair : ℕ → Option Place → Bool → layer.Step
-a_repair number from there = record { kind = layer.RepairStep (name_at number) from; there = there }
+a_repair number from there = record { kind = layer.RepairStep (name_at number 0) from; there = there }
 
 step_is : (l : Ledger) (k : Key) (number other : ℕ) (from : Option Stored) → number ≡ other →
     IsStored l.standing from (l.first_page k) →
@@ -197,7 +193,7 @@ repair_waits c t k left h none repairing at mending q = record {
       (λ die. may_repair (repair_step c k) (t.disk.flights die) (none_written t h.valid h.kept.fly q.frontier die))
       h.kept.dies;
   fly = record { one = h.kept.fly.one; new = h.kept.fly.new };
-  ledger_kept = ledger_repaired c.numbers c.places c.groups c.frontier t.ledger k q.groups q.repairs q.frontier
+  ledger_kept = ledger_repaired c.numbers c.places c.pages c.frontier c.last t.ledger k q.pages q.repairs q.frontier
       h.kept.ledger_kept;
   work = record {
     mending_is = ap Repairing (sym next.0) ∙ ap (λ m. mending_kept m (drop (c.repaired + 1) c.lost)) (sym repairing);
@@ -237,7 +233,7 @@ repair_waits c t k left h none repairing at mending q = record {
         (ap (λ (n : ℕ). drop n c.lost) (one_more c.repaired) ∙ r.0, r.3)
 
     numbered : next_number c ≡ ledger.next_number t.ledger
-    numbered = ap (λ (n : ℕ). n + 1) (next_repair c t (k ∷ left) h.kept none q)
+    numbered = numbers_right c t h
 
     new : t.ledger.standing (next_number c) 0 ≡ None
     new = stands_not t (next_number c) h.valid (omega (arith, numbered)) (t.ledger.standing (next_number c) 0) refl

@@ -52,10 +52,9 @@ repair_turn c t [] h none is at mending due =
     subst (λ (o : Option Order). Kept (mark_ordered c None) (stepped t o)) (sym (mark_due c t None h.kept due))
     (mark_turn c t None h.kept none due)
 repair_turn c t (k ∷ left) h none is at mending due =
-    let q = is_quiet c t (k ∷ left) h none mending in
     subst (λ (o : Option Order). Kept (repair_ordered c k) (stepped t o))
-    (sym (order_if (layer.has_number t) (OrderRepair k left) (sym (group_number c t (k ∷ left) h.kept none q) ∙ due)))
-    (repair_waits c t k left h none is at mending q)
+    (sym (order_if (layer.has_number t) (OrderRepair k left) (sym (group_number c t h) ∙ due)))
+    (repair_waits c t k left h none is at mending (is_quiet c t (k ∷ left) h none mending))
 
 -- Turns
 

@@ -1,13 +1,15 @@
 //! How a job in flight ends, and what a step of the device's own orders.
-ghost use Rattle.std.specs.Prelude.{◌≡◌, ℕ, ◌<◌, ◌≤◌, ◌+◌, ◌^◌, IsSome, IfNone, IfSome, IsTrue, List, Option, length, if◌then◌else◌, map, nat_le, option_map, position, is_some, slice_get, Some};
-ghost use Rattle.ftl_core.specs.Ends.{front_durable, front_written, noted, pending_at, settled, group_written};
-ghost use Rattle.ftl_core.specs.Ends.{mark_over, mending_behind, repair_over, step_failed, step_there, step_written};
+ghost use Rattle.std.specs.Prelude.{◌≡◌, ℕ, ◌<◌, ◌≤◌, ◌+◌, ◌^◌, IsSome, IfNone, IfSome, IsTrue, List, Option, length, vec_capacity, if◌then◌else◌, map, nat_le, option_map, position, is_some, slice_get, Some, filter, fold, not, option_copied};
+ghost use Rattle.std.specs.List.{list_any};
+ghost use Rattle.ftl_core.specs.Ends.{front_written, group_durable, is_of_group, is_unwritten, noted, page_durable};
+ghost use Rattle.ftl_core.specs.Ends.{pending_at, pending_written, risen, settled, whole_group};
+ghost use Rattle.ftl_core.specs.Ends.{durable_at, pins_moved, mark_over, mending_behind, repair_over, step_failed, step_there, step_written};
 ghost use Rattle.ftl_core.specs.Ends.{with_content};
 ghost use Rattle.ftl_core.specs.Gives.{Gives, GivesIf, IsBodyLooked, IsBodyOf, IsGiven, change_after, change_ended, ending, erase_ended, group_ended, is_read, names, other_for, IsGivenTo, wanted_no_more};
 ghost use Rattle.ftl_core.specs.Gives.{IsContentOf, IsContentRead, IsReadAfter, IsReadOver, step_ended};
 ghost use Rattle.ftl_core.specs.Done.{FlightEnds, IsCoreEnded, IsEnded, IsFlightAfter};
-ghost use Rattle.ftl_core.specs.Moves.{is_repair_due, is_turn_due, moved_pin, erased, has_number, mark_ordered, page_written, went_bad, pin_of};
-ghost use Rattle.ftl_core.specs.Moves.{repair_ordered, repair_turned, repairs_in, turned};
+ghost use Rattle.ftl_core.specs.Moves.{claims_for, is_repair_due, is_turn_due, moved_pin, erased, has_number, mark_ordered, page_written, went_bad, pin_of, is_named, now_stored};
+ghost use Rattle.ftl_core.specs.Moves.{repair_ordered, repair_turned, turned};
 ghost use Rattle.ufs_spec.specs.Keys.{IsBlock};
 ghost use Rattle.ufs_spec.specs.Moves.{EndJob, Ending, IsEndingOf, MayEnd, TakeStep, moved, suits};
 ghost use Rattle.ufs_spec.specs.Translation.{Translation, is_step_due};
@@ -18,9 +20,9 @@ ghost use Rattle.ftl_core.specs.Stops.{StopsRight};
 ghost use Rattle.ftl_core.specs.Tells.{IsReadOf};
 ghost use Rattle.ftl_core.specs.declared.ftl.Ended.{Ended};
 
-use super::{Ended, Ftl, LAST_NUMBER, zeros};
+use super::{Ended, Ftl, LAST_NUMBER, is_named, zeros};
 use crate::books::{
-    BlockState, Book, Flight, Looked, Mending, OpenBlock, Pin, Reader, Step, Stored,
+    BlockState, Book, Flight, Looked, Mending, OpenBlock, Pending, Pin, Reader, Step, Stored,
 };
 use page_tag::{one_seal, open};
 use ufs_spec::{Block, Fence, Key, Outcome, Page, Place, Tag};
@@ -100,46 +102,111 @@ fn ending(outcome: &Outcome) -> Option<bool>
     }
 }
 
-/// What the pin keeps: its reader's page is no longer to be read.
-fn wanted_no_more(pin: Pin, reader: u8) -> Pin
-    ensures { result ≡ wanted_no_more reader pin }
+/// What the pin keeps: the page of this block of the reader is no longer to be read.
+fn wanted_no_more(pin: Pin, reader: u8, index: u16) -> Pin
+    ensures { result ≡ wanted_no_more reader index pin }
 {
     let mut now = pin;
-    if pin.reader == reader {
+    if pin.reader == reader && pin.index == index {
         now.wanted = false;
     }
     now
 }
 
-/// The reader's page is no longer to be read.
-fn end_wants(pins: &mut [Pin], reader: u8)
-    ensures { pins.new ≡ map (wanted_no_more reader) pins.old }
+/// The page of this block of the reader is no longer to be read.
+fn end_wants(pins: &mut [Pin], reader: u8, index: u16)
+    ensures { pins.new ≡ map (wanted_no_more reader index) pins.old }
 {
     for pin in pins.iter_mut() {
-        *pin = wanted_no_more(*pin, reader);
+        *pin = wanted_no_more(*pin, reader, index);
     }
 }
 
-/// What the pin keeps once the group stands on its page.
-fn moved_pin(pin: Pin, stored: Stored) -> Pin
-    ensures { result ≡ moved_pin stored pin }
+/// What is looked at once the page of this index in the group stands there.
+fn now_stored(looked: Looked, page: u16, stored: Stored) -> Looked
+    ensures { result ≡ now_stored page stored looked }
+{
+    match looked {
+        Looked::Slot { number, index } => {
+            if number == stored.number && index == page {
+                Looked::Page(stored)
+            } else {
+                looked
+            }
+        }
+        _ => looked,
+    }
+}
+
+/// What the pin keeps once the page of this index in the group stands there.
+fn moved_pin(pin: Pin, index: u16, stored: Stored) -> Pin
+    ensures { result ≡ moved_pin index stored pin }
 {
     let mut moved = pin;
-    if let Looked::Slot(number) = pin.looked {
-        if number == stored.number {
-            moved.looked = Looked::Page(stored);
-        }
-    }
+    moved.looked = now_stored(pin.looked, index, stored);
     moved
 }
 
-/// Who kept the slot of this group keeps its page from now on.
-fn move_pins(pins: &mut [Pin], stored: Stored)
-    ensures { pins.new ≡ map (moved_pin stored) pins.old }
+/// Who kept the slot of this page keeps its place from now on.
+fn move_pins(pins: &mut [Pin], index: u16, stored: Stored)
+    ensures { pins.new ≡ map (moved_pin index stored) pins.old }
 {
     for pin in pins.iter_mut() {
-        *pin = moved_pin(*pin, stored);
+        *pin = moved_pin(*pin, index, stored);
     }
+}
+
+/// The position of the page of a pending group with this number and index.
+fn pending_at(pages: &[Pending], number: u64, index: u16) -> Option<usize>
+    ensures what { result ≡ position (is_named number index) pages.now }
+    ensures less { IfSome result (λ k. k < length pages.now) }
+{
+    pages.iter().position(|page| is_named(page, number, index))
+}
+
+/// Whether the page is of the group with this number.
+fn is_of_group(page: &Pending, number: u64) -> bool
+    ensures { result ≡ is_of_group number page.now }
+{
+    page.number == number
+}
+
+/// Whether the page is of the group with this number and not written yet.
+fn is_unwritten(page: &Pending, number: u64) -> bool
+    ensures { result ≡ is_unwritten number page.now }
+{
+    is_of_group(page, number) && page.written.is_none()
+}
+
+/// Whether a page of the group with this number is not written yet.
+fn has_unwritten(pages: &[Pending], number: u64) -> bool
+    ensures { result ≡ list_any (is_unwritten number) pages.now }
+{
+    pages.iter().any(|page| is_unwritten(page, number))
+}
+
+/// The number of the first group, if all its pages are written.
+fn whole_group(pages: &[Pending]) -> Option<u64>
+    ensures what { result ≡ whole_group pages.now (slice_get pages.now 0) }
+    ensures fewer { IfSome result (λ number. length (filter (λ p. not (is_of_group number p)) pages.now) < length pages.now) }
+{
+    if pages.is_empty() {
+        return None;
+    }
+    let number = pages[0].number;
+    if has_unwritten(pages, number) {
+        return None;
+    }
+    Some(number)
+}
+
+/// The pages of the group with this number are pending no more.
+fn drop_group(pages: &mut Vec<Pending>, number: u64)
+    ensures left { pages.new.items ≡ filter (λ p. not (is_of_group number p)) pages.old.items }
+    ensures room { vec_capacity pages.new ≡ vec_capacity pages.old }
+    ensures fewer { length pages.new.items ≤ length pages.old.items }
+{
+    pages.retain(|page| !is_of_group(page, number));
 }
 
 /// How far the mending is once its mark is finished: one with a fence is followed by the repairs.
@@ -290,11 +357,10 @@ impl Ftl {
 
     /// The repair is durable: its key reads from this place.
     fn repair_over(&mut self, key: Key, place: Place)
-        requires under_way { repairs_in self.old.step ≡ 1 }
         ensures { self.new ≡ repair_over self.old key place }
     {
         self.step = None;
-        self.frontier += 1;
+        self.rise();
         let stored = Stored {
             place,
             number: self.frontier,
@@ -331,13 +397,13 @@ impl Ftl {
     /// The repair of the key waits, with the next number: its content is read from where it stands, or is
     /// zeros.
     fn order_repair(&mut self, key: Key)
-        requires idle { repairs_in self.old.step ≡ 0 }
         requires numbered { IsTrue (has_number self.old) }
         requires left { self.old.repaired < length self.old.lost }
         ensures { self.new ≡ repair_ordered self.old key }
     {
-        let number = self.last_number() + 1;
+        let number = self.next_number();
         let from = self.stored(key);
+        self.last = number;
         self.repaired += 1;
         self.content = zeros();
         self.step = Some(Step::Repair {
@@ -348,56 +414,73 @@ impl Ftl {
         });
     }
 
-    /// The group with this number, if it is pending: its position.
-    pub(super) fn pending_at(&self, number: u64) -> Option<usize>
-        ensures what { result ≡ pending_at self.now number }
-        ensures less { IfSome result (λ k. k < length self.now.groups) }
+    /// The page with this number and index is written there, if it is pending.
+    fn write_page(&mut self, number: u64, index: u16, place: Place)
+        ensures { self.new ≡ pending_written self.old place (pending_at self.old number index) }
     {
-        if number <= self.frontier {
-            return None;
-        }
-        let index = (number - self.frontier - 1) as usize;
-        if index < self.groups.len() {
-            Some(index)
-        } else {
-            None
+        if let Some(at) = pending_at(self.pages.as_slice(), number, index) {
+            let page = &mut self.pages[at];
+            page.written = Some(place);
         }
     }
 
-    /// The page of the group with this number is written there, if the group is pending.
-    fn write_group(&mut self, number: u64, place: Place)
-        ensures { self.new ≡ group_written self.old place (pending_at self.old number) }
-    {
-        if let Some(index) = self.pending_at(number) {
-            let group = &mut self.groups[index];
-            group.written = Some(place);
-        }
-    }
-
-    /// Where the page of the first pending group stands, once it is written.
-    fn front_written(&self) -> Option<Place>
+    /// The number of the first pending group, if all its pages are written.
+    fn front_written(&self) -> Option<u64>
         ensures what { result ≡ front_written self.now }
-        ensures some { IsSome result → 0 < length self.now.groups }
+        ensures fewer { IfSome result (λ number.
+            length (filter (λ p. not (is_of_group number p)) self.now.pages) < length self.now.pages) }
     {
-        if self.groups.is_empty() {
-            return None;
-        }
-        self.groups[0].written
+        whole_group(self.pages.as_slice())
     }
 
-    /// The first pending group is durable: its address now reads from this place, and so does who
-    /// keeps its slot.
-    fn make_durable(&mut self, place: Place)
-        requires { 0 < length self.old.groups }
-        ensures after { self.new ≡ front_durable self.old place }
-        ensures less { length self.new.groups + 1 ≡ length self.old.groups }
+    /// The frontier is the next number, if that was given.
+    fn rise(&mut self)
+        ensures { self.new ≡ record self.old { frontier = risen self.old } }
     {
-        let number = self.frontier + 1;
-        let group = self.groups.remove(0);
-        self.frontier = number;
-        let stored = Stored { place, number };
-        self.note_place(group.key, stored);
-        move_pins(self.pins.as_mut_slice(), stored);
+        self.frontier = (self.frontier + 1).min(self.last);
+    }
+
+    /// The page of a group is durable: its address now reads from where it is written, and so does who
+    /// keeps its slot.
+    fn page_durable(&mut self, key: Key, index: u16, stored: Stored)
+        ensures { self.new ≡ pins_moved (noted self.old key stored) index stored }
+    {
+        self.note_place(key, stored);
+        move_pins(self.pins.as_mut_slice(), index, stored);
+    }
+
+    /// The page at this position is durable, if it is of the group with this number and written.
+    fn page_at_durable(&mut self, at: usize, number: u64)
+        requires { at < length self.old.pages }
+        ensures { self.new ≡ durable_at self.old number (slice_get self.old.pages at) }
+    {
+        let page = &self.pages[at];
+        if page.number != number {
+            return;
+        }
+        if let Some(place) = page.written {
+            let key = page.key;
+            let index = page.index;
+            self.page_durable(key, index, Stored { place, number });
+        }
+    }
+
+    /// Each page of the group with this number is durable.
+    fn pages_durable(&mut self, number: u64)
+        ensures { self.new ≡ fold page_durable self.old (filter (is_of_group number) self.old.pages) }
+    {
+        for at in 0..self.pages.len() {
+            self.page_at_durable(at, number);
+        }
+    }
+
+    /// The group with this number is durable and pending no more.
+    fn make_durable(&mut self, number: u64)
+        ensures { self.new ≡ group_durable self.old number }
+    {
+        self.pages_durable(number);
+        drop_group(&mut self.pages, number);
+        self.rise();
     }
 
     /// The durable content of the address stands there.
@@ -411,21 +494,29 @@ impl Ftl {
         }
     }
 
-    /// Every group at the front whose page is written is durable.
+    /// Every group at the front that is wholly written is durable.
     fn settle(&mut self)
         ensures { self.new ≡ settled self.old }
     {
-        while let Some(place) = self.front_written() {
-            self.make_durable(place);
+        while let Some(number) = self.front_written() {
+            self.make_durable(number);
         }
     }
 
     /// The end of the program of a group's page; the page waits again by itself, if it failed.
-    fn group_ended(&mut self, die: u8, book: Book, place: Place, number: u64, is_done: bool)
-        ensures { self.new ≡ group_ended self.old die book place number is_done }
+    fn group_ended(
+        &mut self,
+        die: u8,
+        book: Book,
+        place: Place,
+        number: u64,
+        index: u16,
+        is_done: bool,
+    )
+        ensures { self.new ≡ group_ended self.old die book place number index is_done }
     {
         if is_done {
-            self.write_group(number, place);
+            self.write_page(number, index, place);
             self.page_written(die, book);
             self.settle();
         } else {
@@ -462,7 +553,11 @@ impl Ftl {
         match flight {
             Flight::Read { .. } => {}
             Flight::Step { place } => self.step_ended(die, book, place, is_done),
-            Flight::Group { place, number } => self.group_ended(die, book, place, number, is_done),
+            Flight::Group {
+                place,
+                number,
+                index,
+            } => self.group_ended(die, book, place, number, index, is_done),
             Flight::Erase { block } => self.erase_ended(die, block, is_done),
         }
     }
@@ -484,10 +579,10 @@ impl Ftl {
     }
 
     /// The block that the end of its read gives to the reader.
-    fn body_for(&self, reader: u8, outcome: &Outcome) -> Option<Block>
-        ensures { IsGivenTo outcome.now (pin_of self.now reader) result }
+    fn body_for(&self, reader: u8, index: u16, outcome: &Outcome) -> Option<Block>
+        ensures { IsGivenTo outcome.now (pin_of self.now reader index) result }
     {
-        match self.pin_of(reader) {
+        match self.pin_of(reader, index) {
             Some(pin) => body_given(outcome, &pin),
             None => None,
         }
@@ -500,9 +595,9 @@ impl Ftl {
         ensures after { IsReadOver self.old outcome.now reader self.new }
     {
         match reader {
-            Reader::Task(tag) => {
-                let body = self.body_for(tag, outcome);
-                end_wants(self.pins.as_mut_slice(), tag);
+            Reader::Task { tag, index } => {
+                let body = self.body_for(tag, index, outcome);
+                end_wants(self.pins.as_mut_slice(), tag, index);
                 Ended::Read { reader: tag, body }
             }
             Reader::Step => {
@@ -582,6 +677,7 @@ impl Ftl {
         // A read was for a reader who keeps its page and waits for it, or for nobody.
         ensures read { (t : Translation) (who : WhoReads) (place : Place) → Describes self.old t →
             t.disk.flights die ≡ Some (Reading who place) → IsReadOf t place who }
+        ensures same_claims { claims_for self.new ≡ claims_for self.old }
     {
         let book = self.book(die)?;
         self.job_ended(die, book, outcome)
@@ -596,6 +692,7 @@ impl Ftl {
         ensures described { (t : Translation) → Describes self.old t → Describes self.new (moved t TakeStep) }
         // Whatever a stop leaves then is right.
         ensures stop { (t : Translation) → Describes self.old t → StopsRight self.new (moved t TakeStep) }
+        ensures same_claims { claims_for self.new ≡ claims_for self.old }
     {
         if self.step.is_some() {
             return false;
@@ -628,14 +725,13 @@ impl Ftl {
 
     /// Orders the repair of the next key, where a number is left, or the mark that follows the repairs.
     fn turn_repair(&mut self) -> bool
-        requires { repairs_in self.old.step ≡ 0 }
         ensures due { result ≡ is_repair_due self.old (slice_get self.old.lost self.old.repaired) }
         ensures after { self.new ≡ (if result then repair_turned self.old (slice_get self.old.lost self.old.repaired) else self.old) }
     {
         let Some(key) = self.next_lost() else {
             return self.turn_mark(None);
         };
-        if self.last_number() >= LAST_NUMBER {
+        if self.last >= LAST_NUMBER {
             return false;
         }
         self.order_repair(key);

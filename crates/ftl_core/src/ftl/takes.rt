@@ -1,27 +1,29 @@
 //! Which job a die is given next.
 ghost use Rattle.std.specs.Prelude.{◌≡◌, ℕ, ◌<◌, ◌≤◌, ◌+◌, ◌^◌, IfNone, IfSome, length, slice_get, Some, None};
-ghost use Rattle.std.specs.Prelude.{true, false, if◌then◌else◌, unwrap_or, count_by, option_map, position};
+ghost use Rattle.std.specs.Prelude.{true, false, if◌then◌else◌, unwrap_or, count_by, find, option_copied, option_map, position};
 ghost use Rattle.std.specs.List.{list_any};
-ghost use Rattle.ftl_core.specs.Ends.{pending_at};
-ghost use Rattle.ftl_core.specs.Takes.{block_for, core_taken, first_owed, group_job, group_job_at, is_data, job_of};
+ghost use Rattle.ftl_core.specs.Takes.{block_for, core_taken, first_owed, group_job, group_job_of, is_group_page, job_of};
 ghost use Rattle.ftl_core.specs.Takes.{is_sealable, is_step_there, job_taken, lowest_below, mark_program};
-ghost use Rattle.ftl_core.specs.Takes.{next_place, number_waiting, owed_flight, owed_read, page_flight, page_of_group};
-ghost use Rattle.ftl_core.specs.Takes.{read_of, reads_step, repair_job, repair_program, step_job, step_read};
-ghost use Rattle.ftl_core.specs.Takes.{step_waits, step_wants, waiting_flight, waiting_of};
-ghost use Rattle.ftl_core.specs.Takes.{waits_at, writes_group, writes_step};
-ghost use Rattle.ftl_core.specs.Moves.{free_blocks, is_erasable, is_owed_by, keeps, looks_on, may_open, reads_for};
-ghost use Rattle.ftl_core.specs.Moves.{single_tag, state_index, state_of, with_book, with_state};
+ghost use Rattle.ftl_core.specs.Takes.{next_place, owed_flight, owed_read, page_flight, page_of_group};
+ghost use Rattle.ftl_core.specs.Takes.{page_waiting, page_waits, read_of, reads_step, repair_job, repair_program};
+ghost use Rattle.ftl_core.specs.Takes.{step_job, step_read, step_waits, step_wants, waiting_flight, waiting_of};
+ghost use Rattle.ftl_core.specs.Takes.{waiting_page, writes_page, writes_step};
+ghost use Rattle.ftl_core.specs.Moves.{claims_for, free_blocks, is_erasable, is_owed_by, keeps, looks_on, may_open, reads_for};
+ghost use Rattle.ftl_core.specs.Moves.{single_tag, state_index, state_of, tag_of_page, with_book, with_state};
 ghost use Rattle.ufs_spec.specs.Translation.{Translation};
 ghost use Rattle.ftl_core.specs.Describes.{Describes, IsTaken, spot_at};
 ghost use Rattle.ftl_core.specs.Stops.{MayGo, StopsRightGiven};
 ghost use Rattle.ufs_spec.specs.declared.flash.Job.TheVariants as job;
 
-use super::Ftl;
+use super::{Ftl, LAST_NUMBER, page_named};
 use crate::books::{
-    BlockState, Book, Flight, Group, Looked, OpenBlock, Pin, Reader, Step, Waiting,
+    BlockState, Book, Flight, Looked, OpenBlock, Pending, Pin, Reader, Step, Waiting,
 };
 use page_tag::{mark_body, seal};
 use ufs_spec::{Fence, Job, Key, Place, Tag};
+
+/// How many pages a group has at most: a command has as many blocks.
+const MOST_PAGES: u16 = 32;
 
 /// The position of the first reader who is owed the read of a page of this die.
 fn first_owed(pins: &[Pin], books: &[Book], die: u8) -> Option<usize>
@@ -35,7 +37,7 @@ fn first_owed(pins: &[Pin], books: &[Book], die: u8) -> Option<usize>
 fn is_owed_by(pin: &Pin, books: &[Book], die: u8) -> bool
     ensures { result ≡ is_owed_by books.now die pin.now }
 {
-    pin.wanted && looks_on(&pin.looked, die) && !is_read_for(books, pin.reader)
+    pin.wanted && looks_on(&pin.looked, die) && !is_read_for(books, pin.reader, pin.index)
 }
 
 /// Whether a page of the die is looked at.
@@ -55,30 +57,33 @@ fn read_of(pin: &Pin) -> Option<Flight>
     match pin.looked {
         Looked::Page(stored) => Some(Flight::Read {
             place: stored.place,
-            reader: Reader::Task(pin.reader),
+            reader: Reader::Task {
+                tag: pin.reader,
+                index: pin.index,
+            },
         }),
         _ => None,
     }
 }
 
-/// Whether some die reads for the reader.
-fn is_read_for(books: &[Book], reader: u8) -> bool
-    ensures { result ≡ list_any (reads_for reader) books.now }
+/// Whether some die reads for this block of the reader.
+fn is_read_for(books: &[Book], reader: u8, index: u16) -> bool
+    ensures { result ≡ list_any (reads_for reader index) books.now }
 {
-    books.iter().any(|book| reads_for(book, reader))
+    books.iter().any(|book| reads_for(book, reader, index))
 }
 
-/// Whether the die reads for the reader.
-fn reads_for(book: &Book, reader: u8) -> bool
-    ensures { result ≡ reads_for reader book.now }
+/// Whether the die reads for this block of the reader.
+fn reads_for(book: &Book, reader: u8, block: u16) -> bool
+    ensures { result ≡ reads_for reader block book.now }
 {
     match book.flight {
         Some(
             Flight::Read {
-                reader: Reader::Task(other),
-                ..
+                place: _,
+                reader: Reader::Task { tag, index },
             },
-        ) => reader == other,
+        ) => reader == tag && block == index,
         _ => false,
     }
 }
@@ -93,20 +98,50 @@ fn keeps(pin: &Pin, die: u8, block: u16) -> bool
     }
 }
 
-/// Whether some die writes the page of the group with this number.
-fn is_written_now(books: &[Book], number: u64) -> bool
-    ensures { result ≡ list_any (writes_group number) books.now }
+/// Whether some die writes the page of the group with this number that has this index.
+fn is_written_now(books: &[Book], number: u64, index: u16) -> bool
+    ensures { result ≡ list_any (writes_page number index) books.now }
 {
-    books.iter().any(|book| writes_group(book, number))
+    books.iter().any(|book| writes_page(book, number, index))
 }
 
-/// Whether the die writes the page of the group with this number.
-fn writes_group(book: &Book, number: u64) -> bool
-    ensures { result ≡ writes_group number book.now }
+/// Whether the die writes the page of the group with this number that has this index.
+fn writes_page(book: &Book, group: u64, page: u16) -> bool
+    ensures { result ≡ writes_page group page book.now }
 {
     match book.flight {
-        Some(Flight::Group { number: other, .. }) => number == other,
+        Some(
+            Flight::Group {
+                place: _,
+                number,
+                index,
+            },
+        ) => group == number && page == index,
         _ => false,
+    }
+}
+
+/// Whether the page is neither written nor in flight.
+fn page_waits(page: &Pending, books: &[Book]) -> bool
+    ensures { result ≡ page_waits books.now page.now }
+{
+    page.written.is_none() && !is_written_now(books, page.number, page.index)
+}
+
+/// The page that waits first.
+fn page_waiting<'a>(pages: &'a [Pending], books: &[Book]) -> Option<&'a Pending>
+    ensures { option_copied result ≡ find (page_waits books.now) pages.now }
+{
+    pages.iter().find(|page| page_waits(page, books))
+}
+
+/// What waits, if it is this page.
+fn waiting_page(page: &Pending) -> Waiting
+    ensures { result ≡ waiting_page page.now }
+{
+    Waiting::Group {
+        number: page.number,
+        index: page.index,
     }
 }
 
@@ -188,14 +223,19 @@ fn is_sealable(key: &Key) -> bool
     }
 }
 
-/// Whether the group is data of a unit.
-fn is_data(group: &Group) -> bool
-    ensures { result ≡ is_data group.now }
+/// Whether the page is data of a unit, and its tag can name it.
+fn is_group_page(page: &Pending) -> bool
+    ensures { result ≡ is_group_page page.now }
 {
-    group.key.kind == Tag::DATA && group.key.unit <= 7
+    page.key.kind == Tag::DATA
+        && page.key.unit <= 7
+        && page.number >= 1
+        && page.number <= LAST_NUMBER
+        && page.index < page.size
+        && page.size <= MOST_PAGES
 }
 
-/// The tag of a page: a group of one page, or a mark.
+/// The tag of a group of one page, or of a mark.
 fn tag_of(key: Key, number: u64, frontier: u64) -> Tag
     ensures { result ≡ single_tag key number frontier }
 {
@@ -206,6 +246,21 @@ fn tag_of(key: Key, number: u64, frontier: u64) -> Tag
         number,
         index: 0,
         size: 1,
+        frontier,
+    }
+}
+
+/// The tag of a page of a pending group.
+fn tag_of_page(page: &Pending, frontier: u64) -> Tag
+    ensures { result ≡ tag_of_page page.now.key page.now.number page.now.index page.now.size frontier }
+{
+    Tag {
+        kind: page.key.kind,
+        unit: page.key.unit,
+        address: page.key.address,
+        number: page.number,
+        index: page.index,
+        size: page.size,
         frontier,
     }
 }
@@ -227,7 +282,11 @@ fn page_flight(place: Place, waiting: Waiting) -> Flight
 {
     match waiting {
         Waiting::Step => Flight::Step { place },
-        Waiting::Group(number) => Flight::Group { place, number },
+        Waiting::Group { number, index } => Flight::Group {
+            place,
+            number,
+            index,
+        },
     }
 }
 
@@ -319,45 +378,12 @@ impl Ftl {
         None
     }
 
-    /// Whether the page of the pending group at this position is neither written nor in flight.
-    fn is_waiting(&self, index: usize) -> bool
-        requires { index < length self.now.groups }
-        ensures { result ≡ waits_at self.now index }
+    /// The page of a group that waits first.
+    fn waiting_group(&self) -> Option<Waiting>
+        ensures { result ≡ option_map waiting_page (page_waiting self.now) }
     {
-        self.groups[index].written.is_none()
-            && !is_written_now(self.books.as_slice(), self.frontier + index as u64 + 1)
-    }
-
-    /// The position of the first pending group whose page waits.
-    fn first_waiting(&self) -> Option<usize>
-        ensures found { IfSome result (λ k. (k < length self.now.groups) × (waits_at self.now k ≡ true)) }
-        ensures lowest { IfSome result (λ k. (j : ℕ) → j < k → waits_at self.now j ≡ false) }
-        ensures none { IfNone result ((j : ℕ) → j < length self.now.groups → waits_at self.now j ≡ false) }
-    {
-        for index in 0..self.groups.len() {
-            if self.is_waiting(index) {
-                return Some(index);
-            }
-        }
-        None
-    }
-
-    /// The position of the group that waits first.
-    fn waiting_at(&self) -> Option<usize>
-        ensures what { result ≡ lowest_below (waits_at self.now) (length self.now.groups) }
-        ensures less { IfSome result (λ k. k < length self.now.groups) }
-    {
-        self.first_waiting()
-    }
-
-    /// The number of the group that waits first.
-    fn waiting_group(&self) -> Option<u64>
-        ensures { result ≡ number_waiting self.now }
-    {
-        match self.waiting_at() {
-            Some(index) => Some(self.frontier + index as u64 + 1),
-            None => None,
-        }
+        let page = page_waiting(self.pages.as_slice(), self.books.as_slice())?;
+        Some(waiting_page(page))
     }
 
     /// Whether the page of the step under way waits.
@@ -368,14 +394,14 @@ impl Ftl {
     }
 
     /// What waits first: the page of a step goes before those of groups, and these in order of
-    /// number.
+    /// number and index.
     fn waiting(&self) -> Option<Waiting>
         ensures { result ≡ waiting_of self.now }
     {
         if self.step_waits() {
             Some(Waiting::Step)
         } else {
-            self.waiting_group().map(Waiting::Group)
+            self.waiting_group()
         }
     }
 
@@ -386,7 +412,10 @@ impl Ftl {
     {
         match waiting {
             Waiting::Step => true,
-            Waiting::Group(_) => self.free_blocks() > self.books.len() + 2,
+            Waiting::Group {
+                number: _,
+                index: _,
+            } => self.free_blocks() > self.books.len() + 2,
         }
     }
 
@@ -439,37 +468,25 @@ impl Ftl {
         }
     }
 
-    /// The program of this group, pending at this position.
-    fn program_of(&self, place: Place, index: usize, group: &Group) -> Job
-        requires less { index < length self.now.groups }
-        requires data { is_data group.now ≡ true }
-        ensures { result ≡ page_of_group self.now place index group.now }
+    /// The program of this page of a group.
+    fn program_of(&self, place: Place, page: &Pending) -> Job
+        requires { is_group_page page.now ≡ true }
+        ensures { result ≡ page_of_group self.now place page.now }
     {
-        let number = self.frontier + index as u64 + 1;
-        let tag = tag_of(group.key, number, self.frontier);
-        Job::Program(place, seal(&tag, &group.body))
+        let tag = tag_of_page(page, self.frontier);
+        Job::Program(place, seal(&tag, &page.body))
     }
 
-    /// The program of the pending group at this position; only data of a unit is programmed as one.
-    fn group_job_at(&self, place: Place, index: usize) -> Option<Job>
-        requires { index < length self.now.groups }
-        ensures { result ≡ group_job_at self.now place index (slice_get self.now.groups index) }
+    /// The program of the page with this number and index, if it is pending. Only data of a unit is
+    /// programmed as a group.
+    fn group_job(&self, place: Place, number: u64, index: u16) -> Option<Job>
+        ensures { result ≡ group_job self.now place number index }
     {
-        let group = &self.groups[index];
-        if is_data(group) {
-            Some(self.program_of(place, index, group))
+        let page = page_named(self.pages.as_slice(), number, index)?;
+        if is_group_page(page) {
+            Some(self.program_of(place, page))
         } else {
             None
-        }
-    }
-
-    /// The program of the group with this number, if it is pending.
-    fn group_job(&self, place: Place, number: u64) -> Option<Job>
-        ensures { result ≡ group_job self.now place (pending_at self.now number) }
-    {
-        match self.pending_at(number) {
-            Some(index) => self.group_job_at(place, index),
-            None => None,
         }
     }
 
@@ -480,7 +497,11 @@ impl Ftl {
         match flight {
             Flight::Read { place, .. } => Some(Job::Read(place)),
             Flight::Step { place } => self.step_job(place),
-            Flight::Group { place, number } => self.group_job(place, number),
+            Flight::Group {
+                place,
+                number,
+                index,
+            } => self.group_job(place, number, index),
             Flight::Erase { block } => Some(Job::Erase { die, block }),
         }
     }
@@ -559,6 +580,7 @@ impl Ftl {
         // An erase is of a block that no pin is in, and of which each page that opens is spent.
         ensures erase { (t : Translation) (at block : ℕ) → Describes self.old t → result ≡ Some (job.Erase at block) →
             MayGo t die (spot_at at block) }
+        ensures same_claims { claims_for self.new ≡ claims_for self.old }
     {
         self.has_few_units();
         let book = self.book(die)?;

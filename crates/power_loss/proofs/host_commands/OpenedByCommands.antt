@@ -15,7 +15,7 @@ use Rattle.std.specs.Prelude.{if◌then◌else◌}
 use Rattle.ufs_spec.specs.Machine.{in_use}
 use Rattle.ufs_spec.specs.Machine.{opening_fault}
 use Rattle.ufs_spec.specs.Machine.{data_begun}
-use Rattle.ufs_spec.specs.Stages.{most_blocks}
+use Rattle.ufs_spec.specs.Configs.{command_blocks}
 use Rattle.ufs_spec.specs.Refusals.{slots_needed}
 use Rattle.ufs_spec.specs.declared.faults.HostFault.TheVariants.{Backlog, TagInUse}
 use Rattle.ufs_laws.proofs.walk.WaysOfCommands.{Answered, Beginning, Gathered, IsWritten, Reading, Telling, Waiting}
@@ -147,7 +147,7 @@ write_fits {s} {r} {command} {unit} p taken slots some w =
     let at = w.address_is in
     let are = w.blocks_are in
     let size = w.all in
-    let few = ltb-false (most_blocks (numbers_of s)) (blocks_of command) (sym w.long ∙ p.not_long) in
+    let few = ltb-false (command_blocks (numbers_of s)) (blocks_of command) (sym w.long ∙ p.not_long) in
     let lies = lies_within command told p.within in
     let long = length-map units (λ (x : UnitSpec). x.blocks) in
     let here = ap (λ (x : ℕ). get_or (map (λ (y : UnitSpec). y.blocks) units) x 0) same in

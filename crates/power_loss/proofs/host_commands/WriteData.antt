@@ -115,7 +115,7 @@ write_group t p unit address blocks shape plain is can few = record {
 
 -- Data in blocks
 
-length-blocks_in : (n : ℕ) (bytes : List ℕ) → length (blocks_in n bytes) ≡ n
+pub length-blocks_in : (n : ℕ) (bytes : List ℕ) → length (blocks_in n bytes) ≡ n
 length-blocks_in zero bytes = refl
 length-blocks_in (suc n) bytes = let rest = length-blocks_in n (drop 4096 bytes) in omega arith
 
@@ -164,7 +164,7 @@ module _ (s : State) (task : Task) (unit address blocks : ℕ) (bytes : List ℕ
   shape : shape_of (plain_now s) ≡ shape_of_numbers (numbers_of s)
   shape = shape_after s.base s.accepted v.commands ∙ v.base.1
 
-  can_write : CanApply (plain_now s) (write_of unit address blocks bytes)
+  pub can_write : CanApply (plain_now s) (write_of unit address blocks bytes)
   can_write =
       let count = length-blocks_in blocks bytes in
       let some = a.some in
@@ -200,7 +200,7 @@ module _ (s : State) (task : Task) (unit address blocks : ℕ) (bytes : List ℕ
       set d l = task_set task.tag (Answering write_error task.length) (omega arith) (λ h. h) a.there tt (omega arith)
           v.tasks
 
-  accept_allowed : locked s ≡ false →
+  pub accept_allowed : locked s ≡ false →
       IsAllowedMove s.translation (Accept blocks (group_of (plain_now s) (write_of unit address blocks bytes)))
   accept_allowed free =
       let plain : IsPlain (plain_now s) = all_kept_plain s.base s.accepted v.base.0 v.commands in

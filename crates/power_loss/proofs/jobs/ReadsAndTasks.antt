@@ -1,5 +1,5 @@
 -- Moves that leave pages and groups as they are.
-use Rattle.power_loss.proofs.Common.{◌≡◌, ℕ, ◌+◌, ◌-◌, ◌==◌, ◌≤◌, ◌⊎◌, Bool, true, false, List, Option, Some, None}
+use Rattle.power_loss.proofs.Common.{◌≡◌, ℕ, ◌+◌, ◌==◌, ◌≤◌, ◌⊎◌, Bool, true, false, List, Option, Some, None}
 use Rattle.power_loss.proofs.Common.{refl, suc, sym, ap, subst, inl, inr, ⊎_elim, arith, All-filter, All-push, Cell}
 use Rattle.power_loss.proofs.Common.{GroupPage, Mark, MarkPage, Disk, Erasing, Flight, Programming, Reader, Reading}
 use Rattle.power_loss.proofs.Common.{ForTask, ForStep, ForRest, ForNobody, Spot, at_die, Ledger, before_accepted, look}

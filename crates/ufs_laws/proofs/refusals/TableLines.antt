@@ -11,7 +11,7 @@ use Rattle.ufs_spec.specs.Exchanges.{write_protected}
 use Rattle.ufs_spec.specs.Machine.{command_heard, opened_with, with_short}
 use Rattle.ufs_spec.specs.Messages.{is_among}
 use Rattle.ufs_spec.specs.declared.configs.Numbers.{Numbers}
-use Rattle.ufs_spec.specs.Stages.{most_blocks}
+use Rattle.ufs_spec.specs.Configs.{command_blocks}
 use Rattle.ufs_spec.specs.Exchanges.{most_tasks}
 use Rattle.ufs_spec.specs.Refusals.{BootUnit, is_boot_read, not_taken, operations_of, Request, State, first_line}
 use Rattle.ufs_spec.specs.Refusals.{has_other_response, has_wrong_list, is_crowded, is_past, is_refused_write}
@@ -148,7 +148,7 @@ few : (most n : ℕ) → n ≡ 0 → nat_lt most n ≡ true → ⊥
 few most n e k = let l = ltb-true most n k in omega arith
 
 pub blocks_or_list : (n : Numbers) (c : Cdb) → is_too_long n c ≡ true → has_wrong_list c ≡ false
-blocks_or_list n (cdb.Unmap size) e = absurd (few (most_blocks n) 0 refl e)
+blocks_or_list n (cdb.Unmap size) e = absurd (few (command_blocks n) 0 refl e)
 blocks_or_list n c e = refl
 
 no_write : (s : State) (u : Option UnitSpec) (n : ℕ) → is_refused_write s u (cdb.SecurityIn n) ≡ true → ⊥

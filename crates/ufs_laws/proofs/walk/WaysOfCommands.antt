@@ -13,7 +13,7 @@ use Rattle.ufs_spec.specs.Commands.{Command}
 use Rattle.ufs_spec.specs.Moves.{Claim, Release}
 use Rattle.ufs_spec.specs.Refusals.{locked, Request, State, is_too_long, needs_mended, numbers_of, slots_needed}
 use Rattle.ufs_spec.specs.Refusals.{spec_of}
-use Rattle.ufs_spec.specs.Stages.{most_blocks}
+use Rattle.ufs_spec.specs.Configs.{command_blocks}
 use Rattle.ufs_spec.specs.declared.configs.Numbers.{Numbers}
 use Rattle.ufs_spec.specs.declared.scsi.Cdb.{Cdb}
 use Rattle.ufs_spec.specs.declared.scsi.Cdb.TheVariants as cdb
@@ -46,7 +46,7 @@ pub record IsWritten (n : Numbers) (unit : ℕ) (c : Cdb) (count u address block
   pub all : blocks_of c ≡ count
   pub writes : (operation_of c ≡ write_6) ⊎ (operation_of c ≡ write_10)
   pub needs : needs_mended (operation_of c) ≡ true
-  pub long : is_too_long n c ≡ nat_lt (most_blocks n) (blocks_of c)
+  pub long : is_too_long n c ≡ nat_lt (command_blocks n) (blocks_of c)
 
 abbrev pub IsGathered : Numbers → ℕ → Cdb → ℕ → Purpose → ℕ → Type 0
 IsGathered n unit c count (ForWrite u address blocks forced) total = IsWritten n unit c count u address blocks total
@@ -79,7 +79,7 @@ few_six blocks few = if_both (λ n. n < 2 ^ 16) (blocks == 0) (omega arith) (ome
 
 written : (s : State) (unit : ℕ) (c : Cdb) (count : ℕ) → (operation_of c ≡ write_6) ⊎ (operation_of c ≡ write_10) →
     blocks_of c ≡ count → needs_mended (operation_of c) ≡ true →
-    is_too_long (numbers_of s) c ≡ nat_lt (most_blocks (numbers_of s)) (blocks_of c) →
+    is_too_long (numbers_of s) c ≡ nat_lt (command_blocks (numbers_of s)) (blocks_of c) →
     IsWritten (numbers_of s) unit c count unit (address_of c) count (4096 * count)
 written s unit c count writes all needs long =
     record {

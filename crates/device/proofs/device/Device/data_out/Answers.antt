@@ -8,17 +8,18 @@ use Rattle.device.proofs.device.Device.data_out.Goals as goal
 
 pub returns-clause-heard : goal.returns-clause-heard
 returns-clause-heard c =
-    subst (λ (o : Option AskedFor). IsDataHeard c.args.self.now c.end_waiting.new.self c.args.data.now o (Ok tt))
+    subst
+    (λ (o : Option AskedFor). IsDataHeard c.args.self.now c.end_waiting.new.self c.args.tag c.args.data.now o (Ok tt))
     (sym c.in-Some.is ∙ c.asked_for.ensures.what) (
       refl,
       record {
-        layer = c.accept-event.new.self.ftl;
-        event = c.accept-event.result;
-        taken = c.accept-event.ensures.taken;
+        layer = c.gather-event.new.self.ftl;
+        event = c.gather-event.result;
+        taken = c.gather-event.ensures.taken;
         told =
             λ t h.
             c.end_waiting.ensures t (same_layer c.set_phase.new.self _ t c.set_phase.ensures h)
             ∙ ap (lock_told t) (c.set_phase.ensures
-            ∙ (λ i. task_set (c.accept-event.ensures.left i) c.in-Some.asked.index (c.after.ensures i)));
+            ∙ (λ i. task_set (c.gather-event.ensures.left i) c.in-Some.asked.index (c.after.ensures i)));
       },
     )

@@ -40,7 +40,7 @@ returns-clause-ended c =
       refl,
       ends_right _ c.end_waiting.new.self s c.args.die c.args.outcome.now ending left c.done.new.self
           c.in-Some.ended d is
-          leaves (c.done.ensures.described s.translation ending layer is may) ended
+          leaves (c.done.ensures.described s.translation ending layer is may) c.done.ensures.same_claims ended
           (λ who place flies. c.done.ensures.read s.translation who place layer flies)
           (λ u kept.
           c.end_waiting.ensures u (same_layer c.tell.new.self _ u c.tell.ensures kept)

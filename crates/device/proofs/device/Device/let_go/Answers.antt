@@ -1,4 +1,3 @@
-use Rattle.std.proofs.Common.{arith}
 use Rattle.device.proofs.described.SameDevice.{same_layer}
 use Rattle.device.proofs.device.Device.let_go.Goals as goal
 
@@ -11,9 +10,3 @@ returns-clause-told c =
     λ t count h allowed.
     same_layer _ _ _ c.unload.ensures
     (c.unpin.ensures.described_told t count (same_layer _ _ t c.self.view_is h) allowed)
-
-pub returns-clause-one : goal.returns-clause-one
-returns-clause-one c =
-    λ t h.
-    same_layer _ _ _ c.unload.ensures
-    (c.unpin.ensures.described_one t 1 (same_layer _ _ t c.self.view_is h) (omega arith))

@@ -1,7 +1,7 @@
 use Rattle.std.proofs.Common.{◌∙◌, subst, sym}
 use Rattle.ftl_core.specs.Describes.{Describes}
 use Rattle.device.specs.Kept.{DeviceCore}
-use Rattle.device.proofs.host_messages.CommandTable.{read_planned, spec, unread}
+use Rattle.device.proofs.host_messages.CommandTable.{read_planned, spec, unit_lacks, unread}
 use Rattle.device.proofs.device.Device.plan.Goals as goal
 
 pub returns-in-Ok : goal.returns-in-Ok
@@ -23,3 +23,10 @@ returns-in-Err c =
     let there = sym (c.unit.ensures.described s.translation layer) ∙ c.in-Some.is in
     unread s r c.args.flags c.args.lun c.args.expected c.args.cdb.now is c.in-Some.unit there c.in-Err.sense
     c.in-Err.ensures.taken c.in-Err.ensures.operation (λ k. (c.in-Err.ensures.field k).0)
+
+pub returns-in_default : goal.returns-in_default
+returns-in_default c =
+    λ s r h bare is.
+    let layer = subst (λ (d : DeviceCore). Describes d.ftl s.translation) (sym c.self.view_is) h in
+    unit_lacks s r c.args.flags c.args.lun c.args.expected c.args.cdb.now is
+    (sym (c.unit.ensures.described s.translation layer) ∙ c.in_default.is)

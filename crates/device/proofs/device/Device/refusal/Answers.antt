@@ -1,8 +1,8 @@
-use Rattle.std.proofs.Common.{◌∙◌, ◌≡◌, ◌+◌, Bool, true, false, ap, arith, nat_lt, refl, rules, sym, subst}
+use Rattle.std.proofs.Common.{◌∙◌, ◌≡◌, ◌+◌, true, false, ap, arith, nat_lt, refl, rules, sym, subst}
 use Rattle.std.specs.Prelude.{◌&&◌, not}
 use Rattle.std.proofs.lemmas.Bool.{le-ltb, lt-ltb}
 use Rattle.ufs_spec.specs.Cdbs.{address_of, blocks_of, operation_of}
-use Rattle.ufs_spec.specs.Refusals.{State, mended, needs_mended, numbers_of, slots_needed}
+use Rattle.ufs_spec.specs.Refusals.{mended, needs_mended, numbers_of, slots_needed}
 use Rattle.ufs_spec.specs.Translation.{free_slots}
 use Rattle.ftl_core.specs.Describes.{Describes}
 use Rattle.device.specs.Kept.{DeviceCore}
@@ -11,36 +11,36 @@ use Rattle.device.proofs.device.Device.refusal.Goals as goal
 use Rattle.device.proofs.device.Device.refusal.Goals.{then-blocks-gt-BLOCKS_A_COMMAND-via-then-blocks-gt-BLOCKS_A_COMMAND, then-blocks-gt-BLOCKS_A_COMMAND-via-else-blocks-gt-BLOCKS_A_COMMAND+then-lacks_data}
 use Rattle.device.proofs.device.Device.refusal.Goals.{else-needs_mended-via-then-needs_mended+else-not-is_mended, else-needs_mended-via-else-needs_mended}
 
-pub returns-then-blocks-gt-BLOCKS_A_COMMAND : goal.returns-then-blocks-gt-BLOCKS_A_COMMAND
-returns-then-blocks-gt-BLOCKS_A_COMMAND c =
+pub returns-then-blocks-gt-BLOCKS_A_COMMAND-clause-what : goal.returns-then-blocks-gt-BLOCKS_A_COMMAND-clause-what
+returns-then-blocks-gt-BLOCKS_A_COMMAND-clause-what c =
     λ s r h bare spec flags expected taken.
     elim c.then-blocks-gt-BLOCKS_A_COMMAND.branch [
       | then-blocks-gt-BLOCKS_A_COMMAND-via-then-blocks-gt-BLOCKS_A_COMMAND w ↦
           told_by s r c.args.unit c.args.cdb.now taken spec true _ _ _ _ _
-          (sym (ap (nat_lt 1) c.blocks_of-blocks.ensures) ∙ lt-ltb 1 _ w.if-blocks-gt-BLOCKS_A_COMMAND.true)
+          (sym (ap (nat_lt 32) c.blocks_of-blocks.ensures) ∙ lt-ltb 32 _ w.if-blocks-gt-BLOCKS_A_COMMAND.true)
           refl refl refl refl refl
       | then-blocks-gt-BLOCKS_A_COMMAND-via-else-blocks-gt-BLOCKS_A_COMMAND+then-lacks_data w ↦
           told_by s r c.args.unit c.args.cdb.now taken spec false true _ _ _ _
-          (sym (ap (nat_lt 1) c.blocks_of-blocks.ensures) ∙ le-ltb 1 _ w.if-blocks-gt-BLOCKS_A_COMMAND.false)
+          (sym (ap (nat_lt 32) c.blocks_of-blocks.ensures) ∙ le-ltb 32 _ w.if-blocks-gt-BLOCKS_A_COMMAND.false)
           (sym (w.lacks_data.ensures r taken flags expected) ∙ w.if-lacks_data.true)
           refl refl refl refl
     ]
 
-pub returns-then-address_of-blocks : goal.returns-then-address_of-blocks
-returns-then-address_of-blocks c =
+pub returns-then-address_of-blocks-clause-what : goal.returns-then-address_of-blocks-clause-what
+returns-then-address_of-blocks-clause-what c =
     λ s r h bare spec flags expected taken.
     let a = c.address_of.ensures in
     let b = c.blocks_of-blocks.ensures in
     let few = c.if-blocks-gt-BLOCKS_A_COMMAND.false in
     let past = c.if-address_of-blocks.true in
     told_by s r c.args.unit c.args.cdb.now taken spec false false true _ _ _
-    (sym (ap (nat_lt 1) b) ∙ le-ltb 1 _ few)
+    (sym (ap (nat_lt 32) b) ∙ le-ltb 32 _ few)
     (sym (c.lacks_data.ensures r taken flags expected) ∙ c.if-lacks_data.false)
     (lt-ltb c.args.unit.blocks (address_of c.args.cdb.now + blocks_of c.args.cdb.now) (omega arith))
     refl refl refl
 
-pub returns-then-not-is_mended : goal.returns-then-not-is_mended
-returns-then-not-is_mended c =
+pub returns-then-not-is_mended-clause-what : goal.returns-then-not-is_mended-clause-what
+returns-then-not-is_mended-clause-what c =
     λ s r h bare spec flags expected taken.
     let a = c.address_of.ensures in
     let b = c.blocks_of-blocks.ensures in
@@ -49,7 +49,7 @@ returns-then-not-is_mended c =
     let layer = subst (λ (d : DeviceCore). Describes d.ftl s.translation) (sym c.self.view_is) h in
     let found : not c.is_mended.result ≡ true = search rules in
     told_by s r c.args.unit c.args.cdb.now taken spec false false false true _ _
-    (sym (ap (nat_lt 1) b) ∙ le-ltb 1 _ few)
+    (sym (ap (nat_lt 32) b) ∙ le-ltb 32 _ few)
     (sym (c.lacks_data.ensures r taken flags expected) ∙ c.if-lacks_data.false)
     (le-ltb c.args.unit.blocks (address_of c.args.cdb.now + blocks_of c.args.cdb.now) (omega arith))
     (unmended (needs_mended (operation_of c.args.cdb.now)) (mended s)
@@ -57,8 +57,8 @@ returns-then-not-is_mended c =
     (sym (ap not (c.is_mended.ensures.described s.translation layer)) ∙ found))
     refl refl
 
-pub returns-then-is_refused_write : goal.returns-then-is_refused_write
-returns-then-is_refused_write c =
+pub returns-then-is_refused_write-clause-what : goal.returns-then-is_refused_write-clause-what
+returns-then-is_refused_write-clause-what c =
     λ s r h bare spec flags expected taken.
     let a = c.address_of.ensures in
     let b = c.blocks_of-blocks.ensures in
@@ -79,15 +79,15 @@ returns-then-is_refused_write c =
     ] in
     let refused = c.is_refused_write.ensures s h bare taken in
     told_by s r c.args.unit c.args.cdb.now taken spec false false false false true _
-    (sym (ap (nat_lt 1) b) ∙ le-ltb 1 _ few)
+    (sym (ap (nat_lt 32) b) ∙ le-ltb 32 _ few)
     (sym (c.lacks_data.ensures r taken flags expected) ∙ c.if-lacks_data.false)
     (le-ltb c.args.unit.blocks (address_of c.args.cdb.now + blocks_of c.args.cdb.now) (omega arith))
     ready
     (sym refused ∙ c.if-is_refused_write.true)
     refl
 
-pub returns : goal.returns
-returns c =
+pub returns-clause-what : goal.returns-clause-what
+returns-clause-what c =
     λ s r h bare spec flags expected taken.
     let a = c.address_of.ensures in
     let b = c.blocks_of-blocks.ensures in
@@ -112,7 +112,7 @@ returns c =
     let needed = c.slots_needed.ensures (numbers_of s) taken in
     let room = c.if-free_slots-slots_needed.false in
     told_by s r c.args.unit c.args.cdb.now taken spec false false false false false false
-    (sym (ap (nat_lt 1) b) ∙ le-ltb 1 _ few)
+    (sym (ap (nat_lt 32) b) ∙ le-ltb 32 _ few)
     (sym (c.lacks_data.ensures r taken flags expected) ∙ c.if-lacks_data.false)
     (le-ltb c.args.unit.blocks (address_of c.args.cdb.now + blocks_of c.args.cdb.now) (omega arith))
     ready

@@ -1,14 +1,24 @@
 use Rattle.std.proofs.Common.{◌∙◌, rules}
-use Rattle.ftl_core.proofs.look_and_accept.Looks.{accepts_told}
+use Rattle.ftl_core.proofs.look_and_accept.GroupsAccepted.{accepts_told}
 use Rattle.ftl_core.proofs.look_and_accept.Numbers.{numbers_right}
+use Rattle.ftl_core.proofs.small_calls.ReadersClaims.{none_after, others_after}
 use Rattle.ftl_core.proofs.stopped.EachStop.{stops_right}
 use Rattle.ftl_core.proofs.ftl.Ftl.accept.Goals as goal
 
 pub returns-clause-described : goal.returns-clause-described
-returns-clause-described c = accepts_told c.args.self.now _ c.args.key c.args.body.now (search rules)
+returns-clause-described c =
+    accepts_told c.args.self.now _ c.args.key c.args.reader (search rules) (search rules)
 
 pub returns-clause-described_number : goal.returns-clause-described_number
 returns-clause-described_number c = λ t h. c.next_number-number.ensures ∙ numbers_right c.args.self.now t h
 
 pub returns-clause-stop : goal.returns-clause-stop
-returns-clause-stop c = λ t h kind unit may. stops_right _ _ (returns-clause-described c t h kind unit may)
+returns-clause-stop c =
+    λ t bodies h kind unit claimed may.
+    stops_right _ _ (returns-clause-described c t bodies h kind unit claimed may)
+
+pub returns-clause-claims : goal.returns-clause-claims
+returns-clause-claims c = none_after c.args.reader c.args.self.now.claims _ (search rules)
+
+pub returns-clause-other_claims : goal.returns-clause-other_claims
+returns-clause-other_claims c = others_after c.args.reader c.args.self.now.claims _ (search rules)

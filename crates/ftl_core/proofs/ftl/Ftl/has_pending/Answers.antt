@@ -6,5 +6,5 @@ use Rattle.ftl_core.proofs.ftl.Ftl.has_pending.Goals as goal
 pub returns-clause-described : goal.returns-clause-described
 returns-clause-described c =
     λ t h.
-    let some : not c.is_empty.result ≡ nat_lt 0 (length c.args.self.now.groups) = search rules in
+    let some : not c.is_empty.result ≡ nat_lt 0 (length c.args.self.now.pages) = search rules in
     some ∙ pending_right c.args.self.now t h

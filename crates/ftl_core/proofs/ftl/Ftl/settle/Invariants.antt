@@ -2,8 +2,8 @@ use Rattle.std.proofs.Common.{◌≡◌, length}
 use Rattle.ftl_core.specs.Ends.{settled}
 use Rattle.ftl_core.proofs.ftl.Ftl.settle.Given as goal
 
-abbrev pub decreases-loop-place : goal.decreases-loop-place
-decreases-loop-place l = length l.self.groups
+abbrev pub decreases-loop-number : goal.decreases-loop-number
+decreases-loop-number l = length l.self.pages
 
-abbrev pub invariant-loop-place : goal.invariant-loop-place
-invariant-loop-place l = settled l.self ≡ settled l.initial.self
+abbrev pub invariant-loop-number : goal.invariant-loop-number
+invariant-loop-number l = settled l.self ≡ settled l.initial.self

@@ -1,14 +1,16 @@
-use Rattle.std.proofs.Common.{◌∙◌, List, ap}
-use Rattle.ftl_core.specs.declared.books.Group.{Group}
-use Rattle.ftl_core.specs.Core.{Core}
-use Rattle.ftl_core.specs.Moves.{slot_in, slot_of}
+use Rattle.std.proofs.Common.{◌≡◌, ◌∙◌, Some, rules}
+use Rattle.std.specs.Prelude.{option_copied}
+use Rattle.ftl_core.specs.Moves.{slot_of}
 use Rattle.ftl_core.proofs.look_and_accept.SlotBodies.{slot_is}
 use Rattle.ftl_core.proofs.ftl.Ftl.slot.Goals as goal
 
 pub returns-clause-described : goal.returns-clause-described
 returns-clause-described c =
-    λ t e h mended new is.
-    c.slot_in.ensures
-    ∙ (ap (λ (gs : List Group). slot_in gs c.self.inside.frontier c.args.number) c.as_slice.ensures.value
-    ∙ (ap (λ (x : Core). slot_of x c.args.number) c.self.view_is
-    ∙ slot_is c.args.self.now t c.args.number e h mended new is))
+    let core : Some c.in_ok-page.page.now.body ≡ slot_of c.args.self.now c.args.number c.args.index = search rules in
+    λ t e h mended above is. core ∙ slot_is c.args.self.now t c.args.number c.args.index e h mended above is
+
+pub returns-in_err-page-clause-described : goal.returns-in_err-page-clause-described
+returns-in_err-page-clause-described c =
+    let core : option_copied c.from_residual.result ≡ slot_of c.args.self.now c.args.number c.args.index =
+    search rules in
+    λ t e h mended above is. core ∙ slot_is c.args.self.now t c.args.number c.args.index e h mended above is

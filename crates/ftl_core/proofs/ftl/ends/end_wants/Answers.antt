@@ -7,7 +7,7 @@ use Rattle.ftl_core.proofs.ftl.ends.end_wants.Goals as goal
 pub loop-pin-preserved : goal.loop-pin-preserved
 loop-pin-preserved c =
     let i = c.loop-pin.pin-index in
-    let f = wanted_no_more c.args.reader in
+    let f = wanted_no_more c.args.reader c.args.index in
     let less : i < length c.loop-pin.pins = omega arith in
     let x = get_or c.loop-pin.pins i c.wanted_no_more.result in
     let is : c.wanted_no_more.result ≡ f x = c.wanted_no_more.ensures

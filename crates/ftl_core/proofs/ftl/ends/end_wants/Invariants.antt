@@ -4,4 +4,4 @@ use Rattle.ftl_core.proofs.ftl.ends.end_wants.Given as goal
 
 abbrev pub invariant-loop-pin : goal.invariant-loop-pin
 invariant-loop-pin l =
-    l.pins ≡ map (wanted_no_more l.reader) (take l.pin-index l.initial.pins) ++ drop l.pin-index l.initial.pins
+    l.pins ≡ map (wanted_no_more l.reader l.index) (take l.pin-index l.initial.pins) ++ drop l.pin-index l.initial.pins

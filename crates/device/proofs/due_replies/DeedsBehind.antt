@@ -1,0 +1,240 @@
+-- What a reply makes of a task is what the definitions make of it.
+use Rattle.std.proofs.Common.{◌≡◌, ◌∙◌, ℕ, ◌+◌, ◌<◌, Bool, true, false, List, [], ◌∷◌, Option, Some, None, length}
+use Rattle.std.proofs.Common.{refl, sym, ap, subst, arith}
+use Rattle.std.specs.Prelude.{if◌then◌else◌, max, nat_le, nat_lt, slice_get}
+use Rattle.ufs_spec.proofs.Facts.{false≢true, leb-true, ltb-false, ltb-true, none-some}
+use Rattle.ufs_spec.proofs.Lists.{get_there}
+use Rattle.ufs_spec.specs.Exchanges as exchange
+use Rattle.ufs_spec.specs.Exchanges.{Answering, Awaiting, Deed, Gathering, Good, NotRead, Purpose, ReadBlock, ReadState}
+use Rattle.ufs_spec.specs.Exchanges.{Sending, SendingBytes, Unread, WasRead, task_of}
+use Rattle.ufs_spec.specs.Ledger.{before_accepted}
+use Rattle.ufs_spec.specs.Machine.{deed_behind, deed_behind_block, deed_behind_state, moves_behind, set_deed}
+use Rattle.ufs_spec.specs.Machine.{task_behind}
+use Rattle.ufs_spec.specs.Machine.{with_moves}
+use Rattle.ufs_spec.specs.Moves.{Acknowledge, LetGo, LetGoAll, WantPage, moved}
+use Rattle.ufs_spec.specs.Refusals.{State}
+use Rattle.ufs_spec.specs.Translation.{Translation}
+use Rattle.ufs_spec.specs.declared.messages.Message.{Message}
+use Rattle.power_loss.proofs.open_tasks.TaskLists.{found_task}
+use Rattle.ftl_core.specs.Core.{Core}
+use Rattle.ftl_core.specs.Describes as layer_kept
+use Rattle.ftl_core.specs.Moves.{claims_for}
+use Rattle.device.specs.declared.tasks.Phase.{Phase}
+use Rattle.device.specs.declared.tasks.Phase.TheVariants as phase
+use Rattle.device.specs.declared.tasks.Sending.{Sending as Sends}
+use Rattle.device.specs.declared.tasks.ShortData.{ShortData}
+use Rattle.device.specs.declared.tasks.Status.TheVariants as status
+use Rattle.device.specs.declared.tasks.Task.{Task}
+use Rattle.device.specs.declared.tasks.Transfer.{Transfer}
+use Rattle.device.specs.Describes.{Describes, IsDoing, IsGathering, IsSending}
+use Rattle.device.specs.Describes.{claims_in, is_lost, read_in}
+use Rattle.device.specs.Describes.{wanted_by, wanted_in, wanted_kept}
+use Rattle.device.specs.Hears.{task_set}
+use Rattle.device.specs.Kept.{DeviceCore}
+use Rattle.device.specs.Replies.{HasMoved, moved_on, owed_by, owed_in, without_block}
+use Rattle.device.specs.Replies.{without_task}
+use Rattle.device.specs.Tasks.{data_length, sent_next}
+use Rattle.device.proofs.described.Answered.{IsBehind}
+use Rattle.device.proofs.open_tasks.OpenTasks.{IsOpen}
+use Rattle.device.proofs.due_replies.BlocksBehind.{more_kept, none_kept, none_read_behind}
+use Rattle.device.proofs.due_replies.ReplyMoves.{does_now, goes, sends, sent_layer, told_gone, with_layer}
+use Rattle.device.proofs.due_replies.PinsLetGo.{gone_again}
+
+-- what the definitions make of a task
+abbrev pub task_does : State → exchange.Task → Deed → State
+task_does s b deed = task_behind (with_moves s (moves_behind b deed)) b (deed_behind b deed)
+
+-- a READ of which one block more was handed out, and more follow
+abbrev behind : Sends → Sends
+behind x = record x { sent = x.sent + 1 }
+
+abbrev next_if : Sends → Bool → Option Sends
+next_if x more = if more then Some (behind x) else None
+
+abbrev deed_next : exchange.Task → List ReadBlock → ℕ → Bool → Deed
+deed_next b blocks n more = if more then Sending blocks (n + 1) else Answering Good b.length
+
+sends_more : (x : Sends) (expected total : ℕ) (blocks : List ReadBlock) (n : ℕ) →
+    IsSending x expected total blocks n → x.sent + 1 < x.blocks →
+    IsSending (behind x) expected total blocks (n + 1)
+sends_more x expected total blocks n is more = record {
+  count = is.count;
+  sent_is = ap (λ (m : ℕ). m + 1) is.sent_is;
+  more = more;
+  total_is = is.total_is;
+  all = is.all;
+  few = is.few;
+  readable = λ block there. ap is_lost (is.behind (n + 1) block (omega arith) there);
+  behind = λ i block above. is.behind i block (omega arith);
+}
+
+-- One task hands out a reply
+
+module _ (d : DeviceCore) (s : State) (k : ℕ) (a : Task) (b : exchange.Task) (h : Describes d s)
+    (o : IsOpen (before_accepted s.translation.ledger) k d.tasks s.tasks a b) where
+  asks : (after : Core) (x : Transfer) (purpose : Purpose) (gathered : List ℕ) (asked : Bool) →
+      b.deed ≡ Gathering purpose gathered asked → IsGathering x b.length purpose gathered →
+      layer_kept.Describes after s.translation → claims_for after ≡ claims_for d.ftl →
+      IsBehind (with_layer after (task_set d k (phase.AwaitData x)))
+      (set_deed s b.tag (Gathering purpose gathered true))
+  asks after x purpose gathered asked deed its layer claims =
+      does_now d s k a b h o after (phase.AwaitData x) (Gathering purpose gathered true) (its, refl)
+      (record {
+        wanted = λ index. ap (wanted_in index) deed;
+        read = ap read_in deed;
+        claims = ap (claims_in b.tag) deed;
+      })
+      tt layer claims
+
+  -- its data were handed out, which are no block
+  sends_data : (after : Core) (x : ShortData) (bytes : List ℕ) → b.deed ≡ SendingBytes bytes →
+      b.length ≡ data_length x → layer_kept.Describes after s.translation → claims_for after ≡ claims_for d.ftl →
+      IsBehind (with_layer after (task_set d k (phase.Answer status.Good (data_length x))))
+      (set_deed s b.tag (Answering Good b.length))
+  sends_data after x bytes deed is layer claims =
+      does_now d s k a b h o after (phase.Answer status.Good (data_length x)) (Answering Good b.length) (refl, is)
+      (record {
+        wanted = λ index. ap (wanted_in index) deed;
+        read = ap read_in deed;
+        claims = ap (claims_in b.tag) deed;
+      })
+      tt layer claims
+
+  ends : (after : Core) → claims_for after ≡ claims_for d.ftl → claims_in b.tag b.deed ≡ [] →
+      layer_kept.Describes after (moved s.translation (LetGoAll a.tag)) →
+      IsBehind (with_layer after (without_task (without_block d a.tag) k)) (task_behind s b None)
+  ends after claims none layer = record {
+    keeps = goes d s k a b h o after s.translation.ledger.held claims none layer;
+    told = told_gone d s k a b h o;
+  }
+
+  awaits : (after : Core) (commands : ℕ) → claims_for after ≡ claims_for d.ftl → claims_in b.tag b.deed ≡ [] →
+      layer_kept.Describes after (moved (moved s.translation (Acknowledge commands)) (LetGoAll a.tag)) →
+      IsBehind (with_layer after (without_task (without_block d a.tag) k))
+      (task_behind (with_moves s (Acknowledge commands ∷ [])) b None)
+  awaits after commands claims none layer = record {
+    keeps = goes d s k a b h o after (max s.translation.ledger.held commands) claims none layer;
+    told = told_gone d s k a b h o;
+  }
+
+  -- it could not send the block, and has answered so
+  abbrev sent_state : ℕ → State
+  sent_state n = with_moves s (LetGo b.tag n ∷ WantPage b.tag (n + 1) ∷ [])
+
+  loses : (after : Core) (blocks : List ReadBlock) (n : ℕ) → b.deed ≡ Sending blocks n →
+      claims_for after ≡ claims_for d.ftl → layer_kept.Describes after (moved s.translation (LetGoAll a.tag)) →
+      IsBehind (with_layer after (without_task (without_block d a.tag) k)) (task_behind (sent_state n) b None)
+  loses after blocks n deed claims layer =
+      subst (IsBehind (with_layer after (without_task (without_block d a.tag) k))) (sym same)
+      (ends after claims (ap (claims_in b.tag) deed) layer)
+    where
+      same : task_behind (sent_state n) b None ≡ task_behind s b None
+      same =
+          ap (λ (u : Translation). record s { tasks = exchange.without_task b.tag s.tasks; translation = u })
+          (gone_again s.translation b.tag n)
+
+  -- what its deed is behind its next block
+  sending_path : (blocks : List ReadBlock) (n : ℕ) (block : ReadBlock) (x : Option Deed) →
+      slice_get blocks n ≡ Some block → deed_behind_state b blocks n block.state ≡ x →
+      task_does s b (Sending blocks n) ≡ task_behind (sent_state n) b x
+  sending_path blocks n block x there e =
+      ap (task_behind (sent_state n) b) (ap (deed_behind_block b blocks n) there ∙ e)
+
+  sent_deed : (blocks : List ReadBlock) (n : ℕ) (state : ReadState) (more : Bool) → is_lost state ≡ false →
+      nat_lt (n + 1) (length blocks) ≡ more →
+      deed_behind_state b blocks n state
+      ≡ Some (deed_next b blocks n more)
+  sent_deed blocks n Unread more fine e =
+      ap (λ z. Some (deed_next b blocks n z)) e
+  sent_deed blocks n WasRead more fine e =
+      ap (λ z. Some (deed_next b blocks n z)) e
+  sent_deed blocks n NotRead more fine e = absurd (false≢true (sym fine))
+
+  sends_next : (after : Core) (x : Sends) (blocks : List ReadBlock) (n : ℕ) → b.deed ≡ Sending blocks n →
+      IsSending x a.expected b.length blocks n → claims_for after ≡ claims_for d.ftl →
+      layer_kept.Describes after (sent_layer s.translation a.tag x.sent) →
+      IsBehind (with_layer after (moved_on d k a (phase.SendBlocks x))) (task_does s b (Sending blocks n))
+  sends_next after x blocks n deed is claims layer = by (nat_lt (x.sent + 1) x.blocks) refl
+    where
+      found : task_of b.tag s.tasks ≡ Some b
+      found = found_task s.tasks k b h.tied.tasks.tasks_differ o.theirs
+
+      next : (block : ReadBlock) × (slice_get blocks n ≡ Some block)
+      next = let count = is.count in let at = is.sent_is in let more = is.more in get_there blocks n (omega arith)
+
+      its : layer_kept.Describes after (sent_layer s.translation a.tag n)
+      its = subst (λ m. layer_kept.Describes after (sent_layer s.translation a.tag m)) (sym is.sent_is) layer
+
+      kept : (index : ℕ) → wanted_kept s.translation.pins b.tag index ≡ wanted_in index (Sending blocks n)
+      kept index = h.kept.wanted b.tag index ∙ (ap (wanted_by index) found ∙ ap (wanted_in index) deed)
+
+      same_test : nat_lt (n + 1) (length blocks) ≡ nat_lt (x.sent + 1) x.blocks
+      same_test i = nat_lt (is.sent_is i + 1) (is.count i)
+
+      -- the phase and the deed behind it
+      path : (more : Bool) → nat_lt (x.sent + 1) x.blocks ≡ more →
+          IsBehind
+          (with_layer after (task_set (without_block d a.tag) k (sent_next x (next_if x more))))
+          (task_behind (sent_state n) b (Some (deed_next b blocks n more))) →
+          IsBehind (with_layer after (moved_on d k a (phase.SendBlocks x))) (task_does s b (Sending blocks n))
+      path more e it =
+          subst (IsBehind (with_layer after (moved_on d k a (phase.SendBlocks x))))
+          (sym (sending_path blocks n next.0 (Some (deed_next b blocks n more))
+          next.1 (sent_deed blocks n next.0.state more (is.readable next.0 next.1) (same_test ∙ e))))
+          (subst
+          (λ z. IsBehind
+          (with_layer after (task_set (without_block d a.tag) k (sent_next x (next_if x z))))
+          (task_behind (sent_state n) b (Some (deed_next b blocks n more))))
+          (sym e) it)
+
+      by : (more : Bool) → nat_lt (x.sent + 1) x.blocks ≡ more →
+          IsBehind (with_layer after (moved_on d k a (phase.SendBlocks x))) (task_does s b (Sending blocks n))
+      by true e =
+          path true e
+          (sends d s k a b h o after n (phase.SendBlocks (behind x)) (Sending blocks (n + 1))
+          (sends_more x a.expected b.length blocks n is (ltb-true (x.sent + 1) x.blocks e)) tt
+          (more_kept b.tag n s.translation.pins blocks kept is.behind) (none_read_behind blocks n is.behind)
+          (ap (claims_in b.tag) deed) claims its)
+      by false e =
+          let count = is.count in
+          let at = is.sent_is in
+          let last = ltb-false (x.sent + 1) x.blocks e in
+          path false e
+          (sends d s k a b h o after n (phase.Answer status.Good x.length) (Answering Good b.length) (refl, is.total_is)
+          tt (none_kept b.tag n s.translation.pins blocks kept (omega arith)) refl (ap (claims_in b.tag) deed) claims
+          its)
+
+  -- a block that is durable is told so
+  durable_told : (x : Bool) (m n : Message) → (if x then Some m else None) ≡ Some n → x ≡ true
+  durable_told true m n e = refl
+  durable_told false m n e = absurd (none-some n e)
+
+  moves_in : (after : Core) (p : Phase) (deed : Deed) (m : Message) → b.deed ≡ deed →
+      IsDoing (before_accepted s.translation.ledger) a.expected b.length p deed →
+      owed_in s.translation d.loaded a p ≡ Some m →
+      HasMoved d.ftl after s.translation a.tag p → IsBehind (with_layer after (moved_on d k a p)) (task_does s b deed)
+  moves_in after (phase.AskData x) (Gathering purpose gathered asked) m e doing due new =
+      asks after x purpose gathered asked e doing.0 new.0 new.1
+  moves_in after (phase.AwaitData x) deed m e doing due new = absurd (none-some m due)
+  moves_in after (phase.SendData x) (SendingBytes bytes) m e doing due new =
+      sends_data after x bytes e doing.1 new.0 new.1
+  moves_in after (phase.AwaitFrontier n size) (Awaiting commands) m e doing due new =
+      let frontier = s.translation.ledger.frontier in
+      let low = leb-true n frontier (durable_told (nat_le n frontier) _ m due) in
+      let is = doing.0 in
+      awaits after commands new.1 (ap (claims_in b.tag) e) (new.0 commands (omega arith))
+  moves_in after (phase.SendBlocks x) (Sending blocks sent) m e doing due new =
+      sends_next after x blocks sent e doing new.1 new.0
+  moves_in after (phase.Answer told n) (Answering x carried) m e doing due new =
+      ends after new.1 (ap (claims_in b.tag) e) new.0
+  moves_in after (phase.Answer told n) (Sending blocks sent) m e doing due new =
+      subst (IsBehind (with_layer after (moved_on d k a (phase.Answer told n))))
+      (sym (sending_path blocks sent doing.block None doing.there (ap (deed_behind_state b blocks sent) doing.lost)))
+      (loses after blocks sent e new.1 new.0)
+  moves_in after p deed m e doing due new = absurd doing
+
+  -- what a reply makes of the task
+  pub moves_on : (after : Core) (m : Message) → owed_by s.translation d.loaded a ≡ Some m →
+      HasMoved d.ftl after s.translation a.tag a.phase →
+      IsBehind (with_layer after (moved_on d k a a.phase)) (task_does s b b.deed)
+  moves_on after m due new = moves_in after a.phase b.deed m refl o.kept.doing due new

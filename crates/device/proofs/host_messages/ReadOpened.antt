@@ -1,0 +1,114 @@
+-- A READ opens a task: the device keeps each of the blocks that are sent, and wants the page of the first.
+use Rattle.std.proofs.Common.{◌≡◌, ◌∙◌, ℕ, ◌+◌, ◌<◌, ◌≤◌, ◌==◌, false, true, All, [], ◌++◌, Option, Some, None}
+use Rattle.std.proofs.Common.{length, map, refl, sym, ap, subst}
+use Rattle.std.specs.Prelude.{fold, min, slice_get}
+use Rattle.std.specs.Int.{div_ceil}
+use Rattle.ufs_spec.specs.Exchanges.{ReadBlock, Sending, Unread, most_tasks, task_of}
+use Rattle.ufs_spec.specs.Keys.{below, data_key}
+use Rattle.ufs_spec.specs.Ledger.{before_accepted}
+use Rattle.ufs_spec.specs.Machine.{durable, keeps, kept_at, read_blocks, with_moves}
+use Rattle.ufs_spec.specs.Machine as machine
+use Rattle.ufs_spec.specs.Moves.{moved}
+use Rattle.ufs_spec.specs.Plain.{block_at}
+use Rattle.ufs_spec.specs.Refusals.{Request, State, locked, plain_now}
+use Rattle.ufs_spec.specs.Translation.{Pin, Translation}
+use Rattle.ufs_spec.specs.declared.scsi.Cdb.{Cdb}
+use Rattle.ufs_laws.proofs.plain_contents.ListParts.{length-made}
+use Rattle.ftl_core.specs.Core.{Core}
+use Rattle.ftl_core.specs.Describes as layer_kept
+use Rattle.ftl_core.specs.Moves.{claims_for}
+use Rattle.device.specs.declared.tasks.Phase.{Phase}
+use Rattle.device.specs.declared.tasks.Phase.TheVariants as phase
+use Rattle.device.specs.declared.tasks.Sending.{Sending as Sends}
+use Rattle.device.specs.Describes.{Describes, IsTold, is_lost, read_by, read_of, wanted_in, wanted_kept}
+use Rattle.device.specs.Hears.{with_task}
+use Rattle.device.specs.Kept.{DeviceCore}
+use Rattle.device.proofs.described.Answered.{IsBehind}
+use Rattle.device.proofs.host_messages.BlocksKept.{kept_are, made_is, others_wanted, own_wanted}
+use Rattle.device.proofs.open_tasks.TaskOpened.{no_claim, none_claimed, none_wanted, open_keeps, open_told}
+
+-- the device with the new task, over the layer as it is then
+abbrev pub core_opened : DeviceCore → Request → Core → Phase → DeviceCore
+core_opened d r after p =
+    record (with_task d (record { tag = r.tag; lun = r.lun; expected = r.expected; phase = p })) { ftl = after }
+
+abbrev pub block_now : State → (unit address i : ℕ) → ReadBlock
+block_now s unit address i = record { body = block_at unit (address + i) (plain_now s); state = Unread }
+
+abbrev pub sending_now : ℕ → ℕ → ℕ → Sends
+sending_now blocks sent n = record { blocks = blocks; sent = sent; length = n }
+
+-- the state with the task of a READ of n bytes, of which m blocks are sent
+abbrev pub reading_at : State → Request → Cdb → (n address m : ℕ) → State
+reading_at s r command n address m =
+    machine.with_task (with_moves s (keeps s r.tag r.lun address m)) r (Some command) n
+    (Sending (read_blocks s r.lun address m) 0)
+
+module _ (d : DeviceCore) (s : State) (r : Request) (h : Describes d s) (free : task_of r.tag s.tasks ≡ None)
+    (few : length s.tasks < most_tasks) (after : Core) where
+  pub read_opened : (command : Cdb) (n address m : ℕ) → 1 ≤ m → m ≤ 32 → m ≡ div_ceil (min r.expected n) 4096 →
+      layer_kept.Describes after (fold moved s.translation (keeps s r.tag r.lun address m)) →
+      claims_for after ≡ claims_for d.ftl →
+      IsBehind (core_opened d r after (phase.SendBlocks (sending_now m 0 n))) (reading_at s r command n address m)
+  read_opened command n address m some most all layer claims = record {
+    keeps =
+        open_keeps d s r h free few after (fold moved s.translation (keeps s r.tag r.lun address m)) (Some command) n
+        (Sending (read_blocks s r.lun address m) 0) _ layer
+        (ap (λ (t : Translation). before_accepted t.ledger) are)
+        (record {
+          wanted =
+              subst (λ (t : Translation). (i : ℕ) → wanted_kept t.pins r.tag i
+              ≡ wanted_in i (Sending (read_blocks s r.lun address m) 0)) (sym are)
+              (own_wanted s.translation.pins r.tag m keeps_at (λ j. refl) (λ j. refl) none (block_now s r.lun address)
+              (λ j. refl) (λ j. refl));
+          unread =
+              unread_first (slice_get (read_blocks s r.lun address m) 0) (λ block there. state_now 0 block there);
+          claims = ap (λ f. f r.tag) claims ∙ none_claimed d s r h free few;
+          others_want =
+              subst (λ (t : Translation). (n i : ℕ) → (n == r.tag) ≡ false → wanted_kept t.pins n i
+              ≡ wanted_kept s.translation.pins n i) (sym are)
+              (others_wanted s.translation.pins r.tag m keeps_at (λ j. refl) (λ j. refl) none);
+          others_claim = no_claim d.ftl after r.tag claims;
+        })
+        (record {
+          lun = refl;
+          tag = refl;
+          expected = refl;
+          request = refl;
+          doing = record {
+            count = length-made (block_now s r.lun address) m;
+            sent_is = refl;
+            more = some;
+            total_is = refl;
+            all = all;
+            few = most;
+            readable = λ block there. ap is_lost (state_now 0 block there);
+            behind = λ i block later there. state_now i block there;
+          };
+        });
+    told =
+        subst
+        (λ (t : Translation). locked (record s { translation = t }) ≡ true →
+        All (IsTold (durable (record s { translation = t }))) (reading_at s r command n address m).tasks) (sym are)
+        (open_told d s r h free few (Some command) n (Sending (read_blocks s r.lun address m) 0) (λ l. tt));
+  }
+    where
+      keeps_at : ℕ → Pin
+      keeps_at = kept_at s r.tag r.lun address
+
+      none : (i : ℕ) → wanted_kept s.translation.pins r.tag i ≡ None
+      none = none_wanted d s r h free few
+
+      are : fold moved s.translation (keeps s r.tag r.lun address m)
+          ≡ record s.translation { pins = s.translation.pins ++ map keeps_at (below m) }
+      are = kept_are (λ i. data_key r.lun (address + i)) keeps_at (below m) s.translation
+
+      state_now : (i : ℕ) (block : ReadBlock) → slice_get (read_blocks s r.lun address m) i ≡ Some block →
+          block.state ≡ Unread
+      state_now i block there =
+          ap (λ (x : ReadBlock). x.state) (made_is (block_now s r.lun address) m i block there)
+
+      unread_first : (o : Option ReadBlock) → ((block : ReadBlock) → o ≡ Some block → block.state ≡ Unread) →
+          read_of o ≡ []
+      unread_first None unread = refl
+      unread_first (Some block) unread = ap (read_by block.body) (unread block refl)

@@ -1,0 +1,58 @@
+-- Where addresses read from once the place of one of them is noted.
+use Rattle.std.proofs.Common.{◌≡◌, ◌≢◌, ◌∙◌, ℕ, ◌<◌, ◌≤◌, List, Option, Some, None, length, refl, sym, ap, subst, arith}
+use Rattle.std.specs.Prelude.{slice_get, option_and_then}
+use Rattle.ufs_spec.specs.Keys.{IsKey}
+use Rattle.ufs_spec.specs.Plain.{shape_of_numbers}
+use Rattle.ufs_spec.specs.declared.flash.Key.{Key}
+use Rattle.ufs_spec.proofs.Lists.{set_here, set_other, set_length}
+use Rattle.recovery.specs.KeysInOrder.{key_total}
+use Rattle.ftl_core.specs.declared.books.Stored.{Stored}
+use Rattle.ftl_core.specs.Core.{Core}
+use Rattle.ftl_core.specs.Ends.{places_noted}
+use Rattle.ftl_core.specs.Moves.{flat, position_of, stored_of}
+use Rattle.ftl_core.proofs.look_and_accept.KeyPlaces.{HasPosition, has_position, one_position}
+
+places_here : (ps : List (Option Stored)) (s : Stored) (o : Option ℕ) (at : ℕ) → o ≡ Some at → at < length ps →
+    option_and_then (λ (p : ℕ). flat (slice_get (places_noted ps s o) p)) o ≡ Some s
+places_here ps s o at e l =
+    subst (λ (z : Option ℕ). option_and_then (λ (p : ℕ). flat (slice_get (places_noted ps s z) p)) z ≡ Some s) (sym e)
+    (ap flat (set_here ps at (Some s) l))
+
+places_other : (ps : List (Option Stored)) (s : Stored) (o q : Option ℕ) (a b : ℕ) → o ≡ Some a → q ≡ Some b → b ≢ a →
+    option_and_then (λ (p : ℕ). flat (slice_get (places_noted ps s o) p)) q ≡ option_and_then
+    (λ (p : ℕ). flat (slice_get ps p)) q
+places_other ps s o q a b e f apart =
+    subst (λ (z : Option ℕ × Option ℕ). option_and_then
+    (λ (p : ℕ). flat (slice_get (places_noted ps s z.0) p)) z.1 ≡ option_and_then
+    (λ (p : ℕ). flat (slice_get ps p)) z.1)
+    (λ i. (sym e i, sym f i))
+    (ap flat (set_other ps a b (Some s) apart))
+
+-- there are as many places
+pub places_length : (ps : List (Option Stored)) (s : Stored) (o : Option ℕ) → length (places_noted ps s o) ≡ length ps
+places_length ps s None = refl
+places_length ps s (Some k) = set_length ps k (Some s)
+
+abbrev pub noted_places : Core → Key → Stored → Core
+noted_places c k s = record c { places = places_noted c.places s (position_of c.numbers k) }
+
+-- the address reads from there
+pub stored_here : (c : Core) (j : Key) (s : Stored) → key_total (shape_of_numbers c.numbers) ≤ length c.places →
+    IsKey (shape_of_numbers c.numbers) j → stored_of (noted_places c j s) j ≡ Some s
+stored_here c j s long isj =
+    let p = has_position c.numbers j isj in
+    let w = p.within in
+    places_here c.places s (position_of c.numbers j) p.at p.is (omega (arith, w, long))
+
+-- and each other one from where it did
+pub stored_other : (c : Core) (j k : Key) (s : Stored) → j ≢ k → IsKey (shape_of_numbers c.numbers) j →
+    IsKey (shape_of_numbers c.numbers) k → stored_of (noted_places c j s) k ≡ stored_of c k
+stored_other c j k s differ isj isk =
+    places_other c.places s (position_of c.numbers j) (position_of c.numbers k) pj.at pk.at pj.is pk.is
+    (λ f. differ (one_position c.numbers j k isj (pj.is ∙ ap (λ (a : ℕ). Some a) (sym f) ∙ sym pk.is)))
+  where
+    pj : HasPosition c.numbers j
+    pj = has_position c.numbers j isj
+
+    pk : HasPosition c.numbers k
+    pk = has_position c.numbers k isk

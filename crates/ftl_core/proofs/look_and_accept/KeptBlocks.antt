@@ -1,0 +1,227 @@
+-- The blocks that a reader keeps: each stays kept as the next is, and looks at what its address has.
+use Rattle.std.proofs.Common.{◌≡◌, ◌∙◌, ℕ, zero, suc, ◌+◌, ◌-◌, ◌<◌, ◌≤◌, ◌==◌, ◌||◌, true, false, List, []}
+use Rattle.std.proofs.Common.{◌∷◌, ◌++◌, Option, Some, length, map, refl, sym, ap, subst, ⊎_elim, arith, length-append}
+use Rattle.std.specs.Prelude.{fold, slice_get}
+use Rattle.std.specs.List.{list_any}
+use Rattle.std.proofs.lemmas.Bool.{and_parts, eqb-true}
+use Rattle.std.proofs.lemmas.List.{append-nil, append_assoc, length-map, map-append}
+use Rattle.std.proofs.lemmas.List.Sums.{fold-append}
+use Rattle.ufs_spec.proofs.Facts.{false≢true, true≢false}
+use Rattle.ufs_spec.proofs.Lists.{any_none, get_below, length-below, none_passes}
+use Rattle.ufs_spec.specs.Configs.{InRange}
+use Rattle.ufs_spec.specs.Keys.{IsKey, below}
+use Rattle.ufs_spec.specs.Ledger.{Entry, Name, entry_of, look}
+use Rattle.ufs_spec.specs.Moves.{Keep, moved}
+use Rattle.ufs_spec.specs.Plain.{shape_of_numbers}
+use Rattle.ufs_spec.specs.Translation as layer
+use Rattle.ufs_spec.specs.Translation.{Translation, is_mended}
+use Rattle.ufs_spec.specs.declared.flash.Key.{Key}
+use Rattle.power_loss.specs.Invariant.{Valid}
+use Rattle.power_loss.proofs.moves.MovesKeepValid.{all_keep}
+use Rattle.power_loss.proofs.open_tasks.FoundInLists.{found_more}
+use Rattle.power_loss.proofs.ordered_lists.ElementsAndOrders.{mapped_at}
+use Rattle.ftl_core.specs.declared.books.Pin.{Pin}
+use Rattle.ftl_core.specs.Core.{Core}
+use Rattle.ftl_core.specs.Describes.{Describes, IsLookOf, IsLookedAt, PinKept, PinsKept}
+use Rattle.ftl_core.specs.Moves.{is_of_reader, is_pin_of, kept_all, key_at, look_of, pin_now}
+use Rattle.ftl_core.specs.Tells.{PinsDiffer, keep_at, keeps_for, keeps_of, key_behind}
+use Rattle.ftl_core.proofs.look_and_accept.KeysBehind.{keys_same}
+use Rattle.ftl_core.proofs.look_and_accept.LookedPages.{looked_there}
+use Rattle.ftl_core.proofs.look_and_accept.LookedUp.{looks}
+use Rattle.ftl_core.proofs.pages.NamesBehind.{get_either}
+use Rattle.ftl_core.proofs.pins.PinsAlike.{pins_more}
+use Rattle.ftl_core.proofs.pins.PinsDiffer.{differ_more, tasks_differ}
+
+-- What readers keep is what tasks keep
+
+pub as_many_pins : (frontier : ℕ) (entries : Name → Option Entry) (ps : List Pin) (qs : List layer.Pin) →
+    PinsKept frontier entries ps qs → length ps ≡ length qs
+as_many_pins frontier entries [] [] h = refl
+as_many_pins frontier entries [] (q ∷ qs) h = absurd h
+as_many_pins frontier entries (p ∷ ps) [] h = absurd h
+as_many_pins frontier entries (p ∷ ps) (q ∷ qs) h = ap suc (as_many_pins frontier entries ps qs h.1)
+
+-- a reader keeps something where its task does
+reader_keeps : (frontier : ℕ) (entries : Name → Option Entry) (reader : ℕ) (ps : List Pin) (qs : List layer.Pin) →
+    PinsKept frontier entries ps qs → list_any (is_of_reader reader) ps ≡ list_any (keeps_for reader) qs
+reader_keeps frontier entries reader [] [] h = refl
+reader_keeps frontier entries reader [] (q ∷ qs) h = absurd h
+reader_keeps frontier entries reader (p ∷ ps) [] h = absurd h
+reader_keeps frontier entries reader (p ∷ ps) (q ∷ qs) h =
+    λ i. (sym h.0.tag i == reader) || reader_keeps frontier entries reader ps qs h.1 i
+
+-- no block of a reader is kept twice
+pub pins_differ : (c : Core) (t : Translation) → Describes c t → PinsDiffer t.pins
+pins_differ c t h = tasks_differ t.ledger.frontier (entry_of t.ledger) c.pins t.pins h.kept.pins h.kept.differ
+
+pub pins_count : (c : Core) (t : Translation) → Describes c t → length c.pins ≡ length t.pins
+pins_count c t h = as_many_pins t.ledger.frontier (entry_of t.ledger) c.pins t.pins h.kept.pins
+
+-- One block more
+
+-- what is kept of a block, as it is specified
+abbrev pub pin_at : Translation → ℕ → Key → ℕ → layer.Pin
+pin_at t reader k i = record {
+  tag = reader;
+  index = i;
+  looked = look t.ledger (key_behind k i);
+  wanted = i == 0;
+}
+
+abbrev pub pins_at : Translation → ℕ → Key → ℕ → List layer.Pin
+pins_at t reader k n = map (pin_at t reader k) (below n)
+
+-- the blocks are kept one after another
+made_more : {X : Type 0} (f : ℕ → X) (xs : List X) (n : ℕ) →
+    (xs ++ map f (below n)) ++ f n ∷ [] ≡ xs ++ map f (below (suc n))
+made_more {X} f xs n =
+    append_assoc xs (map f (below n)) (f n ∷ [])
+    ∙ ap (λ (ys : List X). xs ++ ys) (sym (map-append f (below n) (n ∷ [])))
+
+kept_more : (c : Core) (reader : ℕ) (k : Key) (n : ℕ) →
+    record c { pins = (c.pins ++ map (pin_now c reader k) (below n)) ++ pin_now c reader k n ∷ [] } ≡
+    kept_all c reader k (suc n)
+kept_more c reader k n = ap (λ (ps : List Pin). record c { pins = ps }) (made_more (pin_now c reader k) c.pins n)
+
+pub kept_next : (c now after : Core) (reader : ℕ) (k : Key) (n : ℕ) → now ≡ kept_all c reader k n →
+    after ≡ record now { pins = now.pins ++ pin_now now reader k n ∷ [] } → after ≡ kept_all c reader k (n + 1)
+kept_next c now after reader k n is new =
+    new
+    ∙ (ap (λ (x : Core). record x { pins = x.pins ++ pin_now x reader k n ∷ [] }) is
+    ∙ (kept_more c reader k n ∙ ap (kept_all c reader k) (next n)))
+  where
+    next : (n : ℕ) → suc n ≡ n + 1
+    next n = omega arith
+
+pub kept_count : (c now : Core) (reader : ℕ) (k : Key) (n : ℕ) → now ≡ kept_all c reader k n →
+    length now.pins ≡ length c.pins + n
+kept_count c now reader k n is =
+    ap (λ (x : Core). length x.pins) is
+    ∙ (length-append c.pins (map (pin_now c reader k) (below n))
+    ∙ ap (λ (m : ℕ). length c.pins + m) (length-map (below n) (pin_now c reader k) ∙ length-below n))
+
+-- as it is specified
+moved_more : (t : Translation) (reader : ℕ) (k : Key) (n : ℕ) →
+    record t { pins = (t.pins ++ pins_at t reader k n) ++ pin_at t reader k n ∷ [] } ≡
+    record t { pins = t.pins ++ pins_at t reader k (suc n) }
+moved_more t reader k n =
+    ap (λ (ps : List layer.Pin). record t { pins = ps }) (made_more (pin_at t reader k) t.pins n)
+
+pub moved_all : (t : Translation) (reader : ℕ) (k : Key) (n : ℕ) →
+    fold moved t (keeps_of t reader k n) ≡ record t { pins = t.pins ++ pins_at t reader k n }
+moved_all t reader k zero = ap (λ (ps : List layer.Pin). record t { pins = ps }) (sym (append-nil t.pins))
+moved_all t reader k (suc n) =
+    ap (fold moved t) (map-append (keep_at t reader k) (below n) (n ∷ []))
+    ∙ (fold-append moved t (keeps_of t reader k n) (keep_at t reader k n ∷ [])
+    ∙ (ap (λ (x : Translation). moved x (keep_at t reader k n)) (moved_all t reader k n) ∙ moved_more t reader k n))
+
+-- One block that is kept
+
+pub keeps_block : (c : Core) (t : Translation) (k : Key) (p : Pin) (q : layer.Pin) → Describes c t →
+    is_mended t.work.mending ≡ true → IsKey (shape_of_numbers t.numbers) k → q.looked ≡ look t.ledger k →
+    PinKept t.ledger.frontier (entry_of t.ledger) p q → list_any (is_pin_of p.reader p.index) c.pins ≡ false →
+    Describes (record c { pins = c.pins ++ p ∷ [] }) (moved t (Keep k q))
+keeps_block c t k p q h mended is looks kept new = record {
+  valid = all_keep t (Keep k q) h.valid (is, looks);
+  kept = record {
+    numbers = h.kept.numbers;
+    blocks = h.kept.blocks;
+    dies = h.kept.dies;
+    fly = h.kept.fly;
+    ledger_kept = h.kept.ledger_kept;
+    work = h.kept.work;
+    claims = h.kept.claims;
+    pins = pins_more t.ledger.frontier (entry_of t.ledger) c.pins t.pins p q h.kept.pins kept;
+    differ = differ_more c.pins p new h.kept.differ;
+    reads = λ die tag index place e.
+        let w = h.kept.reads die tag index place e in
+        (w.0, found_more (is_pin_of tag index) c.pins (p ∷ []) w.1, w.2);
+    step_reads = h.kept.step_reads;
+    readers = λ e. absurd (true≢false (sym mended ∙ e));
+  };
+}
+
+-- All of them
+
+-- a block that may be kept: the device has its key, and it looks at what the key has
+pub record IsKeepable (c : Core) (t : Translation) (k : Key) (i : ℕ) : Type 0 where
+  pub key : IsKey (shape_of_numbers t.numbers) (key_behind k i)
+  pub same : key_at k i ≡ key_behind k i
+  pub looks : IsLookedAt (look_of c (key_behind k i)) (look t.ledger (key_behind k i))
+
+block_kept : (c : Core) (t : Translation) (reader : ℕ) (k : Key) (i : ℕ) → Valid t → is_mended t.work.mending ≡ true →
+    IsKeepable c t k i → PinKept t.ledger.frontier (entry_of t.ledger) (pin_now c reader k i) (pin_at t reader k i)
+block_kept c t reader k i v mended may = record {
+  tag = refl;
+  index = refl;
+  looked_at = subst (λ (x : Key). IsLookedAt (look_of c x) (look t.ledger (key_behind k i))) (sym may.same) may.looks;
+  there = subst (λ (x : Key). IsLookOf t.ledger.frontier (entry_of t.ledger) x (look t.ledger (key_behind k i)))
+      (sym may.same) (looked_there t (key_behind k i) v mended may.key);
+  wanted = refl;
+}
+
+-- a reader who kept nothing does not keep the next block
+next_new : (c : Core) (reader : ℕ) (k : Key) (n : ℕ) → list_any (is_of_reader reader) c.pins ≡ false →
+    list_any (is_pin_of reader n) (c.pins ++ map (pin_now c reader k) (below n)) ≡ false
+next_new c reader k n none =
+    none_passes (is_pin_of reader n) (c.pins ++ map (pin_now c reader k) (below n)) found
+  where
+    found : (j : ℕ) (p : Pin) → slice_get (c.pins ++ map (pin_now c reader k) (below n)) j ≡ Some p →
+        is_pin_of reader n p ≡ true → ⊥
+    found j p h is =
+        let both = and_parts (p.reader == reader) (p.index == n) is in
+        ⊎_elim
+        (λ (old : (j < length c.pins) × (slice_get c.pins j ≡ Some p)).
+        false≢true (sym (any_none (is_of_reader reader) c.pins j p none old.1) ∙ both.0))
+        (λ (made : (length c.pins ≤ j)
+        × (slice_get (map (pin_now c reader k) (below n)) (j - length c.pins) ≡ Some p)).
+        let r = mapped_at (pin_now c reader k) (below n) (j - length c.pins) p made.1 in
+        let s = get_below n (j - length c.pins) r.0 r.1 in
+        let same : r.0 ≡ n = ap (λ (x : Pin). x.index) r.2 ∙ eqb-true p.index n both.1 in
+        let less = s.1 in
+        absurd (omega (arith, same, less)))
+        (get_either c.pins (map (pin_now c reader k) (below n)) j p h)
+
+kept_all_right : (c : Core) (t : Translation) (reader : ℕ) (k : Key) (blocks : ℕ) → Describes c t →
+    is_mended t.work.mending ≡ true → ((i : ℕ) → i < blocks → IsKeepable c t k i) →
+    list_any (is_of_reader reader) c.pins ≡ false → (n : ℕ) → n ≤ blocks →
+    Describes (kept_all c reader k n) (record t { pins = t.pins ++ pins_at t reader k n })
+kept_all_right c t reader k blocks h mended each none zero l =
+    subst (λ (ps : List layer.Pin). Describes (kept_all c reader k zero) (record t { pins = ps }))
+    (sym (append-nil t.pins))
+    (subst (λ (ps : List Pin). Describes (record c { pins = ps }) t) (sym (append-nil c.pins)) h)
+kept_all_right c t reader k blocks h mended each none (suc n) l =
+    let may = each n (omega arith) in
+    let so_far = kept_all_right c t reader k blocks h mended each none n (omega arith) in
+    let next = keeps_block (kept_all c reader k n) (record t { pins = t.pins ++ pins_at t reader k n })
+    (key_behind k n) (pin_now c reader k n) (pin_at t reader k n) so_far mended may.key refl
+    (block_kept c t reader k n h.valid mended may) (next_new c reader k n none) in
+    subst (Describes (kept_all c reader k (suc n))) (moved_more t reader k n)
+    (subst (λ (x : Core). Describes x
+    (record t { pins = (t.pins ++ pins_at t reader k n) ++ pin_at t reader k n ∷ [] })) (kept_more c reader k n) next)
+
+-- a reader who keeps nothing keeps what each of the blocks has
+pub keeps_all : (c : Core) (t : Translation) (reader : ℕ) (k : Key) (blocks : ℕ) → Describes c t →
+    is_mended t.work.mending ≡ true → ((i : ℕ) → i < blocks → IsKeepable c t k i) →
+    list_any (keeps_for reader) t.pins ≡ false →
+    Describes (kept_all c reader k blocks) (fold moved t (keeps_of t reader k blocks))
+keeps_all c t reader k blocks h mended each none =
+    subst (Describes (kept_all c reader k blocks)) (sym (moved_all t reader k blocks))
+    (kept_all_right c t reader k blocks h mended each
+    (reader_keeps t.ledger.frontier (entry_of t.ledger) reader c.pins t.pins h.kept.pins ∙ none) blocks (omega arith))
+
+-- once the device is mended, and has the keys of all of them
+pub keeps_told : (c after : Core) (reader : ℕ) (k : Key) (blocks : ℕ) → after ≡ kept_all c reader k blocks →
+    InRange c.numbers → (t : Translation) → Describes c t → is_mended t.work.mending ≡ true →
+    ((i : ℕ) → i < blocks → IsKey (shape_of_numbers t.numbers) (key_behind k i)) →
+    list_any (keeps_for reader) t.pins ≡ false → Describes after (fold moved t (keeps_of t reader k blocks))
+keeps_told c after reader k blocks is ranges t h mended keys none =
+    subst (λ (x : Core). Describes x (fold moved t (keeps_of t reader k blocks))) (sym is)
+    (keeps_all c t reader k blocks h mended each none)
+  where
+    each : (i : ℕ) → i < blocks → IsKeepable c t k i
+    each i l = record {
+      key = keys i l;
+      same = keys_same t.numbers k i (subst InRange h.kept.numbers ranges) (keys i l);
+      looks = looks c t h mended (key_behind k i) (keys i l);
+    }

@@ -1,0 +1,2 @@
+pub mod NamesBehind
+pub mod PagesNamed

@@ -1,0 +1,69 @@
+-- The page of a block of a reader is wanted from now on, or wanted no more.
+use Rattle.std.proofs.Common.{◌≡◌, ◌∙◌, ℕ, Bool, true, false, Option, map, refl, ap}
+use Rattle.std.specs.Prelude.{if◌then◌else◌, option_map}
+use Rattle.ufs_spec.specs.Ledger.{Entry, Name, entry_of}
+use Rattle.ufs_spec.specs.Moves as move
+use Rattle.ufs_spec.specs.Moves.{WantPage, moved, with_wanted}
+use Rattle.ufs_spec.specs.Translation as layer
+use Rattle.ufs_spec.specs.Translation.{Translation}
+use Rattle.ufs_spec.specs.declared.flash.Place.{Place}
+use Rattle.ftl_core.specs.declared.books.Pin.{Pin}
+use Rattle.ftl_core.specs.Core.{Core}
+use Rattle.ftl_core.specs.Describes.{IsWanted, Kept, PinKept}
+use Rattle.ftl_core.specs.Moves.{is_pin_of, wanted_now}
+use Rattle.ftl_core.proofs.pins.FoundPins.{found_mapped, same_test}
+use Rattle.ftl_core.proofs.pins.PinsAlike.{pins_mapped}
+use Rattle.ftl_core.proofs.pins.PinsDiffer.{differ_mapped}
+
+-- so it is noted with the pin
+abbrev pub want_noted : ℕ → ℕ → Bool → Pin → Pin
+want_noted reader index b p = record p { wanted = if is_pin_of reader index p then b else p.wanted }
+
+-- the pins of other blocks stay
+pub wants_alike : (frontier : ℕ) (entries : Name → Option Entry) (reader index : ℕ) (b : Bool) (p : Pin)
+    (q : layer.Pin) → PinKept frontier entries p q →
+    PinKept frontier entries (want_noted reader index b p) (with_wanted reader index b q)
+wants_alike frontier entries reader index b p q h =
+    by (is_pin_of reader index p) (move.is_pin_of reader index q) (same_test frontier entries reader index p q h)
+  where
+    by : (x y : Bool) → y ≡ x → PinKept frontier entries (record p { wanted = if x then b else p.wanted })
+        (if y then record q { wanted = b } else q)
+    by true true e = record { tag = h.tag; index = h.index; looked_at = h.looked_at; there = h.there; wanted = refl }
+    by true false e = cc
+    by false true e = cc
+    by false false e = h
+
+-- who wants a page goes on to want it
+still_wanted : (reader index : ℕ) (place : Place) (p : Pin) → IsWanted place p →
+    IsWanted place (wanted_now reader index p)
+still_wanted reader index place p w =
+    record { stored = w.stored; looks = w.looks; place_is = w.place_is; wanted = by (is_pin_of reader index p) }
+  where
+    by : (b : Bool) → (if b then true else p.wanted) ≡ true
+    by true = refl
+    by false = w.wanted
+
+pub wants_kept : (c : Core) (t : Translation) (reader index : ℕ) → Kept c t →
+    Kept (record c { pins = map (wanted_now reader index) c.pins }) (moved t (WantPage reader index))
+wants_kept c t reader index k = record {
+  numbers = k.numbers;
+  blocks = k.blocks;
+  dies = k.dies;
+  fly = k.fly;
+  ledger_kept = k.ledger_kept;
+  work = k.work;
+  claims = k.claims;
+  pins = pins_mapped t.ledger.frontier t.ledger.frontier (entry_of t.ledger) (entry_of t.ledger)
+      (wanted_now reader index) (with_wanted reader index true) c.pins t.pins
+      (wants_alike t.ledger.frontier (entry_of t.ledger) reader index true) k.pins;
+  differ = differ_mapped (wanted_now reader index) (λ p. refl) (λ p. refl) c.pins k.differ;
+  reads = λ die tag i place e.
+      let r = k.reads die tag i place e in (
+        wanted_now reader index r.0,
+        found_mapped (is_pin_of tag i) (wanted_now reader index) (λ p. refl) c.pins
+            ∙ ap (option_map (wanted_now reader index)) r.1,
+        still_wanted reader index place r.0 r.2,
+      );
+  step_reads = k.step_reads;
+  readers = λ e. ap (map (wanted_now reader index)) (k.readers e);
+}

@@ -1,0 +1,162 @@
+-- What readers keep shows in the layer that is specified: what they look at, let go and want next.
+use Rattle.std.proofs.Common.{◌≡◌, ℕ, ◌+◌, ◌≤◌, true, List, Option, Some, None, drop, map, max, sym, subst, ⊎_elim}
+use Rattle.std.specs.Prelude.{IsSome, filter, find, not, option_map}
+use Rattle.ufs_spec.proofs.Facts.{cases_Bool, false≢true}
+use Rattle.ufs_spec.specs.Ledger.{Ledger, before_accepted, entry_of}
+use Rattle.ufs_spec.specs.Moves as move
+use Rattle.ufs_spec.specs.Moves.{Acknowledge, LetGo, LetGoAll, WantPage, moved}
+use Rattle.ufs_spec.specs.Translation as layer
+use Rattle.ufs_spec.specs.Translation.{Translation}
+use Rattle.ufs_spec.specs.declared.flash.Key.{Key}
+use Rattle.power_loss.proofs.moves.MovesKeepValid.{all_keep}
+use Rattle.ftl_core.specs.declared.books.Mending.{Mending}
+use Rattle.ftl_core.specs.declared.books.Pin.{Pin}
+use Rattle.ftl_core.specs.declared.books.Step.{Step}
+use Rattle.ftl_core.specs.declared.books.Step.TheVariants as steps
+use Rattle.ftl_core.specs.Core.{Core}
+use Rattle.ftl_core.specs.Describes.{Describes, StepKept, WorkKept}
+use Rattle.ftl_core.specs.Moves.{is_pin_of, looked_by, next_wanted, unpinned, wanted_now, without_block}
+use Rattle.ftl_core.specs.Tells.{IsPinned}
+use Rattle.ftl_core.proofs.pins.FoundPins.{FoundKept, pins_found}
+use Rattle.ftl_core.proofs.pins.PinsGone.{let_go_kept, let_one_go_kept}
+use Rattle.ftl_core.proofs.pins.PinsWanted.{wants_kept}
+
+-- What is kept
+
+-- what a reader keeps of a block is what the pin of this block looks at
+pub pinned_right : (c : Core) (t : Translation) (reader index : ℕ) → Describes c t →
+    IsPinned (looked_by reader index c.pins) (find (move.is_pin_of reader index) t.pins)
+pinned_right c t reader index h =
+    by (find (is_pin_of reader index) c.pins) (find (move.is_pin_of reader index) t.pins)
+    (pins_found t.ledger.frontier (entry_of t.ledger) reader index c.pins t.pins h.kept.pins)
+  where
+    by : (o : Option Pin) (r : Option layer.Pin) → FoundKept t.ledger.frontier (entry_of t.ledger) o r →
+        IsPinned (option_map (λ (x : Pin). x.looked) o) r
+    by None None k = tt
+    by (Some p) (Some q) k = k.looked_at
+    by None (Some q) k = absurd k
+    by (Some p) None k = absurd k
+
+-- it keeps something only once the device is mended
+pub keeps_mended : (c : Core) (t : Translation) (reader index : ℕ) → Describes c t →
+    IsSome (looked_by reader index c.pins) → layer.is_mended t.work.mending ≡ true
+keeps_mended c t reader index h some =
+    ⊎_elim (λ e. e)
+    (λ e. absurd (false≢true
+    (subst (λ (ps : List Pin). IsSome (looked_by reader index ps)) (h.kept.readers e) some)))
+    (cases_Bool (layer.is_mended t.work.mending))
+
+-- What is let go
+
+pub unpins_right : (c : Core) (t : Translation) (reader : ℕ) → Describes c t →
+    Describes (unpinned c reader) (moved t (LetGoAll reader))
+unpins_right c t reader h = record {
+  valid = all_keep t (LetGoAll reader) h.valid tt;
+  kept = let_go_kept c t reader h.kept;
+}
+
+pub unpins_told : (c after : Core) (reader : ℕ) → after ≡ unpinned c reader → (t : Translation) → Describes c t →
+    Describes after (moved t (LetGoAll reader))
+unpins_told c after reader is t h =
+    subst (λ (x : Core). Describes x (moved t (LetGoAll reader))) (sym is) (unpins_right c t reader h)
+
+-- one block is let go
+pub lets_go_right : (c : Core) (t : Translation) (reader index : ℕ) → Describes c t →
+    Describes
+    (record c {
+      books = map (without_block reader index) c.books;
+      pins = filter (λ p. not (is_pin_of reader index p)) c.pins;
+    })
+    (moved t (LetGo reader index))
+lets_go_right c t reader index h = record {
+  valid = all_keep t (LetGo reader index) h.valid tt;
+  kept = let_one_go_kept c t reader index h.kept;
+}
+
+pub wants_right : (c : Core) (t : Translation) (reader index : ℕ) → Describes c t →
+    Describes (record c { pins = map (wanted_now reader index) c.pins }) (moved t (WantPage reader index))
+wants_right c t reader index h = record {
+  valid = all_keep t (WantPage reader index) h.valid tt;
+  kept = wants_kept c t reader index h.kept;
+}
+
+-- and the next one is wanted
+pub wants_next : (c after : Core) (reader index : ℕ) → after ≡ next_wanted c reader index → (t : Translation) →
+    Describes c t → Describes after (moved (moved t (LetGo reader index)) (WantPage reader (index + 1)))
+wants_next c after reader index is t h =
+    subst (λ (x : Core). Describes x (moved (moved t (LetGo reader index)) (WantPage reader (index + 1)))) (sym is)
+    (wants_right
+    (record c {
+      books = map (without_block reader index) c.books;
+      pins = filter (λ p. not (is_pin_of reader index p)) c.pins;
+    })
+    (moved t (LetGo reader index)) reader (index + 1) (lets_go_right c t reader index h))
+
+-- What is acknowledged
+
+-- what is known of the mending does not depend on it
+work_held : (m : Mending) (left : List Key) (step : Option Step) (content : List ℕ) (next : ℕ) (w : layer.Work)
+    (l : Ledger) (held : ℕ) → WorkKept m left step content next w l →
+    WorkKept m left step content next w (record l { held = held })
+work_held m left step content next w l held k = record {
+  mending_is = k.mending_is;
+  step_is = step_held step w.step k.step_is;
+  to_repair = λ e. let r = k.to_repair e in record { differ = r.differ; unrepaired = r.unrepaired };
+  no_plan = k.no_plan;
+  no_rests = k.no_rests;
+  next_mark = k.next_mark;
+  repaired = k.repaired;
+}
+  where
+    step_held : (s : Option Step) (u : Option layer.Step) → StepKept l s content u →
+        StepKept (record l { held = held }) s content u
+    step_held None None r = r
+    step_held None (Some x) r = absurd r
+    step_held (Some (steps.Mark n fence)) None r = absurd r
+    step_held (Some (steps.Mark n fence)) (Some x) r = r
+    step_held (Some (steps.Repair n key from there)) None r = absurd r
+    step_held (Some (steps.Repair n key from there)) (Some x) r = (
+      r.0,
+      record {
+        next = r.1.next;
+        last = r.1.last;
+        new = r.1.new;
+        entry = r.1.entry;
+        stored = r.1.stored;
+        content_is = r.1.content_is;
+      },
+    )
+
+-- commands that are durable may be acknowledged, and nothing that is kept changes
+pub acknowledges_right : (c : Core) (t : Translation) (count : ℕ) → Describes c t →
+    before_accepted t.ledger + count ≤ t.ledger.frontier → Describes c (moved t (Acknowledge count))
+acknowledges_right c t count h allowed = record {
+  valid = all_keep t (Acknowledge count) h.valid allowed;
+  kept = record {
+    numbers = h.kept.numbers;
+    blocks = h.kept.blocks;
+    dies = h.kept.dies;
+    fly = h.kept.fly;
+    ledger_kept = record {
+      frontier = h.kept.ledger_kept.frontier;
+      last_given = h.kept.ledger_kept.last_given;
+      pages = h.kept.ledger_kept.pages;
+      keys = h.kept.ledger_kept.keys;
+      places = h.kept.ledger_kept.places;
+    };
+    work = work_held c.mending (drop c.repaired c.lost) c.step c.content c.next_mark t.work t.ledger
+        (max t.ledger.held count) h.kept.work;
+    claims = h.kept.claims;
+    pins = h.kept.pins;
+    differ = h.kept.differ;
+    reads = h.kept.reads;
+    step_reads = h.kept.step_reads;
+    readers = h.kept.readers;
+  };
+}
+
+pub acknowledged_lets_go : (c after : Core) (reader : ℕ) → after ≡ unpinned c reader → (t : Translation) (count : ℕ) →
+    Describes c t → before_accepted t.ledger + count ≤ t.ledger.frontier →
+    Describes after (moved (moved t (Acknowledge count)) (LetGoAll reader))
+acknowledged_lets_go c after reader is t count h allowed =
+    unpins_told c after reader is (moved t (Acknowledge count)) (acknowledges_right c t count h allowed)
