@@ -3,22 +3,26 @@
 PREFIX ?= /usr/local
 
 PROGRAM := crates/ufsim_main/out/ufsim_main
+BIN = $(DESTDIR)$(PREFIX)/bin
+INSTALLED = $(BIN)/ufsim
 
-.PHONY: help demo test install bench wrong-bodies turned-rules lifted-limits refused-memory
+.PHONY: help demo prove test install uninstall bench wrong-bodies turned-rules lifted-limits refused-memory
 
 help:
-	@echo 'make demo                 proves and builds the program, and shows a write, a read and stops step by step'
-	@echo 'make test                 proves everything from nothing, runs every test and compares the examples'
-	@echo 'make install PREFIX=DIR   copies the program to DIR/bin/ufsim (without PREFIX: $(PREFIX)/bin/ufsim)'
-	@echo 'make bench                times writes and reads'
-	@echo 'make wrong-bodies         tries the wrong bodies alone, and sees that the prover refuses each'
-	@echo 'make turned-rules         turns rules of the specification around, and sees that a law refuses each'
-	@echo 'make lifted-limits        lifts the limits of this stage in a copy, and proves the laws there'
-	@echo 'make refused-memory       refuses each allocation of each call that takes memory, one at a time'
+	@echo 'make demo                  shows a write, a read and six stops; builds without proving, two minutes'
+	@echo 'make prove                 proves every crate, and says how far it is; installs nothing'
+	@echo 'make test                  proves everything from nothing and runs every test; about an hour'
+	@echo 'make install PREFIX=DIR    proves and builds the program, and copies it to DIR/bin/ufsim'
+	@echo 'make uninstall PREFIX=DIR  removes DIR/bin/ufsim (both: without PREFIX, DIR is $(PREFIX))'
+	@echo 'make bench                 times writes and reads, after it proves what they need'
+	@echo 'make wrong-bodies          tries the wrong bodies alone, and sees that the prover refuses each'
+	@echo 'make turned-rules          turns rules of the specification around, and sees that a law refuses each'
+	@echo 'make lifted-limits         lifts the limits of this stage in a copy, and proves the laws there'
+	@echo 'make refused-memory        refuses each allocation of each call that takes memory, one at a time'
 
 # Without the kit nothing can be proved or built. Under -q make runs nothing, adds no line of its own,
 # and ends with status 1.
-ifneq ($(filter demo test install bench wrong-bodies turned-rules lifted-limits refused-memory,$(MAKECMDGOALS)),)
+ifneq ($(filter demo prove test install bench wrong-bodies turned-rules lifted-limits refused-memory,$(MAKECMDGOALS)),)
 ifeq ($(shell command -v rt 2>/dev/null),)
 $(shell echo "butcherford: the Rattle kit's command rt is not on the PATH; it is needed to prove and build" >&2)
 MAKEFLAGS += -q
@@ -26,18 +30,29 @@ endif
 endif
 
 demo:
-	@sh tools/build.sh
-	@python3 tools/demo.py $(PROGRAM) examples/write_read.txt
-	@python3 tools/demo.py $(PROGRAM) examples/stop_in_write.txt
+	@python3 tools/demo.py examples/write_read.txt examples/stop_in_write.txt
+
+prove:
+	@python3 tools/prove.py
 
 test:
 	@sh tools/test.sh
 
+# The folder comes first, so that nobody waits for the proofs in vain.
 install:
+	@mkdir -p '$(BIN)' 2>/dev/null && test -w '$(BIN)' || { \
+		echo 'butcherford: $(BIN) cannot be written; name another folder, as in make install PREFIX=$(HOME)/.local' >&2; \
+		exit 1; }
 	@sh tools/build.sh
-	@mkdir -p '$(DESTDIR)$(PREFIX)/bin'
-	@cp $(PROGRAM) '$(DESTDIR)$(PREFIX)/bin/ufsim'
-	@echo 'installed $(DESTDIR)$(PREFIX)/bin/ufsim'
+	@cp $(PROGRAM) '$(INSTALLED)'
+	@echo 'installed $(INSTALLED)'
+
+uninstall:
+	@if test -f '$(INSTALLED)'; then \
+		rm '$(INSTALLED)' && echo 'removed $(INSTALLED)'; \
+	else \
+		echo 'nothing to remove: there is no $(INSTALLED)'; \
+	fi
 
 bench:
 	@cd crates/bench && rt run
