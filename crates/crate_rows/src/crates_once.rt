@@ -1,4 +1,4 @@
-//! Each public function of the lower crates once, with values from the device's formats and from
+//! Public functions of the lower crates, each once, with values from the device's formats and from
 //! another implementation of SHA-256.
 use nand_model::{Die, MemDie, work};
 use row_config::row_config;
