@@ -2,9 +2,16 @@
 
 PREFIX ?= /usr/local
 
-PROGRAM := crates/ufsim_main/out/ufsim_main
 BIN = $(DESTDIR)$(PREFIX)/bin
-INSTALLED = $(BIN)/ufsim
+SHARE = $(DESTDIR)$(PREFIX)/share
+MAN = $(SHARE)/man/man1
+BASH = $(SHARE)/bash-completion/completions
+ZSH = $(SHARE)/zsh/site-functions
+FISH = $(SHARE)/fish/vendor_completions.d
+# Of each program: itself, its manual page, and its completions for three shells.
+PROGRAMS := ufsim ufstool
+INSTALLED = $(foreach it,$(PROGRAMS),bin/$(it) share/man/man1/$(it).1 share/bash-completion/completions/$(it) \
+	share/zsh/site-functions/_$(it) share/fish/vendor_completions.d/$(it).fish)
 
 .PHONY: help demo prove test install uninstall bench wrong-bodies turned-rules lifted-limits refused-memory
 
@@ -12,8 +19,9 @@ help:
 	@echo 'make demo                  shows a write, a read and six stops; builds without proving, two minutes'
 	@echo 'make prove                 proves every crate, and says how far it is; installs nothing'
 	@echo 'make test                  proves everything from nothing and runs every test; about an hour'
-	@echo 'make install PREFIX=DIR    proves and builds the program, and copies it to DIR/bin/ufsim'
-	@echo 'make uninstall PREFIX=DIR  removes DIR/bin/ufsim (both: without PREFIX, DIR is $(PREFIX))'
+	@echo 'make install PREFIX=DIR    proves and builds ufsim and ufstool, and copies them to DIR/bin, with'
+	@echo '                           their manual pages and completions to DIR/share'
+	@echo 'make uninstall PREFIX=DIR  removes what was installed (both: without PREFIX, DIR is $(PREFIX))'
 	@echo 'make bench                 times writes and reads, after it proves what they need'
 	@echo 'make wrong-bodies          tries the wrong bodies alone, and sees that the prover refuses each'
 	@echo 'make turned-rules          turns rules of the specification around, and sees that a law refuses each'
@@ -44,15 +52,25 @@ install:
 		echo 'butcherford: $(BIN) cannot be written; name another folder, as in make install PREFIX=$(HOME)/.local' >&2; \
 		exit 1; }
 	@sh tools/build.sh
-	@cp $(PROGRAM) '$(INSTALLED)'
-	@echo 'installed $(INSTALLED)'
+	@mkdir -p '$(MAN)' '$(BASH)' '$(ZSH)' '$(FISH)'
+	@for it in $(PROGRAMS); do \
+		cp "crates/$${it}_main/out/$${it}_main" "$(BIN)/$$it" && \
+		cp "man/$$it.1" '$(MAN)/' && \
+		cp "completions/$$it.bash" "$(BASH)/$$it" && \
+		cp "completions/_$$it" '$(ZSH)/' && \
+		cp "completions/$$it.fish" '$(FISH)/' && \
+		echo "installed $(BIN)/$$it" || exit 1; \
+	done
 
 uninstall:
-	@if test -f '$(INSTALLED)'; then \
-		rm '$(INSTALLED)' && echo 'removed $(INSTALLED)'; \
-	else \
-		echo 'nothing to remove: there is no $(INSTALLED)'; \
-	fi
+	@for it in $(INSTALLED); do \
+		file='$(DESTDIR)$(PREFIX)'/"$$it"; \
+		if test -f "$$file"; then \
+			rm "$$file" && echo "removed $$file"; \
+		else \
+			echo "nothing to remove: there is no $$file"; \
+		fi; \
+	done
 
 bench:
 	@cd crates/bench && rt run

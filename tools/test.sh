@@ -2,10 +2,10 @@
 # Everything that has to pass: the gate, `rt ci`, which proves every crate from nothing, tries the must-fail
 # edits and runs programs and tests; then the wrong bodies of wrong_bodies/, which tools/wrong_bodies.py tries
 # in rounds; then the table of laws and files; then the scripts in examples/, each of which has to print what
-# stands in the file of its name with .stdout behind it, and to end with status 0; then the calls of the
-# program in tools/bad_calls/, each of which has to end with its status and to print nothing; then that the
-# five calls of a device take no memory. The last line is 'N passed, M failed' for all together. The status is
-# 0 only if nothing failed.
+# stands in the file of its name with .stdout behind it, and to end with status 0; then the cases of ufstool in
+# examples/ufstool/, which tools/golden.py compares; then the calls of the program in tools/bad_calls/, each of
+# which has to end with its status and to print nothing; then that the five calls of a device take no memory.
+# The last line is 'N passed, M failed' for all together. The status is 0 only if nothing failed.
 set -u
 cd "$(dirname "$0")/.." || exit 1
 work=$(mktemp -d) || exit 1
@@ -51,7 +51,7 @@ fi
 echo "== examples"
 (cd crates/ufsim_main && rt try --cases ../../examples -- run {}) >"$work/shown" 2>"$work/cases"
 cat "$work/shown" "$work/cases"
-scripts=$(ls examples | grep -c -v -e '\.stdout$' -e '\.args$')
+scripts=$(ls examples | grep -c -v -e '\.stdout$' -e '\.args$' -e '^ufstool$')
 good=$(grep -c '^case=.* status=0 .*output=expected proved=no$' "$work/cases")
 if [ "$scripts" -eq 0 ]; then
     echo "there are no examples"
@@ -59,6 +59,10 @@ if [ "$scripts" -eq 0 ]; then
 fi
 passed=$((passed + good))
 failed=$((failed + scripts - good))
+
+# The same for ufstool, with what it says on standard error and its status.
+echo "== examples of ufstool"
+counted python3 tools/golden.py
 
 # Words that are none of the program's end with status 2, files that cannot be read with status 1.
 echo "== wrong words and files"

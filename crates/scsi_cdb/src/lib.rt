@@ -10,6 +10,7 @@ ghost use Rattle.scsi_cdb.specs.Reading.{HasSelection, Writes};
 
 pub use demands::{address_of, blocks_of, length_of};
 pub use laws::{one_cdb, one_operation, worked_bytes, worked_residuals};
+pub use spelling::bytes_of;
 use ufs_spec::{Cdb, Sense, read_u16, read_u32};
 
 mod demands;
@@ -21,7 +22,6 @@ use operations::{
     INQUIRY, READ_6, READ_10, READ_CAPACITY_10, REPORT_LUNS, REQUEST_SENSE, SECURITY_IN,
     SECURITY_OUT, SYNCHRONIZE_CACHE_10, TEST_UNIT_READY, UNMAP, WRITE_6, WRITE_10,
 };
-use spelling::bytes_of;
 
 /// FUA, bit 3 of byte 1.
 const FUA: u8 = 0x08;

@@ -26,9 +26,11 @@ pub enum Word {
 
 /// Why a script ends, as the program prints it after its name.
 #[derive(Clone, Copy, Debug, Error, PartialEq, Eq)]
-pub(crate) enum ScriptFault {
+pub enum ScriptFault {
+    /// The line of this number, which counts from 1.
     #[error("line {number}: {word}")]
     Line { number: usize, word: Word },
+    /// A write of the output failed.
     #[error("output")]
     Output,
 }

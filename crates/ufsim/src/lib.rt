@@ -17,6 +17,6 @@ mod words;
 
 pub use check::Stops;
 pub use command_line::{Call, CallFault, call};
-pub use fault::Word;
-pub use run::{check_each_text, check_text, run_text};
+pub use fault::{ScriptFault, Word};
+pub use run::{check_each_text, check_text, run_text, world_after};
 pub use spelling::{bytes, text};

@@ -107,6 +107,25 @@ fn run_script<W: Write>(alloc: Global, script: &[u8], out: &mut W) -> Result<(),
     out.flush().map_err(|_| ScriptFault::Output)
 }
 
+/// The device with its dies after the lines of a script up to the one with the number `last`. With a number
+/// of the first lines it is as it was opened. Nothing is printed.
+///
+/// # Errors
+///
+/// What `run_text` tells of these lines.
+pub fn world_after(alloc: Global, script: &[u8], last: usize) -> Result<World, ScriptFault> {
+    let first = FirstLines::read(script)?;
+    let opened = first.last;
+    let mut runner = Runner::new(alloc, &first).map_err(|word| opened.fault(word))?;
+    for line in first.rest {
+        if line.number > last {
+            break;
+        }
+        runner.run(line.bytes).map_err(|word| line.fault(word))?;
+    }
+    Ok(runner.world)
+}
+
 // A device with the line of output that was made last.
 #[derive(Drop)]
 struct Runner {

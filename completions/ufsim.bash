@@ -1,0 +1,12 @@
+# Completion of ufsim in bash.
+_ufsim() {
+    local current=${COMP_WORDS[COMP_CWORD]}
+    COMPREPLY=()
+    if [ "$COMP_CWORD" -eq 1 ]; then
+        COMPREPLY=($(compgen -W 'run check' -- "$current"))
+    elif [ "$COMP_CWORD" -eq 2 ]; then
+        compopt -o filenames 2>/dev/null
+        COMPREPLY=($(compgen -f -- "$current"))
+    fi
+}
+complete -F _ufsim ufsim

@@ -1,0 +1,26 @@
+# Completion of ufstool in fish.
+set -l messages read6 write6 read10 write10 synchronize-cache flush test-unit-ready request-sense \
+    read-capacity nop data-out
+set -l commands read6 write6 read10 write10 synchronize-cache flush test-unit-ready request-sense read-capacity
+
+complete -c ufstool -f
+complete -c ufstool -n __fish_use_subcommand -a explain -d 'Say what a script and its output tell'
+complete -c ufstool -n __fish_use_subcommand -a host -d 'Write a line of a script'
+complete -c ufstool -n __fish_use_subcommand -a draw -d 'Draw the dies'
+complete -c ufstool -l help -d 'Show help'
+complete -c ufstool -n __fish_use_subcommand -l version -d 'Show the version'
+complete -c ufstool -n '__fish_seen_subcommand_from explain draw' -F
+complete -c ufstool -n '__fish_seen_subcommand_from draw' -l line -x -d 'Run the lines up to this one'
+complete -c ufstool -n '__fish_seen_subcommand_from draw' -l svg -d 'Draw SVG'
+complete -c ufstool -n "__fish_seen_subcommand_from host; and not __fish_seen_subcommand_from $messages" -a "$messages"
+complete -c ufstool -n "__fish_seen_subcommand_from $messages" -l task -x -d 'The task tag'
+complete -c ufstool -n "__fish_seen_subcommand_from $commands data-out" -l unit -x -d 'The LUN'
+complete -c ufstool -n "__fish_seen_subcommand_from $commands" -l expected -x -d 'How many bytes the host sends or has room for'
+complete -c ufstool -n '__fish_seen_subcommand_from read6 write6 read10 write10' -l address -x -d 'The first block'
+complete -c ufstool -n '__fish_seen_subcommand_from read6 write6 read10 write10' -l blocks -x -d 'How many blocks'
+complete -c ufstool -n '__fish_seen_subcommand_from read10 write10' -l fua -d 'Set FUA'
+complete -c ufstool -n '__fish_seen_subcommand_from synchronize-cache flush' -l immediate -d 'Set IMMED'
+complete -c ufstool -n '__fish_seen_subcommand_from request-sense' -l allocation -x -d 'The allocation length'
+complete -c ufstool -n '__fish_seen_subcommand_from data-out' -l offset -x -d 'Where the data are in those of the command'
+complete -c ufstool -n '__fish_seen_subcommand_from data-out' -l bytes -x -d 'How many bytes'
+complete -c ufstool -n '__fish_seen_subcommand_from data-out' -l fill -x -d 'The byte, two hexadecimal digits'

@@ -1,0 +1,172 @@
+//! The dies as a picture: SVG with a row for each block and a square for each page.
+use crate::survey::{BlockState, PageState, Survey, block_state, number_of};
+use crate::text::Counts;
+use device::World;
+use nand_model::{Die, MemDie};
+use std::io::Write;
+use std::{fmt, io};
+use ufs_spec::{Place, Tag};
+
+/// The side of a page's square and its distance from the next one, in pixels.
+const SIDE: u32 = 8;
+/// Where the squares begin.
+const LEFT: u32 = 110;
+/// The height of the line with the name of a die.
+const HEAD: u32 = 24;
+
+/// Writes the dies as SVG.
+pub fn write_svg<W: Write>(survey: &Survey, world: &World, out: &mut W) -> io::Result<()> {
+    let (width, height) = size_of(world.dies());
+    writeln!(
+        out,
+        "<svg xmlns=\"http://www.w3.org/2000/svg\" width=\"{width}\" height=\"{height}\""
+    )?;
+    writeln!(out, " font-family=\"monospace\" font-size=\"8\">")?;
+    writeln!(out, "<title>Dies, blocks and pages</title>")?;
+    let mut top = 0u32;
+    for (index, die) in world.dies().iter().enumerate() {
+        write_die(survey, number_of(index), die, top, out)?;
+        top = top.saturating_add(height_of(die));
+    }
+    writeln!(out, "</svg>")
+}
+
+fn size_of(dies: &[MemDie]) -> (u32, u32) {
+    let mut width = 0u32;
+    let mut height = 0u32;
+    for die in dies {
+        width = width.max(LEFT + u32::from(die.pages()) * SIDE + SIDE);
+        height = height.saturating_add(height_of(die));
+    }
+    (width, height)
+}
+
+fn height_of(die: &MemDie) -> u32 {
+    HEAD + u32::from(die.blocks()) * SIDE + SIDE
+}
+
+fn write_die<W: Write>(
+    survey: &Survey,
+    number: u8,
+    die: &MemDie,
+    top: u32,
+    out: &mut W,
+) -> io::Result<()> {
+    let counts = Counts::of(die);
+    let base = top.saturating_add(HEAD - 8);
+    writeln!(
+        out,
+        "<text x=\"4\" y=\"{base}\" font-size=\"12\">die {number}: {counts}</text>"
+    )?;
+    for block in 0..die.blocks() {
+        let row = top.saturating_add(HEAD + u32::from(block) * SIDE);
+        write_block(survey, number, die, block, row, out)?;
+    }
+    Ok(())
+}
+
+// The name of a block, its frame, and the squares of its pages that are not free.
+fn write_block<W: Write>(
+    survey: &Survey,
+    number: u8,
+    die: &MemDie,
+    block: u16,
+    row: u32,
+    out: &mut W,
+) -> io::Result<()> {
+    let state = block_state(die, block);
+    let color = block_color(state);
+    let base = row.saturating_add(SIDE - 1);
+    let width = u32::from(die.pages()) * SIDE;
+    writeln!(
+        out,
+        "<text x=\"4\" y=\"{base}\">block {block} {state}</text>"
+    )?;
+    writeln!(
+        out,
+        "<rect x=\"{LEFT}\" y=\"{row}\" width=\"{width}\" height=\"7\" fill=\"{color}\"/>"
+    )?;
+    for page in 0..die.pages() {
+        let place = Place {
+            die: number,
+            block,
+            page,
+        };
+        write_page(&survey.page_state(die, place), place, row, out)?;
+    }
+    Ok(())
+}
+
+fn write_page<W: Write>(state: &PageState, place: Place, row: u32, out: &mut W) -> io::Result<()> {
+    if *state == PageState::Free {
+        return Ok(());
+    }
+    let color = page_color(state);
+    let column = LEFT + u32::from(place.page) * SIDE;
+    let page = place.page;
+    write!(
+        out,
+        "<rect x=\"{column}\" y=\"{row}\" width=\"7\" height=\"7\" fill=\"{color}\">"
+    )?;
+    writeln!(out, "<title>page {page}: {state}</title></rect>")
+}
+
+fn block_color(state: BlockState) -> &'static str {
+    match state {
+        BlockState::Free => "#f4f4f4",
+        BlockState::Filling => "#cfe8ff",
+        BlockState::Closed => "#d8d8d8",
+        BlockState::Bad => "#f6b3b3",
+    }
+}
+
+fn page_color(state: &PageState) -> &'static str {
+    match state {
+        PageState::Free => "#f4f4f4",
+        PageState::Live(_) => "#1b8a3a",
+        PageState::Dead(_) => "#8a8a8a",
+        PageState::Mark(_) => "#1f4fbf",
+        PageState::OldMark(_) => "#9db4e8",
+        PageState::Torn => "#c21f1f",
+    }
+}
+
+impl fmt::Display for PageState {
+    fn fmt<W: fmt::Write>(&self, f: &mut fmt::Formatter<W>) -> fmt::Result {
+        match self {
+            PageState::Free => write!(f, "free"),
+            PageState::Live(tag) => {
+                let words = TagWords(*tag);
+                write!(f, "live, {words}")
+            }
+            PageState::Dead(tag) => {
+                let words = TagWords(*tag);
+                write!(f, "dead, {words}")
+            }
+            PageState::Mark(number) => write!(f, "the newest mark, number {number}"),
+            PageState::OldMark(number) => write!(f, "an older mark, number {number}"),
+            PageState::Torn => write!(f, "torn"),
+        }
+    }
+}
+
+/// Whose page it is, in words.
+#[derive(Clone, Copy)]
+struct TagWords(Tag);
+
+impl fmt::Display for TagWords {
+    fn fmt<W: fmt::Write>(&self, f: &mut fmt::Formatter<W>) -> fmt::Result {
+        let Tag {
+            kind,
+            unit,
+            address,
+            number,
+            ..
+        } = self.0;
+        match kind {
+            Tag::DATA => write!(f, "unit {unit} address {address}, number {number}"),
+            Tag::RPMB_AREA => write!(f, "RPMB page {address}, number {number}"),
+            _ => write!(f, "settings, number {number}"),
+        }
+    }
+}

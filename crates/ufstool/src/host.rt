@@ -1,0 +1,237 @@
+//! The lines of a script that hand a device a message.
+ghost use Rattle.std.specs.Prelude.{◌≡◌, ◌≤◌, ◌∷◌, ◌++◌, [], IfOk, codes, length};
+ghost use Rattle.hex.specs.Hex.{encode_lower};
+ghost use Rattle.ufs_spec.specs.Messages.{spelling, AreFlags, IsMessage};
+
+use scsi_cdb::{bytes_of, length_of};
+use std::alloc::{AllocError, Global};
+use std::io::Write;
+use thiserror::Error;
+use ufs_spec::{Cdb, Data, Message, Upiu};
+
+/// A message that a line can be written for.
+#[derive(Clone, Copy, Debug, PartialEq, Eq)]
+pub enum HostMessage {
+    /// NOP OUT.
+    NopOut {
+        task: u8,
+    },
+    /// COMMAND. `expected` is how many bytes the host sends or has room for; without it, all bytes of the command.
+    Command {
+        unit: u8,
+        task: u8,
+        cdb: Cdb,
+        expected: Option<u32>,
+    },
+    /// DATA OUT of so many bytes, each of them `fill`.
+    DataOut {
+        unit: u8,
+        task: u8,
+        offset: u32,
+        count: u16,
+        fill: u8,
+    },
+}
+
+/// Why a line cannot be written.
+#[derive(Clone, Copy, Debug, Error, PartialEq, Eq)]
+pub enum LineFault {
+    /// The fields of the command do not fit its bytes.
+    #[error("the address has more than the 21 bits of READ(6) and WRITE(6); take read10 or write10")]
+    Address,
+    /// A DATA OUT has 1 to 4096 bytes.
+    #[error("a DATA OUT has 1 to 4096 bytes; give such a number to --bytes")]
+    Count,
+    /// Memory was refused.
+    #[error("there is not enough memory")]
+    Memory,
+    /// A write of the line failed.
+    #[error("the line could not be written")]
+    Output,
+}
+
+impl From<AllocError> for LineFault {
+    fn from(_: AllocError) -> LineFault {
+        LineFault::Memory
+    }
+}
+
+/// Writes the line of a script that hands a device this message to `out`, or one line with what is wrong to
+/// `faults`. The status is 0 if the line was written, else 1.
+pub fn write_host_line<W: Write, F: Write>(
+    alloc: Global,
+    wanted: &HostMessage,
+    out: &mut W,
+    faults: &mut F,
+) -> u8
+    ensures status { result ≤ 1 }
+    ensures quiet { result ≡ 0 → faults.new ≡ faults.old }
+{
+    match try_line(alloc, wanted, out) {
+        Ok(()) => 0,
+        Err(fault) => {
+            // Where the fault itself cannot be told, the status alone tells it.
+            let _ = writeln!(faults, "ufstool: {fault}");
+            1
+        }
+    }
+}
+
+fn try_line<W: Write>(alloc: Global, wanted: &HostMessage, out: &mut W) -> Result<(), LineFault> {
+    let message = message_of(wanted)?;
+    let line = match wanted {
+        HostMessage::DataOut { count, fill, .. } if *count % 4 == 0 => {
+            fill_line(alloc, &message, *count, *fill)?
+        }
+        _ => host_line(alloc, &message)?,
+    };
+    out.write_all(line.as_slice())
+        .map_err(|_| LineFault::Output)?;
+    out.flush().map_err(|_| LineFault::Output)
+}
+
+/// The message, if its fields fit their bytes.
+pub fn message_of(wanted: &HostMessage) -> Result<Message, LineFault>
+    ensures { IfOk result IsMessage }
+{
+    match *wanted {
+        HostMessage::NopOut { task } => Ok(nop_message(task)),
+        HostMessage::Command {
+            unit,
+            task,
+            cdb,
+            expected,
+        } => command_of(unit, task, cdb, expected),
+        HostMessage::DataOut {
+            unit,
+            task,
+            offset,
+            count,
+            fill,
+        } => data_out_of(unit, task, offset, count, fill),
+    }
+}
+
+// The NOP OUT with this tag (JESD220, 10.7.11).
+fn nop_message(tag: u8) -> Message
+    ensures { IsMessage result }
+{
+    Message::NopOut { tag }
+}
+
+// The COMMAND, if its bytes are read as this command again.
+fn command_of(unit: u8, task: u8, command: Cdb, expected: Option<u32>) -> Result<Message, LineFault>
+    ensures { IfOk result IsMessage }
+{
+    let cdb = bytes_of(&command);
+    if scsi_cdb::read(&cdb) != Ok(command) {
+        return Err(LineFault::Address);
+    }
+    let length = match expected {
+        Some(length) => length,
+        None => length_of(0, &command),
+    };
+    Ok(command_message(direction_of(&command), unit, task, length, cdb))
+}
+
+// The COMMAND with these fields (JESD220, 10.7.1).
+fn command_message(flags: u8, lun: u8, tag: u8, expected: u32, cdb: [u8; 16]) -> Message
+    requires { AreFlags flags }
+    ensures { IsMessage result }
+{
+    Message::Command {
+        flags,
+        lun,
+        tag,
+        expected,
+        cdb,
+    }
+}
+
+// The DATA OUT, if it has 1 to 4096 bytes.
+fn data_out_of(unit: u8, task: u8, offset: u32, count: u16, fill: u8) -> Result<Message, LineFault>
+    ensures { IfOk result IsMessage }
+{
+    let bytes = [fill; 4096];
+    let count = count as usize;
+    if count == 0 || count > bytes.len() {
+        return Err(LineFault::Count);
+    }
+    Ok(data_message(unit, task, offset, &bytes[..count]))
+}
+
+// The DATA OUT with these bytes (JESD220, 10.7.3).
+fn data_message(lun: u8, tag: u8, offset: u32, bytes: &[u8]) -> Message
+    requires { (1 ≤ length bytes.now) × (length bytes.now ≤ 4096) }
+    ensures { IsMessage result }
+{
+    let mut data = Data::new();
+    let _ = data.try_extend_from_slice(bytes);
+    Message::DataOut {
+        lun,
+        tag,
+        offset,
+        data,
+    }
+}
+
+// The flags of a COMMAND: where its data go (JESD220, 10.7.1).
+fn direction_of(command: &Cdb) -> u8
+    ensures { AreFlags result }
+{
+    match command {
+        Cdb::Write6 { .. } | Cdb::Write10 { .. } => 0x20,
+        Cdb::Read6 { .. } | Cdb::Read10 { .. } | Cdb::ReadCapacity10 | Cdb::RequestSense { .. } => {
+            0x40
+        }
+        _ => 0x00,
+    }
+}
+
+/// The line `host HEX` of a message: its one spelling, in hexadecimal digits.
+pub fn host_line(alloc: Global, message: &Message) -> Result<Vec<u8>, AllocError>
+    requires { IsMessage message.now }
+    ensures { IfOk result (λ line. line.items ≡ codes "host " ++ encode_lower (spelling message.now) ++ 10 ∷ []) }
+{
+    let mut bytes = Upiu::new();
+    upiu::write(message, &mut bytes);
+    let mut line = Vec::new(alloc);
+    line.extend_from_slice(b"host ")?;
+    append_digits(&mut line, bytes.as_slice())?;
+    line.extend_from_slice(b"\n")?;
+    Ok(line)
+}
+
+// The line `fill HEX BB N` of a DATA OUT of so many equal bytes.
+fn fill_line(alloc: Global, message: &Message, count: u16, fill: u8) -> Result<Vec<u8>, LineFault>
+    requires { IsMessage message.now }
+{
+    let mut bytes = Upiu::new();
+    upiu::write(message, &mut bytes);
+    let mut line = Vec::new(alloc);
+    line.extend_from_slice(b"fill ")?;
+    append_digits(&mut line, header_in(bytes.as_slice()))?;
+    writeln!(line, " {fill:02x} {count}").map_err(|_| LineFault::Memory)?;
+    Ok(line)
+}
+
+// The header of a message, its first 32 bytes.
+fn header_in(message: &[u8]) -> &[u8] {
+    &message[..message.len().min(32)]
+}
+
+// Adds the bytes in hexadecimal digits, in lower case.
+fn append_digits(line: &mut Vec<u8>, bytes: &[u8]) -> Result<(), AllocError>
+    ensures { IfOk result (λ _. line.new.items ≡ line.old.items ++ encode_lower bytes.now) }
+{
+    let start = line.len();
+    let Some(digits) = bytes.len().checked_mul(2) else {
+        return Err(AllocError);
+    };
+    let Some(end) = start.checked_add(digits) else {
+        return Err(AllocError);
+    };
+    line.resize(end, 0)?;
+    let all = line.as_mut_slice();
+    hex::encode_to_slice(bytes, &mut all[start..]).map_err(|_| AllocError)
+}

@@ -1,0 +1,187 @@
+//! The names that the standards give to codes (JESD220, SAM, SPC, SBC).
+use ufs_spec::{HostFault, Sense};
+
+/// The name of a status (SAM, status codes).
+pub fn status_name(status: u8) -> &'static str {
+    match status {
+        0x00 => "GOOD",
+        0x02 => "CHECK CONDITION",
+        0x04 => "CONDITION MET",
+        0x08 => "BUSY",
+        0x18 => "RESERVATION CONFLICT",
+        0x28 => "TASK SET FULL",
+        0x30 => "ACA ACTIVE",
+        0x40 => "TASK ABORTED",
+        _ => "a status without a name",
+    }
+}
+
+/// The name of a sense key (SPC, sense key descriptions).
+pub fn sense_key_name(key: u8) -> &'static str {
+    match key {
+        0x0 => "NO SENSE",
+        0x1 => "RECOVERED ERROR",
+        0x2 => "NOT READY",
+        0x3 => "MEDIUM ERROR",
+        0x4 => "HARDWARE ERROR",
+        0x5 => "ILLEGAL REQUEST",
+        0x6 => "UNIT ATTENTION",
+        0x7 => "DATA PROTECT",
+        0x8 => "BLANK CHECK",
+        0x9 => "VENDOR SPECIFIC",
+        0xA => "COPY ABORTED",
+        0xB => "ABORTED COMMAND",
+        0xD => "VOLUME OVERFLOW",
+        0xE => "MISCOMPARE",
+        0xF => "COMPLETED",
+        _ => "a sense key without a name",
+    }
+}
+
+/// The name of an additional sense code with its qualifier (SPC, additional sense codes).
+pub fn additional_sense_name(sense: &Sense) -> &'static str {
+    match (sense.asc, sense.ascq) {
+        (0x00, 0x00) => "NO ADDITIONAL SENSE INFORMATION",
+        (0x04, 0x01) => "LOGICAL UNIT IS IN PROCESS OF BECOMING READY",
+        (0x0C, 0x00) => "WRITE ERROR",
+        (0x11, 0x00) => "UNRECOVERED READ ERROR",
+        (0x1A, 0x00) => "PARAMETER LIST LENGTH ERROR",
+        (0x20, 0x00) => "INVALID COMMAND OPERATION CODE",
+        (0x21, 0x00) => "LOGICAL BLOCK ADDRESS OUT OF RANGE",
+        (0x24, 0x00) => "INVALID FIELD IN CDB",
+        (0x25, 0x00) => "LOGICAL UNIT NOT SUPPORTED",
+        (0x26, 0x00) => "INVALID FIELD IN PARAMETER LIST",
+        (0x27, 0x00) => "WRITE PROTECTED",
+        (0x2C, 0x00) => "COMMAND SEQUENCE ERROR",
+        _ => "an additional sense code without a name here",
+    }
+}
+
+/// The name of an operation code, byte 0 of a CDB (SPC and SBC, operation codes).
+pub fn operation_name(operation: u8) -> &'static str {
+    match operation {
+        0x00 => "TEST UNIT READY",
+        0x03 => "REQUEST SENSE",
+        0x04 => "FORMAT UNIT",
+        0x08 => "READ(6)",
+        0x0A => "WRITE(6)",
+        0x12 => "INQUIRY",
+        0x15 => "MODE SELECT(6)",
+        0x1A => "MODE SENSE(6)",
+        0x1B => "START STOP UNIT",
+        0x1D => "SEND DIAGNOSTIC",
+        0x25 => "READ CAPACITY(10)",
+        0x28 => "READ(10)",
+        0x2A => "WRITE(10)",
+        0x2F => "VERIFY(10)",
+        0x34 => "PRE-FETCH(10)",
+        0x35 => "SYNCHRONIZE CACHE(10)",
+        0x3B => "WRITE BUFFER",
+        0x3C => "READ BUFFER",
+        0x42 => "UNMAP",
+        0x55 => "MODE SELECT(10)",
+        0x5A => "MODE SENSE(10)",
+        0x88 => "READ(16)",
+        0x8A => "WRITE(16)",
+        0x91 => "SYNCHRONIZE CACHE(16)",
+        0x9E => "SERVICE ACTION IN(16)",
+        0xA0 => "REPORT LUNS",
+        0xA2 => "SECURITY PROTOCOL IN",
+        0xB5 => "SECURITY PROTOCOL OUT",
+        _ => "a command without a name here",
+    }
+}
+
+/// The name of a task management function (JESD220, 10.7.6).
+pub fn task_function_name(function: u8) -> &'static str {
+    match function {
+        0x01 => "ABORT TASK",
+        0x02 => "ABORT TASK SET",
+        0x04 => "CLEAR TASK SET",
+        0x08 => "LOGICAL UNIT RESET",
+        0x80 => "QUERY TASK",
+        0x81 => "QUERY TASK SET",
+        _ => "a function without a name",
+    }
+}
+
+/// The name of a service response of task management (JESD220, 10.7.7).
+pub fn service_name(service: u8) -> &'static str {
+    match service {
+        0x00 => "FUNCTION COMPLETE",
+        0x04 => "FUNCTION NOT SUPPORTED",
+        0x05 => "FUNCTION FAILED",
+        0x08 => "FUNCTION SUCCEEDED",
+        0x09 => "INCORRECT LOGICAL UNIT NUMBER",
+        _ => "a service response without a name",
+    }
+}
+
+/// The name of a query's opcode (JESD220, 10.7.8).
+pub fn query_name(opcode: u8) -> &'static str {
+    match opcode {
+        0x00 => "NOP",
+        0x01 => "READ DESCRIPTOR",
+        0x02 => "WRITE DESCRIPTOR",
+        0x03 => "READ ATTRIBUTE",
+        0x04 => "WRITE ATTRIBUTE",
+        0x05 => "READ FLAG",
+        0x06 => "SET FLAG",
+        0x07 => "CLEAR FLAG",
+        0x08 => "TOGGLE FLAG",
+        _ => "an opcode without a name",
+    }
+}
+
+/// The name of a query's response (JESD220, 10.7.9).
+pub fn query_response_name(response: u8) -> &'static str {
+    match response {
+        0x00 => "SUCCESS",
+        0xF6 => "PARAMETER NOT READABLE",
+        0xF7 => "PARAMETER NOT WRITEABLE",
+        0xF8 => "PARAMETER ALREADY WRITTEN",
+        0xF9 => "INVALID LENGTH",
+        0xFA => "INVALID VALUE",
+        0xFB => "INVALID SELECTOR",
+        0xFC => "INVALID INDEX",
+        0xFD => "INVALID IDN",
+        0xFE => "INVALID OPCODE",
+        0xFF => "GENERAL FAILURE",
+        _ => "a response without a name",
+    }
+}
+
+/// What a host fault says, and what to look at.
+pub fn host_fault_words(fault: HostFault) -> &'static str {
+    match fault {
+        HostFault::Short => "the message has fewer than 32 bytes",
+        HostFault::Length => {
+            "the length in bytes 10 and 11 is not one of this kind, or not that of the bytes that follow"
+        }
+        HostFault::Digest => "bit 7 or 6 of byte 0 asks for a digest, and there is none",
+        HostFault::Ehs => "byte 8 tells of an extra header segment, and there is none",
+        HostFault::Code => "bits 5..0 of byte 0 are no transaction code of a host",
+        HostFault::Reserved => {
+            "a byte or bit that must be zero is set, or a field has a value that it may not have"
+        }
+        HostFault::TagInUse => "a task with this tag is still open",
+        HostFault::NotAskedFor => "no READY TO TRANSFER asked for these data",
+        HostFault::Backlog => "32 short exchanges are open; ask for their replies first",
+    }
+}
+
+/// The host fault with this number, as scripts print it.
+pub fn host_fault_of(number: u32) -> Option<HostFault> {
+    match number {
+        1 => Some(HostFault::Short),
+        2 => Some(HostFault::Length),
+        3 => Some(HostFault::Digest),
+        4 => Some(HostFault::Ehs),
+        5 => Some(HostFault::Code),
+        6 => Some(HostFault::Reserved),
+        7 => Some(HostFault::TagInUse),
+        8 => Some(HostFault::NotAskedFor),
+        9 => Some(HostFault::Backlog),
+        _ => None,
+    }
+}
