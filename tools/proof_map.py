@@ -4,8 +4,8 @@
     proof_map.py            writes the table into docs/ARCHITECTURE.md
     proof_map.py --check    says whether the table there is the one of the sources (status 0 or 1)
 
-For each public law of ufs_laws and power_loss, and each public call of recovery, ftl_core and device, the table
-names the files of lemmas that its proof cites directly. What these cite in turn, they import.
+For each public law of ufs_laws and power_loss, and each public call of geometry, recovery, ftl_core and device, the
+table names the files of lemmas that its proof cites directly. What these cite in turn, they import.
 """
 import pathlib
 import re
@@ -15,7 +15,7 @@ ROOT = pathlib.Path(__file__).resolve().parent.parent
 DOCUMENT = ROOT / "docs" / "ARCHITECTURE.md"
 START, END = "<!-- proof map: tools/proof_map.py -->", "<!-- end of the proof map -->"
 LAWS = {"ufs_laws", "power_loss"}
-CRATES = ["ufs_laws", "power_loss", "recovery", "ftl_core", "device"]
+CRATES = ["ufs_laws", "power_loss", "geometry", "recovery", "ftl_core", "device"]
 FUNCTION = re.compile(r"^( *)pub fn (\w+)", re.M)
 IMPL = re.compile(r"^impl(?:<[^>]*>)? (?:\w+ for )?(\w+)", re.M)
 CITED = re.compile(r"crate::proofs::([\w:]+)::[\w-]+")

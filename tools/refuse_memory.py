@@ -22,10 +22,10 @@ CRATE = pathlib.Path(__file__).resolve().parent.parent / "crates" / "memory_refu
 CALLS = {
     "MemDie::new": (6, 30),
     "scan": (100, 24),
-    "Device::open": (100, 34),
-    "World::new": (106, 34),
-    "World::step": (129, 34),
-    "run": (106, 64),
+    "Device::open": (100, 133),
+    "World::new": (106, 133),
+    "World::step": (228, 133),
+    "run": (106, 260),
 }
 
 # The number of the allocation that is refused.

@@ -2,10 +2,11 @@
 //! and with many.
 use crate::{data_out, hash_pages};
 use anyhow::{Result, ensure};
+use geometry::Config;
 use std::alloc::Global;
 use std::rt::Clock;
 use std::time::{Duration, Instant};
-use ufs_spec::{Config, UnitSpec};
+use ufs_spec::UnitSpec;
 use workbench::{Workbench, new_dies};
 
 /// How many blocks a command has, how many commands make a row, and how many blocks that are.

@@ -9,11 +9,12 @@ mod scans;
 use crate::groups::time_groups;
 use crate::scans::time_scans;
 use anyhow::{Result, ensure};
+use geometry::Config;
 use sha2::{Digest, Sha256};
 use std::alloc::Global;
 use std::rt::Clock;
 use std::time::{Duration, Instant};
-use ufs_spec::{Config, UnitSpec};
+use ufs_spec::UnitSpec;
 use workbench::{Workbench, new_dies};
 
 /// How many blocks are written, read, and how many pages hashed.

@@ -3,6 +3,7 @@ ghost use Rattle.std.specs.Prelude.{◌<◌, ◌^◌};
 
 use crate::hash_pages;
 use anyhow::{Result, bail, ensure};
+use geometry::Config;
 use nand_model::{Die, MemDie};
 use page_tag::seal;
 use recovery::scan;
@@ -10,7 +11,7 @@ use row_config::fit;
 use std::alloc::Global;
 use std::rt::Clock;
 use std::time::Instant;
-use ufs_spec::{Config, Job, NoMemory, Page, Place, Tag, UnitSpec};
+use ufs_spec::{Job, NoMemory, Page, Place, Tag, UnitSpec};
 
 /// How many blocks the dies have.
 const SIZES: [u16; 3] = [16, 64, 256];

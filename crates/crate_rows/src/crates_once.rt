@@ -1,11 +1,12 @@
 //! Public functions of the lower crates, each once, with values from the device's formats and from
 //! another implementation of SHA-256.
+use geometry::Config;
 use nand_model::{Die, MemDie, work};
 use row_config::row_config;
 use std::test::Fail;
+use ufs_bytes::{Block, read_u16, read_u32, read_u64, write_u16, write_u32, write_u64};
 use ufs_spec::{
-    Block, Cdb, Cmd, Config, ConfigFault, Fence, Job, Outcome, Page, Place, PlainDevice, Sense,
-    Tag, UnitSpec, read_u16, read_u32, read_u64, write_u16, write_u32, write_u64,
+    Cdb, Cmd, ConfigFault, Fence, Job, Outcome, Page, Place, PlainDevice, Sense, Tag, UnitSpec,
 };
 
 /// Fields are written and read with their highest byte first.

@@ -5,6 +5,7 @@
 ghost use Rattle.std.specs.Prelude.{◌<◌, ◌≤◌, ◌^◌};
 
 use crate::faulty_die::FaultyDie;
+use geometry::Config;
 use nand_model::{Die, MemDie};
 use page_tag::{mark_body, seal};
 use recovery::{Found, FoundBlock, scan};
@@ -12,7 +13,7 @@ use row_config::{fit, row_config};
 use std::alloc::Global;
 use std::process::Abort;
 use std::test::Fail;
-use ufs_spec::{Config, Fence, Job, OpenFault, Page, Place, Tag, UnitSpec};
+use ufs_spec::{Fence, Job, OpenFault, Page, Place, Tag, UnitSpec};
 
 /// New dies hold nothing. A block that is bad is told bad, and no other is.
 #[test]

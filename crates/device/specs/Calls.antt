@@ -10,21 +10,22 @@ use Rattle.ufs_spec.specs.Translation.{Translation, free_slots, is_locked, is_me
 use Rattle.ufs_spec.specs.declared.flash.Key.{Key}
 use Rattle.ftl_core.specs.Core.{Core}
 use Rattle.ftl_core.specs.Describes.{Describes}
-use Rattle.ftl_core.specs.Moves.{claim_filled, claims_for}
+use Rattle.ftl_core.specs.Moves.{claims_for}
+use Rattle.write_cache.specs.Slots.{claim_filled}
 use Rattle.ftl_core.specs.Tells.{PinsDiffer, claims_of_blocks, group_of_blocks, keeps_for, keeps_of, key_behind}
 use Rattle.ftl_core.specs.declared.ftl.Ended.{Ended}
 use Rattle.ftl_core.specs.declared.ftl.Ended.TheVariants as ended
-use Rattle.device.specs.declared.tasks.Status.{Status}
-use Rattle.device.specs.declared.tasks.Status.TheVariants as status
-use Rattle.device.specs.declared.tasks.Phase.{Phase}
-use Rattle.device.specs.declared.tasks.Phase.TheVariants as phase
-use Rattle.device.specs.declared.tasks.Plan.{Plan}
-use Rattle.device.specs.declared.tasks.Plan.TheVariants as plan
-use Rattle.device.specs.declared.tasks.TaskEvent.{TaskEvent}
-use Rattle.device.specs.declared.tasks.TaskEvent.TheVariants as event
-use Rattle.device.specs.declared.tasks.Transfer.{Transfer}
+use Rattle.task_set.specs.declared.tasks.Status.{Status}
+use Rattle.task_set.specs.declared.tasks.Status.TheVariants as status
+use Rattle.task_set.specs.declared.tasks.Phase.{Phase}
+use Rattle.task_set.specs.declared.tasks.Phase.TheVariants as phase
+use Rattle.device.specs.declared.plans.Plan.{Plan}
+use Rattle.device.specs.declared.plans.Plan.TheVariants as plan
+use Rattle.task_set.specs.declared.tasks.TaskEvent.{TaskEvent}
+use Rattle.task_set.specs.declared.tasks.TaskEvent.TheVariants as event
+use Rattle.task_set.specs.declared.tasks.Transfer.{Transfer}
 use Rattle.device.specs.Kept.{DeviceCore}
-use Rattle.device.specs.Tasks.{after_lost_read, next_transfer, task_after}
+use Rattle.task_set.specs.Tasks.{after_lost_read, next_transfer, task_after}
 
 -- A task begins
 

@@ -28,19 +28,21 @@ use Rattle.power_loss.specs.Shown.{ShowsReads}
 use Rattle.ftl_core.specs.Describes as layer
 use Rattle.ftl_core.specs.Moves.{claims_for}
 use Rattle.ftl_core.specs.Tells.{claims_of_blocks}
-use Rattle.ftl_core.specs.declared.books.Claimed.{Claimed}
-use Rattle.device.specs.declared.tasks.Loaded.{Loaded}
-use Rattle.device.specs.declared.tasks.Phase.{Phase}
-use Rattle.device.specs.declared.tasks.Phase.TheVariants as phase
-use Rattle.device.specs.declared.tasks.Sending.{Sending as Sends}
-use Rattle.device.specs.declared.tasks.Short as kept
-use Rattle.device.specs.declared.tasks.Status.{Status}
-use Rattle.device.specs.declared.tasks.Status.TheVariants as status
-use Rattle.device.specs.declared.tasks.Task.{Task}
-use Rattle.device.specs.declared.tasks.Transfer.{Transfer}
+use Rattle.write_cache.specs.declared.slots.Claimed.{Claimed}
+use Rattle.task_set.specs.declared.tasks.Loaded.{Loaded}
+use Rattle.task_set.specs.declared.tasks.Phase.{Phase}
+use Rattle.task_set.specs.declared.tasks.Phase.TheVariants as phase
+use Rattle.task_set.specs.declared.tasks.Sending.{Sending as Sends}
+use Rattle.task_set.specs.declared.tasks.Short as kept
+use Rattle.task_set.specs.declared.tasks.Status.{Status}
+use Rattle.task_set.specs.declared.tasks.Status.TheVariants as status
+use Rattle.task_set.specs.declared.tasks.Task.{Task}
+use Rattle.task_set.specs.declared.tasks.Transfer.{Transfer}
 use Rattle.device.specs.Kept.{DeviceCore}
-use Rattle.device.specs.Replies.{body_of, is_loaded_for, short_message}
-use Rattle.device.specs.Tasks.{data_bytes, data_length, read_error, status_kept}
+use Rattle.task_set.specs.Lists.{body_of, is_loaded_for}
+use Rattle.device.specs.Replies.{short_message}
+use Rattle.task_set.specs.Tasks.{data_length, read_error, status_kept}
+use Rattle.device.specs.Replies.{data_bytes}
 
 -- Tasks
 

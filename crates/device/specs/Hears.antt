@@ -1,34 +1,31 @@
 -- What a message of the host is answered, and what it makes of what the device keeps.
-use Rattle.std.specs.Prelude.{◌≡◌, ℕ, ◌*◌, ◌==◌, ◌&&◌, ◌||◌, nat_le, Bool, if◌then◌else◌, List, [], ◌∷◌, ◌++◌, length}
-use Rattle.std.specs.Prelude.{position, slice_get, slice_set, is_some, Option, Some, None, Result, Ok, Err}
-use Rattle.std.specs.List.{list_any}
+use Rattle.std.specs.Prelude.{◌≡◌, ℕ, Bool, List, [], ◌∷◌, ◌++◌}
+use Rattle.std.specs.Prelude.{slice_get, Option, Some, None, Result, Ok, Err}
 use Rattle.ufs_spec.specs.Refusals.{Request, State}
 use Rattle.ufs_spec.specs.Translation.{Translation}
 use Rattle.ufs_spec.specs.declared.faults.HostFault.{HostFault}
-use Rattle.ufs_spec.specs.declared.faults.HostFault.TheVariants.{Backlog, NotAskedFor, TagInUse}
+use Rattle.ufs_spec.specs.declared.faults.HostFault.TheVariants.{NotAskedFor}
 use Rattle.ftl_core.specs.Core.{Core}
 use Rattle.ftl_core.specs.Describes.{Describes}
-use Rattle.device.specs.declared.commands.AskedFor.{AskedFor}
-use Rattle.device.specs.declared.tasks.Phase.{Phase}
-use Rattle.device.specs.declared.tasks.Phase.TheVariants as phase
-use Rattle.device.specs.declared.tasks.Plan.{Plan}
-use Rattle.device.specs.declared.tasks.Short.{Short}
-use Rattle.device.specs.declared.tasks.Status.{Status}
-use Rattle.device.specs.declared.tasks.Task.{Task}
-use Rattle.device.specs.declared.tasks.TaskEvent.{TaskEvent}
+use Rattle.task_set.specs.declared.tasks.AskedFor.{AskedFor}
+use Rattle.task_set.specs.declared.tasks.Phase.{Phase}
+use Rattle.task_set.specs.declared.tasks.Phase.TheVariants as phase
+use Rattle.device.specs.declared.plans.Plan.{Plan}
+use Rattle.task_set.specs.declared.tasks.Short.{Short}
+use Rattle.task_set.specs.declared.tasks.Status.{Status}
+use Rattle.task_set.specs.declared.tasks.Task.{Task}
+use Rattle.task_set.specs.declared.tasks.TaskEvent.{TaskEvent}
 use Rattle.device.specs.Calls.{HasBegun, HasGathered, lock_told}
 use Rattle.device.specs.Kept.{DeviceCore}
 use Rattle.device.specs.Plans.{IsBare, IsPlanned, IsRequest}
-use Rattle.device.specs.Tasks.{is_task_of, phase_after}
+use Rattle.task_set.specs.Lists.{asked_among, asked_at, is_in_use, short_allowed, tasks_set}
+use Rattle.task_set.specs.Tasks.{phase_after}
 
 -- Commands
 
-abbrev pub is_short_of : ℕ → Short → Bool
-is_short_of tag short = short.tag == tag
-
 -- a task or a short exchange has the tag
 abbrev pub uses : DeviceCore → ℕ → Bool
-uses d tag = is_some (position (is_task_of tag) d.tasks) || list_any (is_short_of tag) d.shorts
+uses d tag = is_in_use d.tasks d.shorts tag
 
 abbrev pub with_task : DeviceCore → Task → DeviceCore
 with_task d task = record d { tasks = d.tasks ++ task ∷ [] }
@@ -38,10 +35,7 @@ with_short d short = record d { shorts = d.shorts ++ short ∷ [] }
 
 -- whether one more short exchange of this tag may be open
 abbrev pub short_answer : DeviceCore → ℕ → Result Unit HostFault
-short_answer d tag =
-    if uses d tag then Err TagInUse
-    else if nat_le 32 (length d.shorts) then Err Backlog
-    else Ok tt
+short_answer d tag = short_allowed d.tasks d.shorts tag
 
 -- a command became a task, refused or not: how far it is, and what its plan made of the layer
 pub record IsTaskOpened (before after : DeviceCore) (flags lun tag expected : ℕ) (bytes : List ℕ) : Type 0
@@ -58,32 +52,16 @@ pub record IsTaskOpened (before after : DeviceCore) (flags lun tag expected : �
 
 -- Data
 
--- what the task asked data for at this offset
-abbrev pub asked_in : ℕ → ℕ → ℕ → Task → Phase → Option AskedFor
-asked_in lun offset k task (phase.AwaitData x) =
-    if (task.lun == lun) && (4096 * x.gathered == offset) then Some (record { index = k; transfer = x }) else None
-asked_in lun offset k task _ = None
-
-abbrev pub asked_by : ℕ → ℕ → ℕ → Option Task → Option AskedFor
-asked_by lun offset k None = None
-asked_by lun offset k (Some task) = asked_in lun offset k task task.phase
-
 abbrev pub asked_of : DeviceCore → ℕ → ℕ → Option ℕ → Option AskedFor
-asked_of d lun offset None = None
-asked_of d lun offset (Some k) = asked_by lun offset k (slice_get d.tasks k)
+asked_of d lun offset at = asked_at d.tasks lun offset at
 
 -- the task that asked for these data, and what is to come
 abbrev pub asked_for : DeviceCore → ℕ → ℕ → ℕ → ℕ → Option AskedFor
-asked_for d lun tag offset count =
-    if count == 4096 then asked_of d lun offset (position (is_task_of tag) d.tasks) else None
-
-abbrev pub tasks_set : List Task → ℕ → Phase → Option Task → List Task
-tasks_set tasks k p None = tasks
-tasks_set tasks k p (Some task) = slice_set tasks k (record task { phase = p })
+asked_for d lun tag offset count = asked_among d.tasks lun tag offset count
 
 -- the task at this position does this from now on
-abbrev pub task_set : DeviceCore → ℕ → Phase → DeviceCore
-task_set d k p = record d { tasks = tasks_set d.tasks k p (slice_get d.tasks k) }
+abbrev pub with_phase : DeviceCore → ℕ → Phase → DeviceCore
+with_phase d k p = record d { tasks = tasks_set d.tasks k p (slice_get d.tasks k) }
 
 -- a block of a task came, with the last its group was accepted or not, and then the lock was told
 pub record IsDataTaken (before after : DeviceCore) (tag : ℕ) (asked : AskedFor) (bytes : List ℕ) : Type 0 where
@@ -93,7 +71,7 @@ pub record IsDataTaken (before after : DeviceCore) (tag : ℕ) (asked : AskedFor
       HasGathered before.ftl layer t tag asked.transfer bytes event
   pub told : (t : Translation) → Describes layer t →
       after ≡ lock_told t
-      (record (task_set before asked.index (phase_after (phase.AwaitData asked.transfer) event)) {
+      (record (with_phase before asked.index (phase_after (phase.AwaitData asked.transfer) event)) {
         ftl = layer;
       })
 

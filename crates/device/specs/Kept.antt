@@ -4,9 +4,9 @@ use Rattle.ufs_spec.specs.declared.configs.Numbers.{Numbers}
 use Rattle.ufs_spec.specs.declared.flash.Job.{Job}
 use Rattle.ufs_spec.specs.Dies.{DieState}
 use Rattle.ftl_core.specs.Core.{Core}
-use Rattle.device.specs.declared.tasks.Task.{Task}
-use Rattle.device.specs.declared.tasks.Short.{Short}
-use Rattle.device.specs.declared.tasks.Loaded.{Loaded}
+use Rattle.task_set.specs.declared.tasks.Task.{Task}
+use Rattle.task_set.specs.declared.tasks.Short.{Short}
+use Rattle.task_set.specs.declared.tasks.Loaded.{Loaded}
 
 -- the translation layer, whether units are protected for ever, the open tasks, the short exchanges, and the blocks that
 -- die reads gave

@@ -8,5 +8,4 @@ pub mod Leftovers
 pub mod Plans
 pub mod Replies
 pub mod Rooms
-pub mod Tasks
 pub mod Worlds

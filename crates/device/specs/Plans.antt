@@ -9,12 +9,12 @@ use Rattle.ufs_spec.specs.Refusals.{Request, State, numbers_of, plain_now, refus
 use Rattle.ufs_spec.specs.declared.configs.UnitSpec.{UnitSpec}
 use Rattle.ufs_spec.specs.declared.scsi.Cdb.{Cdb}
 use Rattle.ufs_spec.specs.declared.scsi.Cdb.TheVariants as cdb
-use Rattle.device.specs.declared.tasks.Plan.{Plan}
-use Rattle.device.specs.declared.tasks.Plan.TheVariants as plan
-use Rattle.device.specs.declared.tasks.ShortData.{ShortData}
-use Rattle.device.specs.declared.tasks.ShortData.TheVariants as sent
-use Rattle.device.specs.declared.tasks.Status.{Status}
-use Rattle.device.specs.Tasks.{data_length, status_kept}
+use Rattle.device.specs.declared.plans.Plan.{Plan}
+use Rattle.device.specs.declared.plans.Plan.TheVariants as plan
+use Rattle.task_set.specs.declared.tasks.ShortData.{ShortData}
+use Rattle.task_set.specs.declared.tasks.ShortData.TheVariants as sent
+use Rattle.task_set.specs.declared.tasks.Status.{Status}
+use Rattle.task_set.specs.Tasks.{data_length, status_kept}
 
 -- What is checked
 

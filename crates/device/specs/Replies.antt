@@ -1,7 +1,8 @@
 -- Which replies are due, what they say, and what becomes of their tasks.
-use Rattle.std.specs.Prelude.{◌≡◌, ℕ, ◌+◌, ◌-◌, ◌*◌, ◌≤◌, ◌==◌, ◌++◌, min, nat_le, nat_lt, Bool, true, false}
+use Rattle.std.specs.Prelude.{◌≡◌, ℕ, ◌+◌, ◌-◌, ◌*◌, ◌≤◌, ◌++◌, min, nat_le, nat_lt, Bool, true, false}
 use Rattle.std.specs.Prelude.{if◌then◌else◌, find}
-use Rattle.std.specs.Prelude.{List, position, remove, slice_get, take, Option, Some, None, option_map}
+use Rattle.std.specs.Prelude.{List, position, remove, take, Option, Some, None, option_map}
+use Rattle.byteorder.specs.Endian.{big_bytes}
 use Rattle.ufs_spec.specs.Exchanges as exchange
 use Rattle.ufs_spec.specs.Exchanges.{response}
 use Rattle.ufs_spec.specs.Ledger.{Entry, InSlot, Ledger, Looked, OnPage, Unwritten, before_accepted, entry_of}
@@ -15,37 +16,24 @@ use Rattle.ufs_spec.specs.declared.messages.Message.TheVariants as message
 use Rattle.ftl_core.specs.Core.{Core}
 use Rattle.ftl_core.specs.Describes as layer
 use Rattle.ftl_core.specs.Moves.{claims_for}
-use Rattle.device.specs.declared.tasks.Loaded.{Loaded}
-use Rattle.device.specs.declared.tasks.Phase.{Phase}
-use Rattle.device.specs.declared.tasks.Phase.TheVariants as phase
-use Rattle.device.specs.declared.tasks.Sending.{Sending}
-use Rattle.device.specs.declared.tasks.Short.{Short}
-use Rattle.device.specs.declared.tasks.ShortData.{ShortData}
-use Rattle.device.specs.declared.tasks.ShortReply.{ShortReply}
-use Rattle.device.specs.declared.tasks.ShortReply.TheVariants as reply
-use Rattle.device.specs.declared.tasks.Status.{Status}
-use Rattle.device.specs.declared.tasks.Status.TheVariants as status
-use Rattle.device.specs.declared.tasks.Task.{Task}
-use Rattle.device.specs.declared.tasks.ShortData.TheVariants as sent
-use Rattle.device.specs.Hears.{task_set}
+use Rattle.task_set.specs.declared.tasks.Loaded.{Loaded}
+use Rattle.task_set.specs.declared.tasks.Phase.{Phase}
+use Rattle.task_set.specs.declared.tasks.Phase.TheVariants as phase
+use Rattle.task_set.specs.declared.tasks.Sending.{Sending}
+use Rattle.task_set.specs.declared.tasks.Short.{Short}
+use Rattle.task_set.specs.declared.tasks.ShortData.{ShortData}
+use Rattle.task_set.specs.declared.tasks.ShortReply.{ShortReply}
+use Rattle.task_set.specs.declared.tasks.ShortReply.TheVariants as reply
+use Rattle.task_set.specs.declared.tasks.Status.{Status}
+use Rattle.task_set.specs.declared.tasks.Status.TheVariants as status
+use Rattle.task_set.specs.declared.tasks.Task.{Task}
+use Rattle.task_set.specs.declared.tasks.ShortData.TheVariants as sent
+use Rattle.task_set.specs.Lists.{is_loaded_for, loaded_for, loaded_without}
+use Rattle.device.specs.Hears.{with_phase}
 use Rattle.device.specs.Kept.{DeviceCore}
-use Rattle.device.specs.Tasks.{data_bytes, data_length, next_sending, sent_next, status_kept}
+use Rattle.task_set.specs.Tasks.{data_length, next_sending, sent_next, status_kept}
 
 -- Blocks
-
-abbrev pub is_loaded_for : ℕ → Loaded → Bool
-is_loaded_for tag l = l.tag == tag
-
-abbrev pub body_of : Loaded → List ℕ
-body_of l = l.body
-
-abbrev pub body_at : List Loaded → Option ℕ → Option (List ℕ)
-body_at ls None = None
-body_at ls (Some k) = option_map body_of (slice_get ls k)
-
--- the block that the die read for the task of this tag gave
-abbrev pub loaded_for : List Loaded → ℕ → Option (List ℕ)
-loaded_for ls tag = body_at ls (position (is_loaded_for tag) ls)
 
 -- a block that was looked up, once it is there: zeros if nothing was ever written, the body in the slot, or what was
 -- read
@@ -79,6 +67,11 @@ abbrev pub block_message : Task → Sending → List ℕ → Message
 block_message t x block =
     message.DataIn t.lun t.tag (4096 * x.sent) (record { items = take (count_of t.expected x) block })
 
+-- the data of a task other than a block
+abbrev pub data_bytes : ShortData → List ℕ
+data_bytes (sent.NoSense allocation) = take allocation no_sense
+data_bytes (sent.Capacity blocks) = big_bytes 4 (blocks - 1) ++ big_bytes 4 4096
+
 -- data other than a block, with zeros behind them up to eighteen bytes
 abbrev pub data_padded : ShortData → List ℕ
 data_padded (sent.NoSense allocation) = no_sense
@@ -109,10 +102,6 @@ owed_by t loaded a = owed_in t loaded a a.phase
 
 -- What becomes of the task
 
-abbrev pub loaded_without : List Loaded → Option ℕ → List Loaded
-loaded_without ls None = ls
-loaded_without ls (Some k) = remove ls k
-
 -- the block that was read for the tag is given up
 abbrev pub without_block : DeviceCore → ℕ → DeviceCore
 without_block d tag = record d { loaded = loaded_without d.loaded (position (is_loaded_for tag) d.loaded) }
@@ -122,11 +111,11 @@ without_task d k = record d { tasks = remove d.tasks k }
 
 -- what the device keeps, but for its layer, once the task at this position has handed out its reply
 abbrev pub moved_on : DeviceCore → ℕ → Task → Phase → DeviceCore
-moved_on d k a (phase.AskData x) = task_set d k (phase.AwaitData x)
+moved_on d k a (phase.AskData x) = with_phase d k (phase.AwaitData x)
 moved_on d k a (phase.AwaitData x) = d
 moved_on d k a (phase.AwaitFrontier n size) = without_task (without_block d a.tag) k
-moved_on d k a (phase.SendData x) = task_set d k (phase.Answer status.Good (data_length x))
-moved_on d k a (phase.SendBlocks x) = task_set (without_block d a.tag) k (sent_next x (next_sending x))
+moved_on d k a (phase.SendData x) = with_phase d k (phase.Answer status.Good (data_length x))
+moved_on d k a (phase.SendBlocks x) = with_phase (without_block d a.tag) k (sent_next x (next_sending x))
 moved_on d k a (phase.Answer s n) = without_task (without_block d a.tag) k
 
 -- the layer then: a block that was handed out is let go; a task that ends keeps nothing, and what it waited for is

@@ -7,12 +7,12 @@ ghost use Rattle.ufs_spec.specs.Refusals.{lines_for, needs_mended, slots_needed,
 ghost use Rattle.ufs_spec.specs.declared.configs.Numbers.{Numbers};
 ghost use Rattle.ftl_core.specs.Describes.{Describes as IsLayer};
 ghost use Rattle.device.specs.Plans.{IsBare, IsPlanned, IsRequest, data_plan, plan_of, read_plan, write_plan};
-ghost use Rattle.device.specs.Tasks.{status_kept};
+ghost use Rattle.task_set.specs.Tasks.{status_kept};
 
 use crate::device::Device;
-use crate::responses::BLOCK_BYTES;
-use crate::tasks::{Plan, ShortData, Status};
+use crate::plans::Plan;
 use scsi_cdb::{address_of, blocks_of, length_of};
+use task_set::{BLOCK_BYTES, ShortData, Status};
 use ufs_spec::{Cdb, Key, Sense, Tag, UnitSpec};
 
 /// The most blocks of a command (this profile).

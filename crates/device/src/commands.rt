@@ -1,11 +1,9 @@
 //! Messages of the host: a COMMAND opens a task, a DATA OUT brings what a task asked for.
-ghost use Rattle.std.specs.Prelude.{◌≡◌, ◌<◌, length, slice_get, position, ◌∷◌, ◌++◌, []};
+ghost use Rattle.std.specs.Prelude.{◌≡◌, ◌<◌, length, ◌∷◌, ◌++◌, []};
 ghost use Rattle.std.specs.Prelude.{IfSome, OnErr, OnOk};
-ghost use Rattle.std.specs.List.{list_any};
 ghost use Rattle.device.specs.Calls.{HasBegun, HasClaimed, HasGathered, HasKept, HasTaken};
-ghost use Rattle.device.specs.Hears.{IsDataHeard, IsTaskOpened, asked_by, asked_for, asked_in};
-ghost use Rattle.device.specs.Hears.{is_short_of, short_answer, task_set, uses, with_short, with_task};
-ghost use Rattle.device.specs.Tasks.{is_task_of};
+ghost use Rattle.device.specs.Hears.{IsDataHeard, IsTaskOpened, asked_for};
+ghost use Rattle.device.specs.Hears.{short_answer, with_phase, uses, with_short, with_task};
 ghost use Rattle.ufs_spec.specs.Refusals.{State};
 ghost use Rattle.device.specs.Describes.{Describes, IsHeardAs};
 ghost use Rattle.std.specs.Prelude.{ℕ, List, nat_le};
@@ -14,55 +12,11 @@ ghost use Rattle.ufs_spec.specs.Translation.{Translation};
 ghost use Rattle.ftl_core.specs.Describes.{Describes as IsLayer};
 ghost use Rattle.ufs_spec.specs.declared.Message.{Message};
 
-use crate::device::{Device, ROOM};
+use crate::device::Device;
+use crate::plans::Plan;
 use crate::responses::STANDARD_WRITE;
-use crate::tasks::{Phase, Plan, Sending, Short, ShortReply, Status, Task, TaskEvent, Transfer};
+use task_set::{AskedFor, Phase, Sending, ShortReply, Status, Task, TaskEvent, Transfer};
 use ufs_spec::{HostFault, Key, Message};
-
-/// A task whose data came: its position, and what is to come.
-#[derive(Clone, Copy, Debug, PartialEq, Eq)]
-struct AskedFor {
-    index: usize,
-    transfer: Transfer,
-}
-
-/// The position of the task of this tag.
-pub(crate) fn task_at(tasks: &[Task], tag: u8) -> Option<usize>
-    ensures first { result ≡ position (is_task_of tag) tasks.now }
-    ensures within { IfSome result (λ k. k < length tasks.now) }
-{
-    tasks.iter().position(|task| is_task_of(task, tag))
-}
-
-fn is_task_of(task: &Task, tag: u8) -> bool
-    ensures { result ≡ is_task_of tag task.now }
-{
-    task.tag == tag
-}
-
-fn is_short(shorts: &[Short], tag: u8) -> bool
-    ensures { result ≡ list_any (is_short_of tag) shorts.now }
-{
-    shorts.iter().any(|short| is_short_of(short, tag))
-}
-
-fn is_short_of(short: &Short, tag: u8) -> bool
-    ensures { result ≡ is_short_of tag short.now }
-{
-    short.tag == tag
-}
-
-/// What the task at this position asked data for at this offset, if it was told so and none came.
-fn asked_of(task: &Task, lun: u8, offset: u32, index: usize) -> Option<AskedFor>
-    ensures { result ≡ asked_in lun offset index task.now task.now.phase }
-{
-    match task.phase {
-        Phase::AwaitData { transfer } if task.lun == lun && transfer.offset() == offset => {
-            Some(AskedFor { index, transfer })
-        }
-        _ => None,
-    }
-}
 
 impl Device {
     /// Takes a message of the host.
@@ -127,14 +81,14 @@ impl Device {
     fn uses(&self, tag: u8) -> bool
         ensures { result ≡ uses self.now tag }
     {
-        task_at(self.tasks.as_slice(), tag).is_some() || is_short(self.shorts.as_slice(), tag)
+        self.set.uses(tag)
     }
 
     /// Whether as many tasks are open as may be.
     fn is_full(&self) -> bool
         ensures { result ≡ nat_le 32 (length self.now.tasks) }
     {
-        self.tasks.len() >= ROOM
+        self.set.is_full()
     }
 
     /// A COMMAND opens a task, or a short exchange if too many tasks are open. Its CDB is read only
@@ -182,7 +136,7 @@ impl Device {
         requires { length self.old.tasks < 32 }
         ensures { self.new ≡ with_task self.old task }
     {
-        self.tasks.push_reserved(task);
+        self.set.open(task);
     }
 
     /// An exchange of one reply is open from now on, if its tag is free and fewer than 32 are open.
@@ -192,14 +146,7 @@ impl Device {
         ensures after { OnOk result (self.new ≡
             with_short self.old (record { tag = tag; reply = reply })) }
     {
-        if self.uses(tag) {
-            return Err(HostFault::TagInUse);
-        }
-        if self.shorts.len() >= ROOM {
-            return Err(HostFault::Backlog);
-        }
-        self.shorts.push_reserved(Short { tag, reply });
-        Ok(())
+        self.set.open_short(tag, reply)
     }
 
     /// Begins what a command does, or answers why it does not.
@@ -281,20 +228,7 @@ impl Device {
         ensures what { result ≡ asked_for self.now lun tag offset count }
         ensures within { IfSome result (λ asked. asked.index < length self.now.tasks) }
     {
-        if count != 4096 {
-            return None;
-        }
-        let index = task_at(self.tasks.as_slice(), tag)?;
-        self.asked_by(lun, offset, index)
-    }
-
-    /// The same of the task at this position.
-    fn asked_by(&self, lun: u8, offset: u32, index: usize) -> Option<AskedFor>
-        requires { index < length self.now.tasks }
-        ensures what { result ≡ asked_by lun offset index (slice_get self.now.tasks index) }
-        ensures within { IfSome result (λ asked. asked.index < length self.now.tasks) }
-    {
-        asked_of(&self.tasks[index], lun, offset, index)
+        self.set.asked_for(lun, tag, offset, count)
     }
 
     /// A DATA OUT brings the block that a task asked for.
@@ -318,10 +252,9 @@ impl Device {
     /// The task at this position does this from now on.
     pub(crate) fn set_phase(&mut self, index: usize, phase: Phase)
         requires { index < length self.old.tasks }
-        ensures { self.new ≡ task_set self.old index phase }
+        ensures { self.new ≡ with_phase self.old index phase }
     {
-        let task = &mut self.tasks[index];
-        task.phase = phase;
+        self.set.set_phase(index, phase);
     }
 
     /// A block that came lies in the slot that was claimed for it. With the last one the group is

@@ -1,9 +1,8 @@
 //! The device and its five calls.
-ghost use Rattle.std.specs.Prelude.{◌≡◌, ℕ, ◌<◌, ◌≤◌, ◌+◌, length, IfOk, OnErr, map};
+ghost use Rattle.std.specs.Prelude.{◌≡◌, ◌<◌, ◌≤◌, ◌+◌, IfOk, map};
 ghost use Rattle.std.specs.Prelude.{false, if◌then◌else◌, IfErr, IfNone};
 ghost use Rattle.device.specs.Calls.{lock_told, read_told, told};
-ghost use Rattle.device.specs.Tasks.{after_lost_read, task_after};
-ghost use Rattle.std.specs.Prelude.{true, ◌++◌, OnOk};
+ghost use Rattle.std.specs.Prelude.{true, ◌++◌};
 ghost use Rattle.ufs_spec.specs.Cells.{Array, Cells, Shows};
 ghost use Rattle.ufs_spec.specs.Lives.{Fit, IsOpened, array_of, bad_of};
 ghost use Rattle.ufs_spec.specs.Machine.{Done, OfDone, MayLeave, Turn, OfTurn};
@@ -16,17 +15,14 @@ ghost use Rattle.device.specs.Kept.{idle_device};
 ghost use Rattle.recovery.specs.Found.{IsScanFault};
 ghost use Rattle.ufs_spec.specs.Sound.{Sound, Suits};
 
-use crate::tasks::{Loaded, Short, Task, TaskEvent};
 use ftl_core::{Ended, Ftl};
+use geometry::Config;
 use nand_model::Die;
 use recovery::scan;
 use std::alloc::{AllocError, Global};
 use std::marker::Model;
-use ufs_spec::{Block, Config, Job, OpenFault, Outcome};
-
-/// How many tasks, how many short exchanges and how many blocks there is room for: no list is longer
-/// (JESD220, 10.9).
-pub(crate) const ROOM: usize = 32;
+use task_set::TaskSet;
+use ufs_spec::{Block, Job, OpenFault, Outcome};
 
 /// A device: the translation layer, and the tasks that are open.
 #[derive(Drop)]
@@ -36,13 +32,8 @@ pub struct Device {
     /// Whether the units that are protected for ever are so from now on, as the settings say that were
     /// found. No command changes it yet.
     pub(crate) is_permanent: bool,
-    /// The open tasks in the order of their COMMANDs: no two have one tag.
-    pub(crate) tasks: Vec<Task>,
-    /// The exchanges of one reply that was not handed out yet. No tag is in use twice, here or among the
-    /// tasks.
-    pub(crate) shorts: Vec<Short>,
-    /// The blocks that dies read and that were not handed out yet: at most one for each open READ.
-    pub(crate) loaded: Vec<Loaded>,
+    /// The tasks that are open, the exchanges of one reply, and the blocks that dies read for the tasks.
+    pub(crate) set: TaskSet,
 }
 
 impl Model for Device {
@@ -50,11 +41,9 @@ impl Model for Device {
 
     ghost Value = { DeviceCore };
 
-    ghost use Rattle.device.specs.Rooms.{core_of, IsRoomy};
+    ghost use Rattle.device.specs.Rooms.{core_of};
 
     ghost view = { core_of };
-
-    ghost invariant = { IsRoomy };
 }
 
 impl Device {
@@ -95,9 +84,7 @@ impl Device {
         Ok(Device {
             ftl,
             is_permanent,
-            tasks: Vec::with_capacity(alloc, ROOM)?,
-            shorts: Vec::with_capacity(alloc, ROOM)?,
-            loaded: Vec::with_capacity(alloc, ROOM)?,
+            set: TaskSet::new(alloc)?,
         })
     }
 
@@ -149,18 +136,12 @@ impl Device {
     }
 
     /// What the die read for the task of this tag gave: its block, or nothing, which ends the task.
-    /// There is always room: each block that was read is of an open READ. The lists of the tasks and of
-    /// the blocks would have to be one list, if the test were to go.
     fn read_ended(&mut self, tag: u8, body: Option<Block>)
         ensures { self.new ≡ read_told self.old tag body }
     {
         match body {
-            Some(body) => {
-                if self.loaded.len() < ROOM {
-                    self.loaded.push_reserved(Loaded { tag, body });
-                }
-            }
-            None => end_read(self.tasks.as_mut_slice(), tag),
+            Some(body) => self.set.load(tag, &body),
+            None => self.set.lose(tag),
         }
     }
 
@@ -170,36 +151,7 @@ impl Device {
     {
         if self.ftl.is_locked() {
             let frontier = self.ftl.frontier();
-            end_waiting(self.tasks.as_mut_slice(), frontier);
+            self.set.lock(frontier);
         }
-    }
-}
-
-/// A block that could not be read ends its task.
-fn end_read(tasks: &mut [Task], tag: u8)
-    ensures { tasks.new ≡ map (after_lost_read tag) tasks.old }
-{
-    for task in tasks.iter_mut() {
-        *task = after_lost_read(*task, tag);
-    }
-}
-
-/// The task after the block of the task of this tag could not be read.
-fn after_lost_read(task: Task, tag: u8) -> Task
-    ensures { result ≡ after_lost_read tag task }
-{
-    if task.tag == tag {
-        task.after(TaskEvent::BlockLost)
-    } else {
-        task
-    }
-}
-
-/// The tasks after the lock began: none waits for the frontier any more.
-fn end_waiting(tasks: &mut [Task], frontier: u64)
-    ensures { tasks.new ≡ map (task_after (TaskEvent.Locked frontier)) tasks.old }
-{
-    for task in tasks.iter_mut() {
-        *task = task.after(TaskEvent::Locked { frontier });
     }
 }

@@ -6,9 +6,9 @@ mod checks;
 mod commands;
 mod device;
 mod leftovers;
+mod plans;
 mod replies;
 mod responses;
-mod tasks;
 mod world;
 
 pub use device::Device;

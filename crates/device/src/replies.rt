@@ -1,5 +1,5 @@
 //! Replies: which are due, what they say, and what becomes of their tasks.
-ghost use Rattle.std.specs.Prelude.{◌≡◌, ◌<◌, ◌≤◌, ◌+◌, ℕ, false, length, nat_le, nat_lt, true, position, slice_get};
+ghost use Rattle.std.specs.Prelude.{◌≡◌, ◌<◌, ◌≤◌, ◌+◌, ℕ, false, length, nat_le, nat_lt, true, slice_get};
 ghost use Rattle.std.specs.Prelude.{if◌then◌else◌, IfSome, IfNone, Some, None, option_copied};
 ghost use Rattle.ufs_spec.specs.Ledger.{Looked as LayerLooked, before_accepted};
 ghost use Rattle.ufs_spec.specs.Machine.{Reply, OfReply};
@@ -12,15 +12,16 @@ ghost use Rattle.power_loss.specs.Book.{book};
 ghost use Rattle.power_loss.specs.Invariant.{LookedRight};
 ghost use Rattle.ftl_core.specs.Describes.{Describes as IsLayer, IsLookedAt};
 ghost use Rattle.ftl_core.specs.Moves.{claims_for};
-ghost use Rattle.device.specs.declared.tasks.Short.{Short};
+ghost use Rattle.task_set.specs.declared.tasks.Short.{Short};
 ghost use Rattle.device.specs.Describes.{Describes, IsAnswered, IsReplied};
-ghost use Rattle.device.specs.Replies.{HasMoved, answer_of, block_at, block_for, is_loaded_for, short_message};
-ghost use Rattle.device.specs.Replies.{loaded_for, moved_on, owed_by, without_block, without_first, without_task};
+ghost use Rattle.device.specs.Replies.{HasMoved, answer_of, block_at, block_for, short_message};
+ghost use Rattle.task_set.specs.Lists.{loaded_for};
+ghost use Rattle.device.specs.Replies.{moved_on, owed_by, without_block, without_first, without_task};
 
 use crate::device::Device;
 use crate::responses::{block_message, data_message, ready_to_transfer, response, short_message};
-use crate::tasks::{Loaded, Phase, Status, Task, TaskEvent};
 use ftl_core::Looked;
+use task_set::{Phase, Status, Task, TaskEvent};
 use ufs_spec::{Block, Message, Upiu};
 
 /// A block of zeros, as an address reads that was never written.
@@ -32,21 +33,6 @@ fn zeros() -> &'static Block
     ensures { result.now ≡ zero_block }
 {
     &ZEROS
-}
-
-/// Whether the block was read for the task of this tag.
-fn is_loaded_for(loaded: &Loaded, tag: u8) -> bool
-    ensures { result ≡ is_loaded_for tag loaded.now }
-{
-    loaded.tag == tag
-}
-
-/// The position of the block that was read for the task of this tag.
-fn loaded_at(loaded: &[Loaded], tag: u8) -> Option<usize>
-    ensures first { result ≡ position (is_loaded_for tag) loaded.now }
-    ensures within { IfSome result (λ k. k < length loaded.now) }
-{
-    loaded.iter().position(|read| is_loaded_for(read, tag))
 }
 
 /// A task that owes a reply, its position among the tasks, and this reply.
@@ -84,8 +70,8 @@ impl Device {
         ensures none { IfNone result ((t : Translation) (k : ℕ) (task : Task) → IsLayer self.now.ftl t →
             slice_get self.now.tasks k ≡ Some task → owed_by t self.now.loaded task ≡ None) }
     {
-        for index in 0..self.tasks.len() {
-            let task = self.tasks[index];
+        for index in 0..self.set.count() {
+            let task = self.set.task(index);
             if let Some(message) = self.reply_of(&task) {
                 return Some(DueReply {
                     index,
@@ -160,8 +146,7 @@ impl Device {
     fn loaded_block(&self, tag: u8) -> Option<&Block>
         ensures { option_copied result ≡ loaded_for self.now.loaded tag }
     {
-        let index = loaded_at(self.loaded.as_slice(), tag)?;
-        Some(&self.loaded[index].body)
+        self.set.loaded(tag)
     }
 
     /// What becomes of the task at this position, which has handed out its reply.
@@ -229,16 +214,14 @@ impl Device {
         ensures same_claims { claims_for self.new.ftl ≡ claims_for self.old.ftl }
     {
         self.let_go(tag);
-        self.tasks.remove(index);
+        self.set.end(index);
     }
 
     /// The block that was read for the task of this tag is given up.
     fn unload(&mut self, tag: u8)
         ensures { self.new ≡ without_block self.old tag }
     {
-        if let Some(index) = loaded_at(self.loaded.as_slice(), tag) {
-            self.loaded.remove(index);
-        }
+        self.set.unload(tag);
     }
 
     /// Hands out the reply of the first short exchange.
@@ -249,10 +232,9 @@ impl Device {
             into.new.items ≡ spelling (short_message short) }
         ensures after { result ≡ true → self.new ≡ without_first self.old }
     {
-        if self.shorts.is_empty() {
+        let Some(short) = self.set.take_short() else {
             return false;
-        }
-        let short = self.shorts.remove(0);
+        };
         upiu::write(&short_message(&short), into);
         true
     }

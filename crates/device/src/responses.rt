@@ -7,13 +7,11 @@ ghost use Rattle.ufs_spec.specs.Messages.{AreFlags, IsAmong, IsMessage, IsQueryF
 ghost use Rattle.ufs_spec.specs.declared.Message.{Message};
 ghost use Rattle.device.specs.Replies.{block_message, count_of, data_message, data_padded};
 ghost use Rattle.device.specs.Replies.{function_of, short_message};
-ghost use Rattle.device.specs.Tasks.{status_kept};
+ghost use Rattle.task_set.specs.Tasks.{status_kept};
 
-use crate::tasks::{Sending, Short, ShortData, ShortReply, Status, Task, Transfer};
-use ufs_spec::{Asked, Block, Data, Message, Sense, write_u32};
-
-/// How many bytes a block has.
-pub(crate) const BLOCK_BYTES: u32 = 4096;
+use task_set::{BLOCK_BYTES, Sending, Short, ShortData, ShortReply, Status, Task, Transfer};
+use ufs_bytes::{Block, write_u32};
+use ufs_spec::{Asked, Data, Message, Sense};
 
 /// The flag of a RESPONSE that says that less than expected was carried (JESD220, 10.7.2).
 const UNDERFLOW: u8 = 0x20;

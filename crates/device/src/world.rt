@@ -16,12 +16,13 @@ use crate::device::Device;
 use crate::leftovers::{
     are_apart, die_of, end_power_cycles, fail_on, is_of_job, is_read, leave_on, may_job_leave,
 };
+use geometry::Config;
 use nand_model::{Die, MemDie, work};
 use std::alloc::{AllocError, Global};
 use std::marker::Model;
 use ufs_spec::{
-    Config, Event, HostFault, Job, Leftover, OpenFault, Outcome, Output, RunFault, RunFaultKind,
-    Trace, Upiu,
+    Event, HostFault, Job, Leftover, OpenFault, Outcome, Output, RunFault, RunFaultKind, Trace,
+    Upiu,
 };
 
 /// A device with its dies, and the job that each die has in flight.

@@ -1,10 +1,11 @@
 //! Stops inside the first mark, and inside erases, page by page of the block.
 use crate::players::{EACH_LEFT, Left, Player, write_of};
+use geometry::Config;
 use nand_model::{Die, MemDie};
 use std::alloc::Global;
 use std::process::Abort;
 use std::test::Fail;
-use ufs_spec::{Config, ConfigFault, Event, Job, Leftover, Output, Page, UnitSpec};
+use ufs_spec::{ConfigFault, Event, Job, Leftover, Output, Page, UnitSpec};
 use workbench::new_dies;
 
 /// Two dies of 20 blocks of 16 pages, and a unit of 64 blocks.

@@ -2,12 +2,13 @@
 ghost use Rattle.std.specs.Prelude.{◌≤◌};
 
 use crate::benches::Bench;
+use geometry::Config;
 use nand_model::{Die, MemDie};
 use page_tag::{mark_body, seal};
 use row_config::row_config;
 use std::process::Abort;
 use std::test::Fail;
-use ufs_spec::{Config, Fence, Page, Tag};
+use ufs_spec::{Fence, Page, Tag};
 use workbench::new_dies;
 
 /// The page of a group of one page: a block of equal bytes at an address of unit 0.

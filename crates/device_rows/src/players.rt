@@ -1,10 +1,11 @@
 //! A world at work, one of whose jobs may fail.
 use device::World;
+use geometry::Config;
 use nand_model::{Die, MemDie};
 use std::alloc::Global;
 use std::process::Abort;
 use std::test::Fail;
-use ufs_spec::{Config, Event, Job, Leftover, Output, Page, Place, Upiu};
+use ufs_spec::{Event, Job, Leftover, Output, Page, Place, Upiu};
 
 /// What a job that failed or was stopped leaves of a page.
 #[derive(Clone, Copy, PartialEq, Eq)]

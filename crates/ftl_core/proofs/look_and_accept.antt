@@ -1,6 +1,5 @@
 pub mod GroupsAccepted
 pub mod KeptBlocks
-pub mod KeyPlaces
 pub mod KeysBehind
 pub mod LastPages
 pub mod LookedPages

@@ -1,4 +1,5 @@
 pub mod FoundBlocks
 pub mod ListParts
+pub mod OpenedParts
 pub mod OpensFound
 pub mod Spots

@@ -2,12 +2,12 @@
 use Rattle.std.specs.Prelude.{ℕ, Bool, List, Option}
 use Rattle.ufs_spec.specs.declared.configs.Numbers.{Numbers}
 use Rattle.ufs_spec.specs.declared.flash.Key.{Key}
-use Rattle.ftl_core.specs.declared.books.BlockState.{BlockState}
+use Rattle.block_table.specs.declared.BlockState.{BlockState}
 use Rattle.ftl_core.specs.declared.books.Book.{Book}
-use Rattle.ftl_core.specs.declared.books.Claimed.{Claimed}
-use Rattle.ftl_core.specs.declared.books.Stored.{Stored}
+use Rattle.write_cache.specs.declared.slots.Claimed.{Claimed}
+use Rattle.unit_map.specs.declared.Stored.{Stored}
 use Rattle.ftl_core.specs.declared.books.Mending.{Mending}
-use Rattle.ftl_core.specs.declared.books.Pending.{Pending}
+use Rattle.write_cache.specs.declared.slots.Pending.{Pending}
 use Rattle.ftl_core.specs.declared.books.Pin.{Pin}
 use Rattle.ftl_core.specs.declared.books.Step.{Step}
 

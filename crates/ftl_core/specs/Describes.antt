@@ -21,8 +21,8 @@ use Rattle.ufs_spec.specs.declared.flash.Key.{Key}
 use Rattle.ufs_spec.specs.declared.flash.Place.{Place}
 use Rattle.ufs_spec.specs.declared.flash.Tag.{Tag}
 use Rattle.power_loss.specs.Invariant.{Valid}
-use Rattle.ftl_core.specs.declared.books.BlockState.{BlockState}
-use Rattle.ftl_core.specs.declared.books.BlockState.TheVariants as state
+use Rattle.block_table.specs.declared.BlockState.{BlockState}
+use Rattle.block_table.specs.declared.BlockState.TheVariants as state
 use Rattle.ftl_core.specs.declared.books.Book.{Book}
 use Rattle.ftl_core.specs.declared.books.Flight.{Flight}
 use Rattle.ftl_core.specs.declared.books.Flight.TheVariants as flight
@@ -30,19 +30,20 @@ use Rattle.ftl_core.specs.declared.books.Looked.{Looked}
 use Rattle.ftl_core.specs.declared.books.Looked.TheVariants as looked
 use Rattle.ftl_core.specs.declared.books.Mending as kept
 use Rattle.ftl_core.specs.declared.books.Mending.TheVariants as mendings
-use Rattle.ftl_core.specs.declared.books.OpenBlock.{OpenBlock}
-use Rattle.ftl_core.specs.declared.books.Pending.{Pending}
+use Rattle.block_table.specs.declared.OpenBlock.{OpenBlock}
+use Rattle.write_cache.specs.declared.slots.Pending.{Pending}
 use Rattle.ftl_core.specs.declared.books.Pin.{Pin}
 use Rattle.ftl_core.specs.declared.books.Reader as reader
 use Rattle.ftl_core.specs.declared.books.Reader.TheVariants as readers
 use Rattle.ftl_core.specs.declared.books.Step as kept_step
 use Rattle.ftl_core.specs.declared.books.Step.TheVariants as steps
-use Rattle.ftl_core.specs.declared.books.Stored.{Stored}
+use Rattle.unit_map.specs.declared.Stored.{Stored}
 use Rattle.ftl_core.specs.declared.ftl.Ended.{Ended}
 use Rattle.ftl_core.specs.declared.ftl.Ended.TheVariants as ended
-use Rattle.recovery.specs.KeysInOrder.{key_total}
+use Rattle.geometry.specs.Keys.{key_total}
+use Rattle.unit_map.specs.Places.{stored_in}
 use Rattle.ftl_core.specs.Core.{Core}
-use Rattle.ftl_core.specs.Moves.{is_pin_of, repairs_in, stored_in}
+use Rattle.ftl_core.specs.Moves.{is_pin_of, repairs_in}
 use Rattle.ftl_core.specs.Takes.{is_group_page, next_place, step_wants}
 
 -- Blocks

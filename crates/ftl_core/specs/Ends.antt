@@ -1,54 +1,30 @@
 -- How a group moves on until it is durable, as the code does it. Describes says what that means.
-use Rattle.std.specs.Prelude.{ℕ, zero, suc, ◌+◌, ◌==◌, ◌&&◌, min, not, Bool, if◌then◌else◌, List, filter, fold, length}
-use Rattle.std.specs.Prelude.{is_none, map, position, slice_get, slice_set, Option, Some, None, true}
-use Rattle.std.specs.List.{list_any}
+use Rattle.std.specs.Prelude.{ℕ, zero, suc, ◌+◌, min, not, List, filter, fold, length}
+use Rattle.std.specs.Prelude.{drop, map, slice_get, take, Option, Some, None, true}
 use Rattle.ufs_spec.specs.declared.flash.Key.{Key}
 use Rattle.ufs_spec.specs.declared.flash.Place.{Place}
-use Rattle.ftl_core.specs.declared.books.Stored.{Stored}
+use Rattle.unit_map.specs.declared.Stored.{Stored}
 use Rattle.ftl_core.specs.declared.books.Book.{Book}
-use Rattle.ftl_core.specs.declared.books.Pending.{Pending}
+use Rattle.write_cache.specs.declared.slots.Landed.{Landed}
+use Rattle.write_cache.specs.declared.slots.Pending.{Pending}
 use Rattle.ftl_core.specs.declared.books.Mending.{Mending}
 use Rattle.ftl_core.specs.declared.books.Mending.TheVariants as mending
 use Rattle.ftl_core.specs.declared.books.Step.{Step}
 use Rattle.ftl_core.specs.declared.books.Step.TheVariants as step
+use Rattle.unit_map.specs.Places.{places_noted, position_of}
+use Rattle.write_cache.specs.Slots.{is_of_group, whole_group, page_written as page_at_written}
 use Rattle.ftl_core.specs.Core.{Core}
-use Rattle.ftl_core.specs.Moves.{is_named, mark_ordered, moved_pin, page_written, position_of, went_bad}
-
--- Pages of groups
-
--- the position of the page of a pending group with this number and index
-abbrev pub pending_at : Core → ℕ → ℕ → Option ℕ
-pending_at c number index = position (is_named number index) c.pages
-
--- the page at this position is written there
-abbrev pub pages_written : List Pending → ℕ → Place → Option Pending → List Pending
-pages_written ps k place None = ps
-pages_written ps k place (Some p) = slice_set ps k (record p { written = Some place })
-
-abbrev pub pending_written : Core → Place → Option ℕ → Core
-pending_written c place None = c
-pending_written c place (Some k) = record c { pages = pages_written c.pages k place (slice_get c.pages k) }
+use Rattle.ftl_core.specs.Moves.{mark_ordered, moved_pin, page_written, went_bad}
 
 -- Groups
 
-abbrev pub is_of_group : ℕ → Pending → Bool
-is_of_group number p = p.number == number
-
--- a page of this group is not written yet
-abbrev pub is_unwritten : ℕ → Pending → Bool
-is_unwritten number p = is_of_group number p && is_none p.written
-
-abbrev pub whole_group : List Pending → Option Pending → Option ℕ
-whole_group ps None = None
-whole_group ps (Some p) = if list_any (is_unwritten p.number) ps then None else Some p.number
+-- the page with this number and index is written there, if it is pending
+abbrev pub pending_written : Core → ℕ → ℕ → Place → Core
+pending_written c number index place = record c { pages = page_at_written c.pages number index place }
 
 -- the number of the first pending group, if all its pages are written
 abbrev pub front_written : Core → Option ℕ
 front_written c = whole_group c.pages (slice_get c.pages 0)
-
-abbrev pub places_noted : List (Option Stored) → Stored → Option ℕ → List (Option Stored)
-places_noted ps s None = ps
-places_noted ps s (Some k) = slice_set ps k (Some s)
 
 -- the durable content of the address stands there
 abbrev pub noted : Core → Key → Stored → Core
@@ -68,10 +44,19 @@ page_durable_at c p (Some place) =
 abbrev pub page_durable : Core → Pending → Core
 page_durable c p = page_durable_at c p p.written
 
--- the page, if it is of the group with this number
-abbrev pub durable_at : Core → ℕ → Option Pending → Core
-durable_at c number None = c
-durable_at c number (Some p) = if is_of_group number p then page_durable c p else c
+-- the same of a page that left its slot
+abbrev pub landed_at : Core → Landed → Option Place → Core
+landed_at c p None = c
+landed_at c p (Some place) =
+    pins_moved (noted c p.key (record { place = place; number = p.number })) p.index
+    (record { place = place; number = p.number })
+
+abbrev pub page_landed : Core → Landed → Core
+page_landed c p = landed_at c p p.written
+
+-- so many pages at the front are durable, in order, and pending no more
+abbrev pub pages_landed : Core → ℕ → Core
+pages_landed c n = record (fold page_durable c (take n c.pages)) { pages = drop n c.pages }
 
 -- the number behind the frontier, if it was given
 abbrev pub risen : Core → ℕ

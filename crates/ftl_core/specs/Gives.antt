@@ -23,7 +23,7 @@ use Rattle.ftl_core.specs.declared.ftl.Ended.{Ended}
 use Rattle.ftl_core.specs.declared.ftl.Ended.TheVariants as ended
 use Rattle.ftl_core.specs.Core.{Core}
 use Rattle.ftl_core.specs.Moves.{erased, is_pin_of, page_written, pin_of, went_bad, with_book}
-use Rattle.ftl_core.specs.Ends.{pending_at, pending_written, settled, step_failed, step_written, with_content}
+use Rattle.ftl_core.specs.Ends.{pending_written, settled, step_failed, step_written, with_content}
 
 -- Programs and erases
 
@@ -36,7 +36,7 @@ ending _ = None
 -- a page whose program failed waits again by itself
 abbrev pub group_ended : Core → ℕ → Book → Place → ℕ → ℕ → Bool → Core
 group_ended c die b place n i true =
-    settled (page_written (pending_written c place (pending_at c n i)) die b b.filling)
+    settled (page_written (pending_written c n i place) die b b.filling)
 group_ended c die b place n i false = went_bad c die place.block
 
 abbrev pub step_ended : Core → ℕ → Book → Place → Bool → Core

@@ -1,24 +1,24 @@
 -- What the layer's steps make of what it keeps, as the code does it. Describes says what that means.
 use Rattle.ufs_spec.specs.declared.configs.Numbers.{Numbers}
 use Rattle.std.specs.Prelude.{ℕ, ◌+◌, ◌-◌, ◌*◌, ◌^◌, ◌==◌, min, nat_le, nat_lt, Bool, true, false, ◌&&◌, ◌||◌, not}
-use Rattle.std.specs.Prelude.{if◌then◌else◌, List, [], ◌++◌, length, map, position, replicate, reverse}
+use Rattle.std.specs.Prelude.{if◌then◌else◌, List, [], ◌++◌, length, map, replicate}
 use Rattle.std.specs.Prelude.{count_by, slice_get, slice_set, Option, Some, None, unwrap_or, option_map}
-use Rattle.std.specs.Prelude.{filter, find, option_and_then, is_none}
+use Rattle.std.specs.Prelude.{filter, find, is_none}
 use Rattle.std.specs.List.{list_any}
 use Rattle.ufs_spec.specs.Keys.{below}
-use Rattle.ufs_spec.specs.Plain.{shape_of_numbers, zero_block}
+use Rattle.ufs_spec.specs.Plain.{zero_block}
 use Rattle.ufs_spec.specs.declared.flash.Fence.{Fence}
 use Rattle.ufs_spec.specs.declared.flash.Key.{Key}
 use Rattle.ufs_spec.specs.declared.flash.Tag.{Tag}
-use Rattle.ftl_core.specs.declared.books.BlockState.{BlockState}
-use Rattle.ftl_core.specs.declared.books.BlockState.TheVariants as state
-use Rattle.ftl_core.specs.declared.books.OpenBlock.{OpenBlock}
+use Rattle.block_table.specs.declared.BlockState.{BlockState}
+use Rattle.block_table.specs.declared.BlockState.TheVariants as state
+use Rattle.block_table.specs.declared.OpenBlock.{OpenBlock}
 use Rattle.ftl_core.specs.declared.books.Book.{Book}
 use Rattle.ftl_core.specs.declared.books.Flight.{Flight}
 use Rattle.ftl_core.specs.declared.books.Flight.TheVariants as flight
-use Rattle.ftl_core.specs.declared.books.Stored.{Stored}
-use Rattle.ftl_core.specs.declared.books.Claimed.{Claimed}
-use Rattle.ftl_core.specs.declared.books.Pending.{Pending}
+use Rattle.unit_map.specs.declared.Stored.{Stored}
+use Rattle.write_cache.specs.declared.slots.Claimed.{Claimed}
+use Rattle.write_cache.specs.declared.slots.Pending.{Pending}
 use Rattle.ftl_core.specs.declared.books.Looked.{Looked}
 use Rattle.ftl_core.specs.declared.books.Looked.TheVariants as looked
 use Rattle.ftl_core.specs.declared.books.Mending.{Mending}
@@ -30,11 +30,13 @@ use Rattle.ftl_core.specs.declared.books.Step.TheVariants as step
 use Rattle.ftl_core.specs.declared.books.Waiting.{Waiting}
 use Rattle.ftl_core.specs.declared.books.Waiting.TheVariants as waiting
 use Rattle.page_tag.specs.declared.contents.Mark.{Mark}
-use Rattle.recovery.specs.KeysInOrder.{index_of}
 use Rattle.recovery.specs.declared.found.Found.{Found}
 use Rattle.recovery.specs.declared.keys.FoundBlock.{FoundBlock}
 use Rattle.recovery.specs.declared.keys.FoundBlock.TheVariants as found
 use Rattle.recovery.specs.declared.pages.FoundPage.{FoundPage}
+use Rattle.block_table.specs.Blocks.{is_free}
+use Rattle.unit_map.specs.Places.{stored_in}
+use Rattle.write_cache.specs.Slots.{claim_filled, empty_claim, is_claim_of, is_named, key_at, last_page, page_claimed}
 use Rattle.ftl_core.specs.Core.{Core}
 
 -- At the start
@@ -138,10 +140,6 @@ with_state c die block s = record c { states = slice_set c.states (state_index c
 abbrev pub with_book : Core → ℕ → Book → Core
 with_book c die b = record c { books = slice_set c.books die b }
 
-abbrev pub is_free : BlockState → Bool
-is_free state.Free = true
-is_free _ = false
-
 abbrev pub free_blocks : Core → ℕ
 free_blocks c = count_by is_free c.states
 
@@ -175,6 +173,11 @@ looks_on die _ = false
 abbrev pub is_owed_by : List Book → ℕ → Pin → Bool
 is_owed_by books die p = p.wanted && looks_on die p.looked && not (list_any (reads_for p.reader p.index) books)
 
+-- the same over the jobs in flight alone
+abbrev pub is_owed_in : List (Option Flight) → ℕ → Pin → Bool
+is_owed_in flights die p =
+    p.wanted && looks_on die p.looked && not (list_any (flight_reads p.reader p.index) flights)
+
 -- for a group alone a block is opened only where more than dies + 2 blocks are free
 abbrev pub may_open : Core → Waiting → Bool
 may_open c waiting.Step = true
@@ -183,6 +186,14 @@ may_open c (waiting.Group n i) = nat_lt (length c.books + 2) (free_blocks c)
 -- the die has this job in flight, over the open block that it had
 abbrev pub started : Core → ℕ → Book → Flight → Core
 started c die b f = with_book c die record { filling = b.filling; flight = Some f }
+
+-- this is in flight of the die from now on, if there is such a die
+abbrev pub flight_set : List Book → ℕ → Option Flight → Option Book → List Book
+flight_set books die f None = books
+flight_set books die f (Some b) = slice_set books die (record { filling = b.filling; flight = f })
+
+abbrev pub in_flight : Core → ℕ → Option Flight → Core
+in_flight c die f = record c { books = flight_set c.books die f (slice_get c.books die) }
 
 -- whose content a mark is
 abbrev pub mark_key : Key
@@ -237,32 +248,6 @@ erased c die block =
 
 -- Looking
 
-abbrev pub same_key : Key → Key → Bool
-same_key j k = (j.kind == k.kind) && (j.unit == k.unit) && (j.address == k.address)
-
-abbrev pub is_page_of : Key → Pending → Bool
-is_page_of k p = same_key p.key k
-
--- the position of the last page of a pending group that is of the address
-abbrev pub last_of : Key → List Pending → Option ℕ
-last_of k ps = option_map (λ behind. length ps - 1 - behind) (position (is_page_of k) (reverse ps))
-
--- that page
-abbrev pub last_page : Key → List Pending → Option Pending
-last_page k ps = option_and_then (slice_get ps) (last_of k ps)
-
--- the position of the key among those of the device
-abbrev pub position_of : Numbers → Key → Option ℕ
-position_of n k = index_of (shape_of_numbers n) k
-
-abbrev pub flat : Option (Option Stored) → Option Stored
-flat None = None
-flat (Some s) = s
-
--- where the durable content of the key stands, in a list of all keys' places
-abbrev pub stored_in : Numbers → List (Option Stored) → Key → Option Stored
-stored_in n places k = option_and_then (λ p. flat (slice_get places p)) (position_of n k)
-
 abbrev pub stored_of : Core → Key → Option Stored
 stored_of c k = stored_in c.numbers c.places k
 
@@ -290,10 +275,6 @@ pin_of c reader index = find (is_pin_of reader index) c.pins
 -- what it looks at
 abbrev pub looked_by : ℕ → ℕ → List Pin → Option Looked
 looked_by reader index ps = option_map (λ (p : Pin). p.looked) (find (is_pin_of reader index) ps)
-
--- the address that lies so many behind this one, and the last there is where there are fewer
-abbrev pub key_at : Key → ℕ → Key
-key_at k i = record { kind = k.kind; unit = k.unit; address = min (k.address + i) 4294967295 }
 
 -- what is kept of one of the blocks of a reader: what its address has now. The first is wanted
 abbrev pub pin_now : Core → ℕ → Key → ℕ → Pin
@@ -353,23 +334,14 @@ abbrev pub moved_pin : ℕ → Stored → Pin → Pin
 moved_pin index s p = record p { looked = now_stored index s p.looked }
 
 -- the block in the slot of the page with this number and index
-abbrev pub is_named : ℕ → ℕ → Pending → Bool
-is_named number index p = (p.number == number) && (p.index == index)
-
 abbrev pub slot_of : Core → ℕ → ℕ → Option (List ℕ)
 slot_of c number index = option_map (λ (p : Pending). p.body) (find (is_named number index) c.pages)
 
 -- Claims
 
-abbrev pub is_claim_of : ℕ → Claimed → Bool
-is_claim_of reader claim = claim.reader == reader
-
 -- the slots that the reader has claimed, in the order of its blocks
 abbrev pub claims_for : Core → ℕ → List Claimed
 claims_for c reader = filter (is_claim_of reader) c.claims
-
-abbrev pub empty_claim : ℕ → ℕ → Claimed
-empty_claim reader i = record { reader = reader; index = i; body = zero_block }
 
 -- a slot is claimed for each of so many blocks
 abbrev pub claimed_all : Core → ℕ → ℕ → Core
@@ -380,24 +352,8 @@ abbrev pub released : Core → ℕ → Core
 released c reader = record c { claims = filter (λ claim. not (is_claim_of reader claim)) c.claims }
 
 -- what came for this block of the reader lies in its slot
-abbrev pub claim_filled : ℕ → ℕ → List ℕ → Claimed → Claimed
-claim_filled reader index body claim =
-    record claim { body = if (claim.reader == reader) && (claim.index == index) then body else claim.body }
-
 abbrev pub filled : Core → ℕ → ℕ → List ℕ → Core
 filled c reader index body = record c { claims = map (claim_filled reader index body) c.claims }
-
--- the page of a group for which this slot was claimed, from an address on
-abbrev pub page_claimed : Key → (number size : ℕ) → Claimed → Pending
-page_claimed k number size claim =
-    record {
-      key = key_at k claim.index;
-      number = number;
-      index = claim.index;
-      size = size;
-      written = None;
-      body = claim.body;
-    }
 
 -- the pages of the group that takes the place of all that the reader claimed
 abbrev pub pages_claimed : Core → ℕ → Key → List Pending

@@ -1,21 +1,30 @@
 -- How the layer's fields are seen, and the room that they keep.
-use Rattle.std.specs.Prelude.{◌≤◌, ◌+◌, ◌^◌, ℕ, length, vec_capacity, Option, Some, None}
+use Rattle.std.specs.Prelude.{◌≡◌, ◌≤◌, ◌+◌, ◌^◌, ℕ, List, [], ◌∷◌, length, vec_capacity, Option, Some, None}
+use Rattle.block_table.specs.declared.OpenBlock.{OpenBlock}
 use Rattle.ftl_core.specs.declared.ftl.Ftl.TheInside.{Inside}
+use Rattle.ftl_core.specs.declared.books.Book.{Book}
+use Rattle.ftl_core.specs.declared.books.Flight.{Flight}
 use Rattle.ftl_core.specs.declared.books.Step.{Step}
 use Rattle.ftl_core.specs.declared.books.Step.TheVariants as step
 use Rattle.ftl_core.specs.Core.{Core}
 
+-- what is known of each die: the block that it fills, and its job in flight
+abbrev pub books_of : List (Option OpenBlock) → List (Option Flight) → List Book
+books_of [] fs = []
+books_of (o ∷ os) [] = []
+books_of (o ∷ os) (f ∷ fs) = record { filling = o; flight = f } ∷ books_of os fs
+
 abbrev pub core_of : Inside → Core
 core_of f = record {
   numbers = f.config;
-  states = f.states.items;
-  books = f.books.items;
-  has_bad = f.has_bad;
-  places = f.places.items;
-  pages = f.pages.items;
-  claims = f.claims.items;
-  frontier = f.frontier;
-  last = f.last;
+  states = f.blocks.states;
+  books = books_of f.blocks.filling f.flights.items;
+  has_bad = f.blocks.has_bad;
+  places = f.places.places;
+  pages = f.cache.pages;
+  claims = f.cache.claims;
+  frontier = f.cache.frontier;
+  last = f.cache.last;
   pins = f.pins.items;
   mending = f.mending;
   lost = f.lost.items;
@@ -34,13 +43,13 @@ IsStep None = Unit {0}
 IsStep (Some (step.Mark n fence)) = IsNumber n
 IsStep (Some (step.Repair n key from there)) = IsNumber n
 
--- each page of a pending group and each claim has a slot, and no number goes above the last
+-- the parts are those of one configuration, and each pin has room
 pub record IsRoomy (f : Inside) : Type 0 where
-  pub slots : length f.pages.items + length f.claims.items ≤ f.config.slots
-  pub room : f.config.slots ≤ vec_capacity f.pages
-  pub claim_room : f.config.slots ≤ vec_capacity f.claims
-  pub frontier : f.frontier ≤ f.last
-  pub numbers : f.last ≤ 2 ^ 62
+  pub dies : length f.blocks.filling ≡ length f.flights.items
+  pub blocks : f.blocks.sizes.blocks ≡ f.config.blocks
+  pub block_pages : f.blocks.sizes.pages ≡ f.config.pages
+  pub keys : f.places.numbers ≡ f.config
+  pub slots : f.cache.slots ≡ f.config.slots
   pub first_mark : 1 ≤ f.next_mark
   pub last_mark : f.next_mark ≤ 2 ^ 62 + 1
   pub step : IsStep f.step

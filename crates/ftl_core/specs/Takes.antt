@@ -10,11 +10,11 @@ use Rattle.ufs_spec.specs.declared.flash.Job.TheVariants as job
 use Rattle.ufs_spec.specs.declared.flash.Fence.{Fence}
 use Rattle.ufs_spec.specs.declared.flash.Key.{Key}
 use Rattle.ufs_spec.specs.declared.flash.Place.{Place}
-use Rattle.ftl_core.specs.declared.books.OpenBlock.{OpenBlock}
+use Rattle.block_table.specs.declared.OpenBlock.{OpenBlock}
 use Rattle.ftl_core.specs.declared.books.Book.{Book}
 use Rattle.ftl_core.specs.declared.books.Flight.{Flight}
 use Rattle.ftl_core.specs.declared.books.Flight.TheVariants as flight
-use Rattle.ftl_core.specs.declared.books.Pending.{Pending}
+use Rattle.write_cache.specs.declared.slots.Pending.{Pending}
 use Rattle.ftl_core.specs.declared.books.Looked.{Looked}
 use Rattle.ftl_core.specs.declared.books.Looked.TheVariants as looked
 use Rattle.ftl_core.specs.declared.books.Pin.{Pin}
@@ -24,7 +24,8 @@ use Rattle.ftl_core.specs.declared.books.Step.TheVariants as step
 use Rattle.ftl_core.specs.declared.books.Waiting.{Waiting}
 use Rattle.ftl_core.specs.declared.books.Waiting.TheVariants as waiting
 use Rattle.ftl_core.specs.Core.{Core}
-use Rattle.ftl_core.specs.Moves.{is_erasable, is_named, is_owed_by, mark_key, may_open, single_tag, started}
+use Rattle.ftl_core.specs.Moves.{is_erasable, is_owed_by, mark_key, may_open, single_tag, started}
+use Rattle.write_cache.specs.Slots.{is_named}
 use Rattle.ftl_core.specs.Moves.{tag_of_page}
 
 -- The lowest number
@@ -69,6 +70,10 @@ reads_step b = is_step_reading b.flight
 -- the page is neither written nor in flight
 abbrev pub page_waits : List Book → Pending → Bool
 page_waits books p = is_none p.written && not (list_any (writes_page p.number p.index) books)
+
+-- the same over the jobs in flight alone
+abbrev pub page_waits_in : List (Option Flight) → Pending → Bool
+page_waits_in flights p = is_none p.written && not (list_any (flight_writes p.number p.index) flights)
 
 -- the pending page that waits first
 abbrev pub page_waiting : Core → Option Pending

@@ -9,7 +9,7 @@ use Rattle.ufs_spec.specs.Translation as layer
 use Rattle.ufs_spec.specs.Translation.{Translation}
 use Rattle.ufs_spec.specs.declared.flash.Key.{Key}
 use Rattle.ufs_spec.specs.declared.flash.Place.{Place}
-use Rattle.ftl_core.specs.declared.books.Claimed.{Claimed}
+use Rattle.write_cache.specs.declared.slots.Claimed.{Claimed}
 use Rattle.ftl_core.specs.declared.books.Looked.{Looked}
 use Rattle.ftl_core.specs.Describes.{IsLookedAt}
 

@@ -1,22 +1,7 @@
 //! What the translation layer writes down of blocks, dies, groups and readers.
-use ufs_spec::{Block, Fence, Key, Place};
-
-/// What a block is to the device: free to be erased, being filled, full, or bad.
-#[derive(Clone, Copy, Debug, Default, PartialEq, Eq)]
-pub enum BlockState {
-    #[default]
-    Free,
-    Open,
-    Closed,
-    Bad,
-}
-
-/// The block of a die that is being filled, and its next page.
-#[derive(Clone, Copy, Debug, Default, PartialEq, Eq)]
-pub struct OpenBlock {
-    pub block: u16,
-    pub next: u16,
-}
+use block_table::OpenBlock;
+use ufs_spec::{Fence, Key, Place};
+use unit_map::Stored;
 
 /// For whom a page is read: for the block of this index of a reader who waits for it, or for nobody, once
 /// that one let go; or for the step under way.
@@ -53,34 +38,6 @@ pub enum Flight {
 pub struct Book {
     pub filling: Option<OpenBlock>,
     pub flight: Option<Flight>,
-}
-
-/// Where the newest durable content of an address stands, and the number of its group.
-#[derive(Clone, Copy, Debug, Default, PartialEq, Eq)]
-pub struct Stored {
-    pub place: Place,
-    pub number: u64,
-}
-
-/// A page of a pending group: the group's number and how many pages it has, which of them this is, and
-/// where it is written, once it is.
-#[derive(Clone, Copy)]
-pub struct Pending {
-    pub key: Key,
-    pub number: u64,
-    pub index: u16,
-    pub size: u16,
-    pub written: Option<Place>,
-    pub body: Block,
-}
-
-/// A slot that is claimed for the block of this index of a reader who gathers blocks for a group to come,
-/// and what came for it: zeros until it does.
-#[derive(Clone, Copy)]
-pub struct Claimed {
-    pub reader: u8,
-    pub index: u16,
-    pub body: Block,
 }
 
 /// What holds the content of an address: nothing (it reads as zeros), the slot of the page of this index

@@ -3,8 +3,11 @@ ghost use Rattle.std.specs.Prelude.{◌≡◌, ℕ, ◌<◌, ◌≤◌, ◌+◌,
 ghost use Rattle.std.specs.List.{list_any};
 ghost use Rattle.ftl_core.specs.Moves.{accepted, first_fence, first_mending, idle_book, is_bad_found};
 ghost use Rattle.ftl_core.specs.Moves.{is_over, mark_number_behind, opened, state_of_found};
-ghost use Rattle.ftl_core.specs.Moves.{stored_of_found, slot_of, is_page_of, is_pin_of, is_of_reader, looked_by, pin_of, pin_now, key_at, kept_all, next_wanted, unpinned, look_of, last_of, last_page, position_of, stored_of, free_slots, is_locked, has_number, next_number, without_reader, without_block, flight_without, flight_without_block, wanted_now, is_named};
-ghost use Rattle.ftl_core.specs.Moves.{is_claim_of, claims_for, claimed_all, empty_claim, released, claim_filled, filled, page_claimed};
+ghost use Rattle.ftl_core.specs.Moves.{stored_of_found, slot_of, is_pin_of, is_of_reader, looked_by, pin_of, pin_now, kept_all, next_wanted, unpinned, look_of, stored_of, free_slots, is_locked, has_number, next_number, without_reader, without_block, flight_without, flight_without_block, wanted_now};
+ghost use Rattle.unit_map.specs.Places.{position_of};
+ghost use Rattle.write_cache.specs.Slots.{is_page_of, key_at, last_of, last_page, is_named};
+ghost use Rattle.ftl_core.specs.Moves.{claims_for, claimed_all, released, filled};
+ghost use Rattle.write_cache.specs.Slots.{is_claim_of, empty_claim, claim_filled, page_claimed};
 ghost use Rattle.ufs_spec.specs.Configs.{InRange};
 ghost use Rattle.ufs_spec.specs.Keys.{IsKey, below};
 ghost use Rattle.ufs_spec.specs.Ledger.{next_number as next_of_layer, Entry, before_accepted, entry_of};
@@ -24,16 +27,15 @@ ghost use Rattle.ftl_core.specs.Tells.{IsPinned, PinsDiffer, claims_of_blocks, g
 mod ends;
 mod takes;
 
-use crate::books::{
-    BlockState, Book, Claimed, Flight, Looked, Mending, Pending, Pin, Reader, Step, Stored,
-};
-use recovery::{Found, FoundBlock, FoundPage, key_index};
+use crate::books::{Flight, Looked, Mending, Pin, Reader, Step};
+use block_table::{BlockState, BlockTable, Sizes};
+use geometry::Config;
+use recovery::{Found, FoundBlock, FoundPage};
 use std::alloc::{AllocError, Global};
 use std::marker::Model;
-use ufs_spec::{Block, Config, Fence, Key, UnitSpec};
-
-/// No group and no mark has a greater number.
-const LAST_NUMBER: u64 = 0x4000_0000_0000_0000;
+use ufs_spec::{Block, Fence, Key, UnitSpec};
+use unit_map::{Stored, UnitMap};
+use write_cache::{Cache, LAST_NUMBER, key_at};
 
 /// How many blocks readers may keep: each of 32 tasks those of a command.
 const MOST_PINS: usize = 1024;
@@ -46,27 +48,19 @@ pub enum Ended {
     Other,
 }
 
-/// The translation layer of a device. What is in flight stands in the dies' books alone.
+/// The translation layer of a device. What is in flight is in `flights` and nowhere else.
 #[derive(Drop)]
 pub struct Ftl {
     /// The configuration, which never changes; it has at most 8 units.
     config: Config,
-    /// What each block is, in order by die and block.
-    states: Vec<BlockState>,
-    /// Of each die its open block, which has room, and its job in flight.
-    books: Vec<Book>,
-    /// Whether any block is bad; it stays so.
-    has_bad: bool,
-    /// Where the durable content of each key stands, in the order of keys.
-    places: Vec<Option<Stored>>,
-    /// The pages of pending groups, in order of number and index. With the claims they are at most `slots`.
-    pages: Vec<Pending>,
-    /// The slots that are claimed for groups to come, those of a reader in the order of its blocks.
-    claims: Vec<Claimed>,
-    /// Every group up to this number is durable or lost. It is at most `last`.
-    frontier: u64,
-    /// The greatest number that was given. It is at most 2^62.
-    last: u64,
+    /// What each block is, and which block each die fills.
+    blocks: BlockTable,
+    /// The job in flight of each die.
+    flights: Vec<Option<Flight>>,
+    /// Where the durable content of each key is.
+    places: UnitMap,
+    /// The slots: pages of pending groups, and claims for groups to come; and their numbers.
+    cache: Cache,
     /// What readers keep, each block of a reader once: at most 1024, with room for all of them.
     pins: Vec<Pin>,
     /// How far the mending is.
@@ -93,40 +87,6 @@ impl Model for Ftl {
     ghost view = { core_of };
 
     ghost invariant = { IsRoomy };
-}
-
-/// The position of the last page of a pending group that is of the address.
-fn last_of(pages: &[Pending], key: Key) -> Option<usize>
-    ensures what { result ≡ last_of key pages.now }
-    ensures less { IfSome result (λ k. k < length pages.now) }
-{
-    match pages_behind(pages, key) {
-        Some(behind) => Some(pages.len() - 1 - behind),
-        None => None,
-    }
-}
-
-/// How many pages of pending groups are behind the last one of the address.
-fn pages_behind(pages: &[Pending], key: Key) -> Option<usize>
-    ensures what { result ≡ position (is_page_of key) (reverse pages.now) }
-    ensures less { IfSome result (λ k. k < length pages.now) }
-{
-    pages.iter().rev().position(|page| is_page_of(page, key))
-}
-
-/// Whether the page is of this address.
-fn is_page_of(page: &Pending, key: Key) -> bool
-    ensures { result ≡ is_page_of key page.now }
-{
-    page.key.kind == key.kind && page.key.unit == key.unit && page.key.address == key.address
-}
-
-/// The last page of a pending group that is of the address.
-fn last_page(pages: &[Pending], key: Key) -> Option<&Pending>
-    ensures { option_copied result ≡ last_page key pages.now }
-{
-    let index = last_of(pages, key)?;
-    Some(&pages[index])
 }
 
 /// Whether the pin is of this block of the reader.
@@ -203,31 +163,6 @@ fn looked_by(pins: &[Pin], reader: u8, index: u16) -> Option<Looked>
     Some(pin.looked)
 }
 
-/// Whether the page has this number and index.
-fn is_named(page: &Pending, number: u64, index: u16) -> bool
-    ensures { result ≡ is_named number index page.now }
-{
-    page.number == number && page.index == index
-}
-
-/// The page of a pending group with this number and index.
-fn page_named(pages: &[Pending], number: u64, index: u16) -> Option<&Pending>
-    ensures { option_copied result ≡ find (is_named number index) pages.now }
-{
-    pages.iter().find(|page| is_named(page, number, index))
-}
-
-/// The address that lies so many behind this one, and the last there is where there are fewer.
-fn key_at(key: Key, index: u16) -> Key
-    ensures { result ≡ key_at key index }
-{
-    Key {
-        kind: key.kind,
-        unit: key.unit,
-        address: key.address.saturating_add(index as u32),
-    }
-}
-
 /// The job in flight, which is for nobody if it is a read for this reader.
 fn flight_without(flight: Option<Flight>, reader: u8) -> Option<Flight>
     ensures { result ≡ flight_without reader flight }
@@ -276,148 +211,21 @@ fn flight_without_block(flight: Option<Flight>, reader: u8, block: u16) -> Optio
     }
 }
 
-/// What is known of a die once the reader let go.
-fn without_reader(book: Book, reader: u8) -> Book
-    ensures { result ≡ without_reader reader book }
-{
-    Book {
-        filling: book.filling,
-        flight: flight_without(book.flight, reader),
-    }
-}
-
-/// What is known of a die once the reader let go of this block.
-fn without_block(book: Book, reader: u8, index: u16) -> Book
-    ensures { result ≡ without_block reader index book }
-{
-    Book {
-        filling: book.filling,
-        flight: flight_without_block(book.flight, reader, index),
-    }
-}
-
 /// The reads in flight for this reader are for nobody from now on.
-fn forget_reader(books: &mut [Book], reader: u8)
-    ensures { books.new ≡ map (without_reader reader) books.old }
+fn forget_reader(flights: &mut [Option<Flight>], reader: u8)
+    ensures { flights.new ≡ map (flight_without reader) flights.old }
 {
-    for book in books.iter_mut() {
-        *book = without_reader(*book, reader);
+    for flight in flights.iter_mut() {
+        *flight = flight_without(*flight, reader);
     }
 }
 
 /// The reads in flight for this block of the reader are for nobody from now on.
-fn forget_block(books: &mut [Book], reader: u8, index: u16)
-    ensures { books.new ≡ map (without_block reader index) books.old }
+fn forget_block(flights: &mut [Option<Flight>], reader: u8, index: u16)
+    ensures { flights.new ≡ map (flight_without_block reader index) flights.old }
 {
-    for book in books.iter_mut() {
-        *book = without_block(*book, reader, index);
-    }
-}
-
-/// Whether the slot is claimed by the reader.
-fn is_claim_of(claim: &Claimed, reader: u8) -> bool
-    ensures { result ≡ is_claim_of reader claim.now }
-{
-    claim.reader == reader
-}
-
-/// A slot that is claimed for this block of the reader, before it came.
-fn empty_claim(reader: u8, index: u16) -> Claimed
-    ensures { result ≡ empty_claim reader index }
-{
-    Claimed {
-        reader,
-        index,
-        body: zeros(),
-    }
-}
-
-/// A slot is claimed for each of so many blocks of the reader.
-fn push_claims(claims: &mut Vec<Claimed>, reader: u8, blocks: u16)
-    requires { length claims.old.items + blocks ≤ vec_capacity claims.old }
-    ensures more { claims.new.items ≡ claims.old.items ++ map (empty_claim reader) (below blocks) }
-    ensures long { length claims.new.items ≡ length claims.old.items + blocks }
-    ensures room { vec_capacity claims.new ≡ vec_capacity claims.old }
-{
-    for index in 0..blocks {
-        claims.push_reserved(empty_claim(reader, index));
-    }
-}
-
-/// The reader has claimed nothing any more.
-fn drop_claims(claims: &mut Vec<Claimed>, reader: u8)
-    ensures left { claims.new.items ≡ filter (λ claim. not (is_claim_of reader claim)) claims.old.items }
-    ensures dropped { length claims.new.items + length (filter (is_claim_of reader) claims.old.items) ≡
-        length claims.old.items }
-    ensures room { vec_capacity claims.new ≡ vec_capacity claims.old }
-    ensures fewer { length claims.new.items ≤ length claims.old.items }
-{
-    claims.retain(|claim| !is_claim_of(claim, reader));
-}
-
-/// How many slots the reader has claimed.
-fn count_claims(claims: &[Claimed], reader: u8) -> usize
-    ensures what { result ≡ length (filter (is_claim_of reader) claims.now) }
-    ensures fewer { result ≤ length claims.now }
-{
-    claims
-        .iter()
-        .filter(|claim| is_claim_of(claim, reader))
-        .count()
-}
-
-/// What came lies in the slot, if this is claimed for the block of this index of the reader.
-fn fill_claim(claim: &mut Claimed, reader: u8, index: u16, body: &Block)
-    ensures { claim.new ≡ claim_filled reader index body.now claim.old }
-{
-    if claim.reader == reader && claim.index == index {
-        claim.body = *body;
-    }
-}
-
-/// What came for this block of the reader lies in its slot.
-fn fill_claims(claims: &mut [Claimed], reader: u8, index: u16, body: &Block)
-    ensures { claims.new ≡ map (claim_filled reader index body.now) claims.old }
-{
-    for claim in claims.iter_mut() {
-        fill_claim(claim, reader, index, body);
-    }
-}
-
-/// The page of a group for which the slot was claimed, from an address on.
-fn page_claimed(claim: &Claimed, key: Key, number: u64, size: u16) -> Pending
-    ensures { result ≡ page_claimed key number size claim.now }
-{
-    Pending {
-        key: key_at(key, claim.index),
-        number,
-        index: claim.index,
-        size,
-        written: None,
-        body: claim.body,
-    }
-}
-
-/// The pages of the group that takes the place of all that the reader claimed wait from now on.
-fn push_pages(
-    pages: &mut Vec<Pending>,
-    claims: &[Claimed],
-    reader: u8,
-    key: Key,
-    number: u64,
-    size: u16,
-)
-    requires { length pages.old.items + length claims.now ≤ vec_capacity pages.old }
-    ensures more { pages.new.items ≡
-        pages.old.items ++ map (page_claimed key number size) (filter (is_claim_of reader) claims.now) }
-    ensures long { length pages.new.items ≡
-        length pages.old.items + length (filter (is_claim_of reader) claims.now) }
-    ensures room { vec_capacity pages.new ≡ vec_capacity pages.old }
-{
-    for claim in claims.iter() {
-        if is_claim_of(claim, reader) {
-            pages.push_reserved(page_claimed(claim, key, number, size));
-        }
+    for flight in flights.iter_mut() {
+        *flight = flight_without_block(*flight, reader, index);
     }
 }
 
@@ -442,34 +250,13 @@ fn state_of_found(block: FoundBlock) -> BlockState
     }
 }
 
-/// Whether any of the blocks is bad.
-fn any_bad(blocks: &[FoundBlock]) -> bool
-    ensures { result ≡ list_any is_bad_found blocks.now }
-{
-    blocks.iter().any(|block| is_bad_found(*block))
-}
-
-/// Whether the block was found to be bad.
-fn is_bad_found(block: FoundBlock) -> bool
-    ensures { result ≡ is_bad_found block }
-{
-    match block {
-        FoundBlock::Free => false,
-        FoundBlock::Closed => false,
-        FoundBlock::Bad => true,
-    }
-}
-
-/// Dies with no job in flight and no block being filled.
-fn idle_books(alloc: Global, dies: u8) -> Result<Vec<Book>, AllocError>
-    ensures { IfOk result (λ v. v.items ≡ replicate dies idle_book) }
+/// Dies with no job in flight.
+fn idle_flights(alloc: Global, dies: u8) -> Result<Vec<Option<Flight>>, AllocError>
+    ensures { IfOk result (λ v. v.items ≡ replicate dies None) }
 {
     let mut all = Vec::with_capacity(alloc, dies as usize)?;
     for _ in 0..dies {
-        all.push(Book {
-            filling: None,
-            flight: None,
-        })?;
+        all.push(None)?;
     }
     Ok(all)
 }
@@ -559,24 +346,23 @@ impl Ftl {
             IsFound config cells is_bad found → IsOpenedTranslation config cells is_bad t → StopsRight f t) }
     {
         let numbers = config.numbers();
-        let dies = numbers.dies;
-        let slots = numbers.slots as usize;
+        let slots = numbers.slots;
+        let sizes = Sizes {
+            dies: numbers.dies,
+            blocks: numbers.blocks,
+            pages: numbers.pages,
+        };
         let states = states_of(alloc, found.blocks.as_slice())?;
-        let has_bad = any_bad(found.blocks.as_slice());
         let places = places_of(alloc, found.contents.as_slice())?;
         let mending = first_mending(&found);
         let next_mark = mark_number_behind(&found);
         let last = found.greatest_seen.min(LAST_NUMBER);
         Ok(Ftl {
+            blocks: BlockTable::new(alloc, sizes, states)?,
+            flights: idle_flights(alloc, sizes.dies)?,
+            places: UnitMap::new(config.copied(), places),
+            cache: Cache::new(alloc, slots, last)?,
             config,
-            states,
-            books: idle_books(alloc, dies)?,
-            has_bad,
-            places,
-            pages: Vec::with_capacity(alloc, slots)?,
-            claims: Vec::with_capacity(alloc, slots)?,
-            frontier: last,
-            last,
             pins: Vec::with_capacity(alloc, MOST_PINS)?,
             mending,
             lost: found.lost,
@@ -606,7 +392,7 @@ impl Ftl {
         ensures core { result ≡ is_locked self.now }
         ensures described { (t : Translation) → Describes self.now t → result ≡ is_layer_locked t }
     {
-        self.has_bad || self.last >= LAST_NUMBER
+        self.blocks.has_bad() || !self.cache.has_number()
     }
 
     /// The greatest number that was given: every pending group has one, and so has the repair under way.
@@ -616,7 +402,7 @@ impl Ftl {
         ensures core { result ≡ self.now.last }
         ensures described { (t : Translation) → Describes self.now t → result + 1 ≡ next_of_layer t.ledger }
     {
-        self.last
+        self.cache.last_number()
     }
 
     /// The number at or under which every group is durable.
@@ -624,7 +410,7 @@ impl Ftl {
         ensures core { result ≡ self.now.frontier }
         ensures described { (t : Translation) → Describes self.now t → result ≡ t.ledger.frontier }
     {
-        self.frontier
+        self.cache.frontier()
     }
 
     /// Whether something was accepted and is not durable.
@@ -633,7 +419,7 @@ impl Ftl {
         ensures core { result ≡ nat_lt 0 (length self.now.pages) }
         ensures described { (t : Translation) → Describes self.now t → result ≡ has_pending t }
     {
-        !self.pages.is_empty()
+        self.cache.pending() > 0
     }
 
     /// How many slots neither a pending group nor a claim holds.
@@ -642,7 +428,7 @@ impl Ftl {
         ensures core { result ≡ free_slots self.now }
         ensures described { (t : Translation) → Describes self.now t → result ≡ layer_slots t }
     {
-        self.config.numbers().slots as usize - self.pages.len() - self.claims.len()
+        self.cache.free_slots()
     }
 
     /// The unit; `None` where there is no such unit.
@@ -673,11 +459,15 @@ impl Ftl {
             (if result then claims_of_blocks reader (replicate blocks zero_block) else []) }
         ensures other_claims { (other : ℕ) → (other ≡ reader → ⊥) → claims_for self.new other ≡ claims_for self.old other }
     {
-        if self.free_slots() < blocks as usize {
-            return false;
-        }
-        push_claims(&mut self.claims, reader, blocks);
-        true
+        self.claim_slots(reader, blocks)
+    }
+
+    /// Claims the slots.
+    fn claim_slots(&mut self, reader: u8, blocks: u16) -> bool
+        ensures found { result ≡ nat_le blocks (free_slots self.old) }
+        ensures after { self.new ≡ (if result then claimed_all self.old reader blocks else self.old) }
+    {
+        self.cache.reserve(reader, blocks)
     }
 
     /// Gives back all slots that the reader has claimed.
@@ -688,7 +478,14 @@ impl Ftl {
         ensures claims { claims_for self.new reader ≡ [] }
         ensures other_claims { (other : ℕ) → (other ≡ reader → ⊥) → claims_for self.new other ≡ claims_for self.old other }
     {
-        drop_claims(&mut self.claims, reader);
+        self.release_slots(reader);
+    }
+
+    /// Gives the slots back.
+    fn release_slots(&mut self, reader: u8)
+        ensures { self.new ≡ released self.old reader }
+    {
+        self.cache.release(reader);
     }
 
     /// Puts a block that came into the slot that was claimed for it: that of this index of the reader.
@@ -700,7 +497,14 @@ impl Ftl {
             map (claim_filled reader index body.now) (claims_for self.old reader) }
         ensures other_claims { (other : ℕ) → (other ≡ reader → ⊥) → claims_for self.new other ≡ claims_for self.old other }
     {
-        fill_claims(self.claims.as_mut_slice(), reader, index, body);
+        self.fill_slot(reader, index, body);
+    }
+
+    /// Puts the block into its slot.
+    fn fill_slot(&mut self, reader: u8, index: u16, body: &Block)
+        ensures { self.new ≡ filled self.old reader index body.now }
+    {
+        self.cache.fill(reader, index, body);
     }
 
     /// What holds the content of the address after all pending groups: the slot of the last page of these,
@@ -708,7 +512,7 @@ impl Ftl {
     fn look(&self, key: Key) -> Looked
         ensures { result ≡ look_of self.now key }
     {
-        match last_page(self.pages.as_slice(), key) {
+        match self.cache.last_page(key) {
             Some(page) => Looked::Slot {
                 number: page.number,
                 index: page.index,
@@ -721,15 +525,7 @@ impl Ftl {
     pub(super) fn stored(&self, key: Key) -> Option<Stored>
         ensures { result ≡ stored_of self.now key }
     {
-        let index = self.position(key)?;
-        self.places.get(index).copied().flatten()
-    }
-
-    /// The position of the key among those of the device.
-    pub(super) fn position(&self, key: Key) -> Option<usize>
-        ensures { result ≡ position_of self.now.numbers key }
-    {
-        key_index(self.config.numbers(), key)
+        self.places.get(key)
     }
 
     /// Keeps for this reader what each of so many addresses has now, from this one on. The reader is owed
@@ -801,8 +597,15 @@ impl Ftl {
             Describes self.new (moved (moved t (Acknowledge count)) (LetGoAll reader)) }
         ensures same_claims { claims_for self.new ≡ claims_for self.old }
     {
-        forget_reader(self.books.as_mut_slice(), reader);
+        self.forget(reader);
         drop_pins(&mut self.pins, reader);
+    }
+
+    /// No die reads for the reader any more.
+    fn forget(&mut self, reader: u8)
+        ensures { self.new ≡ record self.old { books = map (without_reader reader) self.old.books } }
+    {
+        forget_reader(self.flights.as_mut_slice(), reader);
     }
 
     /// The reader keeps this block no more, and wants the next one.
@@ -812,9 +615,16 @@ impl Ftl {
             Describes self.new (moved (moved t (LetGo reader index)) (WantPage reader (index + 1))) }
         ensures same_claims { claims_for self.new ≡ claims_for self.old }
     {
-        forget_block(self.books.as_mut_slice(), reader, index);
+        self.forget_one(reader, index);
         drop_pin(&mut self.pins, reader, index);
         want(self.pins.as_mut_slice(), reader, index as usize + 1);
+    }
+
+    /// No die reads for this block of the reader any more.
+    fn forget_one(&mut self, reader: u8, index: u16)
+        ensures { self.new ≡ record self.old { books = map (without_block reader index) self.old.books } }
+    {
+        forget_block(self.flights.as_mut_slice(), reader, index);
     }
 
     /// What is looked at for this block of the reader; `None` where nothing is kept.
@@ -844,8 +654,8 @@ impl Ftl {
             t.ledger.frontier < number → entry_of t.ledger (name_at number index) ≡ Some e →
             option_copied result ≡ Some e.item.body }
     {
-        let page = page_named(self.pages.as_slice(), number, index)?;
-        Some(&page.body)
+        let page = self.cache.page_named(number, index)?;
+        Some(page.body.block())
     }
 
     /// Puts the group of the blocks that came for this reader behind all that are pending, in the place of
@@ -868,26 +678,15 @@ impl Ftl {
         ensures other_claims { (other : ℕ) → (other ≡ reader → ⊥) → claims_for self.new other ≡ claims_for self.old other }
     {
         self.has_numbers_in_range();
-        let number = self.next_number();
-        let size = count_claims(self.claims.as_slice(), reader) as u16;
-        push_pages(
-            &mut self.pages,
-            self.claims.as_slice(),
-            reader,
-            key,
-            number,
-            size,
-        );
-        drop_claims(&mut self.claims, reader);
-        self.last = number;
-        number
+        self.append(reader, key)
     }
 
-    /// The number of the next group.
-    pub(super) fn next_number(&self) -> u64
-        requires { IsTrue (has_number self.now) }
-        ensures { result ≡ next_number self.now }
+    /// Puts the group behind all that are pending.
+    fn append(&mut self, reader: u8, key: Key) -> u64
+        requires { IsTrue (has_number self.old) }
+        ensures number { result ≡ next_number self.old }
+        ensures after { self.new ≡ accepted self.old reader key }
     {
-        self.last + 1
+        self.cache.append(reader, key)
     }
 }

@@ -1,10 +1,11 @@
 //! The comparison, on blocks that are a prefix of what was written and on blocks that are none, and what a
 //! journal takes from messages.
 use crate::{Journal, is_kept};
+use geometry::Config;
 use std::alloc::Global;
 use std::process::Abort;
 use std::test::Fail;
-use ufs_spec::{Block, Cmd, Config, UnitSpec};
+use ufs_spec::{Block, Cmd, UnitSpec};
 
 /// Two units, of 4 and of 2 blocks.
 fn config() -> Result<Config, Fail> {

@@ -2,10 +2,11 @@
 ghost use Rattle.std.specs.Prelude.{◌<◌, ◌≤◌, ◌^◌};
 
 use crate::fault::{Fault, expect};
+use geometry::Config;
 use nand_model::{Die, MemDie};
 use page_tag::{mark_body, seal};
 use std::alloc::Global;
-use ufs_spec::{Config, ConfigFault, Job, NoMemory, Page, Place, Tag, UnitSpec};
+use ufs_spec::{ConfigFault, Job, NoMemory, Page, Place, Tag, UnitSpec};
 
 /// How many blocks a die has, and how many pages a block.
 pub const BLOCKS: u16 = 20;

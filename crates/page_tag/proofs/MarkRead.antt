@@ -6,14 +6,14 @@ use Rattle.std.proofs.lemmas.List.{drop-drop, get_or_append_left, get_or_push, t
 use Rattle.byteorder.specs.Endian.{big_number}
 use Rattle.arrayvec.specs.ArrayVec.{ArrayVec}
 use Rattle.ufs_spec.specs.Cells.{IsMarkBody, UnitFits}
-use Rattle.ufs_spec.specs.Fields.{field_at}
+use Rattle.ufs_bytes.specs.Fields.{field_at}
 use Rattle.ufs_spec.specs.Messages.{AreBytes}
 use Rattle.ufs_spec.specs.Pages.{mark_bytes, zero_filled}
 use Rattle.ufs_spec.specs.declared.configs.Numbers.{Numbers}
 use Rattle.ufs_spec.specs.declared.configs.UnitSpec.{UnitSpec}
 use Rattle.ufs_spec.specs.declared.flash.Fence.{Fence}
 use Rattle.ufs_spec.proofs.Facts.{at_most, cond-true, cond-false, eq-eqb, false_from_ne_true, eqb-true}
-use Rattle.ufs_spec.proofs.FieldRanges.{field_fits}
+use Rattle.ufs_bytes.proofs.FieldRanges.{field_fits}
 use Rattle.ufs_laws.proofs.pages.ByteLists.{bytes-drop}
 use Rattle.ufs_laws.proofs.pages.MarkBodies.{fence_of_mark, numbers_in, numbers_of_mark, unit_in, unit_of_mark}
 

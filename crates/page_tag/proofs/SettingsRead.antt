@@ -6,11 +6,11 @@ use Rattle.std.specs.Str.{bytes_eq}
 use Rattle.std.proofs.lemmas.List.{drop_at, take_at}
 use Rattle.std.proofs.lemmas.Slice.Eq.{bytes_eq-Decides}
 use Rattle.byteorder.specs.Endian.{big_bytes}
-use Rattle.ufs_spec.specs.Fields.{field_at, with_field}
+use Rattle.ufs_bytes.specs.Fields.{field_at, with_field}
 use Rattle.ufs_spec.specs.Keys.{IsSettingsBody, key_bytes, key_in, settings_bytes}
 use Rattle.ufs_spec.specs.Messages.{AreBytes}
 use Rattle.ufs_spec.proofs.Facts.{none-some, same_Some}
-use Rattle.ufs_spec.proofs.FieldRanges.{field_fits}
+use Rattle.ufs_bytes.proofs.FieldRanges.{field_fits}
 use Rattle.ufs_laws.proofs.pages.ByteLists.{bytes-drop, bytes-take}
 use Rattle.ufs_laws.proofs.pages.SettingsBodies.{written_again}
 

@@ -2,7 +2,8 @@
 ghost use Rattle.std.specs.Prelude.{◌≡◌, ◌^◌, ◌<◌, ◌≤◌, ◌↔◌, IsTrue};
 ghost use Rattle.ufs_spec.specs.Pages.{IsTag, spare_front, tag_in};
 
-use ufs_spec::{Tag, read_u32, read_u64, write_u32, write_u64};
+use ufs_bytes::{read_u32, read_u64, write_u32, write_u64};
+use ufs_spec::Tag;
 
 const MAGIC: &[u8; 4] = b"UFSP";
 

@@ -2,7 +2,8 @@
 ghost use Rattle.std.specs.Prelude.{◌≡◌, ◌++◌};
 ghost use Rattle.ufs_spec.specs.Pages.{fence_bytes, mark_bytes, numbers_bytes, unit_bytes};
 
-use ufs_spec::{Block, Fence, Numbers, UnitSpec, write_u16, write_u32, write_u64};
+use ufs_bytes::{Block, write_u16, write_u32, write_u64};
+use ufs_spec::{Fence, Numbers, UnitSpec};
 
 /// Where the entries of the units begin.
 pub const ENTRIES: usize = 32;

@@ -1,6 +1,6 @@
 //! What the body of a mark says: the numbers of the configuration and perhaps a fence.
 ghost use Rattle.std.specs.Prelude.{◌≡◌, ◌≤◌, ◌+◌, ◌↔◌, None, Option, Some, All, IfSome, IsTrue, length, slice_index};
-ghost use Rattle.ufs_spec.specs.Fields.{field_at};
+ghost use Rattle.ufs_bytes.specs.Fields.{field_at};
 ghost use Rattle.ufs_spec.specs.Cells.{IsFence, IsMarkBody, NumbersFit, UnitFits};
 ghost use Rattle.ufs_spec.specs.declared.configs.Numbers.{Numbers};
 ghost use Rattle.ufs_spec.specs.declared.flash.Fence.{Fence};
@@ -8,7 +8,8 @@ ghost use Rattle.ufs_spec.specs.declared.flash.Fence.{Fence};
 use crate::contents::Mark;
 use crate::mark::{ENTRIES, ENTRY, mark_body};
 use arrayvec::ArrayVec;
-use ufs_spec::{Block, Fence, Numbers, Opened, UnitSpec, read_u16, read_u32, read_u64};
+use ufs_bytes::{Block, read_u16, read_u32, read_u64};
+use ufs_spec::{Fence, Numbers, Opened, UnitSpec};
 
 // How many units a device has at most.
 const MOST_UNITS: u8 = 8;

@@ -1,10 +1,10 @@
 //! The data of a settings page: the boot setting, fPermanentWPEn, the RPMB key, the write counter.
 ghost use Rattle.std.specs.Prelude.{◌≡◌, ◌++◌, ◌∷◌, ◌==◌, ◌↔◌, [], IfSome, IsTrue, length, slice_index};
 ghost use Rattle.byteorder.specs.Endian.{big_bytes};
-ghost use Rattle.ufs_spec.specs.Fields.{field_at};
+ghost use Rattle.ufs_bytes.specs.Fields.{field_at};
 ghost use Rattle.ufs_spec.specs.Keys.{IsSettingsBody, flag_byte, key_bytes, key_in, settings_bytes};
 
-use ufs_spec::{Block, read_u32, write_u32};
+use ufs_bytes::{Block, read_u32, write_u32};
 
 // Where the key and the counter begin, and where the zeros behind them do.
 const KEY: usize = 4;

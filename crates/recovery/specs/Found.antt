@@ -14,7 +14,8 @@ use Rattle.ufs_spec.specs.declared.faults.OpenFault.{OpenFault}
 use Rattle.ufs_spec.specs.declared.faults.OpenFault.TheVariants as fault
 use Rattle.ufs_spec.specs.declared.flash.Key.{Key}
 use Rattle.page_tag.specs.Contents.{mark_of}
-use Rattle.recovery.specs.KeysInOrder.{IsIndex, state_of_found}
+use Rattle.geometry.specs.Keys.{IsIndex}
+use Rattle.recovery.specs.KeysInOrder.{state_of_found}
 use Rattle.recovery.specs.Listed.{AreInRange, IsContentPage}
 use Rattle.recovery.specs.Reading.{IsReadingFault}
 use Rattle.recovery.specs.declared.keys.FoundBlock.{FoundBlock}

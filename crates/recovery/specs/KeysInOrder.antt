@@ -1,10 +1,10 @@
--- The keys of a device in order, each at its index, and what is computed of keys (this profile).
-use Rattle.std.specs.Prelude.{◌≡◌, ◌≢◌, ◌⊎◌, ℕ, ◌+◌, ◌<◌, ◌≤◌, ◌==◌, ◌&&◌, Bool, true, false, List, Option, Some, None}
-use Rattle.std.specs.Prelude.{if◌then◌else◌, length, nat_le, nat_lt, not, slice_get, slice_index_or, sum, take}
+-- What is computed of the keys of pages that were found (this profile).
+use Rattle.std.specs.Prelude.{◌≡◌, ◌≢◌, ◌⊎◌, ℕ, ◌<◌, ◌≤◌, ◌&&◌, Bool, true, false, List, Option, Some, None}
+use Rattle.std.specs.Prelude.{if◌then◌else◌, nat_le, nat_lt, not, slice_get}
 use Rattle.ufs_spec.specs.Cells.{Cells, GroupPage, Nothing, key_of}
 use Rattle.ufs_spec.specs.Disk.{BlockState, Spot, spot_of}
 use Rattle.ufs_spec.specs.Disk as disk
-use Rattle.ufs_spec.specs.Keys.{IsKey, area_pages, same_key}
+use Rattle.ufs_spec.specs.Keys.{IsKey, same_key}
 use Rattle.ufs_spec.specs.Kept.{IsFenced}
 use Rattle.ufs_spec.specs.Openings.{IsBefore}
 use Rattle.ufs_spec.specs.Plain.{Shape}
@@ -12,43 +12,12 @@ use Rattle.ufs_spec.specs.declared.flash.Fence.{Fence}
 use Rattle.ufs_spec.specs.declared.flash.Key.{Key}
 use Rattle.ufs_spec.specs.declared.flash.Place.{Place}
 use Rattle.ufs_spec.specs.declared.flash.Tag.{Tag}
+use Rattle.geometry.specs.Keys.{IsIndex}
 use Rattle.recovery.specs.declared.keys.FoundBlock.{FoundBlock}
 use Rattle.recovery.specs.declared.keys.FoundBlock.TheVariants.{Bad, Closed, Free}
 use Rattle.recovery.specs.declared.pages.FoundPage.{FoundPage}
 
--- Indexes
-
--- how many keys there are: the blocks of all units, the pages of the RPMB area, and the settings
-abbrev pub key_total : Shape → ℕ
-key_total s = sum s.blocks + area_pages s + 1
-
--- the key stands at this index: the blocks of each unit behind those of the units before it, then the pages of the RPMB
--- area, then the settings
-pub data IsIndex (s : Shape) (k : Key) (i : ℕ) : Type 0 where
-  AtData : k.kind ≡ 1 → k.unit < length s.blocks → k.address < slice_index_or s.blocks k.unit 0 →
-      i ≡ sum (take k.unit s.blocks) + k.address → IsIndex s k i
-  AtArea : k.kind ≡ 2 → k.unit ≡ 0 → k.address < area_pages s → i ≡ sum s.blocks + k.address → IsIndex s k i
-  AtSettings : k.kind ≡ 3 → k.unit ≡ 0 → k.address ≡ 0 → i ≡ sum s.blocks + area_pages s → IsIndex s k i
-
--- the same as a function
-abbrev pub data_index : Shape → Key → Option ℕ
-data_index s k =
-    if nat_lt k.unit (length s.blocks) && nat_lt k.address (slice_index_or s.blocks k.unit 0)
-    then Some (sum (take k.unit s.blocks) + k.address)
-    else None
-
-abbrev pub area_index : Shape → Key → Option ℕ
-area_index s k = if (k.unit == 0) && nat_lt k.address (area_pages s) then Some (sum s.blocks + k.address) else None
-
-abbrev pub settings_index : Shape → Key → Option ℕ
-settings_index s k = if (k.unit == 0) && (k.address == 0) then Some (sum s.blocks + area_pages s) else None
-
-abbrev pub index_of : Shape → Key → Option ℕ
-index_of s k =
-    if k.kind == 1 then data_index s k
-    else if k.kind == 2 then area_index s k
-    else if k.kind == 3 then settings_index s k
-    else None
+-- Keys that the device has
 
 -- the device has the key of each page
 abbrev pub AreKnown : Shape → Cells → Type 0

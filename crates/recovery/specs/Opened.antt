@@ -10,7 +10,8 @@ use Rattle.ufs_spec.specs.declared.flash.Fence.{Fence}
 use Rattle.ufs_spec.specs.declared.flash.Key.{Key}
 use Rattle.ufs_spec.specs.declared.flash.Place.{Place}
 use Rattle.recovery.specs.Found.{newest_found}
-use Rattle.recovery.specs.KeysInOrder.{IsIndex, state_of_found}
+use Rattle.geometry.specs.Keys.{IsIndex}
+use Rattle.recovery.specs.KeysInOrder.{state_of_found}
 use Rattle.recovery.specs.declared.keys.FoundBlock.{FoundBlock}
 use Rattle.recovery.specs.declared.pages.FoundPage.{FoundPage}
 use Rattle.recovery.specs.declared.found.Found.{Found}

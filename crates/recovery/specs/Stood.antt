@@ -6,7 +6,7 @@ use Rattle.ufs_spec.specs.Kept.{StandsFor}
 use Rattle.ufs_spec.specs.Plain.{Plain, shape_of_numbers, zero_block}
 use Rattle.ufs_spec.specs.declared.configs.Numbers.{Numbers}
 use Rattle.ufs_spec.specs.declared.flash.Key.{Key}
-use Rattle.recovery.specs.KeysInOrder.{IsIndex}
+use Rattle.geometry.specs.Keys.{IsIndex}
 use Rattle.recovery.specs.declared.found.Found.{Found}
 use Rattle.recovery.specs.declared.pages.FoundPage.{FoundPage}
 

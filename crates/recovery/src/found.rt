@@ -22,10 +22,11 @@ use crate::keys::{FoundBlock, are_known, block_states, content_pages, lost_keys}
 use crate::pages::FoundPage;
 use crate::reading::{Table, read_all};
 use crate::settings::is_permanent;
+use geometry::Config;
 use nand_model::Die;
 use page_tag::Mark;
 use std::alloc::{AllocError, Global};
-use ufs_spec::{Config, Fence, Key, Numbers, OpenFault};
+use ufs_spec::{Fence, Key, Numbers, OpenFault};
 
 /// What the dies stand for.
 #[derive(Drop)]

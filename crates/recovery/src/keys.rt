@@ -1,25 +1,21 @@
-//! The keys of a device in order, the page that has the content of each, and the keys with a lost
-//! page.
-ghost use Rattle.std.specs.Prelude.{◌≡◌, ◌↔◌, ℕ, ◌+◌, ◌*◌, ◌/◌, ◌<◌, ◌≤◌, ◌^◌, Bool, true, false, None, replicate, IfOk, IfSome, IsTrue, MatchOption, Option, Some, List, length, map, sum, take, slice_get, slice_index_or};
+//! The page that has the content of each key, and the keys with a lost page.
+ghost use Rattle.std.specs.Prelude.{◌≡◌, ◌↔◌, ℕ, ◌≤◌, Bool, true, false, None, replicate, IfOk, IsTrue, Option, Some, List, length, slice_get};
 ghost use Rattle.ufs_spec.specs.Cells.{Cells, GroupPage, Mark, key_of};
 ghost use Rattle.ufs_spec.specs.Disk.{Spot};
-ghost use Rattle.ufs_spec.specs.Keys.{IsKey, area_pages};
 ghost use Rattle.ufs_spec.specs.Kept.{fence_in};
-ghost use Rattle.ufs_spec.specs.Openings.{AreLost, IsBefore, IsBlockState};
+ghost use Rattle.ufs_spec.specs.Openings.{AreLost, IsBlockState};
 ghost use Rattle.ufs_spec.specs.Plain.{shape_of_numbers};
-ghost use Rattle.ufs_spec.specs.declared.configs.UnitSpec.{UnitSpec};
 ghost use Rattle.ufs_spec.specs.declared.flash.Place.{Place};
 ghost use Rattle.ufs_spec.specs.declared.flash.Key.{Key};
 ghost use Rattle.ufs_spec.specs.declared.flash.Tag.{Tag};
-ghost use Rattle.recovery.specs.KeysInOrder.{AreKnown, AreMarked, IsIndex, IsLostAmong, TellsUse, found_block, index_of, is_fenced, is_newer, key_total, state_of_found, with_page};
+ghost use Rattle.geometry.specs.Keys.{IsIndex, key_total};
+ghost use Rattle.recovery.specs.KeysInOrder.{AreKnown, AreMarked, IsLostAmong, TellsUse, found_block, is_fenced, is_newer, state_of_found, with_page};
 ghost use Rattle.recovery.specs.Listed.{AreListed, IsContentPage};
 
 use crate::pages::FoundPage;
+use geometry::{key_at, key_count, key_index};
 use std::alloc::{AllocError, Global};
-use ufs_spec::{Fence, Key, Numbers, Tag, UnitSpec};
-
-/// How many pages 128 KiB of the RPMB area have.
-const PAGES_A_STEP: usize = 32;
+use ufs_spec::{Fence, Key, Numbers, Tag};
 
 /// What a block is when a device is opened over written dies.
 #[derive(Clone, Copy, Debug, PartialEq, Eq)]
@@ -30,123 +26,6 @@ pub enum FoundBlock {
     Closed,
     /// It is bad.
     Bad,
-}
-
-/// How many keys a device with these numbers has.
-pub fn key_count(numbers: &Numbers) -> usize
-    ensures count { result ≡ key_total (shape_of_numbers numbers.now) }
-    ensures small { result ≤ 2 ^ 36 }
-{
-    settings_index(numbers) + 1
-}
-
-/// The index of the settings, which stand last.
-pub(crate) fn settings_index(numbers: &Numbers) -> usize
-    ensures value { let s = shape_of_numbers numbers.now in result ≡ sum s.blocks + area_pages s }
-    ensures small { result < 2 ^ 36 }
-{
-    block_count(numbers.units.as_slice()) + area_count(numbers)
-}
-
-/// How many pages the RPMB area has.
-fn area_count(numbers: &Numbers) -> usize
-    ensures value { result ≡ area_pages (shape_of_numbers numbers.now) }
-    ensures small { result < 2 ^ 13 }
-{
-    PAGES_A_STEP * numbers.rpmb as usize
-}
-
-/// How many blocks the units have together.
-fn block_count(units: &[UnitSpec]) -> usize
-    requires { length units.now ≤ 8 }
-    ensures count { result ≡ sum (map (λ (u : UnitSpec). u.blocks) units.now) }
-    ensures small { result ≤ 2 ^ 35 }
-{
-    let mut count = 0;
-    for unit in units {
-        count += unit.blocks as usize;
-    }
-    count
-}
-
-/// The index of the key among the keys of the device, which stand by kind, then by unit, then by
-/// address; `None` if the device has not this key.
-pub fn key_index(numbers: &Numbers, key: Key) -> Option<usize>
-    ensures is { let s = shape_of_numbers numbers.now in
-        MatchOption result (IsKey s key → ⊥) (λ i. IsIndex s key i) }
-    ensures known { let s = shape_of_numbers numbers.now in
-        IfSome result (λ i. IsKey s key × (i < key_total s)) }
-    ensures order { let s = shape_of_numbers numbers.now in
-        IfSome result (λ i. (other : Key) (j : ℕ) → IsIndex s other j →
-        (i < j) ↔ IsBefore key other) }
-    ensures value { result ≡ index_of (shape_of_numbers numbers.now) key }
-{
-    match key.kind {
-        Tag::DATA => data_index(numbers.units.as_slice(), key.unit, key.address),
-        Tag::RPMB_AREA => area_index(numbers, key.unit, key.address),
-        Tag::SETTINGS if key.unit == 0 && key.address == 0 => Some(settings_index(numbers)),
-        _ => None,
-    }
-}
-
-/// The index of a block of a unit; `None` if the unit is not there or is smaller.
-fn data_index(units: &[UnitSpec], unit: u8, address: u32) -> Option<usize>
-    requires { length units.now ≤ 8 }
-    ensures { let blocks = map (λ (u : UnitSpec). u.blocks) units.now in
-        MatchOption result
-        ((unit < length blocks) → (address < slice_index_or blocks unit 0) → ⊥)
-        (λ i. (unit < length blocks) × (address < slice_index_or blocks unit 0)
-        × (i ≡ sum (take unit blocks) + address)) }
-{
-    let unit = unit as usize;
-    if unit >= units.len() || address >= units[unit].blocks {
-        return None;
-    }
-    Some(block_count(&units[..unit]) + address as usize)
-}
-
-/// The index of a page of the RPMB area; `None` if the area is smaller.
-fn area_index(numbers: &Numbers, unit: u8, page: u32) -> Option<usize>
-    ensures { let s = shape_of_numbers numbers.now in
-        MatchOption result
-        (unit ≡ 0 → page < area_pages s → ⊥)
-        (λ i. (unit ≡ 0) × (page < area_pages s) × (i ≡ sum s.blocks + page)) }
-{
-    if unit != 0 || page as usize >= area_count(numbers) {
-        return None;
-    }
-    Some(block_count(numbers.units.as_slice()) + page as usize)
-}
-
-/// The key at an index.
-pub fn key_at(numbers: &Numbers, index: usize) -> Key
-    requires { index < key_total (shape_of_numbers numbers.now) }
-    ensures { IsIndex (shape_of_numbers numbers.now) result index }
-{
-    let mut rest = index;
-    for (unit, spec) in numbers.units.as_slice().iter().enumerate() {
-        let blocks = spec.blocks as usize;
-        if rest < blocks {
-            return Key {
-                kind: Tag::DATA,
-                unit: unit as u8,
-                address: rest as u32,
-            };
-        }
-        rest -= blocks;
-    }
-    if rest < area_count(numbers) {
-        return Key {
-            kind: Tag::RPMB_AREA,
-            unit: 0,
-            address: rest as u32,
-        };
-    }
-    Key {
-        kind: Tag::SETTINGS,
-        unit: 0,
-        address: 0,
-    }
 }
 
 /// Whose content the page holds.

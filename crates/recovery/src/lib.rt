@@ -11,5 +11,5 @@ mod settings;
 
 pub use blocks::bad_blocks;
 pub use found::{Found, scan};
-pub use keys::{FoundBlock, key_at, key_count, key_index};
+pub use keys::FoundBlock;
 pub use pages::FoundPage;

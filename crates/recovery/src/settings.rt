@@ -12,9 +12,9 @@ ghost use Rattle.recovery.specs.Reading.{IsReadingFault};
 ghost use Rattle.recovery.specs.declared.pages.FoundPage.{FoundPage};
 
 use crate::found::Found;
-use crate::keys::settings_index;
 use crate::pages::FoundPage;
 use crate::reading::fetch;
+use geometry::settings_index;
 use nand_model::Die;
 use ufs_spec::{Numbers, OpenFault, Page, Place};
 

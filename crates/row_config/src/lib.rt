@@ -8,8 +8,9 @@ ghost use Rattle.ufs_spec.specs.Plain.{shape_of_numbers};
 
 mod sizes;
 
+use geometry::Config;
 pub use sizes::fit;
-use ufs_spec::{Config, ConfigFault, UnitSpec};
+use ufs_spec::{ConfigFault, UnitSpec};
 
 /// 4 dies of 16 blocks of 64 pages, units of 256, 64 and 64 blocks, the last two of them boot units, one
 /// step of RPMB, 64 slots, 4 spare blocks.

@@ -4,8 +4,8 @@ ghost use Rattle.std.specs.List.{All};
 ghost use Rattle.ufs_spec.specs.Dies.{IsOfSize};
 ghost use Rattle.ufs_spec.specs.Lives.{Fit};
 
+use geometry::Config;
 use nand_model::Die;
-use ufs_spec::Config;
 
 /// Whether the dies are as many and as large as the configuration says.
 pub fn fit<D: Die>(config: &Config, dies: &[D]) -> bool

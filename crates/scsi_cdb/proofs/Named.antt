@@ -3,7 +3,7 @@ use Rattle.std.proofs.Common.{◌≡◌, ◌<◌, ◌^◌, ◌==◌, ℕ, Bool, 
 use Rattle.std.proofs.Common.{None, sym, ap, ◌∙◌, subst, arith}
 use Rattle.std.proofs.lemmas.Nat.{and_le_r}
 use Rattle.ufs_spec.proofs.CdbsBack.{again}
-use Rattle.ufs_spec.specs.Fields.{field_at}
+use Rattle.ufs_bytes.specs.Fields.{field_at}
 use Rattle.ufs_spec.specs.Cdbs.{IsCdb}
 use Rattle.ufs_spec.specs.declared.scsi.Cdb.{Cdb}
 use Rattle.ufs_spec.specs.declared.scsi.Cdb.TheVariants.{TestUnitReady, RequestSense, Read6, Write6, Inquiry}
@@ -12,7 +12,7 @@ use Rattle.ufs_spec.specs.declared.scsi.Cdb.TheVariants.{ReportLuns, SecurityIn,
 use Rattle.ufs_spec.specs.CdbFields.{is_forced, is_immediate, named_cdb, named_six, named_ten, named_twelve}
 use Rattle.ufs_spec.specs.CdbFields.{six_address}
 use Rattle.scsi_cdb.specs.Reading.{HasSelection, Writes}
-use Rattle.ufs_spec.proofs.FieldRanges.{field_fits}
+use Rattle.ufs_bytes.proofs.FieldRanges.{field_fits}
 use Rattle.ufs_spec.proofs.Facts.{none-some, same_Some}
 
 -- ## What is read again from the bytes of a command

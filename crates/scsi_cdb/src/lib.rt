@@ -11,7 +11,8 @@ ghost use Rattle.scsi_cdb.specs.Reading.{HasSelection, Writes};
 pub use demands::{address_of, blocks_of, length_of};
 pub use laws::{one_cdb, one_operation, worked_bytes, worked_residuals};
 pub use spelling::bytes_of;
-use ufs_spec::{Cdb, Sense, read_u16, read_u32};
+use ufs_bytes::{read_u16, read_u32};
+use ufs_spec::{Cdb, Sense};
 
 mod demands;
 mod laws;

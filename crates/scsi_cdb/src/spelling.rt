@@ -8,7 +8,8 @@ use crate::operations::{
     SECURITY_OUT, SYNCHRONIZE_CACHE_10, TEST_UNIT_READY, UNMAP, WRITE_6, WRITE_10,
 };
 use crate::{FUA, IMMED};
-use ufs_spec::{Cdb, write_u16, write_u32};
+use ufs_bytes::{write_u16, write_u32};
+use ufs_spec::Cdb;
 
 /// The sixteen bytes of a command.
 pub fn bytes_of(cdb: &Cdb) -> [u8; 16]

@@ -6,7 +6,7 @@ use Rattle.byteorder.specs.Numbers.{big_number-reads_back}
 use Rattle.byteorder.specs.Endian.{big_bytes, big_from}
 use Rattle.ufs_spec.proofs.Facts.{same_Some}
 use Rattle.ufs_spec.specs.CdbFields.{is_forced, is_immediate, named_cdb, six_address}
-use Rattle.ufs_spec.specs.Fields.{field_at}
+use Rattle.ufs_bytes.specs.Fields.{field_at}
 use Rattle.ufs_spec.specs.Cdbs.{IsCdb, cdb_bytes, forced_bit, immediate_bit, operation_of, read_10, read_6}
 use Rattle.ufs_spec.specs.Cdbs.{synchronize_cache_10, ten_bytes, write_10, write_6}
 use Rattle.ufs_spec.specs.declared.scsi.Cdb.{Cdb}

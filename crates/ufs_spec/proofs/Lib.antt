@@ -3,7 +3,6 @@ pub mod CellKinds
 pub mod ConfigFacts
 pub mod Equalities
 pub mod Facts
-pub mod FieldRanges
 pub mod Lists
 pub mod PlainFacts
 pub mod ReadBack

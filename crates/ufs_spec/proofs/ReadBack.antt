@@ -4,7 +4,7 @@ use Rattle.std.proofs.Common.{slice_index, slice_range, Option, Some, None, refl
 use Rattle.std.proofs.lemmas.List.{append-nil, take_all, take_at}
 use Rattle.byteorder.specs.Numbers.{big_number-reads_back}
 use Rattle.arrayvec.specs.ArrayVec.{ArrayVec}
-use Rattle.ufs_spec.specs.Fields.{field_at}
+use Rattle.ufs_bytes.specs.Fields.{field_at}
 use Rattle.ufs_spec.specs.Messages.{IsMessage, IsSense, code_of, padding, segment_length, spelling, zeros}
 use Rattle.ufs_spec.specs.declared.messages.Asked.{Asked}
 use Rattle.ufs_spec.specs.declared.messages.Message.{Message}

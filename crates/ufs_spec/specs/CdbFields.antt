@@ -1,7 +1,7 @@
 -- What the fields of a CDB name, whether or not the bytes are written so.
 use Rattle.std.specs.Prelude.{ℕ, List, Bool, not, nat_lt, ◌==◌, bit_and, slice_index, if◌then◌else◌, Option}
 use Rattle.std.specs.Prelude.{Some, None}
-use Rattle.ufs_spec.specs.Fields.{field_at}
+use Rattle.ufs_bytes.specs.Fields.{field_at}
 use Rattle.ufs_spec.specs.Cdbs.{test_unit_ready, request_sense, read_6, write_6, inquiry}
 use Rattle.ufs_spec.specs.Cdbs.{read_capacity_10, read_10, write_10, synchronize_cache_10, unmap, report_luns}
 use Rattle.ufs_spec.specs.Cdbs.{security_in, security_out}

@@ -6,7 +6,7 @@ use Rattle.std.specs.Prelude.{if◌then◌else◌, List, [], ◌∷◌, ◌++◌
 use Rattle.std.specs.Prelude.{slice_index_or, Option, Some, None}
 use Rattle.std.specs.List.{flat_map}
 use Rattle.byteorder.specs.Endian.{big_bytes}
-use Rattle.ufs_spec.specs.Fields.{field_at}
+use Rattle.ufs_bytes.specs.Fields.{field_at}
 use Rattle.ufs_spec.specs.Messages.{AreBytes}
 use Rattle.ufs_spec.specs.Pages.{zero_filled}
 use Rattle.ufs_spec.specs.Plain.{Plain, Shape, CanApply, block_at, apply, shape_of}

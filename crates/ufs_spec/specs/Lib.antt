@@ -7,7 +7,6 @@ pub mod DieLaws
 pub mod Dies
 pub mod Disk
 pub mod Exchanges
-pub mod Fields
 pub mod Frames
 pub mod Kept
 pub mod Keys

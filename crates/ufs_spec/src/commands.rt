@@ -1,5 +1,5 @@
 //! What a host can change on a device, as commands with their data.
-use crate::fields::Block;
+use ufs_bytes::Block;
 
 /// A command that changes what the device holds (JESD220, 10.8 logical units, 12.4 RPMB).
 #[derive(Drop)]

@@ -1,8 +1,8 @@
 //! What happens to a device with its dies, and what each event shows.
 use crate::faults::HostFault;
-use crate::fields::Upiu;
 use crate::flash::{Job, Page, Place};
 use thiserror::Error;
+use ufs_bytes::Upiu;
 
 /// What an interrupted or failed job leaves: the one page, or all pages of the one block, that it
 /// touched.

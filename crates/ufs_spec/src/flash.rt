@@ -1,5 +1,5 @@
 //! What lies on a die, and what is asked of it.
-use crate::fields::Block;
+use ufs_bytes::Block;
 
 /// A page of a die: 4096 bytes and 96 spare bytes.
 #[derive(Clone, Copy, PartialEq, Eq)]

@@ -6,9 +6,9 @@ ghost use Rattle.ufs_spec.specs.Plain.{Plain, zero_block, zero_area, area_len, z
 use crate::commands::Cmd;
 use crate::configs::{Numbers, UnitSpec};
 use crate::faults::NoMemory;
-use crate::fields::Block;
 use std::alloc::{AllocError, Global};
 use std::marker::Model;
+use ufs_bytes::Block;
 
 /// What a device holds: the blocks of each unit, the boot setting, permanent protection, and the
 /// RPMB key, area and counter (JESD220, 10.8 and 12.4). Only `new` takes memory.

@@ -4,10 +4,11 @@ use crate::fault::Word;
 use crate::reading::{Visit, blocks_held};
 use crate::stopped::{CONTENTS, copied_dies, has_bad, is_at_work, pair_stopped, stopped_dies};
 use device::World;
+use geometry::Config;
 use journal::{Journal, is_kept};
 use nand_model::MemDie;
 use std::alloc::Global;
-use ufs_spec::{Block, Config, Event, Job, Output};
+use ufs_spec::{Block, Event, Job, Output};
 
 /// Which stops are tried at a program or an erase.
 #[derive(Clone, Copy, PartialEq, Eq)]

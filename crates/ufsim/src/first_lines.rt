@@ -4,9 +4,10 @@ use crate::lines::{Line, Lines};
 use crate::words::{Words, expect};
 use arrayvec::ArrayVec;
 use device::World;
+use geometry::Config;
 use nand_model::MemDie;
 use std::alloc::Global;
-use ufs_spec::{Config, NoMemory, RunFault, RunFaultKind, UnitSpec};
+use ufs_spec::{NoMemory, RunFault, RunFaultKind, UnitSpec};
 
 /// What the first lines say. A number that its field cannot hold stands there as the greatest that it
 /// can, which no configuration has.

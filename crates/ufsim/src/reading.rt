@@ -1,10 +1,11 @@
 //! Opens a device again over dies, and reads by messages all that it holds.
 use crate::fault::Word;
 use device::World;
+use geometry::Config;
 use journal::block_in;
 use nand_model::MemDie;
 use std::alloc::Global;
-use ufs_spec::{Block, Config, Event, Output, RunFaultKind, UnitSpec, Upiu};
+use ufs_spec::{Block, Event, Output, RunFaultKind, UnitSpec, Upiu};
 
 /// How many replies and jobs a READ of one block may need.
 const READ_ROUNDS: usize = 8;

@@ -5,7 +5,7 @@ use Rattle.std.proofs.lemmas.Bool.{cond-false, cond-true, le-ltb, lt-ltb, or_fro
 use Rattle.ufs_spec.specs.Messages.{code_of, has_digest, has_extra_header, has_wrong_length}
 use Rattle.ufs_spec.specs.Messages.{is_among, known_codes, may_have, padding, read_fault_of}
 use Rattle.ufs_spec.specs.Messages.{segment_length}
-use Rattle.ufs_spec.specs.Fields.{field_at}
+use Rattle.ufs_bytes.specs.Fields.{field_at}
 use Rattle.ufs_spec.specs.declared.faults.HostFault.TheVariants.{Short, Length, Digest, Ehs, Code}
 
 pub short_told : (bytes : List ℕ) → length bytes < 32 → Some Short ≡ read_fault_of bytes

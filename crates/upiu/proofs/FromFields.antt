@@ -7,8 +7,8 @@ use Rattle.std.proofs.lemmas.Bool.{or_cases, ne_eqb}
 use Rattle.std.proofs.lemmas.List.{take-append-drop, get_or-take, drop-drop, drop_at, length-take-le, length-take}
 use Rattle.std.proofs.lemmas.List.{get_or_past, get_or-drop}
 use Rattle.std.proofs.Math.ListN.{drop_of_length-le}
-use Rattle.ufs_spec.proofs.FieldRanges.{field_fits}
-use Rattle.ufs_spec.specs.Fields.{field_at}
+use Rattle.ufs_bytes.proofs.FieldRanges.{field_fits}
+use Rattle.ufs_bytes.specs.Fields.{field_at}
 use Rattle.ufs_spec.specs.Messages.{AreBytes, IsMessage, IsSense, IsTransferred, Spells, code_of, header_of}
 use Rattle.ufs_spec.specs.Messages.{known_codes, may_have, padding, segment_length, segment_of, sense_of}
 use Rattle.ufs_spec.specs.Messages.{spelling, zeros}

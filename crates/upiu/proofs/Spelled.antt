@@ -8,7 +8,7 @@ use Rattle.std.proofs.lemmas.List.{drop-drop, drop_at, length-replicate}
 use Rattle.byteorder.specs.Endian.{big_bytes}
 use Rattle.byteorder.specs.Numbers.{big_number-reads_back}
 use Rattle.ufs_spec.proofs.ReadBack.{again}
-use Rattle.ufs_spec.specs.Fields.{field_at}
+use Rattle.ufs_bytes.specs.Fields.{field_at}
 use Rattle.ufs_spec.specs.Messages.{IsMessage, IsSense, Spells, code_of, has_digest, has_extra_header}
 use Rattle.ufs_spec.specs.Messages.{has_other_code, has_wrong_length, header_of, is_among, is_short, known_codes}
 use Rattle.ufs_spec.specs.Messages.{may_have, padding, read_fault_of, segment_length, segment_of, sense_of}

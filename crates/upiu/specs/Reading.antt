@@ -1,7 +1,7 @@
 -- What the fields of a message's bytes name, whether or not the bytes spell it.
 use Rattle.std.specs.Prelude.{◌≡◌, ◌≤◌, true, length, ◌==◌, ◌+◌, ℕ, List, slice_index, slice_range}
 use Rattle.std.specs.Prelude.{if◌then◌else◌, Option, Some, None, [], ◌∷◌}
-use Rattle.ufs_spec.specs.Fields.{field_at}
+use Rattle.ufs_bytes.specs.Fields.{field_at}
 use Rattle.ufs_spec.specs.Messages.{AreFlags, IsAmong, IsQueryFunction, code_of, is_among, known_codes, may_have}
 use Rattle.ufs_spec.specs.Messages.{padding, segment_length}
 use Rattle.ufs_spec.specs.declared.messages.Asked.{Asked}

@@ -4,7 +4,8 @@ ghost use Rattle.ufs_spec.specs.Messages.{code_of, has_digest, has_extra_header,
 ghost use Rattle.ufs_spec.specs.Messages.{host_codes, host_fault_of, is_among, known_codes, may_have};
 ghost use Rattle.ufs_spec.specs.Messages.{read_fault_of, segment_length};
 
-use ufs_spec::{HostFault, read_u16, read_u32};
+use ufs_bytes::{read_u16, read_u32};
+use ufs_spec::HostFault;
 
 /// The bytes of a header.
 pub const HEADER: usize = 32;

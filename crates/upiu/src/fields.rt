@@ -11,7 +11,8 @@ use crate::checks::{
     COMMAND, DATA_IN, DATA_OUT, HEADER, NOP_IN, NOP_OUT, QUERY_REQUEST, READY_TO_TRANSFER,
     RESPONSE, TASK_REQUEST, TASK_RESPONSE, code, stated_length,
 };
-use ufs_spec::{Asked, Data, Message, read_u16, read_u32};
+use ufs_bytes::{read_u16, read_u32};
+use ufs_spec::{Asked, Data, Message};
 
 /// The message that the fields name, whether or not the bytes spell it.
 pub fn message_in(bytes: &[u8]) -> Message

@@ -3,7 +3,8 @@ ghost use Rattle.std.specs.Prelude.{◌≡◌, ◌≤◌, ◌∷◌, ◌++◌, [
 ghost use Rattle.ufs_spec.specs.Messages.{header, header_of, query_fields, segment_of, transfer, zeros};
 ghost use Rattle.byteorder.specs.Endian.{big_bytes};
 
-use ufs_spec::{Asked, Message, write_u16, write_u32};
+use ufs_bytes::{write_u16, write_u32};
+use ufs_spec::{Asked, Message};
 
 /// The 32 bytes of a message's header.
 pub fn header_bytes(message: &Message) -> [u8; 32]

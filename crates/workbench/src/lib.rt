@@ -9,9 +9,10 @@ ghost use Rattle.ufs_spec.specs.Sound.{Sound};
 ghost use Rattle.device.specs.Describes.{Describes};
 
 use device::{Device, fit};
+use geometry::Config;
 use nand_model::{MemDie, work};
 use std::alloc::Global;
-use ufs_spec::{Config, HostFault, NoMemory, OpenFault, Upiu};
+use ufs_spec::{HostFault, NoMemory, OpenFault, Upiu};
 
 /// The device, its dies, and the reply that was handed out last.
 #[derive(Drop)]

@@ -20,21 +20,21 @@ use Rattle.power_loss.specs.Exchange.{DeedFits, DeedsFit, IsTied, MayCome, claim
 use Rattle.power_loss.specs.Shown.{ShowsReads}
 use Rattle.power_loss.proofs.calls.CallsKeepTied.{call_keeps}
 use Rattle.power_loss.proofs.shown_blocks.LivesShowBlocks.{call_shows}
-use Rattle.device.specs.declared.tasks.Phase.{Phase}
-use Rattle.device.specs.declared.tasks.Short as kept
-use Rattle.device.specs.declared.tasks.Task.{Task}
+use Rattle.task_set.specs.declared.tasks.Phase.{Phase}
+use Rattle.task_set.specs.declared.tasks.Short as kept
+use Rattle.task_set.specs.declared.tasks.Task.{Task}
 use Rattle.device.specs.Calls.{lock_told}
 use Rattle.device.specs.Describes.{Describes, IsAnswered, IsDoing, IsTold, IsToldIn, Keeps, TaskKept, claims_in}
 use Rattle.device.specs.Describes.{read_in, short_kept, wanted_in}
 use Rattle.device.specs.Kept.{DeviceCore}
-use Rattle.device.specs.Tasks.{write_error, phase_after, task_after}
+use Rattle.task_set.specs.Tasks.{write_error, phase_after, task_after}
 use Rattle.device.proofs.open_tasks.OpenTasks.{each_changed, no_requests}
 use Rattle.device.proofs.open_tasks.KeptByTag.{KeptForAll, SameDeed, all_kept, each_changes}
 use Rattle.ufs_spec.specs.Exchanges as exchange
 use Rattle.ftl_core.specs.Describes as layer_kept
-use Rattle.device.specs.declared.tasks.Phase.TheVariants as phase
-use Rattle.device.specs.declared.tasks.Status.TheVariants as status
-use Rattle.device.specs.declared.tasks.TaskEvent.TheVariants as event
+use Rattle.task_set.specs.declared.tasks.Phase.TheVariants as phase
+use Rattle.task_set.specs.declared.tasks.Status.TheVariants as status
+use Rattle.task_set.specs.declared.tasks.TaskEvent.TheVariants as event
 
 -- Once the lock is told
 

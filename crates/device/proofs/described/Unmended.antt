@@ -9,9 +9,9 @@ use Rattle.ufs_spec.specs.Exchanges.{is_task_of}
 use Rattle.ufs_spec.specs.declared.configs.Numbers.{Numbers}
 use Rattle.power_loss.specs.Exchange.{DeedFits, DeedsFit, claim_of}
 use Rattle.power_loss.proofs.open_tasks.TaggedLists.{each_at, each_found}
-use Rattle.device.specs.declared.tasks.Phase.{Phase}
-use Rattle.device.specs.declared.tasks.Phase.TheVariants as phase
-use Rattle.device.specs.declared.tasks.Task.{Task}
+use Rattle.task_set.specs.declared.tasks.Phase.{Phase}
+use Rattle.task_set.specs.declared.tasks.Phase.TheVariants as phase
+use Rattle.task_set.specs.declared.tasks.Task.{Task}
 use Rattle.device.specs.Describes.{IsDoing, IsTold, IsToldIn, TasksKept}
 
 -- What waits is told nothing new

@@ -34,7 +34,7 @@ use Rattle.ftl_core.specs.Moves.{claims_for}
 use Rattle.ftl_core.specs.Tells.{IsAwaited, IsReadOf}
 use Rattle.ftl_core.specs.declared.ftl.Ended.{Ended}
 use Rattle.ftl_core.specs.declared.ftl.Ended.TheVariants as ended
-use Rattle.device.specs.declared.tasks.Loaded.{Loaded}
+use Rattle.task_set.specs.declared.tasks.Loaded.{Loaded}
 use Rattle.device.specs.Calls.{lock_told, told}
 use Rattle.device.specs.Describes.{Describes, IsAnswered, Keeps, claims_by, claims_in, is_unread, read_by, read_for}
 use Rattle.device.specs.Describes.{read_in, read_kept, read_of}

@@ -10,7 +10,7 @@ use Rattle.power_loss.proofs.ordered_lists.ElementsAndOrders.{all_in, found_in}
 use Rattle.ftl_core.specs.declared.books.Looked.{Looked}
 use Rattle.ftl_core.specs.Describes.{IsLookedAt}
 use Rattle.ftl_core.specs.Tells.{IsPinned}
-use Rattle.device.specs.declared.tasks.Loaded.{Loaded}
+use Rattle.task_set.specs.declared.tasks.Loaded.{Loaded}
 use Rattle.device.specs.Replies.{block_at, block_for, block_of}
 
 abbrev IsRight : Translation → ledger.Looked → Type 0

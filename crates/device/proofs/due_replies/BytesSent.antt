@@ -6,10 +6,11 @@ use Rattle.std.proofs.lemmas.List.{length-take, take-append-drop, take-append-le
 use Rattle.ufs_spec.specs.Machine.{no_sense}
 use Rattle.ufs_spec.specs.Messages.{zeros}
 use Rattle.power_loss.proofs.books.SmallFacts.{if_false}
-use Rattle.device.specs.declared.tasks.ShortData.{ShortData}
-use Rattle.device.specs.declared.tasks.ShortData.TheVariants as sent
+use Rattle.task_set.specs.declared.tasks.ShortData.{ShortData}
+use Rattle.task_set.specs.declared.tasks.ShortData.TheVariants as sent
 use Rattle.device.specs.Replies.{data_count, data_padded}
-use Rattle.device.specs.Tasks.{data_bytes, data_length}
+use Rattle.task_set.specs.Tasks.{data_length}
+use Rattle.device.specs.Replies.{data_bytes}
 
 few_bytes : (x : ShortData) → data_length x ≤ 18
 few_bytes (sent.NoSense allocation) = omega arith

@@ -19,21 +19,21 @@ use Rattle.power_loss.proofs.open_tasks.TaskLists.{found_task}
 use Rattle.ftl_core.specs.Core.{Core}
 use Rattle.ftl_core.specs.Describes as layer_kept
 use Rattle.ftl_core.specs.Moves.{claims_for}
-use Rattle.device.specs.declared.tasks.Phase.{Phase}
-use Rattle.device.specs.declared.tasks.Phase.TheVariants as phase
-use Rattle.device.specs.declared.tasks.Sending.{Sending as Sends}
-use Rattle.device.specs.declared.tasks.ShortData.{ShortData}
-use Rattle.device.specs.declared.tasks.Status.TheVariants as status
-use Rattle.device.specs.declared.tasks.Task.{Task}
-use Rattle.device.specs.declared.tasks.Transfer.{Transfer}
+use Rattle.task_set.specs.declared.tasks.Phase.{Phase}
+use Rattle.task_set.specs.declared.tasks.Phase.TheVariants as phase
+use Rattle.task_set.specs.declared.tasks.Sending.{Sending as Sends}
+use Rattle.task_set.specs.declared.tasks.ShortData.{ShortData}
+use Rattle.task_set.specs.declared.tasks.Status.TheVariants as status
+use Rattle.task_set.specs.declared.tasks.Task.{Task}
+use Rattle.task_set.specs.declared.tasks.Transfer.{Transfer}
 use Rattle.device.specs.Describes.{Describes, IsDoing, IsGathering, IsSending}
 use Rattle.device.specs.Describes.{claims_in, is_lost, read_in}
 use Rattle.device.specs.Describes.{wanted_by, wanted_in, wanted_kept}
-use Rattle.device.specs.Hears.{task_set}
+use Rattle.device.specs.Hears.{with_phase}
 use Rattle.device.specs.Kept.{DeviceCore}
 use Rattle.device.specs.Replies.{HasMoved, moved_on, owed_by, owed_in, without_block}
 use Rattle.device.specs.Replies.{without_task}
-use Rattle.device.specs.Tasks.{data_length, sent_next}
+use Rattle.task_set.specs.Tasks.{data_length, sent_next}
 use Rattle.device.proofs.described.Answered.{IsBehind}
 use Rattle.device.proofs.open_tasks.OpenTasks.{IsOpen}
 use Rattle.device.proofs.due_replies.BlocksBehind.{more_kept, none_kept, none_read_behind}
@@ -75,7 +75,7 @@ module _ (d : DeviceCore) (s : State) (k : ℕ) (a : Task) (b : exchange.Task) (
   asks : (after : Core) (x : Transfer) (purpose : Purpose) (gathered : List ℕ) (asked : Bool) →
       b.deed ≡ Gathering purpose gathered asked → IsGathering x b.length purpose gathered →
       layer_kept.Describes after s.translation → claims_for after ≡ claims_for d.ftl →
-      IsBehind (with_layer after (task_set d k (phase.AwaitData x)))
+      IsBehind (with_layer after (with_phase d k (phase.AwaitData x)))
       (set_deed s b.tag (Gathering purpose gathered true))
   asks after x purpose gathered asked deed its layer claims =
       does_now d s k a b h o after (phase.AwaitData x) (Gathering purpose gathered true) (its, refl)
@@ -89,7 +89,7 @@ module _ (d : DeviceCore) (s : State) (k : ℕ) (a : Task) (b : exchange.Task) (
   -- its data were handed out, which are no block
   sends_data : (after : Core) (x : ShortData) (bytes : List ℕ) → b.deed ≡ SendingBytes bytes →
       b.length ≡ data_length x → layer_kept.Describes after s.translation → claims_for after ≡ claims_for d.ftl →
-      IsBehind (with_layer after (task_set d k (phase.Answer status.Good (data_length x))))
+      IsBehind (with_layer after (with_phase d k (phase.Answer status.Good (data_length x))))
       (set_deed s b.tag (Answering Good b.length))
   sends_data after x bytes deed is layer claims =
       does_now d s k a b h o after (phase.Answer status.Good (data_length x)) (Answering Good b.length) (refl, is)
@@ -174,7 +174,7 @@ module _ (d : DeviceCore) (s : State) (k : ℕ) (a : Task) (b : exchange.Task) (
       -- the phase and the deed behind it
       path : (more : Bool) → nat_lt (x.sent + 1) x.blocks ≡ more →
           IsBehind
-          (with_layer after (task_set (without_block d a.tag) k (sent_next x (next_if x more))))
+          (with_layer after (with_phase (without_block d a.tag) k (sent_next x (next_if x more))))
           (task_behind (sent_state n) b (Some (deed_next b blocks n more))) →
           IsBehind (with_layer after (moved_on d k a (phase.SendBlocks x))) (task_does s b (Sending blocks n))
       path more e it =
@@ -183,7 +183,7 @@ module _ (d : DeviceCore) (s : State) (k : ℕ) (a : Task) (b : exchange.Task) (
           next.1 (sent_deed blocks n next.0.state more (is.readable next.0 next.1) (same_test ∙ e))))
           (subst
           (λ z. IsBehind
-          (with_layer after (task_set (without_block d a.tag) k (sent_next x (next_if x z))))
+          (with_layer after (with_phase (without_block d a.tag) k (sent_next x (next_if x z))))
           (task_behind (sent_state n) b (Some (deed_next b blocks n more))))
           (sym e) it)
 

@@ -18,14 +18,14 @@ use Rattle.device.specs.Describes.{Describes, IsAnswered, short_kept}
 use Rattle.device.specs.Kept.{DeviceCore}
 use Rattle.device.specs.Replies.{HasMoved, answer_of, block_for, block_message, data_message, moved_on, owed_by}
 use Rattle.device.specs.Replies.{owed_in, short_message, short_said, without_first}
-use Rattle.device.specs.declared.tasks.Loaded.{Loaded}
-use Rattle.device.specs.declared.tasks.Phase.{Phase}
-use Rattle.device.specs.declared.tasks.Phase.TheVariants as phase
-use Rattle.device.specs.declared.tasks.Short as kept
-use Rattle.device.specs.declared.tasks.ShortReply.{ShortReply}
-use Rattle.device.specs.declared.tasks.ShortReply.TheVariants as short_reply
-use Rattle.device.specs.declared.tasks.Status.TheVariants as status
-use Rattle.device.specs.declared.tasks.Task.{Task}
+use Rattle.task_set.specs.declared.tasks.Loaded.{Loaded}
+use Rattle.task_set.specs.declared.tasks.Phase.{Phase}
+use Rattle.task_set.specs.declared.tasks.Phase.TheVariants as phase
+use Rattle.task_set.specs.declared.tasks.Short as kept
+use Rattle.task_set.specs.declared.tasks.ShortReply.{ShortReply}
+use Rattle.task_set.specs.declared.tasks.ShortReply.TheVariants as short_reply
+use Rattle.task_set.specs.declared.tasks.Status.TheVariants as status
+use Rattle.task_set.specs.declared.tasks.Task.{Task}
 use Rattle.device.proofs.described.Answered.{answered, answered_as, stays}
 use Rattle.device.proofs.open_tasks.OpenTasks.{our_task, their_task}
 use Rattle.device.proofs.due_replies.DeedsBehind.{moves_on, task_does}

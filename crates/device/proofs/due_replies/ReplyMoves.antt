@@ -19,16 +19,18 @@ use Rattle.power_loss.proofs.open_tasks.TaskLists.{found_task}
 use Rattle.ftl_core.specs.Core.{Core}
 use Rattle.ftl_core.specs.Describes as layer_kept
 use Rattle.ftl_core.specs.Moves.{claims_for}
-use Rattle.ftl_core.specs.declared.books.Claimed.{Claimed}
-use Rattle.device.specs.declared.tasks.Loaded.{Loaded}
-use Rattle.device.specs.declared.tasks.Phase.{Phase}
-use Rattle.device.specs.declared.tasks.Task.{Task}
+use Rattle.write_cache.specs.declared.slots.Claimed.{Claimed}
+use Rattle.task_set.specs.declared.tasks.Loaded.{Loaded}
+use Rattle.task_set.specs.declared.tasks.Phase.{Phase}
+use Rattle.task_set.specs.declared.tasks.Task.{Task}
 use Rattle.device.specs.Describes.{Describes, IsDoing, IsTold, IsToldIn, Keeps, TasksKept}
 use Rattle.device.specs.Describes.{claims_by, claims_in, read_by, read_for, read_in, read_kept, read_of}
 use Rattle.device.specs.Describes.{wanted_by, wanted_in, wanted_kept}
-use Rattle.device.specs.Hears.{task_set, tasks_set}
+use Rattle.task_set.specs.Lists.{tasks_set}
+use Rattle.device.specs.Hears.{with_phase}
 use Rattle.device.specs.Kept.{DeviceCore}
-use Rattle.device.specs.Replies.{is_loaded_for, loaded_without, without_block}
+use Rattle.task_set.specs.Lists.{is_loaded_for, loaded_without}
+use Rattle.device.specs.Replies.{without_block}
 use Rattle.device.specs.Replies.{without_task}
 use Rattle.device.proofs.described.Answered.{IsBehind}
 use Rattle.device.proofs.open_tasks.OpenTasks.{IsOpen, one_changed, one_gone}
@@ -198,7 +200,7 @@ module _ (d : DeviceCore) (s : State) (k : ℕ) (a : Task) (b : exchange.Task) (
   pub does_now : (after : Core) (p : Phase) (deed : Deed) →
       IsDoing (before_accepted s.translation.ledger) a.expected b.length p deed → SaysAsMuch b.tag b.deed deed →
       IsToldIn (durable s) deed → layer_kept.Describes after s.translation → claims_for after ≡ claims_for d.ftl →
-      IsBehind (with_layer after (task_set d k p)) (set_deed s b.tag deed)
+      IsBehind (with_layer after (with_phase d k p)) (set_deed s b.tag deed)
   does_now after p deed doing same told layer claims = record {
     keeps = record {
       permanent = h.kept.permanent;
@@ -230,12 +232,12 @@ module _ (d : DeviceCore) (s : State) (k : ℕ) (a : Task) (b : exchange.Task) (
       ((index : ℕ) → wanted_kept (with_next b.tag n s.translation.pins) b.tag index ≡ wanted_in index deed) →
       read_in deed ≡ [] → claims_in b.tag b.deed ≡ claims_in b.tag deed → claims_for after ≡ claims_for d.ftl →
       layer_kept.Describes after (sent_layer s.translation a.tag n) →
-      IsBehind (with_layer after (task_set (without_block d a.tag) k p))
+      IsBehind (with_layer after (with_phase (without_block d a.tag) k p))
       (set_deed (record s { translation = sent_layer s.translation b.tag n }) b.tag deed)
   sends after n p deed doing told wanted read claims_same claims layer =
       subst
       (λ tag. layer_kept.Describes after (sent_layer s.translation tag n) →
-      IsBehind (with_layer after (task_set (without_block d tag) k p))
+      IsBehind (with_layer after (with_phase (without_block d tag) k p))
       (set_deed (record s { translation = sent_layer s.translation b.tag n }) b.tag deed))
       o.kept.tag
       (λ its. record {

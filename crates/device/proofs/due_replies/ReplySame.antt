@@ -29,21 +29,24 @@ use Rattle.power_loss.proofs.open_tasks.FoundInLists.{found_is}
 use Rattle.power_loss.proofs.books.SmallFacts.{if_false, if_true, two_ways}
 use Rattle.power_loss.proofs.ordered_lists.ElementsAndOrders.{all_in, found_in}
 use Rattle.ftl_core.specs.Limits.{in_this_stage}
-use Rattle.device.specs.declared.tasks.Loaded.{Loaded}
-use Rattle.device.specs.declared.tasks.Phase.{Phase}
-use Rattle.device.specs.declared.tasks.Phase.TheVariants as phase
-use Rattle.device.specs.declared.tasks.Sending.{Sending as Sends}
-use Rattle.device.specs.declared.tasks.ShortData.{ShortData}
-use Rattle.device.specs.declared.tasks.Status.{Status}
-use Rattle.device.specs.declared.tasks.Task.{Task}
-use Rattle.device.specs.declared.tasks.Transfer.{Transfer}
+use Rattle.task_set.specs.declared.tasks.Loaded.{Loaded}
+use Rattle.task_set.specs.declared.tasks.Phase.{Phase}
+use Rattle.task_set.specs.declared.tasks.Phase.TheVariants as phase
+use Rattle.task_set.specs.declared.tasks.Sending.{Sending as Sends}
+use Rattle.task_set.specs.declared.tasks.ShortData.{ShortData}
+use Rattle.task_set.specs.declared.tasks.Status.{Status}
+use Rattle.task_set.specs.declared.tasks.Task.{Task}
+use Rattle.task_set.specs.declared.tasks.Transfer.{Transfer}
 use Rattle.device.specs.Describes.{Describes, IsDoing, IsGathering, IsLost, IsSending, TaskKept, is_lost, is_unread}
 use Rattle.device.specs.Describes.{read_of, read_by, read_in, read_kept, read_for, wanted_by, wanted_in, wanted_kept}
 use Rattle.device.specs.Describes.{wanted_of}
 use Rattle.device.specs.Kept.{DeviceCore}
-use Rattle.device.specs.Replies.{answer_of, block_at, block_for, block_message, block_of, body_at, body_of, count_in}
-use Rattle.device.specs.Replies.{data_message, is_loaded_for, loaded_for, owed_by, owed_in}
-use Rattle.device.specs.Tasks.{data_bytes, data_length, status_kept}
+use Rattle.task_set.specs.Lists.{body_at, body_of}
+use Rattle.device.specs.Replies.{answer_of, block_at, block_for, block_message, block_of, count_in}
+use Rattle.task_set.specs.Lists.{is_loaded_for, loaded_for}
+use Rattle.device.specs.Replies.{data_message, owed_by, owed_in}
+use Rattle.task_set.specs.Tasks.{data_length, status_kept}
+use Rattle.device.specs.Replies.{data_bytes}
 use Rattle.device.proofs.described.Unmended.{waits_mended}
 use Rattle.device.proofs.due_replies.BytesSent.{bytes_same}
 use Rattle.device.proofs.open_tasks.OpenTasks.{position_step}

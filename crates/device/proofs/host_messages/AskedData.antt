@@ -6,13 +6,14 @@ use Rattle.ufs_spec.proofs.Facts.{eqb-true}
 use Rattle.ufs_spec.specs.Exchanges as exchange
 use Rattle.ufs_spec.specs.Exchanges.{Answering, Awaiting, Deed, Gathering, Purpose, Sending, SendingBytes}
 use Rattle.ufs_spec.specs.Exchanges.{count_at, is_asked_in, is_asked_of, task_of}
-use Rattle.device.specs.declared.commands.AskedFor.{AskedFor}
-use Rattle.device.specs.declared.tasks.Phase.{Phase}
-use Rattle.device.specs.declared.tasks.Phase.TheVariants as phase
-use Rattle.device.specs.declared.tasks.Task.{Task}
-use Rattle.device.specs.declared.tasks.Transfer.{Transfer}
+use Rattle.task_set.specs.declared.tasks.AskedFor.{AskedFor}
+use Rattle.task_set.specs.declared.tasks.Phase.{Phase}
+use Rattle.task_set.specs.declared.tasks.Phase.TheVariants as phase
+use Rattle.task_set.specs.declared.tasks.Task.{Task}
+use Rattle.task_set.specs.declared.tasks.Transfer.{Transfer}
 use Rattle.device.specs.Describes.{IsDoing, IsGathering, TasksKept}
-use Rattle.device.specs.Hears.{asked_by, asked_for, asked_in, asked_of}
+use Rattle.task_set.specs.Lists.{asked_by, asked_in}
+use Rattle.device.specs.Hears.{asked_for, asked_of}
 use Rattle.device.specs.Kept.{DeviceCore}
 use Rattle.device.proofs.open_tasks.OpenTasks.{Stands, StandsOrNot, tag_stands}
 

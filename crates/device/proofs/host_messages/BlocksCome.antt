@@ -27,19 +27,20 @@ use Rattle.power_loss.proofs.open_tasks.TaskLists.{found_fits}
 use Rattle.power_loss.proofs.stops.SealedCells.{ranges_of}
 use Rattle.ftl_core.specs.Core.{Core}
 use Rattle.ftl_core.specs.Describes as layer_kept
-use Rattle.ftl_core.specs.Moves.{claim_filled, claims_for}
+use Rattle.ftl_core.specs.Moves.{claims_for}
+use Rattle.write_cache.specs.Slots.{claim_filled}
 use Rattle.ftl_core.specs.Tells.{claims_of_blocks, group_of_blocks}
-use Rattle.device.specs.declared.tasks.Phase.{Phase}
-use Rattle.device.specs.declared.tasks.Phase.TheVariants as phase
-use Rattle.device.specs.declared.tasks.TaskEvent.{TaskEvent}
-use Rattle.device.specs.declared.tasks.TaskEvent.TheVariants as event
-use Rattle.device.specs.declared.tasks.Transfer.{Transfer}
+use Rattle.task_set.specs.declared.tasks.Phase.{Phase}
+use Rattle.task_set.specs.declared.tasks.Phase.TheVariants as phase
+use Rattle.task_set.specs.declared.tasks.TaskEvent.{TaskEvent}
+use Rattle.task_set.specs.declared.tasks.TaskEvent.TheVariants as event
+use Rattle.task_set.specs.declared.tasks.Transfer.{Transfer}
 use Rattle.device.specs.Calls.{HasFilled, HasGathered, HasGatheredThen, HasTaken, MayAccept, OthersClaim}
 use Rattle.device.specs.Describes.{Describes, IsDoing, Keeps, blocks_gathered, claims_by, claims_in, read_for}
 use Rattle.device.specs.Describes.{read_in, wanted_by, wanted_in}
-use Rattle.device.specs.Hears.{task_set}
+use Rattle.device.specs.Hears.{with_phase}
 use Rattle.device.specs.Kept.{DeviceCore}
-use Rattle.device.specs.Tasks.{asked_next, failed, group_done, phase_after, write_error}
+use Rattle.task_set.specs.Tasks.{asked_next, failed, group_done, phase_after, write_error}
 use Rattle.device.proofs.due_replies.ReplyMoves.{few_set, tasks_set_to}
 use Rattle.device.proofs.host_messages.GroupOfBlocks.{group_written, permanent_still}
 use Rattle.device.proofs.host_messages.NumbersAwaited.{number_awaited}
@@ -104,7 +105,7 @@ module _ (d : DeviceCore) (s : State) (tag : ℕ) (bytes : List ℕ) (x : Transf
       omega arith
 
   abbrev core_with : Core → Phase → DeviceCore
-  core_with after p = record (task_set d r.k p) { ftl = after }
+  core_with after p = record (with_phase d r.k p) { ftl = after }
 
   found : task_of r.b.tag s.tasks ≡ Some r.b
   found = ap (λ (n : ℕ). task_of n s.tasks) r.tag_is ∙ r.found

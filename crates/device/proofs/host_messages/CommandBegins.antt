@@ -28,20 +28,21 @@ use Rattle.ftl_core.specs.Core.{Core}
 use Rattle.ftl_core.specs.Describes as layer_kept
 use Rattle.ftl_core.specs.Moves.{claims_for}
 use Rattle.ftl_core.specs.Tells.{claims_of_blocks}
-use Rattle.device.specs.declared.tasks.Phase.{Phase}
-use Rattle.device.specs.declared.tasks.Phase.TheVariants as phase
-use Rattle.device.specs.declared.tasks.Plan.{Plan}
-use Rattle.device.specs.declared.tasks.Plan.TheVariants as plan
-use Rattle.device.specs.declared.tasks.ShortData.{ShortData}
-use Rattle.device.specs.declared.tasks.ShortData.TheVariants as sent
-use Rattle.device.specs.declared.tasks.Status as kept_status
-use Rattle.device.specs.declared.tasks.Status.TheVariants as status
-use Rattle.device.specs.declared.tasks.Transfer.{Transfer}
+use Rattle.task_set.specs.declared.tasks.Phase.{Phase}
+use Rattle.task_set.specs.declared.tasks.Phase.TheVariants as phase
+use Rattle.device.specs.declared.plans.Plan.{Plan}
+use Rattle.device.specs.declared.plans.Plan.TheVariants as plan
+use Rattle.task_set.specs.declared.tasks.ShortData.{ShortData}
+use Rattle.task_set.specs.declared.tasks.ShortData.TheVariants as sent
+use Rattle.task_set.specs.declared.tasks.Status as kept_status
+use Rattle.task_set.specs.declared.tasks.Status.TheVariants as status
+use Rattle.task_set.specs.declared.tasks.Transfer.{Transfer}
 use Rattle.device.specs.Describes.{Describes}
 use Rattle.device.specs.Calls.{HasBegun, IsSameLayer, OthersClaim, has_room, has_slots, last_number}
 use Rattle.device.specs.Kept.{DeviceCore}
 use Rattle.device.specs.Plans.{IsPlanned, Passes, data_plan, plan_of}
-use Rattle.device.specs.Tasks.{data_bytes, data_length, status_kept}
+use Rattle.task_set.specs.Tasks.{data_length, status_kept}
+use Rattle.device.specs.Replies.{data_bytes}
 use Rattle.device.proofs.described.Answered.{IsBehind}
 use Rattle.device.proofs.host_messages.BlocksKept.{sends}
 use Rattle.device.proofs.host_messages.CommandPasses.{IsFree, flush_durable, free_told, none_expected, some_expected}

@@ -26,7 +26,7 @@ use Rattle.ufs_spec.specs.declared.scsi.Cdb.{Cdb}
 use Rattle.ufs_spec.specs.declared.scsi.Cdb.TheVariants as cdb
 use Rattle.ufs_laws.proofs.plain_contents.GroupsOfCommands.{length-groups}
 use Rattle.power_loss.specs.Exchange.{IsTied}
-use Rattle.device.specs.declared.tasks.Plan.{Plan}
+use Rattle.device.specs.declared.plans.Plan.{Plan}
 use Rattle.device.specs.Plans.{Passes}
 
 -- Lines

@@ -30,11 +30,11 @@ use Rattle.ufs_spec.specs.declared.scsi.TheConstants.Sense.{INVALID_FIELD, INVAL
 use Rattle.ufs_spec.specs.declared.scsi.TheConstants.Sense.{OUT_OF_RANGE, WRITE_PROTECTED}
 use Rattle.ftl_core.specs.Core.{Core}
 use Rattle.ftl_core.specs.Describes.{Describes}
-use Rattle.device.specs.declared.tasks.Plan.{Plan}
-use Rattle.device.specs.declared.tasks.Status as kept_status
-use Rattle.device.specs.declared.tasks.Status.TheVariants as status
+use Rattle.device.specs.declared.plans.Plan.{Plan}
+use Rattle.task_set.specs.declared.tasks.Status as kept_status
+use Rattle.task_set.specs.declared.tasks.Status.TheVariants as status
 use Rattle.device.specs.Plans.{IsBare, IsPlanned, IsRequest, plan_of}
-use Rattle.device.specs.Tasks.{status_kept}
+use Rattle.task_set.specs.Tasks.{status_kept}
 
 -- Lines
 

@@ -10,12 +10,12 @@ use Rattle.ufs_spec.specs.Ledger.{before_accepted}
 use Rattle.ufs_spec.specs.Machine.{in_use, opening_fault, result_of}
 use Rattle.ufs_spec.specs.Refusals.{State}
 use Rattle.ufs_spec.specs.declared.faults.HostFault.TheVariants.{Backlog, TagInUse}
-use Rattle.device.specs.declared.tasks.Short as kept
+use Rattle.task_set.specs.declared.tasks.Short as kept
 use Rattle.device.specs.Describes.{Describes, short_kept}
-use Rattle.device.specs.Hears as ours
+use Rattle.task_set.specs.Lists as ours
 use Rattle.device.specs.Hears.{short_answer, uses}
 use Rattle.device.specs.Kept.{DeviceCore}
-use Rattle.device.specs.Tasks.{is_task_of}
+use Rattle.task_set.specs.Tasks.{is_task_of}
 use Rattle.device.proofs.open_tasks.OpenTasks.{StandsOrNot, as_many, tag_stands}
 
 any_is_found : {X : Type 0} (p : X → Bool) (xs : List X) → list_any p xs ≡ is_some (find p xs)

@@ -19,8 +19,8 @@ use Rattle.ufs_spec.specs.declared.messages.Message.TheVariants as message
 use Rattle.ufs_spec.specs.declared.scsi.Cdb.{Cdb}
 use Rattle.ufs_laws.proofs.exchanges.BytesHeard.{is_heard}
 use Rattle.power_loss.proofs.open_tasks.FoundInLists.{none_found}
-use Rattle.device.specs.declared.tasks.Short as kept
-use Rattle.device.specs.declared.tasks.ShortReply.TheVariants as reply
+use Rattle.task_set.specs.declared.tasks.Short as kept
+use Rattle.task_set.specs.declared.tasks.ShortReply.TheVariants as reply
 use Rattle.device.specs.Describes.{Describes, IsHeardAs, short_kept}
 use Rattle.device.specs.Hears.{IsTaskOpened, short_answer, uses, with_short}
 use Rattle.device.specs.Kept.{DeviceCore}

@@ -13,7 +13,7 @@ use Rattle.ufs_spec.specs.declared.messages.Asked.{Asked}
 use Rattle.ufs_spec.specs.declared.messages.Message.{Message}
 use Rattle.ufs_spec.specs.declared.messages.Message.TheVariants as message
 use Rattle.upiu.proofs.HostFault.{of_each}
-use Rattle.device.specs.declared.tasks.ShortReply.TheVariants as reply
+use Rattle.task_set.specs.declared.tasks.ShortReply.TheVariants as reply
 use Rattle.device.specs.Describes.{Describes, IsHeardAs}
 use Rattle.device.specs.Hears.{short_answer, with_short}
 use Rattle.device.specs.Kept.{DeviceCore}

@@ -17,9 +17,9 @@ use Rattle.ufs_laws.proofs.plain_contents.ListParts.{length-made}
 use Rattle.ftl_core.specs.Core.{Core}
 use Rattle.ftl_core.specs.Describes as layer_kept
 use Rattle.ftl_core.specs.Moves.{claims_for}
-use Rattle.device.specs.declared.tasks.Phase.{Phase}
-use Rattle.device.specs.declared.tasks.Phase.TheVariants as phase
-use Rattle.device.specs.declared.tasks.Sending.{Sending as Sends}
+use Rattle.task_set.specs.declared.tasks.Phase.{Phase}
+use Rattle.task_set.specs.declared.tasks.Phase.TheVariants as phase
+use Rattle.task_set.specs.declared.tasks.Sending.{Sending as Sends}
 use Rattle.device.specs.Describes.{Describes, IsTold, is_lost, read_by, read_of, wanted_in, wanted_kept}
 use Rattle.device.specs.Hears.{with_task}
 use Rattle.device.specs.Kept.{DeviceCore}

@@ -10,7 +10,7 @@ use Rattle.ufs_spec.specs.Refusals.{State}
 use Rattle.ufs_spec.specs.declared.faults.HostFault.{HostFault}
 use Rattle.ufs_spec.specs.declared.messages.Message.{Message}
 use Rattle.ufs_spec.specs.declared.scsi.Cdb.{Cdb}
-use Rattle.device.specs.declared.tasks.Short as kept
+use Rattle.task_set.specs.declared.tasks.Short as kept
 use Rattle.device.specs.Describes.{Describes, IsHeardAs, short_kept}
 use Rattle.device.specs.Hears.{short_answer, with_short}
 use Rattle.device.specs.Kept.{DeviceCore}

@@ -10,9 +10,9 @@ use Rattle.ftl_core.specs.Core.{Core}
 use Rattle.ftl_core.specs.Describes.{Describes}
 use Rattle.ftl_core.specs.Moves.{claims_for}
 use Rattle.ftl_core.specs.Tells.{claims_of_blocks}
-use Rattle.device.specs.declared.tasks.Phase.{Phase}
-use Rattle.device.specs.declared.tasks.Phase.TheVariants as phase
-use Rattle.device.specs.declared.tasks.Status.TheVariants as status
+use Rattle.task_set.specs.declared.tasks.Phase.{Phase}
+use Rattle.task_set.specs.declared.tasks.Phase.TheVariants as phase
+use Rattle.task_set.specs.declared.tasks.Status.TheVariants as status
 use Rattle.device.specs.Calls.{HasClaimed, OthersClaim, has_slots}
 use Rattle.device.specs.Describes.{blocks_gathered}
 

@@ -7,7 +7,7 @@ use Rattle.std.proofs.lemmas.List.{drop_all, drop-append-le, length-append, leng
 use Rattle.ufs_spec.proofs.Facts.{eqb-self}
 use Rattle.ufs_spec.specs.Machine.{blocks_in}
 use Rattle.ufs_spec.specs.Plain.{zero_block}
-use Rattle.ftl_core.specs.Moves.{claim_filled}
+use Rattle.write_cache.specs.Slots.{claim_filled}
 use Rattle.ftl_core.specs.Tells.{claim_at, claims_behind, claims_of_blocks}
 use Rattle.device.specs.Describes.{block_or_zeros, blocks_gathered}
 

@@ -23,8 +23,8 @@ use Rattle.ufs_spec.specs.Translation.{Pin}
 use Rattle.power_loss.proofs.books.SmallFacts.{eq_self}
 use Rattle.power_loss.proofs.open_tasks.TaggedLists.{any_fewer, other_way}
 use Rattle.ftl_core.specs.Tells.{PinsDiffer}
-use Rattle.device.specs.declared.tasks.Phase.{Phase}
-use Rattle.device.specs.declared.tasks.Phase.TheVariants as phase
+use Rattle.task_set.specs.declared.tasks.Phase.{Phase}
+use Rattle.task_set.specs.declared.tasks.Phase.TheVariants as phase
 use Rattle.device.specs.Calls.{has_room}
 use Rattle.device.specs.Describes.{Describes, IsDoing, Keeps, wanted_by, wanted_in, wanted_of}
 use Rattle.device.specs.Kept.{DeviceCore}

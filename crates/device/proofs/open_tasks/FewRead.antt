@@ -11,9 +11,9 @@ use Rattle.ufs_spec.specs.Exchanges.{NotRead, ReadBlock, ReadState, Sending, Unr
 use Rattle.ufs_spec.specs.Exchanges.{most_tasks, task_of}
 use Rattle.power_loss.proofs.books.SmallFacts.{eq_self}
 use Rattle.power_loss.proofs.open_tasks.TaggedLists.{other_way}
-use Rattle.device.specs.declared.tasks.Loaded.{Loaded}
+use Rattle.task_set.specs.declared.tasks.Loaded.{Loaded}
 use Rattle.device.specs.Describes.{read_by, read_for, read_in, read_kept, read_of}
-use Rattle.device.specs.Replies.{body_of, is_loaded_for}
+use Rattle.task_set.specs.Lists.{body_of, is_loaded_for}
 
 -- Blocks of one tag and of the others
 

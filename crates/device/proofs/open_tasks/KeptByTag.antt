@@ -12,7 +12,7 @@ use Rattle.power_loss.proofs.books.SmallFacts.{eq_self}
 use Rattle.power_loss.proofs.open_tasks.TaggedLists.{other_way}
 use Rattle.ftl_core.specs.Core.{Core}
 use Rattle.ftl_core.specs.Moves.{claims_for}
-use Rattle.device.specs.declared.tasks.Loaded.{Loaded}
+use Rattle.task_set.specs.declared.tasks.Loaded.{Loaded}
 use Rattle.device.specs.Calls.{OthersClaim}
 use Rattle.device.specs.Describes.{Keeps, claims_by, claims_in, read_for, read_in, read_kept, wanted_by, wanted_in}
 use Rattle.device.specs.Describes.{wanted_kept}

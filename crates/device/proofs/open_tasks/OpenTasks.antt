@@ -13,9 +13,9 @@ use Rattle.power_loss.specs.Exchange.{TasksDiffer}
 use Rattle.power_loss.proofs.books.SmallFacts.{eq_self, if_false, if_true}
 use Rattle.power_loss.proofs.open_tasks.TaggedLists.{other_way}
 use Rattle.power_loss.proofs.open_tasks.TaskLists.{none_changed}
-use Rattle.device.specs.declared.tasks.Task.{Task}
+use Rattle.task_set.specs.declared.tasks.Task.{Task}
 use Rattle.device.specs.Describes.{TaskKept, TasksKept}
-use Rattle.device.specs.Tasks as ours
+use Rattle.task_set.specs.Tasks as ours
 
 -- What is found
 

@@ -13,9 +13,9 @@ use Rattle.ufs_spec.specs.Moves.{is_pin_of, with_wanted}
 use Rattle.ufs_spec.specs.Translation.{Pin}
 use Rattle.power_loss.proofs.open_tasks.FoundInLists.{found_is}
 use Rattle.power_loss.proofs.open_tasks.TaggedLists.{other_way}
-use Rattle.device.specs.declared.tasks.Loaded.{Loaded}
+use Rattle.task_set.specs.declared.tasks.Loaded.{Loaded}
 use Rattle.device.specs.Describes.{read_kept, wanted_kept}
-use Rattle.device.specs.Replies.{body_of, is_loaded_for, loaded_without}
+use Rattle.task_set.specs.Lists.{body_of, is_loaded_for, loaded_without}
 use Rattle.device.proofs.open_tasks.OpenTasks.{position_step}
 
 -- What is found in a list

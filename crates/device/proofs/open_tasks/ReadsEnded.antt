@@ -16,16 +16,16 @@ use Rattle.power_loss.specs.Exchange.{TasksDiffer}
 use Rattle.power_loss.proofs.books.SmallFacts.{eq_self, if_true}
 use Rattle.power_loss.proofs.open_tasks.FoundInLists.{found_is}
 use Rattle.power_loss.proofs.open_tasks.TaskLists.{found_task}
-use Rattle.device.specs.declared.tasks.Phase.{Phase}
-use Rattle.device.specs.declared.tasks.Phase.TheVariants as phase
-use Rattle.device.specs.declared.tasks.Sending.{Sending as Sends}
-use Rattle.device.specs.declared.tasks.Status.TheVariants as status
-use Rattle.device.specs.declared.tasks.Task.{Task}
-use Rattle.device.specs.declared.tasks.TaskEvent.TheVariants as event
+use Rattle.task_set.specs.declared.tasks.Phase.{Phase}
+use Rattle.task_set.specs.declared.tasks.Phase.TheVariants as phase
+use Rattle.task_set.specs.declared.tasks.Sending.{Sending as Sends}
+use Rattle.task_set.specs.declared.tasks.Status.TheVariants as status
+use Rattle.task_set.specs.declared.tasks.Task.{Task}
+use Rattle.task_set.specs.declared.tasks.TaskEvent.TheVariants as event
 use Rattle.device.specs.Describes.{IsDoing, IsLost, IsSending, TaskKept, TasksKept, is_lost, is_unread, read_by}
 use Rattle.device.specs.Describes.{read_in}
 use Rattle.device.specs.Describes.{read_of, wanted_by, wanted_in, wanted_kept, wanted_of}
-use Rattle.device.specs.Tasks.{after_lost_read, phase_after, read_error, task_after}
+use Rattle.task_set.specs.Tasks.{after_lost_read, phase_after, read_error, task_after}
 use Rattle.device.proofs.open_tasks.OpenTasks.{each_changed, theirs_changed}
 use Rattle.device.proofs.open_tasks.ReadProgress.{ChangesOne, want_other_index, want_set}
 

@@ -20,7 +20,7 @@ use Rattle.ftl_core.specs.Core.{Core}
 use Rattle.ftl_core.specs.Describes as layer_kept
 use Rattle.ftl_core.specs.Moves.{claims_for}
 use Rattle.ftl_core.specs.Tells.{keeps_for}
-use Rattle.device.specs.declared.tasks.Task.{Task}
+use Rattle.task_set.specs.declared.tasks.Task.{Task}
 use Rattle.device.specs.Calls.{IsSameLayer, OthersClaim}
 use Rattle.device.specs.Describes.{Describes, IsTold, IsToldIn, Keeps, TaskKept, TasksKept, claims_in, read_in}
 use Rattle.device.specs.Describes.{wanted_in, wanted_kept}

@@ -17,12 +17,13 @@ use Rattle.power_loss.specs.Book.{IsPageAt, book}
 use Rattle.power_loss.specs.Invariant.{Valid}
 use Rattle.power_loss.proofs.books.PagesByName.{new_page}
 use Rattle.power_loss.proofs.books.SmallFacts.{if_false, if_true, two_ways}
-use Rattle.ftl_core.specs.declared.books.Pending.{Pending}
-use Rattle.ftl_core.specs.declared.books.Stored.{Stored}
+use Rattle.write_cache.specs.declared.slots.Pending.{Pending}
+use Rattle.unit_map.specs.declared.Stored.{Stored}
 use Rattle.ftl_core.specs.Core.{Core}
 use Rattle.ftl_core.specs.Describes.{IsStored, LedgerKept, PagesKept, Standing}
-use Rattle.ftl_core.specs.Ends.{front_written, group_durable, is_of_group, is_unwritten, page_durable, risen}
-use Rattle.ftl_core.specs.Ends.{whole_group}
+use Rattle.ftl_core.specs.Ends.{front_written, group_durable, page_durable, risen}
+use Rattle.write_cache.specs.Slots.{is_of_group, is_unwritten}
+use Rattle.write_cache.specs.Slots.{whole_group}
 use Rattle.ftl_core.specs.Moves.{stored_of}
 use Rattle.ftl_core.proofs.group_settled.FrontPages.{AreItemPages, AreStandingPages, FrontPages, behind_front}
 use Rattle.ftl_core.proofs.group_settled.FrontPages.{front_pages, front_standing, front_whole, group_stands, of_front}

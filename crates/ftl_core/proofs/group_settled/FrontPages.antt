@@ -17,9 +17,9 @@ use Rattle.ufs_spec.proofs.Lists.{length-below, none_passes}
 use Rattle.power_loss.proofs.books.FrontierClimbs.{stands_each}
 use Rattle.power_loss.proofs.books.SmallFacts.{if_false}
 use Rattle.power_loss.proofs.ordered_lists.ElementsAndOrders.{at_has}
-use Rattle.ftl_core.specs.declared.books.Pending.{Pending}
+use Rattle.write_cache.specs.declared.slots.Pending.{Pending}
 use Rattle.ftl_core.specs.Describes.{PageKept, PagesKept, Standing, name_at}
-use Rattle.ftl_core.specs.Ends.{is_of_group, is_unwritten}
+use Rattle.write_cache.specs.Slots.{is_of_group, is_unwritten}
 use Rattle.ftl_core.proofs.group_settled.Settling.{others}
 use Rattle.ftl_core.proofs.pages.NamesBehind.{get_name, in_names}
 use Rattle.ftl_core.proofs.pages.PagesNamed.{pages_apart, pages_get, same_count}

@@ -12,13 +12,14 @@ use Rattle.ufs_spec.proofs.Facts.{false≢true}
 use Rattle.ufs_spec.proofs.Lists.{position_behind, position_here}
 use Rattle.power_loss.proofs.books.LastOfEachKey.{key_self, key_told}
 use Rattle.power_loss.proofs.books.SmallFacts.{two_ways}
-use Rattle.recovery.specs.KeysInOrder.{key_total}
-use Rattle.ftl_core.specs.declared.books.Pending.{Pending}
-use Rattle.ftl_core.specs.declared.books.Stored.{Stored}
+use Rattle.geometry.specs.Keys.{key_total}
+use Rattle.write_cache.specs.declared.slots.Pending.{Pending}
+use Rattle.unit_map.specs.declared.Stored.{Stored}
 use Rattle.ftl_core.specs.Core.{Core}
 use Rattle.ftl_core.specs.Describes.{IsStored, Standing}
 use Rattle.ftl_core.specs.Ends.{noted, page_durable, page_durable_at, pins_moved}
-use Rattle.ftl_core.specs.Moves.{position_of, stored_of}
+use Rattle.ftl_core.specs.Moves.{stored_of}
+use Rattle.unit_map.specs.Places.{position_of}
 use Rattle.ftl_core.proofs.group_settled.FrontPages.{AreStandingPages}
 use Rattle.ftl_core.proofs.group_settled.NotedPlaces.{places_length, stored_here, stored_other}
 

@@ -6,10 +6,10 @@ use Rattle.ufs_spec.specs.Moves.{step_behind}
 use Rattle.ufs_spec.specs.Translation.{Translation, is_mended, name_of}
 use Rattle.ufs_spec.specs.declared.flash.Tag.{Tag}
 use Rattle.ftl_core.specs.declared.books.Book.{Book}
-use Rattle.ftl_core.specs.declared.books.OpenBlock.{OpenBlock}
+use Rattle.block_table.specs.declared.OpenBlock.{OpenBlock}
 use Rattle.ftl_core.specs.Core.{Core}
 use Rattle.ftl_core.specs.Describes.{Describes, Kept}
-use Rattle.ftl_core.specs.Ends.{pending_at, pending_written, settled}
+use Rattle.ftl_core.specs.Ends.{pending_written, settled}
 use Rattle.ftl_core.specs.Gives.{group_ended}
 use Rattle.ftl_core.specs.Moves.{page_written}
 use Rattle.ftl_core.specs.Takes.{next_place}
@@ -59,6 +59,6 @@ group_ends_well c t die b o tag body h f =
         (subst IsRepair (step_stays t.ledger c.step c.content t.work.step (name_of tag) h.kept.work.step_is f.beside) r)
         mended
 
-    core : page_written (pending_written c (next_place die o) (pending_at c tag.number tag.index))
-        die b b.filling ≡ so_far c t die b o tag pending
+    core : page_written (pending_written c tag.number tag.index (next_place die o)) die b b.filling ≡
+        so_far c t die b o tag pending
     core = λ i. page_written (written_there c t.ledger (name_of tag) (next_place die o) pending i) die b (f.filling i)

@@ -5,12 +5,14 @@ use Rattle.ufs_spec.specs.Keys.{IsKey}
 use Rattle.ufs_spec.specs.Plain.{shape_of_numbers}
 use Rattle.ufs_spec.specs.declared.flash.Key.{Key}
 use Rattle.ufs_spec.proofs.Lists.{set_here, set_other, set_length}
-use Rattle.recovery.specs.KeysInOrder.{key_total}
-use Rattle.ftl_core.specs.declared.books.Stored.{Stored}
+use Rattle.geometry.specs.Keys.{key_total}
+use Rattle.unit_map.specs.declared.Stored.{Stored}
 use Rattle.ftl_core.specs.Core.{Core}
-use Rattle.ftl_core.specs.Ends.{places_noted}
-use Rattle.ftl_core.specs.Moves.{flat, position_of, stored_of}
-use Rattle.ftl_core.proofs.look_and_accept.KeyPlaces.{HasPosition, has_position, one_position}
+use Rattle.unit_map.specs.Places.{places_noted}
+use Rattle.ftl_core.specs.Moves.{stored_of}
+use Rattle.unit_map.specs.Places.{position_of}
+use Rattle.unit_map.specs.Places.{flat}
+use Rattle.unit_map.proofs.KeyPlaces.{HasPosition, has_position, one_position}
 
 places_here : (ps : List (Option Stored)) (s : Stored) (o : Option ℕ) (at : ℕ) → o ≡ Some at → at < length ps →
     option_and_then (λ (p : ℕ). flat (slice_get (places_noted ps s o) p)) o ≡ Some s

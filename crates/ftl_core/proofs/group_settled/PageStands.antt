@@ -1,7 +1,7 @@
 -- The page of a pending group stands: what is kept of pages, places and flights before any group becomes durable.
 use Rattle.std.proofs.Common.{◌≡◌, ◌≢◌, ◌∙◌, ℕ, true, false, List, Option, Some, None, refl, sym, ap, subst}
 use Rattle.std.proofs.Common.{⊎_elim}
-use Rattle.std.specs.Prelude.{◌==◌, slice_get, slice_set}
+use Rattle.std.specs.Prelude.{◌==◌, position, slice_get, slice_set}
 use Rattle.ufs_spec.proofs.Facts.{false≢true, same_Some}
 use Rattle.ufs_spec.proofs.Lists.{set_length}
 use Rattle.ufs_spec.specs.Disk as disk
@@ -13,12 +13,13 @@ use Rattle.ufs_spec.specs.declared.flash.Place.{Place}
 use Rattle.power_loss.proofs.books.PagesByName.{none_some}
 use Rattle.power_loss.proofs.books.SmallFacts.{at_name_cases, eq_self, if_true, name_is, name_cases}
 use Rattle.power_loss.proofs.ordered_lists.ElementsAndOrders.{IsIn}
-use Rattle.ftl_core.specs.declared.books.Pending.{Pending}
-use Rattle.ftl_core.specs.declared.books.Stored.{Stored}
+use Rattle.write_cache.specs.declared.slots.Pending.{Pending}
+use Rattle.unit_map.specs.declared.Stored.{Stored}
 use Rattle.ftl_core.specs.Core.{Core}
 use Rattle.ftl_core.specs.Describes.{IsStored, LedgerKept, PageKept, PagesFly, PagesKept, Standing, names_pending}
-use Rattle.ftl_core.specs.Ends.{pages_written, pending_at, pending_written}
-use Rattle.ftl_core.specs.Moves.{stored_in}
+use Rattle.ftl_core.specs.Ends.{pending_written}
+use Rattle.write_cache.specs.Slots.{is_named, written_at, written_if}
+use Rattle.unit_map.specs.Places.{stored_in}
 use Rattle.ftl_core.proofs.job_taken.Flown.{fewer, fly_over}
 use Rattle.ftl_core.proofs.opened.ListParts.{get_set}
 use Rattle.ftl_core.proofs.pages.NamesBehind.{names_differ}
@@ -147,7 +148,7 @@ fly_written standing flights die name p h flown = record { one = (fly_over stand
 pub record IsPending (c : Core) (l : Ledger) (name : Name) : Type 0 where
   pub at : ℕ
   pub page : Pending
-  pub is : pending_at c name.number name.index ≡ Some at
+  pub is : position (is_named name.number name.index) c.pages ≡ Some at
   pub there : slice_get c.pages at ≡ Some page
   pub named : slice_get (names_pending l) at ≡ Some name
 
@@ -159,9 +160,9 @@ is_pending c l name h here =
 
 -- it is written
 pub written_there : (c : Core) (l : Ledger) (name : Name) (place : Place) (h : IsPending c l name) →
-    pending_written c place (pending_at c name.number name.index) ≡ record c {
+    pending_written c name.number name.index place ≡ record c {
       pages = slice_set c.pages h.at (record h.page { written = Some place });
     }
 written_there c l name place h =
-    ap (pending_written c place) h.is
-    ∙ ap (λ (o : Option Pending). record c { pages = pages_written c.pages h.at place o }) h.there
+    ap (λ (o : Option ℕ). record c { pages = written_if c.pages place o }) h.is
+    ∙ ap (λ (o : Option Pending). record c { pages = written_at c.pages h.at place o }) h.there

@@ -19,11 +19,11 @@ use Rattle.power_loss.specs.Invariant.{IsLastRepair, MendingRight, Valid}
 use Rattle.power_loss.proofs.books.PagesByName.{at_most, none_some, page_within}
 use Rattle.power_loss.proofs.books.SmallFacts.{if_true, name_self, two_ways}
 use Rattle.power_loss.proofs.ordered_lists.ElementsAndOrders.{IsIn}
-use Rattle.ftl_core.specs.declared.books.BlockState.{BlockState}
-use Rattle.ftl_core.specs.declared.books.BlockState.TheVariants as state
+use Rattle.block_table.specs.declared.BlockState.{BlockState}
+use Rattle.block_table.specs.declared.BlockState.TheVariants as state
 use Rattle.ftl_core.specs.declared.books.Book.{Book}
-use Rattle.ftl_core.specs.declared.books.OpenBlock.{OpenBlock}
-use Rattle.ftl_core.specs.declared.books.Pending.{Pending}
+use Rattle.block_table.specs.declared.OpenBlock.{OpenBlock}
+use Rattle.write_cache.specs.declared.slots.Pending.{Pending}
 use Rattle.ftl_core.specs.Core.{Core}
 use Rattle.ftl_core.specs.Describes.{BlocksKept, Describes, IsFilling, Kept, WorkKept, names_pending, spot_at}
 use Rattle.ftl_core.specs.Moves.{page_written, repairs_in}

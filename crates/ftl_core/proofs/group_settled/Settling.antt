@@ -1,17 +1,19 @@
 -- One group more becomes durable, or none does: as the functions do it.
 use Rattle.std.proofs.Common.{◌≡◌, ◌∙◌, ◌⊎◌, ℕ, zero, suc, ◌+◌, ◌<◌, ◌≤◌, List, [], ◌∷◌, length, Option, None, Some}
-use Rattle.std.proofs.Common.{Bool, true, false, ap, arith, refl, sym, subst, inl, inr, ⊎_elim, take}
-use Rattle.std.specs.Prelude.{◌-◌, ◌==◌, filter, fold, not, if◌then◌else◌, slice_get, slice_index_or}
+use Rattle.std.proofs.Common.{Bool, true, false, ap, arith, drop, refl, sym, subst, inl, inr, ⊎_elim, take}
+use Rattle.std.specs.Prelude.{◌-◌, filter, fold, not, if◌then◌else◌, option_map, slice_get}
 use Rattle.std.specs.List.{list_any}
-use Rattle.std.proofs.lemmas.Bool.Decides.{eqb_tells}
 use Rattle.ufs_spec.specs.declared.flash.Place.{Place}
-use Rattle.power_loss.proofs.books.SmallFacts.{eq_self, if_false, if_true}
-use Rattle.ftl_core.specs.declared.books.Pending.{Pending}
+use Rattle.power_loss.proofs.books.SmallFacts.{eq_self}
+use Rattle.write_cache.specs.declared.slots.Landed.{Landed}
+use Rattle.write_cache.specs.declared.slots.Pending.{Pending}
 use Rattle.ftl_core.specs.declared.books.Pin.{Pin}
-use Rattle.ftl_core.specs.declared.books.Stored.{Stored}
+use Rattle.unit_map.specs.declared.Stored.{Stored}
 use Rattle.ftl_core.specs.Core.{Core}
-use Rattle.ftl_core.specs.Ends.{durable_at, front_written, group_durable, is_of_group, is_unwritten, noted}
-use Rattle.ftl_core.specs.Ends.{page_durable, page_durable_at, pins_moved, risen, settled, settled_by, whole_group}
+use Rattle.ftl_core.specs.Ends.{front_written, group_durable, landed_at, page_landed, pages_landed}
+use Rattle.write_cache.specs.Slots.{is_of_group, is_unwritten, landed}
+use Rattle.ftl_core.specs.Ends.{page_durable, page_durable_at, risen, settled, settled_by}
+use Rattle.write_cache.specs.Slots.{whole_group}
 
 -- Pages of one group and of others
 
@@ -38,11 +40,6 @@ others_fewer p ps =
     ap (λ (b : Bool). if not b then p ∷ others p.number ps else others p.number ps) e in
     let long = ap (λ (qs : List Pending). length qs) same in
     omega (arith, m, long)
-
-pub first_fewer : (ps : List Pending) (d : Pending) → 0 < length ps →
-    length (others (slice_index_or ps 0 d).number ps) < length ps
-first_fewer [] d l = absurd (omega arith)
-first_fewer (p ∷ ps) d l = others_fewer p ps
 
 -- The first group is whole
 
@@ -95,96 +92,97 @@ only_places c (p ∷ ps) =
     one places pins None = refl
     one places pins (Some place) = refl
 
-fold_same : (c : Core) (ps : List Pending) → (fold page_durable c ps).pages ≡ c.pages
-fold_same c ps = ap (λ (z : Core). z.pages) (only_places c ps)
+-- the next page, if there is one
+abbrev pub durable_next : Core → Option Pending → Core
+durable_next c None = c
+durable_next c (Some p) = page_durable c p
 
--- the pages of the group as far as the position
-abbrev pub so_far : Core → ℕ → ℕ → Core
-so_far c number at = fold page_durable c (filter (is_of_group number) (take at c.pages))
+fold_next : (c : Core) (ps : List Pending) (n : ℕ) →
+    fold page_durable c (take (suc n) ps) ≡ durable_next (fold page_durable c (take n ps)) (slice_get ps n)
+fold_next c [] zero = refl
+fold_next c [] (suc n) = refl
+fold_next c (p ∷ ps) zero = refl
+fold_next c (p ∷ ps) (suc n) = fold_next (page_durable c p) ps n
 
-fold_one : (c : Core) (number : ℕ) (p : Pending) (b : Bool) →
-    fold page_durable c (if b then p ∷ [] else []) ≡ (if b then page_durable c p else c)
-fold_one c number p true = refl
-fold_one c number p false = refl
+left_next : (ps : List Pending) (n : ℕ) → drop 1 (drop n ps) ≡ drop (suc n) ps
+left_next [] zero = refl
+left_next [] (suc n) = refl
+left_next (p ∷ ps) zero = refl
+left_next (p ∷ ps) (suc n) = left_next ps n
 
-fold_on : (c : Core) (number : ℕ) (p : Pending) (ps qs : List Pending) (o : Option Pending) (b : Bool) →
-    fold page_durable (page_durable c p) ps ≡ durable_at (fold page_durable (page_durable c p) qs) number o →
-    fold page_durable c ps ≡ durable_at (fold page_durable c qs) number o →
-    fold page_durable c (if b then p ∷ ps else ps) ≡
-    durable_at (fold page_durable c (if b then p ∷ qs else qs)) number o
-fold_on c number p ps qs o true mine other = mine
-fold_on c number p ps qs o false mine other = other
+first_left : (ps : List Pending) (n : ℕ) → slice_get (drop n ps) 0 ≡ slice_get ps n
+first_left [] zero = refl
+first_left [] (suc n) = refl
+first_left (p ∷ ps) zero = refl
+first_left (p ∷ ps) (suc n) = first_left ps n
 
-fold_next : (c : Core) (number : ℕ) (ps : List Pending) (at : ℕ) →
-    fold page_durable c (filter (is_of_group number) (take (suc at) ps)) ≡
-    durable_at (fold page_durable c (filter (is_of_group number) (take at ps))) number (slice_get ps at)
-fold_next c number [] zero = refl
-fold_next c number [] (suc at) = refl
-fold_next c number (p ∷ ps) zero = fold_one c number p (is_of_group number p)
-fold_next c number (p ∷ ps) (suc at) =
-    fold_on c number p (filter (is_of_group number) (take (suc at) ps)) (filter (is_of_group number) (take at ps))
-    (slice_get ps at) (is_of_group number p) (fold_next (page_durable c p) number ps at) (fold_next c number ps at)
+-- the first page leaves its slot, if there is one, and is durable
+abbrev pub landed_next : Core → Option Pending → Core
+landed_next c None = c
+landed_next c (Some p) = page_landed c (landed p)
+
+abbrev pub land_first : Core → Core
+land_first c = landed_next (record c { pages = drop 1 c.pages }) (slice_get c.pages 0)
+
+-- which pages are left does not matter to what becomes durable
+landed_beside : (c : Core) (ps : List Pending) (o : Option Pending) →
+    landed_next (record c { pages = ps }) o ≡ record (durable_next c o) { pages = ps }
+landed_beside c ps None = refl
+landed_beside c ps (Some p) = by p.written
+  where
+    by : (o : Option Place) →
+        landed_at (record c { pages = ps }) (landed p) o ≡ record (page_durable_at c p o) { pages = ps }
+    by None = refl
+    by (Some place) = refl
+
+pub landed_some : (c : Core) (o : Option Pending) (r : Option Landed) (p : Landed) → r ≡ option_map landed o →
+    r ≡ Some p → page_landed c p ≡ landed_next c o
+landed_some c None r p is some = cc
+landed_some c (Some q) r p is some = ap (page_landed c) (same p (landed q) (sym some ∙ is))
+  where
+    same : (x y : Landed) → Some x ≡ Some y → x ≡ y
+    same x y e = cc
+
+pub landed_none : (c : Core) (o : Option Pending) (r : Option Landed) → r ≡ option_map landed o →
+    ((p : Landed) → r ≡ Some p → ⊥) → c ≡ landed_next c o
+landed_none c None r is none = refl
+landed_none c (Some q) r is none = absurd (none (landed q) is)
 
 -- one page more
-pub next_page : (c d e : Core) (number at : ℕ) → d ≡ so_far c number at →
-    e ≡ durable_at d number (slice_get d.pages at) → e ≡ so_far c number (at + 1)
-next_page c d e number at now is =
+pub next_landed : (c d e : Core) (n : ℕ) → d ≡ pages_landed c n → e ≡ land_first d → e ≡ pages_landed c (n + 1)
+next_landed c d e n now is =
     is
-    ∙ ap (λ (z : Core). durable_at z number (slice_get z.pages at)) now
-    ∙ ap (λ (ps : List Pending). durable_at (so_far c number at) number (slice_get ps at))
-    (fold_same c (filter (is_of_group number) (take at c.pages)))
-    ∙ sym (fold_next c number c.pages at)
-    ∙ ap (so_far c number) (one at)
+    ∙ ap land_first now
+    ∙ ap (λ (ps : List Pending). landed_next (record before { pages = ps }) (slice_get (drop n c.pages) 0))
+    (left_next c.pages n)
+    ∙ ap (landed_next (record before { pages = drop (suc n) c.pages })) (first_left c.pages n)
+    ∙ landed_beside before (drop (suc n) c.pages) (slice_get c.pages n)
+    ∙ sym (ap (λ (z : Core). record z { pages = drop (suc n) c.pages }) (fold_next c c.pages n))
+    ∙ ap (pages_landed c) (one n)
   where
-    one : (n : ℕ) → suc n ≡ n + 1
-    one n = omega arith
+    before : Core
+    before = fold page_durable c (take n c.pages)
 
-pub pages_left : (c d : Core) (number at : ℕ) → d ≡ so_far c number at → d.pages ≡ c.pages
-pages_left c d number at now =
-    ap (λ (z : Core). z.pages) now ∙ fold_same c (filter (is_of_group number) (take at c.pages))
+    one : (k : ℕ) → suc k ≡ k + 1
+    one k = omega arith
 
--- all of them, and the group is pending no more
-pub group_made : (c v d e : Core) (number : ℕ) (pages : List Pending) → v ≡ d →
-    d ≡ fold page_durable c (filter (is_of_group number) c.pages) → pages ≡ others number v.pages →
-    e ≡ record v { pages = pages; frontier = risen v } → e ≡ group_durable c number
-group_made c v d e number pages view made left is =
-    is ∙ ap (λ (qs : List Pending). record v { pages = qs; frontier = risen v }) left
-    ∙ ap (λ (z : Core). record z { pages = others number z.pages; frontier = risen z })
-    (view ∙ made ∙ only_places c (filter (is_of_group number) c.pages))
-    ∙ sym (ap (λ (z : Core). record z { pages = others number c.pages; frontier = risen c })
-    (only_places c (filter (is_of_group number) c.pages)))
-
--- One page
-
--- a page of another group leaves all as it is
-pub durable_other : (c : Core) (number : ℕ) (p : Pending) (o : Option Pending) → o ≡ Some p →
-    (p.number ≡ number → ⊥) → c ≡ durable_at c number o
-durable_other c number p o there other =
-    sym (ap (durable_at c number) there ∙ if_false (p.number == number) (page_durable c p) c
-    (⊎_elim (λ h. absurd (other h.1)) (λ h. h.0) (eqb_tells p.number number)))
-
-durable_mine : (c : Core) (number : ℕ) (p : Pending) (o : Option Pending) → o ≡ Some p → p.number ≡ number →
-    durable_at c number o ≡ page_durable c p
-durable_mine c number p o there mine =
-    ap (durable_at c number) there
-    ∙ if_true (p.number == number) (page_durable c p) c (ap (λ (n : ℕ). n == number) mine ∙ eq_self number)
-
--- so does one that is not written
-pub durable_unwritten : (c : Core) (number : ℕ) (p : Pending) (o : Option Pending) → o ≡ Some p → p.number ≡ number →
-    p.written ≡ None → c ≡ durable_at c number o
-durable_unwritten c number p o there mine unwritten =
-    sym (durable_mine c number p o there mine ∙ ap (page_durable_at c p) unwritten)
-
--- the number of the page is that of the group
-pub durable_written : (c e : Core) (number : ℕ) (p : Pending) (place : Place) (o : Option Pending) → o ≡ Some p →
-    p.number ≡ number → p.written ≡ Some place →
-    e ≡ pins_moved (noted c p.key (record { place = place; number = number })) p.index
-    (record { place = place; number = number }) → e ≡ durable_at c number o
-durable_written c e number p place o there mine written is =
+-- all pages of the first group, and it is pending no more
+pub group_landed : (c d e : Core) (number n : ℕ) → take n c.pages ≡ filter (is_of_group number) c.pages →
+    drop n c.pages ≡ others number c.pages → d ≡ pages_landed c n → e ≡ record d { frontier = risen d } →
+    e ≡ group_durable c number
+group_landed c d e number n mine left now is =
     is
-    ∙ ap (λ (n : ℕ). pins_moved (noted c p.key (record { place = place; number = n })) p.index
-    (record { place = place; number = n })) (sym mine)
-    ∙ sym (durable_mine c number p o there mine ∙ ap (page_durable_at c p) written)
+    ∙ ap (λ (z : Core). record z { frontier = risen z }) now
+    ∙ ap (λ (ps : List Pending). record (fold page_durable c ps) {
+      pages = drop n c.pages;
+      frontier = risen (fold page_durable c ps);
+    }) mine
+    ∙ ap (λ (z : Core). record (fold page_durable c ours) { pages = drop n c.pages; frontier = risen z })
+    (only_places c ours)
+    ∙ ap (λ (ps : List Pending). record (fold page_durable c ours) { pages = ps; frontier = risen c }) left
+  where
+    ours : List Pending
+    ours = filter (is_of_group number) c.pages
 
 -- Until none is whole
 
@@ -260,6 +258,6 @@ settled_step c number written =
         sym (ap (λ (n : ℕ). settled_by n (group_durable c number)) (over a b l ∙ ap (λ (n : ℕ). (b - 1 - a) + n) e)
         ∙ settled_enough (b - 1 - a) (group_durable c number))
 
-pub none_written : (r : Option ℕ) → ((number : ℕ) → r ≡ Some number → ⊥) → r ≡ None
+pub none_written : {A : Type 0} (r : Option A) → ((x : A) → r ≡ Some x → ⊥) → r ≡ None
 none_written None other = refl
-none_written (Some number) other = absurd (other number refl)
+none_written (Some x) other = absurd (other x refl)

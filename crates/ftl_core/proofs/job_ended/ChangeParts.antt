@@ -12,14 +12,14 @@ use Rattle.ufs_spec.specs.Ledger.{Ledger, entry_of}
 use Rattle.ufs_spec.specs.Translation.{Translation, Work, is_bad, is_mended, spots}
 use Rattle.power_loss.proofs.books.SmallFacts.{at_spot_cases, if_false, if_true}
 use Rattle.ftl_core.specs.Core.{Core}
-use Rattle.ftl_core.specs.declared.books.BlockState.{BlockState}
-use Rattle.ftl_core.specs.declared.books.BlockState.TheVariants as state
+use Rattle.block_table.specs.declared.BlockState.{BlockState}
+use Rattle.block_table.specs.declared.BlockState.TheVariants as state
 use Rattle.ftl_core.specs.declared.books.Book.{Book}
 use Rattle.ftl_core.specs.declared.books.Mending.{Mending}
-use Rattle.ftl_core.specs.declared.books.OpenBlock.{OpenBlock}
-use Rattle.ftl_core.specs.declared.books.Pending.{Pending}
+use Rattle.block_table.specs.declared.OpenBlock.{OpenBlock}
+use Rattle.write_cache.specs.declared.slots.Pending.{Pending}
 use Rattle.ftl_core.specs.declared.books.Step.{Step}
-use Rattle.ftl_core.specs.declared.books.Stored.{Stored}
+use Rattle.unit_map.specs.declared.Stored.{Stored}
 use Rattle.ftl_core.specs.Describes.{BlocksKept, IsFilling, IsFlight, Kept, LedgerKept, PagesFly, PinsKept}
 use Rattle.ftl_core.specs.Describes.{StepReadsKept, WorkKept, block_kept, spot_at}
 use Rattle.ftl_core.specs.Moves.{page_written, with_book, with_state}

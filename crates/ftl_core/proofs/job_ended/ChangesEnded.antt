@@ -7,10 +7,10 @@ use Rattle.ufs_spec.specs.Disk.{Spot, at_place}
 use Rattle.ufs_spec.specs.Translation.{Translation, is_bad}
 use Rattle.power_loss.specs.Invariant.{EraseRight}
 use Rattle.ftl_core.specs.Core.{Core}
-use Rattle.ftl_core.specs.declared.books.BlockState.{BlockState}
-use Rattle.ftl_core.specs.declared.books.BlockState.TheVariants as state
+use Rattle.block_table.specs.declared.BlockState.{BlockState}
+use Rattle.block_table.specs.declared.BlockState.TheVariants as state
 use Rattle.ftl_core.specs.declared.books.Book.{Book}
-use Rattle.ftl_core.specs.declared.books.OpenBlock.{OpenBlock}
+use Rattle.block_table.specs.declared.OpenBlock.{OpenBlock}
 use Rattle.ftl_core.specs.Describes.{BlocksKept, Describes, IsFilling, Kept, spot_at}
 use Rattle.ftl_core.specs.Moves.{erased, went_bad}
 use Rattle.ftl_core.specs.Takes.{next_place}

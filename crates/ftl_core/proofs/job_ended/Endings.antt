@@ -30,7 +30,7 @@ use Rattle.ftl_core.proofs.job_ended.StepContent.{step_read_ends}
 use Rattle.ftl_core.proofs.job_ended.StepsEnded.{step_ends_well, step_ends_wrong}
 use Rattle.ftl_core.proofs.group_settled.GroupsEnded.{group_ends_well}
 use Rattle.ftl_core.specs.Takes.{next_place}
-use Rattle.ftl_core.specs.declared.books.OpenBlock.{OpenBlock}
+use Rattle.block_table.specs.declared.OpenBlock.{OpenBlock}
 use Rattle.ftl_core.proofs.job_taken.NextStarts.{outside}
 use Rattle.ftl_core.proofs.job_ended.ReadsEnded.{idle_kept, read_ends, task_kept}
 use Rattle.ftl_core.proofs.job_ended.ReadsGiven.{lost_told, step_told, task_told}

@@ -19,12 +19,12 @@ use Rattle.ufs_spec.specs.Translation.{is_bad, is_mended}
 use Rattle.power_loss.specs.Book.{book}
 use Rattle.power_loss.specs.Invariant.{MendingRight, Valid}
 use Rattle.ftl_core.specs.Core.{Core}
-use Rattle.ftl_core.specs.declared.books.BlockState.{BlockState}
-use Rattle.ftl_core.specs.declared.books.BlockState.TheVariants as state
+use Rattle.block_table.specs.declared.BlockState.{BlockState}
+use Rattle.block_table.specs.declared.BlockState.TheVariants as state
 use Rattle.ftl_core.specs.declared.books.Book.{Book}
 use Rattle.ftl_core.specs.declared.books.Mending as kept
 use Rattle.ftl_core.specs.declared.books.Mending.TheVariants as mendings
-use Rattle.ftl_core.specs.declared.books.OpenBlock.{OpenBlock}
+use Rattle.block_table.specs.declared.OpenBlock.{OpenBlock}
 use Rattle.ftl_core.specs.declared.books.Step.{Step}
 use Rattle.ftl_core.specs.declared.books.Step.TheVariants as steps
 use Rattle.ftl_core.specs.Describes.{AreToRepair, BlocksKept, Describes, IsFilling, IsStepCell, Kept, StepKept}

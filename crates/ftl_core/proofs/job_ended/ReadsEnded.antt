@@ -17,7 +17,7 @@ use Rattle.power_loss.proofs.books.SmallFacts.{at_die_cases, two_ways}
 use Rattle.ftl_core.specs.declared.books.Book.{Book}
 use Rattle.ftl_core.specs.declared.books.Looked.TheVariants as looked
 use Rattle.ftl_core.specs.declared.books.Pin.{Pin}
-use Rattle.ftl_core.specs.declared.books.Stored.{Stored}
+use Rattle.unit_map.specs.declared.Stored.{Stored}
 use Rattle.ftl_core.specs.Core.{Core}
 use Rattle.ftl_core.specs.Describes.{Describes, IsWanted, Kept, ReadsKept}
 use Rattle.ftl_core.specs.Gives.{is_read, wanted_no_more}

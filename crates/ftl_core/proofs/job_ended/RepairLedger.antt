@@ -13,15 +13,17 @@ use Rattle.ufs_spec.specs.Translation as layer
 use Rattle.ufs_spec.specs.declared.flash.Key.{Key}
 use Rattle.power_loss.specs.Book.{Book, IsPageAt, last_number}
 use Rattle.power_loss.proofs.books.LastOfEachKey.{key_told}
-use Rattle.recovery.specs.KeysInOrder.{key_total}
+use Rattle.geometry.specs.Keys.{key_total}
 use Rattle.power_loss.proofs.books.PagesByName.{none_some, page_new, some_is}
 use Rattle.power_loss.proofs.books.SmallFacts.{if_true, two_ways}
 use Rattle.ftl_core.specs.declared.books.Pin.{Pin}
-use Rattle.ftl_core.specs.declared.books.Stored.{Stored}
+use Rattle.unit_map.specs.declared.Stored.{Stored}
 use Rattle.ftl_core.specs.Core.{Core}
 use Rattle.ftl_core.specs.Describes.{AreToRepair, IsStored, LedgerKept, PinsKept, Standing, names_pending}
-use Rattle.ftl_core.specs.Ends.{places_noted, risen}
-use Rattle.ftl_core.specs.Moves.{position_of, stored_of}
+use Rattle.ftl_core.specs.Ends.{risen}
+use Rattle.unit_map.specs.Places.{places_noted}
+use Rattle.ftl_core.specs.Moves.{stored_of}
+use Rattle.unit_map.specs.Places.{position_of}
 use Rattle.ftl_core.proofs.group_settled.FrontLedger.{durable_next, index_other}
 use Rattle.ftl_core.proofs.group_settled.NotedPlaces.{places_length}
 use Rattle.ftl_core.proofs.group_settled.FrontPlaces.{stored_next}

@@ -20,18 +20,19 @@ use Rattle.ufs_spec.specs.declared.flash.Tag.{Tag}
 use Rattle.power_loss.specs.Book.{book}
 use Rattle.power_loss.specs.Invariant.{Valid}
 use Rattle.power_loss.proofs.books.SmallFacts.{if_true, name_is, name_self}
-use Rattle.ftl_core.specs.declared.books.BlockState.{BlockState}
-use Rattle.ftl_core.specs.declared.books.BlockState.TheVariants as state
+use Rattle.block_table.specs.declared.BlockState.{BlockState}
+use Rattle.block_table.specs.declared.BlockState.TheVariants as state
 use Rattle.ftl_core.specs.declared.books.Book.{Book}
-use Rattle.ftl_core.specs.declared.books.OpenBlock.{OpenBlock}
+use Rattle.block_table.specs.declared.OpenBlock.{OpenBlock}
 use Rattle.ftl_core.specs.declared.books.Step.{Step}
 use Rattle.ftl_core.specs.declared.books.Step.TheVariants as steps
-use Rattle.ftl_core.specs.declared.books.Stored.{Stored}
+use Rattle.unit_map.specs.declared.Stored.{Stored}
 use Rattle.ftl_core.specs.Core.{Core}
 use Rattle.ftl_core.specs.Describes.{AreToRepair, BlocksKept, Describes, IsFilling, IsStepCell, Kept, LedgerKept}
 use Rattle.ftl_core.specs.Describes.{RepairKept, StepKept, keys_to_repair, name_at, spot_at}
 use Rattle.ftl_core.specs.Ends.{noted, repair_over, risen}
-use Rattle.ftl_core.specs.Moves.{page_written, stored_in}
+use Rattle.ftl_core.specs.Moves.{page_written}
+use Rattle.unit_map.specs.Places.{stored_in}
 use Rattle.ftl_core.specs.Takes.{next_place}
 use Rattle.ftl_core.proofs.group_settled.FrontDurable.{climbed_of, raised_to}
 use Rattle.ftl_core.proofs.group_settled.PageStands.{at_here, fly_written, stored_on, with_page}

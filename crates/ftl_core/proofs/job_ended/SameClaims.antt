@@ -4,21 +4,23 @@ use Rattle.std.specs.Prelude.{if◌then◌else◌, filter, fold, nat_le, nat_lt,
 use Rattle.ufs_spec.specs.declared.flash.Outcome.{Outcome}
 use Rattle.ufs_spec.specs.declared.flash.Place.{Place}
 use Rattle.ftl_core.specs.declared.books.Book.{Book}
-use Rattle.ftl_core.specs.declared.books.Claimed.{Claimed}
+use Rattle.write_cache.specs.declared.slots.Claimed.{Claimed}
 use Rattle.ftl_core.specs.declared.books.Flight.{Flight}
 use Rattle.ftl_core.specs.declared.books.Flight.TheVariants as flight
-use Rattle.ftl_core.specs.declared.books.OpenBlock.{OpenBlock}
-use Rattle.ftl_core.specs.declared.books.Pending.{Pending}
+use Rattle.block_table.specs.declared.OpenBlock.{OpenBlock}
+use Rattle.write_cache.specs.declared.slots.Pending.{Pending}
 use Rattle.ftl_core.specs.declared.books.Reader.{Reader}
 use Rattle.ftl_core.specs.declared.books.Reader.TheVariants as readers
 use Rattle.ftl_core.specs.declared.books.Step.{Step}
 use Rattle.ftl_core.specs.declared.books.Step.TheVariants as steps
 use Rattle.ftl_core.specs.Core.{Core}
 use Rattle.ftl_core.specs.Done.{IsBookAfter, IsCoreEnded, IsFlightAfter}
-use Rattle.ftl_core.specs.Ends.{front_written, group_durable, is_of_group, page_durable, page_durable_at}
-use Rattle.ftl_core.specs.Ends.{pending_at, pending_written, settled_by, step_again, step_over, with_content}
+use Rattle.ftl_core.specs.Ends.{front_written, group_durable, page_durable, page_durable_at}
+use Rattle.write_cache.specs.Slots.{is_of_group}
+use Rattle.ftl_core.specs.Ends.{pending_written, settled_by, step_again, step_over, with_content}
 use Rattle.ftl_core.specs.Gives.{IsReadAfter, IsReadOver, change_after, change_ended, ending, is_read}
-use Rattle.ftl_core.specs.Moves.{claims_for, is_claim_of, page_written}
+use Rattle.ftl_core.specs.Moves.{claims_for, page_written}
+use Rattle.write_cache.specs.Slots.{is_claim_of}
 
 -- Either way
 
@@ -54,10 +56,6 @@ settles (suc n) c =
       | Some number ↦ settles n (group_durable c number) ∙ durable (filter (is_of_group number) c.pages) c
     ]
 
-stands : (c : Core) (place : Place) (o : Option ℕ) → (pending_written c place o).claims ≡ c.claims
-stands c place None = refl
-stands c place (Some k) = refl
-
 -- The step under way
 
 over : (c : Core) (step : Option Step) (place : Place) → (step_over c step place).claims ≡ c.claims
@@ -77,8 +75,8 @@ changed c die b (flight.Read place reader) well = refl
 changed c die b (flight.Step place) true = written (step_over c c.step place) die b b.filling ∙ over c c.step place
 changed c die b (flight.Step place) false = again c c.step
 changed c die b (flight.Group place n i) true =
-    settles _ (page_written (pending_written c place (pending_at c n i)) die b b.filling)
-    ∙ written (pending_written c place (pending_at c n i)) die b b.filling ∙ stands c place (pending_at c n i)
+    settles _ (page_written (pending_written c n i place) die b b.filling)
+    ∙ written (pending_written c n i place) die b b.filling
 changed c die b (flight.Group place n i) false = refl
 changed c die b (flight.Erase block) true = refl
 changed c die b (flight.Erase block) false = refl

@@ -7,7 +7,7 @@ use Rattle.ufs_spec.specs.Disk as disk
 use Rattle.ufs_spec.specs.Moves.{cell_failed, cell_written}
 use Rattle.ufs_spec.specs.Translation.{Translation}
 use Rattle.ftl_core.specs.declared.books.Book.{Book}
-use Rattle.ftl_core.specs.declared.books.OpenBlock.{OpenBlock}
+use Rattle.block_table.specs.declared.OpenBlock.{OpenBlock}
 use Rattle.ftl_core.specs.declared.books.Step.{Step}
 use Rattle.ftl_core.specs.declared.books.Step.TheVariants as steps
 use Rattle.ftl_core.specs.Core.{Core}

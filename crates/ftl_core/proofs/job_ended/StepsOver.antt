@@ -12,7 +12,7 @@ use Rattle.ufs_spec.specs.Translation.{Translation, flies_name, name_of}
 use Rattle.power_loss.proofs.books.SmallFacts.{at_die_cases, name_is, name_self}
 use Rattle.ftl_core.specs.declared.books.Flight.{Flight}
 use Rattle.ftl_core.specs.declared.books.Flight.TheVariants as flight
-use Rattle.ftl_core.specs.declared.books.OpenBlock.{OpenBlock}
+use Rattle.block_table.specs.declared.OpenBlock.{OpenBlock}
 use Rattle.ftl_core.specs.declared.books.Step.{Step}
 use Rattle.ftl_core.specs.declared.books.Step.TheVariants as steps
 use Rattle.ftl_core.specs.Core.{Core}

@@ -24,12 +24,12 @@ use Rattle.power_loss.proofs.books.SmallFacts.{at_die_cases, name_is, name_self,
 use Rattle.ftl_core.specs.declared.books.Book.{Book}
 use Rattle.ftl_core.specs.declared.books.Flight.{Flight}
 use Rattle.ftl_core.specs.declared.books.Flight.TheVariants as flight
-use Rattle.ftl_core.specs.declared.books.OpenBlock.{OpenBlock}
+use Rattle.block_table.specs.declared.OpenBlock.{OpenBlock}
 use Rattle.ftl_core.specs.declared.books.Pin.{Pin}
 use Rattle.ftl_core.specs.declared.books.Reader.TheVariants as reader
 use Rattle.ftl_core.specs.declared.books.Step.{Step}
 use Rattle.ftl_core.specs.declared.books.Step.TheVariants as steps
-use Rattle.ftl_core.specs.declared.books.Stored.{Stored}
+use Rattle.unit_map.specs.declared.Stored.{Stored}
 use Rattle.ftl_core.specs.Core.{Core}
 use Rattle.ftl_core.specs.Describes.{BookKept, DiesKept, IsFilling, IsFlight, IsStepCell, Kept, PagesFly, ReadsKept}
 use Rattle.ftl_core.specs.Describes.{Standing, StepReadsKept, name_at, spot_at}

@@ -11,7 +11,7 @@ use Rattle.power_loss.specs.Book.{book}
 use Rattle.power_loss.specs.Invariant.{StepKindRight, Valid}
 use Rattle.power_loss.proofs.books.PagesByName.{none_some}
 use Rattle.power_loss.proofs.books.SmallFacts.{two_ways}
-use Rattle.ftl_core.specs.declared.books.Pending.{Pending}
+use Rattle.write_cache.specs.declared.slots.Pending.{Pending}
 use Rattle.ftl_core.specs.declared.books.Step.{Step}
 use Rattle.ftl_core.specs.declared.books.Step.TheVariants as steps
 use Rattle.ftl_core.specs.Core.{Core}

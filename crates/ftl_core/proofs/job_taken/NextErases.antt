@@ -8,10 +8,11 @@ use Rattle.ufs_spec.specs.Ledger.{entry_of}
 use Rattle.ufs_spec.specs.Translation as layer
 use Rattle.ufs_spec.specs.Translation.{Translation, may_be_erased, next_erase}
 use Rattle.ufs_spec.specs.declared.configs.Numbers.{Numbers}
-use Rattle.ftl_core.specs.declared.books.BlockState.TheVariants as state
+use Rattle.block_table.specs.declared.BlockState.TheVariants as state
 use Rattle.ftl_core.specs.Core.{Core}
 use Rattle.ftl_core.specs.Describes.{Describes, block_kept, spot_at}
-use Rattle.ftl_core.specs.Moves.{free_blocks, is_erasable, is_free, state_of}
+use Rattle.ftl_core.specs.Moves.{free_blocks, is_erasable, state_of}
+use Rattle.block_table.specs.Blocks.{is_free}
 use Rattle.ftl_core.specs.Takes.{found_or, lowest_below}
 use Rattle.ftl_core.proofs.pins.PinsAlike.{pinned_as}
 use Rattle.ftl_core.proofs.opened.Spots.{found_lowest, free_counted, same_free, state_there}

@@ -14,7 +14,7 @@ use Rattle.power_loss.specs.Book.{IsPageAt, book}
 use Rattle.power_loss.proofs.books.PagesByName.{new_page}
 use Rattle.power_loss.proofs.books.SmallFacts.{two_ways}
 use Rattle.power_loss.proofs.books.FrontierClimbs.{get_drop}
-use Rattle.ftl_core.specs.declared.books.Pending.{Pending}
+use Rattle.write_cache.specs.declared.slots.Pending.{Pending}
 use Rattle.ftl_core.specs.Core.{Core}
 use Rattle.ftl_core.specs.Describes.{Describes, PageKept, names_pending}
 use Rattle.ftl_core.specs.Takes.{page_waiting, page_waits, writes_page}

@@ -5,10 +5,11 @@ use Rattle.ufs_spec.specs.Cells.{GroupPage}
 use Rattle.ufs_spec.specs.Ledger.{Entry, Name, entry_of}
 use Rattle.ufs_spec.specs.Translation.{Translation, cell_now, cell_of_entry}
 use Rattle.power_loss.proofs.ordered_lists.ElementsAndOrders.{IsIn, at_has}
-use Rattle.ftl_core.specs.declared.books.Pending.{Pending}
+use Rattle.write_cache.specs.declared.slots.Pending.{Pending}
 use Rattle.ftl_core.specs.Core.{Core}
 use Rattle.ftl_core.specs.Describes.{Describes, PageKept, PagesKept, Standing, name_at, names_pending}
-use Rattle.ftl_core.specs.Moves.{is_named, tag_of_page}
+use Rattle.ftl_core.specs.Moves.{tag_of_page}
+use Rattle.write_cache.specs.Slots.{is_named}
 use Rattle.ftl_core.proofs.pages.NamesBehind.{name_is}
 use Rattle.ftl_core.proofs.pages.PagesNamed.{page_named, pages_get}
 use Rattle.ftl_core.proofs.pins.FoundPins.{found_there}

@@ -34,7 +34,7 @@ use Rattle.ftl_core.specs.declared.books.Flight.TheVariants as flight
 use Rattle.ftl_core.specs.declared.books.Reader.TheVariants as reader
 use Rattle.ftl_core.specs.declared.books.Step.{Step}
 use Rattle.ftl_core.specs.declared.books.Step.TheVariants as steps
-use Rattle.ftl_core.specs.declared.books.Stored.{Stored}
+use Rattle.unit_map.specs.declared.Stored.{Stored}
 use Rattle.ftl_core.specs.Takes as takes
 use Rattle.ftl_core.specs.Takes.{core_taken, first_owed, idle_flight, job_taken, owed_flight, owed_read, read_of}
 use Rattle.ftl_core.specs.Takes.{reads_step, step_read, step_read_at, step_wants}

@@ -29,7 +29,7 @@ use Rattle.power_loss.proofs.books.PagesByName.{none_some}
 use Rattle.power_loss.proofs.books.SmallFacts.{and_true, if_false, if_true, name_told}
 use Rattle.ftl_core.specs.declared.books.Step.{Step}
 use Rattle.ftl_core.specs.declared.books.Step.TheVariants as steps
-use Rattle.ftl_core.specs.declared.books.Stored.{Stored}
+use Rattle.unit_map.specs.declared.Stored.{Stored}
 use Rattle.ftl_core.specs.Core.{Core}
 use Rattle.ftl_core.specs.Describes.{Describes, IsStepCell, RepairKept, StepKept, name_at}
 use Rattle.ftl_core.specs.Moves.{single_tag}

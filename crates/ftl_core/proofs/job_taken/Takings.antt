@@ -19,8 +19,8 @@ use Rattle.power_loss.proofs.books.SmallFacts.{and_true, if_true, name_is, name_
 use Rattle.ftl_core.specs.declared.books.Book.{Book}
 use Rattle.ftl_core.specs.declared.books.Flight.{Flight}
 use Rattle.ftl_core.specs.declared.books.Flight.TheVariants as flight
-use Rattle.ftl_core.specs.declared.books.OpenBlock.{OpenBlock}
-use Rattle.ftl_core.specs.declared.books.Pending.{Pending}
+use Rattle.block_table.specs.declared.OpenBlock.{OpenBlock}
+use Rattle.write_cache.specs.declared.slots.Pending.{Pending}
 use Rattle.ftl_core.specs.declared.books.Waiting.{Waiting}
 use Rattle.ftl_core.specs.declared.books.Waiting.TheVariants as waiting
 use Rattle.ftl_core.specs.Core.{Core}

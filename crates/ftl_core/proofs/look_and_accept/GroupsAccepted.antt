@@ -22,13 +22,14 @@ use Rattle.power_loss.proofs.moves.MovesKeepValid.{all_keep}
 use Rattle.power_loss.proofs.ordered_lists.ElementsAndOrders.{mapped_at}
 use Rattle.power_loss.proofs.pending_groups.DurableInOrder as durable
 use Rattle.power_loss.proofs.pending_groups.PendingByFrontier.{beyond}
-use Rattle.ftl_core.specs.declared.books.Claimed.{Claimed}
+use Rattle.write_cache.specs.declared.slots.Claimed.{Claimed}
 use Rattle.ftl_core.specs.declared.books.Mending.{Mending}
-use Rattle.ftl_core.specs.declared.books.Pending.{Pending}
+use Rattle.write_cache.specs.declared.slots.Pending.{Pending}
 use Rattle.ftl_core.specs.declared.books.Step.{Step}
 use Rattle.ftl_core.specs.Core.{Core}
 use Rattle.ftl_core.specs.Describes.{Describes, PageKept, PagesKept, WorkKept, name_at}
-use Rattle.ftl_core.specs.Moves.{accepted, claims_for, is_claim_of, key_at, page_claimed, pages_claimed}
+use Rattle.ftl_core.specs.Moves.{accepted, claims_for, pages_claimed}
+use Rattle.write_cache.specs.Slots.{is_claim_of, key_at, page_claimed}
 use Rattle.ftl_core.specs.Tells.{claim_at, claims_behind, claims_of_blocks, group_of_blocks, items_behind, key_behind}
 use Rattle.ftl_core.proofs.look_and_accept.KeysBehind.{keys_same}
 use Rattle.ftl_core.proofs.look_and_accept.MoreGroups.{ledger_more, pins_kept_more, with_group, work_more}

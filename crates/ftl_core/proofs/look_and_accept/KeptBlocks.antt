@@ -23,7 +23,8 @@ use Rattle.power_loss.proofs.ordered_lists.ElementsAndOrders.{mapped_at}
 use Rattle.ftl_core.specs.declared.books.Pin.{Pin}
 use Rattle.ftl_core.specs.Core.{Core}
 use Rattle.ftl_core.specs.Describes.{Describes, IsLookOf, IsLookedAt, PinKept, PinsKept}
-use Rattle.ftl_core.specs.Moves.{is_of_reader, is_pin_of, kept_all, key_at, look_of, pin_now}
+use Rattle.ftl_core.specs.Moves.{is_of_reader, is_pin_of, kept_all, look_of, pin_now}
+use Rattle.write_cache.specs.Slots.{key_at}
 use Rattle.ftl_core.specs.Tells.{PinsDiffer, keep_at, keeps_for, keeps_of, key_behind}
 use Rattle.ftl_core.proofs.look_and_accept.KeysBehind.{keys_same}
 use Rattle.ftl_core.proofs.look_and_accept.LookedPages.{looked_there}

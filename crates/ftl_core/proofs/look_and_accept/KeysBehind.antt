@@ -7,7 +7,7 @@ use Rattle.ufs_spec.specs.Plain.{shape_of_numbers}
 use Rattle.ufs_spec.specs.declared.configs.Numbers.{Numbers}
 use Rattle.ufs_spec.specs.declared.flash.Key.{Key}
 use Rattle.power_loss.proofs.stops.SealedCells.{key_ranges}
-use Rattle.ftl_core.specs.Moves.{key_at}
+use Rattle.write_cache.specs.Slots.{key_at}
 use Rattle.ftl_core.specs.Tells.{key_behind}
 
 pub keys_same : (n : Numbers) (k : Key) (i : ℕ) → InRange n → IsKey (shape_of_numbers n) (key_behind k i) →

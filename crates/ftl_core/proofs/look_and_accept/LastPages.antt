@@ -21,9 +21,9 @@ use Rattle.power_loss.proofs.books.FrontierClimbs.{get_drop}
 use Rattle.power_loss.proofs.books.LastOfEachKey.{IsLastOf, NoneOf}
 use Rattle.power_loss.proofs.books.PagesByName.{new_page, page_new}
 use Rattle.power_loss.proofs.ordered_lists.ElementsAndOrders.{at_has, has_at}
-use Rattle.ftl_core.specs.declared.books.Pending.{Pending}
+use Rattle.write_cache.specs.declared.slots.Pending.{Pending}
 use Rattle.ftl_core.specs.Describes.{PageKept, PagesKept, name_at}
-use Rattle.ftl_core.specs.Moves.{is_page_of, last_page}
+use Rattle.write_cache.specs.Slots.{is_page_of, last_page}
 use Rattle.ftl_core.proofs.look_and_accept.Numbers.{behind}
 use Rattle.ftl_core.proofs.pages.NamesBehind.{get_either, get_name, in_names, name_is, names_differ, names_in}
 use Rattle.ftl_core.proofs.pages.PagesNamed.{names_get, pages_get}

@@ -13,11 +13,12 @@ use Rattle.power_loss.proofs.books.LastOfEachKey.{IsLastOf, NoneOf, latest_cases
 use Rattle.power_loss.proofs.books.SmallFacts.{if_false, if_true}
 use Rattle.power_loss.proofs.kept_pages.LookedUpPages.{latest_splits}
 use Rattle.ftl_core.specs.declared.books.Looked.TheVariants as looked
-use Rattle.ftl_core.specs.declared.books.Pending.{Pending}
-use Rattle.ftl_core.specs.declared.books.Stored.{Stored}
+use Rattle.write_cache.specs.declared.slots.Pending.{Pending}
+use Rattle.unit_map.specs.declared.Stored.{Stored}
 use Rattle.ftl_core.specs.Core.{Core}
 use Rattle.ftl_core.specs.Describes.{Describes, IsLookedAt, IsStored}
-use Rattle.ftl_core.specs.Moves.{last_page, look_of, looked_at, stored_of}
+use Rattle.ftl_core.specs.Moves.{look_of, looked_at, stored_of}
+use Rattle.write_cache.specs.Slots.{last_page}
 use Rattle.ftl_core.proofs.look_and_accept.LastPages.{last_kept, none_kept}
 use Rattle.ftl_core.proofs.look_and_accept.LookedPages.{durable_within}
 use Rattle.ftl_core.proofs.look_and_accept.Numbers.{behind, kept_pages}

@@ -15,7 +15,7 @@ use Rattle.recovery.specs.KeysInOrder.{state_of_found as layer_state}
 use Rattle.recovery.specs.declared.keys.FoundBlock.{FoundBlock}
 use Rattle.recovery.specs.declared.keys.FoundBlock.TheVariants as found
 use Rattle.recovery.specs.declared.found.Found.{Found}
-use Rattle.ftl_core.specs.declared.books.BlockState.{BlockState}
+use Rattle.block_table.specs.declared.BlockState.{BlockState}
 use Rattle.ftl_core.specs.Describes.{BlocksKept, block_kept}
 use Rattle.ftl_core.specs.Moves.{is_bad_found, state_of_found}
 

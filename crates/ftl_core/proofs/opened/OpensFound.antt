@@ -32,20 +32,22 @@ use Rattle.power_loss.specs.Book.{CellsRight}
 use Rattle.power_loss.proofs.books.PagesByName.{none_some}
 use Rattle.power_loss.proofs.openings.OpenedIsValid.{opening_valid}
 use Rattle.recovery.specs.Found.{IsFound, newest_found}
-use Rattle.recovery.specs.KeysInOrder.{AtSettings, IsIndex, key_total}
+use Rattle.geometry.specs.Keys.{AtSettings, IsIndex, key_total}
 use Rattle.recovery.specs.Opened.{IsFenceFound, IsPageOf, OpensFound}
 use Rattle.recovery.specs.declared.found.Found.{Found}
 use Rattle.recovery.specs.declared.pages.FoundPage.{FoundPage}
-use Rattle.recovery.proofs.key_order.KeyIndexes.{is_index, known_index}
+use Rattle.geometry.proofs.KeyIndexes.{is_index, known_index}
 use Rattle.recovery.proofs.opened.FoundOpens.{found_opens}
 use Rattle.ftl_core.specs.declared.books.Book.{Book}
-use Rattle.ftl_core.specs.declared.books.Stored.{Stored}
+use Rattle.unit_map.specs.declared.Stored.{Stored}
 use Rattle.ftl_core.specs.Core.{Core}
 use Rattle.ftl_core.specs.Describes.{AreToRepair, BookKept, Describes, DiesKept, IsStored}
 use Rattle.ftl_core.specs.Describes.{LedgerKept, PagesKept, PinsKept, Standing, StepKept, WorkKept, mending_kept}
 use Rattle.ftl_core.specs.Describes.{spot_at}
-use Rattle.ftl_core.specs.Moves.{first_mending, flat, idle_book, mark_number_behind, mending_from}
-use Rattle.ftl_core.specs.Moves.{number_behind, opened, stored_in, stored_of_found}
+use Rattle.ftl_core.specs.Moves.{first_mending, idle_book, mark_number_behind, mending_from}
+use Rattle.unit_map.specs.Places.{flat}
+use Rattle.ftl_core.specs.Moves.{number_behind, opened, stored_of_found}
+use Rattle.unit_map.specs.Places.{stored_in}
 use Rattle.ftl_core.proofs.opened.FoundBlocks.{blocks_found}
 
 -- Dies

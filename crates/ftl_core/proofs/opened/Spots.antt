@@ -24,11 +24,11 @@ use Rattle.ufs_spec.specs.declared.flash.Place.{Place}
 use Rattle.ufs_laws.proofs.plain_contents.ListParts.{get_or-made, joined_next, joined_same, length-joined, length-made}
 use Rattle.ufs_laws.proofs.plain_contents.ListParts.{made_of, made_same}
 use Rattle.power_loss.proofs.books.SmallFacts.{at_spot_cases}
-use Rattle.ftl_core.specs.declared.books.BlockState.{BlockState}
-use Rattle.ftl_core.specs.declared.books.BlockState.TheVariants as state
-use Rattle.ftl_core.specs.declared.books.OpenBlock.{OpenBlock}
+use Rattle.block_table.specs.declared.BlockState.{BlockState}
+use Rattle.block_table.specs.declared.BlockState.TheVariants as state
+use Rattle.block_table.specs.declared.OpenBlock.{OpenBlock}
 use Rattle.ftl_core.specs.Describes.{BlocksKept, IsFilling, block_kept, spot_at}
-use Rattle.ftl_core.specs.Moves.{is_free}
+use Rattle.block_table.specs.Blocks.{is_free}
 use Rattle.ftl_core.specs.Takes.{lowest_below, next_place, found_or}
 
 -- Rows of the same length

@@ -7,9 +7,9 @@ use Rattle.ufs_spec.specs.Ledger.{Entry, Name}
 use Rattle.ufs_spec.proofs.Facts.{and_from, and_parts, eq-eqb, eqb-true, none-some, same_Some}
 use Rattle.ufs_spec.proofs.Lists.{any_here, find_some, none_passes, position_any, position_told}
 use Rattle.power_loss.proofs.ordered_lists.ElementsAndOrders.{IsIn, at_has, found_in, has_at}
-use Rattle.ftl_core.specs.declared.books.Pending.{Pending}
+use Rattle.write_cache.specs.declared.slots.Pending.{Pending}
 use Rattle.ftl_core.specs.Describes.{PageKept, PagesKept, Standing, name_at}
-use Rattle.ftl_core.specs.Moves.{is_named}
+use Rattle.write_cache.specs.Slots.{is_named}
 use Rattle.ftl_core.proofs.pages.NamesBehind.{name_is}
 
 -- Position by position

@@ -12,7 +12,7 @@ use Rattle.power_loss.proofs.books.PagesByName.{none_some, some_is}
 use Rattle.ftl_core.specs.declared.books.Looked.{Looked}
 use Rattle.ftl_core.specs.declared.books.Looked.TheVariants as looked
 use Rattle.ftl_core.specs.declared.books.Pin.{Pin}
-use Rattle.ftl_core.specs.declared.books.Stored.{Stored}
+use Rattle.unit_map.specs.declared.Stored.{Stored}
 use Rattle.ftl_core.specs.Describes.{IsLookedAt, PinKept, PinsKept}
 use Rattle.ftl_core.specs.Moves.{keeps, keeps_page}
 

@@ -13,7 +13,7 @@ use Rattle.ftl_core.specs.declared.books.Book.{Book}
 use Rattle.ftl_core.specs.declared.books.Flight.{Flight}
 use Rattle.ftl_core.specs.declared.books.Flight.TheVariants as flight
 use Rattle.ftl_core.specs.declared.books.Looked.{Looked}
-use Rattle.ftl_core.specs.declared.books.OpenBlock.{OpenBlock}
+use Rattle.block_table.specs.declared.OpenBlock.{OpenBlock}
 use Rattle.ftl_core.specs.declared.books.Reader as kept
 use Rattle.ftl_core.specs.declared.books.Reader.TheVariants as readers
 use Rattle.ftl_core.specs.declared.books.Step.{Step}

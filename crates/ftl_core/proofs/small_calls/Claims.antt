@@ -11,10 +11,11 @@ use Rattle.ufs_spec.specs.Translation as layer
 use Rattle.ufs_spec.specs.Translation.{Translation}
 use Rattle.power_loss.proofs.moves.MovesKeepValid.{all_keep}
 use Rattle.power_loss.proofs.jobs.ReadsAndTasks.{releases}
-use Rattle.ftl_core.specs.declared.books.Claimed.{Claimed}
+use Rattle.write_cache.specs.declared.slots.Claimed.{Claimed}
 use Rattle.ftl_core.specs.Core.{Core}
 use Rattle.ftl_core.specs.Describes.{Describes, Kept}
-use Rattle.ftl_core.specs.Moves.{claim_filled, claimed_all, claims_for, empty_claim, filled, free_slots, is_claim_of}
+use Rattle.ftl_core.specs.Moves.{claimed_all, claims_for, filled, free_slots}
+use Rattle.write_cache.specs.Slots.{claim_filled, empty_claim, is_claim_of}
 use Rattle.ftl_core.specs.Moves.{released}
 use Rattle.ftl_core.proofs.small_calls.ReadersClaims.{left_beside}
 use Rattle.ftl_core.proofs.small_calls.SmallCalls.{slots_right}

@@ -8,8 +8,10 @@ use Rattle.std.proofs.lemmas.List.Filters.{length-filter_both}
 use Rattle.ufs_spec.proofs.Facts.{cases_Bool, cond-false, cond-true, eq-eqb, eqb-true}
 use Rattle.ufs_spec.specs.Keys.{below}
 use Rattle.ufs_spec.specs.Plain.{zero_block}
-use Rattle.ftl_core.specs.declared.books.Claimed.{Claimed}
-use Rattle.ftl_core.specs.Moves.{claim_filled, empty_claim, is_claim_of}
+use Rattle.write_cache.specs.declared.slots.Claimed.{Claimed}
+use Rattle.write_cache.specs.Slots.{claim_filled, empty_claim, is_claim_of}
+use Rattle.ftl_core.specs.Core.{Core}
+use Rattle.ftl_core.specs.Moves.{claimed_all, claims_for}
 use Rattle.ftl_core.specs.Tells.{claim_at, claims_behind, claims_of_blocks}
 
 -- Filters
@@ -188,3 +190,19 @@ others_filled reader index body claims after new other apart =
     ∙ (filter_changed (is_claim_of other) (claim_filled reader index body) claims (λ claim. refl)
     ∙ map_left (is_claim_of other) (claim_filled reader index body) claims
     (not_filled reader index body other apart))
+
+-- Whether or not as many are free
+
+pub claims_either : (c after : Core) (reader blocks : ℕ) (free : Bool) →
+    after ≡ (if free then claimed_all c reader blocks else c) → claims_for c reader ≡ [] →
+    claims_for after reader ≡ (if free then claims_of_blocks reader (replicate blocks zero_block) else [])
+claims_either c after reader blocks true new none =
+    claims_reserved reader blocks c.claims after.claims (ap (λ (z : Core). z.claims) new) none
+claims_either c after reader blocks false new none = ap (λ (z : Core). claims_for z reader) new ∙ none
+
+pub others_either : (c after : Core) (reader blocks : ℕ) (free : Bool) →
+    after ≡ (if free then claimed_all c reader blocks else c) → (other : ℕ) → (other ≡ reader → ⊥) →
+    claims_for after other ≡ claims_for c other
+others_either c after reader blocks true new other apart =
+    others_reserved reader blocks c.claims after.claims (ap (λ (z : Core). z.claims) new) other apart
+others_either c after reader blocks false new other apart = ap (λ (z : Core). claims_for z other) new

@@ -23,14 +23,15 @@ use Rattle.power_loss.proofs.books.SmallFacts.{name_self}
 use Rattle.power_loss.specs.Book.{BaseAt, BaseNone, Book, FirstRight, HasKey, book, book_of}
 use Rattle.power_loss.specs.Invariant.{Valid}
 use Rattle.ftl_core.specs.declared.books.Mending.TheVariants as mendings
-use Rattle.ftl_core.specs.declared.books.Pending.{Pending}
+use Rattle.write_cache.specs.declared.slots.Pending.{Pending}
 use Rattle.ftl_core.specs.declared.books.Pin.{Pin}
 use Rattle.ftl_core.specs.declared.books.Step.{Step}
-use Rattle.ftl_core.specs.declared.books.Stored.{Stored}
+use Rattle.unit_map.specs.declared.Stored.{Stored}
 use Rattle.ftl_core.specs.Core.{Core}
 use Rattle.ftl_core.specs.Describes.{AreToRepair, Describes, IsStored, Kept, LedgerKept, PagesFly, PinsKept}
 use Rattle.ftl_core.specs.Describes.{RepairKept, keys_to_repair, mending_kept, name_at, names_pending}
-use Rattle.ftl_core.specs.Moves.{next_number, repair_ordered, repair_step, stored_in, stored_of}
+use Rattle.ftl_core.specs.Moves.{next_number, repair_ordered, repair_step, stored_of}
+use Rattle.unit_map.specs.Places.{stored_in}
 use Rattle.ftl_core.proofs.look_and_accept.Numbers.{numbers_right}
 use Rattle.ftl_core.proofs.opened.ListParts.{drop_next}
 use Rattle.ftl_core.proofs.steps_ordered.MarksOrdered.{MayBegin, dies_on, no_reads}

@@ -1,14 +1,14 @@
 //! How a job in flight ends, and what a step of the device's own orders.
 ghost use Rattle.std.specs.Prelude.{◌≡◌, ℕ, ◌<◌, ◌≤◌, ◌+◌, ◌^◌, IsSome, IfNone, IfSome, IsTrue, List, Option, length, vec_capacity, if◌then◌else◌, map, nat_le, option_map, position, is_some, slice_get, Some, filter, fold, not, option_copied};
 ghost use Rattle.std.specs.List.{list_any};
-ghost use Rattle.ftl_core.specs.Ends.{front_written, group_durable, is_of_group, is_unwritten, noted, page_durable};
-ghost use Rattle.ftl_core.specs.Ends.{pending_at, pending_written, risen, settled, whole_group};
-ghost use Rattle.ftl_core.specs.Ends.{durable_at, pins_moved, mark_over, mending_behind, repair_over, step_failed, step_there, step_written};
+ghost use Rattle.ftl_core.specs.Ends.{noted, page_durable, page_landed, pages_landed, risen, settled, pins_moved};
+ghost use Rattle.ftl_core.specs.Ends.{mark_over, mending_behind, repair_over, step_failed, step_there, step_written};
 ghost use Rattle.ftl_core.specs.Ends.{with_content};
 ghost use Rattle.ftl_core.specs.Gives.{Gives, GivesIf, IsBodyLooked, IsBodyOf, IsGiven, change_after, change_ended, ending, erase_ended, group_ended, is_read, names, other_for, IsGivenTo, wanted_no_more};
 ghost use Rattle.ftl_core.specs.Gives.{IsContentOf, IsContentRead, IsReadAfter, IsReadOver, step_ended};
 ghost use Rattle.ftl_core.specs.Done.{FlightEnds, IsCoreEnded, IsEnded, IsFlightAfter};
-ghost use Rattle.ftl_core.specs.Moves.{claims_for, is_repair_due, is_turn_due, moved_pin, erased, has_number, mark_ordered, page_written, went_bad, pin_of, is_named, now_stored};
+ghost use Rattle.ftl_core.specs.Moves.{claims_for, is_repair_due, is_turn_due, moved_pin, erased, has_number, mark_ordered, page_written, went_bad, pin_of, now_stored};
+ghost use Rattle.write_cache.specs.Slots.{is_named};
 ghost use Rattle.ftl_core.specs.Moves.{repair_ordered, repair_turned, turned};
 ghost use Rattle.ufs_spec.specs.Keys.{IsBlock};
 ghost use Rattle.ufs_spec.specs.Moves.{EndJob, Ending, IsEndingOf, MayEnd, TakeStep, moved, suits};
@@ -20,12 +20,12 @@ ghost use Rattle.ftl_core.specs.Stops.{StopsRight};
 ghost use Rattle.ftl_core.specs.Tells.{IsReadOf};
 ghost use Rattle.ftl_core.specs.declared.ftl.Ended.{Ended};
 
-use super::{Ended, Ftl, LAST_NUMBER, is_named, zeros};
-use crate::books::{
-    BlockState, Book, Flight, Looked, Mending, OpenBlock, Pending, Pin, Reader, Step, Stored,
-};
+use super::{Ended, Ftl, zeros};
+use crate::books::{Book, Flight, Looked, Mending, Pin, Reader, Step};
 use page_tag::{one_seal, open};
 use ufs_spec::{Block, Fence, Key, Outcome, Page, Place, Tag};
+use unit_map::Stored;
+use write_cache::{LAST_NUMBER, Landed};
 
 /// Whether the tag is of this address and this number.
 fn names(tag: &Tag, key: Key, number: u64) -> bool
@@ -156,59 +156,6 @@ fn move_pins(pins: &mut [Pin], index: u16, stored: Stored)
     }
 }
 
-/// The position of the page of a pending group with this number and index.
-fn pending_at(pages: &[Pending], number: u64, index: u16) -> Option<usize>
-    ensures what { result ≡ position (is_named number index) pages.now }
-    ensures less { IfSome result (λ k. k < length pages.now) }
-{
-    pages.iter().position(|page| is_named(page, number, index))
-}
-
-/// Whether the page is of the group with this number.
-fn is_of_group(page: &Pending, number: u64) -> bool
-    ensures { result ≡ is_of_group number page.now }
-{
-    page.number == number
-}
-
-/// Whether the page is of the group with this number and not written yet.
-fn is_unwritten(page: &Pending, number: u64) -> bool
-    ensures { result ≡ is_unwritten number page.now }
-{
-    is_of_group(page, number) && page.written.is_none()
-}
-
-/// Whether a page of the group with this number is not written yet.
-fn has_unwritten(pages: &[Pending], number: u64) -> bool
-    ensures { result ≡ list_any (is_unwritten number) pages.now }
-{
-    pages.iter().any(|page| is_unwritten(page, number))
-}
-
-/// The number of the first group, if all its pages are written.
-fn whole_group(pages: &[Pending]) -> Option<u64>
-    ensures what { result ≡ whole_group pages.now (slice_get pages.now 0) }
-    ensures fewer { IfSome result (λ number. length (filter (λ p. not (is_of_group number p)) pages.now) < length pages.now) }
-{
-    if pages.is_empty() {
-        return None;
-    }
-    let number = pages[0].number;
-    if has_unwritten(pages, number) {
-        return None;
-    }
-    Some(number)
-}
-
-/// The pages of the group with this number are pending no more.
-fn drop_group(pages: &mut Vec<Pending>, number: u64)
-    ensures left { pages.new.items ≡ filter (λ p. not (is_of_group number p)) pages.old.items }
-    ensures room { vec_capacity pages.new ≡ vec_capacity pages.old }
-    ensures fewer { length pages.new.items ≤ length pages.old.items }
-{
-    pages.retain(|page| !is_of_group(page, number));
-}
-
 /// How far the mending is once its mark is finished: one with a fence is followed by the repairs.
 fn mending_behind(mending: Mending) -> Mending
     ensures { result ≡ mending_behind mending }
@@ -273,66 +220,24 @@ impl Ftl {
     fn page_written(&mut self, die: u8, book: Book)
         ensures { self.new ≡ page_written self.old die book book.filling }
     {
-        let Some(open) = book.filling else {
-            return self.set_book(
-                die,
-                Book {
-                    filling: None,
-                    flight: None,
-                },
-            );
-        };
-        if open.next < self.config.numbers().pages.saturating_sub(1) {
-            let next = OpenBlock {
-                block: open.block,
-                next: open.next + 1,
-            };
-            self.set_book(
-                die,
-                Book {
-                    filling: Some(next),
-                    flight: None,
-                },
-            );
-        } else {
-            self.set_state(die, open.block, BlockState::Closed);
-            self.set_book(
-                die,
-                Book {
-                    filling: None,
-                    flight: None,
-                },
-            );
-        }
+        self.blocks.page_written(die, book.filling);
+        self.set_flight(die, None);
     }
 
     /// The block is bad from now on, and the die fills no block.
     fn went_bad(&mut self, die: u8, block: u16)
         ensures { self.new ≡ went_bad self.old die block }
     {
-        self.set_state(die, block, BlockState::Bad);
-        self.has_bad = true;
-        self.set_book(
-            die,
-            Book {
-                filling: None,
-                flight: None,
-            },
-        );
+        self.blocks.went_bad(die, block);
+        self.set_flight(die, None);
     }
 
     /// The block is empty, and the die fills it from now on.
     fn erase_done(&mut self, die: u8, block: u16)
         ensures { self.new ≡ erased self.old die block }
     {
-        self.set_state(die, block, BlockState::Open);
-        self.set_book(
-            die,
-            Book {
-                filling: Some(OpenBlock { block, next: 0 }),
-                flight: None,
-            },
-        );
+        self.blocks.erased(die, block);
+        self.set_flight(die, None);
     }
 
     /// The page of the step under way is written, and the step is over.
@@ -363,7 +268,7 @@ impl Ftl {
         self.rise();
         let stored = Stored {
             place,
-            number: self.frontier,
+            number: self.cache.frontier(),
         };
         self.note_place(key, stored);
     }
@@ -401,9 +306,8 @@ impl Ftl {
         requires left { self.old.repaired < length self.old.lost }
         ensures { self.new ≡ repair_ordered self.old key }
     {
-        let number = self.next_number();
         let from = self.stored(key);
-        self.last = number;
+        let number = self.cache.give_number();
         self.repaired += 1;
         self.content = zeros();
         self.step = Some(Step::Repair {
@@ -414,30 +318,11 @@ impl Ftl {
         });
     }
 
-    /// The page with this number and index is written there, if it is pending.
-    fn write_page(&mut self, number: u64, index: u16, place: Place)
-        ensures { self.new ≡ pending_written self.old place (pending_at self.old number index) }
-    {
-        if let Some(at) = pending_at(self.pages.as_slice(), number, index) {
-            let page = &mut self.pages[at];
-            page.written = Some(place);
-        }
-    }
-
-    /// The number of the first pending group, if all its pages are written.
-    fn front_written(&self) -> Option<u64>
-        ensures what { result ≡ front_written self.now }
-        ensures fewer { IfSome result (λ number.
-            length (filter (λ p. not (is_of_group number p)) self.now.pages) < length self.now.pages) }
-    {
-        whole_group(self.pages.as_slice())
-    }
-
     /// The frontier is the next number, if that was given.
     fn rise(&mut self)
         ensures { self.new ≡ record self.old { frontier = risen self.old } }
     {
-        self.frontier = (self.frontier + 1).min(self.last);
+        self.cache.rise();
     }
 
     /// The page of a group is durable: its address now reads from where it is written, and so does who
@@ -449,57 +334,45 @@ impl Ftl {
         move_pins(self.pins.as_mut_slice(), index, stored);
     }
 
-    /// The page at this position is durable, if it is of the group with this number and written.
-    fn page_at_durable(&mut self, at: usize, number: u64)
-        requires { at < length self.old.pages }
-        ensures { self.new ≡ durable_at self.old number (slice_get self.old.pages at) }
+    /// A page that left its slot is durable, if it is written.
+    fn landed(&mut self, page: Landed)
+        ensures { self.new ≡ page_landed self.old page }
     {
-        let page = &self.pages[at];
-        if page.number != number {
-            return;
-        }
         if let Some(place) = page.written {
-            let key = page.key;
-            let index = page.index;
-            self.page_durable(key, index, Stored { place, number });
+            let stored = Stored {
+                place,
+                number: page.number,
+            };
+            self.page_durable(page.key, page.index, stored);
         }
     }
 
-    /// Each page of the group with this number is durable.
-    fn pages_durable(&mut self, number: u64)
-        ensures { self.new ≡ fold page_durable self.old (filter (is_of_group number) self.old.pages) }
+    /// So many pages at the front are durable and pending no more.
+    fn pages_durable(&mut self, pages: usize)
+        requires { pages ≤ length self.old.pages }
+        ensures { self.new ≡ pages_landed self.old pages }
     {
-        for at in 0..self.pages.len() {
-            self.page_at_durable(at, number);
+        for _ in 0..pages {
+            if let Some(page) = self.cache.land() {
+                self.landed(page);
+            }
         }
-    }
-
-    /// The group with this number is durable and pending no more.
-    fn make_durable(&mut self, number: u64)
-        ensures { self.new ≡ group_durable self.old number }
-    {
-        self.pages_durable(number);
-        drop_group(&mut self.pages, number);
-        self.rise();
     }
 
     /// The durable content of the address stands there.
     fn note_place(&mut self, key: Key, stored: Stored)
         ensures { self.new ≡ noted self.old key stored }
     {
-        if let Some(index) = self.position(key) {
-            if index < self.places.len() {
-                self.places[index] = Some(stored);
-            }
-        }
+        self.places.set(key, stored);
     }
 
     /// Every group at the front that is wholly written is durable.
     fn settle(&mut self)
         ensures { self.new ≡ settled self.old }
     {
-        while let Some(number) = self.front_written() {
-            self.make_durable(number);
+        while let Some(group) = self.cache.front_written() {
+            self.pages_durable(group.pages);
+            self.rise();
         }
     }
 
@@ -516,7 +389,7 @@ impl Ftl {
         ensures { self.new ≡ group_ended self.old die book place number index is_done }
     {
         if is_done {
-            self.write_page(number, index, place);
+            self.cache.mark_written(number, index, place);
             self.page_written(die, book);
             self.settle();
         } else {
@@ -627,24 +500,20 @@ impl Ftl {
         reader: Reader,
         outcome: &Outcome,
     ) -> Option<Ended>
+        requires { slice_get self.old.books die ≡ Some book }
         ensures answer { GivesIf (is_read outcome.now) self.old outcome.now reader result }
         ensures after { IsReadAfter (is_read outcome.now) self.old die book outcome.now reader self.new }
     {
         if !is_read(outcome) {
             return None;
         }
-        self.set_book(
-            die,
-            Book {
-                filling: book.filling,
-                flight: None,
-            },
-        );
+        self.set_flight(die, None);
         Some(self.give(reader, outcome))
     }
 
     /// The end of the job that the die has in flight, if it has one.
     fn job_ended(&mut self, die: u8, book: Book, outcome: &Outcome) -> Option<Ended>
+        requires { slice_get self.old.books die ≡ Some book }
         ensures nothing { IfNone result (self.new ≡ self.old) }
         ensures answer { FlightEnds self.old book.flight outcome.now result }
         ensures after { IsFlightAfter self.old die book book.flight outcome.now self.new }
@@ -731,7 +600,7 @@ impl Ftl {
         let Some(key) = self.next_lost() else {
             return self.turn_mark(None);
         };
-        if self.last >= LAST_NUMBER {
+        if !self.cache.has_number() {
             return false;
         }
         self.order_repair(key);

@@ -1,43 +1,44 @@
 //! Which job a die is given next.
-ghost use Rattle.std.specs.Prelude.{◌≡◌, ℕ, ◌<◌, ◌≤◌, ◌+◌, ◌^◌, IfNone, IfSome, length, slice_get, Some, None};
+ghost use Rattle.std.specs.Prelude.{◌≡◌, ℕ, ◌<◌, ◌≤◌, ◌+◌, ◌^◌, IfNone, IfSome, length, slice_get, slice_set, Some, None};
 ghost use Rattle.std.specs.Prelude.{true, false, if◌then◌else◌, unwrap_or, count_by, find, option_copied, option_map, position};
 ghost use Rattle.std.specs.List.{list_any};
-ghost use Rattle.ftl_core.specs.Takes.{block_for, core_taken, first_owed, group_job, group_job_of, is_group_page, job_of};
-ghost use Rattle.ftl_core.specs.Takes.{is_sealable, is_step_there, job_taken, lowest_below, mark_program};
-ghost use Rattle.ftl_core.specs.Takes.{next_place, owed_flight, owed_read, page_flight, page_of_group};
-ghost use Rattle.ftl_core.specs.Takes.{page_waiting, page_waits, read_of, reads_step, repair_job, repair_program};
+ghost use Rattle.ftl_core.specs.Takes.{block_for, core_taken, first_owed, flight_writes, group_job, is_group_page};
+ghost use Rattle.ftl_core.specs.Takes.{is_sealable, is_step_flight, is_step_reading, is_step_there, job_of, job_taken};
+ghost use Rattle.ftl_core.specs.Takes.{lowest_below, mark_program, next_place, owed_flight, owed_read, page_flight};
+ghost use Rattle.ftl_core.specs.Takes.{page_of_group, page_waiting, page_waits, page_waits_in, read_of, reads_step};
+ghost use Rattle.ftl_core.specs.Takes.{repair_job, repair_program, writes_step};
 ghost use Rattle.ftl_core.specs.Takes.{step_job, step_read, step_waits, step_wants, waiting_flight, waiting_of};
-ghost use Rattle.ftl_core.specs.Takes.{waiting_page, writes_page, writes_step};
-ghost use Rattle.ftl_core.specs.Moves.{claims_for, free_blocks, is_erasable, is_owed_by, keeps, looks_on, may_open, reads_for};
-ghost use Rattle.ftl_core.specs.Moves.{single_tag, state_index, state_of, tag_of_page, with_book, with_state};
+ghost use Rattle.ftl_core.specs.Takes.{waiting_page};
+ghost use Rattle.ftl_core.specs.Moves.{claims_for, flight_reads, free_blocks, in_flight, is_erasable, is_owed_in, keeps};
+ghost use Rattle.ftl_core.specs.Moves.{looks_on, may_open, single_tag, state_of, tag_of_page};
 ghost use Rattle.ufs_spec.specs.Translation.{Translation};
 ghost use Rattle.ftl_core.specs.Describes.{Describes, IsTaken, spot_at};
 ghost use Rattle.ftl_core.specs.Stops.{MayGo, StopsRightGiven};
 ghost use Rattle.ufs_spec.specs.declared.flash.Job.TheVariants as job;
 
-use super::{Ftl, LAST_NUMBER, page_named};
-use crate::books::{
-    BlockState, Book, Flight, Looked, OpenBlock, Pending, Pin, Reader, Step, Waiting,
-};
+use super::Ftl;
+use crate::books::{Book, Flight, Looked, Pin, Reader, Step, Waiting};
+use block_table::{BlockState, OpenBlock};
 use page_tag::{mark_body, seal};
 use ufs_spec::{Fence, Job, Key, Place, Tag};
+use write_cache::{LAST_NUMBER, Pending};
 
 /// How many pages a group has at most: a command has as many blocks.
 const MOST_PAGES: u16 = 32;
 
 /// The position of the first reader who is owed the read of a page of this die.
-fn first_owed(pins: &[Pin], books: &[Book], die: u8) -> Option<usize>
-    ensures what { result ≡ position (is_owed_by books.now die) pins.now }
+fn first_owed(pins: &[Pin], flights: &[Option<Flight>], die: u8) -> Option<usize>
+    ensures what { result ≡ position (is_owed_in flights.now die) pins.now }
     ensures less { IfSome result (λ k. k < length pins.now) }
 {
-    pins.iter().position(|pin| is_owed_by(pin, books, die))
+    pins.iter().position(|pin| is_owed_in(pin, flights, die))
 }
 
 /// Whether the reader is owed the read of a page of this die: it wants it, and no die reads for it.
-fn is_owed_by(pin: &Pin, books: &[Book], die: u8) -> bool
-    ensures { result ≡ is_owed_by books.now die pin.now }
+fn is_owed_in(pin: &Pin, flights: &[Option<Flight>], die: u8) -> bool
+    ensures { result ≡ is_owed_in flights.now die pin.now }
 {
-    pin.wanted && looks_on(&pin.looked, die) && !is_read_for(books, pin.reader, pin.index)
+    pin.wanted && looks_on(&pin.looked, die) && !is_read_for(flights, pin.reader, pin.index)
 }
 
 /// Whether a page of the die is looked at.
@@ -67,17 +68,19 @@ fn read_of(pin: &Pin) -> Option<Flight>
 }
 
 /// Whether some die reads for this block of the reader.
-fn is_read_for(books: &[Book], reader: u8, index: u16) -> bool
-    ensures { result ≡ list_any (reads_for reader index) books.now }
+fn is_read_for(flights: &[Option<Flight>], reader: u8, index: u16) -> bool
+    ensures { result ≡ list_any (flight_reads reader index) flights.now }
 {
-    books.iter().any(|book| reads_for(book, reader, index))
+    flights
+        .iter()
+        .any(|flight| reads_for(flight, reader, index))
 }
 
 /// Whether the die reads for this block of the reader.
-fn reads_for(book: &Book, reader: u8, block: u16) -> bool
-    ensures { result ≡ reads_for reader block book.now }
+fn reads_for(flight: &Option<Flight>, reader: u8, block: u16) -> bool
+    ensures { result ≡ flight_reads reader block flight.now }
 {
-    match book.flight {
+    match *flight {
         Some(
             Flight::Read {
                 place: _,
@@ -99,17 +102,19 @@ fn keeps(pin: &Pin, die: u8, block: u16) -> bool
 }
 
 /// Whether some die writes the page of the group with this number that has this index.
-fn is_written_now(books: &[Book], number: u64, index: u16) -> bool
-    ensures { result ≡ list_any (writes_page number index) books.now }
+fn is_written_now(flights: &[Option<Flight>], number: u64, index: u16) -> bool
+    ensures { result ≡ list_any (flight_writes number index) flights.now }
 {
-    books.iter().any(|book| writes_page(book, number, index))
+    flights
+        .iter()
+        .any(|flight| writes_page(flight, number, index))
 }
 
 /// Whether the die writes the page of the group with this number that has this index.
-fn writes_page(book: &Book, group: u64, page: u16) -> bool
-    ensures { result ≡ writes_page group page book.now }
+fn writes_page(flight: &Option<Flight>, group: u64, page: u16) -> bool
+    ensures { result ≡ flight_writes group page flight.now }
 {
-    match book.flight {
+    match *flight {
         Some(
             Flight::Group {
                 place: _,
@@ -122,17 +127,17 @@ fn writes_page(book: &Book, group: u64, page: u16) -> bool
 }
 
 /// Whether the page is neither written nor in flight.
-fn page_waits(page: &Pending, books: &[Book]) -> bool
-    ensures { result ≡ page_waits books.now page.now }
+fn page_waits(page: &Pending, flights: &[Option<Flight>]) -> bool
+    ensures { result ≡ page_waits_in flights.now page.now }
 {
-    page.written.is_none() && !is_written_now(books, page.number, page.index)
+    page.written.is_none() && !is_written_now(flights, page.number, page.index)
 }
 
-/// The page that waits first.
-fn page_waiting<'a>(pages: &'a [Pending], books: &[Book]) -> Option<&'a Pending>
-    ensures { option_copied result ≡ find (page_waits books.now) pages.now }
+/// What is in flight of the die; `None` if there is no such die.
+fn flight_of(flights: &[Option<Flight>], die: u8) -> Option<Option<Flight>>
+    ensures { result ≡ slice_get flights.now die }
 {
-    pages.iter().find(|page| page_waits(page, books))
+    flights.get(die as usize).copied()
 }
 
 /// What waits, if it is this page.
@@ -146,34 +151,34 @@ fn waiting_page(page: &Pending) -> Waiting
 }
 
 /// Whether some die writes the page of the step under way.
-fn is_step_written_now(books: &[Book]) -> bool
-    ensures { result ≡ list_any writes_step books.now }
+fn is_step_written_now(flights: &[Option<Flight>]) -> bool
+    ensures { result ≡ list_any is_step_flight flights.now }
 {
-    books.iter().any(|book| writes_step(book))
+    flights.iter().any(|flight| writes_step(flight))
 }
 
 /// Whether the die writes the page of the step under way.
-fn writes_step(book: &Book) -> bool
-    ensures { result ≡ writes_step book.now }
+fn writes_step(flight: &Option<Flight>) -> bool
+    ensures { result ≡ is_step_flight flight.now }
 {
-    match book.flight {
+    match *flight {
         Some(Flight::Step { .. }) => true,
         _ => false,
     }
 }
 
 /// Whether some die reads for the step under way.
-fn is_step_read_now(books: &[Book]) -> bool
-    ensures { result ≡ list_any reads_step books.now }
+fn is_step_read_now(flights: &[Option<Flight>]) -> bool
+    ensures { result ≡ list_any is_step_reading flights.now }
 {
-    books.iter().any(|book| reads_step(book))
+    flights.iter().any(|flight| reads_step(flight))
 }
 
 /// Whether the die reads for the step under way.
-fn reads_step(book: &Book) -> bool
-    ensures { result ≡ reads_step book.now }
+fn reads_step(flight: &Option<Flight>) -> bool
+    ensures { result ≡ is_step_reading flight.now }
 {
-    match book.flight {
+    match *flight {
         Some(
             Flight::Read {
                 reader: Reader::Step,
@@ -291,29 +296,11 @@ fn page_flight(place: Place, waiting: Waiting) -> Flight
 }
 
 impl Ftl {
-    /// Where the die's block stands among all blocks.
-    pub(super) fn state_index(&self, die: u8, block: u16) -> usize
-        ensures { result ≡ state_index self.now die block }
-    {
-        die as usize * self.config.numbers().blocks as usize + block as usize
-    }
-
-    /// What the block is; `Bad` where there is no such block.
-    pub(super) fn state(&self, die: u8, block: u16) -> BlockState
+    /// What the block is; `Bad` if there is no such block.
+    fn state(&self, die: u8, block: u16) -> BlockState
         ensures { result ≡ state_of self.now die block }
     {
-        let index = self.state_index(die, block);
-        self.states.get(index).copied().unwrap_or(BlockState::Bad)
-    }
-
-    /// Notes what the block is from now on.
-    pub(super) fn set_state(&mut self, die: u8, block: u16, state: BlockState)
-        ensures { self.new ≡ with_state self.old die block state }
-    {
-        let index = self.state_index(die, block);
-        if index < self.states.len() {
-            self.states[index] = state;
-        }
+        self.blocks.state(die, block)
     }
 
     /// The configuration has at most 8 units. It does nothing: its contract says so.
@@ -323,20 +310,24 @@ impl Ftl {
         let _ = &self.config;
     }
 
-    /// What is known of the die; `None` where there is no such die.
+    /// What is known of the die; `None` if there is no such die.
     pub(super) fn book(&self, die: u8) -> Option<Book>
         ensures { result ≡ slice_get self.now.books die }
     {
-        self.books.get(die as usize).copied()
+        let flight = flight_of(self.flights.as_slice(), die)?;
+        Some(Book {
+            filling: self.blocks.open_block(die),
+            flight,
+        })
     }
 
-    /// Notes what is known of the die from now on.
-    pub(super) fn set_book(&mut self, die: u8, book: Book)
-        ensures { self.new ≡ with_book self.old die book }
+    /// This is in flight of the die from now on, if there is such a die.
+    pub(super) fn set_flight(&mut self, die: u8, flight: Option<Flight>)
+        ensures { self.new ≡ in_flight self.old die flight }
     {
         let index = die as usize;
-        if index < self.books.len() {
-            self.books[index] = book;
+        if index < self.flights.len() {
+            self.flights[index] = flight;
         }
     }
 
@@ -344,10 +335,7 @@ impl Ftl {
     fn free_blocks(&self) -> usize
         ensures { result ≡ free_blocks self.now }
     {
-        self.states
-            .iter()
-            .filter(|state| **state == BlockState::Free)
-            .count()
+        self.blocks.free_blocks()
     }
 
     /// Whether a reader keeps a page of the block.
@@ -378,19 +366,53 @@ impl Ftl {
         None
     }
 
+    /// Whether some die writes the page of the step under way.
+    fn is_step_written(&self) -> bool
+        ensures { result ≡ list_any writes_step self.now.books }
+    {
+        is_step_written_now(self.flights.as_slice())
+    }
+
+    /// Whether some die reads for the step under way.
+    fn is_step_read(&self) -> bool
+        ensures { result ≡ list_any reads_step self.now.books }
+    {
+        is_step_read_now(self.flights.as_slice())
+    }
+
+    /// Whether the page is neither written nor in flight.
+    fn page_waits(&self, page: &Pending) -> bool
+        ensures { result ≡ page_waits self.now.books page.now }
+    {
+        page_waits(page, self.flights.as_slice())
+    }
+
+    /// The position of the first reader who is owed the read of a page of this die.
+    fn first_owed(&self, die: u8) -> Option<usize>
+        ensures what { result ≡ first_owed self.now die }
+        ensures less { IfSome result (λ k. k < length self.now.pins) }
+    {
+        first_owed(self.pins.as_slice(), self.flights.as_slice(), die)
+    }
+
     /// The page of a group that waits first.
     fn waiting_group(&self) -> Option<Waiting>
         ensures { result ≡ option_map waiting_page (page_waiting self.now) }
     {
-        let page = page_waiting(self.pages.as_slice(), self.books.as_slice())?;
-        Some(waiting_page(page))
+        for at in 0..self.cache.pending() {
+            let page = self.cache.page(at)?;
+            if self.page_waits(page) {
+                return Some(waiting_page(page));
+            }
+        }
+        None
     }
 
     /// Whether the page of the step under way waits.
     fn step_waits(&self) -> bool
         ensures { result ≡ step_waits self.now }
     {
-        is_step_there(&self.step) && !is_step_written_now(self.books.as_slice())
+        is_step_there(&self.step) && !self.is_step_written()
     }
 
     /// What waits first: the page of a step goes before those of groups, and these in order of
@@ -415,7 +437,7 @@ impl Ftl {
             Waiting::Group {
                 number: _,
                 index: _,
-            } => self.free_blocks() > self.books.len() + 2,
+            } => self.free_blocks() > self.flights.len() + 2,
         }
     }
 
@@ -430,7 +452,7 @@ impl Ftl {
             unit: 0,
             address: 0,
         };
-        let tag = tag_of(key, number, self.frontier);
+        let tag = tag_of(key, number, self.cache.frontier());
         let body = mark_body(self.config.numbers(), fence);
         Job::Program(place, seal(&tag, &body))
     }
@@ -441,7 +463,7 @@ impl Ftl {
         requires named { is_sealable key ≡ true }
         ensures { result ≡ repair_program self.now place number key }
     {
-        let tag = tag_of(key, number, self.frontier);
+        let tag = tag_of(key, number, self.cache.frontier());
         Job::Program(place, seal(&tag, &self.content))
     }
 
@@ -473,8 +495,8 @@ impl Ftl {
         requires { is_group_page page.now ≡ true }
         ensures { result ≡ page_of_group self.now place page.now }
     {
-        let tag = tag_of_page(page, self.frontier);
-        Job::Program(place, seal(&tag, &page.body))
+        let tag = tag_of_page(page, self.cache.frontier());
+        Job::Program(place, seal(&tag, page.body.block()))
     }
 
     /// The program of the page with this number and index, if it is pending. Only data of a unit is
@@ -482,7 +504,7 @@ impl Ftl {
     fn group_job(&self, place: Place, number: u64, index: u16) -> Option<Job>
         ensures { result ≡ group_job self.now place number index }
     {
-        let page = page_named(self.pages.as_slice(), number, index)?;
+        let page = self.cache.page_named(number, index)?;
         if is_group_page(page) {
             Some(self.program_of(place, page))
         } else {
@@ -534,7 +556,7 @@ impl Ftl {
         ensures { result ≡ step_read self.now die }
     {
         let place = step_wants(&self.step)?;
-        if place.die != die || is_step_read_now(self.books.as_slice()) {
+        if place.die != die || self.is_step_read() {
             return None;
         }
         Some(Flight::Read {
@@ -547,7 +569,7 @@ impl Ftl {
     fn owed_read(&self, die: u8) -> Option<Flight>
         ensures { result ≡ owed_read self.now die (first_owed self.now die) }
     {
-        match first_owed(self.pins.as_slice(), self.books.as_slice(), die) {
+        match self.first_owed(die) {
             Some(index) => read_of(&self.pins[index]),
             None => self.step_read(die),
         }
@@ -589,13 +611,7 @@ impl Ftl {
         }
         let flight = self.owed_flight(die, book)?;
         let job = self.job_of(die, flight)?;
-        self.set_book(
-            die,
-            Book {
-                filling: book.filling,
-                flight: Some(flight),
-            },
-        );
+        self.set_flight(die, Some(flight));
         Some(job)
     }
 }

@@ -14,9 +14,10 @@ use Rattle.ufs_spec.specs.declared.flash.Key.{Key}
 use Rattle.ufs_spec.proofs.Equalities.{key_cases, key_same}
 use Rattle.ufs_spec.proofs.Facts.{and_from, cond-false, cond-true, le-leb, not_from_false}
 use Rattle.ufs_spec.proofs.Lists.{set_here, set_other}
-use Rattle.recovery.specs.KeysInOrder.{IsIndex, IsNewestOf, is_fenced, is_kept_page, is_newer, key_total, with_page}
+use Rattle.geometry.specs.Keys.{IsIndex, key_total}
+use Rattle.recovery.specs.KeysInOrder.{IsNewestOf, is_fenced, is_kept_page, is_newer, with_page}
 use Rattle.recovery.specs.declared.pages.FoundPage.{FoundPage}
-use Rattle.recovery.proofs.key_order.Indexes.{index_below, index_known, indexes_apart, one_index}
+use Rattle.geometry.proofs.Indexes.{index_below, index_known, indexes_apart, one_index}
 use Rattle.recovery.proofs.key_order.NewestPages.{one_more}
 
 -- A slice's new content in the list that it is a slice of

@@ -14,11 +14,12 @@ use Rattle.ufs_spec.specs.declared.flash.Tag.{Tag}
 use Rattle.ufs_spec.proofs.Equalities.{key_cases}
 use Rattle.ufs_spec.proofs.Facts.{cases_lt, true≢false, same_Some}
 use Rattle.ufs_spec.proofs.Lists.{get_grows, get_last, get_splits, none_in_empty, set_here, set_other}
-use Rattle.recovery.specs.KeysInOrder.{AreKnown, AreMarked, IsIndex, IsLostAmong, key_total}
+use Rattle.geometry.specs.Keys.{IsIndex, key_total}
+use Rattle.recovery.specs.KeysInOrder.{AreKnown, AreMarked, IsLostAmong}
 use Rattle.recovery.specs.Listed.{AreListed}
 use Rattle.recovery.specs.declared.pages.FoundPage.{FoundPage}
 use Rattle.recovery.proofs.key_order.Entries.{none_yet}
-use Rattle.recovery.proofs.key_order.Indexes.{index_below, indexes_apart, known_index, one_index, one_key, rise_before}
+use Rattle.geometry.proofs.Indexes.{index_below, indexes_apart, known_index, one_index, one_key, rise_before}
 
 -- Which keys are marked
 

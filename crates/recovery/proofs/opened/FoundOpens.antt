@@ -17,12 +17,13 @@ use Rattle.ufs_spec.specs.declared.flash.Key.{Key}
 use Rattle.ufs_spec.proofs.Facts.{true≢false}
 use Rattle.ufs_laws.proofs.array_cells.StandsForOne.{kept_one, mark_one}
 use Rattle.recovery.specs.Found.{IsFound, newest_found}
-use Rattle.recovery.specs.KeysInOrder.{IsIndex, state_of_found}
+use Rattle.geometry.specs.Keys.{IsIndex}
+use Rattle.recovery.specs.KeysInOrder.{state_of_found}
 use Rattle.recovery.specs.Listed.{AreInRange, IsContentPage}
 use Rattle.recovery.specs.Opened.{IsFenceFound, IsPageOf, OpensFound}
 use Rattle.recovery.specs.declared.found.Found.{Found}
 use Rattle.recovery.specs.declared.pages.FoundPage.{FoundPage}
-use Rattle.recovery.proofs.key_order.Indexes.{index_known}
+use Rattle.geometry.proofs.Indexes.{index_known}
 use Rattle.recovery.proofs.opened.ContentPages.{is_page_of}
 use Rattle.recovery.proofs.opened.LostLists.{lost_differ, lost_one}
 

@@ -20,7 +20,7 @@ use Rattle.ufs_spec.proofs.CellKinds.{page_not_nothing}
 use Rattle.ufs_laws.proofs.array_cells.StandsForOne.{content_one}
 use Rattle.ufs_laws.proofs.deciding.SearchOverPlaces.{is_place}
 use Rattle.recovery.specs.Found.{HasSettings, IsFound, newest_found}
-use Rattle.recovery.specs.KeysInOrder.{AtSettings}
+use Rattle.geometry.specs.Keys.{AtSettings}
 use Rattle.recovery.specs.Listed.{IsContentPage}
 use Rattle.recovery.specs.declared.found.Found.{Found}
 use Rattle.recovery.specs.declared.pages.FoundPage.{FoundPage}

@@ -16,12 +16,12 @@ use Rattle.ufs_laws.proofs.array_cells.StandsForSomething.{ContentsArePlain, Con
 use Rattle.ufs_laws.proofs.pages.PageIsOneCell.{one_cell}
 use Rattle.ufs_laws.proofs.plain_contents.PlainFromContents.{contents_there, state_is_plain}
 use Rattle.recovery.specs.Found.{IsFound, newest_found}
-use Rattle.recovery.specs.KeysInOrder.{IsIndex}
+use Rattle.geometry.specs.Keys.{IsIndex}
 use Rattle.recovery.specs.Listed.{IsContentPage}
 use Rattle.recovery.specs.Stood.{HasContent, IsStoodFor}
 use Rattle.recovery.specs.declared.found.Found.{Found}
 use Rattle.recovery.specs.declared.pages.FoundPage.{FoundPage}
-use Rattle.recovery.proofs.key_order.Indexes.{index_known}
+use Rattle.geometry.proofs.Indexes.{index_known}
 
 are_plain : ContentsArePlain
 are_plain = state_is_plain

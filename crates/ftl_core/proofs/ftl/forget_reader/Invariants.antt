@@ -1,7 +1,7 @@
 use Rattle.std.proofs.Common.{◌≡◌, ◌++◌, map, take, drop}
-use Rattle.ftl_core.specs.Moves.{without_reader}
+use Rattle.ftl_core.specs.Moves.{flight_without}
 use Rattle.ftl_core.proofs.ftl.forget_reader.Given as goal
 
-abbrev pub invariant-loop-book : goal.invariant-loop-book
-invariant-loop-book l =
-    l.books ≡ map (without_reader l.reader) (take l.book-index l.initial.books) ++ drop l.book-index l.initial.books
+abbrev pub invariant-loop-flight : goal.invariant-loop-flight
+invariant-loop-flight l =
+    l.flights ≡ map (flight_without l.reader) (take l.flight-index l.initial.flights) ++ drop l.flight-index l.initial.flights

@@ -7,11 +7,12 @@ use Rattle.ufs_spec.specs.Keys.{IsKey}
 use Rattle.ufs_spec.specs.Plain.{Shape, shape_of_numbers as shape}
 use Rattle.ufs_spec.specs.declared.flash.Key.{Key}
 use Rattle.ufs_spec.proofs.Facts.{false≢true, same_Some, true≢false}
-use Rattle.recovery.specs.KeysInOrder.{AreKnown, IsIndex}
+use Rattle.geometry.specs.Keys.{IsIndex}
+use Rattle.recovery.specs.KeysInOrder.{AreKnown}
 use Rattle.recovery.specs.Listed.{AreListed}
 use Rattle.recovery.specs.declared.pages.FoundPage.{FoundPage}
 use Rattle.recovery.proofs.key_order.Entries.{no_page}
-use Rattle.recovery.proofs.key_order.Indexes.{index_known}
+use Rattle.geometry.proofs.Indexes.{index_known}
 use Rattle.recovery.proofs.keys.are_known.Goals as goal
 
 -- the search for an index tells whether the device has the key

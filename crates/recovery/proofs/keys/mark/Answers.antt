@@ -3,8 +3,8 @@ use Rattle.ufs_spec.specs.Cells.{key_of}
 use Rattle.ufs_spec.specs.Keys.{IsKey}
 use Rattle.ufs_spec.specs.Plain.{shape_of_numbers}
 use Rattle.ufs_spec.specs.declared.flash.Key.{Key}
-use Rattle.recovery.specs.KeysInOrder.{IsIndex}
-use Rattle.recovery.proofs.key_order.Indexes.{index_known}
+use Rattle.geometry.specs.Keys.{IsIndex}
+use Rattle.geometry.proofs.Indexes.{index_known}
 use Rattle.recovery.proofs.key_order.LostKeys.{key_marked, other_stays}
 use Rattle.recovery.proofs.keys.mark.Goals as goal
 

@@ -1,5 +1,5 @@
 use Rattle.std.proofs.Common.{◌∙◌, List, ℕ, ap, slice_index}
-use Rattle.ufs_spec.specs.Fields.{field_at}
+use Rattle.ufs_bytes.specs.Fields.{field_at}
 use Rattle.ufs_spec.specs.declared.messages.Message.{Message}
 use Rattle.ufs_spec.specs.declared.messages.Message.TheVariants.{ReadyToTransfer}
 use Rattle.upiu.proofs.fields.ready_in.Goals as goal

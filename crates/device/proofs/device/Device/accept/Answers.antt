@@ -9,7 +9,7 @@ use Rattle.ftl_core.specs.Moves.{claims_for}
 use Rattle.ftl_core.specs.Tells.{group_of_blocks}
 use Rattle.device.specs.Kept.{DeviceCore}
 use Rattle.device.specs.Calls.{HasTaken, OthersClaim}
-use Rattle.device.specs.declared.tasks.TaskEvent.TheVariants as event
+use Rattle.task_set.specs.declared.tasks.TaskEvent.TheVariants as event
 use Rattle.device.proofs.host_messages.SlotsFilled.{claims_length}
 use Rattle.device.proofs.device.Device.accept.Goals as goal
 

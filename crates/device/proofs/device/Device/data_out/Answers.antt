@@ -1,8 +1,8 @@
 use Rattle.std.proofs.Common.{◌∙◌, refl, sym, subst, ap}
 use Rattle.std.specs.Prelude.{Option, Ok}
 use Rattle.device.specs.Calls.{lock_told}
-use Rattle.device.specs.Hears.{IsDataHeard, task_set}
-use Rattle.device.specs.declared.commands.AskedFor.{AskedFor}
+use Rattle.device.specs.Hears.{IsDataHeard, with_phase}
+use Rattle.task_set.specs.declared.tasks.AskedFor.{AskedFor}
 use Rattle.device.proofs.described.SameDevice.{same_layer}
 use Rattle.device.proofs.device.Device.data_out.Goals as goal
 
@@ -20,6 +20,6 @@ returns-clause-heard c =
             λ t h.
             c.end_waiting.ensures t (same_layer c.set_phase.new.self _ t c.set_phase.ensures h)
             ∙ ap (lock_told t) (c.set_phase.ensures
-            ∙ (λ i. task_set (c.gather-event.ensures.left i) c.in-Some.asked.index (c.after.ensures i)));
+            ∙ (λ i. with_phase (c.gather-event.ensures.left i) c.in-Some.asked.index (c.after.ensures i)));
       },
     )

@@ -1,7 +1,7 @@
 use Rattle.std.proofs.Common.{◌≡◌, ◌<◌, ℕ, slice_get, Some, None}
 use Rattle.ufs_spec.specs.Translation.{Translation}
 use Rattle.ftl_core.specs.Describes.{Describes}
-use Rattle.device.specs.declared.tasks.Task.{Task}
+use Rattle.task_set.specs.declared.tasks.Task.{Task}
 use Rattle.device.specs.Replies.{owed_by}
 use Rattle.device.proofs.device.Device.due.Given as goal
 

@@ -3,10 +3,11 @@ use Rattle.std.specs.Prelude.{is_some}
 use Rattle.ufs_spec.proofs.Facts.{true≢false}
 use Rattle.ftl_core.specs.Core.{Core}
 use Rattle.ftl_core.specs.Describes.{Describes}
-use Rattle.ftl_core.specs.Moves.{claim_filled, claims_for}
+use Rattle.ftl_core.specs.Moves.{claims_for}
+use Rattle.write_cache.specs.Slots.{claim_filled}
 use Rattle.device.specs.Calls.{HasFilled, HasGatheredThen}
 use Rattle.device.specs.Kept.{DeviceCore}
-use Rattle.device.specs.declared.tasks.Transfer.{Transfer}
+use Rattle.task_set.specs.declared.tasks.Transfer.{Transfer}
 use Rattle.device.proofs.device.Device.gather.Goals as goal
 
 no_more : (o : Option Transfer) → is_some o ≡ false → o ≡ None

@@ -1,6 +1,6 @@
 use Rattle.std.proofs.Common.{◌∙◌, ap, subst, sym}
 use Rattle.ftl_core.specs.Moves.{claims_for}
-use Rattle.device.specs.declared.tasks.Phase.{Phase}
+use Rattle.task_set.specs.declared.tasks.Phase.{Phase}
 use Rattle.device.specs.Kept.{DeviceCore}
 use Rattle.device.specs.Replies.{HasMoved}
 use Rattle.device.proofs.described.SameDevice.{same_layer}

@@ -1,7 +1,7 @@
 use Rattle.std.proofs.Common.{◌∙◌, List, Some, None, ap, slice_get, sym, subst}
 use Rattle.ufs_spec.specs.Machine.{Reply, OfReply}
 use Rattle.device.specs.Describes.{IsAnswered}
-use Rattle.device.specs.declared.tasks.Short.{Short}
+use Rattle.task_set.specs.declared.tasks.Short.{Short}
 use Rattle.device.specs.Kept.{DeviceCore}
 use Rattle.device.specs.Replies.{short_message}
 use Rattle.device.proofs.due_replies.RepliesRight.{first_of, none_in, replies_right, shorts_right, silence_right}

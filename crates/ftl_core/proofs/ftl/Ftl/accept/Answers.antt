@@ -1,4 +1,5 @@
-use Rattle.std.proofs.Common.{◌∙◌, rules}
+use Rattle.std.proofs.Common.{◌∙◌, ap, rules}
+use Rattle.ftl_core.specs.Core.{Core}
 use Rattle.ftl_core.proofs.look_and_accept.GroupsAccepted.{accepts_told}
 use Rattle.ftl_core.proofs.look_and_accept.Numbers.{numbers_right}
 use Rattle.ftl_core.proofs.small_calls.ReadersClaims.{none_after, others_after}
@@ -7,10 +8,10 @@ use Rattle.ftl_core.proofs.ftl.Ftl.accept.Goals as goal
 
 pub returns-clause-described : goal.returns-clause-described
 returns-clause-described c =
-    accepts_told c.args.self.now _ c.args.key c.args.reader (search rules) (search rules)
+    accepts_told c.args.self.now c.append.new.self c.args.key c.args.reader (search rules) c.append.ensures.after
 
 pub returns-clause-described_number : goal.returns-clause-described_number
-returns-clause-described_number c = λ t h. c.next_number-number.ensures ∙ numbers_right c.args.self.now t h
+returns-clause-described_number c = λ t h. c.append.ensures.number ∙ numbers_right c.args.self.now t h
 
 pub returns-clause-stop : goal.returns-clause-stop
 returns-clause-stop c =
@@ -18,7 +19,9 @@ returns-clause-stop c =
     stops_right _ _ (returns-clause-described c t bodies h kind unit claimed may)
 
 pub returns-clause-claims : goal.returns-clause-claims
-returns-clause-claims c = none_after c.args.reader c.args.self.now.claims _ (search rules)
+returns-clause-claims c =
+    none_after c.args.reader c.args.self.now.claims _ (ap (λ (z : Core). z.claims) c.append.ensures.after)
 
 pub returns-clause-other_claims : goal.returns-clause-other_claims
-returns-clause-other_claims c = others_after c.args.reader c.args.self.now.claims _ (search rules)
+returns-clause-other_claims c =
+    others_after c.args.reader c.args.self.now.claims _ (ap (λ (z : Core). z.claims) c.append.ensures.after)

@@ -1,14 +1,23 @@
-use Rattle.std.proofs.Common.{rules, true}
-use Rattle.ftl_core.proofs.small_calls.Claims.{reserves_told}
-use Rattle.ftl_core.proofs.small_calls.ReadersClaims.{claims_reserved, others_reserved}
+use Rattle.std.proofs.Common.{◌∙◌}
+use Rattle.ftl_core.proofs.small_calls.Claims.{reserves_told, room_right}
+use Rattle.ftl_core.proofs.small_calls.ReadersClaims.{claims_either, others_either}
 use Rattle.ftl_core.proofs.ftl.Ftl.reserve.Goals as goal
+
+pub returns-clause-described_found : goal.returns-clause-described_found
+returns-clause-described_found c =
+    λ t h. c.claim_slots.ensures.found ∙ room_right c.args.self.now t c.args.blocks h
 
 pub returns-clause-described : goal.returns-clause-described
 returns-clause-described c =
-    reserves_told c.args.self.now _ c.args.reader c.args.blocks true (search rules) (search rules)
+    reserves_told c.args.self.now c.claim_slots.new.self c.args.reader c.args.blocks c.claim_slots.result
+    c.claim_slots.ensures.found c.claim_slots.ensures.after
 
 pub returns-clause-claims : goal.returns-clause-claims
-returns-clause-claims c = claims_reserved c.args.reader c.args.blocks c.args.self.now.claims _ (search rules)
+returns-clause-claims c =
+    claims_either c.args.self.now c.claim_slots.new.self c.args.reader c.args.blocks c.claim_slots.result
+    c.claim_slots.ensures.after
 
 pub returns-clause-other_claims : goal.returns-clause-other_claims
-returns-clause-other_claims c = others_reserved c.args.reader c.args.blocks c.args.self.now.claims _ (search rules)
+returns-clause-other_claims c =
+    others_either c.args.self.now c.claim_slots.new.self c.args.reader c.args.blocks c.claim_slots.result
+    c.claim_slots.ensures.after

@@ -6,7 +6,7 @@ use Rattle.ftl_core.proofs.ftl.Ftl.slot.Goals as goal
 
 pub returns-clause-described : goal.returns-clause-described
 returns-clause-described c =
-    let core : Some c.in_ok-page.page.now.body ≡ slot_of c.args.self.now c.args.number c.args.index = search rules in
+    let core : Some c.block.result.now ≡ slot_of c.args.self.now c.args.number c.args.index = search rules in
     λ t e h mended above is. core ∙ slot_is c.args.self.now t c.args.number c.args.index e h mended above is
 
 pub returns-in_err-page-clause-described : goal.returns-in_err-page-clause-described

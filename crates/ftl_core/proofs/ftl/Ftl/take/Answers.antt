@@ -20,7 +20,7 @@ returns-in_err-job-clause-described c =
 
 pub returns-clause-described : goal.returns-clause-described
 returns-clause-described c =
-    takes_right c.args.self.now c.set_book.new.self c.args.die (Some c.in_ok-job.job) (search rules) (search rules)
+    takes_right c.args.self.now c.set_flight.new.self c.args.die (Some c.in_ok-job.job) (search rules) (search rules)
     c.has_few_units.ensures
 
 pub returns-then-is_some-clause-stop : goal.returns-then-is_some-clause-stop
@@ -49,11 +49,11 @@ returns-in_err-job-clause-erase c =
 
 pub returns-clause-stop : goal.returns-clause-stop
 returns-clause-stop c =
-    takes_stop c.args.self.now c.set_book.new.self c.args.die (Some c.in_ok-job.job) (returns-clause-described c)
+    takes_stop c.args.self.now c.set_flight.new.self c.args.die (Some c.in_ok-job.job) (returns-clause-described c)
 
 pub returns-clause-erase : goal.returns-clause-erase
 returns-clause-erase c =
-    takes_erase c.args.self.now c.set_book.new.self c.args.die (Some c.in_ok-job.job) (returns-clause-described c)
+    takes_erase c.args.self.now c.set_flight.new.self c.args.die (Some c.in_ok-job.job) (returns-clause-described c)
 
 pub returns-in_err-book-clause-stop : goal.returns-in_err-book-clause-stop
 returns-in_err-book-clause-stop c =

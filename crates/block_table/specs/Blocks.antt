@@ -1,0 +1,56 @@
+-- What the block table says of each block and of each die (this profile).
+use Rattle.std.specs.Prelude.{ℕ, ◌+◌, ◌-◌, ◌*◌, nat_lt, Bool, true, false, if◌then◌else◌, List, slice_get, slice_set}
+use Rattle.std.specs.Prelude.{Option, Some, None, unwrap_or}
+use Rattle.block_table.specs.declared.BlockState.{BlockState}
+use Rattle.block_table.specs.declared.BlockState.TheVariants as state
+use Rattle.block_table.specs.declared.OpenBlock.{OpenBlock}
+use Rattle.block_table.specs.declared.Sizes.{Sizes}
+
+-- what each block is, in order by die and block, which block each die fills, and whether one is bad
+pub record Blocks : Type 0 where
+  pub sizes : Sizes
+  pub states : List BlockState
+  pub filling : List (Option OpenBlock)
+  pub has_bad : Bool
+
+abbrev pub is_free : BlockState → Bool
+is_free state.Free = true
+is_free _ = false
+
+abbrev pub is_bad : BlockState → Bool
+is_bad state.Bad = true
+is_bad _ = false
+
+abbrev pub block_index : Blocks → ℕ → ℕ → ℕ
+block_index t die block = die * t.sizes.blocks + block
+
+abbrev pub state_of : Blocks → ℕ → ℕ → BlockState
+state_of t die block = unwrap_or (slice_get t.states (block_index t die block)) state.Bad
+
+abbrev pub open_in : Option (Option OpenBlock) → Option OpenBlock
+open_in None = None
+open_in (Some o) = o
+
+abbrev pub open_of : Blocks → ℕ → Option OpenBlock
+open_of t die = open_in (slice_get t.filling die)
+
+-- the block is so from now on, and the die fills that one
+abbrev pub changed : Blocks → ℕ → ℕ → BlockState → Option OpenBlock → Blocks
+changed t die block s o =
+    record t { states = slice_set t.states (block_index t die block) s; filling = slice_set t.filling die o }
+
+-- the block is empty, and the die fills it
+abbrev pub opened_at : Blocks → ℕ → ℕ → Blocks
+opened_at t die block = changed t die block state.Open (Some (record { block = block; next = 0 }))
+
+-- the die's open block has one page less, and is closed with its last
+abbrev pub page_written : Blocks → ℕ → Option OpenBlock → Blocks
+page_written t die None = record t { filling = slice_set t.filling die None }
+page_written t die (Some o) =
+    if nat_lt o.next (t.sizes.pages - 1)
+    then record t { filling = slice_set t.filling die (Some (record { block = o.block; next = o.next + 1 })) }
+    else changed t die o.block state.Closed None
+
+-- the block is bad, and the die fills none
+abbrev pub gone_bad : Blocks → ℕ → ℕ → Blocks
+gone_bad t die block = record (changed t die block state.Bad None) { has_bad = true }

@@ -1,0 +1,10 @@
+-- How the table's fields are seen, and that the free blocks are counted.
+use Rattle.std.specs.Prelude.{◌≡◌, count_by}
+use Rattle.block_table.specs.Blocks.{Blocks, is_free}
+use Rattle.block_table.specs.declared.BlockTable.TheInside.{Inside}
+
+abbrev pub blocks_of : Inside → Blocks
+blocks_of f = record { sizes = f.sizes; states = f.states.items; filling = f.filling.items; has_bad = f.has_bad }
+
+abbrev pub IsCounted : Inside → Type 0
+IsCounted f = f.free ≡ count_by is_free f.states.items

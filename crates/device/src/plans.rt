@@ -1,0 +1,18 @@
+//! What a command that passed all checks does.
+use task_set::ShortData;
+use ufs_spec::Key;
+
+/// What a command that passed all checks does.
+#[derive(Clone, Copy, Debug, PartialEq, Eq)]
+pub enum Plan {
+    /// It is answered GOOD at once: it has no block, or its host takes none.
+    Nothing { length: u32 },
+    /// It sends so many blocks from this address on, of a command of so many bytes.
+    Read { key: Key, blocks: u16, length: u32 },
+    /// It asks for so many blocks from this address on.
+    Write { key: Key, blocks: u16, forced: bool },
+    /// It sends these data, of which its host takes some.
+    Send { data: ShortData },
+    /// It is answered GOOD once all that was accepted before it is durable.
+    Flush,
+}

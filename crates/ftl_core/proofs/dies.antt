@@ -1,0 +1,4 @@
+pub mod Books
+pub mod Changes
+pub mod FirstWaiting
+pub mod Flights

@@ -1,0 +1,16 @@
+use Rattle.std.proofs.Common.{◌≡◌, ◌∙◌, Bool, None, Option, ap, rules, subst, sym, true}
+use Rattle.ftl_core.specs.declared.books.Book.{Book}
+use Rattle.ftl_core.specs.Core.{Core}
+use Rattle.ftl_core.specs.Gives.{IsReadAfter, IsReadOver, is_read}
+use Rattle.ftl_core.specs.Moves.{flight_set}
+use Rattle.ftl_core.proofs.ftl.Ftl.read_ended.Goals as goal
+
+pub returns-clause-after : goal.returns-clause-after
+returns-clause-after c =
+    let was = c.args.self.now in
+    let o = c.args.outcome.now in
+    let read : is_read o ≡ true = search rules in
+    let idle = c.set_flight.ensures
+    ∙ ap (λ (b : Option Book). record was { books = flight_set was.books c.args.die None b }) c.requires in
+    subst (λ (b : Bool). IsReadAfter b was c.args.die c.args.book o c.args.reader c.give.new.self) (sym read)
+    (subst (λ (z : Core). IsReadOver z o c.args.reader c.give.new.self) idle c.give.ensures.after)

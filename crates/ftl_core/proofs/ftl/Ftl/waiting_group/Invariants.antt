@@ -1,0 +1,7 @@
+use Rattle.std.proofs.Common.{◌≡◌, None, take}
+use Rattle.std.specs.Prelude.{find}
+use Rattle.ftl_core.specs.Takes.{page_waits}
+use Rattle.ftl_core.proofs.ftl.Ftl.waiting_group.Given as goal
+
+abbrev pub invariant-loop-at : goal.invariant-loop-at
+invariant-loop-at l = find (page_waits l.self.books) (take l.at l.self.pages) ≡ None

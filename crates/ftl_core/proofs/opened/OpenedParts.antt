@@ -1,0 +1,101 @@
+-- What is kept when the layer is opened, from what its parts are then.
+use Rattle.std.proofs.Common.{◌≡◌, ◌∙◌, ◌||◌, ℕ, Bool, List, [], ◌∷◌, None, Option, ap, map, min, refl, replicate}
+use Rattle.std.specs.Prelude.{◌^◌, option_map}
+use Rattle.std.specs.List.{list_any}
+use Rattle.ufs_spec.specs.Plain.{zero_block}
+use Rattle.ufs_spec.specs.declared.configs.Numbers.{Numbers}
+use Rattle.ufs_spec.specs.declared.flash.Key.{Key}
+use Rattle.block_table.specs.Blocks.{Blocks, is_bad}
+use Rattle.block_table.specs.declared.BlockState.{BlockState}
+use Rattle.block_table.specs.declared.Sizes.{Sizes}
+use Rattle.recovery.specs.declared.found.Found.{Found}
+use Rattle.recovery.specs.declared.keys.FoundBlock.{FoundBlock}
+use Rattle.recovery.specs.declared.keys.FoundBlock.TheVariants as found
+use Rattle.unit_map.specs.Places.{UnitMap}
+use Rattle.unit_map.specs.declared.Stored.{Stored}
+use Rattle.write_cache.specs.Kept.{WriteCache}
+use Rattle.ftl_core.specs.declared.books.Book.{Book}
+use Rattle.ftl_core.specs.declared.books.Flight.{Flight}
+use Rattle.ftl_core.specs.declared.books.Mending.{Mending}
+use Rattle.ftl_core.specs.declared.books.Pin.{Pin}
+use Rattle.ftl_core.specs.Core.{Core}
+use Rattle.ftl_core.specs.Moves.{first_mending, is_bad_found, mark_number_behind, opened, state_of_found}
+use Rattle.ftl_core.specs.Moves.{stored_of_found}
+use Rattle.ftl_core.specs.Rooms.{books_of}
+use Rattle.ftl_core.proofs.dies.Books.{all_idle}
+
+-- bad blocks were found to be so
+bad_same : (bs : List FoundBlock) → list_any is_bad (map state_of_found bs) ≡ list_any is_bad_found bs
+bad_same [] = refl
+bad_same (b ∷ bs) =
+    ap (λ (x : Bool). x || list_any is_bad (map state_of_found bs)) (one b)
+    ∙ ap (λ (x : Bool). is_bad_found b || x) (bad_same bs)
+  where
+    one : (x : FoundBlock) → is_bad (state_of_found x) ≡ is_bad_found x
+    one found.Free = refl
+    one found.Closed = refl
+    one found.Bad = refl
+
+-- the parts together
+abbrev pub core_with : Numbers → Blocks → List (Option Flight) → UnitMap → WriteCache → List Pin → Mending → List Key →
+    List ℕ → ℕ → Core
+core_with n blocks flights places cache pins mending lost content next = record {
+  numbers = n;
+  states = blocks.states;
+  books = books_of blocks.filling flights;
+  has_bad = blocks.has_bad;
+  places = places.places;
+  pages = cache.pages;
+  claims = cache.claims;
+  frontier = cache.frontier;
+  last = cache.last;
+  pins = pins;
+  mending = mending;
+  lost = lost;
+  repaired = 0;
+  step = None;
+  content = content;
+  next_mark = next;
+}
+
+-- what the lists of blocks and places give
+abbrev with_lists : Numbers → Found → List BlockState → List Book → Bool → List (Option Stored) → ℕ → Core
+with_lists n f states books has_bad places last = record {
+  numbers = n;
+  states = states;
+  books = books;
+  has_bad = has_bad;
+  places = places;
+  pages = [];
+  claims = [];
+  frontier = last;
+  last = last;
+  pins = [];
+  mending = first_mending f;
+  lost = f.lost.items;
+  repaired = 0;
+  step = None;
+  content = zero_block;
+  next_mark = mark_number_behind f;
+}
+
+pub opened_as : (n : Numbers) (f : Found) (blocks : Blocks) (flights : List (Option Flight)) (map_is : UnitMap)
+    (cache : WriteCache) (pins : List Pin) (mending : Mending) (content : List ℕ) (next : ℕ) (sizes : Sizes)
+    (states : List BlockState) (places : List (Option Stored)) (last : ℕ) →
+    blocks ≡ record {
+      sizes = sizes;
+      states = states;
+      filling = replicate n.dies None;
+      has_bad = list_any is_bad states;
+    } →
+    flights ≡ replicate n.dies None → map_is ≡ record { numbers = n; places = places } →
+    cache ≡ record { slots = n.slots; pages = []; claims = []; frontier = last; last = last } →
+    states ≡ map state_of_found f.blocks.items → places ≡ map (option_map stored_of_found) f.contents.items →
+    last ≡ min f.greatest_seen (2 ^ 62) → pins ≡ [] → mending ≡ first_mending f → content ≡ zero_block →
+    next ≡ mark_number_behind f →
+    core_with n blocks flights map_is cache pins mending f.lost.items content next ≡ opened n f
+opened_as n f blocks flights map_is cache pins mending content next sizes states places last
+    eb ef em ec es ep el en ed ez ek =
+    (λ i. core_with n (eb i) (ef i) (em i) (ec i) (en i) (ed i) f.lost.items (ez i) (ek i))
+    ∙ (λ i. with_lists n f (es i) (all_idle n.dies i) (list_any is_bad (es i)) (ep i) (el i))
+    ∙ ap (λ (b : Bool). record (opened n f) { has_bad = b }) (bad_same f.blocks.items)

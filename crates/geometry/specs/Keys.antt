@@ -1,0 +1,40 @@
+-- The keys of a device in order, each at its index (this profile).
+use Rattle.std.specs.Prelude.{◌≡◌, ℕ, ◌+◌, ◌<◌, ◌==◌, ◌&&◌, Option, Some, None, if◌then◌else◌, length, nat_lt}
+use Rattle.std.specs.Prelude.{slice_index_or, sum, take}
+use Rattle.ufs_spec.specs.Keys.{area_pages}
+use Rattle.ufs_spec.specs.Plain.{Shape}
+use Rattle.ufs_spec.specs.declared.flash.Key.{Key}
+
+-- Indexes
+
+-- how many keys there are: the blocks of all units, the pages of the RPMB area, and the settings
+abbrev pub key_total : Shape → ℕ
+key_total s = sum s.blocks + area_pages s + 1
+
+-- the key stands at this index: the blocks of each unit behind those of the units before it, then the pages of the RPMB
+-- area, then the settings
+pub data IsIndex (s : Shape) (k : Key) (i : ℕ) : Type 0 where
+  AtData : k.kind ≡ 1 → k.unit < length s.blocks → k.address < slice_index_or s.blocks k.unit 0 →
+      i ≡ sum (take k.unit s.blocks) + k.address → IsIndex s k i
+  AtArea : k.kind ≡ 2 → k.unit ≡ 0 → k.address < area_pages s → i ≡ sum s.blocks + k.address → IsIndex s k i
+  AtSettings : k.kind ≡ 3 → k.unit ≡ 0 → k.address ≡ 0 → i ≡ sum s.blocks + area_pages s → IsIndex s k i
+
+-- the same as a function
+abbrev pub data_index : Shape → Key → Option ℕ
+data_index s k =
+    if nat_lt k.unit (length s.blocks) && nat_lt k.address (slice_index_or s.blocks k.unit 0)
+    then Some (sum (take k.unit s.blocks) + k.address)
+    else None
+
+abbrev pub area_index : Shape → Key → Option ℕ
+area_index s k = if (k.unit == 0) && nat_lt k.address (area_pages s) then Some (sum s.blocks + k.address) else None
+
+abbrev pub settings_index : Shape → Key → Option ℕ
+settings_index s k = if (k.unit == 0) && (k.address == 0) then Some (sum s.blocks + area_pages s) else None
+
+abbrev pub index_of : Shape → Key → Option ℕ
+index_of s k =
+    if k.kind == 1 then data_index s k
+    else if k.kind == 2 then area_index s k
+    else if k.kind == 3 then settings_index s k
+    else None

@@ -1,0 +1,8 @@
+//! What the numbers of a device determine: which numbers are a configuration, and the order of its keys.
+#![tactic(auto)]
+
+mod configs;
+mod keys;
+
+pub use configs::Config;
+pub use keys::{key_at, key_count, key_index, settings_index};

@@ -1,0 +1,5 @@
+pub mod Kept
+pub mod Lists
+pub mod Rooms
+pub mod Sets
+pub mod Tasks

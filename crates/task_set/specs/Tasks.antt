@@ -1,0 +1,84 @@
+-- What becomes of a task.
+use Rattle.std.specs.Prelude.{ℕ, ◌+◌, ◌*◌, ◌==◌, min, nat_lt, Bool, true, false, if◌then◌else◌, Option, Some, None}
+use Rattle.ufs_spec.specs.Exchanges as exchange
+use Rattle.ufs_spec.specs.declared.scsi.Sense.{Sense}
+use Rattle.task_set.specs.declared.tasks.Status.{Status}
+use Rattle.task_set.specs.declared.tasks.Status.TheVariants as status
+use Rattle.task_set.specs.declared.tasks.Phase.{Phase}
+use Rattle.task_set.specs.declared.tasks.Phase.TheVariants as phase
+use Rattle.task_set.specs.declared.tasks.Sending.{Sending}
+use Rattle.task_set.specs.declared.tasks.ShortData.{ShortData}
+use Rattle.task_set.specs.declared.tasks.ShortData.TheVariants as sent
+use Rattle.task_set.specs.declared.tasks.Task.{Task}
+use Rattle.task_set.specs.declared.tasks.TaskEvent.{TaskEvent}
+use Rattle.task_set.specs.declared.tasks.TaskEvent.TheVariants as event
+use Rattle.task_set.specs.declared.tasks.Transfer.{Transfer}
+
+abbrev pub read_error : Sense
+read_error = record { key = 0x03; asc = 0x11; ascq = 0x00 }
+
+abbrev pub write_error : Sense
+write_error = record { key = 0x03; asc = 0x0C; ascq = 0x00 }
+
+-- how a command ended, in the words of the definitions
+abbrev pub status_kept : Status → exchange.Status
+status_kept status.Good = exchange.Good
+status_kept (status.CheckCondition sense) = exchange.CheckCondition sense
+status_kept status.Busy = exchange.Busy
+status_kept status.TaskSetFull = exchange.TaskSetFull
+
+-- the command failed with this sense, and so many bytes were carried
+abbrev pub failed : Sense → ℕ → Phase
+failed sense carried = phase.Answer (status.CheckCondition sense) carried
+
+-- a WRITE whose group was accepted under this number: with FUA it waits until the group is durable
+abbrev pub group_done : Bool → ℕ → ℕ → Phase
+group_done true number size = phase.AwaitFrontier number size
+group_done false number size = phase.Answer status.Good size
+
+abbrev pub group_taken : Transfer → ℕ → Phase
+group_taken x number = group_done x.forced number (4096 * x.blocks)
+
+-- what is still to come of a WRITE once one block more came
+abbrev pub next_transfer : Transfer → Option Transfer
+next_transfer x = if nat_lt (x.gathered + 1) x.blocks then Some (record x { gathered = x.gathered + 1 }) else None
+
+-- what is still to be sent of a READ once one block more was handed out
+abbrev pub next_sending : Sending → Option Sending
+next_sending x = if nat_lt (x.sent + 1) x.blocks then Some (record x { sent = x.sent + 1 }) else None
+
+abbrev pub asked_next : Transfer → Option Transfer → Phase
+asked_next x None = phase.AwaitData x
+asked_next x (Some y) = phase.AskData y
+
+abbrev pub sent_next : Sending → Option Sending → Phase
+sent_next x None = phase.Answer status.Good x.length
+sent_next x (Some y) = phase.SendBlocks y
+
+-- how many bytes the data of a task other than a block are
+abbrev pub data_length : ShortData → ℕ
+data_length (sent.NoSense allocation) = min allocation 18
+data_length (sent.Capacity blocks) = 8
+
+-- the table of a task's phases: how far it is after this happened; what does not concern its phase changes nothing
+abbrev pub phase_after : Phase → TaskEvent → Phase
+phase_after (phase.AskData x) event.DataAskedFor = phase.AwaitData x
+phase_after (phase.AwaitData x) event.BlockGathered = asked_next x (next_transfer x)
+phase_after (phase.AwaitData x) (event.GroupAccepted number) = group_taken x number
+phase_after (phase.AwaitData x) event.GroupRefused = failed write_error (4096 * x.blocks)
+phase_after (phase.AwaitFrontier number size) (event.Locked frontier) =
+    if nat_lt frontier number then failed write_error size else phase.AwaitFrontier number size
+phase_after (phase.SendBlocks x) event.BlockSent = sent_next x (next_sending x)
+phase_after (phase.SendData x) event.DataSent = phase.Answer status.Good (data_length x)
+phase_after (phase.SendBlocks x) event.BlockLost = failed read_error (4096 * x.sent)
+phase_after p e = p
+
+abbrev pub task_after : TaskEvent → Task → Task
+task_after e t = record t { phase = phase_after t.phase e }
+
+-- the block of the task of this tag could not be read
+abbrev pub after_lost_read : ℕ → Task → Task
+after_lost_read tag t = if t.tag == tag then task_after event.BlockLost t else t
+
+abbrev pub is_task_of : ℕ → Task → Bool
+is_task_of tag t = t.tag == tag

@@ -1,0 +1,12 @@
+//! The tasks as they are read off the exchange between a host and a device: the open tasks and what each
+//! still owes its host, the exchanges of one reply, and the tags that are in use (JESD220, 10.9).
+#![tactic(auto)]
+
+mod set;
+mod tasks;
+
+pub use set::TaskSet;
+pub use tasks::{
+    AskedFor, BLOCK_BYTES, Loaded, Phase, Sending, Short, ShortData, ShortReply, Status, Task,
+    TaskEvent, Transfer,
+};

@@ -1,0 +1,320 @@
+//! The tasks and the short exchanges that are open, and the blocks that dies read for them.
+ghost use Rattle.std.specs.Prelude.{◌≡◌, ◌<◌, ◌≤◌, length, map, nat_le, slice_get, position};
+ghost use Rattle.std.specs.Prelude.{IfNone, IfOk, IfSome, OnErr, OnOk, option_copied, vec_capacity};
+ghost use Rattle.std.specs.List.{list_any};
+ghost use Rattle.task_set.specs.Kept.{no_tasks};
+ghost use Rattle.task_set.specs.Lists.{asked_among, asked_by, asked_in, is_in_use, is_loaded_for, is_short_of};
+ghost use Rattle.task_set.specs.Lists.{loaded_for, short_allowed};
+ghost use Rattle.task_set.specs.Sets.{block_loaded, block_lost, block_unloaded, ended, locked, opened, phase_set};
+ghost use Rattle.task_set.specs.Sets.{short_ended, short_opened};
+ghost use Rattle.task_set.specs.Tasks.{after_lost_read, is_task_of, task_after};
+
+use crate::tasks::{AskedFor, BLOCK_BYTES, Loaded, Phase, Short, ShortReply, Task, TaskEvent};
+use std::alloc::{AllocError, Global};
+use std::collections::VecDeque;
+use std::marker::Model;
+use ufs_spec::{Block, HostFault};
+use write_cache::Body;
+
+/// How many tasks, how many short exchanges and how many blocks there is room for: no list is longer
+/// (JESD220, 10.9).
+const ROOM: usize = 32;
+
+/// The open tasks of a device, its exchanges of one reply, and the blocks that dies read for the tasks. It
+/// takes its memory when it is made, and none later.
+#[derive(Drop)]
+pub struct TaskSet {
+    /// The open tasks in the order of their COMMANDs: no two have one tag.
+    tasks: Vec<Task>,
+    /// The exchanges of one reply that was not handed out yet. No tag is in use twice, here or among the
+    /// tasks.
+    shorts: VecDeque<Short>,
+    /// The blocks that dies read and that were not handed out yet: at most one for each open READ.
+    loaded: Vec<Loaded>,
+    /// The other blocks of the pool: what they hold means nothing.
+    spare: Vec<Body>,
+}
+
+impl Model for TaskSet {
+    ghost use Rattle.task_set.specs.Kept.{Tasks};
+
+    ghost Value = { Tasks };
+
+    ghost use Rattle.task_set.specs.Rooms.{tasks_of, IsRoomy};
+
+    ghost view = { tasks_of };
+
+    ghost invariant = { IsRoomy };
+}
+
+impl TaskSet {
+    /// A set with nothing open, and the memory for all that may be.
+    ///
+    /// # Errors
+    ///
+    /// Only if memory was refused.
+    pub fn new(alloc: Global) -> Result<TaskSet, AllocError>
+        ensures { IfOk result (λ s. s ≡ no_tasks) }
+    {
+        Ok(TaskSet {
+            tasks: Vec::with_capacity(alloc, ROOM)?,
+            shorts: VecDeque::with_capacity(alloc, ROOM)?,
+            loaded: Vec::with_capacity(alloc, ROOM)?,
+            spare: spare_bodies(alloc)?,
+        })
+    }
+
+    /// Whether a task or a short exchange with this tag is open.
+    pub fn uses(&self, tag: u8) -> bool
+        ensures { result ≡ is_in_use self.now.tasks self.now.shorts tag }
+    {
+        task_at(self.tasks.as_slice(), tag).is_some() || is_short(&self.shorts, tag)
+    }
+
+    /// Whether as many tasks are open as may be.
+    pub fn is_full(&self) -> bool
+        ensures { result ≡ nat_le 32 (length self.now.tasks) }
+    {
+        self.tasks.len() >= ROOM
+    }
+
+    /// How many tasks are open.
+    pub fn count(&self) -> usize
+        ensures { result ≡ length self.now.tasks }
+    {
+        self.tasks.len()
+    }
+
+    /// The task at this position, counted from 0 in the order of the COMMANDs.
+    pub fn task(&self, index: usize) -> Task
+        requires { index < length self.now.tasks }
+        ensures { slice_get self.now.tasks index ≡ Some result }
+    {
+        self.tasks[index]
+    }
+
+    /// One task more is open, the last one.
+    pub fn open(&mut self, task: Task)
+        requires { length self.old.tasks < 32 }
+        ensures { self.new ≡ opened self.old task }
+    {
+        self.tasks.push_reserved(task);
+    }
+
+    /// The task at this position does this from now on.
+    pub fn set_phase(&mut self, index: usize, phase: Phase)
+        requires { index < length self.old.tasks }
+        ensures { self.new ≡ phase_set self.old index phase }
+    {
+        let task = &mut self.tasks[index];
+        task.phase = phase;
+    }
+
+    /// The task at this position has ended. Those after it move up by one position.
+    pub fn end(&mut self, index: usize)
+        requires { index < length self.old.tasks }
+        ensures { self.new ≡ ended self.old index }
+    {
+        self.tasks.remove(index);
+    }
+
+    /// The task of this tag and unit that asked for so many bytes at this offset, and what is to come.
+    /// Only a whole block is ever asked for.
+    pub fn asked_for(&self, lun: u8, tag: u8, offset: u32, count: usize) -> Option<AskedFor>
+        ensures what { result ≡ asked_among self.now.tasks lun tag offset count }
+        ensures within { IfSome result (λ asked. asked.index < length self.now.tasks) }
+    {
+        if count != BLOCK_BYTES as usize {
+            return None;
+        }
+        let index = task_at(self.tasks.as_slice(), tag)?;
+        self.asked_by(lun, offset, index)
+    }
+
+    /// The same of the task at this position.
+    fn asked_by(&self, lun: u8, offset: u32, index: usize) -> Option<AskedFor>
+        requires { index < length self.now.tasks }
+        ensures what { result ≡ asked_by lun offset index (slice_get self.now.tasks index) }
+        ensures within { IfSome result (λ asked. asked.index < length self.now.tasks) }
+    {
+        asked_of(&self.tasks[index], lun, offset, index)
+    }
+
+    /// An exchange of one reply is open from now on, the last one.
+    ///
+    /// # Errors
+    ///
+    /// `TagInUse` if a task or a short exchange has the tag, else `Backlog` if 32 short exchanges are
+    /// open. Nothing changes then.
+    pub fn open_short(&mut self, tag: u8, reply: ShortReply) -> Result<(), HostFault>
+        ensures refused { OnErr result (self.new ≡ self.old) }
+        ensures answer { result ≡ short_allowed self.old.tasks self.old.shorts tag }
+        ensures after { OnOk result (self.new ≡
+            short_opened self.old (record { tag = tag; reply = reply })) }
+    {
+        if self.uses(tag) {
+            return Err(HostFault::TagInUse);
+        }
+        if self.shorts.len() >= ROOM {
+            return Err(HostFault::Backlog);
+        }
+        self.shorts.push_back_reserved(Short { tag, reply });
+        Ok(())
+    }
+
+    /// Takes out the short exchange that was opened first, whose reply is handed out now; `None`, and
+    /// nothing changes, if none is open.
+    pub fn take_short(&mut self) -> Option<Short>
+        ensures first { result ≡ slice_get self.old.shorts 0 }
+        ensures nothing { IfNone result (self.new ≡ self.old) }
+        ensures after { IfSome result (λ _. self.new ≡ short_ended self.old) }
+    {
+        self.shorts.pop_front()
+    }
+
+    /// A die read this block for the task of this tag: the next one that it sends. There is a place for
+    /// it, as at most one block of each task is loaded; without one it would be dropped.
+    pub fn load(&mut self, tag: u8, block: &Block)
+        ensures { self.new ≡ block_loaded self.old tag block.now }
+    {
+        if let Some(mut body) = self.spare.pop() {
+            body.set(block);
+            self.loaded.push_reserved(Loaded { tag, body });
+        }
+    }
+
+    /// The block that a die read for the task of this tag, if it is there.
+    pub fn loaded(&self, tag: u8) -> Option<&Block>
+        ensures { option_copied result ≡ loaded_for self.now.loaded tag }
+    {
+        let index = loaded_at(self.loaded.as_slice(), tag)?;
+        Some(self.loaded[index].body.block())
+    }
+
+    /// The block that a die read for the task of this tag, if it is there, is given up.
+    pub fn unload(&mut self, tag: u8)
+        ensures { self.new ≡ block_unloaded self.old tag }
+    {
+        if let Some(index) = loaded_at(self.loaded.as_slice(), tag) {
+            let read = self.loaded.remove(index);
+            self.spare.push_reserved(read.body);
+        }
+    }
+
+    /// The next block of the READ of this tag could not be read: the READ fails.
+    pub fn lose(&mut self, tag: u8)
+        ensures { self.new ≡ block_lost self.old tag }
+    {
+        end_read(self.tasks.as_mut_slice(), tag);
+    }
+
+    /// The device is locked from now on, and each group up to this number is durable: what waits for a
+    /// later one fails.
+    pub fn lock(&mut self, frontier: u64)
+        ensures { self.new ≡ locked self.old frontier }
+    {
+        end_waiting(self.tasks.as_mut_slice(), frontier);
+    }
+}
+
+/// The blocks of the pool, which later are moved by their pointers.
+fn spare_bodies(alloc: Global) -> Result<Vec<Body>, AllocError>
+    ensures count { IfOk result (λ bodies. length bodies.items ≡ 32) }
+    ensures room { IfOk result (λ bodies. 32 ≤ vec_capacity bodies) }
+{
+    let mut bodies = Vec::with_capacity(alloc, ROOM)?;
+    for _ in 0..ROOM {
+        bodies.push_reserved(Body::new(alloc)?);
+    }
+    Ok(bodies)
+}
+
+/// The position of the task of this tag.
+fn task_at(tasks: &[Task], tag: u8) -> Option<usize>
+    ensures first { result ≡ position (is_task_of tag) tasks.now }
+    ensures within { IfSome result (λ k. k < length tasks.now) }
+{
+    tasks.iter().position(|task| is_task_of(task, tag))
+}
+
+fn is_task_of(task: &Task, tag: u8) -> bool
+    ensures { result ≡ is_task_of tag task.now }
+{
+    task.tag == tag
+}
+
+/// Whether a short exchange of this tag is open.
+fn is_short(shorts: &VecDeque<Short>, tag: u8) -> bool
+    ensures { result ≡ list_any (is_short_of tag) shorts.now.items }
+{
+    let (first, last) = shorts.as_slices();
+    is_short_among(first, tag) || is_short_among(last, tag)
+}
+
+fn is_short_among(shorts: &[Short], tag: u8) -> bool
+    ensures { result ≡ list_any (is_short_of tag) shorts.now }
+{
+    shorts.iter().any(|short| is_short_of(short, tag))
+}
+
+fn is_short_of(short: &Short, tag: u8) -> bool
+    ensures { result ≡ is_short_of tag short.now }
+{
+    short.tag == tag
+}
+
+/// What the task at this position asked data for at this offset, if it was told so and none came.
+fn asked_of(task: &Task, lun: u8, offset: u32, index: usize) -> Option<AskedFor>
+    ensures { result ≡ asked_in lun offset index task.now task.now.phase }
+{
+    match task.phase {
+        Phase::AwaitData { transfer } if task.lun == lun && transfer.offset() == offset => {
+            Some(AskedFor { index, transfer })
+        }
+        _ => None,
+    }
+}
+
+/// Whether the block was read for the task of this tag.
+fn is_loaded_for(loaded: &Loaded, tag: u8) -> bool
+    ensures { result ≡ is_loaded_for tag loaded.now }
+{
+    loaded.tag == tag
+}
+
+/// The position of the block that was read for the task of this tag.
+fn loaded_at(loaded: &[Loaded], tag: u8) -> Option<usize>
+    ensures first { result ≡ position (is_loaded_for tag) loaded.now }
+    ensures within { IfSome result (λ k. k < length loaded.now) }
+{
+    loaded.iter().position(|read| is_loaded_for(read, tag))
+}
+
+/// A block that could not be read ends its task.
+fn end_read(tasks: &mut [Task], tag: u8)
+    ensures { tasks.new ≡ map (after_lost_read tag) tasks.old }
+{
+    for task in tasks.iter_mut() {
+        *task = after_lost_read(*task, tag);
+    }
+}
+
+/// The task after the block of the task of this tag could not be read.
+fn after_lost_read(task: Task, tag: u8) -> Task
+    ensures { result ≡ after_lost_read tag task }
+{
+    if task.tag == tag {
+        task.after(TaskEvent::BlockLost)
+    } else {
+        task
+    }
+}
+
+/// The tasks after the lock began: none waits for the frontier any more.
+fn end_waiting(tasks: &mut [Task], frontier: u64)
+    ensures { tasks.new ≡ map (task_after (TaskEvent.Locked frontier)) tasks.old }
+{
+    for task in tasks.iter_mut() {
+        *task = task.after(TaskEvent::Locked { frontier });
+    }
+}

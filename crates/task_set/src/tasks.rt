@@ -1,0 +1,291 @@
+//! The tasks that are open, and what each still owes its host (JESD220, 10.9).
+ghost use Rattle.std.specs.Prelude.{◌≡◌, ◌*◌};
+ghost use Rattle.task_set.specs.Tasks.{data_length, failed, group_taken, next_sending, next_transfer, phase_after, task_after};
+
+use ufs_spec::{Asked, Key, Sense};
+use write_cache::Body;
+
+/// How many bytes a block has.
+pub const BLOCK_BYTES: u32 = 4096;
+
+/// How a command ended (JESD220, 10.7.2; SAM, 5.3).
+#[derive(Clone, Copy, Debug, Default, PartialEq, Eq)]
+pub enum Status {
+    #[default]
+    Good,
+    CheckCondition(Sense),
+    Busy,
+    TaskSetFull,
+}
+
+/// The blocks of a WRITE: so many from this address on, of which so many came; and whether it has FUA.
+#[derive(Clone, Copy, Debug, PartialEq, Eq)]
+pub struct Transfer {
+    pub key: Key,
+    pub blocks: u16,
+    pub gathered: u16,
+    pub forced: bool,
+}
+
+impl Transfer {
+    /// What is still to come once one block more came; `None` if that was the last.
+    pub fn next(self) -> Option<Transfer>
+        ensures { result ≡ next_transfer self }
+    {
+        if self.gathered as u32 + 1 < self.blocks as u32 {
+            Some(Transfer {
+                key: self.key,
+                blocks: self.blocks,
+                gathered: self.gathered + 1,
+                forced: self.forced,
+            })
+        } else {
+            None
+        }
+    }
+
+    /// How many bytes it has.
+    pub fn length(self) -> u32
+        ensures { result ≡ 4096 * self.blocks }
+    {
+        BLOCK_BYTES * self.blocks as u32
+    }
+
+    /// Where the block that comes next lies in its data.
+    pub fn offset(self) -> u32
+        ensures { result ≡ 4096 * self.gathered }
+    {
+        BLOCK_BYTES * self.gathered as u32
+    }
+}
+
+/// The blocks of a READ: so many that its host expects, of which so many were handed out; and how many
+/// bytes the command has.
+#[derive(Clone, Copy, Debug, PartialEq, Eq)]
+pub struct Sending {
+    pub blocks: u16,
+    pub sent: u16,
+    pub length: u32,
+}
+
+impl Sending {
+    /// What is still to be sent once one block more was handed out; `None` if that was the last.
+    pub fn next(self) -> Option<Sending>
+        ensures { result ≡ next_sending self }
+    {
+        if self.sent as u32 + 1 < self.blocks as u32 {
+            Some(Sending {
+                blocks: self.blocks,
+                sent: self.sent + 1,
+                length: self.length,
+            })
+        } else {
+            None
+        }
+    }
+
+    /// How many bytes were handed out: where the next block lies in its data.
+    pub fn offset(self) -> u32
+        ensures { result ≡ 4096 * self.sent }
+    {
+        BLOCK_BYTES * self.sent as u32
+    }
+}
+
+/// How far a task is.
+#[derive(Clone, Copy, Debug, PartialEq, Eq)]
+pub enum Phase {
+    /// A READY TO TRANSFER for the next block is due.
+    AskData { transfer: Transfer },
+    /// Its DATA OUT has not come.
+    AwaitData { transfer: Transfer },
+    /// GOOD is due once every group up to this number is durable; `length` bytes were the command's.
+    AwaitFrontier { number: u64, length: u32 },
+    /// A DATA IN is due once the next block that the task keeps is there.
+    SendBlocks { sending: Sending },
+    /// A DATA IN with these data is due.
+    SendData { data: ShortData },
+    /// The RESPONSE is due: `length` bytes were the command's or were carried.
+    Answer { status: Status, length: u32 },
+}
+
+/// What happens to a task. Its RESPONSE, which ends it, is none of these.
+#[derive(Clone, Copy)]
+pub enum TaskEvent {
+    /// Its READY TO TRANSFER was handed out.
+    DataAskedFor,
+    /// A block that it asked for came, and more are to come.
+    BlockGathered,
+    /// The last block that it asked for came, and its group was accepted under this number.
+    GroupAccepted { number: u64 },
+    /// The last block that it asked for came, and the device is locked: it is told as not written.
+    GroupRefused,
+    /// The DATA IN with its next block was handed out.
+    BlockSent,
+    /// The DATA IN with its other data was handed out.
+    DataSent,
+    /// The die could not read its next block: what is before it was carried.
+    BlockLost,
+    /// The device is locked from now on, and each group up to this number is durable. What waits for
+    /// a later one is told that it was not written, though it was carried.
+    Locked { frontier: u64 },
+}
+
+impl Phase {
+    /// The command failed with this sense, and so many bytes were carried.
+    fn failed(sense: Sense, carried: u32) -> Phase
+        ensures { result ≡ failed sense carried }
+    {
+        Phase::Answer {
+            status: Status::CheckCondition(sense),
+            length: carried,
+        }
+    }
+
+    /// The command was done: so many bytes were its own.
+    pub fn good(length: u32) -> Phase
+        ensures { result ≡ Phase.Answer Status.Good length }
+    {
+        Phase::Answer {
+            status: Status::Good,
+            length,
+        }
+    }
+
+    /// A WRITE whose group was accepted under this number: with FUA it is answered once the group is
+    /// durable, else at once.
+    fn accepted(transfer: Transfer, number: u64) -> Phase
+        ensures { result ≡ group_taken transfer number }
+    {
+        let length = transfer.length();
+        if transfer.forced {
+            Phase::AwaitFrontier { number, length }
+        } else {
+            Phase::good(length)
+        }
+    }
+
+    /// A WRITE of which a block came: the next one is asked for.
+    fn gathered(transfer: Transfer) -> Phase
+        ensures { result ≡ phase_after (Phase.AwaitData transfer) TaskEvent.BlockGathered }
+    {
+        match transfer.next() {
+            Some(transfer) => Phase::AskData { transfer },
+            None => Phase::AwaitData { transfer },
+        }
+    }
+
+    /// A READ of which a block was handed out: the next one follows, or GOOD.
+    fn sent(sending: Sending) -> Phase
+        ensures { result ≡ phase_after (Phase.SendBlocks sending) TaskEvent.BlockSent }
+    {
+        match sending.next() {
+            Some(sending) => Phase::SendBlocks { sending },
+            None => Phase::good(sending.length),
+        }
+    }
+
+    /// The table of a task's phases: how far it is after this happened. What does not concern its
+    /// phase changes nothing.
+    pub fn after(self, event: TaskEvent) -> Phase
+        ensures { result ≡ phase_after self event }
+    {
+        match (self, event) {
+            (Phase::AskData { transfer }, TaskEvent::DataAskedFor) => Phase::AwaitData { transfer },
+            (Phase::AwaitData { transfer }, TaskEvent::BlockGathered) => Phase::gathered(transfer),
+            (Phase::AwaitData { transfer }, TaskEvent::GroupAccepted { number }) => {
+                Phase::accepted(transfer, number)
+            }
+            (Phase::AwaitData { transfer }, TaskEvent::GroupRefused) => {
+                Phase::failed(Sense::WRITE_ERROR, transfer.length())
+            }
+            (Phase::AwaitFrontier { number, length }, TaskEvent::Locked { frontier })
+                if number > frontier => { Phase::failed(Sense::WRITE_ERROR, length) }
+            (Phase::SendBlocks { sending }, TaskEvent::BlockSent) => Phase::sent(sending),
+            (Phase::SendData { data }, TaskEvent::DataSent) => Phase::good(data.length()),
+            (Phase::SendBlocks { sending }, TaskEvent::BlockLost) => {
+                Phase::failed(Sense::READ_ERROR, sending.offset())
+            }
+            (phase, _) => phase,
+        }
+    }
+}
+
+/// An open task.
+#[derive(Clone, Copy, Debug, PartialEq, Eq)]
+pub struct Task {
+    pub tag: u8,
+    pub lun: u8,
+    pub expected: u32,
+    pub phase: Phase,
+}
+
+impl Task {
+    /// The task after this happened to it.
+    pub fn after(self, event: TaskEvent) -> Task
+        ensures { result ≡ task_after event self }
+    {
+        Task {
+            tag: self.tag,
+            lun: self.lun,
+            expected: self.expected,
+            phase: self.phase.after(event),
+        }
+    }
+}
+
+/// Data that a task sends in one DATA IN, other than a block.
+#[derive(Clone, Copy, Debug, PartialEq, Eq)]
+pub enum ShortData {
+    /// Sense data that tell of nothing, at most so many bytes of them (SPC, REQUEST SENSE).
+    NoSense { allocation: u8 },
+    /// The last address of a unit of so many blocks, and the length of a block (SBC, READ CAPACITY(10)).
+    Capacity { blocks: u32 },
+}
+
+impl ShortData {
+    /// How many bytes they are.
+    pub fn length(self) -> u32
+        ensures { result ≡ data_length self }
+    {
+        match self {
+            ShortData::NoSense { allocation } => (allocation as u32).min(18),
+            ShortData::Capacity { blocks: _ } => 8,
+        }
+    }
+}
+
+/// An exchange of one reply that was not handed out yet.
+#[derive(Clone, Copy, Debug, PartialEq, Eq)]
+pub struct Short {
+    pub tag: u8,
+    pub reply: ShortReply,
+}
+
+/// What the reply of a short exchange says.
+#[derive(Clone, Copy, Debug, PartialEq, Eq)]
+pub enum ShortReply {
+    /// TASK SET FULL, to a COMMAND of this unit that expected so many bytes (JESD220, 10.7.2).
+    TaskSetFull { lun: u8, expected: u32 },
+    /// A NOP IN (JESD220, 10.7.12).
+    NopIn,
+    /// This device manages no tasks yet: function not supported (JESD220, 10.7.7).
+    NotManaged { lun: u8 },
+    /// This device answers no queries yet, neither standard reads nor standard writes: invalid opcode
+    /// (JESD220, 10.7.9).
+    NotQueried { writing: bool, asked: Asked },
+}
+
+/// A block that a die read for the task of this tag gave: the next one that it sends.
+#[derive(Drop)]
+pub struct Loaded {
+    pub tag: u8,
+    pub body: Body,
+}
+
+/// A task whose data came: its position among the open tasks, and what is to come.
+#[derive(Clone, Copy, Debug, PartialEq, Eq)]
+pub struct AskedFor {
+    pub index: usize,
+    pub transfer: Transfer,
+}

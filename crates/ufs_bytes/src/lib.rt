@@ -1,0 +1,8 @@
+//! The bytes of a device: a block, the bytes of a UPIU, and numbers inside a row of bytes.
+#![tactic(auto)]
+
+mod fields;
+mod laws;
+
+pub use fields::{Block, Upiu, read_u16, read_u32, read_u64, write_u16, write_u32, write_u64};
+pub use laws::{u16_is_read_again, u32_is_read_again, u64_is_read_again};

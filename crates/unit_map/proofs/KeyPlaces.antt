@@ -1,0 +1,44 @@
+-- Each key of the device has its own position among all its keys.
+use Rattle.std.proofs.Common.{◌≡◌, ◌≢◌, ◌∙◌, ℕ, ◌<◌, List, Option, None, Some, ap, refl, sym}
+use Rattle.std.specs.Prelude.{option_and_then, slice_get, slice_set}
+use Rattle.ufs_spec.specs.Keys.{IsKey}
+use Rattle.ufs_spec.specs.Plain.{shape_of_numbers}
+use Rattle.ufs_spec.specs.declared.configs.Numbers.{Numbers}
+use Rattle.ufs_spec.specs.declared.flash.Key.{Key}
+use Rattle.geometry.specs.Keys.{key_total}
+use Rattle.geometry.proofs.KeyIndexes.{has_index, one_key}
+use Rattle.ufs_spec.proofs.Lists.{set_other}
+use Rattle.unit_map.specs.Places.{flat, position_of, stored_in}
+use Rattle.unit_map.specs.declared.Stored.{Stored}
+
+pub record HasPosition (n : Numbers) (k : Key) : Type 0 where
+  pub at : ℕ
+  pub is : position_of n k ≡ Some at
+  pub within : at < key_total (shape_of_numbers n)
+
+-- it has a position
+pub has_position : (n : Numbers) (k : Key) → IsKey (shape_of_numbers n) k → HasPosition n k
+has_position n k known =
+    let r = has_index (shape_of_numbers n) k known in
+    record { at = r.0; is = r.1; within = r.2 }
+
+-- and no other key has it
+pub one_position : (n : Numbers) (j k : Key) → IsKey (shape_of_numbers n) j → position_of n j ≡ position_of n k → j ≡ k
+one_position n j k known same =
+    let p = has_position n j known in
+    one_key (shape_of_numbers n) j k p.at p.is (sym same ∙ p.is)
+
+-- where the content of another key is, once that of a key is noted
+pub stored_beside : (n : Numbers) (ps : List (Option Stored)) (s : Stored) (key other : Key) (at : ℕ) →
+    IsKey (shape_of_numbers n) key → position_of n key ≡ Some at → other ≢ key →
+    stored_in n (slice_set ps at (Some s)) other ≡ stored_in n ps other
+stored_beside n ps s key other at known there differ = by (position_of n other) refl
+  where
+    by : (q : Option ℕ) → position_of n other ≡ q →
+        option_and_then (λ (p : ℕ). flat (slice_get (slice_set ps at (Some s)) p)) q ≡ option_and_then
+        (λ (p : ℕ). flat (slice_get ps p)) q
+    by None e = refl
+    by (Some b) e =
+        ap flat (set_other ps at b (Some s)
+        (λ (same : b ≡ at). differ (sym (one_position n key other known
+        (there ∙ ap (λ (z : ℕ). Some z) (sym same) ∙ sym e)))))

@@ -1,0 +1,66 @@
+-- The claims as they turn: the first goes to the back, or is gone if it is of the reader.
+use Rattle.std.proofs.Common.{◌≡◌, ◌∙◌, ℕ, ◌+◌, ◌<◌, suc, Bool, true, false, cond, List, [], ◌∷◌, ◌++◌}
+use Rattle.std.proofs.Common.{length, map, take}
+use Rattle.std.proofs.Common.{drop, get_or, not, refl, sym, ap, arith, append_assoc, drop-cons}
+use Rattle.std.proofs.lemmas.List.{append-nil, map-append, take_more}
+use Rattle.std.proofs.lemmas.List.Elements.{filter-append}
+use Rattle.write_cache.specs.declared.slots.Claimed.{Claimed}
+use Rattle.write_cache.specs.declared.slots.Pending.{Pending}
+use Rattle.write_cache.specs.Slots.{claims_of, empty_claim, is_claim_of, turned, without_claims}
+
+-- those of others, with this one behind them
+one_more : (reader : ℕ) (claim : Claimed) (behind front : List Claimed) →
+    turned reader (claim ∷ behind ++ without_claims front reader)
+    ≡ behind ++ without_claims (front ++ claim ∷ []) reader
+one_more reader claim behind front =
+    by (is_claim_of reader claim) refl
+    ∙ ap (λ (xs : List Claimed). behind ++ xs)
+    (sym (filter-append (λ x. not (is_claim_of reader x)) front (claim ∷ [])))
+  where
+    by : (b : Bool) → is_claim_of reader claim ≡ b →
+        cond b (behind ++ without_claims front reader) ((behind ++ without_claims front reader) ++ claim ∷ [])
+        ≡ behind ++ (without_claims front reader ++ cond (not b) (claim ∷ []) [])
+    by true e = ap (λ (xs : List Claimed). behind ++ xs) (sym (append-nil (without_claims front reader)))
+    by false e = append_assoc behind (without_claims front reader) (claim ∷ [])
+
+-- one claim further
+pub turned_more : (reader i : ℕ) (claims turning : List Claimed) → i < length claims →
+    turning ≡ drop i claims ++ without_claims (take i claims) reader →
+    turned reader turning ≡ drop (i + 1) claims ++ without_claims (take (i + 1) claims) reader
+turned_more reader i claims turning less is =
+    ap (turned reader) is
+    ∙ ap (λ (xs : List Claimed). turned reader (xs ++ without_claims (take i claims) reader))
+    (drop-cons claims i d less)
+    ∙ one_more reader (get_or claims i d) (drop (suc i) claims) (take i claims)
+    ∙ ap (λ (n : ℕ). drop n claims ++ without_claims (take i claims ++ get_or claims i d ∷ []) reader) (one i)
+    ∙ ap (λ (xs : List Claimed). drop (i + 1) claims ++ without_claims xs reader) (sym (take_more claims i d less))
+  where
+    d : Claimed
+    d = empty_claim 0 0
+
+    one : (i : ℕ) → suc i ≡ i + 1
+    one i = omega arith
+
+-- the first of those that turn is the next
+first_next : (reader i : ℕ) (claims turning : List Claimed) → i < length claims →
+    turning ≡ drop i claims ++ without_claims (take i claims) reader →
+    take 1 turning ≡ get_or claims i (empty_claim 0 0) ∷ []
+first_next reader i claims turning less is =
+    ap (λ (xs : List Claimed). take 1 xs) is
+    ∙ ap (λ (xs : List Claimed). take 1 (xs ++ without_claims (take i claims) reader))
+    (drop-cons claims i (empty_claim 0 0) less)
+
+-- what the reader claimed, one claim further
+pub moved_more : (reader i : ℕ) (f : Claimed → Pending) (claims turning : List Claimed) (pages : List Pending) →
+    i < length claims → turning ≡ drop i claims ++ without_claims (take i claims) reader →
+    (pages ++ map f (claims_of (take i claims) reader)) ++ map f (claims_of (take 1 turning) reader)
+    ≡ pages ++ map f (claims_of (take (i + 1) claims) reader)
+moved_more reader i f claims turning pages less is =
+    append_assoc pages (map f (claims_of (take i claims) reader)) (map f (claims_of (take 1 turning) reader))
+    ∙ ap (λ (xs : List Pending). pages ++ xs)
+    (sym (map-append f (claims_of (take i claims) reader) (claims_of (take 1 turning) reader))
+    ∙ ap (λ (xs : List Claimed). map f xs)
+    (ap (λ (xs : List Claimed). claims_of (take i claims) reader ++ claims_of xs reader)
+    (first_next reader i claims turning less is)
+    ∙ sym (filter-append (is_claim_of reader) (take i claims) (get_or claims i (empty_claim 0 0) ∷ []))
+    ∙ ap (λ (xs : List Claimed). claims_of xs reader) (sym (take_more claims i (empty_claim 0 0) less))))

@@ -1,0 +1,65 @@
+//! A block that stays where it is.
+ghost use Rattle.std.specs.Prelude.{◌≡◌, IfOk, ℕ, List};
+ghost use Rattle.ufs_spec.specs.Keys.{IsBlock};
+ghost use Rattle.ufs_spec.specs.Plain.{zero_block};
+
+use std::alloc::{AllocError, Global};
+use std::marker::Model;
+use ufs_bytes::Block;
+
+/// A block behind a pointer: whoever moves it moves the pointer, and its bytes stay where they are.
+#[derive(Drop)]
+pub struct Body {
+    bytes: Box<Block>,
+}
+
+impl Model for Body {
+    ghost Value = { List ℕ };
+
+    ghost view = { λ b. b.bytes.value };
+}
+
+impl Body {
+    /// A block of zeros.
+    ///
+    /// # Errors
+    ///
+    /// Only if memory was refused.
+    pub fn new(alloc: Global) -> Result<Body, AllocError>
+        ensures { IfOk result (λ b. b ≡ zero_block) }
+    {
+        match Box::new(alloc, zeros()) {
+            Ok(bytes) => Ok(Body { bytes }),
+            Err(_) => Err(AllocError),
+        }
+    }
+
+    /// Its bytes.
+    pub fn block(&self) -> &Block
+        ensures { result.now ≡ self.now }
+    {
+        &self.bytes
+    }
+
+    /// From now on it holds these bytes.
+    pub fn set(&mut self, block: &Block)
+        ensures { self.new ≡ block.now }
+    {
+        *self.bytes = *block;
+    }
+
+    /// From now on it holds zeros.
+    pub fn clear(&mut self)
+        ensures { self.new ≡ zero_block }
+    {
+        *self.bytes = zeros();
+    }
+}
+
+/// A block of zeros.
+#[tactic(auto, unfolding(ufs_spec::specs::Plain::zero_block))]
+fn zeros() -> Block
+    ensures { result ≡ zero_block }
+{
+    [0; 4096]
+}

@@ -1,0 +1,411 @@
+//! The write cache and its calls.
+ghost use Rattle.std.specs.Prelude.{◌≡◌, ℕ, ◌<◌, ◌≤◌, ◌+◌, ◌-◌, ◌^◌, length, IsTrue, vec_capacity, IfOk};
+ghost use Rattle.std.specs.Prelude.{IfSome, IsSome, nat_le, nat_lt, ◌++◌, ◌∷◌, [], if◌then◌else◌, slice_get};
+ghost use Rattle.std.specs.Prelude.{map, filter, not, None, Some, option_copied, option_map, find, List};
+ghost use Rattle.std.specs.Prelude.{take, drop, position, reverse};
+ghost use Rattle.std.specs.List.{position_or_len};
+ghost use Rattle.std.specs.VecDeque.{deque_capacity};
+ghost use Rattle.write_cache.specs.Kept.{WriteCache};
+ghost use Rattle.write_cache.specs.Slots.{appended, claim_filled, claimed_all, claims_of, ends_run};
+ghost use Rattle.write_cache.specs.Slots.{free_slots, front_written, goes_on, has_number, empty_claim};
+ghost use Rattle.write_cache.specs.Slots.{is_claim_of, is_named, is_of_group, is_page_of, landed, last_page};
+ghost use Rattle.write_cache.specs.Slots.{page_claimed, page_written, risen, turned, without_claims};
+
+use crate::body::Body;
+use crate::slots::{Claimed, Landed, Pending, WholeGroup};
+use std::alloc::{AllocError, Global};
+use std::collections::VecDeque;
+use std::marker::Model;
+use ufs_bytes::Block;
+use ufs_spec::{Key, Place};
+
+/// No group and no mark has a greater number.
+pub const LAST_NUMBER: u64 = 0x4000_0000_0000_0000;
+
+/// The write cache: slots for the blocks that are accepted or claimed and not durable. All memory is taken by
+/// `new`, and a block stays where it was put until its page is durable.
+#[derive(Drop)]
+pub struct Cache {
+    /// How many slots there are.
+    slots: u16,
+    /// The slots that nobody holds.
+    free: Vec<Body>,
+    /// The pages of pending groups, in order of number and index.
+    pages: VecDeque<Pending>,
+    /// The slots that are claimed for groups to come, those of a reader in the order of its blocks.
+    claims: VecDeque<Claimed>,
+    /// Every group up to this number is durable or lost. It is at most `last`.
+    frontier: u64,
+    /// The greatest number that was given. It is at most 2^62.
+    last: u64,
+}
+
+impl Model for Cache {
+    ghost use Rattle.write_cache.specs.Kept.{WriteCache};
+
+    ghost Value = { WriteCache };
+
+    ghost use Rattle.write_cache.specs.Rooms.{cache_of, IsRoomy};
+
+    ghost view = { cache_of };
+
+    ghost invariant = { IsRoomy };
+}
+
+impl Cache {
+    /// A cache of so many free slots, over an array in which this is the greatest number.
+    ///
+    /// # Errors
+    ///
+    /// Only if memory was refused.
+    pub fn new(alloc: Global, slots: u16, last: u64) -> Result<Cache, AllocError>
+        requires { last ≤ 2 ^ 62 }
+        ensures { IfOk result (λ c. c ≡ record {
+          slots = slots;
+          pages = [];
+          claims = [];
+          frontier = last;
+          last = last;
+        }) }
+    {
+        let room = slots as usize;
+        let free = bodies(alloc, slots)?;
+        Ok(Cache {
+            slots,
+            free,
+            pages: VecDeque::with_capacity(alloc, room)?,
+            claims: VecDeque::with_capacity(alloc, room)?,
+            frontier: last,
+            last,
+        })
+    }
+
+    /// Every group up to this number is durable or lost.
+    pub fn frontier(&self) -> u64
+        ensures is { result ≡ self.now.frontier }
+        ensures bound { result ≤ 2 ^ 62 }
+    {
+        self.frontier
+    }
+
+    /// The greatest number that was given to a group.
+    pub fn last_number(&self) -> u64
+        ensures is { result ≡ self.now.last }
+        ensures bound { result ≤ 2 ^ 62 }
+        ensures behind { self.now.frontier ≤ result }
+    {
+        self.last
+    }
+
+    /// Whether a number is left for one group more.
+    pub fn has_number(&self) -> bool
+        ensures { result ≡ has_number self.now }
+    {
+        self.last < LAST_NUMBER
+    }
+
+    /// How many slots neither a pending group nor a claim holds.
+    pub fn free_slots(&self) -> usize
+        ensures { result ≡ free_slots self.now }
+    {
+        self.free.len()
+    }
+
+    /// How many pages are of groups that are accepted and not durable.
+    pub fn pending(&self) -> usize
+        ensures count { result ≡ length self.now.pages }
+        ensures within { length self.now.pages + length self.now.claims ≤ self.now.slots }
+    {
+        self.pages.len()
+    }
+
+    /// The page at this position, in order of number and index; `None` behind the last.
+    pub fn page(&self, at: usize) -> Option<&Pending>
+        ensures { option_copied result ≡ slice_get self.now.pages at }
+    {
+        self.pages.get(at)
+    }
+
+    /// The last page of a pending group that is of the address.
+    pub fn last_page(&self, key: Key) -> Option<&Pending>
+        ensures { option_copied result ≡ last_page key self.now.pages }
+    {
+        let behind = pages_behind(&self.pages, key)?;
+        self.pages.get(self.pages.len() - 1 - behind)
+    }
+
+    /// The page with this number and index, if it is pending.
+    pub fn page_named(&self, number: u64, index: u16) -> Option<&Pending>
+        ensures { option_copied result ≡ find (is_named number index) self.now.pages }
+    {
+        self.pages.iter().find(|page| page.is_named(number, index))
+    }
+
+    /// Claims a slot for each of so many blocks of this reader, where as many are free; else nothing.
+    pub fn reserve(&mut self, reader: u8, blocks: u16) -> bool
+        ensures found { result ≡ nat_le blocks (free_slots self.old) }
+        ensures after { self.new ≡ (if result then claimed_all self.old reader blocks else self.old) }
+    {
+        if self.free.len() < blocks as usize {
+            return false;
+        }
+        for index in 0..blocks {
+            self.claim(reader, index);
+        }
+        true
+    }
+
+    /// Claims a slot for this block of the reader.
+    fn claim(&mut self, reader: u8, index: u16)
+        requires { 0 < free_slots self.old }
+        ensures { self.new ≡ record self.old { claims = self.old.claims ++ empty_claim reader index ∷ [] } }
+    {
+        if let Some(mut body) = self.free.pop() {
+            body.clear();
+            self.claims
+                .push_back_reserved(Claimed::empty(reader, index, body));
+        }
+    }
+
+    /// Gives back all slots that the reader has claimed.
+    pub fn release(&mut self, reader: u8)
+        ensures { self.new ≡ record self.old { claims = without_claims self.old.claims reader } }
+    {
+        free_claims(&mut self.claims, &mut self.free, reader);
+    }
+
+    /// Puts a block that came into the slot that was claimed for it: that of this index of the reader.
+    pub fn fill(&mut self, reader: u8, index: u16, block: &Block)
+        ensures { self.new ≡ record self.old { claims = map (claim_filled reader index block.now) self.old.claims } }
+    {
+        fill_claims(self.claims.make_contiguous(), reader, index, block);
+    }
+
+    /// Puts the group of the blocks that came for this reader behind all that are pending, in the place of
+    /// the slots that it claimed, from an address on, and answers its number. No block is moved.
+    pub fn append(&mut self, reader: u8, key: Key) -> u64
+        requires { IsTrue (has_number self.old) }
+        ensures number { result ≡ self.old.last + 1 }
+        ensures after { self.new ≡ appended self.old reader key }
+    {
+        let number = self.last + 1;
+        let size = self.claimed(reader);
+        let group = NewGroup { key, number, size };
+        move_claims(&mut self.claims, &mut self.pages, reader, group);
+        self.last = number;
+        number
+    }
+
+    /// How many slots the reader has claimed.
+    fn claimed(&self, reader: u8) -> u16
+        ensures { result ≡ length (claims_of self.now.claims reader) }
+    {
+        self.claims
+            .iter()
+            .filter(|claim| claim.is_of(reader))
+            .count() as u16
+    }
+
+    /// The next number, which a group has that takes no slot.
+    pub fn give_number(&mut self) -> u64
+        requires { IsTrue (has_number self.old) }
+        ensures number { result ≡ self.old.last + 1 }
+        ensures after { self.new ≡ record self.old { last = self.old.last + 1 } }
+    {
+        self.last += 1;
+        self.last
+    }
+
+    /// The page with this number and index is written there, if it is pending.
+    pub fn mark_written(&mut self, number: u64, index: u16, place: Place)
+        ensures { self.new ≡ record self.old { pages = page_written self.old.pages number index place } }
+    {
+        let found = place_named(&self.pages, number, index);
+        if let Some(at) = found {
+            if let Some(page) = self.pages.get_mut(at) {
+                page.written = Some(place);
+            }
+        }
+    }
+
+    /// The first pending group, if all its pages are written: its number, and how many pages stand first in the order.
+    pub fn front_written(&self) -> Option<WholeGroup>
+        ensures what { option_map (λ (g : WholeGroup). g.number) result ≡ front_written self.now.pages }
+        ensures first { IfSome result (λ g. take g.pages self.now.pages ≡ filter (is_of_group g.number) self.now.pages) }
+        ensures others { IfSome result (λ g. drop g.pages self.now.pages ≡
+            filter (λ p. not (is_of_group g.number p)) self.now.pages) }
+        ensures some { IfSome result (λ g. (0 < g.pages) × (g.pages ≤ length self.now.pages)) }
+    {
+        let number = self.pages.front()?.number;
+        let pages = run_length(&self.pages, number);
+        if goes_on(&self.pages, pages, number) {
+            return None;
+        }
+        Some(WholeGroup { number, pages })
+    }
+
+    /// Takes the first page out of its slot, which is free from then on.
+    pub fn land(&mut self) -> Option<Landed>
+        ensures where_it_is { result ≡ option_map landed (slice_get self.old.pages 0) }
+        ensures after { self.new ≡ record self.old { pages = drop 1 self.old.pages } }
+    {
+        let page = self.pages.pop_front()?;
+        let landed = Landed {
+            key: page.key,
+            number: page.number,
+            index: page.index,
+            written: page.written,
+        };
+        self.free.push_reserved(page.body);
+        Some(landed)
+    }
+
+    /// The frontier is the next number, if that was given.
+    pub fn rise(&mut self)
+        ensures { self.new ≡ record self.old { frontier = risen self.old } }
+    {
+        self.frontier = (self.frontier + 1).min(self.last);
+    }
+}
+
+/// A group that is accepted: its first address, its number and how many pages it has.
+#[derive(Clone, Copy)]
+struct NewGroup {
+    key: Key,
+    number: u64,
+    size: u16,
+}
+
+/// The slots that the reader has claimed become pages of the group, in their order; the other claims stay.
+fn move_claims(
+    claims: &mut VecDeque<Claimed>,
+    pages: &mut VecDeque<Pending>,
+    reader: u8,
+    group: NewGroup,
+)
+    requires { length pages.old.items + length claims.old.items ≤ deque_capacity pages.old }
+    ensures left { claims.new.items ≡ without_claims claims.old.items reader }
+    ensures claim_room { deque_capacity claims.new ≡ deque_capacity claims.old }
+    ensures moved { pages.new.items ≡ pages.old.items
+        ++ map (page_claimed group.key group.number group.size) (claims_of claims.old.items reader) }
+    ensures page_room { deque_capacity pages.new ≡ deque_capacity pages.old }
+    ensures as_many { length pages.new.items + length claims.new.items ≡
+        length pages.old.items + length claims.old.items }
+{
+    for _ in 0..claims.len() {
+        move_claim(claims, pages, reader, group);
+    }
+}
+
+/// The first claim becomes a page of the group, if the reader has claimed it; else it is the last from then on.
+fn move_claim(
+    claims: &mut VecDeque<Claimed>,
+    pages: &mut VecDeque<Pending>,
+    reader: u8,
+    group: NewGroup,
+)
+    requires { length pages.old.items + length claims.old.items ≤ deque_capacity pages.old }
+    ensures left { claims.new.items ≡ turned reader claims.old.items }
+    ensures claim_room { deque_capacity claims.new ≡ deque_capacity claims.old }
+    ensures moved { pages.new.items ≡ pages.old.items
+        ++ map (page_claimed group.key group.number group.size) (claims_of (take 1 claims.old.items) reader) }
+    ensures page_room { deque_capacity pages.new ≡ deque_capacity pages.old }
+    ensures as_many { length pages.new.items + length claims.new.items ≡
+        length pages.old.items + length claims.old.items }
+{
+    if let Some(claim) = claims.pop_front() {
+        if claim.is_of(reader) {
+            pages.push_back_reserved(claim.into_page(group.key, group.number, group.size));
+        } else {
+            claims.push_back_reserved(claim);
+        }
+    }
+}
+
+/// The slots that the reader has claimed are free; the other claims stay.
+fn free_claims(claims: &mut VecDeque<Claimed>, free: &mut Vec<Body>, reader: u8)
+    requires { length free.old.items + length claims.old.items ≤ vec_capacity free.old }
+    ensures left { claims.new.items ≡ without_claims claims.old.items reader }
+    ensures claim_room { deque_capacity claims.new ≡ deque_capacity claims.old }
+    ensures room { vec_capacity free.new ≡ vec_capacity free.old }
+    ensures as_many { length free.new.items + length claims.new.items ≡
+        length free.old.items + length claims.old.items }
+{
+    for _ in 0..claims.len() {
+        free_claim(claims, free, reader);
+    }
+}
+
+/// The slot of the first claim is free, if the reader has claimed it; else the claim is the last from then on.
+fn free_claim(claims: &mut VecDeque<Claimed>, free: &mut Vec<Body>, reader: u8)
+    requires { length free.old.items + length claims.old.items ≤ vec_capacity free.old }
+    ensures left { claims.new.items ≡ turned reader claims.old.items }
+    ensures claim_room { deque_capacity claims.new ≡ deque_capacity claims.old }
+    ensures room { vec_capacity free.new ≡ vec_capacity free.old }
+    ensures as_many { length free.new.items + length claims.new.items ≡
+        length free.old.items + length claims.old.items }
+{
+    if let Some(claim) = claims.pop_front() {
+        if claim.is_of(reader) {
+            free.push_reserved(claim.body);
+        } else {
+            claims.push_back_reserved(claim);
+        }
+    }
+}
+
+/// What came lies in the slot that is claimed for the block of this index of the reader.
+fn fill_claims(claims: &mut [Claimed], reader: u8, index: u16, block: &Block)
+    ensures { claims.new ≡ map (claim_filled reader index block.now) claims.old }
+{
+    for claim in claims.iter_mut() {
+        claim.fill(reader, index, block);
+    }
+}
+
+/// How many pages are behind the last one that is of the address.
+fn pages_behind(pages: &VecDeque<Pending>, key: Key) -> Option<usize>
+    ensures what { result ≡ position (is_page_of key) (reverse pages.now.items) }
+    ensures less { IfSome result (λ k. k < length pages.now.items) }
+{
+    pages.iter().rev().position(|page| page.is_of(key))
+}
+
+/// The position of the page with this number and index, if it is pending.
+fn place_named(pages: &VecDeque<Pending>, number: u64, index: u16) -> Option<usize>
+    ensures { result ≡ position (is_named number index) pages.now.items }
+{
+    pages.iter().position(|page| page.is_named(number, index))
+}
+
+/// How many of the first pages are written and of the group with this number.
+fn run_length(pages: &VecDeque<Pending>, number: u64) -> usize
+    ensures { result ≡ position_or_len (ends_run number) pages.now.items }
+{
+    pages
+        .iter()
+        .position(|page| page.ends_run(number))
+        .unwrap_or(pages.len())
+}
+
+/// Whether the page at this position is there, and of the group with this number.
+fn goes_on(pages: &VecDeque<Pending>, at: usize, number: u64) -> bool
+    ensures { result ≡ goes_on number (slice_get pages.now.items at) }
+{
+    match pages.get(at) {
+        Some(page) => page.is_of_group(number),
+        None => false,
+    }
+}
+
+/// So many free slots.
+fn bodies(alloc: Global, slots: u16) -> Result<Vec<Body>, AllocError>
+    ensures long { IfOk result (λ v. length v.items ≡ slots) }
+    ensures room { IfOk result (λ v. slots ≤ vec_capacity v) }
+{
+    let mut free = Vec::with_capacity(alloc, slots as usize)?;
+    for _ in 0..slots {
+        free.push_reserved(Body::new(alloc)?);
+    }
+    Ok(free)
+}
