@@ -385,7 +385,7 @@ impl Ftl {
         }
     }
 
-    /// Whether writes are refused from now on: a block is bad (in this first stage none may be), or no
+    /// Whether writes are refused from now on: a block is bad (in this stage none may be), or no
     /// number is left.
     #[tactic(auto, using(crate::proofs::small_calls::SmallCalls::locks_right))]
     pub fn is_locked(&self) -> bool

@@ -1,4 +1,4 @@
-//! The worked rows of the first stage, as scripts.
+//! The worked rows of one block, as scripts.
 use crate::scripts::{Text, expect};
 use std::test::Fail;
 
