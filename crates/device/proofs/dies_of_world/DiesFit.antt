@@ -28,6 +28,7 @@ use Rattle.ufs_laws.proofs.jobs.OneJob.{is_die}
 use Rattle.ufs_laws.proofs.jobs.SameJobs as quiet
 use Rattle.ufs_laws.proofs.deciding.SearchOverPlaces.{is_place, split}
 use Rattle.ufs_laws.proofs.exchanges.RequestsSettled.{settled_jobs}
+use Rattle.ufs_laws.proofs.lives.EventsLead.{well_fits}
 use Rattle.ufs_laws.specs.Flights.{die_of_flight}
 use Rattle.ufs_laws.specs.Requests.{HaveNoRequest}
 use Rattle.power_loss.specs.Exchange.{IsTied}
@@ -36,7 +37,7 @@ use Rattle.power_loss.proofs.books.SmallFacts.{at_die_is, spot_is}
 use Rattle.device.specs.Worlds.{BlocksFit, DiesFit, FitState, die_at, job_at, jobs_given}
 use Rattle.device.proofs.dies_of_world.DieParts.{die_size, erase_blocks, erase_pages, program_blocks}
 use Rattle.device.proofs.dies_of_world.DieParts.{program_pages, put_jobs, put_same, put_sizes}
-use Rattle.device.proofs.dies_of_world.FinishDies.{blocks_behind, flights_behind, seen_behind, well_fits}
+use Rattle.device.proofs.dies_of_world.FinishDies.{blocks_behind, flights_behind, seen_behind}
 use Rattle.device.proofs.dies_of_world.QuietDies.{Seen, hears_same, replied_same, seen, seen_over, step_same, told_same}
 
 -- A fit reads the numbers, the pages and the blocks of a state, and the jobs that are in flight

@@ -127,12 +127,6 @@ seen_erase_failed s die spot c left flies = seen_ended s die (Erasing spot) (Wen
 
 -- The jobs in flight
 
--- the end fits the job
-pub well_fits : (flight : Flight) → fits (Some flight) (ended_well flight) ≡ true
-well_fits (Reading reader place) = refl
-well_fits (Programming place cell) = refl
-well_fits (Erasing spot) = refl
-
 pub flights_behind : (s : State) (die : ℕ) (flight : Flight) (ending : Ending) (left : Array) → HaveNoRequest s.tasks →
     s.translation.disk.flights die ≡ Some flight → die_of_flight flight ≡ die →
     fits (Some flight) ending ≡ true →

@@ -45,26 +45,26 @@ quiet_same t move q = refl
 
 -- States
 
-abbrev pub Same : State → State → Type 0
-Same s u = seen u ≡ seen s
+abbrev pub SeesSame : State → State → Type 0
+SeesSame s u = seen u ≡ seen s
 
 -- small changes leave the layer, and the pages
-small_one : (s : State) (change : Change) → IsSmall change → Same s (changed s change)
-small_one s (Moves move) is = ap (seen_over s.array) (quiet_same s.translation move (small_quiet move is))
-small_one s change is = refl
+small_sees : (s : State) (change : Change) → IsSmall change → SeesSame s (changed s change)
+small_sees s (Moves move) is = ap (seen_over s.array) (quiet_same s.translation move (small_quiet move is))
+small_sees s change is = refl
 
-small_same : {s u : State} → Small s u → Same s u
-small_same h = kept Same (record { self = λ s. refl; both = λ s t u h g. g ∙ h; one = small_one }) h
+smalls_see : {s u : State} → Small s u → SeesSame s u
+smalls_see h = kept SeesSame (record { self = λ s. refl; both = λ s t u h g. g ∙ h; one = small_sees }) h
 
 -- to fill registers and to tell the lock are small changes
-pub told_same : (s : State) → Same s (lock_applied (fills s))
-told_same s = small_same (settled_small s)
+pub told_same : (s : State) → SeesSame s (lock_applied (fills s))
+told_same s = smalls_see (settled_small s)
 
-pub step_same : (s : State) → Same s (with_moves s (TakeStep ∷ []))
+pub step_same : (s : State) → SeesSame s (with_moves s (TakeStep ∷ []))
 step_same s = ap (λ (t : Translation). seen_over s.array (layer_seen t)) (turn_only s.translation).is
 
-pub hears_same : (s : State) (h : Heard) → Same s (hears s h)
-hears_same s h = small_same (hears_small s h)
+pub hears_same : (s : State) (h : Heard) → SeesSame s (hears s h)
+hears_same s h = smalls_see (hears_small s h)
 
-pub replied_same : (s : State) (m : Message) → Same s (replied s m)
-replied_same s m = small_same (replied_small s m)
+pub replied_same : (s : State) (m : Message) → SeesSame s (replied s m)
+replied_same s m = smalls_see (replied_small s m)

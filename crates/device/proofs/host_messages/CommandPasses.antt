@@ -28,6 +28,7 @@ use Rattle.ufs_laws.proofs.plain_contents.GroupsOfCommands.{length-groups}
 use Rattle.power_loss.specs.Exchange.{IsTied}
 use Rattle.device.specs.declared.plans.Plan.{Plan}
 use Rattle.device.specs.Plans.{Passes}
+use Rattle.device.proofs.host_messages.CommandTable.{unit_is}
 
 -- Lines
 
@@ -61,17 +62,6 @@ checked s r command is none =
     let l = not_here (is_crowded s command) Busy _ k.1 in
     record { too_long = c.0; past = f.0; unmended = g.0; refused = i.0; crowded = l.0 }
 
--- The unit
-
-unit_told : (s : State) (r : Request) (unit : UnitSpec) → slice_get (numbers_of s).units.items r.lun ≡ Some unit →
-    unit_of_request s r ≡ Some r.lun
-unit_told s r unit there =
-    let low : nat_lt r.lun (length (numbers_of s).units.items) ≡ true =
-    lt-ltb r.lun (length (numbers_of s).units.items) (slice_get_within (numbers_of s).units.items r.lun unit there) in
-    let lun : lun_of (numbers_of s) r.lun ≡ Some (UnitOf r.lun) =
-    ap (λ (b : Bool). if b then Some (UnitOf r.lun) else None) low in
-    ap (unit_in s r) lun
-
 -- what is known of a command that passed
 pub record IsFree (s : State) (r : Request) (unit : UnitSpec) (command : Cdb) : Type 0 where
   pub unit_is : unit_of_request s r ≡ Some r.lun
@@ -103,7 +93,7 @@ mended_told false b h e = absurd (false≢true e)
 pub free_told : (s : State) (r : Request) (todo : Plan) → (h : Passes s r todo) → IsFree s r h.unit h.command
 free_told s r todo h =
     let k = checked s r h.command h.is h.passed in
-    let unit = unit_told s r h.unit h.there in
+    let unit = unit_is s r h.unit h.there in
     let spec : spec_of s r ≡ Some h.unit = ap (spec_at (numbers_of s)) unit ∙ h.there in
     record {
       unit_is = unit;

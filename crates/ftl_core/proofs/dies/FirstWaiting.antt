@@ -3,6 +3,7 @@ use Rattle.std.proofs.Common.{◌≡◌, ◌≤◌, ℕ, zero, suc, ◌+◌, Boo
 use Rattle.std.proofs.Common.{arith, ap, refl, sym, ◌∙◌, subst, take}
 use Rattle.std.specs.Prelude.{find, if◌then◌else◌, slice_get}
 use Rattle.ufs_spec.proofs.Facts.{none-some}
+use Rattle.ufs_spec.proofs.Lists.{find_behind}
 
 abbrev pub FoundOr : {A : Type 0} → Bool → A → Option A → Option A
 FoundOr b x rest = if b then Some x else rest
@@ -14,9 +15,6 @@ none_after false x rest e = (refl, e)
 one_less : {A : Type 0} (test : A → Bool) (x : A) (xs : List A) → find test (x ∷ xs) ≡ None →
     (test x ≡ false) × (find test xs ≡ None)
 one_less test x xs e = none_after (test x) x (find test xs) e
-
-skip : {A : Type 0} (test : A → Bool) (x : A) (xs : List A) → test x ≡ false → find test (x ∷ xs) ≡ find test xs
-skip test x xs e = ap (λ (b : Bool). FoundOr b x (find test xs)) e
 
 -- none before it passes, and it does
 pub first_found : {A : Type 0} (test : A → Bool) (xs : List A) (at : ℕ) (x : A) → find test (take at xs) ≡ None →
@@ -30,7 +28,7 @@ first_found {A} test (y ∷ ys) zero x none there passes =
     same_Some' e = cc
 first_found test (y ∷ ys) (suc at) x none there passes =
     let r = one_less test y (take at ys) none in
-    skip test y ys r.0 ∙ first_found test ys at x r.1 there passes
+    find_behind test y ys r.0 ∙ first_found test ys at x r.1 there passes
 
 -- none as far as there
 pub none_yet : {A : Type 0} (test : A → Bool) (xs : List A) (at : ℕ) (x : A) → find test (take at xs) ≡ None →
@@ -38,14 +36,14 @@ pub none_yet : {A : Type 0} (test : A → Bool) (xs : List A) (at : ℕ) (x : A)
 none_yet test [] at x none there fails = absurd (none-some x there)
 none_yet {A} test (y ∷ ys) zero x none there fails =
     let same = same_Some' there in
-    skip test y [] (ap test same ∙ fails)
+    find_behind test y [] (ap test same ∙ fails)
   where
     same_Some' : Some y ≡ Some x → y ≡ x
     same_Some' e = cc
 none_yet test (y ∷ ys) (suc at) x none there fails =
     let r = one_less test y (take at ys) none in
     subst (λ (k : ℕ). find test (take k (y ∷ ys)) ≡ None) (one_more at)
-    (skip test y (take (at + 1) ys) r.0 ∙ none_yet test ys at x r.1 there fails)
+    (find_behind test y (take (at + 1) ys) r.0 ∙ none_yet test ys at x r.1 there fails)
   where
     one_more : (n : ℕ) → suc (n + 1) ≡ suc n + 1
     one_more n = omega arith
@@ -56,4 +54,4 @@ none_at_all test [] at none l = refl
 none_at_all test (y ∷ ys) zero none l = absurd (omega (arith, l))
 none_at_all test (y ∷ ys) (suc at) none l =
     let r = one_less test y (take at ys) none in
-    skip test y ys r.0 ∙ none_at_all test ys at r.1 (omega (arith, l))
+    find_behind test y ys r.0 ∙ none_at_all test ys at r.1 (omega (arith, l))

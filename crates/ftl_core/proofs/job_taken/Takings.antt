@@ -3,7 +3,7 @@ use Rattle.std.proofs.Common.{◌≡◌, ◌∙◌, ℕ, ◌≤◌, Bool, true, 
 use Rattle.std.proofs.Common.{sym, ap, subst, inl, inr, is_none}
 use Rattle.std.specs.Prelude.{if◌then◌else◌, not, slice_get, option_and_then, option_map}
 use Rattle.std.specs.List.{list_any}
-use Rattle.ufs_spec.proofs.Facts.{false≢true}
+use Rattle.ufs_spec.proofs.Facts.{none_is, false≢true}
 use Rattle.ufs_spec.specs.Cells.{Cell, GroupPage}
 use Rattle.ufs_spec.specs.Disk as disk
 use Rattle.ufs_spec.specs.Disk.{job_of as told_by}
@@ -168,10 +168,6 @@ module _ (c : Core) (t : Translation) (die : ℕ) (b : Book) (h : Describes c t)
 
       new : t.ledger.standing p.number p.index ≡ None
       new = k.stands ∙ none_is p.written waits_here.0
-        where
-          none_is : (o : Option Place) → is_none o ≡ true → o ≡ None
-          none_is None e = refl
-          none_is (Some p) e = cc
 
       unflown : some_flight t (flies_name (page_name p)) ≡ false
       unflown = sym (writes_agree c t (page_name p) h.kept (no_repair c t h mended))

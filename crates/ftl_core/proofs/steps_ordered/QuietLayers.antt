@@ -8,6 +8,7 @@ use Rattle.ufs_spec.specs.Ledger as ledger
 use Rattle.ufs_spec.specs.Translation as layer
 use Rattle.ufs_spec.specs.Translation.{Mending, OrderMark, OrderRepair, Repairing, Translation, due_order, is_mended}
 use Rattle.ufs_spec.specs.declared.flash.Key.{Key}
+use Rattle.ufs_spec.proofs.Facts.{none_is}
 use Rattle.power_loss.proofs.books.PagesByName.{none_some}
 use Rattle.power_loss.proofs.books.LayerParts.{MendingOf}
 use Rattle.power_loss.specs.Book.{Book, HasKey, book, last_number}
@@ -44,10 +45,6 @@ step_kept_none l (Some (steps.Mark n fence)) content (Some o) h = refl
 step_kept_none l (Some (steps.Mark n fence)) content None h = absurd h
 step_kept_none l (Some (steps.Repair n k from there)) content (Some o) h = refl
 step_kept_none l (Some (steps.Repair n k from there)) content None h = absurd h
-
-pub none_is : {A : Type 0} (o : Option A) → is_none o ≡ true → o ≡ None
-none_is None e = refl
-none_is (Some x) e = cc
 
 -- the layer has no step where none is kept
 pub no_step : (c : Core) (t : Translation) → Kept c t → c.step ≡ None → t.work.step ≡ None

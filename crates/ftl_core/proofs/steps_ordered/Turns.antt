@@ -2,7 +2,7 @@
 use Rattle.std.proofs.Common.{◌≡◌, ◌∙◌, ◌+◌, Bool, true, false, List, [], ◌∷◌, Option, Some, None, drop, refl, sym}
 use Rattle.std.proofs.Common.{ap, subst, arith}
 use Rattle.std.specs.Prelude.{◌^◌, if◌then◌else◌, nat_le, is_none, is_some}
-use Rattle.ufs_spec.proofs.Facts.{and_parts, cond-true as if_true}
+use Rattle.ufs_spec.proofs.Facts.{none_is, and_parts, cond-true as if_true}
 use Rattle.ufs_spec.specs.Moves.{TakeStep, moved}
 use Rattle.ufs_spec.specs.Translation as layer
 use Rattle.ufs_spec.specs.Translation.{Order, OrderMark, OrderRepair, Repairing, Translation, due_order, stepped}
@@ -18,7 +18,7 @@ use Rattle.ftl_core.specs.Moves.{has_mark_number, is_repair_due, is_step_due, is
 use Rattle.ftl_core.specs.Moves.{repair_ordered, repair_turned, step_turned, turned}
 use Rattle.ftl_core.proofs.steps_ordered.MarksOrdered.{mark_waits}
 use Rattle.ftl_core.proofs.steps_ordered.QuietLayers.{at_front, get_dropped, group_number, is_quiet, mark_number}
-use Rattle.ftl_core.proofs.steps_ordered.QuietLayers.{none_is, order_is, turns_due}
+use Rattle.ftl_core.proofs.steps_ordered.QuietLayers.{order_is, turns_due}
 use Rattle.ftl_core.proofs.steps_ordered.RepairsOrdered.{repair_waits}
 
 -- A mark

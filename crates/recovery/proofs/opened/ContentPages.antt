@@ -10,12 +10,10 @@ use Rattle.ufs_spec.specs.Translation.{name_of}
 use Rattle.ufs_spec.specs.declared.flash.Key.{Key}
 use Rattle.ufs_spec.specs.declared.flash.Place.{Place}
 use Rattle.ufs_spec.specs.declared.flash.Tag.{Tag}
+use Rattle.ufs_spec.proofs.Equalities.{place_is}
 use Rattle.recovery.specs.Listed.{IsContentPage}
 use Rattle.recovery.specs.Opened.{IsPageOf}
 use Rattle.recovery.specs.declared.pages.FoundPage.{FoundPage}
-
-place_is : (p q : Place) → p.die ≡ q.die → p.block ≡ q.block → p.page ≡ q.page → p ≡ q
-place_is p q d b g i = record { die = d i; block = b i; page = g i }
 
 -- two places of which none is higher are the same
 pub same_place : (p q : Place) → IsNotHigher p q → IsNotHigher q p → p ≡ q
