@@ -6,7 +6,6 @@ use Rattle.std.proofs.lemmas.Bool.{cases_lt, cases_eq, cases_Bool, ltb-true, eqb
 use Rattle.std.proofs.lemmas.Bool.{or_cases, ne_eqb}
 use Rattle.std.proofs.lemmas.List.{take-append-drop, get_or-take, drop-drop, drop_at, length-take-le, length-take}
 use Rattle.std.proofs.lemmas.List.{get_or_past, get_or-drop}
-use Rattle.std.proofs.Math.ListN.{drop_of_length-le}
 use Rattle.ufs_bytes.proofs.FieldRanges.{field_fits}
 use Rattle.ufs_bytes.specs.Fields.{field_at}
 use Rattle.ufs_spec.specs.Messages.{AreBytes, IsMessage, IsSense, IsTransferred, Spells, code_of, header_of}
@@ -36,10 +35,6 @@ segment_and_rest bytes n =
     let count : 32 + n - 32 ≡ n = omega arith in
     let again : take n (drop 32 bytes) ++ drop n (drop 32 bytes) ≡ drop 32 bytes = take-append-drop n (drop 32 bytes) in
     rw (count, ← drop-drop n 32 bytes) (sym again)
-
--- where a list ends nothing follows
-nothing_follows : (bytes : List ℕ) (n : ℕ) → length bytes ≤ n → drop n bytes ≡ []
-nothing_follows bytes n h = drop_of_length-le bytes h
 
 -- what begins with a header is the header and what follows byte 31
 front_and_rest : (bytes front rest : List ℕ) → length front ≡ 32 → bytes ≡ front ++ rest →

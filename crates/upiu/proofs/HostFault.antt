@@ -1,5 +1,5 @@
 -- What is wrong with the bytes of a host, from what is wrong with bytes of any kind.
-use Rattle.std.proofs.Common.{◌≡◌, ◌∙◌, ◌==◌, ◌||◌, ℕ, Bool, true, false, not, cond, List, [], ◌∷◌, ◌++◌, Option}
+use Rattle.std.proofs.Common.{◌≡◌, ◌∙◌, ◌==◌, ℕ, Bool, true, false, not, cond, List, [], ◌∷◌, Option}
 use Rattle.std.proofs.Common.{Some, None, refl, sym, ap, subst, inl, inr}
 use Rattle.std.proofs.lemmas.Bool.{cond-false, cond-true, eqb-true, false≢true, not-false, or_cases}
 use Rattle.ufs_spec.specs.Messages.{code_of, has_digest, has_extra_header, has_other_code, has_wrong_length}
@@ -18,16 +18,6 @@ of_each P [] n each among = absurd (false≢true among)
 of_each P (x ∷ xs) n (here, others) among =
     elim (or_cases (n == x) (is_among xs n) among)
     [ inl same ↦ subst P (sym (eqb-true n x same)) here | inr other ↦ of_each P xs n others other ]
-
-or_again : (a b c : Bool) → a || (b || c) ≡ (a || b) || c
-or_again true b c = refl
-or_again false b c = refl
-
--- what is among two lists
-pub among_both : (xs ys : List ℕ) (n : ℕ) → is_among (xs ++ ys) n ≡ is_among xs n || is_among ys n
-among_both [] ys n = refl
-among_both (x ∷ xs) ys n =
-    ap (λ (b : Bool). (n == x) || b) (among_both xs ys n) ∙ or_again (n == x) (is_among xs n) (is_among ys n)
 
 -- a kind that a host sends is a kind
 pub known_of_host : (n : ℕ) → is_among host_codes n ≡ true → is_among known_codes n ≡ true
@@ -65,26 +55,11 @@ then_told false false false true e f t = let no : ⊥ = cc in absurd no
 then_told false false false false true f t = let no : ⊥ = cc in absurd no
 then_told false false false false false f t = (refl, refl)
 
--- what is wrong with bytes of any kind is wrong with those of a host
-pub host_told : (bytes : List ℕ) (fault : HostFault) → read_fault_of bytes ≡ Some fault →
-    host_fault_of bytes ≡ Some fault
-host_told bytes fault h =
-    same_told (is_short bytes) (has_wrong_length bytes) (has_digest bytes) (has_extra_header bytes)
-    (has_other_code known_codes bytes) (has_other_code host_codes bytes) fault
-    (turned (is_among host_codes (code_of bytes)) (is_among known_codes (code_of bytes))
-    (known_of_host (code_of bytes)))
-    h
-
 host_then : (bytes : List ℕ) → read_fault_of bytes ≡ None →
     host_fault_of bytes ≡ cond (has_other_code host_codes bytes) (Some Code) None
 host_then bytes h =
     (then_told (is_short bytes) (has_wrong_length bytes) (has_digest bytes) (has_extra_header bytes)
     (has_other_code known_codes bytes) (has_other_code host_codes bytes) h).0
-
--- bytes that have no fault and are of a kind that a host sends
-pub host_clear : (bytes : List ℕ) → read_fault_of bytes ≡ None → is_among host_codes (code_of bytes) ≡ true →
-    host_fault_of bytes ≡ None
-host_clear bytes h of_host = host_then bytes h ∙ cond-false _ _ _ (ap not of_host)
 
 -- bytes that have no fault, but are of a kind that a device sends
 pub host_other : (bytes : List ℕ) → read_fault_of bytes ≡ None → is_among host_codes (code_of bytes) ≡ false →

@@ -1,14 +1,13 @@
 -- Until the device is mended no task waits for commands, so the tasks do not read from which number groups count.
 use Rattle.std.proofs.Common.{◌≡◌, ℕ, Bool, true, false, All, List, [], ◌∷◌, Some, subst}
 use Rattle.std.proofs.lemmas.List.Elements.{All-cons, All-nil}
-use Rattle.std.specs.Prelude.{slice_get}
 use Rattle.ufs_spec.proofs.Facts.{false≢true}
 use Rattle.ufs_spec.specs.Exchanges as exchange
 use Rattle.ufs_spec.specs.Exchanges.{Answering, Awaiting, Deed, Gathering, Sending, SendingBytes, task_of}
 use Rattle.ufs_spec.specs.Exchanges.{is_task_of}
 use Rattle.ufs_spec.specs.declared.configs.Numbers.{Numbers}
 use Rattle.power_loss.specs.Exchange.{DeedFits, DeedsFit, claim_of}
-use Rattle.power_loss.proofs.open_tasks.TaggedLists.{each_at, each_found}
+use Rattle.power_loss.proofs.open_tasks.TaggedLists.{each_found}
 use Rattle.task_set.specs.declared.tasks.Phase.{Phase}
 use Rattle.task_set.specs.declared.tasks.Phase.TheVariants as phase
 use Rattle.task_set.specs.declared.tasks.Task.{Task}
@@ -67,11 +66,6 @@ kept_else n accepted before other ts us fits h = absurd h
 
 abbrev Fits : Numbers → ℕ → Bool → exchange.Task → Type 0
 Fits n accepted mended task = DeedFits n accepted mended (claim_of n task) task.length task.deed
-
-pub fits_at : (n : Numbers) (accepted : ℕ) (mended : Bool) (us : List exchange.Task) (k : ℕ) (b : exchange.Task) →
-    DeedsFit n accepted mended us → slice_get us k ≡ Some b →
-    DeedFits n accepted mended (claim_of n b) b.length b.deed
-fits_at n accepted mended us k b fits at = each_at (Fits n accepted mended) us k b fits at
 
 pub waits_mended : (n : Numbers) (accepted : ℕ) (mended : Bool) (us : List exchange.Task) (b : exchange.Task)
     (tag commands : ℕ) → DeedsFit n accepted mended us → task_of tag us ≡ Some b → b.deed ≡ Awaiting commands →

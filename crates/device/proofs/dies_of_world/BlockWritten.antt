@@ -1,7 +1,7 @@
 -- The pages of a block, written one after another.
-use Rattle.std.proofs.Common.{◌≡◌, ◌∙◌, ℕ, zero, suc, ◌+◌, ◌<◌, ◌≤◌, List, [], ◌∷◌, ◌++◌, length, refl, sym, ap, arith}
+use Rattle.std.proofs.Common.{◌≡◌, ◌∙◌, ℕ, zero, suc, ◌+◌, ◌<◌, List, [], ◌∷◌, ◌++◌, length, refl, sym, ap, arith}
 use Rattle.std.specs.Prelude.{drop, slice_index_or, slice_set, take}
-use Rattle.std.proofs.lemmas.List.{append-nil, drop_all, get_or-set_same, length-set, set-get_or, set-set, take_all}
+use Rattle.std.proofs.lemmas.List.{get_or-set_same, length-set, set-get_or, set-set}
 use Rattle.ufs_spec.specs.DieLaws.{pages_in}
 use Rattle.ufs_spec.specs.Dies.{DieState, IsOfSize, LiesOnDie, pages_of, with_block, with_page}
 use Rattle.ufs_spec.specs.declared.flash.Page.{Page}
@@ -26,11 +26,6 @@ over_next i (x ∷ new) [] d same less = absurd (omega (same, arith))
 over_next zero (x ∷ new) (y ∷ old) d same less = refl
 over_next (suc i) (x ∷ new) (y ∷ old) d same less =
     ap (λ zs. x ∷ zs) (over_next i new old d (omega (same, arith)) (omega (less, arith)))
-
-over_all : {A : Type 0} (i : ℕ) (new old : List A) → length new ≡ length old → length new ≤ i → over i new old ≡ new
-over_all i new old same all =
-    ap (λ zs. zs ++ drop i old) (take_all i new all)
-    ∙ ap (λ zs. new ++ zs) (drop_all i old (omega (same, all, arith))) ∙ append-nil new
 
 -- A die
 
@@ -78,10 +73,6 @@ pub next_written : (d now after : DieState) (block : ℕ) (pages : List Page) (i
 next_written d now after block pages i none before is l same less =
     is ∙ (ap (λ (x : DieState). with_page x block i (slice_index_or pages i none)) before
     ∙ one_written d block pages i none l same less)
-
-pub all_written : (d : DieState) (block : ℕ) (pages : List Page) (i : ℕ) → length pages ≡ length (pages_of d block) →
-    length pages ≤ i → written_to d block pages i ≡ with_block d block pages
-all_written d block pages i same all = ap (with_block d block) (over_all i pages (pages_of d block) same all)
 
 -- as many pages as each block has
 pub pages_many : (d : DieState) (block pages : ℕ) → block < length d.blocks → IsOfSize (length d.blocks) pages d →

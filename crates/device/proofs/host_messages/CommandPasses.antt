@@ -4,22 +4,21 @@ use Rattle.std.proofs.Common.{Option, Some, None, ◌⊎◌, drop, refl, sym, ap
 use Rattle.std.specs.Prelude.{◌*◌, ◌/◌, ◌%◌, ◌==◌, ◌||◌, ◌&&◌, if◌then◌else◌, min, nat_le, nat_lt, not, slice_get}
 use Rattle.std.specs.Int.{div_ceil}
 use Rattle.std.specs.List.{list_any, sum_by}
-use Rattle.std.proofs.lemmas.Bool.{le-leb, lt-ltb}
+use Rattle.std.proofs.lemmas.Bool.{le-leb}
 use Rattle.std.proofs.lemmas.Bool.Decides.{nat_tests}
 use Rattle.std.proofs.lemmas.List.{length-drop}
 use Rattle.std.proofs.lemmas.List.Sums.{get_or-le-sum_by}
-use Rattle.std.proofs.lemmas.Option.{slice_get_within}
 use Rattle.ufs_spec.proofs.Facts.{eqb-true, false≢true, ltb-false, none-some, or_parts}
 use Rattle.ufs_spec.specs.Cdbs.{IsTakenCdb, address_of, blocks_of, direction_of, operation_of}
 use Rattle.ufs_spec.specs.Exchanges.{Busy, Status, Task, invalid_field, invalid_operation, list_length_error}
 use Rattle.ufs_spec.specs.Exchanges.{no_unit, not_ready, out_of_range, sequence_error, write_protected}
 use Rattle.ufs_spec.specs.Keys.{Group}
 use Rattle.ufs_spec.specs.Machine.{durable}
-use Rattle.ufs_spec.specs.Refusals.{Request, State, UnitOf, first_line, has_other_response, has_wrong_list}
+use Rattle.ufs_spec.specs.Refusals.{Request, State, first_line, has_other_response, has_wrong_list}
 use Rattle.ufs_spec.specs.Refusals.{is_crowded, is_past, is_refused_write, is_security_out, is_too_long, lacks_data}
 use Rattle.ufs_spec.specs.Refusals.{lacks_response, lacks_unit, length_in, lines_behind, lines_for, locked, lun_of}
 use Rattle.ufs_spec.specs.Refusals.{mended, needs_mended, not_taken, numbers_of, refusal, sends_frames, slots_needed}
-use Rattle.ufs_spec.specs.Refusals.{spec_at, spec_of, unit_in, unit_of_request}
+use Rattle.ufs_spec.specs.Refusals.{spec_at, spec_of, unit_of_request}
 use Rattle.ufs_spec.specs.Translation.{free_slots, has_pending}
 use Rattle.ufs_spec.specs.declared.configs.UnitSpec.{UnitSpec}
 use Rattle.ufs_spec.specs.declared.scsi.Cdb.{Cdb}

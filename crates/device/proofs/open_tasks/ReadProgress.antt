@@ -229,18 +229,6 @@ pub wanted_gone : (stays : Pin → Bool) (pins : List Pin) (tag index : ℕ) →
 wanted_gone stays pins tag index go =
     ap (option_map (λ (pin : Pin). pin.wanted)) (find_gone (is_pin_of tag index) stays go pins)
 
--- where pins come
-pub wanted_more : (pins more : List Pin) (tag index : ℕ) →
-    wanted_kept (pins ++ more) tag index ≡ option_or (wanted_kept pins tag index) (wanted_kept more tag index)
-wanted_more pins more tag index =
-    ap (option_map (λ (pin : Pin). pin.wanted)) (find-append (is_pin_of tag index) pins more)
-    ∙ by (find (is_pin_of tag index) pins) (find (is_pin_of tag index) more)
-  where
-    by : (a b : Option Pin) → option_map (λ (pin : Pin). pin.wanted) (option_or a b)
-        ≡ option_or (option_map (λ (pin : Pin). pin.wanted) a) (option_map (λ (pin : Pin). pin.wanted) b)
-    by None b = refl
-    by (Some pin) b = refl
-
 -- Blocks that were read
 
 -- the first block of a tag goes

@@ -1,5 +1,5 @@
 -- The first of a list that passes a test, looked for from the front.
-use Rattle.std.proofs.Common.{◌≡◌, ◌≤◌, ℕ, zero, suc, ◌+◌, Bool, true, false, List, [], ◌∷◌, Option, Some, None, length}
+use Rattle.std.proofs.Common.{◌≡◌, ℕ, zero, suc, ◌+◌, Bool, true, false, List, [], ◌∷◌, Option, Some, None}
 use Rattle.std.proofs.Common.{arith, ap, refl, sym, ◌∙◌, subst, take}
 use Rattle.std.specs.Prelude.{find, if◌then◌else◌, slice_get}
 use Rattle.ufs_spec.proofs.Facts.{none-some}
@@ -47,11 +47,3 @@ none_yet test (y ∷ ys) (suc at) x none there fails =
   where
     one_more : (n : ℕ) → suc (n + 1) ≡ suc n + 1
     one_more n = omega arith
-
-pub none_at_all : {A : Type 0} (test : A → Bool) (xs : List A) (at : ℕ) → find test (take at xs) ≡ None →
-    length xs ≤ at → find test xs ≡ None
-none_at_all test [] at none l = refl
-none_at_all test (y ∷ ys) zero none l = absurd (omega (arith, l))
-none_at_all test (y ∷ ys) (suc at) none l =
-    let r = one_less test y (take at ys) none in
-    find_behind test y ys r.0 ∙ none_at_all test ys at r.1 (omega (arith, l))

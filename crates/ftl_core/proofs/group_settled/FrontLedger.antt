@@ -73,9 +73,6 @@ groups_right t v = record {
 
 -- The page of a key at the frontier
 
-pub index_same : (k : Key) (x : Item) → keys.same_key x.key k ≡ true → index_in k (x ∷ []) ≡ Some 0
-index_same k x e = rw e refl
-
 pub index_other : (k : Key) (x : Item) → keys.same_key x.key k ≡ false → index_in k (x ∷ []) ≡ None
 index_other k x e = rw e refl
 

@@ -1,11 +1,10 @@
 -- The pages of pending groups and their names, one beside the other.
-use Rattle.std.proofs.Common.{◌≡◌, ◌∙◌, ℕ, zero, suc, ◌==◌, true, false, List, [], ◌∷◌, ◌++◌, Option, Some}
-use Rattle.std.proofs.Common.{None, length, drop, take, find, refl, sym, ap, subst, inl, inr, arith}
+use Rattle.std.proofs.Common.{◌≡◌, ◌∙◌, ℕ, zero, suc, ◌==◌, true, List, [], ◌∷◌, ◌++◌, Option, Some}
+use Rattle.std.proofs.Common.{length, drop, take, find, refl, sym, ap, subst, arith}
 use Rattle.std.specs.Prelude.{position, slice_get}
-use Rattle.std.specs.List.{list_any}
 use Rattle.ufs_spec.specs.Ledger.{Entry, Name}
 use Rattle.ufs_spec.proofs.Facts.{and_from, and_parts, eq-eqb, eqb-true, none-some, same_Some}
-use Rattle.ufs_spec.proofs.Lists.{any_here, find_some, none_passes, position_any, position_told}
+use Rattle.ufs_spec.proofs.Lists.{any_here, find_some, position_any, position_told}
 use Rattle.power_loss.proofs.ordered_lists.ElementsAndOrders.{IsIn, at_has, found_in, has_at}
 use Rattle.write_cache.specs.declared.slots.Pending.{Pending}
 use Rattle.ftl_core.specs.Describes.{PageKept, PagesKept, Standing, name_at}
@@ -121,25 +120,6 @@ page_named st en ps names name h here =
     (named_true st en page.0 name page.2) in
     (found.0, found.1, (find_named st en ps names name.number name.index found.0 h found.1).1)
 
--- none is found under another name
-pub none_named : (st : Standing) (en : Name → Option Entry) (ps : List Pending) (names : List Name)
-    (number index : ℕ) → PagesKept st en ps names → (IsIn (name_at number index) names → ⊥) →
-    list_any (is_named number index) ps ≡ false
-none_named st en ps names number index h none =
-    none_passes (is_named number index) ps
-    (λ k p at e.
-    let m = pages_get st en ps names k p h at in
-    none (at_has names k (name_at number index) (m.1 ∙ ap Some (name_told st en p m.0 number index m.2 e))))
-
-pub find_none_named : (st : Standing) (en : Name → Option Entry) (ps : List Pending) (names : List Name)
-    (number index : ℕ) → PagesKept st en ps names → (IsIn (name_at number index) names → ⊥) →
-    find (is_named number index) ps ≡ None
-find_none_named st en ps names number index h none = by (find (is_named number index) ps) refl
-  where
-    by : (o : Option Pending) → find (is_named number index) ps ≡ o → o ≡ None
-    by None e = refl
-    by (Some p) e = absurd (none (find_named st en ps names number index p h e).0)
-
 -- More pages
 
 pub pages_more : (st : Standing) (en : Name → Option Entry) (ps qs : List Pending) (names more : List Name) →
@@ -169,18 +149,6 @@ page_same st other en changed p name stands entry h = record {
   group_page = h.group_page;
   stands = stands ∙ h.stands;
 }
-
-pub pages_same : (st other : Standing) (en changed : Name → Option Entry) (ps : List Pending) (names : List Name) →
-    ((name : Name) → IsIn name names → (other name.number name.index ≡ st name.number name.index)
-    × (changed name ≡ en name)) → PagesKept st en ps names → PagesKept other changed ps names
-pages_same st other en changed [] [] same h = tt
-pages_same st other en changed [] (x ∷ names) same h = absurd h
-pages_same st other en changed (p ∷ ps) [] same h = absurd h
-pages_same st other en changed (p ∷ ps) (x ∷ names) same h =
-    let r = same x (inl refl) in (
-      page_same st other en changed p x r.0 r.1 h.0,
-      pages_same st other en changed ps names (λ name i. same name (inr i)) h.1,
-    )
 
 -- where each entry is known still
 pub pages_known : (st : Standing) (en changed : Name → Option Entry) (ps : List Pending) (names : List Name) →
