@@ -202,61 +202,147 @@ fn percent(nanoseconds: u64, hash: u64) -> u64 {
     nanoseconds.saturating_mul(100) / hash.max(1)
 }
 
-/// The rows of a device of these sizes.
-fn time_shape<R: Clock + Eprint>(rt: &R, alloc: Global, shape: Shape, hash: u64) -> Result<()> {
-    let mut bench = open(alloc, shape)?;
-    bench.settle(4, shape.dies);
+/// What each row took for a block, in hundredths of a hash that was timed right after it.
+#[derive(Clone, Copy)]
+struct Times {
+    durable: u64,
+    read: u64,
+    filled: u64,
+    pending: u64,
+    cached: u64,
+    at_once: u64,
+}
+
+/// What a hash takes now, in nanoseconds: the machine's speed changes within a run.
+fn time_hash<R: Clock>(rt: &R) -> Result<u64> {
+    let start = Instant::now(rt)?;
+    let all = hash_pages(COUNT);
+    let hash = each(start.elapsed(rt)?, COUNT);
+    ensure!(all > 0, "no hash was made");
+    Ok(hash)
+}
+
+/// Writes with FUA.
+fn time_durable<R: Clock>(
+    rt: &R,
+    bench: &mut Workbench,
+    dies: u8,
+    out: &mut [u8; 4128],
+) -> Result<u64> {
+    let start = Instant::now(rt)?;
+    write_durable(bench, dies, out)?;
+    Ok(each(start.elapsed(rt)?, COUNT))
+}
+
+/// Reads from dies.
+fn time_reads<R: Clock>(rt: &R, bench: &mut Workbench, dies: u8) -> Result<u64> {
+    let start = Instant::now(rt)?;
+    read_all(bench, dies)?;
+    Ok(each(start.elapsed(rt)?, COUNT))
+}
+
+/// How many blocks are in half the slots.
+fn half(shape: Shape) -> u32 {
+    (shape.slots / 64) as u32 * 32
+}
+
+/// Writes without FUA, up to their answers.
+fn time_filled<R: Clock>(
+    rt: &R,
+    bench: &mut Workbench,
+    shape: Shape,
+    out: &mut [u8; 4128],
+) -> Result<u64> {
+    let start = Instant::now(rt)?;
+    fill_slots(bench, shape, out)?;
+    Ok(each(start.elapsed(rt)?, half(shape)))
+}
+
+/// Reads from slots.
+fn time_pending<R: Clock>(rt: &R, bench: &mut Workbench, shape: Shape) -> Result<u64> {
+    let start = Instant::now(rt)?;
+    read_slots(bench, shape)?;
+    Ok(each(start.elapsed(rt)?, half(shape)))
+}
+
+/// One flush of what was written without FUA.
+fn time_flush<R: Clock>(rt: &R, bench: &mut Workbench, shape: Shape) -> Result<u64> {
+    let start = Instant::now(rt)?;
+    flush(bench, shape.dies)?;
+    Ok(each(start.elapsed(rt)?, half(shape)))
+}
+
+/// 32 writes with FUA at once.
+fn time_at_once<R: Clock>(
+    rt: &R,
+    bench: &mut Workbench,
+    dies: u8,
+    out: &mut [u8; 4128],
+) -> Result<u64> {
+    let start = Instant::now(rt)?;
+    write_at_once(bench, dies, 0, out)?;
+    Ok(each(start.elapsed(rt)?, 32))
+}
+
+/// All rows of a device of these sizes, one after another.
+fn measure<R: Clock>(rt: &R, bench: &mut Workbench, shape: Shape) -> Result<Times> {
     let mut out = [0x5Au8; 4128];
     out[..32].copy_from_slice(&data_out());
-    let start = Instant::now(rt)?;
-    write_durable(&mut bench, shape.dies, &mut out)?;
-    let durable = each(start.elapsed(rt)?, COUNT);
-    let start = Instant::now(rt)?;
-    read_all(&mut bench, shape.dies)?;
-    let read = each(start.elapsed(rt)?, COUNT);
-    let half = (shape.slots / 64) as u32 * 32;
-    let start = Instant::now(rt)?;
-    fill_slots(&mut bench, shape, &mut out)?;
-    let filled = each(start.elapsed(rt)?, half);
-    let start = Instant::now(rt)?;
-    read_slots(&mut bench, shape)?;
-    let pending = each(start.elapsed(rt)?, half);
-    let start = Instant::now(rt)?;
-    flush(&mut bench, shape.dies)?;
-    let flushed = each(start.elapsed(rt)?, half);
-    let start = Instant::now(rt)?;
-    write_at_once(&mut bench, shape.dies, 0, &mut out)?;
-    let at_once = each(start.elapsed(rt)?, 32);
+    let durable = time_durable(rt, bench, shape.dies, &mut out)?;
+    let durable = percent(durable, time_hash(rt)?);
+    let read = time_reads(rt, bench, shape.dies)?;
+    let read = percent(read, time_hash(rt)?);
+    let filled = time_filled(rt, bench, shape, &mut out)?;
+    let pending = time_pending(rt, bench, shape)?;
+    let flushed = time_flush(rt, bench, shape)?;
+    let hash = time_hash(rt)?;
+    let at_once = time_at_once(rt, bench, shape.dies, &mut out)?;
+    Ok(Times {
+        durable,
+        read,
+        filled: percent(filled, hash),
+        pending: percent(pending, hash),
+        cached: percent(filled.saturating_add(flushed), hash),
+        at_once: percent(at_once, hash),
+    })
+}
+
+/// Prints the rows.
+fn tell<R: Eprint>(rt: &R, shape: Shape, times: Times) -> Result<()> {
     let dies = shape.dies;
     let blocks = shape.blocks;
     let slots = shape.slots;
+    let durable = times.durable;
+    let read = times.read;
+    let filled = times.filled;
+    let cached = times.cached;
+    let pending = times.pending;
+    let at_once = times.at_once;
     eprintln!(rt;
         "{dies} dies of {blocks} blocks, {slots} slots, for a block, in percent of a hash:"
     )?;
-    let durable = percent(durable, hash);
-    let read = percent(read, hash);
     eprintln!(rt; "  writes of 32 blocks with FUA {durable}, reads of 32 blocks from dies {read}")?;
-    let cached = percent(filled.saturating_add(flushed), hash);
-    let filled = percent(filled, hash);
     eprintln!(rt;
-        "  writes of 32 blocks without FUA {filled}, and with one flush behind them {cached}"
+        "  writes of 32 blocks without FUA {filled}, and with one flush after them {cached}"
     )?;
-    let pending = percent(pending, hash);
-    let at_once = percent(at_once, hash);
     eprintln!(rt;
         "  reads of 32 blocks from slots {pending}, 32 writes of a block at once {at_once}"
     )?;
     Ok(())
 }
 
-/// Times each of the devices beside as many hashes in the same run.
+/// The rows of a device of these sizes.
+fn time_shape<R: Clock + Eprint>(rt: &R, alloc: Global, shape: Shape) -> Result<()> {
+    let mut bench = open(alloc, shape)?;
+    bench.settle(4, shape.dies);
+    let times = measure(rt, &mut bench, shape)?;
+    tell(rt, shape, times)
+}
+
+/// Times each of the devices.
 pub fn time_groups<R: Clock + Eprint>(rt: &R, alloc: Global) -> Result<()> {
-    let start = Instant::now(rt)?;
-    let all = hash_pages(COUNT);
-    let hash = each(start.elapsed(rt)?, COUNT);
-    eprintln!(rt; "one SHA-256 over a page: {hash} ns ({all})")?;
     for shape in SHAPES {
-        time_shape(rt, alloc, shape, hash)?;
+        time_shape(rt, alloc, shape)?;
     }
     Ok(())
 }

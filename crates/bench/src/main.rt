@@ -102,26 +102,41 @@ fn each(total: Duration) -> u64 {
     (total.as_nanos() / COUNT as u128).min(u64::MAX as u128) as u64
 }
 
-fn run<R: Clock + Eprint>(rt: &R, bench: &mut Workbench) -> Result<()> {
+/// Writes of one block, in nanoseconds for each.
+fn time_writes<R: Clock>(rt: &R, bench: &mut Workbench) -> Result<u64> {
     let mut out = [0x5Au8; 4128];
     let start = Instant::now(rt)?;
     for address in 0..COUNT {
         write(bench, address, &mut out)?;
     }
-    let writes = each(start.elapsed(rt)?);
+    Ok(each(start.elapsed(rt)?))
+}
+
+/// Reads of one block, in nanoseconds for each.
+fn time_reads<R: Clock>(rt: &R, bench: &mut Workbench) -> Result<u64> {
     let start = Instant::now(rt)?;
     for address in 0..COUNT {
         read(bench, address)?;
     }
-    let reads = each(start.elapsed(rt)?);
+    Ok(each(start.elapsed(rt)?))
+}
+
+/// Hashes of one page, in nanoseconds for each, and what shows that they were made.
+fn time_hashes<R: Clock>(rt: &R) -> Result<(u64, u64)> {
     let start = Instant::now(rt)?;
     let all = hash_pages(COUNT);
-    let hashes = each(start.elapsed(rt)?).max(1);
+    Ok((each(start.elapsed(rt)?).max(1), all))
+}
+
+fn run<R: Clock + Eprint>(rt: &R, bench: &mut Workbench) -> Result<()> {
+    let writes = time_writes(rt, bench)?;
+    let (hashes, all) = time_hashes(rt)?;
+    let reads = time_reads(rt, bench)?;
+    let write_percent = writes.saturating_mul(100) / hashes.max(1);
+    let read_percent = reads.saturating_mul(100) / hashes.max(1);
     eprintln!(rt; "a FUA write of one block: {writes} ns")?;
     eprintln!(rt; "a read of one block: {reads} ns")?;
     eprintln!(rt; "one SHA-256 over a page: {hashes} ns ({all})")?;
-    let write_percent = writes.saturating_mul(100) / hashes;
-    let read_percent = reads.saturating_mul(100) / hashes;
     eprintln!(rt; "write to hash: {write_percent} %, read to hash: {read_percent} %")?;
     Ok(())
 }
