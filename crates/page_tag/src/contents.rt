@@ -31,7 +31,7 @@ pub enum Content {
 }
 
 /// What a page is. A settings page or a mark counts only if its data are those of one: a mark whose
-/// fence is empty or whose numbers are out of range is nothing, and so is either with a wrong
+/// fence is empty, or that has more than 8 units, is nothing, and so is either with a wrong
 /// padding. It takes one SHA-256, and none if the first 64 spare bytes are wrong already.
 pub fn content_of(page: &Page) -> Content
     ensures { IsCell page.now (cell_of result) }

@@ -1,7 +1,6 @@
 -- How SCSI commands and sense data are written as bytes, how much data a command has and in which direction, and what
--- is left of what was expected (SPC, SBC, JESD220). SPC is SPC-4 everywhere, whose version INQUIRY tells, and SBC is
--- SBC-3;
--- they are cited by the titles of their clauses.
+-- is left of what was expected (SPC, SBC, JESD220). SPC is SPC-4 everywhere, and SBC is SBC-3; they are cited by the
+-- titles of their clauses.
 use Rattle.std.specs.Prelude.{◌≡◌, ◌<◌, ◌≤◌, ◌+◌, ◌-◌, ◌*◌, ◌^◌, ◌==◌, ℕ, min, nat_lt, Bool, List, [], ◌∷◌, ◌++◌}
 use Rattle.std.specs.Prelude.{replicate, slice_index, if◌then◌else◌}
 use Rattle.byteorder.specs.Endian.{big_bytes}

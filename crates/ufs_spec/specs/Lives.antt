@@ -232,12 +232,10 @@ Fit n dies = (length dies ≡ n.dies) × All (IsOfSize n.blocks n.pages) dies
 -- ## The promise
 
 -- Stopped at any moment, inside any page program or block erase and under every order of host messages, die jobs,
--- flushes
--- and collector steps, the device that opens afterwards has its units, settings, RPMB area, key and counter as after a
--- prefix of the accepted commands, and this prefix holds every command that was acknowledged as durable.
--- It is promised of dies that fit the configuration and whose pages are sound and suit it, as new dies are, where the
--- dies
--- do what they report and the openings had memory.
+-- flushes and collector steps, the device that opens afterwards has its units, settings, RPMB area, key and counter
+-- as after a prefix of the accepted commands, and this prefix holds every command that was acknowledged as durable.
+-- It is promised of dies that fit the configuration and whose pages are sound and suit it, as new dies are, if the
+-- dies do what they report and the openings had memory.
 pub record Headline (n : Numbers) (dies : List DieState) (events : List Event) (trace : List Output) : Type 0 where
   pub base : Plain
   pub stands : StandsFor n (array_of dies) base

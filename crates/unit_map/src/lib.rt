@@ -12,7 +12,7 @@ use geometry::{Config, key_index};
 use std::marker::Model;
 use ufs_spec::{Key, Place};
 
-/// Where the newest durable content of an address is, and the number of its group.
+/// Where the newest durable content of a key is, and the number of its group.
 #[derive(Clone, Copy, Debug, Default, PartialEq, Eq)]
 pub struct Stored {
     pub place: Place,

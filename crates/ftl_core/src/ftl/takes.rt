@@ -427,8 +427,8 @@ impl Ftl {
         }
     }
 
-    /// Whether a block may be opened for what waits: for a group alone more than dies + 2 blocks
-    /// stay free.
+    /// Whether a block may be opened for what waits: for a group only if more than dies + 2 blocks
+    /// are free now.
     fn may_open(&self, waiting: Waiting) -> bool
         ensures { result ≡ may_open self.now waiting }
     {
