@@ -18,7 +18,7 @@ INSTALLED = $(foreach it,$(PROGRAMS),bin/$(it) share/man/man1/$(it).1 share/bash
 help:
 	@echo 'make demo                  shows a write, a read and six stops; builds without proving, two minutes'
 	@echo 'make prove                 proves every crate, and says how far it is; installs nothing'
-	@echo 'make test                  proves everything from nothing and runs every test; about an hour'
+	@echo 'make test                  proves everything from nothing and runs every test; two hours or three'
 	@echo 'make install PREFIX=DIR    proves and builds ufsim and ufstool, and copies them to DIR/bin, with'
 	@echo '                           their manual pages and completions to DIR/share'
 	@echo 'make uninstall PREFIX=DIR  removes what was installed (both: without PREFIX, DIR is $(PREFIX))'

@@ -21,11 +21,11 @@ CRATE = pathlib.Path(__file__).resolve().parent.parent / "crates" / "memory_refu
 # has allocations.
 CALLS = {
     "MemDie::new": (6, 30),
-    "scan": (100, 24),
-    "Device::open": (100, 133),
-    "World::new": (106, 133),
-    "World::step": (228, 133),
-    "run": (106, 260),
+    "scan": (100, 30),
+    "Device::open": (100, 145),
+    "World::new": (106, 145),
+    "World::step": (237, 145),
+    "run": (106, 280),
 }
 
 # The number of the allocation that is refused.

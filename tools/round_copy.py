@@ -16,9 +16,10 @@ from trial_copy import needed
 # What rt prints: its verdict on a function, and an error in a file of the crate.
 VERDICT = re.compile(r"^fn (\w+::\S+?): (.*)$", re.MULTILINE)
 ERROR = re.compile(r"^\./(\S+?):\d+:\d+: error: (.*)$", re.MULTILINE)
-# A goal of the function itself that was not proved, and words of an error that only tells what else fell.
+# A goal of the function itself that was not proved, and words of an error that only tells what else fell. A closure
+# whose callers fell is proved if they give what it asks.
 OPEN_GOAL = re.compile(r"`search` did not prove (.*?)(?:; it calls|$)")
-ONLY_FOLLOWS = re.compile(r"which (?:is|are) not proved|which has no proof")
+ONLY_FOLLOWS = re.compile(r"which (?:is|are) not proved|which has no proof|^proved where its callers give what it asks")
 FOLLOWS = re.compile(r"depends? on `|is not in scope|has no field|has no `|was not admitted|is not proved")
 
 
@@ -54,13 +55,18 @@ class Said(NamedTuple):
     def fell_alone(self, name):
         """Whether the function fell for no reason but the fall of others, or did not fall."""
         verdict = self.verdicts[name]
-        return verdict == "proved" or (self.reason_of(name) is None and bool(ONLY_FOLLOWS.search(verdict)))
+        return is_proved(verdict) or (self.reason_of(name) is None and bool(ONLY_FOLLOWS.search(verdict)))
 
     def first_error(self):
         """What rt says of the first function that fell for a reason of its own, else its first error or last line."""
         fell = next((f"{name}: {self.reason_of(name)}" for name in self.verdicts if self.reason_of(name)), None)
         error = next((f"{file}: {words}" for file, words in self.errors), self.text.strip().split("\n")[-1])
         return (fell or error)[:160]
+
+
+def is_proved(verdict):
+    """Whether rt says of a function that it is proved: it may add that the function may wait."""
+    return verdict.split(",")[0] == "proved"
 
 
 def run(words, folder):

@@ -27,7 +27,7 @@ import time
 
 from bodies import touched
 from edits import ROOT, Fault, changed, crates_of, edits_of, must_fail_edits, places, read_texts, together
-from round_copy import RoundCopy, build_below, is_of_gate
+from round_copy import RoundCopy, build_below, is_of_gate, is_proved
 
 # A check takes up to so much memory.
 CHECK_BYTES = 4_000_000_000
@@ -102,7 +102,7 @@ class Crate:
         if not said.reached():
             return f"the check did not come to a verdict: {said.first_error()}"
         control = self.names_of(self.control, said)
-        if not control or any(said.verdicts[name] != "proved" for name in control):
+        if not control or not all(is_proved(said.verdicts[name]) for name in control):
             return "the control is not proved"
         mine = {name for edit in edits for name in self.names_of(edit, said)}
         others = [name for name in said.verdicts if name not in mine and not said.fell_alone(name)]

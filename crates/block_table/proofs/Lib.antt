@@ -1,0 +1,3 @@
+pub mod LiveCounts
+pub mod Relations
+pub mod Searches

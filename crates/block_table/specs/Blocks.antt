@@ -51,6 +51,15 @@ page_written t die (Some o) =
     then record t { filling = slice_set t.filling die (Some (record { block = o.block; next = o.next + 1 })) }
     else changed t die o.block state.Closed None
 
+-- a block that is not bad is free after its collection
+abbrev pub freed_state : BlockState → BlockState
+freed_state state.Bad = state.Bad
+freed_state _ = state.Free
+
+abbrev pub freed : Blocks → ℕ → ℕ → Blocks
+freed t die block =
+    record t { states = slice_set t.states (block_index t die block) (freed_state (state_of t die block)) }
+
 -- the block is bad, and the die fills none
 abbrev pub gone_bad : Blocks → ℕ → ℕ → Blocks
 gone_bad t die block = record (changed t die block state.Bad None) { has_bad = true }

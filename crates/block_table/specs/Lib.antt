@@ -1,2 +1,5 @@
 pub mod Blocks
+pub mod LiveRooms
+pub mod Lives
 pub mod Rooms
+pub mod Victims

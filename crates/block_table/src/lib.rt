@@ -1,12 +1,17 @@
-//! The block table: what each block is, how many are free, and which block each die fills.
+//! The block table: what each block is, how many are free, and which block each die fills; and
+//! beside it which pages are live, and which block is to be collected.
 #![tactic(auto)]
 
 ghost use Rattle.std.specs.Prelude.{◌≡◌, ◌≤◌, ◌*◌, IfOk, None, Some, count_by, length, replicate, slice_get, slice_set};
 ghost use Rattle.std.specs.List.{list_any};
-ghost use Rattle.block_table.specs.Blocks.{Blocks, block_index, gone_bad, is_bad, is_free, open_of, opened_at, page_written, state_of};
+ghost use Rattle.block_table.specs.Blocks.{Blocks, block_index, freed, freed_state, gone_bad, is_bad, is_free, open_of, opened_at, page_written, state_of};
 
 use std::alloc::{AllocError, Global};
 use std::marker::Model;
+
+mod live;
+
+pub use live::{BlockAt, LivePages};
 
 /// What a block is to the device: free to be erased, being filled, full, or bad.
 #[derive(Clone, Copy, Debug, Default, PartialEq, Eq)]
@@ -144,6 +149,14 @@ impl BlockTable {
         }
     }
 
+    /// The block is free from now on, unless it is bad: its collection is over.
+    pub fn freed(&mut self, die: u8, block: u16)
+        ensures { self.new ≡ freed self.old die block }
+    {
+        let state = freed_state(self.state(die, block));
+        self.set_state(die, block, state);
+    }
+
     /// The block is bad from now on, and the die fills none.
     pub fn went_bad(&mut self, die: u8, block: u16)
         ensures { self.new ≡ gone_bad self.old die block }
@@ -225,6 +238,18 @@ fn is_bad(state: &BlockState) -> bool
         BlockState::Open => false,
         BlockState::Closed => false,
         BlockState::Bad => true,
+    }
+}
+
+/// What a block that is so is after its collection.
+fn freed_state(state: BlockState) -> BlockState
+    ensures { result ≡ freed_state state }
+{
+    match state {
+        BlockState::Bad => BlockState::Bad,
+        BlockState::Free => BlockState::Free,
+        BlockState::Open => BlockState::Free,
+        BlockState::Closed => BlockState::Free,
     }
 }
 

@@ -12,3 +12,5 @@ mod page_contents;
 mod plain_rows;
 #[cfg(test)]
 mod scans;
+#[cfg(test)]
+mod scans_by_workers;

@@ -190,12 +190,12 @@ fn permanent_protection(rt: HostRuntime) -> Result<(), Fail> {
     Ok(())
 }
 
-fn at(die: u8, block: u16, page: u16) -> Place {
+pub(crate) fn at(die: u8, block: u16, page: u16) -> Place {
     Place { die, block, page }
 }
 
 /// New dies of the row configuration.
-fn row_dies(alloc: Global) -> Result<Vec<MemDie>, Fail> {
+pub(crate) fn row_dies(alloc: Global) -> Result<Vec<MemDie>, Fail> {
     let mut dies = Vec::new(alloc);
     for _ in 0..4u8 {
         dies.push(MemDie::new(alloc, 16, 64)?)?;
@@ -204,7 +204,7 @@ fn row_dies(alloc: Global) -> Result<Vec<MemDie>, Fail> {
 }
 
 /// A page of unit 0, with its group's number, and its index and the size of its group.
-fn data(address: u32, number: u64, part: (u16, u16)) -> Page
+pub(crate) fn data(address: u32, number: u64, part: (u16, u16)) -> Page
     requires { (address < 2 ^ 32) × (1 ≤ number) × (number ≤ 2 ^ 62)
         × (part.0 < part.1) × (part.1 ≤ 32) }
 {
@@ -221,7 +221,7 @@ fn data(address: u32, number: u64, part: (u16, u16)) -> Page
 }
 
 /// A page of the settings, with its group's number and whether write protection is permanent.
-fn settings(number: u64, is_permanent: bool) -> Page
+pub(crate) fn settings(number: u64, is_permanent: bool) -> Page
     requires { (1 ≤ number) × (number ≤ 2 ^ 62) }
 {
     let tag = Tag {
@@ -239,7 +239,7 @@ fn settings(number: u64, is_permanent: bool) -> Page
 }
 
 /// A mark with its number and what it records.
-fn mark(config: &Config, counts: (u64, u64), fence: Option<Fence>) -> Page
+pub(crate) fn mark(config: &Config, counts: (u64, u64), fence: Option<Fence>) -> Page
     requires { (1 ≤ counts.0) × (counts.0 ≤ 2 ^ 62) × (counts.1 ≤ 2 ^ 62) }
 {
     let tag = Tag {
@@ -255,7 +255,7 @@ fn mark(config: &Config, counts: (u64, u64), fence: Option<Fence>) -> Page
 }
 
 /// Sets the page there.
-fn put(rt: &impl Abort, dies: &mut [MemDie], place: Place, page: &Page) {
+pub(crate) fn put(rt: &impl Abort, dies: &mut [MemDie], place: Place, page: &Page) {
     let die = usize::from(place.die);
     assert!(rt; die < dies.len());
     let die = &mut dies[die];

@@ -5,6 +5,7 @@ pub mod Describes
 pub mod Hears
 pub mod Kept
 pub mod Leftovers
+pub mod Opened
 pub mod Plans
 pub mod Replies
 pub mod Rooms

@@ -1,13 +1,13 @@
 -- Which replies are due, what they say, and what becomes of their tasks.
 use Rattle.std.specs.Prelude.{◌≡◌, ℕ, ◌+◌, ◌-◌, ◌*◌, ◌≤◌, ◌++◌, min, nat_le, nat_lt, Bool, true, false}
-use Rattle.std.specs.Prelude.{if◌then◌else◌, find}
+use Rattle.std.specs.Prelude.{if◌then◌else◌, find, ⊤}
 use Rattle.std.specs.Prelude.{List, position, remove, take, Option, Some, None, option_map}
 use Rattle.byteorder.specs.Endian.{big_bytes}
 use Rattle.ufs_spec.specs.Exchanges as exchange
 use Rattle.ufs_spec.specs.Exchanges.{response}
 use Rattle.ufs_spec.specs.Ledger.{Entry, InSlot, Ledger, Looked, OnPage, Unwritten, before_accepted, entry_of}
 use Rattle.ufs_spec.specs.Machine.{no_sense, query_unanswered}
-use Rattle.ufs_spec.specs.Messages.{zeros}
+use Rattle.ufs_spec.specs.Messages.{spelling, zeros}
 use Rattle.ufs_spec.specs.Moves.{Acknowledge, LetGo, LetGoAll, WantPage, is_pin_of, moved}
 use Rattle.ufs_spec.specs.Plain.{zero_block}
 use Rattle.ufs_spec.specs.Translation.{Pin, Translation}
@@ -99,6 +99,13 @@ owed_in t loaded a (phase.Answer s n) = Some (answer_of a s n)
 -- the reply that the task owes now, by what the layer keeps and what was read
 abbrev pub owed_by : Translation → List Loaded → Task → Option Message
 owed_by t loaded a = owed_in t loaded a a.phase
+
+-- the bytes are those of the reply that is owed; or there is none, and nothing is said of them
+abbrev pub IsWritten : Bool → List ℕ → Option Message → Type 0
+IsWritten true bytes (Some m) = bytes ≡ spelling m
+IsWritten true bytes None = ⊥
+IsWritten false bytes (Some m) = ⊥
+IsWritten false bytes None = ⊤
 
 -- What becomes of the task
 

@@ -7,6 +7,7 @@ ghost use Rattle.device.specs.Hears.{short_answer, with_phase, uses, with_short,
 ghost use Rattle.ufs_spec.specs.Refusals.{State};
 ghost use Rattle.device.specs.Describes.{Describes, IsHeardAs};
 ghost use Rattle.std.specs.Prelude.{ℕ, List, nat_le};
+ghost use Rattle.arrayvec.specs.ArrayVec.{ArrayVec};
 ghost use Rattle.ufs_spec.specs.Messages.{Spells, host_fault_of};
 ghost use Rattle.ufs_spec.specs.Translation.{Translation};
 ghost use Rattle.ftl_core.specs.Describes.{Describes as IsLayer};
@@ -30,33 +31,45 @@ impl Device {
         // specified device answers it.
         ensures heard { (s : State) → Describes self.old s → IsHeardAs s bytes.now result self.new }
     {
+        if let Some(said) = upiu::read_data_out(bytes) {
+            let data = &bytes[upiu::HEADER..upiu::HEADER + said.count];
+            return self.data_out(said.lun, said.tag, said.offset, data);
+        }
+        if let Some(said) = upiu::read_command(bytes) {
+            return self.command(said.flags, said.lun, said.tag, said.expected, &said.cdb);
+        }
+        self.hear_other(bytes)
+    }
+
+    /// Takes bytes of the host that are neither a COMMAND nor a DATA OUT. They are read as a message
+    /// of any kind, which has room for the longest data: a call of this clears that room.
+    fn hear_other(&mut self, bytes: &[u8]) -> Result<(), HostFault>
+        requires no_data_out { (lun tag offset : ℕ) (sent : ArrayVec ℕ) →
+            Spells (Message.DataOut lun tag offset sent) bytes.now → ⊥ }
+        requires no_command { (flags lun tag expected : ℕ) (cdb : List ℕ) →
+            Spells (Message.Command flags lun tag expected cdb) bytes.now → ⊥ }
+        ensures refused { OnErr result (self.new ≡ self.old) }
+        ensures heard { (s : State) → Describes self.old s → IsHeardAs s bytes.now result self.new }
+    {
         match upiu::read_host(bytes) {
             Ok(message) => self.hear(&message),
             Err(fault) => Err(fault),
         }
     }
 
-    /// Takes a message. NOP OUT, TASK MANAGEMENT REQUEST and QUERY REQUEST open a short exchange.
+    /// Takes a message that is neither a COMMAND nor a DATA OUT. NOP OUT, TASK MANAGEMENT REQUEST
+    /// and QUERY REQUEST open a short exchange.
     fn hear(&mut self, message: &Message) -> Result<(), HostFault>
+        requires no_data_out { (lun tag offset : ℕ) (sent : ArrayVec ℕ) →
+            message.now ≡ Message.DataOut lun tag offset sent → ⊥ }
+        requires no_command { (flags lun tag expected : ℕ) (cdb : List ℕ) →
+            message.now ≡ Message.Command flags lun tag expected cdb → ⊥ }
         ensures refused { OnErr result (self.new ≡ self.old) }
         ensures heard { (s : State) (bytes : List ℕ) → Describes self.old s →
             Spells message.now bytes → host_fault_of bytes ≡ None →
             IsHeardAs s bytes result self.new }
     {
         match message {
-            Message::Command {
-                flags,
-                lun,
-                tag,
-                expected,
-                cdb,
-            } => self.command(*flags, *lun, *tag, *expected, cdb),
-            Message::DataOut {
-                lun,
-                tag,
-                offset,
-                data,
-            } => self.data_out(*lun, *tag, *offset, data.as_slice()),
             Message::NopOut { tag } => self.open_short(*tag, ShortReply::NopIn),
             Message::TaskRequest { lun, tag, .. } => {
                 self.open_short(*tag, ShortReply::NotManaged { lun: *lun })
@@ -265,9 +278,7 @@ impl Device {
         ensures taken { (t : Translation) → IsLayer self.old.ftl t →
             HasGathered self.old.ftl self.new.ftl t tag transfer bytes.now result }
     {
-        let mut body = [0u8; 4096];
-        body.copy_from_slice(bytes);
-        self.ftl.fill(tag, transfer.gathered, &body);
+        self.ftl.fill(tag, transfer.gathered, bytes);
         if transfer.next().is_some() {
             TaskEvent::BlockGathered
         } else {

@@ -12,13 +12,14 @@ ghost use Rattle.ufs_spec.specs.Translation.{Translation};
 ghost use Rattle.ftl_core.specs.Describes.{Describes as IsLayer};
 ghost use Rattle.device.specs.Describes.{Describes, IsAnswered, IsGiven};
 ghost use Rattle.device.specs.Kept.{idle_device};
+ghost use Rattle.device.specs.Opened.{OpensOver};
 ghost use Rattle.recovery.specs.Found.{IsScanFault};
 ghost use Rattle.ufs_spec.specs.Sound.{Sound, Suits};
 
 use ftl_core::{Ended, Ftl};
 use geometry::Config;
 use nand_model::Die;
-use recovery::scan;
+use recovery::{Found, scan};
 use std::alloc::{AllocError, Global};
 use std::marker::Model;
 use task_set::TaskSet;
@@ -65,8 +66,22 @@ impl Device {
         ensures fault { IfErr result (λ e. (c : Cells) → Shows (array_of (map D.state dies.old)) c →
             IsScanFault config c (map D.failed dies.old) (map D.failed dies.new) e) }
     {
-        config.has_no_fault();
         let found = scan(alloc, dies, &config)?;
+        Device::from_found(alloc, config, found)
+    }
+
+    /// Opens a device over dies of which a scan found this, as many and as large as the configuration says.
+    /// It reads nothing.
+    ///
+    /// # Errors
+    ///
+    /// `NoMemory` if memory was refused. What was found is given up then.
+    pub fn from_found(alloc: Global, config: Config, found: Found) -> Result<Device, OpenFault>
+        // Over sound pages of which this was found it is the device that the definitions open over them.
+        ensures described { IfOk result (OpensOver config found) }
+        ensures memory { IfErr result (λ e. e ≡ OpenFault.NoMemory) }
+    {
+        config.has_no_fault();
         let is_permanent = found.is_permanent;
         let Ok(ftl) = Ftl::new(alloc, config, found) else {
             return Err(OpenFault::NoMemory);

@@ -1,9 +1,9 @@
 //! Replies: which are due, what they say, and what becomes of their tasks.
 ghost use Rattle.std.specs.Prelude.{◌≡◌, ◌<◌, ◌≤◌, ◌+◌, ℕ, false, length, nat_le, nat_lt, true, slice_get};
-ghost use Rattle.std.specs.Prelude.{if◌then◌else◌, IfSome, IfNone, Some, None, option_copied};
+ghost use Rattle.std.specs.Prelude.{if◌then◌else◌, IfSome, IfNone, Some, None, option_copied, option_map};
 ghost use Rattle.ufs_spec.specs.Ledger.{Looked as LayerLooked, before_accepted};
 ghost use Rattle.ufs_spec.specs.Machine.{Reply, OfReply};
-ghost use Rattle.ufs_spec.specs.Messages.{IsMessage, spelling};
+ghost use Rattle.ufs_spec.specs.Messages.{spelling};
 ghost use Rattle.ufs_spec.specs.Moves.{Acknowledge, LetGo, LetGoAll, WantPage, moved};
 ghost use Rattle.ufs_spec.specs.Plain.{zero_block};
 ghost use Rattle.ufs_spec.specs.Refusals.{State};
@@ -14,15 +14,15 @@ ghost use Rattle.ftl_core.specs.Describes.{Describes as IsLayer, IsLookedAt};
 ghost use Rattle.ftl_core.specs.Moves.{claims_for};
 ghost use Rattle.task_set.specs.declared.tasks.Short.{Short};
 ghost use Rattle.device.specs.Describes.{Describes, IsAnswered, IsReplied};
-ghost use Rattle.device.specs.Replies.{HasMoved, answer_of, block_at, block_for, short_message};
+ghost use Rattle.device.specs.Replies.{HasMoved, IsWritten, answer_of, block_at, block_for, block_message, short_message};
 ghost use Rattle.task_set.specs.Lists.{loaded_for};
 ghost use Rattle.device.specs.Replies.{moved_on, owed_by, without_block, without_first, without_task};
 
 use crate::device::Device;
-use crate::responses::{block_message, data_message, ready_to_transfer, response, short_message};
+use crate::responses::{write_answer, write_block, write_data, write_ready, write_short};
 use ftl_core::Looked;
-use task_set::{Phase, Status, Task, TaskEvent};
-use ufs_spec::{Block, Message, Upiu};
+use task_set::{Phase, Sending, Status, Task, TaskEvent};
+use ufs_spec::{Block, Upiu};
 
 /// A block of zeros, as an address reads that was never written.
 static ZEROS: Block = [0; 4096];
@@ -35,12 +35,11 @@ fn zeros() -> &'static Block
     &ZEROS
 }
 
-/// A task that owes a reply, its position among the tasks, and this reply.
-#[derive(Drop)]
+/// A task that owed a reply, and its position among the tasks.
+#[derive(Clone, Copy)]
 struct DueReply {
     index: usize,
     task: Task,
-    message: Message,
 }
 
 impl Device {
@@ -52,71 +51,83 @@ impl Device {
         ensures replied { (s : State) → Describes self.old s → result ≡ true → IsReplied s into.new.items self.new }
         ensures silent { (s : State) → Describes self.old s → result ≡ false → IsAnswered s Reply (OfReply None) self.new }
     {
-        if let Some(due) = self.due() {
-            upiu::write(&due.message, into);
+        if let Some(due) = self.due(into) {
             self.move_on(due.index, due.task);
             return true;
         }
         self.reply_short(into)
     }
 
-    /// The first task that owes a reply now, and this reply.
-    fn due(&self) -> Option<DueReply>
+    /// Writes the reply of the first task that owes one now, and answers which task this is.
+    fn due(&self, into: &mut Upiu) -> Option<DueReply>
         ensures within { IfSome result (λ due. due.index < length self.now.tasks) }
         ensures there { IfSome result (λ due. slice_get self.now.tasks due.index ≡ Some due.task) }
         ensures owed { IfSome result (λ due. (t : Translation) → IsLayer self.now.ftl t →
-            owed_by t self.now.loaded due.task ≡ Some due.message) }
-        ensures message { IfSome result (λ due. IsMessage due.message) }
+            IsWritten true into.new.items (owed_by t self.now.loaded due.task)) }
+        ensures nothing { IfNone result (into.new ≡ into.old) }
         ensures none { IfNone result ((t : Translation) (k : ℕ) (task : Task) → IsLayer self.now.ftl t →
             slice_get self.now.tasks k ≡ Some task → owed_by t self.now.loaded task ≡ None) }
     {
         for index in 0..self.set.count() {
             let task = self.set.task(index);
-            if let Some(message) = self.reply_of(&task) {
-                return Some(DueReply {
-                    index,
-                    task,
-                    message,
-                });
+            if self.write_reply(&task, into) {
+                return Some(DueReply { index, task });
             }
         }
         None
     }
 
-    /// The reply that the task owes now.
-    fn reply_of(&self, task: &Task) -> Option<Message>
-        ensures owed { (t : Translation) → IsLayer self.now.ftl t → result ≡ owed_by t self.now.loaded task.now }
-        ensures message { IfSome result (λ m. IsMessage m) }
+    /// Writes the reply that the task owes now; false if it owes none.
+    fn write_reply(&self, task: &Task, into: &mut Upiu) -> bool
+        ensures nothing { result ≡ false → into.new ≡ into.old }
+        ensures owed { (t : Translation) → IsLayer self.now.ftl t →
+            IsWritten result into.new.items (owed_by t self.now.loaded task.now) }
     {
         match task.phase {
-            Phase::AskData { transfer } => Some(ready_to_transfer(task.lun, task.tag, transfer)),
-            Phase::AwaitData { transfer: _ } => None,
-            Phase::AwaitFrontier { number, length } => self.durable_answer(task, number, length),
-            Phase::SendBlocks { sending } => {
-                let block = self.block(task.tag, sending.sent)?;
-                Some(block_message(task, sending, block))
+            Phase::AskData { transfer } => {
+                write_ready(task, transfer, into);
+                true
             }
-            Phase::SendData { data } => Some(data_message(task, data)),
-            Phase::Answer { status, length } => Some(response(
-                task.lun,
-                task.tag,
-                task.expected,
-                status,
-                length,
-            )),
+            Phase::AwaitData { transfer: _ } => false,
+            Phase::AwaitFrontier { number, length } => {
+                self.write_durable(task, number, length, into)
+            }
+            Phase::SendBlocks { sending } => self.write_next(task, sending, into),
+            Phase::SendData { data } => {
+                write_data(task, data, into);
+                true
+            }
+            Phase::Answer { status, length } => {
+                write_answer(task, status, length, into);
+                true
+            }
         }
     }
 
-    /// The answer of a command of so many bytes, once the group of this number is durable.
-    fn durable_answer(&self, task: &Task, number: u64, length: u32) -> Option<Message>
-        ensures owed { (t : Translation) → IsLayer self.now.ftl t →
-            result ≡ (if nat_le number t.ledger.frontier then Some (answer_of task.now Status.Good length) else None) }
-        ensures message { IfSome result (λ m. IsMessage m) }
+    /// Writes the answer of a command of so many bytes, if the group of this number is durable.
+    fn write_durable(&self, task: &Task, number: u64, length: u32, into: &mut Upiu) -> bool
+        ensures nothing { result ≡ false → into.new ≡ into.old }
+        ensures owed { (t : Translation) → IsLayer self.now.ftl t → IsWritten result into.new.items
+            (if nat_le number t.ledger.frontier then Some (answer_of task.now Status.Good length) else None) }
     {
         if number > self.ftl.frontier() {
-            return None;
+            return false;
         }
-        Some(response(task.lun, task.tag, task.expected, Status::Good, length))
+        write_answer(task, Status::Good, length, into);
+        true
+    }
+
+    /// Writes the DATA IN of the task's next block, if this block is there.
+    fn write_next(&self, task: &Task, sending: Sending, into: &mut Upiu) -> bool
+        ensures nothing { result ≡ false → into.new ≡ into.old }
+        ensures owed { (t : Translation) → IsLayer self.now.ftl t → IsWritten result into.new.items
+            (option_map (block_message task.now sending) (block_for t self.now.loaded task.now.tag sending.sent)) }
+    {
+        let Some(block) = self.block(task.tag, sending.sent) else {
+            return false;
+        };
+        write_block(task, sending, block, into);
+        true
     }
 
     /// The block of this index that the task of this tag keeps, once it is there.
@@ -235,7 +246,7 @@ impl Device {
         let Some(short) = self.set.take_short() else {
             return false;
         };
-        upiu::write(&short_message(&short), into);
+        write_short(&short, into);
         true
     }
 }

@@ -3,15 +3,17 @@ ghost use Rattle.std.specs.Prelude.{◌≡◌, ◌≤◌, ◌==◌, ◌*◌, len
 ghost use Rattle.ufs_spec.specs.Cdbs.{residual_of};
 ghost use Rattle.ufs_spec.specs.Exchanges.{CheckCondition, response, sense_data};
 ghost use Rattle.ufs_spec.specs.Machine.{query_unanswered};
-ghost use Rattle.ufs_spec.specs.Messages.{AreFlags, IsAmong, IsMessage, IsQueryFunction};
+ghost use Rattle.ufs_spec.specs.Messages.{IsMessage, IsQueryFunction, spelling};
+ghost use Rattle.upiu.specs.Replies.{message_of};
 ghost use Rattle.ufs_spec.specs.declared.Message.{Message};
-ghost use Rattle.device.specs.Replies.{block_message, count_of, data_message, data_padded};
+ghost use Rattle.device.specs.Replies.{answer_of, block_message, count_of, data_message, data_padded};
 ghost use Rattle.device.specs.Replies.{function_of, short_message};
 ghost use Rattle.task_set.specs.Tasks.{status_kept};
 
 use task_set::{BLOCK_BYTES, Sending, Short, ShortData, ShortReply, Status, Task, Transfer};
 use ufs_bytes::{Block, write_u32};
-use ufs_spec::{Asked, Data, Message, Sense};
+use ufs_spec::{Asked, Data, Message, Sense, Upiu};
+use upiu::Response;
 
 /// The flag of a RESPONSE that says that less than expected was carried (JESD220, 10.7.2).
 const UNDERFLOW: u8 = 0x20;
@@ -55,7 +57,6 @@ struct Residual {
 fn residual_of(expected: u32, length: u32) -> Residual
     ensures flags { result.flags ≡ (residual_of expected length).flags }
     ensures count { result.count ≡ (residual_of expected length).count }
-    ensures are_flags { AreFlags result.flags }
 {
     if length < expected {
         Residual {
@@ -83,9 +84,8 @@ fn sense_segment(sense: &Sense) -> [u8; 20]
 }
 
 /// The RESPONSE that ends a task (JESD220, 10.7.2).
-pub(crate) fn response(lun: u8, tag: u8, expected: u32, status: Status, length: u32) -> Message
-    ensures what { result ≡ response lun tag expected length (status_kept status) }
-    ensures message { IsMessage result }
+fn response(lun: u8, tag: u8, expected: u32, status: Status, length: u32) -> Response
+    ensures { message_of result ≡ response lun tag expected length (status_kept status) }
 {
     let residual = residual_of(expected, length);
     match status {
@@ -97,13 +97,11 @@ pub(crate) fn response(lun: u8, tag: u8, expected: u32, status: Status, length: 
 }
 
 /// A RESPONSE without sense data. Its response field is 01h exactly where the status is not GOOD.
-fn plain_response(lun: u8, tag: u8, residual: Residual, status: u8) -> Message
-    requires flags { AreFlags residual.flags }
-    requires status { IsAmong (0x00 ∷ 0x08 ∷ 0x28 ∷ []) status }
-    ensures what { result ≡ Message.Response residual.flags lun tag (if status == 0 then 0 else 1) status residual.count None }
-    ensures message { IsMessage result }
+fn plain_response(lun: u8, tag: u8, residual: Residual, status: u8) -> Response
+    ensures { message_of result ≡
+        Message.Response residual.flags lun tag (if status == 0 then 0 else 1) status residual.count None }
 {
-    Message::Response {
+    Response {
         flags: residual.flags,
         lun,
         tag,
@@ -119,12 +117,11 @@ fn plain_response(lun: u8, tag: u8, residual: Residual, status: u8) -> Message
 }
 
 /// A RESPONSE with status CHECK CONDITION and sense data.
-fn sense_response(lun: u8, tag: u8, residual: Residual, sense: &Sense) -> Message
-    requires { AreFlags residual.flags }
-    ensures what { result ≡ Message.Response residual.flags lun tag 1 2 residual.count (sense_data (CheckCondition sense.now)) }
-    ensures message { IsMessage result }
+fn sense_response(lun: u8, tag: u8, residual: Residual, sense: &Sense) -> Response
+    ensures { message_of result ≡
+        Message.Response residual.flags lun tag 1 2 residual.count (sense_data (CheckCondition sense.now)) }
 {
-    Message::Response {
+    Response {
         flags: residual.flags,
         lun,
         tag,
@@ -135,35 +132,29 @@ fn sense_response(lun: u8, tag: u8, residual: Residual, sense: &Sense) -> Messag
     }
 }
 
-/// The DATA IN with these bytes at this offset, of which there are 1 to 4096 (JESD220, 10.7.4).
-fn data_in(lun: u8, tag: u8, offset: u32, bytes: &[u8]) -> Message
-    requires { (1 ≤ length bytes.now) × (length bytes.now ≤ 4096) }
-    ensures what { result ≡ Message.DataIn lun tag offset (record { items = bytes.now }) }
-    ensures message { IsMessage result }
+/// Writes the RESPONSE that ends a task.
+pub(crate) fn write_answer(task: &Task, status: Status, length: u32, into: &mut Upiu)
+    ensures { into.new.items ≡ spelling (answer_of task.now status length) }
 {
-    let mut data = Data::new();
-    let _ = data.try_extend_from_slice(bytes);
-    Message::DataIn {
-        lun,
-        tag,
-        offset,
-        data,
-    }
+    let said = response(task.lun, task.tag, task.expected, status, length);
+    upiu::write_response(&said, into);
 }
 
-/// The reply of a short exchange.
-pub(crate) fn short_message(short: &Short) -> Message
-    ensures what { result ≡ short_message short.now }
-    ensures message { IsMessage result }
+/// Writes the reply of a short exchange.
+pub(crate) fn write_short(short: &Short, into: &mut Upiu)
+    ensures { into.new.items ≡ spelling (short_message short.now) }
 {
     let tag = short.tag;
     match short.reply {
         ShortReply::TaskSetFull { lun, expected } => {
-            response(lun, tag, expected, Status::TaskSetFull, 0)
+            let said = response(lun, tag, expected, Status::TaskSetFull, 0);
+            upiu::write_response(&said, into);
         }
-        ShortReply::NopIn => Message::NopIn { tag },
-        ShortReply::NotManaged { lun } => task_response(lun, tag),
-        ShortReply::NotQueried { writing, asked } => query_response(tag, writing, asked),
+        ShortReply::NopIn => upiu::write(&Message::NopIn { tag }, into),
+        ShortReply::NotManaged { lun } => upiu::write(&task_response(lun, tag), into),
+        ShortReply::NotQueried { writing, asked } => {
+            upiu::write(&query_response(tag, writing, asked), into);
+        }
     }
 }
 
@@ -218,24 +209,22 @@ fn count_of(expected: u32, sending: Sending) -> usize
     (rest as usize).clamp(1, BLOCK_BYTES as usize)
 }
 
-/// The DATA IN of the task's next block.
-pub(crate) fn block_message(task: &Task, sending: Sending, block: &Block) -> Message
-    ensures what { result ≡ block_message task.now sending block.now }
-    ensures message { IsMessage result }
+/// Writes the DATA IN of the task's next block (JESD220, 10.7.4).
+pub(crate) fn write_block(task: &Task, sending: Sending, block: &Block, into: &mut Upiu)
+    ensures { into.new.items ≡ spelling (block_message task.now sending block.now) }
 {
     let count = count_of(task.expected, sending);
-    data_in(task.lun, task.tag, sending.offset(), &block[..count])
+    upiu::write_data_in(task.lun, task.tag, sending.offset(), &block[..count], into);
 }
 
-/// The DATA IN of a task with other data than a block: the first of them, as many as the host
+/// Writes the DATA IN of a task with other data than a block: the first of them, as many as the host
 /// expects, and at least one.
-pub(crate) fn data_message(task: &Task, sent: ShortData) -> Message
-    ensures what { result ≡ data_message task.now sent }
-    ensures message { IsMessage result }
+pub(crate) fn write_data(task: &Task, sent: ShortData, into: &mut Upiu)
+    ensures { into.new.items ≡ spelling (data_message task.now sent) }
 {
     let count = (task.expected.min(sent.length()) as usize).clamp(1, 18);
     let bytes = data_bytes(sent);
-    data_in(task.lun, task.tag, 0, &bytes[..count])
+    upiu::write_data_in(task.lun, task.tag, 0, &bytes[..count], into);
 }
 
 /// The bytes of data that are sent in one DATA IN, with zeros behind them.
@@ -259,15 +248,11 @@ fn capacity_bytes(blocks: u32) -> [u8; 18]
     bytes
 }
 
-/// The READY TO TRANSFER for the next block of a write (JESD220, 10.7.5).
-pub(crate) fn ready_to_transfer(lun: u8, tag: u8, transfer: Transfer) -> Message
-    ensures what { result ≡ Message.ReadyToTransfer lun tag (4096 * transfer.gathered) 4096 }
-    ensures message { IsMessage result }
+/// Writes the READY TO TRANSFER for the next block of a write (JESD220, 10.7.5).
+pub(crate) fn write_ready(task: &Task, transfer: Transfer, into: &mut Upiu)
+    ensures { into.new.items ≡
+        spelling (Message.ReadyToTransfer task.now.lun task.now.tag (4096 * transfer.gathered) 4096) }
 {
-    Message::ReadyToTransfer {
-        lun,
-        tag,
-        offset: transfer.offset(),
-        count: BLOCK_BYTES,
-    }
+    let offset = transfer.offset();
+    upiu::write_ready_to_transfer(task.lun, task.tag, offset, BLOCK_BYTES, into);
 }

@@ -1,4 +1,7 @@
 //! The dies as text: a row of letters for each block that is not free.
+ghost use Rattle.std.specs.Prelude.{◌≡◌, ◌<◌, ◌+◌, ◌^◌, if◌then◌else◌};
+ghost use Rattle.die_map.specs.States.{counted, is_bad_state, is_closed_block, is_filling_block, is_free_block};
+
 use crate::survey::{BlockState, PageState, Survey, block_state, number_of};
 use device::World;
 use nand_model::{Die, MemDie};
@@ -110,7 +113,7 @@ fn write_job<W: Write>(world: &World, die: u8, out: &mut W) -> io::Result<()> {
 }
 
 /// How many blocks of a die are in each state.
-#[derive(Clone, Copy, Default)]
+#[derive(Clone, Copy)]
 pub struct Counts {
     free: u16,
     filling: u16,
@@ -120,21 +123,43 @@ pub struct Counts {
 
 impl Counts {
     /// The counts of a die.
-    pub fn of(die: &MemDie) -> Counts {
-        let mut counts = Counts::default();
+    pub fn of(die: &MemDie) -> Counts
+        ensures free { result.free ≡ counted is_free_block die.now }
+        ensures filling { result.filling ≡ counted is_filling_block die.now }
+        ensures closed { result.closed ≡ counted is_closed_block die.now }
+        ensures bad { result.bad ≡ counted is_bad_state die.now }
+    {
+        let mut counts = Counts {
+            free: 0,
+            filling: 0,
+            closed: 0,
+            bad: 0,
+        };
         for block in 0..die.blocks() {
-            counts.add(block_state(die, block));
+            counts = counts.with(block_state(die, block));
         }
         counts
     }
 
-    fn add(&mut self, state: BlockState) {
+    // One block more, which is so.
+    fn with(self, state: BlockState) -> Counts
+        ensures free { self.free + 1 < 2 ^ 16 →
+            result.free ≡ self.free + (if is_free_block state then 1 else 0) }
+        ensures filling { self.filling + 1 < 2 ^ 16 →
+            result.filling ≡ self.filling + (if is_filling_block state then 1 else 0) }
+        ensures closed { self.closed + 1 < 2 ^ 16 →
+            result.closed ≡ self.closed + (if is_closed_block state then 1 else 0) }
+        ensures bad { self.bad + 1 < 2 ^ 16 →
+            result.bad ≡ self.bad + (if is_bad_state state then 1 else 0) }
+    {
+        let mut counts = self;
         match state {
-            BlockState::Free => self.free = self.free.saturating_add(1),
-            BlockState::Filling => self.filling = self.filling.saturating_add(1),
-            BlockState::Closed => self.closed = self.closed.saturating_add(1),
-            BlockState::Bad => self.bad = self.bad.saturating_add(1),
+            BlockState::Free => counts.free = counts.free.saturating_add(1),
+            BlockState::Filling => counts.filling = counts.filling.saturating_add(1),
+            BlockState::Closed => counts.closed = counts.closed.saturating_add(1),
+            BlockState::Bad => counts.bad = counts.bad.saturating_add(1),
         }
+        counts
     }
 }
 

@@ -2,6 +2,7 @@ pub mod dies
 pub mod group_settled
 pub mod job_ended
 pub mod job_taken
+pub mod live_pages
 pub mod look_and_accept
 pub mod opened
 pub mod pages

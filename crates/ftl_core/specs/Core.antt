@@ -2,6 +2,7 @@
 use Rattle.std.specs.Prelude.{ℕ, Bool, List, Option}
 use Rattle.ufs_spec.specs.declared.configs.Numbers.{Numbers}
 use Rattle.ufs_spec.specs.declared.flash.Key.{Key}
+use Rattle.block_table.specs.Lives.{Lives}
 use Rattle.block_table.specs.declared.BlockState.{BlockState}
 use Rattle.ftl_core.specs.declared.books.Book.{Book}
 use Rattle.write_cache.specs.declared.slots.Claimed.{Claimed}
@@ -12,14 +13,16 @@ use Rattle.ftl_core.specs.declared.books.Pin.{Pin}
 use Rattle.ftl_core.specs.declared.books.Step.{Step}
 
 -- what is kept: by die and block the blocks' states, by die its open block and its job, by key the place of its durable
--- content, the pages of pending groups in order of number and index, the slots that are claimed for groups to come, the
--- greatest number that was given, and of the mending the keys with a lost page and the step under way
+-- content, which pages are live, the pages of pending groups in order of number and index, the slots that are claimed
+-- for groups to come, the greatest number that was given, and of the mending the keys with a lost page and the step under
+-- way
 pub record Core : Type 0 where
   pub numbers : Numbers
   pub states : List BlockState
   pub books : List Book
   pub has_bad : Bool
   pub places : List (Option Stored)
+  pub live : Lives
   pub pages : List Pending
   pub claims : List Claimed
   pub frontier : ℕ

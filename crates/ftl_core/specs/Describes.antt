@@ -43,6 +43,7 @@ use Rattle.ftl_core.specs.declared.ftl.Ended.TheVariants as ended
 use Rattle.geometry.specs.Keys.{key_total}
 use Rattle.unit_map.specs.Places.{stored_in}
 use Rattle.ftl_core.specs.Core.{Core}
+use Rattle.ftl_core.specs.KnownLive.{KnowsLive}
 use Rattle.ftl_core.specs.Moves.{is_pin_of, repairs_in}
 use Rattle.ftl_core.specs.Takes.{is_group_page, next_place, step_wants}
 
@@ -288,10 +289,11 @@ pub record Kept (c : Core) (t : Translation) : Type 0 where
   -- readers keep something only once the device is mended
   pub readers : is_mended t.work.mending ≡ false → c.pins ≡ []
 
--- what is kept describes the layer, and this is one that a life may come to
+-- what is kept describes the layer, this is one that a life may come to, and it is known which pages are live
 pub record Describes (c : Core) (t : Translation) : Type 0 where
   pub valid : Valid t
   pub kept : Kept c t
+  pub live : KnowsLive c.numbers c.places c.pages c.live
 
 -- What the calls tell
 

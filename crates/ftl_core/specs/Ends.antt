@@ -3,6 +3,7 @@ use Rattle.std.specs.Prelude.{ℕ, zero, suc, ◌+◌, min, not, List, filter, f
 use Rattle.std.specs.Prelude.{drop, map, slice_get, take, Option, Some, None, true}
 use Rattle.ufs_spec.specs.declared.flash.Key.{Key}
 use Rattle.ufs_spec.specs.declared.flash.Place.{Place}
+use Rattle.block_table.specs.Lives.{with_live}
 use Rattle.unit_map.specs.declared.Stored.{Stored}
 use Rattle.ftl_core.specs.declared.books.Book.{Book}
 use Rattle.write_cache.specs.declared.slots.Landed.{Landed}
@@ -14,21 +15,27 @@ use Rattle.ftl_core.specs.declared.books.Step.TheVariants as step
 use Rattle.unit_map.specs.Places.{places_noted, position_of}
 use Rattle.write_cache.specs.Slots.{is_of_group, whole_group, page_written as page_at_written}
 use Rattle.ftl_core.specs.Core.{Core}
-use Rattle.ftl_core.specs.Moves.{mark_ordered, moved_pin, page_written, went_bad}
+use Rattle.ftl_core.specs.KnownLive.{live_moved}
+use Rattle.ftl_core.specs.Moves.{mark_ordered, moved_pin, page_written, stored_of, went_bad}
 
 -- Groups
 
--- the page with this number and index is written there, if it is pending
+-- the page with this number and index is written there, if it is pending, and it is live
 abbrev pub pending_written : Core → ℕ → ℕ → Place → Core
-pending_written c number index place = record c { pages = page_at_written c.pages number index place }
+pending_written c number index place =
+    record c { pages = page_at_written c.pages number index place; live = with_live c.live place true }
 
 -- the number of the first pending group, if all its pages are written
 abbrev pub front_written : Core → Option ℕ
 front_written c = whole_group c.pages (slice_get c.pages 0)
 
--- the durable content of the address stands there
+-- the durable content of the address stands there, and its page is live in the place of the one where it stood
 abbrev pub noted : Core → Key → Stored → Core
-noted c k s = record c { places = places_noted c.places s (position_of c.numbers k) }
+noted c k s =
+    record c {
+      places = places_noted c.places s (position_of c.numbers k);
+      live = live_moved c.live (stored_of c k) s.place;
+    }
 
 -- who keeps the slot of the page keeps its place
 abbrev pub pins_moved : Core → ℕ → Stored → Core

@@ -3,6 +3,7 @@ pub mod Describes
 pub mod Done
 pub mod Ends
 pub mod Gives
+pub mod KnownLive
 pub mod Limits
 pub mod Moves
 pub mod Rooms

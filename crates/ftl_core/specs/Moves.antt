@@ -38,6 +38,7 @@ use Rattle.block_table.specs.Blocks.{is_free}
 use Rattle.unit_map.specs.Places.{stored_in}
 use Rattle.write_cache.specs.Slots.{claim_filled, empty_claim, is_claim_of, is_named, key_at, last_page, page_claimed}
 use Rattle.ftl_core.specs.Core.{Core}
+use Rattle.ftl_core.specs.KnownLive.{lives_of_places}
 
 -- At the start
 
@@ -87,6 +88,7 @@ opened n f = record {
   books = replicate n.dies idle_book;
   has_bad = list_any is_bad_found f.blocks.items;
   places = map (option_map stored_of_found) f.contents.items;
+  live = lives_of_places n (map (option_map stored_of_found) f.contents.items);
   pages = [];
   claims = [];
   frontier = min f.greatest_seen (2 ^ 62);

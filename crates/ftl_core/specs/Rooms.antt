@@ -21,6 +21,7 @@ core_of f = record {
   books = books_of f.blocks.filling f.flights.items;
   has_bad = f.blocks.has_bad;
   places = f.places.places;
+  live = f.live;
   pages = f.cache.pages;
   claims = f.cache.claims;
   frontier = f.cache.frontier;

@@ -1,5 +1,5 @@
 //! The translation layer and its calls.
-ghost use Rattle.std.specs.Prelude.{◌≡◌, ℕ, ◌<◌, ◌≤◌, ◌+◌, ◌^◌, length, IsTrue, vec_capacity, IfOk, IsSome, IfSome, nat_le, nat_lt, ◌-◌, ◌++◌, ◌∷◌, [], if◌then◌else◌, slice_get, map, filter, not, None, true, option_copied, position, replicate, reverse, Bool, false, find, option_map, fold, List};
+ghost use Rattle.std.specs.Prelude.{◌≡◌, ℕ, ◌<◌, ◌≤◌, ◌+◌, ◌^◌, length, IsTrue, vec_capacity, IfOk, IsSome, IfSome, nat_le, nat_lt, ◌-◌, ◌++◌, ◌∷◌, [], if◌then◌else◌, slice_get, map, filter, not, None, true, option_copied, position, replicate, reverse, Bool, false, find, option_map, fold, List, take};
 ghost use Rattle.std.specs.List.{list_any};
 ghost use Rattle.ftl_core.specs.Moves.{accepted, first_fence, first_mending, idle_book, is_bad_found};
 ghost use Rattle.ftl_core.specs.Moves.{is_over, mark_number_behind, opened, state_of_found};
@@ -13,7 +13,7 @@ ghost use Rattle.ufs_spec.specs.Keys.{IsKey, below};
 ghost use Rattle.ufs_spec.specs.Ledger.{next_number as next_of_layer, Entry, before_accepted, entry_of};
 ghost use Rattle.ufs_spec.specs.Moves.{Accept, Acknowledge, Claim, IsAllowedMove, LetGo, LetGoAll, Release, WantPage, moved, is_pin_of as is_layer_pin_of};
 ghost use Rattle.ufs_spec.specs.Plain.{shape_of_numbers, zero_block};
-ghost use Rattle.ufs_spec.specs.Translation.{Translation, free_slots as layer_slots, is_locked as is_layer_locked, is_mended, has_pending};
+ghost use Rattle.ufs_spec.specs.Translation.{Translation, free_slots as layer_slots, is_live as is_live_page, is_locked as is_layer_locked, is_mended, has_pending};
 ghost use Rattle.ufs_spec.specs.Cells.{AreWithin, Cells};
 ghost use Rattle.ufs_spec.specs.Sound.{CellsSound};
 ghost use Rattle.power_loss.specs.Book.{CellsRight};
@@ -22,18 +22,20 @@ ghost use Rattle.ufs_spec.specs.Disk.{Spot};
 ghost use Rattle.ufs_spec.specs.Openings.{IsOpenedTranslation};
 ghost use Rattle.ftl_core.specs.Describes.{Describes, name_at};
 ghost use Rattle.ftl_core.specs.Stops.{StopsRight};
+ghost use Rattle.ftl_core.specs.KnownLive.{live_moved, none_live, with_stored};
+ghost use Rattle.block_table.specs.Lives.{is_live};
 ghost use Rattle.ftl_core.specs.Tells.{IsPinned, PinsDiffer, claims_of_blocks, group_of_blocks, keeps_for, keeps_of, key_behind};
 
 mod ends;
 mod takes;
 
 use crate::books::{Flight, Looked, Mending, Pin, Reader, Step};
-use block_table::{BlockState, BlockTable, Sizes};
-use geometry::Config;
+use block_table::{BlockState, BlockTable, LivePages, Sizes};
+use geometry::{Config, key_count};
 use recovery::{Found, FoundBlock, FoundPage};
 use std::alloc::{AllocError, Global};
 use std::marker::Model;
-use ufs_spec::{Block, Fence, Key, UnitSpec};
+use ufs_spec::{Block, Fence, Key, Place, UnitSpec};
 use unit_map::{Stored, UnitMap};
 use write_cache::{Cache, LAST_NUMBER, key_at};
 
@@ -59,6 +61,8 @@ pub struct Ftl {
     flights: Vec<Option<Flight>>,
     /// Where the durable content of each key is.
     places: UnitMap,
+    /// Which pages are live: those where such a content stands, and those written for pending groups.
+    live: LivePages,
     /// The slots: pages of pending groups, and claims for groups to come; and their numbers.
     cache: Cache,
     /// What readers keep, each block of a reader once: at most 1024, with room for all of them.
@@ -288,6 +292,42 @@ fn stored_of_found(page: FoundPage) -> Stored
     }
 }
 
+/// The pages where the contents of the first keys stand, so many of them, are live.
+fn live_at(
+    alloc: Global,
+    sizes: Sizes,
+    places: &[Option<Stored>],
+    keys: usize,
+) -> Result<LivePages, AllocError>
+    ensures { IfOk result (λ l. l ≡ fold with_stored (none_live sizes) (take keys places.now)) }
+{
+    let mut live = LivePages::new(alloc, sizes)?;
+    for index in 0..keys {
+        set_stored(&mut live, places.get(index).copied().flatten());
+    }
+    Ok(live)
+}
+
+/// The page of the content is live from now on, if it stands anywhere.
+fn set_stored(live: &mut LivePages, stored: Option<Stored>)
+    ensures { live.new ≡ with_stored live.old stored }
+{
+    if let Some(stored) = stored {
+        live.set_live(stored.place);
+    }
+}
+
+/// A content that stood there, or nowhere, stands here from now on: of its pages only this one is
+/// live.
+fn move_live(live: &mut LivePages, old: Option<Stored>, place: Place)
+    ensures { live.new ≡ live_moved live.old old place }
+{
+    if let Some(old) = old {
+        live.set_dead(old.place);
+    }
+    live.set_live(place);
+}
+
 /// The fence of the first mark: over the lost numbers, if there are any.
 fn first_fence(found: &Found) -> Option<Fence>
     ensures { result ≡ first_fence found.now }
@@ -347,6 +387,7 @@ impl Ftl {
     {
         let numbers = config.numbers();
         let slots = numbers.slots;
+        let keys = key_count(numbers);
         let sizes = Sizes {
             dies: numbers.dies,
             blocks: numbers.blocks,
@@ -360,6 +401,7 @@ impl Ftl {
         Ok(Ftl {
             blocks: BlockTable::new(alloc, sizes, states)?,
             flights: idle_flights(alloc, sizes.dies)?,
+            live: live_at(alloc, sizes, places.as_slice(), keys)?,
             places: UnitMap::new(config.copied(), places),
             cache: Cache::new(alloc, slots, last)?,
             config,
@@ -488,8 +530,10 @@ impl Ftl {
         self.cache.release(reader);
     }
 
-    /// Puts a block that came into the slot that was claimed for it: that of this index of the reader.
-    pub fn fill(&mut self, reader: u8, index: u16, body: &Block)
+    /// Puts the 4096 bytes of a block that came into the slot that was claimed for it: that of this index of
+    /// the reader.
+    pub fn fill(&mut self, reader: u8, index: u16, body: &[u8])
+        requires { length body.now ≡ 4096 }
         ensures after { self.new ≡ filled self.old reader index body.now }
         // What is claimed shows in the layer by its number alone.
         ensures described { (t : Translation) → Describes self.old t → Describes self.new t }
@@ -501,7 +545,8 @@ impl Ftl {
     }
 
     /// Puts the block into its slot.
-    fn fill_slot(&mut self, reader: u8, index: u16, body: &Block)
+    fn fill_slot(&mut self, reader: u8, index: u16, body: &[u8])
+        requires { length body.now ≡ 4096 }
         ensures { self.new ≡ filled self.old reader index body.now }
     {
         self.cache.fill(reader, index, body);
@@ -526,6 +571,16 @@ impl Ftl {
         ensures { result ≡ stored_of self.now key }
     {
         self.places.get(key)
+    }
+
+    /// Whether the page is live: the durable content of some key stands there, or it is written for a
+    /// pending group.
+    #[tactic(auto, using(crate::proofs::live_pages::NamesLive::live_named))]
+    pub fn is_live(&self, place: Place) -> bool
+        ensures core { result ≡ is_live self.now.live place }
+        ensures described { (t : Translation) → Describes self.now t → result ≡ is_live_page t place }
+    {
+        self.live.is_live(place)
     }
 
     /// Keeps for this reader what each of so many addresses has now, from this one on. The reader is owed

@@ -1,25 +1,48 @@
-//! The commands that a device accepted in a life, and how many of them were acknowledged as durable, as far
-//! as the messages of its host and its replies tell.
-use std::alloc::Global;
-use ufs_spec::{Block, Cmd, NoMemory};
+//! The commands that a device accepted in a life, and how many of them were acknowledged as durable,
+//! as far as the messages of its host and its replies tell.
+ghost use Rattle.std.specs.Prelude.{◌≡◌, ◌++◌, ◌∷◌, [], ◌+◌, ◌<◌, ◌≤◌, IfOk, IfSome, OnOk, length, map, position, true};
+ghost use Rattle.ufs_spec.specs.Commands.{command_of};
+ghost use Rattle.journal.specs.Heard.{answered, asked_write, begun, begun_write, block_of, has_tag, heard, is_flush};
+ghost use Rattle.journal.specs.Heard.{life_over, open_with, received, taken, told, with_open, without};
+ghost use Rattle.journal.specs.Writes.{has_content, is_whole, with_block, write_at, write_of, write_there};
+ghost use Rattle.journal.specs.Writes.{writes_from, writes_to};
 
-/// What the host of one life wrote. The commands begin with those that make a new device what it was when
-/// the life began.
+use std::alloc::Global;
+use std::marker::Model;
+use ufs_spec::{Block, Cmd, NoMemory, read_u16, read_u32};
+
+/// What the host of one life wrote. The commands begin with those that make a new device what it was
+/// when the life began.
 #[derive(Drop)]
 pub struct Journal {
     commands: Vec<Cmd>,
     held: usize,
-    /// The commands without a RESPONSE that can write, or acknowledge what was written.
-    open: Vec<OpenTask>,
+    /// The commands that have no RESPONSE yet, no two with one tag.
+    tasks: Vec<OpenTask>,
     /// Whether a block went bad, so that no further write is accepted.
     is_locked: bool,
+}
+
+impl Model for Journal {
+    ghost use Rattle.std.specs.Prelude.{map};
+    ghost use Rattle.ufs_spec.specs.Commands.{command_of};
+    ghost use Rattle.journal.specs.Heard.{Heard};
+
+    ghost Value = { Heard };
+
+    ghost view = { λ j. record {
+      commands = map command_of j.commands.items;
+      held = j.held;
+      tasks = j.tasks.items;
+      locked = j.is_locked;
+    } };
 }
 
 /// A command whose RESPONSE was not handed out yet.
 #[derive(Drop)]
 struct OpenTask {
     tag: u8,
-    /// The write whose data come; `None` once it was accepted, and for a command without data.
+    /// The write whose data come; `None` once they came, and for another command.
     write: Option<OpenWrite>,
     /// How many commands, from the first one on, its GOOD acknowledges as durable.
     promised: usize,
@@ -35,6 +58,20 @@ struct OpenWrite {
     blocks: Vec<Block>,
 }
 
+impl Model for OpenWrite {
+    ghost use Rattle.journal.specs.Writes.{WriteBegun};
+
+    ghost Value = { WriteBegun };
+
+    ghost view = { λ w. record {
+      unit = w.unit;
+      address = w.address;
+      count = w.count;
+      forced = w.is_forced;
+      blocks = w.blocks.items;
+    } };
+}
+
 const COMMAND: u8 = 0x01;
 
 const DATA_OUT: u8 = 0x02;
@@ -47,6 +84,12 @@ const WRITE_10: u8 = 0x2A;
 
 const SYNCHRONIZE_CACHE_10: u8 = 0x35;
 
+/// FUA, bit 3 of byte 1 of a CDB.
+const FUA: u8 = 0x08;
+
+/// IMMED, bit 1 of byte 1 of a CDB.
+const IMMED: u8 = 0x02;
+
 /// How long a message is before its data.
 const HEADER: usize = 32;
 
@@ -56,30 +99,34 @@ impl Journal {
     /// # Errors
     ///
     /// `NoMemory` where there was none for the commands that make them.
-    pub fn new(alloc: Global, base: &[Vec<Block>]) -> Result<Journal, NoMemory> {
+    pub fn new(alloc: Global, base: &[Vec<Block>]) -> Result<Journal, NoMemory>
+        ensures { IfOk result (λ j. j ≡ life_over (map (λ v. v.items) base.now)) }
+    {
         let mut commands = Vec::new(alloc);
         for (index, blocks) in base.iter().enumerate() {
-            if let Ok(unit) = u8::try_from(index) {
-                write_unit(alloc, unit, blocks.as_slice(), &mut commands)?;
-            }
+            write_unit(alloc, index, blocks.as_slice(), &mut commands)?;
         }
         let held = commands.len();
         Ok(Journal {
             commands,
             held,
-            open: Vec::new(alloc),
+            tasks: Vec::new(alloc),
             is_locked: false,
         })
     }
 
     /// The commands that made what the life began with, and then those accepted in it, in order.
-    pub fn commands(&self) -> &[Cmd] {
+    pub fn commands(&self) -> &[Cmd]
+        ensures { map command_of result.now ≡ self.now.commands }
+    {
         self.commands.as_slice()
     }
 
-    /// How many of the commands, from the first one on, a stop has to keep: those that made what the life
-    /// began with, and those up to the last that was acknowledged as durable.
-    pub fn held(&self) -> usize {
+    /// How many of the commands, from the first one on, a stop has to keep: those that made what the
+    /// life began with, and those up to the last that was acknowledged as durable.
+    pub fn held(&self) -> usize
+        ensures { result ≡ self.now.held }
+    {
         self.held
     }
 
@@ -88,14 +135,16 @@ impl Journal {
     /// # Errors
     ///
     /// `NoMemory` where there was none to note it.
-    pub fn hear(&mut self, alloc: Global, message: &[u8]) -> Result<(), NoMemory> {
-        let Some(header) = header_of(message) else {
+    pub fn hear(&mut self, alloc: Global, message: &[u8]) -> Result<(), NoMemory>
+        ensures { OnOk result (self.new ≡ heard self.old message.now) }
+    {
+        if message.len() < HEADER {
             return Ok(());
-        };
-        match header[0] {
-            COMMAND => self.begin(alloc, &header),
+        }
+        match message[0] {
+            COMMAND => self.begin(alloc, message[2], message[3], &message[16..]),
             DATA_OUT => match block_in(message) {
-                Some(block) => self.receive(alloc, header[3], block),
+                Some(block) => self.receive(message[3], block),
                 None => Ok(()),
             },
             _ => Ok(()),
@@ -103,142 +152,276 @@ impl Journal {
     }
 
     // A command is open from now on. Its tag was free.
-    fn begin(&mut self, alloc: Global, header: &[u8; HEADER]) -> Result<(), NoMemory> {
-        let tag = header[3];
-        self.close(tag);
-        let write = write_of(alloc, header);
-        let promised = if is_flush(header) {
+    fn begin(&mut self, alloc: Global, unit: u8, tag: u8, cdb: &[u8]) -> Result<(), NoMemory>
+        requires { 16 ≤ length cdb.now }
+        ensures { OnOk result (self.new ≡ begun self.old unit tag cdb.now) }
+    {
+        close(&mut self.tasks, tag);
+        let promised = if is_flush(cdb) {
             self.commands.len()
         } else {
             0
         };
-        if write.is_none() && promised == 0 {
-            return Ok(());
-        }
-        let task = OpenTask {
+        let write = write_asked(alloc, unit, cdb);
+        self.open_task(OpenTask {
             tag,
             write,
             promised,
-        };
-        self.open.push(task).map_err(|_| NoMemory)
+        })
     }
 
-    // The next block of an open write came. With the last one it is accepted, where no block is bad.
-    fn receive(&mut self, alloc: Global, tag: u8, block: Block) -> Result<(), NoMemory> {
-        let Some(at) = self.open_at(tag) else {
-            return Ok(());
-        };
-        if at >= self.open.len() {
-            return Ok(());
+    // One command more is open.
+    fn open_task(&mut self, task: OpenTask) -> Result<(), NoMemory>
+        ensures { OnOk result (self.new ≡ with_open self.old task) }
+    {
+        self.tasks.push(task).map_err(|_| NoMemory)
+    }
+
+    // A block came for the open command with this tag.
+    fn receive(&mut self, tag: u8, block: Block) -> Result<(), NoMemory>
+        ensures { OnOk result (self.new ≡ received self.old tag block) }
+    {
+        match close(&mut self.tasks, tag) {
+            Some(task) => self.take_block(task, block),
+            None => Ok(()),
         }
-        let task = &mut self.open[at];
-        let Some(mut write) = task.write.take() else {
-            return Ok(());
+    }
+
+    // A block came for this command, which is open again afterwards. With the last block its write is
+    // accepted, if no block of the device is bad.
+    fn take_block(&mut self, task: OpenTask, block: Block) -> Result<(), NoMemory>
+        ensures { OnOk result (self.new ≡ taken self.old task task.write block) }
+    {
+        let OpenTask {
+            tag,
+            write,
+            promised,
+        } = task;
+        let Some(mut write) = write else {
+            return self.open_task(OpenTask {
+                tag,
+                write: None,
+                promised,
+            });
         };
-        write.blocks.push(block).map_err(|_| NoMemory)?;
-        if write.blocks.len() < write.count {
-            task.write = Some(write);
-            return Ok(());
+        write.add(block)?;
+        if !write.is_whole() {
+            return self.open_task(OpenTask {
+                tag,
+                write: Some(write),
+                promised,
+            });
         }
         if self.is_locked {
-            return Ok(());
+            return self.open_task(OpenTask {
+                tag,
+                write: None,
+                promised,
+            });
         }
-        let is_forced = write.is_forced;
-        self.commands.push(command_of(write)).map_err(|_| NoMemory)?;
-        if is_forced {
-            self.open[at].promised = self.commands.len();
-        }
-        Ok(())
+        let is_forced = write.is_forced();
+        let accepted = self.accept(write.into_command())?;
+        self.open_task(OpenTask {
+            tag,
+            write: None,
+            promised: if is_forced { accepted } else { promised },
+        })
+    }
+
+    // One command more was accepted. How many there are now.
+    fn accept(&mut self, command: Cmd) -> Result<usize, NoMemory>
+        ensures accepted { OnOk result (self.new ≡
+            record self.old { commands = self.old.commands ++ command_of command ∷ [] }) }
+        ensures count { IfOk result (λ n. n ≡ length self.old.commands + 1) }
+    {
+        add_command(&mut self.commands, command)
     }
 
     /// The device handed out a reply.
-    pub fn tell(&mut self, message: &[u8]) {
-        let Some(header) = header_of(message) else {
-            return;
-        };
-        if header[0] != RESPONSE {
+    pub fn tell(&mut self, message: &[u8])
+        ensures { self.new ≡ told self.old message.now }
+    {
+        if message.len() < HEADER {
             return;
         }
-        if let Some(task) = self.close(header[3]) {
-            let is_good = header[6] == 0 && header[7] == 0;
-            if is_good && task.promised > self.held {
-                self.held = task.promised;
+        if message[0] == RESPONSE {
+            self.answer(message[3], message[6] == 0 && message[7] == 0);
+        }
+    }
+
+    // The open command with this tag has its RESPONSE.
+    fn answer(&mut self, tag: u8, is_good: bool)
+        ensures { self.new ≡ answered self.old tag is_good }
+    {
+        if let Some(task) = close(&mut self.tasks, tag) {
+            if is_good {
+                self.held = self.held.max(task.promised);
             }
         }
     }
 
     /// A block went bad.
-    pub fn lock(&mut self) {
+    pub fn lock(&mut self)
+        ensures { self.new ≡ record self.old { locked = true } }
+    {
         self.is_locked = true;
     }
+}
 
-    // The command with this tag is open no more.
-    fn close(&mut self, tag: u8) -> Option<OpenTask> {
-        let at = self.open_at(tag)?;
-        if at < self.open.len() {
-            Some(self.open.remove(at))
-        } else {
-            None
-        }
+impl OpenWrite {
+    // One block more came.
+    fn add(&mut self, block: Block) -> Result<(), NoMemory>
+        ensures { OnOk result (self.new ≡ with_block self.old block) }
+    {
+        self.blocks.push(block).map_err(|_| NoMemory)
     }
 
-    // Which of the open commands has the tag.
-    fn open_at(&self, tag: u8) -> Option<usize> {
-        self.open.iter().position(|task| task.tag == tag)
+    // Whether all its blocks came.
+    fn is_whole(&self) -> bool
+        ensures { result ≡ is_whole self.now }
+    {
+        self.blocks.len() >= self.count
+    }
+
+    fn is_forced(&self) -> bool
+        ensures { result ≡ self.now.forced }
+    {
+        self.is_forced
+    }
+
+    // The command that it is.
+    fn into_command(self) -> Cmd
+        ensures { command_of result ≡ write_of self }
+    {
+        Cmd::Write {
+            unit: self.unit,
+            address: self.address,
+            blocks: self.blocks,
+        }
+    }
+}
+
+// Takes out the open command with this tag.
+fn close(tasks: &mut Vec<OpenTask>, tag: u8) -> Option<OpenTask>
+    ensures which { result ≡ open_with tag tasks.old.items }
+    ensures rest { tasks.new.items ≡ without tag tasks.old.items }
+{
+    match place_of(tasks.as_slice(), tag) {
+        Some(at) => Some(tasks.remove(at)),
+        None => None,
+    }
+}
+
+// Which of the open commands has the tag.
+fn place_of(tasks: &[OpenTask], tag: u8) -> Option<usize>
+    ensures place { result ≡ position (has_tag tag) tasks.now }
+    ensures within { IfSome result (λ at. at < length tasks.now) }
+{
+    tasks.iter().position(|task| task.tag == tag)
+}
+
+// One command more. How many there are now.
+fn add_command(commands: &mut Vec<Cmd>, command: Cmd) -> Result<usize, NoMemory>
+    ensures added { OnOk result (map command_of commands.new.items
+        ≡ map command_of commands.old.items ++ command_of command ∷ []) }
+    ensures count { IfOk result (λ n. n ≡ length (map command_of commands.old.items) + 1) }
+{
+    commands.push(command).map_err(|_| NoMemory)?;
+    Ok(commands.len())
+}
+
+// A write of each block of a unit that is not all zeros, if the unit's number is a byte.
+fn write_unit(
+    alloc: Global,
+    index: usize,
+    blocks: &[Block],
+    commands: &mut Vec<Cmd>,
+) -> Result<(), NoMemory>
+    ensures { OnOk result (map command_of commands.new.items
+        ≡ map command_of commands.old.items ++ writes_to index blocks.now) }
+{
+    match u8::try_from(index) {
+        Ok(unit) => write_blocks(alloc, unit, blocks, commands),
+        Err(_) => Ok(()),
     }
 }
 
 // A write of each block of a unit that is not all zeros.
-fn write_unit(
+fn write_blocks(
     alloc: Global,
     unit: u8,
     blocks: &[Block],
     commands: &mut Vec<Cmd>,
-) -> Result<(), NoMemory> {
+) -> Result<(), NoMemory>
+    ensures { OnOk result (map command_of commands.new.items
+        ≡ map command_of commands.old.items ++ writes_from unit 0 blocks.now) }
+{
     for (index, block) in blocks.iter().enumerate() {
-        if let Ok(address) = u32::try_from(index) {
-            if block.iter().any(|byte| *byte != 0) {
-                let blocks = [*block].to_vec(alloc).map_err(|_| NoMemory)?;
-                let command = Cmd::Write {
-                    unit,
-                    address,
-                    blocks,
-                };
-                commands.push(command).map_err(|_| NoMemory)?;
-            }
-        }
+        write_block(alloc, unit, index, block, commands)?;
     }
     Ok(())
 }
 
-// The command of a write whose blocks came.
-fn command_of(write: OpenWrite) -> Cmd {
-    let OpenWrite {
-        unit,
-        address,
-        count: _,
-        is_forced: _,
-        blocks,
-    } = write;
-    Cmd::Write {
-        unit,
-        address,
-        blocks,
+// A write of the block, if it is not all zeros and its address has 32 bits.
+fn write_block(
+    alloc: Global,
+    unit: u8,
+    index: usize,
+    block: &Block,
+    commands: &mut Vec<Cmd>,
+) -> Result<(), NoMemory>
+    ensures { OnOk result (map command_of commands.new.items
+        ≡ map command_of commands.old.items ++ write_at unit index block.now) }
+{
+    match u32::try_from(index) {
+        Ok(address) => write_there(alloc, unit, address, block, commands),
+        Err(_) => Ok(()),
     }
 }
 
-// The first 32 bytes of a message.
-fn header_of(message: &[u8]) -> Option<[u8; HEADER]> {
-    if message.len() < HEADER {
-        return None;
+// A write of the block, if it is not all zeros.
+fn write_there(
+    alloc: Global,
+    unit: u8,
+    address: u32,
+    block: &Block,
+    commands: &mut Vec<Cmd>,
+) -> Result<(), NoMemory>
+    ensures { OnOk result (map command_of commands.new.items
+        ≡ map command_of commands.old.items ++ write_there unit address block.now) }
+{
+    if !has_content(block) {
+        return Ok(());
     }
-    let mut header = [0; HEADER];
-    header.copy_from_slice(&message[..HEADER]);
-    Some(header)
+    let blocks = one_block(alloc, block)?;
+    let command = Cmd::Write {
+        unit,
+        address,
+        blocks,
+    };
+    add_command(commands, command).map(|_| ())
+}
+
+// A list of one block.
+fn one_block(alloc: Global, block: &Block) -> Result<Vec<Block>, NoMemory>
+    ensures { IfOk result (λ v. v.items ≡ block.now ∷ []) }
+{
+    let mut blocks = Vec::new(alloc);
+    blocks.push(*block).map_err(|_| NoMemory)?;
+    Ok(blocks)
+}
+
+// Whether not all bytes are zero.
+fn has_content(block: &Block) -> bool
+    ensures { result ≡ has_content block.now }
+{
+    block.iter().any(|byte| *byte != 0)
 }
 
 /// The block of a message with data.
-pub fn block_in(message: &[u8]) -> Option<Block> {
+pub fn block_in(message: &[u8]) -> Option<Block>
+    ensures { result ≡ block_of message.now }
+{
     if message.len() < HEADER + 4096 {
         return None;
     }
@@ -247,30 +430,44 @@ pub fn block_in(message: &[u8]) -> Option<Block> {
     Some(block)
 }
 
-// The write of a COMMAND, if it is one of 1 block or more (SBC, WRITE (6), WRITE (10)).
-fn write_of(alloc: Global, header: &[u8; HEADER]) -> Option<OpenWrite> {
-    let (address, count, is_forced) = match header[16] {
+// The write that a CDB asks for, if it is one of 1 block or more (SBC, WRITE (6), WRITE (10)).
+fn write_asked(alloc: Global, unit: u8, cdb: &[u8]) -> Option<OpenWrite>
+    requires { 16 ≤ length cdb.now }
+    ensures { result ≡ asked_write unit cdb.now }
+{
+    match cdb[0] {
         WRITE_6 => {
-            let address = u32::from_be_bytes([0, header[17] & 0x1F, header[18], header[19]]);
-            // No blocks stand for 256.
-            let count = match header[20] {
+            let address = read_u32(cdb, 0) & 0x1F_FFFF;
+            // No blocks mean 256.
+            let count = match cdb[4] {
                 0 => 256,
                 count => count as usize,
             };
-            (address, count, false)
+            begun_write(alloc, unit, address, count, false)
         }
         WRITE_10 => {
-            let address = u32::from_be_bytes([header[18], header[19], header[20], header[21]]);
-            let count = u16::from_be_bytes([header[23], header[24]]) as usize;
-            (address, count, header[17] & 0x08 != 0)
+            let count = read_u16(cdb, 7) as usize;
+            begun_write(alloc, unit, read_u32(cdb, 2), count, cdb[1] & FUA != 0)
         }
-        _ => return None,
-    };
+        _ => None,
+    }
+}
+
+// A write of 1 block or more, none of which came yet.
+fn begun_write(
+    alloc: Global,
+    unit: u8,
+    address: u32,
+    count: usize,
+    is_forced: bool,
+) -> Option<OpenWrite>
+    ensures { result ≡ begun_write unit address count is_forced }
+{
     if count == 0 {
         return None;
     }
     Some(OpenWrite {
-        unit: header[2],
+        unit,
         address,
         count,
         is_forced,
@@ -278,8 +475,11 @@ fn write_of(alloc: Global, header: &[u8; HEADER]) -> Option<OpenWrite> {
     })
 }
 
-// Whether the COMMAND is a SYNCHRONIZE CACHE(10) that is answered only once all is durable that was accepted
-// before it: the bit IMMED is not set.
-fn is_flush(header: &[u8; HEADER]) -> bool {
-    header[16] == SYNCHRONIZE_CACHE_10 && header[17] & 0x02 == 0
+// Whether the CDB is a SYNCHRONIZE CACHE(10) that is answered only once all is durable that was
+// accepted before it: the bit IMMED is not set.
+fn is_flush(cdb: &[u8]) -> bool
+    requires { 16 ≤ length cdb.now }
+    ensures { result ≡ is_flush cdb.now }
+{
+    cdb[0] == SYNCHRONIZE_CACHE_10 && cdb[1] & IMMED == 0
 }

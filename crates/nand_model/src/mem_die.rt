@@ -94,7 +94,9 @@ impl MemBlock {
         requires { page < length self.old }
         ensures { self.new ≡ slice_set self.old page content.now }
     {
-        self.pages[page] = *content;
+        let kept = &mut self.pages[page];
+        kept.body.copy_from_slice(&content.body);
+        kept.spare.copy_from_slice(&content.spare);
     }
 
     fn erase(&mut self)

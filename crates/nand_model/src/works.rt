@@ -1,9 +1,9 @@
 //! How a job is done on its die.
 ghost use Rattle.std.specs.Prelude.{◌≡◌, MatchResult};
-ghost use Rattle.ufs_spec.specs.Dies.{CanDo, Did};
+ghost use Rattle.ufs_spec.specs.Dies.{CanDo, Did, LiesOnDie};
 
 use crate::die::{Die, DieFault};
-use ufs_spec::{Job, Outcome, Page};
+use ufs_spec::{Job, Outcome, Page, Place};
 
 /// How a program or an erase ended.
 fn ending(ended: Result<(), DieFault>) -> Outcome
@@ -15,6 +15,21 @@ fn ending(ended: Result<(), DieFault>) -> Outcome
     }
 }
 
+/// What a read of the page gives. The page that it fills is its own, so that no other job pays for it.
+fn read<D: Die>(die: &mut D, place: Place) -> Outcome
+    requires { LiesOnDie (D.state die.old) place.block place.page }
+    ensures { Did (D.failed die.old) (D.failed die.new) (D.state die.old) (Job.Read place) result (D.state die.new) }
+{
+    let mut found = Page {
+        body: [0; 4096],
+        spare: [0; 96],
+    };
+    match die.read(place.block, place.page, &mut found) {
+        Ok(_) => Outcome::Read(found),
+        Err(_) => Outcome::ReadFailed,
+    }
+}
+
 /// Does the job on the die, which is the one that the job names. `Failed` and `ReadFailed` come only
 /// if the die's count of failures rose.
 pub fn work<D: Die>(die: &mut D, job: &Job) -> Outcome
@@ -22,16 +37,7 @@ pub fn work<D: Die>(die: &mut D, job: &Job) -> Outcome
     ensures { Did (D.failed die.old) (D.failed die.new) (D.state die.old) job.now result (D.state die.new) }
 {
     match job {
-        Job::Read(place) => {
-            let mut found = Page {
-                body: [0; 4096],
-                spare: [0; 96],
-            };
-            match die.read(place.block, place.page, &mut found) {
-                Ok(_) => Outcome::Read(found),
-                Err(_) => Outcome::ReadFailed,
-            }
-        }
+        Job::Read(place) => read(die, *place),
         Job::Program(place, page) => ending(die.program(place.block, place.page, page)),
         Job::Erase { die: _, block } => ending(die.erase(*block)),
     }

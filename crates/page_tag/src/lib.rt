@@ -13,4 +13,4 @@ mod settings;
 
 pub use contents::{Content, Mark, content_of};
 pub use mark::mark_body;
-pub use page::{leftover_ok, one_seal, open, reopened, seal};
+pub use page::{leftover_ok, one_seal, open, reopened, seal, sealed_tag};

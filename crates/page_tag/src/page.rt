@@ -20,11 +20,11 @@ pub fn seal(tag: &Tag, body: &Block) -> Page
     Page { body: *body, spare }
 }
 
-/// The tag and the block of a page that `seal` could have made. `None` is for every other page: where
-/// magic, version, check or a byte that must be zero is wrong, or a field is out of its range. It takes
-/// one SHA-256, and none where the first 64 spare bytes are wrong already.
-pub fn open(page: &Page) -> Option<Opened>
-    ensures sealed { IfSome result (λ o. IsTag o.tag × (page.now ≡ seal_page o.tag o.body)) }
+/// The tag of a page that `seal` could have made; the page's data are the block. `None` is for every other
+/// page: where magic, version, check or a byte that must be zero is wrong, or a field is out of its range. It
+/// takes one SHA-256, and none where the first 64 spare bytes are wrong already.
+pub fn sealed_tag(page: &Page) -> Option<Tag>
+    ensures sealed { IfSome result (λ t. IsTag t × (page.now ≡ seal_page t page.now.body)) }
     ensures refused { result ≡ None → (t : Tag) (b : List ℕ) → IsTag t → ¬ (page.now ≡ seal_page t b) }
 {
     let tag = tag_of(&page.spare);
@@ -35,6 +35,18 @@ pub fn open(page: &Page) -> Option<Opened>
     if front[..] != page.spare[..64] || !is_check_right(page) {
         return None;
     }
+    Some(tag)
+}
+
+/// The tag and the block of a page that `seal` could have made, and `None` for every other page, as
+/// [`sealed_tag`] has it. It copies the block.
+pub fn open(page: &Page) -> Option<Opened>
+    ensures sealed { IfSome result (λ o. IsTag o.tag × (page.now ≡ seal_page o.tag o.body)) }
+    ensures refused { result ≡ None → (t : Tag) (b : List ℕ) → IsTag t → ¬ (page.now ≡ seal_page t b) }
+{
+    let Some(tag) = sealed_tag(page) else {
+        return None;
+    };
     Some(Opened {
         tag,
         body: page.body,

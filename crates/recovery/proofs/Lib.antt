@@ -3,6 +3,7 @@ pub mod greatest_numbers
 pub mod key_order
 pub mod opened
 pub mod same_numbers
+pub mod scan_facts
 pub mod settings_pages
 pub mod standing_for
 pub mod table_facts

@@ -1,5 +1,8 @@
 pub mod Counts
+pub mod Joined
 pub mod Order
+pub mod Parts
+pub mod Shown
 pub mod Steps
 pub mod Used
 pub mod Whole

@@ -5,4 +5,5 @@ pub mod KeysInOrder
 pub mod Listed
 pub mod Opened
 pub mod Reading
+pub mod Scanned
 pub mod Stood

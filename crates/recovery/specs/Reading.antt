@@ -1,8 +1,9 @@
 -- What a reading of all pages writes down (this profile).
-use Rattle.std.specs.Prelude.{◌≡◌, ◌⊎◌, ℕ, ◌<◌, ◌≤◌, Bool, true, false, List, [], ◌∷◌, ◌++◌, map, Option, Some, None}
-use Rattle.std.specs.Prelude.{if◌then◌else◌, nat_lt, option_map, slice_index_or}
+use Rattle.std.specs.Prelude.{◌≡◌, ◌⊎◌, ℕ, ◌+◌, ◌<◌, ◌≤◌, Bool, true, false, List, [], ◌∷◌, ◌++◌, map, Option, Some}
+use Rattle.std.specs.Prelude.{None, if◌then◌else◌, nat_lt, option_map, slice_get, slice_index_or}
 use Rattle.std.specs.List.{flat_map, list_any}
-use Rattle.ufs_spec.specs.Cells.{Cell, Cells, GroupPage, Mark, MarkPage, Nothing}
+use Rattle.ufs_spec.specs.Cells.{Cell, Cells, GroupPage, IsCell, Mark, MarkPage, Nothing}
+use Rattle.ufs_spec.specs.Dies.{DieState, page_at}
 use Rattle.ufs_spec.specs.Keys.{below}
 use Rattle.ufs_spec.specs.Kept.{IsNewestMark}
 use Rattle.ufs_spec.specs.declared.configs.Numbers.{Numbers}
@@ -28,10 +29,9 @@ is_something (MarkPage m) = true
 abbrev pub is_used : Numbers → Cells → ℕ → ℕ → Bool
 is_used n c die block = list_any (λ page. is_something (c (place_at die block page))) (below n.pages)
 
--- for each block before this one of a die, in order, whether a page of it is anything
-abbrev pub used_before : Numbers → Cells → ℕ → ℕ → List Bool
-used_before n c die block =
-    flat_map (λ d. map (is_used n c d) (below n.blocks)) (below die) ++ map (is_used n c die) (below block)
+-- for each block of so many dies from the first on, in order, whether a page of it is anything
+abbrev pub used_of : Numbers → Cells → ℕ → ℕ → List Bool
+used_of n c first count = flat_map (λ i. map (is_used n c (first + i)) (below n.blocks)) (below count)
 
 -- ## Tables
 
@@ -45,7 +45,7 @@ pub record IsTable (n : Numbers) (c : Cells) (t : Table) : Type 0 where
   pub pages : AreListed c t.pages.items
   pub newest : IsNewestMark c (newest_in t)
   pub recorded : IsMarksRecord c t.recorded
-  pub used : t.used.items ≡ used_before n c n.dies 0
+  pub used : t.used.items ≡ used_of n c 0 n.dies
 
 -- ## Reading page by page
 
@@ -61,14 +61,14 @@ pub record AreRead (die block page : ℕ) (c seen : Cells) : Type 0 where
   pub read : (p : Place) → StandsBefore die block page p → seen p ≡ c p
   pub unread : (p : Place) → (StandsBefore die block page p → ⊥) → seen p ≡ Nothing
 
--- the table of the pages before this one, and of the blocks before its block
+-- the table of the pages before this one, and of the blocks of its die before its block
 pub record IsTableTo (n : Numbers) (die block page : ℕ) (c : Cells) (t : Table) : Type 0 where
   pub seen : Cells
   pub are_read : AreRead die block page c seen
   pub pages : AreListed seen t.pages.items
   pub newest : IsNewestMark seen (newest_in t)
   pub recorded : IsMarksRecord seen t.recorded
-  pub used : t.used.items ≡ used_before n c die block
+  pub used : t.used.items ≡ map (is_used n c die) (below block)
 
 -- what a page adds to the list of the pages of groups
 abbrev pub listed : Place → Cell → List FoundPage
@@ -98,6 +98,50 @@ pub record IsNoted (p : Place) (x : Cell) (old new : Table) : Type 0 where
   pub recorded : new.recorded ≡ recorded_after x old.recorded
   pub used : new.used.items ≡ old.used.items
 
+-- ## Die by die
+
+-- the place lies on one of so many dies from the first on
+abbrev pub LiesOn : ℕ → ℕ → Place → Type 0
+LiesOn first count p = (first ≤ p.die) × (p.die < first + count)
+
+-- the cells of these dies, and nothing else
+pub record AreOfDies (first count : ℕ) (c seen : Cells) : Type 0 where
+  pub inside : (p : Place) → LiesOn first count p → seen p ≡ c p
+  pub outside : (p : Place) → (LiesOn first count p → ⊥) → seen p ≡ Nothing
+
+-- the table of these dies
+pub record IsTableOf (n : Numbers) (first count : ℕ) (c : Cells) (t : Table) : Type 0 where
+  pub seen : Cells
+  pub are_of : AreOfDies first count c seen
+  pub pages : AreListed seen t.pages.items
+  pub newest : IsNewestMark seen (newest_in t)
+  pub recorded : IsMarksRecord seen t.recorded
+  pub used : t.used.items ≡ used_of n c first count
+
+-- the newer of two marks, if there are any: the first unless the second has a greater number
+abbrev pub newer_of : Option Mark → Option Mark → Option Mark
+newer_of known None = known
+newer_of known (Some m) = Some (newer known m)
+
+abbrev pub greater_of : ℕ → ℕ → ℕ
+greater_of one other = if nat_lt one other then other else one
+
+-- the table of some dies with that of the dies behind them
+pub record IsJoined (low high both : Table) : Type 0 where
+  pub pages : both.pages.items ≡ low.pages.items ++ high.pages.items
+  pub newest : newest_in both ≡ newer_of (newest_in low) (newest_in high)
+  pub recorded : both.recorded ≡ greater_of low.recorded high.recorded
+  pub used : both.used.items ≡ low.used.items ++ high.used.items
+
+-- the cells are what the pages of the die with this number are
+abbrev pub ShowsDie : ℕ → DieState → Cells → Type 0
+ShowsDie number state c = (p : Place) → p.die ≡ number → IsCell (page_at state p.block p.page) (c p)
+
+-- and of the dies from the first number on
+abbrev pub ShowsDies : ℕ → List DieState → Cells → Type 0
+ShowsDies first states c =
+    (i : ℕ) (state : DieState) → slice_get states i ≡ Some state → ShowsDie (first + i) state c
+
 -- ## Failures
 
 -- no count of failures is lower than it was
@@ -109,3 +153,16 @@ abbrev pub IsReadingFault : List ℕ → List ℕ → OpenFault → Type 0
 IsReadingFault before after fault.NoMemory = Unit {0}
 IsReadingFault before after (fault.ReadFault p) = slice_index_or before p.die 0 < slice_index_or after p.die 0
 IsReadingFault before after fault.OtherConfig = ⊥
+
+-- memory was refused, or the die with this number, that of the place, failed meanwhile
+abbrev pub IsDieFault : ℕ → ℕ → ℕ → OpenFault → Type 0
+IsDieFault number before after fault.NoMemory = Unit {0}
+IsDieFault number before after (fault.ReadFault p) = (p.die ≡ number) × (before < after)
+IsDieFault number before after fault.OtherConfig = ⊥
+
+-- memory was refused, or one of the dies from the first number on, that of the place, failed meanwhile
+abbrev pub IsFaultOf : ℕ → List ℕ → List ℕ → OpenFault → Type 0
+IsFaultOf first before after fault.NoMemory = Unit {0}
+IsFaultOf first before after (fault.ReadFault p) =
+    (i : ℕ) × (p.die ≡ first + i) × (slice_index_or before i 0 < slice_index_or after i 0)
+IsFaultOf first before after fault.OtherConfig = ⊥

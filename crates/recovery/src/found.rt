@@ -11,6 +11,7 @@ ghost use Rattle.ufs_spec.specs.Sound.{CellsSound, CellsSuit, Sound};
 ghost use Rattle.ufs_spec.specs.Translation.{spots};
 ghost use Rattle.page_tag.specs.Contents.{mark_of};
 ghost use Rattle.recovery.specs.Found.{IsFound, IsScanFault, newest_found};
+ghost use Rattle.recovery.specs.Scanned.{IsFaultOn, IsFoundOn, IsTableOver};
 ghost use Rattle.recovery.specs.Listed.{AreInRange};
 ghost use Rattle.recovery.specs.Reading.{IsTable, newest_in};
 ghost use Rattle.recovery.specs.Stood.{IsStoodFor};
@@ -75,10 +76,32 @@ pub fn scan<D: Die>(alloc: Global, dies: &mut [D], config: &Config) -> Result<Fo
         IsScanFault config.now c (map D.failed dies.old) (map D.failed dies.new) e) }
 {
     let numbers = config.numbers();
-    let table = match read_all(alloc, dies, numbers) {
-        Ok(table) => table,
-        Err(fault) => return Err(fault),
-    };
+    match read_all(alloc, dies, numbers) {
+        Ok(table) => found_over(alloc, table, dies, config),
+        Err(fault) => Err(fault),
+    }
+}
+
+/// What the dies stand for, of all pages of which this table was read. It reads the page that has the
+/// settings' content, and tells what `scan` tells.
+///
+/// # Errors
+///
+/// Those of `scan`.
+pub(crate) fn found_over<D: Die>(
+    alloc: Global,
+    table: Table,
+    dies: &mut [D],
+    config: &Config,
+) -> Result<Found, OpenFault>
+    requires fit { Fit config.now (map D.state dies.old) }
+    requires read { IsTableOver config.now (map D.state dies.old) table }
+    ensures same { map D.state dies.new ≡ map D.state dies.old }
+    ensures told { IfOk result (IsFoundOn config.now (map D.state dies.old)) }
+    ensures fault { IfErr result (IsFaultOn config.now (map D.state dies.old) (map D.failed dies.old)
+        (map D.failed dies.new)) }
+{
+    let numbers = config.numbers();
     if !is_of_config(&table, numbers) {
         return Err(OpenFault::OtherConfig);
     }

@@ -8,8 +8,10 @@ mod keys;
 mod pages;
 mod reading;
 mod settings;
+mod workers;
 
 pub use blocks::bad_blocks;
 pub use found::{Found, scan};
 pub use keys::FoundBlock;
 pub use pages::FoundPage;
+pub use workers::scan_parallel;

@@ -1,10 +1,12 @@
 //! All pages of the dies, read once each.
-ghost use Rattle.std.specs.Prelude.{◌≡◌, ◌+◌, ◌<◌, ◌||◌, if◌then◌else◌, map, nat_lt, option_map, IfErr, IfOk, OnOk, length, slice_index_or};
+ghost use Rattle.std.specs.Prelude.{◌≡◌, ◌+◌, ◌<◌, ◌≤◌, ◌||◌, None, [], map, option_map, IfErr, IfOk, OnOk, length, slice_index_or};
+ghost use Rattle.std.specs.List.{All};
 ghost use Rattle.page_tag.specs.Contents.{cell_of, mark_of};
-ghost use Rattle.ufs_spec.specs.Cells.{Cells, Shows};
-ghost use Rattle.ufs_spec.specs.Dies.{LiesOnDie, new_die};
+ghost use Rattle.ufs_spec.specs.Cells.{AreWithin, Cells, Shows};
+ghost use Rattle.ufs_spec.specs.Dies.{IsOfSize, LiesOnDie, new_die};
 ghost use Rattle.ufs_spec.specs.Lives.{Fit, array_of};
-ghost use Rattle.recovery.specs.Reading.{IsNoted, IsReadingFault, IsTable, IsTableTo, NoLower, is_something, newer};
+ghost use Rattle.recovery.specs.Reading.{IsDieFault, IsFaultOf, IsJoined, IsNoted, IsReadingFault, IsTable, IsTableOf, IsTableTo, NoLower};
+ghost use Rattle.recovery.specs.Reading.{ShowsDie, ShowsDies, greater_of, is_something, newer, newer_of};
 
 use crate::pages::FoundPage;
 use nand_model::Die;
@@ -26,6 +28,37 @@ pub struct Table {
 }
 
 impl Table {
+    // The table of no die.
+    fn empty(alloc: Global) -> Table
+        ensures pages { result.pages.items ≡ [] }
+        ensures newest { result.newest ≡ None }
+        ensures recorded { result.recorded ≡ 0 }
+        ensures used { result.used.items ≡ [] }
+    {
+        Table {
+            pages: Vec::new(alloc),
+            newest: None,
+            recorded: 0,
+            used: Vec::new(alloc),
+        }
+    }
+
+    /// Adds the table of the dies behind those of this one.
+    pub(crate) fn join(&mut self, mut later: Table) -> Result<(), OpenFault>
+        ensures joined { OnOk result (IsJoined self.old later self.new) }
+        ensures fault { IfErr result (λ e. e ≡ OpenFault.NoMemory) }
+    {
+        if self.pages.append(&mut later.pages).is_err() {
+            return Err(OpenFault::NoMemory);
+        }
+        if self.used.append(&mut later.used).is_err() {
+            return Err(OpenFault::NoMemory);
+        }
+        self.recorded = greater(self.recorded, later.recorded);
+        self.newest = newest_of(self.newest.take(), later.newest.take());
+        Ok(())
+    }
+
     // Notes what a page is, and tells whether it is anything.
     fn note(&mut self, place: Place, content: Content) -> Result<bool, OpenFault>
         ensures noted { let x = cell_of content in
@@ -64,8 +97,18 @@ fn newer(known: Option<Mark>, mark: Mark) -> Mark
     }
 }
 
+// The newer of two marks, if there are any: the first unless the second has a greater number.
+fn newest_of(known: Option<Mark>, later: Option<Mark>) -> Option<Mark>
+    ensures { option_map mark_of result ≡ newer_of (option_map mark_of known) (option_map mark_of later) }
+{
+    match later {
+        Some(mark) => Some(newer(known, mark)),
+        None => known,
+    }
+}
+
 fn greater(one: u64, other: u64) -> u64
-    ensures { result ≡ (if nat_lt one other then other else one) }
+    ensures { result ≡ greater_of one other }
 {
     if one < other { other } else { one }
 }
@@ -88,65 +131,84 @@ pub(crate) fn read_all<D: Die>(
         IsTable numbers.now c table) }
     ensures fault { IfErr result (IsReadingFault (map D.failed dies.old) (map D.failed dies.new)) }
 {
-    let mut table = Table {
-        pages: Vec::new(alloc),
-        newest: None,
-        recorded: 0,
-        used: Vec::new(alloc),
-    };
+    read_dies(alloc, numbers, (0, numbers.dies), dies)
+}
+
+/// Reads all pages of these dies, one die after another. The range is that of their numbers: from the
+/// first to the one behind the last.
+pub(crate) fn read_dies<D: Die>(
+    alloc: Global,
+    numbers: &Numbers,
+    range: (u8, u8),
+    dies: &mut [D],
+) -> Result<Table, OpenFault>
+    requires sizes { All (IsOfSize numbers.now.blocks numbers.now.pages) (map D.state dies.old) }
+    requires numbered { range.0 + length dies.old ≡ range.1 }
+    ensures same { map D.state dies.new ≡ map D.state dies.old }
+    ensures counted { NoLower (map D.failed dies.old) (map D.failed dies.new) }
+    ensures read { IfOk result (λ table. (c : Cells) → AreWithin numbers.now c →
+        ShowsDies range.0 (map D.state dies.old) c → IsTableOf numbers.now range.0 (length dies.old) c table) }
+    ensures fault { IfErr result (IsFaultOf range.0 (map D.failed dies.old) (map D.failed dies.new)) }
+{
+    let mut table = Table::empty(alloc);
     let mut page = Page {
         body: [0; 4096],
         spare: [0; 96],
     };
-    for die in 0..numbers.dies {
-        if let Err(fault) = read_die(dies, numbers, die, &mut table, &mut page) {
+    for index in 0..range.1 - range.0 {
+        let number = range.0 + index;
+        let die = &mut dies[usize::from(index)];
+        let part = match read_die(alloc, die, number, numbers, &mut page) {
+            Ok(part) => part,
+            Err(fault) => return Err(fault),
+        };
+        if table.join(part).is_err() {
+            return Err(OpenFault::NoMemory);
+        }
+    }
+    Ok(table)
+}
+
+// Reads all pages of the die, which has the number. The page is room for one of them.
+fn read_die<D: Die>(
+    alloc: Global,
+    die: &mut D,
+    number: u8,
+    numbers: &Numbers,
+    page: &mut Page,
+) -> Result<Table, OpenFault>
+    requires { IsOfSize numbers.now.blocks numbers.now.pages (D.state die.old) }
+    ensures same { D.state die.new ≡ D.state die.old }
+    ensures counted { D.failed die.old ≤ D.failed die.new }
+    ensures read { IfOk result (λ table. (c : Cells) → AreWithin numbers.now c →
+        ShowsDie number (D.state die.old) c → IsTableOf numbers.now number 1 c table) }
+    ensures fault { IfErr result (IsDieFault number (D.failed die.old) (D.failed die.new)) }
+{
+    let mut table = Table::empty(alloc);
+    for block in 0..numbers.blocks {
+        if let Err(fault) = read_block(die, numbers, (number, block), &mut table, page) {
             return Err(fault);
         }
     }
     Ok(table)
 }
 
-// Reads all pages of a die. The page is room for one of them.
-fn read_die<D: Die>(
-    dies: &mut [D],
-    numbers: &Numbers,
-    die: u8,
-    table: &mut Table,
-    page: &mut Page,
-) -> Result<(), OpenFault>
-    requires fit { Fit numbers.now (map D.state dies.old) }
-    requires inside { die < numbers.now.dies }
-    ensures same { map D.state dies.new ≡ map D.state dies.old }
-    ensures counted { NoLower (map D.failed dies.old) (map D.failed dies.new) }
-    ensures read { OnOk result ((c : Cells) → Shows (array_of (map D.state dies.old)) c →
-        IsTableTo numbers.now die 0 0 c table.old →
-        IsTableTo numbers.now (die + 1) 0 0 c table.new) }
-    ensures fault { IfErr result (IsReadingFault (map D.failed dies.old) (map D.failed dies.new)) }
-{
-    for block in 0..numbers.blocks {
-        if let Err(fault) = read_block(dies, numbers, (die, block), table, page) {
-            return Err(fault);
-        }
-    }
-    Ok(())
-}
-
-// Reads all pages of a block.
+// Reads all pages of a block of the die. The spot is that of the block.
 fn read_block<D: Die>(
-    dies: &mut [D],
+    die: &mut D,
     numbers: &Numbers,
     spot: (u8, u16),
     table: &mut Table,
     page: &mut Page,
 ) -> Result<(), OpenFault>
-    requires fit { Fit numbers.now (map D.state dies.old) }
-    requires inside { (spot.0 < numbers.now.dies) × (spot.1 < numbers.now.blocks) }
-    ensures same { map D.state dies.new ≡ map D.state dies.old }
-    ensures counted { NoLower (map D.failed dies.old) (map D.failed dies.new) }
-    ensures read { OnOk result ((c : Cells) → Shows (array_of (map D.state dies.old)) c →
+    requires size { IsOfSize numbers.now.blocks numbers.now.pages (D.state die.old) }
+    requires inside { spot.1 < numbers.now.blocks }
+    ensures same { D.state die.new ≡ D.state die.old }
+    ensures counted { D.failed die.old ≤ D.failed die.new }
+    ensures read { OnOk result ((c : Cells) → AreWithin numbers.now c → ShowsDie spot.0 (D.state die.old) c →
         IsTableTo numbers.now spot.0 spot.1 0 c table.old →
         IsTableTo numbers.now spot.0 (spot.1 + 1) 0 c table.new) }
-    ensures fault { IfErr result (IsReadingFault (map D.failed dies.old) (map D.failed dies.new)) }
+    ensures fault { IfErr result (IsDieFault spot.0 (D.failed die.old) (D.failed die.new)) }
 {
     let mut any = false;
     for index in 0..numbers.pages {
@@ -155,7 +217,7 @@ fn read_block<D: Die>(
             block: spot.1,
             page: index,
         };
-        match read_page(dies, place, table, page) {
+        match read_page(die, place, table, page) {
             Ok(found) => any = either(any, found),
             Err(fault) => return Err(fault),
         }
@@ -172,25 +234,23 @@ fn either(one: bool, other: bool) -> bool
     one || other
 }
 
-// Reads a page, and tells whether it is anything.
+// Reads a page of the die, and tells whether it is anything.
 fn read_page<D: Die>(
-    dies: &mut [D],
+    die: &mut D,
     place: Place,
     table: &mut Table,
     page: &mut Page,
 ) -> Result<bool, OpenFault>
-    requires die { place.die < length dies.old }
-    requires there { let state = slice_index_or (map D.state dies.old) place.die (new_die 0 0) in
-        LiesOnDie state place.block place.page }
-    ensures same { map D.state dies.new ≡ map D.state dies.old }
-    ensures counted { NoLower (map D.failed dies.old) (map D.failed dies.new) }
-    ensures read { IfOk result (λ any. (c : Cells) → Shows (array_of (map D.state dies.old)) c →
+    requires { LiesOnDie (D.state die.old) place.block place.page }
+    ensures same { D.state die.new ≡ D.state die.old }
+    ensures counted { D.failed die.old ≤ D.failed die.new }
+    ensures read { IfOk result (λ any. (c : Cells) → ShowsDie place.die (D.state die.old) c →
         (any ≡ is_something (c place)) × IsNoted place (c place) table.old table.new) }
-    ensures fault { IfErr result (IsReadingFault (map D.failed dies.old) (map D.failed dies.new)) }
+    ensures fault { IfErr result (IsDieFault place.die (D.failed die.old) (D.failed die.new)) }
 {
-    if let Err(fault) = fetch(dies, place, page) {
-        return Err(fault);
-    }
+    let Ok(_) = die.read(place.block, place.page, page) else {
+        return Err(OpenFault::ReadFault(place));
+    };
     table.note(place, content_of(page))
 }
 

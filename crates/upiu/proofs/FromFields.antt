@@ -37,7 +37,7 @@ segment_and_rest bytes n =
     rw (count, ← drop-drop n 32 bytes) (sym again)
 
 -- what begins with a header is the header and what follows byte 31
-front_and_rest : (bytes front rest : List ℕ) → length front ≡ 32 → bytes ≡ front ++ rest →
+pub front_and_rest : (bytes front rest : List ℕ) → length front ≡ 32 → bytes ≡ front ++ rest →
     bytes ≡ front ++ drop 32 bytes
 front_and_rest bytes front rest h e =
     let same : drop 32 bytes ≡ rest = ap (drop 32) e ∙ drop_at front rest 32 h in
@@ -109,7 +109,7 @@ module _ (bytes : List ℕ) (small : AreBytes bytes) (p : Passes bytes) where
   nothing_in : segment_length bytes ≡ 0 → segment_in bytes ≡ []
   nothing_in = no_segment bytes (segment_length bytes)
 
-  segment_long : length (segment_in bytes) ≡ segment_length bytes
+  pub segment_long : length (segment_in bytes) ≡ segment_length bytes
   segment_long =
       let n : ℕ = segment_length bytes in
       let count : 32 + n - 32 ≡ n = omega arith in

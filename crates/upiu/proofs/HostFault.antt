@@ -61,6 +61,11 @@ host_then bytes h =
     (then_told (is_short bytes) (has_wrong_length bytes) (has_digest bytes) (has_extra_header bytes)
     (has_other_code known_codes bytes) (has_other_code host_codes bytes) h).0
 
+-- bytes that have no fault and are of a kind that a host sends
+pub host_none : (bytes : List ℕ) → read_fault_of bytes ≡ None → is_among host_codes (code_of bytes) ≡ true →
+    host_fault_of bytes ≡ None
+host_none bytes h among = host_then bytes h ∙ cond-false _ _ _ (ap not among)
+
 -- bytes that have no fault, but are of a kind that a device sends
 pub host_other : (bytes : List ℕ) → read_fault_of bytes ≡ None → is_among host_codes (code_of bytes) ≡ false →
     host_fault_of bytes ≡ Some Code

@@ -1,4 +1,5 @@
 pub mod FirstFault
 pub mod FromFields
 pub mod HostFault
+pub mod HostSpelled
 pub mod Spelled

@@ -1,1 +1,3 @@
+pub mod HostMessages
 pub mod Reading
+pub mod Replies

@@ -1,9 +1,9 @@
 -- What the fields of a message's bytes name, whether or not the bytes spell it.
 use Rattle.std.specs.Prelude.{◌≡◌, ◌≤◌, true, length, ◌==◌, ◌+◌, ℕ, List, slice_index, slice_range}
-use Rattle.std.specs.Prelude.{if◌then◌else◌, Option, Some, None, [], ◌∷◌}
+use Rattle.std.specs.Prelude.{if◌then◌else◌, Option, Some, None, [], ◌∷◌, ◌++◌, drop}
 use Rattle.ufs_bytes.specs.Fields.{field_at}
 use Rattle.ufs_spec.specs.Messages.{AreFlags, IsAmong, IsQueryFunction, code_of, is_among, known_codes, may_have}
-use Rattle.ufs_spec.specs.Messages.{padding, segment_length}
+use Rattle.ufs_spec.specs.Messages.{padding, segment_length, zeros}
 use Rattle.ufs_spec.specs.declared.messages.Asked.{Asked}
 use Rattle.ufs_spec.specs.declared.messages.Message.{Message}
 use Rattle.ufs_spec.specs.declared.messages.Message.TheVariants.{NopOut, Command, DataOut, TaskRequest, QueryRequest}
@@ -108,3 +108,9 @@ pub record Passes (bytes : List ℕ) : Type 0 where
   pub may : may_have (code_of bytes) bytes (segment_length bytes) ≡ true
   pub total : length bytes ≡ 32 + segment_length bytes + padding (segment_length bytes)
   pub code : is_among known_codes (code_of bytes) ≡ true
+
+-- a header comes first in these bytes, and zeros follow the data segment that the bytes name
+abbrev pub IsAround : List ℕ → List ℕ → Type 0
+IsAround header bytes =
+    (bytes ≡ header ++ drop 32 bytes)
+    × (drop (32 + segment_length bytes) bytes ≡ zeros (length (drop (32 + segment_length bytes) bytes)))

@@ -124,8 +124,22 @@ fn fields_of(message: &Message) -> [u8; 20]
     }
 }
 
+/// The header of a DATA OUT or a DATA IN of so many bytes: `kind` is its transaction code.
+pub fn transfer_header(kind: u8, lun: u8, tag: u8, offset: u32, count: usize) -> [u8; 32]
+    requires { count ≤ 4096 }
+    ensures { result ≡ header kind 0 lun tag 0 0 0 count (transfer offset count) }
+{
+    let mut bytes = [0; 32];
+    bytes[0] = kind;
+    bytes[2] = lun;
+    bytes[3] = tag;
+    write_u16(&mut bytes, 10, count as u16);
+    bytes[12..].copy_from_slice(&transfer_fields(offset, count as u32));
+    bytes
+}
+
 // The expected length and the CDB of a COMMAND; the residual of a RESPONSE, with zeros.
-fn command_fields(number: u32, cdb: &[u8; 16]) -> [u8; 20]
+pub fn command_fields(number: u32, cdb: &[u8; 16]) -> [u8; 20]
     ensures { result ≡ big_bytes 4 number ++ cdb.now }
 {
     let mut fields = [0; 20];
@@ -135,7 +149,7 @@ fn command_fields(number: u32, cdb: &[u8; 16]) -> [u8; 20]
 }
 
 // The offset and the count of a DATA OUT, DATA IN or READY TO TRANSFER.
-fn transfer_fields(offset: u32, count: u32) -> [u8; 20]
+pub fn transfer_fields(offset: u32, count: u32) -> [u8; 20]
     ensures { result ≡ transfer offset count }
 {
     let mut fields = [0; 20];

@@ -5,10 +5,15 @@
 mod checks;
 mod fields;
 mod headers;
+mod host_messages;
 mod laws;
 mod reading;
+mod replies;
 mod writing;
 
+pub use checks::HEADER;
+pub use host_messages::{Command, DataOut, read_command, read_data_out};
 pub use laws::{one_spelling, worked_faults, worked_messages};
 pub use reading::{read, read_host};
+pub use replies::{Response, write_data_in, write_ready_to_transfer, write_response};
 pub use writing::write;

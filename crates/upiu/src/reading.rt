@@ -4,7 +4,7 @@ ghost use Rattle.ufs_spec.specs.Messages.{code_of, host_fault_of, known_codes, r
 ghost use Rattle.ufs_spec.specs.Messages.{is_among, segment_length, zeros, IsAmong, Spells};
 ghost use Rattle.ufs_spec.specs.declared.HostFault.{HostFault};
 ghost use Rattle.ufs_spec.specs.declared.Message.{Message};
-ghost use Rattle.upiu.specs.Reading.{named_message, HasSets, Passes};
+ghost use Rattle.upiu.specs.Reading.{named_message, HasSets, IsAround, Passes};
 
 use crate::checks::{HEADER, first_fault, host_fault, stated_length};
 use crate::fields::message_in;
@@ -78,9 +78,16 @@ fn is_spelled(message: &Message, bytes: &[u8]) -> bool
     requires named { message.now ≡ named_message bytes.now }
     ensures { IsTrue result ↔ Spells message.now bytes.now }
 {
-    let header = header_bytes(message);
+    has_sets(message) && surround(&header_bytes(message), bytes)
+}
+
+// Whether this header comes first, and zeros follow the data segment.
+pub fn surround(header: &[u8; 32], bytes: &[u8]) -> bool
+    requires { Passes bytes.now }
+    ensures { IsTrue result ↔ IsAround header.now bytes.now }
+{
     let padding = &bytes[HEADER + stated_length(bytes)..];
-    has_sets(message) && bytes.starts_with(&header) && are_zeros(padding)
+    bytes.starts_with(header) && are_zeros(padding)
 }
 
 // Whether the fields that do not take every value of a byte are in their sets.
@@ -103,7 +110,7 @@ fn has_sets(message: &Message) -> bool
 }
 
 // Whether these are flags of a COMMAND or a RESPONSE.
-fn are_flags(flags: u8) -> bool
+pub fn are_flags(flags: u8) -> bool
     ensures { result ≡ is_among (0x00 ∷ 0x20 ∷ 0x40 ∷ []) flags }
 {
     matches!(flags, 0x00 | 0x20 | 0x40)

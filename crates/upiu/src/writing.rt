@@ -11,9 +11,16 @@ pub fn write(message: &Message, into: &mut Upiu)
     requires { IsMessage message.now }
     ensures { into.new.items ≡ spelling message.now }
 {
-    let segment = segment_bytes(message);
+    fill(into, &header_bytes(message), segment_bytes(message));
+}
+
+// Writes a header and a data segment, with its padding, in place of what was there.
+pub(crate) fn fill(into: &mut Upiu, header: &[u8; 32], segment: &[u8])
+    requires { length segment.now ≤ 4096 }
+    ensures { into.new.items ≡ header.now ++ segment.now ++ zeros (padding (length segment.now)) }
+{
     into.clear();
-    append(into, &header_bytes(message));
+    append(into, header);
     append(into, segment);
     append(into, padding_bytes(segment.len()));
 }

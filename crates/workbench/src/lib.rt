@@ -12,7 +12,7 @@ use device::{Device, fit};
 use geometry::Config;
 use nand_model::{MemDie, work};
 use std::alloc::Global;
-use ufs_spec::{HostFault, NoMemory, OpenFault, Upiu};
+use ufs_spec::{HostFault, Job, NoMemory, OpenFault, Upiu};
 
 /// The device, its dies, and the reply that was handed out last.
 #[derive(Drop)]
@@ -57,15 +57,19 @@ impl Workbench {
 
     /// One job of the die, done well; false where the die is owed none.
     pub fn work(&mut self, die: u8) -> bool {
+        match &self.device.take(die) {
+            Some(job) => self.end(die, job),
+            None => false,
+        }
+    }
+
+    /// Does the job on the die, and tells the device how it ended.
+    fn end(&mut self, die: u8, job: &Job) -> bool {
         let index = die as usize;
-        let Some(job) = self.device.take(die) else {
-            return false;
-        };
-        if index >= self.dies.len() || !self.dies[index].can_do(&job) {
+        if index >= self.dies.len() || !self.dies[index].can_do(job) {
             return false;
         }
-        let outcome = work(&mut self.dies[index], &job);
-        self.device.done(die, &outcome)
+        self.device.done(die, &work(&mut self.dies[index], job))
     }
 
     /// Rounds of a turn and of one job of each of the first `dies` dies.

@@ -1,5 +1,5 @@
 //! A block that stays where it is.
-ghost use Rattle.std.specs.Prelude.{◌≡◌, IfOk, ℕ, List};
+ghost use Rattle.std.specs.Prelude.{◌≡◌, IfOk, ℕ, List, length};
 ghost use Rattle.ufs_spec.specs.Keys.{IsBlock};
 ghost use Rattle.ufs_spec.specs.Plain.{zero_block};
 
@@ -41,11 +41,12 @@ impl Body {
         &self.bytes
     }
 
-    /// From now on it holds these bytes.
-    pub fn set(&mut self, block: &Block)
+    /// From now on it holds these 4096 bytes.
+    pub fn set(&mut self, block: &[u8])
+        requires { length block.now ≡ 4096 }
         ensures { self.new ≡ block.now }
     {
-        *self.bytes = *block;
+        self.bytes.copy_from_slice(block);
     }
 
     /// From now on it holds zeros.

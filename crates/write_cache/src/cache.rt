@@ -174,8 +174,10 @@ impl Cache {
         free_claims(&mut self.claims, &mut self.free, reader);
     }
 
-    /// Puts a block that came into the slot that was claimed for it: that of this index of the reader.
-    pub fn fill(&mut self, reader: u8, index: u16, block: &Block)
+    /// Puts the 4096 bytes of a block that came into the slot that was claimed for it: that of this index of
+    /// the reader.
+    pub fn fill(&mut self, reader: u8, index: u16, block: &[u8])
+        requires { length block.now ≡ 4096 }
         ensures { self.new ≡ record self.old { claims = map (claim_filled reader index block.now) self.old.claims } }
     {
         fill_claims(self.claims.make_contiguous(), reader, index, block);
@@ -355,7 +357,8 @@ fn free_claim(claims: &mut VecDeque<Claimed>, free: &mut Vec<Body>, reader: u8)
 }
 
 /// What came lies in the slot that is claimed for the block of this index of the reader.
-fn fill_claims(claims: &mut [Claimed], reader: u8, index: u16, block: &Block)
+fn fill_claims(claims: &mut [Claimed], reader: u8, index: u16, block: &[u8])
+    requires { length block.now ≡ 4096 }
     ensures { claims.new ≡ map (claim_filled reader index block.now) claims.old }
 {
     for claim in claims.iter_mut() {

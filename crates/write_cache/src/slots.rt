@@ -1,5 +1,5 @@
 //! What lies in a slot.
-ghost use Rattle.std.specs.Prelude.{◌≡◌};
+ghost use Rattle.std.specs.Prelude.{length, ◌≡◌};
 ghost use Rattle.ufs_spec.specs.Plain.{zero_block};
 ghost use Rattle.write_cache.specs.Slots.{claim_filled, empty_claim, ends_run, is_claim_of, is_named};
 ghost use Rattle.write_cache.specs.Slots.{is_of_group, is_page_of, key_at, page_claimed};
@@ -89,7 +89,8 @@ impl Claimed {
     }
 
     /// What came lies in the slot, if this is claimed for the block of this index of the reader.
-    pub(crate) fn fill(&mut self, reader: u8, index: u16, block: &Block)
+    pub(crate) fn fill(&mut self, reader: u8, index: u16, block: &[u8])
+        requires { length block.now ≡ 4096 }
         ensures { self.new ≡ claim_filled reader index block.now self.old }
     {
         if self.reader == reader && self.index == index {

@@ -26,6 +26,7 @@ use Rattle.ftl_core.specs.Describes.{Describes as IsLayer}
 use Rattle.ftl_core.specs.Moves.{claims_for}
 use Rattle.device.specs.Describes.{Describes}
 use Rattle.device.specs.Kept.{idle_device}
+use Rattle.device.specs.Opened.{TellsPermanent}
 use Rattle.device.proofs.die_calls.CallsRight.{opens_right}
 
 -- what a body of settings says of protection
@@ -45,12 +46,6 @@ found_suits n array bad f sound found = record {
   is_newest = found.newest;
   suit = found.suits;
 }
-
--- what a scan tells of protection, of the cells that the pages show
-abbrev pub TellsPermanent : Cells → Found → Type 0
-TellsPermanent c f =
-    CellsSound c (newest_found f) → (x : List ℕ) → Holds c (newest_found f) (suc f.kept) settings_key x →
-    f.is_permanent ≡ (slice_index x 1 == 1)
 
 -- what is made of what was found describes any layer that is opened over it
 abbrev pub OpensLayer : Numbers → Found → Core → Type 0

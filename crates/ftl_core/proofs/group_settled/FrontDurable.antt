@@ -46,7 +46,7 @@ pub record MayClimb (u : Translation) : Type 0 where
   pub no_repair : IsRepair u.work.step → ⊥
   pub groups : GroupsRight u.numbers u.ledger
 
-climbs_on : (u : Translation) → MayClimb u → MayClimb (raised_to u (suc u.ledger.frontier))
+pub climbs_on : (u : Translation) → MayClimb u → MayClimb (raised_to u (suc u.ledger.frontier))
 climbs_on u m = record {
   top = let l = m.top in omega arith;
   mended = m.mended;
@@ -102,12 +102,12 @@ made_kept c u number h m w = record {
   readers = λ e. absurd (true≢false (sym m.mended ∙ e));
 }
 
-whole_behind : (c : Core) (u : Translation) (number : ℕ) → Kept c u → MayClimb u → front_written c ≡ Some number →
+pub whole_behind : (c : Core) (u : Translation) (number : ℕ) → Kept c u → MayClimb u → front_written c ≡ Some number →
     IsNextWhole c u.ledger number
 whole_behind c u number h m e = next_whole c u.ledger (pages_behind c u h m) (seen u m) m.groups.some number e
 
 -- one group more is durable
-front_kept_on : (c : Core) (u : Translation) (number : ℕ) → Kept c u → MayClimb u → front_written c ≡ Some number →
+pub front_kept_on : (c : Core) (u : Translation) (number : ℕ) → Kept c u → MayClimb u → front_written c ≡ Some number →
     Kept (group_durable c number) (raised_to u (suc u.ledger.frontier))
 front_kept_on c u number h m e =
     let w = whole_behind c u number h m e in

@@ -221,6 +221,7 @@ goes_on c l number w =
 abbrev pub made : Core → List Pending → List Pending → Core
 made c front rest = record c {
   places = (fold page_durable c front).places;
+  live = (fold page_durable c front).live;
   pins = map (moved_all front) c.pins;
   pages = rest;
   frontier = c.frontier + 1;
@@ -235,6 +236,7 @@ made_is c l number h w =
     (only_places c (filter (is_of_group number) c.pages))
     ∙ (λ i. record c {
       places = (fold page_durable c (front i)).places;
+      live = (fold page_durable c (front i)).live;
       pins = (pins_all (filter (is_of_group number) c.pages) c
           ∙ ap (λ (ps : List Pending). map (moved_all ps) c.pins) front) i;
       pages = rest i;

@@ -14,6 +14,7 @@ use Rattle.power_loss.proofs.books.PagesByName.{none_some}
 use Rattle.power_loss.proofs.books.SmallFacts.{at_name_cases, eq_self, if_true, name_is, name_cases}
 use Rattle.power_loss.proofs.ordered_lists.ElementsAndOrders.{IsIn}
 use Rattle.write_cache.specs.declared.slots.Pending.{Pending}
+use Rattle.block_table.specs.Lives.{with_live}
 use Rattle.unit_map.specs.declared.Stored.{Stored}
 use Rattle.ftl_core.specs.Core.{Core}
 use Rattle.ftl_core.specs.Describes.{IsStored, LedgerKept, PageKept, PagesFly, PagesKept, Standing, names_pending}
@@ -162,7 +163,11 @@ is_pending c l name h here =
 pub written_there : (c : Core) (l : Ledger) (name : Name) (place : Place) (h : IsPending c l name) →
     pending_written c name.number name.index place ≡ record c {
       pages = slice_set c.pages h.at (record h.page { written = Some place });
+      live = with_live c.live place true;
     }
 written_there c l name place h =
-    ap (λ (o : Option ℕ). record c { pages = written_if c.pages place o }) h.is
-    ∙ ap (λ (o : Option Pending). record c { pages = written_at c.pages h.at place o }) h.there
+    ap (λ (o : Option ℕ). record c { pages = written_if c.pages place o; live = with_live c.live place true }) h.is
+    ∙ ap (λ (o : Option Pending). record c {
+      pages = written_at c.pages h.at place o;
+      live = with_live c.live place true;
+    }) h.there

@@ -6,19 +6,20 @@ use Rattle.ufs_spec.specs.Cells.{GroupPage}
 use Rattle.ufs_spec.specs.Disk as disk
 use Rattle.ufs_spec.specs.Disk.{at_spot, programmed}
 use Rattle.ufs_spec.specs.Keys as keys
-use Rattle.ufs_spec.specs.Ledger.{Name, same_name}
+use Rattle.ufs_spec.specs.Ledger.{Entry, Name, same_name}
 use Rattle.ufs_spec.specs.Moves.{step_behind}
 use Rattle.ufs_spec.specs.Translation.{Mended, Mending, RepairStep, Repairing, Step, Translation, Unmarked, flies_name}
 use Rattle.ufs_spec.specs.Translation.{is_bad, is_mended, name_of, names_behind}
 use Rattle.ufs_spec.specs.declared.configs.Numbers.{Numbers}
 use Rattle.ufs_spec.specs.declared.flash.Place.{Place}
 use Rattle.ufs_spec.specs.declared.flash.Tag.{Tag}
-use Rattle.power_loss.specs.Book.{book, last_number}
+use Rattle.power_loss.specs.Book.{IsPageAt, book, last_number}
 use Rattle.power_loss.proofs.books.FrontierClimbs.{get_drop, in_group}
 use Rattle.power_loss.specs.Invariant.{IsLastRepair, MendingRight, Valid}
 use Rattle.power_loss.proofs.books.PagesByName.{at_most, none_some, page_within}
 use Rattle.power_loss.proofs.books.SmallFacts.{if_true, name_self, two_ways}
 use Rattle.power_loss.proofs.ordered_lists.ElementsAndOrders.{IsIn}
+use Rattle.block_table.specs.Lives.{with_live}
 use Rattle.block_table.specs.declared.BlockState.{BlockState}
 use Rattle.block_table.specs.declared.BlockState.TheVariants as state
 use Rattle.ftl_core.specs.declared.books.Book.{Book}
@@ -56,8 +57,8 @@ pub record IsGroupFlight (c : Core) (t : Translation) (die : ℕ) (b : Book) (o 
 -- Which page it is
 
 -- it does not stand yet
-flown_new : (c : Core) (t : Translation) (die : ℕ) (b : Book) (o : OpenBlock) (tag : Tag) (body : List ℕ) → Kept c t →
-    IsGroupFlight c t die b o tag body →
+pub flown_new : (c : Core) (t : Translation) (die : ℕ) (b : Book) (o : OpenBlock) (tag : Tag) (body : List ℕ) →
+    Kept c t → IsGroupFlight c t die b o tag body →
     t.ledger.standing tag.number tag.index ≡ None
 flown_new c t die b o tag body k f = k.fly.new die (name_of tag)
     (ap (flies_name (name_of tag)) f.flies ∙ name_self (name_of tag))
@@ -111,28 +112,34 @@ flown_mended c t die b o tag body h f =
     absurd (omega (arith, above, within, last)))
     (two_ways (is_mended t.work.mending))
 
--- it is pending
-pub flown_pending : (c : Core) (t : Translation) (die : ℕ) (b : Book) (o : OpenBlock) (tag : Tag) (body : List ℕ) →
-    Describes c t → IsGroupFlight c t die b o tag body → IsPending c t.ledger (name_of tag)
-flown_pending c t die b o tag body h f =
-    let known = h.valid.flights.known die (next_place die o) tag body f.flies in
-    let above = flown_above c t die b o tag body h f in
+-- a page above the frontier is pending
+pub pending_of : (c : Core) (t : Translation) (name : Name) (e : Entry) → Describes c t →
+    is_mended t.work.mending ≡ true → t.ledger.frontier < name.number → IsPageAt (book t) name.number name.index e →
+    IsPending c t.ledger name
+pending_of c t name e h mended above known =
     let seen = h.valid.frontier.above in
-    let g = in_group (book t) tag.number tag.index _ (omega (arith, above, seen)) known in
-    is_pending c t.ledger (name_of tag) h.kept.ledger_kept.pages
-    (subst (λ (gs : List keys.Group). IsIn (name_of tag) (names_behind t.ledger.frontier gs))
-    (sym (pending_mended t.ledger (h.kept.work.repaired (flown_mended c t die b o tag body h f))))
-    (names_in t.ledger.frontier (behind t.ledger) (name_of tag) (record {
+    let g = in_group (book t) name.number name.index e (omega (arith, above, seen)) known in
+    is_pending c t.ledger name h.kept.ledger_kept.pages
+    (subst (λ (gs : List keys.Group). IsIn name (names_behind t.ledger.frontier gs))
+    (sym (pending_mended t.ledger (h.kept.work.repaired mended)))
+    (names_in t.ledger.frontier (behind t.ledger) name (record {
       above = above;
       group = g.0;
-      is = get_drop t.ledger.groups (t.ledger.frontier - t.ledger.greatest_seen) (tag.number - t.ledger.frontier - 1)
-          ∙ ap (slice_get t.ledger.groups) (index t.ledger.greatest_seen t.ledger.frontier tag.number seen above)
+      is = get_drop t.ledger.groups (t.ledger.frontier - t.ledger.greatest_seen) (name.number - t.ledger.frontier - 1)
+          ∙ ap (slice_get t.ledger.groups) (index t.ledger.greatest_seen t.ledger.frontier name.number seen above)
           ∙ g.1;
       index = g.2;
     })))
   where
     index : (top frontier n : ℕ) → top ≤ frontier → frontier < n → frontier - top + (n - frontier - 1) ≡ n - top - 1
     index top frontier n low l = omega arith
+
+-- so is the page in flight
+pub flown_pending : (c : Core) (t : Translation) (die : ℕ) (b : Book) (o : OpenBlock) (tag : Tag) (body : List ℕ) →
+    Describes c t → IsGroupFlight c t die b o tag body → IsPending c t.ledger (name_of tag)
+flown_pending c t die b o tag body h f =
+    pending_of c t (name_of tag) _ h (flown_mended c t die b o tag body h f) (flown_above c t die b o tag body h f)
+    (h.valid.flights.known die (next_place die o) tag body f.flies)
 
 -- All but blocks
 
@@ -148,6 +155,13 @@ module _ (c : Core) (t : Translation) (die : ℕ) (b : Book) (o : OpenBlock) (ta
     (p : Pending)
     (h : Describes c t) (f : IsGroupFlight c t die b o tag body) (at : slice_get c.pages j ≡ Some p)
     (named : slice_get (names_pending t.ledger) j ≡ Some (name_of tag)) (mended : is_mended t.work.mending ≡ true) where
+  -- the page is written there
+  abbrev pub page_there : Core
+  page_there = record c {
+    pages = slice_set c.pages j (record p { written = Some (next_place die o) });
+    live = with_live c.live (next_place die o) true;
+  }
+
   -- what is kept, with these states of blocks and this open block of the die
   kept_written : (x : disk.BlockState) (states : List BlockState) (filling : Option OpenBlock) →
       BlocksKept t.numbers (at_spot t.disk.blocks (spot_at die o.block) x) states c.has_bad →
@@ -157,6 +171,7 @@ module _ (c : Core) (t : Translation) (die : ℕ) (b : Book) (o : OpenBlock) (ta
         states = states;
         books = slice_set c.books die (record { filling = filling; flight = None });
         pages = slice_set c.pages j (record p { written = Some (next_place die o) });
+        live = with_live c.live (next_place die o) true;
       })
       (written_at t die o tag body x)
   kept_written x states filling blocks is_open = record {
@@ -184,12 +199,9 @@ module _ (c : Core) (t : Translation) (die : ℕ) (b : Book) (o : OpenBlock) (ta
   }
 
   -- the group's page is written, and the die's open block has one page less, or is closed
-  pub page_kept : Kept (page_written
-      (record c { pages = slice_set c.pages j (record p { written = Some (next_place die o) }) }) die b (Some o))
-      (with_group_page t (next_place die o) tag body)
+  pub page_kept : Kept (page_written page_there die b (Some o)) (with_group_page t (next_place die o) tag body)
   page_kept =
-      page_ends (record c { pages = slice_set c.pages j (record p { written = Some (next_place die o) }) })
-      die b o t.numbers.pages
+      page_ends page_there die b o t.numbers.pages
       (written_at t die o tag body) (ap (λ (n : Numbers). n.pages) h.kept.numbers)
       (h.valid.blocks.filling (spot_at die o.block) o.next is_open.1)
       (kept_written (disk.Filling (o.next + 1)) c.states (Some (record { block = o.block; next = o.next + 1 }))

@@ -5,6 +5,7 @@ use Rattle.std.specs.Prelude.{◌-◌, filter, fold, not, if◌then◌else◌, o
 use Rattle.std.specs.List.{list_any}
 use Rattle.ufs_spec.specs.declared.flash.Place.{Place}
 use Rattle.power_loss.proofs.books.SmallFacts.{eq_self}
+use Rattle.block_table.specs.Lives.{Lives}
 use Rattle.write_cache.specs.declared.slots.Landed.{Landed}
 use Rattle.write_cache.specs.declared.slots.Pending.{Pending}
 use Rattle.ftl_core.specs.declared.books.Pin.{Pin}
@@ -76,21 +77,24 @@ fewer c number e =
 
 -- Page by page
 
--- the places of addresses and what readers keep are all that changes
+-- the places of addresses, which pages are live, and what readers keep are all that changes
 pub only_places : (c : Core) (ps : List Pending) →
     fold page_durable c ps ≡ record c {
       places = (fold page_durable c ps).places;
+      live = (fold page_durable c ps).live;
       pins = (fold page_durable c ps).pins;
     }
 only_places c [] = refl
 only_places c (p ∷ ps) =
     only_places (page_durable c p) ps
-    ∙ one (fold page_durable (page_durable c p) ps).places (fold page_durable (page_durable c p) ps).pins p.written
+    ∙ one (fold page_durable (page_durable c p) ps).places (fold page_durable (page_durable c p) ps).live
+    (fold page_durable (page_durable c p) ps).pins p.written
   where
-    one : (places : List (Option Stored)) (pins : List Pin) (o : Option Place) →
-        record (page_durable_at c p o) { places = places; pins = pins } ≡ record c { places = places; pins = pins }
-    one places pins None = refl
-    one places pins (Some place) = refl
+    one : (places : List (Option Stored)) (live : Lives) (pins : List Pin) (o : Option Place) →
+        record (page_durable_at c p o) { places = places; live = live; pins = pins } ≡
+        record c { places = places; live = live; pins = pins }
+    one places live pins None = refl
+    one places live pins (Some place) = refl
 
 -- the next page, if there is one
 abbrev pub durable_next : Core → Option Pending → Core

@@ -35,6 +35,7 @@ use Rattle.ftl_core.proofs.job_taken.NextStarts.{outside}
 use Rattle.ftl_core.proofs.job_ended.ReadsEnded.{idle_kept, read_ends, task_kept}
 use Rattle.ftl_core.proofs.job_ended.ReadsGiven.{lost_told, step_told, task_told}
 use Rattle.ftl_core.proofs.job_taken.Flown.{flight_cases}
+use Rattle.ftl_core.proofs.live_pages.JobsLive.{live_of}
 
 -- Which endings there are
 
@@ -143,6 +144,7 @@ pub ends_right : (c after : Core) (die : ℕ) (o : Outcome) → IsCoreEnded c di
 ends_right c after die o new t ending h is may = record {
   valid = all_keep t (EndJob die ending) h.valid may;
   kept = kept_of c t die o ending (slice_get c.books die) after h refl is new;
+  live = live_of c t die o (slice_get c.books die) after h refl new;
 }
 
 -- What is told

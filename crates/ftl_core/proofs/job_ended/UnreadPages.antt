@@ -2,18 +2,17 @@
 use Rattle.std.proofs.Common.{◌≡◌, ℕ, List, Option, None, Some, refl}
 use Rattle.ufs_spec.specs.Pages.{IsTag, seal_page}
 use Rattle.ufs_spec.specs.declared.flash.Key.{Key}
-use Rattle.ufs_spec.specs.declared.flash.Opened.{Opened}
 use Rattle.ufs_spec.specs.declared.flash.Page.{Page}
 use Rattle.ufs_spec.specs.declared.flash.Tag.{Tag}
 use Rattle.ftl_core.specs.Gives.{IsBodyOf}
 
-none_is : (o : Option Opened) → ((x : Opened) → o ≡ Some x → ⊥) → o ≡ None
+none_is : (o : Option Tag) → ((x : Tag) → o ≡ Some x → ⊥) → o ≡ None
 none_is None other = refl
 none_is (Some x) other = absurd (other x refl)
 
 pub none_opened :
-    (page : Page) (k : Key) (n : ℕ) (o : Option Opened) →
-    ((x : Opened) → o ≡ Some x → ⊥) →
+    (page : Page) (k : Key) (n : ℕ) (o : Option Tag) →
+    ((x : Tag) → o ≡ Some x → ⊥) →
     (o ≡ None → (t : Tag) (b : List ℕ) → IsTag t → page ≡ seal_page t b → ⊥) →
     IsBodyOf page k n None
 none_opened page k n o other refused = record {

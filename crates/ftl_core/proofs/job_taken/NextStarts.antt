@@ -191,6 +191,7 @@ job_begun c t die b f job h there taken told is begins may = record {
       (record {
         valid = all_keep t (GiveJob die job) h.valid may;
         kept = kept_begun c t die b f job h.kept there is begins;
+        live = h.live;
       });
 }
   where

@@ -1,4 +1,5 @@
 -- The group of the blocks that a reader gathered is accepted: its pages are those of its claims.
+use Rattle.std.proofs.Common.{⊎_elim, inl, inr}
 use Rattle.std.proofs.Common.{◌≡◌, ◌∙◌, ℕ, zero, suc, ◌+◌, ◌≤◌, ◌==◌, ◌&&◌, true, List, [], ◌∷◌, ◌++◌, Option, Some}
 use Rattle.std.proofs.Common.{length, map, filter, not, refl, sym, ap, subst, arith, drop}
 use Rattle.std.specs.Prelude.{◌^◌, nat_le, nat_lt, slice_get}
@@ -14,6 +15,7 @@ use Rattle.ufs_spec.specs.Moves.{Accept, IsAllowedMove, moved}
 use Rattle.ufs_spec.specs.Plain.{shape_of_numbers}
 use Rattle.ufs_spec.specs.Translation.{Rest, Translation, Work, is_in_part, names_of, rests_of}
 use Rattle.ufs_spec.specs.declared.flash.Key.{Key}
+use Rattle.ufs_spec.specs.declared.flash.Place.{Place}
 use Rattle.power_loss.specs.Book.{book}
 use Rattle.power_loss.specs.Invariant.{Valid}
 use Rattle.power_loss.proofs.accepted_groups.RestsOfGroups.{whole_has_none}
@@ -27,8 +29,9 @@ use Rattle.ftl_core.specs.declared.books.Mending.{Mending}
 use Rattle.write_cache.specs.declared.slots.Pending.{Pending}
 use Rattle.ftl_core.specs.declared.books.Step.{Step}
 use Rattle.ftl_core.specs.Core.{Core}
+use Rattle.ftl_core.specs.KnownLive.{IsWrittenAt, KnowsLive}
 use Rattle.ftl_core.specs.Describes.{Describes, PageKept, PagesKept, WorkKept, name_at}
-use Rattle.ftl_core.specs.Moves.{accepted, claims_for, pages_claimed}
+use Rattle.ftl_core.specs.Moves.{accepted, claims_for, next_number, pages_claimed}
 use Rattle.write_cache.specs.Slots.{is_claim_of, key_at, page_claimed}
 use Rattle.ftl_core.specs.Tells.{claim_at, claims_behind, claims_of_blocks, group_of_blocks, items_behind, key_behind}
 use Rattle.ftl_core.proofs.look_and_accept.KeysBehind.{keys_same}
@@ -209,12 +212,38 @@ rests_more m left step content next w l rests none k = record {
   repaired = k.repaired;
 }
 
+-- a group that is accepted has no page that is written
+
+written_behind : (ps : List Pending) (k : Key) (number size : ℕ) (claims : List Claimed) (p : Place) →
+    IsWrittenAt (ps ++ map (page_claimed k number size) claims) p → IsWrittenAt ps p
+written_behind [] k number size [] p w = w
+written_behind [] k number size (x ∷ xs) p (inl w) = absurd (none-some p w)
+written_behind [] k number size (x ∷ xs) p (inr w) = written_behind [] k number size xs p w
+written_behind (q ∷ ps) k number size claims p (inl w) = inl w
+written_behind (q ∷ ps) k number size claims p (inr w) = inr (written_behind ps k number size claims p w)
+
+written_before : (ps more : List Pending) (p : Place) → IsWrittenAt ps p → IsWrittenAt (ps ++ more) p
+written_before [] more p w = absurd w
+written_before (q ∷ ps) more p (inl w) = inl w
+written_before (q ∷ ps) more p (inr w) = inr (written_before ps more p w)
+
+none_written : (c : Core) (k : Key) (reader : ℕ) → KnowsLive c.numbers c.places c.pages c.live →
+    KnowsLive c.numbers c.places (c.pages ++ pages_claimed c reader k) c.live
+none_written c k reader h = record {
+  sizes = h.sizes;
+  marks = h.marks;
+  held = λ p e. ⊎_elim (λ at. inl at) (λ w. inr (written_before c.pages (pages_claimed c reader k) p w)) (h.held p e);
+  lives = λ p at. h.lives p (⊎_elim (λ x. inl x) (λ w. inr (written_behind c.pages k (next_number c)
+      (length (claims_for c reader)) (claims_for c reader) p w)) at);
+}
+
 accepts_right : (c : Core) (t : Translation) (k : Key) (bodies : List (List ℕ)) (reader : ℕ) → InRange c.numbers →
     Describes c t → k.kind ≡ 1 → k.unit ≤ 7 → claims_for c reader ≡ claims_of_blocks reader bodies →
     IsAllowedMove t (Accept (length bodies) (group_of_blocks k bodies)) →
     Describes (accepted c reader k) (moved t (Accept (length bodies) (group_of_blocks k bodies)))
 accepts_right c t k bodies reader ranges h kind unit claimed may = record {
   valid = all_keep t (Accept (length bodies) (group_of_blocks k bodies)) h.valid may;
+  live = none_written c k reader h.live;
   kept = record {
     numbers = h.kept.numbers;
     blocks = h.kept.blocks;

@@ -124,6 +124,7 @@ pub keeps_block : (c : Core) (t : Translation) (k : Key) (p : Pin) (q : layer.Pi
     Describes (record c { pins = c.pins ++ p ∷ [] }) (moved t (Keep k q))
 keeps_block c t k p q h mended is looks kept new = record {
   valid = all_keep t (Keep k q) h.valid (is, looks);
+  live = h.live;
   kept = record {
     numbers = h.kept.numbers;
     blocks = h.kept.blocks;

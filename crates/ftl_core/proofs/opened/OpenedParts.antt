@@ -6,6 +6,7 @@ use Rattle.ufs_spec.specs.Plain.{zero_block}
 use Rattle.ufs_spec.specs.declared.configs.Numbers.{Numbers}
 use Rattle.ufs_spec.specs.declared.flash.Key.{Key}
 use Rattle.block_table.specs.Blocks.{Blocks, is_bad}
+use Rattle.block_table.specs.Lives.{Lives}
 use Rattle.block_table.specs.declared.BlockState.{BlockState}
 use Rattle.block_table.specs.declared.Sizes.{Sizes}
 use Rattle.recovery.specs.declared.found.Found.{Found}
@@ -19,6 +20,7 @@ use Rattle.ftl_core.specs.declared.books.Flight.{Flight}
 use Rattle.ftl_core.specs.declared.books.Mending.{Mending}
 use Rattle.ftl_core.specs.declared.books.Pin.{Pin}
 use Rattle.ftl_core.specs.Core.{Core}
+use Rattle.ftl_core.specs.KnownLive.{lives_of_places}
 use Rattle.ftl_core.specs.Moves.{first_mending, is_bad_found, mark_number_behind, opened, state_of_found}
 use Rattle.ftl_core.specs.Moves.{stored_of_found}
 use Rattle.ftl_core.specs.Rooms.{books_of}
@@ -37,14 +39,15 @@ bad_same (b ∷ bs) =
     one found.Bad = refl
 
 -- the parts together
-abbrev pub core_with : Numbers → Blocks → List (Option Flight) → UnitMap → WriteCache → List Pin → Mending → List Key →
-    List ℕ → ℕ → Core
-core_with n blocks flights places cache pins mending lost content next = record {
+abbrev pub core_with : Numbers → Blocks → List (Option Flight) → UnitMap → Lives → WriteCache → List Pin → Mending →
+    List Key → List ℕ → ℕ → Core
+core_with n blocks flights places live cache pins mending lost content next = record {
   numbers = n;
   states = blocks.states;
   books = books_of blocks.filling flights;
   has_bad = blocks.has_bad;
   places = places.places;
+  live = live;
   pages = cache.pages;
   claims = cache.claims;
   frontier = cache.frontier;
@@ -66,6 +69,7 @@ with_lists n f states books has_bad places last = record {
   books = books;
   has_bad = has_bad;
   places = places;
+  live = lives_of_places n places;
   pages = [];
   claims = [];
   frontier = last;
@@ -80,8 +84,8 @@ with_lists n f states books has_bad places last = record {
 }
 
 pub opened_as : (n : Numbers) (f : Found) (blocks : Blocks) (flights : List (Option Flight)) (map_is : UnitMap)
-    (cache : WriteCache) (pins : List Pin) (mending : Mending) (content : List ℕ) (next : ℕ) (sizes : Sizes)
-    (states : List BlockState) (places : List (Option Stored)) (last : ℕ) →
+    (live : Lives) (cache : WriteCache) (pins : List Pin) (mending : Mending) (content : List ℕ) (next : ℕ)
+    (sizes : Sizes) (states : List BlockState) (places : List (Option Stored)) (last : ℕ) →
     blocks ≡ record {
       sizes = sizes;
       states = states;
@@ -89,13 +93,14 @@ pub opened_as : (n : Numbers) (f : Found) (blocks : Blocks) (flights : List (Opt
       has_bad = list_any is_bad states;
     } →
     flights ≡ replicate n.dies None → map_is ≡ record { numbers = n; places = places } →
+    live ≡ lives_of_places n places →
     cache ≡ record { slots = n.slots; pages = []; claims = []; frontier = last; last = last } →
     states ≡ map state_of_found f.blocks.items → places ≡ map (option_map stored_of_found) f.contents.items →
     last ≡ min f.greatest_seen (2 ^ 62) → pins ≡ [] → mending ≡ first_mending f → content ≡ zero_block →
     next ≡ mark_number_behind f →
-    core_with n blocks flights map_is cache pins mending f.lost.items content next ≡ opened n f
-opened_as n f blocks flights map_is cache pins mending content next sizes states places last
-    eb ef em ec es ep el en ed ez ek =
-    (λ i. core_with n (eb i) (ef i) (em i) (ec i) (en i) (ed i) f.lost.items (ez i) (ek i))
+    core_with n blocks flights map_is live cache pins mending f.lost.items content next ≡ opened n f
+opened_as n f blocks flights map_is live cache pins mending content next sizes states places last
+    eb ef em eq ec es ep el en ed ez ek =
+    (λ i. core_with n (eb i) (ef i) (em i) (eq i) (ec i) (en i) (ed i) f.lost.items (ez i) (ek i))
     ∙ (λ i. with_lists n f (es i) (all_idle n.dies i) (list_any is_bad (es i)) (ep i) (el i))
     ∙ ap (λ (b : Bool). record (opened n f) { has_bad = b }) (bad_same f.blocks.items)

@@ -41,13 +41,15 @@ use Rattle.recovery.proofs.opened.FoundOpens.{found_opens}
 use Rattle.ftl_core.specs.declared.books.Book.{Book}
 use Rattle.unit_map.specs.declared.Stored.{Stored}
 use Rattle.ftl_core.specs.Core.{Core}
-use Rattle.ftl_core.specs.Describes.{AreToRepair, BookKept, Describes, DiesKept, IsStored}
+use Rattle.ftl_core.specs.Describes.{AreToRepair, BookKept, Describes, DiesKept, IsStored, Kept}
 use Rattle.ftl_core.specs.Describes.{LedgerKept, PagesKept, PinsKept, Standing, StepKept, WorkKept, mending_kept}
 use Rattle.ftl_core.specs.Describes.{spot_at}
 use Rattle.ftl_core.specs.Moves.{first_mending, idle_book, mark_number_behind, mending_from}
 use Rattle.unit_map.specs.Places.{flat}
 use Rattle.ftl_core.specs.Moves.{number_behind, opened, stored_of_found}
 use Rattle.unit_map.specs.Places.{stored_in}
+use Rattle.ftl_core.proofs.live_pages.OpenedLive.{opened_knows}
+use Rattle.ftl_core.proofs.live_pages.StoredPages.{stored_owned}
 use Rattle.ftl_core.proofs.opened.FoundBlocks.{blocks_found}
 
 -- Dies
@@ -263,25 +265,30 @@ opens_right n f c bad t pages right within sound found o =
     let h = found_opens n c bad f t sound found o in
     let fills = λ (s : Spot) (next : ℕ) (e : t.disk.blocks s ≡ disk.Filling next). no_filling c bad s
     (t.disk.blocks s) next (o.disk.blocks s) e in
+    let valid = opening_valid n c bad t pages right within sound o in
+    let kept : Kept (opened n f) t =
     record {
-      valid = opening_valid n c bad t pages right within sound o;
-      kept = record {
-        numbers = sym o.numbers;
-        blocks = blocks_found n t.numbers f t.disk.blocks (sym o.numbers) h.as_many h.blocks;
-        dies = dies_idle n t.numbers t.disk.blocks t.disk.flights (sym o.numbers) o.disk.idle fills;
-        fly = record {
-          one = λ d e name x y. absurd (flies_none name (t.disk.flights d) (o.disk.idle d) x);
-          new = λ d name x. absurd (flies_none name (t.disk.flights d) (o.disk.idle d) x);
-        };
-        ledger_kept = ledger_found n f t h o.ledger.none_new o.ledger.frontier;
-        work = work_found n f c bad t (opened n f).content h o;
-        claims = sym o.no_claims;
-        pins = pins_none t.ledger.frontier (entry_of t.ledger) t.pins o.no_pins;
-        differ = tt;
-        reads = λ die tag index place e. absurd (none_some _ (sym (o.disk.idle die) ∙ e));
-        step_reads = λ die place e. absurd (none_some _ (sym (o.disk.idle die) ∙ e));
-        readers = λ un. refl;
+      numbers = sym o.numbers;
+      blocks = blocks_found n t.numbers f t.disk.blocks (sym o.numbers) h.as_many h.blocks;
+      dies = dies_idle n t.numbers t.disk.blocks t.disk.flights (sym o.numbers) o.disk.idle fills;
+      fly = record {
+        one = λ d e name x y. absurd (flies_none name (t.disk.flights d) (o.disk.idle d) x);
+        new = λ d name x. absurd (flies_none name (t.disk.flights d) (o.disk.idle d) x);
       };
+      ledger_kept = ledger_found n f t h o.ledger.none_new o.ledger.frontier;
+      work = work_found n f c bad t (opened n f).content h o;
+      claims = sym o.no_claims;
+      pins = pins_none t.ledger.frontier (entry_of t.ledger) t.pins o.no_pins;
+      differ = tt;
+      reads = λ die tag index place e. absurd (none_some _ (sym (o.disk.idle die) ∙ e));
+      step_reads = λ die place e. absurd (none_some _ (sym (o.disk.idle die) ∙ e));
+      readers = λ un. refl;
+    } in
+    record {
+      valid = valid;
+      kept = kept;
+      live = opened_knows n (opened n f).places
+          (λ k s at. (stored_owned (opened n f) t valid kept k s at).inside);
     }
 
 pub opens_described : (n : Numbers) (f : Found) (kept : Core) → kept ≡ opened n f →

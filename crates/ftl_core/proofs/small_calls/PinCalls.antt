@@ -53,6 +53,7 @@ pub unpins_right : (c : Core) (t : Translation) (reader : ℕ) → Describes c t
 unpins_right c t reader h = record {
   valid = all_keep t (LetGoAll reader) h.valid tt;
   kept = let_go_kept c t reader h.kept;
+  live = h.live;
 }
 
 pub unpins_told : (c after : Core) (reader : ℕ) → after ≡ unpinned c reader → (t : Translation) → Describes c t →
@@ -71,6 +72,7 @@ pub lets_go_right : (c : Core) (t : Translation) (reader index : ℕ) → Descri
 lets_go_right c t reader index h = record {
   valid = all_keep t (LetGo reader index) h.valid tt;
   kept = let_one_go_kept c t reader index h.kept;
+  live = h.live;
 }
 
 pub wants_right : (c : Core) (t : Translation) (reader index : ℕ) → Describes c t →
@@ -78,6 +80,7 @@ pub wants_right : (c : Core) (t : Translation) (reader index : ℕ) → Describe
 wants_right c t reader index h = record {
   valid = all_keep t (WantPage reader index) h.valid tt;
   kept = wants_kept c t reader index h.kept;
+  live = h.live;
 }
 
 -- and the next one is wanted
@@ -132,6 +135,7 @@ pub acknowledges_right : (c : Core) (t : Translation) (count : ℕ) → Describe
     before_accepted t.ledger + count ≤ t.ledger.frontier → Describes c (moved t (Acknowledge count))
 acknowledges_right c t count h allowed = record {
   valid = all_keep t (Acknowledge count) h.valid allowed;
+  live = h.live;
   kept = record {
     numbers = h.kept.numbers;
     blocks = h.kept.blocks;

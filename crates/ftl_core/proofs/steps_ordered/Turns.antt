@@ -16,6 +16,7 @@ use Rattle.ftl_core.specs.Core.{Core}
 use Rattle.ftl_core.specs.Describes.{Describes, Kept, mending_kept}
 use Rattle.ftl_core.specs.Moves.{has_mark_number, is_repair_due, is_step_due, is_turn_due, mark_ordered}
 use Rattle.ftl_core.specs.Moves.{repair_ordered, repair_turned, step_turned, turned}
+use Rattle.ftl_core.proofs.live_pages.SameLive.{Knows, facts, knows_on, turned_same}
 use Rattle.ftl_core.proofs.steps_ordered.MarksOrdered.{mark_waits}
 use Rattle.ftl_core.proofs.steps_ordered.QuietLayers.{at_front, get_dropped, group_number, is_quiet, mark_number}
 use Rattle.ftl_core.proofs.steps_ordered.QuietLayers.{order_is, turns_due}
@@ -86,8 +87,16 @@ turned_by c t h true e =
     subst (λ (o : Option Order). Kept (turned c) (stepped t o)) (sym (order_is c t h.kept none))
     (turn_at c t c.mending h none refl h.kept.work.mending_is parts.1)
 
+turned_live : (c : Core) → Knows (facts c) → (due : Bool) → Knows (facts (if due then turned c else c))
+turned_live c h true = knows_on c (turned c) (turned_same c) h
+turned_live c h false = h
+
 pub turns_told : (c after : Core) (due : Bool) → due ≡ is_turn_due c → after ≡ (if due then turned c else c) →
     (t : Translation) → Describes c t → Describes after (moved t TakeStep)
 turns_told c after due is new t h =
     subst (λ (x : Core). Describes x (moved t TakeStep)) (sym new)
-    (record { valid = all_keep t TakeStep h.valid tt; kept = turned_by c t h due (sym is) })
+    (record {
+      valid = all_keep t TakeStep h.valid tt;
+      kept = turned_by c t h due (sym is);
+      live = turned_live c h.live due;
+    })

@@ -20,9 +20,9 @@ ghost use Rattle.ftl_core.specs.Stops.{StopsRight};
 ghost use Rattle.ftl_core.specs.Tells.{IsReadOf};
 ghost use Rattle.ftl_core.specs.declared.ftl.Ended.{Ended};
 
-use super::{Ended, Ftl, zeros};
+use super::{Ended, Ftl, move_live, zeros};
 use crate::books::{Book, Flight, Looked, Mending, Pin, Reader, Step};
-use page_tag::{one_seal, open};
+use page_tag::{one_seal, sealed_tag};
 use ufs_spec::{Block, Fence, Key, Outcome, Page, Place, Tag};
 use unit_map::Stored;
 use write_cache::{LAST_NUMBER, Landed};
@@ -44,24 +44,24 @@ fn one_block(bytes: &[u8])
 {}
 
 /// The block of the page, where it is the page of this address with this number.
-fn body_of(page: &Page, key: Key, number: u64) -> Option<Block>
-    ensures { IsBodyOf page.now key number result }
+fn body_of(page: &Page, key: Key, number: u64) -> Option<&Block>
+    ensures { IsBodyOf page.now key number (option_copied result) }
 {
     one_seal();
-    let Some(opened) = open(page) else {
+    let Some(tag) = sealed_tag(page) else {
         return None;
     };
-    one_block(opened.body.as_slice());
-    if names(&opened.tag, key, number) {
-        Some(opened.body)
+    one_block(page.body.as_slice());
+    if names(&tag, key, number) {
+        Some(&page.body)
     } else {
         None
     }
 }
 
 /// The block of the page, where the pin keeps a page and this is it.
-fn body_looked(page: &Page, pin: &Pin) -> Option<Block>
-    ensures { IsBodyLooked page.now pin.now.key pin.now.looked result }
+fn body_looked<'a>(page: &'a Page, pin: &Pin) -> Option<&'a Block>
+    ensures { IsBodyLooked page.now pin.now.key pin.now.looked (option_copied result) }
 {
     match pin.looked {
         Looked::Page(stored) => body_of(page, pin.key, stored.number),
@@ -70,8 +70,8 @@ fn body_looked(page: &Page, pin: &Pin) -> Option<Block>
 }
 
 /// What the end of its read gives to the pin's reader.
-fn body_given(outcome: &Outcome, pin: &Pin) -> Option<Block>
-    ensures { IsGiven outcome.now pin.now result }
+fn body_given<'a>(outcome: &'a Outcome, pin: &Pin) -> Option<&'a Block>
+    ensures { IsGiven outcome.now pin.now (option_copied result) }
 {
     match outcome {
         Outcome::Read(page) => body_looked(page, pin),
@@ -168,8 +168,8 @@ fn mending_behind(mending: Mending) -> Mending
 
 /// The block that the end of a read gives to the step under way, where the page is the one that it is read
 /// from.
-fn content_read(step: &Option<Step>, outcome: &Outcome) -> Option<Block>
-    ensures { IsContentRead step.now outcome.now result }
+fn content_read<'a>(step: &Option<Step>, outcome: &'a Outcome) -> Option<&'a Block>
+    ensures { IsContentRead step.now outcome.now (option_copied result) }
 {
     match outcome {
         Outcome::Read(page) => content_of_page(step, page),
@@ -178,8 +178,8 @@ fn content_read(step: &Option<Step>, outcome: &Outcome) -> Option<Block>
 }
 
 /// The block of the page, where it is the one that the step under way is read from.
-fn content_of_page(step: &Option<Step>, page: &Page) -> Option<Block>
-    ensures { IsContentOf step.now page.now result }
+fn content_of_page<'a>(step: &Option<Step>, page: &'a Page) -> Option<&'a Block>
+    ensures { IsContentOf step.now page.now (option_copied result) }
 {
     match step {
         Some(
@@ -359,10 +359,13 @@ impl Ftl {
         }
     }
 
-    /// The durable content of the address stands there.
+    /// The durable content of the address stands there from now on: this page is live, and no more
+    /// the one where it stood.
     fn note_place(&mut self, key: Key, stored: Stored)
         ensures { self.new ≡ noted self.old key stored }
     {
+        let old = self.stored(key);
+        move_live(&mut self.live, old, stored.place);
         self.places.set(key, stored);
     }
 
@@ -390,6 +393,7 @@ impl Ftl {
     {
         if is_done {
             self.cache.mark_written(number, index, place);
+            self.live.set_live(place);
             self.page_written(die, book);
             self.settle();
         } else {
@@ -452,8 +456,8 @@ impl Ftl {
     }
 
     /// The block that the end of its read gives to the reader.
-    fn body_for(&self, reader: u8, index: u16, outcome: &Outcome) -> Option<Block>
-        ensures { IsGivenTo outcome.now (pin_of self.now reader index) result }
+    fn body_for<'a>(&self, reader: u8, index: u16, outcome: &'a Outcome) -> Option<&'a Block>
+        ensures { IsGivenTo outcome.now (pin_of self.now reader index) (option_copied result) }
     {
         match self.pin_of(reader, index) {
             Some(pin) => body_given(outcome, &pin),
@@ -469,7 +473,7 @@ impl Ftl {
     {
         match reader {
             Reader::Task { tag, index } => {
-                let body = self.body_for(tag, index, outcome);
+                let body = self.body_for(tag, index, outcome).copied();
                 end_wants(self.pins.as_mut_slice(), tag, index);
                 Ended::Read { reader: tag, body }
             }
@@ -487,7 +491,7 @@ impl Ftl {
         ensures { (body : Option (List ℕ)) × IsContentRead self.old.step outcome.now body × (self.new ≡ with_content self.old body) }
     {
         if let Some(body) = content_read(&self.step, outcome) {
-            self.content = body;
+            self.content = *body;
             self.step = step_there(self.step);
         }
     }

@@ -490,26 +490,17 @@ impl Ftl {
         }
     }
 
-    /// The program of this page of a group.
-    fn program_of(&self, place: Place, page: &Pending) -> Job
-        requires { is_group_page page.now ≡ true }
-        ensures { result ≡ page_of_group self.now place page.now }
-    {
-        let tag = tag_of_page(page, self.cache.frontier());
-        Job::Program(place, seal(&tag, page.body.block()))
-    }
-
     /// The program of the page with this number and index, if it is pending. Only data of a unit is
     /// programmed as a group.
     fn group_job(&self, place: Place, number: u64, index: u16) -> Option<Job>
         ensures { result ≡ group_job self.now place number index }
     {
         let page = self.cache.page_named(number, index)?;
-        if is_group_page(page) {
-            Some(self.program_of(place, page))
-        } else {
-            None
+        if !is_group_page(page) {
+            return None;
         }
+        let tag = tag_of_page(page, self.cache.frontier());
+        Some(Job::Program(place, seal(&tag, page.body.block())))
     }
 
     /// What the die is told to do.
@@ -610,8 +601,11 @@ impl Ftl {
             return None;
         }
         let flight = self.owed_flight(die, book)?;
-        let job = self.job_of(die, flight)?;
+        let job = self.job_of(die, flight);
+        if job.is_none() {
+            return None;
+        }
         self.set_flight(die, Some(flight));
-        Some(job)
+        job
     }
 }

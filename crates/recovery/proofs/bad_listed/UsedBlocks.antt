@@ -1,6 +1,6 @@
 -- Which blocks are in use, die by die, is which are in the order of all blocks; and what a table says of each.
-use Rattle.std.proofs.Common.{◌≡◌, ◌∙◌, ◌<◌, ℕ, Bool, true, false, List, map, sym, ap, refl}
-use Rattle.std.proofs.Common.{Some, slice_get, ⊎_elim, append-nil, arith}
+use Rattle.std.proofs.Common.{◌≡◌, ◌∙◌, ◌+◌, ◌<◌, ℕ, Bool, true, false, List, map, sym, ap, refl}
+use Rattle.std.proofs.Common.{Some, slice_get, ⊎_elim, arith}
 use Rattle.std.specs.Prelude.{option_map}
 use Rattle.std.specs.List.{flat_map}
 use Rattle.std.proofs.lemmas.Bool.{cases_lt}
@@ -14,21 +14,24 @@ use Rattle.ufs_spec.specs.declared.flash.Place.{Place}
 use Rattle.ufs_spec.proofs.Facts.{false≢true}
 use Rattle.ufs_spec.proofs.Lists.{any_here, any_told, below_at, map_twice}
 use Rattle.recovery.specs.KeysInOrder.{TellsUse}
-use Rattle.recovery.specs.Reading.{is_something, is_used, place_at, used_before}
+use Rattle.recovery.specs.Reading.{is_something, is_used, place_at, used_of}
 use Rattle.recovery.proofs.bad_listed.BadListed.{map_joined}
 
 pub used_spot : Numbers → Cells → Spot → Bool
 used_spot n c s = is_used n c s.die s.block
 
-pub used_in_order : (n : Numbers) (c : Cells) → used_before n c n.dies 0 ≡ map (used_spot n c) (spots n)
+pub used_in_order : (n : Numbers) (c : Cells) → used_of n c 0 n.dies ≡ map (used_spot n c) (spots n)
 unfolding used_spot
 used_in_order n c =
     let row : ℕ → List Spot = λ die. map (λ (block : ℕ). record { die = die; block = block }) (below n.blocks) in
-    let each : (λ (die : ℕ). map (used_spot n c) (row die)) ≡ (λ (die : ℕ). map (is_used n c die) (below n.blocks)) =
-    λ i die. map_twice (used_spot n c) (λ (block : ℕ). record { die = die; block = block }) (below n.blocks) i in
-    append-nil (flat_map (λ d. map (is_used n c d) (below n.blocks)) (below n.dies))
-    ∙ (ap (λ (f : ℕ → List Bool). flat_map f (below n.dies)) (sym each)
-    ∙ sym (map_joined (used_spot n c) row (below n.dies)))
+    let each : (λ (die : ℕ). map (used_spot n c) (row die)) ≡ (λ (die : ℕ). map (is_used n c (0 + die)) (below n.blocks)) =
+    λ i die. (map_twice (used_spot n c) (λ (block : ℕ). record { die = die; block = block }) (below n.blocks)
+    ∙ ap (λ (d : ℕ). map (is_used n c d) (below n.blocks)) (from_none die)) i in
+    ap (λ (f : ℕ → List Bool). flat_map f (below n.dies)) (sym each)
+    ∙ sym (map_joined (used_spot n c) row (below n.dies))
+  where
+    from_none : (d : ℕ) → d ≡ 0 + d
+    from_none d = omega arith
 
 is_nothing : (x : Cell) → is_something x ≡ false → x ≡ Nothing
 is_nothing Nothing e = refl
@@ -65,7 +68,7 @@ tells_use n c s outside = record {
 
 -- what the table says of a block
 pub told_of : (n : Numbers) (c : Cells) (used : List Bool) (i : ℕ) (s : Spot) → AreWithin n c →
-    used ≡ used_before n c n.dies 0 → slice_get (spots n) i ≡ Some s →
+    used ≡ used_of n c 0 n.dies → slice_get (spots n) i ≡ Some s →
     (in_use : Bool) × (slice_get used i ≡ Some in_use) × TellsUse c s in_use
 unfolding used_spot
 told_of n c used i s outside is at = (

@@ -1,5 +1,6 @@
 -- One die of a list does a job: what it holds, and the counts of failures.
-use Rattle.std.proofs.Common.{◌≡◌, ℕ, zero, suc, ◌<◌, ◌≤◌, List, [], ◌∷◌, map, refl, ap, arith, get_or, length}
+use Rattle.std.proofs.Common.{◌≡◌, ◌∙◌, ℕ, zero, suc, ◌+◌, ◌<◌, ◌≤◌, List, [], ◌∷◌, map, refl, ap, arith, get_or}
+use Rattle.std.proofs.Common.{length, subst, sym}
 use Rattle.std.specs.Prelude.{slice_set}
 use Rattle.std.proofs.lemmas.List.Elements.{All-get_or}
 use Rattle.std.specs.Prelude.{slice_index_or}
@@ -9,7 +10,7 @@ use Rattle.ufs_spec.specs.Lives.{Fit}
 use Rattle.ufs_spec.specs.declared.configs.Numbers.{Numbers}
 use Rattle.ufs_spec.specs.declared.faults.OpenFault.{OpenFault}
 use Rattle.ufs_spec.specs.declared.faults.OpenFault.TheVariants as fault
-use Rattle.recovery.specs.Reading.{IsReadingFault, NoLower}
+use Rattle.recovery.specs.Reading.{IsDieFault, IsFaultOf, IsReadingFault, NoLower}
 
 -- what is told of the one stays, and so does what is told of each
 pub map_stays : {A B : Type 0} (f : A → B) (xs : List A) (i : ℕ) (d y : A) → f y ≡ f (get_or xs i d)
@@ -47,11 +48,46 @@ fault_later a b d fault.NoMemory h k = tt
 fault_later a b d (fault.ReadFault p) h k = omega (arith, h p.die, k)
 fault_later a b d fault.OtherConfig h k = k
 
+pub die_fault_later : (number a b d : ℕ) (e : OpenFault) → a ≤ b → IsDieFault number b d e → IsDieFault number a d e
+die_fault_later number a b d fault.NoMemory h k = tt
+die_fault_later number a b d (fault.ReadFault p) h k = (k.0, omega (arith, h, k.1))
+die_fault_later number a b d fault.OtherConfig h k = k
+
+pub fault_of_later : (first : ℕ) (a b d : List ℕ) (e : OpenFault) → NoLower a b → IsFaultOf first b d e
+    → IsFaultOf first a d e
+fault_of_later first a b d fault.NoMemory h k = tt
+fault_of_later first a b d (fault.ReadFault p) h k = (k.0, k.1, omega (arith, h k.0, k.2))
+fault_of_later first a b d fault.OtherConfig h k = k
+
+-- a fault of one of the dies
+pub fault_of_one : {A : Type 0} (f : A → ℕ) (xs : List A) (first i number : ℕ) (d y : A) (e : OpenFault)
+    → number ≡ first + i → i < length xs → IsDieFault number (f (get_or xs i d)) (f y) e
+    → IsFaultOf first (map f xs) (map f (slice_set xs i y)) e
+fault_of_one f xs first i number d y fault.NoMemory is inside k = tt
+fault_of_one f xs first i number d y (fault.ReadFault p) is inside k =
+    (i, k.0 ∙ is, count_rose f xs i d y inside k.1)
+fault_of_one f xs first i number d y fault.OtherConfig is inside k = k
+
+-- a fault of the dies from 0 on
+pub fault_of_all : (a b : List ℕ) (e : OpenFault) → IsFaultOf 0 a b e → IsReadingFault a b e
+fault_of_all a b fault.NoMemory k = tt
+fault_of_all a b (fault.ReadFault p) k =
+    subst (λ (i : ℕ). slice_index_or a i 0 < slice_index_or b i 0) (sym (k.1 ∙ same k.0)) k.2
+  where
+    same : (i : ℕ) → 0 + i ≡ i
+    same i = omega arith
+fault_of_all a b fault.OtherConfig k = k
+
 -- each page of the sizes lies on its die
+pub lies_there : (n : Numbers) (state : DieState) (b g : ℕ) → IsOfSize n.blocks n.pages state → b < n.blocks
+    → g < n.pages → LiesOnDie state b g
+lies_there n state b g size block page =
+    let pages = pages_in state b n.blocks n.pages block size in
+    (omega (arith, size.0, block), omega (arith, pages, page))
+
 pub lies : (n : Numbers) (dies : List DieState) (d b g : ℕ) → Fit n dies → d < n.dies → b < n.blocks → g < n.pages
     → LiesOnDie (slice_index_or dies d (new_die 0 0)) b g
 lies n dies d b g fit die block page =
     let inside : d < length dies = omega (arith, fit.0, die) in
-    let size = All-get_or (IsOfSize n.blocks n.pages) dies d (new_die 0 0) inside fit.1 in
-    let pages = pages_in (slice_index_or dies d (new_die 0 0)) b n.blocks n.pages block size in
-    (omega (arith, size.0, block), omega (arith, pages, page))
+    lies_there n (slice_index_or dies d (new_die 0 0)) b g
+    (All-get_or (IsOfSize n.blocks n.pages) dies d (new_die 0 0) inside fit.1) block page

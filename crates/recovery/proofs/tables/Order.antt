@@ -171,11 +171,15 @@ module _ (n : Numbers) (c seen : Cells) (within : AreWithin n c) where
           past p (λ is. let low = is.die in omega (arith, low, high)) n.dies 0 0 (none p high) are)
           (cases_lt p.die n.dies)
 
+-- before the first page of a die none is read, when nothing stands on the dies before it
+pub nothing_before : (d : ℕ) (c : Cells) → ((p : Place) → p.die < d → c p ≡ Nothing) → AreRead d 0 0 c (λ p. Nothing)
+nothing_before d c before = record { read = read; unread = λ p no. refl }
+  where
+    read : (p : Place) → StandsBefore d 0 0 p → Nothing ≡ c p
+    read p (inl low) = sym (before p low)
+    read p (inr (inl low)) = absurd (omega (arith, low.1))
+    read p (inr (inr low)) = absurd (omega (arith, low.2))
+
 -- before the first page none is read
 pub nothing_is_read : (c : Cells) → AreRead 0 0 0 c (λ p. Nothing)
-nothing_is_read c = record { read = λ p before. absurd (none p before); unread = λ p no. refl }
-  where
-    none : (p : Place) → StandsBefore 0 0 0 p → ⊥
-    none p (inl low) = omega (arith, low)
-    none p (inr (inl low)) = omega (arith, low.1)
-    none p (inr (inr low)) = omega (arith, low.2)
+nothing_is_read c = nothing_before 0 c (λ p low. absurd (omega (arith, low)))

@@ -1,13 +1,13 @@
 -- Whether a page of a block is anything, block by block.
-use Rattle.std.proofs.Common.{◌≡◌, ◌∙◌, ℕ, ◌+◌, Bool, true, false, ◌||◌, List, [], ◌∷◌, ◌++◌, map, refl, sym, ap}
-use Rattle.std.proofs.Common.{add-one, append_assoc}
-use Rattle.std.specs.List.{flat_map, list_any}
+use Rattle.std.proofs.Common.{◌≡◌, ◌∙◌, ℕ, zero, suc, ◌+◌, Bool, true, false, ◌||◌, List, [], ◌∷◌, ◌++◌, map, refl, sym, ap}
+use Rattle.std.proofs.Common.{add-one, arith}
+use Rattle.std.specs.List.{list_any}
 use Rattle.std.proofs.lemmas.List.{append-nil, flat_map_more}
 use Rattle.ufs_spec.specs.Cells.{Cells}
 use Rattle.ufs_spec.specs.Keys.{below}
 use Rattle.ufs_spec.specs.declared.configs.Numbers.{Numbers}
 use Rattle.ufs_spec.proofs.Facts.{or_with_false}
-use Rattle.recovery.specs.Reading.{is_used, used_before}
+use Rattle.recovery.specs.Reading.{is_used, used_of}
 
 pub below_more : (k : ℕ) → below (k + 1) ≡ below k ++ k ∷ []
 below_more k = ap below (add-one k)
@@ -30,16 +30,34 @@ map_behind f (z ∷ zs) y = ap (λ (bs : List _). f z ∷ bs) (map_behind f zs y
 
 -- one block more
 pub used_block : (n : Numbers) (c : Cells) (d b : ℕ) →
-    used_before n c d b ++ is_used n c d b ∷ [] ≡ used_before n c d (b + 1)
-used_block n c d b =
-    let dies : List Bool = flat_map (λ e. map (is_used n c e) (below n.blocks)) (below d) in
-    append_assoc dies (map (is_used n c d) (below b)) (is_used n c d b ∷ [])
-    ∙ ap (λ (bs : List Bool). dies ++ bs)
-    (sym (map_behind (is_used n c d) (below b) b) ∙ ap (map (is_used n c d)) (sym (below_more b)))
+    map (is_used n c d) (below b) ++ is_used n c d b ∷ [] ≡ map (is_used n c d) (below (b + 1))
+used_block n c d b = sym (map_behind (is_used n c d) (below b) b) ∙ ap (map (is_used n c d)) (sym (below_more b))
 
--- one die more
-pub used_die : (n : Numbers) (c : Cells) (d : ℕ) → used_before n c d n.blocks ≡ used_before n c (d + 1) 0
+-- one die
+pub used_die : (n : Numbers) (c : Cells) (d : ℕ) → map (is_used n c d) (below n.blocks) ≡ used_of n c d 1
 used_die n c d =
-    let on_die : ℕ → List Bool = λ e. map (is_used n c e) (below n.blocks) in
-    flat_map_more on_die [] (below d) d
-    ∙ ap (flat_map on_die) (sym (below_more d)) ∙ sym (append-nil (flat_map on_die (below (d + 1))))
+    sym (append-nil (map (is_used n c d) (below n.blocks)))
+    ∙ ap (λ (e : ℕ). map (is_used n c e) (below n.blocks) ++ []) (same d)
+  where
+    same : (d : ℕ) → d ≡ d + 0
+    same d = omega arith
+
+-- dies behind dies
+pub used_dies : (n : Numbers) (c : Cells) (first a b : ℕ) →
+    used_of n c first a ++ used_of n c (first + a) b ≡ used_of n c first (a + b)
+used_dies n c first a zero = append-nil (used_of n c first a) ∙ ap (used_of n c first) (same a)
+  where
+    same : (a : ℕ) → a ≡ a + 0
+    same a = omega arith
+used_dies n c first a (suc b) =
+    sym (flat_map_more (λ i. map (is_used n c ((first + a) + i)) (below n.blocks)) (used_of n c first a) (below b) b)
+    ∙ (ap (λ (us : List Bool). us ++ map (is_used n c ((first + a) + b)) (below n.blocks)) (used_dies n c first a b)
+    ∙ (ap (λ (e : ℕ). used_of n c first (a + b) ++ map (is_used n c e) (below n.blocks)) (further first a b)
+    ∙ (flat_map_more (λ i. map (is_used n c (first + i)) (below n.blocks)) [] (below (a + b)) (a + b)
+    ∙ ap (used_of n c first) (more a b))))
+  where
+    further : (d a b : ℕ) → (d + a) + b ≡ d + (a + b)
+    further d a b = omega arith
+
+    more : (a b : ℕ) → suc (a + b) ≡ a + suc b
+    more a b = omega arith

@@ -1,24 +1,29 @@
 -- A table grows page by page, block by block and die by die to that of all pages.
-use Rattle.std.proofs.Common.{◌≡◌, ◌∙◌, ℕ, ◌+◌, Bool, List, [], ◌∷◌, ◌++◌, Some, None, ⊎_elim, refl, sym, subst, inl}
+use Rattle.std.proofs.Common.{◌≡◌, ◌≢◌, ◌∙◌, ℕ, ◌+◌, ◌<◌, ◌≤◌, ◌==◌, Bool, true, false, List, [], ◌∷◌, ◌++◌, Some, None}
+use Rattle.std.proofs.Common.{if◌then◌else◌, ⊎_elim, arith, refl, sym, subst, inl, map}
+use Rattle.std.specs.List.{list_any}
 use Rattle.std.specs.Prelude.{slice_get}
 use Rattle.ufs_spec.specs.Cells.{AreWithin, Cells, IsCell, Nothing, Shows}
-use Rattle.ufs_spec.specs.Dies.{DieState}
+use Rattle.ufs_spec.specs.Dies.{DieState, page_at}
+use Rattle.ufs_spec.specs.Keys.{below}
 use Rattle.ufs_spec.specs.Disk.{at_place}
 use Rattle.ufs_spec.specs.Kept.{IsNewestMark}
 use Rattle.ufs_spec.specs.Lives.{Fit, array_of}
 use Rattle.ufs_spec.specs.Openings.{IsNotHigher}
 use Rattle.ufs_spec.specs.declared.configs.Numbers.{Numbers}
 use Rattle.ufs_spec.specs.declared.flash.Page.{Page}
+use Rattle.ufs_spec.specs.declared.flash.Place.{Place}
 use Rattle.ufs_spec.proofs.CellKinds.{mark_not_nothing, page_not_nothing}
-use Rattle.ufs_spec.proofs.Facts.{none-some}
+use Rattle.ufs_spec.proofs.Facts.{cases_Bool, cases_lt, cond-false, cond-true, eq-eqb, eqb-true, none-some}
 use Rattle.ufs_laws.proofs.array_cells.StandsForSomething.{within_dies}
 use Rattle.power_loss.proofs.die_pages.BlankOutsideDies.{fit_inside}
 use Rattle.recovery.specs.Listed.{AreListed, IsMarksRecord}
-use Rattle.recovery.specs.Reading.{IsNoted, IsTable, IsTableTo, is_used, newest_in, place_at}
+use Rattle.recovery.specs.Reading.{AreRead, IsNoted, IsTable, IsTableOf, IsTableTo, ShowsDie, StandsBefore}
+use Rattle.recovery.specs.Reading.{is_something, is_used, newest_in, place_at}
 use Rattle.recovery.specs.declared.pages.FoundPage.{FoundPage}
 use Rattle.recovery.specs.declared.reading.Table.{Table}
-use Rattle.recovery.proofs.tables.Order.{all_is_read, before_is_lower, block_is_read, die_is_read, is_before}
-use Rattle.recovery.proofs.tables.Order.{not_before_itself, nothing_is_read, page_is_read}
+use Rattle.recovery.proofs.tables.Order.{before_is_lower, block_is_read, die_is_read, is_before}
+use Rattle.recovery.proofs.tables.Order.{not_before_itself, nothing_before, page_is_read}
 use Rattle.recovery.proofs.tables.Steps.{page_more}
 use Rattle.recovery.proofs.tables.Used.{used_block, used_die}
 
@@ -36,11 +41,26 @@ module _ (n : Numbers) (c : Cells) where
     rising = λ i j a b h k less. absurd (none-some a h);
   }
 
-  pub nothing_read : (t : Table) → t.pages.items ≡ [] → newest_in t ≡ None → t.recorded ≡ 0 → t.used.items ≡ []
-      → IsTableTo n 0 0 0 c t
-  nothing_read t pages newest recorded used = record {
+  -- before the pages of a die, when nothing stands on the dies before it
+  pub nothing_read : (d : ℕ) (t : Table) → ((p : Place) → p.die < d → c p ≡ Nothing) → t.pages.items ≡ []
+      → newest_in t ≡ None → t.recorded ≡ 0 → t.used.items ≡ [] → IsTableTo n d 0 0 c t
+  nothing_read d t before pages newest recorded used = record {
     seen = λ p. Nothing;
-    are_read = nothing_is_read c;
+    are_read = nothing_before d c before;
+    pages = subst (AreListed (λ p. Nothing)) (sym pages) none_listed;
+    newest = subst (IsNewestMark (λ p. Nothing)) (sym newest) (λ p m e. mark_not_nothing Nothing m e refl);
+    recorded =
+        subst (IsMarksRecord (λ p. Nothing)) (sym recorded)
+        (λ p m e. absurd (mark_not_nothing Nothing m e refl), inl refl);
+    used = used;
+  }
+
+  -- of no die
+  pub none_read : (first : ℕ) (t : Table) → t.pages.items ≡ [] → newest_in t ≡ None → t.recorded ≡ 0
+      → t.used.items ≡ [] → IsTableOf n first 0 c t
+  none_read first t pages newest recorded used = record {
+    seen = λ p. Nothing;
+    are_of = record { inside = λ p on. absurd (omega (arith, on.0, on.1)); outside = λ p out. refl };
     pages = subst (AreListed (λ p. Nothing)) (sym pages) none_listed;
     newest = subst (IsNewestMark (λ p. Nothing)) (sym newest) (λ p m e. mark_not_nothing Nothing m e refl);
     recorded =
@@ -86,22 +106,78 @@ module _ (n : Numbers) (c : Cells) where
       used = used ∙ (λ i. r.used i ++ is i ∷ []) ∙ used_block n c d b;
     }
 
-    pub die_read : (d : ℕ) (t : Table) → IsTableTo n d n.blocks 0 c t → IsTableTo n (d + 1) 0 0 c t
-    die_read d t r = record {
-      seen = r.seen;
-      are_read = die_is_read n c r.seen within d r.are_read;
-      pages = r.pages;
-      newest = r.newest;
-      recorded = r.recorded;
-      used = r.used ∙ used_die n c d;
+    -- all dies are read
+    pub all_read : (t : Table) → IsTableOf n 0 n.dies c t → IsTable n c t
+    all_read t r = record {
+      pages = subst (λ (s : Cells). AreListed s t.pages.items) whole r.pages;
+      newest = subst (λ (s : Cells). IsNewestMark s (newest_in t)) whole r.newest;
+      recorded = subst (λ (s : Cells). IsMarksRecord s t.recorded) whole r.recorded;
+      used = r.used;
     }
+      where
+        each : (p : Place) → r.seen p ≡ c p
+        each p =
+            ⊎_elim (λ (low : p.die < n.dies). r.are_of.inside p (omega arith, omega (arith, low)))
+            (λ (high : n.dies ≤ p.die).
+            r.are_of.outside p (λ on. let l = on.1 in omega (arith, l, high))
+            ∙ sym (within p (λ is. let l = is.die in omega (arith, l, high))))
+            (cases_lt p.die n.dies)
 
-    pub all_read : (t : Table) → IsTableTo n n.dies 0 0 c t → IsTable n c t
-    all_read t r =
-        let whole = all_is_read n c r.seen within r.are_read in
-        record {
-          pages = subst (λ (s : Cells). AreListed s t.pages.items) whole r.pages;
-          newest = subst (λ (s : Cells). IsNewestMark s (newest_in t)) whole r.newest;
-          recorded = subst (λ (s : Cells). IsMarksRecord s t.recorded) whole r.recorded;
-          used = r.used;
-        }
+        whole : r.seen ≡ c
+        whole = λ i p. each p i
+
+-- ## A die alone
+
+-- the cells of a die, and nothing else
+abbrev pub only : ℕ → Cells → Cells
+only d c p = if p.die == d then c p else Nothing
+
+only_here : (d : ℕ) (c : Cells) (p : Place) → p.die ≡ d → only d c p ≡ c p
+only_here d c p e = cond-true (p.die == d) (c p) Nothing (eq-eqb p.die d e)
+
+only_elsewhere : (d : ℕ) (c : Cells) (p : Place) → p.die ≢ d → only d c p ≡ Nothing
+only_elsewhere d c p apart =
+    ⊎_elim (λ (e : (p.die == d) ≡ true). absurd (apart (eqb-true p.die d e)))
+    (λ (e : (p.die == d) ≡ false). cond-false (p.die == d) (c p) Nothing e) (cases_Bool (p.die == d))
+
+pub only_shown : (d : ℕ) (state : DieState) (c : Cells) → ShowsDie d state c → ShowsDie d state (only d c)
+only_shown d state c shown p e =
+    subst (IsCell (page_at state p.block p.page)) (sym (only_here d c p e)) (shown p e)
+
+pub only_within : (n : Numbers) (d : ℕ) (c : Cells) → AreWithin n c → AreWithin n (only d c)
+only_within n d c within p out =
+    ⊎_elim (λ (e : (p.die == d) ≡ true). cond-true (p.die == d) (c p) Nothing e ∙ within p out)
+    (λ (e : (p.die == d) ≡ false). cond-false (p.die == d) (c p) Nothing e) (cases_Bool (p.die == d))
+
+pub only_before : (d : ℕ) (c : Cells) (p : Place) → p.die < d → only d c p ≡ Nothing
+only_before d c p low = only_elsewhere d c p (λ e. omega (arith, low, e))
+
+-- a die is read
+pub die_read : (n : Numbers) (c : Cells) → AreWithin n c → (d : ℕ) (t : Table) → IsTableTo n d n.blocks 0 (only d c) t
+    → IsTableOf n d 1 c t
+die_read n c within d t r = record {
+  seen = r.seen;
+  are_of = record {
+    inside = λ p on.
+        whole.read p (inl (omega (arith, on.1))) ∙ only_here d c p (omega (arith, on.0, on.1));
+    outside = λ p out.
+        ⊎_elim
+        (λ (before : StandsBefore (d + 1) 0 0 p).
+        whole.read p before ∙ only_elsewhere d c p (λ e. out (omega (arith, e), omega (arith, e))))
+        (λ (no : StandsBefore (d + 1) 0 0 p → ⊥). whole.unread p no)
+        (is_before (d + 1) 0 0 p);
+  };
+  pages = r.pages;
+  newest = r.newest;
+  recorded = r.recorded;
+  used = r.used ∙ same ∙ used_die n c d;
+}
+  where
+    whole : AreRead (d + 1) 0 0 (only d c) r.seen
+    whole = die_is_read n (only d c) r.seen (only_within n d c within) d r.are_read
+
+    same : map (is_used n (only d c) d) (below n.blocks) ≡ map (is_used n c d) (below n.blocks)
+    same = λ i.
+        map
+        (λ b. list_any (λ page. is_something (only_here d c (place_at d b page) refl i)) (below n.pages))
+        (below n.blocks)

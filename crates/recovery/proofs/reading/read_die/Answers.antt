@@ -1,34 +1,37 @@
-use Rattle.std.proofs.Common.{◌≡◌, ◌∙◌, ℕ, List, arith, map, refl, subst, sym}
-use Rattle.ufs_spec.specs.Cells.{Shows}
-use Rattle.ufs_spec.specs.Dies.{DieState}
-use Rattle.ufs_spec.specs.Lives.{Fit, array_of}
-use Rattle.recovery.specs.Reading.{IsTableTo}
-use Rattle.recovery.proofs.tables.Counts.{fault_later, no_lower, no_lower_after}
-use Rattle.recovery.proofs.tables.Whole.{die_read, shown_within}
+use Rattle.std.proofs.Common.{◌≡◌, ◌∙◌, ℕ, ap, arith, option_map, refl, subst, sym}
+use Rattle.ufs_spec.specs.Dies.{DieState, IsOfSize}
+use Rattle.page_tag.specs.Contents.{mark_of}
+use Rattle.recovery.specs.Reading.{IsTableTo, ShowsDie}
+use Rattle.recovery.proofs.tables.Counts.{die_fault_later}
+use Rattle.recovery.proofs.tables.Whole.{die_read, nothing_read, only, only_before, only_shown, only_within}
 use Rattle.recovery.proofs.reading.read_die.Goals as goal
 
 pub loop-block-init : goal.loop-block-init
 loop-block-init g c = record {
   same = refl;
-  counted = no_lower (map g.D.Die.failed c.args.dies.now);
-  read = λ cells shown r. r;
+  counted = omega arith;
+  read = λ cells within shown.
+      nothing_read c.args.numbers.now (only c.args.number cells) c.args.number c.empty-table.result
+      (only_before c.args.number cells) c.empty-table.ensures.pages (ap (option_map mark_of) c.empty-table.ensures.newest)
+      c.empty-table.ensures.recorded c.empty-table.ensures.used;
 }
 
-pub read_block-requires-clause-fit : goal.read_block-requires-clause-fit
-read_block-requires-clause-fit g c =
-    subst (Fit c.args.numbers.now) (sym c.loop-block.invariant.same) c.requires.fit
+pub read_block-requires-clause-size : goal.read_block-requires-clause-size
+read_block-requires-clause-size g c =
+    subst (IsOfSize c.args.numbers.now.blocks c.args.numbers.now.pages) (sym c.loop-block.invariant.same) c.requires
 
 pub loop-block-preserved : goal.loop-block-preserved
 loop-block-preserved g c =
     let before = c.loop-block.invariant in
     record {
       same = c.read_block.ensures.same ∙ before.same;
-      counted =
-          no_lower_after (map g.D.Die.failed c.args.dies.now) (map g.D.Die.failed c.loop-block.dies)
-          (map g.D.Die.failed c.read_block.new.dies) before.counted c.read_block.ensures.counted;
-      read = λ cells shown r.
-          let still = subst (λ (dies : List DieState). Shows (array_of dies) cells) (sym before.same) shown in
-          c.in_default.ensures.read cells still (before.read cells shown r);
+      counted = omega (arith, before.counted, c.read_block.ensures.counted);
+      read = λ cells within shown.
+          let d = c.args.number in
+          let still = subst (λ (die : DieState). ShowsDie d die (only d cells)) (sym before.same)
+          (only_shown d (g.D.Die.state c.args.die.now) cells shown) in
+          c.in_default.ensures.read (only d cells) (only_within c.args.numbers.now d cells within) still
+          (before.read cells within shown);
     }
 
 pub returns-in-Err : goal.returns-in-Err
@@ -36,20 +39,17 @@ returns-in-Err g c =
     let before = c.loop-block.invariant in
     record {
       same = c.read_block.ensures.same ∙ before.same;
-      counted =
-          no_lower_after (map g.D.Die.failed c.args.dies.now) (map g.D.Die.failed c.loop-block.dies)
-          (map g.D.Die.failed c.read_block.new.dies) before.counted c.read_block.ensures.counted;
+      counted = omega (arith, before.counted, c.read_block.ensures.counted);
       read = tt;
       fault =
-          fault_later (map g.D.Die.failed c.args.dies.now) (map g.D.Die.failed c.loop-block.dies)
-          (map g.D.Die.failed c.read_block.new.dies) c.in-Err.fault before.counted c.in-Err.ensures.fault;
+          die_fault_later c.args.number (g.D.Die.failed c.args.die.now) (g.D.Die.failed c.loop-block.die)
+          (g.D.Die.failed c.read_block.new.die) c.in-Err.fault before.counted c.in-Err.ensures.fault;
     }
 
 pub returns-clause-read : goal.returns-clause-read
-returns-clause-read g c = λ cells shown r.
+returns-clause-read g c = λ cells within shown.
     let n = c.args.numbers.now in
     let end : c.loop-block.block ≡ n.blocks = omega (arith, c.loop-block-test.false, c.loop-block.auto.block-end) in
-    die_read n cells (shown_within n (map g.D.Die.state c.args.dies.now) cells c.requires.fit shown) c.args.die
-    c.loop-block.table
-    (subst (λ (b : ℕ). IsTableTo n c.args.die b 0 cells c.loop-block.table) end
-    (c.loop-block.invariant.read cells shown r))
+    die_read n cells within c.args.number c.loop-block.table
+    (subst (λ (b : ℕ). IsTableTo n c.args.number b 0 (only c.args.number cells) c.loop-block.table) end
+    (c.loop-block.invariant.read cells within shown))

@@ -1,13 +1,13 @@
-use Rattle.std.proofs.Common.{◌≡◌, map}
-use Rattle.ufs_spec.specs.Cells.{Cells, Shows}
-use Rattle.ufs_spec.specs.Lives.{array_of}
-use Rattle.recovery.specs.Reading.{IsTableTo, NoLower}
+use Rattle.std.proofs.Common.{◌≡◌, ◌≤◌}
+use Rattle.ufs_spec.specs.Cells.{AreWithin, Cells}
+use Rattle.recovery.specs.Reading.{IsTableTo, ShowsDie}
+use Rattle.recovery.proofs.tables.Whole.{only}
 use Rattle.recovery.proofs.reading.read_die.Given as goal
 
 abbrev pub invariant-loop-block : goal.invariant-loop-block
 invariant-loop-block g l = record {
-  same : map g.D.Die.state l.dies ≡ map g.D.Die.state l.fn.dies;
-  counted : NoLower (map g.D.Die.failed l.fn.dies) (map g.D.Die.failed l.dies);
-  read : (c : Cells) → Shows (array_of (map g.D.Die.state l.fn.dies)) c
-      → IsTableTo l.numbers l.die 0 0 c l.fn.table → IsTableTo l.numbers l.die l.block 0 c l.table;
+  same : g.D.Die.state l.die ≡ g.D.Die.state l.fn.die;
+  counted : g.D.Die.failed l.fn.die ≤ g.D.Die.failed l.die;
+  read : (c : Cells) → AreWithin l.numbers c → ShowsDie l.number (g.D.Die.state l.fn.die) c
+      → IsTableTo l.numbers l.number l.block 0 (only l.number c) l.table;
 }

@@ -1,13 +1,10 @@
-use Rattle.std.proofs.Common.{Result, Ok, Err, IfOk, None, Some, arith, map, subst}
+use Rattle.std.proofs.Common.{None, Some, arith, map, subst}
+use Rattle.std.proofs.lemmas.Result.{IfOk-weaker}
 use Rattle.std.proofs.lemmas.List.{length-map}
 use Rattle.ufs_spec.specs.Lives.{array_of}
 use Rattle.recovery.proofs.settings_pages.SettingsPages.{IsSettingsPage, lies_there, none_says, page_says}
 use Rattle.recovery.proofs.settings_pages.SettingsPages.{settings_there}
 use Rattle.recovery.proofs.settings.is_permanent.Goals as goal
-
-if_ok : {A E : Type 0} {P Q : A → Type 0} (r : Result A E) → ((x : A) → P x → Q x) → IfOk r P → IfOk r Q
-if_ok (Ok x) f h = f x h
-if_ok (Err e) f h = tt
 
 -- src/settings.rt:43:26
 pub says_permanent-requires-clause-die : goal.says_permanent-requires-clause-die
@@ -41,7 +38,7 @@ returns-in-Some-clause-told g c =
     subst (IsSettingsPage (array_of dies) c.args.found.now) c.in-Some.is
     (settings_there c.args.numbers.now (array_of dies) c.args.found.now c.as_slice.result.now c.settings_page.result
     c.requires.settings c.as_slice.ensures.value c.settings_page.ensures) in
-    if_ok c.says_permanent.result
+    IfOk-weaker c.says_permanent.result _ _
     (λ is told cells shown sound x holds.
     page_says (array_of dies) c.args.found.now c.in-Some.content is told page cells shown sound x holds)
     c.says_permanent.ensures.told

@@ -7,6 +7,7 @@ use Rattle.device.proofs.device.Device.due.Given as goal
 
 abbrev pub invariant-loop-index : goal.invariant-loop-index
 invariant-loop-index l =
-    (t : Translation) (k : ℕ) (task : Task) → Describes l.self.ftl t → k < l.index →
+    (l.into ≡ l.fn.into)
+    × ((t : Translation) (k : ℕ) (task : Task) → Describes l.self.ftl t → k < l.index →
     slice_get l.self.tasks k ≡ Some task →
-    owed_by t l.self.loaded task ≡ None
+    owed_by t l.self.loaded task ≡ None)

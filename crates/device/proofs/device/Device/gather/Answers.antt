@@ -28,7 +28,7 @@ returns-else-is_some-clause-taken c = λ t h.
             layer = c.fill.ensures.described t its;
             claims =
                 c.fill.ensures.claims
-                ∙ (λ i. map (claim_filled c.args.tag c.args.transfer.gathered (c.copy_from_slice.ensures.after i))
+                ∙ (λ i. map (claim_filled c.args.tag c.args.transfer.gathered c.args.bytes.now)
                 (claims_for c.self.inside.ftl c.args.tag));
             others = λ other differ. c.fill.ensures.other_claims other differ;
           }),

@@ -1,16 +1,7 @@
 use Rattle.std.proofs.Common.{refl, subst}
 use Rattle.ufs_spec.specs.Messages.{Spells}
-use Rattle.device.proofs.host_messages.DataRight.{data_heard_as}
 use Rattle.device.proofs.host_messages.HostRight.{device_kind, managing_right, nop_right, query_right}
 use Rattle.device.proofs.device.Device.hear.Goals as goal
-
-pub returns-in-DataOut-clause-heard : goal.returns-in-DataOut-clause-heard
-returns-in-DataOut-clause-heard c =
-    λ s bytes h spells none.
-    data_heard_as c.args.self.now c.data_out.new.self s c.in-DataOut.lun c.in-DataOut.tag c.in-DataOut.offset
-    c.in-DataOut.data
-    c.as_slice.result.now bytes c.data_out.result h (subst (λ m. Spells m bytes) c.in-DataOut.is spells) none
-    c.as_slice.ensures.value c.data_out.ensures.heard
 
 pub returns-in-NopOut-clause-heard : goal.returns-in-NopOut-clause-heard
 returns-in-NopOut-clause-heard c =
@@ -41,6 +32,6 @@ returns-in_default c = record {
   refused = refl;
   heard =
       λ s bytes h spells none.
-      device_kind c.args.self.now s bytes c.args.message.now h c.in_default.not-Command c.in_default.not-DataOut
+      device_kind c.args.self.now s bytes c.args.message.now h c.requires.no_command c.requires.no_data_out
       c.in_default.not-NopOut c.in_default.not-TaskRequest c.in_default.not-QueryRequest spells none;
 }

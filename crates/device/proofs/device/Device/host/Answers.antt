@@ -1,29 +1,17 @@
-use Rattle.std.proofs.Common.{◌∙◌, refl, sym, ap}
-use Rattle.std.specs.Prelude.{Result, Ok, Err}
-use Rattle.ufs_spec.specs.declared.faults.HostFault.{HostFault}
-use Rattle.ufs_spec.specs.declared.messages.Message.{Message}
-use Rattle.device.proofs.host_messages.FaultsHeard.{fault_heard}
-use Rattle.device.proofs.host_messages.HostRight.{faults_right}
+use Rattle.std.proofs.Common.{refl, List, ℕ, ◌+◌, slice_range}
+use Rattle.device.proofs.host_messages.DataRight.{data_heard_as}
 use Rattle.device.proofs.device.Device.host.Goals as goal
 
-fault_or : HostFault → Result Message HostFault → HostFault
-fault_or other (Ok m) = other
-fault_or other (Err f) = f
+pub returns-in-Some-clause-heard : goal.returns-in-Some-clause-heard
+returns-in-Some-clause-heard c =
+    λ s h.
+    (let sent : List ℕ = slice_range c.args.bytes.now 32 (32 + c.in-Some.said.count) in
+    data_heard_as c.args.self.now c.data_out.new.self s c.in-Some.said.lun c.in-Some.said.tag c.in-Some.said.offset
+    (record { items = sent }) sent c.args.bytes.now c.data_out.result h c.in-Some.ensures.read.1
+    c.in-Some.ensures.read.0 refl c.data_out.ensures.heard)
 
-pub returns-in-Ok : goal.returns-in-Ok
-returns-in-Ok c = record {
-  refused = c.hear.ensures.refused;
-  heard = λ s h. c.hear.ensures.heard s c.args.bytes.now h c.in-Ok.ensures.read.1 c.in-Ok.ensures.read.0;
-}
-
-pub returns-in-Err : goal.returns-in-Err
-unfolding fault_or
-returns-in-Err c = record {
-  refused = refl;
-  heard =
-      λ s h.
-      faults_right c.args.self.now s c.args.bytes.now c.in-Err.fault h
-      (fault_heard c.args.bytes.now c.in-Err.fault
-      (λ f is. ap (fault_or c.in-Err.fault) (sym c.in-Err.is ∙ c.read_host.ensures.first f is))
-      (λ none. c.in-Err.ensures.reserved none));
-}
+pub returns-in-Some-read_command-clause-heard : goal.returns-in-Some-read_command-clause-heard
+returns-in-Some-read_command-clause-heard c =
+    λ s h.
+    c.command.ensures.heard s c.args.bytes.now h c.in-Some-read_command.ensures.read.1
+    c.in-Some-read_command.ensures.read.0

@@ -1,26 +1,29 @@
-use Rattle.std.proofs.Common.{ap, map, sym, subst}
+use Rattle.std.proofs.Common.{map}
+use Rattle.std.proofs.lemmas.Result.{IfOk-weaker}
 use Rattle.ufs_spec.specs.Lives.{array_of, bad_of}
 use Rattle.power_loss.proofs.die_pages.BlankOutsideDies.{fit_inside}
-use Rattle.ftl_core.specs.Core.{Core}
-use Rattle.ftl_core.specs.Moves.{claims_for}
-use Rattle.device.specs.Describes.{Describes}
-use Rattle.device.specs.Kept.{DeviceCore}
-use Rattle.device.proofs.described.Opens.{device_opens, found_suits}
+use Rattle.device.proofs.described.Opens.{found_suits}
 use Rattle.device.proofs.device.Device.open.Goals as goal
 
-pub returns-in-Ok-idle-clause-described : goal.returns-in-Ok-idle-clause-described
-returns-in-Ok-idle-clause-described g c =
-    λ s sound opened.
+pub returns-clause-described : goal.returns-clause-described
+returns-clause-described g c =
+    IfOk-weaker c.from_found.result _ _
+    (λ d opens s sound opened.
     let dies = map g.D.Die.state c.args.dies.now in
-    subst (λ (d : DeviceCore). Describes d s) (sym c.in-Ok-idle.ensures)
-    (device_opens c.args.config (array_of dies) (bad_of dies) s c.in_ok-found.found c.in-Ok.ftl c.has_no_fault.ensures
-    (fit_inside c.args.config dies c.requires.fit) sound opened c.in_ok-found.ensures.found
-    c.in_ok-found.ensures.permanent c.in-Ok.ensures.described
-    (λ tag. ap (λ (x : Core). claims_for x tag) c.in-Ok.ensures.core))
+    opens (array_of dies) (bad_of dies) s
+    (record {
+      inside = fit_inside c.args.config dies c.requires.fit;
+      found = c.in_ok-found.ensures.found;
+      permanent = c.in_ok-found.ensures.permanent;
+    })
+    sound opened)
+    c.from_found.ensures.described
 
-pub returns-in-Ok-idle-clause-suits : goal.returns-in-Ok-idle-clause-suits
-returns-in-Ok-idle-clause-suits g c =
-    λ sound.
+pub returns-clause-suits : goal.returns-clause-suits
+returns-clause-suits g c =
+    IfOk-weaker c.from_found.result _ _
+    (λ d opens sound.
     let dies = map g.D.Die.state c.args.dies.now in
     found_suits c.args.config (array_of dies) (bad_of dies) c.in_ok-found.found sound
-    (c.in_ok-found.ensures.found sound.cells sound.shown)
+    (c.in_ok-found.ensures.found sound.cells sound.shown))
+    c.from_found.ensures.described

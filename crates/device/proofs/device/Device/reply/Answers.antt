@@ -1,22 +1,31 @@
-use Rattle.std.proofs.Common.{◌∙◌, List, Some, None, ap, slice_get, sym, subst}
+use Rattle.std.proofs.Common.{◌≡◌, ◌∙◌, ℕ, List, Option, true, Some, None, ap, refl, slice_get, sym, subst}
+use Rattle.ufs_spec.specs.Messages.{spelling}
+use Rattle.ufs_spec.specs.declared.messages.Message.{Message}
 use Rattle.ufs_spec.specs.Machine.{Reply, OfReply}
 use Rattle.device.specs.Describes.{IsAnswered}
 use Rattle.task_set.specs.declared.tasks.Short.{Short}
 use Rattle.device.specs.Kept.{DeviceCore}
-use Rattle.device.specs.Replies.{short_message}
+use Rattle.device.specs.Replies.{IsWritten, short_message}
 use Rattle.device.proofs.due_replies.RepliesRight.{first_of, none_in, replies_right, shorts_right, silence_right}
 use Rattle.device.proofs.device.Device.reply.Goals as goal
+
+-- the reply that is owed to a task for which it is written
+written : (bytes : List ℕ) (o : Option Message) → IsWritten true bytes o →
+    (m : Message) × (o ≡ Some m) × (bytes ≡ spelling m)
+written bytes (Some m) w = (m, refl, w)
+written bytes None w = absurd w
 
 pub returns-in-Some-clause-replied : goal.returns-in-Some-clause-replied
 returns-in-Some-clause-replied c =
     λ s h yes.
     let due = c.in-Some.due in
+    let said = written _ _ (c.in-Some.ensures.owed s.translation h.kept.layer_kept) in
     record {
-      reply = due.message;
-      shown = c.write.ensures;
+      reply = said.0;
+      shown = said.2;
       answered =
-          replies_right c.args.self.now c.move_on.new.self s due.index due.task due.message h c.in-Some.ensures.there
-          (c.in-Some.ensures.owed s.translation h.kept.layer_kept) c.move_on.ensures.left
+          replies_right c.args.self.now c.move_on.new.self s due.index due.task said.0 h c.in-Some.ensures.there
+          said.1 c.move_on.ensures.left
           (c.move_on.ensures.moved s.translation h.kept.layer_kept);
     }
 

@@ -1,10 +1,9 @@
 use Rattle.std.proofs.Common.{◌∙◌, ap, sym}
-use Rattle.write_cache.specs.Kept.{WriteCache}
 use Rattle.ftl_core.specs.Core.{Core}
+use Rattle.ftl_core.specs.Rooms.{core_of}
 use Rattle.ftl_core.specs.Ends.{pending_written, settled}
 use Rattle.ftl_core.specs.Gives.{group_ended}
 use Rattle.ftl_core.specs.Moves.{page_written}
-use Rattle.ftl_core.proofs.dies.Changes.{over_cache}
 use Rattle.ftl_core.proofs.ftl.Ftl.group_ended.Goals as goal
 
 pub returns-then-is_done : goal.returns-then-is_done
@@ -13,7 +12,10 @@ returns-then-is_done c =
     c.settle.ensures
     ∙ ap (λ (z : Core). settled z)
     (c.page_written.ensures
-    ∙ ap (λ (w : WriteCache). page_written (over_cache c.self.inside w) c.args.die b b.filling) c.mark_written.ensures
+    ∙ (λ i. page_written (core_of (record c.self.inside {
+      cache = c.mark_written.ensures i;
+      live = c.set_live.ensures i;
+    })) c.args.die b b.filling)
     ∙ ap (λ (z : Core). page_written (pending_written z c.args.number c.args.index c.args.place) c.args.die b b.filling)
     c.self.view_is)
     ∙ sym (ap (group_ended c.args.self.now c.args.die b c.args.place c.args.number c.args.index) c.if-is_done.true)

@@ -1,4 +1,4 @@
-use Rattle.std.proofs.Common.{Some, None, rules}
+use Rattle.std.proofs.Common.{None, rules}
 use Rattle.ftl_core.proofs.job_taken.Takings.{takes_right}
 use Rattle.ftl_core.proofs.stopped.EachStop.{takes_erase, takes_stop}
 use Rattle.ftl_core.proofs.ftl.Ftl.take.Goals as goal
@@ -13,14 +13,14 @@ returns-in_err-flight-clause-described c =
     takes_right c.args.self.now c.args.self.now c.args.die _ (search rules) (search rules)
     c.has_few_units.ensures
 
-pub returns-in_err-job-clause-described : goal.returns-in_err-job-clause-described
-returns-in_err-job-clause-described c =
+pub returns-then-is_none-clause-described : goal.returns-then-is_none-clause-described
+returns-then-is_none-clause-described c =
     takes_right c.args.self.now c.args.self.now c.args.die _ (search rules) (search rules)
     c.has_few_units.ensures
 
 pub returns-clause-described : goal.returns-clause-described
 returns-clause-described c =
-    takes_right c.args.self.now c.set_flight.new.self c.args.die (Some c.in_ok-job.job) (search rules) (search rules)
+    takes_right c.args.self.now c.set_flight.new.self c.args.die c.job_of-job.result (search rules) (search rules)
     c.has_few_units.ensures
 
 pub returns-then-is_some-clause-stop : goal.returns-then-is_some-clause-stop
@@ -39,21 +39,21 @@ pub returns-in_err-flight-clause-erase : goal.returns-in_err-flight-clause-erase
 returns-in_err-flight-clause-erase c =
     takes_erase c.args.self.now c.args.self.now c.args.die _ (returns-in_err-flight-clause-described c)
 
-pub returns-in_err-job-clause-stop : goal.returns-in_err-job-clause-stop
-returns-in_err-job-clause-stop c =
-    takes_stop c.args.self.now c.args.self.now c.args.die _ (returns-in_err-job-clause-described c)
+pub returns-then-is_none-clause-stop : goal.returns-then-is_none-clause-stop
+returns-then-is_none-clause-stop c =
+    takes_stop c.args.self.now c.args.self.now c.args.die _ (returns-then-is_none-clause-described c)
 
-pub returns-in_err-job-clause-erase : goal.returns-in_err-job-clause-erase
-returns-in_err-job-clause-erase c =
-    takes_erase c.args.self.now c.args.self.now c.args.die _ (returns-in_err-job-clause-described c)
+pub returns-then-is_none-clause-erase : goal.returns-then-is_none-clause-erase
+returns-then-is_none-clause-erase c =
+    takes_erase c.args.self.now c.args.self.now c.args.die _ (returns-then-is_none-clause-described c)
 
 pub returns-clause-stop : goal.returns-clause-stop
 returns-clause-stop c =
-    takes_stop c.args.self.now c.set_flight.new.self c.args.die (Some c.in_ok-job.job) (returns-clause-described c)
+    takes_stop c.args.self.now c.set_flight.new.self c.args.die c.job_of-job.result (returns-clause-described c)
 
 pub returns-clause-erase : goal.returns-clause-erase
 returns-clause-erase c =
-    takes_erase c.args.self.now c.set_flight.new.self c.args.die (Some c.in_ok-job.job) (returns-clause-described c)
+    takes_erase c.args.self.now c.set_flight.new.self c.args.die c.job_of-job.result (returns-clause-described c)
 
 pub returns-in_err-book-clause-stop : goal.returns-in_err-book-clause-stop
 returns-in_err-book-clause-stop c =

@@ -16,5 +16,6 @@ invariant_of-self c = record {
   numbers = grind (arith, c.requires);
   in_order = subst (λ (ps : List Pending). AreInOrder 0 (c.self.inside.last + 1) ps) (sym c.move_claims.ensures.moved)
       (order_more c.args.key (c.self.inside.last + 1) c.claimed-size.result 0 c.self.inside.last
-      c.self.inside.pages.items (claims_of c.self.inside.claims.items c.args.reader) c.self.invariant.in_order (omega arith) (omega arith));
+      c.self.inside.pages.items (claims_of c.self.inside.claims.items c.args.reader)
+      c.self.invariant.in_order (omega arith) (omega arith));
 }

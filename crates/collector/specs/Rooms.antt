@@ -1,0 +1,18 @@
+-- How the plan's fields are seen, and that there is room for the pages of a block.
+use Rattle.std.specs.Prelude.{◌≤◌, drop, List, Option, Some, None, vec_capacity}
+use Rattle.ufs_spec.specs.Translation.{Plan as Collection}
+use Rattle.ufs_spec.specs.declared.flash.Place.{Place}
+use Rattle.block_table.specs.Lives.{spot_at}
+use Rattle.block_table.specs.declared.live.BlockAt.{BlockAt}
+use Rattle.collector.specs.Plans.{Plans}
+use Rattle.collector.specs.declared.Plan.TheInside.{Inside}
+
+abbrev pub begun : Option BlockAt → List Place → Option Collection
+begun None left = None
+begun (Some at) left = Some (record { victim = spot_at at; copies = left })
+
+abbrev pub plans_of : Inside → Plans
+plans_of f = record { pages = f.pages; plan = begun f.victim (drop f.ordered f.copies.items) }
+
+abbrev pub HasRoom : Inside → Type 0
+HasRoom f = f.pages ≤ vec_capacity f.copies

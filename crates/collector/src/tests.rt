@@ -1,0 +1,151 @@
+//! Victims and plans of two dies of four blocks of four pages, by the rule: of the blocks without a
+//! pin that are closed and not wholly live, or bad with live pages, the one with the fewest live
+//! pages, and of several the lowest.
+use crate::{Plan, PlanStep};
+use block_table::{BlockAt, BlockState, BlockTable, LivePages, Sizes};
+use std::alloc::Global;
+use std::test::Fail;
+use ufs_spec::Place;
+
+const SIZES: Sizes = Sizes {
+    dies: 2,
+    blocks: 4,
+    pages: 4,
+};
+
+/// Blocks that are so, in order by die and block.
+fn blocks(alloc: Global) -> Result<BlockTable, Fail> {
+    let states = vec![in alloc;
+        BlockState::Free,
+        BlockState::Closed,
+        BlockState::Closed,
+        BlockState::Closed,
+        BlockState::Closed,
+        BlockState::Bad,
+        BlockState::Closed,
+        BlockState::Open,
+    ]?;
+    Ok(BlockTable::new(alloc, SIZES, states)?)
+}
+
+/// The last pages of each block are live, so many of each.
+fn lives(alloc: Global, counts: [u16; 8]) -> Result<LivePages, Fail> {
+    let mut live = LivePages::new(alloc, SIZES)?;
+    for die in 0..2u8 {
+        for block in 0..4u16 {
+            let count = counts[die as usize * 4 + block as usize];
+            for page in 0..4u16 {
+                if page >= 4u16.saturating_sub(count) {
+                    live.set_live(Place { die, block, page });
+                }
+            }
+        }
+    }
+    Ok(live)
+}
+
+/// Whether the victim is this block.
+fn is_victim(live: &LivePages, blocks: &BlockTable, die: u8, block: u16) -> bool {
+    live.victim(blocks) == Some(BlockAt { die, block })
+}
+
+/// Blocks with equally few live pages are taken from the lowest on, unless they are pinned. An open
+/// and a free block and those that are wholly live are left.
+#[test]
+fn victims(rt: HostRuntime) -> Result<(), Fail> {
+    let blocks = blocks(rt.alloc())?;
+    let mut live = lives(rt.alloc(), [0, 3, 2, 4, 2, 3, 4, 0])?;
+    assert_eq!(rt; live.live_count(0, 2), 2);
+    assert!(rt; is_victim(&live, &blocks, 0, 2));
+    live.pin(0, 2);
+    live.pin(0, 2);
+    live.unpin(0, 2);
+    assert!(rt; live.is_pinned(0, 2));
+    assert!(rt; is_victim(&live, &blocks, 1, 0));
+    live.pin(1, 0);
+    assert!(rt; is_victim(&live, &blocks, 0, 1));
+    live.pin(0, 1);
+    assert!(rt; is_victim(&live, &blocks, 1, 1));
+    assert!(rt; live.has_bad_with_live(&blocks));
+    live.pin(1, 1);
+    assert!(rt; live.victim(&blocks).is_none());
+    assert!(rt; !live.has_bad_with_live(&blocks));
+    live.unpin(0, 2);
+    assert!(rt; is_victim(&live, &blocks, 0, 2));
+    Ok(())
+}
+
+/// A closed block without a live page is taken, a bad one without is not. A page is counted once,
+/// and what is not there changes nothing.
+#[test]
+fn live_pages(rt: HostRuntime) -> Result<(), Fail> {
+    let blocks = blocks(rt.alloc())?;
+    let mut live = lives(rt.alloc(), [0, 4, 4, 4, 4, 0, 4, 0])?;
+    assert!(rt; live.victim(&blocks).is_none());
+    let place = Place {
+        die: 1,
+        block: 1,
+        page: 2,
+    };
+    live.set_live(place);
+    live.set_live(place);
+    assert!(rt; live.is_live(place));
+    assert_eq!(rt; live.live_count(1, 1), 1);
+    assert!(rt; live.next_live(1, 1, 0) == Some(place));
+    assert!(rt; live.next_live(1, 1, 3).is_none());
+    assert!(rt; is_victim(&live, &blocks, 1, 1));
+    live.set_dead(place);
+    live.set_dead(place);
+    assert_eq!(rt; live.live_count(1, 1), 0);
+    assert!(rt; live.victim(&blocks).is_none());
+    for page in 0..5u16 {
+        live.set_dead(Place {
+            die: 0,
+            block: 3,
+            page,
+        });
+    }
+    assert_eq!(rt; live.live_count(1, 0), 4);
+    assert!(rt; is_victim(&live, &blocks, 0, 3));
+    live.pin(0, 4);
+    assert!(rt; !live.is_pinned(1, 0));
+    assert_eq!(rt; live.live_count(2, 0), 0);
+    Ok(())
+}
+
+/// The pages that were live when the collection began are copied in order, then comes the mark, and
+/// the block is free. A bad block is not.
+#[test]
+fn plans(rt: HostRuntime) -> Result<(), Fail> {
+    let mut blocks = blocks(rt.alloc())?;
+    let mut live = lives(rt.alloc(), [0, 4, 4, 2, 4, 3, 4, 0])?;
+    let mut plan = Plan::new(rt.alloc(), 4)?;
+    assert!(rt; plan.next_step().is_none());
+    assert!(rt; plan.plan(&live, &blocks));
+    assert!(rt; plan.victim() == Some(BlockAt { die: 0, block: 3 }));
+    let first = Place {
+        die: 0,
+        block: 3,
+        page: 2,
+    };
+    let second = Place {
+        die: 0,
+        block: 3,
+        page: 3,
+    };
+    live.set_dead(second);
+    assert!(rt; plan.next_step() == Some(PlanStep::Copy(first)));
+    plan.copy_ordered();
+    assert!(rt; plan.next_step() == Some(PlanStep::Copy(second)));
+    plan.copy_ordered();
+    assert!(rt; plan.next_step() == Some(PlanStep::Mark));
+    plan.end();
+    assert!(rt; plan.next_step().is_none());
+    blocks.freed(0, 3);
+    blocks.freed(1, 1);
+    assert_eq!(rt; blocks.free_blocks(), 2);
+    live.pin(1, 1);
+    assert!(rt; !plan.plan(&live, &blocks));
+    assert!(rt; plan.victim().is_none());
+    Ok(())
+}

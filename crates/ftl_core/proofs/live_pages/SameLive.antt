@@ -1,0 +1,85 @@
+-- What changes neither places of contents nor which pages are live.
+use Rattle.std.proofs.Common.{◌≡◌, ◌∙◌, ℕ, Bool, true, false, List, Option, Some, None, refl, ap, subst, sym}
+use Rattle.std.specs.Prelude.{if◌then◌else◌, nat_le, nat_lt, ◌-◌, ◌^◌}
+use Rattle.ufs_spec.specs.declared.configs.Numbers.{Numbers}
+use Rattle.ufs_spec.specs.declared.flash.Outcome.{Outcome}
+use Rattle.block_table.specs.Lives.{Lives}
+use Rattle.block_table.specs.declared.OpenBlock.{OpenBlock}
+use Rattle.unit_map.specs.declared.Stored.{Stored}
+use Rattle.ftl_core.specs.declared.books.Book.{Book}
+use Rattle.ftl_core.specs.declared.books.Reader.{Reader}
+use Rattle.ftl_core.specs.declared.books.Reader.TheVariants as readers
+use Rattle.ftl_core.specs.declared.books.Step.{Step}
+use Rattle.ftl_core.specs.declared.books.Step.TheVariants as steps
+use Rattle.write_cache.specs.declared.slots.Pending.{Pending}
+use Rattle.ftl_core.specs.Core.{Core}
+use Rattle.ftl_core.specs.Ends.{step_again, with_content}
+use Rattle.ftl_core.specs.Gives.{IsReadAfter, IsReadOver}
+use Rattle.ftl_core.specs.KnownLive.{KnowsLive}
+use Rattle.ftl_core.specs.Moves.{mark_ordered, page_written, repair_turned, step_turned, turned}
+use Rattle.ftl_core.specs.declared.books.Mending.{Mending}
+use Rattle.ftl_core.specs.declared.books.Mending.TheVariants as mendings
+use Rattle.ufs_spec.specs.declared.flash.Key.{Key}
+use Rattle.ufs_spec.specs.declared.flash.Fence.{Fence}
+
+-- the numbers, the places, the live pages and the pending pages
+abbrev pub Facts : Type 0
+Facts = Numbers × List (Option Stored) × Lives × List Pending
+
+abbrev pub facts : Core → Facts
+facts c = (c.numbers, c.places, c.live, c.pages)
+
+abbrev pub Knows : Facts → Type 0
+Knows f = KnowsLive f.0 f.1 f.3 f.2
+
+-- what is known goes on to be
+pub knows_on : (c d : Core) → facts d ≡ facts c → Knows (facts c) → Knows (facts d)
+knows_on c d e h = subst Knows (sym e) h
+
+-- Programs and erases
+
+either : (test : Bool) (x y : Core) (f : Facts) → facts x ≡ f → facts y ≡ f → facts (if test then x else y) ≡ f
+either true x y f e g = e
+either false x y f e g = g
+
+pub written_same : (c : Core) (die : ℕ) (b : Book) (o : Option OpenBlock) → facts (page_written c die b o) ≡ facts c
+written_same c die b None = refl
+written_same c die b (Some o) = either (nat_lt o.next (c.numbers.pages - 1)) _ _ (facts c) refl refl
+
+ordered_same : (c : Core) (fence : Option Fence) → facts (mark_ordered c fence) ≡ facts c
+ordered_same c fence = either (nat_le c.next_mark (2 ^ 62)) _ _ (facts c) refl refl
+
+pub again_same : (c : Core) (step : Option Step) → facts (step_again c step) ≡ facts c
+again_same c None = refl
+again_same c (Some (steps.Mark n fence)) = ordered_same c fence
+again_same c (Some (steps.Repair n k from there)) = refl
+
+-- Reads
+
+content : (c : Core) (o : Option (List ℕ)) → facts (with_content c o) ≡ facts c
+content c None = refl
+content c (Some body) = refl
+
+read_over : (c : Core) (o : Outcome) (reader : Reader) (new : Core) → IsReadOver c o reader new → facts new ≡ facts c
+read_over c o (readers.Task tag index) new h = ap facts h
+read_over c o readers.Step new h = ap facts h.2 ∙ content c h.0
+read_over c o readers.Nobody new h = ap facts h
+
+pub read_same : (known : Bool) (c : Core) (die : ℕ) (b : Book) (o : Outcome) (reader : Reader) (new : Core) →
+    IsReadAfter known c die b o reader new → facts new ≡ facts c
+read_same false c die b o reader new h = ap facts h
+read_same true c die b o reader new h = read_over _ o reader new h
+
+-- Steps
+
+repair_turns : (c : Core) (o : Option Key) → facts (repair_turned c o) ≡ facts c
+repair_turns c None = ordered_same c None
+repair_turns c (Some k) = refl
+
+step_turns : (c : Core) (m : Mending) → facts (step_turned c m) ≡ facts c
+step_turns c (mendings.Unmarked fence) = ordered_same c fence
+step_turns c mendings.Repairing = repair_turns c _
+step_turns c mendings.Mended = refl
+
+pub turned_same : (c : Core) → facts (turned c) ≡ facts c
+turned_same c = step_turns c c.mending

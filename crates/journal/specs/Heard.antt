@@ -1,0 +1,152 @@
+-- What the messages of a host and the replies to them tell of a life (JESD220, 10.7; SBC). A WRITE is accepted with
+-- its last DATA OUT, unless a block is bad. What was accepted is acknowledged as durable by GOOD: a WRITE with FUA and
+-- all before it by the WRITE's own, and what was accepted before the COMMAND of a SYNCHRONIZE CACHE without IMMED by
+-- that one's.
+use Rattle.std.specs.Prelude.{ℕ, ◌+◌, ◌==◌, ◌&&◌, nat_le, not, max, Bool, false, if◌then◌else◌}
+use Rattle.std.specs.Prelude.{List, [], ◌∷◌, ◌++◌, length, take, drop, position, remove, slice_get, slice_index}
+use Rattle.std.specs.Prelude.{Option, Some, None}
+use Rattle.ufs_bytes.specs.Fields.{field_at}
+use Rattle.ufs_spec.specs.CdbFields.{is_forced, is_immediate, six_address}
+use Rattle.ufs_spec.specs.Cdbs.{six_blocks, synchronize_cache_10, write_10, write_6}
+use Rattle.ufs_spec.specs.Commands.{Command}
+use Rattle.ufs_spec.specs.Messages.{is_short}
+use Rattle.journal.specs.Writes.{WriteBegun, is_whole, with_block, write_of, writes_of}
+use Rattle.journal.specs.declared.messages.OpenTask.{OpenTask}
+
+-- the commands that make what the life began with and then the WRITEs that it accepted, in order; how many of them,
+-- from the first on, were acknowledged as durable; the commands that have no RESPONSE yet; whether a block is bad
+pub record Heard : Type 0 where
+  pub commands : List Command
+  pub held : ℕ
+  pub tasks : List OpenTask
+  pub locked : Bool
+
+-- a life begins over these blocks, unit by unit: all that makes them is durable
+abbrev pub life_over : List (List (List ℕ)) → Heard
+life_over base =
+    record { commands = writes_of 0 base; held = length (writes_of 0 base); tasks = []; locked = false }
+
+-- ## The open commands
+
+abbrev pub has_tag : ℕ → OpenTask → Bool
+has_tag tag t = t.tag == tag
+
+abbrev pub found_at : List OpenTask → Option ℕ → Option OpenTask
+found_at tasks None = None
+found_at tasks (Some k) = slice_get tasks k
+
+-- the open command with the tag
+abbrev pub open_with : ℕ → List OpenTask → Option OpenTask
+open_with tag tasks = found_at tasks (position (has_tag tag) tasks)
+
+abbrev pub removed_at : List OpenTask → Option ℕ → List OpenTask
+removed_at tasks None = tasks
+removed_at tasks (Some k) = remove tasks k
+
+-- the open commands without it
+abbrev pub without : ℕ → List OpenTask → List OpenTask
+without tag tasks = removed_at tasks (position (has_tag tag) tasks)
+
+-- one command more is open
+abbrev pub with_open : Heard → OpenTask → Heard
+with_open j t = record j { tasks = j.tasks ++ t ∷ [] }
+
+-- ## A COMMAND
+
+-- a WRITE of one block or more, none of which came yet
+abbrev pub begun_write : ℕ → ℕ → ℕ → Bool → Option WriteBegun
+begun_write unit address count forced =
+    if count == 0 then None
+    else Some (record { unit = unit; address = address; count = count; forced = forced; blocks = [] })
+
+-- the WRITE that a CDB asks for (SBC, WRITE (6), WRITE (10))
+abbrev pub asked_write : ℕ → List ℕ → Option WriteBegun
+asked_write unit cdb =
+    if slice_index cdb 0 == write_6 then begun_write unit (six_address cdb) (six_blocks (slice_index cdb 4)) false
+    else if slice_index cdb 0 == write_10
+    then begun_write unit (field_at 4 2 cdb) (field_at 2 7 cdb) (is_forced cdb)
+    else None
+
+-- it is a SYNCHRONIZE CACHE(10) without IMMED (SBC)
+abbrev pub is_flush : List ℕ → Bool
+is_flush cdb = (slice_index cdb 0 == synchronize_cache_10) && not (is_immediate cdb)
+
+-- how many of the accepted commands the GOOD of a CDB acknowledges, as it came
+abbrev pub promised_by : ℕ → List ℕ → ℕ
+promised_by accepted cdb = if is_flush cdb then accepted else 0
+
+-- the command is open from now on, and what had its tag no more
+abbrev pub begun : Heard → ℕ → ℕ → List ℕ → Heard
+begun j unit tag cdb =
+    with_open (record j { tasks = without tag j.tasks })
+    (record { tag = tag; write = asked_write unit cdb; promised = promised_by (length j.commands) cdb })
+
+-- ## A DATA OUT
+
+-- the 4096 bytes of a message's data
+abbrev pub block_of : List ℕ → Option (List ℕ)
+block_of message = if nat_le 4128 (length message) then Some (take 4096 (drop 32 message)) else None
+
+-- the WRITE is accepted: its GOOD acknowledges it and all before it, if it has FUA
+abbrev pub accepted : Heard → OpenTask → WriteBegun → Heard
+accepted j t w =
+    with_open (record j { commands = j.commands ++ write_of w ∷ [] })
+    (record t { write = None; promised = (if w.forced then length j.commands + 1 else t.promised) })
+
+-- the WRITE of an open command has one block more: with its last it is accepted, unless a block is bad
+abbrev pub gathered : Heard → OpenTask → WriteBegun → Heard
+gathered j t w =
+    if is_whole w then if j.locked then with_open j (record t { write = None }) else accepted j t w
+    else with_open j (record t { write = Some w })
+
+-- a block came for this command: only a WRITE takes it
+abbrev pub taken : Heard → OpenTask → Option WriteBegun → List ℕ → Heard
+taken j t None block = with_open j t
+taken j t (Some w) block = gathered j t (with_block w block)
+
+abbrev pub taken_by : Heard → Option OpenTask → List ℕ → Heard
+taken_by j None block = j
+taken_by j (Some t) block = taken j t t.write block
+
+-- a block came for the command with this tag
+abbrev pub received : Heard → ℕ → List ℕ → Heard
+received j tag block = taken_by (record j { tasks = without tag j.tasks }) (open_with tag j.tasks) block
+
+abbrev pub received_from : Heard → ℕ → Option (List ℕ) → Heard
+received_from j tag None = j
+received_from j tag (Some block) = received j tag block
+
+-- ## What a message and a reply tell
+
+-- the device took this message: a COMMAND (01h), a DATA OUT (02h) or another one
+abbrev pub heard : Heard → List ℕ → Heard
+heard j message =
+    if is_short message then j
+    else if slice_index message 0 == 0x01
+    then begun j (slice_index message 2) (slice_index message 3) (drop 16 message)
+    else if slice_index message 0 == 0x02 then received_from j (slice_index message 3) (block_of message)
+    else j
+
+-- the response and the status are zero: target success, and GOOD
+abbrev pub says_good : List ℕ → Bool
+says_good reply = (slice_index reply 6 == 0x00) && (slice_index reply 7 == 0x00)
+
+-- how many commands the GOOD of this one acknowledges
+abbrev pub promised_to : Option OpenTask → ℕ
+promised_to None = 0
+promised_to (Some t) = t.promised
+
+-- the command with the tag has its RESPONSE
+abbrev pub answered : Heard → ℕ → Bool → Heard
+answered j tag good =
+    record j {
+      tasks = without tag j.tasks;
+      held = (if good then max j.held (promised_to (open_with tag j.tasks)) else j.held);
+    }
+
+-- the device handed out this reply: a RESPONSE (21h) or another one
+abbrev pub told : Heard → List ℕ → Heard
+told j reply =
+    if is_short reply then j
+    else if slice_index reply 0 == 0x21 then answered j (slice_index reply 3) (says_good reply)
+    else j

@@ -1,0 +1,12 @@
+pub mod Back
+pub mod Dealing
+pub mod DoneJobs
+pub mod Ended
+pub mod Growing
+pub mod Made
+pub mod Moves
+pub mod Opened
+pub mod Promises
+pub mod Telling
+pub mod Vectors
+pub mod Waited

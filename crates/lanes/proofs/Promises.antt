@@ -1,0 +1,163 @@
+-- What threads do is a life, and a stop among them is one of a run.
+use Rattle.std.proofs.Common.{◌≡◌, ◌∙◌, List, [], ◌∷◌, ◌++◌, inl, inr, map, refl, sym, ap, subst}
+use Rattle.std.specs.Global.{Vec}
+use Rattle.std.specs.Prelude.{take}
+use Rattle.ufs_spec.specs.Configs.{IsConfig}
+use Rattle.ufs_spec.specs.Dies.{DieState}
+use Rattle.ufs_spec.specs.Lives.{Fit, GoesOn, IsOpened, Life, Runs, Stops, array_of, bad_in, bad_of}
+use Rattle.ufs_spec.specs.Plain.{Plain, after}
+use Rattle.ufs_spec.specs.Refusals.{State, numbers_of}
+use Rattle.ufs_spec.specs.Sound.{Suits}
+use Rattle.ufs_spec.specs.declared.configs.Numbers.{Numbers}
+use Rattle.ufs_spec.specs.declared.events.Event.{Event}
+use Rattle.ufs_spec.specs.declared.events.Event.TheVariants as event
+use Rattle.ufs_spec.specs.declared.events.Leftover.{Leftover}
+use Rattle.ufs_spec.specs.declared.events.Output.{Output}
+use Rattle.ufs_spec.specs.declared.events.Output.TheVariants as output
+use Rattle.power_loss.proofs.die_pages.BlankOutsideDies.{fit_inside}
+use Rattle.power_loss.proofs.lives.ChainedLives.{life_continues}
+use Rattle.power_loss.proofs.lives.LivesOfRuns.{headline, lives_of, lives_right, more}
+use Rattle.power_loss.proofs.lives.NextLife.{prefix_left, sound_left, suits_left, within_left}
+use Rattle.power_loss.proofs.openings.EachSoundArrayOpens.{any_opens}
+use Rattle.power_loss.specs.Exchange.{IsArrayOf}
+use Rattle.device.specs.Kept.{WorldState}
+use Rattle.device.specs.Worlds.{Fits, KeepsThePromise, dies_stopped}
+use Rattle.device.proofs.dies_of_world.LeftDies.{stops_by}
+use Rattle.device.proofs.dies_of_world.StoppedWorld.{are_lawful, are_leftovers}
+use Rattle.lanes.specs.declared.view.Entry.{Entry}
+use Rattle.lanes.specs.declared.view.Opening.{Opening}
+use Rattle.lanes.specs.Legal.{Legal}
+use Rattle.lanes.specs.Promised.{IsLife, IsStoppedSafely, KeepsItsPromise, KeepsItsPromiseStopped, MayBeStopped}
+use Rattle.lanes.specs.Rule.{IsLegal, IsOpening, IsStart}
+use Rattle.lanes.proofs.Opened.{begins, fit_of, fits_first, is_config, same_numbers}
+
+-- Lists of steps are lives
+
+pub life_of : (s t : State) (list : List Entry) → Legal s list t → IsLife s list t
+life_of s t [] h = record { events = []; outputs = []; told_as = tt; life = h }
+life_of s t (e ∷ es) h =
+    let rest = life_of h.0 t es h.2 in
+    record {
+      events = h.1.event ∷ rest.events;
+      outputs = h.1.output ∷ rest.outputs;
+      told_as = (h.1.told_as, rest.told_as);
+      life = (h.0, h.1.leads, rest.life);
+    }
+
+runs_of : (n : Numbers) (s t : State) (es : List Event) (os : List Output) → Life s es os t → Runs n s es os t
+runs_of n s t [] [] h = h
+runs_of n s t (e ∷ es) (o ∷ os) h = (h.0, inl h.1, runs_of n h.0 t es os h.2)
+runs_of n s t es os h = absurd h
+
+nothing_more : {A : Type 0} (xs : List A) → xs ++ [] ≡ xs
+nothing_more [] = refl
+nothing_more (x ∷ xs) = ap (λ l. x ∷ l) (nothing_more xs)
+
+module _ {D : Type 0} (state : D → DieState) (opening : Opening D) (is : IsOpening state opening) where
+  abbrev n : Numbers
+  n = opening.device.value.ftl.numbers
+
+  abbrev ds : List DieState
+  ds = map state opening.dies.value.items
+
+  config : IsConfig n
+  config = is_config state opening.device.value opening.dies.value.items is
+
+  fit : Fit n ds
+  fit = fit_of state opening.device.value opening.dies.value.items is
+
+  suits : Suits n (array_of ds)
+  suits =
+      subst (λ (m : Numbers). Suits m (array_of ds))
+      (sym (same_numbers state opening.device.value opening.dies.value.items is)) is.suits
+
+  keeps : (s t : State) (es : List Event) (os : List Output) → IsOpened n (array_of ds) (bad_of ds) s →
+      Runs n s es os t → KeepsThePromise n ds es os
+  keeps s t es os opened runs =
+      let l = lives_of opened runs in
+      record {
+        headline = headline n ds s t es os config fit is.sound opened runs;
+        first = l.first;
+        later = l.later;
+        lives = l.lives;
+        right =
+            lives_right n (array_of ds) (bad_of ds) l.first l.later es os config
+            (record { inside = fit_inside n ds fit; sound = is.sound; suits = suits }) l.lives;
+      }
+
+  -- without a stop
+  pub list_keeps : (list : List Entry) → IsLegal state opening list → KeepsItsPromise state opening list [] []
+  list_keeps list legal =
+      let start = begins state opening is in
+      let led = legal start.0 start.1 in
+      let life = life_of start.0 led.0 list led.1 in
+      record {
+        events = life.events;
+        outputs = life.outputs;
+        told_as = life.told_as;
+        promise =
+            subst (λ (es : List Event). KeepsThePromise n ds es (life.outputs ++ [])) (sym (nothing_more life.events))
+            (subst (λ (os : List Output). KeepsThePromise n ds life.events os) (sym (nothing_more life.outputs))
+            (keeps start.0 led.0 life.events life.outputs start.1
+            (runs_of n start.0 led.0 life.events life.outputs life.life)));
+      }
+
+  -- with a stop
+  module _ (w : WorldState) (list : List Entry) (lefts : Vec Leftover) (may : MayBeStopped w lefts.items) (s now :
+      State)
+      (opened : IsStart state opening s) (legal : Legal s list now) (fits : Fits w now) where
+    abbrev left : List DieState
+    left = dies_stopped w.dies lefts.items
+
+    stops : Stops now lefts.items (array_of left)
+    stops =
+        stops_by now fits.valid w.dies lefts.items fits.dies_fit.sizes fits.dies_fit.pages
+        (are_leftovers w now lefts.items fits may.of_jobs may.apart)
+        (are_lawful w now lefts.items fits may.of_jobs may.lawful)
+
+    continues : (numbers_of now ≡ numbers_of s) × (now.base ≡ s.base) × IsArrayOf (numbers_of s) now.array
+    continues =
+        let first = fits_first state opening is s opened in
+        let life = life_of s now list legal in
+        life_continues now life.events life.outputs first.valid
+        (subst (IsArrayOf (numbers_of s)) (sym opened.array_now)
+        (subst (λ (m : Numbers). IsArrayOf m (array_of ds)) (sym opened.translation.numbers) (fit_inside n ds fit)))
+        life.life
+
+    same_numbers_now : numbers_of now ≡ n
+    same_numbers_now = continues.0 ∙ opened.translation.numbers
+
+    reopens : (u : State) × GoesOn n now (event.Stop lefts) output.Stopped u
+    reopens =
+        let inside = within_left fits.valid stops
+        (subst (λ (m : Numbers). IsArrayOf m now.array) (sym continues.0) continues.2) in
+        let o = any_opens n (array_of left) (bad_in now)
+        (subst (λ (m : Numbers). IsArrayOf m (array_of left)) same_numbers_now inside)
+        (sound_left now fits.valid lefts.items (array_of left) stops)
+        (subst (λ (m : Numbers). Suits m (array_of left)) same_numbers_now
+        (suits_left now fits.valid lefts.items (array_of left) stops)) in
+        (o.0, inr (array_of left, stops, o.1))
+
+    pub stop_keeps : KeepsItsPromiseStopped state opening list lefts
+    stop_keeps =
+        let life = life_of s now list legal in
+        record {
+          events = life.events;
+          outputs = life.outputs;
+          told_as = life.told_as;
+          promise =
+              keeps s reopens.0 (life.events ++ event.Stop lefts ∷ []) (life.outputs ++ output.Stopped ∷ []) opened
+              (more n s now reopens.0 life.events life.outputs (event.Stop lefts) output.Stopped
+              (runs_of n s now life.events life.outputs life.life) reopens.1);
+        }
+
+    pub stop_safe : IsStoppedSafely state opening list w lefts.items s
+    stop_safe = record {
+      now = now;
+      legal = legal;
+      prefix = record {
+        opens = λ next bad o.
+            let k = prefix_left now fits.valid lefts.items (array_of left) stops o in
+            (k.0, k.1, k.3, k.4 ∙ ap (λ (p : Plain). after p (take k.0 now.accepted)) continues.1);
+      };
+    }

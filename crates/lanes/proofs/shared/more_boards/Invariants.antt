@@ -1,0 +1,7 @@
+use Rattle.std.proofs.Common.{◌≡◌, length, All}
+use Rattle.std.specs.Arc.{arc_value}
+use Rattle.lanes.proofs.shared.more_boards.Given as goal
+
+abbrev pub invariant-loop : goal.invariant-loop
+invariant-loop g l = (l.board ≡ l.fn.board) × (length l.boards.items ≡ l.counter)
+    × All (λ b. arc_value b ≡ arc_value l.fn.board) l.boards.items

@@ -1,0 +1,6 @@
+pub mod Attempts
+pub mod Callers
+pub mod Legal
+pub mod Promised
+pub mod Rule
+pub mod Waiting

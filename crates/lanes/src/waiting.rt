@@ -1,0 +1,54 @@
+//! What a host's driver calls: a message is sent, and a reply is waited for.
+ghost use Rattle.std.specs.Prelude.{◌≡◌, None, false, true};
+ghost use Rattle.lanes.specs.Rule.{Did};
+ghost use Rattle.lanes.specs.Waiting.{AskedInVain, HeardAfter};
+ghost use Rattle.lanes.specs.declared.view.Made.TheVariants as made;
+
+use crate::port::Port;
+use crate::tried::Tried;
+use nand_model::Die;
+use std::sync::Wait;
+use std::sync::atomic::{AtomicBool, Ordering};
+use std::thread;
+use ufs_spec::{HostFault, Upiu};
+
+impl<D: Die> Port<D> {
+    /// Hands the device a message, and tries again while another caller has the core.
+    ///
+    /// # Errors
+    ///
+    /// The fault of the message, which changes nothing then.
+    pub fn send<R: Wait>(&mut self, rt: &R, bytes: &[u8]) -> Result<(), HostFault>
+        ensures table { self.new.table ≡ self.old.table }
+        ensures did { Did D.state self.old.view (made.Host bytes.now result) None self.new.view }
+    {
+        for _ in rt.forever() {
+            match self.try_host(bytes) {
+                Tried::Did(answer) => return answer,
+                Tried::Busy => thread::yield_now(),
+            }
+        }
+        unreachable!()
+    }
+
+    /// Waits for a reply until the flag is set: false, and nothing is written, if none came before.
+    pub fn receive<R: Wait>(&mut self, rt: &R, into: &mut Upiu, stop: &AtomicBool) -> bool
+        ensures table { self.new.table ≡ self.old.table }
+        ensures heard { result ≡ true →
+            HeardAfter D.state self.old.view into.new.items self.new.view }
+        ensures stopped { result ≡ false →
+            AskedInVain D.state self.old.view self.new.view × (into.new ≡ into.old) }
+    {
+        for _ in rt.forever() {
+            if stop.load(Ordering::SeqCst) {
+                return false;
+            }
+            match self.try_reply(into) {
+                Tried::Did(true) => return true,
+                Tried::Did(false) => thread::yield_now(),
+                Tried::Busy => thread::yield_now(),
+            }
+        }
+        unreachable!()
+    }
+}

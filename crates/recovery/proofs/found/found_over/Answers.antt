@@ -1,0 +1,93 @@
+use Rattle.std.proofs.Common.{sym, subst, ap, ◌∙◌, length, map, refl}
+use Rattle.ufs_spec.specs.Cells.{AreWithin, Cells, Shows}
+use Rattle.ufs_spec.specs.Lives.{array_of, bad_of}
+use Rattle.ufs_spec.specs.Sound.{CellsSuit}
+use Rattle.ufs_spec.proofs.Facts.{false≢true}
+use Rattle.power_loss.proofs.die_pages.BlankOutsideDies.{fit_inside}
+use Rattle.recovery.proofs.settings_pages.SettingsPages.{has_settings, still_found}
+use Rattle.recovery.proofs.table_facts.TableFacts.{bads_of, each_block, frontiers_fit, records_fit, shown_in_range}
+use Rattle.recovery.proofs.tables.Whole.{shown_within}
+use Rattle.recovery.specs.Found.{IsFound}
+use Rattle.recovery.specs.Reading.{newest_in}
+use Rattle.recovery.specs.Scanned.{IsTableOver}
+use Rattle.recovery.proofs.standing_for.FoundStands.{found_stands}
+use Rattle.recovery.proofs.found.found_over.Goals as goal
+
+pub returns-then-not-is_of_config-clause-fault : goal.returns-then-not-is_of_config-clause-fault
+returns-then-not-is_of_config-clause-fault g c = λ cells shown.
+    let over = subst (λ n. IsTableOver n (map g.D.Die.state c.args.dies.now) c.args.table)
+    (sym c.numbers-numbers.ensures.value) c.requires.read in
+    let table = over cells shown in (
+      newest_in c.args.table,
+      table.newest,
+      λ suit.
+          false≢true (sym c.if-not-is_of_config.true ∙ (c.is_of_config.ensures cells table).1
+          (subst (λ n. CellsSuit n cells (newest_in c.args.table)) (sym c.numbers-numbers.ensures.value) suit)),
+    )
+
+pub found_in-requires-clause-pages : goal.found_in-requires-clause-pages
+found_in-requires-clause-pages g c =
+    let over = subst (λ n. IsTableOver n (map g.D.Die.state c.args.dies.now) c.args.table)
+    (sym c.numbers-numbers.ensures.value) c.requires.read in
+    frontiers_fit c.numbers-numbers.result.now (array_of (map g.D.Die.state c.args.dies.now)) c.args.table
+    over
+
+pub found_in-requires-clause-marks : goal.found_in-requires-clause-marks
+found_in-requires-clause-marks g c =
+    let over = subst (λ n. IsTableOver n (map g.D.Die.state c.args.dies.now) c.args.table)
+    (sym c.numbers-numbers.ensures.value) c.requires.read in
+    records_fit c.numbers-numbers.result.now (array_of (map g.D.Die.state c.args.dies.now)) c.args.table
+    over
+
+pub found_in-requires-clause-blocks : goal.found_in-requires-clause-blocks
+found_in-requires-clause-blocks g c =
+    let over = subst (λ n. IsTableOver n (map g.D.Die.state c.args.dies.now) c.args.table)
+    (sym c.numbers-numbers.ensures.value) c.requires.read in
+    let dies = map g.D.Die.state c.args.dies.now in
+    each_block c.numbers-numbers.result.now (array_of dies) c.args.table (bad_of dies) c.in-Ok.bad.items
+    over
+    (bads_of g.D.Die.state c.numbers-numbers.result.now c.args.config.now c.args.dies.now c.args.dies.now
+    c.in-Ok.bad.items c.numbers-numbers.ensures.value c.requires.fit refl
+    c.in-Ok.ensures.in_order)
+    ∙ sym (ap length c.as_slice.ensures.value)
+
+pub is_permanent-requires-clause-settings : goal.is_permanent-requires-clause-settings
+is_permanent-requires-clause-settings g c = λ cells now.
+    let dies = map g.D.Die.state c.args.dies.now in
+    let over = subst (λ n. IsTableOver n (map g.D.Die.state c.args.dies.now) c.args.table)
+    (sym c.numbers-numbers.ensures.value) c.requires.read in
+    let table = over cells now in
+    let is = c.numbers-numbers.ensures.value in
+    has_settings c.numbers-numbers.result.now cells (bad_of dies) c.in-Ok-found_in.found
+    (c.in-Ok-found_in.ensures cells (bad_of dies) table (shown_in_range (array_of dies) cells now)
+    (subst (λ n. AreWithin n cells) (sym is) (shown_within c.args.config.now dies cells c.requires.fit now))
+    ((c.is_of_config.ensures cells table).0 c.if-not-is_of_config.false)
+    (c.as_slice.ensures.value
+    ∙ bads_of g.D.Die.state c.numbers-numbers.result.now c.args.config.now c.args.dies.now c.args.dies.now
+    c.in-Ok.bad.items is c.requires.fit refl c.in-Ok.ensures.in_order))
+
+pub returns-clause-told : goal.returns-clause-told
+returns-clause-told g c =
+    let found : (cells : Cells) → Shows (array_of (map g.D.Die.state c.args.dies.now)) cells →
+    IsFound c.args.config.now cells (bad_of (map g.D.Die.state c.args.dies.now)) _ = λ cells shown.
+    let dies = map g.D.Die.state c.args.dies.now in
+    let over = subst (λ n. IsTableOver n (map g.D.Die.state c.args.dies.now) c.args.table)
+    (sym c.numbers-numbers.ensures.value) c.requires.read in
+    let table = over cells shown in
+    let is = c.numbers-numbers.ensures.value in
+    still_found c.args.config.now cells (bad_of dies) c.in-Ok-found_in.found c.in-Ok-is_permanent.is_permanent
+    (subst (λ n. IsFound n cells (bad_of dies) c.in-Ok-found_in.found) is
+    (c.in-Ok-found_in.ensures cells (bad_of dies) table (shown_in_range (array_of dies) cells shown)
+    (subst (λ n. AreWithin n cells) (sym is) (shown_within c.args.config.now dies cells c.requires.fit shown))
+    ((c.is_of_config.ensures cells table).0 c.if-not-is_of_config.false)
+    (c.as_slice.ensures.value
+    ∙ bads_of g.D.Die.state c.numbers-numbers.result.now c.args.config.now c.args.dies.now c.args.dies.now
+    c.in-Ok.bad.items is c.requires.fit refl c.in-Ok.ensures.in_order))) in
+    let dies = map g.D.Die.state c.args.dies.now in
+    record {
+      found = found;
+      stands =
+          found_stands c.args.config.now (array_of dies) (bad_of dies) _
+          (fit_inside c.args.config.now dies c.requires.fit) found;
+      permanent = c.in-Ok-is_permanent.ensures.told;
+    }
