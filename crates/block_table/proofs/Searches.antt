@@ -232,7 +232,7 @@ can_told {l} {t} {s} c =
     let u : (nat_lt s.die l.sizes.dies ≡ true) × (nat_lt s.block l.sizes.blocks ≡ true) = and_parts _ _ c.inside in (
       (ltb-true s.block l.sizes.blocks u.1, inl (ltb-true s.die l.sizes.dies u.0)),
       and_from (not (is_pinned l s)) (gains l s (state_of t s.die s.block))
-      (ap not c.unpinned) (gain_shown l t s c.gain),
+          (ap not c.unpinned) (gain_shown l t s c.gain),
     )
 
 can_shown : {l : Lives} {t : Blocks} {s : Spot} → IsPassed (may_be_victim l t) l.sizes.blocks l.sizes.dies 0 s →

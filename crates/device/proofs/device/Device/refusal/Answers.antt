@@ -9,10 +9,13 @@ use Rattle.device.specs.Kept.{DeviceCore}
 use Rattle.device.proofs.host_messages.CommandTable.{is_ready, needs_none, told_by, unmended}
 use Rattle.device.proofs.device.Device.refusal.Goals as goal
 use Rattle.device.proofs.device.Device.refusal.Goals.{
-    then-blocks-gt-BLOCKS_A_COMMAND-via-then-blocks-gt-BLOCKS_A_COMMAND,
-    then-blocks-gt-BLOCKS_A_COMMAND-via-else-blocks-gt-BLOCKS_A_COMMAND+then-lacks_data}
+  then-blocks-gt-BLOCKS_A_COMMAND-via-then-blocks-gt-BLOCKS_A_COMMAND,
+  then-blocks-gt-BLOCKS_A_COMMAND-via-else-blocks-gt-BLOCKS_A_COMMAND+then-lacks_data,
+}
 use Rattle.device.proofs.device.Device.refusal.Goals.{
-    else-needs_mended-via-then-needs_mended+else-not-is_mended, else-needs_mended-via-else-needs_mended}
+  else-needs_mended-via-then-needs_mended+else-not-is_mended,
+  else-needs_mended-via-else-needs_mended,
+}
 
 pub returns-then-blocks-gt-BLOCKS_A_COMMAND-clause-what : goal.returns-then-blocks-gt-BLOCKS_A_COMMAND-clause-what
 returns-then-blocks-gt-BLOCKS_A_COMMAND-clause-what c =
