@@ -13,17 +13,19 @@ ghost use Rattle.ftl_core.specs.Describes.{Describes as IsLayer};
 ghost use Rattle.device.specs.Describes.{Describes, IsAnswered, IsGiven};
 ghost use Rattle.device.specs.Kept.{idle_device};
 ghost use Rattle.device.specs.Opened.{OpensOver};
+ghost use Rattle.page_tag.specs.Jobs.{IsTagRead};
 ghost use Rattle.recovery.specs.Found.{IsScanFault};
 ghost use Rattle.ufs_spec.specs.Sound.{Sound, Suits};
 
 use ftl_core::{Ended, Ftl};
 use geometry::Config;
 use nand_model::Die;
+use page_tag::{UnsealedJob, tag_read};
 use recovery::{Found, scan};
 use std::alloc::{AllocError, Global};
 use std::marker::Model;
 use task_set::TaskSet;
-use ufs_spec::{Block, Job, OpenFault, Outcome};
+use ufs_spec::{Block, Job, OpenFault, Outcome, Tag};
 
 /// A device: the translation layer, and the tasks that are open.
 #[derive(Drop)]
@@ -110,6 +112,16 @@ impl Device {
         // It is one that the specified device owes to the die then, and none where it owes none.
         ensures given { (s : State) → Describes self.old s → IsGiven s die result self.new }
     {
+        let job = self.take_unsealed(die)?;
+        Some(job.sealed())
+    }
+
+    /// The job that `take` hands out, before its page is sealed: it takes no SHA-256.
+    pub fn take_unsealed(&mut self, die: u8) -> Option<UnsealedJob>
+        ensures nothing { IfNone result (self.new ≡ self.old) }
+        // It is one that the specified device owes to the die then, and none where it owes none.
+        ensures given { (s : State) → Describes self.old s → IsGiven s die result self.new }
+    {
         self.ftl.take(die)
     }
 
@@ -123,7 +135,21 @@ impl Device {
             IsEndingOf s.translation.disk.cells (s.translation.disk.flights die) outcome.now ending → MayLeave s die ending left →
             (result ≡ true) × IsAnswered s (Done die ending left) (OfDone true) self.new }
     {
-        let Some(ended) = self.ftl.done(die, outcome) else {
+        self.done_opened(die, outcome, &tag_read(outcome))
+    }
+
+    /// Ends the job in flight of the die as `done` does. The tag of the page that was read is known
+    /// (`page_tag::tag_read`): it takes no SHA-256.
+    pub fn done_opened(&mut self, die: u8, outcome: &Outcome, tag: &Option<Tag>) -> bool
+        requires { IsTagRead outcome.now tag.now }
+        ensures nothing { result ≡ false → self.new ≡ self.old }
+        ensures known { (s : State) → Describes self.old s → result ≡ suits (s.translation.disk.flights die) outcome.now }
+        // However the job ended: what is kept then describes what this end makes of the specified device.
+        ensures ended { (s : State) (ending : Ending) (left : Array) → Describes self.old s →
+            IsEndingOf s.translation.disk.cells (s.translation.disk.flights die) outcome.now ending → MayLeave s die ending left →
+            (result ≡ true) × IsAnswered s (Done die ending left) (OfDone true) self.new }
+    {
+        let Some(ended) = self.ftl.done(die, outcome, tag) else {
             return false;
         };
         self.tell(ended);

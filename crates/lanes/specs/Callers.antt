@@ -11,6 +11,8 @@ use Rattle.device.specs.Kept.{DeviceCore}
 use Rattle.lanes.specs.Rule.{lane_at}
 use Rattle.lanes.specs.declared.view.Opening.{Opening}
 use Rattle.lanes.specs.declared.view.View.{View}
+use Rattle.ufs_spec.specs.declared.flash.Tag.{Tag}
+use Rattle.page_tag.specs.Jobs.{IsTagRead}
 use Rattle.lanes.specs.declared.went.Went.{Went}
 
 -- at which table, and what its seat knows
@@ -34,6 +36,11 @@ job_of (Some l) = l.job
 abbrev pub outcome_in : Option Went → Option Outcome
 outcome_in None = None
 outcome_in (Some w) = Some w.outcome
+
+-- of a page that was read the tag is known
+abbrev pub KnowsTag : Option Outcome → Option Tag → Type 0
+KnowsTag None tag = Unit {0}
+KnowsTag (Some o) tag = IsTagRead o tag
 
 -- the die holds what the view says, save its one job in flight
 abbrev pub DieIs : {D : Type 0} → (D → DieState) → (D → ℕ) → LaneView D → D → Option Outcome → Type 0

@@ -1,5 +1,6 @@
 //! One attempt at each of the five calls, at a seat.
 ghost use Rattle.std.specs.Prelude.{◌≡◌, ◌<◌, ◌^◌, None, false, length};
+ghost use Rattle.page_tag.specs.Jobs.{IsTagRead};
 ghost use Rattle.lanes.specs.Attempts.{IfBusy, IfDid};
 ghost use Rattle.lanes.specs.Legal.{shown};
 ghost use Rattle.lanes.specs.Rule.{Did, HasDone, IsLaneOf, IsSeatOf, Rests, WasOut, lane_ended};
@@ -9,8 +10,9 @@ ghost use Rattle.lanes.specs.declared.view.Made.TheVariants as made;
 use crate::place::{Core, Place, put_back, seize};
 use crate::tried::Tried;
 use nand_model::Die;
+use page_tag::UnsealedJob;
 use std::marker::Brand;
-use ufs_spec::{HostFault, Job, Outcome, Upiu};
+use ufs_spec::{HostFault, Job, Outcome, Tag, Upiu};
 
 /// What lies in memory is shorter than half of it.
 fn is_in_memory(bytes: &[u8])
@@ -63,7 +65,7 @@ pub(crate) fn try_reply<D: Die>(core: &Core<D>, seat: &mut Place<D>, into: &mut 
     Tried::Did(due)
 }
 
-/// One attempt to have the next job of a die.
+/// One attempt to have the next job of a die. Its page is sealed after the core is back in its slot.
 pub(crate) fn try_take<D: Die>(core: &Core<D>, seat: &mut Place<D>, die: u8) -> Tried<Option<Job>>
     requires seat { IsSeatOf core.now.table_id seat.old × Rests seat.old.me }
     requires lane { IsLaneOf seat.old.me.0.lane die }
@@ -77,9 +79,17 @@ pub(crate) fn try_take<D: Die>(core: &Core<D>, seat: &mut Place<D>, die: u8) -> 
     if !seize(core, seat) {
         return Tried::Busy;
     }
-    let job = seat.slot_mut(core, 0).take(die);
-    put_back::<D, Brand, u8, Option<Job>>(core, seat, &die, &job);
-    Tried::Did(job)
+    let job = seat.slot_mut(core, 0).take_unsealed(die);
+    put_back::<D, Brand, u8, Option<UnsealedJob>>(core, seat, &die, &job);
+    Tried::Did(sealed(job))
+}
+
+/// The job, with its page sealed.
+fn sealed(job: Option<UnsealedJob>) -> Option<Job>
+    ensures { result ≡ job }
+{
+    let job = job?;
+    Some(job.sealed())
 }
 
 /// One attempt to do the next step of mending or collection: false if none is due.
@@ -101,14 +111,17 @@ pub(crate) fn try_turn<D: Die>(core: &Core<D>, seat: &mut Place<D>) -> Tried<boo
     Tried::Did(due)
 }
 
-/// One attempt to end the job of a die, which the die has done, well or not.
+/// One attempt to end the job of a die, which the die has done, well or not. The tag of a page that
+/// was read is known.
 pub(crate) fn try_done<D: Die>(
     core: &Core<D>,
     seat: &mut Place<D>,
     number: u8,
     outcome: &Outcome,
+    tag: &Option<Tag>,
     die: &D,
 ) -> Tried<bool>
+    requires tag { IsTagRead outcome.now tag.now }
     requires seat { IsSeatOf core.now.table_id seat.old × Rests seat.old.me }
     requires lane { HasDone D.state D.failed seat.old.me.0.lane number die.now outcome.now }
     ensures seat { IsSeatOf core.now.table_id seat.new × (seat.new.id ≡ seat.old.id)
@@ -121,7 +134,7 @@ pub(crate) fn try_done<D: Die>(
     if !seize(core, seat) {
         return Tried::Busy;
     }
-    let known = seat.slot_mut(core, 0).done(number, outcome);
+    let known = seat.slot_mut(core, 0).done_opened(number, outcome, tag);
     put_back::<D, Brand, (u8, &Outcome, &D), bool>(core, seat, &(number, outcome, die), &known);
     Tried::Did(known)
 }

@@ -12,7 +12,7 @@ use std::thread::Threads;
 use ufs_spec::Upiu;
 
 /// A block, 4096 times 5Ah, after this header.
-fn with_block(header: &[u8; 32]) -> [u8; 4128] {
+pub(crate) fn with_block(header: &[u8; 32]) -> [u8; 4128] {
     let mut message = [0x5A; 4128];
     message[..32].copy_from_slice(header);
     message
@@ -115,49 +115,49 @@ pub(crate) fn serve_both<R: Threads + Wait + Sync>(
 }
 
 /// TEST UNIT READY, task tag 6.
-const IS_READY: [u8; 32] = [
+pub(crate) const IS_READY: [u8; 32] = [
     0x01, 0x00, 0, 6, 0, 0, 0, 0, 0, 0, 0, 0, 0, 0, 0, 0, 0x00, 0, 0, 0, 0, 0, 0, 0, 0, 0, 0, 0, 0,
     0, 0, 0,
 ];
 
 /// WRITE(10) with FUA of one block at address 0, task tag 7.
-const WRITE: [u8; 32] = [
+pub(crate) const WRITE: [u8; 32] = [
     0x01, 0x20, 0, 7, 0, 0, 0, 0, 0, 0, 0, 0, 0, 0, 0x10, 0, 0x2A, 0x08, 0, 0, 0, 0, 0, 0, 1, 0, 0,
     0, 0, 0, 0, 0,
 ];
 
 /// READY TO TRANSFER: the device asks for the block.
-const ASKED: [u8; 32] = [
+pub(crate) const ASKED: [u8; 32] = [
     0x31, 0x00, 0, 7, 0, 0, 0, 0, 0, 0, 0, 0, 0, 0, 0, 0, 0, 0, 0x10, 0, 0, 0, 0, 0, 0, 0, 0, 0, 0,
     0, 0, 0,
 ];
 
 /// The header of the DATA OUT with the block.
-const DATA_OUT: [u8; 32] = [
+pub(crate) const DATA_OUT: [u8; 32] = [
     0x02, 0x00, 0, 7, 0, 0, 0, 0, 0, 0, 0x10, 0, 0, 0, 0, 0, 0, 0, 0x10, 0, 0, 0, 0, 0, 0, 0, 0, 0,
     0, 0, 0, 0,
 ];
 
 /// RESPONSE of task 7: GOOD.
-const WRITTEN: [u8; 32] = [
+pub(crate) const WRITTEN: [u8; 32] = [
     0x21, 0x00, 0, 7, 0, 0, 0, 0, 0, 0, 0, 0, 0, 0, 0, 0, 0, 0, 0, 0, 0, 0, 0, 0, 0, 0, 0, 0, 0, 0,
     0, 0,
 ];
 
 /// READ(10) of the block, task tag 8.
-const READ: [u8; 32] = [
+pub(crate) const READ: [u8; 32] = [
     0x01, 0x40, 0, 8, 0, 0, 0, 0, 0, 0, 0, 0, 0, 0, 0x10, 0, 0x28, 0x00, 0, 0, 0, 0, 0, 0, 1, 0, 0,
     0, 0, 0, 0, 0,
 ];
 
 /// The header of the DATA IN with the block.
-const DATA_IN: [u8; 32] = [
+pub(crate) const DATA_IN: [u8; 32] = [
     0x22, 0x00, 0, 8, 0, 0, 0, 0, 0, 0, 0x10, 0, 0, 0, 0, 0, 0, 0, 0x10, 0, 0, 0, 0, 0, 0, 0, 0, 0,
     0, 0, 0, 0,
 ];
 
 /// RESPONSE of task 8: GOOD.
-const HAS_READ: [u8; 32] = [
+pub(crate) const HAS_READ: [u8; 32] = [
     0x21, 0x00, 0, 8, 0, 0, 0, 0, 0, 0, 0, 0, 0, 0, 0, 0, 0, 0, 0, 0, 0, 0, 0, 0, 0, 0, 0, 0, 0, 0,
     0, 0,
 ];

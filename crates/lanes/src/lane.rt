@@ -10,10 +10,11 @@ use crate::place::{Board, Place};
 use crate::tried::Tried;
 use crate::went::Went;
 use nand_model::{Die, work};
+use page_tag::tag_read;
 use std::alloc::Global;
 use std::marker::Model;
 use std::sync::Arc;
-use ufs_spec::{Job, Outcome};
+use ufs_spec::{Job, Outcome, Tag};
 
 /// A die with the one who has its jobs done. Only `work` touches the die, outside the slot of the
 /// core.
@@ -24,12 +25,14 @@ pub struct Lane<D: Die> {
     pub(crate) number: u8,
     pub(crate) die: D,
     pub(crate) ended: Option<Went>,
+    /// The tag of the page that the job read which was worked last.
+    pub(crate) tag: Option<Tag>,
 }
 
 impl<D: Die> Model for Lane<D> {
     ghost use Rattle.std.specs.Prelude.{◌≡◌, option_map};
     ghost use Rattle.std.specs.Arc.{arc_value};
-    ghost use Rattle.lanes.specs.Callers.{HasDie, LaneCaller, outcome_in};
+    ghost use Rattle.lanes.specs.Callers.{HasDie, KnowsTag, LaneCaller, outcome_in};
     ghost use Rattle.lanes.specs.Rule.{CanWork, IsSeatOf, Rests};
 
     ghost Value = { LaneCaller D };
@@ -46,11 +49,13 @@ impl<D: Die> Model for Lane<D> {
         IsSeatOf (arc_value p.board).shared.table_id p.seat
         × Rests p.seat.me
         × HasDie D.state D.failed p.seat.me.0.lane p.number p.die (outcome_in p.ended)
-        × CanWork D.state p.seat.me.0.lane };
+        × CanWork D.state p.seat.me.0.lane
+        × KnowsTag (outcome_in p.ended) p.tag };
 }
 
 impl<D: Die> Lane<D> {
-    /// One attempt to have the next job.
+    /// One attempt to have the next job. If it is a program its page is sealed after the attempt, which
+    /// takes one SHA-256.
     pub fn try_take(&mut self) -> Tried<Option<Job>>
         requires { self.old.ended ≡ None }
         ensures table { (self.new.table ≡ self.old.table) × (self.new.die ≡ self.old.die)
@@ -65,7 +70,7 @@ impl<D: Die> Lane<D> {
     }
 
     /// Does the job that was handed out last. `Failed` and `ReadFailed` come only if the die's
-    /// failures rose.
+    /// failures rose. It takes one SHA-256 if a page was read.
     pub fn work(&mut self, job: &Job) -> Outcome
         requires job { job_of self.old.view.lane ≡ Some job.now }
         requires not_ended { self.old.ended ≡ None }
@@ -76,6 +81,7 @@ impl<D: Die> Lane<D> {
     {
         let outcome = work(&mut self.die, job);
         self.ended = Some(Went::of(&outcome));
+        self.tag = tag_read(&outcome);
         outcome
     }
 
@@ -95,6 +101,7 @@ impl<D: Die> Lane<D> {
             &mut self.seat,
             self.number,
             outcome,
+            &self.tag,
             &self.die,
         );
         match tried {

@@ -8,6 +8,7 @@ mod keeper;
 mod lane;
 mod laws;
 mod meeting;
+mod opening;
 mod place;
 mod port;
 mod serving;
@@ -24,11 +25,18 @@ pub use laws::{
     a_stop_among_threads_leaves_a_prefix, legal_steps_are_a_life, what_was_seen_keeps_the_promise,
 };
 pub use meeting::meet;
+pub use opening::open_parallel;
 pub use port::Port;
 pub use shared::{Refused, Shared};
 pub use tried::Tried;
 
 #[cfg(test)]
 mod example;
+#[cfg(test)]
+mod gate_die;
+#[cfg(test)]
+mod rows;
+#[cfg(test)]
+mod sharing;
 #[cfg(test)]
 mod tests;

@@ -13,7 +13,7 @@ use ufs_spec::Job;
 
 impl<D: Die> Lane<D> {
     /// Does the job, and ends it.
-    fn finish<R: Wait>(&mut self, rt: &R, job: &Job)
+    pub(crate) fn finish<R: Wait>(&mut self, rt: &R, job: &Job)
         requires job { job_of self.old.view.lane ≡ Some job.now }
         requires not_ended { self.old.ended ≡ None }
         ensures { self.new.ended ≡ None }

@@ -95,6 +95,7 @@ fn new_lane<D: Die>(
         number,
         die,
         ended: None,
+        tag: None,
     }
 }
 

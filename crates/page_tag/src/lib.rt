@@ -6,11 +6,13 @@
 mod check;
 mod contents;
 mod front;
+mod jobs;
 mod mark;
 mod mark_read;
 mod page;
 mod settings;
 
 pub use contents::{Content, Mark, content_of};
+pub use jobs::{UnsealedJob, tag_read};
 pub use mark::mark_body;
 pub use page::{leftover_ok, one_seal, open, reopened, seal, sealed_tag};

@@ -17,12 +17,13 @@ ghost use Rattle.ufs_spec.specs.Disk.{Reader as WhoReads, Reading};
 ghost use Rattle.ufs_spec.specs.declared.flash.Place.{Place};
 ghost use Rattle.ftl_core.specs.Describes.{Describes, IsTold};
 ghost use Rattle.ftl_core.specs.Stops.{StopsRight};
+ghost use Rattle.page_tag.specs.Jobs.{IsTagOf, IsTagRead};
 ghost use Rattle.ftl_core.specs.Tells.{IsReadOf};
 ghost use Rattle.ftl_core.specs.declared.ftl.Ended.{Ended};
 
 use super::{Ended, Ftl, move_live, zeros};
 use crate::books::{Book, Flight, Looked, Mending, Pin, Reader, Step};
-use page_tag::{one_seal, sealed_tag};
+use page_tag::one_seal;
 use ufs_spec::{Block, Fence, Key, Outcome, Page, Place, Tag};
 use unit_map::Stored;
 use write_cache::{LAST_NUMBER, Landed};
@@ -43,16 +44,18 @@ fn one_block(bytes: &[u8])
     ensures { IsBlock bytes.now }
 {}
 
-/// The block of the page, where it is the page of this address with this number.
-fn body_of(page: &Page, key: Key, number: u64) -> Option<&Block>
+/// The block of the page, which was sealed with this tag, where it is the page of this address with this
+/// number.
+fn body_of<'a>(page: &'a Page, tag: &Option<Tag>, key: Key, number: u64) -> Option<&'a Block>
+    requires { IsTagOf page.now tag.now }
     ensures { IsBodyOf page.now key number (option_copied result) }
 {
     one_seal();
-    let Some(tag) = sealed_tag(page) else {
+    let Some(tag) = tag else {
         return None;
     };
     one_block(page.body.as_slice());
-    if names(&tag, key, number) {
+    if names(tag, key, number) {
         Some(&page.body)
     } else {
         None
@@ -60,21 +63,23 @@ fn body_of(page: &Page, key: Key, number: u64) -> Option<&Block>
 }
 
 /// The block of the page, where the pin keeps a page and this is it.
-fn body_looked<'a>(page: &'a Page, pin: &Pin) -> Option<&'a Block>
+fn body_looked<'a>(page: &'a Page, tag: &Option<Tag>, pin: &Pin) -> Option<&'a Block>
+    requires { IsTagOf page.now tag.now }
     ensures { IsBodyLooked page.now pin.now.key pin.now.looked (option_copied result) }
 {
     match pin.looked {
-        Looked::Page(stored) => body_of(page, pin.key, stored.number),
+        Looked::Page(stored) => body_of(page, tag, pin.key, stored.number),
         _ => None,
     }
 }
 
 /// What the end of its read gives to the pin's reader.
-fn body_given<'a>(outcome: &'a Outcome, pin: &Pin) -> Option<&'a Block>
+fn body_given<'a>(outcome: &'a Outcome, tag: &Option<Tag>, pin: &Pin) -> Option<&'a Block>
+    requires { IsTagRead outcome.now tag.now }
     ensures { IsGiven outcome.now pin.now (option_copied result) }
 {
     match outcome {
-        Outcome::Read(page) => body_looked(page, pin),
+        Outcome::Read(page) => body_looked(page, tag, pin),
         _ => None,
     }
 }
@@ -168,17 +173,23 @@ fn mending_behind(mending: Mending) -> Mending
 
 /// The block that the end of a read gives to the step under way, where the page is the one that it is read
 /// from.
-fn content_read<'a>(step: &Option<Step>, outcome: &'a Outcome) -> Option<&'a Block>
+fn content_read<'a>(
+    step: &Option<Step>,
+    outcome: &'a Outcome,
+    tag: &Option<Tag>,
+) -> Option<&'a Block>
+    requires { IsTagRead outcome.now tag.now }
     ensures { IsContentRead step.now outcome.now (option_copied result) }
 {
     match outcome {
-        Outcome::Read(page) => content_of_page(step, page),
+        Outcome::Read(page) => content_of_page(step, page, tag),
         _ => None,
     }
 }
 
 /// The block of the page, where it is the one that the step under way is read from.
-fn content_of_page<'a>(step: &Option<Step>, page: &'a Page) -> Option<&'a Block>
+fn content_of_page<'a>(step: &Option<Step>, page: &'a Page, tag: &Option<Tag>) -> Option<&'a Block>
+    requires { IsTagOf page.now tag.now }
     ensures { IsContentOf step.now page.now (option_copied result) }
 {
     match step {
@@ -188,7 +199,7 @@ fn content_of_page<'a>(step: &Option<Step>, page: &'a Page) -> Option<&'a Block>
                 from: Some(stored),
                 ..
             },
-        ) => body_of(page, *key, stored.number),
+        ) => body_of(page, tag, *key, stored.number),
         _ => None,
     }
 }
@@ -456,29 +467,37 @@ impl Ftl {
     }
 
     /// The block that the end of its read gives to the reader.
-    fn body_for<'a>(&self, reader: u8, index: u16, outcome: &'a Outcome) -> Option<&'a Block>
+    fn body_for<'a>(
+        &self,
+        reader: u8,
+        index: u16,
+        outcome: &'a Outcome,
+        tag: &Option<Tag>,
+    ) -> Option<&'a Block>
+        requires { IsTagRead outcome.now tag.now }
         ensures { IsGivenTo outcome.now (pin_of self.now reader index) (option_copied result) }
     {
         match self.pin_of(reader, index) {
-            Some(pin) => body_given(outcome, &pin),
+            Some(pin) => body_given(outcome, tag, &pin),
             None => None,
         }
     }
 
     /// What the end of the read gives: to its reader the block, where the page is the one that was looked
     /// up; to the step under way its content.
-    fn give(&mut self, reader: Reader, outcome: &Outcome) -> Ended
+    fn give(&mut self, reader: Reader, outcome: &Outcome, tag_found: &Option<Tag>) -> Ended
+        requires { IsTagRead outcome.now tag_found.now }
         ensures answer { Gives self.old outcome.now reader result }
         ensures after { IsReadOver self.old outcome.now reader self.new }
     {
         match reader {
             Reader::Task { tag, index } => {
-                let body = self.body_for(tag, index, outcome).copied();
+                let body = self.body_for(tag, index, outcome, tag_found).copied();
                 end_wants(self.pins.as_mut_slice(), tag, index);
                 Ended::Read { reader: tag, body }
             }
             Reader::Step => {
-                self.take_content(outcome);
+                self.take_content(outcome, tag_found);
                 Ended::Other
             }
             Reader::Nobody => Ended::Other,
@@ -487,10 +506,11 @@ impl Ftl {
 
     /// The content of the step under way is there, where the page is the one that it is read from; else it
     /// is owed again.
-    fn take_content(&mut self, outcome: &Outcome)
+    fn take_content(&mut self, outcome: &Outcome, tag: &Option<Tag>)
+        requires { IsTagRead outcome.now tag.now }
         ensures { (body : Option (List ℕ)) × IsContentRead self.old.step outcome.now body × (self.new ≡ with_content self.old body) }
     {
-        if let Some(body) = content_read(&self.step, outcome) {
+        if let Some(body) = content_read(&self.step, outcome, tag) {
             self.content = *body;
             self.step = step_there(self.step);
         }
@@ -503,8 +523,10 @@ impl Ftl {
         book: Book,
         reader: Reader,
         outcome: &Outcome,
+        tag: &Option<Tag>,
     ) -> Option<Ended>
-        requires { slice_get self.old.books die ≡ Some book }
+        requires book { slice_get self.old.books die ≡ Some book }
+        requires tag { IsTagRead outcome.now tag.now }
         ensures answer { GivesIf (is_read outcome.now) self.old outcome.now reader result }
         ensures after { IsReadAfter (is_read outcome.now) self.old die book outcome.now reader self.new }
     {
@@ -512,25 +534,34 @@ impl Ftl {
             return None;
         }
         self.set_flight(die, None);
-        Some(self.give(reader, outcome))
+        Some(self.give(reader, outcome, tag))
     }
 
     /// The end of the job that the die has in flight, if it has one.
-    fn job_ended(&mut self, die: u8, book: Book, outcome: &Outcome) -> Option<Ended>
-        requires { slice_get self.old.books die ≡ Some book }
+    fn job_ended(
+        &mut self,
+        die: u8,
+        book: Book,
+        outcome: &Outcome,
+        tag: &Option<Tag>,
+    ) -> Option<Ended>
+        requires book { slice_get self.old.books die ≡ Some book }
+        requires tag { IsTagRead outcome.now tag.now }
         ensures nothing { IfNone result (self.new ≡ self.old) }
         ensures answer { FlightEnds self.old book.flight outcome.now result }
         ensures after { IsFlightAfter self.old die book book.flight outcome.now self.new }
     {
         match book.flight? {
-            Flight::Read { reader, .. } => self.read_ended(die, book, reader, outcome),
+            Flight::Read { reader, .. } => self.read_ended(die, book, reader, outcome, tag),
             flight => self.change_done(die, book, flight, outcome),
         }
     }
 
     /// Ends the job in flight of the die. `None`, and nothing changes, where the die has no job in
-    /// flight or the outcome is not of its kind.
-    pub fn done(&mut self, die: u8, outcome: &Outcome) -> Option<Ended>
+    /// flight or the outcome is not of its kind. It takes no SHA-256: the tag of the page that was read is
+    /// known (`page_tag::tag_read`).
+    pub fn done(&mut self, die: u8, outcome: &Outcome, tag: &Option<Tag>) -> Option<Ended>
+        requires { IsTagRead outcome.now tag.now }
         ensures nothing { IfNone result (self.new ≡ self.old) }
         ensures answer { IsEnded self.old die outcome.now result }
         ensures after { IsCoreEnded self.old die outcome.now self.new }
@@ -553,7 +584,7 @@ impl Ftl {
         ensures same_claims { claims_for self.new ≡ claims_for self.old }
     {
         let book = self.book(die)?;
-        self.job_ended(die, book, outcome)
+        self.job_ended(die, book, outcome, tag)
     }
 
     /// Does one step of the mending, where one is due: it orders a mark or a repair. False, and nothing

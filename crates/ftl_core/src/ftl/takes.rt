@@ -19,7 +19,7 @@ ghost use Rattle.ufs_spec.specs.declared.flash.Job.TheVariants as job;
 use super::Ftl;
 use crate::books::{Book, Flight, Looked, Pin, Reader, Step, Waiting};
 use block_table::{BlockState, OpenBlock};
-use page_tag::{mark_body, seal};
+use page_tag::{UnsealedJob, mark_body};
 use ufs_spec::{Fence, Job, Key, Place, Tag};
 use write_cache::{LAST_NUMBER, Pending};
 
@@ -443,7 +443,7 @@ impl Ftl {
 
     /// The program of a mark: the configuration and this fence. Until the device is mended the
     /// frontier is the greatest number seen, which is the last of the fence.
-    fn mark_program(&self, place: Place, number: u64, fence: Option<Fence>) -> Job
+    fn mark_program(&self, place: Place, number: u64, fence: Option<Fence>) -> UnsealedJob
         requires { (1 ≤ number) × (number ≤ 2 ^ 62) }
         ensures { result ≡ mark_program self.now place number fence }
     {
@@ -454,21 +454,21 @@ impl Ftl {
         };
         let tag = tag_of(key, number, self.cache.frontier());
         let body = mark_body(self.config.numbers(), fence);
-        Job::Program(place, seal(&tag, &body))
+        UnsealedJob::program(place, &tag, &body)
     }
 
     /// The program of a repair.
-    fn repair_program(&self, place: Place, number: u64, key: Key) -> Job
+    fn repair_program(&self, place: Place, number: u64, key: Key) -> UnsealedJob
         requires numbered { (1 ≤ number) × (number ≤ 2 ^ 62) }
         requires named { is_sealable key ≡ true }
         ensures { result ≡ repair_program self.now place number key }
     {
         let tag = tag_of(key, number, self.cache.frontier());
-        Job::Program(place, seal(&tag, &self.content))
+        UnsealedJob::program(place, &tag, &self.content)
     }
 
     /// The program of the repair, if a tag can name its key.
-    fn repair_job(&self, place: Place, number: u64, key: Key) -> Option<Job>
+    fn repair_job(&self, place: Place, number: u64, key: Key) -> Option<UnsealedJob>
         requires { (1 ≤ number) × (number ≤ 2 ^ 62) }
         ensures { result ≡ repair_job self.now place number key }
     {
@@ -480,7 +480,7 @@ impl Ftl {
     }
 
     /// The program of the page of the step under way.
-    fn step_job(&self, place: Place) -> Option<Job>
+    fn step_job(&self, place: Place) -> Option<UnsealedJob>
         ensures { result ≡ step_job self.now place self.now.step }
     {
         match self.step {
@@ -492,7 +492,7 @@ impl Ftl {
 
     /// The program of the page with this number and index, if it is pending. Only data of a unit is
     /// programmed as a group.
-    fn group_job(&self, place: Place, number: u64, index: u16) -> Option<Job>
+    fn group_job(&self, place: Place, number: u64, index: u16) -> Option<UnsealedJob>
         ensures { result ≡ group_job self.now place number index }
     {
         let page = self.cache.page_named(number, index)?;
@@ -500,22 +500,22 @@ impl Ftl {
             return None;
         }
         let tag = tag_of_page(page, self.cache.frontier());
-        Some(Job::Program(place, seal(&tag, page.body.block())))
+        Some(UnsealedJob::program(place, &tag, page.body.block()))
     }
 
     /// What the die is told to do.
-    fn job_of(&self, die: u8, flight: Flight) -> Option<Job>
+    fn job_of(&self, die: u8, flight: Flight) -> Option<UnsealedJob>
         ensures { result ≡ job_of self.now die flight }
     {
         match flight {
-            Flight::Read { place, .. } => Some(Job::Read(place)),
+            Flight::Read { place, .. } => Some(UnsealedJob::read(place)),
             Flight::Step { place } => self.step_job(place),
             Flight::Group {
                 place,
                 number,
                 index,
             } => self.group_job(place, number, index),
-            Flight::Erase { block } => Some(Job::Erase { die, block }),
+            Flight::Erase { block } => Some(UnsealedJob::erase(die, block)),
         }
     }
 
@@ -581,8 +581,9 @@ impl Ftl {
 
     /// The next job of the die, which is then in flight: a read that is owed, else the program of
     /// the first waiting page, else the erase of a block to put it into. `None` where the die is
-    /// not one of the device, has a job in flight, or is owed nothing.
-    pub fn take(&mut self, die: u8) -> Option<Job>
+    /// not one of the device, has a job in flight, or is owed nothing. It takes no SHA-256: whoever has
+    /// the job seals its page.
+    pub fn take(&mut self, die: u8) -> Option<UnsealedJob>
         ensures nothing { IfNone result (self.new ≡ self.old) }
         ensures job { result ≡ job_taken self.old die }
         ensures after { self.new ≡ core_taken self.old die }

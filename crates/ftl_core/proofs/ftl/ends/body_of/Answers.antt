@@ -3,4 +3,4 @@ use Rattle.ftl_core.proofs.ftl.ends.body_of.Goals as goal
 
 pub returns-in_default : goal.returns-in_default
 returns-in_default c =
-    none_opened c.args.page.now c.args.key c.args.number c.sealed_tag.result c.in_default.not-Some c.sealed_tag.ensures.refused
+    none_opened c.args.page.now c.args.key c.args.number c.args.tag.now c.in_default.not-Some c.requires.refused

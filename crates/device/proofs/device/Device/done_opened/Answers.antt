@@ -6,7 +6,7 @@ use Rattle.power_loss.proofs.books.PagesByName.{none_some, some_is}
 use Rattle.ftl_core.specs.Describes.{IsTold}
 use Rattle.device.proofs.die_calls.CallsRight.{may_end}
 use Rattle.device.proofs.die_calls.EndsTold.{ends_right}
-use Rattle.device.proofs.device.Device.done.Goals as goal
+use Rattle.device.proofs.device.Device.done_opened.Goals as goal
 
 pub returns-in_default-clause-known : goal.returns-in_default-clause-known
 returns-in_default-clause-known c =
