@@ -3,6 +3,8 @@ pub mod JobsLive
 pub mod NamesLive
 pub mod NotedLive
 pub mod OpenedLive
+pub mod PinRooms
+pub mod PinsCounted
 pub mod ProgramsLive
 pub mod SameLive
 pub mod StoredPages

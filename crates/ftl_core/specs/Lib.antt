@@ -6,6 +6,7 @@ pub mod Gives
 pub mod KnownLive
 pub mod Limits
 pub mod Moves
+pub mod PinCounts
 pub mod Rooms
 pub mod Stops
 pub mod Takes

@@ -7,6 +7,7 @@ use Rattle.ftl_core.specs.declared.books.Flight.{Flight}
 use Rattle.ftl_core.specs.declared.books.Step.{Step}
 use Rattle.ftl_core.specs.declared.books.Step.TheVariants as step
 use Rattle.ftl_core.specs.Core.{Core}
+use Rattle.ftl_core.specs.PinCounts.{ArePinsCounted, without_pins}
 
 -- what is known of each die: the block that it fills, and its job in flight
 abbrev pub books_of : List (Option OpenBlock) → List (Option Flight) → List Book
@@ -14,6 +15,7 @@ books_of [] fs = []
 books_of (o ∷ os) [] = []
 books_of (o ∷ os) (f ∷ fs) = record { filling = o; flight = f } ∷ books_of os fs
 
+-- of the live pages no count of pins is seen: it follows from the pins
 abbrev pub core_of : Inside → Core
 core_of f = record {
   numbers = f.config;
@@ -21,7 +23,7 @@ core_of f = record {
   books = books_of f.blocks.filling f.flights.items;
   has_bad = f.blocks.has_bad;
   places = f.places.places;
-  live = f.live;
+  live = without_pins f.live;
   pages = f.cache.pages;
   claims = f.cache.claims;
   frontier = f.cache.frontier;
@@ -57,3 +59,7 @@ pub record IsRoomy (f : Inside) : Type 0 where
   pub pins : length f.pins.items ≤ 1024
   pub pin_room : 1024 ≤ vec_capacity f.pins
   pub units : length f.config.units.items ≤ 8
+  -- the pins of each block are counted
+  pub live_dies : f.live.sizes.dies ≡ length f.flights.items
+  pub live_blocks : f.live.sizes.blocks ≡ f.config.blocks
+  pub pinned : ArePinsCounted f.live f.pins.items

@@ -27,8 +27,10 @@ ghost use Rattle.block_table.specs.Lives.{is_live};
 ghost use Rattle.ftl_core.specs.Tells.{IsPinned, PinsDiffer, claims_of_blocks, group_of_blocks, keeps_for, keeps_of, key_behind};
 
 mod ends;
+mod pin_counts;
 mod takes;
 
+use self::pin_counts::{pin_block, unpin_block_of, unpin_blocks};
 use crate::books::{Flight, Looked, Mending, Pin, Reader, Step};
 use block_table::{BlockState, BlockTable, LivePages, Sizes};
 use geometry::{Config, key_count};
@@ -61,7 +63,8 @@ pub struct Ftl {
     flights: Vec<Option<Flight>>,
     /// Where the durable content of each key is.
     places: UnitMap,
-    /// Which pages are live: those where such a content stands, and those written for pending groups.
+    /// Which pages are live: those where such a content stands, and those written for pending groups;
+    /// and how many pins each block has: one for each page of it that a reader keeps.
     live: LivePages,
     /// The slots: pages of pending groups, and claims for groups to come; and their numbers.
     cache: Cache,
@@ -633,6 +636,7 @@ impl Ftl {
     {
         let key = key_at(key, index);
         let looked = self.look(key);
+        pin_block(&mut self.live, &looked);
         self.pins.push_reserved(Pin {
             reader,
             index,
@@ -653,6 +657,7 @@ impl Ftl {
         ensures same_claims { claims_for self.new ≡ claims_for self.old }
     {
         self.forget(reader);
+        unpin_blocks(&mut self.live, self.pins.as_slice(), reader);
         drop_pins(&mut self.pins, reader);
     }
 
@@ -671,6 +676,7 @@ impl Ftl {
         ensures same_claims { claims_for self.new ≡ claims_for self.old }
     {
         self.forget_one(reader, index);
+        unpin_block_of(&mut self.live, self.pins.as_slice(), reader, index);
         drop_pin(&mut self.pins, reader, index);
         want(self.pins.as_mut_slice(), reader, index as usize + 1);
     }

@@ -1,8 +1,9 @@
 -- What is kept when the layer is opened, from what its parts are then.
-use Rattle.std.proofs.Common.{◌≡◌, ◌∙◌, ◌||◌, ℕ, Bool, List, [], ◌∷◌, None, Option, ap, map, min, refl, replicate}
+use Rattle.std.proofs.Common.{◌≡◌, ◌∙◌, ◌||◌, ℕ, Bool, List, [], ◌∷◌, None, Option, ap, map, min, refl, replicate, take}
 use Rattle.std.specs.Prelude.{◌^◌, option_map}
 use Rattle.std.specs.List.{list_any}
-use Rattle.ufs_spec.specs.Plain.{zero_block}
+use Rattle.geometry.specs.Keys.{key_total}
+use Rattle.ufs_spec.specs.Plain.{shape_of_numbers, zero_block}
 use Rattle.ufs_spec.specs.declared.configs.Numbers.{Numbers}
 use Rattle.ufs_spec.specs.declared.flash.Key.{Key}
 use Rattle.block_table.specs.Blocks.{Blocks, is_bad}
@@ -20,11 +21,13 @@ use Rattle.ftl_core.specs.declared.books.Flight.{Flight}
 use Rattle.ftl_core.specs.declared.books.Mending.{Mending}
 use Rattle.ftl_core.specs.declared.books.Pin.{Pin}
 use Rattle.ftl_core.specs.Core.{Core}
-use Rattle.ftl_core.specs.KnownLive.{lives_of_places}
+use Rattle.ftl_core.specs.KnownLive.{lives_of_places, none_live, sizes_of}
 use Rattle.ftl_core.specs.Moves.{first_mending, is_bad_found, mark_number_behind, opened, state_of_found}
 use Rattle.ftl_core.specs.Moves.{stored_of_found}
+use Rattle.ftl_core.specs.PinCounts.{without_pins}
 use Rattle.ftl_core.specs.Rooms.{books_of}
 use Rattle.ftl_core.proofs.dies.Books.{all_idle}
+use Rattle.ftl_core.proofs.live_pages.PinsCounted.{stored_bare}
 
 -- bad blocks were found to be so
 bad_same : (bs : List FoundBlock) → list_any is_bad (map state_of_found bs) ≡ list_any is_bad_found bs
@@ -98,9 +101,14 @@ pub opened_as : (n : Numbers) (f : Found) (blocks : Blocks) (flights : List (Opt
     states ≡ map state_of_found f.blocks.items → places ≡ map (option_map stored_of_found) f.contents.items →
     last ≡ min f.greatest_seen (2 ^ 62) → pins ≡ [] → mending ≡ first_mending f → content ≡ zero_block →
     next ≡ mark_number_behind f →
-    core_with n blocks flights map_is live cache pins mending f.lost.items content next ≡ opened n f
+    core_with n blocks flights map_is (without_pins live) cache pins mending f.lost.items content next ≡ opened n f
 opened_as n f blocks flights map_is live cache pins mending content next sizes states places last
     eb ef em eq ec es ep el en ed ez ek =
-    (λ i. core_with n (eb i) (ef i) (em i) (eq i) (ec i) (en i) (ed i) f.lost.items (ez i) (ek i))
+    (λ i. core_with n (eb i) (ef i) (em i) (bare i) (ec i) (en i) (ed i) f.lost.items (ez i) (ek i))
     ∙ (λ i. with_lists n f (es i) (all_idle n.dies i) (list_any is_bad (es i)) (ep i) (el i))
     ∙ ap (λ (b : Bool). record (opened n f) { has_bad = b }) (bad_same f.blocks.items)
+  where
+    bare : without_pins live ≡ lives_of_places n places
+    bare =
+        ap without_pins eq
+        ∙ stored_bare (take (key_total (shape_of_numbers n)) places) (none_live (sizes_of n))

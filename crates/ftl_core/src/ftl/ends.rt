@@ -21,6 +21,7 @@ ghost use Rattle.page_tag.specs.Jobs.{IsTagOf, IsTagRead};
 ghost use Rattle.ftl_core.specs.Tells.{IsReadOf};
 ghost use Rattle.ftl_core.specs.declared.ftl.Ended.{Ended};
 
+use super::pin_counts::pin_moves;
 use super::{Ended, Ftl, move_live, zeros};
 use crate::books::{Book, Flight, Looked, Mending, Pin, Reader, Step};
 use page_tag::one_seal;
@@ -342,6 +343,7 @@ impl Ftl {
         ensures { self.new ≡ pins_moved (noted self.old key stored) index stored }
     {
         self.note_place(key, stored);
+        pin_moves(&mut self.live, self.pins.as_slice(), index, stored);
         move_pins(self.pins.as_mut_slice(), index, stored);
     }
 

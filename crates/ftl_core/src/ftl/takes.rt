@@ -91,16 +91,6 @@ fn reads_for(flight: &Option<Flight>, reader: u8, block: u16) -> bool
     }
 }
 
-/// Whether the reader keeps a page of the block.
-fn keeps(pin: &Pin, die: u8, block: u16) -> bool
-    ensures { result ≡ keeps die block pin.now }
-{
-    match pin.looked {
-        Looked::Page(stored) => stored.place.die == die && stored.place.block == block,
-        _ => false,
-    }
-}
-
 /// Whether some die writes the page of the group with this number that has this index.
 fn is_written_now(flights: &[Option<Flight>], number: u64, index: u16) -> bool
     ensures { result ≡ list_any (flight_writes number index) flights.now }
@@ -340,13 +330,17 @@ impl Ftl {
 
     /// Whether a reader keeps a page of the block.
     fn is_pinned(&self, die: u8, block: u16) -> bool
+        requires die_there { die < length self.now.books }
+        requires block_there { block < self.now.numbers.blocks }
         ensures { result ≡ list_any (keeps die block) self.now.pins }
     {
-        self.pins.iter().any(|pin| keeps(pin, die, block))
+        self.live.is_pinned(die, block)
     }
 
     /// Whether the block is free and no reader keeps a page of it.
     fn is_erasable(&self, die: u8, block: u16) -> bool
+        requires die_there { die < length self.now.books }
+        requires block_there { block < self.now.numbers.blocks }
         ensures { result ≡ is_erasable self.now die block }
     {
         self.state(die, block) == BlockState::Free && !self.is_pinned(die, block)
@@ -354,6 +348,7 @@ impl Ftl {
 
     /// The lowest free block of the die without a pin.
     fn lowest_free(&self, die: u8) -> Option<u16>
+        requires { die < length self.now.books }
         ensures found { IfSome result (λ b. (b < self.now.numbers.blocks) × (is_erasable self.now die b ≡ true)) }
         ensures lowest { IfSome result (λ b. (k : ℕ) → k < b → is_erasable self.now die k ≡ false) }
         ensures none { IfNone result ((k : ℕ) → k < self.now.numbers.blocks → is_erasable self.now die k ≡ false) }
@@ -521,6 +516,7 @@ impl Ftl {
 
     /// The block of the die that is erased for what waits, where one may be opened for it.
     fn block_for(&self, die: u8, waiting: Waiting) -> Option<u16>
+        requires { die < length self.now.books }
         ensures { result ≡ block_for self.now die waiting }
     {
         if self.may_open(waiting) {
@@ -533,6 +529,7 @@ impl Ftl {
     /// The job of what waits: it goes to the next page of the open block, and a block is erased for
     /// it if none is open.
     fn waiting_flight(&self, die: u8, book: Book, waiting: Waiting) -> Option<Flight>
+        requires { die < length self.now.books }
         ensures { result ≡ waiting_flight self.now die book.filling waiting }
     {
         let Some(open) = book.filling else {
@@ -568,6 +565,7 @@ impl Ftl {
 
     /// The job that an idle die is owed: a read, else that of what waits first.
     fn owed_flight(&self, die: u8, book: Book) -> Option<Flight>
+        requires { die < length self.now.books }
         ensures { result ≡ owed_flight self.now die book.filling (owed_read self.now die (first_owed self.now die)) }
     {
         match self.owed_read(die) {

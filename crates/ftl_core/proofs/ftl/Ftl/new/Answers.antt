@@ -1,4 +1,9 @@
-use Rattle.std.proofs.Common.{rules}
+use Rattle.std.proofs.Common.{◌≡◌, [], None, replicate, rules, take}
+use Rattle.std.specs.Prelude.{fold}
+use Rattle.ufs_spec.specs.Plain.{shape_of_numbers}
+use Rattle.geometry.specs.Keys.{key_total}
+use Rattle.ftl_core.specs.KnownLive.{none_live, sizes_of, with_stored}
+use Rattle.ftl_core.proofs.live_pages.PinRooms.{first_blocks, first_counted, first_dies, first_long}
 use Rattle.ftl_core.proofs.opened.OpenedParts.{opened_as}
 use Rattle.ftl_core.proofs.opened.OpensFound.{opens_described}
 use Rattle.ftl_core.proofs.stopped.EachStop.{stops_right}
@@ -19,3 +24,29 @@ returns-clause-described c = opens_described c.args.config c.args.found _ (retur
 pub returns-clause-stop : goal.returns-clause-stop
 returns-clause-stop c = λ cells bad t some right within sound found opened.
     stops_right _ _ (returns-clause-described c cells bad t some right within sound found opened)
+
+pub invariant_of-result : goal.invariant_of-result
+invariant_of-result c =
+    let n = c.args.config in
+    let l = c.in_ok-live_at.field-0 in
+    let stored = take (key_total (shape_of_numbers n)) c.in_ok-places.places.items in
+    let live : l ≡ fold with_stored (none_live (sizes_of n)) stored = search rules in
+    let idle : c.in_ok-idle_flights.field-0.items ≡ replicate n.dies None = search rules in
+    let none : c.in_ok-with_capacity.field-0.items ≡ [] = search rules in
+    let filling : c.in_ok-new.field-0.filling ≡ replicate n.dies None = search rules in
+    record {
+      dies = first_long n.dies c.in_ok-new.field-0.filling c.in_ok-idle_flights.field-0.items filling idle;
+      blocks = search rules;
+      block_pages = search rules;
+      keys = search rules;
+      slots = search rules;
+      first_mark = search rules;
+      last_mark = search rules;
+      step = search rules;
+      pins = search rules;
+      pin_room = search rules;
+      units = search rules;
+      live_dies = first_dies (sizes_of n) l stored c.in_ok-idle_flights.field-0.items live idle;
+      live_blocks = first_blocks (sizes_of n) l stored live;
+      pinned = first_counted (sizes_of n) l stored c.in_ok-with_capacity.field-0.items live none;
+    }

@@ -1,0 +1,13 @@
+use Rattle.std.proofs.Common.{ap, arith, length}
+use Rattle.ftl_core.specs.Core.{Core}
+use Rattle.ftl_core.proofs.live_pages.PinRooms.{roomy_pinned}
+use Rattle.ftl_core.proofs.ftl.Ftl.pin.Goals as goal
+
+pub invariant_of-self : goal.invariant_of-self
+invariant_of-self c =
+    let few = c.requires in
+    let seen = ap (λ (z : Core). length z.pins) c.self.view_is in
+    let room = c.self.invariant.pin_room in
+    let kept = c.push_reserved.ensures.capacity in
+    roomy_pinned c.self.inside c.pin_block.new.live c.push_reserved.new.self _ c.self.invariant c.pin_block.ensures.is
+    c.push_reserved.ensures.items (omega (arith, few, seen)) (omega (arith, room, kept))

@@ -1,0 +1,120 @@
+-- The layer's fields go on to be right after what changes pins.
+use Rattle.std.proofs.Common.{◌≡◌, ◌∙◌, ℕ, ◌<◌, ◌≤◌, ◌++◌, Bool, not, List, [], ◌∷◌, Option, None, ap, arith, length, map}
+use Rattle.std.proofs.Common.{length-append, replicate, subst, sym, Global, Vec, vec_capacity}
+use Rattle.std.specs.Prelude.{filter, fold}
+use Rattle.std.proofs.lemmas.List.{length-map, length-replicate}
+use Rattle.block_table.specs.Lives.{Lives}
+use Rattle.block_table.specs.declared.OpenBlock.{OpenBlock}
+use Rattle.block_table.specs.declared.Sizes.{Sizes}
+use Rattle.unit_map.specs.declared.Stored.{Stored}
+use Rattle.ftl_core.specs.declared.books.Flight.{Flight}
+use Rattle.ftl_core.specs.declared.books.Pin.{Pin}
+use Rattle.ftl_core.specs.declared.ftl.Ftl.TheInside.{Inside}
+use Rattle.ftl_core.specs.KnownLive.{none_live, with_stored}
+use Rattle.ftl_core.specs.Moves.{moved_pin}
+use Rattle.ftl_core.specs.PinCounts.{ArePinsCounted, block_pinned, let_go, pin_moves, without_pins}
+use Rattle.ftl_core.specs.Rooms.{IsRoomy}
+use Rattle.ftl_core.proofs.live_pages.PinsCounted.{gone_bare, gone_counted, looked_counted, moved_counted, moves_bare}
+use Rattle.ftl_core.proofs.live_pages.PinsCounted.{none_counted, pinned_bare, pinned_counted, stored_counted, stored_sizes}
+
+counted_as : (l m : Lives) (ps qs : List Pin) → l ≡ m → ps ≡ qs → ArePinsCounted m qs → ArePinsCounted l ps
+counted_as l m ps qs e g h =
+    subst (λ (z : Lives). ArePinsCounted z ps) (sym e) (subst (λ (z : List Pin). ArePinsCounted m z) (sym g) h)
+
+-- other pins, and as many as there are now of each block
+roomy_on : (f : Inside) (l : Lives) (ps : Vec Pin Global) → IsRoomy f → without_pins l ≡ without_pins f.live →
+    length ps.items ≤ 1024 → 1024 ≤ vec_capacity ps → ArePinsCounted l ps.items →
+    IsRoomy (record f { live = l; pins = ps })
+roomy_on f l ps h same few room counted = record {
+  dies = h.dies;
+  blocks = h.blocks;
+  block_pages = h.block_pages;
+  keys = h.keys;
+  slots = h.slots;
+  first_mark = h.first_mark;
+  last_mark = h.last_mark;
+  step = h.step;
+  pins = few;
+  pin_room = room;
+  units = h.units;
+  live_dies = ap (λ (m : Lives). m.sizes.dies) same ∙ h.live_dies;
+  live_blocks = ap (λ (m : Lives). m.sizes.blocks) same ∙ h.live_blocks;
+  pinned = counted;
+}
+
+-- a pin more
+pub roomy_pinned : (f : Inside) (l : Lives) (ps : Vec Pin Global) (p : Pin) → IsRoomy f →
+    l ≡ block_pinned f.live p.looked → ps.items ≡ f.pins.items ++ p ∷ [] → length f.pins.items < 1024 →
+    1024 ≤ vec_capacity ps → IsRoomy (record f { live = l; pins = ps })
+roomy_pinned f l ps p h is items few room =
+    roomy_on f l ps h (ap without_pins is ∙ pinned_bare f.live p.looked)
+    (let e = ap (λ (xs : List Pin). length xs) items in
+    let g = length-append f.pins.items (p ∷ []) in omega (arith, e, g, few))
+    room
+    (counted_as l (block_pinned f.live p.looked) ps.items (f.pins.items ++ p ∷ []) is items
+    (pinned_counted f.live f.pins.items p h.pinned h.pins))
+
+-- pins that go
+pub roomy_left : (goes : Pin → Bool) (f : Inside) (l : Lives) (ps : Vec Pin Global) (seen : List Pin) → IsRoomy f →
+    seen ≡ f.pins.items → l ≡ fold (let_go goes) f.live seen →
+    ps.items ≡ filter (λ p. not (goes p)) f.pins.items → length ps.items ≤ length f.pins.items →
+    vec_capacity ps ≡ vec_capacity f.pins → IsRoomy (record f { live = l; pins = ps })
+roomy_left goes f l ps seen h read is items fewer room =
+    roomy_on f l ps h (ap without_pins is ∙ gone_bare goes seen f.live)
+    (let g = h.pins in omega (arith, fewer, g)) (let g = h.pin_room in omega (arith, g, room))
+    (counted_as l (fold (let_go goes) f.live f.pins.items) ps.items (filter (λ p. not (goes p)) f.pins.items)
+    (is ∙ ap (λ (xs : List Pin). fold (let_go goes) f.live xs) read) items
+    (gone_counted goes f.pins.items f.live h.pinned))
+
+-- pins that keep a page in the place of its slot
+pub roomy_moved : (index : ℕ) (st : Stored) (f : Inside) (l : Lives) (ps : Vec Pin Global) (seen : List Pin) →
+    IsRoomy f → seen ≡ f.pins.items → l ≡ fold (pin_moves index st) f.live seen →
+    ps.items ≡ map (moved_pin index st) f.pins.items → vec_capacity ps ≡ vec_capacity f.pins →
+    IsRoomy (record f { live = l; pins = ps })
+roomy_moved index st f l ps seen h read is items room =
+    roomy_on f l ps h (ap without_pins is ∙ moves_bare index st seen f.live)
+    (let e = ap (λ (xs : List Pin). length xs) items in
+    let g = length-map f.pins.items (moved_pin index st) in let k = h.pins in omega (arith, e, g, k))
+    (let g = h.pin_room in omega (arith, g, room))
+    (counted_as l (fold (pin_moves index st) f.live f.pins.items) ps.items (map (moved_pin index st) f.pins.items)
+    (is ∙ ap (λ (xs : List Pin). fold (pin_moves index st) f.live xs) read) items
+    (moved_counted index st f.pins.items f.live h.pinned h.pins))
+
+-- pins that look at the same
+pub roomy_looked : (g : Pin → Pin) (f : Inside) (ps : Vec Pin Global) → IsRoomy f →
+    ((p : Pin) → (g p).looked ≡ p.looked) → ps.items ≡ map g f.pins.items → vec_capacity ps ≡ vec_capacity f.pins →
+    IsRoomy (record f { pins = ps })
+roomy_looked g f ps h same items room =
+    roomy_on f f.live ps h (λ i. without_pins f.live)
+    (let e = ap (λ (xs : List Pin). length xs) items in
+    let m = length-map f.pins.items g in let k = h.pins in omega (arith, e, m, k))
+    (let m = h.pin_room in omega (arith, m, room))
+    (subst (λ (z : List Pin). ArePinsCounted f.live z) (sym items) (looked_counted g same f.live f.pins.items h.pinned))
+
+-- at first there are none
+pub first_counted : (n : Sizes) (l : Lives) (places : List (Option Stored)) (ps : List Pin) →
+    l ≡ fold with_stored (none_live n) places → ps ≡ [] → ArePinsCounted l ps
+first_counted n l places ps is none =
+    counted_as l (fold with_stored (none_live n) places) ps [] is none
+    (stored_counted places (none_live n) [] (none_counted n))
+
+first_sizes : (n : Sizes) (l : Lives) (places : List (Option Stored)) → l ≡ fold with_stored (none_live n) places →
+    l.sizes ≡ n
+first_sizes n l places is = ap (λ (m : Lives). m.sizes) is ∙ stored_sizes places (none_live n)
+
+pub first_dies : (n : Sizes) (l : Lives) (places : List (Option Stored)) (flights : List (Option Flight)) →
+    l ≡ fold with_stored (none_live n) places → flights ≡ replicate n.dies None → l.sizes.dies ≡ length flights
+first_dies n l places flights is idle =
+    ap (λ (m : Sizes). m.dies) (first_sizes n l places is)
+    ∙ sym (ap (λ (fs : List (Option Flight)). length fs) idle ∙ length-replicate n.dies None)
+
+pub first_blocks : (n : Sizes) (l : Lives) (places : List (Option Stored)) →
+    l ≡ fold with_stored (none_live n) places → l.sizes.blocks ≡ n.blocks
+first_blocks n l places is = ap (λ (m : Sizes). m.blocks) (first_sizes n l places is)
+
+pub first_long : (n : ℕ) (filling : List (Option OpenBlock)) (flights : List (Option Flight)) →
+    filling ≡ replicate n None → flights ≡ replicate n None → length filling ≡ length flights
+first_long n filling flights none idle =
+    ap (λ (os : List (Option OpenBlock)). length os) none
+    ∙ length-replicate n None
+    ∙ sym (ap (λ (fs : List (Option Flight)). length fs) idle ∙ length-replicate n None)

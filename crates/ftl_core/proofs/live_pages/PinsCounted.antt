@@ -1,0 +1,336 @@
+-- Each block has as many pins as readers keep pages of it, and goes on to have as many.
+use Rattle.std.proofs.Common.{◌≡◌, ◌≢◌, ◌∙◌, ◌⊎◌, ℕ, suc, ◌+◌, ◌-◌, ◌*◌, ◌<◌, ◌≤◌, ◌++◌, ◌||◌, Bool, true, false}
+use Rattle.std.proofs.Common.{cond, not, List, [], ◌∷◌, Option, Some, None, ap, arith, length, length-append, refl, sym}
+use Rattle.std.proofs.Common.{inl, inr, map, min}
+use Rattle.std.specs.Prelude.{◌^◌, ◌==◌, ◌&&◌, filter, fold, if◌then◌else◌, nat_lt, slice_get, slice_set, unwrap_or}
+use Rattle.std.specs.List.{list_any}
+use Rattle.std.proofs.Math.Nat.{min-eq_left}
+use Rattle.std.proofs.lemmas.List.Elements.{filter-append}
+use Rattle.ufs_spec.proofs.Equalities.{spot_cases, spot_self}
+use Rattle.ufs_spec.proofs.Facts.{and_from, cases_Bool, false≢true, lt-ltb}
+use Rattle.ufs_spec.proofs.Lists.{set_other, set_there}
+use Rattle.ufs_spec.specs.Disk.{Spot, same_spot, spot_of}
+use Rattle.ufs_spec.specs.declared.flash.Place.{Place}
+use Rattle.block_table.specs.Lives.{Lives, block_place, has_block, pins_of, with_live, with_pins}
+use Rattle.block_table.specs.declared.Sizes.{Sizes}
+use Rattle.block_table.proofs.LiveCounts.{one, one_spot, replicate_there, spot_inside}
+use Rattle.unit_map.specs.declared.Stored.{Stored}
+use Rattle.ftl_core.specs.declared.books.Looked.{Looked}
+use Rattle.ftl_core.specs.declared.books.Looked.TheVariants as looked
+use Rattle.ftl_core.specs.declared.books.Pin.{Pin}
+use Rattle.ftl_core.specs.KnownLive.{live_moved, none_live, with_stored}
+use Rattle.ftl_core.specs.Moves.{keeps, keeps_page, moved_pin, now_stored}
+use Rattle.ftl_core.specs.PinCounts.{ArePinsCounted, block_pinned, block_unpinned, is_slot_of, let_go, pin_moves}
+use Rattle.ftl_core.specs.PinCounts.{pins_on, without_pins}
+
+-- Counts of blocks
+
+-- each block of the dies has the pins that are counted for it
+abbrev pub HasCounts : Lives → (Spot → ℕ) → Type 0
+HasCounts l c = (s : Spot) → has_block l.sizes s ≡ true → slice_get l.pins (block_place l.sizes s) ≡ Some (c s)
+
+counts_as : (l : Lives) (c d : Spot → ℕ) → ((s : Spot) → c s ≡ d s) → HasCounts l c → HasCounts l d
+counts_as l c d same kept s there = kept s there ∙ ap (λ (n : ℕ). Some n) (same s)
+
+-- the count that is read is that of the block
+counted_pins : (l : Lives) (t : Spot) (c : Spot → ℕ) → HasCounts l c → has_block l.sizes t ≡ true → pins_of l t ≡ c t
+counted_pins l t c kept there =
+    ap (λ (b : Bool). if b then unwrap_or (slice_get l.pins (block_place l.sizes t)) 0 else 0) there
+    ∙ ap (λ (o : Option ℕ). unwrap_or o 0) (kept t there)
+
+-- another count of one block
+counts_set : (l : Lives) (t : Spot) (n : ℕ) (c d : Spot → ℕ) → HasCounts l c →
+    (has_block l.sizes t ≡ true → n ≡ d t) → ((s : Spot) → s ≢ t → c s ≡ d s) → HasCounts (with_pins l t n) d
+counts_set l t n c d kept here others s there = by (cases_Bool (has_block l.sizes t)) (spot_cases s t)
+  where
+    after : Bool → Option ℕ
+    after b = slice_get (if b then slice_set l.pins (block_place l.sizes t) n else l.pins) (block_place l.sizes s)
+
+    by : (has_block l.sizes t ≡ true) ⊎ (has_block l.sizes t ≡ false) →
+        ((same_spot s t ≡ true) × (s ≡ t)) ⊎ ((same_spot s t ≡ false) × (s ≢ t)) →
+        after (has_block l.sizes t) ≡ Some (d s)
+    by (inl h) (inl e) =
+        ap after h
+        ∙ ap (λ (r : Spot). slice_get (slice_set l.pins (block_place l.sizes t) n) (block_place l.sizes r)) e.1
+        ∙ set_there l.pins (block_place l.sizes t) (c t) n (kept t h)
+        ∙ ap (λ (m : ℕ). Some m) (here h ∙ ap d (sym e.1))
+    by (inl h) (inr e) =
+        ap after h
+        ∙ set_other l.pins (block_place l.sizes t) (block_place l.sizes s) n
+        (λ w. e.1 (one_spot l.sizes s t there h w))
+        ∙ kept s there
+        ∙ ap (λ (m : ℕ). Some m) (others s e.1)
+    by (inr h) (inl e) = absurd (false≢true (sym h ∙ ap (has_block l.sizes) (sym e.1) ∙ there))
+    by (inr h) (inr e) = ap after h ∙ kept s there ∙ ap (λ (m : ℕ). Some m) (others s e.1)
+
+-- One pin
+
+keeps_here : (st : Stored) → keeps_page st.place.die st.place.block (looked.Page st) ≡ true
+keeps_here st = spot_self (spot_of st.place)
+
+keeps_beside : (s : Spot) (st : Stored) → s ≢ spot_of st.place →
+    keeps_page s.die s.block (looked.Page st) ≡ false
+keeps_beside s st apart = by (spot_cases (spot_of st.place) s)
+  where
+    by : ((same_spot (spot_of st.place) s ≡ true) × (spot_of st.place ≡ s))
+        ⊎ ((same_spot (spot_of st.place) s ≡ false) × (spot_of st.place ≢ s)) →
+        keeps_page s.die s.block (looked.Page st) ≡ false
+    by (inl e) = absurd (apart (sym e.1))
+    by (inr e) = e.0
+
+-- what is looked at is a page of the block, or none is
+abbrev pub on_block : Spot → Looked → ℕ
+on_block s k = one (keeps_page s.die s.block k)
+
+least : (n : ℕ) → n ≤ 1024 → min (n + 1) (2 ^ 32 - 1) ≡ n + 1
+least n l = min-eq_left (omega (arith, l))
+
+block_counted : (l : Lives) (k : Looked) (c d : Spot → ℕ) → HasCounts l c → ((s : Spot) → c s ≤ 1024) →
+    ((s : Spot) → d s ≡ on_block s k + c s) → HasCounts (block_pinned l k) d
+block_counted l (looked.Page st) c d kept few is =
+    counts_set l t (min (pins_of l t + 1) (2 ^ 32 - 1)) c d kept
+    (λ there.
+    ap (λ (n : ℕ). min (n + 1) (2 ^ 32 - 1)) (counted_pins l t c kept there)
+    ∙ least (c t) (few t)
+    ∙ (let e : on_block t (looked.Page st) ≡ 1 = ap one (keeps_here st) in let f = is t in omega (arith, e, f)))
+    (λ s apart.
+    let e : on_block s (looked.Page st) ≡ 0 = ap one (keeps_beside s st apart) in
+    let f = is s in omega (arith, e, f))
+  where
+    t : Spot
+    t = spot_of st.place
+block_counted l (looked.Slot n i) c d kept few is = counts_as l c d (λ s. let f = is s in omega (arith, f)) kept
+block_counted l looked.Nothing c d kept few is = counts_as l c d (λ s. let f = is s in omega (arith, f)) kept
+
+block_uncounted : (l : Lives) (k : Looked) (c d : Spot → ℕ) → HasCounts l c →
+    ((s : Spot) → c s ≡ on_block s k + d s) → HasCounts (block_unpinned l k) d
+block_uncounted l (looked.Page st) c d kept is =
+    counts_set l t (pins_of l t - 1) c d kept
+    (λ there.
+    ap (λ (n : ℕ). n - 1) (counted_pins l t c kept there)
+    ∙ (let e : on_block t (looked.Page st) ≡ 1 = ap one (keeps_here st) in let f = is t in omega (arith, e, f)))
+    (λ s apart.
+    let e : on_block s (looked.Page st) ≡ 0 = ap one (keeps_beside s st apart) in
+    let f = is s in omega (arith, e, f))
+  where
+    t : Spot
+    t = spot_of st.place
+block_uncounted l (looked.Slot n i) c d kept is = counts_as l c d (λ s. let f = is s in omega (arith, f)) kept
+block_uncounted l looked.Nothing c d kept is = counts_as l c d (λ s. let f = is s in omega (arith, f)) kept
+
+-- Pins of a list
+
+one_more : (p : Pin) (ps : List Pin) (b : Bool) → length (cond b (p ∷ ps) ps) ≡ one b + length ps
+one_more p ps true = omega arith
+one_more p ps false = omega arith
+
+pins_next : (s : Spot) (p : Pin) (ps : List Pin) → pins_on s (p ∷ ps) ≡ on_block s p.looked + pins_on s ps
+pins_next s p ps = one_more p (filter (keeps s.die s.block) ps) (keeps s.die s.block p)
+
+pins_few : (s : Spot) (ps : List Pin) → pins_on s ps ≤ length ps
+pins_few s [] = omega arith
+pins_few s (p ∷ ps) =
+    let e = pins_next s p ps in let f = pins_few s ps in let g = bit (keeps s.die s.block p) in omega (arith, e, f, g)
+  where
+    bit : (b : Bool) → one b ≤ 1
+    bit true = omega arith
+    bit false = omega arith
+
+pins_behind : (s : Spot) (ps : List Pin) (p : Pin) → pins_on s (ps ++ p ∷ []) ≡ on_block s p.looked + pins_on s ps
+pins_behind s ps p =
+    let e : pins_on s (ps ++ p ∷ []) ≡ length (filter (keeps s.die s.block) ps ++ filter (keeps s.die s.block) (p ∷ []))
+    = ap length (filter-append (keeps s.die s.block) ps (p ∷ [])) in
+    let f = length-append (filter (keeps s.die s.block) ps) (filter (keeps s.die s.block) (p ∷ [])) in
+    let g = pins_next s p [] in
+    omega (arith, e, f, g)
+
+-- a pin more
+pub pinned_counted : (l : Lives) (ps : List Pin) (p : Pin) → ArePinsCounted l ps → length ps ≤ 1024 →
+    ArePinsCounted (block_pinned l p.looked) (ps ++ p ∷ [])
+pinned_counted l ps p kept few =
+    block_counted l p.looked (λ s. pins_on s ps) (λ s. pins_on s (ps ++ p ∷ [])) kept
+    (λ s. let h = pins_few s ps in omega (arith, h, few)) (λ s. pins_behind s ps p)
+
+-- the pins that pass go
+gone : (goes : Pin → Bool) (ps : List Pin) (l : Lives) (c : Spot → ℕ) → HasCounts l (λ s. pins_on s ps + c s) →
+    HasCounts (fold (let_go goes) l ps) (λ s. pins_on s (filter (λ p. not (goes p)) ps) + c s)
+gone goes [] l c kept = kept
+gone goes (p ∷ ps) l c kept = by (goes p) (λ m d h. gone goes ps m d h)
+  where
+    left : List Pin
+    left = filter (λ q. not (goes q)) ps
+
+    by : (b : Bool) → ((m : Lives) (d : Spot → ℕ) → HasCounts m (λ s. pins_on s ps + d s) →
+        HasCounts (fold (let_go goes) m ps) (λ s. pins_on s (filter (λ q. not (goes q)) ps) + d s)) →
+        HasCounts (fold (let_go goes) (if b then block_unpinned l p.looked else l) ps)
+        (λ s. pins_on s (cond (not b) (p ∷ left) left) + c s)
+    by true rest = rest (block_unpinned l p.looked) c
+        (block_uncounted l p.looked (λ s. pins_on s (p ∷ ps) + c s) (λ s. pins_on s ps + c s) kept
+        (λ s. let e = pins_next s p ps in omega (arith, e)))
+    by false rest = counts_as (fold (let_go goes) l ps) (λ s. pins_on s left + (on_block s p.looked + c s))
+        (λ s. pins_on s (p ∷ left) + c s)
+        (λ s. let e = pins_next s p left in omega (arith, e))
+        (rest l (λ s. on_block s p.looked + c s)
+        (counts_as l (λ s. pins_on s (p ∷ ps) + c s) (λ s. pins_on s ps + (on_block s p.looked + c s))
+        (λ s. let e = pins_next s p ps in omega (arith, e)) kept))
+
+pub gone_counted : (goes : Pin → Bool) (ps : List Pin) (l : Lives) → ArePinsCounted l ps →
+    ArePinsCounted (fold (let_go goes) l ps) (filter (λ p. not (goes p)) ps)
+gone_counted goes ps l kept =
+    counts_as (fold (let_go goes) l ps) (λ s. pins_on s (filter (λ p. not (goes p)) ps) + 0)
+    (λ s. pins_on s (filter (λ p. not (goes p)) ps)) (λ s. omega arith)
+    (gone goes ps l (λ s. 0) (counts_as l (λ s. pins_on s ps) (λ s. pins_on s ps + 0) (λ s. omega arith) kept))
+
+-- the pins of a slot are those of a block
+module _ (index : ℕ) (st : Stored) where
+  moved_once : (l : Lives) (k : Looked) (c : Spot → ℕ) → ((s : Spot) → c s ≤ 1024) →
+      HasCounts l (λ s. on_block s k + c s) →
+      HasCounts (if is_slot_of index st k then block_pinned l (looked.Page st) else l)
+      (λ s. on_block s (now_stored index st k) + c s)
+  moved_once l (looked.Slot n i) c few kept = by ((n == st.number) && (i == index))
+    where
+      by : (b : Bool) → HasCounts (if b then block_pinned l (looked.Page st) else l)
+          (λ s. on_block s (if b then looked.Page st else looked.Slot n i) + c s)
+      by true = block_counted l (looked.Page st) c (λ s. on_block s (looked.Page st) + c s)
+          (counts_as l (λ s. on_block s (looked.Slot n i) + c s) c (λ s. omega arith) kept) few (λ s. refl)
+      by false = kept
+  moved_once l (looked.Page t) c few kept = kept
+  moved_once l looked.Nothing c few kept = kept
+
+  bit : (b : Bool) → one b ≤ 1
+  bit true = omega arith
+  bit false = omega arith
+
+  moves : (ps : List Pin) (l : Lives) (c : Spot → ℕ) → ((s : Spot) → length ps + c s ≤ 1024) →
+      HasCounts l (λ s. pins_on s ps + c s) →
+      HasCounts (fold (pin_moves index st) l ps) (λ s. pins_on s (map (moved_pin index st) ps) + c s)
+  moves [] l c few kept = kept
+  moves (p ∷ ps) l c few kept =
+      counts_as (fold (pin_moves index st) (pin_moves index st l p) ps)
+      (λ s. pins_on s (map (moved_pin index st) ps) + (on_block s (now_stored index st p.looked) + c s))
+      (λ s. pins_on s (map (moved_pin index st) (p ∷ ps)) + c s)
+      (λ s. let e = pins_next s (moved_pin index st p) (map (moved_pin index st) ps) in omega (arith, e))
+      (moves ps (pin_moves index st l p) (λ s. on_block s (now_stored index st p.looked) + c s)
+      (λ s.
+      let h = few s in
+      let g = bit (keeps_page s.die s.block (now_stored index st p.looked)) in omega (arith, h, g))
+      (counts_as (pin_moves index st l p)
+      (λ s. on_block s (now_stored index st p.looked) + (pins_on s ps + c s))
+      (λ s. pins_on s ps + (on_block s (now_stored index st p.looked) + c s))
+      (λ s. omega arith)
+      (moved_once l p.looked (λ s. pins_on s ps + c s)
+      (λ s. let h = few s in let g = pins_few s ps in omega (arith, h, g))
+      (counts_as l (λ s. pins_on s (p ∷ ps) + c s) (λ s. on_block s p.looked + (pins_on s ps + c s))
+      (λ s. let e = pins_next s p ps in omega (arith, e)) kept))))
+
+  pub moved_counted : (ps : List Pin) (l : Lives) → ArePinsCounted l ps → length ps ≤ 1024 →
+      ArePinsCounted (fold (pin_moves index st) l ps) (map (moved_pin index st) ps)
+  moved_counted ps l kept few =
+      counts_as (fold (pin_moves index st) l ps) (λ s. pins_on s (map (moved_pin index st) ps) + 0)
+      (λ s. pins_on s (map (moved_pin index st) ps)) (λ s. omega arith)
+      (moves ps l (λ s. 0) (λ s. omega (arith, few))
+      (counts_as l (λ s. pins_on s ps) (λ s. pins_on s ps + 0) (λ s. omega arith) kept))
+
+-- pins that go on to look at the same
+as_looked : (g : Pin → Pin) → ((p : Pin) → (g p).looked ≡ p.looked) → (s : Spot) (ps : List Pin) →
+    pins_on s (map g ps) ≡ pins_on s ps
+as_looked g same s [] = refl
+as_looked g same s (p ∷ ps) =
+    let e = pins_next s (g p) (map g ps) in
+    let f = pins_next s p ps in
+    let h = as_looked g same s ps in
+    let k : on_block s (g p).looked ≡ on_block s p.looked = ap (on_block s) (same p) in
+    omega (arith, e, f, h, k)
+
+pub looked_counted : (g : Pin → Pin) → ((p : Pin) → (g p).looked ≡ p.looked) → (l : Lives) (ps : List Pin) →
+    ArePinsCounted l ps → ArePinsCounted l (map g ps)
+looked_counted g same l ps kept =
+    counts_as l (λ s. pins_on s ps) (λ s. pins_on s (map g ps)) (λ s. sym (as_looked g same s ps)) kept
+
+-- A block with pins is one of which a page is kept
+
+some_kept : (die block : ℕ) (ps : List Pin) →
+    nat_lt 0 (length (filter (keeps die block) ps)) ≡ list_any (keeps die block) ps
+some_kept die block [] = refl
+some_kept die block (p ∷ ps) = by (keeps die block p) (some_kept die block ps)
+  where
+    by : (b : Bool) → nat_lt 0 (length (filter (keeps die block) ps)) ≡ list_any (keeps die block) ps →
+        nat_lt 0 (length (cond b (p ∷ filter (keeps die block) ps) (filter (keeps die block) ps)))
+        ≡ (b || list_any (keeps die block) ps)
+    by true rest = lt-ltb 0 (suc (length (filter (keeps die block) ps))) (omega arith)
+    by false rest = rest
+
+pub pinned_is : (l : Lives) (ps : List Pin) (die block : ℕ) → ArePinsCounted l ps → die < l.sizes.dies →
+    block < l.sizes.blocks → nat_lt 0 (pins_of l (record { die = die; block = block })) ≡ list_any (keeps die block) ps
+pinned_is l ps die block kept in_dies in_blocks =
+    ap (nat_lt 0) (counted_pins l (record { die = die; block = block }) (λ s. pins_on s ps) kept
+    (and_from _ _ (lt-ltb die l.sizes.dies in_dies) (lt-ltb block l.sizes.blocks in_blocks)))
+    ∙ some_kept die block ps
+
+-- Which pages are live, without the pins of blocks
+
+pub pinned_bare : (l : Lives) (k : Looked) → without_pins (block_pinned l k) ≡ without_pins l
+pinned_bare l (looked.Page st) = refl
+pinned_bare l (looked.Slot n i) = refl
+pinned_bare l looked.Nothing = refl
+
+unpinned_bare : (l : Lives) (k : Looked) → without_pins (block_unpinned l k) ≡ without_pins l
+unpinned_bare l (looked.Page st) = refl
+unpinned_bare l (looked.Slot n i) = refl
+unpinned_bare l looked.Nothing = refl
+
+pub gone_bare : (goes : Pin → Bool) (ps : List Pin) (l : Lives) →
+    without_pins (fold (let_go goes) l ps) ≡ without_pins l
+gone_bare goes [] l = refl
+gone_bare goes (p ∷ ps) l = gone_bare goes ps (let_go goes l p) ∙ by (goes p)
+  where
+    by : (b : Bool) → without_pins (if b then block_unpinned l p.looked else l) ≡ without_pins l
+    by true = unpinned_bare l p.looked
+    by false = refl
+
+pub moves_bare : (index : ℕ) (st : Stored) (ps : List Pin) (l : Lives) →
+    without_pins (fold (pin_moves index st) l ps) ≡ without_pins l
+moves_bare index st [] l = refl
+moves_bare index st (p ∷ ps) l = moves_bare index st ps (pin_moves index st l p) ∙ by (is_slot_of index st p.looked)
+  where
+    by : (b : Bool) → without_pins (if b then block_pinned l (looked.Page st) else l) ≡ without_pins l
+    by true = refl
+    by false = refl
+
+pub noted_bare : (l : Lives) (old : Option Stored) (p : Place) →
+    without_pins (live_moved l old p) ≡ live_moved (without_pins l) old p
+noted_bare l None p = refl
+noted_bare l (Some s) p = refl
+
+-- Which pages are live changes no pins
+
+pub noted_sizes : (l : Lives) (old : Option Stored) (p : Place) → (live_moved l old p).sizes ≡ l.sizes
+noted_sizes l None p = refl
+noted_sizes l (Some s) p = refl
+
+pub noted_counted : (l : Lives) (old : Option Stored) (p : Place) (ps : List Pin) → ArePinsCounted l ps →
+    ArePinsCounted (live_moved l old p) ps
+noted_counted l None p ps kept = kept
+noted_counted l (Some s) p ps kept = kept
+
+-- At first no block has a pin
+
+pub stored_bare : (ps : List (Option Stored)) (l : Lives) → without_pins (fold with_stored l ps) ≡
+    fold with_stored (without_pins l) ps
+stored_bare [] l = refl
+stored_bare (None ∷ ps) l = stored_bare ps l
+stored_bare (Some s ∷ ps) l = stored_bare ps (with_live l s.place true)
+
+pub stored_sizes : (ps : List (Option Stored)) (l : Lives) → (fold with_stored l ps).sizes ≡ l.sizes
+stored_sizes [] l = refl
+stored_sizes (None ∷ ps) l = stored_sizes ps l
+stored_sizes (Some s ∷ ps) l = stored_sizes ps (with_live l s.place true)
+
+pub stored_counted : (ps : List (Option Stored)) (l : Lives) (pins : List Pin) → ArePinsCounted l pins →
+    ArePinsCounted (fold with_stored l ps) pins
+stored_counted [] l pins kept = kept
+stored_counted (None ∷ ps) l pins kept = stored_counted ps l pins kept
+stored_counted (Some s ∷ ps) l pins kept = stored_counted ps (with_live l s.place true) pins kept
+
+pub none_counted : (n : Sizes) → ArePinsCounted (none_live n) []
+none_counted n s there = replicate_there (n.dies * n.blocks) (block_place n s) 0 (spot_inside n s there)

@@ -1,0 +1,95 @@
+//! How many pins each block has: one for each page of it that a reader keeps.
+ghost use Rattle.std.specs.Prelude.{◌≡◌, ℕ, fold};
+ghost use Rattle.ftl_core.specs.Moves.{is_of_reader, is_pin_of};
+ghost use Rattle.ftl_core.specs.PinCounts.{block_pinned, block_unpinned, is_slot_of, let_go, pin_moves, without_pins};
+
+use super::{is_of_reader, is_pin_of};
+use crate::books::{Looked, Pin};
+use block_table::LivePages;
+use unit_map::Stored;
+
+/// The block of the page that is looked at has one pin more, if a page is looked at.
+pub(super) fn pin_block(live: &mut LivePages, looked: &Looked)
+    ensures is { live.new ≡ block_pinned live.old looked.now }
+    ensures same { without_pins live.new ≡ without_pins live.old }
+{
+    if let Looked::Page(stored) = looked {
+        live.pin(stored.place.die, stored.place.block);
+    }
+}
+
+/// The block of the page that is looked at has one pin less, if a page is looked at.
+fn unpin_block(live: &mut LivePages, looked: &Looked)
+    ensures { live.new ≡ block_unpinned live.old looked.now }
+{
+    if let Looked::Page(stored) = looked {
+        live.unpin(stored.place.die, stored.place.block);
+    }
+}
+
+/// A pin of this reader goes.
+fn let_go(live: &mut LivePages, pin: &Pin, reader: u8)
+    ensures { live.new ≡ let_go (is_of_reader reader) live.old pin.now }
+{
+    if is_of_reader(pin, reader) {
+        unpin_block(live, &pin.looked);
+    }
+}
+
+/// A pin of this block of the reader goes.
+fn let_go_of(live: &mut LivePages, pin: &Pin, reader: u8, index: u16)
+    ensures { live.new ≡ let_go (is_pin_of reader index) live.old pin.now }
+{
+    if is_pin_of(pin, reader, index) {
+        unpin_block(live, &pin.looked);
+    }
+}
+
+/// The pins of this reader go.
+pub(super) fn unpin_blocks(live: &mut LivePages, pins: &[Pin], reader: u8)
+    ensures is { live.new ≡ fold (let_go (is_of_reader reader)) live.old pins.now }
+    ensures same { without_pins live.new ≡ without_pins live.old }
+{
+    for pin in pins.iter() {
+        let_go(live, pin, reader);
+    }
+}
+
+/// The pins of this block of the reader go.
+pub(super) fn unpin_block_of(live: &mut LivePages, pins: &[Pin], reader: u8, index: u16)
+    ensures is { live.new ≡ fold (let_go (is_pin_of reader index)) live.old pins.now }
+    ensures same { without_pins live.new ≡ without_pins live.old }
+{
+    for pin in pins.iter() {
+        let_go_of(live, pin, reader, index);
+    }
+}
+
+/// Whether the slot of the page of this index in the group is looked at.
+fn is_slot_of(looked: &Looked, page: u16, stored: Stored) -> bool
+    ensures { result ≡ is_slot_of page stored looked.now }
+{
+    match *looked {
+        Looked::Slot { number, index } => number == stored.number && index == page,
+        _ => false,
+    }
+}
+
+/// A pin of the slot of this page is one of the block where the page stands now.
+fn pin_moves_to(live: &mut LivePages, pin: &Pin, index: u16, stored: Stored)
+    ensures { live.new ≡ pin_moves index stored live.old pin.now }
+{
+    if is_slot_of(&pin.looked, index, stored) {
+        live.pin(stored.place.die, stored.place.block);
+    }
+}
+
+/// The pins of the slot of this page are those of the block where the page stands now.
+pub(super) fn pin_moves(live: &mut LivePages, pins: &[Pin], index: u16, stored: Stored)
+    ensures is { live.new ≡ fold (pin_moves index stored) live.old pins.now }
+    ensures same { without_pins live.new ≡ without_pins live.old }
+{
+    for pin in pins.iter() {
+        pin_moves_to(live, pin, index, stored);
+    }
+}
