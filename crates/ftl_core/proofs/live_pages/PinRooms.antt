@@ -1,6 +1,6 @@
 -- The layer's fields go on to be right after what changes pins.
-use Rattle.std.proofs.Common.{◌≡◌, ◌∙◌, ℕ, ◌<◌, ◌≤◌, ◌++◌, Bool, not, List, [], ◌∷◌, Option, None, ap, arith, length, map}
-use Rattle.std.proofs.Common.{length-append, replicate, subst, sym, Global, Vec, vec_capacity}
+use Rattle.std.proofs.Common.{◌≡◌, ◌∙◌, ℕ, ◌<◌, ◌≤◌, ◌++◌, Bool, not, List, [], ◌∷◌, Option, None, ap, arith, length}
+use Rattle.std.proofs.Common.{length-append, map, replicate, subst, sym, Global, Vec, vec_capacity}
 use Rattle.std.specs.Prelude.{filter, fold}
 use Rattle.std.proofs.lemmas.List.{length-map, length-replicate}
 use Rattle.block_table.specs.Lives.{Lives}
@@ -15,7 +15,8 @@ use Rattle.ftl_core.specs.Moves.{moved_pin}
 use Rattle.ftl_core.specs.PinCounts.{ArePinsCounted, block_pinned, let_go, pin_moves, without_pins}
 use Rattle.ftl_core.specs.Rooms.{IsRoomy}
 use Rattle.ftl_core.proofs.live_pages.PinsCounted.{gone_bare, gone_counted, looked_counted, moved_counted, moves_bare}
-use Rattle.ftl_core.proofs.live_pages.PinsCounted.{none_counted, pinned_bare, pinned_counted, stored_counted, stored_sizes}
+use Rattle.ftl_core.proofs.live_pages.PinsCounted.{none_counted, pinned_bare, pinned_counted, stored_counted}
+use Rattle.ftl_core.proofs.live_pages.PinsCounted.{stored_sizes}
 
 counted_as : (l m : Lives) (ps qs : List Pin) → l ≡ m → ps ≡ qs → ArePinsCounted m qs → ArePinsCounted l ps
 counted_as l m ps qs e g h =

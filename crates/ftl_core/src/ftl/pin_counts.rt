@@ -1,7 +1,8 @@
 //! How many pins each block has: one for each page of it that a reader keeps.
 ghost use Rattle.std.specs.Prelude.{◌≡◌, ℕ, fold};
 ghost use Rattle.ftl_core.specs.Moves.{is_of_reader, is_pin_of};
-ghost use Rattle.ftl_core.specs.PinCounts.{block_pinned, block_unpinned, is_slot_of, let_go, pin_moves, without_pins};
+ghost use Rattle.ftl_core.specs.PinCounts.{block_pinned, block_unpinned, is_slot_of, let_go, pin_moves};
+ghost use Rattle.ftl_core.specs.PinCounts.{without_pins};
 
 use super::{is_of_reader, is_pin_of};
 use crate::books::{Looked, Pin};
