@@ -1,0 +1,38 @@
+-- What a host sends, and what it has to hear. The task tag is the host's number.
+use Rattle.std.specs.Prelude.{ℕ, true, false, None}
+use Rattle.ufs_spec.specs.Cdbs.{cdb_bytes}
+use Rattle.ufs_spec.specs.declared.messages.Message.{Message}
+use Rattle.ufs_spec.specs.declared.messages.Message.TheVariants.{Command, DataIn, DataOut, ReadyToTransfer, Response}
+use Rattle.ufs_spec.specs.declared.Cdb.TheVariants.{Read10, TestUnitReady, Write10}
+use Rattle.stress.specs.Writes.{address_of, content_of}
+
+-- ## What it sends
+
+abbrev pub is_ready : ℕ → Message
+is_ready host = Command 0x00 0 host 0 (cdb_bytes TestUnitReady)
+
+-- a WRITE(10) of one block with FUA
+abbrev pub write_one : ℕ → ℕ → Message
+write_one host write = Command 0x20 0 host 4096 (cdb_bytes (Write10 (address_of host write) 1 true))
+
+-- the block
+abbrev pub bring : ℕ → ℕ → Message
+bring host write = DataOut 0 host 0 (record { items = content_of host write })
+
+-- a READ(10) of one block
+abbrev pub read_one : ℕ → ℕ → Message
+read_one host write = Command 0x40 0 host 4096 (cdb_bytes (Read10 (address_of host write) 1 false))
+
+-- ## What it has to hear
+
+-- the task went well
+abbrev pub good : ℕ → Message
+good host = Response 0 0 host 0 0 0 None
+
+-- the device asks for the block
+abbrev pub asked : ℕ → Message
+asked host = ReadyToTransfer 0 host 0 4096
+
+-- the block as it was written
+abbrev pub shown : ℕ → ℕ → Message
+shown host write = DataIn 0 host 0 (record { items = content_of host write })

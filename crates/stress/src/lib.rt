@@ -1,0 +1,20 @@
+//! Hosts, a keeper and a thread for each die at work on one device at the same time: each host writes
+//! blocks of its own and reads each of them back.
+#![tactic(auto)]
+
+mod contents;
+mod crew;
+mod fault;
+mod host;
+mod line;
+mod messages;
+mod opened;
+mod replies;
+mod run;
+mod shared;
+
+pub use fault::StressFault;
+pub use run::stress_text;
+
+#[cfg(test)]
+mod tests;
