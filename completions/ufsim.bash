@@ -3,7 +3,9 @@ _ufsim() {
     local current=${COMP_WORDS[COMP_CWORD]}
     COMPREPLY=()
     if [ "$COMP_CWORD" -eq 1 ]; then
-        COMPREPLY=($(compgen -W 'run check' -- "$current"))
+        COMPREPLY=($(compgen -W 'run check stress' -- "$current"))
+    elif [ "${COMP_WORDS[1]}" = stress ]; then
+        COMPREPLY=($(compgen -W '--dies --hosts' -- "$current"))
     elif [ "$COMP_CWORD" -eq 2 ]; then
         compopt -o filenames 2>/dev/null
         COMPREPLY=($(compgen -f -- "$current"))

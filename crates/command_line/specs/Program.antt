@@ -1,10 +1,12 @@
 -- The words of the program, as `clap` reads them (this profile).
-use Rattle.std.specs.Prelude.{◌≡◌, true, List, Option, Some, None, codes}
-use Rattle.clap.specs.Words.{App, Row, Rule, Text, first_of, new_app, new_rule, subcommand_of, with_rule}
+use Rattle.std.specs.Prelude.{◌≡◌, true, ℕ, List, Option, Some, None, codes, pos}
+use Rattle.std.specs.Str.Parse.{digits_value, without_leading_plus}
+use Rattle.clap.specs.Words.{App, Row, Rule, Text, first_of, new_app, new_rule, one_of, subcommand_of, with_rule}
 use Rattle.clap.specs.Words.{with_subcommand}
 use Rattle.clap.specs.declared.builder.action.ArgAction.TheVariants.{Set}
+use Rattle.clap.specs.declared.builder.value_parser.ValueParser.TheVariants.{Signed}
 use Rattle.command_line.specs.declared.asked.Call.{Call}
-use Rattle.command_line.specs.declared.asked.Call.TheVariants.{Check, Run}
+use Rattle.command_line.specs.declared.asked.Call.TheVariants.{Check, Run, Stress}
 
 -- the one argument of a command, the name of a script's file
 abbrev pub script : Rule
@@ -23,23 +25,46 @@ running =
     with_subcommand (record named { top = record named.top { subcommand_required = true } })
     (of_script (codes "run")).top
 
+-- the commands that take a script
+abbrev pub scripts : App
+scripts = with_subcommand running (of_script (codes "check")).top
+
+-- an argument `--NAME N`, a whole number from 1 to 8
+abbrev pub count : Text → Rule
+count name = record (new_rule name) {
+  long = Some name;
+  required = true;
+  action = Some Set;
+  parser = Some (Signed (pos 1) (pos 8));
+}
+
+-- the command `stress`, with its two numbers
+abbrev pub stress : App
+stress = with_rule (with_rule (new_app (codes "stress")) (count (codes "dies"))) (count (codes "hosts"))
+
 abbrev pub program : App
-program = with_subcommand running (of_script (codes "check")).top
+program = with_subcommand scripts stress.top
 
--- the command that is asked for, and the script
-abbrev pub name_of : Call → Text
-name_of (Run file) = codes "run"
-name_of (Check file) = codes "check"
+-- the rows of a command have this script
+abbrev pub IsScriptIn : List Row → Text → Type 0
+IsScriptIn rows file = first_of (codes "script") rows ≡ Some file
 
-abbrev pub script_of : Call → Text
-script_of (Run file) = file.now
-script_of (Check file) = file.now
+-- the rows of a command have under this name a text that spells this number
+abbrev pub IsNumberIn : Text → List Row → ℕ → Type 0
+IsNumberIn name rows n =
+    (text : Text) × (one_of name rows ≡ Some text) × (digits_value 10 (without_leading_plus text) ≡ n)
+
+-- the command that is asked for, with its script or its numbers
+abbrev pub IsCommand : Text → List Row → Call → Type 0
+IsCommand name rows (Run file) = (name ≡ codes "run") × IsScriptIn rows file.now
+IsCommand name rows (Check file) = (name ≡ codes "check") × IsScriptIn rows file.now
+IsCommand name rows (Stress dies hosts) =
+    (name ≡ codes "stress") × IsNumberIn (codes "dies") rows dies × IsNumberIn (codes "hosts") rows hosts
 
 -- the matches of a command ask for the call
 abbrev pub IsAsked : Option (Text × List Row) → Call → Type 0
 IsAsked None c = ⊥
-IsAsked (Some matches) c =
-    (matches.0 ≡ name_of c) × (first_of (codes "script") matches.1 ≡ Some (script_of c))
+IsAsked (Some matches) c = IsCommand matches.0 matches.1 c
 
 -- and so do the words
 abbrev pub IsAskedBy : List Text → Call → Type 0

@@ -8,6 +8,8 @@ pub enum Call<'a> {
     Run(&'a str),
     /// Try stops at each program and erase of the script in the file of this name.
     Check(&'a str),
+    /// Have so many hosts at work on one device with so many dies, each in a thread of its own.
+    Stress { dies: u8, hosts: u8 },
 }
 
 /// Why there is nothing to do. The text is what the program prints after its name.

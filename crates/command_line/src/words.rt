@@ -1,16 +1,19 @@
 //! Reads the words with `clap`.
-ghost use Rattle.std.specs.Prelude.{◌≡◌, Some, IfOk, codes, map};
-ghost use Rattle.clap.specs.Words.{app_of, first_of, found_of, rows_of, subcommand_rows_of};
-ghost use Rattle.command_line.specs.Program.{IsAsked, IsAskedBy, program, running};
+ghost use Rattle.std.specs.Prelude.{◌≡◌, Some, IfOk, codes, false, map};
+ghost use Rattle.clap.specs.Words.{app_of, first_of, found_of, rows_of, rule_of, subcommand_rows_of};
+ghost use Rattle.clap.specs.declared.builder.command.Command.TheViews.{out-Command as fields_of};
+ghost use Rattle.command_line.specs.Program.{IsAsked, IsAskedBy, IsNumberIn, count, program, running};
+ghost use Rattle.command_line.specs.Program.{scripts, stress};
 
 use crate::asked::{Call, CallFault};
 use clap::error::ErrorKind;
-use clap::{Arg, ArgAction, ArgMatches, Command};
+use clap::{Arg, ArgAction, ArgMatches, Command, value_parser};
 use std::alloc::{AllocError, Global};
 use std::convert::AsStr;
 
-/// What the words ask for, the program's own name first: `ufsim run SCRIPT` or `ufsim check SCRIPT`. It
-/// is `Usage` for any other words and for a call for help, and `Memory` where memory is refused.
+/// What the words ask for, the program's own name first: `ufsim run SCRIPT`, `ufsim check SCRIPT` or
+/// `ufsim stress --dies D --hosts H`, with D and H from 1 to 8. It is `Usage` for any other words and
+/// for a call for help, and `Memory` where memory is refused.
 pub fn call<'a, S: AsStr>(alloc: Global, words: &'a [S]) -> Result<Call<'a>, CallFault>
     ensures { IfOk result (λ asked. IsAskedBy (map S.text words.entry.now) asked) }
 {
@@ -29,6 +32,35 @@ pub fn call<'a, S: AsStr>(alloc: Global, words: &'a [S]) -> Result<Call<'a>, Cal
 // The program with its commands.
 fn command<'a>(alloc: Global) -> Result<Command<'a>, AllocError>
     ensures { IfOk result (λ command. app_of command ≡ program) }
+{
+    scripts(alloc)?.subcommand(stress(alloc)?)
+}
+
+// The command `stress`.
+fn stress<'a>(alloc: Global) -> Result<Command<'a>, AllocError>
+    ensures app { IfOk result (λ command. app_of command ≡ stress) }
+    ensures local { IfOk result (λ command. (fields_of command).has_globals ≡ false) }
+{
+    Command::new(alloc, "stress")
+        .arg(count(alloc, "dies"))?
+        .arg(count(alloc, "hosts"))
+}
+
+// The argument `--NAME N`, a whole number from 1 to 8.
+fn count<'a>(alloc: Global, name: &'a str) -> Arg<'a>
+    ensures rule { rule_of result ≡ count name.entry.now }
+    ensures local { result.global ≡ false }
+{
+    Arg::new(alloc, name)
+        .long(name)
+        .required(true)
+        .action(ArgAction::Set)
+        .value_parser(value_parser!(u8).range(1..=8))
+}
+
+// The program with the commands that take a script.
+fn scripts<'a>(alloc: Global) -> Result<Command<'a>, AllocError>
+    ensures { IfOk result (λ command. app_of command ≡ scripts) }
 {
     let script = Arg::new(alloc, "script")
         .required(true)
@@ -62,6 +94,11 @@ fn asked<'a>(matches: &ArgMatches<'a>) -> Result<Call<'a>, CallFault>
         let script = script_in(check)?;
         return Ok(Call::Check(script));
     }
+    if let Some(stress) = matches.subcommand_matches("stress") {
+        let dies = number_in(stress, "dies")?;
+        let hosts = number_in(stress, "hosts")?;
+        return Ok(Call::Stress { dies, hosts });
+    }
     Err(CallFault::Usage)
 }
 
@@ -71,6 +108,16 @@ fn script_in<'a>(matches: &ArgMatches<'a>) -> Result<&'a str, CallFault>
 {
     match matches.get_str("script") {
         Some(script) => Ok(script),
+        None => Err(CallFault::Usage),
+    }
+}
+
+// The number that a command's matches have under this name.
+fn number_in(matches: &ArgMatches<'_>, name: &str) -> Result<u8, CallFault>
+    ensures { IfOk result (IsNumberIn name.now (rows_of (found_of matches.now))) }
+{
+    match matches.get_one::<u8>(name) {
+        Some(number) => Ok(number),
         None => Err(CallFault::Usage),
     }
 }

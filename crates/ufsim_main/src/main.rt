@@ -1,10 +1,12 @@
-//! The program `ufsim`: runs a script over a storage device whose dies lie in memory.
+//! The program `ufsim`: runs a script over a storage device whose dies lie in memory, or has threads at
+//! work on one.
 #![tactic(auto)]
 
 use std::io::ErrorKind;
 use std::process::ExitCode;
 use std::rt::{Env, Files};
 use std::{env, fs, io};
+use stress::stress_text;
 use ufsim::{Call, CallFault, call, check_text, run_text};
 
 fn main(rt: HostRuntime) -> ExitCode {
@@ -15,6 +17,11 @@ fn main(rt: HostRuntime) -> ExitCode {
     match call(rt.alloc(), words.as_slice()) {
         Ok(Call::Run(script)) => run(&rt, script),
         Ok(Call::Check(script)) => check(&rt, script),
+        Ok(Call::Stress { dies, hosts }) => {
+            let (alloc, mut out, mut faults) = (rt.alloc(), io::writer(&rt), rt.stderr());
+            let status = stress_text(&rt, alloc, dies, hosts, &mut out, &mut faults);
+            ExitCode::from(status)
+        }
         Err(fault) => refused(&rt, fault),
     }
 }
