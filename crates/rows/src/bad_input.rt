@@ -165,6 +165,38 @@ fn words_of_the_program(rt: HostRuntime) -> Result<(), Fail> {
     Ok(())
 }
 
+/// The two numbers of `stress` come in either order, also after `=`, and are whole numbers from 1 to 8.
+#[test]
+fn words_of_stress(rt: HostRuntime) -> Result<(), Fail> {
+    let alloc = rt.alloc();
+    let right = [
+        ["ufsim", "stress", "--dies", "4", "--hosts", "8"].as_slice(),
+        &["ufsim", "stress", "--hosts", "8", "--dies", "4"],
+        &["ufsim", "stress", "--dies=4", "--hosts=8"],
+        &["ufsim", "stress", "--hosts=8", "--dies", "4"],
+    ];
+    for words in right {
+        assert!(rt; matches!(call(alloc, words), Ok(Call::Stress { dies: 4, hosts: 8 })));
+    }
+    let wrong = [
+        ["ufsim", "stress", "--dies", "4"].as_slice(),
+        &["ufsim", "stress", "--hosts", "4"],
+        &["ufsim", "stress", "4", "8"],
+        &["ufsim", "stress", "--dies", "0", "--hosts", "1"],
+        &["ufsim", "stress", "--dies", "1", "--hosts", "9"],
+        &["ufsim", "stress", "--dies", "1.5", "--hosts", "1"],
+        &["ufsim", "stress", "--dies", "two", "--hosts", "1"],
+        &[
+            "ufsim", "stress", "--dies", "1", "--dies", "1", "--hosts", "1",
+        ],
+        &["ufsim", "stress", "--dies", "1", "--hosts", "1", "a"],
+    ];
+    for words in wrong {
+        assert!(rt; is_usage(alloc, words));
+    }
+    Ok(())
+}
+
 /// Whether these words are told as wrong.
 fn is_usage(alloc: Global, words: &[&str]) -> bool {
     matches!(call(alloc, words), Err(CallFault::Usage))
