@@ -15,8 +15,6 @@ mod locks;
 #[cfg(test)]
 mod mendings;
 #[cfg(test)]
-mod openings;
-#[cfg(test)]
 mod players;
 #[cfg(test)]
 mod worlds;
