@@ -1,1 +1,2 @@
 pub mod LiveBelow
+pub mod Named

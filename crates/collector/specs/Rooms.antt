@@ -1,13 +1,12 @@
 -- How the plan's fields are seen, and that there is room for the pages of a block.
 use Rattle.std.specs.Prelude.{◌≤◌, drop, List, Option, Some, None, vec_capacity}
-use Rattle.ufs_spec.specs.Translation.{Plan as Collection}
-use Rattle.ufs_spec.specs.declared.flash.Place.{Place}
 use Rattle.block_table.specs.Lives.{spot_at}
 use Rattle.block_table.specs.declared.live.BlockAt.{BlockAt}
-use Rattle.collector.specs.Plans.{Plans}
+use Rattle.collector.specs.Plans.{Collection, Plans}
 use Rattle.collector.specs.declared.Plan.TheInside.{Inside}
+use Rattle.collector.specs.declared.PlannedCopy.{PlannedCopy}
 
-abbrev pub begun : Option BlockAt → List Place → Option Collection
+abbrev pub begun : Option BlockAt → List PlannedCopy → Option Collection
 begun None left = None
 begun (Some at) left = Some (record { victim = spot_at at; copies = left })
 

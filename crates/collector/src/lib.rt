@@ -1,9 +1,11 @@
 //! The collector's plan: which block is collected, and which of its pages are still to be copied.
 #![tactic(auto)]
 
-ghost use Rattle.std.specs.Prelude.{◌≡◌, ◌≤◌, IfOk, None, drop, is_some, option_map, vec_capacity};
+ghost use Rattle.std.specs.Prelude.{◌≡◌, ◌≤◌, All, IfOk, None, drop, is_some, map, option_map};
+ghost use Rattle.std.specs.Prelude.{vec_capacity};
 ghost use Rattle.block_table.specs.Lives.{spot_at};
-ghost use Rattle.collector.specs.Plans.{copy_ordered, live_below, next_step, planned, step_of};
+ghost use Rattle.collector.specs.Plans.{IsNamed, IsPlanned, copy_ordered, live_below, next_step};
+ghost use Rattle.collector.specs.Plans.{place_of, step_of};
 
 #[cfg(test)]
 mod tests;
@@ -11,13 +13,24 @@ mod tests;
 use block_table::{BlockAt, BlockTable, LivePages};
 use std::alloc::{AllocError, Global};
 use std::marker::Model;
-use ufs_spec::Place;
+use ufs_spec::{Key, Place};
+use unit_map::UnitMap;
+use write_cache::Cache;
+
+/// A page that is to be copied: where it is, and of which key and of the group of which number it
+/// is.
+#[derive(Clone, Copy, Debug, Default, PartialEq, Eq)]
+pub struct PlannedCopy {
+    pub from: Place,
+    pub key: Key,
+    pub number: u64,
+}
 
 /// What a collection does next: the copy of a page, or, if no page is left, the mark after which
 /// the block is free.
 #[derive(Clone, Copy, Debug, PartialEq, Eq)]
 pub enum PlanStep {
-    Copy(Place),
+    Copy(PlannedCopy),
     Mark,
 }
 
@@ -30,7 +43,7 @@ pub struct Plan {
     /// The block that is collected.
     victim: Option<BlockAt>,
     /// The pages of the block that were live when its collection began, in order.
-    copies: Vec<Place>,
+    copies: Vec<PlannedCopy>,
     /// How many of them were ordered.
     ordered: usize,
 }
@@ -64,10 +77,17 @@ impl Plan {
         })
     }
 
-    /// Begins the collection of the victim: its live pages are to be copied, in order. Whether
-    /// there is a victim; if there is none, no collection is begun.
-    pub fn plan(&mut self, live: &LivePages, blocks: &BlockTable) -> bool
-        ensures after { self.new ≡ planned self.old live.now blocks.now }
+    /// Begins the collection of the victim: its live pages are to be copied, in order, each under
+    /// the key and the number that the map or the cache has for what stands there. Whether there is
+    /// a victim; if there is none, no collection is begun.
+    pub fn plan(
+        &mut self,
+        live: &LivePages,
+        blocks: &BlockTable,
+        places: &UnitMap,
+        cache: &Cache,
+    ) -> bool
+        ensures after { IsPlanned self.old live.now blocks.now places.now cache.now.pages self.new }
         ensures any { result ≡ is_some self.new.plan }
     {
         self.victim = live.victim(blocks);
@@ -75,7 +95,7 @@ impl Plan {
         let Some(at) = self.victim else {
             return false;
         };
-        gather(&mut self.copies, live, at, self.pages);
+        gather(&mut self.copies, live, at, self.pages, places, cache);
         true
     }
 
@@ -112,19 +132,27 @@ impl Plan {
 }
 
 /// The step with the copies from this one on.
-fn step_at(copies: &[Place], ordered: usize) -> PlanStep
+fn step_at(copies: &[PlannedCopy], ordered: usize) -> PlanStep
     ensures { result ≡ step_of (drop ordered copies.now) }
 {
     match copies.get(ordered) {
-        Some(place) => PlanStep::Copy(*place),
+        Some(copy) => PlanStep::Copy(*copy),
         None => PlanStep::Mark,
     }
 }
 
-/// Puts the live pages among the first of a block in place of all others, in order.
-fn gather(copies: &mut Vec<Place>, live: &LivePages, at: BlockAt, pages: u16)
+/// Puts the copies of the live pages among the first of a block in place of all others, in order.
+fn gather(
+    copies: &mut Vec<PlannedCopy>,
+    live: &LivePages,
+    at: BlockAt,
+    pages: u16,
+    places: &UnitMap,
+    cache: &Cache,
+)
     requires { pages ≤ vec_capacity copies.old }
-    ensures those { copies.new.items ≡ live_below live.now pages (spot_at at) }
+    ensures those { map place_of copies.new.items ≡ live_below live.now pages (spot_at at) }
+    ensures names { All (IsNamed places.now cache.now.pages) copies.new.items }
     ensures room { vec_capacity copies.new ≡ vec_capacity copies.old }
 {
     copies.clear();
@@ -135,7 +163,31 @@ fn gather(copies: &mut Vec<Place>, live: &LivePages, at: BlockAt, pages: u16)
             page,
         };
         if live.is_live(place) {
-            copies.push_reserved(place);
+            copies.push_reserved(planned_copy(place, places, cache));
         }
+    }
+}
+
+/// The copy of the page there, under the key and the number of what stands there: a page of a
+/// pending group, or else a durable content.
+///
+/// A page that neither the cache nor the map names is planned under the default key and the number
+/// 0. That never happens to a device: its live pages are exactly those that one of the two names.
+fn planned_copy(from: Place, places: &UnitMap, cache: &Cache) -> PlannedCopy
+    ensures from { result.from ≡ from }
+    ensures name { IsNamed places.now cache.now.pages result }
+{
+    if let Some(page) = cache.page_there(from) {
+        return PlannedCopy {
+            from,
+            key: page.key,
+            number: page.number,
+        };
+    }
+    let name = places.name_there(from).unwrap_or_default();
+    PlannedCopy {
+        from,
+        key: name.key,
+        number: name.number,
     }
 }

@@ -1,11 +1,14 @@
 //! Victims and plans of two dies of four blocks of four pages, by the rule: of the blocks without a
 //! pin that are closed and not wholly live, or bad with live pages, the one with the fewest live
 //! pages, and of several the lowest.
-use crate::{Plan, PlanStep};
+use crate::{Plan, PlanStep, PlannedCopy};
 use block_table::{BlockAt, BlockState, BlockTable, LivePages, Sizes};
+use geometry::Config;
 use std::alloc::Global;
 use std::test::Fail;
-use ufs_spec::Place;
+use ufs_spec::{Key, Place, Tag, UnitSpec};
+use unit_map::{Stored, UnitMap};
+use write_cache::Cache;
 
 const SIZES: Sizes = Sizes {
     dies: 2,
@@ -42,6 +45,38 @@ fn lives(alloc: Global, counts: [u16; 8]) -> Result<LivePages, Fail> {
         }
     }
     Ok(live)
+}
+
+/// The map of a device with one unit, whose third block has its content there.
+fn third_block_at(alloc: Global, place: Place, number: u64) -> Result<UnitMap, Fail> {
+    let units = [UnitSpec {
+        blocks: 4,
+        boot: 0,
+        protect: 0,
+    }];
+    let config = Config::new(2, 32, 64, &units, 1, 64, 4)?;
+    let places = vec![in alloc; None, None, Some(Stored { place, number })]?;
+    Ok(UnitMap::new(config, places))
+}
+
+/// A cache with one pending group, whose number is 8: its only page is of this key, and is written
+/// there.
+fn pending_at(alloc: Global, place: Place, key: Key) -> Result<Cache, Fail> {
+    let mut cache = Cache::new(alloc, 2, 7)?;
+    if cache.reserve(0, 1) && cache.has_number() {
+        let number = cache.append(0, key);
+        cache.mark_written(number, 0, place);
+    }
+    Ok(cache)
+}
+
+/// A block of the first unit.
+fn block_key(address: u32) -> Key {
+    Key {
+        kind: Tag::DATA,
+        unit: 0,
+        address,
+    }
 }
 
 /// Whether the victim is this block.
@@ -113,16 +148,13 @@ fn live_pages(rt: HostRuntime) -> Result<(), Fail> {
     Ok(())
 }
 
-/// The pages that were live when the collection began are copied in order, then comes the mark, and
-/// the block is free. A bad block is not.
+/// The pages that were live when the collection began are copied in order, each under the key and
+/// the number of its content, whether that is durable or of a pending group. Then comes the mark,
+/// and the block is free. A bad block is not.
 #[test]
 fn plans(rt: HostRuntime) -> Result<(), Fail> {
     let mut blocks = blocks(rt.alloc())?;
     let mut live = lives(rt.alloc(), [0, 4, 4, 2, 4, 3, 4, 0])?;
-    let mut plan = Plan::new(rt.alloc(), 4)?;
-    assert!(rt; plan.next_step().is_none());
-    assert!(rt; plan.plan(&live, &blocks));
-    assert!(rt; plan.victim() == Some(BlockAt { die: 0, block: 3 }));
     let first = Place {
         die: 0,
         block: 3,
@@ -133,10 +165,26 @@ fn plans(rt: HostRuntime) -> Result<(), Fail> {
         block: 3,
         page: 3,
     };
+    let map = third_block_at(rt.alloc(), first, 5)?;
+    let cache = pending_at(rt.alloc(), second, block_key(1))?;
+    let mut plan = Plan::new(rt.alloc(), 4)?;
+    assert!(rt; plan.next_step().is_none());
+    assert!(rt; plan.plan(&live, &blocks, &map, &cache));
+    assert!(rt; plan.victim() == Some(BlockAt { die: 0, block: 3 }));
     live.set_dead(second);
-    assert!(rt; plan.next_step() == Some(PlanStep::Copy(first)));
+    let durable = PlannedCopy {
+        from: first,
+        key: block_key(2),
+        number: 5,
+    };
+    assert!(rt; plan.next_step() == Some(PlanStep::Copy(durable)));
     plan.copy_ordered();
-    assert!(rt; plan.next_step() == Some(PlanStep::Copy(second)));
+    let pending = PlannedCopy {
+        from: second,
+        key: block_key(1),
+        number: 8,
+    };
+    assert!(rt; plan.next_step() == Some(PlanStep::Copy(pending)));
     plan.copy_ordered();
     assert!(rt; plan.next_step() == Some(PlanStep::Mark));
     plan.end();
@@ -145,7 +193,31 @@ fn plans(rt: HostRuntime) -> Result<(), Fail> {
     blocks.freed(1, 1);
     assert_eq!(rt; blocks.free_blocks(), 2);
     live.pin(1, 1);
-    assert!(rt; !plan.plan(&live, &blocks));
+    assert!(rt; !plan.plan(&live, &blocks, &map, &cache));
     assert!(rt; plan.victim().is_none());
+    Ok(())
+}
+
+/// A page has the name of the content that stands there, and a free page has none.
+#[test]
+fn names(rt: HostRuntime) -> Result<(), Fail> {
+    let place = Place {
+        die: 1,
+        block: 7,
+        page: 9,
+    };
+    let free = Place {
+        die: 1,
+        block: 7,
+        page: 10,
+    };
+    let map = third_block_at(rt.alloc(), place, 5)?;
+    let cache = pending_at(rt.alloc(), place, block_key(1))?;
+    let name = map.name_there(place).unwrap_or_default();
+    assert_eq!(rt; name.key.address, 2);
+    assert_eq!(rt; name.number, 5);
+    assert!(rt; map.name_there(free).is_none());
+    assert!(rt; cache.page_there(place).is_some());
+    assert!(rt; cache.page_there(free).is_none());
     Ok(())
 }

@@ -1,9 +1,11 @@
 -- A map from keys to the pages that have their durable contents, as a list in the order of keys (this profile).
-use Rattle.std.specs.Prelude.{ℕ, List, slice_get, slice_set, Option, Some, None, option_and_then}
+use Rattle.std.specs.Prelude.{ℕ, List, slice_get, slice_set, Option, Some, None, option_and_then, if◌then◌else◌}
 use Rattle.geometry.specs.Keys.{index_of}
+use Rattle.ufs_spec.specs.Cells.{same_place}
 use Rattle.ufs_spec.specs.Plain.{shape_of_numbers}
 use Rattle.ufs_spec.specs.declared.configs.Numbers.{Numbers}
 use Rattle.ufs_spec.specs.declared.flash.Key.{Key}
+use Rattle.ufs_spec.specs.declared.flash.Place.{Place}
 use Rattle.unit_map.specs.declared.Stored.{Stored}
 
 -- which keys there are, and where the content of each is, in the order of keys
@@ -22,6 +24,15 @@ flat (Some s) = s
 -- where the content of the key is
 abbrev pub stored_in : Numbers → List (Option Stored) → Key → Option Stored
 stored_in n places k = option_and_then (λ p. flat (slice_get places p)) (position_of n k)
+
+-- the number of the content's group, if the content is on the page there
+abbrev pub number_if : Place → Option Stored → Option ℕ
+number_if p None = None
+number_if p (Some s) = if same_place s.place p then Some s.number else None
+
+-- the same of what is noted at a position
+abbrev pub number_there : Place → Option (Option Stored) → Option ℕ
+number_there p noted = number_if p (flat noted)
 
 -- the content of the key at this position is there from now on
 abbrev pub places_noted : List (Option Stored) → Stored → Option ℕ → List (Option Stored)

@@ -1,14 +1,15 @@
 //! The unit map: where the durable content of each key is.
 #![tactic(auto)]
 
-ghost use Rattle.std.specs.Prelude.{◌≡◌, ◌≢◌, ◌≤◌, Some, length};
+ghost use Rattle.std.specs.Prelude.{◌≡◌, ◌≢◌, ◌<◌, ◌≤◌, IfSome, None, Some, length, slice_get};
 ghost use Rattle.geometry.specs.Keys.{key_total};
 ghost use Rattle.ufs_spec.specs.Keys.{IsKey};
 ghost use Rattle.ufs_spec.specs.Plain.{shape_of_numbers};
 ghost use Rattle.ufs_spec.specs.declared.flash.Key.{Key};
-ghost use Rattle.unit_map.specs.Places.{places_noted, position_of, stored_in};
+ghost use Rattle.unit_map.specs.Places.{number_there, places_noted, position_of, stored_in};
+ghost use Rattle.unit_map.specs.declared.Stored.{Stored};
 
-use geometry::{Config, key_index};
+use geometry::{Config, key_at, key_count, key_index};
 use std::marker::Model;
 use ufs_spec::{Key, Place};
 
@@ -16,6 +17,13 @@ use ufs_spec::{Key, Place};
 #[derive(Clone, Copy, Debug, Default, PartialEq, Eq)]
 pub struct Stored {
     pub place: Place,
+    pub number: u64,
+}
+
+/// Of which key the content stands there, with the number of its group.
+#[derive(Clone, Copy, Debug, Default, PartialEq, Eq)]
+pub struct PageName {
+    pub key: Key,
     pub number: u64,
 }
 
@@ -52,6 +60,37 @@ impl UnitMap {
     {
         let index = key_index(self.config.numbers(), key)?;
         self.places.get(index).copied().flatten()
+    }
+
+    /// Which key's content is on the page there, if one's is. It looks at the keys in order until
+    /// it is found.
+    pub fn name_there(&self, place: Place) -> Option<PageName>
+        ensures found { IfSome result (λ n. stored_in self.now.numbers self.now.places n.key ≡
+            Some (record { place = place; number = n.number })) }
+        ensures none { result ≡ None → (k : Key) → (s : Stored) →
+            stored_in self.now.numbers self.now.places k ≡ Some s → s.place ≡ place → ⊥ }
+    {
+        let numbers = self.config.numbers();
+        for index in 0..key_count(numbers) {
+            if let Some(number) = self.number_there(index, place) {
+                let key = key_at(numbers, index);
+                return Some(PageName { key, number });
+            }
+        }
+        None
+    }
+
+    /// The number of the content's group, if the content of the key at this position is on the page
+    /// there.
+    fn number_there(&self, index: usize, place: Place) -> Option<u64>
+        ensures { result ≡ number_there place (slice_get self.now.places index) }
+    {
+        let stored = self.places.get(index).copied().flatten()?;
+        if stored.place == place {
+            Some(stored.number)
+        } else {
+            None
+        }
     }
 
     /// The content of the key is there from now on. Of a key that the device has not, nothing is noted.

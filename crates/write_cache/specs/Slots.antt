@@ -4,6 +4,7 @@ use Rattle.std.specs.Prelude.{if◌then◌else◌, List, [], ◌∷◌, ◌++◌
 use Rattle.std.specs.Prelude.{is_none, length, map, position, reverse, slice_get, slice_set, Option, Some, None}
 use Rattle.std.specs.Prelude.{option_and_then, option_map}
 use Rattle.std.specs.List.{list_any}
+use Rattle.ufs_spec.specs.Cells.{same_place}
 use Rattle.ufs_spec.specs.Keys.{below, same_key}
 use Rattle.ufs_spec.specs.Plain.{zero_block}
 use Rattle.ufs_spec.specs.declared.flash.Key.{Key}
@@ -45,6 +46,15 @@ is_named number index p = (p.number == number) && (p.index == index)
 
 abbrev pub is_of_group : ℕ → Pending → Bool
 is_of_group number p = p.number == number
+
+-- the place is this one
+abbrev pub is_at : Place → Option Place → Bool
+is_at place None = false
+is_at place (Some written) = same_place written place
+
+-- the page is written at this place
+abbrev pub is_there : Place → Pending → Bool
+is_there place p = is_at place p.written
 
 -- the page at this position is written there
 abbrev pub written_at : List Pending → ℕ → Place → Option Pending → List Pending

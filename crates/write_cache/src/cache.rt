@@ -8,8 +8,9 @@ ghost use Rattle.std.specs.VecDeque.{deque_capacity};
 ghost use Rattle.write_cache.specs.Kept.{WriteCache};
 ghost use Rattle.write_cache.specs.Slots.{appended, claim_filled, claimed_all, claims_of, ends_run};
 ghost use Rattle.write_cache.specs.Slots.{free_slots, front_written, goes_on, has_number, empty_claim};
-ghost use Rattle.write_cache.specs.Slots.{is_claim_of, is_named, is_of_group, is_page_of, landed, last_page};
-ghost use Rattle.write_cache.specs.Slots.{page_claimed, page_written, risen, turned, without_claims};
+ghost use Rattle.write_cache.specs.Slots.{is_claim_of, is_named, is_of_group, is_page_of, is_there};
+ghost use Rattle.write_cache.specs.Slots.{landed, last_page, page_claimed, page_written, risen, turned};
+ghost use Rattle.write_cache.specs.Slots.{without_claims};
 
 use crate::body::Body;
 use crate::slots::{Claimed, Landed, Pending, WholeGroup};
@@ -139,6 +140,13 @@ impl Cache {
         ensures { option_copied result ≡ find (is_named number index) self.now.pages }
     {
         self.pages.iter().find(|page| page.is_named(number, index))
+    }
+
+    /// The page of a pending group that is written there, if one is.
+    pub fn page_there(&self, place: Place) -> Option<&Pending>
+        ensures { option_copied result ≡ find (is_there place) self.now.pages }
+    {
+        self.pages.iter().find(|page| page.is_there(place))
     }
 
     /// Claims a slot for each of so many blocks of this reader, where as many are free; else nothing.

@@ -2,7 +2,7 @@
 ghost use Rattle.std.specs.Prelude.{length, ◌≡◌};
 ghost use Rattle.ufs_spec.specs.Plain.{zero_block};
 ghost use Rattle.write_cache.specs.Slots.{claim_filled, empty_claim, ends_run, is_claim_of, is_named};
-ghost use Rattle.write_cache.specs.Slots.{is_of_group, is_page_of, key_at, page_claimed};
+ghost use Rattle.write_cache.specs.Slots.{is_of_group, is_page_of, is_there, key_at, page_claimed};
 
 use crate::body::Body;
 use ufs_bytes::Block;
@@ -58,6 +58,16 @@ impl Pending {
         ensures { result ≡ is_named number index self.now }
     {
         self.number == number && self.index == index
+    }
+
+    /// Whether the page is written there.
+    pub(crate) fn is_there(&self, place: Place) -> bool
+        ensures { result ≡ is_there place self.now }
+    {
+        match self.written {
+            Some(written) => written == place,
+            None => false,
+        }
     }
 
     /// Whether the run of written pages of the group with this number, from the first page on, ends before this one.
