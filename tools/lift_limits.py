@@ -34,7 +34,6 @@ class Limit(NamedTuple):
 
 
 LIMITS = (
-    Limit("collects", STAGES, "collects = true"),
     Limit("most_bad", STAGES, "most_bad n = n.spare"),
     Limit("taken_luns", STAGES, "taken_luns = 0x81 ∷ 0xB0 ∷ 0xC4 ∷ 0xD0 ∷ []"),
     Limit("manages_tasks", STAGES, "manages_tasks = true"),

@@ -4,6 +4,7 @@ pub mod DiesFit
 pub mod FailDies
 pub mod FailRight
 pub mod FinishDies
+pub mod FreedBlock
 pub mod JobLeaves
 pub mod LeftDies
 pub mod LeftoversApart

@@ -167,7 +167,7 @@ impl Device {
         }
     }
 
-    /// Does one step of mending; false, and nothing changes, where none is due.
+    /// Does one step of mending or of collection; false, and nothing changes, if none is due.
     pub fn turn(&mut self) -> bool
         ensures nothing { result ≡ false → self.new ≡ self.old }
         // True exactly where a step is due.

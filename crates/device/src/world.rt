@@ -296,7 +296,7 @@ impl World {
         self.device.host(bytes.as_slice())
     }
 
-    /// The device does a step of mending, where one is due.
+    /// The device does a step of mending or of collection, if one is due.
     fn turn(&mut self) -> bool
         ensures dies { self.new.dies ≡ self.old.dies }
         ensures steps { self.new.steps ≡ self.old.steps }

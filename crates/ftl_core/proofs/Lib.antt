@@ -1,3 +1,4 @@
+pub mod collected
 pub mod dies
 pub mod group_settled
 pub mod job_ended

@@ -1,10 +1,15 @@
 pub mod ChangeParts
 pub mod ChangesEnded
+pub mod CopiesEnded
+pub mod CopiesOn
+pub mod CopyLedger
 pub mod Endings
 pub mod JobsOver
 pub mod MarksEnded
+pub mod PlansEnded
 pub mod ReadsEnded
 pub mod ReadsGiven
+pub mod RepairContent
 pub mod RepairLedger
 pub mod RepairsEnded
 pub mod SameClaims

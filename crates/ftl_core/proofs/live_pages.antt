@@ -1,3 +1,4 @@
+pub mod CopiesLive
 pub mod DurableLive
 pub mod JobsLive
 pub mod NamesLive

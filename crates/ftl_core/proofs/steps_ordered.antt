@@ -1,3 +1,5 @@
+pub mod CollectionsOrdered
+pub mod CopiesOrdered
 pub mod MarksOrdered
 pub mod NonePending
 pub mod QuietLayers

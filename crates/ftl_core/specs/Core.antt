@@ -3,6 +3,7 @@ use Rattle.std.specs.Prelude.{ℕ, Bool, List, Option}
 use Rattle.ufs_spec.specs.declared.configs.Numbers.{Numbers}
 use Rattle.ufs_spec.specs.declared.flash.Key.{Key}
 use Rattle.block_table.specs.Lives.{Lives}
+use Rattle.collector.specs.Plans.{Collection}
 use Rattle.block_table.specs.declared.BlockState.{BlockState}
 use Rattle.ftl_core.specs.declared.books.Book.{Book}
 use Rattle.write_cache.specs.declared.slots.Claimed.{Claimed}
@@ -14,8 +15,8 @@ use Rattle.ftl_core.specs.declared.books.Step.{Step}
 
 -- what is kept: by die and block the blocks' states, by die its open block and its job, by key the place of its durable
 -- content, which pages are live, the pages of pending groups in order of number and index, the slots that are claimed
--- for groups to come, the greatest number that was given, and of the mending the keys with a lost page and the step under
--- way
+-- for groups to come, the greatest number that was given, the collection that is begun, of the mending the keys with a
+-- lost page, and the step under way
 pub record Core : Type 0 where
   pub numbers : Numbers
   pub states : List BlockState
@@ -28,6 +29,7 @@ pub record Core : Type 0 where
   pub frontier : ℕ
   pub last : ℕ
   pub pins : List Pin
+  pub plan : Option Collection
   pub mending : Mending
   pub lost : List Key
   pub repaired : ℕ

@@ -1,9 +1,9 @@
--- How what the layer keeps describes the translation layer as it is specified. In this stage nothing is copied or
--- collected, and the pages of each group that is accepted are data of a unit.
+-- How what the layer keeps describes the translation layer as it is specified. In this stage the pages of each group
+-- that is accepted are data of a unit.
 use Rattle.std.specs.Prelude.{◌≡◌, ◌≢◌, ℕ, suc, ◌+◌, ◌<◌, ◌≤◌, nat_lt, Bool, true, false, List, [], ◌∷◌, count_by, drop}
-use Rattle.std.specs.Prelude.{All, AllPairs, find, length, map, slice_get, Option, Some, None, option_map}
+use Rattle.std.specs.Prelude.{All, AllPairs, find, is_some, length, map, slice_get, Option, Some, None, option_map}
 use Rattle.std.specs.List.{list_any}
-use Rattle.ufs_spec.specs.Cells.{Cell, Cells, GroupPage, MarkPage}
+use Rattle.ufs_spec.specs.Cells.{Cell, Cells, GroupPage, MarkPage, key_of}
 use Rattle.ufs_spec.specs.Disk as disk
 use Rattle.ufs_spec.specs.Disk.{Disk, ForNobody, ForStep, ForTask, Reader, Spot}
 use Rattle.ufs_spec.specs.Keys.{IsKey}
@@ -13,14 +13,17 @@ use Rattle.ufs_spec.specs.Ledger.{latest_durable, next_number, pending}
 use Rattle.ufs_spec.specs.Moves.{Ending, ReadRight, ReadWrong, GiveJob, moved}
 use Rattle.ufs_spec.specs.Plain.{shape_of_numbers}
 use Rattle.ufs_spec.specs.Translation as layer
-use Rattle.ufs_spec.specs.Translation.{MarkStep, MayTake, Mended, Mending, RepairStep, Repairing, Step, Translation}
-use Rattle.ufs_spec.specs.Translation.{Unmarked, Work, flies_name, is_bad, is_mended, names_behind, spots}
+use Rattle.ufs_spec.specs.Translation.{CopyStep, MarkStep, MayTake, Mended, Mending, RepairStep, Repairing, Step, Translation}
+use Rattle.ufs_spec.specs.Translation.{Unmarked, Work, flies_name, is_bad, is_mended, name_of, names_behind, spots}
+use Rattle.ufs_spec.specs.Translation.{tag_of}
 use Rattle.ufs_spec.specs.declared.configs.Numbers.{Numbers}
 use Rattle.ufs_spec.specs.declared.flash.Job.{Job}
 use Rattle.ufs_spec.specs.declared.flash.Key.{Key}
 use Rattle.ufs_spec.specs.declared.flash.Place.{Place}
 use Rattle.ufs_spec.specs.declared.flash.Tag.{Tag}
 use Rattle.power_loss.specs.Invariant.{Valid}
+use Rattle.collector.specs.Plans.{Collection, layer_plan}
+use Rattle.collector.specs.declared.PlannedCopy.{PlannedCopy}
 use Rattle.block_table.specs.declared.BlockState.{BlockState}
 use Rattle.block_table.specs.declared.BlockState.TheVariants as state
 use Rattle.ftl_core.specs.declared.books.Book.{Book}
@@ -84,11 +87,13 @@ IsReader readers.Step ForStep = Unit {0}
 IsReader readers.Nobody ForNobody = Unit {0}
 IsReader who other = ⊥
 
--- the page of the step under way: a mark with its number, or the page of a repair
+-- the page of the step under way: a mark with its number, the page of a repair, or the copy of a page that was read
 abbrev pub IsStepCell : Option kept_step.Step → Cell → Type 0
 IsStepCell (Some (steps.Mark n fence)) (MarkPage m) = m.number ≡ n
 IsStepCell (Some (steps.Repair n k from there)) (GroupPage tag body) =
     (tag.number ≡ n) × (tag.index ≡ 0) × (there ≡ true)
+IsStepCell (Some (steps.Copy n k from (Some read))) (GroupPage tag body) =
+    (tag.number ≡ n) × (tag.index ≡ read.index)
 IsStepCell step cell = ⊥
 
 -- the job in flight on a die; an erase is in flight only where no block is open, and the page of an accepted group only
@@ -122,10 +127,17 @@ pub record DiesKept (n : Numbers) (blocks : Spot → disk.BlockState) (flights :
 abbrev pub Standing : Type 0
 Standing = ℕ → ℕ → Option Place
 
--- a die writes the page of a name that does not stand, and no other die writes that page
-pub record PagesFly (standing : Standing) (flights : ℕ → Option disk.Flight) : Type 0 where
+-- the die has the program of this page of a pending group in flight
+pub record WritesGroup (books : List Book) (die number index : ℕ) : Type 0 where
+  pub book : Book
+  pub there : slice_get books die ≡ Some book
+  pub place : Place
+  pub job : book.flight ≡ Some (flight.Group place number index)
+
+-- no two dies write the page of one name, and the page of a pending group that a die writes does not stand
+pub record PagesFly (standing : Standing) (flights : ℕ → Option disk.Flight) (books : List Book) : Type 0 where
   pub one : (d e : ℕ) (name : Name) → flies_name name (flights d) ≡ true → flies_name name (flights e) ≡ true → d ≡ e
-  pub new : (d : ℕ) (name : Name) → flies_name name (flights d) ≡ true → standing name.number name.index ≡ None
+  pub new : (d number index : ℕ) → WritesGroup books d number index → standing number index ≡ None
 
 abbrev pub name_at : ℕ → ℕ → Name
 name_at n i = record { number = n; index = i }
@@ -242,6 +254,22 @@ pub record RepairKept (l : Ledger) (number : ℕ) (k : Key) (from : Option Store
   pub stored : IsStored l.standing from (l.first_page k)
   pub content_is : there ≡ true → content ≡ l.base k
 
+-- what was read has the content of the page with this name, and the tag that it has whenever it is programmed
+pub record IsCopied (name : Name) (e : Entry) (read : Tag) (content : List ℕ) : Type 0 where
+  pub content_is : content ≡ e.item.body
+  pub tag_is : (frontier : ℕ) → tag_of name e frontier ≡ record read { frontier = frontier }
+
+-- a copy is of a page that stands, of this key and of the group with this number
+pub record CopyKept (l : Ledger) (number : ℕ) (k : Key) (read : Option Tag) (content : List ℕ) (name : Name) : Type 0
+  where
+    pub number_is : name.number ≡ number
+    pub place : Place
+    pub stands : l.standing name.number name.index ≡ Some place
+    pub entry : Entry
+    pub known : entry_of l name ≡ Some entry
+    pub key : entry.item.key ≡ k
+    pub copied : (tag : Tag) → read ≡ Some tag → IsCopied name entry tag content
+
 -- the step under way
 abbrev pub StepKept : Ledger → Option kept_step.Step → List ℕ → Option Step → Type 0
 StepKept l None content None = Unit {0}
@@ -249,6 +277,8 @@ StepKept l (Some (steps.Mark n fence)) content (Some s) = s ≡ record { kind = 
 StepKept l (Some (steps.Repair n k from there)) content (Some s) =
     (s ≡ record { kind = RepairStep (name_at n 0) (option_map (λ (at : Stored). at.place) from); there = there })
     × RepairKept l n k from there content
+StepKept l (Some (steps.Copy n k from read)) content (Some s) =
+    (name : Name) × (s ≡ record { kind = CopyStep name from; there = is_some read }) × CopyKept l n k read content name
 StepKept l step content other = ⊥
 
 -- the key that is being repaired, and those that have no repair yet
@@ -266,11 +296,17 @@ pub record WorkKept (mending : kept.Mending) (left : List Key) (step : Option ke
   pub mending_is : w.mending ≡ mending_kept mending left
   pub step_is : StepKept l step content w.step
   pub to_repair : is_mended w.mending ≡ false → AreToRepair l (keys_to_repair step left)
-  pub no_plan : w.plan ≡ None
   pub no_rests : w.rests ≡ []
   pub next_mark : next ≡ suc l.marks
   -- once the device is mended each repair is durable
   pub repaired : is_mended w.mending ≡ true → before_accepted l ≤ l.frontier
+
+-- Collection
+
+-- the collection that is begun is the plan of the layer, and its block one of the dies
+pub record PlanKept (n : Numbers) (plan : Option Collection) (w : Option layer.Plan) : Type 0 where
+  pub plan_is : w ≡ option_map layer_plan plan
+  pub inside : (p : Collection) → plan ≡ Some p → (p.victim.die < n.dies) × (p.victim.block < n.blocks)
 
 -- All of it
 
@@ -278,9 +314,10 @@ pub record Kept (c : Core) (t : Translation) : Type 0 where
   pub numbers : c.numbers ≡ t.numbers
   pub blocks : BlocksKept t.numbers t.disk.blocks c.states c.has_bad
   pub dies : DiesKept t.numbers t.disk.blocks t.disk.flights c.step c.books
-  pub fly : PagesFly t.ledger.standing t.disk.flights
+  pub fly : PagesFly t.ledger.standing t.disk.flights c.books
   pub ledger_kept : LedgerKept c.numbers c.places c.pages c.frontier c.last t.ledger
   pub work : WorkKept c.mending (drop c.repaired c.lost) c.step c.content c.next_mark t.work t.ledger
+  pub plan : PlanKept t.numbers c.plan t.work.plan
   pub claims : length c.claims ≡ t.claims
   pub pins : PinsKept t.ledger.frontier (entry_of t.ledger) c.pins t.pins
   pub differ : ReadersDiffer c.pins
@@ -289,11 +326,29 @@ pub record Kept (c : Core) (t : Translation) : Type 0 where
   -- readers keep something only once the device is mended
   pub readers : is_mended t.work.mending ≡ false → c.pins ≡ []
 
--- what is kept describes the layer, this is one that a life may come to, and it is known which pages are live
+-- a copy whose page is still to be read
+abbrev pub copying : Name → Place → Step
+copying name from = record { kind = CopyStep name from; there = false }
+
+-- if a group's page is there it is of this key and of the group with this number
+abbrev pub IsOf : Cells → PlannedCopy → Type 0
+IsOf cells x =
+    (tag : Tag) (body : List ℕ) → cells x.from ≡ GroupPage tag body → (key_of tag ≡ x.key) × (tag.number ≡ x.number)
+
+-- the pages that are still to be copied have the keys and numbers of their copies, and the page that the step under way
+-- is still to copy has the name of its copy
+pub record CopiesKnown (cells : Cells) (plan : Option Collection) (step : Option Step) : Type 0 where
+  pub planned : (p : Collection) → plan ≡ Some p → All (IsOf cells) p.copies
+  pub named : (name : Name) (from : Place) → step ≡ Some (copying name from) →
+      (tag : Tag) (body : List ℕ) → cells from ≡ GroupPage tag body → name_of tag ≡ name
+
+-- what is kept describes the layer, this is one that a life may come to, and it is known which pages are live and which
+-- are copied
 pub record Describes (c : Core) (t : Translation) : Type 0 where
   pub valid : Valid t
   pub kept : Kept c t
   pub live : KnowsLive c.numbers c.places c.pages c.live
+  pub copies : CopiesKnown t.disk.cells c.plan t.work.step
 
 -- What the calls tell
 

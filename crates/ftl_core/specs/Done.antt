@@ -2,6 +2,7 @@
 -- `IsTold` of Describes says what that means.
 use Rattle.std.specs.Prelude.{◌≡◌, ℕ, slice_get, Option, Some, None, option_map}
 use Rattle.ufs_spec.specs.declared.flash.Outcome.{Outcome}
+use Rattle.ufs_spec.specs.declared.flash.Tag.{Tag}
 use Rattle.ftl_core.specs.declared.books.Book.{Book}
 use Rattle.ftl_core.specs.declared.books.Flight.{Flight}
 use Rattle.ftl_core.specs.declared.books.Flight.TheVariants as flight
@@ -9,23 +10,23 @@ use Rattle.ftl_core.specs.declared.ftl.Ended.{Ended}
 use Rattle.ftl_core.specs.Core.{Core}
 use Rattle.ftl_core.specs.Gives.{GivesIf, IsReadAfter, change_after, ending, is_read, other_for}
 
-abbrev pub IsJobAfter : Core → ℕ → Book → Flight → Outcome → Core → Type 0
-IsJobAfter c die b (flight.Read place reader) o new = IsReadAfter (is_read o) c die b o reader new
-IsJobAfter c die b (flight.Step place) o new = new ≡ change_after c die b (flight.Step place) (ending o)
-IsJobAfter c die b (flight.Group place n i) o new = new ≡ change_after c die b (flight.Group place n i) (ending o)
-IsJobAfter c die b (flight.Erase block) o new = new ≡ change_after c die b (flight.Erase block) (ending o)
+abbrev pub IsJobAfter : Core → ℕ → Book → Flight → Outcome → Option Tag → Core → Type 0
+IsJobAfter c die b (flight.Read place reader) o tag new = IsReadAfter (is_read o) c die b o tag reader new
+IsJobAfter c die b (flight.Step place) o tag new = new ≡ change_after c die b (flight.Step place) (ending o)
+IsJobAfter c die b (flight.Group place n i) o tag new = new ≡ change_after c die b (flight.Group place n i) (ending o)
+IsJobAfter c die b (flight.Erase block) o tag new = new ≡ change_after c die b (flight.Erase block) (ending o)
 
-abbrev pub IsFlightAfter : Core → ℕ → Book → Option Flight → Outcome → Core → Type 0
-IsFlightAfter c die b None o new = new ≡ c
-IsFlightAfter c die b (Some f) o new = IsJobAfter c die b f o new
+abbrev pub IsFlightAfter : Core → ℕ → Book → Option Flight → Outcome → Option Tag → Core → Type 0
+IsFlightAfter c die b None o tag new = new ≡ c
+IsFlightAfter c die b (Some f) o tag new = IsJobAfter c die b f o tag new
 
-abbrev pub IsBookAfter : Core → ℕ → Option Book → Outcome → Core → Type 0
-IsBookAfter c die None o new = new ≡ c
-IsBookAfter c die (Some b) o new = IsFlightAfter c die b b.flight o new
+abbrev pub IsBookAfter : Core → ℕ → Option Book → Outcome → Option Tag → Core → Type 0
+IsBookAfter c die None o tag new = new ≡ c
+IsBookAfter c die (Some b) o tag new = IsFlightAfter c die b b.flight o tag new
 
--- what is kept once the job of the die ended so
-abbrev pub IsCoreEnded : Core → ℕ → Outcome → Core → Type 0
-IsCoreEnded c die o new = IsBookAfter c die (slice_get c.books die) o new
+-- what is kept once the job of the die ended so, and a page with this tag was read, if one was
+abbrev pub IsCoreEnded : Core → ℕ → Outcome → Option Tag → Core → Type 0
+IsCoreEnded c die o tag new = IsBookAfter c die (slice_get c.books die) o tag new
 
 -- a program and an erase give nothing, and a read what its reader looked up
 abbrev pub JobEnds : Core → Flight → Outcome → Option Ended → Type 0

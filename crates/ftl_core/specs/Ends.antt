@@ -1,9 +1,13 @@
 -- How a group moves on until it is durable, as the code does it. Describes says what that means.
-use Rattle.std.specs.Prelude.{ℕ, zero, suc, ◌+◌, min, not, List, filter, fold, length}
+use Rattle.std.specs.Prelude.{ℕ, zero, suc, ◌+◌, ◌==◌, if◌then◌else◌, min, nat_le, not, List, filter, find, fold, length}
 use Rattle.std.specs.Prelude.{drop, map, slice_get, take, Option, Some, None, true}
 use Rattle.ufs_spec.specs.declared.flash.Key.{Key}
 use Rattle.ufs_spec.specs.declared.flash.Place.{Place}
+use Rattle.ufs_spec.specs.declared.flash.Tag.{Tag}
+use Rattle.block_table.specs.Blocks.{freed_state}
 use Rattle.block_table.specs.Lives.{with_live}
+use Rattle.collector.specs.Plans.{Collection}
+use Rattle.ufs_spec.specs.Disk.{Spot}
 use Rattle.unit_map.specs.declared.Stored.{Stored}
 use Rattle.ftl_core.specs.declared.books.Book.{Book}
 use Rattle.write_cache.specs.declared.slots.Landed.{Landed}
@@ -13,10 +17,10 @@ use Rattle.ftl_core.specs.declared.books.Mending.TheVariants as mending
 use Rattle.ftl_core.specs.declared.books.Step.{Step}
 use Rattle.ftl_core.specs.declared.books.Step.TheVariants as step
 use Rattle.unit_map.specs.Places.{places_noted, position_of}
-use Rattle.write_cache.specs.Slots.{is_of_group, whole_group, page_written as page_at_written}
+use Rattle.write_cache.specs.Slots.{is_named, is_of_group, whole_group, page_written as page_at_written}
 use Rattle.ftl_core.specs.Core.{Core}
-use Rattle.ftl_core.specs.KnownLive.{live_moved}
-use Rattle.ftl_core.specs.Moves.{mark_ordered, moved_pin, page_written, stored_of, went_bad}
+use Rattle.ftl_core.specs.KnownLive.{live_moved, page_moved}
+use Rattle.ftl_core.specs.Moves.{mark_ordered, moved_pin, page_written, state_of, stored_of, went_bad, with_state}
 
 -- Groups
 
@@ -100,35 +104,78 @@ mending_behind m = mending.Mended
 abbrev pub mark_over : Core → Core
 mark_over c = record c { step = None; mending = mending_behind c.mending }
 
+-- the block of a collection is free behind its mark, unless it is bad
+abbrev pub block_freed : Core → Spot → Core
+block_freed c s = with_state c s.die s.block (freed_state (state_of c s.die s.block))
+
+abbrev pub plan_freed : Core → Option Collection → Core
+plan_freed c None = c
+plan_freed c (Some p) = record (block_freed c p.victim) { plan = None }
+
+-- the collection that is begun, if one is, is over
+abbrev pub plan_over : Core → Core
+plan_over c = plan_freed c c.plan
+
 -- the repair is durable: its key reads from this place
 abbrev pub repair_over : Core → Key → Place → Core
 repair_over c k p =
     noted (record c { step = None; frontier = risen c }) k (record { place = p; number = risen c })
 
-abbrev pub step_over : Core → Option Step → Place → Core
-step_over c None p = c
-step_over c (Some (step.Mark n fence)) p = mark_over c
-step_over c (Some (step.Repair n k from there)) p = repair_over c k p
+-- the index of a copy, by the tag of the page that was read
+abbrev pub index_in : Option Tag → ℕ
+index_in None = 0
+index_in (Some t) = t.index
 
--- its page is written
+-- the key reads from the copy of its page, if no newer page of it is durable
+abbrev pub copy_durable : Core → ℕ → Key → Place → Option Stored → Core
+copy_durable c n k p None = c
+copy_durable c n k p (Some s) = if s.number == n then noted c k (record { place = p; number = n }) else c
+
+-- the page of a pending group is written where its copy is
+abbrev pub copy_pending : Core → ℕ → ℕ → Place → Option Pending → Core
+copy_pending c n i p None = c
+copy_pending c n i p (Some q) =
+    record c { pages = page_at_written c.pages n i p; live = page_moved c.live q.written p }
+
+-- the copy of a page stands there
+abbrev pub copy_stands : Core → ℕ → Key → ℕ → Place → Core
+copy_stands c n k i p =
+    if nat_le n c.frontier
+    then copy_durable c n k p (stored_of c k)
+    else copy_pending c n i p (find (is_named n i) c.pages)
+
+abbrev pub copy_over : Core → ℕ → Key → ℕ → Place → Core
+copy_over c n k i p = copy_stands (record c { step = None }) n k i p
+
+-- a page of the step that is under way is written, and the step is over
+abbrev pub step_over : Core → Option Step → ℕ → Book → Place → Core
+step_over c None die b p = page_written c die b b.filling
+step_over c (Some (step.Mark n fence)) die b p = plan_over (page_written (mark_over c) die b b.filling)
+step_over c (Some (step.Repair n k from there)) die b p = page_written (repair_over c k p) die b b.filling
+step_over c (Some (step.Copy n k from tag)) die b p =
+    settled (page_written (copy_over c n k (index_in tag) p) die b b.filling)
+
 abbrev pub step_written : Core → ℕ → Book → Place → Core
-step_written c die b p = page_written (step_over c c.step p) die b b.filling
+step_written c die b p = step_over c c.step die b p
 
--- in place of a failed mark waits one with the next number and the same fence; a failed repair waits again by itself
+-- in place of a failed mark waits one with the next number and the same fence; a failed repair or copy waits again by
+-- itself
 abbrev pub step_again : Core → Option Step → Core
 step_again c (Some (step.Mark n fence)) = mark_ordered c fence
 step_again c (Some (step.Repair n k from there)) = c
+step_again c (Some (step.Copy n k from tag)) = c
 step_again c None = c
 
 abbrev pub step_failed : Core → ℕ → Place → Core
 step_failed c die p = went_bad (step_again c c.step) die p.block
 
--- the content of the step is there
-abbrev pub step_there : Option Step → Option Step
-step_there (Some (step.Repair n k from there)) = Some (step.Repair n k from true)
-step_there (Some (step.Mark n fence)) = Some (step.Mark n fence)
-step_there None = None
+-- the content of the step is there, which was read from a page with this tag
+abbrev pub step_there : Option Tag → Option Step → Option Step
+step_there tag (Some (step.Repair n k from there)) = Some (step.Repair n k from true)
+step_there tag (Some (step.Copy n k from before)) = Some (step.Copy n k from tag)
+step_there tag (Some (step.Mark n fence)) = Some (step.Mark n fence)
+step_there tag None = None
 
-abbrev pub with_content : Core → Option (List ℕ) → Core
-with_content c None = c
-with_content c (Some body) = record c { content = body; step = step_there c.step }
+abbrev pub with_content : Core → Option Tag → Option (List ℕ) → Core
+with_content c tag None = c
+with_content c tag (Some body) = record c { content = body; step = step_there tag c.step }

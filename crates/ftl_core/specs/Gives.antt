@@ -111,6 +111,7 @@ GivesIf true c o who r = (e : Ended) × (r ≡ Some e) × Gives c o who e
 -- the body of the page, where it is the one that the step under way is read from
 abbrev pub IsContentOf : Option Step → Page → Option (List ℕ) → Type 0
 IsContentOf (Some (step.Repair n k (Some s) there)) page body = IsBodyOf page k s.number body
+IsContentOf (Some (step.Copy n k from tag)) page body = IsBodyOf page k n body
 IsContentOf s page body = body ≡ None
 
 -- a failed read gives none
@@ -118,12 +119,14 @@ abbrev pub IsContentRead : Option Step → Outcome → Option (List ℕ) → Typ
 IsContentRead s (outcome.Read page) body = IsContentOf s page body
 IsContentRead s _ body = body ≡ None
 
--- what is kept once a read for this reader is over
-abbrev pub IsReadOver : Core → Outcome → Reader → Core → Type 0
-IsReadOver c o (reader.Task tag index) new = new ≡ record c { pins = map (wanted_no_more tag index) c.pins }
-IsReadOver c o reader.Step new = (body : Option (List ℕ)) × IsContentRead c.step o body × (new ≡ with_content c body)
-IsReadOver c o reader.Nobody new = new ≡ c
+-- what is kept once a read for this reader is over, of a page with this tag
+abbrev pub IsReadOver : Core → Outcome → Option Tag → Reader → Core → Type 0
+IsReadOver c o found (reader.Task tag index) new = new ≡ record c { pins = map (wanted_no_more tag index) c.pins }
+IsReadOver c o found reader.Step new =
+    (body : Option (List ℕ)) × IsContentRead c.step o body × (new ≡ with_content c found body)
+IsReadOver c o found reader.Nobody new = new ≡ c
 
-abbrev pub IsReadAfter : Bool → Core → ℕ → Book → Outcome → Reader → Core → Type 0
-IsReadAfter false c die b o r new = new ≡ c
-IsReadAfter true c die b o r new = IsReadOver (with_book c die record { filling = b.filling; flight = None }) o r new
+abbrev pub IsReadAfter : Bool → Core → ℕ → Book → Outcome → Option Tag → Reader → Core → Type 0
+IsReadAfter false c die b o found r new = new ≡ c
+IsReadAfter true c die b o found r new =
+    IsReadOver (with_book c die record { filling = b.filling; flight = None }) o found r new

@@ -43,6 +43,14 @@ lives_of_places n places = fold with_stored (none_live (sizes_of n)) (take (key_
 abbrev pub live_moved : Lives → Option Stored → Place → Lives
 live_moved l old place = with_live (without_stored l old) place true
 
+-- a page that was written there, or nowhere, is written here from now on
+abbrev pub without_page : Lives → Option Place → Lives
+without_page l None = l
+without_page l (Some p) = with_live l p false
+
+abbrev pub page_moved : Lives → Option Place → Place → Lives
+page_moved l old place = with_live (without_page l old) place true
+
 -- What it means
 
 -- the durable content of a key stands there

@@ -1,3 +1,4 @@
+pub mod Collects
 pub mod Core
 pub mod Describes
 pub mod Done
@@ -11,3 +12,4 @@ pub mod Rooms
 pub mod Stops
 pub mod Takes
 pub mod Tells
+pub mod Turns

@@ -94,6 +94,7 @@ opened n f = record {
   frontier = min f.greatest_seen (2 ^ 62);
   last = min f.greatest_seen (2 ^ 62);
   pins = [];
+  plan = None;
   mending = first_mending f;
   lost = f.lost.items;
   repaired = 0;
@@ -116,6 +117,7 @@ free_slots c = c.numbers.slots - length c.pages - length c.claims
 abbrev pub repairs_in : Option Step → ℕ
 repairs_in (Some (step.Repair n key from there)) = 1
 repairs_in (Some (step.Mark n fence)) = 0
+repairs_in (Some (step.Copy n key from tag)) = 0
 repairs_in None = 0
 
 -- the number of the next group
@@ -385,29 +387,3 @@ repair_ordered c k =
 -- a mark is due where a number is left
 abbrev pub has_mark_number : Core → Bool
 has_mark_number c = nat_le c.next_mark (2 ^ 62)
-
--- the next key is to be repaired, or the mark that follows the repairs is due
-abbrev pub is_repair_due : Core → Option Key → Bool
-is_repair_due c None = has_mark_number c
-is_repair_due c (Some k) = has_number c
-
-abbrev pub repair_turned : Core → Option Key → Core
-repair_turned c None = mark_ordered c None
-repair_turned c (Some k) = repair_ordered c k
-
-abbrev pub is_step_due : Core → Mending → Bool
-is_step_due c (mending.Unmarked fence) = has_mark_number c
-is_step_due c mending.Repairing = is_repair_due c (slice_get c.lost c.repaired)
-is_step_due c mending.Mended = false
-
-abbrev pub is_turn_due : Core → Bool
-is_turn_due c = is_none c.step && is_step_due c c.mending
-
-abbrev pub step_turned : Core → Mending → Core
-step_turned c (mending.Unmarked fence) = mark_ordered c fence
-step_turned c mending.Repairing = repair_turned c (slice_get c.lost c.repaired)
-step_turned c mending.Mended = c
-
--- what one step of the mending makes of what is kept, where one is due
-abbrev pub turned : Core → Core
-turned c = step_turned c c.mending

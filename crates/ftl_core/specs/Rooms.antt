@@ -1,11 +1,12 @@
 -- How the layer's fields are seen, and the room that they keep.
-use Rattle.std.specs.Prelude.{◌≡◌, ◌≤◌, ◌+◌, ◌^◌, ℕ, List, [], ◌∷◌, length, vec_capacity, Option, Some, None}
+use Rattle.std.specs.Prelude.{◌≡◌, ◌≤◌, ◌+◌, ◌^◌, ℕ, List, [], ◌∷◌, length, vec_capacity, IfSome, Option, Some, None}
 use Rattle.block_table.specs.declared.OpenBlock.{OpenBlock}
 use Rattle.ftl_core.specs.declared.ftl.Ftl.TheInside.{Inside}
 use Rattle.ftl_core.specs.declared.books.Book.{Book}
 use Rattle.ftl_core.specs.declared.books.Flight.{Flight}
 use Rattle.ftl_core.specs.declared.books.Step.{Step}
 use Rattle.ftl_core.specs.declared.books.Step.TheVariants as step
+use Rattle.ufs_spec.specs.Pages.{IsTag}
 use Rattle.ftl_core.specs.Core.{Core}
 use Rattle.ftl_core.specs.PinCounts.{ArePinsCounted, without_pins}
 
@@ -29,6 +30,7 @@ core_of f = record {
   frontier = f.cache.frontier;
   last = f.cache.last;
   pins = f.pins.items;
+  plan = f.plan.plan;
   mending = f.mending;
   lost = f.lost.items;
   repaired = f.repaired;
@@ -37,7 +39,7 @@ core_of f = record {
   next_mark = f.next_mark;
 }
 
--- the number of the step under way is one
+-- the number of the step under way is one, and the tag of a page that is copied is one
 abbrev pub IsNumber : ℕ → Type 0
 IsNumber n = (1 ≤ n) × (n ≤ 2 ^ 62)
 
@@ -45,6 +47,7 @@ abbrev pub IsStep : Option Step → Type 0
 IsStep None = Unit {0}
 IsStep (Some (step.Mark n fence)) = IsNumber n
 IsStep (Some (step.Repair n key from there)) = IsNumber n
+IsStep (Some (step.Copy n key from tag)) = IfSome tag IsTag
 
 -- the parts are those of one configuration, and each pin has room
 pub record IsRoomy (f : Inside) : Type 0 where
@@ -59,6 +62,7 @@ pub record IsRoomy (f : Inside) : Type 0 where
   pub pins : length f.pins.items ≤ 1024
   pub pin_room : 1024 ≤ vec_capacity f.pins
   pub units : length f.config.units.items ≤ 8
+  pub plan_pages : f.plan.pages ≡ f.config.pages
   -- the pins of each block are counted
   pub live_dies : f.live.sizes.dies ≡ length f.flights.items
   pub live_blocks : f.live.sizes.blocks ≡ f.config.blocks

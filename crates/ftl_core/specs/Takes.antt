@@ -2,11 +2,12 @@
 -- Describes says what that means.
 use Rattle.std.specs.Prelude.{ℕ, zero, suc, ◌==◌, ◌^◌, nat_le, nat_lt, Bool, true, false, ◌&&◌, ◌||◌, not}
 use Rattle.std.specs.Prelude.{if◌then◌else◌}
-use Rattle.std.specs.Prelude.{find, is_none, List, position, slice_get, Option, Some, None, option_and_then, option_map}
+use Rattle.std.specs.Prelude.{find, is_none, is_some, List, position, slice_get, Option, Some, None, option_and_then, option_map}
 use Rattle.std.specs.List.{list_any}
 use Rattle.ufs_spec.specs.Pages.{mark_bytes, seal_page}
 use Rattle.ufs_spec.specs.declared.flash.Job.{Job}
 use Rattle.ufs_spec.specs.declared.flash.Job.TheVariants as job
+use Rattle.ufs_spec.specs.declared.flash.Tag.{Tag}
 use Rattle.ufs_spec.specs.declared.flash.Fence.{Fence}
 use Rattle.ufs_spec.specs.declared.flash.Key.{Key}
 use Rattle.ufs_spec.specs.declared.flash.Place.{Place}
@@ -87,6 +88,7 @@ abbrev pub is_step_there : Option Step → Bool
 is_step_there None = false
 is_step_there (Some (step.Mark n fence)) = true
 is_step_there (Some (step.Repair n k from there)) = there
+is_step_there (Some (step.Copy n k from tag)) = is_some tag
 
 abbrev pub step_waits : Core → Bool
 step_waits c = is_step_there c.step && not (list_any writes_step c.books)
@@ -128,6 +130,7 @@ first_owed c die = position (is_owed_by c.books die) c.pins
 -- where the page stands that the step under way is still to be read from
 abbrev pub step_wants : Option Step → Option Place
 step_wants (Some (step.Repair n k (Some s) false)) = Some s.place
+step_wants (Some (step.Copy n k from None)) = Some from
 step_wants s = None
 
 -- the read that the step under way is owed of a page of this die
@@ -194,10 +197,16 @@ repair_program c place n k = job.Program place (seal_page (single_tag k n c.fron
 abbrev pub repair_job : Core → Place → ℕ → Key → Option Job
 repair_job c place n k = if is_sealable k then Some (repair_program c place n k) else None
 
+-- the page of a copy has the data and the tag of the page that was read, and records the frontier of the moment
+abbrev pub copy_program : Core → Place → Tag → Job
+copy_program c place t = job.Program place (seal_page (record t { frontier = c.frontier }) c.content)
+
 abbrev pub step_job : Core → Place → Option Step → Option Job
 step_job c place None = None
 step_job c place (Some (step.Mark n fence)) = Some (mark_program c place n fence)
 step_job c place (Some (step.Repair n k from there)) = repair_job c place n k
+step_job c place (Some (step.Copy n k from None)) = None
+step_job c place (Some (step.Copy n k from (Some t))) = Some (copy_program c place t)
 
 abbrev pub job_of : Core → ℕ → Flight → Option Job
 job_of c die (flight.Read place reader) = Some (job.Read place)

@@ -1,6 +1,6 @@
 //! What the translation layer writes down of blocks, dies, groups and readers.
 use block_table::OpenBlock;
-use ufs_spec::{Fence, Key, Place};
+use ufs_spec::{Fence, Key, Place, Tag};
 use unit_map::Stored;
 
 /// For whom a page is read: for the block of this index of a reader who waits for it, or for nobody, once
@@ -73,7 +73,7 @@ pub enum Mending {
     Mended,
 }
 
-/// The step of the mending that is under way.
+/// The step of the mending or of a collection that is under way.
 #[derive(Clone, Copy, Debug, PartialEq, Eq)]
 pub enum Step {
     /// A mark with this number and this fence.
@@ -88,6 +88,14 @@ pub enum Step {
         key: Key,
         from: Option<Stored>,
         is_there: bool,
+    },
+    /// The copy of the page there, which is of this key and of the group with this number. It can be
+    /// programmed once it was read: its tag is known then.
+    Copy {
+        number: u64,
+        key: Key,
+        from: Place,
+        tag: Option<Tag>,
     },
 }
 

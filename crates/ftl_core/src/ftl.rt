@@ -22,17 +22,19 @@ ghost use Rattle.ufs_spec.specs.Disk.{Spot};
 ghost use Rattle.ufs_spec.specs.Openings.{IsOpenedTranslation};
 ghost use Rattle.ftl_core.specs.Describes.{Describes, name_at};
 ghost use Rattle.ftl_core.specs.Stops.{StopsRight};
-ghost use Rattle.ftl_core.specs.KnownLive.{live_moved, none_live, with_stored};
+ghost use Rattle.ftl_core.specs.KnownLive.{live_moved, none_live, page_moved, with_stored};
 ghost use Rattle.block_table.specs.Lives.{is_live};
 ghost use Rattle.ftl_core.specs.Tells.{IsPinned, PinsDiffer, claims_of_blocks, group_of_blocks, keeps_for, keeps_of, key_behind};
 
 mod ends;
 mod pin_counts;
 mod takes;
+mod turns;
 
 use self::pin_counts::{pin_block, unpin_block_of, unpin_blocks};
 use crate::books::{Flight, Looked, Mending, Pin, Reader, Step};
 use block_table::{BlockState, BlockTable, LivePages, Sizes};
+use collector::Plan;
 use geometry::{Config, key_count};
 use recovery::{Found, FoundBlock, FoundPage};
 use std::alloc::{AllocError, Global};
@@ -68,6 +70,9 @@ pub struct Ftl {
     live: LivePages,
     /// The slots: pages of pending groups, and claims for groups to come; and their numbers.
     cache: Cache,
+    /// The collection that is begun, if one is: its block is closed or bad, and its live pages are
+    /// copied before the block is free.
+    plan: Plan,
     /// What readers keep, each block of a reader once: at most 1024, with room for all of them.
     pins: Vec<Pin>,
     /// How far the mending is.
@@ -76,9 +81,10 @@ pub struct Ftl {
     lost: Vec<Key>,
     /// How many of them have a repair, or are being repaired.
     repaired: usize,
-    /// The step of the mending that is under way. Beside a repair no group is pending.
+    /// The step of the mending or of the collection that is under way. Beside a repair no group is
+    /// pending.
     step: Option<Step>,
-    /// What the page of the repair under way holds, once it is there.
+    /// What the page of the repair or copy under way holds, once it is there.
     content: Block,
     /// The number of the next mark, from 1 to 2^62 + 1; the last means that none is left.
     next_mark: u64,
@@ -331,6 +337,17 @@ fn move_live(live: &mut LivePages, old: Option<Stored>, place: Place)
     live.set_live(place);
 }
 
+/// A page that was written there, or nowhere, is written here from now on: of both only this one is
+/// live.
+fn move_page(live: &mut LivePages, old: Option<Place>, written: Place)
+    ensures { live.new ≡ page_moved live.old old written }
+{
+    if let Some(old) = old {
+        live.set_dead(old);
+    }
+    live.set_live(written);
+}
+
 /// The fence of the first mark: over the lost numbers, if there are any.
 fn first_fence(found: &Found) -> Option<Fence>
     ensures { result ≡ first_fence found.now }
@@ -407,6 +424,7 @@ impl Ftl {
             live: live_at(alloc, sizes, places.as_slice(), keys)?,
             places: UnitMap::new(config.copied(), places),
             cache: Cache::new(alloc, slots, last)?,
+            plan: Plan::new(alloc, sizes.pages)?,
             config,
             pins: Vec::with_capacity(alloc, MOST_PINS)?,
             mending,

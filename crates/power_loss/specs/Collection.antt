@@ -1,7 +1,6 @@
 -- Which block is to be collected, and when.
 use Rattle.std.specs.Prelude.{◌≡◌, ◌⊎◌, ◌+◌, ◌*◌, ◌<◌, ◌≤◌, true, false, None}
 use Rattle.ufs_spec.specs.Disk.{Bad, Closed, Spot}
-use Rattle.ufs_spec.specs.Stages.{collects}
 use Rattle.ufs_spec.specs.Translation.{Translation, count_blocks, has_mark_number, is_free, is_mended, is_pinned}
 use Rattle.ufs_spec.specs.Translation.{live_count}
 use Rattle.power_loss.specs.Exchange.{IsSpot}
@@ -37,7 +36,6 @@ IsRoomScarce t = (count_blocks t is_free < 2 * t.numbers.dies + 4) ⊎ ((s : Spo
 
 -- collection is due: the device is mended, nothing is under way, a block can be collected and room is scarce
 pub record IsCollectionDue (t : Translation) : Type 0 where
-  pub collecting : collects ≡ true
   pub mended : is_mended t.work.mending ≡ true
   pub no_step : t.work.step ≡ None
   pub no_plan : t.work.plan ≡ None

@@ -4,10 +4,6 @@
 use Rattle.std.specs.Prelude.{ℕ, Bool, false, List, []}
 use Rattle.ufs_spec.specs.declared.configs.Numbers.{Numbers}
 
--- until collection is built: whether blocks are collected
-abbrev pub collects : Bool
-collects = false
-
 -- until bad blocks are replaced by spare ones: how many blocks may be bad before the device is locked
 abbrev pub most_bad : Numbers → ℕ
 most_bad n = 0

@@ -12,7 +12,7 @@ use Rattle.ufs_spec.specs.Keys.{Group, below, Item}
 use Rattle.ufs_spec.specs.Ledger.{Entry, Ledger, Looked, Name, OnPage, accepted_groups, before_accepted, entry_of}
 use Rattle.ufs_spec.specs.Ledger.{is_name, is_standing, latest_durable, next_number, pending, same_name, InSlot}
 use Rattle.ufs_spec.specs.Ledger.{Unwritten, look}
-use Rattle.ufs_spec.specs.Stages.{collects, most_bad}
+use Rattle.ufs_spec.specs.Stages.{most_bad}
 use Rattle.ufs_spec.specs.declared.configs.Numbers.{Numbers}
 use Rattle.ufs_spec.specs.declared.flash.Fence.{Fence}
 use Rattle.ufs_spec.specs.declared.flash.Key.{Key}
@@ -188,8 +188,7 @@ is_bad_with_live t s = is_bad (t.disk.blocks s) && not (is_pinned t s) && nat_lt
 -- few blocks are free, or a bad block holds live pages
 abbrev pub wants_collection : Translation → Bool
 wants_collection t =
-    collects
-    && (nat_lt (count_blocks t is_free) (2 * t.numbers.dies + 4) || list_any (is_bad_with_live t) (spots t.numbers))
+    nat_lt (count_blocks t is_free) (2 * t.numbers.dies + 4) || list_any (is_bad_with_live t) (spots t.numbers)
 
 -- Steps
 

@@ -64,7 +64,7 @@ impl Visit {
         })
     }
 
-    /// Whether a step of mending was due.
+    /// Whether a step of mending or of collection was due.
     pub fn turn(&mut self) -> Result<bool, Word> {
         Ok(matches!(self.step(&Event::Turn)?, Output::Turn(true)))
     }

@@ -38,6 +38,7 @@ use Rattle.device.specs.Worlds.{BlocksFit, DiesFit, FitState, die_at, job_at, jo
 use Rattle.device.proofs.dies_of_world.DieParts.{die_size, erase_blocks, erase_pages, program_blocks}
 use Rattle.device.proofs.dies_of_world.DieParts.{program_pages, put_jobs, put_same, put_sizes}
 use Rattle.device.proofs.dies_of_world.FinishDies.{blocks_behind, flights_behind, seen_behind}
+use Rattle.device.proofs.dies_of_world.FreedBlock.{written_fits}
 use Rattle.device.proofs.dies_of_world.QuietDies.{Seen, hears_same, replied_same, seen, seen_over, step_same, told_same}
 
 -- A fit reads the numbers, the pages and the blocks of a state, and the jobs that are in flight
@@ -241,9 +242,9 @@ module _ (dies : List DieState) (jobs : List (Option Job)) (s : State) (fit : Fi
         pages =
             ap (λ (array : Array). at_place array p (page_of cell)) fit.pages
             ∙ program_pages n dies p (page_of cell) fit.sizes l right.place;
-        blocks_fit =
-            program_blocks n dies s.translation.disk.blocks p (page_of cell) fit.sizes l right.place right.next
-            fit.blocks_fit;
+        blocks_fit = written_fits s.translation (done_by p.die (Programming p cell)) p cell
+            (program_blocks n dies s.translation.disk.blocks p (page_of cell) fit.sizes l right.place right.next
+            fit.blocks_fit);
       }
   are_behind (Erasing spot) flies =
       let blocks = s.translation.disk.blocks in
@@ -289,11 +290,10 @@ module _ (dies : List DieState) (jobs : List (Option Job)) (s : State) (fit : Fi
       FitSeen after (slice_set jobs die None) g (seen_over array (record { numbers = n; blocks = blocks })))
       (sym (flights_behind s die flight ending left none flies (lies_home die flight flies) right)) known)
 
-  pub finish_fits : (die : ℕ) (flight : Flight) → HaveNoRequest s.tasks → s.translation.work.plan ≡ None →
-      flights die ≡ Some flight →
+  pub finish_fits : (die : ℕ) (flight : Flight) → HaveNoRequest s.tasks → flights die ≡ Some flight →
       FitState (done_by die flight) (slice_set jobs die None)
       (observe s (Done die (ended_well flight) s.array) (OfDone true))
-  finish_fits die flight none no_plan flies =
+  finish_fits die flight none flies =
       let array = array_behind s flight (ended_well flight) s.array in
       let blocks = blocks_behind s.translation flight in
       let put : AreBehind n (done_by die flight) array blocks =
@@ -301,7 +301,7 @@ module _ (dies : List DieState) (jobs : List (Option Job)) (s : State) (fit : Fi
       (lies_home die flight flies) (are_behind flight) flies in
       ended_fits die flight (ended_well flight) s.array (done_by die flight) array blocks none flies (well_fits flight)
       (put_sizes n dies die (job_of flight) fit.sizes (is_inside die flight flies)) put
-      (seen_behind s die flight no_plan flies)
+      (seen_behind s die flight flies)
 
 -- The opening
 

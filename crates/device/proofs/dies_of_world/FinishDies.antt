@@ -11,17 +11,21 @@ use Rattle.ufs_spec.specs.Machine.{Done, OfDone, array_behind, ends_with, observ
 use Rattle.ufs_spec.specs.Moves.{Ending, ReadRight, ReadWrong, WentWell, WentWrong, die_idle, end_flight, fits}
 use Rattle.ufs_spec.specs.Moves.{freed, job_ended, read_right, read_wrong}
 use Rattle.ufs_spec.specs.Refusals.{State}
-use Rattle.ufs_spec.specs.Translation.{Plan, Translation, has_mark_number}
+use Rattle.ufs_spec.specs.Translation.{Translation, has_mark_number}
 use Rattle.ufs_spec.specs.declared.flash.Place.{Place}
 use Rattle.ufs_laws.proofs.jobs.JobsInFlight.{jobs_behind}
 use Rattle.ufs_laws.specs.Flights.{die_of_flight}
 use Rattle.ufs_laws.specs.Requests.{HaveNoRequest}
 use Rattle.device.proofs.dies_of_world.QuietDies.{LayerSeen, layer_seen, seen, seen_over, told_same}
 
--- the state of each block behind the end of a job that went well
+-- the state of each block behind the end of a job that went well: the end of a mark frees the block of its plan
 abbrev pub blocks_behind : Translation → Flight → Spot → BlockState
 blocks_behind t (Reading reader place) = t.disk.blocks
-blocks_behind t (Programming p cell) = at_spot t.disk.blocks (spot_of p) (state_behind t.numbers.pages p.page)
+blocks_behind t (Programming p Nothing) = at_spot t.disk.blocks (spot_of p) (state_behind t.numbers.pages p.page)
+blocks_behind t (Programming p (GroupPage tag body)) =
+    at_spot t.disk.blocks (spot_of p) (state_behind t.numbers.pages p.page)
+blocks_behind t (Programming p (MarkPage m)) =
+    (freed (programmed t.numbers.pages t.disk p (MarkPage m)) t.work.plan).blocks
 blocks_behind t (Erasing spot) = at_spot t.disk.blocks spot (Filling 0)
 
 abbrev pub layer_behind : Translation → Flight → LayerSeen
@@ -33,19 +37,13 @@ read_layer t ForStep = refl
 read_layer t (ForRest number index) = refl
 read_layer t ForNobody = refl
 
--- where nothing is collected, the end of a mark frees no block
-ended_layer : (t : Translation) (die : ℕ) (flight : Flight) → t.work.plan ≡ None →
+ended_layer : (t : Translation) (die : ℕ) (flight : Flight) →
     layer_seen (job_ended t die flight (ended_well flight)) ≡ layer_behind t flight
-ended_layer t die (Reading reader place) none = read_layer (die_idle t die) reader
-ended_layer t die (Programming p Nothing) none = refl
-ended_layer t die (Programming p (GroupPage tag body)) none = refl
-ended_layer t die (Programming p (MarkPage m)) none =
-    ap (λ (f : Spot → BlockState). layer_of t f)
-    (ap (λ (plan : Option Plan). (freed (programmed t.numbers.pages t.disk p (MarkPage m)) plan).blocks) none)
-  where
-    layer_of : Translation → (Spot → BlockState) → LayerSeen
-    layer_of u f = record { numbers = u.numbers; blocks = f }
-ended_layer t die (Erasing spot) none = refl
+ended_layer t die (Reading reader place) = read_layer (die_idle t die) reader
+ended_layer t die (Programming p Nothing) = refl
+ended_layer t die (Programming p (GroupPage tag body)) = refl
+ended_layer t die (Programming p (MarkPage m)) = refl
+ended_layer t die (Erasing spot) = refl
 
 told_keeps : (s : State) (reader : Reader) (read : ReadState) → (read_noted s reader read).translation ≡ s.translation
 told_keeps s (ForTask tag index) read = refl
@@ -73,13 +71,12 @@ seen_ended s die flight ending left flies =
     (behind_keeps s flight ending)
     ∙ ap (λ (o : Option Flight). seen_over array (layer_seen (end_flight s.translation die o ending))) flies
 
-pub seen_behind : (s : State) (die : ℕ) (flight : Flight) → s.translation.work.plan ≡ None →
-    s.translation.disk.flights die ≡ Some flight →
+pub seen_behind : (s : State) (die : ℕ) (flight : Flight) → s.translation.disk.flights die ≡ Some flight →
     seen (observe s (Done die (ended_well flight) s.array) (OfDone true))
     ≡ seen_over (array_behind s flight (ended_well flight) s.array) (layer_behind s.translation flight)
-seen_behind s die flight none flies =
+seen_behind s die flight flies =
     seen_ended s die flight (ended_well flight) s.array flies
-    ∙ ap (seen_over (array_behind s flight (ended_well flight) s.array)) (ended_layer s.translation die flight none)
+    ∙ ap (seen_over (array_behind s flight (ended_well flight) s.array)) (ended_layer s.translation die flight)
 
 -- A job that fails
 

@@ -13,7 +13,6 @@ use Rattle.ufs_spec.specs.declared.faults.HostFault.{HostFault}
 use Rattle.ufs_spec.specs.declared.flash.Job.{Job}
 use Rattle.ufs_spec.specs.declared.flash.Outcome.{Outcome}
 use Rattle.ufs_spec.specs.declared.messages.Message.{Message}
-use Rattle.ftl_core.specs.Limits.{in_this_stage}
 use Rattle.device.specs.Describes.{IsAnswered, IsGiven, IsHeardAs, IsReplied}
 use Rattle.device.specs.Kept.{DeviceCore, WorldState}
 use Rattle.device.specs.Worlds.{FitState, Fits, Went, die_at, job_at, jobs_given}
@@ -148,5 +147,4 @@ finish_went w after s die j o fit is out answered =
     (observe s call (OfDone true)))
     f.2
     (finish_fits w.dies w.jobs s fit.dies_fit fit.describes.tied die f.0
-    (no_requests (before_accepted s.translation.ledger) w.core.tasks s.tasks fit.describes.kept.tasks)
-    (in_this_stage w.core.ftl s.translation fit.describes.kept.layer_kept).plan f.1))
+    (no_requests (before_accepted s.translation.ledger) w.core.tasks s.tasks fit.describes.kept.tasks) f.1))

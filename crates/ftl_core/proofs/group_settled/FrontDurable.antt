@@ -85,7 +85,9 @@ made_kept c u number h m w = record {
       (subst (λ (n : Numbers). GroupsRight n u.ledger) (sym h.numbers) m.groups) w;
   work = work_more c.mending (drop c.repaired c.lost) c.step c.content c.next_mark u.work u.ledger
       (at_frontier u.ledger (suc u.ledger.frontier)) m.mended
-      (no_repair_kept u.ledger c.step c.content u.work.step h.work.step_is m.no_repair) refl (climbs_on u m).top h.work;
+      (no_repair_kept u.ledger c.step c.content u.work.step h.work.step_is m.no_repair) refl (climbs_on u m).top
+      (λ name e is. is) (λ name p is. (p, is)) h.work;
+  plan = h.plan;
   claims = h.claims;
   pins = pins_settle u.ledger (entry_of u.ledger) w.group w.pages.front w.stand
       (λ j e is. within_group w.group j e (sym (entry_next u.ledger w.group j (seen u m) w.there) ∙ is))

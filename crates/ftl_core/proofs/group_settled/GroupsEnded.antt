@@ -17,7 +17,8 @@ use Rattle.ftl_core.specs.Takes.{next_place}
 use Rattle.ftl_core.proofs.group_settled.FrontDurable.{MayClimb, all_settled, climbed_of}
 use Rattle.ftl_core.proofs.group_settled.FrontLedger.{GroupsRight, groups_right}
 use Rattle.ftl_core.proofs.group_settled.PageStands.{IsPending, written_there}
-use Rattle.ftl_core.proofs.group_settled.PageWritten.{IsGroupFlight, flown_mended, flown_pending, page_kept}
+use Rattle.ftl_core.proofs.group_settled.PageWritten.{IsGroupFlight, flown_mended, flown_new, flown_pending}
+use Rattle.ftl_core.proofs.group_settled.PageWritten.{page_kept}
 use Rattle.ftl_core.proofs.group_settled.PageWritten.{with_group_page}
 use Rattle.ftl_core.proofs.look_and_accept.Numbers.{IsRepair, no_repair_mended, step_stays}
 
@@ -44,7 +45,8 @@ module _ (c : Core) (t : Translation) (die : ℕ) (b : Book) (o : OpenBlock) (ta
 
   no_repair : IsRepair (step_behind (name_of tag) t.work.step) → ⊥
   no_repair r = no_repair_mended t h.valid
-      (subst IsRepair (step_stays t.ledger c.step c.content t.work.step (name_of tag) h.kept.work.step_is f.beside) r)
+      (subst IsRepair (step_stays t.ledger c.step c.content t.work.step (name_of tag) h.kept.work.step_is
+      (flown_new c t die b o tag body h.kept f) f.beside) r)
       mended
 
   -- the page stands, and the frontier may climb

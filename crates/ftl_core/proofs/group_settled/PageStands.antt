@@ -1,27 +1,34 @@
 -- The page of a pending group stands: what is kept of pages, places and flights before any group becomes durable.
 use Rattle.std.proofs.Common.{◌≡◌, ◌≢◌, ◌∙◌, ℕ, true, false, List, Option, Some, None, refl, sym, ap, subst}
 use Rattle.std.proofs.Common.{⊎_elim}
-use Rattle.std.specs.Prelude.{◌==◌, position, slice_get, slice_set}
-use Rattle.ufs_spec.proofs.Facts.{false≢true, same_Some}
+use Rattle.std.specs.Prelude.{position, slice_get, slice_set}
+use Rattle.ufs_spec.proofs.Facts.{same_Some}
 use Rattle.ufs_spec.proofs.Lists.{set_length}
 use Rattle.ufs_spec.specs.Disk as disk
 use Rattle.ufs_spec.specs.Disk.{at_die}
 use Rattle.ufs_spec.specs.Ledger.{Entry, Ledger, Name, at_name, entry_of, latest_durable, pending, same_name}
-use Rattle.ufs_spec.specs.Translation.{flies_name}
+use Rattle.ufs_spec.specs.Translation.{Translation, flies_name, name_of}
 use Rattle.ufs_spec.specs.declared.configs.Numbers.{Numbers}
 use Rattle.ufs_spec.specs.declared.flash.Place.{Place}
 use Rattle.power_loss.proofs.books.PagesByName.{none_some}
-use Rattle.power_loss.proofs.books.SmallFacts.{at_name_cases, eq_self, if_true, name_is, name_cases}
+use Rattle.power_loss.proofs.books.SmallFacts.{at_name_cases, name_is, name_cases, name_self}
 use Rattle.power_loss.proofs.ordered_lists.ElementsAndOrders.{IsIn}
 use Rattle.write_cache.specs.declared.slots.Pending.{Pending}
 use Rattle.block_table.specs.Lives.{with_live}
 use Rattle.unit_map.specs.declared.Stored.{Stored}
+use Rattle.block_table.specs.declared.OpenBlock.{OpenBlock}
+use Rattle.ftl_core.specs.declared.books.Book.{Book}
+use Rattle.ftl_core.specs.declared.books.Flight.{Flight}
+use Rattle.ftl_core.specs.declared.books.Flight.TheVariants as flight
+use Rattle.ftl_core.specs.declared.books.Step.{Step}
+use Rattle.ufs_spec.specs.Cells.{GroupPage}
 use Rattle.ftl_core.specs.Core.{Core}
-use Rattle.ftl_core.specs.Describes.{IsStored, LedgerKept, PageKept, PagesFly, PagesKept, Standing, names_pending}
+use Rattle.ftl_core.specs.Describes.{IsFlight, IsStored, Kept, LedgerKept, PageKept, PagesFly, PagesKept, Standing}
+use Rattle.ftl_core.specs.Describes.{WritesGroup, names_pending}
 use Rattle.ftl_core.specs.Ends.{pending_written}
 use Rattle.write_cache.specs.Slots.{is_named, written_at, written_if}
 use Rattle.unit_map.specs.Places.{stored_in}
-use Rattle.ftl_core.proofs.job_taken.Flown.{fewer, fly_over}
+use Rattle.ftl_core.proofs.job_taken.Flown.{fly_over, wrote_before}
 use Rattle.ftl_core.proofs.opened.ListParts.{get_set}
 use Rattle.ftl_core.proofs.pages.NamesBehind.{names_differ}
 use Rattle.ftl_core.proofs.pages.PagesNamed.{pages_get, pages_kept, position_named, same_count}
@@ -31,7 +38,7 @@ use Rattle.ftl_core.proofs.pages.PagesNamed.{pages_get, pages_kept, position_nam
 abbrev pub with_page : Ledger → Name → Place → Ledger
 with_page l name p = record l { standing = at_name l.standing name (Some p) }
 
-at_other : (standing : Standing) (name m : Name) (p : Place) → m ≢ name →
+pub at_other : (standing : Standing) (name m : Name) (p : Place) → m ≢ name →
     at_name standing name (Some p) m.number m.index ≡ standing m.number m.index
 at_other standing name m p apart = ⊎_elim (λ h. absurd (apart (name_is m name h.0 h.1))) (λ h. h.1)
     (at_name_cases standing name (Some p) m.number m.index)
@@ -41,6 +48,15 @@ pub at_here : (standing : Standing) (name m : Name) (p : Place) → m ≡ name �
 at_here standing name m p e =
     ⊎_elim (λ h. h.2) (λ h. absurd (h.0 (ap (λ (z : Name). z.number) e, ap (λ (z : Name). z.index) e)))
     (at_name_cases standing name (Some p) m.number m.index)
+
+-- what stood stands, there or elsewhere
+pub stands_on : (standing : Standing) (name : Name) (p : Place) (m : Name) (q : Place) →
+    standing m.number m.index ≡ Some q →
+    (r : Place) × (at_name standing name (Some p) m.number m.index ≡ Some r)
+stands_on standing name p m q is = ⊎_elim
+    (λ (e : (same_name m name ≡ true) × (m ≡ name)). (p, at_here standing name m p e.1))
+    (λ (e : (same_name m name ≡ false) × (m ≢ name)). (q, at_other standing name m p e.1 ∙ is))
+    (name_cases m name)
 
 -- where the page of a new name stands, what stood does so too
 pub stored_on : (standing : Standing) (name : Name) (p : Place) → standing name.number name.index ≡ None →
@@ -65,7 +81,7 @@ page_at st en ps names k p name h at named =
     subst (PageKept st en p) (same_Some r.0 name (sym r.1 ∙ named)) r.2
 
 -- the page of one name stands, and each name has one position
-pages_put : (st : Standing) (en : Name → Option Entry) (name : Name) (place : Place) (ps : List Pending)
+pub pages_put : (st : Standing) (en : Name → Option Entry) (name : Name) (place : Place) (ps : List Pending)
     (names : List Name) (k : ℕ) (p : Pending) → PagesKept st en ps names → slice_get ps k ≡ Some p →
     slice_get names k ≡ Some name →
     ((i j : ℕ) (m : Name) → slice_get names i ≡ Some m → slice_get names j ≡ Some m → i ≡ j) →
@@ -126,22 +142,48 @@ ledger_written n places pages frontier last l name place k p h new at named = re
 }
 
 -- the page that one die wrote flies no more
-pub fly_written : (standing : Standing) (flights : ℕ → Option disk.Flight) (die : ℕ) (name : Name) (p : Place) →
-    PagesFly standing flights →
-    flies_name name (flights die) ≡ true → PagesFly (at_name standing name (Some p)) (at_die flights die None)
-fly_written standing flights die name p h flown = record { one = (fly_over standing flights die h).one; new = new }
+pub fly_written : (standing : Standing) (flights : ℕ → Option disk.Flight) (die : ℕ) (books : List Book)
+    (filling : Option OpenBlock) (name : Name) (p : Place) → PagesFly standing flights books →
+    ((d : ℕ) (m : Name) → WritesGroup books d m.number m.index → flies_name m (flights d) ≡ true) →
+    flies_name name (flights die) ≡ true →
+    PagesFly (at_name standing name (Some p)) (at_die flights die None)
+    (slice_set books die (record { filling = filling; flight = None }))
+fly_written standing flights die books filling name p h flies flown = record {
+  one = (fly_over standing flights die books filling h).one;
+  new = λ d number index w.
+      let before = wrote_before books die filling d number index w in
+      let m : Name = record { number = number; index = index } in
+      ⊎_elim
+      (λ (e : (same_name m name ≡ true) × (m ≡ name)).
+      absurd (before.1 (h.one d die name
+      (subst (λ (z : Name). flies_name z (flights d) ≡ true) e.1 (flies d m before.0)) flown)))
+      (λ (e : (same_name m name ≡ false) × (m ≢ name)). at_other standing name m p e.1
+      ∙ h.new d number index before.0)
+      (name_cases m name);
+}
+
+-- the job of a die that writes a group's page is the program of that page
+pub group_flies : (n : Numbers) (step : Option Step) (die number index : ℕ) (place : Place) (filling : Option OpenBlock)
+    (f : Option Flight) (g : Option disk.Flight) → f ≡ Some (flight.Group place number index) →
+    IsFlight n step die filling f g → flies_name (record { number = number; index = index }) g ≡ true
+group_flies n step die number index place filling f g is h = by g (subst
+    (λ (z : Option Flight). IsFlight n step die filling z g) is h)
   where
-    new : (d : ℕ) (m : Name) → flies_name m (at_die flights die None d) ≡ true →
-        at_name standing name (Some p) m.number m.index ≡ None
-    new d m f = ⊎_elim
-        (λ (e : (same_name m name ≡ true) × (m ≡ name)).
-        let f' = subst (λ (z : Name). flies_name z (at_die flights die None d) ≡ true) e.1 f in
-        let is : d ≡ die = h.one d die name (fewer flights die (flies_name name) d refl f') flown in
-        absurd (false≢true (sym (ap (flies_name name)
-        (if_true (d == die) None (flights d) (ap (λ (z : ℕ). z == die) is ∙ eq_self die))) ∙ f')))
-        (λ (e : (same_name m name ≡ false) × (m ≢ name)). at_other standing name m p e.1
-        ∙ h.new d m (fewer flights die (flies_name m) d refl f))
-        (name_cases m name)
+    name : Name
+    name = record { number = number; index = index }
+
+    by : (g : Option disk.Flight) → IsFlight n step die filling (Some (flight.Group place number index)) g →
+        flies_name name g ≡ true
+    by (Some (disk.Programming p (GroupPage tag body))) h =
+        subst (λ (z : Name). same_name name z ≡ true) (name_is name (name_of tag) (sym h.2) (sym h.3))
+        (name_self name)
+    by g h = absurd h
+
+pub writers_fly : (c : Core) (t : Translation) → Kept c t → (d : ℕ) (m : Name) →
+    WritesGroup c.books d m.number m.index → flies_name m (t.disk.flights d) ≡ true
+writers_fly c t k d m w =
+    group_flies t.numbers c.step d m.number m.index w.place w.book.filling w.book.flight (t.disk.flights d) w.job
+    (k.dies.each d w.book w.there).job
 
 -- Which page
 

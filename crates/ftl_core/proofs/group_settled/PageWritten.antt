@@ -6,9 +6,9 @@ use Rattle.ufs_spec.specs.Cells.{GroupPage}
 use Rattle.ufs_spec.specs.Disk as disk
 use Rattle.ufs_spec.specs.Disk.{at_spot, programmed}
 use Rattle.ufs_spec.specs.Keys as keys
-use Rattle.ufs_spec.specs.Ledger.{Entry, Name, same_name}
+use Rattle.ufs_spec.specs.Ledger.{Entry, Name}
 use Rattle.ufs_spec.specs.Moves.{step_behind}
-use Rattle.ufs_spec.specs.Translation.{Mended, Mending, RepairStep, Repairing, Step, Translation, Unmarked, flies_name}
+use Rattle.ufs_spec.specs.Translation.{Mended, Mending, Repairing, Step, Translation, Unmarked, flies_name}
 use Rattle.ufs_spec.specs.Translation.{is_bad, is_mended, name_of, names_behind}
 use Rattle.ufs_spec.specs.declared.configs.Numbers.{Numbers}
 use Rattle.ufs_spec.specs.declared.flash.Place.{Place}
@@ -17,12 +17,13 @@ use Rattle.power_loss.specs.Book.{IsPageAt, book, last_number}
 use Rattle.power_loss.proofs.books.FrontierClimbs.{get_drop, in_group}
 use Rattle.power_loss.specs.Invariant.{IsLastRepair, MendingRight, Valid}
 use Rattle.power_loss.proofs.books.PagesByName.{at_most, none_some, page_within}
-use Rattle.power_loss.proofs.books.SmallFacts.{if_true, name_self, two_ways}
+use Rattle.power_loss.proofs.books.SmallFacts.{name_self, two_ways}
 use Rattle.power_loss.proofs.ordered_lists.ElementsAndOrders.{IsIn}
 use Rattle.block_table.specs.Lives.{with_live}
 use Rattle.block_table.specs.declared.BlockState.{BlockState}
 use Rattle.block_table.specs.declared.BlockState.TheVariants as state
 use Rattle.ftl_core.specs.declared.books.Book.{Book}
+use Rattle.ftl_core.specs.declared.books.Flight.TheVariants as flight
 use Rattle.block_table.specs.declared.OpenBlock.{OpenBlock}
 use Rattle.write_cache.specs.declared.slots.Pending.{Pending}
 use Rattle.ftl_core.specs.Core.{Core}
@@ -33,9 +34,10 @@ use Rattle.ftl_core.proofs.job_ended.ChangeParts.{blocks_on, blocks_put, closed_
 use Rattle.ftl_core.proofs.job_ended.ChangeParts.{page_ends, states_with}
 use Rattle.ftl_core.proofs.job_taken.Flown.{die_within, dies_put, reads_over, step_reads_over}
 use Rattle.ftl_core.proofs.job_ended.JobsOver.{filling_on, filling_over}
-use Rattle.ftl_core.proofs.group_settled.PageStands.{IsPending, fly_written, is_pending, ledger_written, with_page}
+use Rattle.ftl_core.proofs.group_settled.PageStands.{IsPending, fly_written, is_pending, ledger_written, stands_on}
+use Rattle.ftl_core.proofs.group_settled.PageStands.{with_page, writers_fly}
 use Rattle.ftl_core.proofs.look_and_accept.MoreGroups.{work_more}
-use Rattle.ftl_core.proofs.look_and_accept.Numbers.{IsRepair, behind, pending_mended, step_stays}
+use Rattle.ftl_core.proofs.look_and_accept.Numbers.{IsRepair, behind, beside_none, pending_mended, step_stays}
 use Rattle.ftl_core.proofs.pages.NamesBehind.{names_in}
 
 -- the page stands, and the frontier has not climbed yet
@@ -52,6 +54,7 @@ pub record IsGroupFlight (c : Core) (t : Translation) (die : ℕ) (b : Book) (o 
   pub there : slice_get c.books die ≡ Some b
   pub filling : b.filling ≡ Some o
   pub flies : t.disk.flights die ≡ Some (disk.Programming (next_place die o) (GroupPage tag body))
+  pub job : b.flight ≡ Some (flight.Group (next_place die o) tag.number tag.index)
   pub beside : repairs_in c.step ≡ 0
 
 -- Which page it is
@@ -60,8 +63,8 @@ pub record IsGroupFlight (c : Core) (t : Translation) (die : ℕ) (b : Book) (o 
 pub flown_new : (c : Core) (t : Translation) (die : ℕ) (b : Book) (o : OpenBlock) (tag : Tag) (body : List ℕ) →
     Kept c t → IsGroupFlight c t die b o tag body →
     t.ledger.standing tag.number tag.index ≡ None
-flown_new c t die b o tag body k f = k.fly.new die (name_of tag)
-    (ap (flies_name (name_of tag)) f.flies ∙ name_self (name_of tag))
+flown_new c t die b o tag body k f = k.fly.new die tag.number tag.index
+    (record { book = b; there = f.there; place = next_place die o; job = f.job })
 
 -- so its group is above the frontier
 flown_above : (c : Core) (t : Translation) (die : ℕ) (b : Book) (o : OpenBlock) (tag : Tag) (body : List ℕ) →
@@ -73,13 +76,6 @@ flown_above c t die b o tag body h f =
     absurd (none_some s.0 (sym (flown_new c t die b o tag body h.kept f) ∙ s.1)))
     (λ l. l)
     (at_most tag.number t.ledger.frontier)
-
--- a step that the page of no group ends repairs nothing
-stays_none : (u : Option Step) → ((name : Name) → step_behind name u ≡ u) → IsRepair u → ⊥
-stays_none u stays r =
-    none_some _ (sym (ap (step_behind r.0) r.3
-    ∙ if_true (same_name r.0 r.0) None (Some (record { kind = RepairStep r.0 r.1; there = r.2 })) (name_self r.0))
-    ∙ stays r.0 ∙ r.3)
 
 -- until the device is mended no group is above the frontier but the one that is being repaired
 none_above : (t : Translation) → Valid t → (IsRepair t.work.step → ⊥) → is_mended t.work.mending ≡ false →
@@ -107,8 +103,7 @@ flown_mended c t die b o tag body h f =
     let within = page_within (book t) tag.number tag.index _ known in
     ⊎_elim (λ e. e)
     (λ e.
-    let last = none_above t h.valid (stays_none t.work.step
-    (λ name. step_stays t.ledger c.step c.content t.work.step name h.kept.work.step_is f.beside)) e in
+    let last = none_above t h.valid (beside_none t.ledger c.step c.content t.work.step h.kept.work.step_is f.beside) e in
     absurd (omega (arith, above, within, last)))
     (two_ways (is_mended t.work.mending))
 
@@ -144,7 +139,7 @@ flown_pending c t die b o tag body h f =
 -- All but blocks
 
 -- the page stands, and its block has this state
-abbrev written_at : Translation → ℕ → OpenBlock → Tag → List ℕ → disk.BlockState → Translation
+abbrev pub written_at : Translation → ℕ → OpenBlock → Tag → List ℕ → disk.BlockState → Translation
 written_at t die o tag body x = record (with_group_page t (next_place die o) tag body) {
   disk = record (programmed t.numbers.pages t.disk (next_place die o) (GroupPage tag body)) {
     blocks = at_spot t.disk.blocks (spot_at die o.block) x;
@@ -180,16 +175,18 @@ module _ (c : Core) (t : Translation) (die : ℕ) (b : Book) (o : OpenBlock) (ta
     dies = dies_put t.numbers t.disk.blocks (at_spot t.disk.blocks (spot_at die o.block) x) t.disk.flights
         c.step c.books die b (record { filling = filling; flight = None }) None h.kept.dies f.there
         (elsewhere t.disk.blocks die o.block x) (record { filling = is_open; job = tt });
-    fly = fly_written t.ledger.standing t.disk.flights die (name_of tag) (next_place die o) h.kept.fly
-        (ap (flies_name (name_of tag)) f.flies ∙ name_self (name_of tag));
+    fly = fly_written t.ledger.standing t.disk.flights die c.books filling (name_of tag) (next_place die o) h.kept.fly
+        (writers_fly c t h.kept) (ap (flies_name (name_of tag)) f.flies ∙ name_self (name_of tag));
     ledger_kept = ledger_written c.numbers c.places c.pages c.frontier c.last t.ledger (name_of tag)
         (next_place die o) j p h.kept.ledger_kept (flown_new c t die b o tag body h.kept f) at named;
     work = subst (λ (s : Option Step). WorkKept c.mending (drop c.repaired c.lost) c.step c.content c.next_mark
         (record t.work { step = s }) (with_page t.ledger (name_of tag) (next_place die o)))
-        (sym (step_stays t.ledger c.step c.content t.work.step (name_of tag) h.kept.work.step_is f.beside))
+        (sym (step_stays t.ledger c.step c.content t.work.step (name_of tag) h.kept.work.step_is
+        (flown_new c t die b o tag body h.kept f) f.beside))
         (work_more c.mending (drop c.repaired c.lost) c.step c.content c.next_mark t.work t.ledger
         (with_page t.ledger (name_of tag) (next_place die o)) mended f.beside refl (h.kept.work.repaired mended)
-        h.kept.work);
+        (λ name e is. is) (stands_on t.ledger.standing (name_of tag) (next_place die o)) h.kept.work);
+    plan = h.kept.plan;
     claims = h.kept.claims;
     pins = h.kept.pins;
     differ = h.kept.differ;

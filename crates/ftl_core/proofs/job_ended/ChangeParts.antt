@@ -95,17 +95,17 @@ pub kept_beside : (c : Core) (t : Translation) (die block : ℕ) (b : Book) (x :
     Kept c t → slice_get c.books die ≡ Some b →
     BlocksKept t.numbers (blocks_with t die block x) states has_bad →
     IsFilling t.numbers (blocks_with t die block x) die f →
-    PagesFly ledger.standing (at_die t.disk.flights die None) →
+    PagesFly ledger.standing (at_die t.disk.flights die None) (books_with c die f) →
     LedgerKept c.numbers c.places pages c.frontier c.last ledger →
     WorkKept mending (drop c.repaired c.lost) step c.content next work ledger →
     PinsKept ledger.frontier (entry_of ledger) c.pins t.pins →
     StepSuits t.numbers c.step step die c.books t.disk.flights →
-    StepReadsKept (at_die t.disk.flights die None) step →
+    StepReadsKept (at_die t.disk.flights die None) step → work.plan ≡ t.work.plan →
     (is_mended work.mending ≡ false → c.pins ≡ []) →
     Kept (changed c states (books_with c die f) has_bad pages mending step next)
     (over t die (blocks_with t die block x) cells finished erasing ledger work)
 kept_beside c t die block b x f states has_bad pages mending step next cells finished erasing ledger work k there bs fs
-    flies ls ws ps suits reads readers = record {
+    flies ls ws ps suits reads plan readers = record {
       numbers = k.numbers;
       blocks = bs;
       dies = dies_changed t.numbers t.disk.blocks (blocks_with t die block x) t.disk.flights c.step step c.books die b
@@ -114,6 +114,7 @@ kept_beside c t die block b x f states has_bad pages mending step next cells fin
       fly = flies;
       ledger_kept = ls;
       work = ws;
+      plan = record { plan_is = plan ∙ k.plan.plan_is; inside = k.plan.inside };
       claims = k.claims;
       pins = ps;
       differ = k.differ;
@@ -129,18 +130,18 @@ pub kept_over : (c : Core) (t : Translation) (die block : ℕ) (b : Book) (x : d
     Kept c t → slice_get c.books die ≡ Some b →
     BlocksKept t.numbers (blocks_with t die block x) states has_bad →
     IsFilling t.numbers (blocks_with t die block x) die f →
-    PagesFly ledger.standing (at_die t.disk.flights die None) →
+    PagesFly ledger.standing (at_die t.disk.flights die None) (books_with c die f) →
     LedgerKept c.numbers c.places pages c.frontier c.last ledger →
     WorkKept c.mending (drop c.repaired c.lost) c.step c.content c.next_mark work ledger →
-    PinsKept ledger.frontier (entry_of ledger) c.pins t.pins →
+    PinsKept ledger.frontier (entry_of ledger) c.pins t.pins → work.plan ≡ t.work.plan →
     (is_mended work.mending ≡ false → c.pins ≡ []) →
     Kept (changed c states (books_with c die f) has_bad pages c.mending c.step c.next_mark)
     (over t die (blocks_with t die block x) cells finished erasing ledger work)
 kept_over c t die block b x f states has_bad pages cells finished erasing ledger work k there bs fs flies ls ws ps
-    readers =
+    plan readers =
     kept_beside c t die block b x f states has_bad pages c.mending c.step c.next_mark cells finished erasing ledger
     work k there bs fs flies ls ws ps (λ e y apart got is. is)
-    (step_reads_over t.disk.flights die c.step k.step_reads) readers
+    (step_reads_over t.disk.flights die c.step k.step_reads) plan readers
 
 -- a mark changes nothing of groups and places
 pub ledger_marked : (n : Numbers) (places : List (Option Stored)) (pages : List Pending) (frontier last : ℕ)

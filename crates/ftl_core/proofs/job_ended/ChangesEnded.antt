@@ -30,8 +30,8 @@ page_ends_wrong c t die b o left h there fills =
     (at_place t.disk.finished (next_place die o) false) t.disk.erasing t.ledger t.work
     h.kept there (blocks_lost c t die o.block h.kept (die_within c t die b h.kept there) is_open.0)
     (filling_over t.numbers t.disk.blocks die o disk.Bad bad_fills is_open)
-    (fly_over t.ledger.standing t.disk.flights die h.kept.fly)
-    h.kept.ledger_kept h.kept.work h.kept.pins h.kept.readers
+    (fly_over t.ledger.standing t.disk.flights die c.books None h.kept.fly)
+    h.kept.ledger_kept h.kept.work h.kept.pins refl h.kept.readers
   where
     is_open : IsFilling t.numbers t.disk.blocks die (Some o)
     is_open = filling_kept c t die b (Some o) h.kept there fills
@@ -53,8 +53,8 @@ module _ (c : Core) (t : Translation) (die : ℕ) (b : Book) (block : ℕ) (h : 
       (over t die (blocks_with t die block x) cells t.disk.finished erasing t.ledger t.work)
   erase_parts x states f has_bad cells erasing bs fs =
       kept_over c t die block b x f states has_bad c.pages cells t.disk.finished erasing t.ledger t.work h.kept there
-      bs fs (fly_over t.ledger.standing t.disk.flights die h.kept.fly)
-      h.kept.ledger_kept h.kept.work h.kept.pins h.kept.readers
+      bs fs (fly_over t.ledger.standing t.disk.flights die c.books f h.kept.fly)
+      h.kept.ledger_kept h.kept.work h.kept.pins refl h.kept.readers
 
   pub erase_ends_well : Kept (erased c die block) (record t { disk = disk.erased t.disk (spot_at die block) })
   erase_ends_well =

@@ -11,6 +11,7 @@ use Rattle.ufs_spec.specs.declared.flash.Outcome.{Outcome}
 use Rattle.ufs_spec.specs.declared.flash.Place.{Place}
 use Rattle.ufs_spec.specs.declared.flash.Tag.{Tag}
 use Rattle.ufs_spec.specs.declared.flash.Outcome.TheVariants as outcome
+use Rattle.page_tag.specs.Jobs.{IsTagRead}
 use Rattle.power_loss.proofs.moves.MovesKeepValid.{all_keep}
 use Rattle.ftl_core.specs.declared.books.Book.{Book}
 use Rattle.ftl_core.specs.declared.books.Flight.{Flight}
@@ -26,6 +27,8 @@ use Rattle.ftl_core.specs.Done.{BookEnds, FlightEnds, IsBookAfter, IsCoreEnded, 
 use Rattle.ftl_core.specs.Gives.{GivesIf, IsReadAfter, is_read, other_for}
 use Rattle.ftl_core.specs.Gives as gives
 use Rattle.ftl_core.proofs.job_ended.ChangesEnded.{erase_ends_well, erase_ends_wrong, page_ends_wrong}
+use Rattle.ftl_core.proofs.job_ended.CopiesOn.{copies_on}
+use Rattle.ftl_core.proofs.job_ended.SameClaims.{same_plan}
 use Rattle.ftl_core.proofs.job_ended.StepContent.{step_read_ends}
 use Rattle.ftl_core.proofs.job_ended.StepsEnded.{step_ends_well, step_ends_wrong}
 use Rattle.ftl_core.proofs.group_settled.GroupsEnded.{group_ends_well}
@@ -34,7 +37,7 @@ use Rattle.block_table.specs.declared.OpenBlock.{OpenBlock}
 use Rattle.ftl_core.proofs.job_taken.NextStarts.{outside}
 use Rattle.ftl_core.proofs.job_ended.ReadsEnded.{idle_kept, read_ends, task_kept}
 use Rattle.ftl_core.proofs.job_ended.ReadsGiven.{lost_told, step_told, task_told}
-use Rattle.ftl_core.proofs.job_taken.Flown.{flight_cases}
+use Rattle.ftl_core.proofs.job_taken.FlightKinds.{flight_cases}
 use Rattle.ftl_core.proofs.live_pages.JobsLive.{live_of}
 
 -- Which endings there are
@@ -66,85 +69,90 @@ no_book c t die h there = h.kept.dies.no_more die (outside c t die h.kept there)
 
 -- What is kept
 
-kept_then : (c : Core) (t : Translation) (die : ℕ) (o : Outcome) (ending : Ending) (b : Book) (after : Core) →
-    Describes c t → slice_get c.books die ≡ Some b → IsEndingOf t.disk.cells (t.disk.flights die) o ending →
-    IsFlightAfter c die b b.flight o after → Kept after (moved t (EndJob die ending))
-kept_then c t die o ending b after h there is new =
-    flight_cases t.numbers c.step die b.filling Goal (λ flies now new. absurd (false≢true now.0)) reads contents lost
-    steps groups erases b.flight (t.disk.flights die) (h.kept.dies.each die b there).job refl is new
+kept_then : (c : Core) (t : Translation) (die : ℕ) (o : Outcome) (tag : Option Tag) (ending : Ending) (b : Book)
+    (after : Core) → IsTagRead o tag → Describes c t → slice_get c.books die ≡ Some b →
+    IsEndingOf t.disk.cells (t.disk.flights die) o ending →
+    IsFlightAfter c die b b.flight o tag after → Kept after (moved t (EndJob die ending))
+kept_then c t die o tag ending b after found h there is new =
+    flight_cases t.numbers c.step die b.filling Goal (λ does flies now new. absurd (false≢true now.0)) reads contents
+    lost steps groups erases b.flight (t.disk.flights die) (h.kept.dies.each die b there).job refl refl is new
   where
     Goal : Option Flight → Option disk.Flight → Type 0
-    Goal f g = t.disk.flights die ≡ g → IsEndingOf t.disk.cells g o ending → IsFlightAfter c die b f o after →
-        Kept after (end_flight t die g ending)
+    Goal f g = b.flight ≡ f → t.disk.flights die ≡ g → IsEndingOf t.disk.cells g o ending →
+        IsFlightAfter c die b f o tag after → Kept after (end_flight t die g ending)
 
     same : (d : Core) (u : Translation) → Kept d u → after ≡ d → Kept after u
     same d u k e = subst (λ (x : Core). Kept x u) (sym e) k
 
-    reads : (place : Place) (tag index : ℕ) →
-        Goal (Some (flight.Read place (readers.Task tag index))) (Some (disk.Reading (ForTask tag index) place))
-    reads place tag index flies now new =
-        let kept = task_kept c t die tag index b place h there flies in
-        read_ends (λ d e. IsReadAfter d c die b o (readers.Task tag index) after →
-        Kept after (end_flight t die (Some (disk.Reading (ForTask tag index) place)) e)) t.disk.cells
-        (ForTask tag index) place (λ e. same _ _ kept e) (λ e. same _ _ kept e) o ending now new
+    reads : (place : Place) (reader index : ℕ) →
+        Goal (Some (flight.Read place (readers.Task reader index))) (Some (disk.Reading (ForTask reader index) place))
+    reads place reader index does flies now new =
+        let kept = task_kept c t die reader index b place h there flies in
+        read_ends (λ d e. IsReadAfter d c die b o tag (readers.Task reader index) after →
+        Kept after (end_flight t die (Some (disk.Reading (ForTask reader index) place)) e)) t.disk.cells
+        (ForTask reader index) place (λ e. same _ _ kept e) (λ e. same _ _ kept e) o ending now new
 
     contents : (place : Place) → Goal (Some (flight.Read place readers.Step)) (Some (disk.Reading ForStep place))
-    contents place flies now new = step_read_ends c t die b place h there flies o ending after now new
+    contents place does flies now new = step_read_ends c t die b place h there flies o tag ending after found now new
 
     lost : (place : Place) → Goal (Some (flight.Read place readers.Nobody)) (Some (disk.Reading ForNobody place))
-    lost place flies now new =
+    lost place does flies now new =
         let kept = idle_kept c t die b h.kept there in
-        read_ends (λ d e. IsReadAfter d c die b o readers.Nobody after →
+        read_ends (λ d e. IsReadAfter d c die b o tag readers.Nobody after →
         Kept after (end_flight t die (Some (disk.Reading ForNobody place)) e)) t.disk.cells ForNobody place
         (λ e. same _ _ kept e) (λ e. same _ _ kept e) o ending now new
 
     steps : (filled : OpenBlock) (cell : Cell) → b.filling ≡ Some filled → IsStepCell c.step cell →
         Goal (Some (flight.Step (next_place die filled))) (Some (disk.Programming (next_place die filled) cell))
-    steps filled cell fills page flies now new =
-        program_ends (λ out e. IsFlightAfter c die b (Some (flight.Step (next_place die filled))) out after →
+    steps filled cell fills page does flies now new =
+        program_ends (λ out e. IsFlightAfter c die b (Some (flight.Step (next_place die filled))) out tag after →
         Kept after (end_flight t die (Some (disk.Programming (next_place die filled) cell)) e))
         t.disk.cells (next_place die filled) cell
         (λ e. same _ _ (step_ends_well c t die b filled h there fills cell page flies) e)
         (λ left e. same _ _ (step_ends_wrong c t die b filled h there fills cell left page flies) e) o ending now new
 
-    groups : (filled : OpenBlock) (tag : Tag) (body : List ℕ) → b.filling ≡ Some filled → repairs_in c.step ≡ 0 →
-        Goal (Some (flight.Group (next_place die filled) tag.number tag.index))
-        (Some (disk.Programming (next_place die filled) (GroupPage tag body)))
-    groups filled tag body fills no_repair flies now new =
+    groups : (filled : OpenBlock) (u : Tag) (body : List ℕ) → b.filling ≡ Some filled → repairs_in c.step ≡ 0 →
+        Goal (Some (flight.Group (next_place die filled) u.number u.index))
+        (Some (disk.Programming (next_place die filled) (GroupPage u body)))
+    groups filled u body fills no_repair does flies now new =
         program_ends (λ out e.
-        IsFlightAfter c die b (Some (flight.Group (next_place die filled) tag.number tag.index)) out after →
-        Kept after (end_flight t die (Some (disk.Programming (next_place die filled) (GroupPage tag body))) e))
-        t.disk.cells (next_place die filled) (GroupPage tag body)
-        (λ e. same _ _ (group_ends_well c t die b filled tag body h
-        (record { there = there; filling = fills; flies = flies; beside = no_repair })) e)
+        IsFlightAfter c die b (Some (flight.Group (next_place die filled) u.number u.index)) out tag after →
+        Kept after (end_flight t die (Some (disk.Programming (next_place die filled) (GroupPage u body))) e))
+        t.disk.cells (next_place die filled) (GroupPage u body)
+        (λ e. same _ _ (group_ends_well c t die b filled u body h
+        (record { there = there; filling = fills; flies = flies; job = does; beside = no_repair })) e)
         (λ left e. same _ _ (page_ends_wrong c t die b filled left h there fills) e) o ending now new
 
     erases : (block : ℕ) → block < t.numbers.blocks → b.filling ≡ None →
         Goal (Some (flight.Erase block)) (Some (disk.Erasing (spot_at die block)))
-    erases block within closed flies now new =
-        erase_ends (λ out e. IsFlightAfter c die b (Some (flight.Erase block)) out after →
+    erases block within closed does flies now new =
+        erase_ends (λ out e. IsFlightAfter c die b (Some (flight.Erase block)) out tag after →
         Kept after (end_flight t die (Some (disk.Erasing (spot_at die block))) e))
         t.disk.cells (spot_at die block)
         (λ e. same _ _ (erase_ends_well c t die b block h there closed within flies) e)
         (λ left e. same _ _ (erase_ends_wrong c t die b block h there closed within flies left) e) o ending now new
 
-kept_of : (c : Core) (t : Translation) (die : ℕ) (o : Outcome) (ending : Ending) (book : Option Book) (after : Core) →
-    Describes c t → slice_get c.books die ≡ book → IsEndingOf t.disk.cells (t.disk.flights die) o ending →
-    IsBookAfter c die book o after → Kept after (moved t (EndJob die ending))
-kept_of c t die o ending None after h there is new =
+kept_of : (c : Core) (t : Translation) (die : ℕ) (o : Outcome) (tag : Option Tag) (ending : Ending)
+    (book : Option Book) (after : Core) → IsTagRead o tag → Describes c t → slice_get c.books die ≡ book →
+    IsEndingOf t.disk.cells (t.disk.flights die) o ending →
+    IsBookAfter c die book o tag after → Kept after (moved t (EndJob die ending))
+kept_of c t die o tag ending None after found h there is new =
     absurd (false≢true (subst (λ (g : Option disk.Flight). IsEndingOf t.disk.cells g o ending)
     (no_book c t die h there) is).0)
-kept_of c t die o ending (Some b) after h there is new = kept_then c t die o ending b after h there is new
+kept_of c t die o tag ending (Some b) after found h there is new =
+    kept_then c t die o tag ending b after found h there is new
 
 -- what is kept once a job ended so describes the layer in which it did
-pub ends_right : (c after : Core) (die : ℕ) (o : Outcome) → IsCoreEnded c die o after →
-    (t : Translation) (ending : Ending) → Describes c t →
+pub ends_right : (c after : Core) (die : ℕ) (o : Outcome) (tag : Option Tag) → IsTagRead o tag →
+    IsCoreEnded c die o tag after → (t : Translation) (ending : Ending) → Describes c t →
     IsEndingOf t.disk.cells (t.disk.flights die) o ending → MayEnd t.disk die (t.disk.flights die) ending →
     Describes after (moved t (EndJob die ending))
-ends_right c after die o new t ending h is may = record {
+ends_right c after die o tag found new t ending h is may = record {
   valid = all_keep t (EndJob die ending) h.valid may;
-  kept = kept_of c t die o ending (slice_get c.books die) after h refl is new;
-  live = live_of c t die o (slice_get c.books die) after h refl new;
+  kept = kept_of c t die o tag ending (slice_get c.books die) after found h refl is new;
+  live = live_of c t die o tag (slice_get c.books die) after h refl new;
+  copies = copies_on t h.valid c.plan h.kept.plan.plan_is h.copies after.plan (same_plan c after die o tag new) die
+      ending may;
 }
 
 -- What is told

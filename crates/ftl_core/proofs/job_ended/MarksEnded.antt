@@ -1,22 +1,23 @@
 -- The program of a mark ends.
 use Rattle.std.proofs.Common.{◌≡◌, ◌∙◌, ℕ, suc, ◌+◌, ◌≤◌, Bool, true, false, List, Option, Some, None, length}
-use Rattle.std.proofs.Common.{refl, sym, ap, subst, ⊎_elim, arith}
-use Rattle.std.specs.Prelude.{◌^◌, if◌then◌else◌, nat_lt, nat_le, slice_get, drop}
+use Rattle.std.proofs.Common.{refl, sym, ap, subst, inl, inr, ⊎_elim, arith}
+use Rattle.std.specs.Prelude.{◌^◌, if◌then◌else◌, nat_lt, nat_le, option_map, slice_get, drop}
 use Rattle.ufs_spec.proofs.Facts.{false≢true, true≢false}
 use Rattle.ufs_spec.specs.Cells.{Cells, Mark, MarkPage}
 use Rattle.ufs_spec.specs.declared.configs.Numbers.{Numbers}
 use Rattle.ufs_spec.specs.declared.flash.Fence.{Fence}
 use Rattle.ufs_spec.specs.declared.flash.Key.{Key}
 use Rattle.ufs_spec.specs.Disk as disk
-use Rattle.ufs_spec.specs.Disk.{at_place, state_behind}
+use Rattle.ufs_spec.specs.Disk.{Spot, at_place, state_behind}
 use Rattle.ufs_spec.specs.declared.flash.Place.{Place}
 use Rattle.ufs_spec.specs.Ledger.{Ledger, Name, before_accepted}
-use Rattle.ufs_spec.specs.Moves.{cell_failed, freed, mark_again}
+use Rattle.ufs_spec.specs.Moves.{cell_failed, mark_again}
 use Rattle.ufs_spec.specs.Moves.{mark_written as layer_written, mending_behind}
 use Rattle.ufs_spec.specs.Translation as layer
 use Rattle.ufs_spec.specs.Translation.{MarkStep, Mended, Mending, Plan, Repairing, StepKind, Translation, Unmarked}
 use Rattle.ufs_spec.specs.Translation.{is_bad, is_mended}
 use Rattle.power_loss.specs.Book.{book}
+use Rattle.power_loss.proofs.books.SmallFacts.{at_spot_cases}
 use Rattle.power_loss.specs.Invariant.{MendingRight, Valid}
 use Rattle.ftl_core.specs.Core.{Core}
 use Rattle.block_table.specs.declared.BlockState.{BlockState}
@@ -30,7 +31,9 @@ use Rattle.ftl_core.specs.declared.books.Step.TheVariants as steps
 use Rattle.ftl_core.specs.Describes.{AreToRepair, BlocksKept, Describes, IsFilling, IsStepCell, Kept, StepKept}
 use Rattle.ftl_core.specs.Describes.{keys_to_repair, mending_kept, spot_at}
 use Rattle.ftl_core.specs.Ends as ends
-use Rattle.ftl_core.specs.Ends.{mark_over}
+use Rattle.ftl_core.specs.Ends.{mark_over, plan_over}
+use Rattle.ftl_core.proofs.job_ended.PlansEnded.{IsFreeable, plan_frees, plan_stays}
+use Rattle.collector.specs.Plans.{Collection, layer_plan}
 use Rattle.ftl_core.specs.Moves.{mark_ordered, page_written, repairs_in, went_bad}
 use Rattle.ftl_core.specs.Takes.{next_place}
 use Rattle.ftl_core.proofs.job_ended.ChangeParts.{bad_fills, blocks_lost, blocks_on, blocks_put, blocks_with}
@@ -121,7 +124,7 @@ mark_stands t die o m x =
     over t die (blocks_with t die o.block x) (at_place t.disk.cells (next_place die o) (MarkPage m))
     (at_place t.disk.finished (next_place die o) true) t.disk.erasing
     (record t.ledger { newest = Some m })
-    (record t.work { mending = mending_behind t.work.mending; plan = None; step = None })
+    (record t.work { mending = mending_behind t.work.mending; step = None })
 
 module _ (c : Core) (t : Translation) (die : ℕ) (b : Book) (o : OpenBlock) (m : Mark) (n : ℕ) (fence : Option Fence)
     (h : Describes c t) (there : slice_get c.books die ≡ Some b) (fills : b.filling ≡ Some o)
@@ -147,9 +150,9 @@ module _ (c : Core) (t : Translation) (die : ℕ) (b : Book) (o : OpenBlock) (m 
       (at_place t.disk.cells (next_place die o) (MarkPage m))
       (at_place t.disk.finished (next_place die o) true) t.disk.erasing
       (record t.ledger { newest = Some m })
-      (record t.work { mending = mending_behind t.work.mending; plan = None; step = None })
+      (record t.work { mending = mending_behind t.work.mending; step = None })
       h.kept there bs fs
-      (fly_over t.ledger.standing t.disk.flights die h.kept.fly)
+      (fly_over t.ledger.standing t.disk.flights die c.books f h.kept.fly)
       (ledger_marked c.numbers c.places c.pages c.frontier c.last t.ledger (Some m) t.ledger.marks h.kept.ledger_kept)
       record {
         mending_is = ap mending_behind h.kept.work.mending_is ∙ mended_behind c.mending left;
@@ -158,14 +161,13 @@ module _ (c : Core) (t : Translation) (die : ℕ) (b : Book) (o : OpenBlock) (m 
             left_kept t.ledger (record t.ledger { newest = Some m }) c.step n fence left step
             (λ k. record { differ = k.differ; unrepaired = k.unrepaired })
             (h.kept.work.to_repair (not_before t.work.mending e));
-        no_plan = refl;
         no_rests = h.kept.work.no_rests;
         next_mark = h.kept.work.next_mark;
         repaired = durable_behind t n fence h.valid layer_step h.kept.work.repaired;
       }
       h.kept.pins
       (suits_next c t die (next_place die o) (MarkPage m) h flies page None refl)
-      (none_reads c t die (next_place die o) (MarkPage m) h flies page None)
+      (none_reads c t die (next_place die o) (MarkPage m) h flies page None) refl
       (λ e. h.kept.readers (not_before t.work.mending e))
 
   mark_on : Kept (changed c c.states (books_with c die (Some (record { block = o.block; next = o.next + 1 })))
@@ -191,16 +193,36 @@ module _ (c : Core) (t : Translation) (die : ℕ) (b : Book) (o : OpenBlock) (m 
       (ap (λ (n : Numbers). n.pages) h.kept.numbers) (h.valid.blocks.filling (spot_at die o.block) o.next filling.1)
       mark_on mark_last
 
-  pub mark_ends_well : Kept (page_written (mark_over c) die b b.filling) (layer_written t (next_place die o) m)
+  -- the block of a plan is another one than the mark's, and not filled
+  freeable : (p : Collection) → (page_written (mark_over c) die b (Some o)).plan ≡ Some p →
+      IsFreeable (mark_stands t die o m (state_behind t.numbers.pages o.next)) p.victim
+  freeable p is =
+      let planned = sym (plan_stays (mark_over c) die b (Some o)) ∙ is in
+      let inside = h.kept.plan.inside p planned in
+      let right = h.valid.plan.one (layer_plan p) (h.kept.plan.plan_is ∙ ap (option_map layer_plan) planned) in
+      record {
+        die = inside.0;
+        block = inside.1;
+        state = ⊎_elim
+            (λ e. inl (beside (state_behind t.numbers.pages o.next) p.victim disk.Closed closed_fills e ∙ e))
+            (λ e. inr (beside (state_behind t.numbers.pages o.next) p.victim disk.Bad bad_fills e ∙ e))
+            right.state;
+      }
+    where
+      beside : (x : disk.BlockState) (s : Spot) (y : disk.BlockState) → ((next : ℕ) → y ≡ disk.Filling next → ⊥) →
+          t.disk.blocks s ≡ y → blocks_with t die o.block x s ≡ t.disk.blocks s
+      beside x s y never e = ⊎_elim
+          (λ k. absurd (never o.next (sym e ∙ ap t.disk.blocks k.0 ∙ filling.1)))
+          (λ k. k.1)
+          (at_spot_cases t.disk.blocks (spot_at die o.block) x s)
+
+  pub mark_ends_well : Kept (plan_over (page_written (mark_over c) die b b.filling))
+      (layer_written t (next_place die o) m)
   mark_ends_well =
-      subst (λ (f : Option OpenBlock). Kept (page_written (mark_over c) die b f)
+      subst (λ (f : Option OpenBlock). Kept (plan_over (page_written (mark_over c) die b f))
       (layer_written t (next_place die o) m)) (sym fills)
-      (subst (λ (pl : Option Plan). Kept (page_written (mark_over c) die b (Some o))
-      (record t {
-        disk = freed (disk.programmed t.numbers.pages t.disk (next_place die o) (MarkPage m)) pl;
-        ledger = record t.ledger { newest = Some m };
-        work = record t.work { mending = mending_behind t.work.mending; plan = None; step = None };
-      })) (sym h.kept.work.no_plan) mark_done)
+      (plan_frees (page_written (mark_over c) die b (Some o))
+      (mark_stands t die o m (state_behind t.numbers.pages o.next)) mark_done freeable)
 
 -- A mark could not be written
 
@@ -246,7 +268,7 @@ module _ (c : Core) (t : Translation) (die : ℕ) (b : Book) (o : OpenBlock) (m 
       (record t.ledger { marks = marks }) (record t.work { step = w })
       h.kept there (blocks_lost c t die o.block h.kept (die_within c t die b h.kept there) failed_filling.0)
       (filling_over t.numbers t.disk.blocks die o disk.Bad bad_fills failed_filling)
-      (fly_over t.ledger.standing t.disk.flights die h.kept.fly)
+      (fly_over t.ledger.standing t.disk.flights die c.books None h.kept.fly)
       (ledger_marked c.numbers c.places c.pages c.frontier c.last t.ledger t.ledger.newest marks h.kept.ledger_kept)
       record {
         mending_is = h.kept.work.mending_is;
@@ -255,14 +277,13 @@ module _ (c : Core) (t : Translation) (die : ℕ) (b : Book) (o : OpenBlock) (m 
             subst (AreToRepair (record t.ledger { marks = marks })) (sym same)
             (left_kept t.ledger (record t.ledger { marks = marks }) c.step n fence (drop c.repaired c.lost) step
             (λ k. record { differ = k.differ; unrepaired = k.unrepaired }) (h.kept.work.to_repair e));
-        no_plan = h.kept.work.no_plan;
         no_rests = h.kept.work.no_rests;
         next_mark = numbered;
         repaired = h.kept.work.repaired;
       }
       h.kept.pins
       (suits_next c t die (next_place die o) (MarkPage m) h flies page s no_repair)
-      (none_reads c t die (next_place die o) (MarkPage m) h flies page s) h.kept.readers
+      (none_reads c t die (next_place die o) (MarkPage m) h flies page s) refl h.kept.readers
 
   failed_fence : m.fence ≡ fence
   failed_fence =

@@ -62,9 +62,10 @@ idle_kept c t die b k there = record {
   dies = dies_put t.numbers t.disk.blocks t.disk.blocks t.disk.flights c.step c.books die b
       (record { filling = b.filling; flight = None }) None k.dies there
       (λ s apart. refl) (record { filling = (k.dies.each die b there).filling; job = tt });
-  fly = fly_over t.ledger.standing t.disk.flights die k.fly;
+  fly = fly_over t.ledger.standing t.disk.flights die c.books b.filling k.fly;
   ledger_kept = k.ledger_kept;
   work = k.work;
+  plan = k.plan;
   claims = k.claims;
   pins = k.pins;
   differ = k.differ;
@@ -93,6 +94,7 @@ task_kept c t die reader index b place h there flies = record {
   fly = k.fly;
   ledger_kept = k.ledger_kept;
   work = k.work;
+  plan = k.plan;
   claims = k.claims;
   pins = pins_mapped t.ledger.frontier t.ledger.frontier (entry_of t.ledger) (entry_of t.ledger)
       (wanted_no_more reader index) (with_wanted reader index false) c.pins t.pins

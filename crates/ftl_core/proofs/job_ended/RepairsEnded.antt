@@ -35,7 +35,7 @@ use Rattle.ftl_core.specs.Moves.{page_written}
 use Rattle.unit_map.specs.Places.{stored_in}
 use Rattle.ftl_core.specs.Takes.{next_place}
 use Rattle.ftl_core.proofs.group_settled.FrontDurable.{climbed_of, raised_to}
-use Rattle.ftl_core.proofs.group_settled.PageStands.{at_here, fly_written, stored_on, with_page}
+use Rattle.ftl_core.proofs.group_settled.PageStands.{at_here, fly_written, stored_on, with_page, writers_fly}
 use Rattle.ftl_core.proofs.group_settled.PageWritten.{with_group_page}
 use Rattle.ftl_core.proofs.job_ended.ChangeParts.{blocks_on, blocks_put, books_with, changed, closed_fills}
 use Rattle.ftl_core.proofs.job_ended.ChangeParts.{filling_kept, kept_beside, page_ends, states_with}
@@ -127,6 +127,9 @@ module _ (c : Core) (t : Translation) (die : ℕ) (b : Book) (o : OpenBlock) (ta
   flown : flies_name name (t.disk.flights die) ≡ true
   flown = ap (flies_name name) flies ∙ name_self name
 
+  stands_not : t.ledger.standing name.number name.index ≡ None
+  stands_not = ap (λ (z : Name). t.ledger.standing z.number z.index) same_name ∙ repair.right.new
+
   no_pages : c.pages ≡ []
   no_pages = none_waiting c t h not_mended
 
@@ -146,7 +149,7 @@ module _ (c : Core) (t : Translation) (die : ℕ) (b : Book) (o : OpenBlock) (ta
     last_given = h.kept.ledger_kept.last_given;
     pages = none_kept _ _ c.pages _ no_pages (no_names (with_page t.ledger name place) all_repairs);
     keys = h.kept.ledger_kept.keys;
-    places = λ j isj. stored_on t.ledger.standing name place (h.kept.fly.new die name flown)
+    places = λ j isj. stored_on t.ledger.standing name place stands_not
         (stored_in c.numbers c.places j) _ (h.kept.ledger_kept.places j isj);
   }
 
@@ -160,7 +163,9 @@ module _ (c : Core) (t : Translation) (die : ℕ) (b : Book) (o : OpenBlock) (ta
       kept_beside c t die o.block b x f states c.has_bad c.pages c.mending None c.next_mark
       (at_place t.disk.cells place (GroupPage tag body)) (at_place t.disk.finished place true) t.disk.erasing
       (with_page t.ledger name place) (record t.work { step = step_behind name t.work.step })
-      h.kept there bs fs (fly_written t.ledger.standing t.disk.flights die name place h.kept.fly flown) ledger_stands
+      h.kept there bs fs
+      (fly_written t.ledger.standing t.disk.flights die c.books f name place h.kept.fly (writers_fly c t h.kept) flown)
+      ledger_stands
       record {
         mending_is = h.kept.work.mending_is;
         step_is = subst (StepKept (with_page t.ledger name place) None c.content)
@@ -169,14 +174,13 @@ module _ (c : Core) (t : Translation) (die : ℕ) (b : Book) (o : OpenBlock) (ta
           differ = λ i j d less within. to_repair.differ (suc i) (suc j) d (omega arith) (omega arith);
           unrepaired = λ i d within. to_repair.unrepaired (suc i) d (omega arith);
         };
-        no_plan = h.kept.work.no_plan;
         no_rests = h.kept.work.no_rests;
         next_mark = h.kept.work.next_mark;
         repaired = λ e. absurd (false≢true (sym not_mended ∙ e));
       }
       h.kept.pins
       (suits_next c t die place (GroupPage tag body) h flies page None refl)
-      (none_reads c t die place (GroupPage tag body) h flies page None)
+      (none_reads c t die place (GroupPage tag body) h flies page None) refl
       h.kept.readers
 
   -- The frontier climbs
@@ -222,11 +226,11 @@ module _ (c : Core) (t : Translation) (die : ℕ) (b : Book) (o : OpenBlock) (ta
       step_is = k0.work.step_is;
       to_repair = λ e. repaired_left (with_page t.ledger name place) k left item low alone refl
           (record { differ = to_repair.differ; unrepaired = to_repair.unrepaired });
-      no_plan = k0.work.no_plan;
       no_rests = k0.work.no_rests;
       next_mark = k0.work.next_mark;
       repaired = λ e. absurd (false≢true (sym not_mended ∙ e));
     };
+    plan = k0.plan;
     claims = k0.claims;
     pins = pins_empty t.ledger.frontier (suc t.ledger.frontier) (entry_of t.ledger) (entry_of t.ledger)
         (settled_pin (at_frontier (with_page t.ledger name place) (suc t.ledger.frontier))) c.pins t.pins

@@ -1,10 +1,15 @@
--- The end of a job leaves the slots that readers have claimed.
-use Rattle.std.proofs.Common.{◌≡◌, ◌∙◌, ℕ, zero, suc, Bool, true, false, List, [], ◌∷◌, Option, Some, None, refl, ap}
-use Rattle.std.specs.Prelude.{if◌then◌else◌, filter, fold, nat_le, nat_lt, slice_get, ◌-◌, ◌^◌}
+-- The end of a job leaves the slots that readers have claimed, and the collection that is begun, or none.
+use Rattle.std.proofs.Common.{◌≡◌, ◌∙◌, ℕ, zero, suc, Bool, true, false, List, [], ◌∷◌, Option, Some, None, refl, sym}
+use Rattle.std.proofs.Common.{subst}
+use Rattle.collector.specs.Plans.{Collection}
+use Rattle.ufs_spec.proofs.Facts.{none-some}
+use Rattle.std.specs.Prelude.{◌==◌, if◌then◌else◌, filter, find, fold, nat_le, nat_lt, slice_get, ◌-◌, ◌^◌}
 use Rattle.ufs_spec.specs.declared.flash.Outcome.{Outcome}
+use Rattle.ufs_spec.specs.declared.flash.Key.{Key}
 use Rattle.ufs_spec.specs.declared.flash.Place.{Place}
+use Rattle.ufs_spec.specs.declared.flash.Tag.{Tag}
+use Rattle.unit_map.specs.declared.Stored.{Stored}
 use Rattle.ftl_core.specs.declared.books.Book.{Book}
-use Rattle.write_cache.specs.declared.slots.Claimed.{Claimed}
 use Rattle.ftl_core.specs.declared.books.Flight.{Flight}
 use Rattle.ftl_core.specs.declared.books.Flight.TheVariants as flight
 use Rattle.block_table.specs.declared.OpenBlock.{OpenBlock}
@@ -15,112 +20,180 @@ use Rattle.ftl_core.specs.declared.books.Step.{Step}
 use Rattle.ftl_core.specs.declared.books.Step.TheVariants as steps
 use Rattle.ftl_core.specs.Core.{Core}
 use Rattle.ftl_core.specs.Done.{IsBookAfter, IsCoreEnded, IsFlightAfter}
+use Rattle.ftl_core.specs.Ends.{copy_durable, copy_over, copy_pending, copy_stands, index_in, mark_over, plan_freed, plan_over}
+use Rattle.ftl_core.specs.Ends.{repair_over}
 use Rattle.ftl_core.specs.Ends.{front_written, group_durable, page_durable, page_durable_at}
-use Rattle.write_cache.specs.Slots.{is_of_group}
+use Rattle.write_cache.specs.Slots.{is_named, is_of_group}
 use Rattle.ftl_core.specs.Ends.{pending_written, settled_by, step_again, step_over, with_content}
 use Rattle.ftl_core.specs.Gives.{IsReadAfter, IsReadOver, change_after, change_ended, ending, is_read}
-use Rattle.ftl_core.specs.Moves.{claims_for, page_written}
+use Rattle.ftl_core.specs.Ends.{settled}
+use Rattle.ftl_core.specs.Moves.{claims_for, page_written, stored_of, with_book}
 use Rattle.write_cache.specs.Slots.{is_claim_of}
 
--- Either way
+-- What stays
 
-either : (test : Bool) (x y : Core) (claims : List Claimed) → x.claims ≡ claims → y.claims ≡ claims →
-    (if test then x else y).claims ≡ claims
-either true x y claims e f = e
-either false x y claims e f = f
+-- the claims stay, and no collection is begun
+record Stays (c d : Core) : Type 0 where
+  claims : d.claims ≡ c.claims
+  plan : (p : Collection) → d.plan ≡ Some p → c.plan ≡ Some p
 
-written : (c : Core) (die : ℕ) (b : Book) (o : Option OpenBlock) → (page_written c die b o).claims ≡ c.claims
-written c die b None = refl
-written c die b (Some o) = either (nat_lt o.next (c.numbers.pages - 1)) _ _ c.claims refl refl
+same : (c : Core) → Stays c c
+same c = record { claims = refl; plan = λ p e. e }
+
+both : (c d e : Core) → Stays c d → Stays d e → Stays c e
+both c d e h k = record { claims = k.claims ∙ h.claims; plan = λ p is. h.plan p (k.plan p is) }
+
+is_as : (c d e : Core) → d ≡ e → Stays c e → Stays c d
+is_as c d e is h = subst (λ (z : Core). Stays c z) (sym is) h
+
+-- either way
+either : (test : Bool) (c x y : Core) → Stays c x → Stays c y → Stays c (if test then x else y)
+either true c x y h k = h
+either false c x y h k = k
+
+written : (c : Core) (die : ℕ) (b : Book) (o : Option OpenBlock) → Stays c (page_written c die b o)
+written c die b None = record { claims = refl; plan = λ p e. e }
+written c die b (Some o) =
+    either (nat_lt o.next (c.numbers.pages - 1)) c _ _ (record { claims = refl; plan = λ p e. e })
+    (record { claims = refl; plan = λ p e. e })
 
 -- Groups
 
-durable_at : (c : Core) (p : Pending) (o : Option Place) → (page_durable_at c p o).claims ≡ c.claims
-durable_at c p None = refl
-durable_at c p (Some place) = refl
+durable_at : (c : Core) (p : Pending) (o : Option Place) → Stays c (page_durable_at c p o)
+durable_at c p None = same c
+durable_at c p (Some place) = record { claims = refl; plan = λ q e. e }
 
-durable : (ps : List Pending) (c : Core) → (fold page_durable c ps).claims ≡ c.claims
-durable [] c = refl
-durable (p ∷ ps) c = durable ps (page_durable c p) ∙ durable_at c p p.written
+durable : (ps : List Pending) (c : Core) → Stays c (fold page_durable c ps)
+durable [] c = same c
+durable (p ∷ ps) c =
+    both c (page_durable c p) (fold page_durable (page_durable c p) ps) (durable_at c p p.written)
+    (durable ps (page_durable c p))
 
-settles : (n : ℕ) (c : Core) → (settled_by n c).claims ≡ c.claims
+whole : (number : ℕ) (c : Core) → Stays c (group_durable c number)
+whole number c =
+    let d = durable (filter (is_of_group number) c.pages) c in
+    record { claims = d.claims; plan = d.plan }
+
+settles : (n : ℕ) (c : Core) → Stays c (settled_by n c)
 unfolding settled_by
-settles zero c = refl
+settles zero c = same c
 settles (suc n) c =
     elim (front_written c) as
-    (λ q. (elim q as (λ number. Core) [
+    (λ q. Stays c (elim q as (λ number. Core) [
       | None ↦ c
       | Some number ↦ settled_by n (group_durable c number)
-    ]).claims ≡ c.claims) [
-      | None ↦ refl
-      | Some number ↦ settles n (group_durable c number) ∙ durable (filter (is_of_group number) c.pages) c
+    ])) [
+      | None ↦ same c
+      | Some number ↦ both c (group_durable c number) (settled_by n (group_durable c number)) (whole number c)
+          (settles n (group_durable c number))
     ]
 
 -- The step under way
 
-over : (c : Core) (step : Option Step) (place : Place) → (step_over c step place).claims ≡ c.claims
-over c None place = refl
-over c (Some (steps.Mark n fence)) place = refl
-over c (Some (steps.Repair n k from there)) place = refl
+at_durable : (c : Core) (n : ℕ) (k : Key) (p : Place) (o : Option Stored) → Stays c (copy_durable c n k p o)
+at_durable c n k p None = same c
+at_durable c n k p (Some s) =
+    either (s.number == n) c _ c (record { claims = refl; plan = λ q e. e }) (same c)
 
-again : (c : Core) (step : Option Step) → (step_again c step).claims ≡ c.claims
-again c None = refl
-again c (Some (steps.Mark n fence)) = either (nat_le c.next_mark (2 ^ 62)) _ _ c.claims refl refl
-again c (Some (steps.Repair n k from there)) = refl
+at_pending : (c : Core) (n i : ℕ) (p : Place) (o : Option Pending) → Stays c (copy_pending c n i p o)
+at_pending c n i p None = same c
+at_pending c n i p (Some q) = record { claims = refl; plan = λ x e. e }
+
+copied : (c : Core) (n : ℕ) (k : Key) (i : ℕ) (p : Place) → Stays c (copy_stands c n k i p)
+copied c n k i p =
+    either (nat_le n c.frontier) c _ _ (at_durable c n k p (stored_of c k))
+    (at_pending c n i p (find (is_named n i) c.pages))
+
+freed : (c : Core) (o : Option Collection) → Stays c (plan_freed c o)
+freed c None = same c
+freed c (Some p) = record { claims = refl; plan = λ q e. absurd (none-some q e) }
+
+over : (c : Core) (step : Option Step) (die : ℕ) (b : Book) (place : Place) → Stays c (step_over c step die b place)
+over c None die b place = written c die b b.filling
+over c (Some (steps.Mark n fence)) die b place =
+    let now = page_written (mark_over c) die b b.filling in
+    let w = written (mark_over c) die b b.filling in
+    both c now (plan_over now) (record { claims = w.claims; plan = w.plan }) (freed now now.plan)
+over c (Some (steps.Repair n k from there)) die b place =
+    let w = written (repair_over c k place) die b b.filling in record { claims = w.claims; plan = w.plan }
+over c (Some (steps.Copy n k from read)) die b place =
+    let begun = record c { step = None } in
+    let stands = copy_over c n k (index_in read) place in
+    let now = page_written stands die b b.filling in
+    let u = copied begun n k (index_in read) place in
+    both c stands (settled now) (record { claims = u.claims; plan = u.plan })
+    (both stands now (settled now) (written stands die b b.filling) (settles _ now))
+
+again : (c : Core) (step : Option Step) → Stays c (step_again c step)
+again c None = same c
+again c (Some (steps.Mark n fence)) =
+    either (nat_le c.next_mark (2 ^ 62)) c _ _ (record { claims = refl; plan = λ p e. e })
+    (record { claims = refl; plan = λ p e. e })
+again c (Some (steps.Repair n k from there)) = same c
+again c (Some (steps.Copy n k from read)) = same c
 
 -- Programs and erases
 
-changed : (c : Core) (die : ℕ) (b : Book) (f : Flight) (well : Bool) → (change_ended c die b f well).claims ≡ c.claims
-changed c die b (flight.Read place reader) well = refl
-changed c die b (flight.Step place) true = written (step_over c c.step place) die b b.filling ∙ over c c.step place
-changed c die b (flight.Step place) false = again c c.step
+changed : (c : Core) (die : ℕ) (b : Book) (f : Flight) (well : Bool) → Stays c (change_ended c die b f well)
+changed c die b (flight.Read place reader) well = same c
+changed c die b (flight.Step place) true = over c c.step die b place
+changed c die b (flight.Step place) false =
+    let a = again c c.step in record { claims = a.claims; plan = a.plan }
 changed c die b (flight.Group place n i) true =
-    settles _ (page_written (pending_written c n i place) die b b.filling)
-    ∙ written (pending_written c n i place) die b b.filling
-changed c die b (flight.Group place n i) false = refl
-changed c die b (flight.Erase block) true = refl
-changed c die b (flight.Erase block) false = refl
+    let pending = pending_written c n i place in
+    let now = page_written pending die b b.filling in
+    let w = written pending die b b.filling in
+    both c now (settled now) (record { claims = w.claims; plan = w.plan }) (settles _ now)
+changed c die b (flight.Group place n i) false = record { claims = refl; plan = λ p e. e }
+changed c die b (flight.Erase block) true = record { claims = refl; plan = λ p e. e }
+changed c die b (flight.Erase block) false = record { claims = refl; plan = λ p e. e }
 
-change_over : (c : Core) (die : ℕ) (b : Book) (f : Flight) (o : Option Bool) →
-    (change_after c die b f o).claims ≡ c.claims
-change_over c die b f None = refl
+change_over : (c : Core) (die : ℕ) (b : Book) (f : Flight) (o : Option Bool) → Stays c (change_after c die b f o)
+change_over c die b f None = same c
 change_over c die b f (Some well) = changed c die b f well
 
 -- Reads
 
-content : (c : Core) (o : Option (List ℕ)) → (with_content c o).claims ≡ c.claims
-content c None = refl
-content c (Some body) = refl
+content : (c : Core) (tag : Option Tag) (o : Option (List ℕ)) → Stays c (with_content c tag o)
+content c tag None = same c
+content c tag (Some body) = record { claims = refl; plan = λ p e. e }
 
-read_over : (c : Core) (o : Outcome) (reader : Reader) (new : Core) → IsReadOver c o reader new →
-    new.claims ≡ c.claims
-read_over c o (readers.Task tag index) new h = ap (λ (x : Core). x.claims) h
-read_over c o readers.Step new h = ap (λ (x : Core). x.claims) h.2 ∙ content c h.0
-read_over c o readers.Nobody new h = ap (λ (x : Core). x.claims) h
+read_over : (c : Core) (o : Outcome) (found : Option Tag) (reader : Reader) (new : Core) →
+    IsReadOver c o found reader new → Stays c new
+read_over c o found (readers.Task tag index) new h = is_as c new _ h (record { claims = refl; plan = λ p e. e })
+read_over c o found readers.Step new h = is_as c new _ h.2 (content c found h.0)
+read_over c o found readers.Nobody new h = is_as c new c h (same c)
 
-read_after : (known : Bool) (c : Core) (die : ℕ) (b : Book) (o : Outcome) (reader : Reader) (new : Core) →
-    IsReadAfter known c die b o reader new → new.claims ≡ c.claims
-read_after false c die b o reader new h = ap (λ (x : Core). x.claims) h
-read_after true c die b o reader new h = read_over _ o reader new h
+read_after : (known : Bool) (c : Core) (die : ℕ) (b : Book) (o : Outcome) (found : Option Tag) (reader : Reader)
+    (new : Core) → IsReadAfter known c die b o found reader new → Stays c new
+read_after false c die b o found reader new h = is_as c new c h (same c)
+read_after true c die b o found reader new h =
+    let r = read_over (with_book c die record { filling = b.filling; flight = None }) o found reader new h in
+    record { claims = r.claims; plan = r.plan }
 
 -- All of it
 
-flight_after : (c : Core) (die : ℕ) (b : Book) (f : Option Flight) (o : Outcome) (new : Core) →
-    IsFlightAfter c die b f o new → new.claims ≡ c.claims
-flight_after c die b None o new h = ap (λ (x : Core). x.claims) h
-flight_after c die b (Some (flight.Read place reader)) o new h = read_after (is_read o) c die b o reader new h
-flight_after c die b (Some (flight.Step place)) o new h =
-    ap (λ (x : Core). x.claims) h ∙ change_over c die b (flight.Step place) (ending o)
-flight_after c die b (Some (flight.Group place n i)) o new h =
-    ap (λ (x : Core). x.claims) h ∙ change_over c die b (flight.Group place n i) (ending o)
-flight_after c die b (Some (flight.Erase block)) o new h =
-    ap (λ (x : Core). x.claims) h ∙ change_over c die b (flight.Erase block) (ending o)
+flight_after : (c : Core) (die : ℕ) (b : Book) (f : Option Flight) (o : Outcome) (tag : Option Tag) (new : Core) →
+    IsFlightAfter c die b f o tag new → Stays c new
+flight_after c die b None o tag new h = is_as c new c h (same c)
+flight_after c die b (Some (flight.Read place reader)) o tag new h = read_after (is_read o) c die b o tag reader new h
+flight_after c die b (Some (flight.Step place)) o tag new h =
+    is_as c new _ h (change_over c die b (flight.Step place) (ending o))
+flight_after c die b (Some (flight.Group place n i)) o tag new h =
+    is_as c new _ h (change_over c die b (flight.Group place n i) (ending o))
+flight_after c die b (Some (flight.Erase block)) o tag new h =
+    is_as c new _ h (change_over c die b (flight.Erase block) (ending o))
 
-book_after : (c : Core) (die : ℕ) (b : Option Book) (o : Outcome) (new : Core) → IsBookAfter c die b o new →
-    new.claims ≡ c.claims
-book_after c die None o new h = ap (λ (x : Core). x.claims) h
-book_after c die (Some b) o new h = flight_after c die b b.flight o new h
+book_after : (c : Core) (die : ℕ) (b : Option Book) (o : Outcome) (tag : Option Tag) (new : Core) →
+    IsBookAfter c die b o tag new → Stays c new
+book_after c die None o tag new h = is_as c new c h (same c)
+book_after c die (Some b) o tag new h = flight_after c die b b.flight o tag new h
 
-pub same_claims : (c after : Core) (die : ℕ) (o : Outcome) → IsCoreEnded c die o after → claims_for after ≡ claims_for c
-same_claims c after die o h =
-    λ i reader. filter (is_claim_of reader) (book_after c die (slice_get c.books die) o after h i)
+pub same_claims : (c after : Core) (die : ℕ) (o : Outcome) (tag : Option Tag) → IsCoreEnded c die o tag after →
+    claims_for after ≡ claims_for c
+same_claims c after die o tag h =
+    λ i reader. filter (is_claim_of reader) ((book_after c die (slice_get c.books die) o tag after h).claims i)
+
+pub same_plan : (c after : Core) (die : ℕ) (o : Outcome) (tag : Option Tag) → IsCoreEnded c die o tag after →
+    (p : Collection) → after.plan ≡ Some p → c.plan ≡ Some p
+same_plan c after die o tag h = (book_after c die (slice_get c.books die) o tag after h).plan

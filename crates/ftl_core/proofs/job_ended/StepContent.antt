@@ -1,248 +1,237 @@
--- The read for the step under way ends: it gives the content that the repaired key had at the life's start.
-use Rattle.std.proofs.Common.{◌≡◌, ◌≢◌, ◌∙◌, ℕ, true, false, List, Option, Some, None, drop, refl, sym, ap}
-use Rattle.std.proofs.Common.{subst, ⊎_elim}
-use Rattle.std.specs.Prelude.{slice_get}
-use Rattle.ufs_spec.proofs.Facts.{false≢true, none-some, same_Some}
-use Rattle.ufs_spec.specs.Cells.{Cell, GroupPage, IsCell}
+-- The read for the step under way ends: it gives the content that the repaired key had at the life's start, or that of
+-- the page that is copied.
+use Rattle.std.proofs.Common.{◌≡◌, ◌∙◌, ◌⊎◌, ℕ, false, List, [], Option, Some, None, drop, refl, sym, ap}
+use Rattle.std.proofs.Common.{subst, inl, inr, ⊎_elim}
+use Rattle.std.specs.Prelude.{All, IfSome, slice_get}
+use Rattle.std.proofs.lemmas.List.Elements.{All-head}
+use Rattle.ufs_spec.proofs.Facts.{false≢true, same_Some}
+use Rattle.ufs_spec.specs.Cells.{IsCell}
 use Rattle.ufs_spec.specs.Disk as disk
 use Rattle.ufs_spec.specs.Disk.{ForStep, at_die}
-use Rattle.ufs_spec.specs.Keys.{IsKey}
-use Rattle.ufs_spec.specs.Ledger.{Entry, Ledger, Name}
+use Rattle.ufs_spec.specs.Ledger.{Entry, Name, entry_of}
 use Rattle.ufs_spec.specs.Moves.{Ending, IsAnother, IsEndingOf, ReadRight, ReadWrong, end_flight, step_there}
-use Rattle.ufs_spec.specs.Plain.{shape_of_numbers}
 use Rattle.ufs_spec.specs.Translation as layer
-use Rattle.ufs_spec.specs.Translation.{Translation, is_mended}
+use Rattle.ufs_spec.specs.Translation.{CopyStep, Translation, Want, is_mended, name_of, tag_of, want_at, wants_of_step}
 use Rattle.ufs_spec.specs.declared.flash.Key.{Key}
 use Rattle.ufs_spec.specs.declared.flash.Outcome.{Outcome}
 use Rattle.ufs_spec.specs.declared.flash.Outcome.TheVariants as outcome
 use Rattle.ufs_spec.specs.declared.flash.Page.{Page}
 use Rattle.ufs_spec.specs.declared.flash.Place.{Place}
-use Rattle.power_loss.specs.Book.{book}
-use Rattle.power_loss.specs.Invariant.{IsSecure, Valid}
-use Rattle.power_loss.proofs.books.PagesByName.{entry_for, old_page, page_one, page_same}
-use Rattle.power_loss.proofs.books.SmallFacts.{at_die_cases}
+use Rattle.ufs_spec.specs.declared.flash.Tag.{Tag}
+use Rattle.ufs_spec.specs.Cells.{Opens}
+use Rattle.ufs_spec.specs.Pages.{IsTag, seal_page}
+use Rattle.page_tag.specs.Jobs.{IsTagOf, IsTagRead}
+use Rattle.page_tag.proofs.Sealed.{one_tag}
+use Rattle.power_loss.specs.Invariant.{IsNeededPage}
+use Rattle.power_loss.proofs.books.PagesByName.{entry_for}
 use Rattle.ftl_core.specs.declared.books.Book.{Book}
 use Rattle.ftl_core.specs.declared.books.Reader.TheVariants as readers
 use Rattle.ftl_core.specs.declared.books.Step.{Step}
 use Rattle.ftl_core.specs.declared.books.Step.TheVariants as steps
-use Rattle.unit_map.specs.declared.Stored.{Stored}
 use Rattle.ftl_core.specs.Core.{Core}
-use Rattle.ftl_core.specs.Describes.{AreToRepair, Describes, IsStepCell, IsStored, Kept}
-use Rattle.ftl_core.specs.Describes.{Standing, StepKept, StepReadsKept, keys_to_repair}
+use Rattle.ftl_core.specs.Describes.{AreToRepair, CopyKept, Describes, IsCopied, IsStepCell, Kept}
+use Rattle.ftl_core.specs.Describes.{StepKept, keys_to_repair}
 use Rattle.ftl_core.specs.Ends as ends
 use Rattle.ftl_core.specs.Ends.{with_content}
 use Rattle.ftl_core.specs.Gives.{IsContentOf, IsReadAfter, is_read}
-use Rattle.ftl_core.specs.Moves.{repairs_in, with_book}
-use Rattle.ftl_core.specs.Takes.{step_wants}
-use Rattle.ftl_core.proofs.job_ended.ReadsEnded.{idle_kept}
 use Rattle.ftl_core.proofs.job_ended.ReadsGiven.{IsPageOf, right_body, wrong_body}
-use Rattle.ftl_core.proofs.job_ended.RepairsEnded.{IsRepairOf, key_known, repair_of, unmended}
 use Rattle.ftl_core.proofs.job_ended.StepsOver.{flight_suits}
 use Rattle.ftl_core.proofs.job_taken.Flown.{dies_changed, fly_over, reads_over}
+use Rattle.ftl_core.proofs.job_ended.RepairContent.{IsReadFor, idle, one_read, read_for, read_was_none, read_was_right, read_was_wrong}
 
--- The step that is read for
+-- The read for a copy
 
--- a repair whose content is still to be read from this place
-pub record IsReadFor (step : Option Step) (place : Place) : Type 0 where
+-- the step copies the page there, and is still to be read
+pub record IsCopyOf (c : Core) (t : Translation) (place : Place) : Type 0 where
   pub number : ℕ
   pub key : Key
-  pub stored : Stored
-  pub is : step ≡ Some (steps.Repair number key (Some stored) false)
-  pub place_is : stored.place ≡ place
+  pub is : c.step ≡ Some (steps.Copy number key place None)
+  pub name : Name
+  pub step : t.work.step ≡ Some (record { kind = CopyStep name place; there = false })
+  pub right : CopyKept t.ledger number key None c.content name
 
-read_for : (step : Option Step) (place : Place) → step_wants step ≡ Some place → IsReadFor step place
-read_for None place e = absurd (none-some _ e)
-read_for (Some (steps.Mark n fence)) place e = absurd (none-some _ e)
-read_for (Some (steps.Repair n k None there)) place e = absurd (none-some _ e)
-read_for (Some (steps.Repair n k (Some s) true)) place e = absurd (none-some _ e)
-read_for (Some (steps.Repair n k (Some s) false)) place e =
-    record { number = n; key = k; stored = s; is = refl; place_is = same_Some s.place place e }
-
--- the name of what stands there
-stored_name : (standing : Standing) (s : Stored) (o : Option Name) → IsStored standing (Some s) o →
-    (name : Name) × (o ≡ Some name) × (name.number ≡ s.number) × (standing name.number name.index ≡ Some s.place)
-stored_name standing s None h = absurd h
-stored_name standing s (Some name) h = (name, refl, h.0, h.1)
-
--- The page that it is read from
-
--- it is there, and has the content that the key had at the life's start
-pub record IsBasePage (t : Translation) (place : Place) (k : Key) (n : ℕ) : Type 0 where
-  pub page : IsPageOf t.disk.cells place k n
-  pub content : page.body ≡ t.ledger.base k
-
-base_page : (t : Translation) (k : Key) (s : Stored) → Valid t → is_mended t.work.mending ≡ false →
-    IsKey (shape_of_numbers t.numbers) k →
-    IsStored t.ledger.standing (Some s) (t.ledger.first_page k) → IsBasePage t s.place k s.number
-base_page t k s v not_mended known stands =
-    record {
-      page = record {
-        tag = secure.tag;
-        body = secure.body;
-        there = ap t.disk.cells (sym at) ∙ secure.there;
-        key = ap (λ (e : Entry). e.item.key) same;
-        number = secure.number ∙ r.2;
-      };
-      content = ap (λ (e : Entry). e.item.body) same;
-    }
+copy_of : (c : Core) (t : Translation) (number : ℕ) (key : Key) (place : Place) →
+    c.step ≡ Some (steps.Copy number key place None) → StepKept t.ledger c.step c.content t.work.step →
+    IsCopyOf c t place
+copy_of c t number key place is kept =
+    by t.work.step refl (subst (λ (z : Option Step). StepKept t.ledger z c.content t.work.step) is kept)
   where
-    r : (name : Name) × (t.ledger.first_page k ≡ Some name) × (name.number ≡ s.number)
-        × (t.ledger.standing name.number name.index ≡ Some s.place)
-    r = stored_name t.ledger.standing s (t.ledger.first_page k) stands
-
-    secure : IsSecure t.ledger.standing t.disk.cells t.disk.finished t.disk.blocks t.disk.erasing r.0.number r.0.index
-    secure = v.unmended.stand not_mended r.0.number r.0.index s.place r.3
-
-    at : secure.place ≡ s.place
-    at = same_Some secure.place s.place (sym secure.known ∙ r.3)
-
-    first : (size : ℕ) × (t.ledger.entries_before r.0.number r.0.index ≡
-        Some (record { item = record { key = k; body = t.ledger.base k }; size = size }))
-    first = v.book_right.first_content k r.0 known r.1
-
-    same : entry_for secure.tag secure.body ≡
-        record { item = record { key = k; body = t.ledger.base k }; size = first.0 }
-    same = page_one (book t) r.0.number r.0.index (entry_for secure.tag secure.body)
-        (record { item = record { key = k; body = t.ledger.base k }; size = first.0 })
-        (page_same (book t) (entry_for secure.tag secure.body) secure.number secure.index
-        (v.pages.known secure.place secure.tag secure.body secure.there))
-        (old_page (book t) r.0.number r.0.index (v.book_right.old_within r.0.number r.0.index _ first.1) first.1)
-
--- What is kept
-
--- the step of the layer has its content
-there_now : (l : Ledger) (n : ℕ) (k : Key) (s : Stored) (content : List ℕ) (w : Option layer.Step) →
-    IsRepairOf l n k (Some s) false content w →
-    StepKept l (Some (steps.Repair n k (Some s) true)) (l.base k) (step_there w)
-there_now l n k s content w r =
-    subst (λ (z : Option layer.Step). StepKept l (Some (steps.Repair n k (Some s) true)) (l.base k) (step_there z))
-    (sym r.step) (
-      refl,
-      record {
-        next = r.right.next;
-        last = r.right.last;
-        new = r.right.new;
-        entry = r.right.entry;
-        stored = r.right.stored;
-        content_is = λ e. refl;
-      },
-    )
-
--- a page in flight of a step whose content is not there is none
-suits_there : (n : ℕ) (k : Key) (from : Option Stored) (cell : Cell) →
-    IsStepCell (Some (steps.Repair n k from false)) cell → IsStepCell (Some (steps.Repair n k from true)) cell
-suits_there n k from (GroupPage tag body) h = absurd (false≢true h.2)
-suits_there n k from cell h = absurd h
+    by : (w : Option layer.Step) → t.work.step ≡ w →
+        StepKept t.ledger (Some (steps.Copy number key place None)) c.content w → IsCopyOf c t place
+    by None e k = absurd k
+    by (Some s) e k = record {
+      number = number;
+      key = key;
+      is = is;
+      name = k.0;
+      step = e ∙ ap (λ (z : layer.Step). Some z) k.1;
+      right = k.2;
+    }
 
 module _ (c : Core) (t : Translation) (die : ℕ) (b : Book) (place : Place) (h : Describes c t)
-    (there : slice_get c.books die ≡ Some b) (flies : t.disk.flights die ≡ Some (disk.Reading ForStep place)) where
-  abbrev idle : Core
-  idle = with_book c die record { filling = b.filling; flight = None }
+    (there : slice_get c.books die ≡ Some b) (flies : t.disk.flights die ≡ Some (disk.Reading ForStep place))
+    (copy : IsCopyOf c t place) where
+  abbrev idle_then : Core
+  idle_then = idle c t die b place h there flies
 
-  step_read : IsReadFor c.step place
-  step_read = read_for c.step place (h.kept.step_reads die place flies)
+  needed : IsNeededPage t.disk.cells t.disk.finished t.disk.blocks t.disk.erasing place
+  needed = All-head (λ (want : Want). IsNeededPage t.disk.cells t.disk.finished t.disk.blocks t.disk.erasing want.place)
+      (want_at ForStep place) []
+      (subst (λ (w : Option layer.Step). All
+      (λ (want : Want). IsNeededPage t.disk.cells t.disk.finished t.disk.blocks t.disk.erasing want.place)
+      (wants_of_step w)) copy.step h.valid.to_read.wanted)
 
-  abbrev after : Option Step
-  after = Some (steps.Repair step_read.number step_read.key (Some step_read.stored) true)
+  abbrev read : Tag
+  read = needed.page.tag
 
-  repair : IsRepairOf t.ledger step_read.number step_read.key (Some step_read.stored) false c.content t.work.step
-  repair = repair_of t.ledger step_read.number step_read.key (Some step_read.stored) false c.content t.work.step
-      (subst (λ (z : Option Step). StepKept t.ledger z c.content t.work.step) step_read.is h.kept.work.step_is)
+  abbrev data_read : List ℕ
+  data_read = needed.page.body
 
-  -- no other die reads for the step
-  one_read : StepReadsKept (at_die t.disk.flights die None) after
-  one_read e p is = ⊎_elim
-      (λ k. absurd (none-some _ (sym k.1 ∙ is)))
-      (λ (k : (e ≢ die) × (at_die t.disk.flights die None e ≡ t.disk.flights e)).
-      let reads = sym k.1 ∙ is in
-      let one = same_Some p place (sym (h.kept.step_reads e p reads) ∙ h.kept.step_reads die place flies) in
-      absurd (k.0 (sym (h.valid.reads.at_home e ForStep p reads) ∙ ap (λ (z : Place). z.die) one
-      ∙ h.valid.reads.at_home die ForStep place flies)))
-      (at_die_cases t.disk.flights die None e)
+  named : name_of read ≡ copy.name
+  named = h.copies.named copy.name place copy.step read data_read needed.page.there
 
-  content_there : Kept (record idle { content = t.ledger.base step_read.key; step = after })
+  same_entry : entry_for read data_read ≡ copy.right.entry
+  same_entry = same_Some (entry_for read data_read) copy.right.entry
+      (sym (h.valid.pages.known place read data_read needed.page.there)
+      ∙ ap (entry_of t.ledger) named ∙ copy.right.known)
+
+  -- the page of the copy's key and number is there
+  page_there : IsPageOf t.disk.cells place copy.key copy.number
+  page_there = record {
+    tag = read;
+    body = data_read;
+    there = needed.page.there;
+    key = ap (λ (e : Entry). e.item.key) same_entry ∙ copy.right.key;
+    number = ap (λ (z : Name). z.number) named ∙ copy.right.number_is;
+  }
+
+  abbrev copied : Option Step
+  copied = Some (steps.Copy copy.number copy.key place (Some read))
+
+  copy_kept : StepKept t.ledger copied data_read (step_there t.work.step)
+  copy_kept = subst (λ (z : Option layer.Step). StepKept t.ledger copied data_read (step_there z)) (sym copy.step) (
+    copy.name,
+    refl,
+    record {
+      number_is = copy.right.number_is;
+      place = copy.right.place;
+      stands = copy.right.stands;
+      entry = copy.right.entry;
+      known = copy.right.known;
+      key = copy.right.key;
+      copied = λ tag e. subst (λ (z : Tag). IsCopied copy.name copy.right.entry z data_read)
+          (same_Some read tag e)
+          (record {
+            content_is = ap (λ (x : Entry). x.item.body) same_entry;
+            tag_is = λ frontier i. tag_of (sym named i) (sym same_entry i) frontier;
+          });
+    },
+  )
+
+  copy_there : Kept (record idle_then { content = data_read; step = copied })
       (record t {
         disk = record t.disk { flights = at_die t.disk.flights die None };
         work = record t.work { step = step_there t.work.step };
       })
-  content_there = record {
+  copy_there = record {
     numbers = h.kept.numbers;
     blocks = h.kept.blocks;
-    dies = dies_changed t.numbers t.disk.blocks t.disk.blocks t.disk.flights c.step after c.books die b
+    dies = dies_changed t.numbers t.disk.blocks t.disk.blocks t.disk.flights c.step copied c.books die b
         (record { filling = b.filling; flight = None }) None h.kept.dies there (λ s apart. refl)
-        (λ e y apart got job. flight_suits t.numbers c.step after e y.filling y.flight (t.disk.flights e)
-        (λ q cell is page. suits_there step_read.number step_read.key (Some step_read.stored) cell
-        (subst (λ (z : Option Step). IsStepCell z cell) step_read.is page))
-        (λ none. sym (ap repairs_in step_read.is) ∙ none) job)
+        (λ e y apart got job. flight_suits t.numbers c.step copied e y.filling y.flight (t.disk.flights e)
+        (λ q cell is page. absurd (subst (λ (z : Option Step). IsStepCell z cell) copy.is page))
+        (λ none. refl) job)
         (record { filling = (h.kept.dies.each die b there).filling; job = tt });
-    fly = fly_over t.ledger.standing t.disk.flights die h.kept.fly;
+    fly = fly_over t.ledger.standing t.disk.flights die c.books b.filling h.kept.fly;
     ledger_kept = h.kept.ledger_kept;
     work = record {
       mending_is = h.kept.work.mending_is;
-      step_is = there_now t.ledger step_read.number step_read.key step_read.stored c.content t.work.step repair;
+      step_is = copy_kept;
       to_repair = λ e. subst (λ (z : Option Step). AreToRepair t.ledger (keys_to_repair z (drop c.repaired c.lost)))
-          step_read.is (h.kept.work.to_repair e);
-      no_plan = h.kept.work.no_plan;
+          copy.is (h.kept.work.to_repair e);
       no_rests = h.kept.work.no_rests;
       next_mark = h.kept.work.next_mark;
       repaired = h.kept.work.repaired;
     };
+    plan = h.kept.plan;
     claims = h.kept.claims;
     pins = h.kept.pins;
     differ = h.kept.differ;
     reads = reads_over t.disk.flights die c.pins h.kept.reads;
-    step_reads = one_read;
+    step_reads = one_read c t die b place h there flies copied;
     readers = h.kept.readers;
   }
 
-  -- the page of the step's place
-  wanted : IsBasePage t place step_read.key step_read.stored.number
-  wanted = subst (λ (p : Place). IsBasePage t p step_read.key step_read.stored.number) step_read.place_is
-      (base_page t step_read.key step_read.stored h.valid (unmended t _ _ false h.valid repair.step)
-      (key_known t step_read.number step_read.key (Some step_read.stored) false c.content h.valid repair.right)
-      repair.right.stored)
-
-  read_was_right : (page : Page) (new : Core) → IsCell page (t.disk.cells place) →
-      (body : Option (List ℕ)) × IsContentOf c.step page body × (new ≡ with_content idle body) →
-      Kept new (end_flight t die (Some (disk.Reading ForStep place)) ReadRight)
-  read_was_right page new cell r =
-      subst (λ (z : Core). Kept z (end_flight t die (Some (disk.Reading ForStep place)) ReadRight))
-      (sym (r.2 ∙ ap (with_content idle) got ∙ now)) content_there
+  -- the tag that is found is that of the page
+  tag_found : (page : Page) (found : Option Tag) → IsCell page (t.disk.cells place) → IsTagOf page found →
+      found ≡ Some read
+  tag_found page found cell is = by found refl
     where
-      got : r.0 ≡ Some (t.ledger.base step_read.key)
-      got = right_body page t.disk.cells place step_read.key step_read.stored.number r.0 wanted.page cell
-          (subst (λ (z : Option Step). IsContentOf z page r.0) step_read.is r.1)
-          ∙ ap (λ (z : List ℕ). Some z) wanted.content
+      opens : Opens page read data_read
+      opens = (subst (IsCell page) needed.page.there cell).0
 
-      now : with_content idle (Some (t.ledger.base step_read.key)) ≡
-          record idle { content = t.ledger.base step_read.key; step = after }
-      now i = record (with_content idle (Some (t.ledger.base step_read.key))) { step = there_is i }
+      by : (o : Option Tag) → found ≡ o → o ≡ Some read
+      by None e = absurd (is.refused e read data_read opens.tag_right opens.sealed)
+      by (Some u) e =
+          let s = subst (λ (z : Option Tag). IfSome z (λ x. IsTag x × (page ≡ seal_page x page.body))) e is.sealed in
+          ap (λ (z : Tag). Some z)
+          (one_tag u read page.body data_read s.0 opens.tag_right (sym s.1 ∙ opens.sealed))
+
+  copy_was_right : (page : Page) (found : Option Tag) (new : Core) → IsCell page (t.disk.cells place) →
+      IsTagOf page found → (body : Option (List ℕ)) × IsContentOf c.step page body ×
+      (new ≡ with_content idle_then found body) →
+      Kept new (end_flight t die (Some (disk.Reading ForStep place)) ReadRight)
+  unfolding page_there
+  copy_was_right page found new cell is r =
+      subst (λ (z : Core). Kept z (end_flight t die (Some (disk.Reading ForStep place)) ReadRight))
+      (sym (r.2 ∙ (λ i. with_content idle_then (tag i) (got i)) ∙ now)) copy_there
+    where
+      tag : found ≡ Some read
+      tag = tag_found page found cell is
+
+      got : r.0 ≡ Some data_read
+      got = right_body page t.disk.cells place copy.key copy.number r.0 page_there cell
+          (subst (λ (z : Option Step). IsContentOf z page r.0) copy.is r.1)
+
+      now : with_content idle_then (Some read) (Some data_read) ≡
+          record idle_then { content = data_read; step = copied }
+      now i = record (with_content idle_then (Some read) (Some data_read)) { step = there_is i }
         where
-          there_is : ends.step_there c.step ≡ after
-          there_is = ap ends.step_there step_read.is
+          there_is : ends.step_there (Some read) c.step ≡ copied
+          there_is = ap (ends.step_there (Some read)) copy.is
 
-  read_was_none : (new : Core) (body : Option (List ℕ)) → body ≡ None → new ≡ with_content idle body →
+  copy_was_wrong : (page : Page) (found : Option Tag) (new : Core) → IsAnother page (t.disk.cells place) →
+      (body : Option (List ℕ)) × IsContentOf c.step page body × (new ≡ with_content idle_then found body) →
       Kept new (end_flight t die (Some (disk.Reading ForStep place)) ReadWrong)
-  read_was_none new body none is =
-      subst (λ (z : Core). Kept z (end_flight t die (Some (disk.Reading ForStep place)) ReadWrong))
-      (sym (is ∙ ap (with_content idle) none)) (idle_kept c t die b h.kept there)
+  copy_was_wrong page found new other r =
+      read_was_none c t die b place h there flies new found r.0
+      (wrong_body page t.disk.cells place copy.key copy.number r.0 page_there other
+      (subst (λ (z : Option Step). IsContentOf z page r.0) copy.is r.1)) r.2
 
-  read_was_wrong : (page : Page) (new : Core) → IsAnother page (t.disk.cells place) →
-      (body : Option (List ℕ)) × IsContentOf c.step page body × (new ≡ with_content idle body) →
-      Kept new (end_flight t die (Some (disk.Reading ForStep place)) ReadWrong)
-  read_was_wrong page new other r =
-      read_was_none new r.0
-      (wrong_body page t.disk.cells place step_read.key step_read.stored.number r.0 wanted.page other
-      (subst (λ (z : Option Step). IsContentOf z page r.0) step_read.is r.1)) r.2
+-- The content is there where the read ended well, and else it is owed again
 
-  -- the content is there where the read ended well, and else it is owed again
-  pub step_read_ends : (o : Outcome) (ending : Ending) (new : Core) →
+module _ (c : Core) (t : Translation) (die : ℕ) (b : Book) (place : Place) (h : Describes c t)
+    (there : slice_get c.books die ≡ Some b) (flies : t.disk.flights die ≡ Some (disk.Reading ForStep place)) where
+  for_whom : IsReadFor c.step place ⊎ IsCopyOf c t place
+  for_whom = ⊎_elim (λ r. inl r)
+      (λ (r : (number : ℕ) × (key : Key) × (c.step ≡ Some (steps.Copy number key place None))).
+      inr (copy_of c t r.0 r.1 place r.2 h.kept.work.step_is))
+      (read_for c.step place (h.kept.step_reads die place flies))
+
+  pub step_read_ends : (o : Outcome) (tag : Option Tag) (ending : Ending) (new : Core) → IsTagRead o tag →
       IsEndingOf t.disk.cells (Some (disk.Reading ForStep place)) o ending →
-      IsReadAfter (is_read o) c die b o readers.Step new →
+      IsReadAfter (is_read o) c die b o tag readers.Step new →
       Kept new (end_flight t die (Some (disk.Reading ForStep place)) ending)
-  step_read_ends (outcome.Read page) ReadRight new is r = read_was_right page new is.1 r
-  step_read_ends (outcome.Read page) ReadWrong new is r = read_was_wrong page new is.1 r
-  step_read_ends outcome.ReadFailed ReadWrong new is r = read_was_none new r.0 r.1 r.2
-  step_read_ends outcome.Done ending new is r = absurd (false≢true is.0)
-  step_read_ends outcome.Failed ending new is r = absurd (false≢true is.0)
-  step_read_ends o ending new is r = absurd is.1
+  step_read_ends (outcome.Read page) tag ReadRight new found is r = ⊎_elim
+      (λ x. read_was_right c t die b place h there flies x page tag new is.1 r)
+      (λ x. copy_was_right c t die b place h there flies x page tag new is.1 found r)
+      for_whom
+  step_read_ends (outcome.Read page) tag ReadWrong new found is r = ⊎_elim
+      (λ x. read_was_wrong c t die b place h there flies x page tag new is.1 r)
+      (λ x. copy_was_wrong c t die b place h there flies x page tag new is.1 r)
+      for_whom
+  step_read_ends outcome.ReadFailed tag ReadWrong new found is r =
+      read_was_none c t die b place h there flies new tag r.0 r.1 r.2
+  step_read_ends outcome.Done tag ending new found is r = absurd (false≢true is.0)
+  step_read_ends outcome.Failed tag ending new found is r = absurd (false≢true is.0)
+  step_read_ends o tag ending new found is r = absurd is.1

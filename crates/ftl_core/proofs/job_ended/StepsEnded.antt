@@ -1,4 +1,4 @@
--- The program of the page of the step under way ends: that of a mark, or of a repair.
+-- The program of the page of the step under way ends: that of a mark, of a repair or of a copy.
 use Rattle.std.proofs.Common.{◌≡◌, ℕ, true, false, Option, Some, None, refl, sym, subst}
 use Rattle.std.specs.Prelude.{slice_get}
 use Rattle.ufs_spec.proofs.Facts.{false≢true}
@@ -13,9 +13,10 @@ use Rattle.ftl_core.specs.declared.books.Step.TheVariants as steps
 use Rattle.ftl_core.specs.Core.{Core}
 use Rattle.ftl_core.specs.Describes.{Describes, IsStepCell, Kept}
 use Rattle.ftl_core.specs.Ends.{step_again, step_failed, step_over, step_written}
-use Rattle.ftl_core.specs.Moves.{page_written, went_bad}
+use Rattle.ftl_core.specs.Moves.{went_bad}
 use Rattle.ftl_core.specs.Takes.{next_place}
 use Rattle.ftl_core.proofs.job_ended.ChangesEnded.{page_ends_wrong}
+use Rattle.ftl_core.proofs.job_ended.CopiesEnded.{copy_ends_well}
 use Rattle.ftl_core.proofs.job_ended.MarksEnded.{mark_ends_well, mark_ends_wrong}
 use Rattle.ftl_core.proofs.job_ended.RepairsEnded.{repair_ends_well}
 
@@ -26,8 +27,7 @@ module _ (c : Core) (t : Translation) (die : ℕ) (b : Book) (o : OpenBlock) (h 
 
   well : (step : Option Step) (cell : Cell) → c.step ≡ step → IsStepCell step cell →
       t.disk.flights die ≡ Some (disk.Programming (next_place die o) cell) →
-      Kept (page_written (step_over c step (next_place die o)) die b b.filling)
-      (cell_written t (next_place die o) cell)
+      Kept (step_over c step die b (next_place die o)) (cell_written t (next_place die o) cell)
   well None cell is page flies = absurd page
   well (Some (steps.Mark n fence)) (MarkPage m) is page flies =
       mark_ends_well c t die b o m n fence h there fills flies is
@@ -38,6 +38,11 @@ module _ (c : Core) (t : Translation) (die : ℕ) (b : Book) (o : OpenBlock) (h 
       (back (Some (steps.Repair n k from true)) (GroupPage tag body) is page)
   well (Some (steps.Repair n k from false)) (GroupPage tag body) is page flies = absurd (false≢true page.2)
   well (Some (steps.Repair n k from is_there)) cell is page flies = absurd page
+  well (Some (steps.Copy n k from (Some read))) (GroupPage tag body) is page flies =
+      copy_ends_well c t die b o tag body n k from read h there fills flies is
+      (back (Some (steps.Copy n k from (Some read))) (GroupPage tag body) is page)
+  well (Some (steps.Copy n k from (Some read))) cell is page flies = absurd page
+  well (Some (steps.Copy n k from None)) cell is page flies = absurd page
 
   -- its page is written
   pub step_ends_well : (cell : Cell) → IsStepCell c.step cell →
@@ -56,6 +61,10 @@ module _ (c : Core) (t : Translation) (die : ℕ) (b : Book) (o : OpenBlock) (h 
   wrong (Some (steps.Repair n k from is_there)) (GroupPage tag body) left is page flies =
       page_ends_wrong c t die b o left h there fills
   wrong (Some (steps.Repair n k from is_there)) cell left is page flies = absurd page
+  wrong (Some (steps.Copy n k from (Some read))) (GroupPage tag body) left is page flies =
+      page_ends_wrong c t die b o left h there fills
+  wrong (Some (steps.Copy n k from (Some read))) cell left is page flies = absurd page
+  wrong (Some (steps.Copy n k from None)) cell left is page flies = absurd page
 
   -- or its program failed
   pub step_ends_wrong : (cell : Cell) (left : Cells) → IsStepCell c.step cell →

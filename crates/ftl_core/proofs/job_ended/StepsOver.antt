@@ -69,6 +69,20 @@ one_writer flights (Some (steps.Repair n k from is)) d e p q cell other marks na
         (name_is (name_of t) (name_of tag) (that.0 ∙ sym this.0) (that.1 ∙ sym this.1)) (name_self (name_of t)))
     both (GroupPage tag body) other here there this that = absurd that
     both cell other here there this that = absurd this
+one_writer flights (Some (steps.Copy n k from (Some read))) d e p q cell other marks names here there this that =
+    both cell other here there this that
+  where
+    both : (cell other : Cell) → flights d ≡ Some (disk.Programming p cell) →
+        flights e ≡ Some (disk.Programming q other) → IsStepCell (Some (steps.Copy n k from (Some read))) cell →
+        IsStepCell (Some (steps.Copy n k from (Some read))) other → d ≡ e
+    both (GroupPage tag body) (GroupPage t u) here there this that =
+        names (name_of tag) (ap (flies_name (name_of tag)) here ∙ name_self (name_of tag))
+        (ap (flies_name (name_of tag)) there
+        ∙ subst (λ (z : Name). flies_name z (Some (disk.Programming q (GroupPage t u))) ≡ true)
+        (name_is (name_of t) (name_of tag) (that.0 ∙ sym this.0) (that.1 ∙ sym this.1)) (name_self (name_of t)))
+    both (GroupPage tag body) other here there this that = absurd that
+    both cell other here there this that = absurd this
+one_writer flights (Some (steps.Copy n k from None)) d e p q cell other marks names here there this that = absurd this
 
 -- what is programmed is the step's page, so no content of it is still to be read
 pub wants_nothing : (step : Option Step) (cell : Cell) → IsStepCell step cell → step_wants step ≡ None
@@ -78,6 +92,8 @@ wants_nothing (Some (steps.Repair n k None there)) cell h = refl
 wants_nothing (Some (steps.Repair n k (Some s) true)) cell h = refl
 wants_nothing (Some (steps.Repair n k (Some s) there)) (GroupPage tag body) h = cc
 wants_nothing (Some (steps.Repair n k (Some s) there)) cell h = absurd h
+wants_nothing (Some (steps.Copy n k from (Some read))) cell h = refl
+wants_nothing (Some (steps.Copy n k from None)) cell h = absurd h
 
 -- What is left
 

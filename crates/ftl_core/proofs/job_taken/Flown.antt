@@ -1,17 +1,16 @@
 -- Jobs in flight: what the books say of them is what the definitions say, and one die's job changes.
-use Rattle.std.proofs.Common.{◌≡◌, ◌≢◌, ◌∙◌, ◌⊎◌, ℕ, zero, suc, ◌<◌, ◌≤◌, Bool, true, false, List, [], ◌∷◌, Option}
-use Rattle.std.proofs.Common.{Some, None, refl, sym, ap, subst, inl, inr, ⊎_elim, arith}
-use Rattle.std.specs.Prelude.{◌||◌, slice_get, slice_set}
+use Rattle.std.proofs.Common.{◌≡◌, ◌≢◌, ◌∙◌, ℕ, ◌<◌, Bool, true, false, List, Option}
+use Rattle.std.proofs.Common.{Some, None, refl, sym, ap, subst, ⊎_elim, arith}
+use Rattle.std.specs.Prelude.{slice_get, slice_set}
 use Rattle.std.specs.List.{list_any}
 use Rattle.std.proofs.lemmas.Bool.{cases_lt}
-use Rattle.std.proofs.lemmas.List.Folds.{list_any-append}
 use Rattle.std.proofs.lemmas.Option.{slice_get_within}
 use Rattle.ufs_spec.proofs.Facts.{true≢false}
 use Rattle.ufs_spec.specs.Cells.{Cell, GroupPage, MarkPage}
 use Rattle.ufs_spec.specs.Disk as disk
 use Rattle.ufs_spec.specs.Disk.{ForNobody, ForStep, ForTask, Spot, at_die}
-use Rattle.ufs_spec.specs.Keys.{below}
-use Rattle.ufs_spec.specs.Ledger.{Name, same_name}
+use Rattle.ufs_spec.specs.Ledger.{Ledger, Name, same_name}
+use Rattle.ufs_spec.specs.Translation as layer
 use Rattle.ufs_spec.specs.Translation.{Translation, flies_mark, flies_name, flies_reader, name_of}
 use Rattle.ufs_spec.specs.Translation.{some_flight}
 use Rattle.ufs_spec.specs.declared.configs.Numbers.{Numbers}
@@ -20,112 +19,24 @@ use Rattle.ufs_spec.specs.declared.flash.Key.{Key}
 use Rattle.ufs_spec.specs.declared.flash.Place.{Place}
 use Rattle.ufs_spec.specs.declared.flash.Tag.{Tag}
 use Rattle.power_loss.proofs.books.PagesByName.{none_some}
-use Rattle.power_loss.proofs.books.SmallFacts.{at_die_cases, name_is, name_self, two_ways}
+use Rattle.power_loss.proofs.books.SmallFacts.{at_die_cases, name_cases, name_is, name_self}
 use Rattle.ftl_core.specs.declared.books.Book.{Book}
 use Rattle.ftl_core.specs.declared.books.Flight.{Flight}
 use Rattle.ftl_core.specs.declared.books.Flight.TheVariants as flight
 use Rattle.block_table.specs.declared.OpenBlock.{OpenBlock}
 use Rattle.ftl_core.specs.declared.books.Pin.{Pin}
-use Rattle.ftl_core.specs.declared.books.Reader.TheVariants as reader
 use Rattle.ftl_core.specs.declared.books.Step.{Step}
 use Rattle.ftl_core.specs.declared.books.Step.TheVariants as steps
 use Rattle.unit_map.specs.declared.Stored.{Stored}
 use Rattle.ftl_core.specs.Core.{Core}
-use Rattle.ftl_core.specs.Describes.{BookKept, DiesKept, IsFilling, IsFlight, IsStepCell, Kept, PagesFly, ReadsKept}
-use Rattle.ftl_core.specs.Describes.{Standing, StepReadsKept, name_at, spot_at}
+use Rattle.ftl_core.specs.Describes.{BookKept, CopyKept, DiesKept, IsFilling, IsFlight, IsStepCell, Kept, PagesFly}
+use Rattle.ftl_core.specs.Describes.{ReadsKept, Standing, StepKept, StepReadsKept, WritesGroup, name_at, spot_at}
 use Rattle.ftl_core.specs.Moves.{flight_reads, reads_for, repairs_in}
 use Rattle.ftl_core.specs.Takes.{flight_writes, is_step_flight, is_step_reading, next_place, reads_step, writes_page}
 use Rattle.ftl_core.specs.Takes.{writes_step}
 use Rattle.ftl_core.proofs.opened.ListParts.{get_set}
 use Rattle.ufs_spec.proofs.Lists.{set_length, any_here, any_told, get_there}
-
--- Some die
-
-one_more : (dies : ℕ) (test : ℕ → Bool) → list_any test (below (suc dies)) ≡ (list_any test (below dies) || test dies)
-one_more dies test =
-    list_any-append test (below dies) (dies ∷ [])
-    ∙ ap (λ (b : Bool). list_any test (below dies) || b) (last (test dies))
-  where
-    last : (b : Bool) → (b || false) ≡ b
-    last true = refl
-    last false = refl
-
-pub some_here : (dies die : ℕ) (p : ℕ → Bool) → die < dies → p die ≡ true → list_any p (below dies) ≡ true
-some_here zero die p there h = absurd (omega arith)
-some_here (suc dies) die p there h = one_more dies p ∙ step (λ low. some_here dies die p low h) (cases_lt die dies)
-  where
-    right : (a b : Bool) → b ≡ true → (a || b) ≡ true
-    right true b e = refl
-    right false b e = e
-
-    step : (die < dies → list_any p (below dies) ≡ true) → (die < dies) ⊎ (dies ≤ die) →
-        (list_any p (below dies) || p dies) ≡ true
-    step before (inl low) = ap (λ (b : Bool). b || p dies) (before low)
-    step before (inr high) = let same : dies ≡ die = omega arith in right (list_any p (below dies)) (p dies)
-        (ap p same ∙ h)
-
-pub some_told : (dies : ℕ) (p : ℕ → Bool) → list_any p (below dies) ≡ true → (d : ℕ) × (d < dies) × (p d ≡ true)
-some_told zero p h = cc
-some_told (suc dies) p h = step (some_told dies p) (list_any p (below dies)) refl (sym (one_more dies p) ∙ h)
-  where
-    step : (list_any p (below dies) ≡ true → (d : ℕ) × (d < dies) × (p d ≡ true)) → (b : Bool) →
-        list_any p (below dies) ≡ b → (list_any p (below dies) || p dies) ≡ true →
-        (d : ℕ) × (d < suc dies) × (p d ≡ true)
-    step before true e k = let found = before e in let low = found.1 in (found.0, omega arith, found.2)
-    step before false e k = (dies, omega arith, sym (ap (λ (b : Bool). b || p dies) e) ∙ k)
-
--- where no die has such a job, none outside the numbers has it either
-pub none_flies : (n : ℕ) (flights : ℕ → Option disk.Flight) (is : Option disk.Flight → Bool) → is None ≡ false →
-    ((e : ℕ) → n ≤ e → flights e ≡ None) → list_any (λ e. is (flights e)) (below n) ≡ false → (e : ℕ) →
-    is (flights e) ≡ false
-none_flies n flights is idle above none e = ⊎_elim low (λ l. ap is (above e l) ∙ idle) (cases_lt e n)
-  where
-    low : e < n → is (flights e) ≡ false
-    low l = ⊎_elim
-        (λ h. absurd (true≢false (sym (some_here n e (λ d. is (flights d)) l h) ∙ none)))
-        (λ h. h)
-        (two_ways (is (flights e)))
-
--- The kinds of jobs
-
--- what holds of each job of a book and of the definitions that are one job
-module _ (n : Numbers) (step : Option Step) (die : ℕ) (filling : Option OpenBlock)
-    (P : Option Flight → Option disk.Flight → Type 0)
-    (none : P None None)
-    (reads : (place : Place) (tag index : ℕ) →
-    P (Some (flight.Read place (reader.Task tag index))) (Some (disk.Reading (ForTask tag index) place)))
-    (reads_on : (place : Place) → P (Some (flight.Read place reader.Step)) (Some (disk.Reading ForStep place)))
-    (gone : (place : Place) → P (Some (flight.Read place reader.Nobody)) (Some (disk.Reading ForNobody place)))
-    (pages : (o : OpenBlock) (cell : Cell) → filling ≡ Some o → IsStepCell step cell →
-    P (Some (flight.Step (next_place die o))) (Some (disk.Programming (next_place die o) cell)))
-    (groups : (o : OpenBlock) (tag : Tag) (body : List ℕ) → filling ≡ Some o → repairs_in step ≡ 0 →
-    P (Some (flight.Group (next_place die o) tag.number tag.index))
-    (Some (disk.Programming (next_place die o) (GroupPage tag body))))
-    (erases : (block : ℕ) → block < n.blocks → filling ≡ None →
-    P (Some (flight.Erase block)) (Some (disk.Erasing (spot_at die block)))) where
-  pub flight_cases : (f : Option Flight) (g : Option disk.Flight) → IsFlight n step die filling f g → P f g
-  flight_cases None None h = none
-  flight_cases (Some (flight.Read place (reader.Task r n))) (Some (disk.Reading (ForTask tag index) p)) h =
-      subst (λ (z : Place × ℕ × ℕ).
-      P (Some (flight.Read place (reader.Task r n))) (Some (disk.Reading (ForTask z.1 z.2) z.0)))
-      (λ i. (sym h.0 i, sym h.1.0 i, sym h.1.1 i)) (reads place r n)
-  flight_cases (Some (flight.Read place reader.Step)) (Some (disk.Reading ForStep p)) h =
-      subst (λ (z : Place). P (Some (flight.Read place reader.Step)) (Some (disk.Reading ForStep z))) (sym h.0)
-      (reads_on place)
-  flight_cases (Some (flight.Read place reader.Nobody)) (Some (disk.Reading ForNobody p)) h =
-      subst (λ (z : Place). P (Some (flight.Read place reader.Nobody)) (Some (disk.Reading ForNobody z))) (sym h.0)
-      (gone place)
-  flight_cases (Some (flight.Read place r)) (Some (disk.Reading who p)) h = absurd h.1
-  flight_cases (Some (flight.Step place)) (Some (disk.Programming p cell)) h =
-      subst (λ (z : Place × Place). P (Some (flight.Step z.0)) (Some (disk.Programming z.1 cell)))
-      (λ i. (h.1.2 i, (h.1.2 ∙ sym h.0) i)) (pages h.1.0 cell h.1.1 h.2)
-  flight_cases (Some (flight.Group place number n)) (Some (disk.Programming p (GroupPage tag body))) h =
-      subst (λ (z : Place × ℕ × ℕ × Place). P (Some (flight.Group z.0 z.1 z.2))
-      (Some (disk.Programming z.3 (GroupPage tag body))))
-      (λ i. (h.1.2 i, h.2 i, h.3 i, (h.1.2 ∙ sym h.0) i)) (groups h.1.0 tag body h.1.1 h.4)
-  flight_cases (Some (flight.Erase block)) (Some (disk.Erasing s)) h =
-      subst (λ (z : Spot). P (Some (flight.Erase block)) (Some (disk.Erasing z))) (sym h.0) (erases block h.1 h.2)
-  flight_cases f g h = absurd h
+use Rattle.ftl_core.proofs.job_taken.FlightKinds.{flight_cases, some_here, some_told}
 
 -- What the books say is what the definitions say
 
@@ -136,8 +47,8 @@ same_tests false true f g = g refl
 same_tests false false f g = refl
 
 books_agree : (c : Core) (t : Translation) (kept : Book → Bool) (is : Option disk.Flight → Bool) → Kept c t →
-    ((die : ℕ) (b : Book) → IsFlight t.numbers c.step die b.filling b.flight (t.disk.flights die) →
-    kept b ≡ is (t.disk.flights die)) →
+    ((die : ℕ) (b : Book) → slice_get c.books die ≡ Some b →
+    IsFlight t.numbers c.step die b.filling b.flight (t.disk.flights die) → kept b ≡ is (t.disk.flights die)) →
     list_any kept c.books ≡ some_flight t is
 books_agree c t kept is k same = same_tests (list_any kept c.books) (some_flight t is) there back
   where
@@ -147,7 +58,7 @@ books_agree c t kept is k same = same_tests (list_any kept c.books) (some_flight
         let w = slice_get_within c.books r.0 r.1 r.2 in
         let d = k.dies.dies in
         some_here t.numbers.dies r.0 (λ (die : ℕ). is (t.disk.flights die)) (omega (arith, w, d))
-        (sym (same r.0 r.1 (k.dies.each r.0 r.1 r.2).job) ∙ r.3)
+        (sym (same r.0 r.1 r.2 (k.dies.each r.0 r.1 r.2).job) ∙ r.3)
 
     back : some_flight t is ≡ true → list_any kept c.books ≡ true
     back e =
@@ -155,13 +66,13 @@ books_agree c t kept is k same = same_tests (list_any kept c.books) (some_flight
         let w = r.1 in
         let d = k.dies.dies in
         let b = get_there c.books r.0 (omega (arith, w, d)) in
-        any_here kept c.books r.0 b.0 b.1 (same r.0 b.0 (k.dies.each r.0 b.0 b.1).job ∙ r.2)
+        any_here kept c.books r.0 b.0 b.1 (same r.0 b.0 b.1 (k.dies.each r.0 b.0 b.1).job ∙ r.2)
 
 -- whether a die reads for this block of the reader
 pub reads_agree : (c : Core) (t : Translation) (reader index : ℕ) → Kept c t →
     list_any (reads_for reader index) c.books ≡ some_flight t (flies_reader (ForTask reader index))
 reads_agree c t reader index k = books_agree c t (reads_for reader index) (flies_reader (ForTask reader index)) k
-    (λ die b h. flight_cases t.numbers c.step die b.filling
+    (λ die b at h. flight_cases t.numbers c.step die b.filling
     (λ (f : Option Flight) (g : Option disk.Flight).
     flight_reads reader index f ≡ flies_reader (ForTask reader index) g)
     refl (λ place tag i. refl) (λ place. refl) (λ place. refl) (λ o cell fills page. refl)
@@ -171,26 +82,47 @@ reads_agree c t reader index k = books_agree c t (reads_for reader index) (flies
 pub step_reads_agree : (c : Core) (t : Translation) → Kept c t →
     list_any reads_step c.books ≡ some_flight t (flies_reader ForStep)
 step_reads_agree c t k = books_agree c t reads_step (flies_reader ForStep) k
-    (λ die b h. flight_cases t.numbers c.step die b.filling
+    (λ die b at h. flight_cases t.numbers c.step die b.filling
     (λ (f : Option Flight) (g : Option disk.Flight). is_step_reading f ≡ flies_reader ForStep g)
     refl (λ place tag i. refl) (λ place. refl) (λ place. refl) (λ o cell fills page. refl)
     (λ o tag body fills no_repair. refl) (λ block within none. refl) b.flight (t.disk.flights die) h)
 
--- the page of a mark is of no name
-no_name : (step : Option Step) (name : Name) (place : Place) (cell : Cell) → repairs_in step ≡ 0 →
-    IsStepCell step cell → false ≡ flies_name name (Some (disk.Programming place cell))
-no_name (Some (steps.Mark n fence)) name place (MarkPage m) none page = refl
-no_name (Some (steps.Repair n k from there)) name place cell none page = absurd (omega arith)
-no_name step name place cell none page = absurd page
+-- the page that is copied has the name of the copy
+pub copy_name : (l : Ledger) (n : ℕ) (k : Key) (read : Tag) (content : List ℕ) (name : Name) (tag : Tag) →
+    CopyKept l n k (Some read) content name → tag.number ≡ n → tag.index ≡ read.index → name_of tag ≡ name
+copy_name l n k read content name tag h number index =
+    name_is (name_of tag) name (number ∙ sym h.number_is)
+    (index ∙ sym (ap (λ (z : Tag). z.index) ((h.copied read refl).tag_is 0)))
 
--- whether a die writes the page of the group with this number that has this index
-pub writes_agree : (c : Core) (t : Translation) (name : Name) → Kept c t → repairs_in c.step ≡ 0 →
+-- the page of a mark is of no name, and a copy is of one that stands
+no_name : (l : Ledger) (step : Option Step) (content : List ℕ) (w : Option layer.Step) (name : Name) (place : Place)
+    (cell : Cell) → StepKept l step content w → l.standing name.number name.index ≡ None → repairs_in step ≡ 0 →
+    IsStepCell step cell → false ≡ flies_name name (Some (disk.Programming place cell))
+no_name l (Some (steps.Mark n fence)) content w name place (MarkPage m) kept new none page = refl
+no_name l (Some (steps.Repair n k from there)) content w name place cell kept new none page = absurd (omega arith)
+no_name l (Some (steps.Copy n k from (Some read))) content None name place (GroupPage tag body) kept new none page =
+    absurd kept
+no_name l (Some (steps.Copy n k from (Some read))) content (Some s) name place (GroupPage tag body) kept new none
+    page =
+    ⊎_elim
+    (λ (e : (same_name name (name_of tag) ≡ true) × (name ≡ name_of tag)).
+    let is = e.1 ∙ copy_name l n k read content kept.0 tag kept.2 page.0 page.1 in
+    absurd (none_some kept.2.place
+    (sym new ∙ ap (λ (z : Name). l.standing z.number z.index) is ∙ kept.2.stands)))
+    (λ e. sym e.0)
+    (name_cases name (name_of tag))
+no_name l step content w name place cell kept new none page = absurd page
+
+-- whether a die writes the page of the group with this number that has this index, which does not stand
+pub writes_agree : (c : Core) (t : Translation) (name : Name) → Kept c t →
+    t.ledger.standing name.number name.index ≡ None → repairs_in c.step ≡ 0 →
     list_any (writes_page name.number name.index) c.books ≡ some_flight t (flies_name name)
-writes_agree c t name k no_repairs = books_agree c t (writes_page name.number name.index) (flies_name name) k
-    (λ die b h. flight_cases t.numbers c.step die b.filling
+writes_agree c t name k new no_repairs = books_agree c t (writes_page name.number name.index) (flies_name name) k
+    (λ die b at h. flight_cases t.numbers c.step die b.filling
     (λ (f : Option Flight) (g : Option disk.Flight). flight_writes name.number name.index f ≡ flies_name name g)
     refl (λ place tag i. refl) (λ place. refl) (λ place. refl)
-    (λ o cell fills page. no_name c.step name (next_place die o) cell no_repairs page)
+    (λ o cell fills page. no_name t.ledger c.step c.content t.work.step name (next_place die o) cell k.work.step_is
+    new no_repairs page)
     (λ o tag body fills no_repair. refl)
     (λ block within none. refl) b.flight (t.disk.flights die) h)
 
@@ -204,7 +136,7 @@ mark_page number fence place cell page = absurd page
 pub marks_agree : (c : Core) (t : Translation) (number : ℕ) (fence : Option Fence) → Kept c t →
     c.step ≡ Some (steps.Mark number fence) → list_any writes_step c.books ≡ some_flight t flies_mark
 marks_agree c t number fence k is = books_agree c t writes_step flies_mark k
-    (λ die b h. flight_cases t.numbers (Some (steps.Mark number fence)) die b.filling
+    (λ die b at h. flight_cases t.numbers (Some (steps.Mark number fence)) die b.filling
     (λ (f : Option Flight) (g : Option disk.Flight). is_step_flight f ≡ flies_mark g)
     refl (λ place tag i. refl) (λ place. refl) (λ place. refl)
     (λ o cell fills page. mark_page number fence (next_place die o) cell page)
@@ -225,13 +157,64 @@ pub repairs_agree : (c : Core) (t : Translation) (number : ℕ) (key : Key) (fro
     Kept c t → c.step ≡ Some (steps.Repair number key from there) →
     list_any writes_step c.books ≡ some_flight t (flies_name (name_at number 0))
 repairs_agree c t number key from there k is = books_agree c t writes_step (flies_name (name_at number 0)) k
-    (λ die b h. flight_cases t.numbers (Some (steps.Repair number key from there)) die b.filling
+    (λ die b at h. flight_cases t.numbers (Some (steps.Repair number key from there)) die b.filling
     (λ (f : Option Flight) (g : Option disk.Flight). is_step_flight f ≡ flies_name (name_at number 0) g)
     refl (λ place tag i. refl) (λ place. refl) (λ place. refl)
     (λ o cell fills page. repair_page number key from there (next_place die o) cell page)
     (λ o tag body fills no_repair. absurd (omega (arith, no_repair))) (λ block within none. refl)
     b.flight (t.disk.flights die)
     (subst (λ (s : Option Step). IsFlight t.numbers s die b.filling b.flight (t.disk.flights die)) is h))
+
+-- a page of the step under way that is a copy
+copied_page : (l : Ledger) (n : ℕ) (k : Key) (from : Place) (read : Option Tag) (content : List ℕ) (name : Name)
+    (place : Place) (cell : Cell) → CopyKept l n k read content name →
+    IsStepCell (Some (steps.Copy n k from read)) cell → true ≡ flies_name name (Some (disk.Programming place cell))
+copied_page l n k from None content name place cell h page = absurd page
+copied_page l n k from (Some read) content name place (GroupPage tag body) h page =
+    sym (subst (λ (z : Name). same_name z (name_of tag) ≡ true)
+    (copy_name l n k read content name tag h page.0 page.1) (name_self (name_of tag)))
+copied_page l n k from (Some read) content name place cell h page = absurd page
+
+-- whether a die writes the copy that is the step under way: the page that is copied stands, that of a group does not
+pub copies_agree : (c : Core) (t : Translation) (number : ℕ) (key : Key) (from : Place) (read : Option Tag)
+    (name : Name) → Kept c t → CopyKept t.ledger number key read c.content name →
+    c.step ≡ Some (steps.Copy number key from read) →
+    list_any writes_step c.books ≡ some_flight t (flies_name name)
+copies_agree c t number key from read name k copy is = books_agree c t writes_step (flies_name name) k
+    (λ die b at h. flight_cases t.numbers (Some (steps.Copy number key from read)) die b.filling
+    (λ (f : Option Flight) (g : Option disk.Flight). b.flight ≡ f → is_step_flight f ≡ flies_name name g)
+    (λ f. refl) (λ place tag i f. refl) (λ place f. refl) (λ place f. refl)
+    (λ o cell fills page f. copied_page t.ledger number key from read c.content name (next_place die o) cell copy page)
+    (λ o tag body fills no_repair f. ⊎_elim
+    (λ (e : (same_name name (name_of tag) ≡ true) × (name ≡ name_of tag)).
+    absurd (none_some copy.place
+    (sym (k.fly.new die tag.number tag.index (record { book = b; there = at; place = next_place die o; job = f }))
+    ∙ ap (λ (z : Name). t.ledger.standing z.number z.index) (sym e.1) ∙ copy.stands)))
+    (λ e. sym e.0)
+    (name_cases name (name_of tag)))
+    (λ block within none f. refl) b.flight (t.disk.flights die)
+    (subst (λ (s : Option Step). IsFlight t.numbers s die b.filling b.flight (t.disk.flights die)) is h) refl)
+
+-- where no step is under way, a page that a die programs is that of a pending group
+pub group_writer : (c : Core) (t : Translation) (die : ℕ) (p : Place) (tag : Tag) (body : List ℕ) → Kept c t →
+    c.step ≡ None → t.disk.flights die ≡ Some (disk.Programming p (GroupPage tag body)) →
+    WritesGroup c.books die tag.number tag.index
+group_writer c t die p tag body k none flies = ⊎_elim
+    (λ low.
+    let all = k.dies.dies in
+    let b = get_there c.books die (omega (arith, low, all)) in
+    let r = by b.0 b.0.flight (subst (λ (z : Option Step × Option disk.Flight).
+    IsFlight t.numbers z.0 die b.0.filling b.0.flight z.1) (λ i. (none i, flies i)) (k.dies.each die b.0 b.1).job) in
+    record { book = b.0; there = b.1; place = r.0; job = r.1 })
+    (λ high. absurd (none_some _ (sym (k.dies.no_more die high) ∙ flies)))
+    (cases_lt die t.numbers.dies)
+  where
+    by : (b : Book) (f : Option Flight) →
+        IsFlight t.numbers None die b.filling f (Some (disk.Programming p (GroupPage tag body))) →
+        (place : Place) × (f ≡ Some (flight.Group place tag.number tag.index))
+    by b (Some (flight.Step place)) h = absurd h.2
+    by b (Some (flight.Group place number i)) h = (place, λ j. Some (flight.Group place (sym h.2 j) (sym h.3 j)))
+    by b f h = absurd h
 
 -- a die that is kept as idle has no job
 pub no_job : (c : Core) (t : Translation) (die : ℕ) (b : Book) → Kept c t → slice_get c.books die ≡ Some b →
@@ -323,12 +306,24 @@ fewer flights die is d none h = ⊎_elim
     (λ k. sym (ap is k.1) ∙ h)
     (at_die_cases flights die None d)
 
-pub fly_over : (standing : Standing) (flights : ℕ → Option disk.Flight) (die : ℕ) → PagesFly standing flights →
-    PagesFly standing (at_die flights die None)
-fly_over standing flights die h = record {
+-- a die that writes a group's page then wrote it before
+pub wrote_before : (books : List Book) (die : ℕ) (filling : Option OpenBlock) (d number index : ℕ) →
+    WritesGroup (slice_set books die (record { filling = filling; flight = None })) d number index →
+    WritesGroup books d number index × (d ≢ die)
+wrote_before books die filling d number index w = ⊎_elim
+    (λ (e : (d ≡ die) × (record { filling = filling; flight = None } ≡ w.book)).
+    absurd (none_some (flight.Group w.place number index) (ap (λ (z : Book). z.flight) e.1 ∙ w.job)))
+    (λ (e : (d ≢ die) × (slice_get books d ≡ Some w.book)).
+    (record { book = w.book; there = e.1; place = w.place; job = w.job }, e.0))
+    (get_set books die (record { filling = filling; flight = None }) d w.book w.there)
+
+pub fly_over : (standing : Standing) (flights : ℕ → Option disk.Flight) (die : ℕ) (books : List Book)
+    (filling : Option OpenBlock) → PagesFly standing flights books →
+    PagesFly standing (at_die flights die None) (slice_set books die (record { filling = filling; flight = None }))
+fly_over standing flights die books filling h = record {
   one = λ d e name f g.
       h.one d e name (fewer flights die (flies_name name) d refl f) (fewer flights die (flies_name name) e refl g);
-  new = λ d name f. h.new d name (fewer flights die (flies_name name) d refl f);
+  new = λ d number index w. h.new d number index (wrote_before books die filling d number index w).0;
 }
 
 pub reads_over : (flights : ℕ → Option disk.Flight) (die : ℕ) (pins : List Pin) → ReadsKept flights pins →

@@ -58,6 +58,7 @@ no_repair c t h mended = by c.step t.work.step h.kept.work.step_is (λ s is. h.v
         StepKindRight (book t) t.ledger.marks t.disk.cells t.work.mending t.work.plan s.kind) → repairs_in kept ≡ 0
     by None step kept right = refl
     by (Some (steps.Mark n fence)) step kept right = refl
+    by (Some (steps.Copy n k from read)) step kept right = refl
     by (Some (steps.Repair n k from there)) None kept right = absurd kept
     by (Some (steps.Repair n k from there)) (Some s) kept right =
         let r = subst (λ (x : layer.Step). StepKindRight (book t) t.ledger.marks t.disk.cells t.work.mending t.work.plan

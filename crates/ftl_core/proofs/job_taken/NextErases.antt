@@ -10,7 +10,7 @@ use Rattle.ufs_spec.specs.Translation.{Translation, may_be_erased, next_erase}
 use Rattle.ufs_spec.specs.declared.configs.Numbers.{Numbers}
 use Rattle.block_table.specs.declared.BlockState.TheVariants as state
 use Rattle.ftl_core.specs.Core.{Core}
-use Rattle.ftl_core.specs.Describes.{Describes, block_kept, spot_at}
+use Rattle.ftl_core.specs.Describes.{Describes, Kept, block_kept, spot_at}
 use Rattle.ftl_core.specs.Moves.{free_blocks, is_erasable, state_of}
 use Rattle.block_table.specs.Blocks.{is_free}
 use Rattle.ftl_core.specs.Takes.{found_or, lowest_below}
@@ -41,14 +41,20 @@ lowest_passes p (suc n) b h = by (lowest_below p n) (p n) refl refl h (λ e. low
 
 -- Blocks
 
-state_is : (c : Core) (t : Translation) (die block : ℕ) → Describes c t → die < t.numbers.dies →
+-- what is kept of a block of the dies is what it is
+pub state_kept : (c : Core) (t : Translation) (die block : ℕ) → Kept c t → die < t.numbers.dies →
     block < t.numbers.blocks →
     state_of c die block ≡ block_kept (t.disk.blocks (spot_at die block))
-state_is c t die block h there within =
-    ap (λ (z : Numbers). unwrap_or (slice_get c.states (die * z.blocks + block)) state.Bad) h.kept.numbers
-    ∙ ap (λ z. unwrap_or (slice_get z (die * t.numbers.blocks + block)) state.Bad) h.kept.blocks.all
+state_kept c t die block k there within =
+    ap (λ (z : Numbers). unwrap_or (slice_get c.states (die * z.blocks + block)) state.Bad) k.numbers
+    ∙ ap (λ z. unwrap_or (slice_get z (die * t.numbers.blocks + block)) state.Bad) k.blocks.all
     ∙ ap (λ z. unwrap_or z state.Bad)
     (state_there t.numbers (λ (s : Spot). block_kept (t.disk.blocks s)) die block there within)
+
+pub state_is : (c : Core) (t : Translation) (die block : ℕ) → Describes c t → die < t.numbers.dies →
+    block < t.numbers.blocks →
+    state_of c die block ≡ block_kept (t.disk.blocks (spot_at die block))
+state_is c t die block h there within = state_kept c t die block h.kept there within
 
 erasable_is : (c : Core) (t : Translation) (die block : ℕ) → Describes c t → die < t.numbers.dies →
     block < t.numbers.blocks →

@@ -88,12 +88,16 @@ waits_alike c t h mended p name k =
     (not (some_flight t (flies_name name)))
     (is_rest_of name)
     t.work.rests h.kept.work.no_rests
-    ∙ (λ i. not (is_some (k.stands i)) && not (sym writes i))
+    ∙ (λ i. not (is_some (k.stands i)) && not (some_flight t (flies_name name)))
+    ∙ by p.written refl
     ∙ (λ i. not (is_some p.written) && not (list_any (writes_page (sym k.number i) (sym k.index i)) c.books))
     ∙ none_is p.written (not (list_any (writes_page p.number p.index) c.books)))
   where
-    writes : list_any (writes_page name.number name.index) c.books ≡ some_flight t (flies_name name)
-    writes = writes_agree c t name h.kept (no_repair c t h mended)
+    by : (o : Option Place) → p.written ≡ o →
+        (not (is_some o) && not (some_flight t (flies_name name)))
+        ≡ (not (is_some o) && not (list_any (writes_page name.number name.index) c.books))
+    by None e = ap not (sym (writes_agree c t name h.kept (k.stands ∙ e) (no_repair c t h mended)))
+    by (Some place) e = refl
 
     none_is : (o : Option Place) (b : Bool) → (not (is_some o) && b) ≡ (is_none o && b)
     none_is None b = refl

@@ -1,7 +1,7 @@
 -- A die begins a job: what is kept then, and what is told.
 use Rattle.std.proofs.Common.{◌≡◌, ◌≢◌, ◌∙◌, ◌⊎◌, ℕ, ◌<◌, ◌≤◌, Bool, true, false, List, [], Option, Some, None, length}
 use Rattle.std.proofs.Common.{refl, sym, ap, subst, inl, inr, ⊎_elim, arith, get_or, is_none, lt-ltb, ltb-true}
-use Rattle.std.specs.Prelude.{◌&&◌, Contains, find, nat_lt, slice_get, option_and_then}
+use Rattle.std.specs.Prelude.{◌&&◌, Contains, find, nat_lt, slice_get, slice_set, option_and_then}
 use Rattle.std.proofs.lemmas.Option.{slice_get_cases}
 use Rattle.ufs_spec.proofs.Facts.{false≢true, true≢false}
 use Rattle.ufs_spec.specs.Disk as disk
@@ -17,25 +17,29 @@ use Rattle.power_loss.proofs.books.PagesByName.{none_some}
 use Rattle.power_loss.proofs.books.SmallFacts.{at_die_cases}
 use Rattle.ftl_core.specs.declared.books.Book.{Book}
 use Rattle.ftl_core.specs.declared.books.Flight.{Flight}
+use Rattle.ftl_core.specs.declared.books.Flight.TheVariants as flight
 use Rattle.ftl_core.specs.Core.{Core}
 use Rattle.ftl_core.specs.Describes.{Describes, IsFlight, IsTaken, Kept, PagesFly, ReadsKept, Standing, given}
-use Rattle.ftl_core.specs.Describes.{IsWanted, StepReadsKept}
+use Rattle.ftl_core.specs.Describes.{IsWanted, StepReadsKept, WritesGroup}
 use Rattle.ftl_core.specs.declared.books.Pin.{Pin}
 use Rattle.ftl_core.specs.Moves.{is_pin_of, started}
 use Rattle.ftl_core.specs.Takes.{begun_with, core_taken, flight_taken, job_of, job_taken, step_wants}
-use Rattle.ftl_core.proofs.job_taken.Flown.{dies_put, none_flies}
+use Rattle.ftl_core.proofs.job_taken.Flown.{dies_put}
+use Rattle.ftl_core.proofs.job_taken.FlightKinds.{none_flies}
+use Rattle.ftl_core.proofs.opened.ListParts.{get_set}
 
 -- the page of no name flies from two dies, if no other die flies that of the new job
-fly_begun : (standing : Standing) (flights : ℕ → Option disk.Flight) (die : ℕ) (f : disk.Flight) →
-    PagesFly standing flights →
-    ((name : Name) → flies_name name (Some f) ≡ true →
-    ((e : ℕ) → flies_name name (flights e) ≡ false) × (standing name.number name.index ≡ None)) →
+fly_begun : (standing : Standing) (flights : ℕ → Option disk.Flight) (books : List Book) (die : ℕ) (b : Book)
+    (kept : Flight) (f : disk.Flight) → PagesFly standing flights books →
+    ((name : Name) → flies_name name (Some f) ≡ true → (e : ℕ) → flies_name name (flights e) ≡ false) →
+    ((place : Place) (number index : ℕ) → kept ≡ flight.Group place number index → standing number index ≡ None) →
     PagesFly standing (at_die flights die (Some f))
-fly_begun standing flights die f h alone = record { one = one; new = new }
+    (slice_set books die (record { filling = b.filling; flight = Some kept }))
+fly_begun standing flights books die b kept f h alone fresh = record { one = one; new = new }
   where
     -- the new job's page, and one that flew before
     both : (e : ℕ) (name : Name) → flies_name name (Some f) ≡ true → flies_name name (flights e) ≡ true → ⊥
-    both e name p q = false≢true (sym ((alone name p).0 e) ∙ q)
+    both e name p q = false≢true (sym (alone name p e) ∙ q)
 
     one : (d e : ℕ) (name : Name) → flies_name name (at_die flights die (Some f) d) ≡ true →
         flies_name name (at_die flights die (Some f) e) ≡ true → d ≡ e
@@ -53,24 +57,32 @@ fly_begun standing flights die f h alone = record { one = one; new = new }
         (at_die_cases flights die (Some f) e))
         (at_die_cases flights die (Some f) d)
 
-    new : (d : ℕ) (name : Name) → flies_name name (at_die flights die (Some f) d) ≡ true →
-        standing name.number name.index ≡ None
-    new d name p = ⊎_elim
-        (λ k. (alone name (sym (ap (flies_name name) k.1) ∙ p)).1)
-        (λ k. h.new d name (sym (ap (flies_name name) k.1) ∙ p))
-        (at_die_cases flights die (Some f) d)
+    same_job : (x y : Flight) → Some x ≡ Some y → x ≡ y
+    same_job x y e = cc
 
--- a job that may begin: a page that it writes is new, a page that it reads for a task is one that its reader wants, and
--- one for the step under way the page that this wants
-pub record MayBegin (c : Core) (t : Translation) (job : disk.Flight) : Type 0 where
-  pub alone : (name : Name) → flies_name name (Some job) ≡ true →
-      (some_flight t (flies_name name) ≡ false) × (t.ledger.standing name.number name.index ≡ None)
+    new : (d number index : ℕ) →
+        WritesGroup (slice_set books die (record { filling = b.filling; flight = Some kept })) d number index →
+        standing number index ≡ None
+    new d number index w = ⊎_elim
+        (λ (e : (d ≡ die) × (record { filling = b.filling; flight = Some kept } ≡ w.book)).
+        fresh w.place number index
+        (same_job kept (flight.Group w.place number index) (ap (λ (z : Book). z.flight) e.1 ∙ w.job)))
+        (λ (e : (d ≢ die) × (slice_get books d ≡ Some w.book)).
+        h.new d number index (record { book = w.book; there = e.1; place = w.place; job = w.job }))
+        (get_set books die (record { filling = b.filling; flight = Some kept }) d w.book w.there)
+
+-- a job that may begin: a page that it writes flies from no die, and that of a group does not stand; a page that it
+-- reads for a task is one that its reader wants, and one for the step under way the page that this wants
+pub record MayBegin (c : Core) (t : Translation) (kept : Flight) (job : disk.Flight) : Type 0 where
+  pub alone : (name : Name) → flies_name name (Some job) ≡ true → some_flight t (flies_name name) ≡ false
+  pub fresh : (place : Place) (number index : ℕ) → kept ≡ flight.Group place number index →
+      t.ledger.standing number index ≡ None
   pub wanted : (tag index : ℕ) (place : Place) → job ≡ disk.Reading (ForTask tag index) place →
       (p : Pin) × (find (is_pin_of tag index) c.pins ≡ Some p) × IsWanted place p
   pub step_wanted : (place : Place) → job ≡ disk.Reading ForStep place → step_wants c.step ≡ Some place
 
 pub kept_begun : (c : Core) (t : Translation) (die : ℕ) (b : Book) (f : Flight) (job : disk.Flight) → Kept c t →
-    slice_get c.books die ≡ Some b → IsFlight t.numbers c.step die b.filling (Some f) (Some job) → MayBegin c t job →
+    slice_get c.books die ≡ Some b → IsFlight t.numbers c.step die b.filling (Some f) (Some job) → MayBegin c t f job →
     Kept (started c die b f) (taken t die job)
 kept_begun c t die b f job k at is may = record {
   numbers = k.numbers;
@@ -78,11 +90,12 @@ kept_begun c t die b f job k at is may = record {
   dies = dies_put t.numbers t.disk.blocks t.disk.blocks t.disk.flights c.step c.books die b
       (record { filling = b.filling; flight = Some f })
       (Some job) k.dies at (λ s apart. refl) (record { filling = (k.dies.each die b at).filling; job = is });
-  fly = fly_begun t.ledger.standing t.disk.flights die job k.fly (λ name flies.
-      let a = may.alone name flies in
-      (none_flies t.numbers.dies t.disk.flights (flies_name name) refl k.dies.no_more a.0, a.1));
+  fly = fly_begun t.ledger.standing t.disk.flights c.books die b f job k.fly
+      (λ name flies. none_flies t.numbers.dies t.disk.flights (flies_name name) refl k.dies.no_more
+      (may.alone name flies)) may.fresh;
   ledger_kept = k.ledger_kept;
   work = k.work;
+  plan = k.plan;
   claims = k.claims;
   pins = k.pins;
   differ = k.differ;
@@ -181,7 +194,7 @@ nothing_taken c t die h none may = record {
 -- or a job
 pub job_begun : (c : Core) (t : Translation) (die : ℕ) (b : Book) (f : Flight) (job : disk.Flight) → Describes c t →
     slice_get c.books die ≡ Some b → flight_taken c die ≡ Some f → job_of c die f ≡ Some (told_by job) →
-    IsFlight t.numbers c.step die b.filling (Some f) (Some job) → MayBegin c t job → MayTake t die (Some job) →
+    IsFlight t.numbers c.step die b.filling (Some f) (Some job) → MayBegin c t f job → MayTake t die (Some job) →
     IsTaken t die (job_taken c die) (core_taken c die)
 job_begun c t die b f job h there taken told is begins may = record {
   job = Some job;
@@ -192,6 +205,7 @@ job_begun c t die b f job h there taken told is begins may = record {
         valid = all_keep t (GiveJob die job) h.valid may;
         kept = kept_begun c t die b f job h.kept there is begins;
         live = h.live;
+        copies = h.copies;
       });
 }
   where

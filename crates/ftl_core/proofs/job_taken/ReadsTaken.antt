@@ -180,6 +180,11 @@ step_want l None content (Some s) h = absurd h
 step_want l (Some (steps.Mark n fence)) content None h = absurd h
 step_want l (Some (steps.Mark n fence)) content (Some s) h = ap (λ (x : layer.Step). wants_of_step (Some x)) h
 step_want l (Some (steps.Repair n k from there)) content None h = absurd h
+step_want l (Some (steps.Copy n k from read)) content None h = absurd h
+step_want l (Some (steps.Copy n k from None)) content (Some s) h =
+    ap (λ (x : layer.Step). wants_of_step (Some x)) h.1
+step_want l (Some (steps.Copy n k from (Some read))) content (Some s) h =
+    ap (λ (x : layer.Step). wants_of_step (Some x)) h.1
 step_want l (Some (steps.Repair n k None true)) content (Some s) h =
     ap (λ (x : layer.Step). wants_of_step (Some x)) h.0
 step_want l (Some (steps.Repair n k None false)) content (Some s) h =
@@ -291,6 +296,7 @@ step_taken c t die b f h there idle none_owed read = by (step_wants c.step) refl
         (refl, tt)
         (record {
           alone = λ name e. absurd (false≢true e);
+          fresh = λ p n i e. cc;
           wanted = λ tag index p e. cc;
           step_wanted = λ p e. is ∙ ap (λ (z : Place). Some z) (same_place place p e);
         }) (
@@ -333,7 +339,12 @@ read_taken c t die k b h there idle owed =
     told.2))
     refl
     (refl, (refl, refl))
-    (record { alone = λ name e. absurd (false≢true e); wanted = wanted; step_wanted = λ place e. cc }) (
+    (record {
+      alone = λ name e. absurd (false≢true e);
+      fresh = λ place n i e. cc;
+      wanted = wanted;
+      step_wanted = λ place e. cc;
+    }) (
       is_free_die t die (die_within c t die b h.kept there) (no_job c t die b h.kept there idle),
       one_read c t die k p q.0 s.place h.kept q.1 q.2 at.2 want,
     )

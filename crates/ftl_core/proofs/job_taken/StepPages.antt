@@ -15,7 +15,8 @@ use Rattle.ufs_spec.specs.Openings.{IsFirstFence}
 use Rattle.ufs_spec.specs.Pages.{seal_page}
 use Rattle.ufs_spec.specs.Plain.{Shape, shape_of_numbers}
 use Rattle.ufs_spec.specs.Translation as layer
-use Rattle.ufs_spec.specs.Translation.{MarkStep, Mended, Mending, RepairStep, Repairing, Translation, Unmarked}
+use Rattle.ufs_spec.specs.Translation.{CopyStep, MarkStep, Mended, Mending, RepairStep, Repairing, Translation}
+use Rattle.ufs_spec.specs.Translation.{Unmarked}
 use Rattle.ufs_spec.specs.Translation.{cell_of_entry, flies_mark, flies_name, records_now, some_flight, step_cell}
 use Rattle.ufs_spec.specs.Translation.{step_flies, waiting_step}
 use Rattle.ufs_spec.specs.declared.configs.Numbers.{Numbers}
@@ -23,18 +24,20 @@ use Rattle.ufs_spec.specs.declared.flash.Fence.{Fence}
 use Rattle.ufs_spec.specs.declared.flash.Job.TheVariants as job
 use Rattle.ufs_spec.specs.declared.flash.Key.{Key}
 use Rattle.ufs_spec.specs.declared.flash.Place.{Place}
+use Rattle.ufs_spec.specs.declared.flash.Tag.{Tag}
 use Rattle.power_loss.specs.Book.{book}
 use Rattle.power_loss.specs.Invariant.{FenceRight, MendingRight, Valid}
 use Rattle.power_loss.proofs.books.PagesByName.{none_some}
-use Rattle.power_loss.proofs.books.SmallFacts.{and_true, if_false, if_true, name_told}
+use Rattle.power_loss.proofs.books.SmallFacts.{and_true, if_false, if_true, name_is, name_told}
 use Rattle.ftl_core.specs.declared.books.Step.{Step}
 use Rattle.ftl_core.specs.declared.books.Step.TheVariants as steps
 use Rattle.unit_map.specs.declared.Stored.{Stored}
 use Rattle.ftl_core.specs.Core.{Core}
-use Rattle.ftl_core.specs.Describes.{Describes, IsStepCell, RepairKept, StepKept, name_at}
+use Rattle.ftl_core.specs.declared.books.Flight.TheVariants as flight
+use Rattle.ftl_core.specs.Describes.{CopyKept, Describes, IsCopied, IsStepCell, RepairKept, StepKept, name_at}
 use Rattle.ftl_core.specs.Moves.{single_tag}
 use Rattle.ftl_core.specs.Takes.{is_sealable, is_step_there, repair_program, step_job, step_waits, writes_step}
-use Rattle.ftl_core.proofs.job_taken.Flown.{marks_agree, repairs_agree}
+use Rattle.ftl_core.proofs.job_taken.Flown.{copies_agree, marks_agree, repairs_agree}
 use Rattle.ftl_core.proofs.job_taken.NextStarts.{MayBegin}
 
 -- What a mark records
@@ -84,7 +87,7 @@ pub record StepPage (c : Core) (t : Translation) : Type 0 where
   pub waits : waiting_step t t.work.step ≡ Some cell
   pub is : IsStepCell c.step cell
   pub told : (place : Place) → step_job c place c.step ≡ Some (told_by (disk.Programming place cell))
-  pub begins : (place : Place) → MayBegin c t (disk.Programming place cell)
+  pub begins : (place : Place) → MayBegin c t (flight.Step place) (disk.Programming place cell)
 
 -- the page of the step is there and no die writes it
 abbrev is_waiting : Core → Option Step → Bool
@@ -118,6 +121,7 @@ mark_page c t number fence h is step waits = record {
       })))));
   begins = λ place. record {
     alone = λ name e. absurd (false≢true e);
+    fresh = λ q n i e. cc;
     wanted = λ tag index p e. cc;
     step_wanted = λ p e. cc;
   };
@@ -147,14 +151,48 @@ repair_page c t number k from there h few is r ready unflown waits = record {
       (r.content_is ready i))));
   begins = λ place. record {
     alone = λ name e.
-        let same : name ≡ name_at number 0 = name_told name (name_at number 0) e in (
-          ap (λ (z : Name). some_flight t (flies_name z)) same ∙ unflown,
-          ap (λ (z : Name). t.ledger.standing z.number z.index) same ∙ r.new,
-        );
+        let same : name ≡ name_at number 0 = name_told name (name_at number 0) e in
+        ap (λ (z : Name). some_flight t (flies_name z)) same ∙ unflown;
+    fresh = λ q n i e. cc;
     wanted = λ tag index p e. cc;
     step_wanted = λ p e. cc;
   };
 }
+
+-- a copy has the data and the tag of the page that was read
+copy_page : (c : Core) (t : Translation) (number : ℕ) (k : Key) (from : Place) (read : Tag) (name : Name) →
+    Describes c t → c.step ≡ Some (steps.Copy number k from (Some read)) →
+    CopyKept t.ledger number k (Some read) c.content name →
+    some_flight t (flies_name name) ≡ false →
+    waiting_step t t.work.step ≡ Some (layer.cell_now t.ledger name) → StepPage c t
+copy_page c t number k from read name h is r unflown waits = record {
+  cell = GroupPage (record read { frontier = t.ledger.frontier }) c.content;
+  waits = waits
+      ∙ ap (λ (e : Option Entry). Some (cell_of_entry name e t.ledger.frontier)) r.known
+      ∙ (λ i. Some (GroupPage (copied.tag_is t.ledger.frontier i) (sym copied.content_is i)));
+  is = subst (λ (s : Option Step). IsStepCell s (GroupPage (record read { frontier = t.ledger.frontier }) c.content))
+      (sym is) (sym (ap (λ (z : Tag). z.number) (copied.tag_is 0)) ∙ r.number_is, refl);
+  told = λ place. ap (step_job c place) is
+      ∙ (λ i. Some (job.Program place (seal_page (record read { frontier = h.kept.ledger_kept.frontier i }) c.content)));
+  begins = λ place. record {
+    alone = λ other e.
+        let same : other ≡ name = name_told other name_read e ∙ name_same in
+        ap (λ (z : Name). some_flight t (flies_name z)) same ∙ unflown;
+    fresh = λ q n i e. cc;
+    wanted = λ tag index p e. cc;
+    step_wanted = λ p e. cc;
+  };
+}
+  where
+    copied : IsCopied name r.entry read c.content
+    copied = r.copied read refl
+
+    name_read : Name
+    name_read = record { number = read.number; index = read.index }
+
+    name_same : name_read ≡ name
+    name_same = name_is name_read name (sym (ap (λ (z : Tag). z.number) (copied.tag_is 0)))
+        (sym (ap (λ (z : Tag). z.index) (copied.tag_is 0)))
 
 -- What waits of the step: its page, or nothing
 pub step_page : (c : Core) (t : Translation) → Describes c t → length c.numbers.units.items ≤ 8 →
@@ -188,6 +226,23 @@ step_page c t h few = by c.step refl t.work.step refl h.kept.work.step_is
           λ does. mark_page c t number fence h is step
               (one mark step same does),
           none mark step same,
+        )
+    by (Some (steps.Copy number key from None)) is None at k = absurd k
+    by (Some (steps.Copy number key from None)) is (Some s) at k = (
+      λ does. absurd (false≢true (sym (ap (is_waiting c) is) ∙ does)),
+      λ fails. ap (waiting_step t) (at ∙ ap (λ (x : layer.Step). Some x) k.1),
+    )
+    by (Some (steps.Copy number key from (Some read))) is None at k = absurd k
+    by (Some (steps.Copy number key from (Some read))) is (Some s) at k =
+        let copy : layer.Step = record { kind = CopyStep k.0 from; there = true } in
+        let step = at ∙ ap (λ (x : layer.Step). Some x) k.1 in
+        let flies = sym (copies_agree c t number key from (Some read) k.0 h.kept k.2 is) in
+        let same = waits_alike c t (Some (steps.Copy number key from (Some read))) copy is refl flies in (
+          λ does.
+              let unwritten : list_any writes_step c.books ≡ false =
+              not_true (list_any writes_step c.books) (sym (ap (is_waiting c) is) ∙ does) in
+              copy_page c t number key from read k.0 h is k.2 (flies ∙ unwritten) (one copy step same does),
+          none copy step same,
         )
     by (Some (steps.Repair number key from there)) is None at k = absurd k
     by (Some (steps.Repair number key from there)) is (Some s) at k =

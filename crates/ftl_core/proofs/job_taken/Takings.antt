@@ -45,9 +45,11 @@ use Rattle.ftl_core.proofs.opened.Spots.{next_found}
 
 -- A job that writes no page of a group, and reads none
 
-erase_begins : (c : Core) (t : Translation) (s : disk.Spot) → MayBegin c t (disk.Erasing s)
-erase_begins c t s = record {
+erase_begins : (c : Core) (t : Translation) (block : ℕ) (s : disk.Spot) →
+    MayBegin c t (flight.Erase block) (disk.Erasing s)
+erase_begins c t block s = record {
   alone = λ name e. absurd (false≢true e);
+  fresh = λ place n i e. cc;
   wanted = λ tag index place e. cc;
   step_wanted = λ place e. cc;
 }
@@ -95,7 +97,7 @@ module _ (c : Core) (t : Translation) (die : ℕ) (b : Book) (h : Describes c t)
 
   next_begun : (f : Flight) (job : disk.Flight) → flight_taken c die ≡ Some f → next_flight t die ≡ Some job →
       job_of c die f ≡ Some (told_by job) → IsFlight t.numbers c.step die b.filling (Some f) (Some job) →
-      MayBegin c t job →
+      MayBegin c t f job →
       IsTaken t die (job_taken c die) (core_taken c die)
   next_begun f job taken next told is begins =
       job_begun c t die b f job h there taken told is begins (next_may t die job free unread next)
@@ -118,7 +120,7 @@ module _ (c : Core) (t : Translation) (die : ℕ) (b : Book) (h : Describes c t)
           (next ∙ ap (option_map (λ block. disk.Erasing (spot_at die block))) e)
           refl
           (refl, block_right c t die block h (die_within c t die b h.kept there) (is block e), closed)
-          (erase_begins c t (spot_at die block))
+          (erase_begins c t block (spot_at die block))
 
   -- the page of the step under way waits
   page_taken : StepPage c t → (o : Option OpenBlock) → step_waits c ≡ true → b.filling ≡ o →
@@ -170,7 +172,7 @@ module _ (c : Core) (t : Translation) (die : ℕ) (b : Book) (h : Describes c t)
       new = k.stands ∙ none_is p.written waits_here.0
 
       unflown : some_flight t (flies_name (page_name p)) ≡ false
-      unflown = sym (writes_agree c t (page_name p) h.kept (no_repair c t h mended))
+      unflown = sym (writes_agree c t (page_name p) h.kept new (no_repair c t h mended))
           ∙ not-true' (list_any (writes_page p.number p.index) c.books) waits_here.1
 
       job_is : (place : Place) → job_of c die (flight.Group place p.number p.index)
@@ -179,15 +181,21 @@ module _ (c : Core) (t : Translation) (die : ℕ) (b : Book) (h : Describes c t)
           ap (group_job_of c place) r.found
           ∙ if_true (is_group_page r.page) (Some (page_of_group c place r.page)) None r.kept.group_page
 
-      begins : (place : Place) → MayBegin c t (disk.Programming place (GroupPage tag_now r.page.body))
+      -- the page that is begun is that one
+      begun_is : (place q : Place) (n i : ℕ) → flight.Group place p.number p.index ≡ flight.Group q n i →
+          (p.number ≡ n) × (p.index ≡ i)
+      begun_is place q n i e = let number : p.number ≡ n = cc in let index : p.index ≡ i = cc in (number, index)
+
+      begins : (place : Place) → MayBegin c t (flight.Group place p.number p.index)
+          (disk.Programming place (GroupPage tag_now r.page.body))
       begins place = record {
         alone = λ name e.
             let is : name ≡ page_name p = name_told name (name_of tag_now) e
-            ∙ name_is (name_of tag_now) (page_name p) r.kept.number r.kept.index in (
-              ap (λ (z : Name). some_flight t (flies_name z)) is
-                  ∙ unflown,
-              ap (λ (z : Name). t.ledger.standing z.number z.index) is ∙ new,
-            );
+            ∙ name_is (name_of tag_now) (page_name p) r.kept.number r.kept.index in
+            ap (λ (z : Name). some_flight t (flies_name z)) is ∙ unflown;
+        fresh = λ q n i e.
+            let same = begun_is place q n i e in
+            (λ j. t.ledger.standing (sym same.0 j) (sym same.1 j)) ∙ new;
         wanted = λ tag index p e. cc;
         step_wanted = λ p e. cc;
       }

@@ -75,7 +75,7 @@ KnownWith cells c pages = AreKnown cells c.numbers c.places c.live pages
 -- One page after another
 
 -- where the durable content of a key stands no pending page is written
-old_apart : (cells : Cells) (n : Numbers) (places : List (Option Stored)) (k : Key) (s : Stored) →
+pub old_apart : (cells : Cells) (n : Numbers) (places : List (Option Stored)) (k : Key) (s : Stored) →
     stored_in n places k ≡ Some s → IsPageOf n cells k s.number s.place → (ps : List Pending) →
     AreWrittenRight n cells ps → AreNew n places ps → IsWrittenAt ps s.place → ⊥
 old_apart cells n places k s is own [] right new w = absurd w
@@ -98,7 +98,7 @@ left_out n places live p ps none h = record {
   lives = λ q at. h.lives q (⊎_elim (λ x. inl x) (λ x. inr (inr x)) at);
 }
 
-new_on : (cells : Cells) (c : Core) (p : Pending) (place : Place)
+pub new_on : (cells : Cells) (c : Core) (p : Pending) (place : Place)
     (h : key_total (shape_of_numbers c.numbers) ≤ length c.places) (isk : IsKey (shape_of_numbers c.numbers) p.key)
     (own : (k : Key) (s : Stored) → stored_in c.numbers c.places k ≡ Some s →
     IsPageOf c.numbers cells k s.number s.place)

@@ -55,13 +55,13 @@ second false b e = e
 there_here : (p : Place) (o : Option Place) → o ≡ Some p → stands_there p o ≡ true
 there_here p o e = ap (stands_there p) e ∙ place_self p
 
-there_told : (p : Place) (o : Option Place) → stands_there p o ≡ true → o ≡ Some p
+pub there_told : (p : Place) (o : Option Place) → stands_there p o ≡ true → o ≡ Some p
 there_told p None e = absurd (false≢true e)
 there_told p (Some q) e = ap (λ (x : Place). Some x) (place_told q p e)
 
 -- Pending pages
 
-written_at : (ps : List Pending) (p : Place) → IsWrittenAt ps p →
+pub written_at : (ps : List Pending) (p : Place) → IsWrittenAt ps p →
     (j : ℕ) × (q : Pending) × (slice_get ps j ≡ Some q) × (q.written ≡ Some p)
 written_at [] p w = absurd w
 written_at (q ∷ ps) p (inl w) = (0, q, refl, w)
@@ -92,6 +92,8 @@ unfolding is_repair number_in
 repair_new l None content m from is_there h = absurd h
 repair_new l (Some (steps.Mark n fence)) content m from is_there h =
     absurd (false≢true (sym (ap (λ (s : layer.Step). is_repair s.kind) h)))
+repair_new l (Some (steps.Copy n k s read)) content m from is_there h =
+    absurd (false≢true (sym (ap (λ (z : layer.Step). is_repair z.kind) h.1)))
 repair_new l (Some (steps.Repair n k s there)) content m from is_there h =
     subst (λ (x : ℕ). l.standing x 0 ≡ None) (sym (ap (λ (z : layer.Step). number_in z.kind) h.0)) h.1.new
 

@@ -38,6 +38,7 @@ roomy_on f l ps h same few room counted = record {
   pins = few;
   pin_room = room;
   units = h.units;
+  plan_pages = h.plan_pages;
   live_dies = ap (λ (m : Lives). m.sizes.dies) same ∙ h.live_dies;
   live_blocks = ap (λ (m : Lives). m.sizes.blocks) same ∙ h.live_blocks;
   pinned = counted;

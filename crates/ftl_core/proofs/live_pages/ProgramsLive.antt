@@ -49,16 +49,16 @@ use Rattle.ftl_core.proofs.live_pages.StoredPages.{stored_owned}
 use Rattle.ftl_core.proofs.opened.ListParts.{get_set}
 use Rattle.ftl_core.proofs.pages.PagesNamed.{pages_get}
 
-known_on : (cells : Cells) (c d : Core) → facts d ≡ facts c → AllKnown cells c → AllKnown cells d
+pub known_on : (cells : Cells) (c d : Core) → facts d ≡ facts c → AllKnown cells c → AllKnown cells d
 known_on cells c d e h = subst (λ (f : Facts). AreKnown cells f.0 f.1 f.2 f.3) (sym e) h
 
 -- One page is written
 
 module _ (place : Place) where
-  abbrev put : Pending → Pending
+  abbrev pub put : Pending → Pending
   put p = record p { written = Some place }
 
-  set_at : (ps : List Pending) (i : ℕ) (p : Pending) → slice_get ps i ≡ Some p →
+  pub set_at : (ps : List Pending) (i : ℕ) (p : Pending) → slice_get ps i ≡ Some p →
       IsWrittenAt (slice_set ps i (put p)) place
   set_at [] i p at = absurd (none-some p at)
   set_at (q ∷ ps) zero p at = inl refl
@@ -73,7 +73,7 @@ module _ (place : Place) where
   set_stays (r ∷ ps) (suc i) p q at none (inl w) = inl w
   set_stays (r ∷ ps) (suc i) p q at none (inr w) = inr (set_stays ps i p q at none w)
 
-  set_back : (ps : List Pending) (i : ℕ) (p : Pending) (q : Place) → q ≢ place →
+  pub set_back : (ps : List Pending) (i : ℕ) (p : Pending) (q : Place) → q ≢ place →
       IsWrittenAt (slice_set ps i (put p)) q → IsWrittenAt ps q
   set_back [] i p q other w = w
   set_back (r ∷ ps) zero p q other (inl w) = absurd (other (same_Some q place (sym w)))
@@ -88,30 +88,30 @@ module _ (place : Place) where
       (subst (λ (z : Pending). z.key ≡ k → z.number ≢ n) (same_Some r p at) h.0, h.1)
   set_others k n (r ∷ ps) (suc i) p at h = (h.0, set_others k n ps i p at h.1)
 
-  set_apart : (ps : List Pending) (i : ℕ) (p : Pending) → slice_get ps i ≡ Some p → AreApart ps →
+  pub set_apart : (ps : List Pending) (i : ℕ) (p : Pending) → slice_get ps i ≡ Some p → AreApart ps →
       AreApart (slice_set ps i (put p))
   set_apart [] i p at h = absurd (none-some p at)
   set_apart (r ∷ ps) zero p at h =
       (subst (λ (z : Pending). AreOthers z.key z.number ps) (same_Some r p at) h.0, h.1)
   set_apart (r ∷ ps) (suc i) p at h = (set_others r.key r.number ps i p at h.0, set_apart ps i p at h.1)
 
-  set_new : (n : Numbers) (places : List (Option Stored)) (ps : List Pending) (i : ℕ) (p : Pending) →
+  pub set_new : (n : Numbers) (places : List (Option Stored)) (ps : List Pending) (i : ℕ) (p : Pending) →
       slice_get ps i ≡ Some p → AreNew n places ps → AreNew n places (slice_set ps i (put p))
   set_new n places [] i p at h = absurd (none-some p at)
   set_new n places (r ∷ ps) zero p at h = (subst (IsNew n places) (same_Some r p at) h.0, h.1)
   set_new n places (r ∷ ps) (suc i) p at h = (h.0, set_new n places ps i p at h.1)
 
-all_new : (n : Numbers) (places : List (Option Stored)) (ps : List Pending) →
+pub all_new : (n : Numbers) (places : List (Option Stored)) (ps : List Pending) →
     ((j : ℕ) (p : Pending) → slice_get ps j ≡ Some p → IsNew n places p) → AreNew n places ps
 all_new n places [] each = tt
 all_new n places (p ∷ ps) each = (each 0 p refl, all_new n places ps (λ j q at. each (suc j) q at))
 
-all_others : (k : Key) (n : ℕ) (ps : List Pending) →
+pub all_others : (k : Key) (n : ℕ) (ps : List Pending) →
     ((j : ℕ) (q : Pending) → slice_get ps j ≡ Some q → q.key ≡ k → q.number ≢ n) → AreOthers k n ps
 all_others k n [] each = tt
 all_others k n (q ∷ qs) each = (each 0 q refl, all_others k n qs (λ j r at. each (suc j) r at))
 
-all_apart : (ps : List Pending) → ((i j : ℕ) (p q : Pending) → slice_get ps i ≡ Some p → slice_get ps j ≡ Some q →
+pub all_apart : (ps : List Pending) → ((i j : ℕ) (p q : Pending) → slice_get ps i ≡ Some p → slice_get ps j ≡ Some q →
     p.key ≡ q.key → p.number ≡ q.number → i ≡ j) → AreApart ps
 all_apart [] each = tt
 all_apart (p ∷ ps) each = (
@@ -136,12 +136,12 @@ module _ (c : Core) (t : Translation) (die : ℕ) (o : OpenBlock) (tag : Tag) (b
   abbrev after : Cells
   after = at_place t.disk.cells place (GroupPage tag body)
 
-  blank : t.disk.cells place ≡ Nothing
+  pub blank : t.disk.cells place ≡ Nothing
   blank = h.valid.blocks.blank place place.page
       (h.valid.flights.programs die place (GroupPage tag body) flies).next (omega arith)
 
   -- pages stay where they stand
-  stays : (k : Key) (n : ℕ) (p : Place) → IsPageOf c.numbers t.disk.cells k n p → IsPageOf c.numbers after k n p
+  pub stays : (k : Key) (n : ℕ) (p : Place) → IsPageOf c.numbers t.disk.cells k n p → IsPageOf c.numbers after k n p
   stays k n p r = record {
     tag = r.tag;
     body = r.body;
@@ -155,7 +155,7 @@ module _ (c : Core) (t : Translation) (die : ℕ) (o : OpenBlock) (tag : Tag) (b
   }
 
   -- and it is one of its key
-  is_page : IsPageOf c.numbers after (key_of tag) tag.number place
+  pub is_page : IsPageOf c.numbers after (key_of tag) tag.number place
   is_page = record {
     tag = tag;
     body = body;
@@ -185,7 +185,7 @@ module _ (c : Core) (t : Translation) (die : ℕ) (o : OpenBlock) (tag : Tag) (b
   places_long : HasPlaces c
   places_long = h.kept.ledger_kept.keys
 
-  owned : AreOwned after c
+  pub owned : AreOwned after c
   owned k s e = stays k s.number s.place (stored_owned c t h.valid h.kept k s e)
 
   -- A page of a group

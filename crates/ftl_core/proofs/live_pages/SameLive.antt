@@ -1,8 +1,9 @@
 -- What changes neither places of contents nor which pages are live.
-use Rattle.std.proofs.Common.{◌≡◌, ◌∙◌, ℕ, Bool, true, false, List, Option, Some, None, refl, ap, subst, sym}
+use Rattle.std.proofs.Common.{◌≡◌, ◌∙◌, ℕ, Bool, true, false, List, [], ◌∷◌, Option, Some, None, refl, ap, subst, sym}
 use Rattle.std.specs.Prelude.{if◌then◌else◌, nat_le, nat_lt, ◌-◌, ◌^◌}
 use Rattle.ufs_spec.specs.declared.configs.Numbers.{Numbers}
 use Rattle.ufs_spec.specs.declared.flash.Outcome.{Outcome}
+use Rattle.ufs_spec.specs.declared.flash.Tag.{Tag}
 use Rattle.block_table.specs.Lives.{Lives}
 use Rattle.block_table.specs.declared.OpenBlock.{OpenBlock}
 use Rattle.unit_map.specs.declared.Stored.{Stored}
@@ -16,7 +17,10 @@ use Rattle.ftl_core.specs.Core.{Core}
 use Rattle.ftl_core.specs.Ends.{step_again, with_content}
 use Rattle.ftl_core.specs.Gives.{IsReadAfter, IsReadOver}
 use Rattle.ftl_core.specs.KnownLive.{KnowsLive}
-use Rattle.ftl_core.specs.Moves.{mark_ordered, page_written, repair_turned, step_turned, turned}
+use Rattle.collector.specs.Plans.{Collection}
+use Rattle.collector.specs.declared.PlannedCopy.{PlannedCopy}
+use Rattle.ftl_core.specs.Moves.{mark_ordered, page_written}
+use Rattle.ftl_core.specs.Turns.{IsCollectionTurned, IsStepTurned, IsTurned, plan_next, plan_turned, repair_turned}
 use Rattle.ftl_core.specs.declared.books.Mending.{Mending}
 use Rattle.ftl_core.specs.declared.books.Mending.TheVariants as mendings
 use Rattle.ufs_spec.specs.declared.flash.Key.{Key}
@@ -53,22 +57,24 @@ pub again_same : (c : Core) (step : Option Step) → facts (step_again c step) �
 again_same c None = refl
 again_same c (Some (steps.Mark n fence)) = ordered_same c fence
 again_same c (Some (steps.Repair n k from there)) = refl
+again_same c (Some (steps.Copy n k from read)) = refl
 
 -- Reads
 
-content : (c : Core) (o : Option (List ℕ)) → facts (with_content c o) ≡ facts c
-content c None = refl
-content c (Some body) = refl
+content : (c : Core) (tag : Option Tag) (o : Option (List ℕ)) → facts (with_content c tag o) ≡ facts c
+content c tag None = refl
+content c tag (Some body) = refl
 
-read_over : (c : Core) (o : Outcome) (reader : Reader) (new : Core) → IsReadOver c o reader new → facts new ≡ facts c
-read_over c o (readers.Task tag index) new h = ap facts h
-read_over c o readers.Step new h = ap facts h.2 ∙ content c h.0
-read_over c o readers.Nobody new h = ap facts h
+read_over : (c : Core) (o : Outcome) (found : Option Tag) (reader : Reader) (new : Core) →
+    IsReadOver c o found reader new → facts new ≡ facts c
+read_over c o found (readers.Task tag index) new h = ap facts h
+read_over c o found readers.Step new h = ap facts h.2 ∙ content c found h.0
+read_over c o found readers.Nobody new h = ap facts h
 
-pub read_same : (known : Bool) (c : Core) (die : ℕ) (b : Book) (o : Outcome) (reader : Reader) (new : Core) →
-    IsReadAfter known c die b o reader new → facts new ≡ facts c
-read_same false c die b o reader new h = ap facts h
-read_same true c die b o reader new h = read_over _ o reader new h
+pub read_same : (known : Bool) (c : Core) (die : ℕ) (b : Book) (o : Outcome) (found : Option Tag) (reader : Reader)
+    (new : Core) → IsReadAfter known c die b o found reader new → facts new ≡ facts c
+read_same false c die b o found reader new h = ap facts h
+read_same true c die b o found reader new h = read_over _ o found reader new h
 
 -- Steps
 
@@ -76,10 +82,23 @@ repair_turns : (c : Core) (o : Option Key) → facts (repair_turned c o) ≡ fac
 repair_turns c None = ordered_same c None
 repair_turns c (Some k) = refl
 
-step_turns : (c : Core) (m : Mending) → facts (step_turned c m) ≡ facts c
-step_turns c (mendings.Unmarked fence) = ordered_same c fence
-step_turns c mendings.Repairing = repair_turns c _
-step_turns c mendings.Mended = refl
+next_turns : (c : Core) (xs : List PlannedCopy) → facts (plan_next c xs) ≡ facts c
+next_turns c [] = ordered_same c None
+next_turns c (x ∷ xs) = refl
 
-pub turned_same : (c : Core) → facts (turned c) ≡ facts c
-turned_same c = step_turns c c.mending
+plan_turns : (c : Core) (o : Option Collection) → facts (plan_turned c o) ≡ facts c
+plan_turns c None = refl
+plan_turns c (Some p) = next_turns c p.copies
+
+collection_turns : (c new : Core) (o : Option Collection) → IsCollectionTurned c o new → facts new ≡ facts c
+collection_turns c new None h = ap facts h.2 ∙ plan_turns h.0 h.0.plan ∙ ap facts h.1.is
+collection_turns c new (Some p) h = ap facts h ∙ next_turns c p.copies
+
+step_turns : (c new : Core) (m : Mending) → IsStepTurned c m new → facts new ≡ facts c
+step_turns c new (mendings.Unmarked fence) h = ap facts h ∙ ordered_same c fence
+step_turns c new mendings.Repairing h = ap facts h ∙ repair_turns c _
+step_turns c new mendings.Mended h = collection_turns c new c.plan h
+
+pub turned_same : (c new : Core) (due : Bool) → IsTurned c due new → facts new ≡ facts c
+turned_same c new false h = ap facts h
+turned_same c new true h = step_turns c new c.mending h

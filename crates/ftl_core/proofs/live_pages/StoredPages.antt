@@ -52,7 +52,7 @@ page_inside n cells p tag body within there = ⊎_elim (λ h. h)
 -- The page of a key at the frontier
 
 -- it is of the key
-durable_entry : (t : Translation) (k : Key) (name : Name) → Valid t → HasKey (book t) k →
+pub durable_entry : (t : Translation) (k : Key) (name : Name) → Valid t → HasKey (book t) k →
     latest_durable t.ledger k ≡ Some name →
     (e : Entry) × IsPageAt (book t) name.number name.index e × (e.item.key ≡ k) × (name.number ≤ t.ledger.frontier)
 durable_entry t k name v has e = ⊎_elim

@@ -19,7 +19,7 @@ use Rattle.ufs_spec.specs.declared.flash.Place.{Place}
 use Rattle.power_loss.specs.Book.{book}
 use Rattle.power_loss.specs.Invariant.{Valid}
 use Rattle.power_loss.proofs.accepted_groups.RestsOfGroups.{whole_has_none}
-use Rattle.power_loss.proofs.books.PagesByName.{added_page}
+use Rattle.power_loss.proofs.books.PagesByName.{added_page, page_grows}
 use Rattle.power_loss.proofs.moves.MovesKeepValid.{all_keep}
 use Rattle.power_loss.proofs.ordered_lists.ElementsAndOrders.{mapped_at}
 use Rattle.power_loss.proofs.pending_groups.DurableInOrder as durable
@@ -206,7 +206,6 @@ rests_more m left step content next w l rests none k = record {
   mending_is = k.mending_is;
   step_is = k.step_is;
   to_repair = k.to_repair;
-  no_plan = k.no_plan;
   no_rests = none;
   next_mark = k.next_mark;
   repaired = k.repaired;
@@ -244,6 +243,7 @@ accepts_right : (c : Core) (t : Translation) (k : Key) (bodies : List (List ℕ)
 accepts_right c t k bodies reader ranges h kind unit claimed may = record {
   valid = all_keep t (Accept (length bodies) (group_of_blocks k bodies)) h.valid may;
   live = none_written c k reader h.live;
+  copies = h.copies;
   kept = record {
     numbers = h.kept.numbers;
     blocks = h.kept.blocks;
@@ -257,7 +257,9 @@ accepts_right c t k bodies reader ranges h kind unit claimed may = record {
         (t.work.rests ++ rests_of t g)
         (ap (λ (rests : List Rest). rests ++ rests_of t g) h.kept.work.no_rests ∙ none_in_part t k bodies kind)
         (work_more c.mending (drop c.repaired c.lost) c.step c.content c.next_mark t.work t.ledger
-        (with_group t.ledger g) may.0 (repairs_mended c t h may.0) refl (h.kept.work.repaired may.0) h.kept.work);
+        (with_group t.ledger g) may.0 (repairs_mended c t h may.0) refl (h.kept.work.repaired may.0)
+        (λ name e is. page_grows (book t) g name.number name.index e is) (λ name p is. (p, is)) h.kept.work);
+    plan = h.kept.plan;
     claims =
         let both = left_beside reader c.claims (filter (λ claim. not (is_claim_of reader claim)) c.claims) refl in
         let mine = ap (λ (claims : List Claimed). length claims) claimed in

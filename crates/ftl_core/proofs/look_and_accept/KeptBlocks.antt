@@ -125,6 +125,7 @@ pub keeps_block : (c : Core) (t : Translation) (k : Key) (p : Pin) (q : layer.Pi
 keeps_block c t k p q h mended is looks kept new = record {
   valid = all_keep t (Keep k q) h.valid (is, looks);
   live = h.live;
+  copies = h.copies;
   kept = record {
     numbers = h.kept.numbers;
     blocks = h.kept.blocks;
@@ -132,6 +133,7 @@ keeps_block c t k p q h mended is looks kept new = record {
     fly = h.kept.fly;
     ledger_kept = h.kept.ledger_kept;
     work = h.kept.work;
+    plan = h.kept.plan;
     claims = h.kept.claims;
     pins = pins_more t.ledger.frontier (entry_of t.ledger) c.pins t.pins p q h.kept.pins kept;
     differ = differ_more c.pins p new h.kept.differ;

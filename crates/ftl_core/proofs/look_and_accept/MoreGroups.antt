@@ -10,6 +10,7 @@ use Rattle.ufs_spec.specs.Ledger.{latest_durable, latest_in, next_number, pendin
 use Rattle.ufs_spec.specs.Translation as layer
 use Rattle.ufs_spec.specs.Translation.{Translation, Work, is_mended, names_behind, names_of}
 use Rattle.ufs_spec.specs.declared.flash.Key.{Key}
+use Rattle.ufs_spec.specs.declared.flash.Place.{Place}
 use Rattle.ufs_spec.proofs.Lists.{grown_length}
 use Rattle.power_loss.specs.Book.{book}
 use Rattle.power_loss.proofs.books.PagesByName.{page_grows}
@@ -85,13 +86,15 @@ ledger_more c t g ps h mended pends new = record {
 -- once the device is mended, a group more at the end leaves what is known of steps
 pub work_more : (m : Mending) (left : List Key) (step : Option Step) (content : List ℕ) (next : ℕ) (w : Work)
     (l after : Ledger) → is_mended w.mending ≡ true → repairs_in step ≡ 0 → after.marks ≡ l.marks →
-    before_accepted after ≤ after.frontier → WorkKept m left step content next w l →
-    WorkKept m left step content next w after
-work_more m left step content next w l after mended none marks repaired k = record {
+    before_accepted after ≤ after.frontier →
+    ((name : Name) (e : Entry) → entry_of l name ≡ Some e → entry_of after name ≡ Some e) →
+    ((name : Name) (p : Place) → l.standing name.number name.index ≡ Some p →
+    (q : Place) × (after.standing name.number name.index ≡ Some q)) →
+    WorkKept m left step content next w l → WorkKept m left step content next w after
+work_more m left step content next w l after mended none marks repaired known stands k = record {
   mending_is = k.mending_is;
   step_is = step_same step w.step none k.step_is;
   to_repair = λ e. absurd (true≢false (sym mended ∙ e));
-  no_plan = k.no_plan;
   no_rests = k.no_rests;
   next_mark = k.next_mark ∙ ap suc (sym marks);
   repaired = λ e. repaired;
@@ -104,6 +107,21 @@ work_more m left step content next w l after mended none marks repaired k = reco
     step_same (Some (steps.Mark n fence)) None e r = absurd r
     step_same (Some (steps.Mark n fence)) (Some x) e r = r
     step_same (Some (steps.Repair n key from there)) u e r = cc
+    step_same (Some (steps.Copy n key from read)) None e r = absurd r
+    step_same (Some (steps.Copy n key from read)) (Some x) e r =
+        let there = stands r.0 r.2.place r.2.stands in (
+          r.0,
+          r.1,
+          record {
+            number_is = r.2.number_is;
+            place = there.0;
+            stands = there.1;
+            entry = r.2.entry;
+            known = known r.0 r.2.entry r.2.known;
+            key = r.2.key;
+            copied = r.2.copied;
+          },
+        )
 
 -- Pins
 

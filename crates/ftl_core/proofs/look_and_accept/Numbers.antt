@@ -5,7 +5,10 @@ use Rattle.std.proofs.Common.{Some, None, length, drop, refl, sym, ap, subst, in
 use Rattle.std.proofs.lemmas.List.{drop-drop, length-drop, nil_from_length}
 use Rattle.ufs_spec.specs.Keys as keys
 use Rattle.ufs_spec.specs.Ledger as ledger
-use Rattle.ufs_spec.specs.Ledger.{Entry, Ledger, Name, before_accepted, entry_of, pending}
+use Rattle.std.specs.Prelude.{is_some}
+use Rattle.power_loss.proofs.books.PagesByName.{none_some}
+use Rattle.power_loss.proofs.books.SmallFacts.{if_false, name_cases}
+use Rattle.ufs_spec.specs.Ledger.{Entry, Ledger, Name, before_accepted, entry_of, pending, same_name}
 use Rattle.ufs_spec.specs.Moves.{step_behind}
 use Rattle.ufs_spec.specs.Translation as layer
 use Rattle.ufs_spec.specs.Translation.{RepairStep, Repairing, Translation, is_mended}
@@ -59,6 +62,9 @@ repairs_behind l None content (Some s) h = absurd h
 repairs_behind l (Some (steps.Mark n fence)) content None h = absurd h
 repairs_behind l (Some (steps.Mark n fence)) content (Some s) h =
     inl (refl, λ r. true≢false (sym (ap repairs r.3) ∙ ap (λ (z : layer.Step). repairs (Some z)) h))
+repairs_behind l (Some (steps.Copy n k from read)) content None h = absurd h
+repairs_behind l (Some (steps.Copy n k from read)) content (Some s) h =
+    inl (refl, λ r. true≢false (sym (ap repairs r.3) ∙ ap (λ (z : layer.Step). repairs (Some z)) h.1))
 repairs_behind l (Some (steps.Repair n k from there)) content None h = absurd h
 repairs_behind l (Some (steps.Repair n k from there)) content (Some s) h =
     inr (refl, sym h.1.next ∙ h.1.last, (_, _, _, ap (λ (z : layer.Step). Some z) h.0))
@@ -96,20 +102,40 @@ none_pending l e =
     let b = length-drop (l.frontier - before_accepted l) (drop l.repairs l.groups) in
     omega (arith, a, b, e)
 
--- where the step is no repair, none is kept as under way, and the page of a group does not end it
+-- where the step is no repair, none is kept as under way, and the page of a group that did not stand does not end it
 pub no_repair_kept : (l : Ledger) (step : Option kept_step.Step) (content : List ℕ) (u : Option layer.Step) →
     StepKept l step content u → (IsRepair u → ⊥) → repairs_in step ≡ 0
 no_repair_kept l step content u h none =
     ⊎_elim (λ k. k.0) (λ k. absurd (none k.2)) (repairs_behind l step content u h)
 
+-- and none is under way
+pub beside_none : (l : Ledger) (step : Option kept_step.Step) (content : List ℕ) (u : Option layer.Step) →
+    StepKept l step content u → repairs_in step ≡ 0 → IsRepair u → ⊥
+beside_none l step content u h none =
+    ⊎_elim (λ k. k.1)
+    (λ (k : (repairs_in step ≡ 1) × (suc l.frontier ≡ l.greatest_seen + length l.groups) × IsRepair u).
+    absurd (let one = k.0 in omega (arith, one, none)))
+    (repairs_behind l step content u h)
+
 pub step_stays : (l : Ledger) (step : Option kept_step.Step) (content : List ℕ) (u : Option layer.Step) (name : Name) →
-    StepKept l step content u → repairs_in step ≡ 0 → step_behind name u ≡ u
-step_stays l None content None name h e = refl
-step_stays l None content (Some s) name h e = absurd h
-step_stays l (Some (steps.Mark n fence)) content None name h e = absurd h
-step_stays l (Some (steps.Mark n fence)) content (Some s) name h e =
+    StepKept l step content u → l.standing name.number name.index ≡ None → repairs_in step ≡ 0 →
+    step_behind name u ≡ u
+step_stays l None content None name h new e = refl
+step_stays l None content (Some s) name h new e = absurd h
+step_stays l (Some (steps.Mark n fence)) content None name h new e = absurd h
+step_stays l (Some (steps.Mark n fence)) content (Some s) name h new e =
     subst (λ (z : layer.Step). step_behind name (Some z) ≡ Some z) (sym h) refl
-step_stays l (Some (steps.Repair n k from there)) content u name h e = cc
+step_stays l (Some (steps.Repair n k from there)) content u name h new e = cc
+step_stays l (Some (steps.Copy n k from read)) content None name h new e = absurd h
+step_stays l (Some (steps.Copy n k from read)) content (Some s) name h new e =
+    subst (λ (z : layer.Step). step_behind name (Some z) ≡ Some z) (sym h.1)
+    (if_false (same_name name h.0) None (Some (record { kind = layer.CopyStep h.0 from; there = is_some read }))
+    (⊎_elim
+    (λ (w : (same_name name h.0 ≡ true) × (name ≡ h.0)).
+    absurd (none_some h.2.place
+    (sym new ∙ ap (λ (z : Name). l.standing z.number z.index) w.1 ∙ h.2.stands)))
+    (λ w. w.0)
+    (name_cases name h.0)))
 
 module _ (c : Core) (t : Translation) (h : Describes c t) where
   -- once the device is mended no repair is under way

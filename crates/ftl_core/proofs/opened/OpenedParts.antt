@@ -7,6 +7,7 @@ use Rattle.ufs_spec.specs.Plain.{shape_of_numbers, zero_block}
 use Rattle.ufs_spec.specs.declared.configs.Numbers.{Numbers}
 use Rattle.ufs_spec.specs.declared.flash.Key.{Key}
 use Rattle.block_table.specs.Blocks.{Blocks, is_bad}
+use Rattle.collector.specs.Plans.{Collection}
 use Rattle.block_table.specs.Lives.{Lives}
 use Rattle.block_table.specs.declared.BlockState.{BlockState}
 use Rattle.block_table.specs.declared.Sizes.{Sizes}
@@ -42,9 +43,9 @@ bad_same (b ∷ bs) =
     one found.Bad = refl
 
 -- the parts together
-abbrev pub core_with : Numbers → Blocks → List (Option Flight) → UnitMap → Lives → WriteCache → List Pin → Mending →
-    List Key → List ℕ → ℕ → Core
-core_with n blocks flights places live cache pins mending lost content next = record {
+abbrev pub core_with : Numbers → Blocks → List (Option Flight) → UnitMap → Lives → WriteCache → List Pin →
+    Option Collection → Mending → List Key → List ℕ → ℕ → Core
+core_with n blocks flights places live cache pins plan mending lost content next = record {
   numbers = n;
   states = blocks.states;
   books = books_of blocks.filling flights;
@@ -56,6 +57,7 @@ core_with n blocks flights places live cache pins mending lost content next = re
   frontier = cache.frontier;
   last = cache.last;
   pins = pins;
+  plan = plan;
   mending = mending;
   lost = lost;
   repaired = 0;
@@ -78,6 +80,7 @@ with_lists n f states books has_bad places last = record {
   frontier = last;
   last = last;
   pins = [];
+  plan = None;
   mending = first_mending f;
   lost = f.lost.items;
   repaired = 0;
@@ -87,7 +90,8 @@ with_lists n f states books has_bad places last = record {
 }
 
 pub opened_as : (n : Numbers) (f : Found) (blocks : Blocks) (flights : List (Option Flight)) (map_is : UnitMap)
-    (live : Lives) (cache : WriteCache) (pins : List Pin) (mending : Mending) (content : List ℕ) (next : ℕ)
+    (live : Lives) (cache : WriteCache) (pins : List Pin) (plan : Option Collection) (mending : Mending)
+    (content : List ℕ) (next : ℕ)
     (sizes : Sizes) (states : List BlockState) (places : List (Option Stored)) (last : ℕ) →
     blocks ≡ record {
       sizes = sizes;
@@ -100,11 +104,12 @@ pub opened_as : (n : Numbers) (f : Found) (blocks : Blocks) (flights : List (Opt
     cache ≡ record { slots = n.slots; pages = []; claims = []; frontier = last; last = last } →
     states ≡ map state_of_found f.blocks.items → places ≡ map (option_map stored_of_found) f.contents.items →
     last ≡ min f.greatest_seen (2 ^ 62) → pins ≡ [] → mending ≡ first_mending f → content ≡ zero_block →
-    next ≡ mark_number_behind f →
-    core_with n blocks flights map_is (without_pins live) cache pins mending f.lost.items content next ≡ opened n f
-opened_as n f blocks flights map_is live cache pins mending content next sizes states places last
-    eb ef em eq ec es ep el en ed ez ek =
-    (λ i. core_with n (eb i) (ef i) (em i) (bare i) (ec i) (en i) (ed i) f.lost.items (ez i) (ek i))
+    next ≡ mark_number_behind f → plan ≡ None →
+    core_with n blocks flights map_is (without_pins live) cache pins plan mending f.lost.items content next
+    ≡ opened n f
+opened_as n f blocks flights map_is live cache pins plan mending content next sizes states places last
+    eb ef em eq ec es ep el en ed ez ek en_plan =
+    (λ i. core_with n (eb i) (ef i) (em i) (bare i) (ec i) (en i) (en_plan i) (ed i) f.lost.items (ez i) (ek i))
     ∙ (λ i. with_lists n f (es i) (all_idle n.dies i) (list_any is_bad (es i)) (ep i) (el i))
     ∙ ap (λ (b : Bool). record (opened n f) { has_bad = b }) (bad_same f.blocks.items)
   where

@@ -1,5 +1,5 @@
 -- What is kept over what a scan found is the layer that the definitions open over the same pages.
-use Rattle.std.proofs.Common.{◌≡◌, ◌≢◌, ◌∙◌, ℕ, suc, ◌+◌, ◌<◌, ◌≤◌, Bool, true, false, List, [], ◌∷◌, Option, Some}
+use Rattle.std.proofs.Common.{◌≡◌, ◌≢◌, ◌∙◌, ℕ, zero, suc, ◌+◌, ◌<◌, ◌≤◌, Bool, true, false, List, [], ◌∷◌, Option, Some}
 use Rattle.std.proofs.Common.{None, drop, take, length, map, refl, sym, ap, subst, arith}
 use Rattle.std.specs.Prelude.{◌-◌, ◌^◌, if◌then◌else◌, nat_lt, All, min, slice_get, option_and_then, option_map}
 use Rattle.std.specs.Prelude.{replicate, sum}
@@ -39,11 +39,13 @@ use Rattle.recovery.specs.declared.pages.FoundPage.{FoundPage}
 use Rattle.geometry.proofs.KeyIndexes.{is_index, known_index}
 use Rattle.recovery.proofs.opened.FoundOpens.{found_opens}
 use Rattle.ftl_core.specs.declared.books.Book.{Book}
+use Rattle.ftl_core.specs.declared.books.Flight.TheVariants as flight
+use Rattle.ufs_spec.proofs.Facts.{same_Some}
 use Rattle.unit_map.specs.declared.Stored.{Stored}
 use Rattle.ftl_core.specs.Core.{Core}
 use Rattle.ftl_core.specs.Describes.{AreToRepair, BookKept, Describes, DiesKept, IsStored, Kept}
 use Rattle.ftl_core.specs.Describes.{LedgerKept, PagesKept, PinsKept, Standing, StepKept, WorkKept, mending_kept}
-use Rattle.ftl_core.specs.Describes.{spot_at}
+use Rattle.ftl_core.specs.Describes.{WritesGroup, spot_at}
 use Rattle.ftl_core.specs.Moves.{first_mending, idle_book, mark_number_behind, mending_from}
 use Rattle.unit_map.specs.Places.{flat}
 use Rattle.ftl_core.specs.Moves.{number_behind, opened, stored_of_found}
@@ -245,11 +247,20 @@ work_found n f c bad t content h o = record {
     unrepaired = every (λ (k : Key). latest_durable t.ledger k ≡ t.ledger.first_page k)
         (λ k. latest_first t.ledger k o.ledger.none_new) f.lost.items;
   });
-  no_plan = o.no_plan;
   no_rests = o.no_rests;
   next_mark = next_found f.newest t.ledger.marks h.marks h.marks_within;
   repaired = λ mended. omega (arith, o.ledger.none_repaired, o.ledger.frontier);
 }
+
+-- no die writes a page
+
+idle_writes : (dies d number index : ℕ) → WritesGroup (replicate dies idle_book) d number index → ⊥
+idle_writes zero d number index w = none_some w.book w.there
+idle_writes (suc dies) zero number index w =
+    none_some (flight.Group w.place number index)
+    (ap (λ (b : Book). b.flight) (same_Some idle_book w.book w.there) ∙ w.job)
+idle_writes (suc dies) (suc d) number index w =
+    idle_writes dies d number index (record { book = w.book; there = w.there; place = w.place; job = w.job })
 
 -- All of it
 
@@ -273,10 +284,11 @@ opens_right n f c bad t pages right within sound found o =
       dies = dies_idle n t.numbers t.disk.blocks t.disk.flights (sym o.numbers) o.disk.idle fills;
       fly = record {
         one = λ d e name x y. absurd (flies_none name (t.disk.flights d) (o.disk.idle d) x);
-        new = λ d name x. absurd (flies_none name (t.disk.flights d) (o.disk.idle d) x);
+        new = λ d number index w. absurd (idle_writes n.dies d number index w);
       };
       ledger_kept = ledger_found n f t h o.ledger.none_new o.ledger.frontier;
       work = work_found n f c bad t (opened n f).content h o;
+      plan = record { plan_is = o.no_plan; inside = λ p e. cc };
       claims = sym o.no_claims;
       pins = pins_none t.ledger.frontier (entry_of t.ledger) t.pins o.no_pins;
       differ = tt;
@@ -289,6 +301,10 @@ opens_right n f c bad t pages right within sound found o =
       kept = kept;
       live = opened_knows n (opened n f).places
           (λ k s at. (stored_owned (opened n f) t valid kept k s at).inside);
+      copies = record {
+        planned = λ p e. cc;
+        named = λ name from is. absurd (none_some _ (sym o.no_step ∙ is));
+      };
     }
 
 pub opens_described : (n : Numbers) (f : Found) (kept : Core) → kept ≡ opened n f →

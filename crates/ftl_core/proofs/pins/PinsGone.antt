@@ -24,7 +24,7 @@ use Rattle.ftl_core.specs.declared.books.Reader as kept
 use Rattle.ftl_core.specs.declared.books.Reader.TheVariants as readers
 use Rattle.ftl_core.specs.declared.books.Step.{Step}
 use Rattle.ftl_core.specs.Core.{Core}
-use Rattle.ftl_core.specs.Describes.{BookKept, IsFlight, IsReader, Kept, PinsKept}
+use Rattle.ftl_core.specs.Describes.{BookKept, IsFlight, IsReader, Kept, PinsKept, WritesGroup}
 use Rattle.ftl_core.specs.Moves.{flight_without, flight_without_block, is_of_reader, is_pin_of, without_block}
 use Rattle.ftl_core.specs.Moves.{without_reader}
 use Rattle.ftl_core.proofs.pins.FoundPins.{found_kept, pin_told}
@@ -151,6 +151,26 @@ step_before gone (Some (disk.Reading (ForTask a i) p)) place e = by (gone a i) e
     by true x = cc
     by false x = x
 
+-- a die that writes a group's page wrote it before
+still_group : (gone : ℕ → ℕ → Bool) (f : Option Flight) (place : Place) (number index : ℕ) →
+    flight_left gone f ≡ Some (flight.Group place number index) → f ≡ Some (flight.Group place number index)
+still_group gone None place number index e = cc
+still_group gone (Some (flight.Read at r)) place number index e = cc
+still_group gone (Some (flight.Step at)) place number index e = cc
+still_group gone (Some (flight.Group at n i)) place number index e = e
+still_group gone (Some (flight.Erase block)) place number index e = cc
+
+wrote_still : (gone : ℕ → ℕ → Bool) (books : List Book) (d number index : ℕ) →
+    WritesGroup (map (book_left gone) books) d number index → WritesGroup books d number index
+wrote_still gone books d number index w =
+    let r = get_map (book_left gone) books d w.book w.there in
+    record {
+      book = r.0;
+      there = r.1;
+      place = w.place;
+      job = still_group gone r.0.flight w.place number index (ap (λ (b : Book). b.flight) (sym r.2) ∙ w.job);
+    }
+
 -- What is kept
 
 kept_pins : (gone : ℕ → ℕ → Bool) (frontier : ℕ) (entries : Name → Option Entry) (ps : List Pin)
@@ -191,10 +211,11 @@ left_kept c t gone k = record {
         k.fly.one d e name
         (sym (same_names (is_gone gone) name (t.disk.flights d)) ∙ f)
         (sym (same_names (is_gone gone) name (t.disk.flights e)) ∙ g);
-    new = λ d name f. k.fly.new d name (sym (same_names (is_gone gone) name (t.disk.flights d)) ∙ f);
+    new = λ d number index w. k.fly.new d number index (wrote_still gone c.books d number index w);
   };
   ledger_kept = k.ledger_kept;
   work = k.work;
+  plan = k.plan;
   claims = k.claims;
   pins = kept_pins gone t.ledger.frontier (ledger.entry_of t.ledger) c.pins t.pins k.pins;
   differ = differ_kept (is_left gone) c.pins k.differ;

@@ -52,6 +52,7 @@ wants_kept c t reader index k = record {
   fly = k.fly;
   ledger_kept = k.ledger_kept;
   work = k.work;
+  plan = k.plan;
   claims = k.claims;
   pins = pins_mapped t.ledger.frontier t.ledger.frontier (entry_of t.ledger) (entry_of t.ledger)
       (wanted_now reader index) (with_wanted reader index true) c.pins t.pins

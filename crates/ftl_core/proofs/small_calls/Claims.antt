@@ -32,6 +32,7 @@ claims_kept c t claims m k same = record {
   fly = k.fly;
   ledger_kept = k.ledger_kept;
   work = k.work;
+  plan = k.plan;
   claims = same;
   pins = k.pins;
   differ = k.differ;
@@ -44,6 +45,7 @@ claims_right : (c : Core) (t : Translation) (reader blocks : ℕ) → Describes 
     nat_le blocks (free_slots c) ≡ true → Describes (claimed_all c reader blocks) (moved t (Claim blocks))
 claims_right c t reader blocks h room = record {
   live = h.live;
+  copies = h.copies;
   valid = all_keep t (Claim blocks) h.valid
       (let l = leb-true blocks (free_slots c) room in let same = slots_right c t h in omega (arith, l, same));
   kept = claims_kept c t (c.claims ++ map (empty_claim reader) (below blocks)) (t.claims + blocks) h.kept
@@ -71,6 +73,7 @@ releases_right : (c : Core) (t : Translation) (reader : ℕ) → Describes c t �
 releases_right c t reader h = record {
   valid = releases t (length (claims_for c reader)) h.valid;
   live = h.live;
+  copies = h.copies;
   kept = claims_kept c t (filter (λ claim. not (is_claim_of reader claim)) c.claims)
       (t.claims - length (claims_for c reader)) h.kept
       (let both = left_beside reader c.claims (filter (λ claim. not (is_claim_of reader claim)) c.claims) refl in
@@ -89,6 +92,7 @@ fills_right : (c : Core) (t : Translation) (reader index : ℕ) (body : List ℕ
 fills_right c t reader index body h = record {
   valid = h.valid;
   live = h.live;
+  copies = h.copies;
   kept = claims_kept c t (map (claim_filled reader index body) c.claims) t.claims h.kept
       (length-map c.claims (claim_filled reader index body) ∙ h.kept.claims);
 }

@@ -54,6 +54,7 @@ unpins_right c t reader h = record {
   valid = all_keep t (LetGoAll reader) h.valid tt;
   kept = let_go_kept c t reader h.kept;
   live = h.live;
+  copies = h.copies;
 }
 
 pub unpins_told : (c after : Core) (reader : ℕ) → after ≡ unpinned c reader → (t : Translation) → Describes c t →
@@ -73,6 +74,7 @@ lets_go_right c t reader index h = record {
   valid = all_keep t (LetGo reader index) h.valid tt;
   kept = let_one_go_kept c t reader index h.kept;
   live = h.live;
+  copies = h.copies;
 }
 
 pub wants_right : (c : Core) (t : Translation) (reader index : ℕ) → Describes c t →
@@ -81,6 +83,7 @@ wants_right c t reader index h = record {
   valid = all_keep t (WantPage reader index) h.valid tt;
   kept = wants_kept c t reader index h.kept;
   live = h.live;
+  copies = h.copies;
 }
 
 -- and the next one is wanted
@@ -105,7 +108,6 @@ work_held m left step content next w l held k = record {
   mending_is = k.mending_is;
   step_is = step_held step w.step k.step_is;
   to_repair = λ e. let r = k.to_repair e in record { differ = r.differ; unrepaired = r.unrepaired };
-  no_plan = k.no_plan;
   no_rests = k.no_rests;
   next_mark = k.next_mark;
   repaired = k.repaired;
@@ -129,6 +131,20 @@ work_held m left step content next w l held k = record {
         content_is = r.1.content_is;
       },
     )
+    step_held (Some (steps.Copy n key from read)) None r = absurd r
+    step_held (Some (steps.Copy n key from read)) (Some x) r = (
+      r.0,
+      r.1,
+      record {
+        number_is = r.2.number_is;
+        place = r.2.place;
+        stands = r.2.stands;
+        entry = r.2.entry;
+        known = r.2.known;
+        key = r.2.key;
+        copied = r.2.copied;
+      },
+    )
 
 -- commands that are durable may be acknowledged, and nothing that is kept changes
 pub acknowledges_right : (c : Core) (t : Translation) (count : ℕ) → Describes c t →
@@ -136,6 +152,7 @@ pub acknowledges_right : (c : Core) (t : Translation) (count : ℕ) → Describe
 acknowledges_right c t count h allowed = record {
   valid = all_keep t (Acknowledge count) h.valid allowed;
   live = h.live;
+  copies = h.copies;
   kept = record {
     numbers = h.kept.numbers;
     blocks = h.kept.blocks;
@@ -150,6 +167,7 @@ acknowledges_right c t count h allowed = record {
     };
     work = work_held c.mending (drop c.repaired c.lost) c.step c.content c.next_mark t.work t.ledger
         (max t.ledger.held count) h.kept.work;
+    plan = h.kept.plan;
     claims = h.kept.claims;
     pins = h.kept.pins;
     differ = h.kept.differ;

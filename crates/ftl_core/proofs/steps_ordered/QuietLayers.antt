@@ -1,7 +1,7 @@
 -- A layer whose mending has no step under way: when a step is due, and that nothing else is pending.
 use Rattle.std.proofs.Common.{◌≡◌, ◌∙◌, ◌⊎◌, ℕ, zero, suc, ◌+◌, Bool, true, false, List, [], ◌∷◌, Option, Some, None}
 use Rattle.std.proofs.Common.{length, drop, refl, sym, ap, subst, inl, inr, arith}
-use Rattle.std.specs.Prelude.{◌&&◌, ◌^◌, if◌then◌else◌, nat_le, nat_lt, is_none, is_some, slice_get}
+use Rattle.std.specs.Prelude.{◌^◌, if◌then◌else◌, nat_le, nat_lt, is_none, is_some, slice_get}
 use Rattle.std.proofs.lemmas.Bool.Decides.{nat_tests}
 use Rattle.ufs_spec.specs.Ledger.{Ledger}
 use Rattle.ufs_spec.specs.Ledger as ledger
@@ -13,15 +13,14 @@ use Rattle.power_loss.proofs.books.PagesByName.{none_some}
 use Rattle.power_loss.proofs.books.LayerParts.{MendingOf}
 use Rattle.power_loss.specs.Book.{Book, HasKey, book, last_number}
 use Rattle.power_loss.specs.Invariant.{IsLastRepair}
-use Rattle.ftl_core.specs.declared.books.Mending as kept
-use Rattle.ftl_core.specs.declared.books.Mending.TheVariants as mendings
 use Rattle.ftl_core.specs.declared.books.Step as kept_step
 use Rattle.ftl_core.specs.declared.books.Step.TheVariants as steps
 use Rattle.ftl_core.specs.Core.{Core}
 use Rattle.ftl_core.specs.Describes.{Describes, Kept, StepKept, mending_kept}
 use Rattle.ftl_core.proofs.job_taken.Mended.{none_waiting}
 use Rattle.ftl_core.proofs.look_and_accept.Numbers.{numbers_right}
-use Rattle.ftl_core.specs.Moves.{has_mark_number, has_number, is_repair_due, is_step_due, is_turn_due}
+use Rattle.ftl_core.specs.Moves.{has_mark_number, has_number}
+use Rattle.ftl_core.specs.Turns.{is_repair_due}
 
 -- Lists
 
@@ -45,6 +44,8 @@ step_kept_none l (Some (steps.Mark n fence)) content (Some o) h = refl
 step_kept_none l (Some (steps.Mark n fence)) content None h = absurd h
 step_kept_none l (Some (steps.Repair n k from there)) content (Some o) h = refl
 step_kept_none l (Some (steps.Repair n k from there)) content None h = absurd h
+step_kept_none l (Some (steps.Copy n k from read)) content (Some o) h = refl
+step_kept_none l (Some (steps.Copy n k from read)) content None h = absurd h
 
 -- the layer has no step where none is kept
 pub no_step : (c : Core) (t : Translation) → Kept c t → c.step ≡ None → t.work.step ≡ None
@@ -92,43 +93,20 @@ tests a b most e = grind (arith, nat_tests)
 pub group_number : (c : Core) (t : Translation) → Describes c t → has_number c ≡ layer.has_number t
 group_number c t h = tests c.last (ledger.next_number t.ledger) (2 ^ 62) (numbers_right c t h)
 
-some_if : {A : Type 0} (b : Bool) (x : A) → b ≡ is_some (if b then Some x else None)
+pub some_if : {A : Type 0} (b : Bool) (x : A) → b ≡ is_some (if b then Some x else None)
 some_if true x = refl
 some_if false x = refl
 
 -- the step that is due where none is under way
 pub order_is : (c : Core) (t : Translation) → Kept c t → c.step ≡ None →
-    due_order t ≡ layer.next_order t (mending_kept c.mending (drop c.repaired c.lost)) None
+    due_order t ≡ layer.next_order t (mending_kept c.mending (drop c.repaired c.lost)) t.work.plan
 order_is c t k none = (λ i. if is_none (no_step c t k none i) then
-    layer.next_order t (k.work.mending_is i) (k.work.no_plan i) else None)
+    layer.next_order t (k.work.mending_is i) t.work.plan else None)
 
-repair_due : (c : Core) (t : Translation) (left : List Key) → Describes c t → c.step ≡ None →
-    t.work.mending ≡ Repairing left →
-    is_repair_due c (at_front left) ≡ is_some (layer.next_order t (Repairing left) None)
-repair_due c t [] h none repairing = mark_number c t h.kept ∙ some_if (layer.has_mark_number t) (OrderMark None)
-repair_due c t (k ∷ left) h none repairing =
+pub repair_due : (c : Core) (t : Translation) (left : List Key) (plan : Option layer.Plan) → Describes c t →
+    c.step ≡ None → t.work.mending ≡ Repairing left →
+    is_repair_due c (at_front left) ≡ is_some (layer.next_order t (Repairing left) plan)
+repair_due c t [] plan h none repairing =
+    mark_number c t h.kept ∙ some_if (layer.has_mark_number t) (OrderMark None)
+repair_due c t (k ∷ left) plan h none repairing =
     group_number c t h ∙ some_if (layer.has_number t) (OrderRepair k left)
-
-step_due : (c : Core) (t : Translation) (m : kept.Mending) → Describes c t → c.step ≡ None →
-    t.work.mending ≡ mending_kept m (drop c.repaired c.lost) →
-    is_step_due c m ≡ is_some (layer.next_order t (mending_kept m (drop c.repaired c.lost)) None)
-step_due c t (mendings.Unmarked fence) h none is =
-    mark_number c t h.kept ∙ some_if (layer.has_mark_number t) (OrderMark fence)
-step_due c t mendings.Repairing h none is =
-    ap (is_repair_due c) (get_dropped c.lost c.repaired) ∙ repair_due c t (drop c.repaired c.lost) h none is
-step_due c t mendings.Mended h none is = refl
-
--- a step is due where the definitions have one
-pub turns_due : (c : Core) (t : Translation) → Describes c t → is_turn_due c ≡ layer.is_step_due t
-turns_due c t h = by (is_none c.step) refl
-  where
-    by : (b : Bool) → is_none c.step ≡ b → (is_none c.step && is_step_due c c.mending) ≡ is_some (due_order t)
-    by true e =
-        let none = none_is c.step e in
-        ap (λ (x : Bool). x && is_step_due c c.mending) e
-        ∙ step_due c t c.mending h none h.kept.work.mending_is
-        ∙ ap is_some (sym (order_is c t h.kept none))
-    by false e =
-        ap (λ (x : Bool). x && is_step_due c c.mending) e
-        ∙ sym (ap (λ (x : Bool). is_some (if x then layer.next_order t t.work.mending t.work.plan else None))
-        (sym (step_kept_none t.ledger c.step c.content t.work.step h.kept.work.step_is) ∙ e))

@@ -11,7 +11,7 @@ use Rattle.ufs_spec.specs.Ledger as ledger
 use Rattle.ufs_spec.specs.Ledger.{Entry, Ledger, Name, entry_of, latest_durable, latest_in}
 use Rattle.ufs_spec.specs.Plain.{shape_of_numbers, zero_block}
 use Rattle.ufs_spec.specs.Translation as layer
-use Rattle.ufs_spec.specs.Translation.{Repairing, Translation, flies_name, is_mended, name_of}
+use Rattle.ufs_spec.specs.Translation.{Repairing, Translation, is_mended}
 use Rattle.ufs_spec.specs.Translation.{standing_of, with_repair}
 use Rattle.ufs_spec.specs.declared.configs.Numbers.{Numbers}
 use Rattle.ufs_spec.specs.declared.flash.Key.{Key}
@@ -19,7 +19,6 @@ use Rattle.ufs_spec.specs.declared.flash.Place.{Place}
 use Rattle.ufs_spec.specs.declared.flash.Tag.{Tag}
 use Rattle.ufs_spec.proofs.Lists.{grown_length}
 use Rattle.power_loss.proofs.books.PagesByName.{added_page, none_some, page_within}
-use Rattle.power_loss.proofs.books.SmallFacts.{name_self}
 use Rattle.power_loss.specs.Book.{BaseAt, BaseNone, Book, FirstRight, HasKey, book, book_of}
 use Rattle.power_loss.specs.Invariant.{Valid}
 use Rattle.ftl_core.specs.declared.books.Mending.TheVariants as mendings
@@ -28,10 +27,11 @@ use Rattle.ftl_core.specs.declared.books.Pin.{Pin}
 use Rattle.ftl_core.specs.declared.books.Step.{Step}
 use Rattle.unit_map.specs.declared.Stored.{Stored}
 use Rattle.ftl_core.specs.Core.{Core}
-use Rattle.ftl_core.specs.Describes.{AreToRepair, Describes, IsStored, Kept, LedgerKept, PagesFly, PinsKept}
+use Rattle.ftl_core.specs.Describes.{AreToRepair, Describes, IsStored, Kept, LedgerKept, PinsKept}
 use Rattle.ftl_core.specs.Describes.{RepairKept, keys_to_repair, mending_kept, name_at, names_pending}
 use Rattle.ftl_core.specs.Moves.{next_number, repair_ordered, repair_step, stored_of}
 use Rattle.unit_map.specs.Places.{stored_in}
+use Rattle.ftl_core.proofs.job_taken.Flown.{group_writer}
 use Rattle.ftl_core.proofs.look_and_accept.Numbers.{numbers_right}
 use Rattle.ftl_core.proofs.opened.ListParts.{drop_next}
 use Rattle.ftl_core.proofs.steps_ordered.MarksOrdered.{MayBegin, dies_on, no_reads}
@@ -142,15 +142,15 @@ step_is l k number other from same at =
 -- Jobs in flight
 
 -- no die writes a group's page
-none_written : (t : Translation) → Valid t → PagesFly t.ledger.standing t.disk.flights →
+none_written : (c : Core) (t : Translation) → Valid t → Kept c t → c.step ≡ None →
     t.ledger.frontier ≡ t.ledger.greatest_seen + length t.ledger.groups →
     (die : ℕ) (p : Place) (tag : Tag) (body : List ℕ) →
     t.disk.flights die ≡ Some (disk.Programming p (GroupPage tag body)) → ⊥
-none_written t v fly up die p tag body at =
+none_written c t v k none up die p tag body at =
     let known = v.flights.known die p tag body at in
     let low = page_within (book t) tag.number tag.index _ known in
     let stands = v.frontier.stand tag.number tag.index _ (omega (arith, low, up)) known in
-    let new = fly.new die (name_of tag) (ap (flies_name (name_of tag)) at ∙ name_self (name_of tag)) in
+    let new = k.fly.new die tag.number tag.index (group_writer c t die p tag body k none at) in
     none_some stands.0 (sym new ∙ stands.1)
 
 -- no page stands behind the last number
@@ -191,7 +191,7 @@ repair_waits c t k left h none repairing at mending q = record {
   numbers = h.kept.numbers;
   blocks = h.kept.blocks;
   dies = dies_on t.numbers t.disk.blocks t.disk.flights c.step (repair_step c k) c.books none
-      (λ die. may_repair (repair_step c k) (t.disk.flights die) (none_written t h.valid h.kept.fly q.frontier die))
+      (λ die. may_repair (repair_step c k) (t.disk.flights die) (none_written c t h.valid h.kept none q.frontier die))
       h.kept.dies;
   fly = record { one = h.kept.fly.one; new = h.kept.fly.new };
   ledger_kept = ledger_repaired c.numbers c.places c.pages c.frontier c.last t.ledger k q.pages q.repairs q.frontier
@@ -205,11 +205,11 @@ repair_waits c t k left h none repairing at mending q = record {
     );
     to_repair = λ un. subst (λ (ks : List Key). AreToRepair (with_repair t.ledger k) (k ∷ ks)) (sym next.0)
         (repaired_to_repair t.ledger k (k ∷ left) q.frontier to_repair);
-    no_plan = h.kept.work.no_plan;
     no_rests = h.kept.work.no_rests;
     next_mark = h.kept.work.next_mark;
     repaired = no_more_mended left;
   };
+  plan = h.kept.plan;
   claims = h.kept.claims;
   pins = none_pinned t.ledger.frontier t.ledger.frontier (entry_of t.ledger) (entry_of (with_repair t.ledger k)) c.pins
       t.pins pinned h.kept.pins;

@@ -1,18 +1,17 @@
 //! How a job in flight ends, and what a step of the device's own orders.
-ghost use Rattle.std.specs.Prelude.{◌≡◌, ℕ, ◌<◌, ◌≤◌, ◌+◌, ◌^◌, IsSome, IfNone, IfSome, IsTrue, List, Option, length, vec_capacity, if◌then◌else◌, map, nat_le, option_map, position, is_some, slice_get, Some, filter, fold, not, option_copied};
-ghost use Rattle.std.specs.List.{list_any};
+ghost use Rattle.std.specs.Prelude.{◌≡◌, ℕ, ◌<◌, ◌≤◌, IfNone, List, Option, length, if◌then◌else◌, map, option_map, is_some, slice_get, Some, None, find, not, option_copied};
 ghost use Rattle.ftl_core.specs.Ends.{noted, page_durable, page_landed, pages_landed, risen, settled, pins_moved};
-ghost use Rattle.ftl_core.specs.Ends.{mark_over, mending_behind, repair_over, step_failed, step_there, step_written};
+ghost use Rattle.ftl_core.specs.Ends.{copy_durable, copy_over, copy_pending, index_in};
+ghost use Rattle.ftl_core.specs.Ends.{mark_over, mending_behind, plan_over, repair_over, step_failed, step_there, step_written};
 ghost use Rattle.ftl_core.specs.Ends.{with_content};
 ghost use Rattle.ftl_core.specs.Gives.{Gives, GivesIf, IsBodyLooked, IsBodyOf, IsGiven, change_after, change_ended, ending, erase_ended, group_ended, is_read, names, other_for, IsGivenTo, wanted_no_more};
 ghost use Rattle.ftl_core.specs.Gives.{IsContentOf, IsContentRead, IsReadAfter, IsReadOver, step_ended};
 ghost use Rattle.ftl_core.specs.Done.{FlightEnds, IsCoreEnded, IsEnded, IsFlightAfter};
-ghost use Rattle.ftl_core.specs.Moves.{claims_for, is_repair_due, is_turn_due, moved_pin, erased, has_number, mark_ordered, page_written, went_bad, pin_of, now_stored};
+ghost use Rattle.ftl_core.specs.Moves.{claims_for, moved_pin, erased, page_written, went_bad, pin_of, now_stored, stored_of};
 ghost use Rattle.write_cache.specs.Slots.{is_named};
-ghost use Rattle.ftl_core.specs.Moves.{repair_ordered, repair_turned, turned};
 ghost use Rattle.ufs_spec.specs.Keys.{IsBlock};
-ghost use Rattle.ufs_spec.specs.Moves.{EndJob, Ending, IsEndingOf, MayEnd, TakeStep, moved, suits};
-ghost use Rattle.ufs_spec.specs.Translation.{Translation, is_step_due};
+ghost use Rattle.ufs_spec.specs.Moves.{EndJob, Ending, IsEndingOf, MayEnd, moved, suits};
+ghost use Rattle.ufs_spec.specs.Translation.{Translation};
 ghost use Rattle.ufs_spec.specs.Disk.{Reader as WhoReads, Reading};
 ghost use Rattle.ufs_spec.specs.declared.flash.Place.{Place};
 ghost use Rattle.ftl_core.specs.Describes.{Describes, IsTold};
@@ -22,12 +21,12 @@ ghost use Rattle.ftl_core.specs.Tells.{IsReadOf};
 ghost use Rattle.ftl_core.specs.declared.ftl.Ended.{Ended};
 
 use super::pin_counts::pin_moves;
-use super::{Ended, Ftl, move_live, zeros};
+use super::{Ended, Ftl, move_live, move_page};
 use crate::books::{Book, Flight, Looked, Mending, Pin, Reader, Step};
 use page_tag::one_seal;
-use ufs_spec::{Block, Fence, Key, Outcome, Page, Place, Tag};
+use ufs_spec::{Block, Key, Outcome, Page, Place, Tag};
 use unit_map::Stored;
-use write_cache::{LAST_NUMBER, Landed};
+use write_cache::Landed;
 
 /// Whether the tag is of this address and this number.
 fn names(tag: &Tag, key: Key, number: u64) -> bool
@@ -201,13 +200,14 @@ fn content_of_page<'a>(step: &Option<Step>, page: &'a Page, tag: &Option<Tag>) -
                 ..
             },
         ) => body_of(page, tag, *key, stored.number),
+        Some(Step::Copy { number, key, .. }) => body_of(page, tag, *key, *number),
         _ => None,
     }
 }
 
-/// The content of the step is there.
-fn step_there(step: Option<Step>) -> Option<Step>
-    ensures { result ≡ step_there step }
+/// The content of the step is there: it was read from a page with this tag, which a copy of it has too.
+fn step_there(step: Option<Step>, tag: &Option<Tag>) -> Option<Step>
+    ensures { result ≡ step_there tag.now step }
 {
     match step {
         Some(
@@ -223,7 +223,30 @@ fn step_there(step: Option<Step>) -> Option<Step>
             from,
             is_there: true,
         }),
+        Some(
+            Step::Copy {
+                number,
+                key,
+                from,
+                ..
+            },
+        ) => Some(Step::Copy {
+            number,
+            key,
+            from,
+            tag: *tag,
+        }),
         _ => step,
+    }
+}
+
+/// The index that a copy has in its group, by the tag of the page that was read.
+fn index_in(tag: &Option<Tag>) -> u16
+    ensures { result ≡ index_in tag.now }
+{
+    match tag {
+        Some(tag) => tag.index,
+        None => 0,
     }
 }
 
@@ -257,11 +280,94 @@ impl Ftl {
         ensures { self.new ≡ step_written self.old die book place }
     {
         match self.step {
-            Some(Step::Mark { .. }) => self.mark_over(),
-            Some(Step::Repair { key, .. }) => self.repair_over(key, place),
-            None => {}
+            Some(Step::Mark { .. }) => self.mark_written(die, book),
+            Some(Step::Repair { key, .. }) => self.repair_written(die, book, key, place),
+            Some(
+                Step::Copy {
+                    number,
+                    key,
+                    tag,
+                    ..
+                },
+            ) => {
+                self.copy_written(die, book, number, key, index_in(&tag), place);
+            }
+            None => self.page_written(die, book),
         }
+    }
+
+    /// A mark is written. If it is that of a collection, the collected block is free.
+    fn mark_written(&mut self, die: u8, book: Book)
+        ensures { self.new ≡ plan_over (page_written (mark_over self.old) die book book.filling) }
+    {
+        self.mark_over();
         self.page_written(die, book);
+        self.plan_over();
+    }
+
+    /// The collection that is begun, if one is, is over: its block is free, unless it is bad.
+    fn plan_over(&mut self)
+        ensures { self.new ≡ plan_over self.old }
+    {
+        if let Some(at) = self.plan.victim() {
+            self.blocks.freed(at.die, at.block);
+            self.plan.end();
+        }
+    }
+
+    /// The page of a repair is written.
+    fn repair_written(&mut self, die: u8, book: Book, key: Key, place: Place)
+        ensures { self.new ≡ page_written (repair_over self.old key place) die book book.filling }
+    {
+        self.repair_over(key, place);
+        self.page_written(die, book);
+    }
+
+    /// A copy is written. No group becomes durable by it, since its page stood before: `settle` finds
+    /// nothing to do, and keeps one clause for all pages of groups.
+    fn copy_written(&mut self, die: u8, book: Book, number: u64, key: Key, index: u16, place: Place)
+        ensures { self.new ≡
+            settled (page_written (copy_over self.old number key index place) die book book.filling) }
+    {
+        self.copy_over(number, key, index, place);
+        self.page_written(die, book);
+        self.settle();
+    }
+
+    /// The copy of a page stands there: the page is found there from now on, if it is needed still.
+    fn copy_over(&mut self, number: u64, key: Key, index: u16, place: Place)
+        ensures { self.new ≡ copy_over self.old number key index place }
+    {
+        self.step = None;
+        if number <= self.cache.frontier() {
+            self.copy_durable(number, key, place);
+        } else {
+            self.copy_pending(number, index, place);
+        }
+    }
+
+    /// The key reads from the copy of its page, if no newer page of it is durable.
+    fn copy_durable(&mut self, number: u64, key: Key, place: Place)
+        ensures { self.new ≡ copy_durable self.old number key place (stored_of self.old key) }
+    {
+        if let Some(stored) = self.stored(key) {
+            if stored.number == number {
+                self.note_place(key, Stored { place, number });
+            }
+        }
+    }
+
+    /// The page of a pending group is written where its copy is, and no more where it was.
+    fn copy_pending(&mut self, number: u64, index: u16, place: Place)
+        ensures { self.new ≡
+            copy_pending self.old number index place (find (is_named number index) self.old.pages) }
+    {
+        let Some(page) = self.cache.page_named(number, index) else {
+            return;
+        };
+        let old = page.written;
+        self.cache.mark_written(number, index, place);
+        move_page(&mut self.live, old, place);
     }
 
     /// The mark is finished: repairs follow, or the mending is over.
@@ -294,40 +400,6 @@ impl Ftl {
             self.order_mark(fence);
         }
         self.went_bad(die, place.block);
-    }
-
-    /// A mark with the next number and this fence waits, where a number is left.
-    fn order_mark(&mut self, fence: Option<Fence>)
-        ensures { self.new ≡ mark_ordered self.old fence }
-    {
-        if self.next_mark <= LAST_NUMBER {
-            self.step = Some(Step::Mark {
-                number: self.next_mark,
-                fence,
-            });
-            self.next_mark += 1;
-        } else {
-            self.step = None;
-        }
-    }
-
-    /// The repair of the key waits, with the next number: its content is read from where it stands, or is
-    /// zeros.
-    fn order_repair(&mut self, key: Key)
-        requires numbered { IsTrue (has_number self.old) }
-        requires left { self.old.repaired < length self.old.lost }
-        ensures { self.new ≡ repair_ordered self.old key }
-    {
-        let from = self.stored(key);
-        let number = self.cache.give_number();
-        self.repaired += 1;
-        self.content = zeros();
-        self.step = Some(Step::Repair {
-            number,
-            key,
-            from,
-            is_there: from.is_none(),
-        });
     }
 
     /// The frontier is the next number, if that was given.
@@ -490,7 +562,7 @@ impl Ftl {
     fn give(&mut self, reader: Reader, outcome: &Outcome, tag_found: &Option<Tag>) -> Ended
         requires { IsTagRead outcome.now tag_found.now }
         ensures answer { Gives self.old outcome.now reader result }
-        ensures after { IsReadOver self.old outcome.now reader self.new }
+        ensures after { IsReadOver self.old outcome.now tag_found.now reader self.new }
     {
         match reader {
             Reader::Task { tag, index } => {
@@ -510,11 +582,12 @@ impl Ftl {
     /// is owed again.
     fn take_content(&mut self, outcome: &Outcome, tag: &Option<Tag>)
         requires { IsTagRead outcome.now tag.now }
-        ensures { (body : Option (List ℕ)) × IsContentRead self.old.step outcome.now body × (self.new ≡ with_content self.old body) }
+        ensures { (body : Option (List ℕ)) × IsContentRead self.old.step outcome.now body
+            × (self.new ≡ with_content self.old tag.now body) }
     {
         if let Some(body) = content_read(&self.step, outcome, tag) {
             self.content = *body;
-            self.step = step_there(self.step);
+            self.step = step_there(self.step, tag);
         }
     }
 
@@ -530,7 +603,7 @@ impl Ftl {
         requires book { slice_get self.old.books die ≡ Some book }
         requires tag { IsTagRead outcome.now tag.now }
         ensures answer { GivesIf (is_read outcome.now) self.old outcome.now reader result }
-        ensures after { IsReadAfter (is_read outcome.now) self.old die book outcome.now reader self.new }
+        ensures after { IsReadAfter (is_read outcome.now) self.old die book outcome.now tag.now reader self.new }
     {
         if !is_read(outcome) {
             return None;
@@ -551,7 +624,7 @@ impl Ftl {
         requires tag { IsTagRead outcome.now tag.now }
         ensures nothing { IfNone result (self.new ≡ self.old) }
         ensures answer { FlightEnds self.old book.flight outcome.now result }
-        ensures after { IsFlightAfter self.old die book book.flight outcome.now self.new }
+        ensures after { IsFlightAfter self.old die book book.flight outcome.now tag.now self.new }
     {
         match book.flight? {
             Flight::Read { reader, .. } => self.read_ended(die, book, reader, outcome, tag),
@@ -566,7 +639,7 @@ impl Ftl {
         requires { IsTagRead outcome.now tag.now }
         ensures nothing { IfNone result (self.new ≡ self.old) }
         ensures answer { IsEnded self.old die outcome.now result }
-        ensures after { IsCoreEnded self.old die outcome.now self.new }
+        ensures after { IsCoreEnded self.old die outcome.now tag.now self.new }
         // It is known exactly where the outcome is of the kind of the job in flight.
         ensures known { (t : Translation) → Describes self.old t → is_some result ≡ suits (t.disk.flights die) outcome.now }
         // What is kept then describes what the end makes of the layer, and the answer tells what it gave.
@@ -587,60 +660,5 @@ impl Ftl {
     {
         let book = self.book(die)?;
         self.job_ended(die, book, outcome, tag)
-    }
-
-    /// Does one step of the mending, where one is due: it orders a mark or a repair. False, and nothing
-    /// changes, where none is due: one is under way, the device is mended, or no number is left.
-    pub fn turn(&mut self) -> bool
-        ensures due { result ≡ is_turn_due self.old }
-        ensures after { self.new ≡ (if result then turned self.old else self.old) }
-        ensures described_due { (t : Translation) → Describes self.old t → result ≡ is_step_due t }
-        ensures described { (t : Translation) → Describes self.old t → Describes self.new (moved t TakeStep) }
-        // Whatever a stop leaves then is right.
-        ensures stop { (t : Translation) → Describes self.old t → StopsRight self.new (moved t TakeStep) }
-        ensures same_claims { claims_for self.new ≡ claims_for self.old }
-    {
-        if self.step.is_some() {
-            return false;
-        }
-        match self.mending {
-            Mending::Unmarked(fence) => self.turn_mark(fence),
-            Mending::Repairing => self.turn_repair(),
-            Mending::Mended => false,
-        }
-    }
-
-    /// Orders a mark with this fence, where a number is left.
-    fn turn_mark(&mut self, fence: Option<Fence>) -> bool
-        ensures due { result ≡ nat_le self.old.next_mark (2 ^ 62) }
-        ensures after { self.new ≡ (if result then mark_ordered self.old fence else self.old) }
-    {
-        if self.next_mark > LAST_NUMBER {
-            return false;
-        }
-        self.order_mark(fence);
-        true
-    }
-
-    /// The next key that has no repair yet.
-    fn next_lost(&self) -> Option<Key>
-        ensures { result ≡ slice_get self.now.lost self.now.repaired }
-    {
-        self.lost.get(self.repaired).copied()
-    }
-
-    /// Orders the repair of the next key, where a number is left, or the mark that follows the repairs.
-    fn turn_repair(&mut self) -> bool
-        ensures due { result ≡ is_repair_due self.old (slice_get self.old.lost self.old.repaired) }
-        ensures after { self.new ≡ (if result then repair_turned self.old (slice_get self.old.lost self.old.repaired) else self.old) }
-    {
-        let Some(key) = self.next_lost() else {
-            return self.turn_mark(None);
-        };
-        if !self.cache.has_number() {
-            return false;
-        }
-        self.order_repair(key);
-        true
     }
 }

@@ -2,7 +2,8 @@
 ghost use Rattle.std.specs.Prelude.{◌≡◌, ℕ, ◌<◌, ◌≤◌, ◌+◌, ◌^◌, IfNone, IfSome, length, slice_get, slice_set, Some, None};
 ghost use Rattle.std.specs.Prelude.{true, false, if◌then◌else◌, unwrap_or, count_by, find, option_copied, option_map, position};
 ghost use Rattle.std.specs.List.{list_any};
-ghost use Rattle.ftl_core.specs.Takes.{block_for, core_taken, first_owed, flight_writes, group_job, is_group_page};
+ghost use Rattle.ufs_spec.specs.Pages.{IsTag};
+ghost use Rattle.ftl_core.specs.Takes.{block_for, copy_program, core_taken, first_owed, flight_writes, group_job, is_group_page};
 ghost use Rattle.ftl_core.specs.Takes.{is_sealable, is_step_flight, is_step_reading, is_step_there, job_of, job_taken};
 ghost use Rattle.ftl_core.specs.Takes.{lowest_below, mark_program, next_place, owed_flight, owed_read, page_flight};
 ghost use Rattle.ftl_core.specs.Takes.{page_of_group, page_waiting, page_waits, page_waits_in, read_of, reads_step};
@@ -191,6 +192,13 @@ fn step_wants(step: &Option<Step>) -> Option<Place>
                 ..
             },
         ) => Some(stored.place),
+        Some(
+            Step::Copy {
+                from,
+                tag: None,
+                ..
+            },
+        ) => Some(*from),
         _ => None,
     }
 }
@@ -202,6 +210,7 @@ fn is_step_there(step: &Option<Step>) -> bool
     match step {
         Some(Step::Mark { .. }) => true,
         Some(Step::Repair { is_there, .. }) => *is_there,
+        Some(Step::Copy { tag, .. }) => tag.is_some(),
         None => false,
     }
 }
@@ -322,7 +331,7 @@ impl Ftl {
     }
 
     /// How many blocks of all dies are free.
-    fn free_blocks(&self) -> usize
+    pub(super) fn free_blocks(&self) -> usize
         ensures { result ≡ free_blocks self.now }
     {
         self.blocks.free_blocks()
@@ -474,6 +483,24 @@ impl Ftl {
         }
     }
 
+    /// The program of the copy of a page that was read with this tag: it has the same data and tag, but
+    /// for the frontier that it records.
+    fn copy_program(&self, place: Place, tag: &Tag) -> UnsealedJob
+        requires { IsTag tag.now }
+        ensures { result ≡ copy_program self.now place tag.now }
+    {
+        let copy = Tag {
+            kind: tag.kind,
+            unit: tag.unit,
+            address: tag.address,
+            number: tag.number,
+            index: tag.index,
+            size: tag.size,
+            frontier: self.cache.frontier(),
+        };
+        UnsealedJob::program(place, &copy, &self.content)
+    }
+
     /// The program of the page of the step under way.
     fn step_job(&self, place: Place) -> Option<UnsealedJob>
         ensures { result ≡ step_job self.now place self.now.step }
@@ -481,6 +508,8 @@ impl Ftl {
         match self.step {
             Some(Step::Mark { number, fence }) => Some(self.mark_program(place, number, fence)),
             Some(Step::Repair { number, key, .. }) => self.repair_job(place, number, key),
+            Some(Step::Copy { tag: Some(tag), .. }) => Some(self.copy_program(place, &tag)),
+            Some(Step::Copy { tag: None, .. }) => None,
             None => None,
         }
     }

@@ -11,7 +11,7 @@ use Rattle.power_loss.proofs.Common.{is_mended, is_pinned, is_step_due, live_pla
 use Rattle.power_loss.proofs.Common.{spots, stepped, turned, victim, victim_order, wants_collection, with_plan, Place}
 use Rattle.power_loss.proofs.MachineWords.{IsBefore}
 use Rattle.std.proofs.Common.{nat_lt}
-use Rattle.ufs_spec.specs.Stages.{collects, most_bad}
+use Rattle.ufs_spec.specs.Stages.{most_bad}
 use Rattle.ufs_spec.specs.Translation.{count_blocks, gains, is_bad, is_bad_with_live}
 use Rattle.ufs_spec.specs.Translation.{least_of, live_count}
 use Rattle.ufs_spec.specs.Translation.{may_be_victim}
@@ -207,20 +207,17 @@ is_few t = nat_lt (count_blocks t is_free) (2 * t.numbers.dies + 4)
 abbrev is_any_bad : Translation → Bool
 is_any_bad t = list_any (is_bad_with_live t) (spots t.numbers)
 
-scarce_told : (t : Translation) → wants_collection t ≡ true → (collects ≡ true) × IsRoomScarce t
+scarce_told : (t : Translation) → wants_collection t ≡ true → IsRoomScarce t
 scarce_told t h =
-    let a = and_parts collects (is_few t || is_any_bad t) h in (
-      a.0,
-      ⊎_elim (λ k. inl (ltb-true (count_blocks t is_free) (2 * t.numbers.dies + 4) k))
-          (λ k. let r = any_in (is_bad_with_live t) (spots t.numbers) k in inr (r.0, live_told r.1 r.2))
-          (or_cases (is_few t) (is_any_bad t) a.1),
-    )
+    ⊎_elim (λ k. inl (ltb-true (count_blocks t is_free) (2 * t.numbers.dies + 4) k))
+    (λ k. let r = any_in (is_bad_with_live t) (spots t.numbers) k in inr (r.0, live_told r.1 r.2))
+    (or_cases (is_few t) (is_any_bad t) h)
 
-scarce_shown : (t : Translation) → collects ≡ true → IsRoomScarce t → wants_collection t ≡ true
-scarce_shown t c r = and_from collects (is_few t || is_any_bad t) c
-    (⊎_elim (λ k. or_left (is_few t) (is_any_bad t) (lt-ltb (count_blocks t is_free) (2 * t.numbers.dies + 4) k))
+scarce_shown : (t : Translation) → IsRoomScarce t → wants_collection t ≡ true
+scarce_shown t r =
+    ⊎_elim (λ k. or_left (is_few t) (is_any_bad t) (lt-ltb (count_blocks t is_free) (2 * t.numbers.dies + 4) k))
     (λ (k : (s : Spot) × IsBadWithLive t s). or_right (is_few t) (is_any_bad t)
-    (in_any (is_bad_with_live t) k.0 (spots t.numbers) (in_spots k.1.inside) (live_shown k.1))) r)
+    (in_any (is_bad_with_live t) k.0 (spots t.numbers) (in_spots k.1.inside) (live_shown k.1))) r
 
 pub due_only : (t : Translation) → is_mended t.work.mending ≡ true → t.work.plan ≡ None → is_step_due t ≡ true →
     IsCollectionDue t
@@ -230,15 +227,13 @@ due_only t mended plan h =
     let n : is_some (next_order t Mended None) ≡ true = ap is_some (λ j. next_order t (sym w j) (sym plan j)) ∙ a.1 in
     let b = due_if (wants_collection t && has_mark_number t) (victim_order t (victim t)) n in
     let c = and_parts (wants_collection t) (has_mark_number t) b.0 in
-    let s = scarce_told t c.0 in
     record {
-      collecting = s.0;
       mended = mended;
       no_step = none_is t.work.step a.0;
       no_plan = plan;
       number = c.1;
       some = found (victim t) refl b.1;
-      scarce = s.1;
+      scarce = scarce_told t c.0;
     }
   where
     found : (o : Option Spot) → victim t ≡ o → is_some (victim_order t o) ≡ true → (s : Spot) × CanBeCollected t s
@@ -250,7 +245,7 @@ order_is : {t : Translation} → IsCollectionDue t → due_order t ≡ victim_or
 order_is {t} d =
     (λ j. if is_none (d.no_step j) then next_order t (mended_told t.work.mending d.mended j) (d.no_plan j) else None)
     ∙ cond-true (wants_collection t && has_mark_number t) (victim_order t (victim t)) None
-    (and_from (wants_collection t) (has_mark_number t) (scarce_shown t d.collecting d.scarce) d.number)
+    (and_from (wants_collection t) (has_mark_number t) (scarce_shown t d.scarce) d.number)
 
 a_victim : {t : Translation} → IsCollectionDue t → (s : Spot) × (victim t ≡ Some s)
 a_victim {t} d = go (victim t) refl

@@ -6,7 +6,8 @@ use Rattle.ftl_core.proofs.stopped.EachStop.{stops_right}
 use Rattle.ftl_core.proofs.ftl.Ftl.done.Goals as goal
 
 pub returns-in_err-book-clause-described : goal.returns-in_err-book-clause-described
-returns-in_err-book-clause-described c = ends_right c.args.self.now _ c.args.die c.args.outcome.now (search rules)
+returns-in_err-book-clause-described c =
+    ends_right c.args.self.now _ c.args.die c.args.outcome.now c.args.tag.now c.requires (search rules)
 
 pub returns-in_err-book-clause-told : goal.returns-in_err-book-clause-told
 returns-in_err-book-clause-told c = ends_told c.args.self.now c.args.die c.args.outcome.now _ (search rules)
@@ -20,7 +21,7 @@ returns-clause-known c =
 
 pub returns-clause-described : goal.returns-clause-described
 returns-clause-described c =
-    ends_right c.args.self.now c.job_ended.new.self c.args.die c.args.outcome.now (search rules)
+    ends_right c.args.self.now c.job_ended.new.self c.args.die c.args.outcome.now c.args.tag.now c.requires (search rules)
 
 pub returns-clause-told : goal.returns-clause-told
 returns-clause-told c =
@@ -38,4 +39,4 @@ returns-clause-stop c = λ t ending h is may. stops_right _ _ (returns-clause-de
 
 pub returns-clause-same_claims : goal.returns-clause-same_claims
 returns-clause-same_claims c =
-    same_claims c.args.self.now c.job_ended.new.self c.args.die c.args.outcome.now (search rules)
+    same_claims c.args.self.now c.job_ended.new.self c.args.die c.args.outcome.now c.args.tag.now (search rules)

@@ -12,5 +12,6 @@ returns-clause-after c =
     let read : is_read o ≡ true = search rules in
     let idle = c.set_flight.ensures
     ∙ ap (λ (b : Option Book). record was { books = flight_set was.books c.args.die None b }) c.requires.book in
-    subst (λ (b : Bool). IsReadAfter b was c.args.die c.args.book o c.args.reader c.give.new.self) (sym read)
-    (subst (λ (z : Core). IsReadOver z o c.args.reader c.give.new.self) idle c.give.ensures.after)
+    let tag = c.args.tag.now in
+    subst (λ (b : Bool). IsReadAfter b was c.args.die c.args.book o tag c.args.reader c.give.new.self) (sym read)
+    (subst (λ (z : Core). IsReadOver z o tag c.args.reader c.give.new.self) idle c.give.ensures.after)

@@ -1,6 +1,6 @@
 use Rattle.std.proofs.Common.{◌≡◌, ◌∙◌, false, rules}
-use Rattle.ftl_core.specs.Moves.{is_turn_due}
-use Rattle.ftl_core.proofs.steps_ordered.QuietLayers.{turns_due}
+use Rattle.ftl_core.specs.Turns.{is_turn_due}
+use Rattle.ftl_core.proofs.steps_ordered.Turns.{turns_due}
 use Rattle.ftl_core.proofs.steps_ordered.Turns.{turns_told}
 use Rattle.ftl_core.proofs.stopped.EachStop.{stops_right}
 use Rattle.ftl_core.proofs.ftl.Ftl.turn.Goals as goal
@@ -29,6 +29,14 @@ returns-in-Unmarked-clause-stop c = λ t h. stops_right _ _ (returns-in-Unmarked
 pub returns-in-Repairing-clause-stop : goal.returns-in-Repairing-clause-stop
 returns-in-Repairing-clause-stop c = λ t h. stops_right _ _ (returns-in-Repairing-clause-described c t h)
 
+pub returns-in-Mended-clause-described_due : goal.returns-in-Mended-clause-described_due
+returns-in-Mended-clause-described_due c =
+    let due : c.turn_collection.result ≡ is_turn_due c.args.self.now = search rules in
+    λ t h. due ∙ turns_due c.args.self.now t h
+
+pub returns-in-Mended-clause-described : goal.returns-in-Mended-clause-described
+returns-in-Mended-clause-described c =
+    turns_told c.args.self.now _ c.turn_collection.result (search rules) (search rules)
+
 pub returns-in-Mended-clause-stop : goal.returns-in-Mended-clause-stop
-returns-in-Mended-clause-stop c = λ t h.
-    stops_right _ _ (turns_told c.args.self.now _ false (search rules) (search rules) t h)
+returns-in-Mended-clause-stop c = λ t h. stops_right _ _ (returns-in-Mended-clause-described c t h)

@@ -1,0 +1,2 @@
+pub mod VictimsAgree
+pub mod VictimsFound

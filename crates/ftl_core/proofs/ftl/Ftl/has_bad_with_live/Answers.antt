@@ -1,0 +1,13 @@
+use Rattle.std.proofs.Common.{◌∙◌, ap}
+use Rattle.std.specs.List.{list_any}
+use Rattle.block_table.specs.Lives.{spots_in}
+use Rattle.ftl_core.specs.Collects.{is_bad_with_live}
+use Rattle.ftl_core.specs.Core.{Core}
+use Rattle.ftl_core.proofs.collected.VictimsFound.{bad_found}
+use Rattle.ftl_core.proofs.ftl.Ftl.has_bad_with_live.Goals as goal
+
+pub returns : goal.returns
+returns c =
+    c.has_bad_with_live.ensures
+    ∙ bad_found c.self.inside c.self.invariant
+    ∙ ap (λ (z : Core). list_any (is_bad_with_live z) (spots_in z.live.sizes)) c.self.view_is
