@@ -5,6 +5,8 @@
 #[cfg(test)]
 mod benches;
 #[cfg(test)]
+mod collections;
+#[cfg(test)]
 mod erases;
 #[cfg(test)]
 mod failures;

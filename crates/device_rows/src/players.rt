@@ -33,7 +33,7 @@ pub struct Player {
 }
 
 /// A page whose check does not hold, and which is not blank.
-fn torn() -> Page {
+pub fn torn() -> Page {
     Page {
         body: [0x5C; 4096],
         spare: [0; 96],
@@ -41,7 +41,7 @@ fn torn() -> Page {
 }
 
 /// A page of bytes FFh.
-fn blank() -> Page {
+pub fn blank() -> Page {
     Page {
         body: [0xFF; 4096],
         spare: [0xFF; 96],
@@ -49,7 +49,7 @@ fn blank() -> Page {
 }
 
 /// What the page of the die holds.
-fn page_of(rt: &impl Abort, dies: &[MemDie], place: Place) -> Page {
+pub fn page_of(rt: &impl Abort, dies: &[MemDie], place: Place) -> Page {
     let die = usize::from(place.die);
     assert!(rt; die < dies.len() && dies[die].can_do(&Job::Read(place)));
     *dies[die].page_at(place.block, place.page)
@@ -234,21 +234,21 @@ pub const fn write_of(address: u8) -> [u8; 32] {
     ]
 }
 
-const DATA: [u8; 32] = [
+pub const DATA: [u8; 32] = [
     0x02, 0x00, 0x00, 0x07, 0, 0, 0, 0, 0, 0, 0x10, 0x00, 0, 0, 0, 0, 0x00, 0x00, 0x10, 0x00, 0, 0,
     0, 0, 0, 0, 0, 0, 0, 0, 0, 0,
 ];
 
 /// The COMMAND of a READ of one block of unit 0, task tag 08, the header of its DATA IN, and its
 /// RESPONSE.
-const fn read_of(address: u8) -> [u8; 32] {
+pub const fn read_of(address: u8) -> [u8; 32] {
     [
         0x01, 0x40, 0x00, 0x08, 0, 0, 0, 0, 0, 0, 0, 0, 0x00, 0x00, 0x10, 0x00, 0x28, 0x00, 0, 0,
         0, address, 0, 0, 1, 0, 0, 0, 0, 0, 0, 0,
     ]
 }
 
-const DATA_IN: [u8; 32] = [
+pub const DATA_IN: [u8; 32] = [
     0x22, 0x00, 0x00, 0x08, 0, 0, 0, 0, 0, 0, 0x10, 0x00, 0, 0, 0, 0, 0x00, 0x00, 0x10, 0x00, 0, 0,
     0, 0, 0, 0, 0, 0, 0, 0, 0, 0,
 ];

@@ -5,7 +5,7 @@ use std::process::Abort;
 use std::test::Fail;
 
 /// The offsets of the 32 blocks in the data of a command, as messages spell them.
-const OFFSETS: [&str; 32] = [
+pub const OFFSETS: [&str; 32] = [
     "00000000", "00001000", "00002000", "00003000", "00004000", "00005000", "00006000", "00007000",
     "00008000", "00009000", "0000a000", "0000b000", "0000c000", "0000d000", "0000e000", "0000f000",
     "00010000", "00011000", "00012000", "00013000", "00014000", "00015000", "00016000", "00017000",
@@ -15,9 +15,9 @@ const OFFSETS: [&str; 32] = [
 /// WRITE(10) with FUA of 32 blocks from address 0 on, the same without FUA, and READ(10) of these blocks.
 const WRITE_DURABLE: &str = "2a0800000000000020";
 
-const WRITE: &str = "2a0000000000000020";
+pub const WRITE: &str = "2a0000000000000020";
 
-const READ: &str = "280000000000000020";
+pub const READ: &str = "280000000000000020";
 
 /// The ways in which a stop may leave the page of a program.
 const KINDS: [&str; 3] = ["old", "new", "torn"];
@@ -30,14 +30,14 @@ const NEXT_PAGES: [&str; 9] = ["1", "2", "3", "4", "5", "6", "7", "8", "9"];
 
 /// A script and the output that is expected of it.
 #[derive(Drop)]
-struct Row {
+pub struct Row {
     script: Text,
     output: Text,
 }
 
 impl Row {
     /// New dies after `settle 4`.
-    fn new(alloc: Global) -> Result<Row, Fail> {
+    pub fn new(alloc: Global) -> Result<Row, Fail> {
         Ok(Row {
             script: Text::script(alloc)?.with("settle 4\n")?,
             output: Text::new(alloc).with("settle 4\n")?,
@@ -45,7 +45,7 @@ impl Row {
     }
 
     /// Some lines, and what they print.
-    fn with(self, lines: &str, printed: &str) -> Result<Row, Fail> {
+    pub fn with(self, lines: &str, printed: &str) -> Result<Row, Fail> {
         Ok(Row {
             script: self.script.with(lines)?,
             output: self.output.with(printed)?,
@@ -53,7 +53,7 @@ impl Row {
     }
 
     /// A command: its first four bytes, how many bytes its host expects, and its CDB.
-    fn command(self, head: &str, expected: &str, cdb: &str) -> Result<Row, Fail> {
+    pub fn command(self, head: &str, expected: &str, cdb: &str) -> Result<Row, Fail> {
         Ok(Row {
             script: self.script.command(head, expected, cdb)?,
             output: self.output.with("host ok\n")?,
@@ -61,7 +61,7 @@ impl Row {
     }
 
     /// The data of a WRITE, block by block: each is asked for, and full of one byte.
-    fn send(mut self, tag: &str, byte: &str, blocks: usize) -> Result<Row, Fail> {
+    pub fn send(mut self, tag: &str, byte: &str, blocks: usize) -> Result<Row, Fail> {
         for offset in OFFSETS.iter().take(blocks) {
             self = Row {
                 script: self
@@ -90,8 +90,8 @@ impl Row {
         Ok(self)
     }
 
-    /// One DATA IN: its offset, its count as the fields of the header have it, and the byte that it is
-    /// full of.
+    /// One DATA IN, for which a die may have to read: its offset, its count as the fields of the header
+    /// have it, and the byte that it is full of.
     fn block(
         self,
         tag: &str,
@@ -100,11 +100,24 @@ impl Row {
         byte: &str,
         bytes: usize,
     ) -> Result<Row, Fail> {
+        self.with("settle 2\n", "settle 2\n")?
+            .data_in(tag, offset, count, byte, bytes)
+    }
+
+    /// The same where nothing is left to wait for.
+    pub fn data_in(
+        self,
+        tag: &str,
+        offset: &str,
+        count: &str,
+        byte: &str,
+        bytes: usize,
+    ) -> Result<Row, Fail> {
         Ok(Row {
-            script: self.script.with("settle 2\nreply\n")?,
+            script: self.script.with("reply\n")?,
             output: self
                 .output
-                .with("settle 2\nreply 220000")?
+                .with("reply 220000")?
                 .with(tag)?
                 .filled("", 6)?
                 .with(count)?
@@ -118,7 +131,7 @@ impl Row {
     }
 
     /// GOOD, with this residual.
-    fn good(self, head: &str, residual: &str) -> Result<Row, Fail> {
+    pub fn good(self, head: &str, residual: &str) -> Result<Row, Fail> {
         Ok(Row {
             script: self.script.with("reply\n")?,
             output: self.output.response(head, residual)?,
@@ -126,7 +139,7 @@ impl Row {
     }
 
     /// A READ of the first 32 blocks, all of which are full of one byte.
-    fn read_all(self, byte: &str) -> Result<Row, Fail> {
+    pub fn read_all(self, byte: &str) -> Result<Row, Fail> {
         let mut row = self.command("01400008", "00020000", READ)?;
         for offset in OFFSETS {
             row = row.block("08", offset, "1000", byte, 4096)?;
@@ -134,7 +147,7 @@ impl Row {
         row.good("21000008", "00000000")
     }
 
-    fn run(self, rt: &(impl Abort), alloc: Global) -> Result<(), Fail> {
+    pub fn run(self, rt: &(impl Abort), alloc: Global) -> Result<(), Fail> {
         expect(rt, alloc, &self.script, &self.output)
     }
 }

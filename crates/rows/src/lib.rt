@@ -7,6 +7,8 @@ mod bad_input;
 #[cfg(test)]
 mod checks;
 #[cfg(test)]
+mod collection;
+#[cfg(test)]
 mod commands;
 #[cfg(test)]
 mod gap;
