@@ -13,7 +13,7 @@ PROGRAMS := ufsim ufstool
 INSTALLED = $(foreach it,$(PROGRAMS),bin/$(it) share/man/man1/$(it).1 share/bash-completion/completions/$(it) \
 	share/zsh/site-functions/_$(it) share/fish/vendor_completions.d/$(it).fish)
 
-.PHONY: help demo prove test format install uninstall bench wrong-bodies turned-rules lifted-limits refused-memory
+.PHONY: help demo prove test format install uninstall bench collection wrong-bodies turned-rules lifted-limits refused-memory
 
 help:
 	@echo 'make demo                  shows a write, a read and six stops; builds without proving, two minutes'
@@ -24,6 +24,8 @@ help:
 	@echo '                           their manual pages and completions to DIR/share'
 	@echo 'make uninstall PREFIX=DIR  removes what was installed (both: without PREFIX, DIR is $(PREFIX))'
 	@echo 'make bench                 times writes and reads, after it proves what they need'
+	@echo 'make collection            counts the pages that a device programs for each that is written, once it'
+	@echo '                           collects, and the same of a simulation'
 	@echo 'make wrong-bodies          tries the wrong bodies alone, and sees that the prover refuses each'
 	@echo 'make turned-rules          turns rules of the specification around, and sees that a law refuses each'
 	@echo 'make lifted-limits         lifts the limits of this stage in a copy, and proves the laws there'
@@ -31,7 +33,7 @@ help:
 
 # Without the kit nothing can be proved or built. Under -q make runs nothing, adds no line of its own,
 # and ends with status 1.
-ifneq ($(filter demo prove test format install bench wrong-bodies turned-rules lifted-limits refused-memory,$(MAKECMDGOALS)),)
+ifneq ($(filter demo prove test format install bench collection wrong-bodies turned-rules lifted-limits refused-memory,$(MAKECMDGOALS)),)
 ifeq ($(shell command -v rt 2>/dev/null),)
 $(shell echo "butcherford: the Rattle kit's command rt is not on the PATH; it is needed to prove and build" >&2)
 MAKEFLAGS += -q
@@ -80,6 +82,12 @@ uninstall:
 
 bench:
 	@cd crates/bench && rt run
+
+collection:
+	@cd crates/bench && rt run -- collection
+	@python3 tools/collector_simulation.py
+	@python3 tools/collector_simulation.py --blocks 256 --pages 16 --fill 95 100
+	@python3 tools/collector_simulation.py --blocks 256 --pages 16 --slots 288 --fill 100
 
 wrong-bodies:
 	@python3 tools/wrong_bodies.py

@@ -1,17 +1,21 @@
 //! Times FUA writes and reads of one block through the device's five calls, scans of dies that are
 //! written in part, and the plain cost of one SHA-256 over a page, in one run. It prints the times and
-//! their ratios on standard error.
+//! their ratios on standard error. With the word `collection` it counts instead what is programmed and
+//! hashed for each block that is written, once collections are due.
 #![tactic(auto)]
 
+mod collection;
 mod groups;
 mod scans;
 
+use crate::collection::count_collections;
 use crate::groups::time_groups;
 use crate::scans::time_scans;
-use anyhow::{Result, ensure};
+use anyhow::{Result, bail, ensure};
 use geometry::Config;
 use sha2::{Digest, Sha256};
 use std::alloc::Global;
+use std::env;
 use std::rt::Clock;
 use std::time::{Duration, Instant};
 use ufs_spec::UnitSpec;
@@ -141,10 +145,20 @@ fn run<R: Clock + Eprint>(rt: &R, bench: &mut Workbench) -> Result<()> {
     Ok(())
 }
 
-fn main(rt: HostRuntime) -> Result<()> {
+/// Times what this program times.
+fn time_all(rt: &HostRuntime) -> Result<()> {
     let mut bench = open(rt.alloc())?;
     bench.settle(4, 4);
-    run(&rt, &mut bench)?;
-    time_groups(&rt, rt.alloc())?;
-    time_scans(&rt, rt.alloc())
+    run(rt, &mut bench)?;
+    time_groups(rt, rt.alloc())?;
+    time_scans(rt, rt.alloc())
+}
+
+fn main(rt: HostRuntime) -> Result<()> {
+    let words: Vec<String> = env::args(&rt)?.collect(rt.alloc())?;
+    match words.as_slice() {
+        [_] => time_all(&rt),
+        [_, word] if word.as_str() == "collection" => count_collections(&rt, rt.alloc()),
+        _ => bail!("usage: bench [collection]"),
+    }
 }
