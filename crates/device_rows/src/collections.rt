@@ -30,8 +30,12 @@ fn write(rt: &impl Abort, bench: &mut Bench, address: u8, byte: u8) {
 /// The addresses 0 to 7 hold 80h and so on, and 8 to 31 hold 68h and so on: the last 32 of the writes.
 fn expect_last(rt: &impl Abort, bench: &mut Bench) {
     for address in 0..32u8 {
-        let byte = if address < 8 { 0x80 } else { 0x60 };
-        bench.expect_block(rt, &read_of(address), &DATA_IN, byte + address);
+        let byte = if address < 8 {
+            0x80 + address
+        } else {
+            0x60 + address
+        };
+        bench.expect_block(rt, &read_of(address), &DATA_IN, byte);
     }
 }
 
