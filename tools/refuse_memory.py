@@ -24,7 +24,7 @@ CALLS = {
     "scan": (100, 30),
     "Device::open": (100, 145),
     "World::new": (106, 145),
-    "World::step": (237, 145),
+    "World::step": (238, 145),
     "run": (106, 280),
 }
 
