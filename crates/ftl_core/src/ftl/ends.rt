@@ -391,8 +391,8 @@ impl Ftl {
         self.note_place(key, stored);
     }
 
-    /// In place of a failed mark waits one with the next number and the same fence. A failed repair waits
-    /// again by itself.
+    /// In place of a failed mark waits one with the next number and the same fence. A failed repair or
+    /// copy waits again by itself.
     fn step_failed(&mut self, die: u8, place: Place)
         ensures { self.new ≡ step_failed self.old die place }
     {
