@@ -178,7 +178,7 @@ replicate_there n k x l =
     slice_get-get_or (replicate n x) k x (omega (arith, length-replicate n x))
     ∙ ap (λ y. Some y) (get_or-replicate n k x x l)
 
-replicate_off : (n k : ℕ) → unwrap_or (slice_get (replicate n false) k) false ≡ false
+pub replicate_off : (n k : ℕ) → unwrap_or (slice_get (replicate n false) k) false ≡ false
 replicate_off n k = by (cases_lt k n)
   where
     by : (k < n) ⊎ (n ≤ k) → unwrap_or (slice_get (replicate n false) k) false ≡ false

@@ -129,9 +129,9 @@ HasPinPlaces l = length l.pins ≡ l.sizes.dies * l.sizes.blocks
 with_noted : (l : Lives) (p : Place) (b : Bool) → has_page l.sizes p ≡ true → with_live l p b ≡ noted l p b
 with_noted l p b h = λ i. record l { live = if h i then slice_set l.live (page_place l.sizes p) b else l.live }
 
-pub live_here : (l : Lives) (p : Place) (b : Bool) → HasPlaces l → has_page l.sizes p ≡ true →
+pub live_here : (l : Lives) (p : Place) (b : Bool) → has_page l.sizes p ≡ true → HasPlaces l →
     is_live (with_live l p b) p ≡ b
-live_here l p b whole h =
+live_here l p b h whole =
     let w = page_inside l.sizes p h in
     ap (λ (m : Lives). is_live m p) (with_noted l p b h) ∙ noted_here l p b h (omega arith)
 

@@ -13,6 +13,7 @@ use Rattle.ufs_spec.specs.Plain.{CanApply, Plain, after, apply, with_part}
 use Rattle.ufs_spec.specs.declared.flash.Key.{Key}
 use Rattle.ufs_laws.proofs.plain_contents.ListParts.{made_of}
 use Rattle.ftl_core.specs.Tells.{group_of_blocks, items_behind, key_behind}
+use Rattle.ftl_core.proofs.look_and_accept.GroupsAccepted.{items_length}
 
 -- The content of a written block
 
@@ -44,10 +45,6 @@ block_written units unit address i blocks at there within =
 
 abbrev item : Key → List ℕ → Item
 item k body = record { key = k; body = body }
-
-items_length : (k : Key) (i : ℕ) (bodies : List (List ℕ)) → length (items_behind k i bodies) ≡ length bodies
-items_length k i [] = refl
-items_length k i (body ∷ bodies) = ap suc (items_length k (i + 1) bodies)
 
 items_at : (k : Key) (i j : ℕ) (bodies : List (List ℕ)) (d : Item) → j < length bodies →
     item (key_behind k (i + j)) (slice_index_or bodies j []) ≡ slice_index_or (items_behind k i bodies) j d

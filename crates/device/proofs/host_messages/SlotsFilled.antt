@@ -11,11 +11,6 @@ use Rattle.write_cache.specs.Slots.{claim_filled}
 use Rattle.ftl_core.specs.Tells.{claim_at, claims_behind, claims_of_blocks}
 use Rattle.device.specs.Describes.{block_or_zeros, blocks_gathered}
 
--- a slot for each block
-pub claims_length : (tag i : ℕ) (bodies : List (List ℕ)) → length (claims_behind tag i bodies) ≡ length bodies
-claims_length tag i [] = refl
-claims_length tag i (body ∷ bodies) = ap suc (claims_length tag (i + 1) bodies)
-
 -- One block comes
 
 -- it lies in the slot of its index

@@ -40,7 +40,7 @@ use Rattle.ftl_core.proofs.job_taken.FlightKinds.{flight_cases, some_here, some_
 
 -- What the books say is what the definitions say
 
-same_tests : (a b : Bool) → (a ≡ true → b ≡ true) → (b ≡ true → a ≡ true) → a ≡ b
+pub same_tests : (a b : Bool) → (a ≡ true → b ≡ true) → (b ≡ true → a ≡ true) → a ≡ b
 same_tests true true f g = refl
 same_tests true false f g = sym (f refl)
 same_tests false true f g = g refl

@@ -21,8 +21,8 @@ use Rattle.ftl_core.specs.KnownLive.{IsWrittenAt, KnowsLive, page_moved, sizes_o
 use Rattle.ftl_core.proofs.group_settled.NotedPlaces.{places_length}
 use Rattle.ftl_core.proofs.live_pages.DurableLive.{AllKnown, AreApart, AreKnown, AreOthers, AreWrittenRight}
 use Rattle.ftl_core.proofs.live_pages.DurableLive.{IsWrittenRight, new_on, old_apart, written_right}
-use Rattle.ftl_core.proofs.live_pages.NotedLive.{IsPageOf, as_long, live_beside, live_here, noted_knows, noted_owned}
-use Rattle.ftl_core.proofs.live_pages.NotedLive.{one_owner}
+use Rattle.block_table.proofs.Relations.{live_beside, live_here}
+use Rattle.ftl_core.proofs.live_pages.NotedLive.{IsPageOf, as_long, noted_knows, noted_owned, one_owner}
 use Rattle.ftl_core.proofs.live_pages.ProgramsLive.{put, set_apart, set_at, set_back, set_new}
 use Rattle.ftl_core.proofs.opened.ListParts.{get_set}
 

@@ -29,16 +29,11 @@ use Rattle.ftl_core.specs.Describes.{Describes, IsStored, StepKept, name_at, nam
 use Rattle.ftl_core.specs.KnownLive.{IsWrittenAt, StandsAt}
 use Rattle.ftl_core.specs.Moves.{stored_of}
 use Rattle.ftl_core.proofs.group_settled.PageWritten.{pending_of}
+use Rattle.ftl_core.proofs.job_taken.Flown.{same_tests}
 use Rattle.ftl_core.proofs.live_pages.StoredPages.{pending_named, stored_named}
 use Rattle.ftl_core.proofs.pages.PagesNamed.{pages_get}
 
 -- Tests
-
-same_tests : (a b : Bool) → (a ≡ true → b ≡ true) → (b ≡ true → a ≡ true) → a ≡ b
-same_tests true true f g = refl
-same_tests true false f g = sym (f refl)
-same_tests false true f g = g refl
-same_tests false false f g = refl
 
 both : (a b : Bool) → a ≡ true → b ≡ true → (a && b) ≡ true
 both true b e f = f

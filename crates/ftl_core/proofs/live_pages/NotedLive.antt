@@ -2,8 +2,6 @@
 use Rattle.std.proofs.Common.{◌≡◌, ◌≢◌, ◌∙◌, ◌⊎◌, ℕ, ◌*◌, ◌<◌, Bool, true, false, List, Option, Some, None}
 use Rattle.std.proofs.Common.{length, refl, sym, ap, subst, inl, inr, ⊎_elim, arith}
 use Rattle.std.specs.Prelude.{if◌then◌else◌, nat_lt, option_and_then, slice_get, slice_set}
-use Rattle.std.proofs.Math.Nat.{mul_comm}
-use Rattle.std.proofs.lemmas.Nat.{mul-add-lt}
 use Rattle.ufs_spec.proofs.Equalities.{key_cases, place_cases}
 use Rattle.ufs_spec.proofs.Facts.{and_parts, cases_Bool, ltb-true, none-some, same_Some}
 use Rattle.ufs_spec.proofs.Lists.{set_length}
@@ -17,7 +15,7 @@ use Rattle.ufs_spec.specs.declared.flash.Place.{Place}
 use Rattle.ufs_spec.specs.declared.flash.Tag.{Tag}
 use Rattle.block_table.specs.Lives.{Lives, block_place, has_block, has_page, is_live, page_place, with_live}
 use Rattle.block_table.specs.declared.Sizes.{Sizes}
-use Rattle.block_table.proofs.LiveCounts.{noted as marked, noted_beside, noted_here, spot_inside}
+use Rattle.block_table.proofs.Relations.{live_beside, live_here}
 use Rattle.geometry.proofs.KeyIndexes.{index_known}
 use Rattle.unit_map.specs.Places.{flat, position_of, stored_in}
 use Rattle.unit_map.specs.declared.Stored.{Stored}
@@ -30,33 +28,6 @@ use Rattle.ftl_core.proofs.group_settled.FrontPlaces.{HasPlaces}
 use Rattle.ftl_core.proofs.group_settled.NotedPlaces.{stored_here, stored_other}
 
 -- One page is marked
-
-pub page_inside : (n : Sizes) (p : Place) → has_page n p ≡ true → page_place n p < n.dies * n.blocks * n.pages
-page_inside n p h =
-    let u : (has_block n (spot_of p) ≡ true) × (nat_lt p.page n.pages ≡ true) = and_parts _ _ h in
-    let r = mul-add-lt (block_place n (spot_of p)) n.pages p.page (n.dies * n.blocks) (spot_inside n (spot_of p) u.0)
-    (ltb-true p.page n.pages u.1) in
-    let e = mul_comm n.pages (n.dies * n.blocks) in
-    omega (arith, r, e)
-
--- the page is within the sizes, and so is its mark
-with_marked : (l : Lives) (p : Place) (b : Bool) → has_page l.sizes p ≡ true → with_live l p b ≡ marked l p b
-with_marked l p b h =
-    ap (λ (t : Bool). record l { live = if t then slice_set l.live (page_place l.sizes p) b else l.live }) h
-
-pub live_here : (l : Lives) (p : Place) (b : Bool) → has_page l.sizes p ≡ true →
-    length l.live ≡ l.sizes.dies * l.sizes.blocks * l.sizes.pages → is_live (with_live l p b) p ≡ b
-live_here l p b h long =
-    ap (λ (m : Lives). is_live m p) (with_marked l p b h)
-    ∙ noted_here l p b h (let i = page_inside l.sizes p h in omega (arith, i, long))
-
-pub live_beside : (l : Lives) (p q : Place) (b : Bool) → q ≢ p → is_live (with_live l p b) q ≡ is_live l q
-live_beside l p q b apart = ⊎_elim
-    (λ h. ap (λ (m : Lives). is_live m q) (with_marked l p b h) ∙ noted_beside l p q b h apart)
-    (λ h. ap (λ (t : Bool). is_live (record l {
-      live = if t then slice_set l.live (page_place l.sizes p) b else l.live;
-    }) q) h)
-    (cases_Bool (has_page l.sizes p))
 
 pub as_long : (l : Lives) (p : Place) (b : Bool) → length (with_live l p b).live ≡ length l.live
 as_long l p b = by (has_page l.sizes p)

@@ -21,7 +21,9 @@ use Rattle.geometry.proofs.KeyIndexes.{index_below, is_index}
 use Rattle.unit_map.specs.Places.{flat, position_of, stored_in}
 use Rattle.unit_map.specs.declared.Stored.{Stored}
 use Rattle.ftl_core.specs.KnownLive.{KnowsLive, StandsAt, lives_of_places, none_live, sizes_of, with_stored}
-use Rattle.ftl_core.proofs.live_pages.NotedLive.{as_long, live_beside, live_here}
+use Rattle.block_table.proofs.LiveCounts.{replicate_off}
+use Rattle.block_table.proofs.Relations.{live_beside, live_here}
+use Rattle.ftl_core.proofs.live_pages.NotedLive.{as_long}
 
 -- Each index below the count of keys has a key
 
@@ -56,20 +58,9 @@ key_of_index s i l = ⊎_elim
 
 -- At first no page is live
 
-off : (n k : ℕ) → unwrap_or (slice_get (replicate n false) k) false ≡ false
-off n k = ⊎_elim
-    (λ (l : k < n).
-    ap (λ (o : Option Bool). unwrap_or o false)
-    (slice_get-get_or (replicate n false) k false (omega (arith, length-replicate n false))
-    ∙ ap (λ (y : Bool). Some y) (get_or-replicate n k false false l)))
-    (λ (l : n ≤ k).
-    ap (λ (o : Option Bool). unwrap_or o false)
-    (slice_get_past (replicate n false) k (omega (arith, length-replicate n false))))
-    (cases_lt k n)
-
 none_is_live : (n : Sizes) (p : Place) → is_live (none_live n) p ≡ true → ⊥
 none_is_live n p e =
-    false≢true (sym (off (n.dies * n.blocks * n.pages) (page_place n p)) ∙ (and_parts _ _ e).1)
+    false≢true (sym (replicate_off (n.dies * n.blocks * n.pages) (page_place n p)) ∙ (and_parts _ _ e).1)
 
 -- One page after another
 

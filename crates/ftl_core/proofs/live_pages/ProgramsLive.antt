@@ -42,7 +42,8 @@ use Rattle.ftl_core.proofs.job_ended.RepairsEnded.{repair_of, unmended}
 use Rattle.ftl_core.proofs.live_pages.DurableLive.{AllKnown, AreApart, AreKnown, AreNew, AreOthers}
 use Rattle.ftl_core.proofs.live_pages.DurableLive.{AreWrittenRight, IsNew}
 use Rattle.ftl_core.proofs.live_pages.DurableLive.{IsWrittenRight, settled_known, written_right}
-use Rattle.ftl_core.proofs.live_pages.NotedLive.{AreOwned, IsPageOf, as_long, live_beside, live_here, noted_knows}
+use Rattle.block_table.proofs.Relations.{live_beside, live_here}
+use Rattle.ftl_core.proofs.live_pages.NotedLive.{AreOwned, IsPageOf, as_long, noted_knows}
 use Rattle.ftl_core.proofs.live_pages.SameLive.{Facts, Knows, facts, written_same}
 use Rattle.ftl_core.proofs.live_pages.StoredPages.{pending_apart, pending_new, pending_right, place_inside}
 use Rattle.ftl_core.proofs.live_pages.StoredPages.{stored_owned}

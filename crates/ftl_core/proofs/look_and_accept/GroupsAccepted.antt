@@ -43,7 +43,7 @@ use Rattle.ftl_core.proofs.small_calls.ReadersClaims.{left_beside}
 
 -- Claims and items, by index
 
-claims_length : (reader m : ℕ) (bodies : List (List ℕ)) → length (claims_behind reader m bodies) ≡ length bodies
+pub claims_length : (reader m : ℕ) (bodies : List (List ℕ)) → length (claims_behind reader m bodies) ≡ length bodies
 claims_length reader m [] = refl
 claims_length reader m (body ∷ bodies) = ap suc (claims_length reader (m + 1) bodies)
 
@@ -63,7 +63,7 @@ claim_there reader m (body ∷ bodies) (suc i) claim h =
     next : (m i : ℕ) → m + 1 + i ≡ m + suc i
     next m i = omega arith
 
-items_length : (k : Key) (m : ℕ) (bodies : List (List ℕ)) → length (items_behind k m bodies) ≡ length bodies
+pub items_length : (k : Key) (m : ℕ) (bodies : List (List ℕ)) → length (items_behind k m bodies) ≡ length bodies
 items_length k m [] = refl
 items_length k m (body ∷ bodies) = ap suc (items_length k (m + 1) bodies)
 

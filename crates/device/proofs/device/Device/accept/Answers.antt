@@ -10,7 +10,7 @@ use Rattle.ftl_core.specs.Tells.{group_of_blocks}
 use Rattle.device.specs.Kept.{DeviceCore}
 use Rattle.device.specs.Calls.{HasTaken, OthersClaim}
 use Rattle.task_set.specs.declared.tasks.TaskEvent.TheVariants as event
-use Rattle.device.proofs.host_messages.SlotsFilled.{claims_length}
+use Rattle.ftl_core.proofs.look_and_accept.GroupsAccepted.{claims_length}
 use Rattle.device.proofs.device.Device.accept.Goals as goal
 
 -- a locked layer gives the slots back
