@@ -23,7 +23,7 @@ help:
 	@echo 'make install PREFIX=DIR    proves and builds ufsim and ufstool, and copies them to DIR/bin, with'
 	@echo '                           their manual pages and completions to DIR/share'
 	@echo 'make uninstall PREFIX=DIR  removes what was installed (both: without PREFIX, DIR is $(PREFIX))'
-	@echo 'make bench                 times writes and reads, after it proves what they need'
+	@echo 'make bench                 times writes and reads, also among threads, after it proves what they need'
 	@echo 'make collection            counts the pages that a device programs for each that is written, once it'
 	@echo '                           collects, and the same of a simulation'
 	@echo 'make wrong-bodies          tries the wrong bodies alone, and sees that the prover refuses each'
@@ -82,6 +82,7 @@ uninstall:
 
 bench:
 	@cd crates/bench && rt run
+	@cd crates/lane_bench && rt run
 
 collection:
 	@cd crates/bench && rt run -- collection

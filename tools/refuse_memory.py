@@ -22,7 +22,10 @@ CRATE = pathlib.Path(__file__).resolve().parent.parent / "crates" / "memory_refu
 CALLS = {
     "MemDie::new": (6, 30),
     "scan": (100, 30),
+    "scan_parallel": (100, 40),
     "Device::open": (100, 145),
+    "open_parallel": (100, 155),
+    "Shared::new": (106, 40),
     "World::new": (106, 145),
     "World::step": (238, 145),
     "run": (106, 280),

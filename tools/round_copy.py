@@ -20,6 +20,9 @@ ERROR = re.compile(r"^\./(\S+?):\d+:\d+: error: (.*)$", re.MULTILINE)
 # whose callers fell is proved if they give what it asks.
 OPEN_GOAL = re.compile(r"`search` did not prove (.*?)(?:; it calls|$)")
 ONLY_FOLLOWS = re.compile(r"which (?:is|are) not proved|which has no proof|^proved where its callers give what it asks")
+# A goal or a step that the function's proof names and its code no longer makes: the bodies of other functions change
+# neither.
+GONE = r"(?:module|record) `{}\.(?:Goals|Lts)(?:\.[^`]*)?` has no "
 FOLLOWS = re.compile(r"depends? on `|is not in scope|has no field|has no `|was not admitted|is not proved")
 
 
@@ -45,9 +48,13 @@ class Said(NamedTuple):
         goal = OPEN_GOAL.search(verdict)
         if goal:
             return f"no proof of {goal[1]}"
-        folder = "proofs/" + "/".join(name.split("::")[1:]) + "/"
+        crate, *parts = name.split("::")
+        folder = "/".join(["proofs", *parts]) + "/"
+        gone = re.compile(GONE.format(re.escape(".".join(["Rattle", crate, "proofs", *parts]))))
         if verdict.startswith("not proved"):
             for file, words in self.errors:
+                if file.startswith(folder) and gone.search(words):
+                    return "its proof answers a goal that is gone"
                 if file.startswith(folder) and not FOLLOWS.search(words):
                     return words.split(":")[0].strip() + " does not fit"
         return None

@@ -271,11 +271,8 @@ fn tell<R: Eprint>(rt: &R, all: &Counted, often: u32, unanswered: Option<u32>) -
     Ok(())
 }
 
-/// Counts for a device and a way of writing.
-fn count_row<R: Clock + Eprint>(rt: &R, alloc: Global, shape: Shape, host: Host) -> Result<()> {
-    let unit = unit_of(shape);
-    let mut all = open(alloc, shape, unit)?;
-    let unanswered = play(rt, &mut all, host, unit, shape.count)?;
+/// Prints which device it is, and how its unit is written.
+fn tell_row<R: Eprint>(rt: &R, shape: Shape, host: Host, unit: u32) -> Result<()> {
     let dies = shape.dies;
     let blocks = shape.blocks;
     let pages = shape.pages;
@@ -293,6 +290,15 @@ fn count_row<R: Clock + Eprint>(rt: &R, alloc: Global, shape: Shape, host: Host)
     eprintln!(rt;
         "{dies} x {blocks} x {pages}, {slots} slots, a unit of {unit}, writes {order}, {manner}:"
     )?;
+    Ok(())
+}
+
+/// Counts for a device and a way of writing.
+fn count_row<R: Clock + Eprint>(rt: &R, alloc: Global, shape: Shape, host: Host) -> Result<()> {
+    let unit = unit_of(shape);
+    tell_row(rt, shape, host, unit)?;
+    let mut all = open(alloc, shape, unit)?;
+    let unanswered = play(rt, &mut all, host, unit, shape.count)?;
     tell(rt, &all, shape.count, unanswered)
 }
 

@@ -145,11 +145,16 @@ fn run<R: Clock + Eprint>(rt: &R, bench: &mut Workbench) -> Result<()> {
     Ok(())
 }
 
+/// Times writes and reads of one block.
+fn time_calls<R: Clock + Eprint>(rt: &R, alloc: Global) -> Result<()> {
+    let mut bench = open(alloc)?;
+    bench.settle(4, 4);
+    run(rt, &mut bench)
+}
+
 /// Times what this program times.
 fn time_all(rt: &HostRuntime) -> Result<()> {
-    let mut bench = open(rt.alloc())?;
-    bench.settle(4, 4);
-    run(rt, &mut bench)?;
+    time_calls(rt, rt.alloc())?;
     time_groups(rt, rt.alloc())?;
     time_scans(rt, rt.alloc())
 }

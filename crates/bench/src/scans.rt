@@ -68,10 +68,26 @@ fn write(dies: &mut [MemDie], blocks: u16) -> Result<()> {
     Ok(())
 }
 
-/// Times a scan of four dies with so many blocks, and as many hashes as it reads pages.
-fn time_size<R: Clock + Eprint>(rt: &R, alloc: Global, blocks: u16) -> Result<()> {
-    let all = 4 * u32::from(blocks) * u32::from(PAGES);
-    let written = all / 4;
+/// How many nanoseconds a scan takes that finds so many groups.
+fn time_scan<R: Clock>(
+    rt: &R,
+    alloc: Global,
+    config: &Config,
+    dies: &mut [MemDie],
+    groups: u32,
+) -> Result<u128> {
+    ensure!(fit(config, dies), "the dies do not fit");
+    let start = Instant::now(rt)?;
+    let Ok(found) = scan(alloc, dies, config) else {
+        bail!("the scan was refused");
+    };
+    let scanned = start.elapsed(rt)?.as_nanos().max(1);
+    ensure!(found.kept == u64::from(groups), "not all groups were found");
+    Ok(scanned)
+}
+
+/// How many nanoseconds a scan of four dies with so many blocks takes, of which so many pages are written.
+fn time_dies<R: Clock>(rt: &R, alloc: Global, blocks: u16, written: u32) -> Result<u128> {
     let unit = UnitSpec {
         blocks: written,
         boot: 0,
@@ -80,27 +96,28 @@ fn time_size<R: Clock + Eprint>(rt: &R, alloc: Global, blocks: u16) -> Result<()
     let config = Config::new(4, blocks, PAGES, &[unit], 1, 64, 4)?;
     let mut dies = four_dies(alloc, blocks)?;
     write(dies.as_mut_slice(), blocks / 4)?;
-    ensure!(fit(&config, dies.as_slice()), "the dies do not fit");
-    let start = Instant::now(rt)?;
-    let Ok(found) = scan(alloc, dies.as_mut_slice(), &config) else {
-        bail!("the scan was refused");
-    };
-    let scanned = start.elapsed(rt)?.as_nanos().max(1);
-    ensure!(
-        found.kept == u64::from(written),
-        "not all groups were found"
-    );
-    let start = Instant::now(rt)?;
-    let sum = hash_pages(all);
-    let hashed = start.elapsed(rt)?.as_nanos().max(1);
-    let a_second = u128::from(all).saturating_mul(1_000_000_000) / scanned;
-    let to_all = scanned.saturating_mul(100) / hashed;
+    time_scan(rt, alloc, &config, dies.as_mut_slice(), written)
+}
+
+/// Prints what a scan of so many pages took, and as many hashes of pages.
+fn tell<R: Eprint>(rt: &R, all: u32, scanned: u128, hashed: u128) -> Result<()> {
+    let a_second = u128::from(all).saturating_mul(1_000_000_000) / scanned.max(1);
+    let to_all = scanned.saturating_mul(100) / hashed.max(1);
     let to_written = to_all.saturating_mul(4);
-    eprintln!(rt;
-        "a scan of {all} pages, a quarter of them written: {a_second} pages a second ({sum})"
-    )?;
+    eprintln!(rt; "a scan of {all} pages, a quarter of them written: {a_second} pages a second")?;
     eprintln!(rt; "scan to a hash of each page: {to_all} %, of each written page: {to_written} %")?;
     Ok(())
+}
+
+/// Times a scan of four dies with so many blocks, and as many hashes as it reads pages.
+fn time_size<R: Clock + Eprint>(rt: &R, alloc: Global, blocks: u16) -> Result<()> {
+    let all = 4 * u32::from(blocks) * u32::from(PAGES);
+    let scanned = time_dies(rt, alloc, blocks, all / 4)?;
+    let start = Instant::now(rt)?;
+    let sum = hash_pages(all);
+    let hashed = start.elapsed(rt)?.as_nanos();
+    ensure!(sum > 0, "no page was hashed");
+    tell(rt, all, scanned, hashed)
 }
 
 /// Times a scan of each size.

@@ -7,9 +7,6 @@ ghost use Rattle.block_table.specs.Lives.{spot_at};
 ghost use Rattle.collector.specs.Plans.{IsNamed, IsPlanned, copy_ordered, live_below, next_step};
 ghost use Rattle.collector.specs.Plans.{place_of, step_of};
 
-#[cfg(test)]
-mod tests;
-
 use block_table::{BlockAt, BlockTable, LivePages};
 use std::alloc::{AllocError, Global};
 use std::marker::Model;

@@ -7,6 +7,8 @@ mod crates_once;
 #[cfg(test)]
 mod faulty_die;
 #[cfg(test)]
+mod journals;
+#[cfg(test)]
 mod page_contents;
 #[cfg(test)]
 mod plain_rows;
@@ -14,3 +16,5 @@ mod plain_rows;
 mod scans;
 #[cfg(test)]
 mod scans_by_workers;
+#[cfg(test)]
+mod victims;

@@ -1,5 +1,6 @@
 //! Devices that are written until blocks are collected, and stops inside the erase of a collected block.
 use crate::benches::Bench;
+use crate::openings::{WORKERS, opened_by};
 use crate::players::{DATA, DATA_IN, EACH_LEFT, Left, blank, page_of, read_of, torn, write_of};
 use nand_model::{Die, MemDie, work};
 use std::alloc::Global;
@@ -144,24 +145,39 @@ fn stopped_dies(
     Ok(all)
 }
 
+/// Dies of which address 5 holds AAh on die 0 and, newer, BBh on die 1, while the block with the page of AAh
+/// is being erased, since it was collected; and that block.
+fn dies_in_erase(rt: &impl Abort, alloc: Global) -> Result<(Vec<MemDie>, u16), Fail> {
+    let mut bench = Bench::new(alloc)?;
+    let place = write_on(rt, &mut bench, 0, 5, 0xAA);
+    write_on(rt, &mut bench, 1, 5, 0xBB);
+    write_until_erased(rt, &mut bench, place.block);
+    let dies = bench.into_dies();
+    let page = page_of(rt, dies.as_slice(), place);
+    assert!(rt; page.body.iter().all(|byte| *byte == 0xAA));
+    Ok((dies, place.block))
+}
+
+/// Address 5 reads BBh once the device has come to rest.
+fn expect_newest(rt: &impl Abort, mut bench: Bench) {
+    bench.bench.settle(64, 4);
+    bench.expect_block(rt, &read_of(5), &DATA_IN, 0xBB);
+}
+
 /// An address holds AAh, and is overwritten with BBh on another die. The block with the page of AAh is
 /// collected. A stop inside its erase leaves all of its pages old, that of AAh too, or new, or torn: the
-/// address reads BBh.
+/// address reads BBh, also after several threads opened the device.
 #[test]
 fn stop_in_collection_erase(rt: HostRuntime) -> Result<(), Fail> {
     let alloc = rt.alloc();
-    let mut bench = Bench::new(alloc)?;
-    let place = write_on(&rt, &mut bench, 0, 5, 0xAA);
-    write_on(&rt, &mut bench, 1, 5, 0xBB);
-    write_until_erased(&rt, &mut bench, place.block);
-    let dies = bench.into_dies();
-    let page = page_of(&rt, dies.as_slice(), place);
-    assert!(rt; page.body.iter().all(|byte| *byte == 0xAA));
+    let (dies, block) = dies_in_erase(&rt, alloc)?;
     for left in EACH_LEFT {
-        let dies = stopped_dies(&rt, alloc, dies.as_slice(), place.block, left)?;
-        let mut bench = Bench::opened(alloc, dies)?;
-        bench.bench.settle(64, 4);
-        bench.expect_block(&rt, &read_of(5), &DATA_IN, 0xBB);
+        let stopped = stopped_dies(&rt, alloc, dies.as_slice(), block, left)?;
+        expect_newest(&rt, Bench::opened(alloc, stopped)?);
+    }
+    for workers in WORKERS {
+        let stopped = stopped_dies(&rt, alloc, dies.as_slice(), block, Left::Torn)?;
+        expect_newest(&rt, opened_by(&rt, alloc, stopped, workers)?);
     }
     Ok(())
 }

@@ -86,6 +86,29 @@ fn expect_read(rt: &impl Abort, player: &mut Player, address: u8, byte: u8) -> R
     Ok(())
 }
 
+/// A write is GOOD, and its block is read.
+fn expect_written(rt: &impl Abort, player: &mut Player, address: u8, byte: u8) -> Result<(), Fail> {
+    expect_good(rt, player, address, byte)?;
+    expect_read(rt, player, address, byte)
+}
+
+/// A stop in the erase that the first mark needs: one page is left so, the others otherwise.
+fn stop_in_the_first_erase(
+    rt: &impl Abort,
+    alloc: Global,
+    odd: u16,
+    left: Left,
+    others: Left,
+) -> Result<(), Fail> {
+    let mut player = begun(rt, alloc)?;
+    player.step(rt, &Event::Turn);
+    let Some(job) = player.take(rt, 0) else {
+        panic!(rt; "an erase is owed");
+    };
+    stop_in_erase(rt, &mut player, &job, odd, left, others)?;
+    expect_written(rt, &mut player, 3, 0x33)
+}
+
 /// Each page of the erase that the first mark needs is left old, new and torn, the others
 /// otherwise: the device opens, and takes a write.
 #[test]
@@ -93,21 +116,42 @@ fn a_stop_in_the_first_erase(rt: HostRuntime) -> Result<(), Fail> {
     for odd in 0..16u16 {
         for left in EACH_LEFT {
             for others in EACH_LEFT {
-                if others == left {
-                    continue;
+                if others != left {
+                    stop_in_the_first_erase(&rt, rt.alloc(), odd, left, others)?;
                 }
-                let mut player = begun(&rt, rt.alloc())?;
-                player.step(&rt, &Event::Turn);
-                let Some(job) = player.take(&rt, 0) else {
-                    panic!(rt; "an erase is owed");
-                };
-                stop_in_erase(&rt, &mut player, &job, odd, left, others)?;
-                expect_good(&rt, &mut player, 3, 0x33)?;
-                expect_read(&rt, &mut player, 3, 0x33)?;
             }
         }
     }
     Ok(())
+}
+
+/// A write is acknowledged, and the next one needs the erase of die 1.
+fn erase_of_a_write(rt: &impl Abort, player: &mut Player) -> Result<Job, Fail> {
+    player.settle(rt, 4, 1)?;
+    expect_good(rt, player, 0, 0x11)?;
+    player.send(rt, &write_of(1))?;
+    player.hear(rt, 0)?;
+    player.send_block(rt, 0x22)?;
+    let Some(job) = player.take(rt, 1) else {
+        panic!(rt; "an erase is owed");
+    };
+    Ok(job)
+}
+
+/// A stop in that erase: one page is left so, the others otherwise.
+fn stop_in_the_erase_of_a_write(
+    rt: &impl Abort,
+    alloc: Global,
+    odd: u16,
+    left: Left,
+    others: Left,
+) -> Result<(), Fail> {
+    let mut player = begun(rt, alloc)?;
+    let job = erase_of_a_write(rt, &mut player)?;
+    stop_in_erase(rt, &mut player, &job, odd, left, others)?;
+    expect_read(rt, &mut player, 0, 0x11)?;
+    expect_read(rt, &mut player, 1, 0)?;
+    expect_written(rt, &mut player, 1, 0x33)
 }
 
 /// The same in the erase that a write needs: the write before it, which was acknowledged, is there;
@@ -117,27 +161,37 @@ fn a_stop_in_the_erase_of_a_write(rt: HostRuntime) -> Result<(), Fail> {
     for odd in 0..16u16 {
         for left in EACH_LEFT {
             for others in EACH_LEFT {
-                if others == left {
-                    continue;
+                if others != left {
+                    stop_in_the_erase_of_a_write(&rt, rt.alloc(), odd, left, others)?;
                 }
-                let mut player = begun(&rt, rt.alloc())?;
-                player.settle(&rt, 4, 1)?;
-                expect_good(&rt, &mut player, 0, 0x11)?;
-                player.send(&rt, &write_of(1))?;
-                player.hear(&rt, 0)?;
-                player.send_block(&rt, 0x22)?;
-                let Some(job) = player.take(&rt, 1) else {
-                    panic!(rt; "an erase is owed");
-                };
-                stop_in_erase(&rt, &mut player, &job, odd, left, others)?;
-                expect_read(&rt, &mut player, 0, 0x11)?;
-                expect_read(&rt, &mut player, 1, 0)?;
-                expect_good(&rt, &mut player, 1, 0x33)?;
-                expect_read(&rt, &mut player, 1, 0x33)?;
             }
         }
     }
     Ok(())
+}
+
+/// A stop in the program of the first mark, which is left so.
+fn stop_in_the_first_mark(rt: &impl Abort, player: &mut Player, left: Left) -> Result<(), Fail> {
+    player.step(rt, &Event::Turn);
+    player.work(rt, 0)?;
+    let Some(Job::Program(place, page)) = player.take(rt, 0) else {
+        panic!(rt; "the program of the mark is owed");
+    };
+    let page = player.page_left(rt, place, page, left);
+    let mut lefts = Vec::new(player.alloc);
+    lefts.push(Leftover::Page(place, page))?;
+    let output = player.step(rt, &Event::Stop(lefts));
+    assert!(rt; matches!(output, Output::Stopped));
+    Ok(())
+}
+
+/// The device is mended after that stop, and takes a write. With the whole mark on its die nothing is left to
+/// mend.
+fn expect_mended(rt: &impl Abort, player: &mut Player, left: Left) -> Result<(), Fail> {
+    let turned = player.step(rt, &Event::Turn);
+    assert!(rt; matches!(turned, Output::Turn(due) if due == (left != Left::New)));
+    player.settle(rt, 4, 2)?;
+    expect_written(rt, player, 3, 0x33)
 }
 
 /// The page of the first mark is left old, new and torn: the device is mended, and takes a write.
@@ -145,22 +199,8 @@ fn a_stop_in_the_erase_of_a_write(rt: HostRuntime) -> Result<(), Fail> {
 fn a_stop_in_the_first_mark(rt: HostRuntime) -> Result<(), Fail> {
     for left in EACH_LEFT {
         let mut player = begun(&rt, rt.alloc())?;
-        player.step(&rt, &Event::Turn);
-        player.work(&rt, 0)?;
-        let Some(Job::Program(place, page)) = player.take(&rt, 0) else {
-            panic!(rt; "the program of the mark is owed");
-        };
-        let page = player.page_left(&rt, place, page, left);
-        let mut lefts = Vec::new(rt.alloc());
-        lefts.push(Leftover::Page(place, page))?;
-        let output = player.step(&rt, &Event::Stop(lefts));
-        assert!(rt; matches!(output, Output::Stopped));
-        // With the whole mark on its die nothing is left to mend.
-        let turned = player.step(&rt, &Event::Turn);
-        assert!(rt; matches!(turned, Output::Turn(due) if due == (left != Left::New)));
-        player.settle(&rt, 4, 2)?;
-        expect_good(&rt, &mut player, 3, 0x33)?;
-        expect_read(&rt, &mut player, 3, 0x33)?;
+        stop_in_the_first_mark(&rt, &mut player, left)?;
+        expect_mended(&rt, &mut player, left)?;
     }
     Ok(())
 }

@@ -80,28 +80,40 @@ fn expect_all(rt: &impl Abort, player: &mut Player, blocks: &[u8; 8]) -> Result<
     Ok(())
 }
 
-/// The row over new dies, with this job failing: what was accepted is read at once, after all work,
-/// and after a stop. How many jobs there were before the stop.
-fn play(rt: &impl Abort, alloc: Global, failing: u32, left: Left) -> Result<u32, Fail> {
-    let dies = new_dies(alloc, 4, 16, 64)?;
-    let mut player = Player::new(rt, alloc, row_config()?, dies, failing, left);
+/// The row, in which a job may fail: what was accepted is read at once, and after all work.
+fn play_row(rt: &impl Abort, player: &mut Player) -> Result<[u8; 8], Fail> {
     // One die works here, so that later writes meet erases of the others.
     player.settle(rt, 6, 1)?;
     let mut blocks = [0u8; 8];
     for (address, byte) in WRITES {
         let index = usize::from(address % 8);
-        blocks[index] = written(rt, &mut player, address, byte, blocks[index])?;
-        expect_read(rt, &mut player, address, blocks[index])?;
+        blocks[index] = written(rt, player, address, byte, blocks[index])?;
+        expect_read(rt, player, address, blocks[index])?;
     }
     player.settle(rt, 4, 4)?;
-    expect_all(rt, &mut player, &blocks)?;
-    assert!(rt; failing == 0 || player.is_locked || player.has_failed_read);
-    let jobs = player.jobs;
-    let stopped = player.step(rt, &Event::Stop(Vec::new(alloc)));
+    expect_all(rt, player, &blocks)?;
+    Ok(blocks)
+}
+
+/// What was accepted is read after a stop too.
+fn play_stop(rt: &impl Abort, player: &mut Player, blocks: &[u8; 8]) -> Result<(), Fail> {
+    let stopped = player.step(rt, &Event::Stop(Vec::new(player.alloc)));
     assert!(rt; matches!(stopped, Output::Stopped));
     player.settle(rt, 4, 4)?;
-    expect_all(rt, &mut player, &blocks)?;
-    written(rt, &mut player, 7, 0x77, 0)?;
+    expect_all(rt, player, blocks)?;
+    written(rt, player, 7, 0x77, 0)?;
+    Ok(())
+}
+
+/// The row over new dies, with this job failing, and a stop after it. How many jobs there were before the
+/// stop.
+fn play(rt: &impl Abort, alloc: Global, failing: u32, left: Left) -> Result<u32, Fail> {
+    let dies = new_dies(alloc, 4, 16, 64)?;
+    let mut player = Player::new(rt, alloc, row_config()?, dies, failing, left);
+    let blocks = play_row(rt, &mut player)?;
+    assert!(rt; failing == 0 || player.is_locked || player.has_failed_read);
+    let jobs = player.jobs;
+    play_stop(rt, &mut player, &blocks)?;
     Ok(jobs)
 }
 

@@ -11,11 +11,15 @@ mod erases;
 #[cfg(test)]
 mod failures;
 #[cfg(test)]
+mod hosts;
+#[cfg(test)]
 mod leftovers;
 #[cfg(test)]
 mod locks;
 #[cfg(test)]
 mod mendings;
+#[cfg(test)]
+mod openings;
 #[cfg(test)]
 mod players;
 #[cfg(test)]

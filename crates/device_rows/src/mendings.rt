@@ -12,7 +12,7 @@ use ufs_spec::{Fence, Page, Tag};
 use workbench::new_dies;
 
 /// The page of a group of one page: a block of equal bytes at an address of unit 0.
-fn data(address: u8, number: u8, byte: u8) -> Page
+pub(crate) fn data(address: u8, number: u8, byte: u8) -> Page
     requires { 1 ≤ number }
 {
     let tag = Tag {
@@ -28,7 +28,7 @@ fn data(address: u8, number: u8, byte: u8) -> Page
 }
 
 /// A mark that records this frontier.
-fn mark(config: &Config, number: u8, frontier: u8, fence: Option<Fence>) -> Page
+pub(crate) fn mark(config: &Config, number: u8, frontier: u8, fence: Option<Fence>) -> Page
     requires { 1 ≤ number }
 {
     let tag = Tag {
@@ -44,26 +44,26 @@ fn mark(config: &Config, number: u8, frontier: u8, fence: Option<Fence>) -> Page
 }
 
 /// Puts the page at this page of a die's first block.
-fn put(rt: &impl Abort, dies: &mut [MemDie], die: usize, page: u16, content: &Page) {
+pub(crate) fn put(rt: &impl Abort, dies: &mut [MemDie], die: usize, page: u16, content: &Page) {
     assert!(rt; die < dies.len() && 0 < dies[die].blocks() && page < dies[die].pages());
     dies[die].set_page(0, page, content);
 }
 
 /// The COMMAND of a READ of one block of unit 0, task tag 08, and the header of its DATA IN.
-const fn read_of(address: u8) -> [u8; 32] {
+pub(crate) const fn read_of(address: u8) -> [u8; 32] {
     [
         0x01, 0x40, 0x00, 0x08, 0, 0, 0, 0, 0, 0, 0, 0, 0x00, 0x00, 0x10, 0x00, 0x28, 0x00, 0, 0,
         0, address, 0, 0, 1, 0, 0, 0, 0, 0, 0, 0,
     ]
 }
 
-const DATA_IN: [u8; 32] = [
+pub(crate) const DATA_IN: [u8; 32] = [
     0x22, 0x00, 0x00, 0x08, 0, 0, 0, 0, 0, 0, 0x10, 0x00, 0, 0, 0, 0, 0x00, 0x00, 0x10, 0x00, 0, 0,
     0, 0, 0, 0, 0, 0, 0, 0, 0, 0,
 ];
 
 /// Mends the device; how many of its turns ordered a step.
-fn mended(bench: &mut Bench) -> u8 {
+pub(crate) fn mended(bench: &mut Bench) -> u8 {
     let mut steps = 0u8;
     for _ in 0..32u8 {
         if bench.bench.device.turn() {

@@ -35,10 +35,7 @@ fn worlds(rt: HostRuntime) -> Result<(), Fail> {
     );
     assert_eq!(rt; world.dies().len(), 4);
     let dies = world.into_dies();
-    let mut events = Vec::new(alloc);
-    events.push(Event::Turn)?;
-    events.push(Event::Take(0))?;
-    events.push(Event::Finish(1))?;
+    let events = vec![in alloc; Event::Turn, Event::Take(0), Event::Finish(1)]?;
     let ended = run(alloc, row_config()?, dies, events.as_slice());
     assert!(rt;
         ended.is_err_and(|fault| fault.kind == RunFaultKind::WrongEvent
@@ -52,12 +49,13 @@ fn worlds(rt: HostRuntime) -> Result<(), Fail> {
 #[test]
 fn runs(rt: HostRuntime) -> Result<(), Fail> {
     let alloc = rt.alloc();
-    let mut events = Vec::new(alloc);
-    events.push(Event::Turn)?;
-    events.push(Event::Take(0))?;
-    events.push(Event::Finish(0))?;
-    events.push(Event::Turn)?;
-    events.push(Event::Reply)?;
+    let events = vec![in alloc;
+        Event::Turn,
+        Event::Take(0),
+        Event::Finish(0),
+        Event::Turn,
+        Event::Reply,
+    ]?;
     let dies = new_dies(alloc, 4, 16, 64)?;
     let Ok(trace) = run(alloc, row_config()?, dies, events.as_slice()) else {
         panic!(rt; "each event fits");

@@ -4,8 +4,6 @@
 
 mod kept;
 mod messages;
-#[cfg(test)]
-mod tests;
 
 pub use kept::{is_kept, is_write_within};
 pub use messages::{Journal, block_in};

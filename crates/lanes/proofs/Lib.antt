@@ -7,6 +7,7 @@ pub mod Made
 pub mod Moves
 pub mod Opened
 pub mod Promises
+pub mod Served
 pub mod Telling
 pub mod Vectors
 pub mod Waited

@@ -1,8 +1,10 @@
 -- A device as its opening gave it: there is a state that it is opened in, and it fits each such state.
 use Rattle.std.proofs.Common.{◌≡◌, ◌∙◌, ◌≤◌, ℕ, zero, suc, List, [], ◌∷◌, length, map, refl, sym, ap, subst, arith}
+use Rattle.std.specs.Global.{Vec}
 use Rattle.std.specs.List.{All}
 use Rattle.std.specs.Prelude.{replicate}
-use Rattle.std.proofs.lemmas.List.{length-replicate}
+use Rattle.std.specs.Vec.{with_items}
+use Rattle.std.proofs.lemmas.List.{length-replicate, with_items_is}
 use Rattle.ufs_spec.specs.Dies.{DieState, new_die}
 use Rattle.ufs_spec.specs.Lives.{Fit, IsOpened, array_of, bad_of}
 use Rattle.ufs_spec.specs.Refusals.{State}
@@ -51,6 +53,18 @@ module _ {D : Type 0} (state : D → DieState) where
   length_kept [] = refl
   length_kept (x ∷ xs) = ap suc (length_kept xs)
 
+  -- so may one whose opening was lent the dies of a vector, over what it left of them
+  pub lent_dies_opened : (n : Numbers) (v : Vec D) (lent left : List D) (core : DeviceCore) → lent ≡ v.items →
+      map state v.items ≡ replicate n.dies (new_die n.blocks n.pages) → map state left ≡ map state lent →
+      IsOpenedOver n (map state lent) core → IsOpeningOf state core (with_items v left).items
+  lent_dies_opened n v lent left core is new same opened =
+      let kept : map state left ≡ map state v.items = same ∙ ap (map state) is in
+      let long : length left ≡ length v.items =
+      sym (length_kept left) ∙ ap length kept ∙ length_kept v.items in
+      subst (IsOpeningOf state core) (sym (with_items_is v left (long ∙ sym v.ok.0)))
+      (new_dies_opened core left n (are_new n (map state left) (kept ∙ new))
+      (subst (λ (ds : List DieState). IsOpenedOver n ds core) (sym same) opened))
+
   module _ (core : DeviceCore) (dies : List D) (is : IsOpeningOf state core dies) where
     abbrev ds : List DieState
     ds = map state dies
@@ -95,3 +109,21 @@ module _ {D : Type 0} (state : D → DieState) where
   pub fits_first : (opening : Opening D) → IsOpening state opening → (start : State) → IsStart state opening start →
       Fits (opened_world state opening) start
   fits_first opening is start opened = fits_over opening.device.value opening.dies.value.items is start opened
+
+-- The same of dies in memory
+
+map_same : (xs : List DieState) → map (λ (d : DieState). d) xs ≡ xs
+map_same [] = refl
+map_same (x ∷ xs) = ap (λ (l : List DieState). x ∷ l) (map_same xs)
+
+pub memory_dies_opened : (n : Numbers) (v : Vec DieState) (lent left : List DieState) (core : DeviceCore) →
+    lent ≡ v.items → v.items ≡ replicate n.dies (new_die n.blocks n.pages) →
+    map (λ (d : DieState). d) left ≡ map (λ (d : DieState). d) lent →
+    IsOpenedOver n (map (λ (d : DieState). d) lent) core → IsOpeningOf (λ d. d) core (with_items v left).items
+memory_dies_opened n v lent left core is new same opened =
+    lent_dies_opened (λ d. d) n v lent left core is (map_same v.items ∙ new) same opened
+
+pub memory_dies_fit : (n : Numbers) (v : Vec DieState) (lent : List DieState) → lent ≡ v.items →
+    v.items ≡ replicate n.dies (new_die n.blocks n.pages) → Fit n (map (λ (d : DieState). d) lent)
+memory_dies_fit n v lent is new =
+    let same = map_same lent in new_fit n (map (λ (d : DieState). d) lent) (are_new n (map (λ (d : DieState). d) lent) (same ∙ is ∙ new))

@@ -3,4 +3,5 @@ pub mod Callers
 pub mod Legal
 pub mod Promised
 pub mod Rule
+pub mod Serving
 pub mod Waiting

@@ -29,14 +29,3 @@ pub use opening::open_parallel;
 pub use port::Port;
 pub use shared::{Refused, Shared};
 pub use tried::Tried;
-
-#[cfg(test)]
-mod example;
-#[cfg(test)]
-mod gate_die;
-#[cfg(test)]
-mod rows;
-#[cfg(test)]
-mod sharing;
-#[cfg(test)]
-mod tests;

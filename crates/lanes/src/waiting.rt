@@ -1,5 +1,5 @@
 //! What a host's driver calls: a message is sent, and a reply is waited for.
-ghost use Rattle.std.specs.Prelude.{◌≡◌, None, false, true};
+ghost use Rattle.std.specs.Prelude.{◌≡◌, IfSome, None, false, true};
 ghost use Rattle.lanes.specs.Rule.{Did};
 ghost use Rattle.lanes.specs.Waiting.{AskedInVain, HeardAfter};
 ghost use Rattle.lanes.specs.declared.view.Made.TheVariants as made;
@@ -13,18 +13,26 @@ use std::thread;
 use ufs_spec::{HostFault, Upiu};
 
 impl<D: Die> Port<D> {
-    /// Hands the device a message, and tries again while another caller has the core.
-    ///
-    /// # Errors
-    ///
-    /// The fault of the message, which changes nothing then.
-    pub fn send<R: Wait>(&mut self, rt: &R, bytes: &[u8]) -> Result<(), HostFault>
+    /// Hands the device a message, and tries again while another caller has the core, until the flag
+    /// is set: `None`, and the device has not heard the message, if it was set before. Else the
+    /// device's answer: the fault of a message changes nothing.
+    pub fn send<R: Wait>(
+        &mut self,
+        rt: &R,
+        bytes: &[u8],
+        stop: &AtomicBool,
+    ) -> Option<Result<(), HostFault>>
         ensures table { self.new.table ≡ self.old.table }
-        ensures did { Did D.state self.old.view (made.Host bytes.now result) None self.new.view }
+        ensures did { IfSome result (λ answer.
+            Did D.state self.old.view (made.Host bytes.now answer) None self.new.view) }
+        ensures stopped { result ≡ None → self.new ≡ self.old }
     {
         for _ in rt.forever() {
+            if stop.load(Ordering::SeqCst) {
+                return None;
+            }
             match self.try_host(bytes) {
-                Tried::Did(answer) => return answer,
+                Tried::Did(answer) => return Some(answer),
                 Tried::Busy => thread::yield_now(),
             }
         }

@@ -1,5 +1,6 @@
 //! Small dies, and what is written on them.
-ghost use Rattle.std.specs.Prelude.{◌<◌, ◌≤◌, ◌^◌};
+ghost use Rattle.std.specs.Prelude.{◌≡◌, ◌<◌, ◌≤◌, ◌^◌, IfOk, replicate};
+ghost use Rattle.ufs_spec.specs.Dies.{new_die};
 
 use crate::fault::{Fault, expect};
 use geometry::Config;
@@ -14,7 +15,9 @@ pub const BLOCKS: u16 = 20;
 pub const PAGES: u16 = 16;
 
 /// Two such dies, a unit of 64 blocks, one step of RPMB, 64 slots, no spare block.
-pub fn config() -> Result<Config, ConfigFault> {
+pub fn config() -> Result<Config, ConfigFault>
+    ensures { IfOk result (λ c. (c.dies ≡ 2) × (c.blocks ≡ 20) × (c.pages ≡ 16)) }
+{
     let units = [UnitSpec {
         blocks: 64,
         boot: 0,
@@ -24,12 +27,12 @@ pub fn config() -> Result<Config, ConfigFault> {
 }
 
 /// New dies of these sizes.
-fn new_dies(alloc: Global) -> Result<Vec<MemDie>, NoMemory> {
+pub fn new_dies(alloc: Global) -> Result<Vec<MemDie>, NoMemory>
+    ensures { IfOk result (λ v. v.items ≡ replicate 2 (new_die 20 16)) }
+{
     let mut dies = Vec::with_capacity(alloc, 2)?;
-    for _ in 0..2u8 {
-        dies.push(MemDie::new(alloc, BLOCKS, PAGES)?)
-            .map_err(|_| NoMemory)?;
-    }
+    dies.push_reserved(MemDie::new(alloc, BLOCKS, PAGES)?);
+    dies.push_reserved(MemDie::new(alloc, BLOCKS, PAGES)?);
     Ok(dies)
 }
 

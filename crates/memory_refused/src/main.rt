@@ -11,18 +11,24 @@ mod calls;
 mod dies;
 mod events;
 mod fault;
+mod shares;
 
-use crate::calls::{new_die, new_world, open_device, run_events, scan_dies, stop_world};
+use crate::calls::{Readers, new_die, new_world, open_device, run_events, scan_dies, stop_world};
 use crate::fault::Fault;
+use crate::shares::share_device;
 use anyhow::{Result, bail};
 use std::alloc::{AllocError, Global};
 use std::env;
+use std::thread::Threads;
 
 /// The names of the calls, in the order in which the program goes through them.
-const CALLS: [&str; 6] = [
+const CALLS: [&str; 9] = [
     "MemDie::new",
     "scan",
+    "scan_parallel",
     "Device::open",
+    "open_parallel",
+    "Shared::new",
     "World::new",
     "World::step",
     "run",
@@ -38,12 +44,15 @@ fn take_memory(alloc: Global, count: u16) -> Result<(), AllocError> {
 
 /// Makes the call of this name, behind so many allocations; whether memory was refused to it before
 /// it answered rightly.
-fn make(alloc: Global, name: &str, count: u16) -> Result<bool, Fault> {
+fn make<R: Threads + Sync>(rt: &R, alloc: Global, name: &str, count: u16) -> Result<bool, Fault> {
     take_memory(alloc, count)?;
     match name {
         "MemDie::new" => new_die(alloc),
-        "scan" => scan_dies(alloc),
-        "Device::open" => open_device(alloc),
+        "scan" => scan_dies(rt, alloc, Readers::Caller),
+        "scan_parallel" => scan_dies(rt, alloc, Readers::Workers(2)),
+        "Device::open" => open_device(rt, alloc, Readers::Caller),
+        "open_parallel" => open_device(rt, alloc, Readers::Workers(2)),
+        "Shared::new" => share_device(alloc),
         "World::new" => new_world(alloc),
         "World::step" => stop_world(alloc),
         "run" => run_events(alloc),
@@ -52,8 +61,8 @@ fn make(alloc: Global, name: &str, count: u16) -> Result<bool, Fault> {
 }
 
 /// Makes the call, and prints what became of it.
-fn show(rt: &HostRuntime, name: &str, count: u16) -> Result<()> {
-    match make(rt.alloc(), name, count) {
+fn show<R: Threads + Sync + Print>(rt: &R, alloc: Global, name: &str, count: u16) -> Result<()> {
+    match make(rt, alloc, name, count) {
         Ok(false) => println!(rt; "{name}: right")?,
         Ok(true) => println!(rt; "{name}: no memory, and then right")?,
         Err(fault) => println!(rt; "{name}: {fault}")?,
@@ -66,11 +75,11 @@ fn main(rt: HostRuntime) -> Result<()> {
     match words.as_slice() {
         [_] => {
             for name in CALLS {
-                show(&rt, name, 0)?;
+                show(&rt, rt.alloc(), name, 0)?;
             }
             Ok(())
         }
-        [_, name, count] => show(&rt, name, count.parse::<u16>()?),
+        [_, name, count] => show(&rt, rt.alloc(), name, count.parse::<u16>()?),
         _ => bail!("usage: memory_refused [CALL COUNT]"),
     }
 }

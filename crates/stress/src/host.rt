@@ -121,7 +121,9 @@ impl Host {
     /// Sends the message, and waits for a reply: whether it is the expected one.
     fn ask<R: Wait>(&mut self, rt: &R) -> Result<bool, AllocError> {
         self.heard.clear();
-        Ok(self.port.send(rt, self.message.as_slice()).is_ok() && self.hear(rt)?)
+        let stop = &self.common.stop;
+        let answer = self.port.send(rt, self.message.as_slice(), stop);
+        Ok(matches!(answer, Some(Ok(()))) && self.hear(rt)?)
     }
 
     /// Waits for a reply: whether it is the expected one. None comes after the end was called.

@@ -15,6 +15,3 @@ mod shared;
 
 pub use fault::StressFault;
 pub use run::stress_text;
-
-#[cfg(test)]
-mod tests;

@@ -132,24 +132,34 @@ impl Check {
 
     // As `try_stop`, and in the mending a second stop at each program and each erase.
     fn stop_twice(&mut self, alloc: Global, dies: Vec<MemDie>) -> Result<(), Word> {
-        let Some(mut visit) = Visit::open(alloc, &self.config, dies)? else {
-            return self.count(alloc, None);
-        };
+        match Visit::open(alloc, &self.config, dies)? {
+            Some(mut visit) => self.stop_in_mending(alloc, &mut visit),
+            None => self.count(alloc, None),
+        }
+    }
+
+    // The second stops of each round of the mending, and then what the device holds without one.
+    fn stop_in_mending(&mut self, alloc: Global, visit: &mut Visit) -> Result<(), Word> {
         for _ in 0..Visit::ROUNDS {
-            let mut is_due = visit.turn()?;
-            for die in 0..visit.dies {
-                if visit.take(die)? {
-                    is_due = true;
-                    self.stop_again(alloc, &visit.world, die)?;
-                    visit.finish(die)?;
-                }
-            }
-            if !is_due {
+            if !self.stop_in_round(alloc, visit)? {
                 break;
             }
         }
         let found = visit.blocks(self.config.numbers().units.as_slice())?;
         self.count(alloc, found)
+    }
+
+    // The second stops of one turn and a job of each die: whether there was any work.
+    fn stop_in_round(&mut self, alloc: Global, visit: &mut Visit) -> Result<bool, Word> {
+        let mut has_worked = visit.turn()?;
+        for die in 0..visit.dies {
+            if visit.take(die)? {
+                has_worked = true;
+                self.stop_again(alloc, &visit.world, die)?;
+                visit.finish(die)?;
+            }
+        }
+        Ok(has_worked)
     }
 
     // The second stops, where this die was just given a job.

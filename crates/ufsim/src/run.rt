@@ -6,6 +6,7 @@ use crate::commands::{Command, Content, Left};
 use crate::fault::{ScriptFault, Word};
 use crate::first_lines::FirstLines;
 use crate::leftovers::leftover;
+use crate::lines::Lines;
 use crate::outputs::show;
 use device::World;
 use std::alloc::Global;
@@ -77,22 +78,26 @@ fn check_script<W: Write>(
     tries: Stops,
     out: &mut W,
 ) -> Result<bool, ScriptFault> {
-    let first = FirstLines::read(script)?;
-    let last = first.last;
-    let mut runner = Runner::new(alloc, &first).map_err(|word| last.fault(word))?;
-    let config = first.config().map_err(|word| last.fault(word))?;
-    let check = Check::new(alloc, config, tries).map_err(|word| last.fault(word))?;
-    runner.check = Some(check);
-    for line in first.rest {
-        runner.run(line.bytes).map_err(|word| line.fault(word))?;
-    }
-    let (stops, bad) = match &runner.check {
-        Some(check) => (check.stops, check.bad),
-        None => (0, 0),
-    };
-    writeln!(out, "check stops {stops} bad {bad}").map_err(|_| ScriptFault::Output)?;
-    out.flush().map_err(|_| ScriptFault::Output)?;
+    let (stops, bad) = count_stops(alloc, FirstLines::read(script)?, tries)?;
+    tell_stops(out, stops, bad)?;
     Ok(bad == 0)
+}
+
+// How many stops were tried, and how many of them were bad.
+fn count_stops(
+    alloc: Global,
+    first: FirstLines<'_>,
+    tries: Stops,
+) -> Result<(usize, usize), ScriptFault> {
+    let last = first.last;
+    let mut runner = Runner::checking(alloc, &first, tries).map_err(|word| last.fault(word))?;
+    runner.run_each(first.rest)?;
+    Ok(runner.stops())
+}
+
+fn tell_stops<W: Write>(out: &mut W, stops: usize, bad: usize) -> Result<(), ScriptFault> {
+    writeln!(out, "check stops {stops} bad {bad}").map_err(|_| ScriptFault::Output)?;
+    out.flush().map_err(|_| ScriptFault::Output)
 }
 
 fn run_script<W: Write>(alloc: Global, script: &[u8], out: &mut W) -> Result<(), ScriptFault> {
@@ -147,6 +152,29 @@ impl Runner {
             shown: Vec::new(alloc),
             check: None,
         })
+    }
+
+    // The same, with these stops tried at each program and each erase.
+    fn checking(alloc: Global, first: &FirstLines, tries: Stops) -> Result<Runner, Word> {
+        let mut runner = Runner::new(alloc, first)?;
+        runner.check = Some(Check::new(alloc, first.config()?, tries)?);
+        Ok(runner)
+    }
+
+    // Runs the lines, of which only the last one's output stays in `shown`.
+    fn run_each(&mut self, lines: Lines<'_>) -> Result<(), ScriptFault> {
+        for line in lines {
+            self.run(line.bytes).map_err(|word| line.fault(word))?;
+        }
+        Ok(())
+    }
+
+    // How many stops were tried, and how many of them were bad.
+    fn stops(&self) -> (usize, usize) {
+        match &self.check {
+            Some(check) => (check.stops, check.bad),
+            None => (0, 0),
+        }
     }
 
     // Runs a line and leaves its output in `shown`.

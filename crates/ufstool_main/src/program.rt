@@ -52,14 +52,29 @@ fn host_command<'a>(alloc: Global) -> Result<Command<'a>, AllocError> {
     let host = Command::new(alloc, "host")
         .about("Writes the line of a script that hands the device a message")
         .subcommand_required(true)
-        .arg_required_else_help(true)
-        .subcommand(transfer(alloc, "read6", "READ(6)")?)?
+        .arg_required_else_help(true);
+    let host = with_transfers(alloc, host)?;
+    let host = with_flush(alloc, host)?;
+    with_others(alloc, host)
+}
+
+// The command with the READs and WRITEs.
+fn with_transfers<'a>(alloc: Global, host: Command<'a>) -> Result<Command<'a>, AllocError> {
+    host.subcommand(transfer(alloc, "read6", "READ(6)")?)?
         .subcommand(transfer(alloc, "write6", "WRITE(6)")?)?
         .subcommand(forced_transfer(alloc, "read10", "READ(10)")?)?
-        .subcommand(forced_transfer(alloc, "write10", "WRITE(10)")?)?;
+        .subcommand(forced_transfer(alloc, "write10", "WRITE(10)")?)
+}
+
+// The command with the flush and the question whether the unit is ready.
+fn with_flush<'a>(alloc: Global, host: Command<'a>) -> Result<Command<'a>, AllocError> {
     host.subcommand(flush(alloc)?)?
-        .subcommand(plain(alloc, "test-unit-ready", "TEST UNIT READY")?)?
-        .subcommand(request_sense(alloc)?)?
+        .subcommand(plain(alloc, "test-unit-ready", "TEST UNIT READY")?)
+}
+
+// The command with all other messages.
+fn with_others<'a>(alloc: Global, host: Command<'a>) -> Result<Command<'a>, AllocError> {
+    host.subcommand(request_sense(alloc)?)?
         .subcommand(plain(alloc, "read-capacity", "READ CAPACITY(10)")?)?
         .subcommand(nop(alloc)?)?
         .subcommand(data_out(alloc)?)
@@ -96,20 +111,10 @@ fn forced_transfer<'a>(
     name: &'a str,
     about: &'a str,
 ) -> Result<Command<'a>, AllocError> {
-    let blocks = Arg::new(alloc, "blocks")
-        .long("blocks")
-        .value_name("COUNT")
-        .help("How many blocks; the device takes up to 32")
-        .value_parser(value_parser!(u16))
-        .default_value("1");
-    let forced = Arg::new(alloc, "fua")
-        .long("fua")
-        .help("Sets FUA: a WRITE is answered once its blocks are durable")
-        .action(ArgAction::SetTrue);
     plain(alloc, name, about)?
         .arg(address(alloc))?
-        .arg(blocks)?
-        .arg(forced)
+        .arg(blocks(alloc))?
+        .arg(forced(alloc))
 }
 
 fn flush<'a>(alloc: Global) -> Result<Command<'a>, AllocError> {
@@ -137,30 +142,55 @@ fn nop<'a>(alloc: Global) -> Result<Command<'a>, AllocError> {
 }
 
 fn data_out<'a>(alloc: Global) -> Result<Command<'a>, AllocError> {
-    let offset = Arg::new(alloc, "offset")
-        .long("offset")
-        .value_name("BYTES")
-        .help("Where the data are in those of the command, as READY TO TRANSFER says")
-        .value_parser(value_parser!(u32))
-        .default_value("0");
-    let bytes = Arg::new(alloc, "bytes")
-        .long("bytes")
-        .value_name("COUNT")
-        .help("How many bytes, 1 to 4096")
-        .value_parser(value_parser!(u16).range(1..=4096))
-        .default_value("4096");
-    let fill = Arg::new(alloc, "fill")
-        .long("fill")
-        .value_name("BYTE")
-        .help("The byte of which all data are, as two hexadecimal digits")
-        .default_value("00");
     Command::new(alloc, "data-out")
         .about("DATA OUT with equal bytes")
         .arg(unit(alloc))?
         .arg(task(alloc))?
-        .arg(offset)?
-        .arg(bytes)?
-        .arg(fill)
+        .arg(offset(alloc))?
+        .arg(bytes(alloc))?
+        .arg(fill(alloc))
+}
+
+fn blocks<'a>(alloc: Global) -> Arg<'a> {
+    Arg::new(alloc, "blocks")
+        .long("blocks")
+        .value_name("COUNT")
+        .help("How many blocks; the device takes up to 32")
+        .value_parser(value_parser!(u16))
+        .default_value("1")
+}
+
+fn forced<'a>(alloc: Global) -> Arg<'a> {
+    Arg::new(alloc, "fua")
+        .long("fua")
+        .help("Sets FUA: a WRITE is answered once its blocks are durable")
+        .action(ArgAction::SetTrue)
+}
+
+fn offset<'a>(alloc: Global) -> Arg<'a> {
+    Arg::new(alloc, "offset")
+        .long("offset")
+        .value_name("BYTES")
+        .help("Where the data are in those of the command, as READY TO TRANSFER says")
+        .value_parser(value_parser!(u32))
+        .default_value("0")
+}
+
+fn bytes<'a>(alloc: Global) -> Arg<'a> {
+    Arg::new(alloc, "bytes")
+        .long("bytes")
+        .value_name("COUNT")
+        .help("How many bytes, 1 to 4096")
+        .value_parser(value_parser!(u16).range(1..=4096))
+        .default_value("4096")
+}
+
+fn fill<'a>(alloc: Global) -> Arg<'a> {
+    Arg::new(alloc, "fill")
+        .long("fill")
+        .value_name("BYTE")
+        .help("The byte of which all data are, as two hexadecimal digits")
+        .default_value("00")
 }
 
 fn unit<'a>(alloc: Global) -> Arg<'a> {

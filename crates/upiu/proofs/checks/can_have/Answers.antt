@@ -1,4 +1,5 @@
-use Rattle.std.proofs.Common.{◌≡◌, ◌∙◌, ◌∷◌, [], ◌==◌, ℕ, ap, false, rules}
+use Rattle.std.proofs.Common.{◌≡◌, ◌∙◌, ◌∷◌, [], ◌==◌, ◌||◌, ℕ, Bool, ap, false, slice_index, sym, rules}
+use Rattle.std.proofs.lemmas.Bool.{ne_eqb}
 use Rattle.ufs_spec.specs.Messages.{is_among, may_have}
 use Rattle.upiu.proofs.FirstFault.{transfer_may, unlisted_may}
 use Rattle.upiu.proofs.checks.can_have.Goals as goal
@@ -8,6 +9,11 @@ returns-then-segment-gt0 c =
     ap (λ (count : ℕ). c.args.segment == count) c.read_u32.ensures
     ∙ transfer_may c.args.bytes.now c.args.segment c.code.result c.in-2.is c.if-segment-gt0.true
     ∙ ap (λ (code : ℕ). may_have code c.args.bytes.now c.args.segment) c.code.ensures
+
+pub returns-else-segment-eq0 : goal.returns-else-segment-eq0
+returns-else-segment-eq0 c =
+    ap (λ (none : Bool). none || (slice_index c.args.bytes.now 12 == 0x02)) (sym (ne_eqb c.args.segment 0 c.if-segment-eq0.false))
+    ∙ ap (λ (code : ℕ). may_have code c.args.bytes.now c.args.segment) (sym c.in-22.is ∙ c.code.ensures)
 
 pub returns-in_default : goal.returns-in_default
 returns-in_default c =

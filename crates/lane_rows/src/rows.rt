@@ -7,8 +7,8 @@ ghost use Rattle.lanes.specs.Callers.{job_of};
 use crate::example::{ASKED, DATA_IN, DATA_OUT, HAS_READ, READ, WRITE, WRITTEN, with_block};
 use crate::gate_die::{Gate, GateDie};
 use crate::sharing::{last_lane, last_port, shared_over};
-use crate::tests::two_dies;
-use crate::{Keeper, Lane, Port, Shared, Tried, meet};
+use crate::threads::two_dies;
+use lanes::{Keeper, Lane, Port, Shared, Tried, meet};
 use nand_model::{Die, MemDie};
 use std::alloc::Global;
 use std::sync::atomic::{AtomicBool, Ordering};
@@ -123,7 +123,7 @@ fn two_gate_dies(alloc: Global, gate: &Arc<Gate, Global>) -> Result<Vec<GateDie>
 /// gate is opened, after which the write is answered.
 fn reads_beside<R: Wait>(rt: &R, port: &mut Port<GateDie>, gate: &Gate, stop: &AtomicBool) -> bool {
     let mut heard = Upiu::new();
-    let is_right = port.send(rt, &READ).is_ok()
+    let is_right = matches!(port.send(rt, &READ, stop), Some(Ok(())))
         && port.receive(rt, &mut heard, stop)
         && heard.as_slice() == with_block(&DATA_IN).as_slice()
         && port.receive(rt, &mut heard, stop)

@@ -3,9 +3,9 @@ ghost use Rattle.std.specs.Prelude.{◌≡◌, IfOk, IfSome, None, map, replicat
 ghost use Rattle.std.specs.List.{All};
 ghost use Rattle.ufs_spec.specs.Dies.{new_die};
 
-use crate::{Keeper, Lane, Port, Shared};
 use device::Device;
 use geometry::Config;
+use lanes::{Keeper, Lane, Port, Shared};
 use nand_model::Die;
 use std::alloc::Global;
 use std::test::*;

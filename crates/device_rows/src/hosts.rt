@@ -1,6 +1,6 @@
 //! Two dies, a keeper and two hosts, each in a thread of its own.
-use super::stress_text;
 use std::test::*;
+use stress::stress_text;
 
 /// Each block is read as it was written.
 #[test]

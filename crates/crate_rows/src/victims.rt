@@ -1,8 +1,8 @@
 //! Victims and plans of two dies of four blocks of four pages, by the rule: of the blocks without a
 //! pin that are closed and not wholly live, or bad with live pages, the one with the fewest live
 //! pages, and of several the lowest.
-use crate::{Plan, PlanStep, PlannedCopy};
 use block_table::{BlockAt, BlockState, BlockTable, LivePages, Sizes};
+use collector::{Plan, PlanStep, PlannedCopy};
 use geometry::Config;
 use std::alloc::Global;
 use std::test::Fail;

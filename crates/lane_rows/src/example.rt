@@ -3,7 +3,7 @@
 ghost use Rattle.std.specs.Prelude.{◌≡◌, None};
 ghost use Rattle.std.specs.Thread.{IsSync};
 
-use crate::{Keeper, Lane, Port};
+use lanes::{Keeper, Lane, Port};
 use nand_model::MemDie;
 use std::sync::Wait;
 use std::sync::atomic::{AtomicBool, Ordering};
@@ -26,7 +26,7 @@ fn asks<R: Wait>(
     message: &[u8],
     reply: &[u8],
 ) -> bool {
-    port.send(rt, message).is_ok() && hears(rt, port, stop, reply)
+    matches!(port.send(rt, message, stop), Some(Ok(()))) && hears(rt, port, stop, reply)
 }
 
 /// Waits for a reply: whether this one came.

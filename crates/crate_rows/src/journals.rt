@@ -1,7 +1,7 @@
 //! The comparison, on blocks that are a prefix of what was written and on blocks that are none, and what a
 //! journal takes from messages.
-use crate::{Journal, is_kept};
 use geometry::Config;
+use journal::{Journal, is_kept};
 use std::alloc::Global;
 use std::process::Abort;
 use std::test::Fail;

@@ -2,9 +2,9 @@
 ghost use Rattle.std.specs.Prelude.{◌≡◌, IfOk, replicate};
 ghost use Rattle.ufs_spec.specs.Dies.{new_die};
 
-use super::Shared;
-use super::example::serve_both;
-use super::sharing::{last_lane, shared_over};
+use crate::example::serve_both;
+use crate::sharing::{last_lane, shared_over};
+use lanes::Shared;
 use nand_model::MemDie;
 use std::alloc::Global;
 use std::test::*;
