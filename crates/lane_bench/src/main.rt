@@ -15,7 +15,7 @@ use crate::served::time_lanes;
 use anyhow::Result;
 
 /// How many blocks are written and read, and how many pages a thread hashes.
-pub(crate) const COUNT: u32 = 8192;
+pub(crate) const COUNT: u32 = 4096;
 
 fn main(rt: HostRuntime) -> Result<()> {
     for lanes in 1..=4u8 {

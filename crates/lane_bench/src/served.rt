@@ -26,7 +26,7 @@ const BLOCKS: u16 = 128;
 
 const PAGES: u16 = 64;
 
-/// So many dies with room for the blocks twice, and 1,024 slots.
+/// So many dies with room for the blocks twice, and 256 slots.
 fn config(dies: u8) -> Result<Config, ConfigFault>
     ensures { IfOk result (λ c. (c.dies ≡ dies) × (c.blocks ≡ 128) × (c.pages ≡ 64)) }
 {
@@ -35,7 +35,7 @@ fn config(dies: u8) -> Result<Config, ConfigFault>
         boot: 0,
         protect: 0,
     }];
-    Config::new(dies, BLOCKS, PAGES, &units, 1, 1024, 4)
+    Config::new(dies, BLOCKS, PAGES, &units, 1, 256, 4)
 }
 
 /// So many new dies.
