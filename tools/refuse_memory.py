@@ -25,7 +25,7 @@ CALLS = {
     "scan_parallel": (100, 40),
     "Device::open": (100, 145),
     "open_parallel": (100, 155),
-    "Shared::new": (106, 40),
+    "Shared::new": (180, 20),
     "World::new": (106, 145),
     "World::step": (238, 145),
     "run": (106, 280),
