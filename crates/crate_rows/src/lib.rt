@@ -1,5 +1,6 @@
-//! Each public function of the lower crates once, and what the worked rows say of contents. Expected bytes
-//! come from the device's formats and from the standards, never from the program's own output.
+//! Each public function of the lower crates once, what the worked rows say of contents, the comparison of
+//! journals, and victims and plans. Expected bytes come from the device's formats and from the standards,
+//! never from the program's own output.
 #![tactic(auto)]
 
 #[cfg(test)]

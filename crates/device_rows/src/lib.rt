@@ -1,4 +1,5 @@
-//! The device and its world at work where scripts do not lead: failed jobs, bad blocks, worlds that end.
+//! The device and its world at work where scripts do not lead: failed jobs, bad blocks, worlds that end,
+//! openings by several threads, hosts in threads.
 //! Expected bytes come from the device's formats and from the standards, never from its own output.
 #![tactic(auto)]
 

@@ -29,7 +29,7 @@ pub fn since<R: Clock>(rt: &R, start: Instant) -> Result<u64, Fault> {
     Ok(passed.as_nanos().min(u64::MAX as u128) as u64)
 }
 
-/// So many a second, if each takes so many nanoseconds in a thousand.
+/// How many a second, if so many took this time in nanoseconds together.
 pub fn a_second(total: u64, count: u32) -> u64 {
     u64::from(count).saturating_mul(1_000_000_000) / total.max(1)
 }
