@@ -145,10 +145,6 @@ count_zero (suc n) f off = λ i. count_zero n f off i + one (off n i)
 pub live_count_is : (l : Lives) (s : Spot) → live_count l s ≡ count l.sizes.pages (λ k. is_live l (place_in s k))
 live_count_is l s = count_is (is_live l) (place_in s) l.sizes.pages
 
-pub counts_within : (l : Lives) (s : Spot) → live_count l s ≤ l.sizes.pages
-counts_within l s = let e = live_count_is l s in
-    let h = count_within l.sizes.pages (λ k. is_live l (place_in s k)) in omega arith
-
 pub counts_room : (l : Lives) (p : Place) → has_page l.sizes p ≡ true → is_live l p ≡ false →
     live_count l (spot_of p) < l.sizes.pages
 counts_room l p h off =

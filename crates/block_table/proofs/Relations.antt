@@ -103,11 +103,6 @@ pub any_same : (n : Sizes) (p q : Spot → Bool) → ((s : Spot) → has_block n
     list_any p (spots_in n) ≡ list_any q (spots_in n)
 any_same n p q tests = any_each p q (spots_in n) (each_spot (λ s. p s ≡ q s) n tests)
 
--- the live pages of a block are the same if the words say the same of each page of it
-pub pages_same : (n : Sizes) (s : Spot) (p q : Place → Bool) →
-    ((k : ℕ) → k < n.pages → p (place_in s k) ≡ q (place_in s k)) → filter p (places_in n s) ≡ filter q (places_in n s)
-pages_same n s p q tests = filter_same p q (places_in n s) (each_page (λ x. p x ≡ q x) n s tests)
-
 -- A page or a pin noted
 
 page_inside : (n : Sizes) (p : Place) → has_page n p ≡ true → page_place n p < n.dies * n.blocks * n.pages
@@ -121,10 +116,6 @@ page_inside n p h =
 -- there is a place for each page
 abbrev pub HasPlaces : Lives → Type 0
 HasPlaces l = length l.live ≡ l.sizes.dies * l.sizes.blocks * l.sizes.pages
-
--- and one for the pins of each block
-abbrev pub HasPinPlaces : Lives → Type 0
-HasPinPlaces l = length l.pins ≡ l.sizes.dies * l.sizes.blocks
 
 with_noted : (l : Lives) (p : Place) (b : Bool) → has_page l.sizes p ≡ true → with_live l p b ≡ noted l p b
 with_noted l p b h = λ i. record l { live = if h i then slice_set l.live (page_place l.sizes p) b else l.live }
@@ -142,47 +133,3 @@ live_beside l p q b apart = by (cases_Bool (has_page l.sizes p))
     by (inl h) = ap (λ (m : Lives). is_live m q) (with_noted l p b h) ∙ noted_beside l p q b h apart
     by (inr h) = λ i. has_page l.sizes q && unwrap_or
         (slice_get (if h i then slice_set l.live (page_place l.sizes p) b else l.live) (page_place l.sizes q)) false
-
-pub places_kept : (l : Lives) (p : Place) (b : Bool) → HasPlaces l → HasPlaces (with_live l p b)
-places_kept l p b whole = by (has_page l.sizes p)
-  where
-    by : (c : Bool) → length (if c then slice_set l.live (page_place l.sizes p) b else l.live)
-        ≡ l.sizes.dies * l.sizes.blocks * l.sizes.pages
-    by true = set_length l.live (page_place l.sizes p) b ∙ whole
-    by false = whole
-
--- the pins of a block in a list of them
-abbrev seen_pins : Lives → Spot → List ℕ → ℕ
-seen_pins l t xs = unwrap_or (slice_get xs (block_place l.sizes t)) 0
-
-abbrev new_pins : Lives → Spot → ℕ → Bool → List ℕ
-new_pins l s n b = if b then slice_set l.pins (block_place l.sizes s) n else l.pins
-
-pub pins_here : (l : Lives) (s : Spot) (n : ℕ) → HasPinPlaces l → has_block l.sizes s ≡ true →
-    pins_of (with_pins l s n) s ≡ n
-pins_here l s n whole h =
-    let w = spot_inside l.sizes s h in
-    (λ i. if h i then seen_pins l s (new_pins l s n (h i)) else 0)
-    ∙ ap (λ o. unwrap_or o 0) (set_here l.pins (block_place l.sizes s) n (omega arith))
-
-pub pins_beside : (l : Lives) (s t : Spot) (n : ℕ) → t ≢ s → pins_of (with_pins l s n) t ≡ pins_of l t
-pins_beside l s t n apart = by (cases_Bool (has_block l.sizes s)) (cases_Bool (has_block l.sizes t))
-  where
-    by : (has_block l.sizes s ≡ true) ⊎ (has_block l.sizes s ≡ false) →
-        (has_block l.sizes t ≡ true) ⊎ (has_block l.sizes t ≡ false) → pins_of (with_pins l s n) t ≡ pins_of l t
-    by (inl h) (inl k) =
-        (λ i. if has_block l.sizes t then seen_pins l t (new_pins l s n (h i)) else 0)
-        ∙ ap (λ (o : Option ℕ). if has_block l.sizes t then unwrap_or o 0 else 0)
-        (set_other l.pins (block_place l.sizes s) (block_place l.sizes t) n
-        (λ e. apart (one_spot l.sizes t s k h e)))
-    by (inl h) (inr k) =
-        (λ i. if k i then seen_pins l t (new_pins l s n (has_block l.sizes s)) else 0)
-        ∙ sym (λ i. if k i then seen_pins l t l.pins else 0)
-    by (inr h) k = λ i. if has_block l.sizes t then seen_pins l t (new_pins l s n (h i)) else 0
-
-pub pin_places_kept : (l : Lives) (s : Spot) (n : ℕ) → HasPinPlaces l → HasPinPlaces (with_pins l s n)
-pin_places_kept l s n whole = by (has_block l.sizes s)
-  where
-    by : (c : Bool) → length (new_pins l s n c) ≡ l.sizes.dies * l.sizes.blocks
-    by true = set_length l.pins (block_place l.sizes s) n ∙ whole
-    by false = whole

@@ -1,5 +1,4 @@
 pub mod FewPins
-pub mod FewRead
 pub mod KeptByTag
 pub mod OpenTasks
 pub mod ReadProgress

@@ -1,6 +1,6 @@
 -- What the calls make of the layer and of what the device keeps.
-use Rattle.std.specs.Prelude.{◌≡◌, ℕ, ◌+◌, ◌-◌, ◌≤◌, ◌<◌, nat_le, nat_lt, Bool, true, false, if◌then◌else◌, List, []}
-use Rattle.std.specs.Prelude.{◌∷◌, ◌++◌, fold, length, map, replicate, Option, Some, None, Result, Ok, Err}
+use Rattle.std.specs.Prelude.{◌≡◌, ℕ, ◌+◌, ◌-◌, ◌≤◌, ◌<◌, nat_le, Bool, true, false, if◌then◌else◌, List, []}
+use Rattle.std.specs.Prelude.{fold, length, map, replicate, Option, Some, None, Result, Ok, Err}
 use Rattle.std.specs.List.{list_any}
 use Rattle.ufs_spec.specs.Keys.{IsKey}
 use Rattle.ufs_spec.specs.Ledger.{Ledger, next_number}
@@ -25,7 +25,7 @@ use Rattle.task_set.specs.declared.tasks.TaskEvent.{TaskEvent}
 use Rattle.task_set.specs.declared.tasks.TaskEvent.TheVariants as event
 use Rattle.task_set.specs.declared.tasks.Transfer.{Transfer}
 use Rattle.device.specs.Kept.{DeviceCore}
-use Rattle.task_set.specs.Tasks.{after_lost_read, next_transfer, task_after}
+use Rattle.task_set.specs.Tasks.{after_lost_read, after_read, next_transfer, task_after}
 
 -- A task begins
 
@@ -137,8 +137,7 @@ lock_told t d =
 
 -- what the die gave to the task of this tag: a block, or none, which ends the task
 abbrev pub read_told : DeviceCore → ℕ → Option (List ℕ) → DeviceCore
-read_told d tag (Some body) =
-    if nat_lt (length d.loaded) 32 then record d { loaded = d.loaded ++ record { tag = tag; body = body } ∷ [] } else d
+read_told d tag (Some body) = record d { tasks = map (after_read tag body) d.tasks }
 read_told d tag None = record d { tasks = map (after_lost_read tag) d.tasks }
 
 abbrev pub told : DeviceCore → Ended → DeviceCore

@@ -2,7 +2,7 @@
 -- fields that it reads. No command sets a protection yet.
 use Rattle.std.specs.Prelude.{◌≡◌, ℕ, zero, suc, ◌+◌, ◌*◌, ◌≤◌, ◌<◌, ◌==◌, ◌&&◌, min, nat_le, nat_lt, true, false}
 use Rattle.std.specs.Prelude.{All, List}
-use Rattle.std.specs.Prelude.{[], ◌∷◌, drop, filter, find, if◌then◌else◌, length, map, slice_get, take, Bool, Option}
+use Rattle.std.specs.Prelude.{[], ◌∷◌, drop, find, if◌then◌else◌, length, map, slice_get, take, Bool, Option}
 use Rattle.std.specs.Prelude.{Some}
 use Rattle.std.specs.Prelude.{None, option_map, Result}
 use Rattle.std.specs.Int.{div_ceil}
@@ -29,17 +29,15 @@ use Rattle.ftl_core.specs.Describes as layer
 use Rattle.ftl_core.specs.Moves.{claims_for}
 use Rattle.ftl_core.specs.Tells.{claims_of_blocks}
 use Rattle.write_cache.specs.declared.slots.Claimed.{Claimed}
-use Rattle.task_set.specs.declared.tasks.Loaded.{Loaded}
 use Rattle.task_set.specs.declared.tasks.Phase.{Phase}
 use Rattle.task_set.specs.declared.tasks.Phase.TheVariants as phase
 use Rattle.task_set.specs.declared.tasks.Sending.{Sending as Sends}
 use Rattle.task_set.specs.declared.tasks.Short as kept
 use Rattle.task_set.specs.declared.tasks.Status.{Status}
 use Rattle.task_set.specs.declared.tasks.Status.TheVariants as status
-use Rattle.task_set.specs.declared.tasks.Task.{Task}
 use Rattle.task_set.specs.declared.tasks.Transfer.{Transfer}
+use Rattle.task_set.specs.Kept.{OpenTask}
 use Rattle.device.specs.Kept.{DeviceCore}
-use Rattle.task_set.specs.Lists.{body_of, is_loaded_for}
 use Rattle.device.specs.Replies.{short_message}
 use Rattle.task_set.specs.Tasks.{data_length, read_error, status_kept}
 use Rattle.device.specs.Replies.{data_bytes}
@@ -106,16 +104,31 @@ IsDoing before expected total (phase.Answer told n) (Answering s carried) = (s �
 IsDoing before expected total (phase.Answer told n) (Sending blocks sent) = IsLost blocks sent told n
 IsDoing before expected total kept deed = ⊥
 
-pub record TaskKept (before : ℕ) (a : Task) (b : exchange.Task) : Type 0 where
+abbrev pub read_by : List ℕ → exchange.ReadState → Option (List ℕ)
+read_by body Unread = None
+read_by body WasRead = Some body
+read_by body NotRead = None
+
+abbrev pub read_of : Option ReadBlock → Option (List ℕ)
+read_of None = None
+read_of (Some block) = read_by block.body block.state
+
+-- the next block, once it was read
+abbrev pub read_in : Deed → Option (List ℕ)
+read_in (Sending blocks sent) = read_of (slice_get blocks sent)
+read_in deed = None
+
+pub record TaskKept (before : ℕ) (a : OpenTask) (b : exchange.Task) : Type 0 where
   pub lun : b.lun ≡ a.lun
   pub tag : b.tag ≡ a.tag
   pub expected : b.expected ≡ a.expected
   -- no SECURITY PROTOCOL OUT is taken yet
   pub request : b.request ≡ None
   pub doing : IsDoing before a.expected b.length a.phase b.deed
+  pub read : a.block ≡ read_in b.deed
 
 -- task by task
-abbrev pub TasksKept : ℕ → List Task → List exchange.Task → Type 0
+abbrev pub TasksKept : ℕ → List OpenTask → List exchange.Task → Type 0
 TasksKept before [] [] = Unit {0}
 TasksKept before (a ∷ ours) (b ∷ theirs) = TaskKept before a b × TasksKept before ours theirs
 TasksKept before ours theirs = ⊥
@@ -125,10 +138,6 @@ TasksKept before ours theirs = ⊥
 -- whether the page of the block of this index is wanted, if something is kept for it
 abbrev pub wanted_kept : List Pin → ℕ → ℕ → Option Bool
 wanted_kept pins tag index = option_map (λ (pin : Pin). pin.wanted) (find (is_pin_of tag index) pins)
-
--- what was read for a tag
-abbrev pub read_kept : List Loaded → ℕ → List (List ℕ)
-read_kept loaded tag = map body_of (filter (is_loaded_for tag) loaded)
 
 abbrev pub wanted_of : Bool → Option ReadBlock → Option Bool
 wanted_of next None = None
@@ -140,28 +149,10 @@ wanted_in index (Sending blocks sent) =
     if nat_lt index sent then None else wanted_of (index == sent) (slice_get blocks index)
 wanted_in index deed = None
 
-abbrev pub read_by : List ℕ → exchange.ReadState → List (List ℕ)
-read_by body Unread = []
-read_by body WasRead = body ∷ []
-read_by body NotRead = []
-
-abbrev pub read_of : Option ReadBlock → List (List ℕ)
-read_of None = []
-read_of (Some block) = read_by block.body block.state
-
--- the next block, once it was read
-abbrev pub read_in : Deed → List (List ℕ)
-read_in (Sending blocks sent) = read_of (slice_get blocks sent)
-read_in deed = []
-
--- what is kept and what was read for a task, or for a tag that none has
+-- what is kept for a task, or for a tag that none has
 abbrev pub wanted_by : ℕ → Option exchange.Task → Option Bool
 wanted_by index None = None
 wanted_by index (Some task) = wanted_in index task.deed
-
-abbrev pub read_for : Option exchange.Task → List (List ℕ)
-read_for None = []
-read_for (Some task) = read_in task.deed
 
 -- Blocks of WRITEs
 
@@ -210,7 +201,6 @@ pub record Keeps (d : DeviceCore) (s : State) : Type 0 where
   pub few : length s.tasks ≤ most_tasks
   pub tasks : TasksKept (before_accepted s.translation.ledger) d.tasks s.tasks
   pub wanted : (tag index : ℕ) → wanted_kept s.translation.pins tag index ≡ wanted_by index (task_of tag s.tasks)
-  pub read : (tag : ℕ) → read_kept d.loaded tag ≡ read_for (task_of tag s.tasks)
   pub claims : (tag : ℕ) → claims_for d.ftl tag ≡ claims_by tag (task_of tag s.tasks)
   pub shorts : s.shorts ≡ map short_kept d.shorts
   pub power_off : s.power_on ≡ false

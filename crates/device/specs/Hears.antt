@@ -13,7 +13,7 @@ use Rattle.task_set.specs.declared.tasks.Phase.TheVariants as phase
 use Rattle.device.specs.declared.plans.Plan.{Plan}
 use Rattle.task_set.specs.declared.tasks.Short.{Short}
 use Rattle.task_set.specs.declared.tasks.Status.{Status}
-use Rattle.task_set.specs.declared.tasks.Task.{Task}
+use Rattle.task_set.specs.Kept.{OpenTask}
 use Rattle.task_set.specs.declared.tasks.TaskEvent.{TaskEvent}
 use Rattle.device.specs.Calls.{HasBegun, HasGathered, lock_told}
 use Rattle.device.specs.Kept.{DeviceCore}
@@ -27,7 +27,7 @@ use Rattle.task_set.specs.Tasks.{phase_after}
 abbrev pub uses : DeviceCore → ℕ → Bool
 uses d tag = is_in_use d.tasks d.shorts tag
 
-abbrev pub with_task : DeviceCore → Task → DeviceCore
+abbrev pub with_task : DeviceCore → OpenTask → DeviceCore
 with_task d task = record d { tasks = d.tasks ++ task ∷ [] }
 
 abbrev pub with_short : DeviceCore → Short → DeviceCore
@@ -48,7 +48,8 @@ pub record IsTaskOpened (before after : DeviceCore) (flags lun tag expected : �
         IsRequest r flags lun expected bytes → IsPlanned s r todo
     pub begun : (t : Translation) → Describes before.ftl t → HasBegun before.ftl layer t tag todo phase
     pub more : after ≡
-        record (with_task before (record { tag = tag; lun = lun; expected = expected; phase = phase })) { ftl = layer }
+        record (with_task before (record { tag = tag; lun = lun; expected = expected; phase = phase; block = None }))
+        { ftl = layer }
 
 -- Data
 

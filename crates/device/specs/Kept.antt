@@ -4,22 +4,20 @@ use Rattle.ufs_spec.specs.declared.configs.Numbers.{Numbers}
 use Rattle.ufs_spec.specs.declared.flash.Job.{Job}
 use Rattle.ufs_spec.specs.Dies.{DieState}
 use Rattle.ftl_core.specs.Core.{Core}
-use Rattle.task_set.specs.declared.tasks.Task.{Task}
+use Rattle.task_set.specs.Kept.{OpenTask}
 use Rattle.task_set.specs.declared.tasks.Short.{Short}
-use Rattle.task_set.specs.declared.tasks.Loaded.{Loaded}
 
--- the translation layer, whether units are protected for ever, the open tasks, the short exchanges, and the blocks that
--- die reads gave
+-- the translation layer, whether units are protected for ever, the open tasks with the blocks that dies read for them,
+-- and the short exchanges
 pub record DeviceCore : Type 0 where
   pub ftl : Core
   pub is_permanent : Bool
-  pub tasks : List Task
+  pub tasks : List OpenTask
   pub shorts : List Short
-  pub loaded : List Loaded
 
 -- a device over this layer with no task open
 abbrev pub idle_device : Core → Bool → DeviceCore
-idle_device layer permanent = record { ftl = layer; is_permanent = permanent; tasks = []; shorts = []; loaded = [] }
+idle_device layer permanent = record { ftl = layer; is_permanent = permanent; tasks = []; shorts = [] }
 
 -- a device with its dies: its configuration, the job that each die has in flight, how many steps were made, and
 -- whether one of them failed, which ends the world

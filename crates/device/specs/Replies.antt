@@ -1,7 +1,7 @@
 -- Which replies are due, what they say, and what becomes of their tasks.
 use Rattle.std.specs.Prelude.{◌≡◌, ℕ, ◌+◌, ◌-◌, ◌*◌, ◌≤◌, ◌++◌, min, nat_le, nat_lt, Bool, true, false}
 use Rattle.std.specs.Prelude.{if◌then◌else◌, find, ⊤}
-use Rattle.std.specs.Prelude.{List, position, remove, take, Option, Some, None, option_map}
+use Rattle.std.specs.Prelude.{List, remove, slice_get, take, Option, Some, None, option_map}
 use Rattle.byteorder.specs.Endian.{big_bytes}
 use Rattle.ufs_spec.specs.Exchanges as exchange
 use Rattle.ufs_spec.specs.Exchanges.{response}
@@ -16,7 +16,6 @@ use Rattle.ufs_spec.specs.declared.messages.Message.TheVariants as message
 use Rattle.ftl_core.specs.Core.{Core}
 use Rattle.ftl_core.specs.Describes as layer
 use Rattle.ftl_core.specs.Moves.{claims_for}
-use Rattle.task_set.specs.declared.tasks.Loaded.{Loaded}
 use Rattle.task_set.specs.declared.tasks.Phase.{Phase}
 use Rattle.task_set.specs.declared.tasks.Phase.TheVariants as phase
 use Rattle.task_set.specs.declared.tasks.Sending.{Sending}
@@ -28,7 +27,8 @@ use Rattle.task_set.specs.declared.tasks.Status.{Status}
 use Rattle.task_set.specs.declared.tasks.Status.TheVariants as status
 use Rattle.task_set.specs.declared.tasks.Task.{Task}
 use Rattle.task_set.specs.declared.tasks.ShortData.TheVariants as sent
-use Rattle.task_set.specs.Lists.{is_loaded_for, loaded_for, loaded_without}
+use Rattle.task_set.specs.Kept.{OpenTask, task_in}
+use Rattle.task_set.specs.Lists.{tasks_sent}
 use Rattle.device.specs.Hears.{with_phase}
 use Rattle.device.specs.Kept.{DeviceCore}
 use Rattle.task_set.specs.Tasks.{data_length, next_sending, sent_next, status_kept}
@@ -37,18 +37,18 @@ use Rattle.task_set.specs.Tasks.{data_length, next_sending, sent_next, status_ke
 
 -- a block that was looked up, once it is there: zeros if nothing was ever written, the body in the slot, or what was
 -- read
-abbrev pub block_at : Ledger → List Loaded → ℕ → Looked → Option (List ℕ)
-block_at l loaded tag Unwritten = Some zero_block
-block_at l loaded tag (InSlot name) = option_map (λ (e : Entry). e.item.body) (entry_of l name)
-block_at l loaded tag (OnPage name place) = loaded_for loaded tag
+abbrev pub block_at : Ledger → Option (List ℕ) → Looked → Option (List ℕ)
+block_at l read Unwritten = Some zero_block
+block_at l read (InSlot name) = option_map (λ (e : Entry). e.item.body) (entry_of l name)
+block_at l read (OnPage name place) = read
 
-abbrev pub block_of : Ledger → List Loaded → ℕ → Option Pin → Option (List ℕ)
-block_of l loaded tag None = None
-block_of l loaded tag (Some pin) = block_at l loaded tag pin.looked
+abbrev pub block_of : Ledger → Option (List ℕ) → Option Pin → Option (List ℕ)
+block_of l read None = None
+block_of l read (Some pin) = block_at l read pin.looked
 
 -- the block of this index that is kept for a tag, once it is there
-abbrev pub block_for : Translation → List Loaded → ℕ → ℕ → Option (List ℕ)
-block_for t loaded tag index = block_of t.ledger loaded tag (find (is_pin_of tag index) t.pins)
+abbrev pub block_for : Translation → Option (List ℕ) → ℕ → ℕ → Option (List ℕ)
+block_for t read tag index = block_of t.ledger read (find (is_pin_of tag index) t.pins)
 
 -- Messages
 
@@ -87,18 +87,18 @@ data_count expected x =
 abbrev pub data_message : Task → ShortData → Message
 data_message t x = message.DataIn t.lun t.tag 0 (record { items = take (data_count t.expected x) (data_padded x) })
 
-abbrev pub owed_in : Translation → List Loaded → Task → Phase → Option Message
-owed_in t loaded a (phase.AskData x) = Some (message.ReadyToTransfer a.lun a.tag (4096 * x.gathered) 4096)
-owed_in t loaded a (phase.AwaitData x) = None
-owed_in t loaded a (phase.AwaitFrontier n size) =
+abbrev pub owed_in : Translation → Option (List ℕ) → Task → Phase → Option Message
+owed_in t read a (phase.AskData x) = Some (message.ReadyToTransfer a.lun a.tag (4096 * x.gathered) 4096)
+owed_in t read a (phase.AwaitData x) = None
+owed_in t read a (phase.AwaitFrontier n size) =
     if nat_le n t.ledger.frontier then Some (answer_of a status.Good size) else None
-owed_in t loaded a (phase.SendBlocks x) = option_map (block_message a x) (block_for t loaded a.tag x.sent)
-owed_in t loaded a (phase.SendData x) = Some (data_message a x)
-owed_in t loaded a (phase.Answer s n) = Some (answer_of a s n)
+owed_in t read a (phase.SendBlocks x) = option_map (block_message a x) (block_for t read a.tag x.sent)
+owed_in t read a (phase.SendData x) = Some (data_message a x)
+owed_in t read a (phase.Answer s n) = Some (answer_of a s n)
 
 -- the reply that the task owes now, by what the layer keeps and what was read
-abbrev pub owed_by : Translation → List Loaded → Task → Option Message
-owed_by t loaded a = owed_in t loaded a a.phase
+abbrev pub owed_by : Translation → OpenTask → Option Message
+owed_by t a = owed_in t a.block (task_in a) a.phase
 
 -- the bytes are those of the reply that is owed; or there is none, and nothing is said of them
 abbrev pub IsWritten : Bool → List ℕ → Option Message → Type 0
@@ -109,21 +109,21 @@ IsWritten false bytes None = ⊤
 
 -- What becomes of the task
 
--- the block that was read for the tag is given up
-abbrev pub without_block : DeviceCore → ℕ → DeviceCore
-without_block d tag = record d { loaded = loaded_without d.loaded (position (is_loaded_for tag) d.loaded) }
+-- the task at this position handed out its block, if there was one, and does this from now on
+abbrev pub with_sent : DeviceCore → ℕ → Phase → DeviceCore
+with_sent d k p = record d { tasks = tasks_sent d.tasks k p (slice_get d.tasks k) }
 
 abbrev pub without_task : DeviceCore → ℕ → DeviceCore
 without_task d k = record d { tasks = remove d.tasks k }
 
 -- what the device keeps, but for its layer, once the task at this position has handed out its reply
-abbrev pub moved_on : DeviceCore → ℕ → Task → Phase → DeviceCore
-moved_on d k a (phase.AskData x) = with_phase d k (phase.AwaitData x)
-moved_on d k a (phase.AwaitData x) = d
-moved_on d k a (phase.AwaitFrontier n size) = without_task (without_block d a.tag) k
-moved_on d k a (phase.SendData x) = with_phase d k (phase.Answer status.Good (data_length x))
-moved_on d k a (phase.SendBlocks x) = with_phase (without_block d a.tag) k (sent_next x (next_sending x))
-moved_on d k a (phase.Answer s n) = without_task (without_block d a.tag) k
+abbrev pub moved_on : DeviceCore → ℕ → Phase → DeviceCore
+moved_on d k (phase.AskData x) = with_phase d k (phase.AwaitData x)
+moved_on d k (phase.AwaitData x) = d
+moved_on d k (phase.AwaitFrontier n size) = without_task d k
+moved_on d k (phase.SendData x) = with_phase d k (phase.Answer status.Good (data_length x))
+moved_on d k (phase.SendBlocks x) = with_sent d k (sent_next x (next_sending x))
+moved_on d k (phase.Answer s n) = without_task d k
 
 -- the layer then: a block that was handed out is let go; a task that ends keeps nothing, and what it waited for is
 -- acknowledged

@@ -11,7 +11,6 @@ core_of d = record {
   is_permanent = d.is_permanent;
   tasks = d.set.tasks;
   shorts = d.set.shorts;
-  loaded = d.set.loaded;
 }
 
 abbrev pub world_of : World → WorldState

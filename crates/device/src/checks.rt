@@ -1,7 +1,11 @@
 //! The checks of a command, in the order in which the first that applies ends it.
-ghost use Rattle.std.specs.Prelude.{◌≡◌, ◌≤◌, ℕ, ◌*◌, option_map, IfErr, IfOk, IsOk, None, Some};
-ghost use Rattle.ufs_spec.specs.Cdbs.{IsTakenCdb, blocks_of, direction_of, length_of as length_of_command, operation_of};
+ghost use Rattle.std.specs.Prelude.{◌≡◌, ◌≤◌, ℕ, ◌+◌, ◌*◌, ◌&&◌, nat_lt, not, option_map, IfErr, IfOk, IsOk, None};
+ghost use Rattle.std.specs.Prelude.{Some};
+ghost use Rattle.ufs_spec.specs.Cdbs.{IsTakenCdb, address_of, blocks_of, direction_of, operation_of};
+ghost use Rattle.ufs_spec.specs.Cdbs.{length_of as length_of_command};
 ghost use Rattle.ufs_spec.specs.Refusals.{Request, State, first_line, flushes, is_refused_write, lacks_data};
+ghost use Rattle.ufs_spec.specs.Refusals.{mended, numbers_of};
+ghost use Rattle.ufs_spec.specs.Translation.{free_slots};
 ghost use Rattle.ufs_spec.specs.Keys.{data_key};
 ghost use Rattle.ufs_spec.specs.Refusals.{lines_for, needs_mended, slots_needed, spec_of, writes};
 ghost use Rattle.ufs_spec.specs.declared.configs.Numbers.{Numbers};
@@ -38,6 +42,20 @@ fn lacks_data(cdb: &Cdb, flags: u8, expected: u32) -> bool
         }
         _ => length > 0 && flags != READS,
     }
+}
+
+/// Whether the command has more blocks than a command may have.
+fn has_too_many_blocks(cdb: &Cdb) -> bool
+    ensures { result ≡ nat_lt 32 (blocks_of cdb.now) }
+{
+    blocks_of(cdb) > BLOCKS_A_COMMAND
+}
+
+/// Whether a block of the command lies past the unit.
+fn is_out_of_range(cdb: &Cdb, unit: UnitSpec) -> bool
+    ensures { result ≡ nat_lt unit.blocks (address_of cdb.now + blocks_of cdb.now) }
+{
+    address_of(cdb) as u64 + blocks_of(cdb) as u64 > unit.blocks as u64
 }
 
 /// Whether the command is taken only once the device is mended: all but REQUEST SENSE and READ CAPACITY.
@@ -205,23 +223,41 @@ impl Device {
             IsTakenCdb cdb.now → first_line (lines_for s r cdb.now) ≡ option_map status_kept result }
         ensures few { result ≡ None → blocks_of cdb.now ≤ 32 }
     {
-        let blocks = blocks_of(cdb);
-        if blocks > BLOCKS_A_COMMAND || lacks_data(cdb, flags, expected) {
+        if has_too_many_blocks(cdb) {
             return Some(Status::CheckCondition(Sense::INVALID_FIELD));
         }
-        if address_of(cdb) as u64 + blocks as u64 > unit.blocks as u64 {
+        if lacks_data(cdb, flags, expected) {
+            return Some(Status::CheckCondition(Sense::INVALID_FIELD));
+        }
+        if is_out_of_range(cdb, unit) {
             return Some(Status::CheckCondition(Sense::OUT_OF_RANGE));
         }
-        if needs_mended(cdb) && !self.ftl.is_mended() {
+        if self.is_too_early(cdb) {
             return Some(Status::CheckCondition(Sense::NOT_READY));
         }
         if self.is_refused_write(unit, cdb) {
             return Some(Status::CheckCondition(Sense::WRITE_PROTECTED));
         }
-        if self.ftl.free_slots() < slots_needed(cdb) as usize {
+        if self.lacks_slots(cdb) {
             return Some(Status::Busy);
         }
         None
+    }
+
+    /// Whether the command is taken only once the device is mended, and it is not.
+    fn is_too_early(&self, cdb: &Cdb) -> bool
+        ensures { (s : State) → IsLayer self.now.ftl s.translation → IsTakenCdb cdb.now →
+            result ≡ needs_mended (operation_of cdb.now) && not (mended s) }
+    {
+        needs_mended(cdb) && !self.ftl.is_mended()
+    }
+
+    /// Whether the command needs more slots than are free.
+    fn lacks_slots(&self, cdb: &Cdb) -> bool
+        ensures { (s : State) → IsLayer self.now.ftl s.translation → IsTakenCdb cdb.now →
+            result ≡ nat_lt (free_slots s.translation) (slots_needed (numbers_of s) cdb.now) }
+    {
+        self.ftl.free_slots() < slots_needed(cdb) as usize
     }
 
     /// Whether the command writes to a protected unit or a locked device, or flushes a locked device

@@ -4,6 +4,7 @@ ghost use Rattle.std.specs.Prelude.{IfSome, OnErr, OnOk};
 ghost use Rattle.device.specs.Calls.{HasBegun, HasClaimed, HasGathered, HasKept, HasTaken};
 ghost use Rattle.device.specs.Hears.{IsDataHeard, IsTaskOpened, asked_for};
 ghost use Rattle.device.specs.Hears.{short_answer, with_phase, uses, with_short, with_task};
+ghost use Rattle.task_set.specs.Kept.{newly_open};
 ghost use Rattle.ufs_spec.specs.Refusals.{State};
 ghost use Rattle.device.specs.Describes.{Describes, IsHeardAs};
 ghost use Rattle.std.specs.Prelude.{ℕ, List, nat_le};
@@ -147,7 +148,7 @@ impl Device {
     /// One task more.
     fn push_task(&mut self, task: Task)
         requires { length self.old.tasks < 32 }
-        ensures { self.new ≡ with_task self.old task }
+        ensures { self.new ≡ with_task self.old (newly_open task) }
     {
         self.set.open(task);
     }

@@ -15,8 +15,9 @@ ghost use Rattle.ftl_core.specs.Moves.{claims_for};
 ghost use Rattle.task_set.specs.declared.tasks.Short.{Short};
 ghost use Rattle.device.specs.Describes.{Describes, IsAnswered, IsReplied};
 ghost use Rattle.device.specs.Replies.{HasMoved, IsWritten, answer_of, block_at, block_for, block_message, short_message};
-ghost use Rattle.task_set.specs.Lists.{loaded_for};
-ghost use Rattle.device.specs.Replies.{moved_on, owed_by, without_block, without_first, without_task};
+ghost use Rattle.task_set.specs.Kept.{OpenTask};
+ghost use Rattle.task_set.specs.Lists.{read_at, task_at};
+ghost use Rattle.device.specs.Replies.{moved_on, owed_by, owed_in, with_sent, without_first, without_task};
 
 use crate::device::Device;
 use crate::responses::{write_answer, write_block, write_data, write_ready, write_short};
@@ -61,27 +62,28 @@ impl Device {
     /// Writes the reply of the first task that owes one now, and answers which task this is.
     fn due(&self, into: &mut Upiu) -> Option<DueReply>
         ensures within { IfSome result (λ due. due.index < length self.now.tasks) }
-        ensures there { IfSome result (λ due. slice_get self.now.tasks due.index ≡ Some due.task) }
-        ensures owed { IfSome result (λ due. (t : Translation) → IsLayer self.now.ftl t →
-            IsWritten true into.new.items (owed_by t self.now.loaded due.task)) }
+        ensures there { IfSome result (λ due. task_at self.now.tasks due.index ≡ Some due.task) }
+        ensures owed { IfSome result (λ due. (t : Translation) → IsLayer self.now.ftl t → IsWritten true into.new.items
+            (owed_in t (read_at self.now.tasks due.index) due.task due.task.phase)) }
         ensures nothing { IfNone result (into.new ≡ into.old) }
-        ensures none { IfNone result ((t : Translation) (k : ℕ) (task : Task) → IsLayer self.now.ftl t →
-            slice_get self.now.tasks k ≡ Some task → owed_by t self.now.loaded task ≡ None) }
+        ensures none { IfNone result ((t : Translation) (k : ℕ) (task : OpenTask) → IsLayer self.now.ftl t →
+            slice_get self.now.tasks k ≡ Some task → owed_by t task ≡ None) }
     {
         for index in 0..self.set.count() {
             let task = self.set.task(index);
-            if self.write_reply(&task, into) {
+            if self.write_reply(index, &task, into) {
                 return Some(DueReply { index, task });
             }
         }
         None
     }
 
-    /// Writes the reply that the task owes now; false if it owes none.
-    fn write_reply(&self, task: &Task, into: &mut Upiu) -> bool
+    /// Writes the reply that the task at this position owes now; false if it owes none.
+    fn write_reply(&self, index: usize, task: &Task, into: &mut Upiu) -> bool
+        requires { index < length self.now.tasks }
         ensures nothing { result ≡ false → into.new ≡ into.old }
-        ensures owed { (t : Translation) → IsLayer self.now.ftl t →
-            IsWritten result into.new.items (owed_by t self.now.loaded task.now) }
+        ensures owed { (t : Translation) → IsLayer self.now.ftl t → IsWritten result into.new.items
+            (owed_in t (read_at self.now.tasks index) task.now task.now.phase) }
     {
         match task.phase {
             Phase::AskData { transfer } => {
@@ -92,7 +94,7 @@ impl Device {
             Phase::AwaitFrontier { number, length } => {
                 self.write_durable(task, number, length, into)
             }
-            Phase::SendBlocks { sending } => self.write_next(task, sending, into),
+            Phase::SendBlocks { sending } => self.write_next(index, task, sending, into),
             Phase::SendData { data } => {
                 write_data(task, data, into);
                 true
@@ -117,53 +119,58 @@ impl Device {
         true
     }
 
-    /// Writes the DATA IN of the task's next block, if this block is there.
-    fn write_next(&self, task: &Task, sending: Sending, into: &mut Upiu) -> bool
+    /// Writes the DATA IN of the next block of the task at this position, if this block is there.
+    fn write_next(&self, index: usize, task: &Task, sending: Sending, into: &mut Upiu) -> bool
+        requires { index < length self.now.tasks }
         ensures nothing { result ≡ false → into.new ≡ into.old }
         ensures owed { (t : Translation) → IsLayer self.now.ftl t → IsWritten result into.new.items
-            (option_map (block_message task.now sending) (block_for t self.now.loaded task.now.tag sending.sent)) }
+            (option_map (block_message task.now sending)
+            (block_for t (read_at self.now.tasks index) task.now.tag sending.sent)) }
     {
-        let Some(block) = self.block(task.tag, sending.sent) else {
+        let Some(block) = self.block(index, task.tag, sending.sent) else {
             return false;
         };
         write_block(task, sending, block, into);
         true
     }
 
-    /// The block of this index that the task of this tag keeps, once it is there.
-    fn block(&self, tag: u8, index: u16) -> Option<&Block>
+    /// The block that the task of this position and tag sends as this one of its READ, once it is there.
+    fn block(&self, index: usize, tag: u8, sent: u16) -> Option<&Block>
+        requires { index < length self.now.tasks }
         ensures { (t : Translation) → IsLayer self.now.ftl t →
-            option_copied result ≡ block_for t self.now.loaded tag index }
+            option_copied result ≡ block_for t (read_at self.now.tasks index) tag sent }
     {
-        let looked = self.ftl.pinned(tag, index)?;
-        self.block_looked(tag, looked)
+        let looked = self.ftl.pinned(tag, sent)?;
+        self.block_looked(index, looked)
     }
 
-    /// The block that the task of this tag looked up, once it is there.
-    fn block_looked(&self, tag: u8, looked: Looked) -> Option<&Block>
+    /// The block that the task at this position looked up, once it is there.
+    fn block_looked(&self, index: usize, looked: Looked) -> Option<&Block>
+        requires { index < length self.now.tasks }
         ensures { (t : Translation) (kept : LayerLooked) → IsLayer self.now.ftl t →
             is_mended t.work.mending ≡ true → IsLookedAt looked kept →
             LookedRight (book t) t.ledger.frontier t.disk.cells t.disk.finished t.disk.erasing kept →
-            option_copied result ≡ block_at t.ledger self.now.loaded tag kept }
+            option_copied result ≡ block_at t.ledger (read_at self.now.tasks index) kept }
     {
         match looked {
             Looked::Nothing => Some(zeros()),
             Looked::Slot { number, index } => self.ftl.slot(number, index),
-            Looked::Page(_) => self.loaded_block(tag),
+            Looked::Page(_) => self.block_read(index),
         }
     }
 
-    /// The block that the die read for the task of this tag gave.
-    fn loaded_block(&self, tag: u8) -> Option<&Block>
-        ensures { option_copied result ≡ loaded_for self.now.loaded tag }
+    /// The block that a die read for the task at this position.
+    fn block_read(&self, index: usize) -> Option<&Block>
+        requires { index < length self.now.tasks }
+        ensures { option_copied result ≡ read_at self.now.tasks index }
     {
-        self.set.loaded(tag)
+        self.set.block(index)
     }
 
     /// What becomes of the task at this position, which has handed out its reply.
     fn move_on(&mut self, index: usize, task: Task)
         requires { index < length self.old.tasks }
-        ensures left { self.new ≡ record (moved_on self.old index task task.phase) { ftl = self.new.ftl } }
+        ensures left { self.new ≡ record (moved_on self.old index task.phase) { ftl = self.new.ftl } }
         ensures moved { (t : Translation) → IsLayer self.old.ftl t →
             HasMoved self.old.ftl self.new.ftl t task.tag task.phase }
     {
@@ -176,8 +183,8 @@ impl Device {
                 self.set_phase(index, task.phase.after(TaskEvent::DataSent));
             }
             Phase::SendBlocks { sending } => {
-                self.block_sent(task.tag, sending.sent);
-                self.set_phase(index, task.phase.after(TaskEvent::BlockSent));
+                let phase = task.phase.after(TaskEvent::BlockSent);
+                self.block_sent(index, task.tag, sending.sent, phase);
             }
             Phase::AwaitFrontier {
                 number: _,
@@ -190,20 +197,23 @@ impl Device {
         }
     }
 
-    /// The block of this index, which the task of this tag kept, was handed out, and the next one is wanted.
-    fn block_sent(&mut self, tag: u8, index: u16)
-        ensures left { self.new ≡ record (without_block self.old tag) { ftl = self.new.ftl } }
+    /// The task of this position and tag handed out this block of its READ, and wants the next one. It does
+    /// this from now on.
+    fn block_sent(&mut self, index: usize, tag: u8, sent: u16, phase: Phase)
+        requires { index < length self.old.tasks }
+        ensures left { self.new ≡ record (with_sent self.old index phase) { ftl = self.new.ftl } }
         ensures one { (t : Translation) → IsLayer self.old.ftl t →
-            IsLayer self.new.ftl (moved (moved t (LetGo tag index)) (WantPage tag (index + 1))) }
+            IsLayer self.new.ftl (moved (moved t (LetGo tag sent)) (WantPage tag (sent + 1))) }
         ensures same_claims { claims_for self.new.ftl ≡ claims_for self.old.ftl }
     {
-        self.ftl.want_next(tag, index);
-        self.unload(tag);
+        self.ftl.want_next(tag, sent);
+        self.set.send(index, phase);
     }
 
-    /// The task of this tag keeps nothing any more.
-    fn let_go(&mut self, tag: u8)
-        ensures left { self.new ≡ record (without_block self.old tag) { ftl = self.new.ftl } }
+    /// The task of this position and tag has ended and keeps nothing.
+    fn end_task(&mut self, index: usize, tag: u8)
+        requires { index < length self.old.tasks }
+        ensures left { self.new ≡ record (without_task self.old index) { ftl = self.new.ftl } }
         ensures all { (t : Translation) → IsLayer self.old.ftl t → IsLayer self.new.ftl (moved t (LetGoAll tag)) }
         ensures told { (t : Translation) (count : ℕ) → IsLayer self.old.ftl t →
             before_accepted t.ledger + count ≤ t.ledger.frontier →
@@ -211,28 +221,7 @@ impl Device {
         ensures same_claims { claims_for self.new.ftl ≡ claims_for self.old.ftl }
     {
         self.ftl.unpin(tag);
-        self.unload(tag);
-    }
-
-    /// The task at this position, which has this tag, has ended and keeps nothing.
-    fn end_task(&mut self, index: usize, tag: u8)
-        requires { index < length self.old.tasks }
-        ensures left { self.new ≡ record (without_task (without_block self.old tag) index) { ftl = self.new.ftl } }
-        ensures all { (t : Translation) → IsLayer self.old.ftl t → IsLayer self.new.ftl (moved t (LetGoAll tag)) }
-        ensures told { (t : Translation) (count : ℕ) → IsLayer self.old.ftl t →
-            before_accepted t.ledger + count ≤ t.ledger.frontier →
-            IsLayer self.new.ftl (moved (moved t (Acknowledge count)) (LetGoAll tag)) }
-        ensures same_claims { claims_for self.new.ftl ≡ claims_for self.old.ftl }
-    {
-        self.let_go(tag);
         self.set.end(index);
-    }
-
-    /// The block that was read for the task of this tag is given up.
-    fn unload(&mut self, tag: u8)
-        ensures { self.new ≡ without_block self.old tag }
-    {
-        self.set.unload(tag);
     }
 
     /// Hands out the reply of the first short exchange.

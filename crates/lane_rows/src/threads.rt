@@ -7,7 +7,10 @@ use crate::sharing::{last_lane, shared_over};
 use lanes::Shared;
 use nand_model::MemDie;
 use std::alloc::Global;
+use std::process::Abort;
+use std::sync::Wait;
 use std::test::*;
+use std::thread::Threads;
 
 /// Two new dies of 16 blocks of 64 pages.
 pub(crate) fn two_dies(alloc: Global) -> Result<Vec<MemDie>, Fail>
@@ -19,14 +22,17 @@ pub(crate) fn two_dies(alloc: Global) -> Result<Vec<MemDie>, Fail>
     Ok(dies)
 }
 
-/// A block is written and read while both lanes serve.
-#[test]
-fn each_die_has_a_thread(rt: HostRuntime) -> Result<(), Fail> {
+/// A block is written and read while both lanes serve, or while they serve with the dies changed about.
+fn both_serve<R: Abort + Threads + Wait + Sync>(
+    rt: &R,
+    alloc: Global,
+    is_changed_about: bool,
+) -> Result<(), Fail> {
     let Shared {
         mut ports,
         mut lanes,
         mut keeper,
-    } = shared_over(rt.alloc(), two_dies(rt.alloc())?, 1)?;
+    } = shared_over(alloc, two_dies(alloc)?, 1)?;
     let (Some(mut second), Some(mut first), Some(mut port)) = (
         last_lane(&mut lanes),
         last_lane(&mut lanes),
@@ -34,25 +40,23 @@ fn each_die_has_a_thread(rt: HostRuntime) -> Result<(), Fail> {
     ) else {
         panic!(rt; "the callers")
     };
-    assert!(rt; serve_both(&rt, &mut first, &mut second, &mut keeper, &mut port));
+    let is_read = if is_changed_about {
+        serve_both(rt, &mut second, &mut first, &mut keeper, &mut port)
+    } else {
+        serve_both(rt, &mut first, &mut second, &mut keeper, &mut port)
+    };
+    assert!(rt; is_read);
     Ok(())
+}
+
+/// A block is written and read while both lanes serve.
+#[test]
+fn each_die_has_a_thread(rt: HostRuntime) -> Result<(), Fail> {
+    both_serve(&rt, rt.alloc(), false)
 }
 
 /// The same, with the dies changed about.
 #[test]
 fn the_threads_are_changed_about(rt: HostRuntime) -> Result<(), Fail> {
-    let Shared {
-        mut ports,
-        mut lanes,
-        mut keeper,
-    } = shared_over(rt.alloc(), two_dies(rt.alloc())?, 1)?;
-    let (Some(mut second), Some(mut first), Some(mut port)) = (
-        last_lane(&mut lanes),
-        last_lane(&mut lanes),
-        ports.pop(),
-    ) else {
-        panic!(rt; "the callers")
-    };
-    assert!(rt; serve_both(&rt, &mut second, &mut first, &mut keeper, &mut port));
-    Ok(())
+    both_serve(&rt, rt.alloc(), true)
 }

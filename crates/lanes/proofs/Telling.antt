@@ -37,9 +37,6 @@ begins_one (x ∷ xs) (y ∷ ys) (z ∷ zs) b c le =
     tail : (z : Entry) (l : List Entry) (x : Entry) (zs : List Entry) → z ∷ zs ≡ x ∷ l → zs ≡ l
     tail z l x zs e = cc
 
-begins_both : (xs ys zs : List Entry) → Begins xs ys → Begins ys zs → Begins xs zs
-begins_both xs ys zs b c = (b.0 ++ c.0, c.1 ∙ ap (λ l. l ++ c.0) b.1 ∙ append_assoc xs b.0 c.0)
-
 begins_self : (xs : List Entry) → Begins xs xs
 begins_self xs = ([], sym (append-nil xs))
 
@@ -263,19 +260,6 @@ module _ {D : Type 0} (state : D → DieState) where
             (one_word_is state s.words (get_or s.words 0 0) k.one_word refl) kept,
         (refl, (λ looks. own.compared looks)),
       )
-
-  -- what was told and looked at
-  pub has_heard : (v : View D) (other : List Entry) (w : View D) →
-      w ≡ record (both v (messenger other)) { looks = false } → Compared (both v (messenger other)) → HasHeard other v w
-  has_heard v other w is c = record {
-    seen = ap (λ (u : View D). u.seen) is;
-    before = subst (λ (l : List Entry). Begins v.seen l) (sym (ap (λ (u : View D). u.seen) is)) c.before;
-    told = subst (λ (l : List Entry). Begins other l) (sym (ap (λ (u : View D). u.seen) is)) c.other;
-    own = ap (λ (u : View D). mine v.by u.seen) is ∙ c.same;
-    seat = ap (λ (u : View D). u.by) is;
-    opening = ap (λ (u : View D). u.opening) is;
-    lane = ap (λ (u : View D). u.lane) is;
-  }
 
 module _ {D : Type 0} where
   -- the first was told by the second, which it had told before

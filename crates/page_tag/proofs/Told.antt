@@ -36,9 +36,6 @@ module _ (page : Page) (tag : Tag) (body : List ℕ) (is_tag : IsTag tag) (seale
       let same_body : b ≡ body = one_body page t tag b body h opens in
       wrong (subst (λ (u : Tag). DataHold u body) same_tag (subst (DataHold t) same_body hold))
 
-  pub no_settings : tag.kind ≡ 3 → (IsSettingsBody body → ⊥) → IsCell page Nothing
-  no_settings kind wrong = data_fail (λ hold. wrong (hold.settings kind))
-
   pub no_mark : tag.kind ≡ 4 → ((fence : Option Fence) (n : Numbers) → IsMarkBody fence n body → ⊥)
       → IsCell page Nothing
   no_mark kind wrong = data_fail (λ hold. let m = hold.mark kind in wrong m.0 m.1 m.2)

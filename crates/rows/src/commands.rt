@@ -1,5 +1,5 @@
 //! The commands beside READ(10) and WRITE(10), and the messages that open no task.
-use crate::scripts::{Text, expect};
+use crate::scripts::{Text, expect, expect_refusal};
 use std::test::Fail;
 
 /// NOP OUT, before the device is mended too, is answered by NOP IN.
@@ -84,15 +84,12 @@ fn request_sense(rt: HostRuntime) -> Result<(), Fail> {
 /// READ(6) with the length 0 means 256 blocks, which are too many for one command.
 #[test]
 fn read6_256(rt: HostRuntime) -> Result<(), Fail> {
-    let alloc = rt.alloc();
-    let script = Text::script(alloc)?
-        .with("settle 4\n")?
-        .command("0140000b", "00100000", "0800000000")?
-        .with("reply\n")?;
-    let output = Text::new(alloc)
-        .with("settle 4\nhost ok\n")?
-        .refusal("2120000b", "00100000", "05", "2400")?;
-    expect(&rt, alloc, &script, &output)
+    expect_refusal(
+        &rt,
+        rt.alloc(),
+        ["0140000b", "00100000", "0800000000"],
+        ["2120000b", "05", "2400"],
+    )
 }
 
 /// WRITE(6) has no FUA, so that it is answered at once; READ(6) gives its block.

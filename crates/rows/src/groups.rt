@@ -1,5 +1,5 @@
 //! Commands of several blocks: their data, what a stop leaves of a group, and slots.
-use crate::scripts::{Text, expect};
+use crate::scripts::{Text, expect, expect_refusal};
 use std::alloc::Global;
 use std::process::Abort;
 use std::test::Fail;
@@ -155,29 +155,23 @@ impl Row {
 /// Of 33 blocks nothing is read: 5/24/00, and all that was expected is the residual.
 #[test]
 fn too_many_blocks(rt: HostRuntime) -> Result<(), Fail> {
-    let alloc = rt.alloc();
-    let script = Text::script(alloc)?
-        .with("settle 4\n")?
-        .command("01400001", "00021000", "280000000000000021")?
-        .with("reply\n")?;
-    let output = Text::new(alloc)
-        .with("settle 4\nhost ok\n")?
-        .refusal("21200001", "00021000", "05", "2400")?;
-    expect(&rt, alloc, &script, &output)
+    expect_refusal(
+        &rt,
+        rt.alloc(),
+        ["01400001", "00021000", "280000000000000021"],
+        ["21200001", "05", "2400"],
+    )
 }
 
 /// An address and a length whose sum wraps in four bytes lie past the unit's end.
 #[test]
 fn past_the_last_address(rt: HostRuntime) -> Result<(), Fail> {
-    let alloc = rt.alloc();
-    let script = Text::script(alloc)?
-        .with("settle 4\n")?
-        .command("01400003", "00002000", "2800ffffffff000002")?
-        .with("reply\n")?;
-    let output = Text::new(alloc)
-        .with("settle 4\nhost ok\n")?
-        .refusal("21200003", "00002000", "05", "2100")?;
-    expect(&rt, alloc, &script, &output)
+    expect_refusal(
+        &rt,
+        rt.alloc(),
+        ["01400003", "00002000", "2800ffffffff000002"],
+        ["21200003", "05", "2100"],
+    )
 }
 
 /// A WRITE with FUA of 32 blocks is answered once all of them are programmed, and read back then.

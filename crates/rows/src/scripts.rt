@@ -138,3 +138,21 @@ pub fn expect(rt: &(impl Abort), alloc: Global, script: &Text, output: &Text) ->
         b"",
     )
 }
+
+/// A ready device refuses a command of this head, expected length and CDB by CHECK CONDITION: a RESPONSE with
+/// this head, sense key and additional code, and all that was expected as the residual.
+pub fn expect_refusal(
+    rt: &(impl Abort),
+    alloc: Global,
+    command: [&str; 3],
+    response: [&str; 3],
+) -> Result<(), Fail> {
+    let script = Text::script(alloc)?
+        .with("settle 4\n")?
+        .command(command[0], command[1], command[2])?
+        .with("reply\n")?;
+    let output = Text::new(alloc)
+        .with("settle 4\nhost ok\n")?
+        .refusal(response[0], command[1], response[1], response[2])?;
+    expect(rt, alloc, &script, &output)
+}

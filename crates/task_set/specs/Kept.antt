@@ -1,16 +1,30 @@
 -- What a set of tasks keeps, as its contracts see it.
-use Rattle.std.specs.Prelude.{List, []}
-use Rattle.task_set.specs.declared.tasks.Loaded.{Loaded}
+use Rattle.std.specs.Prelude.{ℕ, List, [], Option, None}
+use Rattle.task_set.specs.declared.tasks.Phase.{Phase}
 use Rattle.task_set.specs.declared.tasks.Short.{Short}
 use Rattle.task_set.specs.declared.tasks.Task.{Task}
 
--- the open tasks in the order of their COMMANDs, the exchanges of one reply that was not handed out yet, and the
--- blocks that dies read and that were not handed out yet
+-- an open task: what it still owes its host, and the next block that it sends, once a die read it
+pub record OpenTask : Type 0 where
+  pub tag : ℕ
+  pub lun : ℕ
+  pub expected : ℕ
+  pub phase : Phase
+  pub block : Option (List ℕ)
+
+-- what it still owes its host
+abbrev pub task_in : OpenTask → Task
+task_in t = record { tag = t.tag; lun = t.lun; expected = t.expected; phase = t.phase }
+
+-- nothing was read for it yet
+abbrev pub newly_open : Task → OpenTask
+newly_open t = record { tag = t.tag; lun = t.lun; expected = t.expected; phase = t.phase; block = None }
+
+-- the open tasks in the order of their COMMANDs, and the exchanges of one reply that was not handed out yet
 pub record Tasks : Type 0 where
-  pub tasks : List Task
+  pub tasks : List OpenTask
   pub shorts : List Short
-  pub loaded : List Loaded
 
 -- nothing is open
 abbrev pub no_tasks : Tasks
-no_tasks = record { tasks = []; shorts = []; loaded = [] }
+no_tasks = record { tasks = []; shorts = [] }

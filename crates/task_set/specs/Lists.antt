@@ -1,17 +1,17 @@
--- What the lists of a set of tasks say: which tags are in use, which data were asked for, which blocks are there.
+-- What the lists of a set of tasks say: which tags are in use, which data were asked for, which blocks were read.
 use Rattle.std.specs.Prelude.{ℕ, ◌*◌, ◌==◌, ◌&&◌, ◌||◌, nat_le, Bool, if◌then◌else◌, List, length}
-use Rattle.std.specs.Prelude.{option_map, position, remove, slice_get, slice_set, is_some, Option, Some, None}
+use Rattle.std.specs.Prelude.{option_map, position, slice_get, slice_set, is_some, Option, Some, None}
 use Rattle.std.specs.Prelude.{Result, Ok, Err}
 use Rattle.std.specs.List.{list_any}
 use Rattle.ufs_spec.specs.declared.faults.HostFault.{HostFault}
 use Rattle.ufs_spec.specs.declared.faults.HostFault.TheVariants.{Backlog, TagInUse}
 use Rattle.task_set.specs.declared.tasks.AskedFor.{AskedFor}
-use Rattle.task_set.specs.declared.tasks.Loaded.{Loaded}
 use Rattle.task_set.specs.declared.tasks.Phase.{Phase}
 use Rattle.task_set.specs.declared.tasks.Phase.TheVariants as phase
 use Rattle.task_set.specs.declared.tasks.Short.{Short}
 use Rattle.task_set.specs.declared.tasks.Task.{Task}
-use Rattle.task_set.specs.Tasks.{is_task_of}
+use Rattle.task_set.specs.Kept.{OpenTask, task_in}
+use Rattle.task_set.specs.Tasks.{after_sent, is_task_of}
 
 -- Tags
 
@@ -19,11 +19,11 @@ abbrev pub is_short_of : ℕ → Short → Bool
 is_short_of tag short = short.tag == tag
 
 -- a task or a short exchange has the tag
-abbrev pub is_in_use : List Task → List Short → ℕ → Bool
+abbrev pub is_in_use : List OpenTask → List Short → ℕ → Bool
 is_in_use tasks shorts tag = is_some (position (is_task_of tag) tasks) || list_any (is_short_of tag) shorts
 
 -- whether one more short exchange of this tag may be open
-abbrev pub short_allowed : List Task → List Short → ℕ → Result Unit HostFault
+abbrev pub short_allowed : List OpenTask → List Short → ℕ → Result Unit HostFault
 short_allowed tasks shorts tag =
     if is_in_use tasks shorts tag then Err TagInUse
     else if nat_le 32 (length shorts) then Err Backlog
@@ -32,45 +32,43 @@ short_allowed tasks shorts tag =
 -- Data that were asked for
 
 -- what the task asked data for at this offset
-abbrev pub asked_in : ℕ → ℕ → ℕ → Task → Phase → Option AskedFor
+abbrev pub asked_in : ℕ → ℕ → ℕ → OpenTask → Phase → Option AskedFor
 asked_in lun offset k task (phase.AwaitData x) =
     if (task.lun == lun) && (4096 * x.gathered == offset) then Some (record { index = k; transfer = x }) else None
 asked_in lun offset k task _ = None
 
-abbrev pub asked_by : ℕ → ℕ → ℕ → Option Task → Option AskedFor
+abbrev pub asked_by : ℕ → ℕ → ℕ → Option OpenTask → Option AskedFor
 asked_by lun offset k None = None
 asked_by lun offset k (Some task) = asked_in lun offset k task task.phase
 
-abbrev pub asked_at : List Task → ℕ → ℕ → Option ℕ → Option AskedFor
+abbrev pub asked_at : List OpenTask → ℕ → ℕ → Option ℕ → Option AskedFor
 asked_at tasks lun offset None = None
 asked_at tasks lun offset (Some k) = asked_by lun offset k (slice_get tasks k)
 
 -- the task that asked for so many bytes at this offset, and what is to come
-abbrev pub asked_among : List Task → ℕ → ℕ → ℕ → ℕ → Option AskedFor
+abbrev pub asked_among : List OpenTask → ℕ → ℕ → ℕ → ℕ → Option AskedFor
 asked_among tasks lun tag offset count =
     if count == 4096 then asked_at tasks lun offset (position (is_task_of tag) tasks) else None
 
 -- the task at this position, if there is one, does this from now on
-abbrev pub tasks_set : List Task → ℕ → Phase → Option Task → List Task
+abbrev pub tasks_set : List OpenTask → ℕ → Phase → Option OpenTask → List OpenTask
 tasks_set tasks k p None = tasks
 tasks_set tasks k p (Some task) = slice_set tasks k (record task { phase = p })
 
--- Blocks
+-- the task at this position, if there is one, handed out its block and does this from now on
+abbrev pub tasks_sent : List OpenTask → ℕ → Phase → Option OpenTask → List OpenTask
+tasks_sent tasks k p None = tasks
+tasks_sent tasks k p (Some task) = slice_set tasks k (after_sent p task)
 
-abbrev pub is_loaded_for : ℕ → Loaded → Bool
-is_loaded_for tag l = l.tag == tag
+-- What stands at a position
 
-abbrev pub body_of : Loaded → List ℕ
-body_of l = l.body
+abbrev pub task_at : List OpenTask → ℕ → Option Task
+task_at tasks k = option_map task_in (slice_get tasks k)
 
-abbrev pub body_at : List Loaded → Option ℕ → Option (List ℕ)
-body_at ls None = None
-body_at ls (Some k) = option_map body_of (slice_get ls k)
+abbrev pub read_of : Option OpenTask → Option (List ℕ)
+read_of None = None
+read_of (Some task) = task.block
 
--- the block that the die read for the task of this tag gave
-abbrev pub loaded_for : List Loaded → ℕ → Option (List ℕ)
-loaded_for ls tag = body_at ls (position (is_loaded_for tag) ls)
-
-abbrev pub loaded_without : List Loaded → Option ℕ → List Loaded
-loaded_without ls None = ls
-loaded_without ls (Some k) = remove ls k
+-- the block that a die read for the task at this position
+abbrev pub read_at : List OpenTask → ℕ → Option (List ℕ)
+read_at tasks k = read_of (slice_get tasks k)

@@ -1,16 +1,16 @@
 -- What each call makes of a set of tasks.
-use Rattle.std.specs.Prelude.{ℕ, nat_lt, if◌then◌else◌, List, [], ◌∷◌, ◌++◌, length, map, position, remove, slice_get}
+use Rattle.std.specs.Prelude.{ℕ, List, [], ◌∷◌, ◌++◌, map, remove, slice_get}
 use Rattle.task_set.specs.declared.tasks.Phase.{Phase}
 use Rattle.task_set.specs.declared.tasks.Short.{Short}
 use Rattle.task_set.specs.declared.tasks.Task.{Task}
 use Rattle.task_set.specs.declared.tasks.TaskEvent.TheVariants as event
-use Rattle.task_set.specs.Kept.{Tasks}
-use Rattle.task_set.specs.Lists.{is_loaded_for, loaded_without, tasks_set}
-use Rattle.task_set.specs.Tasks.{after_lost_read, task_after}
+use Rattle.task_set.specs.Kept.{Tasks, newly_open}
+use Rattle.task_set.specs.Lists.{tasks_sent, tasks_set}
+use Rattle.task_set.specs.Tasks.{after_lost_read, after_read, task_after}
 
 -- one task more
 abbrev pub opened : Tasks → Task → Tasks
-opened s task = record s { tasks = s.tasks ++ task ∷ [] }
+opened s task = record s { tasks = s.tasks ++ newly_open task ∷ [] }
 
 -- the task at this position does this from now on
 abbrev pub phase_set : Tasks → ℕ → Phase → Tasks
@@ -28,14 +28,13 @@ short_opened s short = record s { shorts = s.shorts ++ short ∷ [] }
 abbrev pub short_ended : Tasks → Tasks
 short_ended s = record s { shorts = remove s.shorts 0 }
 
--- a die read this block for the task of this tag; of a thirty-third one nothing is kept
-abbrev pub block_loaded : Tasks → ℕ → List ℕ → Tasks
-block_loaded s tag body =
-    if nat_lt (length s.loaded) 32 then record s { loaded = s.loaded ++ record { tag = tag; body = body } ∷ [] } else s
+-- the task at this position handed out its block, if there was one, and does this from now on
+abbrev pub block_sent : Tasks → ℕ → Phase → Tasks
+block_sent s k p = record s { tasks = tasks_sent s.tasks k p (slice_get s.tasks k) }
 
--- the block that was read for the task of this tag is given up
-abbrev pub block_unloaded : Tasks → ℕ → Tasks
-block_unloaded s tag = record s { loaded = loaded_without s.loaded (position (is_loaded_for tag) s.loaded) }
+-- a die read this block for the task of this tag
+abbrev pub block_loaded : Tasks → ℕ → List ℕ → Tasks
+block_loaded s tag body = record s { tasks = map (after_read tag body) s.tasks }
 
 -- the block of the task of this tag could not be read
 abbrev pub block_lost : Tasks → ℕ → Tasks

@@ -1,5 +1,5 @@
 -- What becomes of a task.
-use Rattle.std.specs.Prelude.{ℕ, ◌+◌, ◌*◌, ◌==◌, min, nat_lt, Bool, true, false, if◌then◌else◌, Option, Some, None}
+use Rattle.std.specs.Prelude.{ℕ, ◌+◌, ◌*◌, ◌==◌, min, nat_lt, Bool, true, false, if◌then◌else◌, List, Option, Some, None}
 use Rattle.ufs_spec.specs.Exchanges as exchange
 use Rattle.ufs_spec.specs.declared.scsi.Sense.{Sense}
 use Rattle.task_set.specs.declared.tasks.Status.{Status}
@@ -9,10 +9,10 @@ use Rattle.task_set.specs.declared.tasks.Phase.TheVariants as phase
 use Rattle.task_set.specs.declared.tasks.Sending.{Sending}
 use Rattle.task_set.specs.declared.tasks.ShortData.{ShortData}
 use Rattle.task_set.specs.declared.tasks.ShortData.TheVariants as sent
-use Rattle.task_set.specs.declared.tasks.Task.{Task}
 use Rattle.task_set.specs.declared.tasks.TaskEvent.{TaskEvent}
 use Rattle.task_set.specs.declared.tasks.TaskEvent.TheVariants as event
 use Rattle.task_set.specs.declared.tasks.Transfer.{Transfer}
+use Rattle.task_set.specs.Kept.{OpenTask}
 
 abbrev pub read_error : Sense
 read_error = record { key = 0x03; asc = 0x11; ascq = 0x00 }
@@ -73,12 +73,20 @@ phase_after (phase.SendData x) event.DataSent = phase.Answer status.Good (data_l
 phase_after (phase.SendBlocks x) event.BlockLost = failed read_error (4096 * x.sent)
 phase_after p e = p
 
-abbrev pub task_after : TaskEvent → Task → Task
+abbrev pub task_after : TaskEvent → OpenTask → OpenTask
 task_after e t = record t { phase = phase_after t.phase e }
 
+-- a task that handed out its block does this from now on
+abbrev pub after_sent : Phase → OpenTask → OpenTask
+after_sent p t = record t { phase = p; block = None }
+
+-- a die read this block for the task of this tag
+abbrev pub after_read : ℕ → List ℕ → OpenTask → OpenTask
+after_read tag body t = if t.tag == tag then record t { block = Some body } else t
+
 -- the block of the task of this tag could not be read
-abbrev pub after_lost_read : ℕ → Task → Task
+abbrev pub after_lost_read : ℕ → OpenTask → OpenTask
 after_lost_read tag t = if t.tag == tag then task_after event.BlockLost t else t
 
-abbrev pub is_task_of : ℕ → Task → Bool
+abbrev pub is_task_of : ℕ → OpenTask → Bool
 is_task_of tag t = t.tag == tag

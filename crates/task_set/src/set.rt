@@ -1,15 +1,16 @@
-//! The tasks and the short exchanges that are open, and the blocks that dies read for them.
-ghost use Rattle.std.specs.Prelude.{◌≡◌, ◌<◌, ◌≤◌, length, map, nat_le, slice_get, position};
+//! The tasks and the short exchanges that are open.
+ghost use Rattle.std.specs.Prelude.{◌≡◌, ◌<◌, ◌≤◌, length, map, nat_le, slice_get, position, Some};
 ghost use Rattle.std.specs.Prelude.{IfNone, IfOk, IfSome, OnErr, OnOk, option_copied, vec_capacity};
 ghost use Rattle.std.specs.List.{list_any};
 ghost use Rattle.task_set.specs.Kept.{no_tasks};
-ghost use Rattle.task_set.specs.Lists.{asked_among, asked_by, asked_in, is_in_use, is_loaded_for, is_short_of};
-ghost use Rattle.task_set.specs.Lists.{loaded_for, short_allowed};
-ghost use Rattle.task_set.specs.Sets.{block_loaded, block_lost, block_unloaded, ended, locked, opened, phase_set};
+ghost use Rattle.task_set.specs.Lists.{asked_among, asked_by, asked_in, is_in_use, is_short_of, read_at};
+ghost use Rattle.task_set.specs.Lists.{short_allowed, task_at};
+ghost use Rattle.task_set.specs.Sets.{block_loaded, block_lost, block_sent, ended, locked, opened, phase_set};
 ghost use Rattle.task_set.specs.Sets.{short_ended, short_opened};
-ghost use Rattle.task_set.specs.Tasks.{after_lost_read, is_task_of, task_after};
+ghost use Rattle.task_set.specs.Tasks.{after_lost_read, after_read, is_task_of, task_after};
 
-use crate::tasks::{AskedFor, BLOCK_BYTES, Loaded, Phase, Short, ShortReply, Task, TaskEvent};
+use crate::open_task::OpenTask;
+use crate::tasks::{AskedFor, BLOCK_BYTES, Phase, Short, ShortReply, Task, TaskEvent};
 use std::alloc::{AllocError, Global};
 use std::collections::VecDeque;
 use std::marker::Model;
@@ -20,18 +21,16 @@ use write_cache::Body;
 /// (JESD220, 10.9).
 const ROOM: usize = 32;
 
-/// The open tasks of a device, its exchanges of one reply, and the blocks that dies read for the tasks. It
-/// takes its memory when it is made, and none later.
+/// The open tasks of a device, each with the block that a die read for it, and the exchanges of one reply.
+/// It takes its memory when it is made, and none later.
 #[derive(Drop)]
 pub struct TaskSet {
     /// The open tasks in the order of their COMMANDs: no two have one tag.
-    tasks: Vec<Task>,
+    tasks: Vec<OpenTask>,
     /// The exchanges of one reply that was not handed out yet. No tag is in use twice, here or among the
     /// tasks.
     shorts: VecDeque<Short>,
-    /// The blocks that dies read and that were not handed out yet: at most one for each open READ.
-    loaded: Vec<Loaded>,
-    /// The other blocks of the pool: what they hold means nothing.
+    /// The blocks of the pool that no task has: what they hold means nothing.
     spare: Vec<Body>,
 }
 
@@ -59,7 +58,6 @@ impl TaskSet {
         Ok(TaskSet {
             tasks: Vec::with_capacity(alloc, ROOM)?,
             shorts: VecDeque::with_capacity(alloc, ROOM)?,
-            loaded: Vec::with_capacity(alloc, ROOM)?,
             spare: spare_bodies(alloc)?,
         })
     }
@@ -88,9 +86,17 @@ impl TaskSet {
     /// The task at this position, counted from 0 in the order of the COMMANDs.
     pub fn task(&self, index: usize) -> Task
         requires { index < length self.now.tasks }
-        ensures { slice_get self.now.tasks index ≡ Some result }
+        ensures { task_at self.now.tasks index ≡ Some result }
     {
-        self.tasks[index]
+        self.tasks[index].task()
+    }
+
+    /// The block that a die read for the task at this position, the next one that it sends, if it is there.
+    pub fn block(&self, index: usize) -> Option<&Block>
+        requires { index < length self.now.tasks }
+        ensures { option_copied result ≡ read_at self.now.tasks index }
+    {
+        self.tasks[index].block()
     }
 
     /// One task more is open, the last one.
@@ -98,7 +104,8 @@ impl TaskSet {
         requires { length self.old.tasks < 32 }
         ensures { self.new ≡ opened self.old task }
     {
-        self.tasks.push_reserved(task);
+        let body = self.spare.pop().unwrap();
+        self.tasks.push_reserved(OpenTask::new(task, body));
     }
 
     /// The task at this position does this from now on.
@@ -106,16 +113,26 @@ impl TaskSet {
         requires { index < length self.old.tasks }
         ensures { self.new ≡ phase_set self.old index phase }
     {
-        let task = &mut self.tasks[index];
-        task.phase = phase;
+        self.tasks[index].set_phase(phase);
     }
 
-    /// The task at this position has ended. Those after it move up by one position.
+    /// The task at this position handed out the block that a die read for it, if there was one. It does this
+    /// from now on.
+    pub fn send(&mut self, index: usize, phase: Phase)
+        requires { index < length self.old.tasks }
+        ensures { self.new ≡ block_sent self.old index phase }
+    {
+        self.tasks[index].send(phase);
+    }
+
+    /// The task at this position has ended, and the block that a die read for it is given up. Those after it
+    /// move up by one position.
     pub fn end(&mut self, index: usize)
         requires { index < length self.old.tasks }
         ensures { self.new ≡ ended self.old index }
     {
-        self.tasks.remove(index);
+        let ended = self.tasks.remove(index);
+        self.spare.push_reserved(ended.into_body());
     }
 
     /// The task of this tag and unit that asked for so many bytes at this offset, and what is to come.
@@ -172,33 +189,11 @@ impl TaskSet {
         self.shorts.pop_front()
     }
 
-    /// A die read this block for the task of this tag: the next one that it sends. There is a place for
-    /// it, as at most one block of each task is loaded; without one it would be dropped.
+    /// A die read this block for the task of this tag: the next one that it sends.
     pub fn load(&mut self, tag: u8, block: &Block)
         ensures { self.new ≡ block_loaded self.old tag block.now }
     {
-        if let Some(mut body) = self.spare.pop() {
-            body.set(block);
-            self.loaded.push_reserved(Loaded { tag, body });
-        }
-    }
-
-    /// The block that a die read for the task of this tag, if it is there.
-    pub fn loaded(&self, tag: u8) -> Option<&Block>
-        ensures { option_copied result ≡ loaded_for self.now.loaded tag }
-    {
-        let index = loaded_at(self.loaded.as_slice(), tag)?;
-        Some(self.loaded[index].body.block())
-    }
-
-    /// The block that a die read for the task of this tag, if it is there, is given up.
-    pub fn unload(&mut self, tag: u8)
-        ensures { self.new ≡ block_unloaded self.old tag }
-    {
-        if let Some(index) = loaded_at(self.loaded.as_slice(), tag) {
-            let read = self.loaded.remove(index);
-            self.spare.push_reserved(read.body);
-        }
+        load_for(self.tasks.as_mut_slice(), tag, block);
     }
 
     /// The next block of the READ of this tag could not be read: the READ fails.
@@ -230,17 +225,11 @@ fn spare_bodies(alloc: Global) -> Result<Vec<Body>, AllocError>
 }
 
 /// The position of the task of this tag.
-fn task_at(tasks: &[Task], tag: u8) -> Option<usize>
+fn task_at(tasks: &[OpenTask], tag: u8) -> Option<usize>
     ensures first { result ≡ position (is_task_of tag) tasks.now }
     ensures within { IfSome result (λ k. k < length tasks.now) }
 {
-    tasks.iter().position(|task| is_task_of(task, tag))
-}
-
-fn is_task_of(task: &Task, tag: u8) -> bool
-    ensures { result ≡ is_task_of tag task.now }
-{
-    task.tag == tag
+    tasks.iter().position(|task| task.is_of(tag))
 }
 
 /// Whether a short exchange of this tag is open.
@@ -264,9 +253,10 @@ fn is_short_of(short: &Short, tag: u8) -> bool
 }
 
 /// What the task at this position asked data for at this offset, if it was told so and none came.
-fn asked_of(task: &Task, lun: u8, offset: u32, index: usize) -> Option<AskedFor>
-    ensures { result ≡ asked_in lun offset index task.now task.now.phase }
+fn asked_of(kept: &OpenTask, lun: u8, offset: u32, index: usize) -> Option<AskedFor>
+    ensures { result ≡ asked_in lun offset index kept.now kept.now.phase }
 {
+    let task = kept.task();
     match task.phase {
         Phase::AwaitData { transfer } if task.lun == lun && transfer.offset() == offset => {
             Some(AskedFor { index, transfer })
@@ -275,46 +265,29 @@ fn asked_of(task: &Task, lun: u8, offset: u32, index: usize) -> Option<AskedFor>
     }
 }
 
-/// Whether the block was read for the task of this tag.
-fn is_loaded_for(loaded: &Loaded, tag: u8) -> bool
-    ensures { result ≡ is_loaded_for tag loaded.now }
-{
-    loaded.tag == tag
-}
-
-/// The position of the block that was read for the task of this tag.
-fn loaded_at(loaded: &[Loaded], tag: u8) -> Option<usize>
-    ensures first { result ≡ position (is_loaded_for tag) loaded.now }
-    ensures within { IfSome result (λ k. k < length loaded.now) }
-{
-    loaded.iter().position(|read| is_loaded_for(read, tag))
-}
-
-/// A block that could not be read ends its task.
-fn end_read(tasks: &mut [Task], tag: u8)
-    ensures { tasks.new ≡ map (after_lost_read tag) tasks.old }
+/// A die read this block for the task of this tag.
+fn load_for(tasks: &mut [OpenTask], tag: u8, block: &Block)
+    ensures { tasks.new ≡ map (after_read tag block.now) tasks.old }
 {
     for task in tasks.iter_mut() {
-        *task = after_lost_read(*task, tag);
+        task.load_for(tag, block);
     }
 }
 
-/// The task after the block of the task of this tag could not be read.
-fn after_lost_read(task: Task, tag: u8) -> Task
-    ensures { result ≡ after_lost_read tag task }
+/// A block that could not be read ends its task.
+fn end_read(tasks: &mut [OpenTask], tag: u8)
+    ensures { tasks.new ≡ map (after_lost_read tag) tasks.old }
 {
-    if task.tag == tag {
-        task.after(TaskEvent::BlockLost)
-    } else {
-        task
+    for task in tasks.iter_mut() {
+        task.lose_for(tag);
     }
 }
 
 /// The tasks after the lock began: none waits for the frontier any more.
-fn end_waiting(tasks: &mut [Task], frontier: u64)
+fn end_waiting(tasks: &mut [OpenTask], frontier: u64)
     ensures { tasks.new ≡ map (task_after (TaskEvent.Locked frontier)) tasks.old }
 {
     for task in tasks.iter_mut() {
-        *task = task.after(TaskEvent::Locked { frontier });
+        task.happen(TaskEvent::Locked { frontier });
     }
 }

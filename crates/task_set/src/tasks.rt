@@ -1,9 +1,8 @@
 //! The tasks that are open, and what each still owes its host (JESD220, 10.9).
 ghost use Rattle.std.specs.Prelude.{◌≡◌, ◌*◌};
-ghost use Rattle.task_set.specs.Tasks.{data_length, failed, group_taken, next_sending, next_transfer, phase_after, task_after};
+ghost use Rattle.task_set.specs.Tasks.{data_length, failed, group_taken, next_sending, next_transfer, phase_after};
 
 use ufs_spec::{Asked, Key, Sense};
-use write_cache::Body;
 
 /// How many bytes a block has.
 pub const BLOCK_BYTES: u32 = 4096;
@@ -220,20 +219,6 @@ pub struct Task {
     pub phase: Phase,
 }
 
-impl Task {
-    /// The task after this happened to it.
-    pub fn after(self, event: TaskEvent) -> Task
-        ensures { result ≡ task_after event self }
-    {
-        Task {
-            tag: self.tag,
-            lun: self.lun,
-            expected: self.expected,
-            phase: self.phase.after(event),
-        }
-    }
-}
-
 /// Data that a task sends in one DATA IN, other than a block.
 #[derive(Clone, Copy, Debug, PartialEq, Eq)]
 pub enum ShortData {
@@ -274,13 +259,6 @@ pub enum ShortReply {
     /// This device answers no queries yet, neither standard reads nor standard writes: invalid opcode
     /// (JESD220, 10.7.9).
     NotQueried { writing: bool, asked: Asked },
-}
-
-/// A block that a die read for the task of this tag gave: the next one that it sends.
-#[derive(Drop)]
-pub struct Loaded {
-    pub tag: u8,
-    pub body: Body,
 }
 
 /// A task whose data came: its position among the open tasks, and what is to come.

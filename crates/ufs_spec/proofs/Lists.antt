@@ -195,15 +195,6 @@ position_any {A = A} f xs h =
     let w = any_told f xs h in absurd (false≢true (sym (r.1 w.0 w.1 w.2) ∙ w.3)))
     (position_cases f xs)
 
--- none passes
-pub position_none : {A : Type 0} (f : A → Bool) (xs : List A) → list_any f xs ≡ false → position f xs ≡ None
-position_none {A = A} f xs h =
-    ⊎_elim
-    (λ (r : (k : ℕ) × (x : A) × (position f xs ≡ Some k) × (slice_get xs k ≡ Some x) × (f x ≡ true)).
-    absurd (false≢true (sym h ∙ any_here f xs r.0 r.1 r.3 r.4)))
-    (λ r. r.0)
-    (position_cases f xs)
-
 -- what stands at the first that passes
 pub position_told : {A : Type 0} (f : A → Bool) (xs : List A) (k : ℕ) → position f xs ≡ Some k →
     (x : A) × (slice_get xs k ≡ Some x) × (f x ≡ true)

@@ -71,14 +71,6 @@ sense_fits n status segment may long small =
           subst (λ (k : ℕ). IsSense status (sense_in k segment)) (sym none) other)
     ]
 
--- a response may have 20 bytes or none
-pub sense_long : (n status : ℕ) → (n == cond (status == 0x02) 20 0) ≡ true → n ≢ 0 → n ≡ 20
-sense_long n status may some =
-    elim (cases_eq status 0x02) [
-      | inl check ↦ eqb-true _ _ may ∙ ap (λ (b : Bool). cond b 20 0) (eq-eqb status 0x02 check)
-      | inr other ↦ absurd (some (eqb-true _ _ may ∙ ap (λ (b : Bool). cond b 20 0) (ne_eqb status 0x02 other)))
-    ]
-
 -- a query request without the opcode 2 has no data
 asked_fits : (n opcode : ℕ) (segment : List ℕ) → ((n == 0) || (opcode == 0x02)) ≡ true → (n ≡ 0 → segment ≡ []) →
     opcode ≢ 0x02 → segment ≡ []
@@ -259,9 +251,3 @@ module _ (bytes : List ℕ) (small : AreBytes bytes) (p : Passes bytes) where
       let fits : IsMessage m = subst IsMessage (sym e) fit.0 in
       let same : segment_of m ≡ segment_in bytes = ap segment_of e ∙ fit.1 in
       (fits, spelled_whole m fits same rest begins pad)
-
-  -- a RESPONSE has 20 bytes of sense data or none
-  pub sense_within : code_of bytes ≡ 0x21 → segment_length bytes ≢ 0 → segment_length bytes ≡ 20
-  sense_within e =
-      sense_long (segment_length bytes) (slice_index bytes 7)
-      (ap (λ (k : ℕ). may_have k bytes (segment_length bytes)) (sym e) ∙ p.may)

@@ -22,7 +22,7 @@ use Rattle.power_loss.proofs.calls.CallsKeepTied.{call_keeps}
 use Rattle.power_loss.proofs.shown_blocks.LivesShowBlocks.{call_shows}
 use Rattle.task_set.specs.declared.tasks.Phase.{Phase}
 use Rattle.task_set.specs.declared.tasks.Short as kept
-use Rattle.task_set.specs.declared.tasks.Task.{Task}
+use Rattle.task_set.specs.Kept.{OpenTask}
 use Rattle.device.specs.Calls.{lock_told}
 use Rattle.device.specs.Describes.{Describes, IsAnswered, IsDoing, IsTold, IsToldIn, Keeps, TaskKept, claims_in}
 use Rattle.device.specs.Describes.{read_in, short_kept, wanted_in}
@@ -117,7 +117,6 @@ lock_same : (s : State) → SameDeed (task_locked s)
 lock_same s = record {
   tags = λ x. refl;
   wanted = λ index x. same_told (wanted_in index) (λ commands n status. refl) s x x.deed;
-  read = λ x. same_told read_in (λ commands n status. refl) s x x.deed;
   claims = λ tag x. same_told (claims_in tag) (λ commands n status. refl) s x x.deed;
 }
 
@@ -176,7 +175,7 @@ deed_kept s n all claimed mended frontier expected task (phase.Answer told m) (A
 deed_kept s n all claimed mended frontier expected task (phase.Answer told m) (Sending blocks sent) same low fits h = h
 deed_kept s n all claimed mended frontier expected task p deed same low fits h = absurd h
 
-task_kept : (s : State) (n : Numbers) (accepted claimed : ℕ) (mended : Bool) (frontier : ℕ) (a : Task)
+task_kept : (s : State) (n : Numbers) (accepted claimed : ℕ) (mended : Bool) (frontier : ℕ) (a : OpenTask)
     (b : exchange.Task) → frontier ≡ s.translation.ledger.frontier →
     (mended ≡ true → before_accepted s.translation.ledger ≤ s.translation.ledger.frontier) →
     DeedFits n accepted mended claimed b.length (deed_locked s b b.deed) →
@@ -188,6 +187,7 @@ task_kept s n accepted claimed mended frontier a b same low fits h = record {
   expected = h.expected;
   request = h.request;
   doing = deed_kept s n accepted claimed mended frontier a.expected b a.phase b.deed same low fits h.doing;
+  read = h.read ∙ sym (same_told read_in (λ commands n status. refl) s b b.deed);
 }
 
 -- the tasks fit once the lock is told
@@ -215,7 +215,6 @@ keeps_locked e s tied k = record {
       (is_mended s.translation.work.mending) frontier a b refl tied.repaired
       (locked_fit s s.tasks j b at tied.tasks.deeds) h) k.tasks;
   wanted = λ tag. (kept tag).wanted;
-  read = λ tag. (kept tag).read;
   claims = λ tag. (kept tag).claims;
   shorts = kept_shorts s s.shorts e.shorts k.shorts;
   power_off = k.power_off;
@@ -227,8 +226,8 @@ keeps_locked e s tied k = record {
     frontier : ℕ
     frontier = s.translation.ledger.frontier
 
-    kept : KeptForAll s.translation.pins e.loaded e.ftl (map (task_locked s) s.tasks)
-    kept = each_changes s.translation.pins e.loaded e.ftl s.tasks (task_locked s) (all_kept e s k) (lock_same s)
+    kept : KeptForAll s.translation.pins e.ftl (map (task_locked s) s.tasks)
+    kept = each_changes s.translation.pins e.ftl s.tasks (task_locked s) (all_kept e s k) (lock_same s)
 
 -- what is kept while a call is answered describes the state once both sides told the lock
 describes_told : (e : DeviceCore) (s : State) → IsTied (lock_applied s) → ShowsReads (lock_applied s) → Keeps e s →

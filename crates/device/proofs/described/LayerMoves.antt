@@ -37,7 +37,6 @@ layer_moves d after s array u k layer claims leaves = record {
   few = k.few;
   tasks = subst (λ n. TasksKept n d.tasks s.tasks) (sym leaves.before) k.tasks;
   wanted = λ tag index. leaves.wanted tag index ∙ k.wanted tag index;
-  read = k.read;
   claims = λ tag. (λ i. claims i tag) ∙ k.claims tag;
   shorts = k.shorts;
   power_off = k.power_off;
@@ -132,7 +131,6 @@ unmended_moves d after s u k tied layer claims repairs = record {
   tasks = kept_else (numbers_of s) (length s.accepted) (before_accepted s.translation.ledger) (before_accepted u.ledger)
       d.tasks s.tasks (unmended_fit s tied repairs.unmended) k.tasks;
   wanted = λ tag index. repairs.wanted tag index ∙ k.wanted tag index;
-  read = k.read;
   claims = λ tag. (λ i. claims i tag) ∙ k.claims tag;
   shorts = k.shorts;
   power_off = k.power_off;

@@ -1,12 +1,14 @@
 -- A device over dies whose pages are sound is the one that the definitions open over them.
 use Rattle.std.proofs.Common.{◌≡◌, ◌∙◌, ℕ, suc, ◌≤◌, ◌==◌, Bool, true, false, List, [], Option, ap, arith, refl, subst}
-use Rattle.std.specs.Prelude.{slice_index}
+use Rattle.std.specs.Prelude.{IfOk, Result, slice_index}
+use Rattle.std.proofs.lemmas.Result.{IfOk-weaker}
 use Rattle.ufs_spec.specs.Cells.{AreWithin, Array, Cells, Shows}
 use Rattle.ufs_spec.specs.Configs.{IsConfig}
 use Rattle.ufs_spec.specs.Disk.{Spot}
 use Rattle.ufs_spec.specs.Keys.{IsSettings, settings_bytes, settings_key}
 use Rattle.ufs_spec.specs.Kept.{Holds, IsKept, IsNewestMark}
-use Rattle.ufs_spec.specs.Lives.{IsOpened}
+use Rattle.ufs_spec.specs.Dies.{DieState}
+use Rattle.ufs_spec.specs.Lives.{Fit, IsOpened, array_of, bad_of}
 use Rattle.ufs_spec.specs.Openings.{IsOpenedTranslation}
 use Rattle.ufs_spec.specs.Pages.{zero_filled}
 use Rattle.ufs_spec.specs.Refusals.{State}
@@ -17,6 +19,7 @@ use Rattle.ufs_laws.proofs.array_cells.StandsForOne.{cells_one, kept_one, mark_o
 use Rattle.ufs_laws.proofs.pages.PageIsOneCell.{one_cell}
 use Rattle.power_loss.specs.Book.{CellsRight}
 use Rattle.power_loss.specs.Exchange.{IsArrayOf}
+use Rattle.power_loss.proofs.die_pages.BlankOutsideDies.{fit_inside}
 use Rattle.power_loss.proofs.openings.OpenedFromPages.{cells_right, cells_within}
 use Rattle.power_loss.proofs.stops.SealedCells.{ranges_of}
 use Rattle.recovery.specs.Found.{IsFound, newest_found}
@@ -25,8 +28,8 @@ use Rattle.ftl_core.specs.Core.{Core}
 use Rattle.ftl_core.specs.Describes.{Describes as IsLayer}
 use Rattle.ftl_core.specs.Moves.{claims_for}
 use Rattle.device.specs.Describes.{Describes}
-use Rattle.device.specs.Kept.{idle_device}
-use Rattle.device.specs.Opened.{TellsPermanent}
+use Rattle.device.specs.Kept.{DeviceCore, idle_device}
+use Rattle.device.specs.Opened.{OpensOver, TellsPermanent}
 use Rattle.device.proofs.die_calls.CallsRight.{opens_right}
 
 -- what a body of settings says of protection
@@ -37,7 +40,7 @@ said_back boot true key counter = refl
 said_back boot false key counter = refl
 
 -- what is found suits the configuration
-pub found_suits : (n : Numbers) (array : Array) (bad : Spot → Bool) (f : Found) (sound : Sound array) →
+found_suits : (n : Numbers) (array : Array) (bad : Spot → Bool) (f : Found) (sound : Sound array) →
     IsFound n sound.cells bad f → Suits n array
 found_suits n array bad f sound found = record {
   cells = sound.cells;
@@ -105,3 +108,22 @@ module _ (n : Numbers) (array : Array) (bad : Spot → Bool) (s : State) (f : Fo
 
   pub device_opens : Describes (idle_device layer f.is_permanent) s
   device_opens = opens_right n array bad s layer f.is_permanent config inside sound opened layer_is none permanent_is
+
+-- Over dies
+
+-- what was found on dies: what is made of it is the device that the definitions open over their pages, and they suit
+-- the configuration
+module _ (n : Numbers) (dies : List DieState) (fit : Fit n dies) (f : Found)
+    (found : (c : Cells) → Shows (array_of dies) c → IsFound n c (bad_of dies) f)
+    (told : (c : Cells) → Shows (array_of dies) c → TellsPermanent c f) {E : Type 0} (r : Result DeviceCore E)
+    (opens : IfOk r (OpensOver n f)) where
+  pub opened_described : IfOk r (λ d. (s : State) → Sound (array_of dies) →
+      IsOpened n (array_of dies) (bad_of dies) s → Describes d s)
+  opened_described = IfOk-weaker r _ _
+      (λ d makes s. makes (array_of dies) (bad_of dies) s
+      (record { inside = fit_inside n dies fit; found = found; permanent = told }))
+      opens
+
+  pub opened_suits : IfOk r (λ d. Sound (array_of dies) → Suits n (array_of dies))
+  opened_suits = IfOk-weaker r _ _
+      (λ d makes sound. found_suits n (array_of dies) (bad_of dies) f sound (found sound.cells sound.shown)) opens

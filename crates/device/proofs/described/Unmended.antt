@@ -10,7 +10,7 @@ use Rattle.power_loss.specs.Exchange.{DeedFits, DeedsFit, claim_of}
 use Rattle.power_loss.proofs.open_tasks.TaggedLists.{each_found}
 use Rattle.task_set.specs.declared.tasks.Phase.{Phase}
 use Rattle.task_set.specs.declared.tasks.Phase.TheVariants as phase
-use Rattle.task_set.specs.declared.tasks.Task.{Task}
+use Rattle.task_set.specs.Kept.{OpenTask}
 use Rattle.device.specs.Describes.{IsDoing, IsTold, IsToldIn, TasksKept}
 
 -- What waits is told nothing new
@@ -47,7 +47,7 @@ doing_else n accepted claimed total before other expected (phase.Answer told m) 
 doing_else n accepted claimed total before other expected (phase.Answer told m) (Sending blocks sent) fits h = h
 doing_else n accepted claimed total before other expected p deed fits h = absurd h
 
-pub kept_else : (n : Numbers) (accepted before other : ℕ) (ts : List Task) (us : List exchange.Task) →
+pub kept_else : (n : Numbers) (accepted before other : ℕ) (ts : List OpenTask) (us : List exchange.Task) →
     DeedsFit n accepted false us → TasksKept before ts us → TasksKept other ts us
 kept_else n accepted before other [] [] fits h = tt
 kept_else n accepted before other (x ∷ ts) (y ∷ us) fits h = (
@@ -57,6 +57,7 @@ kept_else n accepted before other (x ∷ ts) (y ∷ us) fits h = (
     expected = h.0.expected;
     request = h.0.request;
     doing = doing_else n accepted (claim_of n y) y.length before other x.expected x.phase y.deed fits.0 h.0.doing;
+    read = h.0.read;
   },
   kept_else n accepted before other ts us fits.1 h.1,
 )

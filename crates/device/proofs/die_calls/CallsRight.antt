@@ -25,7 +25,7 @@ use Rattle.power_loss.proofs.openings.OpenedStates.{opened_state as opened_valid
 use Rattle.ftl_core.specs.Core.{Core}
 use Rattle.ftl_core.specs.Describes as layer_kept
 use Rattle.ftl_core.specs.Moves.{claims_for}
-use Rattle.device.specs.Describes.{Describes, IsAnswered, IsGiven, TasksKept, IsTold, Keeps, claims_by, read_for}
+use Rattle.device.specs.Describes.{Describes, IsAnswered, IsGiven, TasksKept, IsTold, Keeps, claims_by}
 use Rattle.device.specs.Describes.{wanted_by, wanted_kept}
 use Rattle.device.specs.Kept.{DeviceCore, idle_device}
 use Rattle.device.proofs.die_calls.EndsTold.{ending_fits}
@@ -144,7 +144,6 @@ opens_right n array bad s layer permanent config inside sound opened kept none s
         tasks = subst (TasksKept (before_accepted t.ledger) []) (sym opened.no_tasks) tt;
         wanted = λ tag index. ap (λ (pins : List Pin). wanted_kept pins tag index) opened.translation.no_pins
             ∙ sym (ap (λ us. wanted_by index (exchange.task_of tag us)) opened.no_tasks);
-        read = λ tag. sym (ap (λ us. read_for (exchange.task_of tag us)) opened.no_tasks);
         claims = λ tag. none tag ∙ sym (ap (λ us. claims_by tag (exchange.task_of tag us)) opened.no_tasks);
         shorts = opened.no_shorts;
         power_off = opened.power_off;

@@ -1,8 +1,8 @@
 -- A job's end tells the right things, and what is kept then describes what it makes of the state.
-use Rattle.std.proofs.Common.{◌≡◌, ◌∙◌, ℕ, suc, ◌≤◌, ◌==◌, Bool, true, false, cond, List, [], ◌∷◌, ◌++◌, length, map}
+use Rattle.std.proofs.Common.{◌≡◌, ◌∙◌, ℕ, suc, ◌≤◌, Bool, true, false, cond, List, [], ◌∷◌, length, map}
 use Rattle.std.proofs.Common.{Option, Some, None, slice_get, refl, sym, ap, subst, arith}
-use Rattle.std.specs.Prelude.{Contains, find, if◌then◌else◌, nat_lt, option_map}
-use Rattle.std.proofs.lemmas.List.{append-nil, length-map}
+use Rattle.std.specs.Prelude.{Contains, find, option_map}
+use Rattle.std.proofs.lemmas.List.{length-map}
 use Rattle.std.proofs.lemmas.List.Elements.{All-contains}
 use Rattle.ufs_spec.proofs.Facts.{and_parts, eqb-true, false≢true, none-some, same_Some}
 use Rattle.ufs_spec.specs.Cells.{Array, Cell, Cells, GroupPage}
@@ -25,8 +25,6 @@ use Rattle.power_loss.specs.Book.{book}
 use Rattle.power_loss.specs.Invariant.{IsGroupPage, LookedRight}
 use Rattle.power_loss.proofs.open_tasks.FoundInLists.{found_is}
 use Rattle.power_loss.proofs.shown_blocks.LivesShowBlocks.{page_body}
-use Rattle.power_loss.proofs.books.SmallFacts.{eq_self, if_true}
-use Rattle.power_loss.proofs.open_tasks.TaggedLists.{other_way}
 use Rattle.ftl_core.specs.Core.{Core}
 use Rattle.ftl_core.specs.Describes as layer_kept
 use Rattle.ftl_core.specs.Describes.{IsTold}
@@ -34,17 +32,17 @@ use Rattle.ftl_core.specs.Moves.{claims_for}
 use Rattle.ftl_core.specs.Tells.{IsAwaited, IsReadOf}
 use Rattle.ftl_core.specs.declared.ftl.Ended.{Ended}
 use Rattle.ftl_core.specs.declared.ftl.Ended.TheVariants as ended
-use Rattle.task_set.specs.declared.tasks.Loaded.{Loaded}
 use Rattle.device.specs.Calls.{lock_told, told}
-use Rattle.device.specs.Describes.{Describes, IsAnswered, Keeps, claims_by, claims_in, is_unread, read_by, read_for}
-use Rattle.device.specs.Describes.{read_in, read_kept, read_of}
+use Rattle.device.specs.Describes.{Describes, IsAnswered, Keeps, TasksKept, claims_by, claims_in, is_unread}
+use Rattle.device.specs.Describes.{wanted_by, wanted_kept}
+use Rattle.task_set.specs.Kept.{OpenTask}
+use Rattle.task_set.specs.Tasks.{after_lost_read, after_read}
 use Rattle.device.specs.Kept.{DeviceCore}
 use Rattle.device.proofs.described.Answered.{answered_told}
-use Rattle.device.proofs.open_tasks.FewRead.{has_room}
 use Rattle.device.proofs.described.LayerMoves.{IsForNone, Leaves, job_leaves, layer_moves}
 use Rattle.device.proofs.open_tasks.KeptByTag.{KeptFor, KeptForAll, all_kept, one_changes}
-use Rattle.device.proofs.open_tasks.ReadProgress.{read_more, want_other_tag}
-use Rattle.device.proofs.open_tasks.ReadsEnded.{IsReading, is_reading, read_then, reads_one, task_ended, tasks_lost}
+use Rattle.device.proofs.open_tasks.ReadProgress.{want_other_tag}
+use Rattle.device.proofs.open_tasks.ReadsEnded.{IsReading, is_reading, reads_one, task_ended, tasks_lost}
 use Rattle.device.proofs.open_tasks.ReadsEnded.{tasks_read, wanted_then}
 
 -- An ending that may come fits the job
@@ -104,11 +102,6 @@ content_read d s tag index place page body h w r cell =
 
 -- What is kept then
 
-loads : (d : DeviceCore) (x : Loaded) → nat_lt (length d.loaded) 32 ≡ true →
-    (if nat_lt (length d.loaded) 32 then record d { loaded = d.loaded ++ x ∷ [] } else d) ≡ record d
-    { loaded = d.loaded ++ x ∷ [] }
-loads d x room = if_true (nat_lt (length d.loaded) 32) (record d { loaded = d.loaded ++ x ∷ [] }) d room
-
 -- the state once a read for a task ended
 abbrev read_state : State → ℕ → ℕ → ReadState → Array → Translation → State
 read_state s tag index state array u = record s {
@@ -136,83 +129,56 @@ module _ (d : DeviceCore) (s : State) (die tag index : ℕ) (place : Place) (aft
   few : (state : ReadState) → length (map (task_read tag index state) s.tasks) ≤ most_tasks
   few state = subst (λ n. n ≤ most_tasks) (sym (length-map s.tasks (task_read tag index state))) h.kept.few
 
-  none_read : read_kept d.loaded tag ≡ []
-  none_read =
-      h.kept.read tag
-      ∙ (ap read_for reading.found ∙ (ap read_in reading.deed ∙ (ap read_of reading.there
-      ∙ ap (read_by reading.block.body) reading.unread)))
-
   -- what is kept for the tag is its task's; what is kept for another is as it was
-  kept_then : (state : ReadState) (loaded : List Loaded) → is_unread state ≡ false →
-      read_kept loaded tag ≡ read_by reading.block.body state →
-      ((n : ℕ) → (n == tag) ≡ false → read_kept loaded n ≡ read_kept d.loaded n) →
-      KeptForAll pins loaded after (map (task_read tag index state) s.tasks)
-  kept_then state loaded ends this others =
-      one_changes s.translation.pins pins d.loaded loaded d.ftl after s.tasks (task_read tag index state) tag
+  kept_then : (state : ReadState) → is_unread state ≡ false →
+      KeptForAll pins after (map (task_read tag index state) s.tasks)
+  kept_then state ends =
+      one_changes s.translation.pins pins d.ftl after s.tasks (task_read tag index state) tag
       reading.task (all_kept d s h.kept) (reads_one tag index state) reading.found
-      (subst (λ task. KeptFor pins loaded after tag (Some task)) (sym (task_ended tag index s.tasks reading state))
+      (subst (λ task. KeptFor pins after tag (Some task)) (sym (task_ended tag index s.tasks reading state))
       (record {
         wanted = wanted_then tag index s.tasks reading state ends s.translation.pins (h.kept.wanted tag);
-        read = this ∙ sym (read_then tag index s.tasks reading state);
         claims = (λ i. same i tag) ∙ (h.kept.claims tag
             ∙ (ap (claims_by tag) reading.found ∙ ap (claims_in tag) reading.deed));
       }))
       (λ n other. record {
         wanted = λ k. want_other_tag tag index false n k s.translation.pins other;
-        read_is = others n other;
         claims = λ i. same i n;
       })
+
+  -- once these are our tasks
+  keeps_then : (state : ReadState) (ending : Ending) (ts : List OpenTask) → is_unread state ≡ false →
+      (over ending).pins ≡ pins → before_accepted (over ending).ledger ≡ before → layer_kept.Describes after (over ending) →
+      TasksKept before ts (map (task_read tag index state) s.tasks) →
+      Keeps (record d { ftl = after; tasks = ts }) (read_state s tag index state s.array (over ending))
+  keeps_then state ending ts ends are same_before layer tasks = record {
+    permanent = h.kept.permanent;
+    layer_kept = layer;
+    few = few state;
+    tasks = subst (λ n. TasksKept n ts (map (task_read tag index state) s.tasks)) (sym same_before) tasks;
+    wanted = subst (λ (ps : List Pin). (n k : ℕ) → wanted_kept ps n k
+        ≡ wanted_by k (task_of n (map (task_read tag index state) s.tasks))) (sym are)
+        (λ n. (kept_then state ends n).wanted);
+    claims = λ n. (kept_then state ends n).claims;
+    shorts = h.kept.shorts;
+    power_off = h.kept.power_off;
+  }
 
   pub right_keeps : (page : Tag) (body : List ℕ) → s.translation.disk.cells place ≡ GroupPage page body →
       layer_kept.Describes after (over ReadRight) →
       Keeps (told (record d { ftl = after }) (ended.Read tag (Some body)))
       (read_state s tag index WasRead s.array (over ReadRight))
   right_keeps page body cell layer =
-      subst (λ e. Keeps e (read_state s tag index WasRead s.array (over ReadRight)))
-      (sym (loads (record d { ftl = after }) new
-      (has_room (map (task_read tag index WasRead) s.tasks) d.loaded new (few WasRead) (λ n. (kept n).read))))
-      (record {
-        permanent = h.kept.permanent;
-        layer_kept = layer;
-        few = few WasRead;
-        tasks = tasks_read before tag index s.tasks h.tied.tasks.tasks_differ reading d.tasks h.kept.tasks;
-        wanted = λ n. (kept n).wanted;
-        read = λ n. (kept n).read;
-        claims = λ n. (kept n).claims;
-        shorts = h.kept.shorts;
-        power_off = h.kept.power_off;
-      })
-    where
-      new : Loaded
-      new = record { tag = tag; body = body }
-
-      kept : KeptForAll pins (d.loaded ++ new ∷ []) after (map (task_read tag index WasRead) s.tasks)
-      kept =
-          kept_then WasRead (d.loaded ++ new ∷ []) refl
-          (read_more tag d.loaded new
-          ∙ ((λ i. none_read i ++ cond (eq_self tag i) (body ∷ []) [])
-          ∙ ap (λ b. b ∷ []) (content_read d s tag index place page body h w reading cell)))
-          (λ n other. read_more n d.loaded new
-          ∙ (ap (λ b. read_kept d.loaded n ++ cond b (body ∷ []) []) (other_way n tag other)
-          ∙ append-nil (read_kept d.loaded n)))
+      keeps_then WasRead ReadRight (map (after_read tag body) d.tasks) refl refl refl layer
+      (tasks_read before tag index s.tasks h.tied.tasks.tasks_differ reading body
+      (content_read d s tag index place page body h w reading cell) d.tasks h.kept.tasks)
 
   pub wrong_keeps : layer_kept.Describes after (over ReadWrong) →
       Keeps (told (record d { ftl = after }) (ended.Read tag None))
       (read_state s tag index NotRead s.array (over ReadWrong))
-  wrong_keeps layer = record {
-    permanent = h.kept.permanent;
-    layer_kept = layer;
-    few = few NotRead;
-    tasks = tasks_lost before tag index s.tasks h.tied.tasks.tasks_differ reading d.tasks h.kept.tasks;
-    wanted = λ n. (kept n).wanted;
-    read = λ n. (kept n).read;
-    claims = λ n. (kept n).claims;
-    shorts = h.kept.shorts;
-    power_off = h.kept.power_off;
-  }
-    where
-      kept : KeptForAll pins d.loaded after (map (task_read tag index NotRead) s.tasks)
-      kept = kept_then NotRead d.loaded refl none_read (λ n other. refl)
+  wrong_keeps layer =
+      keeps_then NotRead ReadWrong (map (after_lost_read tag) d.tasks) refl refl refl layer
+      (tasks_lost before tag index s.tasks h.tied.tasks.tasks_differ reading d.tasks h.kept.tasks)
 
 -- Each job
 

@@ -1,11 +1,11 @@
 -- Leftovers on dies that differ, one more each time.
 use Rattle.std.proofs.Common.{◌≡◌, ◌≢◌, ◌∙◌, ℕ, ◌+◌, ◌<◌, ◌==◌, Bool, true, false, List}
 use Rattle.std.proofs.Common.{◌⊎◌, length, sym, ap, subst, inl, inr, ⊎_elim, arith}
-use Rattle.std.specs.Prelude.{AllPairs, slice_index_or, take}
+use Rattle.std.specs.Prelude.{All, AllPairs, slice_index_or, take}
 use Rattle.std.specs.List.{list_any}
 use Rattle.std.proofs.lemmas.Bool.Decides.{eqb_tells}
 use Rattle.std.proofs.lemmas.List.{get_or_default, get_or-take, length-take-le}
-use Rattle.std.proofs.lemmas.List.Elements.{All-from_get_or}
+use Rattle.std.proofs.lemmas.List.Elements.{All-from_get_or, All-get_or}
 use Rattle.std.proofs.lemmas.List.Folds.{list_any_at, list_any_none}
 use Rattle.ufs_spec.proofs.Facts.{eq-eqb, true≢false}
 use Rattle.ufs_spec.specs.Lives.{die_of}
@@ -16,7 +16,7 @@ ApartTo xs k = (i j : ℕ) (d : Leftover) → i < j → j < k →
     die_of (slice_index_or xs i d) ≢ die_of (slice_index_or xs j d)
 
 -- what holds of the first elements and of the next one
-pub each_more : {A : Type 0} (P : A → Type 0) (xs : List A) (k : ℕ) (x : A) → k < length xs →
+each_more : {A : Type 0} (P : A → Type 0) (xs : List A) (k : ℕ) (x : A) → k < length xs →
     x ≡ slice_index_or xs k x → P x → ((i : ℕ) (d : A) → i < k → P (slice_index_or xs i d)) →
     (i : ℕ) (d : A) → i < k + 1 → P (slice_index_or xs i d)
 each_more {A} P xs k x less is here before i d l =
@@ -29,6 +29,22 @@ each_more {A} P xs k x less is here before i d l =
     there : i ≡ k → P (slice_index_or xs i d)
     there e =
         subst P (is ∙ get_or_default xs k x d less ∙ sym (ap (λ (m : ℕ). slice_index_or xs m d) e)) here
+
+-- a relation of a leftover to its die, for the next one of a list
+module _ (R : ℕ → Leftover → Type 0) (xs : List Leftover) (k : ℕ) (x : Leftover) (die : ℕ) (less : k < length xs)
+    (is : x ≡ slice_index_or xs k x) (its : die ≡ die_of x) where
+  abbrev OfItsDie : Leftover → Type 0
+  OfItsDie l = R (die_of l) l
+
+  -- it has it if all have it
+  pub next_of_all : All OfItsDie xs → R die x
+  next_of_all all =
+      subst (λ (d : ℕ). R d x) (sym its) (subst OfItsDie (sym is) (All-get_or OfItsDie xs k x less all))
+
+  -- with it one more has it
+  pub one_more_has : R die x → ((i : ℕ) (d : Leftover) → i < k → OfItsDie (slice_index_or xs i d)) → (i : ℕ)
+      (d : Leftover) → i < k + 1 → OfItsDie (slice_index_or xs i d)
+  one_more_has has = each_more OfItsDie xs k x less is (subst (λ (d : ℕ). R d x) its has)
 
 abbrev is_on : ℕ → Leftover → Bool
 is_on die l = die_of l == die

@@ -43,7 +43,7 @@ AreOfDies w lefts = All (λ l. IsOfDie w (die_of l) l) lefts
 abbrev pub MayAllBeLeft : WorldState → List Leftover → Type 0
 MayAllBeLeft w lefts = All (λ l. MayDieLeave w (die_of l) l) lefts
 
-abbrev AreLawful : State → List Leftover → Type 0
+abbrev pub AreLawful : State → List Leftover → Type 0
 AreLawful s lefts = (l : Leftover) → Contains lefts l → IsLawfulLeftover s l
 
 -- One leftover more

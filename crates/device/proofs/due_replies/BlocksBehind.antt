@@ -1,6 +1,6 @@
 -- What is kept for a READ whose next block was handed out: that of the block is gone, that of the one behind it is
 -- wanted, and behind the last one there is nothing.
-use Rattle.std.proofs.Common.{◌≡◌, ◌∙◌, ℕ, ◌+◌, ◌<◌, ◌≤◌, ◌==◌, ◌&&◌, Bool, true, false, List, [], Option, Some, None}
+use Rattle.std.proofs.Common.{◌≡◌, ◌∙◌, ℕ, ◌+◌, ◌<◌, ◌≤◌, ◌==◌, ◌&&◌, Bool, true, false, List, Option, Some, None}
 use Rattle.std.proofs.Common.{length, refl, sym, ap, subst, arith}
 use Rattle.std.specs.Prelude.{if◌then◌else◌, nat_lt, option_map, slice_get}
 use Rattle.std.proofs.lemmas.Bool.{le-ltb}
@@ -19,10 +19,10 @@ AreUnread blocks sent = (i : ℕ) (block : ReadBlock) → sent < i → slice_get
 
 -- nothing was read of the one behind it
 pub none_read_behind : (blocks : List ReadBlock) (sent : ℕ) → AreUnread blocks sent →
-    read_in (Sending blocks (sent + 1)) ≡ []
+    read_in (Sending blocks (sent + 1)) ≡ None
 none_read_behind blocks sent unread = by (slice_get blocks (sent + 1)) refl
   where
-    by : (o : Option ReadBlock) → slice_get blocks (sent + 1) ≡ o → read_of o ≡ []
+    by : (o : Option ReadBlock) → slice_get blocks (sent + 1) ≡ o → read_of o ≡ None
     by None e = refl
     by (Some block) e = ap (read_by block.body) (unread (sent + 1) block (omega arith) e)
 

@@ -24,15 +24,14 @@ use Rattle.task_set.specs.declared.tasks.Phase.TheVariants as phase
 use Rattle.task_set.specs.declared.tasks.Sending.{Sending as Sends}
 use Rattle.task_set.specs.declared.tasks.ShortData.{ShortData}
 use Rattle.task_set.specs.declared.tasks.Status.TheVariants as status
-use Rattle.task_set.specs.declared.tasks.Task.{Task}
+use Rattle.task_set.specs.Kept.{OpenTask, task_in}
 use Rattle.task_set.specs.declared.tasks.Transfer.{Transfer}
 use Rattle.device.specs.Describes.{Describes, IsDoing, IsGathering, IsSending}
 use Rattle.device.specs.Describes.{claims_in, is_lost, read_in}
 use Rattle.device.specs.Describes.{wanted_by, wanted_in, wanted_kept}
 use Rattle.device.specs.Hears.{with_phase}
 use Rattle.device.specs.Kept.{DeviceCore}
-use Rattle.device.specs.Replies.{HasMoved, moved_on, owed_by, owed_in, without_block}
-use Rattle.device.specs.Replies.{without_task}
+use Rattle.device.specs.Replies.{HasMoved, moved_on, owed_by, owed_in, with_sent, without_task}
 use Rattle.task_set.specs.Tasks.{data_length, sent_next}
 use Rattle.device.proofs.described.Answered.{IsBehind}
 use Rattle.device.proofs.open_tasks.OpenTasks.{IsOpen}
@@ -70,7 +69,7 @@ sends_more x expected total blocks n is more = record {
 
 -- One task hands out a reply
 
-module _ (d : DeviceCore) (s : State) (k : ℕ) (a : Task) (b : exchange.Task) (h : Describes d s)
+module _ (d : DeviceCore) (s : State) (k : ℕ) (a : OpenTask) (b : exchange.Task) (h : Describes d s)
     (o : IsOpen (before_accepted s.translation.ledger) k d.tasks s.tasks a b) where
   asks : (after : Core) (x : Transfer) (purpose : Purpose) (gathered : List ℕ) (asked : Bool) →
       b.deed ≡ Gathering purpose gathered asked → IsGathering x b.length purpose gathered →
@@ -102,7 +101,7 @@ module _ (d : DeviceCore) (s : State) (k : ℕ) (a : Task) (b : exchange.Task) (
 
   ends : (after : Core) → claims_for after ≡ claims_for d.ftl → claims_in b.tag b.deed ≡ [] →
       layer_kept.Describes after (moved s.translation (LetGoAll a.tag)) →
-      IsBehind (with_layer after (without_task (without_block d a.tag) k)) (task_behind s b None)
+      IsBehind (with_layer after (without_task d k)) (task_behind s b None)
   ends after claims none layer = record {
     keeps = goes d s k a b h o after s.translation.ledger.held claims none layer;
     told = told_gone d s k a b h o;
@@ -110,7 +109,7 @@ module _ (d : DeviceCore) (s : State) (k : ℕ) (a : Task) (b : exchange.Task) (
 
   awaits : (after : Core) (commands : ℕ) → claims_for after ≡ claims_for d.ftl → claims_in b.tag b.deed ≡ [] →
       layer_kept.Describes after (moved (moved s.translation (Acknowledge commands)) (LetGoAll a.tag)) →
-      IsBehind (with_layer after (without_task (without_block d a.tag) k))
+      IsBehind (with_layer after (without_task d k))
       (task_behind (with_moves s (Acknowledge commands ∷ [])) b None)
   awaits after commands claims none layer = record {
     keeps = goes d s k a b h o after (max s.translation.ledger.held commands) claims none layer;
@@ -123,9 +122,9 @@ module _ (d : DeviceCore) (s : State) (k : ℕ) (a : Task) (b : exchange.Task) (
 
   loses : (after : Core) (blocks : List ReadBlock) (n : ℕ) → b.deed ≡ Sending blocks n →
       claims_for after ≡ claims_for d.ftl → layer_kept.Describes after (moved s.translation (LetGoAll a.tag)) →
-      IsBehind (with_layer after (without_task (without_block d a.tag) k)) (task_behind (sent_state n) b None)
+      IsBehind (with_layer after (without_task d k)) (task_behind (sent_state n) b None)
   loses after blocks n deed claims layer =
-      subst (IsBehind (with_layer after (without_task (without_block d a.tag) k))) (sym same)
+      subst (IsBehind (with_layer after (without_task d k))) (sym same)
       (ends after claims (ap (claims_in b.tag) deed) layer)
     where
       same : task_behind (sent_state n) b None ≡ task_behind s b None
@@ -153,7 +152,7 @@ module _ (d : DeviceCore) (s : State) (k : ℕ) (a : Task) (b : exchange.Task) (
   sends_next : (after : Core) (x : Sends) (blocks : List ReadBlock) (n : ℕ) → b.deed ≡ Sending blocks n →
       IsSending x a.expected b.length blocks n → claims_for after ≡ claims_for d.ftl →
       layer_kept.Describes after (sent_layer s.translation a.tag x.sent) →
-      IsBehind (with_layer after (moved_on d k a (phase.SendBlocks x))) (task_does s b (Sending blocks n))
+      IsBehind (with_layer after (moved_on d k (phase.SendBlocks x))) (task_does s b (Sending blocks n))
   sends_next after x blocks n deed is claims layer = by (nat_lt (x.sent + 1) x.blocks) refl
     where
       found : task_of b.tag s.tasks ≡ Some b
@@ -174,21 +173,21 @@ module _ (d : DeviceCore) (s : State) (k : ℕ) (a : Task) (b : exchange.Task) (
       -- the phase and the deed behind it
       path : (more : Bool) → nat_lt (x.sent + 1) x.blocks ≡ more →
           IsBehind
-          (with_layer after (with_phase (without_block d a.tag) k (sent_next x (next_if x more))))
+          (with_layer after (with_sent d k (sent_next x (next_if x more))))
           (task_behind (sent_state n) b (Some (deed_next b blocks n more))) →
-          IsBehind (with_layer after (moved_on d k a (phase.SendBlocks x))) (task_does s b (Sending blocks n))
+          IsBehind (with_layer after (moved_on d k (phase.SendBlocks x))) (task_does s b (Sending blocks n))
       path more e it =
-          subst (IsBehind (with_layer after (moved_on d k a (phase.SendBlocks x))))
+          subst (IsBehind (with_layer after (moved_on d k (phase.SendBlocks x))))
           (sym (sending_path blocks n next.0 (Some (deed_next b blocks n more))
           next.1 (sent_deed blocks n next.0.state more (is.readable next.0 next.1) (same_test ∙ e))))
           (subst
           (λ z. IsBehind
-          (with_layer after (with_phase (without_block d a.tag) k (sent_next x (next_if x z))))
+          (with_layer after (with_sent d k (sent_next x (next_if x z))))
           (task_behind (sent_state n) b (Some (deed_next b blocks n more))))
           (sym e) it)
 
       by : (more : Bool) → nat_lt (x.sent + 1) x.blocks ≡ more →
-          IsBehind (with_layer after (moved_on d k a (phase.SendBlocks x))) (task_does s b (Sending blocks n))
+          IsBehind (with_layer after (moved_on d k (phase.SendBlocks x))) (task_does s b (Sending blocks n))
       by true e =
           path true e
           (sends d s k a b h o after n (phase.SendBlocks (behind x)) (Sending blocks (n + 1))
@@ -211,8 +210,8 @@ module _ (d : DeviceCore) (s : State) (k : ℕ) (a : Task) (b : exchange.Task) (
 
   moves_in : (after : Core) (p : Phase) (deed : Deed) (m : Message) → b.deed ≡ deed →
       IsDoing (before_accepted s.translation.ledger) a.expected b.length p deed →
-      owed_in s.translation d.loaded a p ≡ Some m →
-      HasMoved d.ftl after s.translation a.tag p → IsBehind (with_layer after (moved_on d k a p)) (task_does s b deed)
+      owed_in s.translation a.block (task_in a) p ≡ Some m →
+      HasMoved d.ftl after s.translation a.tag p → IsBehind (with_layer after (moved_on d k p)) (task_does s b deed)
   moves_in after (phase.AskData x) (Gathering purpose gathered asked) m e doing due new =
       asks after x purpose gathered asked e doing.0 new.0 new.1
   moves_in after (phase.AwaitData x) deed m e doing due new = absurd (none-some m due)
@@ -228,13 +227,13 @@ module _ (d : DeviceCore) (s : State) (k : ℕ) (a : Task) (b : exchange.Task) (
   moves_in after (phase.Answer told n) (Answering x carried) m e doing due new =
       ends after new.1 (ap (claims_in b.tag) e) new.0
   moves_in after (phase.Answer told n) (Sending blocks sent) m e doing due new =
-      subst (IsBehind (with_layer after (moved_on d k a (phase.Answer told n))))
+      subst (IsBehind (with_layer after (moved_on d k (phase.Answer told n))))
       (sym (sending_path blocks sent doing.block None doing.there (ap (deed_behind_state b blocks sent) doing.lost)))
       (loses after blocks sent e new.1 new.0)
   moves_in after p deed m e doing due new = absurd doing
 
   -- what a reply makes of the task
-  pub moves_on : (after : Core) (m : Message) → owed_by s.translation d.loaded a ≡ Some m →
+  pub moves_on : (after : Core) (m : Message) → owed_by s.translation a ≡ Some m →
       HasMoved d.ftl after s.translation a.tag a.phase →
-      IsBehind (with_layer after (moved_on d k a a.phase)) (task_does s b b.deed)
+      IsBehind (with_layer after (moved_on d k a.phase)) (task_does s b b.deed)
   moves_on after m due new = moves_in after a.phase b.deed m refl o.kept.doing due new

@@ -18,7 +18,6 @@ use Rattle.device.specs.Describes.{Describes, IsAnswered, short_kept}
 use Rattle.device.specs.Kept.{DeviceCore}
 use Rattle.device.specs.Replies.{HasMoved, answer_of, block_for, block_message, data_message, moved_on, owed_by}
 use Rattle.device.specs.Replies.{owed_in, short_message, short_said, without_first}
-use Rattle.task_set.specs.declared.tasks.Loaded.{Loaded}
 use Rattle.task_set.specs.declared.tasks.Phase.{Phase}
 use Rattle.task_set.specs.declared.tasks.Phase.TheVariants as phase
 use Rattle.task_set.specs.declared.tasks.Short as kept
@@ -26,8 +25,10 @@ use Rattle.task_set.specs.declared.tasks.ShortReply.{ShortReply}
 use Rattle.task_set.specs.declared.tasks.ShortReply.TheVariants as short_reply
 use Rattle.task_set.specs.declared.tasks.Status.TheVariants as status
 use Rattle.task_set.specs.declared.tasks.Task.{Task}
+use Rattle.task_set.specs.Kept.{OpenTask, task_in}
+use Rattle.task_set.specs.Lists.{read_at, task_at}
 use Rattle.device.proofs.described.Answered.{answered, answered_as, stays}
-use Rattle.device.proofs.open_tasks.OpenTasks.{our_task, their_task}
+use Rattle.device.proofs.open_tasks.OpenTasks.{one_there, our_task, stands_there, their_task}
 use Rattle.device.proofs.due_replies.DeedsBehind.{moves_on, task_does}
 use Rattle.device.proofs.due_replies.ReplySame.{same_reply}
 use Rattle.power_loss.proofs.host_commands.HandedOutReplies.{one_tag as same_tag}
@@ -35,42 +36,55 @@ use Rattle.power_loss.proofs.host_commands.HandedOutReplies.{one_tag as same_tag
 -- Tags
 
 -- a reply has its task's tag
-reply_tag : (t : Translation) (loaded : List Loaded) (a : Task) (p : Phase) (m : Message) →
-    owed_in t loaded a p ≡ Some m →
+reply_tag : (t : Translation) (read : Option (List ℕ)) (a : Task) (p : Phase) (m : Message) →
+    owed_in t read a p ≡ Some m →
     tag_in m ≡ a.tag
-reply_tag t loaded a (phase.AskData x) m h = same_tag _ m a.tag h refl
-reply_tag t loaded a (phase.AwaitData x) m h = absurd (none-some m h)
-reply_tag t loaded a (phase.AwaitFrontier n size) m h = by (nat_le n t.ledger.frontier) h
+reply_tag t read a (phase.AskData x) m h = same_tag _ m a.tag h refl
+reply_tag t read a (phase.AwaitData x) m h = absurd (none-some m h)
+reply_tag t read a (phase.AwaitFrontier n size) m h = by (nat_le n t.ledger.frontier) h
   where
     by : (x : Bool) → (if x then Some (answer_of a status.Good size) else None) ≡ Some m → tag_in m ≡ a.tag
     by true e = same_tag (answer_of a status.Good size) m a.tag e refl
     by false e = absurd (none-some m e)
-reply_tag t loaded a (phase.SendBlocks x) m h = by (block_for t loaded a.tag x.sent) h
+reply_tag t read a (phase.SendBlocks x) m h = by (block_for t read a.tag x.sent) h
   where
     by : (o : Option (List ℕ)) → option_map (block_message a x) o ≡ Some m → tag_in m ≡ a.tag
     by None e = absurd (none-some m e)
     by (Some body) e = same_tag (block_message a x body) m a.tag e refl
-reply_tag t loaded a (phase.SendData x) m h = same_tag (data_message a x) m a.tag h refl
-reply_tag t loaded a (phase.Answer told n) m h = same_tag (answer_of a told n) m a.tag h refl
+reply_tag t read a (phase.SendData x) m h = same_tag (data_message a x) m a.tag h refl
+reply_tag t read a (phase.Answer told n) m h = same_tag (answer_of a told n) m a.tag h refl
 
 -- Replies of tasks
 
-pub replies_right : (d e : DeviceCore) (s : State) (k : ℕ) (task : Task) (m : Message) → Describes d s →
-    slice_get d.tasks k ≡ Some task → owed_by s.translation d.loaded task ≡ Some m →
-    e ≡ record (moved_on d k task task.phase) { ftl = e.ftl } →
-    HasMoved d.ftl e.ftl s.translation task.tag task.phase →
+open_right : (d e : DeviceCore) (s : State) (k : ℕ) (a : OpenTask) (m : Message) → Describes d s →
+    slice_get d.tasks k ≡ Some a → owed_by s.translation a ≡ Some m →
+    e ≡ record (moved_on d k a.phase) { ftl = e.ftl } → HasMoved d.ftl e.ftl s.translation a.tag a.phase →
     IsAnswered s Reply (OfReply (Some m)) e
-replies_right d e s k task m h there due left layer =
-    let r = their_task (before_accepted s.translation.ledger) k d.tasks s.tasks task h.kept.tasks there in
+open_right d e s k a m h there due left layer =
+    let r = their_task (before_accepted s.translation.ledger) k d.tasks s.tasks a h.kept.tasks there in
     let found : task_of r.0.tag s.tasks ≡ Some r.0 = found_task s.tasks k r.0 h.tied.tasks.tasks_differ r.1.theirs in
-    let tag : tag_in m ≡ r.0.tag = reply_tag s.translation d.loaded task task.phase m due ∙ sym r.1.kept.tag in
+    let tag : tag_in m ≡ r.0.tag = reply_tag s.translation a.block (task_in a) a.phase m due ∙ sym r.1.kept.tag in
     let path : replied s m ≡ task_does s r.0 r.0.deed =
     ap (replied_by s (tag_in m)) (ap (λ n. task_of n s.tasks) tag ∙ found) in
     subst (λ (x : DeviceCore). IsAnswered s Reply (OfReply (Some m)) x) (sym left)
-    (answered_as d (record (moved_on d k task task.phase) { ftl = e.ftl }) s (task_does s r.0 r.0.deed) Reply
+    (answered_as d (record (moved_on d k a.phase) { ftl = e.ftl }) s (task_does s r.0 r.0.deed) Reply
     (OfReply (Some m)) h tt
-    (inl (k, r.0, r.1.theirs, same_reply d s task r.0 h r.1.kept found ∙ due)) path
-    (moves_on d s k task r.0 h r.1 e.ftl m due layer))
+    (inl (k, r.0, r.1.theirs, same_reply d s a r.0 h r.1.kept found ∙ due)) path
+    (moves_on d s k a r.0 h r.1 e.ftl m due layer))
+
+-- the same by what is told of the task at a position
+pub replies_right : (d e : DeviceCore) (s : State) (k : ℕ) (task : Task) (m : Message) → Describes d s →
+    task_at d.tasks k ≡ Some task → owed_in s.translation (read_at d.tasks k) task task.phase ≡ Some m →
+    e ≡ record (moved_on d k task.phase) { ftl = e.ftl } →
+    HasMoved d.ftl e.ftl s.translation task.tag task.phase →
+    IsAnswered s Reply (OfReply (Some m)) e
+replies_right d e s k task m h there due left layer =
+    let one = one_there d.tasks k task there in
+    let its = stands_there d.tasks k task one.0 there one.1 in
+    open_right d e s k one.0 m h one.1
+    (sym (λ i. owed_in s.translation (its.1 i) (its.0 i) (its.0 i).phase) ∙ due)
+    (left ∙ (λ i. record (moved_on d k (its.0 i).phase) { ftl = e.ftl }))
+    (subst (λ (x : Task). HasMoved d.ftl e.ftl s.translation x.tag x.phase) its.0 layer)
 
 -- Replies of short exchanges
 
@@ -128,7 +142,6 @@ shorts_right d s r rs h is =
         few = h.kept.few;
         tasks = h.kept.tasks;
         wanted = h.kept.wanted;
-        read = h.kept.read;
         claims = h.kept.claims;
         shorts = ap (map short_kept) (sym (ap (λ (xs : List kept.Short). remove xs 0) is));
         power_off = h.kept.power_off;
@@ -139,7 +152,7 @@ shorts_right d s r rs h is =
 -- No reply
 
 abbrev pub OwesNone : DeviceCore → Translation → Type 0
-OwesNone d t = (k : ℕ) (task : Task) → slice_get d.tasks k ≡ Some task → owed_by t d.loaded task ≡ None
+OwesNone d t = (k : ℕ) (task : OpenTask) → slice_get d.tasks k ≡ Some task → owed_by t task ≡ None
 
 no_message : (x y : Option Message) (m : Message) → x ≡ Some m → x ≡ y → y ≡ None → ⊥
 no_message x y m e f g = cc
@@ -148,7 +161,7 @@ none_due : (d : DeviceCore) (s : State) → Describes d s → OwesNone d s.trans
     (m : Message) → Due s m → ⊥
 none_due d s h none empty m (inl due) =
     let r = our_task (before_accepted s.translation.ledger) due.0 d.tasks s.tasks due.1 h.kept.tasks due.2 in
-    no_message (deed_reply s due.1 due.1.deed) (owed_by s.translation d.loaded r.0) m due.3
+    no_message (deed_reply s due.1 due.1.deed) (owed_by s.translation r.0) m due.3
     (same_reply d s r.0 due.1 h r.1.kept (found_task s.tasks due.0 due.1 h.tied.tasks.tasks_differ due.2))
     (none due.0 r.0 r.1.ours)
 none_due d s h none empty m (inr due) =

@@ -1,14 +1,12 @@
 -- What is kept of all tasks once one of them has handed out a reply: it does something else from now on, or it goes.
-use Rattle.std.proofs.Common.{◌≡◌, ◌∙◌, ℕ, ◌+◌, ◌≤◌, ◌==◌, Bool, true, false, All, List, [], Option, Some, None, length}
+use Rattle.std.proofs.Common.{◌≡◌, ◌∙◌, ℕ, ◌+◌, ◌≤◌, ◌==◌, Bool, true, false, All, List, [], Some, None, length}
 use Rattle.std.proofs.Common.{map, refl, sym, ap, subst, arith}
-use Rattle.std.specs.Option.{option_to_list}
-use Rattle.std.specs.Prelude.{filter, if◌then◌else◌, not, position, slice_get}
+use Rattle.std.specs.Prelude.{filter, if◌then◌else◌, not, slice_get}
 use Rattle.std.proofs.lemmas.List.{length-map}
 use Rattle.std.proofs.lemmas.List.Elements.{All-filter, All-map, All-weaker}
 use Rattle.std.proofs.lemmas.List.Filters.{length-filter_both}
 use Rattle.ufs_spec.specs.Exchanges as exchange
-use Rattle.ufs_spec.specs.Exchanges.{Deed, NotRead, ReadBlock, ReadState}
-use Rattle.ufs_spec.specs.Exchanges.{Sending, Unread, WasRead, task_of, with_deed}
+use Rattle.ufs_spec.specs.Exchanges.{Deed, task_of, with_deed}
 use Rattle.ufs_spec.specs.Ledger.{before_accepted}
 use Rattle.ufs_spec.specs.Machine.{durable, set_deed, task_behind}
 use Rattle.ufs_spec.specs.Moves.{LetGo, LetGoAll, WantPage, moved}
@@ -20,38 +18,21 @@ use Rattle.ftl_core.specs.Core.{Core}
 use Rattle.ftl_core.specs.Describes as layer_kept
 use Rattle.ftl_core.specs.Moves.{claims_for}
 use Rattle.write_cache.specs.declared.slots.Claimed.{Claimed}
-use Rattle.task_set.specs.declared.tasks.Loaded.{Loaded}
 use Rattle.task_set.specs.declared.tasks.Phase.{Phase}
-use Rattle.task_set.specs.declared.tasks.Task.{Task}
+use Rattle.task_set.specs.Kept.{OpenTask}
 use Rattle.device.specs.Describes.{Describes, IsDoing, IsTold, IsToldIn, Keeps, TasksKept}
-use Rattle.device.specs.Describes.{claims_by, claims_in, read_by, read_for, read_in, read_kept, read_of}
-use Rattle.device.specs.Describes.{wanted_by, wanted_in, wanted_kept}
-use Rattle.task_set.specs.Lists.{tasks_set}
+use Rattle.device.specs.Describes.{claims_by, claims_in, read_in, wanted_by, wanted_in, wanted_kept}
+use Rattle.task_set.specs.Lists.{tasks_sent, tasks_set}
+use Rattle.task_set.specs.Tasks.{after_sent}
 use Rattle.device.specs.Hears.{with_phase}
 use Rattle.device.specs.Kept.{DeviceCore}
-use Rattle.task_set.specs.Lists.{is_loaded_for, loaded_without}
-use Rattle.device.specs.Replies.{without_block}
-use Rattle.device.specs.Replies.{without_task}
+use Rattle.device.specs.Replies.{with_sent, without_task}
 use Rattle.device.proofs.described.Answered.{IsBehind}
 use Rattle.device.proofs.open_tasks.OpenTasks.{IsOpen, one_changed, one_gone}
 use Rattle.device.proofs.open_tasks.KeptByTag.{KeptFor, KeptForAll, all_kept, deed_changed, one_goes}
-use Rattle.device.proofs.open_tasks.ReadProgress.{none_read, others_read}
 use Rattle.device.proofs.due_replies.PinsLetGo.{gone_pins, next_of_others, other_pins, with_next}
 
 -- What stays
-
-one_read : (deed : Deed) → (o : Option (List ℕ)) × (read_in deed ≡ option_to_list o)
-one_read (Sending blocks sent) = of_block (slice_get blocks sent)
-  where
-    of_state : (body : List ℕ) (state : ReadState) → (o : Option (List ℕ)) × (read_by body state ≡ option_to_list o)
-    of_state body Unread = (None, refl)
-    of_state body WasRead = (Some body, refl)
-    of_state body NotRead = (None, refl)
-
-    of_block : (o : Option ReadBlock) → (p : Option (List ℕ)) × (read_of o ≡ option_to_list p)
-    of_block None = (None, refl)
-    of_block (Some block) = of_state block.body block.state
-one_read deed = (None, refl)
 
 set_told : (n tag : ℕ) (deed : Deed) (us : List exchange.Task) → IsToldIn n deed → All (IsTold n) us →
     All (IsTold n) (map (with_deed tag deed) us)
@@ -82,17 +63,17 @@ sent_layer t tag n = moved (moved t (LetGo tag n)) (WantPage tag (n + 1))
 
 -- One task hands out a reply
 
-module _ (d : DeviceCore) (s : State) (k : ℕ) (a : Task) (b : exchange.Task) (h : Describes d s)
+module _ (d : DeviceCore) (s : State) (k : ℕ) (a : OpenTask) (b : exchange.Task) (h : Describes d s)
     (o : IsOpen (before_accepted s.translation.ledger) k d.tasks s.tasks a b) where
   found : task_of b.tag s.tasks ≡ Some b
   found = found_task s.tasks k b h.tied.tasks.tasks_differ o.theirs
 
   -- it does something else from now on
   pub tasks_set_to : (p : Phase) (deed : Deed) → IsDoing (before_accepted s.translation.ledger) a.expected b.length p
-      deed →
+      deed → read_in b.deed ≡ read_in deed →
       TasksKept (before_accepted s.translation.ledger) (tasks_set d.tasks k p (slice_get d.tasks k))
       (map (with_deed b.tag deed) s.tasks)
-  tasks_set_to p deed doing =
+  tasks_set_to p deed doing read =
       subst (λ x. TasksKept (before_accepted s.translation.ledger) (tasks_set d.tasks k p x)
       (map (with_deed b.tag deed) s.tasks)) (sym o.ours)
       (one_changed (before_accepted s.translation.ledger) k d.tasks s.tasks (record a { phase = p }) b deed h.kept.tasks
@@ -103,15 +84,27 @@ module _ (d : DeviceCore) (s : State) (k : ℕ) (a : Task) (b : exchange.Task) (
         expected = o.kept.expected;
         request = o.kept.request;
         doing = doing;
+        read = o.kept.read ∙ read;
       }))
 
-  abbrev unloaded : List Loaded
-  unloaded = loaded_without d.loaded (position (is_loaded_for b.tag) d.loaded)
-
-  none_left : read_kept unloaded b.tag ≡ []
-  none_left =
-      let one = one_read b.deed in
-      none_read b.tag d.loaded one.0 (h.kept.read b.tag ∙ (ap read_for found ∙ one.1))
+  -- its block was handed out, and it does something else from now on
+  tasks_sent_to : (p : Phase) (deed : Deed) → IsDoing (before_accepted s.translation.ledger) a.expected b.length p
+      deed → read_in deed ≡ None →
+      TasksKept (before_accepted s.translation.ledger) (tasks_sent d.tasks k p (slice_get d.tasks k))
+      (map (with_deed b.tag deed) s.tasks)
+  tasks_sent_to p deed doing read =
+      subst (λ x. TasksKept (before_accepted s.translation.ledger) (tasks_sent d.tasks k p x)
+      (map (with_deed b.tag deed) s.tasks)) (sym o.ours)
+      (one_changed (before_accepted s.translation.ledger) k d.tasks s.tasks (after_sent p a) b deed h.kept.tasks
+      h.tied.tasks.tasks_differ o.theirs
+      (record {
+        lun = o.kept.lun;
+        tag = o.kept.tag;
+        expected = o.kept.expected;
+        request = o.kept.request;
+        doing = doing;
+        read = sym read;
+      }))
 
   -- what its tag has claimed stays
   claims_stay : (after : Core) (claims : List Claimed) → claims_for after ≡ claims_for d.ftl →
@@ -120,18 +113,16 @@ module _ (d : DeviceCore) (s : State) (k : ℕ) (a : Task) (b : exchange.Task) (
       ap (λ (f : ℕ → List Claimed). f b.tag) same ∙ (h.kept.claims b.tag ∙ (ap (claims_by b.tag) found ∙ is))
 
   -- what is kept for each tag, where only that of this one changes
-  set_kept : (pins : List Pin) (loaded : List Loaded) (after : Core) (deed : Deed) →
-      claims_for after ≡ claims_for d.ftl → KeptFor pins loaded after b.tag (Some (record b { deed = deed })) →
+  set_kept : (pins : List Pin) (after : Core) (deed : Deed) →
+      claims_for after ≡ claims_for d.ftl → KeptFor pins after b.tag (Some (record b { deed = deed })) →
       ((n index : ℕ) → (n == b.tag) ≡ false →
       wanted_kept pins n index ≡ wanted_kept s.translation.pins n index) →
-      ((n : ℕ) → (n == b.tag) ≡ false → read_kept loaded n ≡ read_kept d.loaded n) →
-      KeptForAll pins loaded after (map (with_deed b.tag deed) s.tasks)
-  set_kept pins loaded after deed claims this wanted read =
-      deed_changed s.translation.pins pins d.loaded loaded d.ftl after s.tasks b.tag b deed (all_kept d s h.kept) found
+      KeptForAll pins after (map (with_deed b.tag deed) s.tasks)
+  set_kept pins after deed claims this wanted =
+      deed_changed s.translation.pins pins d.ftl after s.tasks b.tag b deed (all_kept d s h.kept) found
       this
       (λ n other. record {
         wanted = λ index. wanted n index other;
-        read_is = read n other;
         claims = ap (λ (f : ℕ → List Claimed). f n) claims;
       })
 
@@ -152,12 +143,12 @@ module _ (d : DeviceCore) (s : State) (k : ℕ) (a : Task) (b : exchange.Task) (
   -- it goes, and keeps nothing
   pub goes : (after : Core) (held : ℕ) → claims_for after ≡ claims_for d.ftl → claims_in b.tag b.deed ≡ [] →
       layer_kept.Describes after (moved (with_held s.translation held) (LetGoAll a.tag)) →
-      Keeps (with_layer after (without_task (without_block d a.tag) k))
+      Keeps (with_layer after (without_task d k))
       (task_behind (record s { translation = with_held s.translation held }) b None)
   goes after held claims none layer =
       subst
       (λ n. layer_kept.Describes after (moved u (LetGoAll n)) →
-      Keeps (with_layer after (without_task (without_block d n) k)) (task_behind (record s { translation = u }) b None))
+      Keeps (with_layer after (without_task d k)) (task_behind (record s { translation = u }) b None))
       o.kept.tag
       (λ its. record {
         permanent = h.kept.permanent;
@@ -166,7 +157,6 @@ module _ (d : DeviceCore) (s : State) (k : ℕ) (a : Task) (b : exchange.Task) (
         tasks = one_gone (before_accepted s.translation.ledger) k d.tasks s.tasks b h.kept.tasks
             h.tied.tasks.tasks_differ o.theirs;
         wanted = λ n. (kept n).wanted;
-        read = λ n. (kept n).read;
         claims = λ n. (kept n).claims;
         shorts = h.kept.shorts;
         power_off = h.kept.power_off;
@@ -179,17 +169,15 @@ module _ (d : DeviceCore) (s : State) (k : ℕ) (a : Task) (b : exchange.Task) (
       pins : List Pin
       pins = filter (λ pin. not (pin.tag == b.tag)) s.translation.pins
 
-      kept : KeptForAll pins unloaded after (exchange.without_task b.tag s.tasks)
+      kept : KeptForAll pins after (exchange.without_task b.tag s.tasks)
       kept =
-          one_goes s.translation.pins pins d.loaded unloaded d.ftl after s.tasks b.tag (all_kept d s h.kept)
+          one_goes s.translation.pins pins d.ftl after s.tasks b.tag (all_kept d s h.kept)
           (record {
             wanted = λ index. gone_pins b.tag index s.translation.pins;
-            read = none_left;
             claims = claims_stay after [] claims none;
           })
           (λ n other. record {
             wanted = λ index. other_pins b.tag n index s.translation.pins other;
-            read_is = others_read b.tag n d.loaded other;
             claims = ap (λ (f : ℕ → List Claimed). f n) claims;
           })
 
@@ -206,9 +194,8 @@ module _ (d : DeviceCore) (s : State) (k : ℕ) (a : Task) (b : exchange.Task) (
       permanent = h.kept.permanent;
       layer_kept = layer;
       few = few_set deed;
-      tasks = tasks_set_to p deed doing;
+      tasks = tasks_set_to p deed doing same.read;
       wanted = λ n. (kept n).wanted;
-      read = λ n. (kept n).read;
       claims = λ n. (kept n).claims;
       shorts = h.kept.shorts;
       power_off = h.kept.power_off;
@@ -216,28 +203,27 @@ module _ (d : DeviceCore) (s : State) (k : ℕ) (a : Task) (b : exchange.Task) (
     told = λ lock. set_told (durable s) b.tag deed s.tasks told (h.told lock);
   }
     where
-      kept : KeptForAll s.translation.pins d.loaded after (map (with_deed b.tag deed) s.tasks)
+      kept : KeptForAll s.translation.pins after (map (with_deed b.tag deed) s.tasks)
       kept =
-          set_kept s.translation.pins d.loaded after deed claims
+          set_kept s.translation.pins after deed claims
           (record {
             wanted = λ index. h.kept.wanted b.tag index ∙ (ap (wanted_by index) found ∙ same.wanted index);
-            read = h.kept.read b.tag ∙ (ap read_for found ∙ same.read);
             claims = claims_stay after (claims_in b.tag deed) claims same.claims;
           })
-          (λ n index other. refl) (λ n other. refl)
+          (λ n index other. refl)
 
   -- its next block was handed out
   pub sends : (after : Core) (n : ℕ) (p : Phase) (deed : Deed) →
       IsDoing (before_accepted s.translation.ledger) a.expected b.length p deed → IsToldIn (durable s) deed →
       ((index : ℕ) → wanted_kept (with_next b.tag n s.translation.pins) b.tag index ≡ wanted_in index deed) →
-      read_in deed ≡ [] → claims_in b.tag b.deed ≡ claims_in b.tag deed → claims_for after ≡ claims_for d.ftl →
+      read_in deed ≡ None → claims_in b.tag b.deed ≡ claims_in b.tag deed → claims_for after ≡ claims_for d.ftl →
       layer_kept.Describes after (sent_layer s.translation a.tag n) →
-      IsBehind (with_layer after (with_phase (without_block d a.tag) k p))
+      IsBehind (with_layer after (with_sent d k p))
       (set_deed (record s { translation = sent_layer s.translation b.tag n }) b.tag deed)
   sends after n p deed doing told wanted read claims_same claims layer =
       subst
       (λ tag. layer_kept.Describes after (sent_layer s.translation tag n) →
-      IsBehind (with_layer after (with_phase (without_block d tag) k p))
+      IsBehind (with_layer after (with_sent d k p))
       (set_deed (record s { translation = sent_layer s.translation b.tag n }) b.tag deed))
       o.kept.tag
       (λ its. record {
@@ -245,9 +231,8 @@ module _ (d : DeviceCore) (s : State) (k : ℕ) (a : Task) (b : exchange.Task) (
           permanent = h.kept.permanent;
           layer_kept = its;
           few = few_set deed;
-          tasks = tasks_set_to p deed doing;
+          tasks = tasks_sent_to p deed doing read;
           wanted = λ tag. (kept tag).wanted;
-          read = λ tag. (kept tag).read;
           claims = λ tag. (kept tag).claims;
           shorts = h.kept.shorts;
           power_off = h.kept.power_off;
@@ -256,13 +241,11 @@ module _ (d : DeviceCore) (s : State) (k : ℕ) (a : Task) (b : exchange.Task) (
       })
       layer
     where
-      kept : KeptForAll (with_next b.tag n s.translation.pins) unloaded after (map (with_deed b.tag deed) s.tasks)
+      kept : KeptForAll (with_next b.tag n s.translation.pins) after (map (with_deed b.tag deed) s.tasks)
       kept =
-          set_kept (with_next b.tag n s.translation.pins) unloaded after deed claims
+          set_kept (with_next b.tag n s.translation.pins) after deed claims
           (record {
             wanted = wanted;
-            read = none_left ∙ sym read;
             claims = claims_stay after (claims_in b.tag deed) claims claims_same;
           })
           (λ tag index other. next_of_others b.tag n tag index s.translation.pins other)
-          (λ tag other. others_read b.tag tag d.loaded other)

@@ -1,7 +1,7 @@
 -- The reply that a task owes is the one that the definitions say is due.
-use Rattle.std.proofs.Common.{◌≡◌, ◌∙◌, ℕ, suc, ◌+◌, ◌-◌, ◌*◌, ◌<◌, ◌≤◌, ◌==◌, ◌&&◌, Bool, true, false, cond}
-use Rattle.std.proofs.Common.{List, [], ◌∷◌, Option, Some, None, length, map, refl, sym, ap, subst, ⊎_elim, arith}
-use Rattle.std.specs.Prelude.{filter, find, if◌then◌else◌, min, nat_le, nat_lt, option_map, position, slice_get, take}
+use Rattle.std.proofs.Common.{◌≡◌, ◌∙◌, ℕ, ◌+◌, ◌-◌, ◌*◌, ◌<◌, ◌≤◌, ◌==◌, ◌&&◌, Bool, true, false}
+use Rattle.std.proofs.Common.{List, [], Option, Some, None, length, refl, sym, ap, subst, ⊎_elim, arith}
+use Rattle.std.specs.Prelude.{find, if◌then◌else◌, min, nat_le, nat_lt, option_map, slice_get, take}
 use Rattle.std.specs.Int.{div_ceil}
 use Rattle.std.proofs.lemmas.Bool.{le-ltb}
 use Rattle.std.proofs.lemmas.Bool.Decides.{nat_tests}
@@ -29,46 +29,23 @@ use Rattle.power_loss.proofs.open_tasks.FoundInLists.{found_is}
 use Rattle.power_loss.proofs.books.SmallFacts.{if_false, if_true, two_ways}
 use Rattle.power_loss.proofs.ordered_lists.ElementsAndOrders.{all_in, found_in}
 use Rattle.ftl_core.specs.Limits.{in_this_stage}
-use Rattle.task_set.specs.declared.tasks.Loaded.{Loaded}
 use Rattle.task_set.specs.declared.tasks.Phase.{Phase}
 use Rattle.task_set.specs.declared.tasks.Phase.TheVariants as phase
 use Rattle.task_set.specs.declared.tasks.Sending.{Sending as Sends}
 use Rattle.task_set.specs.declared.tasks.ShortData.{ShortData}
 use Rattle.task_set.specs.declared.tasks.Status.{Status}
 use Rattle.task_set.specs.declared.tasks.Task.{Task}
+use Rattle.task_set.specs.Kept.{OpenTask, task_in}
 use Rattle.task_set.specs.declared.tasks.Transfer.{Transfer}
 use Rattle.device.specs.Describes.{Describes, IsDoing, IsGathering, IsLost, IsSending, TaskKept, is_lost, is_unread}
-use Rattle.device.specs.Describes.{read_of, read_by, read_in, read_kept, read_for, wanted_by, wanted_in, wanted_kept}
-use Rattle.device.specs.Describes.{wanted_of}
+use Rattle.device.specs.Describes.{read_by, read_in, read_of, wanted_by, wanted_in, wanted_kept, wanted_of}
 use Rattle.device.specs.Kept.{DeviceCore}
-use Rattle.task_set.specs.Lists.{body_at, body_of}
 use Rattle.device.specs.Replies.{answer_of, block_at, block_for, block_message, block_of, count_in}
-use Rattle.task_set.specs.Lists.{is_loaded_for, loaded_for}
 use Rattle.device.specs.Replies.{data_message, owed_by, owed_in}
 use Rattle.task_set.specs.Tasks.{data_length, status_kept}
 use Rattle.device.specs.Replies.{data_bytes}
 use Rattle.device.proofs.described.Unmended.{waits_mended}
 use Rattle.device.proofs.due_replies.BytesSent.{bytes_same}
-use Rattle.device.proofs.open_tasks.OpenTasks.{position_step}
-
--- What was read
-
--- the first block of a tag
-abbrev first_of : List (List ℕ) → Option (List ℕ)
-first_of [] = None
-first_of (body ∷ bodies) = Some body
-
-loaded_first : (tag : ℕ) (ls : List Loaded) → body_at ls (position (is_loaded_for tag) ls) ≡ first_of (read_kept ls tag)
-loaded_first tag [] = refl
-loaded_first tag (l ∷ ls) = ap (body_at (l ∷ ls)) (position_step (is_loaded_for tag) l ls)
-    ∙ by (l.tag == tag) (position (is_loaded_for tag) ls) (loaded_first tag ls)
-  where
-    by : (b : Bool) (o : Option ℕ) → body_at ls o ≡ first_of (read_kept ls tag) →
-        body_at (l ∷ ls) (cond b (Some 0) (option_map suc o)) ≡ first_of
-        (map body_of (cond b (l ∷ filter (is_loaded_for tag) ls) (filter (is_loaded_for tag) ls)))
-    by true o h = refl
-    by false None h = h
-    by false (Some k) h = h
 
 -- Messages
 
@@ -101,7 +78,7 @@ some_left total blocks sent all more =
 -- Blocks
 
 -- a block is at hand, or was read, just where the definitions say so
-module _ (l : Ledger) (loaded : List Loaded) (a : Task) (b : exchange.Task) (x : Sends) (sent : ℕ) (key : Key)
+module _ (l : Ledger) (read : Option (List ℕ)) (a : Task) (b : exchange.Task) (x : Sends) (sent : ℕ) (key : Key)
     (body : List ℕ) (same : exchange.block_message b sent body ≡ block_message a x body) where
   -- a slot has the body of its page
   in_slot : (name : Name) → IsShown l key (InSlot name) body →
@@ -113,17 +90,17 @@ module _ (l : Ledger) (loaded : List Loaded) (a : Task) (b : exchange.Task) (x :
       shown.is)
 
   in_hand : (state : ReadState) (kept : ledger.Looked) → IsShown l key kept body → is_lost state ≡ false →
-      loaded_for loaded a.tag ≡ first_of (read_by body state) →
+      read ≡ read_by body state →
       block_reply b sent body state (needs_no_read [] kept) ≡ option_map (block_message a x)
-      (block_at l loaded a.tag kept)
-  in_hand NotRead kept shown fine read = absurd (false≢true (sym fine))
-  in_hand Unread Unwritten shown fine read = ap (λ z. Some z) (same ∙ ap (block_message a x) shown)
-  in_hand WasRead Unwritten shown fine read = ap (λ z. Some z) (same ∙ ap (block_message a x) shown)
-  in_hand Unread (InSlot name) shown fine read = in_slot name shown
-  in_hand WasRead (InSlot name) shown fine read = in_slot name shown
-  in_hand Unread (OnPage name place) shown fine read = ap (option_map (block_message a x)) (sym read)
-  in_hand WasRead (OnPage name place) shown fine read =
-      ap (λ z. Some z) same ∙ ap (option_map (block_message a x)) (sym read)
+      (block_at l read kept)
+  in_hand NotRead kept shown fine was = absurd (false≢true (sym fine))
+  in_hand Unread Unwritten shown fine was = ap (λ z. Some z) (same ∙ ap (block_message a x) shown)
+  in_hand WasRead Unwritten shown fine was = ap (λ z. Some z) (same ∙ ap (block_message a x) shown)
+  in_hand Unread (InSlot name) shown fine was = in_slot name shown
+  in_hand WasRead (InSlot name) shown fine was = in_slot name shown
+  in_hand Unread (OnPage name place) shown fine was = ap (option_map (block_message a x)) (sym was)
+  in_hand WasRead (OnPage name place) shown fine was =
+      ap (λ z. Some z) same ∙ ap (option_map (block_message a x)) (sym was)
 
 -- what a READ keeps for its next block
 record HasPin (s : State) (b : exchange.Task) (sent : ℕ) (body : List ℕ) : Type 0 where
@@ -142,12 +119,12 @@ whole_block blocks gathered more = omega arith
 
 -- Each deed
 
-module _ (d : DeviceCore) (s : State) (a : Task) (b : exchange.Task) (h : Describes d s)
+module _ (d : DeviceCore) (s : State) (a : OpenTask) (b : exchange.Task) (h : Describes d s)
     (k : TaskKept (before_accepted s.translation.ledger) a b) (found : task_of b.tag s.tasks ≡ Some b) where
   -- the message of a block is the one that the definitions say
   same_block : (x : Sends) (sent : ℕ) (body : List ℕ) → b.length ≡ x.length → sent ≡ x.sent →
       1 ≤ min a.expected x.length - 4096 * x.sent →
-      exchange.block_message b sent body ≡ block_message a x body
+      exchange.block_message b sent body ≡ block_message (task_in a) x body
   same_block x sent body length is some =
       (λ i. message.DataIn (k.lun i) (k.tag i) (4096 * is i)
       (record { items = take (count_at (min (k.expected i) (length i)) (4096 * is i)) body }))
@@ -190,18 +167,18 @@ module _ (d : DeviceCore) (s : State) (a : Task) (b : exchange.Task) (h : Descri
   sending_same : (x : Sends) (blocks : List ReadBlock) (sent : ℕ) → b.deed ≡ Sending blocks sent →
       IsSending x a.expected b.length blocks sent →
       next_block_reply s b sent (slice_get blocks sent)
-      ≡ option_map (block_message a x) (block_for s.translation d.loaded a.tag x.sent)
+      ≡ option_map (block_message (task_in a) x) (block_for s.translation a.block a.tag x.sent)
   sending_same x blocks sent deed is =
       ap (next_block_reply s b sent) there
       ∙ (ap (λ (rests : List layer.Rest). block_reply b sent block.body block.state
       (is_at_hand rests (machine.pin_of s b sent)))
       (in_this_stage d.ftl s.translation h.kept.layer_kept).rests
       ∙ (ap (λ p. block_reply b sent block.body block.state (is_at_hand [] p)) pin.found
-      ∙ (in_hand s.translation.ledger d.loaded a b x sent pin.key block.body
+      ∙ (in_hand s.translation.ledger a.block (task_in a) b x sent pin.key block.body
       (same_block x sent block.body is.total_is is.sent_is
       (some_left (min a.expected x.length) x.blocks x.sent is.all is.more))
       block.state pin.pin.looked pin.shown (is.readable block there) read
-      ∙ ap (λ p. option_map (block_message a x) (block_of s.translation.ledger d.loaded a.tag p)) (sym pinned))))
+      ∙ ap (λ p. option_map (block_message (task_in a) x) (block_of s.translation.ledger a.block p)) (sym pinned))))
     where
       next : (block : ReadBlock) × (slice_get blocks sent ≡ Some block)
       next = let count = is.count in let at = is.sent_is in let more = is.more in get_there blocks sent (omega arith)
@@ -218,12 +195,11 @@ module _ (d : DeviceCore) (s : State) (a : Task) (b : exchange.Task) (h : Descri
       pinned : find (is_pin_of a.tag x.sent) s.translation.pins ≡ Some pin.pin
       pinned = sym (λ i. find (is_pin_of (k.tag i) (is.sent_is i)) s.translation.pins) ∙ pin.found
 
-      read : loaded_for d.loaded a.tag ≡ first_of (read_by block.body block.state)
-      read = loaded_first a.tag d.loaded ∙ ap first_of (ap (read_kept d.loaded) (sym k.tag)
-          ∙ (h.kept.read b.tag ∙ (ap read_for found ∙ (ap read_in deed ∙ ap read_of there))))
+      read : a.block ≡ read_by block.body block.state
+      read = k.read ∙ (ap read_in deed ∙ ap read_of there)
 
   lost_same : (blocks : List ReadBlock) (sent : ℕ) (told : Status) (n : ℕ) → IsLost blocks sent told n →
-      next_block_reply s b sent (slice_get blocks sent) ≡ Some (answer_of a told n)
+      next_block_reply s b sent (slice_get blocks sent) ≡ Some (answer_of (task_in a) told n)
   lost_same blocks sent told n is =
       ap (next_block_reply s b sent) is.there
       ∙ (ap (λ (x : ReadState). block_reply b sent is.block.body x
@@ -233,7 +209,7 @@ module _ (d : DeviceCore) (s : State) (a : Task) (b : exchange.Task) (h : Descri
 
   awaiting_same : (n size commands : ℕ) → b.deed ≡ Awaiting commands →
       n ≡ before_accepted s.translation.ledger + commands → b.length ≡ size →
-      deed_reply s b (Awaiting commands) ≡ owed_in s.translation d.loaded a (phase.AwaitFrontier n size)
+      deed_reply s b (Awaiting commands) ≡ owed_in s.translation a.block (task_in a) (phase.AwaitFrontier n size)
   awaiting_same n size commands deed is whole =
       let mended = waits_mended (numbers_of s) (length s.accepted) (is_mended s.translation.work.mending) s.tasks b
       b.tag commands h.tied.tasks.deeds found deed in
@@ -256,14 +232,14 @@ module _ (d : DeviceCore) (s : State) (a : Task) (b : exchange.Task) (h : Descri
   -- the first of the data, as many as the host expects
   data_same : (bytes : List ℕ) (x : ShortData) → bytes ≡ data_bytes x → b.length ≡ data_length x →
       1 ≤ min a.expected (data_length x) →
-      exchange.data_message b 0 (take (bytes_sent b) bytes) ≡ data_message a x
+      exchange.data_message b 0 (take (bytes_sent b) bytes) ≡ data_message (task_in a) x
   data_same bytes x is length some =
       (λ i. message.DataIn (k.lun i) (k.tag i) 0 (record { items = take (min (k.expected i) (length i)) (is i) }))
       ∙ ap (λ (xs : List ℕ). message.DataIn a.lun a.tag 0 (record { items = xs })) (bytes_same a.expected x some)
 
   same_in : (p : Phase) (deed : Deed) → b.deed ≡ deed →
       IsDoing (before_accepted s.translation.ledger) a.expected b.length p deed →
-      deed_reply s b deed ≡ owed_in s.translation d.loaded a p
+      deed_reply s b deed ≡ owed_in s.translation a.block (task_in a) p
   same_in (phase.AskData x) (Gathering purpose gathered asked) e is =
       asking_same x purpose gathered asked is.0 is.1
   same_in (phase.AwaitData x) (Gathering purpose gathered asked) e is =
@@ -277,5 +253,5 @@ module _ (d : DeviceCore) (s : State) (a : Task) (b : exchange.Task) (h : Descri
   same_in p deed e is = absurd is
 
   -- the same reply is due of both sides' task
-  pub same_reply : deed_reply s b b.deed ≡ owed_by s.translation d.loaded a
+  pub same_reply : deed_reply s b b.deed ≡ owed_by s.translation a
   same_reply = same_in a.phase b.deed refl k.doing

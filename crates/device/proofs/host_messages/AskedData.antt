@@ -9,7 +9,7 @@ use Rattle.ufs_spec.specs.Exchanges.{count_at, is_asked_in, is_asked_of, task_of
 use Rattle.task_set.specs.declared.tasks.AskedFor.{AskedFor}
 use Rattle.task_set.specs.declared.tasks.Phase.{Phase}
 use Rattle.task_set.specs.declared.tasks.Phase.TheVariants as phase
-use Rattle.task_set.specs.declared.tasks.Task.{Task}
+use Rattle.task_set.specs.Kept.{OpenTask}
 use Rattle.task_set.specs.declared.tasks.Transfer.{Transfer}
 use Rattle.device.specs.Describes.{IsDoing, IsGathering, TasksKept}
 use Rattle.task_set.specs.Lists.{asked_by, asked_in}
@@ -18,7 +18,7 @@ use Rattle.device.specs.Kept.{DeviceCore}
 use Rattle.device.proofs.open_tasks.OpenTasks.{Stands, StandsOrNot, tag_stands}
 
 -- the task of the tag asked for these data
-pub record HasAsked (before tag count : ℕ) (ours : List Task) (theirs : List exchange.Task)
+pub record HasAsked (before tag count : ℕ) (ours : List OpenTask) (theirs : List exchange.Task)
     (asked : Option AskedFor) : Type 0 where
   pub stands : Stands before tag ours theirs
   pub transfer : Transfer
@@ -27,7 +27,7 @@ pub record HasAsked (before tag count : ℕ) (ours : List Task) (theirs : List e
   pub asked_is : asked ≡ Some (record { index = stands.k; transfer = transfer })
 
 -- both sides asked for the data, or neither
-abbrev pub AreAsked : ℕ → ℕ → ℕ → List Task → List exchange.Task → Option AskedFor → Bool → Type 0
+abbrev pub AreAsked : ℕ → ℕ → ℕ → List OpenTask → List exchange.Task → Option AskedFor → Bool → Type 0
 AreAsked before tag count ours theirs asked is =
     ((asked ≡ None) × (is ≡ false)) ⊎ (HasAsked before tag count ours theirs asked × (is ≡ true))
 
@@ -60,7 +60,7 @@ next_count x total purpose gathered h =
     let came = h.came in let more = h.more in let all = h.total_is in omega arith
 
 -- what the two sides say of data: neither asked for them, or both tests are those of the next block
-abbrev SaySame : ℕ → ℕ → ℕ → ℕ → Task → exchange.Task → Phase → Deed → Type 0
+abbrev SaySame : ℕ → ℕ → ℕ → ℕ → OpenTask → exchange.Task → Phase → Deed → Type 0
 SaySame lun offset count k a b p deed =
     ((asked_in lun offset k a p ≡ none_asked) × (is_asked_in b lun offset count deed ≡ false))
     ⊎ ((x : Transfer) × (p ≡ phase.AwaitData x)
@@ -68,7 +68,7 @@ SaySame lun offset count k a b p deed =
     ≡ ((true && (b.lun == lun)) && (4096 * x.gathered == offset)) && (count == 4096)))
 
 -- the tests of the two sides agree
-asked_same : (lun offset count k : ℕ) (a : Task) (b : exchange.Task) (before expected : ℕ) (p : Phase) (deed : Deed) →
+asked_same : (lun offset count k : ℕ) (a : OpenTask) (b : exchange.Task) (before expected : ℕ) (p : Phase) (deed : Deed) →
     IsDoing before expected b.length p deed → SaySame lun offset count k a b p deed
 asked_same lun offset count k a b before expected (phase.AwaitData x) (Gathering purpose gathered asked) h =
     inr (

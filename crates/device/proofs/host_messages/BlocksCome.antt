@@ -36,7 +36,7 @@ use Rattle.task_set.specs.declared.tasks.TaskEvent.{TaskEvent}
 use Rattle.task_set.specs.declared.tasks.TaskEvent.TheVariants as event
 use Rattle.task_set.specs.declared.tasks.Transfer.{Transfer}
 use Rattle.device.specs.Calls.{HasFilled, HasGathered, HasGatheredThen, HasTaken, MayAccept, OthersClaim}
-use Rattle.device.specs.Describes.{Describes, IsDoing, Keeps, blocks_gathered, claims_by, claims_in, read_for}
+use Rattle.device.specs.Describes.{Describes, IsDoing, Keeps, blocks_gathered, claims_by, claims_in}
 use Rattle.device.specs.Describes.{read_in, wanted_by, wanted_in}
 use Rattle.device.specs.Hears.{with_phase}
 use Rattle.device.specs.Kept.{DeviceCore}
@@ -77,7 +77,7 @@ gathers before expected total x deed h = absurd h
 -- nothing is kept for a task that sends no block
 record SendsNone (deed : Deed) : Type 0 where
   wanted : (index : ℕ) → wanted_in index deed ≡ None
-  read : read_in deed ≡ []
+  read : read_in deed ≡ None
 
 -- once its command was accepted a WRITE sends none, and has no slot
 write_sends : (forced : Bool) (position n : ℕ) → SendsNone (write_deed forced position n)
@@ -122,21 +122,19 @@ module _ (d : DeviceCore) (s : State) (tag : ℕ) (bytes : List ℕ) (x : Transf
 
   tags_kept : (after : Core) (deed : Deed) → SendsNone deed → claims_for after r.b.tag ≡ claims_in r.b.tag deed →
       OthersClaim d.ftl after r.b.tag →
-      KeptForAll s.translation.pins d.loaded after (map (with_deed r.b.tag deed) s.tasks)
+      KeptForAll s.translation.pins after (map (with_deed r.b.tag deed) s.tasks)
   tags_kept after deed none claims others =
-      deed_changed s.translation.pins s.translation.pins d.loaded d.loaded d.ftl after s.tasks r.b.tag r.b deed
+      deed_changed s.translation.pins s.translation.pins d.ftl after s.tasks r.b.tag r.b deed
       (all_kept d s h.kept) found
       (record {
         wanted =
             λ index.
             h.kept.wanted r.b.tag index
             ∙ (ap (wanted_by index) found ∙ (ap (wanted_in index) g.deed_is ∙ sym (none.wanted index)));
-        read = h.kept.read r.b.tag ∙ (ap read_for found ∙ (ap read_in g.deed_is ∙ sym none.read));
         claims = claims;
       })
       (λ n other. record {
         wanted = λ index. refl;
-        read_is = refl;
         claims = others_claim d.ftl after r.b.tag n others other;
       })
 
@@ -173,9 +171,8 @@ module _ (d : DeviceCore) (s : State) (tag : ℕ) (bytes : List ℕ) (x : Transf
                 total_is = g.total_is;
               },
               refl,
-            );
+            ) (ap read_in g.deed_is);
         wanted = λ n. (tags n).wanted;
-        read = λ n. (tags n).read;
         claims = λ n. (tags n).claims;
         shorts = h.kept.shorts;
         power_off = h.kept.power_off;
@@ -249,9 +246,8 @@ module _ (d : DeviceCore) (s : State) (tag : ℕ) (bytes : List ℕ) (x : Transf
           few = few_set d s r.k r.a r.b h r.opened (Answering exchange.write_error r.b.length);
           tasks =
               tasks_set_to d s r.k r.a r.b h r.opened (failed write_error (4096 * x.blocks))
-              (Answering exchange.write_error r.b.length) (refl, g.total_is);
+              (Answering exchange.write_error r.b.length) (refl, g.total_is) (ap read_in g.deed_is);
           wanted = λ n. (tags n).wanted;
-          read = λ n. (tags n).read;
           claims = λ n. (tags n).claims;
           shorts = h.kept.shorts;
           power_off = h.kept.power_off;
@@ -281,9 +277,9 @@ module _ (d : DeviceCore) (s : State) (tag : ℕ) (bytes : List ℕ) (x : Transf
           tasks =
               tasks_set_to d s r.k r.a r.b h r.opened
               (group_done x.forced (next_number s.translation.ledger) (4096 * x.blocks))
-              (write_deed x.forced (length s.accepted + 1) r.b.length) (taken_does x.forced);
+              (write_deed x.forced (length s.accepted + 1) r.b.length) (taken_does x.forced)
+              (ap read_in g.deed_is ∙ sym (write_sends x.forced (length s.accepted + 1) r.b.length).read);
           wanted = λ n. (tags n).wanted;
-          read = λ n. (tags n).read;
           claims = λ n. (tags n).claims;
           shorts = h.kept.shorts;
           power_off = h.kept.power_off;

@@ -67,8 +67,8 @@ module _ (d : DeviceCore) (s : State) (r : Request) (h : Describes d s) (free : 
       (machine.with_task s r command n (Answering answer carried))
   answer_opened command n carried answer told m layer same count =
       opens_still d s r h free few after command n (Answering answer carried) _ layer
-      (record { wanted = λ i. refl; read = refl; claims = refl }) (λ l. tt)
-      (record { lun = refl; tag = refl; expected = refl; request = refl; doing = (same, count) })
+      (record { wanted = λ i. refl; claims = refl }) (λ l. tt)
+      (record { lun = refl; tag = refl; expected = refl; request = refl; doing = (same, count); read = refl })
 
   -- a WRITE of so many blocks
 
@@ -91,7 +91,6 @@ module _ (d : DeviceCore) (s : State) (r : Request) (h : Describes d s) (free : 
         (gathering address blocks forced) _ layer refl
         (record {
           wanted = none_wanted d s r h free few;
-          unread = refl;
           claims = own ∙ ap (claims_of_blocks r.tag) (none_gathered blocks);
           others_want = λ n i other. refl;
           others_claim = others;
@@ -102,6 +101,7 @@ module _ (d : DeviceCore) (s : State) (r : Request) (h : Describes d s) (free : 
           expected = refl;
           request = refl;
           doing = (record { write = (refl, refl, refl); came = refl; more = some; total_is = refl }, refl);
+          read = refl;
         });
     told =
         open_told d s r h free few (Some command) (4096 * blocks) (gathering address blocks forced) (λ l. tt);
@@ -240,13 +240,14 @@ module _ (d : DeviceCore) (s : State) (r : Request) (h : Describes d s) (free : 
       by false e k =
           same_phase p (phase.SendData x) _ k.0
           (opens_still d s r h free few after (Some command) (data_length x) (SendingBytes (data_bytes x)) _ k.1
-          (record { wanted = λ i. refl; read = refl; claims = refl }) (λ l. tt)
+          (record { wanted = λ i. refl; claims = refl }) (λ l. tt)
           (record {
             lun = refl;
             tag = refl;
             expected = refl;
             request = refl;
             doing = (refl, refl, some_told (min r.expected (data_length x)) e);
+            read = refl;
           }))
 
   -- a flush
@@ -261,8 +262,8 @@ module _ (d : DeviceCore) (s : State) (r : Request) (h : Describes d s) (free : 
   flush_begins command false p told begun =
       same_phase p (phase.AwaitFrontier (last_number s.translation.ledger) 0) _ begun.0
       (opens_still d s r h free few after (Some command) 0 (Awaiting (length s.accepted)) _ begun.1
-      (record { wanted = λ i. refl; read = refl; claims = refl }) told
-      (record { lun = refl; tag = refl; expected = refl; request = refl; doing = (last, refl) }))
+      (record { wanted = λ i. refl; claims = refl }) told
+      (record { lun = refl; tag = refl; expected = refl; request = refl; doing = (last, refl); read = refl }))
     where
       last : last_number s.translation.ledger ≡ before_accepted s.translation.ledger + length s.accepted
       last = let next = number_awaited s h.tied h.kept.layer_kept.valid.history.within in omega arith

@@ -132,21 +132,6 @@ told_by s r u c taken spec a b p e f g ka kb kp ke kf kg =
     table_checked s r u c taken spec
     ∙ (λ i. option_map status_kept (checks_of (ka i) (kb i) (kp i) (ke i) (kf i) (kg i)))
 
--- a command that needs a mended device, and one that does not or finds one
-pub unmended : (a b : Bool) → a ≡ true → not b ≡ true → (a && not b) ≡ true
-unmended true false e k = refl
-unmended true true e k = absurd (true≢false (sym k))
-unmended false b e k = absurd (true≢false (sym e))
-
-pub needs_none : (a b : Bool) → a ≡ false → (a && b) ≡ false
-needs_none false b e = refl
-needs_none true b e = absurd (true≢false e)
-
-pub is_ready : (a b : Bool) → not b ≡ false → (a && not b) ≡ false
-is_ready true true e = refl
-is_ready false b e = refl
-is_ready true false e = absurd (true≢false e)
-
 -- Units
 
 no_lun : (n : Numbers) (byte : ℕ) → slice_get n.units.items byte ≡ None → lun_of n byte ≡ None

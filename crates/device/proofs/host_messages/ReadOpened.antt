@@ -1,5 +1,5 @@
 -- A READ opens a task: the device keeps each of the blocks that are sent, and wants the page of the first.
-use Rattle.std.proofs.Common.{◌≡◌, ◌∙◌, ℕ, ◌+◌, ◌<◌, ◌≤◌, ◌==◌, false, true, All, [], ◌++◌, Option, Some, None}
+use Rattle.std.proofs.Common.{◌≡◌, ◌∙◌, ℕ, ◌+◌, ◌<◌, ◌≤◌, ◌==◌, false, true, All, ◌++◌, Option, Some, None}
 use Rattle.std.proofs.Common.{length, map, refl, sym, ap, subst}
 use Rattle.std.specs.Prelude.{fold, min, slice_get}
 use Rattle.std.specs.Int.{div_ceil}
@@ -30,7 +30,8 @@ use Rattle.device.proofs.open_tasks.TaskOpened.{no_claim, none_claimed, none_wan
 -- the device with the new task, over the layer as it is then
 abbrev pub core_opened : DeviceCore → Request → Core → Phase → DeviceCore
 core_opened d r after p =
-    record (with_task d (record { tag = r.tag; lun = r.lun; expected = r.expected; phase = p })) { ftl = after }
+    record (with_task d (record { tag = r.tag; lun = r.lun; expected = r.expected; phase = p; block = None }))
+    { ftl = after }
 
 abbrev pub block_now : State → (unit address i : ℕ) → ReadBlock
 block_now s unit address i = record { body = block_at unit (address + i) (plain_now s); state = Unread }
@@ -61,8 +62,6 @@ module _ (d : DeviceCore) (s : State) (r : Request) (h : Describes d s) (free : 
               ≡ wanted_in i (Sending (read_blocks s r.lun address m) 0)) (sym are)
               (own_wanted s.translation.pins r.tag m keeps_at (λ j. refl) (λ j. refl) none (block_now s r.lun address)
               (λ j. refl) (λ j. refl));
-          unread =
-              unread_first (slice_get (read_blocks s r.lun address m) 0) (λ block there. state_now 0 block there);
           claims = ap (λ f. f r.tag) claims ∙ none_claimed d s r h free few;
           others_want =
               subst (λ (t : Translation). (n i : ℕ) → (n == r.tag) ≡ false → wanted_kept t.pins n i
@@ -85,6 +84,8 @@ module _ (d : DeviceCore) (s : State) (r : Request) (h : Describes d s) (free : 
             readable = λ block there. ap is_lost (state_now 0 block there);
             behind = λ i block later there. state_now i block there;
           };
+          read = sym (unread_first (slice_get (read_blocks s r.lun address m) 0)
+              (λ block there. state_now 0 block there));
         });
     told =
         subst
@@ -109,6 +110,6 @@ module _ (d : DeviceCore) (s : State) (r : Request) (h : Describes d s) (free : 
           ap (λ (x : ReadBlock). x.state) (made_is (block_now s r.lun address) m i block there)
 
       unread_first : (o : Option ReadBlock) → ((block : ReadBlock) → o ≡ Some block → block.state ≡ Unread) →
-          read_of o ≡ []
+          read_of o ≡ None
       unread_first None unread = refl
       unread_first (Some block) unread = ap (read_by block.body) (unread block refl)

@@ -27,7 +27,6 @@ short_more d s r h = record {
     few = h.kept.few;
     tasks = h.kept.tasks;
     wanted = h.kept.wanted;
-    read = h.kept.read;
     claims = h.kept.claims;
     shorts = ap (λ (xs : List Short). xs ++ short_kept r ∷ []) h.kept.shorts ∙ one_more d.shorts;
     power_off = h.kept.power_off;

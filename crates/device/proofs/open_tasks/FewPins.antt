@@ -28,8 +28,16 @@ use Rattle.task_set.specs.declared.tasks.Phase.TheVariants as phase
 use Rattle.device.specs.Calls.{has_room}
 use Rattle.device.specs.Describes.{Describes, IsDoing, Keeps, wanted_by, wanted_in, wanted_of}
 use Rattle.device.specs.Kept.{DeviceCore}
-use Rattle.device.proofs.open_tasks.FewRead.{any_found}
 use Rattle.device.proofs.open_tasks.OpenTasks.{StandsOrNot, tag_stands}
+
+any_found : {X : Type 0} (p : X → Bool) (xs : List X) (x : X) → find p xs ≡ Some x → list_any p xs ≡ true
+any_found p [] x e = cc
+any_found p (y ∷ ys) x e = by (p y) e (λ k. any_found p ys x k)
+  where
+    by : (b : Bool) → cond b (Some y) (find p ys) ≡ Some x → (find p ys ≡ Some x → list_any p ys ≡ true) →
+        (b || list_any p ys) ≡ true
+    by true k rest = refl
+    by false k rest = rest k
 
 -- Pins of one tag
 

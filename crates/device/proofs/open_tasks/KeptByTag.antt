@@ -1,5 +1,5 @@
--- What is kept for each tag, where the task of one tag changes, comes or goes: the pages that are wanted, the blocks
--- that were read and those that were claimed, in one relation for each tag.
+-- What is kept for each tag, where the task of one tag changes, comes or goes: the pages that are wanted and the blocks
+-- that were claimed, in one relation for each tag.
 use Rattle.std.proofs.Common.{◌≡◌, ◌∙◌, ℕ, ◌==◌, false, cond, List, [], ◌∷◌, ◌++◌, map, Option, Some, None}
 use Rattle.std.proofs.Common.{refl, sym, ap, subst}
 use Rattle.std.specs.Option.{option_or}
@@ -12,32 +12,29 @@ use Rattle.power_loss.proofs.books.SmallFacts.{eq_self}
 use Rattle.power_loss.proofs.open_tasks.TaggedLists.{other_way}
 use Rattle.ftl_core.specs.Core.{Core}
 use Rattle.ftl_core.specs.Moves.{claims_for}
-use Rattle.task_set.specs.declared.tasks.Loaded.{Loaded}
 use Rattle.device.specs.Calls.{OthersClaim}
-use Rattle.device.specs.Describes.{Keeps, claims_by, claims_in, read_for, read_in, read_kept, wanted_by, wanted_in}
+use Rattle.device.specs.Describes.{Keeps, claims_by, claims_in, wanted_by, wanted_in}
 use Rattle.device.specs.Describes.{wanted_kept}
 use Rattle.device.specs.Kept.{DeviceCore}
 use Rattle.device.proofs.open_tasks.ReadProgress.{ChangesOne, KeepsTag, by_tag, deed_changes, deed_set, each_goes_on}
 use Rattle.device.proofs.open_tasks.ReadProgress.{one_goes_on, others_go_on, others_left, task_gone, task_more}
 
 -- what is kept for one tag is what its task has, or nothing
-pub record KeptFor (pins : List Pin) (loaded : List Loaded) (layer : Core) (tag : ℕ) (o : Option exchange.Task) : Type 0
+pub record KeptFor (pins : List Pin) (layer : Core) (tag : ℕ) (o : Option exchange.Task) : Type 0
   where
     pub wanted : (index : ℕ) → wanted_kept pins tag index ≡ wanted_by index o
-    pub read : read_kept loaded tag ≡ read_for o
     pub claims : claims_for layer tag ≡ claims_by tag o
 
 -- for each tag
-abbrev pub KeptForAll : List Pin → List Loaded → Core → List exchange.Task → Type 0
-KeptForAll pins loaded layer us = (tag : ℕ) → KeptFor pins loaded layer tag (task_of tag us)
+abbrev pub KeptForAll : List Pin → Core → List exchange.Task → Type 0
+KeptForAll pins layer us = (tag : ℕ) → KeptFor pins layer tag (task_of tag us)
 
-pub all_kept : (d : DeviceCore) (s : State) → Keeps d s → KeptForAll s.translation.pins d.loaded d.ftl s.tasks
-all_kept d s k tag = record { wanted = k.wanted tag; read = k.read tag; claims = k.claims tag }
+pub all_kept : (d : DeviceCore) (s : State) → Keeps d s → KeptForAll s.translation.pins d.ftl s.tasks
+all_kept d s k tag = record { wanted = k.wanted tag; claims = k.claims tag }
 
 -- nothing that is kept for the tag is another than before
-pub record SameFor (pins others : List Pin) (loaded read : List Loaded) (layer after : Core) (tag : ℕ) : Type 0 where
+pub record SameFor (pins others : List Pin) (layer after : Core) (tag : ℕ) : Type 0 where
   pub wanted : (index : ℕ) → wanted_kept others tag index ≡ wanted_kept pins tag index
-  pub read_is : read_kept read tag ≡ read_kept loaded tag
   pub claims : claims_for after tag ≡ claims_for layer tag
 
 -- what other tags have claimed stays so
@@ -46,62 +43,56 @@ pub others_claim : (before after : Core) (one tag : ℕ) → OthersClaim before 
 others_claim before after one tag h other =
     h tag (λ same. false≢true (sym other ∙ (ap (λ (n : ℕ). n == one) same ∙ eq_self one)))
 
-module _ (pins others : List Pin) (loaded read : List Loaded) (layer after : Core) where
+module _ (pins others : List Pin) (layer after : Core) where
   abbrev Same : ℕ → Type 0
-  Same tag = SameFor pins others loaded read layer after tag
+  Same tag = SameFor pins others layer after tag
 
-  pub kept_still : (tag : ℕ) (o p : Option exchange.Task) → KeptFor pins loaded layer tag o → Same tag → p ≡ o →
-      KeptFor others read after tag p
+  pub kept_still : (tag : ℕ) (o p : Option exchange.Task) → KeptFor pins layer tag o → Same tag → p ≡ o →
+      KeptFor others after tag p
   kept_still tag o p h same is = record {
     wanted = λ index. same.wanted index ∙ (h.wanted index ∙ sym (ap (wanted_by index) is));
-    read = same.read_is ∙ (h.read ∙ sym (ap read_for is));
     claims = same.claims ∙ (h.claims ∙ sym (ap (claims_by tag) is));
   }
 
-  -- where the tasks stay
-  pub all_still : (us : List exchange.Task) → KeptForAll pins loaded layer us → ((tag : ℕ) → Same tag) →
-      KeptForAll others read after us
-  all_still us h same tag = kept_still tag (task_of tag us) (task_of tag us) (h tag) (same tag) refl
-
   -- where the task of one tag changes
   pub one_changes : (us : List exchange.Task) (f : exchange.Task → exchange.Task) (one : ℕ) (b : exchange.Task) →
-      KeptForAll pins loaded layer us → ChangesOne f one → task_of one us ≡ Some b →
-      KeptFor others read after one (Some (f b)) → ((tag : ℕ) → (tag == one) ≡ false → Same tag) →
-      KeptForAll others read after (map f us)
+      KeptForAll pins layer us → ChangesOne f one → task_of one us ≡ Some b →
+      KeptFor others after one (Some (f b)) → ((tag : ℕ) → (tag == one) ≡ false → Same tag) →
+      KeptForAll others after (map f us)
   one_changes us f one b h changes found this same =
-      by_tag (λ tag. KeptFor others read after tag (task_of tag (map f us))) one
-      (subst (KeptFor others read after one) (sym (one_goes_on f us one b changes.tags found)) this)
+      by_tag (λ tag. KeptFor others after tag (task_of tag (map f us))) one
+      (subst (KeptFor others after one) (sym (one_goes_on f us one b changes.tags found)) this)
       (λ tag other. kept_still tag (task_of tag us) (task_of tag (map f us)) (h tag) (same tag other)
       (others_go_on f us one tag changes other))
 
   -- where its deed is set
   pub deed_changed : (us : List exchange.Task) (one : ℕ) (b : exchange.Task) (deed : Deed) →
-      KeptForAll pins loaded layer us → task_of one us ≡ Some b →
-      KeptFor others read after one (Some (record b { deed = deed })) →
-      ((tag : ℕ) → (tag == one) ≡ false → Same tag) → KeptForAll others read after (map (with_deed one deed) us)
+      KeptForAll pins layer us → task_of one us ≡ Some b →
+      KeptFor others after one (Some (record b { deed = deed })) →
+      ((tag : ℕ) → (tag == one) ≡ false → Same tag) → KeptForAll others after (map (with_deed one deed) us)
   deed_changed us one b deed h found this same =
-      by_tag (λ tag. KeptFor others read after tag (task_of tag (map (with_deed one deed) us))) one
-      (subst (KeptFor others read after one) (sym (deed_set one deed us b found)) this)
+      by_tag (λ tag. KeptFor others after tag (task_of tag (map (with_deed one deed) us))) one
+      (subst (KeptFor others after one) (sym (deed_set one deed us b found)) this)
       (λ tag other. kept_still tag (task_of tag us) (task_of tag (map (with_deed one deed) us)) (h tag)
       (same tag other) (others_go_on (with_deed one deed) us one tag (deed_changes one deed) other))
 
   -- where it goes
-  pub one_goes : (us : List exchange.Task) (one : ℕ) → KeptForAll pins loaded layer us →
-      KeptFor others read after one None → ((tag : ℕ) → (tag == one) ≡ false → Same tag) →
-      KeptForAll others read after (exchange.without_task one us)
+  pub one_goes : (us : List exchange.Task) (one : ℕ) → KeptForAll pins layer us →
+      KeptFor others after one None → ((tag : ℕ) → (tag == one) ≡ false → Same tag) →
+      KeptForAll others after (exchange.without_task one us)
   one_goes us one h this same =
-      by_tag (λ tag. KeptFor others read after tag (task_of tag (exchange.without_task one us))) one
-      (subst (KeptFor others read after one) (sym (task_gone one us)) this)
+      by_tag (λ tag. KeptFor others after tag (task_of tag (exchange.without_task one us))) one
+      (subst (KeptFor others after one) (sym (task_gone one us)) this)
       (λ tag other. kept_still tag (task_of tag us) (task_of tag (exchange.without_task one us)) (h tag)
       (same tag other) (others_left one tag us other))
 
   -- where a task comes, of a tag that none has
-  pub one_comes : (us : List exchange.Task) (b : exchange.Task) → KeptForAll pins loaded layer us →
-      task_of b.tag us ≡ None → KeptFor others read after b.tag (Some b) →
-      ((tag : ℕ) → (tag == b.tag) ≡ false → Same tag) → KeptForAll others read after (us ++ b ∷ [])
+  pub one_comes : (us : List exchange.Task) (b : exchange.Task) → KeptForAll pins layer us →
+      task_of b.tag us ≡ None → KeptFor others after b.tag (Some b) →
+      ((tag : ℕ) → (tag == b.tag) ≡ false → Same tag) → KeptForAll others after (us ++ b ∷ [])
   one_comes us b h free this same =
-      by_tag (λ tag. KeptFor others read after tag (task_of tag (us ++ b ∷ []))) b.tag
-      (subst (KeptFor others read after b.tag)
+      by_tag (λ tag. KeptFor others after tag (task_of tag (us ++ b ∷ []))) b.tag
+      (subst (KeptFor others after b.tag)
       (sym (task_more b.tag us b ∙ (λ i. option_or (free i) (cond (eq_self b.tag i) (Some b) None)))) this)
       (λ tag other. kept_still tag (task_of tag us) (task_of tag (us ++ b ∷ [])) (h tag) (same tag other)
       (task_more tag us b ∙ (ap (λ x. option_or (task_of tag us) (cond x (Some b) None)) (other_way tag b.tag other)
@@ -115,15 +106,13 @@ module _ (pins others : List Pin) (loaded read : List Loaded) (layer after : Cor
 pub record SameDeed (f : exchange.Task → exchange.Task) : Type 0 where
   pub tags : KeepsTag f
   pub wanted : (index : ℕ) (x : exchange.Task) → wanted_in index (f x).deed ≡ wanted_in index x.deed
-  pub read : (x : exchange.Task) → read_in (f x).deed ≡ read_in x.deed
   pub claims : (tag : ℕ) (x : exchange.Task) → claims_in tag (f x).deed ≡ claims_in tag x.deed
 
-pub each_changes : (pins : List Pin) (loaded : List Loaded) (layer : Core) (us : List exchange.Task)
-    (f : exchange.Task → exchange.Task) → KeptForAll pins loaded layer us → SameDeed f →
-    KeptForAll pins loaded layer (map f us)
-each_changes pins loaded layer us f h same tag = record {
+pub each_changes : (pins : List Pin) (layer : Core) (us : List exchange.Task)
+    (f : exchange.Task → exchange.Task) → KeptForAll pins layer us → SameDeed f →
+    KeptForAll pins layer (map f us)
+each_changes pins layer us f h same tag = record {
   wanted = λ index. (h tag).wanted index
       ∙ sym (each_goes_on (wanted_by index) f us tag same.tags (same.wanted index));
-  read = (h tag).read ∙ sym (each_goes_on read_for f us tag same.tags same.read);
   claims = (h tag).claims ∙ sym (each_goes_on (claims_by tag) f us tag same.tags (same.claims tag));
 }

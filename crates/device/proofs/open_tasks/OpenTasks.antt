@@ -1,6 +1,6 @@
 -- The open tasks of the device and of the specification, task by task: what is found, added, changed and taken away.
 use Rattle.std.proofs.Common.{◌≡◌, ◌∙◌, ℕ, zero, suc, ◌+◌, ◌==◌, Bool, true, false, cond, List, [], ◌∷◌, ◌++◌, length}
-use Rattle.std.proofs.Common.{map, ◌⊎◌, Some, None, refl, sym, ap, subst, inl, inr, arith}
+use Rattle.std.proofs.Common.{map, ◌⊎◌, Option, Some, None, refl, sym, ap, subst, inl, inr, arith}
 use Rattle.std.proofs.lemmas.Bool.Decides.{nat_tests}
 use Rattle.std.proofs.lemmas.List.{map-id}
 use Rattle.std.specs.Prelude.{nat_lt, not, option_map, position, remove, slice_get, slice_set}
@@ -14,19 +14,21 @@ use Rattle.power_loss.proofs.books.SmallFacts.{eq_self, if_false, if_true}
 use Rattle.power_loss.proofs.open_tasks.TaggedLists.{other_way}
 use Rattle.power_loss.proofs.open_tasks.TaskLists.{none_changed}
 use Rattle.task_set.specs.declared.tasks.Task.{Task}
+use Rattle.task_set.specs.Kept.{OpenTask, task_in}
+use Rattle.task_set.specs.Lists.{read_at, read_of, task_at}
 use Rattle.device.specs.Describes.{TaskKept, TasksKept}
 use Rattle.task_set.specs.Tasks as ours
 
 -- What is found
 
 -- the task of the device at a position, and the specified one there
-pub record IsOpen (before k : ℕ) (ts : List Task) (us : List exchange.Task) (a : Task) (b : exchange.Task) : Type 0
+pub record IsOpen (before k : ℕ) (ts : List OpenTask) (us : List exchange.Task) (a : OpenTask) (b : exchange.Task) : Type 0
   where
     pub ours : slice_get ts k ≡ Some a
     pub theirs : slice_get us k ≡ Some b
     pub kept : TaskKept before a b
 
-pub their_task : (before k : ℕ) (ts : List Task) (us : List exchange.Task) (a : Task) → TasksKept before ts us →
+pub their_task : (before k : ℕ) (ts : List OpenTask) (us : List exchange.Task) (a : OpenTask) → TasksKept before ts us →
     slice_get ts k ≡ Some a → (b : exchange.Task) × IsOpen before k ts us a b
 their_task before k [] us a h at = absurd (none-some a at)
 their_task before k (x ∷ ts) [] a h at = absurd h
@@ -36,8 +38,8 @@ their_task before (suc k) (x ∷ ts) (y ∷ us) a h at =
     let r = their_task before k ts us a h.1 at in
     (r.0, record { ours = r.1.ours; theirs = r.1.theirs; kept = r.1.kept })
 
-pub our_task : (before k : ℕ) (ts : List Task) (us : List exchange.Task) (b : exchange.Task) → TasksKept before ts us →
-    slice_get us k ≡ Some b → (a : Task) × IsOpen before k ts us a b
+pub our_task : (before k : ℕ) (ts : List OpenTask) (us : List exchange.Task) (b : exchange.Task) → TasksKept before ts us →
+    slice_get us k ≡ Some b → (a : OpenTask) × IsOpen before k ts us a b
 our_task before k [] [] b h at = absurd (none-some b at)
 our_task before zero (x ∷ ts) (y ∷ us) b h at =
     (x, record { ours = refl; theirs = at; kept = subst (TaskKept before x) (same_Some y b at) h.0 })
@@ -46,21 +48,38 @@ our_task before (suc k) (x ∷ ts) (y ∷ us) b h at =
     (r.0, record { ours = r.1.ours; theirs = r.1.theirs; kept = r.1.kept })
 our_task before k ts us b h at = absurd h
 
+-- what is told of the task at a position
+pub stands_there : (ts : List OpenTask) (k : ℕ) (task : Task) (a : OpenTask) → task_at ts k ≡ Some task →
+    slice_get ts k ≡ Some a → (task ≡ task_in a) × (read_at ts k ≡ a.block)
+stands_there ts k task a there at = (
+  same_Some task (task_in a) (sym there ∙ ap (option_map task_in) at),
+  ap read_of at,
+)
+
+-- there is one
+pub one_there : (ts : List OpenTask) (k : ℕ) (task : Task) → task_at ts k ≡ Some task →
+    (a : OpenTask) × (slice_get ts k ≡ Some a)
+one_there ts k task there = by (slice_get ts k) refl
+  where
+    by : (o : Option OpenTask) → slice_get ts k ≡ o → (a : OpenTask) × (o ≡ Some a)
+    by None e = absurd (none-some task (sym (ap (option_map task_in) e) ∙ there))
+    by (Some a) e = (a, refl)
+
 -- as many are open
-pub as_many : (before : ℕ) (ts : List Task) (us : List exchange.Task) → TasksKept before ts us → length us ≡ length ts
+pub as_many : (before : ℕ) (ts : List OpenTask) (us : List exchange.Task) → TasksKept before ts us → length us ≡ length ts
 as_many before [] [] h = refl
 as_many before (x ∷ ts) (y ∷ us) h = ap suc (as_many before ts us h.1)
 as_many before ts us h = absurd h
 
-pub no_requests : (before : ℕ) (ts : List Task) (us : List exchange.Task) → TasksKept before ts us → HaveNoRequest us
+pub no_requests : (before : ℕ) (ts : List OpenTask) (us : List exchange.Task) → TasksKept before ts us → HaveNoRequest us
 no_requests before [] [] h = tt
 no_requests before (x ∷ ts) (y ∷ us) h = (h.0.request, no_requests before ts us h.1)
 no_requests before ts us h = absurd h
 
 -- the task of a tag stands at one place on both sides
-pub record Stands (before tag : ℕ) (ts : List Task) (us : List exchange.Task) : Type 0 where
+pub record Stands (before tag : ℕ) (ts : List OpenTask) (us : List exchange.Task) : Type 0 where
   pub k : ℕ
-  pub a : Task
+  pub a : OpenTask
   pub b : exchange.Task
   pub at : position (ours.is_task_of tag) ts ≡ Some k
   pub found : task_of tag us ≡ Some b
@@ -68,7 +87,7 @@ pub record Stands (before tag : ℕ) (ts : List Task) (us : List exchange.Task) 
   pub tag_is : b.tag ≡ tag
 
 -- or on none
-abbrev pub StandsOrNot : ℕ → ℕ → List Task → List exchange.Task → Type 0
+abbrev pub StandsOrNot : ℕ → ℕ → List OpenTask → List exchange.Task → Type 0
 StandsOrNot before tag ts us =
     ((position (ours.is_task_of tag) ts ≡ None) × (task_of tag us ≡ None)) ⊎ Stands before tag ts us
 
@@ -100,7 +119,7 @@ position_step p x xs = by (p x) (nat_lt (position_or_len p xs) (length xs)) refl
     by false false e = next ∙ ap (λ z. cond z (Some (suc (position_or_len p xs))) None)
         (less (position_or_len p xs) (length xs) ∙ e)
 
-pub tag_stands : (before tag : ℕ) (ts : List Task) (us : List exchange.Task) → TasksKept before ts us →
+pub tag_stands : (before tag : ℕ) (ts : List OpenTask) (us : List exchange.Task) → TasksKept before ts us →
     StandsOrNot before tag ts us
 tag_stands before tag [] [] h = inl (refl, refl)
 tag_stands before tag (x ∷ ts) (y ∷ us) h = by (x.tag == tag) refl (tag_stands before tag ts us h.1)
@@ -139,7 +158,7 @@ tag_stands before tag ts us h = absurd h
 -- Changes
 
 -- one task more
-pub one_more : (before : ℕ) (ts : List Task) (us : List exchange.Task) (a : Task) (b : exchange.Task) →
+pub one_more : (before : ℕ) (ts : List OpenTask) (us : List exchange.Task) (a : OpenTask) (b : exchange.Task) →
     TasksKept before ts us → TaskKept before a b → TasksKept before (ts ++ a ∷ []) (us ++ b ∷ [])
 one_more before [] [] a b h new = (new, tt)
 one_more before (x ∷ ts) (y ∷ us) a b h new = (h.0, one_more before ts us a b h.1 new)
@@ -156,9 +175,9 @@ other_tag tag (suc k) (y ∷ us) b none at =
     other_tag tag k us b (or_parts (is_task_of tag y) (list_any (is_task_of tag) us) none).1 at
 
 -- each task changes
-pub each_changed : (before after : ℕ) (f : Task → Task) (g : exchange.Task → exchange.Task) (ts : List Task)
+pub each_changed : (before after : ℕ) (f : OpenTask → OpenTask) (g : exchange.Task → exchange.Task) (ts : List OpenTask)
     (us : List exchange.Task) →
-    ((k : ℕ) (a : Task) (b : exchange.Task) → slice_get us k ≡ Some b → TaskKept before a b →
+    ((k : ℕ) (a : OpenTask) (b : exchange.Task) → slice_get us k ≡ Some b → TaskKept before a b →
     TaskKept after (f a) (g b)) →
     TasksKept before ts us → TasksKept after (map f ts) (map g us)
 each_changed before after f g [] [] one h = tt
@@ -166,15 +185,8 @@ each_changed before after f g (x ∷ ts) (y ∷ us) one h =
     (one 0 x y refl h.0, each_changed before after f g ts us (λ k a b at. one (suc k) a b at) h.1)
 each_changed before after f g ts us one h = absurd h
 
--- each specified task changes
-pub theirs_changed : (before after : ℕ) (g : exchange.Task → exchange.Task) (ts : List Task) (us : List exchange.Task) →
-    ((k : ℕ) (a : Task) (b : exchange.Task) → slice_get us k ≡ Some b → TaskKept before a b → TaskKept after a (g b)) →
-    TasksKept before ts us → TasksKept after ts (map g us)
-theirs_changed before after g ts us one h =
-    subst (λ xs. TasksKept after xs (map g us)) (map-id ts) (each_changed before after (λ a. a) g ts us one h)
-
 -- the task at a position changes
-pub one_changed : (before k : ℕ) (ts : List Task) (us : List exchange.Task) (a : Task) (b : exchange.Task) (deed : Deed)
+pub one_changed : (before k : ℕ) (ts : List OpenTask) (us : List exchange.Task) (a : OpenTask) (b : exchange.Task) (deed : Deed)
     →
     TasksKept before ts us → TasksDiffer us → slice_get us k ≡ Some b → TaskKept before a (record b { deed = deed }) →
     TasksKept before (slice_set ts k a) (map (with_deed b.tag deed) us)
@@ -203,7 +215,7 @@ none_goes tag (y ∷ us) h =
     ∙ ap (λ (ys : List exchange.Task). y ∷ ys) (none_goes tag us both.1)
 
 -- the task at a position goes
-pub one_gone : (before k : ℕ) (ts : List Task) (us : List exchange.Task) (b : exchange.Task) → TasksKept before ts us →
+pub one_gone : (before k : ℕ) (ts : List OpenTask) (us : List exchange.Task) (b : exchange.Task) → TasksKept before ts us →
     TasksDiffer us → slice_get us k ≡ Some b → TasksKept before (remove ts k) (exchange.without_task b.tag us)
 one_gone before k [] [] b h differ at = absurd (none-some b at)
 one_gone before zero (x ∷ ts) (y ∷ us) b h differ at =

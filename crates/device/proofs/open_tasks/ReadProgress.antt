@@ -1,10 +1,8 @@
--- How far the READs are: what is found for each tag where tasks, pins and blocks that were read come, change and go.
-use Rattle.std.proofs.Common.{◌≡◌, ◌∙◌, ℕ, suc, ◌==◌, ◌&&◌, Bool, true, false, cond, List, [], ◌∷◌, ◌++◌, map, Option}
+-- How far the READs are: what is found for each tag where tasks and pins come, change and go.
+use Rattle.std.proofs.Common.{◌≡◌, ◌∙◌, ℕ, ◌==◌, ◌&&◌, Bool, true, false, cond, List, [], ◌∷◌, ◌++◌, map, Option}
 use Rattle.std.proofs.Common.{Some, None, refl, sym, ap, subst}
-use Rattle.std.specs.Prelude.{filter, find, if◌then◌else◌, not, option_map, position}
-use Rattle.std.specs.Option.{option_or, option_to_list}
-use Rattle.std.proofs.lemmas.List.Elements.{filter-append}
-use Rattle.std.proofs.lemmas.List.{map-append}
+use Rattle.std.specs.Prelude.{filter, find, if◌then◌else◌, not, option_map}
+use Rattle.std.specs.Option.{option_or}
 use Rattle.std.proofs.lemmas.List.Folds.{find-append}
 use Rattle.ufs_spec.proofs.Facts.{and_parts, eqb-true, false≢true}
 use Rattle.ufs_spec.specs.Exchanges as exchange
@@ -12,11 +10,7 @@ use Rattle.ufs_spec.specs.Exchanges.{Deed, is_task_of, task_of, with_deed}
 use Rattle.ufs_spec.specs.Moves.{is_pin_of, with_wanted}
 use Rattle.ufs_spec.specs.Translation.{Pin}
 use Rattle.power_loss.proofs.open_tasks.FoundInLists.{found_is}
-use Rattle.power_loss.proofs.open_tasks.TaggedLists.{other_way}
-use Rattle.task_set.specs.declared.tasks.Loaded.{Loaded}
-use Rattle.device.specs.Describes.{read_kept, wanted_kept}
-use Rattle.task_set.specs.Lists.{body_of, is_loaded_for, loaded_without}
-use Rattle.device.proofs.open_tasks.OpenTasks.{position_step}
+use Rattle.device.specs.Describes.{wanted_kept}
 
 -- What is found in a list
 
@@ -228,70 +222,3 @@ pub wanted_gone : (stays : Pin → Bool) (pins : List Pin) (tag index : ℕ) →
     wanted_kept (filter stays pins) tag index ≡ None
 wanted_gone stays pins tag index go =
     ap (option_map (λ (pin : Pin). pin.wanted)) (find_gone (is_pin_of tag index) stays go pins)
-
--- Blocks that were read
-
--- the first block of a tag goes
-unloaded_step : (one : ℕ) (l : Loaded) (ls : List Loaded) →
-    loaded_without (l ∷ ls) (position (is_loaded_for one) (l ∷ ls))
-    ≡ cond (l.tag == one) ls (l ∷ loaded_without ls (position (is_loaded_for one) ls))
-unloaded_step one l ls = ap (loaded_without (l ∷ ls)) (position_step (is_loaded_for one) l ls)
-    ∙ by (l.tag == one) (position (is_loaded_for one) ls)
-  where
-    by : (b : Bool) (o : Option ℕ) → loaded_without (l ∷ ls) (cond b (Some 0) (option_map suc o)) ≡ cond b ls
-        (l ∷ loaded_without ls o)
-    by true o = refl
-    by false None = refl
-    by false (Some k) = refl
-
-pub others_read : (one tag : ℕ) (ls : List Loaded) → (tag == one) ≡ false →
-    read_kept (loaded_without ls (position (is_loaded_for one) ls)) tag ≡ read_kept ls tag
-others_read one tag [] other = refl
-others_read one tag (l ∷ ls) other = ap (λ (xs : List Loaded). read_kept xs tag) (unloaded_step one l ls)
-    ∙ by (l.tag == one) refl (others_read one tag ls other)
-  where
-    rest : List Loaded
-    rest = loaded_without ls (position (is_loaded_for one) ls)
-
-    same : (c : Bool) → read_kept rest tag ≡ read_kept ls tag →
-        map body_of (cond c (l ∷ filter (is_loaded_for tag) rest) (filter (is_loaded_for tag) rest))
-        ≡ map body_of (cond c (l ∷ filter (is_loaded_for tag) ls) (filter (is_loaded_for tag) ls))
-    same true k = ap (λ bs. l.body ∷ bs) k
-    same false k = k
-
-    by : (b : Bool) → (l.tag == one) ≡ b → read_kept rest tag ≡ read_kept ls tag →
-        read_kept (cond b ls (l ∷ rest)) tag ≡ read_kept (l ∷ ls) tag
-    by true e k =
-        sym (ap (λ z. map body_of (cond z (l ∷ filter (is_loaded_for tag) ls) (filter (is_loaded_for tag) ls)))
-        (ap (λ (n : ℕ). n == tag) (eqb-true l.tag one e) ∙ other_way tag one other))
-    by false e k = same (l.tag == tag) k
-
--- where a tag has at most one block, none is left
-pub none_read : (one : ℕ) (ls : List Loaded) (o : Option (List ℕ)) → read_kept ls one ≡ option_to_list o →
-    read_kept (loaded_without ls (position (is_loaded_for one) ls)) one ≡ []
-none_read one [] o is = refl
-none_read one (l ∷ ls) o is = ap (λ (xs : List Loaded). read_kept xs one) (unloaded_step one l ls)
-    ∙ by (l.tag == one) refl o is (λ k. none_read one ls o k)
-  where
-    rest : List Loaded
-    rest = loaded_without ls (position (is_loaded_for one) ls)
-
-    by : (b : Bool) → (l.tag == one) ≡ b → (o : Option (List ℕ)) →
-        map body_of (cond b (l ∷ filter (is_loaded_for one) ls) (filter (is_loaded_for one) ls)) ≡ option_to_list o →
-        (read_kept ls one ≡ option_to_list o → read_kept rest one ≡ []) → read_kept (cond b ls (l ∷ rest)) one ≡ []
-    by true e None k more = cc
-    by true e (Some body) k more = cc
-    by false e x k more = ap
-        (λ z. map body_of (cond z (l ∷ filter (is_loaded_for one) rest) (filter (is_loaded_for one) rest))) e ∙ more k
-
--- one block more
-pub read_more : (tag : ℕ) (ls : List Loaded) (l : Loaded) → read_kept (ls ++ l ∷ []) tag ≡ read_kept ls tag ++ cond
-    (l.tag == tag) (l.body ∷ []) []
-read_more tag ls l =
-    ap (map body_of) (filter-append (is_loaded_for tag) ls (l ∷ []))
-    ∙ (map-append body_of (filter (is_loaded_for tag) ls) (filter (is_loaded_for tag) (l ∷ []))
-    ∙ ap (λ xs. read_kept ls tag ++ xs) (by (l.tag == tag)))
-  where
-    by : (b : Bool) → map body_of (cond b (l ∷ []) []) ≡ cond b (l.body ∷ []) []
-    by true = refl
-    by false = refl

@@ -20,13 +20,13 @@ use Rattle.task_set.specs.declared.tasks.Phase.{Phase}
 use Rattle.task_set.specs.declared.tasks.Phase.TheVariants as phase
 use Rattle.task_set.specs.declared.tasks.Sending.{Sending as Sends}
 use Rattle.task_set.specs.declared.tasks.Status.TheVariants as status
-use Rattle.task_set.specs.declared.tasks.Task.{Task}
+use Rattle.task_set.specs.Kept.{OpenTask}
 use Rattle.task_set.specs.declared.tasks.TaskEvent.TheVariants as event
 use Rattle.device.specs.Describes.{IsDoing, IsLost, IsSending, TaskKept, TasksKept, is_lost, is_unread, read_by}
 use Rattle.device.specs.Describes.{read_in}
 use Rattle.device.specs.Describes.{read_of, wanted_by, wanted_in, wanted_kept, wanted_of}
-use Rattle.task_set.specs.Tasks.{after_lost_read, phase_after, read_error, task_after}
-use Rattle.device.proofs.open_tasks.OpenTasks.{each_changed, theirs_changed}
+use Rattle.task_set.specs.Tasks.{after_lost_read, after_read, phase_after, read_error, task_after}
+use Rattle.device.proofs.open_tasks.OpenTasks.{each_changed}
 use Rattle.device.proofs.open_tasks.ReadProgress.{ChangesOne, want_other_index, want_set}
 
 -- The block that is read
@@ -176,7 +176,7 @@ module _ (before tag index : ℕ) (us : List exchange.Task) (differ : TasksDiffe
       (same_Some b r.task (sym (found_task us k b differ at) ∙ (ap (λ (n : ℕ). task_of n us) (eqb-true b.tag tag is)
       ∙ r.found))) ∙ r.deed
 
-  its_phase : (k : ℕ) (a : Task) (b : exchange.Task) → slice_get us k ≡ Some b → is_task_of tag b ≡ true →
+  its_phase : (k : ℕ) (a : OpenTask) (b : exchange.Task) → slice_get us k ≡ Some b → is_task_of tag b ≡ true →
       TaskKept before a b → IsSendingIn before a.expected b.length a.phase r.blocks index
   its_phase k a b at is h =
       sends_in before a.expected b.length a.phase r.blocks index r.block r.there r.unread
@@ -187,15 +187,35 @@ module _ (before tag index : ℕ) (us : List exchange.Task) (differ : TasksDiffe
   its_end state k b at is =
       ap (deed_read index state) (its_deed k b at is) ∙ deed_ended state r.blocks index r.block r.there
 
-  read_one : (k : ℕ) (a : Task) (b : exchange.Task) → slice_get us k ≡ Some b → TaskKept before a b →
-      TaskKept before a (task_read tag index WasRead b)
-  read_one k a b at h = by (is_task_of tag b) refl
+  -- what was read for it then
+  its_read : (state : ReadState) (k : ℕ) (b : exchange.Task) → slice_get us k ≡ Some b → is_task_of tag b ≡ true →
+      read_in (deed_read index state b.deed) ≡ read_by r.block.body state
+  its_read state k b at is =
+      ap read_in (its_end state k b at is)
+      ∙ ap read_of (set_there r.blocks index r.block (set_state state r.block) r.there)
+
+  -- and before
+  none_read : (k : ℕ) (a : OpenTask) (b : exchange.Task) → slice_get us k ≡ Some b → is_task_of tag b ≡ true →
+      TaskKept before a b → a.block ≡ None
+  none_read k a b at is h =
+      h.read ∙ (ap read_in (its_deed k b at is) ∙ (ap read_of r.there ∙ ap (read_by r.block.body) r.unread))
+
+  read_one : (body : List ℕ) → body ≡ r.block.body → (k : ℕ) (a : OpenTask) (b : exchange.Task) →
+      slice_get us k ≡ Some b → TaskKept before a b →
+      TaskKept before (after_read tag body a) (task_read tag index WasRead b)
+  read_one body content k a b at h = by (is_task_of tag b) refl
     where
-      by : (x : Bool) → is_task_of tag b ≡ x → TaskKept before a (if x then set_read index WasRead b else b)
-      by false is = h
+      loaded : (x : Bool) → is_task_of tag b ≡ x →
+          after_read tag body a ≡ (if x then record a { block = Some body } else a)
+      loaded x is = ap (λ y. if y then record a { block = Some body } else a) ((λ i. sym h.tag i == tag) ∙ is)
+
+      by : (x : Bool) → is_task_of tag b ≡ x →
+          TaskKept before (after_read tag body a) (if x then set_read index WasRead b else b)
+      by false is = subst (λ z. TaskKept before z b) (sym (loaded false is)) h
       by true is =
           let s = its_phase k a b at is h in
-          record {
+          subst (λ z. TaskKept before z (set_read index WasRead b)) (sym (loaded true is))
+          (record {
             lun = h.lun;
             tag = h.tag;
             expected = h.expected;
@@ -205,14 +225,16 @@ module _ (before tag index : ℕ) (us : List exchange.Task) (differ : TasksDiffe
                 (subst (IsDoing before a.expected b.length (phase.SendBlocks s.sends))
                 (sym (its_end WasRead k b at is))
                 (sending_read s.sends a.expected b.length r.blocks index r.block r.there s.sending));
-          }
+            read = ap (λ z. Some z) content ∙ sym (its_read WasRead k b at is);
+          })
 
-  -- the specified tasks once the block was read
-  pub tasks_read : (ts : List Task) → TasksKept before ts us →
-      TasksKept before ts (map (task_read tag index WasRead) us)
-  tasks_read ts = theirs_changed before before (task_read tag index WasRead) ts us read_one
+  -- both sides' tasks once the block was read
+  pub tasks_read : (body : List ℕ) → body ≡ r.block.body → (ts : List OpenTask) → TasksKept before ts us →
+      TasksKept before (map (after_read tag body) ts) (map (task_read tag index WasRead) us)
+  tasks_read body content ts =
+      each_changed before before (after_read tag body) (task_read tag index WasRead) ts us (read_one body content)
 
-  lost_one : (k : ℕ) (a : Task) (b : exchange.Task) → slice_get us k ≡ Some b → TaskKept before a b →
+  lost_one : (k : ℕ) (a : OpenTask) (b : exchange.Task) → slice_get us k ≡ Some b → TaskKept before a b →
       TaskKept before (after_lost_read tag a) (task_read tag index NotRead b)
   lost_one k a b at h = by (is_task_of tag b) refl
     where
@@ -237,10 +259,11 @@ module _ (before tag index : ℕ) (us : List exchange.Task) (differ : TasksDiffe
                 (phase.Answer (status.CheckCondition read_error) (4096 * s.sends.sent)))
                 (sym (its_end NotRead k b at is))
                 (sending_lost s.sends a.expected b.length r.blocks index r.block r.there s.sending);
+            read = none_read k a b at is h ∙ sym (its_read NotRead k b at is);
           })
 
   -- both sides' tasks once it could not be read
-  pub tasks_lost : (ts : List Task) → TasksKept before ts us →
+  pub tasks_lost : (ts : List OpenTask) → TasksKept before ts us →
       TasksKept before (map (after_lost_read tag) ts) (map (task_read tag index NotRead) us)
   tasks_lost ts = each_changed before before (after_lost_read tag) (task_read tag index NotRead) ts us lost_one
 
@@ -270,10 +293,6 @@ module _ (tag index : ℕ) (us : List exchange.Task) (r : IsReading tag index us
 
   its_block : slice_get then_blocks index ≡ Some (set_state state r.block)
   its_block = set_there r.blocks index r.block (set_state state r.block) r.there
-
-  -- what was read for it
-  pub read_then : read_in (Sending then_blocks index) ≡ read_by r.block.body state
-  read_then = ap read_of its_block
 
   -- its block is wanted no more, and no other one's turn comes
   pub wanted_then : is_unread state ≡ false → (pins : List Pin) →

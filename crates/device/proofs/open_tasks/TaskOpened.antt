@@ -20,9 +20,9 @@ use Rattle.ftl_core.specs.Core.{Core}
 use Rattle.ftl_core.specs.Describes as layer_kept
 use Rattle.ftl_core.specs.Moves.{claims_for}
 use Rattle.ftl_core.specs.Tells.{keeps_for}
-use Rattle.task_set.specs.declared.tasks.Task.{Task}
+use Rattle.task_set.specs.Kept.{OpenTask}
 use Rattle.device.specs.Calls.{IsSameLayer, OthersClaim}
-use Rattle.device.specs.Describes.{Describes, IsTold, IsToldIn, Keeps, TaskKept, TasksKept, claims_in, read_in}
+use Rattle.device.specs.Describes.{Describes, IsTold, IsToldIn, Keeps, TaskKept, TasksKept, claims_in}
 use Rattle.device.specs.Describes.{wanted_in, wanted_kept}
 use Rattle.device.specs.Hears.{with_task}
 use Rattle.device.specs.Kept.{DeviceCore}
@@ -46,14 +46,12 @@ opened r command n deed =
 -- the deed tells of no block
 pub record TellsNothing (tag : ℕ) (deed : Deed) : Type 0 where
   pub wanted : (index : ℕ) → wanted_in index deed ≡ None
-  pub read : read_in deed ≡ []
   pub claims : claims_in tag deed ≡ []
 
 -- what is kept for the tag is what its deed tells, and for other tags nothing changes
 pub record TagBegins (before : List Pin) (old : Core) (tag : ℕ) (deed : Deed) (pins : List Pin) (new : Core) : Type 0
   where
     pub wanted : (index : ℕ) → wanted_kept pins tag index ≡ wanted_in index deed
-    pub unread : read_in deed ≡ []
     pub claims : claims_for new tag ≡ claims_in tag deed
     pub others_want : (n index : ℕ) → (n == tag) ≡ false → wanted_kept pins n index ≡ wanted_kept before n index
     pub others_claim : OthersClaim old new tag
@@ -65,8 +63,8 @@ no_claim old new tag same n other i = same i n
 module _ (d : DeviceCore) (s : State) (r : Request) (h : Describes d s) (free : task_of r.tag s.tasks ≡ None)
     (few : length s.tasks < most_tasks) where
   -- nothing is kept for the tag
-  none_kept : KeptFor s.translation.pins d.loaded d.ftl r.tag None
-  none_kept = subst (KeptFor s.translation.pins d.loaded d.ftl r.tag) free (all_kept d s h.kept r.tag)
+  none_kept : KeptFor s.translation.pins d.ftl r.tag None
+  none_kept = subst (KeptFor s.translation.pins d.ftl r.tag) free (all_kept d s h.kept r.tag)
 
   pub none_wanted : (index : ℕ) → wanted_kept s.translation.pins r.tag index ≡ None
   none_wanted = none_kept.wanted
@@ -91,7 +89,7 @@ module _ (d : DeviceCore) (s : State) (r : Request) (h : Describes d s) (free : 
   pub nobody : list_any (keeps_for r.tag) s.translation.pins ≡ false
   nobody = nobody_in s.translation.pins h.shows
 
-  pub open_keeps : (c : Core) (u : Translation) (command : Option Cdb) (n : ℕ) (deed : Deed) (a : Task) →
+  pub open_keeps : (c : Core) (u : Translation) (command : Option Cdb) (n : ℕ) (deed : Deed) (a : OpenTask) →
       layer_kept.Describes c u →
       before_accepted u.ledger ≡ before_accepted s.translation.ledger →
       TagBegins s.translation.pins d.ftl r.tag deed u.pins c →
@@ -104,7 +102,6 @@ module _ (d : DeviceCore) (s : State) (r : Request) (h : Describes d s) (free : 
     tasks = subst (λ m. TasksKept m (d.tasks ++ a ∷ []) (s.tasks ++ b ∷ [])) (sym before)
         (one_more (before_accepted s.translation.ledger) d.tasks s.tasks a b h.kept.tasks task);
     wanted = λ tag. (kept tag).wanted;
-    read = λ tag. (kept tag).read;
     claims = λ tag. (kept tag).claims;
     shorts = h.kept.shorts;
     power_off = h.kept.power_off;
@@ -113,17 +110,15 @@ module _ (d : DeviceCore) (s : State) (r : Request) (h : Describes d s) (free : 
       b : exchange.Task
       b = opened r command n deed
 
-      kept : KeptForAll u.pins d.loaded c (s.tasks ++ b ∷ [])
+      kept : KeptForAll u.pins c (s.tasks ++ b ∷ [])
       kept =
-          one_comes s.translation.pins u.pins d.loaded d.loaded d.ftl c s.tasks b (all_kept d s h.kept) free
+          one_comes s.translation.pins u.pins d.ftl c s.tasks b (all_kept d s h.kept) free
           (record {
             wanted = begins.wanted;
-            read = none_kept.read ∙ sym begins.unread;
             claims = begins.claims;
           })
           (λ tag other. record {
             wanted = λ index. begins.others_want tag index other;
-            read_is = refl;
             claims = others_claim d.ftl c r.tag tag begins.others_claim other;
           })
 
@@ -134,7 +129,7 @@ module _ (d : DeviceCore) (s : State) (r : Request) (h : Describes d s) (free : 
       All-push (IsTold (durable s)) s.tasks (opened r command n deed) (h.told lock) (new lock)
 
   -- where the layer stays
-  pub opens_still : (c : Core) (command : Option Cdb) (n : ℕ) (deed : Deed) (a : Task) →
+  pub opens_still : (c : Core) (command : Option Cdb) (n : ℕ) (deed : Deed) (a : OpenTask) →
       IsSameLayer d.ftl c s.translation → TellsNothing r.tag deed → (locked s ≡ true → IsToldIn (durable s) deed) →
       TaskKept (before_accepted s.translation.ledger) a (opened r command n deed) →
       IsBehind (with_task (record d { ftl = c }) a) (machine.with_task s r command n deed)
@@ -143,7 +138,6 @@ module _ (d : DeviceCore) (s : State) (r : Request) (h : Describes d s) (free : 
         open_keeps c s.translation command n deed a layer.0 refl
         (record {
           wanted = λ index. none_wanted index ∙ sym (none.wanted index);
-          unread = none.read;
           claims = (λ i. layer.1 i r.tag) ∙ (none_claimed ∙ sym none.claims);
           others_want = λ m index other. refl;
           others_claim = no_claim d.ftl c r.tag layer.1;

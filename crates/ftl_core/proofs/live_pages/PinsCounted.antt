@@ -297,21 +297,7 @@ moves_bare index st (p ∷ ps) l = moves_bare index st ps (pin_moves index st l 
     by true = refl
     by false = refl
 
-pub noted_bare : (l : Lives) (old : Option Stored) (p : Place) →
-    without_pins (live_moved l old p) ≡ live_moved (without_pins l) old p
-noted_bare l None p = refl
-noted_bare l (Some s) p = refl
-
 -- Which pages are live changes no pins
-
-pub noted_sizes : (l : Lives) (old : Option Stored) (p : Place) → (live_moved l old p).sizes ≡ l.sizes
-noted_sizes l None p = refl
-noted_sizes l (Some s) p = refl
-
-pub noted_counted : (l : Lives) (old : Option Stored) (p : Place) (ps : List Pin) → ArePinsCounted l ps →
-    ArePinsCounted (live_moved l old p) ps
-noted_counted l None p ps kept = kept
-noted_counted l (Some s) p ps kept = kept
 
 -- At first no block has a pin
 

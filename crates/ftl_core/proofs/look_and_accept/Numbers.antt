@@ -149,18 +149,6 @@ module _ (c : Core) (t : Translation) (h : Describes c t) where
   kept_length = pages_length t.ledger.standing (entry_of t.ledger) t.ledger.frontier c.pages (pending t.ledger)
       h.kept.ledger_kept.pages
 
-  -- and before that no group is accepted
-  pub none_unmended : is_mended t.work.mending ≡ false → length c.pages ≡ 0
-  none_unmended e =
-      kept_length
-      ∙ ap (λ (gs : List keys.Group). sum_by length gs)
-      (nil_from_length (pending t.ledger) (none_pending t.ledger (h.valid.history.mending e).0))
-
-  pub mended_beside : 0 < length c.pages → is_mended t.work.mending ≡ true
-  mended_beside some =
-      ⊎_elim (λ e. e) (λ e. let none = none_unmended e in absurd (omega (arith, some, none)))
-      (cases_Bool (is_mended t.work.mending))
-
   -- once the device is mended the pages that are kept are those of all groups above the frontier
   pub kept_pages : is_mended t.work.mending ≡ true →
       PagesKept t.ledger.standing (entry_of t.ledger) c.pages (names_behind t.ledger.frontier (behind t.ledger))

@@ -36,14 +36,6 @@ pending_right c t h = ap (nat_lt 0) (kept_length c t h)
 
 -- How far the mending is
 
-pub mended_right : (c : Core) (t : Translation) → Describes c t → is_over c.mending ≡ layer.is_mended t.work.mending
-mended_right c t h = by c.mending (drop c.repaired c.lost) ∙ sym (ap layer.is_mended h.kept.work.mending_is)
-  where
-    by : (m : Mending) (left : List Key) → is_over m ≡ layer.is_mended (mending_kept m left)
-    by (mendings.Unmarked fence) left = refl
-    by mendings.Repairing left = refl
-    by mendings.Mended left = refl
-
 -- The units
 
 pub units_right : (c : Core) (t : Translation) (unit : ℕ) → Describes c t →

@@ -26,13 +26,6 @@ pub record IsFrontier (pages : List FoundPage) (fence : Option Fence) (records i
       ⊎ ((e : FoundPage) × IsCounted pages fence i e × (e.tag.frontier ≡ greatest))
 
 module _ (pages : List FoundPage) (fence : Option Fence) (records : ℕ) where
-  pub frontier_none : IsFrontier pages fence records 0 records
-  frontier_none = record {
-    start = omega arith;
-    each = λ e h. absurd (among_none pages e h.0);
-    reached = inl refl;
-  }
-
   -- a page that does not count
   pub frontier_passed : (i greatest : ℕ) (e : FoundPage) → slice_get pages i ≡ Some e → IsFenced fence e.tag.number →
       IsFrontier pages fence records i greatest → IsFrontier pages fence records (i + 1) greatest
@@ -126,12 +119,3 @@ module _ (pages : List FoundPage) (fence : Option Fence) (records : ℕ) where
       of_marks k = ⊎_elim (λ (none : records ≡ 0). inl (k ∙ none))
           (λ (some : (p : Place) × (other : Mark) × (c p ≡ MarkPage other) × (other.records ≡ records)).
           inr (inr (some.0, some.1, some.2, some.3 ∙ sym k)))
-
-  pub frontier_bounded : (greatest limit : ℕ) → IsFrontier pages fence records (length pages) greatest →
-      FrontiersWithin pages limit → records ≤ limit → greatest ≤ limit
-  frontier_bounded greatest limit h each start = ⊎_elim (λ (k : greatest ≡ records). omega arith)
-      (λ (k : (e : FoundPage) × IsCounted pages fence (length pages) e × (e.tag.frontier ≡ greatest)).
-      below k.0.tag.frontier (each k.1.0.0 k.0 k.1.0.2) k.2) h.reached
-    where
-      below : (a : ℕ) → a ≤ limit → a ≡ greatest → greatest ≤ limit
-      below a l is = omega arith

@@ -26,20 +26,6 @@ IsTopAmong pages fence records i top =
     AreBelow pages fence records i top × ((other : ℕ) → AreBelow pages fence records i other → top ≤ other)
 
 module _ (pages : List FoundPage) (fence : Option Fence) (records : ℕ) where
-  pub top_none : IsTopAmong pages fence records 0 (max records (fence_end fence))
-  top_none = (
-    record {
-      numbers = λ e h. absurd (among_none pages e h);
-      frontiers = λ e h. absurd (among_none pages e h);
-      marks = omega arith;
-      fence_last = omega arith;
-    },
-    λ other h. least records (fence_end fence) other h.marks h.fence_last,
-  )
-    where
-      least : (a b other : ℕ) → a ≤ other → b ≤ other → max a b ≤ other
-      least a b other l r = omega arith
-
   pub top_more : (i top : ℕ) (e : FoundPage) → slice_get pages i ≡ Some e → IsTopAmong pages fence records i top →
       IsTopAmong pages fence records (i + 1) (max (max top e.tag.number) e.tag.frontier)
   top_more i top e at h = (

@@ -141,14 +141,3 @@ module _ (n : Numbers) (c : Cells) (bad : Spot → Bool) (f : Found) (t : Transl
         let r = found.blocks i s at in
         (r.0, r.1, state_one c bad s (t.disk.blocks s) (state_of_found r.0) (opened.disk.blocks s) r.2);
   }
-
-  -- what the settings were found to say is what their content at the life's start says
-  pub permanent_opens : (CellsSound c (newest_found f) → (x : List ℕ) →
-      Holds c (newest_found f) (suc f.kept) settings_key x → f.is_permanent ≡ (slice_index x 1 == 1)) →
-      f.is_permanent ≡ (slice_index (t.ledger.base settings_key) 1 == 1)
-  permanent_opens told =
-      let x = t.ledger.base settings_key in
-      told (subst (CellsSound c) (sym same_newest) sound) x
-      (subst (λ m. Holds c m (suc f.kept) settings_key x) (sym same_newest)
-      (subst (λ k. Holds c t.ledger.newest (suc k) settings_key x) (sym same_kept)
-      (opened.ledger.holds settings_key IsSettings)))

@@ -68,16 +68,6 @@ fault_of_one f xs first i number d y (fault.ReadFault p) is inside k =
     (i, k.0 ∙ is, count_rose f xs i d y inside k.1)
 fault_of_one f xs first i number d y fault.OtherConfig is inside k = k
 
--- a fault of the dies from 0 on
-pub fault_of_all : (a b : List ℕ) (e : OpenFault) → IsFaultOf 0 a b e → IsReadingFault a b e
-fault_of_all a b fault.NoMemory k = tt
-fault_of_all a b (fault.ReadFault p) k =
-    subst (λ (i : ℕ). slice_index_or a i 0 < slice_index_or b i 0) (sym (k.1 ∙ same k.0)) k.2
-  where
-    same : (i : ℕ) → 0 + i ≡ i
-    same i = omega arith
-fault_of_all a b fault.OtherConfig k = k
-
 -- each page of the sizes lies on its die
 pub lies_there : (n : Numbers) (state : DieState) (b g : ℕ) → IsOfSize n.blocks n.pages state → b < n.blocks
     → g < n.pages → LiesOnDie state b g

@@ -48,17 +48,6 @@ requests_before : (s : State) (tasks : List Task) → HaveNoRequest (map (task_l
 requests_before s [] h = tt
 requests_before s (t ∷ ts) h = (h.0, requests_before s ts h.1)
 
--- to tell the lock changes no request
-pub told_requests : (s : State) → HaveNoRequest (lock_applied s).tasks → HaveNoRequest s.tasks
-told_requests s h = by (locked s) h
-  where
-    by : (b : Bool) →
-        HaveNoRequest
-        (cond b (record s { tasks = map (task_locked s) s.tasks; shorts = map (short_locked s) s.shorts }) s).tasks →
-        HaveNoRequest s.tasks
-    by true none = requests_before s s.tasks none
-    by false none = none
-
 -- so what is behind a call is the same with the lock told
 pub settled_is : (s : State) → HaveNoRequest s.tasks → lock_applied (fills s) ≡ lock_applied s
 settled_is s none = ap lock_applied (no_request_fills_nothing s none)

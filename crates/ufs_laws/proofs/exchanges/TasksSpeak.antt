@@ -143,11 +143,6 @@ read_speaks s r c unit address n is few fit = (
             (ap (λ (xs : List ReadBlock). slice_get xs k) (sym same) ∙ e) in
             subst IsBlock (sym body) (fit k here)
 
-if_else : (P : Task → Type 0) (tasks : List Task) (t u : State) (b : Bool) → OneMore P tasks t.tasks →
-    (b ≡ false → OneMore P tasks u.tasks) → OneMore P tasks (if b then t else u).tasks
-if_else P tasks t u true h k = h
-if_else P tasks t u false h k = k refl
-
 -- what may be read is what was looked up
 abbrev pub ReadsFit : State → Type 0
 ReadsFit s = (r : Request) (c : Cdb) (n : ℕ) → IsRequest r → r.cdb ≡ Some c → refusal s r ≡ None →

@@ -32,9 +32,6 @@ grows = record {
 moves_grow : (s : State) (move : Move) (array : Array) → Grows s (record (with_moves s (move ∷ [])) { array = array })
 moves_grow s move array = ([], sym (append-nil s.accepted))
 
-pub small_grows : {s t : State} → Small s t → Grows s t
-small_grows h = kept Grows grows h
-
 pub behind_grows : (s : State) (call : Call) (answer : Answer) → Grows s (behind s call answer)
 behind_grows s call answer = (call_kept Grows grows moves_grow s call answer).0
 

@@ -147,10 +147,6 @@ layer_kept R k h = kept (λ (s t : State). R s.translation t.translation) (recor
 
 -- ## The walk
 
-small_if : {s t u : State} (b : Bool) → Small s t → Small s u → Small s (if b then t else u)
-small_if true h k = h
-small_if false h k = k
-
 one_move : {s : State} (move : Move) → IsSmallMove move → Small s (with_moves s (move ∷ []))
 one_move move is = One (Moves move) is
 

@@ -9,8 +9,9 @@ loop-task-preserved c =
     let i = c.loop-task.task-index in
     let f = after_lost_read c.args.tag in
     let less : i < length c.loop-task.tasks = omega arith in
-    let x = get_or c.loop-task.tasks i c.after_lost_read.result in
-    let is : c.after_lost_read.result ≡ f x = c.after_lost_read.ensures
-    ∙ ap f (get_or_default c.loop-task.tasks i _ c.after_lost_read.result less) in
+    let new = c.lose_for.new.self in
+    let x = get_or c.loop-task.tasks i new in
+    let is : new ≡ f x = c.lose_for.ensures
+    ∙ ap f (get_or_default c.loop-task.tasks i _ new less) in
     ap (slice_set c.loop-task.tasks i) is ∙ map_over_more f c.args.tasks.now c.loop-task.tasks i x (omega arith)
-    c.loop-task.invariant (get_or_default c.loop-task.tasks i c.after_lost_read.result x less)
+    c.loop-task.invariant (get_or_default c.loop-task.tasks i new x less)

@@ -10,8 +10,9 @@ loop-task-preserved c =
     let i = c.loop-task.task-index in
     let f = task_after (event.Locked c.args.frontier) in
     let less : i < length c.loop-task.tasks = omega arith in
-    let x = get_or c.loop-task.tasks i c.after.result in
-    let is : c.after.result ≡ f x = c.after.ensures
-    ∙ ap f (get_or_default c.loop-task.tasks i _ c.after.result less) in
+    let new = c.happen.new.self in
+    let x = get_or c.loop-task.tasks i new in
+    let is : new ≡ f x = c.happen.ensures
+    ∙ ap f (get_or_default c.loop-task.tasks i _ new less) in
     ap (slice_set c.loop-task.tasks i) is ∙ map_over_more f c.args.tasks.now c.loop-task.tasks i x (omega arith)
-    c.loop-task.invariant (get_or_default c.loop-task.tasks i c.after.result x less)
+    c.loop-task.invariant (get_or_default c.loop-task.tasks i new x less)

@@ -1,6 +1,7 @@
 use Rattle.std.proofs.Common.{ap, is_some}
 use Rattle.device.proofs.due_replies.BlocksOwed.{block_found}
 use Rattle.device.proofs.described.SameDevice.{same_layer}
+use Rattle.task_set.specs.Lists.{read_at}
 use Rattle.device.proofs.device.Device.block.Goals as goal
 
 pub returns : goal.returns
@@ -8,6 +9,6 @@ returns c =
     λ t h.
     let mended = c.pinned.ensures.described_mended t (same_layer _ _ t c.self.view_is h)
     (ap is_some c.in_ok-looked.was) in
-    block_found t c.args.self.now.loaded c.args.tag c.args.index c.pinned.result c.in_ok-looked.looked _ h.valid
+    block_found t (read_at c.args.self.now.tasks c.args.index) c.args.tag c.args.sent c.pinned.result c.in_ok-looked.looked _ h.valid
     c.in_ok-looked.was (c.pinned.ensures.described t (same_layer _ _ t c.self.view_is h))
     (λ x at right. c.block_looked.ensures t x h mended at right)

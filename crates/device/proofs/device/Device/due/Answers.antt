@@ -1,10 +1,11 @@
 use Rattle.std.proofs.Common.{◌≡◌, ◌∙◌, ◌<◌, ℕ, Bool, true, false, List, Option, Some, None, refl, ap, arith}
-use Rattle.std.proofs.Common.{rules, length, slice_get, sym}
+use Rattle.std.proofs.Common.{rules, length, sym}
 use Rattle.ufs_spec.proofs.Facts.{true≢false}
 use Rattle.ufs_spec.specs.declared.messages.Message.{Message}
 use Rattle.device.specs.Replies.{IsWritten}
 use Rattle.std.proofs.lemmas.Option.{slice_get_within}
 use Rattle.device.specs.Kept.{DeviceCore}
+use Rattle.task_set.specs.Lists.{task_at}
 use Rattle.device.proofs.due_replies.NoneOwed.{none_owed}
 use Rattle.device.proofs.device.Device.due.Goals as goal
 
@@ -22,8 +23,8 @@ loop-index-preserved c =
     let was = c.loop-index.invariant in (
       c.write_reply.ensures.nothing c.if-write_reply.false ∙ was.0,
       λ t k task h less at.
-          none_owed t c.args.self.now.tasks c.args.self.now.loaded c.loop-index.index c.task-task.result
-          (sym (ap (λ (d : DeviceCore). slice_get d.tasks c.loop-index.index) c.self.view_is) ∙ c.task-task.ensures)
+          none_owed t c.args.self.now.tasks c.loop-index.index c.task-task.result
+          (sym (ap (λ (d : DeviceCore). task_at d.tasks c.loop-index.index) c.self.view_is) ∙ c.task-task.ensures)
           (unowed c.write_reply.result c.write_reply.new.into.items _ c.if-write_reply.false
           (c.write_reply.ensures.owed t h))
           (λ j other before found. was.1 t j other h before found) k task less at,

@@ -1,13 +1,12 @@
 use Rattle.std.proofs.Common.{◌≡◌, ◌<◌, ℕ, slice_get, Some, None}
 use Rattle.ufs_spec.specs.Translation.{Translation}
 use Rattle.ftl_core.specs.Describes.{Describes}
-use Rattle.task_set.specs.declared.tasks.Task.{Task}
+use Rattle.task_set.specs.Kept.{OpenTask}
 use Rattle.device.specs.Replies.{owed_by}
 use Rattle.device.proofs.device.Device.due.Given as goal
 
 abbrev pub invariant-loop-index : goal.invariant-loop-index
 invariant-loop-index l =
     (l.into ≡ l.fn.into)
-    × ((t : Translation) (k : ℕ) (task : Task) → Describes l.self.ftl t → k < l.index →
-    slice_get l.self.tasks k ≡ Some task →
-    owed_by t l.self.loaded task ≡ None)
+    × ((t : Translation) (k : ℕ) (task : OpenTask) → Describes l.self.ftl t → k < l.index →
+    slice_get l.self.tasks k ≡ Some task → owed_by t task ≡ None)

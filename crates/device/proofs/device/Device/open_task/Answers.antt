@@ -1,4 +1,4 @@
-use Rattle.std.proofs.Common.{◌∙◌, ap}
+use Rattle.std.proofs.Common.{◌∙◌, None, ap}
 use Rattle.device.specs.Hears.{with_task}
 use Rattle.device.specs.Kept.{DeviceCore}
 use Rattle.device.proofs.device.Device.open_task.Goals as goal
@@ -16,5 +16,6 @@ returns c = record {
         lun = c.args.lun;
         expected = c.args.expected;
         phase = c.begin-phase.result;
+        block = None;
       })) c.begin-phase.ensures.left;
 }

@@ -1,36 +1,21 @@
-use Rattle.std.proofs.Common.{ℕ, sym, subst}
-use Rattle.std.proofs.lemmas.List.Elements.{All-get_or}
-use Rattle.ufs_spec.specs.Lives.{die_of}
-use Rattle.ufs_spec.specs.declared.events.Leftover.{Leftover}
-use Rattle.device.specs.Kept.{WorldState}
 use Rattle.device.specs.Leftovers.{IsOfDie, MayDieLeave}
-use Rattle.device.proofs.dies_of_world.LeftoversApart.{each_more}
+use Rattle.device.proofs.dies_of_world.LeftoversApart.{next_of_all, one_more_has}
 use Rattle.device.proofs.world.World.may_all_be_left.Goals as goal
-
-abbrev Of : WorldState → Leftover → Type 0
-Of w l = MayDieLeave w (die_of l) l
 
 pub returns-then-not-may_die_leave-clause-not_all : goal.returns-then-not-may_die_leave-clause-not_all
 returns-then-not-may_die_leave-clause-not_all c =
     λ _ all.
     c.may_die_leave.ensures.unlawful c.if-not-may_die_leave.true
-    (subst (λ (die : ℕ). MayDieLeave c.args.self.now die c.left-item.result) (sym c.die_of.ensures)
-    (subst (Of c.args.self.now) (sym c.left-item.is)
-    (All-get_or (Of c.args.self.now) c.args.lefts.now c.loop-left.left-index c.left-item.result
-    c.loop-left-test.true all)))
+    (next_of_all (MayDieLeave c.args.self.now) c.args.lefts.now c.loop-left.left-index c.left-item.result
+    c.die_of.result c.loop-left-test.true c.left-item.is c.die_of.ensures all)
 
 pub loop-left-preserved : goal.loop-left-preserved
 loop-left-preserved c =
-    each_more (Of c.args.self.now) c.args.lefts.now c.loop-left.left-index c.left-item.result c.loop-left-test.true
-    c.left-item.is
-    (subst (λ (die : ℕ). MayDieLeave c.args.self.now die c.left-item.result) c.die_of.ensures
-    (c.may_die_leave.ensures.lawful c.if-not-may_die_leave.false))
-    c.loop-left.invariant
+    one_more_has (MayDieLeave c.args.self.now) c.args.lefts.now c.loop-left.left-index c.left-item.result
+    c.die_of.result c.loop-left-test.true c.left-item.is c.die_of.ensures
+    (c.may_die_leave.ensures.lawful c.if-not-may_die_leave.false) c.loop-left.invariant
 
 pub may_die_leave-requires : goal.may_die_leave-requires
 may_die_leave-requires c =
-    let its : WorldState → Leftover → Type 0 = λ w l. IsOfDie w (die_of l) l in
-    subst (λ (die : ℕ). IsOfDie c.args.self.now die c.left-item.result) (sym c.die_of.ensures)
-    (subst (its c.args.self.now) (sym c.left-item.is)
-    (All-get_or (its c.args.self.now) c.args.lefts.now c.loop-left.left-index c.left-item.result
-    c.loop-left-test.true c.requires))
+    next_of_all (IsOfDie c.args.self.now) c.args.lefts.now c.loop-left.left-index c.left-item.result c.die_of.result
+    c.loop-left-test.true c.left-item.is c.die_of.ensures c.requires

@@ -1,11 +1,14 @@
 use Rattle.std.proofs.Common.{◌≡◌, ◌∙◌, length, sym, subst}
 use Rattle.std.specs.Prelude.{All}
-use Rattle.ufs_spec.specs.Lives.{Fit}
+use Rattle.ufs_spec.specs.Lives.{AreLeftovers, Fit}
+use Rattle.ufs_spec.specs.Refusals.{State}
 use Rattle.device.specs.Kept.{WorldState}
 use Rattle.device.specs.Leftovers.{IsInside}
+use Rattle.device.specs.Worlds.{Fits}
 use Rattle.device.proofs.dies_of_world.LeftoversChecked.{all_inside}
-use Rattle.device.proofs.dies_of_world.StoppedWorld.{AreApart, AreOfDies, MayAllBeLeft, are_lawful, are_leftovers}
-use Rattle.device.proofs.dies_of_world.StoppedWorld.{are_of_dies, may_all, stop_dies, stop_shown, stopped_by}
+use Rattle.device.proofs.dies_of_world.StoppedWorld.{AreApart, AreLawful, AreOfDies, MayAllBeLeft, are_lawful}
+use Rattle.device.proofs.dies_of_world.StoppedWorld.{are_leftovers, are_of_dies, may_all, stop_dies, stop_shown}
+use Rattle.device.proofs.dies_of_world.StoppedWorld.{stopped, stopped_by}
 use Rattle.device.proofs.world.World.stop.Goals as goal
 use Rattle.device.proofs.world.World.stop.Goals.{then-not-are_left-via-else-not-are_left+then-not-are_apart}
 use Rattle.device.proofs.world.World.stop.Goals.{then-not-are_left-via-then-not-are_left}
@@ -55,38 +58,36 @@ leave_all-requires c =
     subst (All (IsInside now.config)) (sym c.as_slice-3.ensures.value)
     (all_inside now c.args.lefts.now.items even fit all)
 
+-- what the checks of the leftovers told, once all have passed
+all_of : (c : goal.After-reopen) → AreOfDies c.args.self.now c.args.lefts.now.items
+all_of c = subst (AreOfDies c.args.self.now) c.as_slice.ensures.value (c.are_left.ensures.all c.if-not-are_left.false)
+
+are_of : (c : goal.After-reopen) (s : State) → Fits c.args.self.now s → AreLeftovers s c.args.lefts.now.items
+are_of c s h =
+    are_leftovers c.args.self.now s c.args.lefts.now.items h (all_of c)
+    (subst AreApart c.as_slice-else-not-are_left.ensures.value (c.are_apart.ensures.apart c.if-not-are_apart.false))
+
+lawful_of : (c : goal.After-reopen) (s : State) → Fits c.args.self.now s → AreLawful s c.args.lefts.now.items
+lawful_of c s h =
+    are_lawful c.args.self.now s c.args.lefts.now.items h (all_of c)
+    (subst (MayAllBeLeft c.args.self.now) c.as_slice-2.ensures.value
+    (c.may_all_be_left.ensures.all c.if-not-may_all_be_left.false))
+
+-- the world before its dies were opened again
+off_of : (c : goal.After-reopen) → c.power_off.new.self ≡ stopped c.args.self.now c.args.lefts.now.items
+off_of c =
+    stopped_by c.args.self.now c.leave_all.new.self c.power_off.new.self c.as_slice-3.result.now c.args.lefts.now.items
+    c.as_slice-3.ensures.value c.leave_all.ensures c.power_off.ensures
+
 pub returns-clause-went : goal.returns-clause-went
 returns-clause-went c =
     λ s h.
-    let now = c.args.self.now in
-    let items = c.args.lefts.now.items in
-    let all : AreOfDies now items =
-    subst (AreOfDies now) c.as_slice.ensures.value (c.are_left.ensures.all c.if-not-are_left.false) in
-    let apart : AreApart items =
-    subst AreApart c.as_slice-else-not-are_left.ensures.value (c.are_apart.ensures.apart c.if-not-are_apart.false) in
-    let may : MayAllBeLeft now items =
-    subst (MayAllBeLeft now) c.as_slice-2.ensures.value (c.may_all_be_left.ensures.all c.if-not-may_all_be_left.false)
-    in
-    stop_shown now s c.args.lefts.now h (are_leftovers now s items h all apart) (are_lawful now s items h all may)
-    c.power_off.new.self c.reopen.new.self
-    (stopped_by now c.leave_all.new.self c.power_off.new.self c.as_slice-3.result.now items c.as_slice-3.ensures.value
-    c.leave_all.ensures c.power_off.ensures)
-    c.reopen.ensures.same c.reopen.result c.reopen.ensures.shown c.reopen.ensures.described c.reopen.ensures.refused
+    stop_shown c.args.self.now s c.args.lefts.now h (are_of c s h) (lawful_of c s h) c.power_off.new.self
+    c.reopen.new.self (off_of c) c.reopen.ensures.same c.reopen.result c.reopen.ensures.shown c.reopen.ensures.described
+    c.reopen.ensures.refused
 
 pub returns-clause-dies : goal.returns-clause-dies
 returns-clause-dies c =
     λ s h.
-    let now = c.args.self.now in
-    let items = c.args.lefts.now.items in
-    let all : AreOfDies now items =
-    subst (AreOfDies now) c.as_slice.ensures.value (c.are_left.ensures.all c.if-not-are_left.false) in
-    let apart : AreApart items =
-    subst AreApart c.as_slice-else-not-are_left.ensures.value (c.are_apart.ensures.apart c.if-not-are_apart.false) in
-    let may : MayAllBeLeft now items =
-    subst (MayAllBeLeft now) c.as_slice-2.ensures.value (c.may_all_be_left.ensures.all c.if-not-may_all_be_left.false)
-    in
-    stop_dies now s c.args.lefts.now h (are_leftovers now s items h all apart) (are_lawful now s items h all may)
-    c.power_off.new.self c.reopen.new.self
-    (stopped_by now c.leave_all.new.self c.power_off.new.self c.as_slice-3.result.now items c.as_slice-3.ensures.value
-    c.leave_all.ensures c.power_off.ensures)
-    c.reopen.ensures.same c.reopen.result c.reopen.ensures.refused
+    stop_dies c.args.self.now s c.args.lefts.now h (are_of c s h) (lawful_of c s h) c.power_off.new.self
+    c.reopen.new.self (off_of c) c.reopen.ensures.same c.reopen.result c.reopen.ensures.refused
