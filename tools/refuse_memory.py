@@ -25,9 +25,9 @@ CALLS = {
     "scan_parallel": (100, 40),
     "Device::open": (100, 145),
     "open_parallel": (100, 155),
-    "Shared::new": (180, 20),
+    "Shared::new": (179, 20),
     "World::new": (106, 145),
-    "World::step": (238, 145),
+    "World::step": (237, 145),
     "run": (106, 280),
 }
 
