@@ -7,7 +7,8 @@ use Rattle.ufs_spec.specs.Cells.{Array, Cell, DataHold, IsCell, IsPlace, Opens, 
 use Rattle.ufs_spec.specs.Configs.{IsConfig, command_blocks}
 use Rattle.ufs_spec.specs.Dies.{blank_page}
 use Rattle.ufs_spec.specs.Disk.{Erasing, Programming, Spot, page_of}
-use Rattle.ufs_spec.specs.Exchanges.{Awaiting, Deed, ForWrite, Gathering, Short, Task, is_short_of}
+use Rattle.ufs_spec.specs.Exchanges.{Awaiting, Deed, ForFrames, ForUnmap, ForWrite, Gathering, Short, Task}
+use Rattle.ufs_spec.specs.Exchanges.{is_short_of}
 use Rattle.ufs_spec.specs.Keys.{CanApplyAll, IsBlock, IsKey, IsPlain, IsSettingsBody, content, groups_of}
 use Rattle.ufs_spec.specs.Ledger.{Entry, accepted_groups, before_accepted}
 use Rattle.ufs_spec.specs.Machine.{Call, Done, Host, IsHeard, MayLeave, claimed_by, tag_in}
@@ -57,9 +58,12 @@ pub record WriteFits (n : Numbers) (mended : Bool) (unit address blocks total : 
 abbrev pub AwaitsFit : ℕ → Bool → ℕ → Type 0
 AwaitsFit accepted mended commands = (commands ≤ accepted) × (mended ≡ true)
 
+-- what gathers its data came once the device was mended
 abbrev pub DeedFits : Numbers → ℕ → Bool → ℕ → ℕ → Deed → Type 0
 DeedFits n accepted mended claimed total (Gathering (ForWrite unit address blocks forced) gathered asked) =
     WriteFits n mended unit address blocks total gathered claimed
+DeedFits n accepted mended claimed total (Gathering (ForUnmap unit) gathered asked) = mended ≡ true
+DeedFits n accepted mended claimed total (Gathering ForFrames gathered asked) = mended ≡ true
 DeedFits n accepted mended claimed total (Awaiting commands) = AwaitsFit accepted mended commands
 DeedFits n accepted mended claimed total deed = Unit {0}
 

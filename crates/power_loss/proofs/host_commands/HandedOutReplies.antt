@@ -86,7 +86,7 @@ asked_fits : (s : State) (task : Task) (purpose : Purpose) (gathered : List ℕ)
 asked_fits s task (ForWrite unit address blocks forced) gathered asked h =
     let p : Purpose = ForWrite unit address blocks forced in
     write_more (λ k. k) h.short (λ k. k) (claim_same (numbers_of s) p p gathered gathered true asked task.command) h
-asked_fits s task purpose gathered asked h = tt
+asked_fits s task purpose gathered asked h = h
 
 module _ (s : State) (task : Task) (v : IsTied s) (there : task_of task.tag s.tasks ≡ Some task) where
   sent_right : (blocks : List ReadBlock) (sent : ℕ) (b : Bool) →

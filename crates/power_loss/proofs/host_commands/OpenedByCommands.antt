@@ -16,7 +16,7 @@ use Rattle.ufs_spec.specs.Machine.{in_use}
 use Rattle.ufs_spec.specs.Machine.{opening_fault}
 use Rattle.ufs_spec.specs.Machine.{data_begun}
 use Rattle.ufs_spec.specs.Configs.{command_blocks}
-use Rattle.ufs_spec.specs.Refusals.{slots_needed}
+use Rattle.ufs_spec.specs.Refusals.{needs_mended, slots_needed}
 use Rattle.ufs_spec.specs.declared.faults.HostFault.TheVariants.{Backlog, TagInUse}
 use Rattle.ufs_laws.proofs.walk.WaysOfCommands.{Answered, Beginning, Gathered, IsWritten, Reading, Telling, Waiting}
 use Rattle.ufs_laws.proofs.walk.WaysOfCommands.{WhyBegun, begins_by, begun_as}
@@ -137,9 +137,10 @@ gathers_right {s} {r} {command} {count} n purpose v free p slots fits =
 
 write_fits : {s : State} {r : Request} {command : Cdb} {unit address blocks count n : ℕ} → Passed s r command →
     TakenByUnits (operation_in r) → slots_needed (numbers_of s) command ≡ count → 0 < n →
+    needs_mended (operation_of command) ≡ true →
     IsWritten (numbers_of s) (unit_or_first (unit_of_request s r)) command count unit address blocks n → WriteFits
     (numbers_of s) (is_mended s.translation.work.mending) unit address blocks n [] (slots_needed (numbers_of s) command)
-write_fits {s} {r} {command} {unit} p taken slots some w =
+write_fits {s} {r} {command} {unit} p taken slots some needs w =
     let units = (numbers_of s).units.items in
     let told = unit_told s r command taken p in
     let same : unit ≡ r.lun = w.unit_is ∙ ap unit_or_first told.is in
@@ -161,7 +162,7 @@ write_fits {s} {r} {command} {unit} p taken slots some w =
       short = some;
       bytes = bytes-nil;
       claimed_is = omega arith;
-      is_mended = ready_now s command w.needs p.ready;
+      is_mended = ready_now s command needs p.ready;
     }
 
 -- Commands
@@ -187,12 +188,14 @@ begins s r command v free p op = begins_by (Right s) s r unit command one
         subst (λ (x : ℕ). Right s (read_begun s r command x address n)) (sym unit_is)
         (subst (λ (x : ℕ). Right s (read_begun s r command unit x n)) (sym address_is)
         (read_right r command unit (address_of command) n v free (keys_read size reads p)))
-    one (Gathered count (ForWrite u address blocks forced) n) (slots, some, few, w) =
+    one (Gathered count (ForWrite u address blocks forced) n) (slots, some, few, needs, w) =
         let taken = ⊎_elim (λ e. subst TakenByUnits (sym (op ∙ e)) units_take_6)
         (λ e. subst TakenByUnits (sym (op ∙ e)) units_take_10) w.writes in
-        gathers_right n (ForWrite u address blocks forced) v free p slots (write_fits p taken slots some w)
-    one (Gathered count (ForUnmap u) n) (slots, some, few, w) = gathers_right n (ForUnmap u) v free p slots tt
-    one (Gathered count ForFrames n) (slots, some, few, w) = gathers_right n ForFrames v free p slots tt
+        gathers_right n (ForWrite u address blocks forced) v free p slots (write_fits p taken slots some needs w)
+    one (Gathered count (ForUnmap u) n) (slots, some, few, needs, w) =
+        gathers_right n (ForUnmap u) v free p slots (ready_now s command needs p.ready)
+    one (Gathered count ForFrames n) (slots, some, few, needs, w) =
+        gathers_right n ForFrames v free p slots (ready_now s command needs p.ready)
 
 opened_right : {s : State} (r : Request) → IsTied s → IsFree s r.tag → IsSpelled r → (x : Option Status) →
     refusal s r ≡ x → Right s (opened_with s r x)

@@ -250,7 +250,7 @@ more_fits : (s : State) (task : Task) (purpose : Purpose) (gathered : List ℕ) 
 more_fits s task (ForWrite unit address blocks forced) gathered asked all h l is = write_more (λ k. k) l is
     (claim_same (numbers_of s) (ForWrite unit address blocks forced) (ForWrite unit address blocks forced)
     all gathered false asked task.command) h
-more_fits s task purpose gathered asked all h l is = tt
+more_fits s task purpose gathered asked all h l is = h
 
 -- a task of the state gathers data for its purpose
 record GathersIn (s : State) (task : Task) (purpose : Purpose) (gathered : List ℕ) (asked : Bool) : Type 0 where

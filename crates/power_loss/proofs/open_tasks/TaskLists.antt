@@ -32,8 +32,8 @@ deed_more : (n : Numbers) (a b : ℕ) {m w : Bool} (claimed total : ℕ) (deed :
     DeedFits n a m claimed total deed → DeedFits n b w claimed total deed
 deed_more n a b {m} {w} claimed total (Gathering (ForWrite unit address blocks forced) gathered asked) l up h =
     write_more up h.short (λ k. k) refl h
-deed_more n a b claimed total (Gathering (ForUnmap unit) gathered asked) l up h = h
-deed_more n a b claimed total (Gathering ForFrames gathered asked) l up h = h
+deed_more n a b claimed total (Gathering (ForUnmap unit) gathered asked) l up h = up h
+deed_more n a b claimed total (Gathering ForFrames gathered asked) l up h = up h
 deed_more n a b claimed total (Awaiting commands) l up h = (omega (arith, h.0), up h.1)
 deed_more n a b claimed total deed l up h = h
 

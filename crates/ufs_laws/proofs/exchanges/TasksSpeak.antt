@@ -230,7 +230,7 @@ begins_speaking s r c unit is fits reads = begins_by (λ t. OneMore TaskSpeaks s
         read_speaks s r c u address n is (omega arith)
         (subst (λ (x : ℕ). BlocksFit s r x address n) (sym unit_is)
         (subst (λ (x : ℕ). BlocksFit s r unit x n) (sym address_is) (reads n read size)))
-    one (Gathered count purpose n) (slots, some, few, gathered) = (
+    one (Gathered count purpose n) (slots, some, few, needs, gathered) = (
       task_for r (Some c) n (Gathering purpose [] false),
       refl,
       asked_for r (Some c) n (Gathering purpose [] false) is (few fits) some,

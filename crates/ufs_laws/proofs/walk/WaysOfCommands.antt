@@ -45,7 +45,6 @@ pub record IsWritten (n : Numbers) (unit : ℕ) (c : Cdb) (count u address block
   pub total_is : total ≡ 4096 * count
   pub all : blocks_of c ≡ count
   pub writes : (operation_of c ≡ write_6) ⊎ (operation_of c ≡ write_10)
-  pub needs : needs_mended (operation_of c) ≡ true
   pub long : is_too_long n c ≡ nat_lt (command_blocks n) (blocks_of c)
 
 abbrev pub IsGathered : Numbers → ℕ → Cdb → ℕ → Purpose → ℕ → Type 0
@@ -62,8 +61,8 @@ WhyBegun s r unit c (Reading u address n) =
     (u ≡ unit) × (address ≡ address_of c) × (n ≡ blocks_of c * 4096)
     × ((operation_of c ≡ read_6) ⊎ (operation_of c ≡ read_10))
 WhyBegun s r unit c (Gathered count purpose n) =
-    (slots_needed (numbers_of s) c ≡ count) × (0 < n) × (IsCdb c → n < 2 ^ 32) × IsGathered
-    (numbers_of s) unit c count purpose n
+    (slots_needed (numbers_of s) c ≡ count) × (0 < n) × (IsCdb c → n < 2 ^ 32)
+    × (needs_mended (operation_of c) ≡ true) × IsGathered (numbers_of s) unit c count purpose n
 
 -- ## The walk
 
@@ -78,10 +77,10 @@ few_six : (blocks : ℕ) → blocks < 2 ^ 8 → six_blocks blocks < 2 ^ 16
 few_six blocks few = if_both (λ n. n < 2 ^ 16) (blocks == 0) (omega arith) (omega arith)
 
 written : (s : State) (unit : ℕ) (c : Cdb) (count : ℕ) → (operation_of c ≡ write_6) ⊎ (operation_of c ≡ write_10) →
-    blocks_of c ≡ count → needs_mended (operation_of c) ≡ true →
+    blocks_of c ≡ count →
     is_too_long (numbers_of s) c ≡ nat_lt (command_blocks (numbers_of s)) (blocks_of c) →
     IsWritten (numbers_of s) unit c count unit (address_of c) count (4096 * count)
-written s unit c count writes all needs long =
+written s unit c count writes all long =
     record {
       unit_is = refl;
       address_is = refl;
@@ -89,7 +88,6 @@ written s unit c count writes all needs long =
       total_is = refl;
       all = all;
       writes = writes;
-      needs = needs;
       long = long;
     }
 
@@ -132,7 +130,8 @@ module _ (P : State → Type 0) (s : State) (r : Request) (unit : ℕ) where
         refl,
         some_blocks _ some,
         (λ fits. let few = few_six blocks fits.1 in omega arith),
-        written s unit (cdb.Write6 address blocks) (six_blocks blocks) (inl refl) refl refl refl,
+        refl,
+        written s unit (cdb.Write6 address blocks) (six_blocks blocks) (inl refl) refl refl,
       ))
   begins_by (cdb.Write10 address blocks forced) each =
       if_cases P (blocks == 0) (λ none. good_by (cdb.Write10 address blocks forced) each)
@@ -140,7 +139,8 @@ module _ (P : State → Type 0) (s : State) (r : Request) (unit : ℕ) where
         refl,
         some_blocks _ some,
         (λ fits. let few = fits.1 in omega arith),
-        written s unit (cdb.Write10 address blocks forced) blocks (inr refl) refl refl refl,
+        refl,
+        written s unit (cdb.Write10 address blocks forced) blocks (inr refl) refl refl,
       ))
   begins_by (cdb.SynchronizeCache10 address blocks immediate) each =
       flush_by (cdb.SynchronizeCache10 address blocks immediate) immediate each refl
