@@ -316,7 +316,7 @@ def indent(line):
 
 def declares(line):
     """The name that a line of a proof declares, if it does."""
-    found = re.match(r" *(?:(?:abbrev|unfoldable|pub|data|record) )*([^\s(:]+) : ", line)
+    found = re.match(r" *(?:(?:abbrev|unfoldable|pub|data|record) )*([^\s(:]+) :(?:\s|$)", line)
     if not found and indent(line) == 0:
         found = re.match(r"(?:(?:pub|data|record) )+([^\s(:]+) [^:=]*: ", line)
     return found[1] if found else None
