@@ -13,24 +13,30 @@ pub record Blocks : Type 0 where
   pub filling : List (Option OpenBlock)
   pub has_bad : Bool
 
+-- the block holds nothing that is needed, so it may be erased
 abbrev pub is_free : BlockState → Bool
 is_free state.Free = true
 is_free _ = false
 
+-- a program or an erase of the block failed, or it was bad from the start; it is never filled again
 abbrev pub is_bad : BlockState → Bool
 is_bad state.Bad = true
 is_bad _ = false
 
+-- where the state of a block is in the list, which goes by die and then by block
 abbrev pub block_index : Blocks → ℕ → ℕ → ℕ
 block_index t die block = die * t.sizes.blocks + block
 
+-- what the block is; a block that is not there counts as bad, so nothing is written to it
 abbrev pub state_of : Blocks → ℕ → ℕ → BlockState
 state_of t die block = unwrap_or (slice_get t.states (block_index t die block)) state.Bad
 
+-- the open block of a die that may not be there; then there is none
 abbrev pub open_in : Option (Option OpenBlock) → Option OpenBlock
 open_in None = None
 open_in (Some o) = o
 
+-- the block that the die fills, with its next page, if it fills one
 abbrev pub open_of : Blocks → ℕ → Option OpenBlock
 open_of t die = open_in (slice_get t.filling die)
 
@@ -56,6 +62,7 @@ abbrev pub freed_state : BlockState → BlockState
 freed_state state.Bad = state.Bad
 freed_state _ = state.Free
 
+-- the block's collection is over: it is free from now on, unless it is bad
 abbrev pub freed : Blocks → ℕ → ℕ → Blocks
 freed t die block =
     record t { states = slice_set t.states (block_index t die block) (freed_state (state_of t die block)) }

@@ -3,8 +3,10 @@ use Rattle.std.specs.Prelude.{◌≡◌, count_by}
 use Rattle.block_table.specs.Blocks.{Blocks, is_free}
 use Rattle.block_table.specs.declared.BlockTable.TheInside.{Inside}
 
+-- what contracts see of the table; how many blocks are free is not seen, since it follows from their states
 abbrev pub blocks_of : Inside → Blocks
 blocks_of f = record { sizes = f.sizes; states = f.states.items; filling = f.filling.items; has_bad = f.has_bad }
 
+-- the number of free blocks that is kept is how many of the states are free
 abbrev pub IsCounted : Inside → Type 0
 IsCounted f = f.free ≡ count_by is_free f.states.items

@@ -25,9 +25,11 @@ pub record Plans : Type 0 where
   pub pages : ℕ
   pub plan : Option Collection
 
+-- where the page stands that is to be copied
 abbrev pub place_of : PlannedCopy → Place
 place_of x = x.from
 
+-- the block that is collected
 abbrev pub victim_of : Collection → Spot
 victim_of c = c.victim
 
@@ -47,7 +49,7 @@ NamesIt m ps x =
     (stored_in m.numbers m.places x.key ≡ Some (record { place = x.from; number = x.number }))
     ⊎ ((q : Pending) × Contains ps q × (q.written ≡ Some x.from) × (q.key ≡ x.key) × (q.number ≡ x.number))
 
--- nothing stands there
+-- no durable content stands at the place, and no page of a pending group is written there
 pub record IsBare (m : UnitMap) (ps : List Pending) (p : Place) : Type 0 where
   pub durable : (k : Key) (s : Stored) → stored_in m.numbers m.places k ≡ Some s → s.place ≡ p → ⊥
   pub pending : (q : Pending) → Contains ps q → q.written ≡ Some p → ⊥
@@ -70,15 +72,16 @@ pub record IsPlanned (old : Plans) (l : Lives) (t : Blocks) (m : UnitMap) (ps : 
   pub victim : option_map victim_of new.plan ≡ victim l t
   pub collected : IfSome new.plan (IsCollected l m ps old.pages)
 
--- copies first, then the mark
+-- the next step of a collection: the first copy that is left, and behind all copies the mark
 abbrev pub step_of : List PlannedCopy → PlanStep
 step_of [] = step.Mark
 step_of (x ∷ xs) = step.Copy x
 
+-- the step that comes next in a collection; none where no collection is begun
 abbrev pub next_step : Option Collection → Option PlanStep
 next_step None = None
 next_step (Some c) = Some (step_of c.copies)
 
--- the first copy is ordered
+-- the collection once its first copy was ordered: the others are left
 abbrev pub copy_ordered : Collection → Collection
 copy_ordered c = record c { copies = drop 1 c.copies }

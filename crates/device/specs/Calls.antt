@@ -125,6 +125,8 @@ HasGatheredThen before after t tag x bytes e (Some more) =
 HasGatheredThen before after t tag x bytes e None =
     (between : Core) × HasFilled before between t tag x.gathered bytes × HasTaken between after t tag x.key e
 
+-- a block of a WRITE came: it lies in its slot, and with the last block the group is accepted, or refused by a locked
+-- device
 abbrev pub HasGathered : Core → Core → Translation → ℕ → Transfer → List ℕ → TaskEvent → Type 0
 HasGathered before after t tag x bytes e = HasGatheredThen before after t tag x bytes e (next_transfer x)
 
@@ -140,6 +142,7 @@ abbrev pub read_told : DeviceCore → ℕ → Option (List ℕ) → DeviceCore
 read_told d tag (Some body) = record d { tasks = map (after_read tag body) d.tasks }
 read_told d tag None = record d { tasks = map (after_lost_read tag) d.tasks }
 
+-- what the end of a job tells the tasks: a read for one gives it its block or none, and any other job tells nothing
 abbrev pub told : DeviceCore → Ended → DeviceCore
 told d (ended.Read reader body) = read_told d reader body
 told d ended.Other = d

@@ -6,6 +6,7 @@ use Rattle.std.specs.Prelude.{[], ◌∷◌, drop, find, if◌then◌else◌, le
 use Rattle.std.specs.Prelude.{Some}
 use Rattle.std.specs.Prelude.{None, option_map, Result}
 use Rattle.std.specs.Int.{div_ceil}
+use Rattle.ufs_spec.specs.Plain.{greatest_command}
 use Rattle.ufs_spec.specs.Disk.{Flight, job_of}
 use Rattle.ufs_spec.specs.Exchanges as exchange
 use Rattle.ufs_spec.specs.Exchanges.{Answering, Awaiting, Deed, ForWrite, Gathering, Purpose, ReadBlock, Sending, Short}
@@ -50,18 +51,20 @@ IsWrite x (ForWrite unit address blocks forced) =
     (x.key ≡ data_key unit address) × (blocks ≡ x.blocks) × (forced ≡ x.forced)
 IsWrite x purpose = ⊥
 
--- so many blocks came, and more are to come
+-- a WRITE of which so many blocks came, the bytes gathered being theirs; more are to come
 pub record IsGathering (x : Transfer) (total : ℕ) (purpose : Purpose) (gathered : List ℕ) : Type 0 where
   pub write : IsWrite x purpose
   pub came : length gathered ≡ 4096 * x.gathered
   pub more : x.gathered < x.blocks
   pub total_is : total ≡ 4096 * x.blocks
 
+-- the block of a READ is still to be read
 abbrev pub is_unread : exchange.ReadState → Bool
 is_unread Unread = true
 is_unread WasRead = false
 is_unread NotRead = false
 
+-- the block of a READ could not be read, which ends the READ
 abbrev pub is_lost : exchange.ReadState → Bool
 is_lost Unread = false
 is_lost WasRead = false
@@ -75,7 +78,7 @@ pub record IsSending (x : Sends) (expected total : ℕ) (blocks : List ReadBlock
   pub more : x.sent < x.blocks
   pub total_is : total ≡ x.length
   pub all : x.blocks ≡ div_ceil (min expected x.length) 4096
-  pub few : x.blocks ≤ 32
+  pub few : x.blocks ≤ greatest_command
   pub readable : (block : ReadBlock) → slice_get blocks sent ≡ Some block → is_lost block.state ≡ false
   pub behind : (i : ℕ) (block : ReadBlock) → sent < i → slice_get blocks i ≡ Some block → block.state ≡ Unread
 
@@ -86,7 +89,7 @@ pub record IsLost (blocks : List ReadBlock) (sent : ℕ) (told : Status) (size :
   pub lost : block.state ≡ NotRead
   pub told_is : told ≡ status.CheckCondition read_error
   pub carried : size ≡ 4096 * sent
-  pub few : length blocks ≤ 32
+  pub few : length blocks ≤ greatest_command
   pub behind : (i : ℕ) (other : ReadBlock) → sent < i → slice_get blocks i ≡ Some other → other.state ≡ Unread
 
 -- what a phase of the device is to the specified one; a group's number counts from those before the accepted commands
@@ -104,11 +107,13 @@ IsDoing before expected total (phase.Answer told n) (Answering s carried) = (s �
 IsDoing before expected total (phase.Answer told n) (Sending blocks sent) = IsLost blocks sent told n
 IsDoing before expected total kept deed = ⊥
 
+-- what a die read of a block: its body once it was read; none before that, or where the read failed
 abbrev pub read_by : List ℕ → exchange.ReadState → Option (List ℕ)
 read_by body Unread = None
 read_by body WasRead = Some body
 read_by body NotRead = None
 
+-- what a die read of the block that a READ sends next; none where all blocks were handed out
 abbrev pub read_of : Option ReadBlock → Option (List ℕ)
 read_of None = None
 read_of (Some block) = read_by block.body block.state
@@ -118,6 +123,8 @@ abbrev pub read_in : Deed → Option (List ℕ)
 read_in (Sending blocks sent) = read_of (slice_get blocks sent)
 read_in deed = None
 
+-- the kept task is the specified one: its unit, its tag, the bytes that its host expects, how far it is, and the block
+-- that a die read for it; `before` is the number of the last group before the accepted commands
 pub record TaskKept (before : ℕ) (a : OpenTask) (b : exchange.Task) : Type 0 where
   pub lun : b.lun ≡ a.lun
   pub tag : b.tag ≡ a.tag
@@ -127,7 +134,7 @@ pub record TaskKept (before : ℕ) (a : OpenTask) (b : exchange.Task) : Type 0 w
   pub doing : IsDoing before a.expected b.length a.phase b.deed
   pub read : a.block ≡ read_in b.deed
 
--- task by task
+-- the open tasks are kept task by task, in the same order
 abbrev pub TasksKept : ℕ → List OpenTask → List exchange.Task → Type 0
 TasksKept before [] [] = Unit {0}
 TasksKept before (a ∷ ours) (b ∷ theirs) = TaskKept before a b × TasksKept before ours theirs
@@ -139,6 +146,7 @@ TasksKept before ours theirs = ⊥
 abbrev pub wanted_kept : List Pin → ℕ → ℕ → Option Bool
 wanted_kept pins tag index = option_map (λ (pin : Pin). pin.wanted) (find (is_pin_of tag index) pins)
 
+-- a block that is still to be handed out is kept; its page is wanted if it is the next block and was not read yet
 abbrev pub wanted_of : Bool → Option ReadBlock → Option Bool
 wanted_of next None = None
 wanted_of next (Some block) = Some (next && is_unread block.state)
@@ -165,6 +173,7 @@ abbrev pub blocks_gathered : ℕ → List ℕ → List (List ℕ)
 blocks_gathered zero bytes = []
 blocks_gathered (suc n) bytes = block_or_zeros bytes ∷ blocks_gathered n (drop 4096 bytes)
 
+-- what a task that gathers data has claimed: a WRITE one slot for each block of its command, any other none
 abbrev pub claims_for_purpose : ℕ → Purpose → List ℕ → List Claimed
 claims_for_purpose tag (ForWrite unit address blocks forced) gathered =
     claims_of_blocks tag (blocks_gathered blocks gathered)
@@ -175,12 +184,14 @@ abbrev pub claims_in : ℕ → Deed → List Claimed
 claims_in tag (Gathering purpose gathered asked) = claims_for_purpose tag purpose gathered
 claims_in tag deed = []
 
+-- what the task of this tag has claimed, and nothing where no task has the tag
 abbrev pub claims_by : ℕ → Option exchange.Task → List Claimed
 claims_by tag None = []
 claims_by tag (Some task) = claims_in tag task.deed
 
 -- Short exchanges and the lock
 
+-- a short exchange as the specified device has it: its tag and the one reply that is due for it
 abbrev pub short_kept : kept.Short → Short
 short_kept short = short_reply short.tag (short_message short)
 
@@ -189,6 +200,7 @@ abbrev pub IsToldIn : ℕ → Deed → Type 0
 IsToldIn count (Awaiting commands) = nat_le commands count ≡ true
 IsToldIn count deed = Unit {0}
 
+-- the task was told that the device is locked: if it still waits, all that it waits for is durable
 abbrev pub IsTold : ℕ → exchange.Task → Type 0
 IsTold count task = IsToldIn count task.deed
 
@@ -205,6 +217,7 @@ pub record Keeps (d : DeviceCore) (s : State) : Type 0 where
   pub shorts : s.shorts ≡ map short_kept d.shorts
   pub power_off : s.power_on ≡ false
 
+-- what is kept describes the state: it agrees with the state part by part, and the state is one that a life can come to
 pub record Describes (d : DeviceCore) (s : State) : Type 0 where
   -- a life can come to the state: its pages, commands, layer and tasks go together, and what is kept for READs shows
   -- the blocks that they send

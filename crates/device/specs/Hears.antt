@@ -9,7 +9,6 @@ use Rattle.ftl_core.specs.Core.{Core}
 use Rattle.ftl_core.specs.Describes.{Describes}
 use Rattle.task_set.specs.declared.tasks.AskedFor.{AskedFor}
 use Rattle.task_set.specs.declared.tasks.Phase.{Phase}
-use Rattle.task_set.specs.declared.tasks.Phase.TheVariants as phase
 use Rattle.device.specs.declared.plans.Plan.{Plan}
 use Rattle.task_set.specs.declared.tasks.Short.{Short}
 use Rattle.task_set.specs.declared.tasks.Status.{Status}
@@ -18,8 +17,7 @@ use Rattle.task_set.specs.declared.tasks.TaskEvent.{TaskEvent}
 use Rattle.device.specs.Calls.{HasBegun, HasGathered, lock_told}
 use Rattle.device.specs.Kept.{DeviceCore}
 use Rattle.device.specs.Plans.{IsBare, IsPlanned, IsRequest}
-use Rattle.task_set.specs.Lists.{asked_among, asked_at, is_in_use, short_allowed, tasks_set}
-use Rattle.task_set.specs.Tasks.{phase_after}
+use Rattle.task_set.specs.Lists.{asked_among, asked_at, is_in_use, short_allowed, task_happened}
 
 -- Commands
 
@@ -27,9 +25,11 @@ use Rattle.task_set.specs.Tasks.{phase_after}
 abbrev pub uses : DeviceCore → ℕ → Bool
 uses d tag = is_in_use d.tasks d.shorts tag
 
+-- one task more is open, behind all others
 abbrev pub with_task : DeviceCore → OpenTask → DeviceCore
 with_task d task = record d { tasks = d.tasks ++ task ∷ [] }
 
+-- one short exchange more is open, behind all others
 abbrev pub with_short : DeviceCore → Short → DeviceCore
 with_short d short = record d { shorts = d.shorts ++ short ∷ [] }
 
@@ -53,6 +53,7 @@ pub record IsTaskOpened (before after : DeviceCore) (flags lun tag expected : �
 
 -- Data
 
+-- what the task at the position that was found asked for at this offset, if one was found
 abbrev pub asked_of : DeviceCore → ℕ → ℕ → Option ℕ → Option AskedFor
 asked_of d lun offset at = asked_at d.tasks lun offset at
 
@@ -60,9 +61,9 @@ asked_of d lun offset at = asked_at d.tasks lun offset at
 abbrev pub asked_for : DeviceCore → ℕ → ℕ → ℕ → ℕ → Option AskedFor
 asked_for d lun tag offset count = asked_among d.tasks lun tag offset count
 
--- the task at this position does this from now on
-abbrev pub with_phase : DeviceCore → ℕ → Phase → DeviceCore
-with_phase d k p = record d { tasks = tasks_set d.tasks k p (slice_get d.tasks k) }
+-- this happened to the task at this position
+abbrev pub with_event : DeviceCore → ℕ → TaskEvent → DeviceCore
+with_event d k e = record d { tasks = task_happened d.tasks k e (slice_get d.tasks k) }
 
 -- a block of a task came, with the last its group was accepted or not, and then the lock was told
 pub record IsDataTaken (before after : DeviceCore) (tag : ℕ) (asked : AskedFor) (bytes : List ℕ) : Type 0 where
@@ -71,10 +72,7 @@ pub record IsDataTaken (before after : DeviceCore) (tag : ℕ) (asked : AskedFor
   pub taken : (t : Translation) → Describes before.ftl t →
       HasGathered before.ftl layer t tag asked.transfer bytes event
   pub told : (t : Translation) → Describes layer t →
-      after ≡ lock_told t
-      (record (with_phase before asked.index (phase_after (phase.AwaitData asked.transfer) event)) {
-        ftl = layer;
-      })
+      after ≡ lock_told t (record (with_event before asked.index event) { ftl = layer })
 
 -- data are taken that a task asked for
 abbrev pub IsDataHeard : DeviceCore → DeviceCore → ℕ → List ℕ → Option AskedFor → Result Unit HostFault → Type 0

@@ -46,7 +46,7 @@ abbrev pub IsOfDie : WorldState → ℕ → Leftover → Type 0
 IsOfDie w die l =
     (j : Job) × (job_at w.jobs die ≡ Some j) × CanDo (die_at w.dies die) j × IsOfJob w.config.pages j l
 
--- that job may leave it
+-- the job that the die has in flight may leave what the leftover says
 abbrev pub MayDieLeave : WorldState → ℕ → Leftover → Type 0
 MayDieLeave w die l = (j : Job) → job_at w.jobs die ≡ Some j → MayJobLeave (die_at w.dies die) j l
 

@@ -39,10 +39,12 @@ read_plan lun expected address blocks =
     if (blocks == 0) || (expected == 0) then plan.Nothing (4096 * blocks)
     else plan.Read (data_key lun address) (div_ceil (min expected (4096 * blocks)) 4096) (4096 * blocks)
 
+-- a WRITE of no blocks is done at once; any other asks for its blocks, however many bytes the host expects
 abbrev pub write_plan : ℕ → ℕ → ℕ → Bool → Plan
 write_plan lun address blocks forced =
     if blocks == 0 then plan.Nothing 0 else plan.Write (data_key lun address) blocks forced
 
+-- data other than blocks are sent, unless there are none or the host expects none
 abbrev pub data_plan : ℕ → ShortData → Plan
 data_plan expected x = if min expected (data_length x) == 0 then plan.Nothing (data_length x) else plan.Send x
 

@@ -26,12 +26,12 @@ use Rattle.task_set.specs.declared.tasks.ShortReply.TheVariants as reply
 use Rattle.task_set.specs.declared.tasks.Status.{Status}
 use Rattle.task_set.specs.declared.tasks.Status.TheVariants as status
 use Rattle.task_set.specs.declared.tasks.Task.{Task}
+use Rattle.task_set.specs.declared.tasks.TaskEvent.TheVariants as event
 use Rattle.task_set.specs.declared.tasks.ShortData.TheVariants as sent
 use Rattle.task_set.specs.Kept.{OpenTask, task_in}
-use Rattle.task_set.specs.Lists.{tasks_sent}
-use Rattle.device.specs.Hears.{with_phase}
+use Rattle.device.specs.Hears.{with_event}
 use Rattle.device.specs.Kept.{DeviceCore}
-use Rattle.task_set.specs.Tasks.{data_length, next_sending, sent_next, status_kept}
+use Rattle.task_set.specs.Tasks.{data_length, status_kept}
 
 -- Blocks
 
@@ -42,6 +42,7 @@ block_at l read Unwritten = Some zero_block
 block_at l read (InSlot name) = option_map (λ (e : Entry). e.item.body) (entry_of l name)
 block_at l read (OnPage name place) = read
 
+-- the block of what a reader keeps, once it is there; none where it keeps nothing
 abbrev pub block_of : Ledger → Option (List ℕ) → Option Pin → Option (List ℕ)
 block_of l read None = None
 block_of l read (Some pin) = block_at l read pin.looked
@@ -52,10 +53,11 @@ block_for t read tag index = block_of t.ledger read (find (is_pin_of tag index) 
 
 -- Messages
 
+-- the RESPONSE that ends a task with this status; `length` is how many bytes there were to carry, for the residual
 abbrev pub answer_of : Task → Status → ℕ → Message
 answer_of t s length = response t.lun t.tag t.expected length (status_kept s)
 
--- so many of these bytes, of 1 to 4096
+-- how many of these bytes one DATA IN carries: at least 1 and at most 4096
 abbrev pub count_in : ℕ → ℕ
 count_in rest = if nat_lt rest 1 then 1 else if nat_lt 4096 rest then 4096 else rest
 
@@ -63,6 +65,7 @@ count_in rest = if nat_lt rest 1 then 1 else if nat_lt 4096 rest then 4096 else 
 abbrev pub count_of : ℕ → Sending → ℕ
 count_of expected x = count_in (min expected x.length - 4096 * x.sent)
 
+-- the DATA IN of the next block of a READ; its offset counts the blocks that were sent before
 abbrev pub block_message : Task → Sending → List ℕ → Message
 block_message t x block =
     message.DataIn t.lun t.tag (4096 * x.sent) (record { items = take (count_of t.expected x) block })
@@ -84,9 +87,12 @@ data_count expected x =
     else if nat_lt 18 (min expected (data_length x)) then 18
     else min expected (data_length x)
 
+-- the DATA IN of a task with data other than blocks: all of them in one message
 abbrev pub data_message : Task → ShortData → Message
 data_message t x = message.DataIn t.lun t.tag 0 (record { items = take (data_count t.expected x) (data_padded x) })
 
+-- the reply that is due in a phase: a request for the next block, a DATA IN, or the RESPONSE. None is due while data of
+-- the host, a durable group or the read of a block is awaited
 abbrev pub owed_in : Translation → Option (List ℕ) → Task → Phase → Option Message
 owed_in t read a (phase.AskData x) = Some (message.ReadyToTransfer a.lun a.tag (4096 * x.gathered) 4096)
 owed_in t read a (phase.AwaitData x) = None
@@ -109,20 +115,17 @@ IsWritten false bytes None = ⊤
 
 -- What becomes of the task
 
--- the task at this position handed out its block, if there was one, and does this from now on
-abbrev pub with_sent : DeviceCore → ℕ → Phase → DeviceCore
-with_sent d k p = record d { tasks = tasks_sent d.tasks k p (slice_get d.tasks k) }
-
+-- the task at this position has its RESPONSE, and its tag is free again
 abbrev pub without_task : DeviceCore → ℕ → DeviceCore
 without_task d k = record d { tasks = remove d.tasks k }
 
 -- what the device keeps, but for its layer, once the task at this position has handed out its reply
 abbrev pub moved_on : DeviceCore → ℕ → Phase → DeviceCore
-moved_on d k (phase.AskData x) = with_phase d k (phase.AwaitData x)
+moved_on d k (phase.AskData x) = with_event d k event.DataAskedFor
 moved_on d k (phase.AwaitData x) = d
 moved_on d k (phase.AwaitFrontier n size) = without_task d k
-moved_on d k (phase.SendData x) = with_phase d k (phase.Answer status.Good (data_length x))
-moved_on d k (phase.SendBlocks x) = with_sent d k (sent_next x (next_sending x))
+moved_on d k (phase.SendData x) = with_event d k event.DataSent
+moved_on d k (phase.SendBlocks x) = with_event d k event.BlockSent
 moved_on d k (phase.Answer s n) = without_task d k
 
 -- the layer then: a block that was handed out is let go; a task that ends keeps nothing, and what it waited for is
@@ -138,7 +141,7 @@ IsLayerMoved after t tag (phase.SendBlocks x) =
     layer.Describes after (moved (moved t (LetGo tag x.sent)) (WantPage tag (x.sent + 1)))
 IsLayerMoved after t tag (phase.Answer s n) = layer.Describes after (moved t (LetGoAll tag))
 
--- what was claimed stays so
+-- what a reply makes of the layer; what the tasks have claimed stays so
 abbrev pub HasMoved : Core → Core → Translation → ℕ → Phase → Type 0
 HasMoved before after t tag p = IsLayerMoved after t tag p × (claims_for after ≡ claims_for before)
 
@@ -156,8 +159,10 @@ short_said tag reply.NopIn = message.NopIn tag
 short_said tag (reply.NotManaged lun) = message.TaskResponse lun tag 0x04
 short_said tag (reply.NotQueried writing asked) = query_unanswered tag (function_of writing) asked
 
+-- the one reply that a short exchange is owed
 abbrev pub short_message : Short → Message
 short_message short = short_said short.tag short.reply
 
+-- the short exchange that came first has its reply, and its tag is free again
 abbrev pub without_first : DeviceCore → DeviceCore
 without_first d = record d { shorts = remove d.shorts 0 }

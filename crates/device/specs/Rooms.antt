@@ -5,6 +5,7 @@ use Rattle.device.specs.declared.device.Device.TheInside.{Inside}
 use Rattle.device.specs.declared.world.World.TheInside.{Inside as World}
 use Rattle.device.specs.Kept.{DeviceCore, WorldState}
 
+-- what contracts see of a device: its layer, and the two lists of its set of tasks
 abbrev pub core_of : Inside → DeviceCore
 core_of d = record {
   ftl = d.ftl;
@@ -13,6 +14,7 @@ core_of d = record {
   shorts = d.set.shorts;
 }
 
+-- what contracts see of a world: the lists of its dies and of their jobs in flight, and the rest as it is
 abbrev pub world_of : World → WorldState
 world_of w = record {
   core = w.device;

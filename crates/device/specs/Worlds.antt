@@ -26,6 +26,7 @@ use Rattle.device.specs.Kept.{WorldState}
 
 -- Dies
 
+-- the die of this number; where there is none, a die without blocks
 abbrev pub die_at : List DieState → ℕ → DieState
 die_at dies die = slice_index_or dies die (new_die 0 0)
 
@@ -33,6 +34,7 @@ die_at dies die = slice_index_or dies die (new_die 0 0)
 abbrev pub job_at : List (Option Job) → ℕ → Option Job
 job_at jobs die = slice_index_or jobs die None
 
+-- the jobs in flight once the die was given this one, or none
 abbrev pub jobs_given : List (Option Job) → ℕ → Option Job → List (Option Job)
 jobs_given jobs die None = jobs
 jobs_given jobs die (Some job) = slice_set jobs die (Some job)
@@ -55,11 +57,13 @@ pub record DiesFit (n : Numbers) (array : Array) (blocks : Spot → BlockState) 
   -- a block that is being erased is one of theirs
   pub erases : (die : ℕ) (spot : Spot) → flights die ≡ Some (Erasing spot) → IsSpot n spot
 
--- they do so for a state
+-- the dies hold the pages of this state, and have the jobs that it has in flight
 abbrev pub FitState : List DieState → List (Option Job) → State → Type 0
 FitState dies jobs s =
     DiesFit (numbers_of s) s.array s.translation.disk.blocks s.translation.disk.flights dies jobs
 
+-- the world is the device in this state with its dies: one configuration, a core that describes the state, and dies
+-- with the pages and the jobs in flight that the state has
 pub record Fits (w : WorldState) (s : State) : Type 0 where
   pub config : w.config ≡ numbers_of s
   pub describes : Describes w.core s
@@ -68,6 +72,7 @@ pub record Fits (w : WorldState) (s : State) : Type 0 where
 
 -- What jobs leave that were interrupted or failed
 
+-- the block of its die in which a leftover lies
 abbrev pub block_of : Leftover → ℕ
 block_of (leftover.Page p page) = p.block
 block_of (leftover.Block die block pages) = block
@@ -77,10 +82,11 @@ abbrev pub die_left : DieState → Leftover → DieState
 die_left d (leftover.Page p page) = with_page d p.block p.page page
 die_left d (leftover.Block die block pages) = with_block d block pages.items
 
+-- the dies with one leftover, which changes its own die alone
 abbrev pub dies_left_by : List DieState → Leftover → List DieState
 dies_left_by dies l = slice_set dies (die_of l) (die_left (die_at dies (die_of l)) l)
 
--- one leftover after another
+-- the dies with all that the leftovers of a stop say, one leftover after another
 abbrev pub dies_left : List DieState → List Leftover → List DieState
 dies_left dies [] = dies
 dies_left dies (l ∷ ls) = dies_left (dies_left_by dies l) ls
@@ -145,6 +151,7 @@ abbrev pub Went : State → Event → WorldState → Result Output RunFaultKind 
 Went s e after (Ok o) = (t : State) × GoesOn (numbers_of s) s e o t × Fits after t
 Went s e after (Err k) = IsRefusedAs s e k
 
+-- one step of a world, as `Went` says it; of a fault the kind says why
 abbrev pub Stepped : State → Event → WorldState → Result Output RunFault → Type 0
 Stepped s e after (Ok o) = (t : State) × GoesOn (numbers_of s) s e o t × Fits after t
 Stepped s e after (Err f) = IsRefusedAs s e f.kind
@@ -208,6 +215,8 @@ IsOpeningFault n dies kind.NoMemory = Fit n dies
 IsOpeningFault n dies kind.WrongEvent = Fit n dies → Sound (array_of dies) → Suits n (array_of dies) → ⊥
 IsOpeningFault n dies kind.BadLeftover = ⊥
 
+-- why a run broke off: at position 0 the opening failed and nothing was played; at position k + 1 the event k did, and
+-- this is promised over sound dies
 abbrev pub IsRunFault : Numbers → List DieState → List Event → ℕ → RunFault → Type 0
 IsRunFault n dies events zero f = IsOpeningFault n dies f.kind × (f.trace.items ≡ [])
 IsRunFault n dies events (suc k) f = Sound (array_of dies) → IsBroken n dies events k f

@@ -1,6 +1,7 @@
 //! The checks of a command, in the order in which the first that applies ends it.
 ghost use Rattle.std.specs.Prelude.{◌≡◌, ◌≤◌, ℕ, ◌+◌, ◌*◌, ◌&&◌, nat_lt, not, option_map, IfErr, IfOk, IsOk, None};
 ghost use Rattle.std.specs.Prelude.{Some};
+ghost use Rattle.ufs_spec.specs.Plain.{greatest_command};
 ghost use Rattle.ufs_spec.specs.Cdbs.{IsTakenCdb, address_of, blocks_of, direction_of, operation_of};
 ghost use Rattle.ufs_spec.specs.Cdbs.{length_of as length_of_command};
 ghost use Rattle.ufs_spec.specs.Refusals.{Request, State, first_line, flushes, is_refused_write, lacks_data};
@@ -17,10 +18,7 @@ use crate::device::Device;
 use crate::plans::Plan;
 use scsi_cdb::{address_of, blocks_of, length_of};
 use task_set::{BLOCK_BYTES, ShortData, Status};
-use ufs_spec::{Cdb, Key, Sense, Tag, UnitSpec};
-
-/// The most blocks of a command (this profile).
-const BLOCKS_A_COMMAND: u32 = 32;
+use ufs_spec::{Cdb, GREATEST_COMMAND, Key, Sense, Tag, UnitSpec};
 
 /// The flags of a COMMAND whose data go to the device, and of one whose data come from it (JESD220,
 /// 10.7.1).
@@ -46,9 +44,9 @@ fn lacks_data(cdb: &Cdb, flags: u8, expected: u32) -> bool
 
 /// Whether the command has more blocks than a command may have.
 fn has_too_many_blocks(cdb: &Cdb) -> bool
-    ensures { result ≡ nat_lt 32 (blocks_of cdb.now) }
+    ensures { result ≡ nat_lt greatest_command (blocks_of cdb.now) }
 {
-    blocks_of(cdb) > BLOCKS_A_COMMAND
+    blocks_of(cdb) > u32::from(GREATEST_COMMAND)
 }
 
 /// Whether a block of the command lies past the unit.
@@ -95,7 +93,7 @@ fn slots_needed(cdb: &Cdb) -> u32
 
 /// What a command that passed the checks does.
 fn plan_of(cdb: &Cdb, unit: UnitSpec, lun: u8, expected: u32) -> Plan
-    requires { blocks_of cdb.now ≤ 32 }
+    requires { blocks_of cdb.now ≤ greatest_command }
     ensures { IsTakenCdb cdb.now → result ≡ plan_of unit lun expected cdb.now }
 {
     let key = Key {
@@ -146,7 +144,7 @@ fn read_plan(key: Key, length: u32, expected: u32) -> Plan
 
 /// What a WRITE of so many blocks does.
 fn write_plan(key: Key, blocks: u32, forced: bool) -> Plan
-    requires { blocks ≤ 32 }
+    requires { blocks ≤ greatest_command }
     ensures { key ≡ data_key key.unit key.address → result ≡ write_plan key.unit key.address blocks forced }
 {
     if blocks == 0 {
@@ -221,7 +219,7 @@ impl Device {
         ensures what { (s : State) (r : Request) → IsLayer self.now.ftl s.translation →
             IsBare s self.now.is_permanent → spec_of s r ≡ Some unit → r.flags ≡ flags → r.expected ≡ expected →
             IsTakenCdb cdb.now → first_line (lines_for s r cdb.now) ≡ option_map status_kept result }
-        ensures few { result ≡ None → blocks_of cdb.now ≤ 32 }
+        ensures few { result ≡ None → blocks_of cdb.now ≤ greatest_command }
     {
         if has_too_many_blocks(cdb) {
             return Some(Status::CheckCondition(Sense::INVALID_FIELD));

@@ -3,8 +3,9 @@ ghost use Rattle.std.specs.Prelude.{◌≡◌, ◌<◌, length, ◌∷◌, ◌++
 ghost use Rattle.std.specs.Prelude.{IfSome, OnErr, OnOk};
 ghost use Rattle.device.specs.Calls.{HasBegun, HasClaimed, HasGathered, HasKept, HasTaken};
 ghost use Rattle.device.specs.Hears.{IsDataHeard, IsTaskOpened, asked_for};
-ghost use Rattle.device.specs.Hears.{short_answer, with_phase, uses, with_short, with_task};
+ghost use Rattle.device.specs.Hears.{short_answer, with_event, uses, with_short, with_task};
 ghost use Rattle.task_set.specs.Kept.{newly_open};
+ghost use Rattle.ufs_spec.specs.Exchanges.{most_tasks};
 ghost use Rattle.ufs_spec.specs.Refusals.{State};
 ghost use Rattle.device.specs.Describes.{Describes, IsHeardAs};
 ghost use Rattle.std.specs.Prelude.{ℕ, List, nat_le};
@@ -100,7 +101,7 @@ impl Device {
 
     /// Whether as many tasks are open as may be.
     fn is_full(&self) -> bool
-        ensures { result ≡ nat_le 32 (length self.now.tasks) }
+        ensures { result ≡ nat_le most_tasks (length self.now.tasks) }
     {
         self.set.is_full()
     }
@@ -132,7 +133,7 @@ impl Device {
 
     /// A command becomes a task, refused or not.
     fn open_task(&mut self, flags: u8, lun: u8, tag: u8, expected: u32, cdb: &[u8; 16])
-        requires { length self.old.tasks < 32 }
+        requires { length self.old.tasks < most_tasks }
         ensures { IsTaskOpened self.old self.new flags lun tag expected cdb.now }
     {
         let planned = self.plan(lun, flags, expected, cdb);
@@ -147,13 +148,13 @@ impl Device {
 
     /// One task more.
     fn push_task(&mut self, task: Task)
-        requires { length self.old.tasks < 32 }
+        requires { length self.old.tasks < most_tasks }
         ensures { self.new ≡ with_task self.old (newly_open task) }
     {
         self.set.open(task);
     }
 
-    /// An exchange of one reply is open from now on, if its tag is free and fewer than 32 are open.
+    /// An exchange of one reply is open from now on, if its tag is free and fewer are open than may be.
     fn open_short(&mut self, tag: u8, reply: ShortReply) -> Result<(), HostFault>
         ensures refused { OnErr result (self.new ≡ self.old) }
         ensures answer { result ≡ short_answer self.old tag }
@@ -255,20 +256,17 @@ impl Device {
             return Err(HostFault::NotAskedFor);
         };
         let event = self.gather(tag, asked.transfer, data);
-        let phase = Phase::AwaitData {
-            transfer: asked.transfer,
-        };
-        self.set_phase(asked.index, phase.after(event));
+        self.happen(asked.index, event);
         self.end_waiting();
         Ok(())
     }
 
-    /// The task at this position does this from now on.
-    pub(crate) fn set_phase(&mut self, index: usize, phase: Phase)
+    /// This happened to the task at this position.
+    pub(crate) fn happen(&mut self, index: usize, event: TaskEvent)
         requires { index < length self.old.tasks }
-        ensures { self.new ≡ with_phase self.old index phase }
+        ensures { self.new ≡ with_event self.old index event }
     {
-        self.set.set_phase(index, phase);
+        self.set.happen(index, event);
     }
 
     /// A block that came lies in the slot that was claimed for it. With the last one the group is

@@ -14,10 +14,11 @@ ghost use Rattle.ftl_core.specs.Describes.{Describes as IsLayer, IsLookedAt};
 ghost use Rattle.ftl_core.specs.Moves.{claims_for};
 ghost use Rattle.task_set.specs.declared.tasks.Short.{Short};
 ghost use Rattle.device.specs.Describes.{Describes, IsAnswered, IsReplied};
+ghost use Rattle.device.specs.Hears.{with_event};
 ghost use Rattle.device.specs.Replies.{HasMoved, IsWritten, answer_of, block_at, block_for, block_message, short_message};
 ghost use Rattle.task_set.specs.Kept.{OpenTask};
 ghost use Rattle.task_set.specs.Lists.{read_at, task_at};
-ghost use Rattle.device.specs.Replies.{moved_on, owed_by, owed_in, with_sent, without_first, without_task};
+ghost use Rattle.device.specs.Replies.{moved_on, owed_by, owed_in, without_first, without_task};
 
 use crate::device::Device;
 use crate::responses::{write_answer, write_block, write_data, write_ready, write_short};
@@ -176,15 +177,14 @@ impl Device {
     {
         match task.phase {
             Phase::AskData { transfer: _ } => {
-                self.set_phase(index, task.phase.after(TaskEvent::DataAskedFor));
+                self.happen(index, TaskEvent::DataAskedFor);
             }
             Phase::AwaitData { transfer: _ } => {}
             Phase::SendData { data: _ } => {
-                self.set_phase(index, task.phase.after(TaskEvent::DataSent));
+                self.happen(index, TaskEvent::DataSent);
             }
             Phase::SendBlocks { sending } => {
-                let phase = task.phase.after(TaskEvent::BlockSent);
-                self.block_sent(index, task.tag, sending.sent, phase);
+                self.block_sent(index, task.tag, sending.sent);
             }
             Phase::AwaitFrontier {
                 number: _,
@@ -197,17 +197,16 @@ impl Device {
         }
     }
 
-    /// The task of this position and tag handed out this block of its READ, and wants the next one. It does
-    /// this from now on.
-    fn block_sent(&mut self, index: usize, tag: u8, sent: u16, phase: Phase)
+    /// The task of this position and tag handed out this block of its READ, and wants the next one.
+    fn block_sent(&mut self, index: usize, tag: u8, sent: u16)
         requires { index < length self.old.tasks }
-        ensures left { self.new ≡ record (with_sent self.old index phase) { ftl = self.new.ftl } }
+        ensures left { self.new ≡ record (with_event self.old index TaskEvent.BlockSent) { ftl = self.new.ftl } }
         ensures one { (t : Translation) → IsLayer self.old.ftl t →
             IsLayer self.new.ftl (moved (moved t (LetGo tag sent)) (WantPage tag (sent + 1))) }
         ensures same_claims { claims_for self.new.ftl ≡ claims_for self.old.ftl }
     {
         self.ftl.want_next(tag, sent);
-        self.set.send(index, phase);
+        self.happen(index, TaskEvent::BlockSent);
     }
 
     /// The task of this position and tag has ended and keeps nothing.

@@ -24,6 +24,7 @@ victim c = least_of (live_count c.live) None (filter (may_be_victim c) (spots_in
 abbrev pub is_bad_with_live : Core → Spot → Bool
 is_bad_with_live c s = is_bad (state_of c s.die s.block) && not (is_pinned c s) && nat_lt 0 (live_count c.live s)
 
+-- fewer than 2 * dies + 4 blocks are free
 abbrev pub has_few_free : Core → Bool
 has_few_free c = nat_lt (free_blocks c) (2 * c.numbers.dies + 4)
 

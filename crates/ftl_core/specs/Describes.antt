@@ -52,6 +52,7 @@ use Rattle.ftl_core.specs.Takes.{is_group_page, next_place, step_wants}
 
 -- Blocks
 
+-- the state of a block as it is kept: which page of an open block comes next is kept with its die
 abbrev pub block_kept : disk.BlockState → BlockState
 block_kept disk.Free = state.Free
 block_kept (disk.Filling next) = state.Open
@@ -66,6 +67,7 @@ pub record BlocksKept (n : Numbers) (blocks : Spot → disk.BlockState) (states 
 
 -- Dies
 
+-- a block by the number of its die and its own number there
 abbrev pub spot_at : ℕ → ℕ → Spot
 spot_at die block = record { die = die; block = block }
 
@@ -111,11 +113,13 @@ IsFlight n step die filling (Some (flight.Erase block)) (Some (disk.Erasing s)) 
     (s ≡ spot_at die block) × (block < n.blocks) × (filling ≡ None)
 IsFlight n step die filling kept other = ⊥
 
+-- what is kept of a die: the block that it fills, and the job that it has in flight
 pub record BookKept (n : Numbers) (blocks : Spot → disk.BlockState) (step : Option kept_step.Step) (die : ℕ) (b : Book)
     (f : Option disk.Flight) : Type 0 where
   pub filling : IsFilling n blocks die b.filling
   pub job : IsFlight n step die b.filling b.flight f
 
+-- each die of the configuration has its book, and no other die has a job in flight
 pub record DiesKept (n : Numbers) (blocks : Spot → disk.BlockState) (flights : ℕ → Option disk.Flight)
     (step : Option kept_step.Step) (books : List Book) : Type 0 where
   pub dies : length books ≡ n.dies
@@ -124,6 +128,7 @@ pub record DiesKept (n : Numbers) (blocks : Spot → disk.BlockState) (flights :
 
 -- Groups
 
+-- by number and index, the place where a page of a group stands, if it does
 abbrev pub Standing : Type 0
 Standing = ℕ → ℕ → Option Place
 
@@ -139,6 +144,7 @@ pub record PagesFly (standing : Standing) (flights : ℕ → Option disk.Flight)
   pub one : (d e : ℕ) (name : Name) → flies_name name (flights d) ≡ true → flies_name name (flights e) ≡ true → d ≡ e
   pub new : (d number index : ℕ) → WritesGroup books d number index → standing number index ≡ None
 
+-- a page of a group is named by the group's number and its index in the group
 abbrev pub name_at : ℕ → ℕ → Name
 name_at n i = record { number = n; index = i }
 
@@ -150,7 +156,7 @@ pub record PageKept (standing : Standing) (entries : Name → Option Entry) (p :
   pub group_page : is_group_page p ≡ true
   pub stands : standing name.number name.index ≡ p.written
 
--- page by page
+-- the pending pages are kept page by page, in the order of number and index
 abbrev pub PagesKept : Standing → (Name → Option Entry) → List Pending → List Name → Type 0
 PagesKept standing entries [] [] = Unit {0}
 PagesKept standing entries (p ∷ ps) (name ∷ names) =
@@ -169,6 +175,8 @@ IsStored standing None None = Unit {0}
 IsStored standing (Some s) (Some name) = (name.number ≡ s.number) × (standing name.number name.index ≡ Some s.place)
 IsStored standing s name = ⊥
 
+-- what is kept of the groups: the frontier, the greatest number given, the pending pages, and for each key of the
+-- device where its durable content stands
 pub record LedgerKept (n : Numbers) (stored : List (Option Stored)) (kept : List Pending) (known last : ℕ)
     (l : Ledger) : Type 0 where
   pub frontier : known ≡ l.frontier
@@ -182,7 +190,7 @@ pub record LedgerKept (n : Numbers) (stored : List (Option Stored)) (kept : List
 
 -- Pins
 
--- what was looked up
+-- what a reader looked up is the same as specified: nothing was ever written, a slot of the cache, or a page
 abbrev pub IsLookedAt : Looked → ledger.Looked → Type 0
 IsLookedAt looked.Nothing Unwritten = Unit {0}
 IsLookedAt (looked.Slot n i) (InSlot name) = name ≡ name_at n i
@@ -199,6 +207,7 @@ IsLookOf frontier entries k Unwritten = Unit {0}
 IsLookOf frontier entries k (InSlot name) = (frontier < name.number) × IsNameOf entries k name
 IsLookOf frontier entries k (OnPage name place) = IsNameOf entries k name
 
+-- what is kept of one block of a reader: what was looked up when its READ came, and whether its page is still wanted
 pub record PinKept (frontier : ℕ) (entries : Name → Option Entry) (p : Pin) (q : layer.Pin) : Type 0 where
   pub tag : q.tag ≡ p.reader
   pub index : q.index ≡ p.index
@@ -206,6 +215,7 @@ pub record PinKept (frontier : ℕ) (entries : Name → Option Entry) (p : Pin) 
   pub there : IsLookOf frontier entries p.key q.looked
   pub wanted : q.wanted ≡ p.wanted
 
+-- pin by pin, in the same order
 abbrev pub PinsKept : ℕ → (Name → Option Entry) → List Pin → List layer.Pin → Type 0
 PinsKept frontier entries [] [] = Unit {0}
 PinsKept frontier entries (p ∷ ps) (q ∷ qs) = PinKept frontier entries p q × PinsKept frontier entries ps qs
@@ -270,7 +280,8 @@ pub record CopyKept (l : Ledger) (number : ℕ) (k : Key) (read : Option Tag) (c
     pub key : entry.item.key ≡ k
     pub copied : (tag : Tag) → read ≡ Some tag → IsCopied name entry tag content
 
--- the step under way
+-- the step under way is the specified one: a mark, the repair of a key or the copy of a page, with its content there or
+-- still to be read
 abbrev pub StepKept : Ledger → Option kept_step.Step → List ℕ → Option Step → Type 0
 StepKept l None content None = Unit {0}
 StepKept l (Some (steps.Mark n fence)) content (Some s) = s ≡ record { kind = MarkStep n fence; there = true }
@@ -291,6 +302,8 @@ pub record AreToRepair (l : Ledger) (ks : List Key) : Type 0 where
   pub differ : AllPairs (λ a b. a ≢ b) ks
   pub unrepaired : All (λ k. latest_durable l k ≡ l.first_page k) ks
 
+-- what is kept of the work under way: how far the mending is, the step with its content, the next mark number, and the
+-- keys that have no repair yet
 pub record WorkKept (mending : kept.Mending) (left : List Key) (step : Option kept_step.Step) (content : List ℕ)
     (next : ℕ) (w : Work) (l : Ledger) : Type 0 where
   pub mending_is : w.mending ≡ mending_kept mending left
@@ -310,6 +323,7 @@ pub record PlanKept (n : Numbers) (plan : Option Collection) (w : Option layer.P
 
 -- All of it
 
+-- what the layer keeps agrees with the specified layer, part by part
 pub record Kept (c : Core) (t : Translation) : Type 0 where
   pub numbers : c.numbers ≡ t.numbers
   pub blocks : BlocksKept t.numbers t.disk.blocks c.states c.has_bad

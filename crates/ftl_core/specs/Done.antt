@@ -10,16 +10,19 @@ use Rattle.ftl_core.specs.declared.ftl.Ended.{Ended}
 use Rattle.ftl_core.specs.Core.{Core}
 use Rattle.ftl_core.specs.Gives.{GivesIf, IsReadAfter, change_after, ending, is_read, other_for}
 
+-- what is kept once this job ended so: a read by whom it is for, a program and an erase by whether it went well
 abbrev pub IsJobAfter : Core → ℕ → Book → Flight → Outcome → Option Tag → Core → Type 0
 IsJobAfter c die b (flight.Read place reader) o tag new = IsReadAfter (is_read o) c die b o tag reader new
 IsJobAfter c die b (flight.Step place) o tag new = new ≡ change_after c die b (flight.Step place) (ending o)
 IsJobAfter c die b (flight.Group place n i) o tag new = new ≡ change_after c die b (flight.Group place n i) (ending o)
 IsJobAfter c die b (flight.Erase block) o tag new = new ≡ change_after c die b (flight.Erase block) (ending o)
 
+-- what is kept once the job of a die ended so; if it has none in flight nothing changes
 abbrev pub IsFlightAfter : Core → ℕ → Book → Option Flight → Outcome → Option Tag → Core → Type 0
 IsFlightAfter c die b None o tag new = new ≡ c
 IsFlightAfter c die b (Some f) o tag new = IsJobAfter c die b f o tag new
 
+-- what is kept once the job of a die ended so; if the device has no such die nothing changes
 abbrev pub IsBookAfter : Core → ℕ → Option Book → Outcome → Option Tag → Core → Type 0
 IsBookAfter c die None o tag new = new ≡ c
 IsBookAfter c die (Some b) o tag new = IsFlightAfter c die b b.flight o tag new
@@ -33,10 +36,12 @@ abbrev pub JobEnds : Core → Flight → Outcome → Option Ended → Type 0
 JobEnds c (flight.Read place reader) o r = GivesIf (is_read o) c o reader r
 JobEnds c _ o r = r ≡ option_map other_for (ending o)
 
+-- the end of a job that the die does not have is answered with none
 abbrev pub FlightEnds : Core → Option Flight → Outcome → Option Ended → Type 0
 FlightEnds c None o r = r ≡ None
 FlightEnds c (Some f) o r = JobEnds c f o r
 
+-- the end of a job of a die that the device does not have is answered with none
 abbrev pub BookEnds : Core → Option Book → Outcome → Option Ended → Type 0
 BookEnds c None o r = r ≡ None
 BookEnds c (Some b) o r = FlightEnds c b.flight o r

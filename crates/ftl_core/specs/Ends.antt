@@ -52,16 +52,18 @@ page_durable_at c p (Some place) =
     pins_moved (noted c p.key (record { place = place; number = p.number })) p.index
     (record { place = place; number = p.number })
 
+-- the group of a written page is durable, so its key reads from where the page is written
 abbrev pub page_durable : Core → Pending → Core
 page_durable c p = page_durable_at c p p.written
 
--- the same of a page that left its slot
+-- a page that left its slot is durable: its key reads from where it is written, and so does who kept its slot
 abbrev pub landed_at : Core → Landed → Option Place → Core
 landed_at c p None = c
 landed_at c p (Some place) =
     pins_moved (noted c p.key (record { place = place; number = p.number })) p.index
     (record { place = place; number = p.number })
 
+-- a page whose slot is free by now is durable: its key reads from where the page is written
 abbrev pub page_landed : Core → Landed → Core
 page_landed c p = landed_at c p p.written
 
@@ -101,6 +103,7 @@ abbrev pub mending_behind : Mending → Mending
 mending_behind (mending.Unmarked (Some fence)) = mending.Repairing
 mending_behind m = mending.Mended
 
+-- the mark is finished: no step is under way, and the mending goes on behind it
 abbrev pub mark_over : Core → Core
 mark_over c = record c { step = None; mending = mending_behind c.mending }
 
@@ -108,6 +111,7 @@ mark_over c = record c { step = None; mending = mending_behind c.mending }
 abbrev pub block_freed : Core → Spot → Core
 block_freed c s = with_state c s.die s.block (freed_state (state_of c s.die s.block))
 
+-- the begun collection, if there is one, is over, and its block is free unless it is bad
 abbrev pub plan_freed : Core → Option Collection → Core
 plan_freed c None = c
 plan_freed c (Some p) = record (block_freed c p.victim) { plan = None }
@@ -144,6 +148,7 @@ copy_stands c n k i p =
     then copy_durable c n k p (stored_of c k)
     else copy_pending c n i p (find (is_named n i) c.pages)
 
+-- the copy is finished: no step is under way, and whatever stood on the old page stands on the copy
 abbrev pub copy_over : Core → ℕ → Key → ℕ → Place → Core
 copy_over c n k i p = copy_stands (record c { step = None }) n k i p
 
@@ -155,6 +160,7 @@ step_over c (Some (step.Repair n k from there)) die b p = page_written (repair_o
 step_over c (Some (step.Copy n k from tag)) die b p =
     settled (page_written (copy_over c n k (index_in tag) p) die b b.filling)
 
+-- the page of the step under way was programmed at this place
 abbrev pub step_written : Core → ℕ → Book → Place → Core
 step_written c die b p = step_over c c.step die b p
 
@@ -166,6 +172,7 @@ step_again c (Some (step.Repair n k from there)) = c
 step_again c (Some (step.Copy n k from tag)) = c
 step_again c None = c
 
+-- the program of the step's page failed: its block is bad, and the step waits again
 abbrev pub step_failed : Core → ℕ → Place → Core
 step_failed c die p = went_bad (step_again c c.step) die p.block
 
@@ -176,6 +183,7 @@ step_there tag (Some (step.Copy n k from before)) = Some (step.Copy n k from tag
 step_there tag (Some (step.Mark n fence)) = Some (step.Mark n fence)
 step_there tag None = None
 
+-- the step under way has the content that was read; if the read gave none, it is still to be read
 abbrev pub with_content : Core → Option Tag → Option (List ℕ) → Core
 with_content c tag None = c
 with_content c tag (Some body) = record c { content = body; step = step_there tag c.step }

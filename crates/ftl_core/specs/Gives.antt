@@ -39,29 +39,35 @@ group_ended c die b place n i true =
     settled (page_written (pending_written c n i place) die b b.filling)
 group_ended c die b place n i false = went_bad c die place.block
 
+-- the program of the step's page ended: well, and the step is over; or it failed, and the step waits again
 abbrev pub step_ended : Core → ℕ → Book → Place → Bool → Core
 step_ended c die b place true = step_written c die b place
 step_ended c die b place false = step_failed c die place
 
+-- an erase ended: well, and the die fills the block; or it failed, and the block is bad
 abbrev pub erase_ended : Core → ℕ → ℕ → Bool → Core
 erase_ended c die block true = erased c die block
 erase_ended c die block false = went_bad c die block
 
+-- what the end of a program or of an erase makes of what is kept; `IsReadAfter` says it of a read
 abbrev pub change_ended : Core → ℕ → Book → Flight → Bool → Core
 change_ended c die b (flight.Read place reader) well = c
 change_ended c die b (flight.Step place) well = step_ended c die b place well
 change_ended c die b (flight.Group place n i) well = group_ended c die b place n i well
 change_ended c die b (flight.Erase block) well = erase_ended c die block well
 
+-- an outcome that only a read has changes nothing for a program or an erase
 abbrev pub change_after : Core → ℕ → Book → Flight → Option Bool → Core
 change_after c die b f None = c
 change_after c die b f (Some well) = change_ended c die b f well
 
+-- the end of a program or of an erase gives nothing to any task
 abbrev pub other_for : Bool → Ended
 other_for well = ended.Other
 
 -- Reads
 
+-- the outcome is one of a read
 abbrev pub is_read : Outcome → Bool
 is_read (outcome.Read page) = true
 is_read outcome.ReadFailed = true
@@ -83,15 +89,17 @@ pub record IsBodyOf (page : Page) (k : Key) (n : ℕ) (body : Option (List ℕ))
       (t : Tag) × IsTag t × IsBlock b × (names t k n ≡ true) × (page ≡ seal_page t b)
   pub none : body ≡ None → (t : Tag) (b : List ℕ) → IsTag t → names t k n ≡ true → page ≡ seal_page t b → ⊥
 
+-- what the page that was read gives for what was looked up: the body, if it is the page of that number; else none
 abbrev pub IsBodyLooked : Page → Key → Looked → Option (List ℕ) → Type 0
 IsBodyLooked page k (looked.Page s) body = IsBodyOf page k s.number body
 IsBodyLooked page k _ body = body ≡ None
 
--- a failed read gives none
+-- what a read gives for the pin of its reader; a read that failed gives none
 abbrev pub IsGiven : Outcome → Pin → Option (List ℕ) → Type 0
 IsGiven (outcome.Read page) p body = IsBodyLooked page p.key p.looked body
 IsGiven _ p body = body ≡ None
 
+-- what a read gives to its reader; a reader who let go meanwhile is given none
 abbrev pub IsGivenTo : Outcome → Option Pin → Option (List ℕ) → Type 0
 IsGivenTo o None body = body ≡ None
 IsGivenTo o (Some p) body = IsGiven o p body
@@ -102,6 +110,7 @@ Gives c o (reader.Task tag index) e =
     (body : Option (List ℕ)) × IsGivenTo o (pin_of c tag index) body × (e ≡ ended.Read tag body)
 Gives c o r e = e ≡ ended.Other
 
+-- a read is answered only if the outcome is one of a read; else the call has no answer
 abbrev pub GivesIf : Bool → Core → Outcome → Reader → Option Ended → Type 0
 GivesIf false c o who r = r ≡ None
 GivesIf true c o who r = (e : Ended) × (r ≡ Some e) × Gives c o who e
@@ -114,7 +123,7 @@ IsContentOf (Some (step.Repair n k (Some s) there)) page body = IsBodyOf page k 
 IsContentOf (Some (step.Copy n k from tag)) page body = IsBodyOf page k n body
 IsContentOf s page body = body ≡ None
 
--- a failed read gives none
+-- what a read gives to the step under way; a read that failed gives none
 abbrev pub IsContentRead : Option Step → Outcome → Option (List ℕ) → Type 0
 IsContentRead s (outcome.Read page) body = IsContentOf s page body
 IsContentRead s _ body = body ≡ None
@@ -126,6 +135,8 @@ IsReadOver c o found reader.Step new =
     (body : Option (List ℕ)) × IsContentRead c.step o body × (new ≡ with_content c found body)
 IsReadOver c o found reader.Nobody new = new ≡ c
 
+-- what is kept after a read: its die is idle, and its reader has what it waited for. An outcome that is not one of a
+-- read changes nothing
 abbrev pub IsReadAfter : Bool → Core → ℕ → Book → Outcome → Option Tag → Reader → Core → Type 0
 IsReadAfter false c die b o found r new = new ≡ c
 IsReadAfter true c die b o found r new =

@@ -15,10 +15,11 @@ use Rattle.write_cache.specs.declared.slots.Pending.{Pending}
 
 -- What is kept of it
 
+-- how many dies, blocks of a die and pages of a block the configuration has
 abbrev pub sizes_of : Numbers → Sizes
 sizes_of n = record { dies = n.dies; blocks = n.blocks; pages = n.pages }
 
--- no page is live
+-- no page is live, and no block has a pin
 abbrev pub none_live : Sizes → Lives
 none_live n = record {
   sizes = n;
@@ -26,11 +27,12 @@ none_live n = record {
   pins = replicate (n.dies * n.blocks) 0;
 }
 
--- the page of a content is live, or it is not, if the content stands anywhere
+-- the page where the content stands is live; where it stands nowhere, all stays
 abbrev pub with_stored : Lives → Option Stored → Lives
 with_stored l None = l
 with_stored l (Some s) = with_live l s.place true
 
+-- the page where the content stood is not live any more; where it stood nowhere, all stays
 abbrev pub without_stored : Lives → Option Stored → Lives
 without_stored l None = l
 without_stored l (Some s) = with_live l s.place false
@@ -43,11 +45,12 @@ lives_of_places n places = fold with_stored (none_live (sizes_of n)) (take (key_
 abbrev pub live_moved : Lives → Option Stored → Place → Lives
 live_moved l old place = with_live (without_stored l old) place true
 
--- a page that was written there, or nowhere, is written here from now on
+-- the page that was written there is not live any more; where none was written, all stays
 abbrev pub without_page : Lives → Option Place → Lives
 without_page l None = l
 without_page l (Some p) = with_live l p false
 
+-- a page of a pending group is live where it is written now, and no more where it was written before
 abbrev pub page_moved : Lives → Option Place → Place → Lives
 page_moved l old place = with_live (without_page l old) place true
 
@@ -62,7 +65,7 @@ abbrev pub IsWrittenAt : List Pending → Place → Type 0
 IsWrittenAt [] p = ⊥
 IsWrittenAt (q ∷ qs) p = (q.written ≡ Some p) ⊎ IsWrittenAt qs p
 
--- one of both
+-- the page is needed: the durable content of a key stands there, or a page of a pending group is written there
 abbrev pub IsHeld : Numbers → List (Option Stored) → List Pending → Place → Type 0
 IsHeld n stored pages p = StandsAt n stored p ⊎ IsWrittenAt pages p
 

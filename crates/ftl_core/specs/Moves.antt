@@ -1,4 +1,5 @@
 -- What the layer's steps make of what it keeps, as the code does it. Describes says what that means.
+use Rattle.ufs_spec.specs.Pages.{greatest_number}
 use Rattle.ufs_spec.specs.declared.configs.Numbers.{Numbers}
 use Rattle.std.specs.Prelude.{ℕ, ◌+◌, ◌-◌, ◌*◌, ◌^◌, ◌==◌, min, nat_le, nat_lt, Bool, true, false, ◌&&◌, ◌||◌, not}
 use Rattle.std.specs.Prelude.{if◌then◌else◌, List, [], ◌++◌, length, map, replicate}
@@ -42,19 +43,24 @@ use Rattle.ftl_core.specs.KnownLive.{lives_of_places}
 
 -- At the start
 
+-- when a life begins a die fills no block and has no job
 abbrev pub idle_book : Book
 idle_book = record { filling = None; flight = None }
 
+-- what a block is when a life begins: one with a written page is closed, since no life fills a block that an earlier
+-- one began
 abbrev pub state_of_found : FoundBlock → BlockState
 state_of_found found.Free = state.Free
 state_of_found found.Closed = state.Closed
 state_of_found found.Bad = state.Bad
 
+-- the scan found the block bad
 abbrev pub is_bad_found : FoundBlock → Bool
 is_bad_found found.Free = false
 is_bad_found found.Closed = false
 is_bad_found found.Bad = true
 
+-- the found page of a content: the place where it stands, and the number of its group
 abbrev pub stored_of_found : FoundPage → Stored
 stored_of_found page = record { place = page.place; number = page.tag.number }
 
@@ -70,13 +76,16 @@ mending_from (Some fence) newest = mending.Unmarked (Some fence)
 mending_from None None = mending.Unmarked None
 mending_from None (Some mark) = mending.Mended
 
+-- how far the mending is when a life begins, by what the scan found
 abbrev pub first_mending : Found → Mending
 first_mending f = mending_from (first_fence f) f.newest
 
+-- the number behind that of the newest mark, and 1 where no mark is. A mark's number counts as the greatest one at most
 abbrev pub number_behind : Option Mark → ℕ
 number_behind None = 1
-number_behind (Some mark) = min mark.number (2 ^ 62) + 1
+number_behind (Some mark) = min mark.number greatest_number + 1
 
+-- the number of the first mark that this life writes
 abbrev pub mark_number_behind : Found → ℕ
 mark_number_behind f = number_behind f.newest
 
@@ -91,8 +100,8 @@ opened n f = record {
   live = lives_of_places n (map (option_map stored_of_found) f.contents.items);
   pages = [];
   claims = [];
-  frontier = min f.greatest_seen (2 ^ 62);
-  last = min f.greatest_seen (2 ^ 62);
+  frontier = min f.greatest_seen greatest_number;
+  last = min f.greatest_seen greatest_number;
   pins = [];
   plan = None;
   mending = first_mending f;
@@ -110,6 +119,7 @@ is_over m = false
 
 -- Room
 
+-- the slots that neither a pending page nor a claim holds
 abbrev pub free_slots : Core → ℕ
 free_slots c = c.numbers.slots - length c.pages - length c.claims
 
@@ -124,26 +134,33 @@ repairs_in None = 0
 abbrev pub next_number : Core → ℕ
 next_number c = c.last + 1
 
+-- a number is left for one group more
 abbrev pub has_number : Core → Bool
-has_number c = nat_lt c.last (2 ^ 62)
+has_number c = nat_lt c.last greatest_number
 
+-- no group is accepted any more: a block is bad, or all numbers are given
 abbrev pub is_locked : Core → Bool
 is_locked c = c.has_bad || not (has_number c)
 
 -- Blocks and dies
 
+-- where the state of a block is in the list, which goes by die and then by block
 abbrev pub state_index : Core → ℕ → ℕ → ℕ
 state_index c die block = die * c.numbers.blocks + block
 
+-- what the block is; a block that is not there counts as bad, so nothing is written to it
 abbrev pub state_of : Core → ℕ → ℕ → BlockState
 state_of c die block = unwrap_or (slice_get c.states (state_index c die block)) state.Bad
 
+-- the block has this state from now on
 abbrev pub with_state : Core → ℕ → ℕ → BlockState → Core
 with_state c die block s = record c { states = slice_set c.states (state_index c die block) s }
 
+-- the die fills this block and has this job from now on
 abbrev pub with_book : Core → ℕ → Book → Core
 with_book c die b = record c { books = slice_set c.books die b }
 
+-- how many blocks of all dies are free
 abbrev pub free_blocks : Core → ℕ
 free_blocks c = count_by is_free c.states
 
@@ -152,6 +169,7 @@ abbrev pub keeps_page : ℕ → ℕ → Looked → Bool
 keeps_page die block (looked.Page s) = (s.place.die == die) && (s.place.block == block)
 keeps_page die block _ = false
 
+-- a reader keeps a page of this block, so the block may not be erased
 abbrev pub keeps : ℕ → ℕ → Pin → Bool
 keeps die block p = keeps_page die block p.looked
 
@@ -161,6 +179,7 @@ is_erasable c die block = is_free (state_of c die block) && not (list_any (keeps
 
 -- What is owed to a die
 
+-- the job in flight is the read for this block of the task with this tag
 abbrev pub flight_reads : ℕ → ℕ → Option Flight → Bool
 flight_reads tag index (Some (flight.Read place (reader.Task other i))) = (tag == other) && (index == i)
 flight_reads tag index _ = false
@@ -169,6 +188,7 @@ flight_reads tag index _ = false
 abbrev pub reads_for : ℕ → ℕ → Book → Bool
 reads_for reader index b = flight_reads reader index b.flight
 
+-- what was looked up lies on this die
 abbrev pub looks_on : ℕ → Looked → Bool
 looks_on die (looked.Page s) = s.place.die == die
 looks_on die _ = false
@@ -177,7 +197,7 @@ looks_on die _ = false
 abbrev pub is_owed_by : List Book → ℕ → Pin → Bool
 is_owed_by books die p = p.wanted && looks_on die p.looked && not (list_any (reads_for p.reader p.index) books)
 
--- the same over the jobs in flight alone
+-- the reader is owed the read of a page of this die, judged by the jobs in flight alone
 abbrev pub is_owed_in : List (Option Flight) → ℕ → Pin → Bool
 is_owed_in flights die p =
     p.wanted && looks_on die p.looked && not (list_any (flight_reads p.reader p.index) flights)
@@ -196,10 +216,11 @@ abbrev pub flight_set : List Book → ℕ → Option Flight → Option Book → 
 flight_set books die f None = books
 flight_set books die f (Some b) = slice_set books die (record { filling = b.filling; flight = f })
 
+-- the die has this job in flight from now on, or none
 abbrev pub in_flight : Core → ℕ → Option Flight → Core
 in_flight c die f = record c { books = flight_set c.books die f (slice_get c.books die) }
 
--- whose content a mark is
+-- the key by which the page of a mark is tagged: kind 4, and no unit or address
 abbrev pub mark_key : Key
 mark_key = record { kind = 4; unit = 0; address = 0 }
 
@@ -223,7 +244,7 @@ single_tag k number frontier = tag_of_page k number 0 1 frontier
 -- a mark with the next number and this fence waits, where a number is left
 abbrev pub mark_ordered : Core → Option Fence → Core
 mark_ordered c fence =
-    if nat_le c.next_mark (2 ^ 62)
+    if nat_le c.next_mark greatest_number
     then record c { step = Some (step.Mark c.next_mark fence); next_mark = c.next_mark + 1 }
     else record c { step = None }
 
@@ -243,6 +264,7 @@ went_bad c die block =
       flight = None;
     }
 
+-- an erase ended well: the die fills the block, from its first page on
 abbrev pub erased : Core → ℕ → ℕ → Core
 erased c die block =
     with_book (with_state c die block state.Open) die record {
@@ -252,9 +274,12 @@ erased c die block =
 
 -- Looking
 
+-- where the durable content of the key stands; none if nothing durable was ever written
 abbrev pub stored_of : Core → Key → Option Stored
 stored_of c k = stored_in c.numbers c.places k
 
+-- the newest content of an address: its pending page if there is one, else its durable page, else nothing was ever
+-- written
 abbrev pub looked_at : Option Pending → Option Stored → Looked
 looked_at (Some p) s = looked.Slot p.number p.index
 looked_at None (Some s) = looked.Page s
@@ -276,7 +301,7 @@ is_of_reader reader p = p.reader == reader
 abbrev pub pin_of : Core → ℕ → ℕ → Option Pin
 pin_of c reader index = find (is_pin_of reader index) c.pins
 
--- what it looks at
+-- what is looked at for this block of the reader, if it is kept
 abbrev pub looked_by : ℕ → ℕ → List Pin → Option Looked
 looked_by reader index ps = option_map (λ (p : Pin). p.looked) (find (is_pin_of reader index) ps)
 
@@ -295,15 +320,17 @@ flight_without tag (Some (flight.Read place (reader.Task other i))) =
     Some (flight.Read place (if other == tag then reader.Nobody else reader.Task other i))
 flight_without tag f = f
 
+-- the die's read for this reader goes on, for nobody
 abbrev pub without_reader : ℕ → Book → Book
 without_reader reader b = record b { flight = flight_without reader b.flight }
 
--- the same of one block of the reader alone
+-- a read in flight for this block of the reader is for nobody; its other reads stay
 abbrev pub flight_without_block : ℕ → ℕ → Option Flight → Option Flight
 flight_without_block tag index (Some (flight.Read place (reader.Task other i))) =
     Some (flight.Read place (if (other == tag) && (i == index) then reader.Nobody else reader.Task other i))
 flight_without_block tag index f = f
 
+-- the die's read for this block of the reader goes on, for nobody
 abbrev pub without_block : ℕ → ℕ → Book → Book
 without_block reader index b = record b { flight = flight_without_block reader index b.flight }
 
@@ -334,6 +361,7 @@ now_stored index s (looked.Slot n i) =
 now_stored index s (looked.Page t) = looked.Page t
 now_stored index s looked.Nothing = looked.Nothing
 
+-- a pin on the slot of the page is on the page's place from now on; any other pin stays
 abbrev pub moved_pin : ℕ → Stored → Pin → Pin
 moved_pin index s p = record p { looked = now_stored index s p.looked }
 
@@ -375,6 +403,7 @@ accepted c reader k =
 abbrev pub repair_step : Core → Key → Step
 repair_step c k = step.Repair (next_number c) k (stored_of c k) (is_none (stored_of c k))
 
+-- the repair of the key is the step under way: it takes a number, and its content is still to be read
 abbrev pub repair_ordered : Core → Key → Core
 repair_ordered c k =
     record c {
@@ -386,4 +415,4 @@ repair_ordered c k =
 
 -- a mark is due where a number is left
 abbrev pub has_mark_number : Core → Bool
-has_mark_number c = nat_le c.next_mark (2 ^ 62)
+has_mark_number c = nat_le c.next_mark greatest_number

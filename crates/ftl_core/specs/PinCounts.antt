@@ -33,13 +33,13 @@ block_pinned l (looked.Page s) =
 block_pinned l (looked.Slot n i) = l
 block_pinned l looked.Nothing = l
 
--- it has one pin less
+-- the block of the page that is looked at has one pin less, if a page is
 abbrev pub block_unpinned : Lives → Looked → Lives
 block_unpinned l (looked.Page s) = with_pins l (spot_of s.place) (pins_of l (spot_of s.place) - 1)
 block_unpinned l (looked.Slot n i) = l
 block_unpinned l looked.Nothing = l
 
--- a pin that passes goes
+-- a pin for which the test holds goes, and its block has one pin less
 abbrev pub let_go : (Pin → Bool) → Lives → Pin → Lives
 let_go goes l p = if goes p then block_unpinned l p.looked else l
 

@@ -6,6 +6,7 @@ use Rattle.ftl_core.specs.declared.books.Book.{Book}
 use Rattle.ftl_core.specs.declared.books.Flight.{Flight}
 use Rattle.ftl_core.specs.declared.books.Step.{Step}
 use Rattle.ftl_core.specs.declared.books.Step.TheVariants as step
+use Rattle.ufs_spec.specs.Pages.{greatest_number}
 use Rattle.ufs_spec.specs.Pages.{IsTag}
 use Rattle.ftl_core.specs.Core.{Core}
 use Rattle.ftl_core.specs.PinCounts.{ArePinsCounted, without_pins}
@@ -39,10 +40,11 @@ core_of f = record {
   next_mark = f.next_mark;
 }
 
--- the number of the step under way is one, and the tag of a page that is copied is one
+-- a number that a group or a mark may have: from 1 to the greatest one
 abbrev pub IsNumber : ℕ → Type 0
-IsNumber n = (1 ≤ n) × (n ≤ 2 ^ 62)
+IsNumber n = (1 ≤ n) × (n ≤ greatest_number)
 
+-- the step under way has what a page of it needs: a mark and a repair a number, a copy the tag that was read
 abbrev pub IsStep : Option Step → Type 0
 IsStep None = Unit {0}
 IsStep (Some (step.Mark n fence)) = IsNumber n
@@ -57,7 +59,7 @@ pub record IsRoomy (f : Inside) : Type 0 where
   pub keys : f.places.numbers ≡ f.config
   pub slots : f.cache.slots ≡ f.config.slots
   pub first_mark : 1 ≤ f.next_mark
-  pub last_mark : f.next_mark ≤ 2 ^ 62 + 1
+  pub last_mark : f.next_mark ≤ greatest_number + 1
   pub step : IsStep f.step
   pub pins : length f.pins.items ≤ 1024
   pub pin_room : 1024 ≤ vec_capacity f.pins

@@ -29,7 +29,7 @@ pub record StopsRight (core : Core) (t : Translation) : Type 0 where
   pub kept : Kept core t
   pub each : (left : Cells) → CellCrash t.disk.cells t.disk.flights left → IsLeftRight t left
 
--- so it is once the die has the job that was told, or none
+-- what a stop may leave is right also once the die has the job that it was told, or none
 abbrev pub StopsRightGiven : Translation → ℕ → Option Job → Core → Type 0
 StopsRightGiven t die told after =
     (job : Option disk.Flight) × (told ≡ option_map disk.job_of job) × StopsRight after (given t die job)

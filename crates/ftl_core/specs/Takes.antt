@@ -4,6 +4,7 @@ use Rattle.std.specs.Prelude.{ℕ, zero, suc, ◌==◌, ◌^◌, nat_le, nat_lt,
 use Rattle.std.specs.Prelude.{if◌then◌else◌}
 use Rattle.std.specs.Prelude.{find, is_none, is_some, List, position, slice_get, Option, Some, None, option_and_then, option_map}
 use Rattle.std.specs.List.{list_any}
+use Rattle.ufs_spec.specs.Pages.{greatest_number, group_bound}
 use Rattle.ufs_spec.specs.Pages.{mark_bytes, seal_page}
 use Rattle.ufs_spec.specs.declared.flash.Job.{Job}
 use Rattle.ufs_spec.specs.declared.flash.Job.TheVariants as job
@@ -44,6 +45,7 @@ lowest_below test (suc n) = found_or (lowest_below test n) (test n) n
 
 -- What waits
 
+-- the job in flight programs the page of a group with this number and index
 abbrev pub flight_writes : ℕ → ℕ → Option Flight → Bool
 flight_writes number index (Some (flight.Group place n i)) = (number == n) && (index == i)
 flight_writes number index _ = false
@@ -52,6 +54,7 @@ flight_writes number index _ = false
 abbrev pub writes_page : ℕ → ℕ → Book → Bool
 writes_page number index b = flight_writes number index b.flight
 
+-- the job in flight programs the page of the step under way
 abbrev pub is_step_flight : Option Flight → Bool
 is_step_flight (Some (flight.Step place)) = true
 is_step_flight _ = false
@@ -60,6 +63,7 @@ is_step_flight _ = false
 abbrev pub writes_step : Book → Bool
 writes_step b = is_step_flight b.flight
 
+-- the job in flight is the read that the step under way needs
 abbrev pub is_step_reading : Option Flight → Bool
 is_step_reading (Some (flight.Read place reader.Step)) = true
 is_step_reading _ = false
@@ -72,7 +76,7 @@ reads_step b = is_step_reading b.flight
 abbrev pub page_waits : List Book → Pending → Bool
 page_waits books p = is_none p.written && not (list_any (writes_page p.number p.index) books)
 
--- the same over the jobs in flight alone
+-- the page is neither written nor in flight, judged by the jobs in flight alone
 abbrev pub page_waits_in : List (Option Flight) → Pending → Bool
 page_waits_in flights p = is_none p.written && not (list_any (flight_writes p.number p.index) flights)
 
@@ -80,6 +84,7 @@ page_waits_in flights p = is_none p.written && not (list_any (flight_writes p.nu
 abbrev pub page_waiting : Core → Option Pending
 page_waiting c = find (page_waits c.books) c.pages
 
+-- a pending page that waits, by the number of its group and its index
 abbrev pub waiting_page : Pending → Waiting
 waiting_page p = waiting.Group p.number p.index
 
@@ -90,6 +95,7 @@ is_step_there (Some (step.Mark n fence)) = true
 is_step_there (Some (step.Repair n k from there)) = there
 is_step_there (Some (step.Copy n k from tag)) = is_some tag
 
+-- the page of the step under way can be programmed, and no die does so yet
 abbrev pub step_waits : Core → Bool
 step_waits c = is_step_there c.step && not (list_any writes_step c.books)
 
@@ -99,9 +105,11 @@ waiting_of c = if step_waits c then Some waiting.Step else option_map waiting_pa
 
 -- What is in flight then
 
+-- the place of the next page of the die's open block
 abbrev pub next_place : ℕ → OpenBlock → Place
 next_place die o = record { die = die; block = o.block; page = o.next }
 
+-- what waits, as the job that programs it at this place
 abbrev pub page_flight : Place → Waiting → Flight
 page_flight place waiting.Step = flight.Step place
 page_flight place (waiting.Group n i) = flight.Group place n i
@@ -115,6 +123,7 @@ abbrev pub waiting_flight : Core → ℕ → Option OpenBlock → Waiting → Op
 waiting_flight c die None w = option_map flight.Erase (block_for c die w)
 waiting_flight c die (Some o) w = Some (page_flight (next_place die o) w)
 
+-- where what was looked up is to be read from; a slot, or a key that was never written, needs no read
 abbrev pub place_in : Looked → Option Place
 place_in (looked.Page s) = Some s.place
 place_in _ = None
@@ -139,6 +148,7 @@ step_read_at c die None = None
 step_read_at c die (Some place) =
     if not (place.die == die) || list_any reads_step c.books then None else Some (flight.Read place reader.Step)
 
+-- the read that the step under way still needs from this die, if no die does it yet
 abbrev pub step_read : Core → ℕ → Option Flight
 step_read c die = step_read_at c die (step_wants c.step)
 
@@ -154,21 +164,18 @@ owed_flight c die filling (Some f) = Some f
 
 -- What the die is told
 
--- how many pages a group has at most
-abbrev pub most_pages : ℕ
-most_pages = 32
-
 -- only data of a unit is programmed as a group, and only what its tag can name
 abbrev pub is_group_page : Pending → Bool
 is_group_page p =
-    (p.key.kind == 1) && nat_le p.key.unit 7 && nat_le 1 p.number && nat_le p.number (2 ^ 62) && nat_lt p.index p.size
-    && nat_le p.size most_pages
+    (p.key.kind == 1) && nat_le p.key.unit 7 && nat_le 1 p.number && nat_le p.number greatest_number && nat_lt p.index p.size
+    && nat_le p.size group_bound
 
 -- the page of a pending group
 abbrev pub page_of_group : Core → Place → Pending → Job
 page_of_group c place p =
     job.Program place (seal_page (tag_of_page p.key p.number p.index p.size c.frontier) p.body)
 
+-- the program of a pending page, if it is one that may be sealed
 abbrev pub group_job_of : Core → Place → Option Pending → Option Job
 group_job_of c place None = None
 group_job_of c place (Some p) = if is_group_page p then Some (page_of_group c place p) else None
@@ -194,6 +201,7 @@ is_sealable k =
 abbrev pub repair_program : Core → Place → ℕ → Key → Job
 repair_program c place n k = job.Program place (seal_page (single_tag k n c.frontier) c.content)
 
+-- the program of a repair, if a tag can name its key
 abbrev pub repair_job : Core → Place → ℕ → Key → Option Job
 repair_job c place n k = if is_sealable k then Some (repair_program c place n k) else None
 
@@ -201,6 +209,7 @@ repair_job c place n k = if is_sealable k then Some (repair_program c place n k)
 abbrev pub copy_program : Core → Place → Tag → Job
 copy_program c place t = job.Program place (seal_page (record t { frontier = c.frontier }) c.content)
 
+-- the program of the step under way. A copy has none until its page was read
 abbrev pub step_job : Core → Place → Option Step → Option Job
 step_job c place None = None
 step_job c place (Some (step.Mark n fence)) = Some (mark_program c place n fence)
@@ -208,6 +217,7 @@ step_job c place (Some (step.Repair n k from there)) = repair_job c place n k
 step_job c place (Some (step.Copy n k from None)) = None
 step_job c place (Some (step.Copy n k from (Some t))) = Some (copy_program c place t)
 
+-- the job in flight as the die is told it: what to read, what to program where, or which block to erase
 abbrev pub job_of : Core → ℕ → Flight → Option Job
 job_of c die (flight.Read place reader) = Some (job.Read place)
 job_of c die (flight.Step place) = step_job c place c.step
@@ -216,10 +226,12 @@ job_of c die (flight.Erase block) = Some (job.Erase die block)
 
 -- A die with a job in flight is given none
 
+-- what an idle die is given; a die with a job in flight is given none
 abbrev pub idle_flight : Core → ℕ → Option OpenBlock → Option Flight → Option Flight
 idle_flight c die filling None = owed_flight c die filling (owed_read c die (first_owed c die))
 idle_flight c die filling (Some f) = None
 
+-- what the die is given, if the device has such a die
 abbrev pub flight_for : Core → ℕ → Option Book → Option Flight
 flight_for c die None = None
 flight_for c die (Some b) = idle_flight c die b.filling b.flight

@@ -13,7 +13,7 @@ use Rattle.write_cache.specs.declared.slots.Claimed.{Claimed}
 use Rattle.ftl_core.specs.declared.books.Looked.{Looked}
 use Rattle.ftl_core.specs.Describes.{IsLookedAt}
 
--- the reader keeps this
+-- the pin is one of this reader
 abbrev pub keeps_for : ℕ → layer.Pin → Bool
 keeps_for reader pin = pin.tag == reader
 
@@ -53,6 +53,7 @@ keep_at t reader k i =
     Keep (key_behind k i)
     (record { tag = reader; index = i; looked = look t.ledger (key_behind k i); wanted = i == 0 })
 
+-- the moves by which a reader keeps so many blocks, from an address on
 abbrev pub keeps_of : Translation → ℕ → Key → ℕ → List Move
 keeps_of t reader k n = map (keep_at t reader k) (below n)
 
@@ -61,6 +62,7 @@ abbrev pub items_behind : Key → ℕ → List (List ℕ) → Group
 items_behind k i [] = []
 items_behind k i (body ∷ bodies) = record { key = key_behind k i; body = body } ∷ items_behind k (i + 1) bodies
 
+-- the group that a WRITE of these blocks makes, the first at this address
 abbrev pub group_of_blocks : Key → List (List ℕ) → Group
 group_of_blocks k bodies = items_behind k 0 bodies
 
@@ -68,6 +70,7 @@ group_of_blocks k bodies = items_behind k 0 bodies
 abbrev pub claim_at : ℕ → ℕ → List ℕ → Claimed
 claim_at reader i body = record { reader = reader; index = i; body = body }
 
+-- claimed slots with these blocks in them, the first of index `i`
 abbrev pub claims_behind : ℕ → ℕ → List (List ℕ) → List Claimed
 claims_behind reader i [] = []
 claims_behind reader i (body ∷ bodies) = claim_at reader i body ∷ claims_behind reader (i + 1) bodies

@@ -8,10 +8,10 @@ ghost use Rattle.unit_map.specs.Places.{position_of};
 ghost use Rattle.write_cache.specs.Slots.{is_page_of, key_at, last_of, last_page, is_named};
 ghost use Rattle.ftl_core.specs.Moves.{claims_for, claimed_all, released, filled};
 ghost use Rattle.write_cache.specs.Slots.{is_claim_of, empty_claim, claim_filled, page_claimed};
-ghost use Rattle.ufs_spec.specs.Configs.{InRange};
 ghost use Rattle.ufs_spec.specs.Keys.{IsKey, below};
 ghost use Rattle.ufs_spec.specs.Ledger.{next_number as next_of_layer, Entry, before_accepted, entry_of};
 ghost use Rattle.ufs_spec.specs.Moves.{Accept, Acknowledge, Claim, IsAllowedMove, LetGo, LetGoAll, Release, WantPage, moved, is_pin_of as is_layer_pin_of};
+ghost use Rattle.ufs_spec.specs.Pages.{greatest_number};
 ghost use Rattle.ufs_spec.specs.Plain.{shape_of_numbers, zero_block};
 ghost use Rattle.ufs_spec.specs.Translation.{Translation, free_slots as layer_slots, is_live as is_live_page, is_locked as is_layer_locked, is_mended, has_pending};
 ghost use Rattle.ufs_spec.specs.Cells.{AreWithin, Cells};
@@ -27,6 +27,7 @@ ghost use Rattle.block_table.specs.Lives.{is_live};
 ghost use Rattle.ftl_core.specs.Tells.{IsPinned, PinsDiffer, claims_of_blocks, group_of_blocks, keeps_for, keeps_of, key_behind};
 
 mod ends;
+mod facts;
 mod pin_counts;
 mod takes;
 mod turns;
@@ -39,12 +40,12 @@ use geometry::{Config, key_count};
 use recovery::{Found, FoundBlock, FoundPage};
 use std::alloc::{AllocError, Global};
 use std::marker::Model;
-use ufs_spec::{Block, Fence, Key, Place, UnitSpec};
+use ufs_spec::{Block, Fence, GREATEST_COMMAND, GREATEST_NUMBER, Key, MOST_TASKS, Place, UnitSpec};
 use unit_map::{Stored, UnitMap};
-use write_cache::{Cache, LAST_NUMBER, key_at};
+use write_cache::{Cache, key_at};
 
-/// How many blocks readers may keep: each of 32 tasks those of a command.
-const MOST_PINS: usize = 1024;
+/// How many blocks readers may keep: each task those of a command.
+const MOST_PINS: usize = MOST_TASKS * GREATEST_COMMAND as usize;
 
 /// How a job ended, for whoever waits for it: a read gives its reader the block that it wants next, or
 /// nothing where it failed or the page is not the one that was looked up.
@@ -86,7 +87,7 @@ pub struct Ftl {
     step: Option<Step>,
     /// What the page of the repair or copy under way holds, once it is there.
     content: Block,
-    /// The number of the next mark, from 1 to 2^62 + 1; the last means that none is left.
+    /// The number of the next mark, from 1 to the greatest and one more; the last means that none is left.
     next_mark: u64,
 }
 
@@ -376,10 +377,10 @@ fn first_mending(found: &Found) -> Mending
 fn mark_number_behind(found: &Found) -> u64
     ensures is { result ≡ mark_number_behind found.now }
     ensures least { 1 ≤ result }
-    ensures greatest { result ≤ 2 ^ 62 + 1 }
+    ensures greatest { result ≤ greatest_number + 1 }
 {
     match &found.newest {
-        Some(mark) => mark.number.min(LAST_NUMBER) + 1,
+        Some(mark) => mark.number.min(GREATEST_NUMBER) + 1,
         None => 1,
     }
 }
@@ -417,7 +418,7 @@ impl Ftl {
         let places = places_of(alloc, found.contents.as_slice())?;
         let mending = first_mending(&found);
         let next_mark = mark_number_behind(&found);
-        let last = found.greatest_seen.min(LAST_NUMBER);
+        let last = found.greatest_seen.min(GREATEST_NUMBER);
         Ok(Ftl {
             blocks: BlockTable::new(alloc, sizes, states)?,
             flights: idle_flights(alloc, sizes.dies)?,
@@ -628,13 +629,6 @@ impl Ftl {
         }
         self.pin_all(reader, key, blocks);
         true
-    }
-
-    /// The numbers of the configuration are in their ranges. It does nothing: its contract says so.
-    fn has_numbers_in_range(&self)
-        ensures { InRange self.now.numbers }
-    {
-        let _ = self.config.numbers();
     }
 
     /// Keeps each of the blocks.

@@ -19,19 +19,22 @@ pub data IsIndex (s : Shape) (k : Key) (i : ℕ) : Type 0 where
   AtArea : k.kind ≡ 2 → k.unit ≡ 0 → k.address < area_pages s → i ≡ sum s.blocks + k.address → IsIndex s k i
   AtSettings : k.kind ≡ 3 → k.unit ≡ 0 → k.address ≡ 0 → i ≡ sum s.blocks + area_pages s → IsIndex s k i
 
--- the same as a function
+-- the index of a block of a unit: behind the blocks of the units before it. None if the device has not this key
 abbrev pub data_index : Shape → Key → Option ℕ
 data_index s k =
     if nat_lt k.unit (length s.blocks) && nat_lt k.address (slice_index_or s.blocks k.unit 0)
     then Some (sum (take k.unit s.blocks) + k.address)
     else None
 
+-- the index of a page of the RPMB area, which is behind the blocks of all units; none if there is no such page
 abbrev pub area_index : Shape → Key → Option ℕ
 area_index s k = if (k.unit == 0) && nat_lt k.address (area_pages s) then Some (sum s.blocks + k.address) else None
 
+-- the index of the settings, which is behind all other keys; none if the key is not theirs
 abbrev pub settings_index : Shape → Key → Option ℕ
 settings_index s k = if (k.unit == 0) && (k.address == 0) then Some (sum s.blocks + area_pages s) else None
 
+-- the index of any key by its kind; none if the device has not this key
 abbrev pub index_of : Shape → Key → Option ℕ
 index_of s k =
     if k.kind == 1 then data_index s k

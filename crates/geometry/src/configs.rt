@@ -1,7 +1,9 @@
 //! The configuration of a device: numbers that have no fault.
 ghost use Rattle.std.specs.Prelude.{◌≡◌, ◌≤◌, ◌*◌, ◌==◌, Some, None, length, count_by, sum_by, IfOk, IfErr};
 ghost use Rattle.std.specs.List.{list_all};
-ghost use Rattle.ufs_spec.specs.Configs.{IsConfig, numbers_of, is_between, unit_in_range, in_range, unit_blocks, pages_kept, blocks_needed, blocks_left, boot_count, config_fault, InRange, HasRoom, HasOneBootUnitEach};
+ghost use Rattle.ufs_spec.specs.Configs.{numbers_of, is_between, unit_in_range, in_range, unit_blocks, pages_kept, blocks_needed, blocks_left, boot_count, config_fault, InRange, HasRoom, HasOneBootUnitEach};
+
+mod facts;
 
 use arrayvec::ArrayVec;
 use std::alloc::AllocError;
@@ -75,13 +77,6 @@ impl Config {
             return Err(ConfigFault::TwoBootUnits);
         }
         Ok(Config { numbers })
-    }
-
-    /// The numbers have no fault. It does nothing: its contract says so.
-    pub fn has_no_fault(&self)
-        ensures { IsConfig self.now }
-    {
-        let _ = &self.numbers;
     }
 
     /// The numbers.

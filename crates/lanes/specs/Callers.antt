@@ -33,6 +33,7 @@ abbrev pub job_of : {D : Type 0} → Option (LaneView D) → Option Job
 job_of None = None
 job_of (Some l) = l.job
 
+-- how the job went that was worked and is not ended, if there is one
 abbrev pub outcome_in : Option Went → Option Outcome
 outcome_in None = None
 outcome_in (Some w) = Some w.outcome
@@ -48,6 +49,7 @@ DieIs state failed l die None = die ≡ l.content
 DieIs state failed l die (Some o) = (j : Job) × (l.job ≡ Some j)
     × dies.Did (failed l.content) (failed die) (state l.content) j o (state die)
 
+-- the caller has a lane, and its die is the one of this number, as the lane's view knows it
 abbrev pub HasDie : {D : Type 0} → (D → DieState) → (D → ℕ) → Option (LaneView D) → ℕ → D → Option Outcome → Type 0
 HasDie state failed None number die ended = ⊥
 HasDie state failed (Some l) number die ended = (l.die ≡ number) × DieIs state failed l die ended
@@ -61,11 +63,13 @@ FailedOnlyIf outcome.Failed rose = rose
 
 -- New callers
 
+-- a port that was just dealt: it knows the opening, and has seen no step
 pub record IsNewPort {D : Type 0} (opening : Option (Opening D)) (id : TableId) (p : Caller D) : Type 0 where
   pub table : p.table ≡ id
   pub opened : p.view.opening ≡ opening
   pub nothing_seen : p.view.seen ≡ []
 
+-- a lane that was just dealt: it knows the opening, has seen no step, and its die has no job
 pub record IsNewLane {D : Type 0} (opening : Option (Opening D)) (id : TableId) (p : LaneCaller D) : Type 0 where
   pub table : p.table ≡ id
   pub opened : p.view.opening ≡ opening

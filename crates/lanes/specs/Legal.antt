@@ -19,16 +19,19 @@ use Rattle.lanes.specs.declared.view.Made.TheVariants as made
 abbrev pub shown : Bool → List ℕ → Option (List ℕ)
 shown due bytes = cond due (Some bytes) None
 
+-- the reply of the step is the one that the event shows, byte by byte, or both are none
 abbrev pub IsReplyTold : Option (List ℕ) → Output → Type 0
 IsReplyTold None (output.Reply None) = Unit {0}
 IsReplyTold (Some bytes) (output.Reply (Some told)) = told.items ≡ bytes
 IsReplyTold reply told = ⊥
 
+-- the die did the job as it was told
 abbrev pub WentWell : Outcome → Type 0
 WentWell (outcome.Read page) = Unit {0}
 WentWell outcome.Done = Unit {0}
 WentWell o = ⊥
 
+-- the die reported that the job failed
 abbrev pub HasFailed : Outcome → Type 0
 HasFailed outcome.ReadFailed = Unit {0}
 HasFailed outcome.Failed = Unit {0}
@@ -75,10 +78,11 @@ abbrev pub Legal : State → List Entry → State → Type 0
 Legal s [] t = t ≡ s
 Legal s (e ∷ es) t = (next : State) × Follows s e.made next × Legal next es t
 
+-- a step, with the number of the seat that made it
 abbrev pub step_by : ℕ → Made → Entry
 step_by by made = record { by = by; made = made }
 
--- the steps of one seat
+-- of a list the steps that one seat made, in their order
 abbrev pub mine : ℕ → List Entry → List Entry
 mine by [] = []
 mine by (e ∷ es) = cond (e.by == by) (e ∷ mine by es) (mine by es)

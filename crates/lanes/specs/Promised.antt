@@ -44,7 +44,7 @@ pub record MayBeStopped (w : WorldState) (lefts : List Leftover) : Type 0 where
   pub apart : AllPairs (λ l m. die_of l ≢ die_of m) lefts
   pub lawful : All (λ l. MayDieLeave w (die_of l) l) lefts
 
--- with the stop at their end too
+-- the steps of the list as events, and then a stop, keep the promise over the dies of the opening
 abbrev pub KeepsItsPromiseStopped : {D : Type 0} → (D → DieState) → Opening D → List Entry → Vec Leftover → Type 0
 KeepsItsPromiseStopped state opening list lefts =
     KeepsItsPromise state opening list (event.Stop lefts ∷ []) (output.Stopped ∷ [])
@@ -68,7 +68,7 @@ pub record IsStoppedSafely {D : Type 0} (state : D → DieState) (opening : Open
 abbrev pub HasPagesOf : DieState → DieState → Type 0
 HasPagesOf before now = (block page : ℕ) → page_at now block page ≡ page_at before block page
 
--- its pages are as they were, or as a leftover of the job says that the job may leave
+-- the die's pages are as they were, or as a leftover of the job says that the job may leave
 abbrev pub IsAsLeft : ℕ → DieState → Job → DieState → Type 0
 IsAsLeft pages before j now =
     HasPagesOf before now

@@ -39,6 +39,7 @@ world_over state core dies = record {
   is_over = false;
 }
 
+-- the device with the dies of its opening, before any step
 abbrev pub opened_world : {D : Type 0} → (D → DieState) → Opening D → WorldState
 opened_world state opening = world_over state opening.device.value opening.dies.value.items
 
@@ -47,6 +48,7 @@ abbrev pub IsStartOver : {D : Type 0} → (D → DieState) → DeviceCore → Li
 IsStartOver state core dies start = IsOpened core.ftl.numbers (array_of (map state dies)) (bad_of (map state dies))
     start
 
+-- a state that the device of this opening may begin in
 abbrev pub IsStart : {D : Type 0} → (D → DieState) → Opening D → State → Type 0
 IsStart state opening start = IsStartOver state opening.device.value opening.dies.value.items start
 
@@ -59,6 +61,7 @@ pub record IsOpeningOf {D : Type 0} (state : D → DieState) (core : DeviceCore)
   pub described : (start : State) → IsOpened config (array_of (map state dies)) (bad_of (map state dies)) start →
       Describes core start
 
+-- what the table was opened with is a device as its opening over these dies gave it
 abbrev pub IsOpening : {D : Type 0} → (D → DieState) → Opening D → Type 0
 IsOpening state opening = IsOpeningOf state opening.device.value opening.dies.value.items
 
@@ -66,6 +69,7 @@ IsOpening state opening = IsOpeningOf state opening.device.value opening.dies.va
 abbrev pub IsLegal : {D : Type 0} → (D → DieState) → Opening D → List Entry → Type 0
 IsLegal state opening list = (start : State) → IsStart state opening start → (now : State) × Legal start list now
 
+-- the list is legal by the opening that a seat knows; a seat that knows no opening can say so of no list
 abbrev pub IsLegalIf : {D : Type 0} → (D → DieState) → Option (Opening D) → List Entry → Type 0
 IsLegalIf state None list = ⊥
 IsLegalIf state (Some opening) list = IsLegal state opening list
@@ -95,6 +99,7 @@ SameDie None None = Unit {0}
 SameDie (Some l) (Some m) = m.die ≡ l.die
 SameDie before after = ⊥
 
+-- if the seat has a lane, the lane's die and its job in flight are what the lane knows
 abbrev pub AgreesIf : {D : Type 0} → (D → DieState) → WorldState → Option (LaneView D) → Type 0
 AgreesIf state w None = Unit {0}
 AgreesIf state w (Some l) = Agrees state w l
@@ -162,6 +167,8 @@ pub record Deals {D : Type 0} (state : D →
   pub undealt : (n : ℕ) → n < dealer.lanes → (die_at w.dies n ≡ die_at (map state opening.dies.value.items) n)
       × (job_at w.jobs n ≡ None)
 
+-- the rule: there is one list, legal from each beginning, that leads to the core and its dies as they are. Each seat
+-- knows a beginning of it, and the core is in its slot or with one seat that has seen it all
 pub record Kept {D : Type 0} (state : D →
     DieState) (opening : Opening D) (s : table.State DeviceCore (View D)) : Type 0 where
   pub list : List Entry
@@ -195,6 +202,7 @@ first_view opening = record {
 
 -- Steps at a seat
 
+-- what a caller has at its seat: its view, and the core while the seat has it
 abbrev pub Mine : Type 0 → Type 0
 Mine D = Me DeviceCore (View D)
 
@@ -227,6 +235,7 @@ pub record WasOut {D : Type 0} (state : D → DieState) (v : View D) : Type 0 wh
   pub there : get_elem? found.views seat ≡ maybe.some v
   pub out : IsOut found kept.list kept.world.core
 
+-- what an attempt at the core gives: it was in its slot, and the seat has it; or it was out, and nothing changes
 abbrev pub Seized : {D : Type 0} → (D → DieState) → Mine D → ℕ → Mine D → Type 0
 Seized state m found n = (found ≡ 0 → HasTaken m n) × (found ≢ 0 → (n ≡ m) × WasOut state m.0)
 
@@ -262,6 +271,7 @@ abbrev pub job_given : Option Job → Option Job → Option Job
 job_given had None = had
 job_given had (Some j) = Some j
 
+-- what a lane knows after it asked for a job: the job, or what it had if none was given
 abbrev pub lane_given : {D : Type 0} → Option (LaneView D) → Option Job → Option (LaneView D)
 lane_given None told = None
 lane_given (Some l) told = Some record l { job = job_given l.job told }
@@ -278,6 +288,7 @@ HasDone state failed (Some l) number die o =
     (l.die ≡ number)
     × ((j : Job) × (l.job ≡ Some j) × dies.Did (failed l.content) (failed die) (state l.content) j o (state die))
 
+-- the seat is that of the lane of this die
 abbrev pub IsLaneOf : {D : Type 0} → Option (LaneView D) → ℕ → Type 0
 IsLaneOf None number = ⊥
 IsLaneOf (Some l) number = l.die ≡ number
@@ -300,16 +311,20 @@ newcomer dealer lane = record {
   other = [];
 }
 
+-- the seat that is dealt to a caller without a die
 abbrev pub new_port : {D : Type 0} → View D → View D
 new_port dealer = newcomer dealer None
 
+-- the dealer has one number less to give: the next seat gets the number after it
 abbrev pub port_dealt : {D : Type 0} → View D → View D
 port_dealt dealer = record dealer { numbers = dealer.numbers + 1 }
 
+-- what a new lane knows of its die: what it holds, and that it has no job
 abbrev pub new_lane_of : {D : Type 0} → ℕ → Option D → Option (LaneView D)
 new_lane_of n None = None
 new_lane_of n (Some die) = Some record { die = n; content = die; job = None }
 
+-- what a new lane knows of the die of this number; none if the device was opened over no such die
 abbrev pub lane_at : {D : Type 0} → Option (Opening D) → ℕ → Option (LaneView D)
 lane_at None n = None
 lane_at (Some opening) n = new_lane_of n (slice_get opening.dies.value.items n)
@@ -318,6 +333,7 @@ lane_at (Some opening) n = new_lane_of n (slice_get opening.dies.value.items n)
 abbrev pub new_lane : {D : Type 0} → View D → View D
 new_lane dealer = newcomer dealer (lane_at dealer.opening (dealer.lanes - 1))
 
+-- the dealer gave a number and a die: the next lane gets the die before it
 abbrev pub lane_dealt : {D : Type 0} → View D → View D
 lane_dealt dealer = record dealer { numbers = dealer.numbers + 1; lanes = dealer.lanes - 1 }
 
@@ -327,6 +343,7 @@ IsDealer id seat = IsSeatOf id seat × (seat.id ≡ 0)
 
 -- Telling what was seen
 
+-- the longer of two lists. Both are beginnings of the one list, so the shorter is a beginning of it
 abbrev pub longer : List Entry → List Entry → List Entry
 longer xs ys = cond (nat_le (length xs) (length ys)) ys xs
 
@@ -346,6 +363,7 @@ messenger seen = record {
   other = [];
 }
 
+-- what is left of a messenger that was heard: a seat that has seen nothing
 abbrev pub spent : {D : Type 0} → View D
 spent = messenger []
 
@@ -353,6 +371,7 @@ spent = messenger []
 abbrev pub both : {D : Type 0} → View D → View D → View D
 both v w = record v { seen = longer v.seen w.seen; looks = true; before = v.seen; other = w.seen }
 
+-- the seat looked into the core's slot: the two lists that it was to compare are beginnings of its own
 abbrev pub Looked : {D : Type 0} → Mine D → Mine D → Type 0
 Looked m n = (n ≡ (record m.0 { looks = false }, m.1)) × (m.0.looks ≡ true → Compared m.0)
 

@@ -15,6 +15,7 @@ TurnedTimes state zero v w = w ≡ v
 TurnedTimes {D} state (suc n) v w =
     (between : View D) × TurnedTimes state n v between × ((due : Bool) × Did state between (made.Turn due) None w)
 
+-- the seat made some number of turns, and no other step
 abbrev pub HasTurned : {D : Type 0} → (D → DieState) → View D → View D → Type 0
 HasTurned state v w = (n : ℕ) × TurnedTimes state n v w
 
@@ -37,5 +38,6 @@ ServedTimes {D} state number (suc n) v w =
     (between : View D) × ServedTimes state number n v between
     × (HasAsked state number between w ⊎ HasFinished state number between w)
 
+-- the seat made some number of steps, each of which asks for a job or ends one
 abbrev pub HasServed : {D : Type 0} → (D → DieState) → ℕ → View D → View D → Type 0
 HasServed state number v w = (n : ℕ) × ServedTimes state number n v w

@@ -11,6 +11,7 @@ AskedTimes state zero v w = w ≡ v
 AskedTimes {D} state (suc n) v w =
     (between : View D) × AskedTimes state n v between × Did state between (made.Reply None) None w
 
+-- the seat asked some number of times for a reply, and none was due
 abbrev pub AskedInVain : {D : Type 0} → (D → DieState) → View D → View D → Type 0
 AskedInVain state v w = (n : ℕ) × AskedTimes state n v w
 

@@ -1,5 +1,5 @@
 //! One attempt at each of the five calls, at a seat.
-ghost use Rattle.std.specs.Prelude.{◌≡◌, ◌<◌, ◌^◌, None, false, length};
+ghost use Rattle.std.specs.Prelude.{◌≡◌, None, false};
 ghost use Rattle.page_tag.specs.Jobs.{IsTagRead};
 ghost use Rattle.lanes.specs.Attempts.{IfBusy, IfDid};
 ghost use Rattle.lanes.specs.Legal.{shown};
@@ -7,19 +7,13 @@ ghost use Rattle.lanes.specs.Rule.{Did, HasDone, IsLaneOf, IsSeatOf, Rests, WasO
 ghost use Rattle.lanes.specs.Rule.{lane_given};
 ghost use Rattle.lanes.specs.declared.view.Made.TheVariants as made;
 
+use crate::facts::is_in_memory;
 use crate::place::{Core, Place, put_back, seize};
 use crate::tried::Tried;
 use nand_model::Die;
 use page_tag::UnsealedJob;
 use std::marker::Brand;
 use ufs_spec::{HostFault, Job, Outcome, Tag, Upiu};
-
-/// What lies in memory is shorter than half of it.
-fn is_in_memory(bytes: &[u8])
-    ensures { length bytes.now < 2 ^ 63 }
-{
-    let _ = bytes.len();
-}
 
 /// One attempt to hear a message.
 pub(crate) fn try_host<D: Die>(

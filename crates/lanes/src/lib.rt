@@ -4,6 +4,7 @@
 
 mod calls;
 mod deal;
+mod facts;
 mod keeper;
 mod lane;
 mod laws;

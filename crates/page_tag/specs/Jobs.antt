@@ -27,7 +27,7 @@ pub record IsTagOf (page : Page) (found : Option Tag) : Type 0 where
   pub sealed : IfSome found (λ t. IsTag t × (page ≡ seal_page t page.body))
   pub refused : found ≡ None → (t : Tag) (b : List ℕ) → IsTag t → ¬ (page ≡ seal_page t b)
 
--- the same of the page that was read; there is no tag if none was read
+-- the tag is that of the page that was read; there is no tag if no page was read
 abbrev pub IsTagRead : Outcome → Option Tag → Type 0
 IsTagRead (outcome.Read page) found = IsTagOf page found
 IsTagRead outcome.ReadFailed found = found ≡ None

@@ -1,9 +1,8 @@
 //! What a page is.
-ghost use Rattle.std.specs.Prelude.{◌≡◌, length};
 ghost use Rattle.page_tag.specs.Contents.{cell_of};
 ghost use Rattle.ufs_spec.specs.Cells.{IsCell};
-ghost use Rattle.ufs_spec.specs.Keys.{IsBlock};
 
+use crate::facts::bytes_are_a_block;
 use crate::mark_read::mark_in;
 use crate::page::open;
 use crate::settings::is_settings_body;
@@ -36,7 +35,7 @@ pub enum Content {
 pub fn content_of(page: &Page) -> Content
     ensures { IsCell page.now (cell_of result) }
 {
-    one_block(&page.body);
+    bytes_are_a_block(&page.body);
     let Some(opened) = open(page) else {
         return Content::Nothing;
     };
@@ -51,9 +50,3 @@ pub fn content_of(page: &Page) -> Content
     }
     Content::Group(opened)
 }
-
-// A law: 4096 bytes are a block.
-fn one_block(bytes: &[u8])
-    requires { length bytes.now ≡ 4096 }
-    ensures { IsBlock bytes.now }
-{}

@@ -1,15 +1,13 @@
 //! The first 64 spare bytes, which say whose the page is.
 ghost use Rattle.std.specs.Prelude.{◌≡◌, ◌^◌, ◌<◌, ◌≤◌, ◌↔◌, IsTrue};
-ghost use Rattle.ufs_spec.specs.Pages.{IsTag, spare_front, tag_in};
+ghost use Rattle.ufs_spec.specs.Pages.{IsTag, greatest_number, group_bound, spare_front, tag_in};
 
 use ufs_bytes::{read_u32, read_u64, write_u32, write_u64};
-use ufs_spec::Tag;
+use ufs_spec::{GREATEST_COMMAND, GREATEST_NUMBER, Tag};
 
 const MAGIC: &[u8; 4] = b"UFSP";
 
 const VERSION: u8 = 1;
-
-const HIGHEST_NUMBER: u64 = 1 << 62;
 
 /// Whether a tag is within its ranges.
 pub fn is_tag(tag: &Tag) -> bool
@@ -44,14 +42,14 @@ fn is_of_its_kind(tag: &Tag) -> bool
 
 // Whether the number, the place in the group and the recorded frontier are within their ranges.
 fn is_counted(tag: &Tag) -> bool
-    ensures { IsTrue result ↔ ((1 ≤ tag.now.number) × (tag.now.number ≤ 2 ^ 62) × (tag.now.size ≤ 32)
-        × (tag.now.index < tag.now.size) × (tag.now.frontier ≤ 2 ^ 62)) }
+    ensures { IsTrue result ↔ ((1 ≤ tag.now.number) × (tag.now.number ≤ greatest_number) × (tag.now.size ≤ group_bound)
+        × (tag.now.index < tag.now.size) × (tag.now.frontier ≤ greatest_number)) }
 {
     1 <= tag.number
-        && tag.number <= HIGHEST_NUMBER
-        && tag.size <= 32
+        && tag.number <= GREATEST_NUMBER
+        && tag.size <= GREATEST_COMMAND
         && tag.index < tag.size
-        && tag.frontier <= HIGHEST_NUMBER
+        && tag.frontier <= GREATEST_NUMBER
 }
 
 /// The spare bytes before the check.

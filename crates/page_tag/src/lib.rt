@@ -5,6 +5,7 @@
 
 mod check;
 mod contents;
+mod facts;
 mod front;
 mod jobs;
 mod mark;
@@ -13,6 +14,7 @@ mod page;
 mod settings;
 
 pub use contents::{Content, Mark, content_of};
+pub use facts::one_seal;
 pub use jobs::{UnsealedJob, tag_read};
 pub use mark::mark_body;
-pub use page::{leftover_ok, one_seal, open, reopened, seal, sealed_tag};
+pub use page::{leftover_ok, open, reopened, seal, sealed_tag};

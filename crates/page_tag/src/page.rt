@@ -69,9 +69,3 @@ pub fn reopened(tag: &Tag, body: &Block) -> Option<Opened>
 {
     open(&seal(tag, body))
 }
-
-/// A law: one page seals one tag and one block. It does nothing; `ftl_core` calls it to have the law at hand.
-pub fn one_seal()
-    ensures tag { (t u : Tag) (b d : List ℕ) → IsTag t → IsTag u → seal_page t b ≡ seal_page u d → t ≡ u }
-    ensures block { (t u : Tag) (b d : List ℕ) → seal_page t b ≡ seal_page u d → b ≡ d }
-{}

@@ -1,6 +1,5 @@
--- What a life knows of numbers and contents, whatever pages they stand on, and what holds of it. Groups are added to
--- it,
--- all else stays for the whole life.
+-- What a life knows of numbers and contents, whatever pages they lie on, and what holds of it. Groups are added
+-- to it, and all else stays for the whole life.
 use Rattle.std.specs.Prelude.{◌≡◌, ◌⊎◌, ℕ, suc, ◌+◌, ◌-◌, ◌<◌, ◌≤◌, nat_le, if◌then◌else◌, List, length, Option, Some}
 use Rattle.std.specs.Prelude.{None, option_and_then, slice_get}
 use Rattle.ufs_spec.specs.Cells.{Cells, Mark, MarkPage, key_of}
@@ -22,6 +21,8 @@ pub record CellsRight (c : Cells) : Type 0 where
 
 -- The book
 
+-- the numbers, the contents at the life's start, the pages of earlier lives by number and index, the page that each key
+-- began with, the greatest number seen, the first lost number, and the groups of this life
 pub record Book : Type 0 where
   pub numbers : Numbers
   pub base : Contents
@@ -31,6 +32,7 @@ pub record Book : Type 0 where
   pub first_lost : ℕ
   pub groups : List Group
 
+-- what a ledger knows of numbers and contents, without where pages stand
 abbrev pub book_of : Numbers → Ledger → Book
 book_of n l = record {
   numbers = n;
@@ -42,6 +44,7 @@ book_of n l = record {
   groups = l.groups;
 }
 
+-- what a translation layer knows of numbers and contents
 abbrev pub book : Translation → Book
 book t = book_of t.numbers t.ledger
 
@@ -56,6 +59,7 @@ page_at b name =
     else option_and_then (λ g. entry_in g name.index) (if nat_le name.number b.greatest_seen then None
     else slice_get b.groups (name.number - b.greatest_seen - 1))
 
+-- the page of this number and index is known, with its key, its content and the size of its group
 abbrev pub IsPageAt : Book → ℕ → ℕ → Entry → Type 0
 IsPageAt b n i e = page_at b (record { number = n; index = i }) ≡ Some e
 
@@ -127,6 +131,8 @@ FirstRight b k (Some name) =
 
 -- What holds of the book
 
+-- what holds of the book in every life: its keys are the device's, no group has a key twice, and the content of each
+-- key at the start is that of its last page below the lost numbers, or zeros
 pub record BookRight (b : Book) : Type 0 where
   -- a block has a page
   pub pages : 1 ≤ b.numbers.pages

@@ -3,6 +3,7 @@
 use Rattle.std.specs.Prelude.{◌≡◌, ℕ, ◌+◌, ◌*◌, ◌<◌, ◌≤◌, ◌^◌, ◌==◌, Bool, true, false, List, [], ◌∷◌, length, Option}
 use Rattle.std.specs.Prelude.{Some, None, slice_index_or}
 use Rattle.std.specs.List.{AllByRecursion, list_any}
+use Rattle.ufs_spec.specs.Pages.{greatest_number}
 use Rattle.ufs_spec.specs.Cells.{Array, Cell, DataHold, IsCell, IsPlace, Opens, Shows}
 use Rattle.ufs_spec.specs.Configs.{IsConfig, command_blocks}
 use Rattle.ufs_spec.specs.Dies.{blank_page}
@@ -32,9 +33,10 @@ pub record EntryFits (e : Entry) (index : ℕ) : Type 0 where
   pub size : e.size ≤ group_bound
   pub inside : index < e.size
 
+-- each page of the book can be sealed: its entry and its number fit into a tag
 pub record BookFits (b : Book) : Type 0 where
   pub entries : (n i : ℕ) (e : Entry) → IsPageAt b n i e → EntryFits e i × (1 ≤ n)
-  pub last : last_number b ≤ 2 ^ 62
+  pub last : last_number b ≤ greatest_number
   -- where numbers are lost, the last of them is a number
   pub lost : b.first_lost ≤ b.greatest_seen → 1 ≤ b.greatest_seen
 
@@ -67,13 +69,16 @@ DeedFits n accepted mended claimed total (Gathering ForFrames gathered asked) = 
 DeedFits n accepted mended claimed total (Awaiting commands) = AwaitsFit accepted mended commands
 DeedFits n accepted mended claimed total deed = Unit {0}
 
+-- how many slots the task has claimed by the command and by what it does now
 abbrev pub claim_of : Numbers → Task → ℕ
 claim_of n task = claimed_by n task.deed task.command
 
+-- each of the tasks does what fits the device as it is now
 abbrev pub DeedsFit : Numbers → ℕ → Bool → List Task → Type 0
 DeedsFit n accepted mended =
     AllByRecursion (λ task. DeedFits n accepted mended (claim_of n task) task.length task.deed)
 
+-- a short exchange that waits for commands waits for accepted ones, on a mended device
 abbrev pub ShortAwaits : ℕ → Bool → Option ℕ → Type 0
 ShortAwaits accepted mended None = Unit {0}
 ShortAwaits accepted mended (Some commands) = AwaitsFit accepted mended commands
@@ -84,6 +89,7 @@ pub record ShortFits (accepted : ℕ) (mended : Bool) (short : Short) : Type 0 w
   pub reply : tag_in short.reply ≡ short.tag
   pub locked_reply : tag_in short.locked_reply ≡ short.tag
 
+-- each of the short exchanges fits the device as it is now
 abbrev pub ShortsFit : ℕ → Bool → List Short → Type 0
 ShortsFit accepted mended = AllByRecursion (ShortFits accepted mended)
 
@@ -92,13 +98,15 @@ abbrev pub TagsDiffer : {A : Type 0} → (A → ℕ) → List A → Type 0
 TagsDiffer tag_of [] = Unit {0}
 TagsDiffer tag_of (x ∷ xs) = (list_any (λ y. tag_of y == tag_of x) xs ≡ false) × TagsDiffer tag_of xs
 
--- nor among tasks, nor among short exchanges, nor in both
+-- no two open tasks have one tag
 abbrev pub TasksDiffer : List Task → Type 0
 TasksDiffer = TagsDiffer (λ (task : Task). task.tag)
 
+-- no two short exchanges have one tag
 abbrev pub ShortsDiffer : List Short → Type 0
 ShortsDiffer = TagsDiffer (λ (short : Short). short.tag)
 
+-- no task has the tag of a short exchange
 abbrev pub AreApart : List Short → List Task → Type 0
 AreApart shorts = AllByRecursion (λ (task : Task). list_any (is_short_of task.tag) shorts ≡ false)
 
@@ -107,6 +115,8 @@ abbrev pub claims_of : Numbers → List Task → ℕ
 claims_of n [] = 0
 claims_of n (task ∷ tasks) = claim_of n task + claims_of n tasks
 
+-- what holds of the open tasks and short exchanges: each fits the device, each tag is in use once, and the claims of
+-- the tasks are among those of the layer
 pub record TasksRight (n : Numbers) (accepted : ℕ) (mended : Bool) (claims : ℕ) (tasks : List Task)
     (shorts : List Short) : Type 0 where
   pub deeds : DeedsFit n accepted mended tasks
@@ -117,6 +127,7 @@ pub record TasksRight (n : Numbers) (accepted : ℕ) (mended : Bool) (claims : �
   -- what tasks have claimed is claimed
   pub claimed : claims_of n tasks ≤ claims
 
+-- the open tasks and short exchanges of a state fit what the state has accepted, mended and claimed
 abbrev pub TasksAreRight : State → Type 0
 TasksAreRight s =
     TasksRight (numbers_of s) (length s.accepted) (is_mended s.translation.work.mending)
@@ -124,6 +135,7 @@ TasksAreRight s =
 
 -- The translation layer is valid, its cells are what the pages show, and its groups are those of the accepted commands
 
+-- the parts of a state go together: its array, its layer, its base, its accepted commands and its tasks
 pub record IsTied (s : State) : Type 0 where
   pub config : IsConfig (numbers_of s)
   pub shown : Shows s.array s.translation.disk.cells
@@ -138,7 +150,7 @@ pub record IsTied (s : State) : Type 0 where
   pub groups : accepted_groups s.translation.ledger ≡ groups_of s.base s.accepted
   pub tasks : TasksAreRight s
   -- marks have numbers that fit
-  pub marks : s.translation.ledger.marks ≤ 2 ^ 62
+  pub marks : s.translation.ledger.marks ≤ greatest_number
   -- once the device is mended each repair is durable
   pub repaired : is_mended s.translation.work.mending ≡ true →
       before_accepted s.translation.ledger ≤ s.translation.ledger.frontier
@@ -150,6 +162,7 @@ pub record IsSpot (n : Numbers) (spot : Spot) : Type 0 where
 
 -- All of it
 
+-- what holds of a device with its dies between any two events of a life
 pub record ValidState (s : State) : Type 0 where
   pub tied : IsTied s
   -- the data of each page that opens keep the rules of its kind

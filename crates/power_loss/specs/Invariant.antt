@@ -22,14 +22,18 @@ use Rattle.ufs_spec.specs.declared.flash.Tag.{Tag}
 use Rattle.power_loss.specs.Book.{AreWholeAbove, Book, BookRight, HasKey, IsFenceMark, IsKnown, IsLostNumber}
 use Rattle.power_loss.specs.Book.{IsOverwritten, IsPageAt, IsPlainMark, IsWritten, book, last_number}
 
+-- by number and index, the place where a page of a group stands, if it does
 abbrev pub Standing : Type 0
 Standing = ℕ → ℕ → Option Place
 
+-- the job that each die has in flight, if it has one
 abbrev pub Flights : Type 0
 Flights = ℕ → Option Flight
 
 -- The frontier
 
+-- the frontier is no lower than what the life began with and no higher than the last number, and each group up to it
+-- stands with all its pages
 pub record FrontierRight (b : Book) (standing : Standing) (frontier : ℕ) : Type 0 where
   pub above : b.greatest_seen ≤ frontier
   pub within : frontier ≤ last_number b
@@ -40,6 +44,8 @@ pub record FrontierRight (b : Book) (standing : Standing) (frontier : ℕ) : Typ
 
 -- Pages
 
+-- each page of a group lies on the dies and is known to the book, records no frontier that is not reached yet, and its
+-- name stands somewhere once its program ended well
 pub record PagesRight (b : Book) (standing : Standing) (frontier : ℕ) (cells : Cells) (finished : Place → Bool) : Type 0
   where
     pub within : AreWithin b.numbers cells
@@ -51,6 +57,7 @@ pub record PagesRight (b : Book) (standing : Standing) (frontier : ℕ) (cells :
 
 -- Blocks
 
+-- what the state of a block says of its pages, and of the erase that is in flight or failed
 pub record BlocksRight (numbers : Numbers) (cells : Cells) (finished : Place → Bool) (blocks : Spot → BlockState)
     (erasing : Spot → Bool) : Type 0 where
   -- a page whose program failed lies in a bad block
@@ -69,6 +76,7 @@ pub record ProgramRight (numbers : Numbers) (blocks : Spot → BlockState) (die 
   pub place : IsPlace numbers p
   pub next : blocks (spot_of p) ≡ Filling p.page
 
+-- an erase goes to a free block of its own die, which counts as being erased
 pub record EraseRight (blocks : Spot → BlockState) (erasing : Spot → Bool) (die : ℕ) (s : Spot) : Type 0 where
   pub at_home : s.die ≡ die
   pub free : blocks s ≡ Free
@@ -81,6 +89,8 @@ pub record MarkFlightRight (numbers : Numbers) (marks : ℕ) (step : Option Step
   pub there : Bool
   pub step_is : step ≡ Some (record { kind = MarkStep m.number m.fence; there = there })
 
+-- each job in flight is one that a die may have: a program of a known page or of the step's mark, one mark at most, or
+-- an erase
 pub record FlightsRight (b : Book) (frontier marks : ℕ) (blocks : Spot → BlockState) (erasing : Spot → Bool)
     (flights : Flights) (step : Option Step) : Type 0 where
   pub programs : (die : ℕ) (p : Place) (cell : Cell) → flights die ≡ Some (Programming p cell) →
@@ -118,6 +128,7 @@ pub record IsSecurelyOverwritten (b : Book) (marked : ℕ) (standing : Standing)
   pub by : IsOverwritten b n k marked
   pub secure : IsSecure standing cells finished blocks erasing by.number by.index
 
+-- the page will not be missed: it is secure itself, or a newer page of its key is that the newest mark records
 abbrev pub IsSafe : Book → ℕ → Standing → Cells → (Place → Bool) → (Spot → BlockState) → (Spot → Bool) → ℕ → ℕ → Key →
     Type 0
 IsSafe b marked standing cells finished blocks erasing n i k =
@@ -149,6 +160,8 @@ pub record MarkStands (cells : Cells) (finished : Place → Bool) (blocks : Spot
   pub stays : erasing (spot_of place) ≡ false
   pub needed : blocks (spot_of place) ≢ Free
 
+-- the newest finished mark stands, and every other mark is older or one that this life wrote after it. A block that is
+-- free holds only older ones
 pub record MarksRight (b : Book) (frontier marks : ℕ) (cells : Cells) (finished : Place → Bool) (blocks : Spot →
     BlockState) (erasing : Spot → Bool) (flights : Flights) (newest : Mark) : Type 0 where
   pub stands : MarkStands cells finished blocks erasing newest
@@ -188,7 +201,7 @@ abbrev pub IsOpenedOrOwn : Book → Option Mark → ℕ → Option Fence → Cel
 IsOpenedOrOwn b newest marks fence opened cell =
     (cell ≡ opened) ⊎ ((opened ≡ Nothing) × ((m : Mark) × (cell ≡ MarkPage m) × IsOwnMark b newest marks fence m))
 
--- what the life began with
+-- the cells that the life began with are sound and suit the configuration, and the base is what they stand for
 pub record OpeningRight (b : Book) (newest : Option Mark) (opening : Cells) : Type 0 where
   pub sound : CellsSound opening newest
   pub is_newest : IsNewestMark opening newest
@@ -247,6 +260,7 @@ pub record IsMarked (b : Book) (d : Disk) (l : Ledger) (holds : Mark → Type 0)
   pub right : MarksRight b l.frontier l.marks d.cells d.finished d.blocks d.erasing d.flights mark
   pub more : holds mark
 
+-- what holds by how far the mending is: before the first mark, while lost keys are repaired, and afterwards
 abbrev pub MendingRight : Book → Disk → Ledger → Option Plan → Option Step → Mending → Type 0
 MendingRight b d l plan step (Unmarked fence lost) =
     UnmarkedRight b l.frontier l.marks l.newest d.cells d.blocks d.erasing d.flights plan fence lost
@@ -262,6 +276,8 @@ FenceRight (Unmarked first lost) fence = fence ≡ first
 FenceRight (Repairing left) fence = (fence ≡ None) × (left ≡ [])
 FenceRight Mended fence = fence ≡ None
 
+-- a mark that is ordered has the last number given, greater than each on the dies, and the fence that the mending asks
+-- for; the mark of a plan comes behind its copies
 pub record MarkStepRight (marks : ℕ) (cells : Cells) (mending : Mending) (plan : Option Plan) (number : ℕ)
     (fence : Option Fence) : Type 0 where
   pub last : number ≡ marks
@@ -270,6 +286,8 @@ pub record MarkStepRight (marks : ℕ) (cells : Cells) (mending : Mending) (plan
   pub fence_right : FenceRight mending fence
   pub behind_copies : (pl : Plan) → plan ≡ Some pl → pl.copies ≡ []
 
+-- a step is right by its kind: a copy comes only once the device is mended, a repair only while it repairs, and the
+-- page of either is known
 abbrev pub StepKindRight : Book → ℕ → Cells → Mending → Option Plan → StepKind → Type 0
 StepKindRight b marks cells mending plan (MarkStep number fence) = MarkStepRight marks cells mending plan number fence
 StepKindRight b marks cells mending plan (CopyStep name from) =
@@ -277,6 +295,7 @@ StepKindRight b marks cells mending plan (CopyStep name from) =
 StepKindRight b marks cells mending plan (RepairStep name from) =
     (left : List Key) × (mending ≡ Repairing left) × ((e : Entry) × IsPageAt b name.number name.index e)
 
+-- the step under way, if there is one, is right by its kind
 pub record StepRight (b : Book) (marks : ℕ) (cells : Cells) (mending : Mending) (plan : Option Plan)
     (step : Option Step) : Type 0 where
   pub kind : (s : Step) → step ≡ Some s → StepKindRight b marks cells mending plan s.kind
@@ -296,6 +315,8 @@ pub record StandsIn (b : Book) (standing : Standing) (victim : Spot) (n i : ℕ)
   pub inside : spot_of p ≡ victim
   pub free : IsLostNumber b n → ⊥
 
+-- the block of a plan is closed or bad, and each page in it is overwritten or still to be copied; so once the plan's
+-- mark is finished nothing in the block is needed
 pub record OnePlanRight (b : Book) (frontier : ℕ) (standing : Standing) (blocks : Spot → BlockState) (flights : Flights)
     (step : Option Step) (plan : Plan) : Type 0 where
   pub state : (blocks plan.victim ≡ Closed) ⊎ (blocks plan.victim ≡ Bad)
@@ -307,6 +328,7 @@ pub record OnePlanRight (b : Book) (frontier : ℕ) (standing : Standing) (block
       (n i : ℕ) (e : Entry) (p : Place) → StandsIn b standing plan.victim n i e p →
       IsOverwritten b n e.item.key m.records
 
+-- a plan is begun only once the device is mended, and is right
 pub record PlanRight (b : Book) (frontier : ℕ) (standing : Standing) (blocks : Spot → BlockState) (flights : Flights)
     (mending : Mending) (step : Option Step) (plan : Option Plan) : Type 0 where
   pub mended : (pl : Plan) → plan ≡ Some pl → mending ≡ Mended
@@ -341,11 +363,12 @@ LookedRight b frontier cells finished erasing (InSlot name) =
     (frontier < name.number) × ((e : Entry) × IsPageAt b name.number name.index e)
 LookedRight b frontier cells finished erasing (OnPage name place) = IsGroupPage cells finished erasing name place
 
--- what tasks keep
+-- what each task keeps is there still
 pub record PinsRight (b : Book) (frontier : ℕ) (cells : Cells) (finished : Place → Bool) (erasing : Spot → Bool)
     (pins : List Pin) : Type 0 where
   pub each : All (λ (pin : Pin). LookedRight b frontier cells finished erasing pin.looked) pins
 
+-- a rest that is read from a page has its page there; one from a slot needs none
 abbrev pub SourceRight : Cells → (Place → Bool) → (Spot → Bool) → Source → Type 0
 SourceRight cells finished erasing (FromPage place) = (name : Name) × IsGroupPage cells finished erasing name place
 SourceRight cells finished erasing (FromSlot name) = Unit {0}
@@ -390,6 +413,7 @@ pub record SlotsRight (slots pending claims : ℕ) : Type 0 where
 
 -- All of it
 
+-- the invariant of the translation layer: what holds between any two of its moves, one record for each part
 pub record Valid (t : Translation) : Type 0 where
   pub book_right : BookRight (book t)
   pub frontier : FrontierRight (book t) t.ledger.standing t.ledger.frontier

@@ -28,5 +28,6 @@ pub record StartsRight (t : Translation) : Type 0 where
   pub fence : (f : Fence) → fence_in t.ledger.newest ≡ Some f → t.ledger.first_lost ≡ f.first
   pub none : fence_in t.ledger.newest ≡ None → recorded_in t.ledger.newest < t.ledger.first_lost
 
+-- what holds of marks and fences while the first mark of the life is not finished; afterwards nothing is said
 abbrev pub IsStartRight : Translation → Type 0
 IsStartRight t = is_marked t.work.mending ≡ false → StartsRight t

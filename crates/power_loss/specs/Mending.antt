@@ -11,6 +11,7 @@ use Rattle.ufs_spec.specs.declared.flash.Key.{Key}
 
 -- Turns that are left
 
+-- the step programs a mark, so neither a copy nor a repair
 abbrev pub is_mark : StepKind → Bool
 is_mark (MarkStep number fence) = true
 is_mark kind = false
@@ -47,6 +48,7 @@ abbrev pub AreAllowedMoves : Translation → List Move → Type 0
 AreAllowedMoves t [] = Unit {0}
 AreAllowedMoves t (move ∷ moves) = IsAllowedMove t move × AreAllowedMoves (moved t move) moves
 
+-- what the moves, one after another, make of the layer
 abbrev pub moved_by : Translation → List Move → Translation
 moved_by t [] = t
 moved_by t (move ∷ moves) = moved_by (moved t move) moves

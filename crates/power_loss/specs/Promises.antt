@@ -20,6 +20,7 @@ use Rattle.ufs_spec.specs.declared.messages.Message.TheVariants as message
 abbrev pub command_message : Request → Message
 command_message r = message.Command r.flags r.lun r.tag r.expected r.bytes
 
+-- the COMMAND of a request as a call hears it, with the command that its CDB spells
 abbrev pub heard_command : Request → Heard
 heard_command r = Spelled (command_message r) r.cdb
 
@@ -41,7 +42,7 @@ abbrev pub data_in : ℕ → Message → List ℕ
 data_in tag (message.DataOut lun other offset «data») = if other == tag then «data».items else []
 data_in tag other = []
 
--- and a call, if its message is taken
+-- the data that a call carries for the task of the tag; a message that is refused carries none
 abbrev pub data_of : ℕ → Call → Answer → List ℕ
 data_of tag (Host (Spelled m c)) (OfHost (Ok done)) = data_in tag m
 data_of tag call answer = []
@@ -109,7 +110,7 @@ StaysOpen tag s _ _ t = ⊥
 abbrev pub LeadsTo : State → State → Type 0
 LeadsTo s t = (es : List Event) × (os : List Output) × Life s es os t
 
--- and the device was locked on the way
+-- a life leads from the first state to the second, and the device was locked on the way
 pub record WasLocked (s t : State) : Type 0 where
   pub state : State
   pub is_locked : locked state ≡ true

@@ -26,7 +26,7 @@ pub record MayBeOpened (n : Numbers) (array : Array) : Type 0 where
 abbrev pub IsNewDie : Numbers → DieState → Type 0
 IsNewDie n d = IsOfSize n.blocks n.pages d × ((block page : ℕ) → page_at d block page ≡ blank_page)
 
--- so are all dies of a device
+-- there are as many dies as the configuration says, and each is new
 abbrev pub AreNewDies : Numbers → List DieState → Type 0
 AreNewDies n dies = (length dies ≡ n.dies) × All (IsNewDie n) dies
 

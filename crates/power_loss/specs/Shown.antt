@@ -34,6 +34,6 @@ pub record ShowsRight (l : Ledger) (tasks : List Task) (pin : Pin) : Type 0 wher
   pub there : task_of pin.tag tasks ≡ Some task
   pub shows : ShowsBlock l pin.looked pin.index task.deed
 
--- so does all that is kept
+-- each pin is kept for an open task, and shows the block that the task sends
 abbrev pub ShowsReads : State → Type 0
 ShowsReads s = All (ShowsRight s.translation.ledger s.tasks) s.translation.pins

@@ -29,9 +29,8 @@ use Rattle.ufs_spec.specs.declared.messages.Message.{Message}
 abbrev pub written_page : List ℕ → Page
 written_page body = page_of (write_page 1 0xFF 0 body)
 
--- with these leftovers the stop leaves that array, and the next life has the first k accepted commands, so that it
--- finds
--- this block
+-- with these leftovers the stop leaves that array, and the next life has the first k accepted commands, so that
+-- it finds this block
 pub record IsStoppedWrite (body : List ℕ) (write block : Vec ℕ) (lefts : Vec Leftover) (left : Array → Array) (k : ℕ)
     (found : List ℕ) : Type 0 where
   -- the life of a new device up to the stop

@@ -1,6 +1,8 @@
 -- What is noted of the pages of one group number, and what the groups behind a number are.
 use Rattle.std.specs.Prelude.{◌≡◌, ◌≢◌, ℕ, suc, ◌+◌, ◌-◌, ◌<◌, ◌^◌, ◌==◌, ◌&&◌, ◌||◌, min, true, false}
 use Rattle.std.specs.Prelude.{List, Some, if◌then◌else◌, length, not, replicate, slice_get, slice_set}
+use Rattle.ufs_spec.specs.Pages.{group_bound}
+use Rattle.ufs_spec.specs.Pages.{greatest_number}
 use Rattle.ufs_spec.specs.Pages.{IsTag}
 use Rattle.ufs_spec.specs.declared.flash.Tag.{Tag}
 use Rattle.recovery.specs.declared.kept.Bucket.{Bucket}
@@ -20,7 +22,7 @@ IsOfGroup pages i n e = IsAmong pages i e × (e.tag.number ≡ n)
 
 -- what is noted of no page
 abbrev pub nothing_noted : Bucket
-nothing_noted = record { size = 0; mixed = false; seen = replicate 32 false }
+nothing_noted = record { size = 0; mixed = false; seen = replicate group_bound false }
 
 -- a page of the group is noted
 unfoldable pub noted : Bucket → Tag → Bucket
@@ -47,7 +49,7 @@ pub record IsBucket (pages : List FoundPage) (i n : ℕ) (b : Bucket) : Type 0 w
   -- which indexes they have
   pub seen : (k : ℕ) → slice_get b.seen k ≡ Some true → (e : FoundPage) × IsOfGroup pages i n e × (e.tag.index ≡ k)
   pub all : (e : FoundPage) → IsOfGroup pages i n e → slice_get b.seen e.tag.index ≡ Some true
-  pub room : length b.seen ≡ 32
+  pub room : length b.seen ≡ group_bound
 
 -- the pages that are noted say one size, and each index below it is there
 pub record IsWholeBucket (b : Bucket) : Type 0 where
@@ -57,6 +59,6 @@ pub record IsWholeBucket (b : Bucket) : Type 0 where
 
 -- a bucket for each of the numbers behind this one, as many as there are pages, up to the greatest number of all
 pub record AreBuckets (pages : List FoundPage) (from : ℕ) (buckets : List Bucket) : Type 0 where
-  pub count : length buckets ≡ min (length pages) (2 ^ 62 - from)
+  pub count : length buckets ≡ min (length pages) (greatest_number - from)
   pub each : AreTags pages → (k : ℕ) (b : Bucket) → slice_get buckets k ≡ Some b →
       IsBucket pages (length pages) (suc (from + k)) b

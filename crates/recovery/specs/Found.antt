@@ -30,6 +30,8 @@ bad_in state blocks die = map (is_bad_block (state die)) (below blocks)
 abbrev pub newest_found : Found → Option Mark
 newest_found f = option_map mark_of f.newest
 
+-- what was found is what the definitions say of these cells: the newest mark, the kept number, the greatest number
+-- seen, the lost numbers with their keys, the content of each key, and what each block is
 pub record IsFound (n : Numbers) (c : Cells) (bad : Spot → Bool) (f : Found) : Type 0 where
   pub newest : IsNewestMark c (newest_found f)
   pub suits : CellsSuit n c (newest_found f)

@@ -40,10 +40,12 @@ IsNewestOf pages n fence kept k (Some newest) =
     × ((i : ℕ) (e : FoundPage) → i < n → slice_get pages i ≡ Some e → IsKeptPage fence kept k e →
     (e.tag.number < newest.tag.number) ⊎ ((e.tag.number ≡ newest.tag.number) × (at ≤ i)))
 
+-- the fence of the newest mark, if it has one, covers the number, so a page of this number does not count
 abbrev pub is_fenced : Option Fence → ℕ → Bool
 is_fenced None number = false
 is_fenced (Some f) number = nat_le f.first number && nat_le number f.last
 
+-- the page may have the key's content, as `IsKeptPage` says it
 abbrev pub is_kept_page : Option Fence → ℕ → Key → FoundPage → Bool
 is_kept_page fence kept k e =
     same_key (key_of e.tag) k && not (is_fenced fence e.tag.number) && nat_le e.tag.number kept
@@ -85,6 +87,7 @@ state_of_found Free = disk.Free
 state_of_found Closed = disk.Closed
 state_of_found Bad = disk.Bad
 
+-- what a block is by whether one of its pages is anything and whether its die says that it is bad
 abbrev pub found_block : Bool → Bool → FoundBlock
 found_block used true = Bad
 found_block true false = Closed

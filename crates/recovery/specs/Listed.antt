@@ -1,5 +1,6 @@
 -- A list of the pages of groups that stand on the dies, and what is read off it (this profile).
 use Rattle.std.specs.Prelude.{◌≡◌, ◌≢◌, ◌⊎◌, ℕ, suc, ◌<◌, ◌≤◌, ◌^◌, List, Option, Some, None, slice_get}
+use Rattle.ufs_spec.specs.Pages.{greatest_number}
 use Rattle.ufs_spec.specs.Cells.{Cells, GroupPage, Mark, MarkPage, key_of}
 use Rattle.ufs_spec.specs.Kept.{Counts, HasNone, IsNewest}
 use Rattle.ufs_spec.specs.Openings.{IsNotHigher}
@@ -38,5 +39,5 @@ IsContentPage c m kept k (Some e) =
 -- no number or frontier that a page or a mark says is above the greatest
 pub record AreInRange (c : Cells) : Type 0 where
   pub pages : (p : Place) (t : Tag) (body : List ℕ) → c p ≡ GroupPage t body →
-      (t.number ≤ 2 ^ 62) × (t.frontier ≤ 2 ^ 62)
-  pub marks : (p : Place) (m : Mark) → c p ≡ MarkPage m → (m.number ≤ 2 ^ 62) × (m.records ≤ 2 ^ 62)
+      (t.number ≤ greatest_number) × (t.frontier ≤ greatest_number)
+  pub marks : (p : Place) (m : Mark) → c p ≡ MarkPage m → (m.number ≤ greatest_number) × (m.records ≤ greatest_number)

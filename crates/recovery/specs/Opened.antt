@@ -1,5 +1,6 @@
 -- What is found is what the definitions open over the same pages.
 use Rattle.std.specs.Prelude.{◌≡◌, ◌≢◌, ℕ, ◌≤◌, ◌^◌, AllPairs, List, Option, Some, None, length, slice_get}
+use Rattle.ufs_spec.specs.Pages.{greatest_number}
 use Rattle.ufs_spec.specs.Disk.{Spot}
 use Rattle.ufs_spec.specs.Ledger.{Name}
 use Rattle.ufs_spec.specs.Openings.{number_of}
@@ -32,9 +33,9 @@ IsFenceFound f (Some fence) = (fence.first ≡ f.first_lost) × (fence.last ≡ 
 pub record OpensFound (n : Numbers) (f : Found) (t : Translation) : Type 0 where
   pub newest : newest_found f ≡ t.ledger.newest
   pub marks : t.ledger.marks ≡ number_of (newest_found f)
-  pub marks_within : number_of (newest_found f) ≤ 2 ^ 62
+  pub marks_within : number_of (newest_found f) ≤ greatest_number
   pub greatest_seen : f.greatest_seen ≡ t.ledger.greatest_seen
-  pub seen_within : f.greatest_seen ≤ 2 ^ 62
+  pub seen_within : f.greatest_seen ≤ greatest_number
   pub first_lost : f.first_lost ≡ t.ledger.first_lost
   pub contents : (k : Key) (i : ℕ) → IsIndex (shape_of_numbers n) k i →
       (e : Option FoundPage) × (slice_get f.contents.items i ≡ Some e)

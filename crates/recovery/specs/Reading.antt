@@ -17,9 +17,11 @@ use Rattle.recovery.specs.declared.reading.Table.{Table}
 
 -- ## Blocks
 
+-- a page by the numbers of its die, its block and itself
 abbrev pub place_at : ℕ → ℕ → ℕ → Place
 place_at die block page = record { die = die; block = block; page = page }
 
+-- the page counts as a page of a group or as a mark
 abbrev pub is_something : Cell → Bool
 is_something Nothing = false
 is_something (GroupPage tag body) = true
@@ -81,11 +83,13 @@ abbrev pub newer : Option Mark → Mark → Mark
 newer None m = m
 newer (Some known) m = if nat_lt known.number m.number then m else known
 
+-- the newest mark once this page was read too: only a mark can change it
 abbrev pub newest_after : Cell → Option Mark → Option Mark
 newest_after Nothing known = known
 newest_after (GroupPage tag body) known = known
 newest_after (MarkPage m) known = Some (newer known m)
 
+-- the greatest frontier that a mark records, once this page was read too
 abbrev pub recorded_after : Cell → ℕ → ℕ
 recorded_after Nothing known = known
 recorded_after (GroupPage tag body) known = known
@@ -109,7 +113,7 @@ pub record AreOfDies (first count : ℕ) (c seen : Cells) : Type 0 where
   pub inside : (p : Place) → LiesOn first count p → seen p ≡ c p
   pub outside : (p : Place) → (LiesOn first count p → ⊥) → seen p ≡ Nothing
 
--- the table of these dies
+-- the table of these dies: what was read off their cells alone
 pub record IsTableOf (n : Numbers) (first count : ℕ) (c : Cells) (t : Table) : Type 0 where
   pub seen : Cells
   pub are_of : AreOfDies first count c seen
@@ -123,6 +127,7 @@ abbrev pub newer_of : Option Mark → Option Mark → Option Mark
 newer_of known None = known
 newer_of known (Some m) = Some (newer known m)
 
+-- the greater of two recorded frontiers
 abbrev pub greater_of : ℕ → ℕ → ℕ
 greater_of one other = if nat_lt one other then other else one
 
@@ -137,7 +142,7 @@ pub record IsJoined (low high both : Table) : Type 0 where
 abbrev pub ShowsDie : ℕ → DieState → Cells → Type 0
 ShowsDie number state c = (p : Place) → p.die ≡ number → IsCell (page_at state p.block p.page) (c p)
 
--- and of the dies from the first number on
+-- the cells are what the pages of these dies are, which have the numbers from the first one on
 abbrev pub ShowsDies : ℕ → List DieState → Cells → Type 0
 ShowsDies first states c =
     (i : ℕ) (state : DieState) → slice_get states i ≡ Some state → ShowsDie (first + i) state c

@@ -27,7 +27,7 @@ pub record IsFoundOn (n : Numbers) (dies : List DieState) (f : Found) : Type 0 w
   pub permanent : (c : Cells) → Shows (array_of dies) c → CellsSound c (newest_found f) → (x : List ℕ) →
       Holds c (newest_found f) (suc f.kept) settings_key x → f.is_permanent ≡ (slice_index x 1 == 1)
 
--- why it was refused
+-- why the scan of the dies was refused
 abbrev pub IsFaultOn : Numbers → List DieState → List ℕ → List ℕ → OpenFault → Type 0
 IsFaultOn n dies before after e = (c : Cells) → Shows (array_of dies) c → IsScanFault n c before after e
 

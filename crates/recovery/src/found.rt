@@ -1,5 +1,6 @@
 //! What the dies stand for when a device is opened over them.
 ghost use Rattle.std.specs.Prelude.{◌≡◌, ◌≤◌, ◌^◌, ◌↔◌, ◌==◌, ℕ, suc, Bool, List, Some, IfErr, IfOk, IsTrue, length, map, option_map, slice_get, slice_index};
+ghost use Rattle.ufs_spec.specs.Pages.{greatest_number};
 ghost use Rattle.ufs_spec.specs.Cells as cells;
 ghost use Rattle.ufs_spec.specs.Cells.{AreWithin, Cells, Shows};
 ghost use Rattle.ufs_spec.specs.Disk.{Spot};
@@ -153,8 +154,8 @@ fn found_in(
     bad: &[bool],
     numbers: &Numbers,
 ) -> Result<Found, AllocError>
-    requires pages { (i : ℕ) (e : FoundPage) → slice_get table.pages.items i ≡ Some e → e.tag.frontier ≤ 2 ^ 62 }
-    requires marks { table.recorded ≤ 2 ^ 62 }
+    requires pages { (i : ℕ) (e : FoundPage) → slice_get table.pages.items i ≡ Some e → e.tag.frontier ≤ greatest_number }
+    requires marks { table.recorded ≤ greatest_number }
     requires blocks { length table.used.items ≡ length bad.now }
     ensures { IfOk result (λ f. (c : Cells) (is_bad : Spot → Bool) → IsTable numbers.now c table → AreInRange c →
         AreWithin numbers.now c → CellsSuit numbers.now c (newest_in table) → bad.now ≡ map is_bad (spots numbers.now) →

@@ -3,6 +3,7 @@ ghost use Rattle.std.specs.Prelude.{◌≡◌, ℕ, ◌<◌, ◌≤◌, ◌^◌,
 ghost use Rattle.ufs_spec.specs.Cells.{Cells, Mark};
 ghost use Rattle.ufs_spec.specs.Kept.{IsFenced, IsKept, IsRecorded, fence_in};
 ghost use Rattle.ufs_spec.specs.Openings.{IsTop, lost_from};
+ghost use Rattle.ufs_spec.specs.Pages.{greatest_number};
 ghost use Rattle.recovery.specs.Buckets.{AreBuckets, IsNotedAt, IsWholeBucket, noted, nothing_noted};
 ghost use Rattle.recovery.specs.Greatest.{FrontiersWithin, NumbersWithin, fence_end};
 ghost use Rattle.recovery.specs.Listed.{AreListed, IsMarksRecord};
@@ -10,13 +11,10 @@ ghost use Rattle.recovery.specs.declared.kept.Bucket.{Bucket};
 
 use crate::pages::FoundPage;
 use std::alloc::{AllocError, Global};
-use ufs_spec::{Fence, Tag};
-
-/// No group has a greater number.
-const HIGHEST_NUMBER: u64 = 1 << 62;
+use ufs_spec::{Fence, GREATEST_COMMAND, GREATEST_NUMBER, Tag};
 
 /// How many pages a group may have.
-const LONGEST_GROUP: usize = 32;
+const LONGEST_GROUP: usize = GREATEST_COMMAND as usize;
 
 /// Whether the number lies within the fence.
 fn is_fenced(fence: Option<Fence>, number: u64) -> bool
@@ -68,7 +66,7 @@ pub(crate) fn greatest_seen(pages: &[FoundPage], fence: Option<Fence>, marks: u6
 
 /// The first number that is lost: that of the old fence, or the one behind the kept number.
 pub(crate) fn first_lost(fence: Option<Fence>, kept: u64) -> u64
-    requires { kept ≤ 2 ^ 62 }
+    requires { kept ≤ greatest_number }
     ensures { result ≡ lost_from fence kept }
 {
     match fence {
@@ -148,10 +146,10 @@ fn no_pages(alloc: Global, count: usize) -> Result<Vec<Bucket>, AllocError>
 /// A bucket for each number behind this one, with what the pages say. There are as many as pages,
 /// since no more whole groups can follow the number, but none for a number above the highest.
 fn groups_behind(alloc: Global, pages: &[FoundPage], from: u64) -> Result<Vec<Bucket>, AllocError>
-    requires { from ≤ 2 ^ 62 }
+    requires { from ≤ greatest_number }
     ensures { IfOk result (λ v. AreBuckets pages.now from v.items) }
 {
-    let count = pages.len().min((HIGHEST_NUMBER - from) as usize);
+    let count = pages.len().min((GREATEST_NUMBER - from) as usize);
     let mut buckets = no_pages(alloc, count)?;
     for page in pages {
         note_page(&mut buckets, from, page.tag);
@@ -176,9 +174,9 @@ fn whole_count(buckets: &[Bucket]) -> usize
 /// The kept number: the last, from the greatest recorded frontier on, at or under which each group
 /// is whole. It takes time and memory in proportion to the pages.
 pub(crate) fn kept_number(alloc: Global, pages: &[FoundPage], from: u64) -> Result<u64, AllocError>
-    requires { from ≤ 2 ^ 62 }
+    requires { from ≤ greatest_number }
     ensures kept { IfOk result (λ k. (c : Cells) (m : Option Mark) → AreListed c pages.now → IsRecorded c m from → IsKept c m k) }
-    ensures bounded { IfOk result (λ k. k ≤ 2 ^ 62) }
+    ensures bounded { IfOk result (λ k. k ≤ greatest_number) }
 {
     let buckets = groups_behind(alloc, pages, from)?;
     Ok(from + whole_count(&buckets) as u64)

@@ -25,6 +25,6 @@ pub record Tasks : Type 0 where
   pub tasks : List OpenTask
   pub shorts : List Short
 
--- nothing is open
+-- no task and no short exchange is open
 abbrev pub no_tasks : Tasks
 no_tasks = record { tasks = []; shorts = [] }

@@ -3,6 +3,7 @@ use Rattle.std.specs.Prelude.{ℕ, ◌*◌, ◌==◌, ◌&&◌, ◌||◌, nat_le
 use Rattle.std.specs.Prelude.{option_map, position, slice_get, slice_set, is_some, Option, Some, None}
 use Rattle.std.specs.Prelude.{Result, Ok, Err}
 use Rattle.std.specs.List.{list_any}
+use Rattle.ufs_spec.specs.Exchanges.{most_short_exchanges}
 use Rattle.ufs_spec.specs.declared.faults.HostFault.{HostFault}
 use Rattle.ufs_spec.specs.declared.faults.HostFault.TheVariants.{Backlog, TagInUse}
 use Rattle.task_set.specs.declared.tasks.AskedFor.{AskedFor}
@@ -10,11 +11,13 @@ use Rattle.task_set.specs.declared.tasks.Phase.{Phase}
 use Rattle.task_set.specs.declared.tasks.Phase.TheVariants as phase
 use Rattle.task_set.specs.declared.tasks.Short.{Short}
 use Rattle.task_set.specs.declared.tasks.Task.{Task}
+use Rattle.task_set.specs.declared.tasks.TaskEvent.{TaskEvent}
 use Rattle.task_set.specs.Kept.{OpenTask, task_in}
-use Rattle.task_set.specs.Tasks.{after_sent, is_task_of}
+use Rattle.task_set.specs.Tasks.{is_task_of, task_after}
 
 -- Tags
 
+-- the short exchange has this tag
 abbrev pub is_short_of : ℕ → Short → Bool
 is_short_of tag short = short.tag == tag
 
@@ -26,7 +29,7 @@ is_in_use tasks shorts tag = is_some (position (is_task_of tag) tasks) || list_a
 abbrev pub short_allowed : List OpenTask → List Short → ℕ → Result Unit HostFault
 short_allowed tasks shorts tag =
     if is_in_use tasks shorts tag then Err TagInUse
-    else if nat_le 32 (length shorts) then Err Backlog
+    else if nat_le most_short_exchanges (length shorts) then Err Backlog
     else Ok tt
 
 -- Data that were asked for
@@ -37,10 +40,12 @@ asked_in lun offset k task (phase.AwaitData x) =
     if (task.lun == lun) && (4096 * x.gathered == offset) then Some (record { index = k; transfer = x }) else None
 asked_in lun offset k task _ = None
 
+-- what the task asked for, if there is a task
 abbrev pub asked_by : ℕ → ℕ → ℕ → Option OpenTask → Option AskedFor
 asked_by lun offset k None = None
 asked_by lun offset k (Some task) = asked_in lun offset k task task.phase
 
+-- what the task at the position that was found asked for, if one was found
 abbrev pub asked_at : List OpenTask → ℕ → ℕ → Option ℕ → Option AskedFor
 asked_at tasks lun offset None = None
 asked_at tasks lun offset (Some k) = asked_by lun offset k (slice_get tasks k)
@@ -50,21 +55,18 @@ abbrev pub asked_among : List OpenTask → ℕ → ℕ → ℕ → ℕ → Optio
 asked_among tasks lun tag offset count =
     if count == 4096 then asked_at tasks lun offset (position (is_task_of tag) tasks) else None
 
--- the task at this position, if there is one, does this from now on
-abbrev pub tasks_set : List OpenTask → ℕ → Phase → Option OpenTask → List OpenTask
-tasks_set tasks k p None = tasks
-tasks_set tasks k p (Some task) = slice_set tasks k (record task { phase = p })
-
--- the task at this position, if there is one, handed out its block and does this from now on
-abbrev pub tasks_sent : List OpenTask → ℕ → Phase → Option OpenTask → List OpenTask
-tasks_sent tasks k p None = tasks
-tasks_sent tasks k p (Some task) = slice_set tasks k (after_sent p task)
+-- this happened to the task at this position, if there is one
+abbrev pub task_happened : List OpenTask → ℕ → TaskEvent → Option OpenTask → List OpenTask
+task_happened tasks k e None = tasks
+task_happened tasks k e (Some task) = slice_set tasks k (task_after e task)
 
 -- What stands at a position
 
+-- what replies need of the task at this position: its tag, its unit, the bytes expected, and how far it is
 abbrev pub task_at : List OpenTask → ℕ → Option Task
 task_at tasks k = option_map task_in (slice_get tasks k)
 
+-- the block that a die read for the task, if there is a task and its block was read
 abbrev pub read_of : Option OpenTask → Option (List ℕ)
 read_of None = None
 read_of (Some task) = task.block

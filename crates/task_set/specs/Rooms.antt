@@ -1,10 +1,12 @@
 -- How the fields of a set of tasks are seen, and the room that they keep.
 use Rattle.std.specs.Prelude.{◌≡◌, ◌≤◌, ◌+◌, if◌then◌else◌, length, vec_capacity, Some, None}
 use Rattle.std.specs.VecDeque.{deque_capacity}
+use Rattle.ufs_spec.specs.Exchanges.{most_short_exchanges, most_tasks}
 use Rattle.task_set.specs.Kept.{OpenTask, Tasks}
 use Rattle.task_set.specs.declared.open_task.OpenTask.TheInside.{Inside as Open}
 use Rattle.task_set.specs.declared.set.TaskSet.TheInside.{Inside}
 
+-- what contracts see of a task: what lies in its place for a block counts only once a die read it
 abbrev pub open_of : Open → OpenTask
 open_of t = record {
   tag = t.task.tag;
@@ -14,13 +16,14 @@ open_of t = record {
   block = if t.is_read then Some t.body else None;
 }
 
+-- what contracts see of the set: its open tasks and its short exchanges, in their order
 abbrev pub tasks_of : Inside → Tasks
 tasks_of s = record { tasks = s.tasks.items; shorts = s.shorts.items }
 
 -- no list grows past its room, and each block of the pool is a task's or spare
 pub record IsRoomy (s : Inside) : Type 0 where
-  pub tasks : 32 ≤ vec_capacity s.tasks
-  pub shorts : 32 ≤ deque_capacity s.shorts
-  pub few_shorts : length s.shorts.items ≤ 32
-  pub spare : 32 ≤ vec_capacity s.spare
-  pub bodies : length s.tasks.items + length s.spare.items ≡ 32
+  pub tasks : most_tasks ≤ vec_capacity s.tasks
+  pub shorts : most_short_exchanges ≤ deque_capacity s.shorts
+  pub few_shorts : length s.shorts.items ≤ most_short_exchanges
+  pub spare : most_tasks ≤ vec_capacity s.spare
+  pub bodies : length s.tasks.items + length s.spare.items ≡ most_tasks

@@ -14,9 +14,11 @@ use Rattle.task_set.specs.declared.tasks.TaskEvent.TheVariants as event
 use Rattle.task_set.specs.declared.tasks.Transfer.{Transfer}
 use Rattle.task_set.specs.Kept.{OpenTask}
 
+-- the sense of a READ whose block could not be read: MEDIUM ERROR, 3/11/00
 abbrev pub read_error : Sense
 read_error = record { key = 0x03; asc = 0x11; ascq = 0x00 }
 
+-- the sense of a WRITE or a flush whose blocks a locked device can make durable no more: MEDIUM ERROR, 3/0C/00
 abbrev pub write_error : Sense
 write_error = record { key = 0x03; asc = 0x0C; ascq = 0x00 }
 
@@ -36,6 +38,7 @@ abbrev pub group_done : Bool → ℕ → ℕ → Phase
 group_done true number size = phase.AwaitFrontier number size
 group_done false number size = phase.Answer status.Good size
 
+-- a WRITE whose last block came and whose group was accepted under this number
 abbrev pub group_taken : Transfer → ℕ → Phase
 group_taken x number = group_done x.forced number (4096 * x.blocks)
 
@@ -47,10 +50,12 @@ next_transfer x = if nat_lt (x.gathered + 1) x.blocks then Some (record x { gath
 abbrev pub next_sending : Sending → Option Sending
 next_sending x = if nat_lt (x.sent + 1) x.blocks then Some (record x { sent = x.sent + 1 }) else None
 
+-- after a block of a WRITE: the next one is asked for, if one is to come; the last one is told apart, with its group
 abbrev pub asked_next : Transfer → Option Transfer → Phase
 asked_next x None = phase.AwaitData x
 asked_next x (Some y) = phase.AskData y
 
+-- after a block of a READ: the next one is sent, if there is one, else GOOD is due
 abbrev pub sent_next : Sending → Option Sending → Phase
 sent_next x None = phase.Answer status.Good x.length
 sent_next x (Some y) = phase.SendBlocks y
@@ -73,12 +78,15 @@ phase_after (phase.SendData x) event.DataSent = phase.Answer status.Good (data_l
 phase_after (phase.SendBlocks x) event.BlockLost = failed read_error (4096 * x.sent)
 phase_after p e = p
 
-abbrev pub task_after : TaskEvent → OpenTask → OpenTask
-task_after e t = record t { phase = phase_after t.phase e }
+-- the block that a die read for a task in this phase: once it was handed out it is not there, and nothing else
+-- changes it
+abbrev pub block_after : TaskEvent → Phase → Option (List ℕ) → Option (List ℕ)
+block_after event.BlockSent (phase.SendBlocks x) block = None
+block_after e p block = block
 
--- a task that handed out its block does this from now on
-abbrev pub after_sent : Phase → OpenTask → OpenTask
-after_sent p t = record t { phase = p; block = None }
+-- this happened to the task
+abbrev pub task_after : TaskEvent → OpenTask → OpenTask
+task_after e t = record t { phase = phase_after t.phase e; block = block_after e t.phase t.block }
 
 -- a die read this block for the task of this tag
 abbrev pub after_read : ℕ → List ℕ → OpenTask → OpenTask
@@ -88,5 +96,6 @@ after_read tag body t = if t.tag == tag then record t { block = Some body } else
 abbrev pub after_lost_read : ℕ → OpenTask → OpenTask
 after_lost_read tag t = if t.tag == tag then task_after event.BlockLost t else t
 
+-- the task has this tag
 abbrev pub is_task_of : ℕ → OpenTask → Bool
 is_task_of tag t = t.tag == tag

@@ -1,12 +1,11 @@
 //! An open task with the block that a die read for it.
 ghost use Rattle.std.specs.Prelude.{◌≡◌, option_copied, length};
 ghost use Rattle.task_set.specs.Kept.{newly_open, task_in};
-ghost use Rattle.task_set.specs.Tasks.{after_lost_read, after_read, after_sent, is_task_of, task_after};
+ghost use Rattle.task_set.specs.Tasks.{after_lost_read, after_read, is_task_of, task_after};
 
 use crate::tasks::{Phase, Task, TaskEvent};
 use std::marker::Model;
-use ufs_spec::Block;
-use write_cache::Body;
+use ufs_bytes::{Block, Body};
 
 /// An open task, and its block of the pool.
 #[derive(Drop)]
@@ -71,25 +70,13 @@ impl OpenTask {
         self.body
     }
 
-    /// It does this from now on.
-    pub fn set_phase(&mut self, phase: Phase)
-        ensures { self.new ≡ record self.old { phase = phase } }
-    {
-        self.task.phase = phase;
-    }
-
-    /// It handed out its block and does this from now on.
-    pub fn send(&mut self, phase: Phase)
-        ensures { self.new ≡ after_sent phase self.old }
-    {
-        self.task.phase = phase;
-        self.is_read = false;
-    }
-
-    /// This happened to it.
+    /// This happened to it. A block that was handed out is no longer there.
     pub fn happen(&mut self, event: TaskEvent)
         ensures { self.new ≡ task_after event self.old }
     {
+        if let (Phase::SendBlocks { sending: _ }, TaskEvent::BlockSent) = (self.task.phase, event) {
+            self.is_read = false;
+        }
         self.task.phase = self.task.phase.after(event);
     }
 

@@ -2,10 +2,11 @@
 ghost use Rattle.std.specs.Prelude.{◌≡◌, ◌<◌, ◌≤◌, length, map, nat_le, slice_get, position, Some};
 ghost use Rattle.std.specs.Prelude.{IfNone, IfOk, IfSome, OnErr, OnOk, option_copied, vec_capacity};
 ghost use Rattle.std.specs.List.{list_any};
+ghost use Rattle.ufs_spec.specs.Exchanges.{most_tasks};
 ghost use Rattle.task_set.specs.Kept.{no_tasks};
 ghost use Rattle.task_set.specs.Lists.{asked_among, asked_by, asked_in, is_in_use, is_short_of, read_at};
 ghost use Rattle.task_set.specs.Lists.{short_allowed, task_at};
-ghost use Rattle.task_set.specs.Sets.{block_loaded, block_lost, block_sent, ended, locked, opened, phase_set};
+ghost use Rattle.task_set.specs.Sets.{block_loaded, block_lost, ended, happened, locked, opened};
 ghost use Rattle.task_set.specs.Sets.{short_ended, short_opened};
 ghost use Rattle.task_set.specs.Tasks.{after_lost_read, after_read, is_task_of, task_after};
 
@@ -14,12 +15,8 @@ use crate::tasks::{AskedFor, BLOCK_BYTES, Phase, Short, ShortReply, Task, TaskEv
 use std::alloc::{AllocError, Global};
 use std::collections::VecDeque;
 use std::marker::Model;
-use ufs_spec::{Block, HostFault};
-use write_cache::Body;
-
-/// How many tasks, how many short exchanges and how many blocks there is room for: no list is longer
-/// (JESD220, 10.9).
-const ROOM: usize = 32;
+use ufs_bytes::{Block, Body};
+use ufs_spec::{HostFault, MOST_SHORT_EXCHANGES, MOST_TASKS};
 
 /// The open tasks of a device, each with the block that a die read for it, and the exchanges of one reply.
 /// It takes its memory when it is made, and none later.
@@ -56,8 +53,8 @@ impl TaskSet {
         ensures { IfOk result (λ s. s ≡ no_tasks) }
     {
         Ok(TaskSet {
-            tasks: Vec::with_capacity(alloc, ROOM)?,
-            shorts: VecDeque::with_capacity(alloc, ROOM)?,
+            tasks: Vec::with_capacity(alloc, MOST_TASKS)?,
+            shorts: VecDeque::with_capacity(alloc, MOST_SHORT_EXCHANGES)?,
             spare: spare_bodies(alloc)?,
         })
     }
@@ -71,9 +68,9 @@ impl TaskSet {
 
     /// Whether as many tasks are open as may be.
     pub fn is_full(&self) -> bool
-        ensures { result ≡ nat_le 32 (length self.now.tasks) }
+        ensures { result ≡ nat_le most_tasks (length self.now.tasks) }
     {
-        self.tasks.len() >= ROOM
+        self.tasks.len() >= MOST_TASKS
     }
 
     /// How many tasks are open.
@@ -101,28 +98,19 @@ impl TaskSet {
 
     /// One task more is open, the last one.
     pub fn open(&mut self, task: Task)
-        requires { length self.old.tasks < 32 }
+        requires { length self.old.tasks < most_tasks }
         ensures { self.new ≡ opened self.old task }
     {
         let body = self.spare.pop().unwrap();
         self.tasks.push_reserved(OpenTask::new(task, body));
     }
 
-    /// The task at this position does this from now on.
-    pub fn set_phase(&mut self, index: usize, phase: Phase)
+    /// This happened to the task at this position.
+    pub fn happen(&mut self, index: usize, event: TaskEvent)
         requires { index < length self.old.tasks }
-        ensures { self.new ≡ phase_set self.old index phase }
+        ensures { self.new ≡ happened self.old index event }
     {
-        self.tasks[index].set_phase(phase);
-    }
-
-    /// The task at this position handed out the block that a die read for it, if there was one. It does this
-    /// from now on.
-    pub fn send(&mut self, index: usize, phase: Phase)
-        requires { index < length self.old.tasks }
-        ensures { self.new ≡ block_sent self.old index phase }
-    {
-        self.tasks[index].send(phase);
+        self.tasks[index].happen(event);
     }
 
     /// The task at this position has ended, and the block that a die read for it is given up. Those after it
@@ -161,8 +149,8 @@ impl TaskSet {
     ///
     /// # Errors
     ///
-    /// `TagInUse` if a task or a short exchange has the tag, else `Backlog` if 32 short exchanges are
-    /// open. Nothing changes then.
+    /// `TagInUse` if a task or a short exchange has the tag, else `Backlog` if as many short exchanges
+    /// are open as may be. Nothing changes then.
     pub fn open_short(&mut self, tag: u8, reply: ShortReply) -> Result<(), HostFault>
         ensures refused { OnErr result (self.new ≡ self.old) }
         ensures answer { result ≡ short_allowed self.old.tasks self.old.shorts tag }
@@ -172,7 +160,7 @@ impl TaskSet {
         if self.uses(tag) {
             return Err(HostFault::TagInUse);
         }
-        if self.shorts.len() >= ROOM {
+        if self.shorts.len() >= MOST_SHORT_EXCHANGES {
             return Err(HostFault::Backlog);
         }
         self.shorts.push_back_reserved(Short { tag, reply });
@@ -214,11 +202,11 @@ impl TaskSet {
 
 /// The blocks of the pool, which later are moved by their pointers.
 fn spare_bodies(alloc: Global) -> Result<Vec<Body>, AllocError>
-    ensures count { IfOk result (λ bodies. length bodies.items ≡ 32) }
-    ensures room { IfOk result (λ bodies. 32 ≤ vec_capacity bodies) }
+    ensures count { IfOk result (λ bodies. length bodies.items ≡ most_tasks) }
+    ensures room { IfOk result (λ bodies. most_tasks ≤ vec_capacity bodies) }
 {
-    let mut bodies = Vec::with_capacity(alloc, ROOM)?;
-    for _ in 0..ROOM {
+    let mut bodies = Vec::with_capacity(alloc, MOST_TASKS)?;
+    for _ in 0..MOST_TASKS {
         bodies.push_reserved(Body::new(alloc)?);
     }
     Ok(bodies)

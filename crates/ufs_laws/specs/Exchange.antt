@@ -20,7 +20,7 @@ abbrev pub IsSpoken : Call → Type 0
 IsSpoken (Host heard) = (bytes : List ℕ) × IsHeard bytes heard
 IsSpoken call = Unit {0}
 
--- each of the tasks
+-- something holds of each of the tasks
 abbrev pub Every : (Task → Type 0) → List Task → Type 0
 Every = AllByRecursion
 
@@ -31,11 +31,12 @@ IsKnownDeed (Gathering ForFrames gathered asked) = ⊥
 IsKnownDeed (Answering status carried) = status ≢ invalid_operation
 IsKnownDeed deed = Unit {0}
 
--- a refused command answers
+-- a command that is refused answers, with whatever status; all else that it may do is as for a known one
 abbrev pub IsRefusedDeed : Deed → Type 0
 IsRefusedDeed (Answering status carried) = Unit {0}
 IsRefusedDeed deed = IsKnownDeed deed
 
+-- a command that the CDB spells does not end with an invalid operation code; a CDB that spells none may
 abbrev pub IsKnownTask : Option Cdb → Deed → Type 0
 IsKnownTask None deed = IsRefusedDeed deed
 IsKnownTask (Some command) deed = IsKnownDeed deed
@@ -71,9 +72,11 @@ TagSends tag bodies s = Every (λ task. task.tag ≡ tag → SendsThese bodies t
 
 -- ## Aborted tags
 
+-- the task has not this tag
 abbrev pub HasOtherTag : ℕ → Task → Type 0
 HasOtherTag tag task = task.tag ≢ tag
 
+-- no open task has this tag
 abbrev pub NoTask : ℕ → State → Type 0
 NoTask tag s = Every (HasOtherTag tag) s.tasks
 
@@ -83,10 +86,12 @@ IsAskedIn Asked (message.Command flags lun tag expected bytes) c =
     Asked (record { flags = flags; lun = lun; tag = tag; expected = expected; bytes = bytes; cdb = c })
 IsAskedIn Asked m c = Unit {0}
 
+-- what is asked of the request, if a COMMAND was heard; a fault is not asked for anything
 abbrev pub IsAskedBy : (Request → Type 0) → Heard → Type 0
 IsAskedBy Asked (Spelled m c) = IsAskedIn Asked m c
 IsAskedBy Asked (Faulty fault) = Unit {0}
 
+-- what is asked of the request, if the call is a COMMAND of the host; no other call is asked for anything
 abbrev pub Asks : (Request → Type 0) → Call → Type 0
 Asks Asked (Host heard) = IsAskedBy Asked heard
 Asks Asked call = Unit {0}

@@ -8,7 +8,7 @@ use Rattle.ufs_spec.specs.declared.flash.Place.{Place}
 
 -- Cells by list
 
--- what stands at a place
+-- a cell with the place where it stands
 pub record Standing : Type 0 where
   pub place : Place
   pub cell : Cell
@@ -18,13 +18,13 @@ abbrev pub cells_of : List Standing → Cells
 cells_of [] p = Nothing
 cells_of (s ∷ rest) p = if same_place s.place p then s.cell else cells_of rest p
 
--- by die, block and page
+-- a cell at the place of this die, block and page
 abbrev pub at : ℕ → ℕ → ℕ → Cell → Standing
 at die block page cell = record { place = record { die = die; block = block; page = page }; cell = cell }
 
 -- Pages
 
--- a block of one byte
+-- a block of which each byte is this one
 unfoldable pub block_of : ℕ → List ℕ
 block_of byte = replicate 4096 byte
 
@@ -49,7 +49,7 @@ first_mark n = record { number = 1; records = 0; fence = None; numbers = n }
 abbrev pub fence_mark : Numbers → Mark
 fence_mark n = record { number = 2; records = 3; fence = Some (record { first = 2; last = 3 }); numbers = n }
 
--- the mark after the repair
+-- the mark after the repair: it has no fence, and records the number of the repair
 abbrev pub last_mark : Numbers → Mark
 last_mark n = record { number = 3; records = 4; fence = None; numbers = n }
 
@@ -69,6 +69,7 @@ gap_pages n =
     ∷ at 2 0 0 (write_page 3 2 0 (block_of 0x33))
     ∷ []
 
+-- the pages of all dies after that stop: number 2 is missing
 abbrev pub gap : Numbers → Cells
 gap n = cells_of (gap_pages n)
 
@@ -76,6 +77,7 @@ gap n = cells_of (gap_pages n)
 abbrev pub fenced_pages : Numbers → List Standing
 fenced_pages n = at 0 1 0 (MarkPage (fence_mark n)) ∷ gap_pages n
 
+-- the pages of all dies once the mark with the fence is finished
 abbrev pub gap_fenced : Numbers → Cells
 gap_fenced n = cells_of (fenced_pages n)
 
@@ -87,5 +89,6 @@ write_pages n =
     ∷ at 3 1 0 (write_page 5 3 4 (block_of 0x44))
     ∷ fenced_pages n
 
+-- the pages of all dies once the gap is mended and the new write is finished
 abbrev pub gap_then_write : Numbers → Cells
 gap_then_write n = cells_of (write_pages n)

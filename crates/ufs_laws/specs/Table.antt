@@ -20,7 +20,7 @@ asks flags lun tag c = record {
   cdb = Some c;
 }
 
--- one with a CDB that spells none
+-- a request of 4096 bytes whose CDB spells no command
 abbrev pub spells_none : ℕ → ℕ → ℕ → List ℕ → Request
 spells_none flags lun tag bytes = record {
   flags = flags;
@@ -31,13 +31,15 @@ spells_none flags lun tag bytes = record {
   cdb = None;
 }
 
--- READ(10) of so many blocks from an address on, and WRITE(10) with FUA of one block
+-- READ(10) without FUA of so many blocks from an address on
 abbrev pub read_at : ℕ → ℕ → Cdb
 read_at address blocks = cdb.Read10 address blocks false
 
+-- WRITE(10) with FUA of one block at this address
 abbrev pub write_at : ℕ → Cdb
 write_at address = cdb.Write10 address 1 true
 
+-- the request as the device hears it, with the command that its CDB spells or with none
 abbrev pub heard_as : Request → Heard
 heard_as r = Spelled (message.Command r.flags r.lun r.tag r.expected r.bytes) r.cdb
 

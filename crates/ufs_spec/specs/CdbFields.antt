@@ -1,4 +1,5 @@
--- What the fields of a CDB name, whether or not the bytes are written so.
+-- What the fields of a CDB name, whether or not the bytes are written so. Each command is read back from its
+-- own bytes (`cdb_bytes` in Cdbs).
 use Rattle.std.specs.Prelude.{ℕ, List, Bool, not, nat_lt, ◌==◌, bit_and, slice_index, if◌then◌else◌, Option}
 use Rattle.std.specs.Prelude.{Some, None}
 use Rattle.ufs_bytes.specs.Fields.{field_at}
@@ -14,15 +15,15 @@ use Rattle.ufs_spec.specs.declared.scsi.Cdb.TheVariants.{ReportLuns, SecurityIn,
 abbrev pub six_address : List ℕ → ℕ
 six_address bytes = bit_and (field_at 4 0 bytes) 0x1FFFFF
 
--- bit 3 of byte 1 is set
+-- FUA of READ(10) and WRITE(10) (SBC): bit 3 of byte 1 is set
 abbrev pub is_forced : List ℕ → Bool
 is_forced bytes = not (bit_and (slice_index bytes 1) 0x08 == 0)
 
--- bit 1 of byte 1 is set
+-- IMMED of SYNCHRONIZE CACHE(10) (SBC): bit 1 of byte 1 is set
 abbrev pub is_immediate : List ℕ → Bool
 is_immediate bytes = not (bit_and (slice_index bytes 1) 0x02 == 0)
 
--- the command of six bytes with this operation code
+-- the command of six bytes with this operation code, if the table has one
 abbrev pub named_six : ℕ → List ℕ → Option Cdb
 named_six operation bytes =
     if operation == test_unit_ready then Some TestUnitReady
@@ -32,7 +33,7 @@ named_six operation bytes =
     else if operation == inquiry then Some (Inquiry (field_at 2 3 bytes))
     else None
 
--- the command of ten bytes with this operation code
+-- the command of ten bytes with this operation code, if the table has one
 abbrev pub named_ten : ℕ → List ℕ → Option Cdb
 named_ten operation bytes =
     if operation == read_capacity_10 then Some ReadCapacity10
@@ -43,7 +44,7 @@ named_ten operation bytes =
     else if operation == unmap then Some (Unmap (field_at 2 7 bytes))
     else None
 
--- the command of twelve bytes with this operation code
+-- the command of twelve bytes with this operation code, if the table has one
 abbrev pub named_twelve : ℕ → List ℕ → Option Cdb
 named_twelve operation bytes =
     if operation == report_luns then Some (ReportLuns (slice_index bytes 2) (field_at 4 6 bytes))
@@ -58,6 +59,6 @@ named_by operation bytes =
     else if nat_lt operation 0x60 then named_ten operation bytes
     else named_twelve operation bytes
 
--- the command that the fields name, where the operation code is known
+-- the command that the fields name, if the operation code is known; bytes that no field names are not looked at
 abbrev pub named_cdb : List ℕ → Option Cdb
 named_cdb bytes = named_by (slice_index bytes 0) bytes

@@ -13,46 +13,59 @@ use Rattle.ufs_spec.specs.declared.scsi.Sense.{Sense}
 
 -- ## The operation codes (SPC, annex on operation codes)
 
+-- TEST UNIT READY: answered GOOD once the device is mended
 abbrev pub test_unit_ready : ℕ
 test_unit_ready = 0x00
 
+-- REQUEST SENSE: sends sense data
 abbrev pub request_sense : ℕ
 request_sense = 0x03
 
+-- READ(6): the short form, with an address of 21 bits and a count of one byte
 abbrev pub read_6 : ℕ
 read_6 = 0x08
 
+-- WRITE(6): the short form, which has no FUA
 abbrev pub write_6 : ℕ
 write_6 = 0x0A
 
+-- INQUIRY: sends what kind of unit it is
 abbrev pub inquiry : ℕ
 inquiry = 0x12
 
+-- READ CAPACITY(10): sends the last address and the length of a block
 abbrev pub read_capacity_10 : ℕ
 read_capacity_10 = 0x25
 
+-- READ(10): an address of 32 bits, a count of 16 bits, and FUA, which changes nothing here
 abbrev pub read_10 : ℕ
 read_10 = 0x28
 
+-- WRITE(10): the same fields; with FUA it is answered GOOD only once its blocks are durable
 abbrev pub write_10 : ℕ
 write_10 = 0x2A
 
+-- SYNCHRONIZE CACHE(10): a flush; without IMMED its GOOD says that all that was accepted before is durable
 abbrev pub synchronize_cache_10 : ℕ
 synchronize_cache_10 = 0x35
 
+-- UNMAP: blocks become zeros
 abbrev pub unmap : ℕ
 unmap = 0x42
 
+-- REPORT LUNS: sends a list of units
 abbrev pub report_luns : ℕ
 report_luns = 0xA0
 
+-- SECURITY PROTOCOL IN: sends frames of the RPMB to the host (JESD220, 12.4)
 abbrev pub security_in : ℕ
 security_in = 0xA2
 
+-- SECURITY PROTOCOL OUT: brings frames of the RPMB from the host (JESD220, 12.4)
 abbrev pub security_out : ℕ
 security_out = 0xB5
 
--- the operation code of a command
+-- byte 0 of the CDB that spells the command
 abbrev pub operation_of : Cdb → ℕ
 operation_of TestUnitReady = test_unit_ready
 operation_of (RequestSense allocation) = request_sense
@@ -68,7 +81,7 @@ operation_of (ReportLuns select allocation) = report_luns
 operation_of (SecurityIn length) = security_in
 operation_of (SecurityOut length) = security_out
 
--- all operation codes of the table
+-- the operation codes of the whole table, taken yet or not
 abbrev pub known_operations : List ℕ
 known_operations =
     test_unit_ready ∷ request_sense ∷ read_6 ∷ write_6 ∷ inquiry ∷ read_capacity_10 ∷ read_10 ∷ write_10
@@ -92,8 +105,8 @@ forced_bit forced = if forced then 0x08 else 0x00
 abbrev pub immediate_bit : Bool → ℕ
 immediate_bit immediate = if immediate then 0x02 else 0x00
 
--- READ(10), WRITE(10) and SYNCHRONIZE CACHE(10) (SBC): the options in byte 1, the address in bytes 2..5, the blocks in
--- bytes 7..8
+-- READ(10), WRITE(10) and SYNCHRONIZE CACHE(10) (SBC): the options (FUA or IMMED) in byte 1, the address in bytes 2..5,
+-- the count of blocks in bytes 7..8
 abbrev pub ten_bytes : ℕ → ℕ → ℕ → ℕ → List ℕ
 ten_bytes operation options address blocks =
     (operation ∷ options ∷ []) ++ big_bytes 4 address ++ (0 ∷ []) ++ big_bytes 2 blocks ++ replicate 7 0
@@ -104,9 +117,9 @@ abbrev pub security_bytes : ℕ → ℕ → List ℕ
 security_bytes operation length =
     (operation ∷ 0xEC ∷ 0x00 ∷ 0x01 ∷ 0 ∷ 0 ∷ []) ++ big_bytes 4 length ++ replicate 6 0
 
--- the sixteen bytes of a command. REQUEST SENSE has its allocation length in byte 4 and INQUIRY in bytes 3..4 (SPC);
--- UNMAP the length of its list in bytes 7..8 (SBC); REPORT LUNS its selection in byte 2 and its allocation length in
--- bytes 6..9 (SPC)
+-- the sixteen bytes of a command; each byte that is not named is zero, up to byte 15 (this profile). REQUEST SENSE has
+-- its allocation length in byte 4 and INQUIRY in bytes 3..4 (SPC); UNMAP the length of its list in bytes 7..8 (SBC);
+-- REPORT LUNS its selection in byte 2 and its allocation length in bytes 6..9 (SPC)
 abbrev pub cdb_bytes : Cdb → List ℕ
 cdb_bytes TestUnitReady = test_unit_ready ∷ replicate 15 0
 cdb_bytes (RequestSense allocation) = (request_sense ∷ replicate 3 0) ++ (allocation ∷ replicate 11 0)
@@ -142,17 +155,18 @@ IsCdb (SecurityOut length) = length < 2 ^ 32
 
 -- ## The limit of this stage: INQUIRY, UNMAP, REPORT LUNS and the security commands are not taken
 
--- the operation codes that are taken
+-- the operation codes that are taken; any other is answered 5/20/00. The security commands come with RPMB, INQUIRY and
+-- REPORT LUNS with descriptors, settings and boot units, UNMAP with task management and bad blocks
 abbrev pub taken_operations : List ℕ
 taken_operations =
     test_unit_ready ∷ request_sense ∷ read_6 ∷ write_6 ∷ read_capacity_10 ∷ read_10 ∷ write_10
     ∷ synchronize_cache_10 ∷ []
 
--- the operation code in byte 0 is one that is taken
+-- byte 0 is an operation code that is taken
 abbrev pub IsTakenOperation : List ℕ → Type 0
 IsTakenOperation bytes = IsAmong taken_operations (slice_index bytes 0)
 
--- the commands that are taken
+-- the command is one whose operation code is taken
 abbrev pub IsTakenCdb : Cdb → Type 0
 IsTakenCdb TestUnitReady = Unit {0}
 IsTakenCdb (RequestSense allocation) = Unit {0}
@@ -164,7 +178,7 @@ IsTakenCdb (Write10 address blocks forced) = Unit {0}
 IsTakenCdb (SynchronizeCache10 address blocks immediate) = Unit {0}
 IsTakenCdb cdb = ⊥
 
--- the bytes are those of a command that is taken
+-- the bytes are those of a command that is taken, and each of its numbers fits its field
 abbrev pub SpellsCdb : Cdb → List ℕ → Type 0
 SpellsCdb cdb bytes = IsCdb cdb × IsTakenCdb cdb × (bytes ≡ cdb_bytes cdb)
 
@@ -174,7 +188,8 @@ SpellsCdb cdb bytes = IsCdb cdb × IsTakenCdb cdb × (bytes ≡ cdb_bytes cdb)
 abbrev pub six_blocks : ℕ → ℕ
 six_blocks blocks = if blocks == 0 then 256 else blocks
 
--- how many blocks a READ or a WRITE names (SBC); no other command names any that count
+-- how many blocks a READ or a WRITE names (SBC). No other command names any that count: the range of SYNCHRONIZE CACHE
+-- is not checked, since it covers the whole device
 abbrev pub blocks_of : Cdb → ℕ
 blocks_of (Read6 address blocks) = six_blocks blocks
 blocks_of (Write6 address blocks) = six_blocks blocks
@@ -182,7 +197,7 @@ blocks_of (Read10 address blocks forced) = blocks
 blocks_of (Write10 address blocks forced) = blocks
 blocks_of cdb = 0
 
--- the first address of a READ or a WRITE (SBC); no other command names one that counts
+-- the first address of a READ or a WRITE (SBC); no other command names one that counts, as for `blocks_of`
 abbrev pub address_of : Cdb → ℕ
 address_of (Read6 address blocks) = address
 address_of (Write6 address blocks) = address
@@ -208,12 +223,14 @@ length_of units (SecurityIn length) = length
 length_of units (SecurityOut length) = length
 length_of units cdb = 0
 
--- where a command's data go (SAM, data-in and data-out buffers)
+-- where a command's data go: it has none, the host sends them (data-out buffer), or it
+-- receives them (data-in buffer) (SAM)
 pub data Direction : Type 0 where
   NoData : Direction
   ToDevice : Direction
   ToHost : Direction
 
+-- which way the data of each command go; the commands that are not named here send to the host
 abbrev pub direction_of : Cdb → Direction
 direction_of TestUnitReady = NoData
 direction_of (Write6 address blocks) = ToDevice
@@ -225,28 +242,27 @@ direction_of cdb = ToHost
 
 -- ## What is left of what was expected (JESD220, RESPONSE UPIU)
 
--- the flags of a RESPONSE and its residual transfer count
+-- the flags of a RESPONSE, and its residual: how many bytes are missing or left over (JESD220, 10.7.2)
 pub record Residual : Type 0 where
   pub flags : ℕ
   pub count : ℕ
 
--- what is told where so many bytes were expected and so many were the command's or were carried: underflow (20h) and
--- how many are missing, overflow (40h) and how many were left over, or neither
+-- what is told where E bytes were expected, and L were the command's or were carried: with L less than E underflow
+-- (20h) and E - L, with L greater overflow (40h) and L - E, else neither
 abbrev pub residual_of : ℕ → ℕ → Residual
 residual_of expected length =
     if nat_lt length expected then record { flags = 0x20; count = expected - length }
     else if nat_lt expected length then record { flags = 0x40; count = length - expected }
     else record { flags = 0x00; count = 0 }
 
--- how many bytes of a command's data are carried where so many are expected: the data are cut there
+-- how many bytes of a command's data are carried where so many are expected: the lesser, at which the data are cut
 abbrev pub carried : ℕ → ℕ → ℕ
 carried expected length = min expected length
 
 -- ## Sense data
 
 -- fixed sense data of eighteen bytes (SPC, fixed format sense data): 70h, the sense key in byte 2, ten further bytes,
--- the additional
--- sense code in byte 12 and its qualifier in byte 13
+-- the additional sense code in byte 12 and its qualifier in byte 13
 abbrev pub fixed_sense : Sense → List ℕ
 fixed_sense sense =
     (0x70 ∷ 0 ∷ sense.key ∷ 0 ∷ 0 ∷ 0 ∷ 0 ∷ 0x0A ∷ [])

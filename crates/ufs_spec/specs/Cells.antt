@@ -1,6 +1,6 @@
--- What pages open to. A page counts as a page of a group, or as a mark, where it is the sealed page of a tag and a
--- block
--- whose data keep the rules of its kind; any other page, a blank one and a torn one too, is nothing (this profile).
+-- What pages open to. A page counts as a page of a group, or as a mark, if it is the sealed page of
+-- a tag and a block whose data keep the rules of its kind. Any other page, a blank one and a torn
+-- one too, is nothing (this profile).
 use Rattle.std.specs.Prelude.{◌≡◌, ◌≢◌, ℕ, ◌<◌, ◌≤◌, ◌^◌, ◌==◌, ◌&&◌, Bool, List, All, length, Option, Some}
 use Rattle.ufs_spec.specs.Keys.{IsBlock, IsSettingsBody}
 use Rattle.ufs_spec.specs.Pages.{IsTag, mark_bytes, seal_page}
@@ -14,30 +14,32 @@ use Rattle.ufs_spec.specs.declared.flash.Tag.{Tag}
 
 -- Marks
 
--- a mark: its number among marks, the frontier that it records, its fence, if it has one, and the configuration
+-- what a mark says: its number among marks, the frontier that it records, its fence, if
+-- it has one, and the configuration
 pub record Mark : Type 0 where
   pub number : ℕ
   pub records : ℕ
   pub fence : Option Fence
   pub numbers : Numbers
 
--- the tag of a mark
+-- the tag of a mark's page: the only page of its group, with the frontier that the mark records
 abbrev pub mark_tag : Mark → Tag
 mark_tag m = record { kind = 4; unit = 0; address = 0; number = m.number; index = 0; size = 1; frontier = m.records }
 
--- a fence is a range that is not empty, and is not the one whose ends are both 0
+-- a fence is a range that is not empty and whose numbers fit 64 bits. Its first number may be 0, its last one may
+-- not, since both 0 say in a mark that there is no fence
 pub record IsFence (f : Fence) : Type 0 where
   pub ordered : f.first ≤ f.last
   pub some : 0 < f.last
   pub fits : f.last < 2 ^ 64
 
--- the numbers of a unit fit their places in a mark
+-- the numbers of a unit fit their places in a mark; what a configuration may have is narrower
 pub record UnitFits (u : UnitSpec) : Type 0 where
   pub blocks : u.blocks < 2 ^ 32
   pub boot : u.boot < 2 ^ 8
   pub protect : u.protect < 2 ^ 8
 
--- the numbers fit their places in a mark
+-- the numbers fit their places in a mark; what a configuration may have is narrower
 pub record NumbersFit (n : Numbers) : Type 0 where
   pub dies : n.dies < 2 ^ 8
   pub blocks : n.blocks < 2 ^ 16
@@ -48,7 +50,7 @@ pub record NumbersFit (n : Numbers) : Type 0 where
   pub slots : n.slots < 2 ^ 16
   pub spare : n.spare < 2 ^ 16
 
--- the body of a mark
+-- the body is that of a mark with this fence and these numbers
 pub record IsMarkBody (fence : Option Fence) (n : Numbers) (body : List ℕ) : Type 0 where
   pub fence_right : (f : Fence) → fence ≡ Some f → IsFence f
   pub numbers_fit : NumbersFit n
@@ -56,13 +58,15 @@ pub record IsMarkBody (fence : Option Fence) (n : Numbers) (body : List ℕ) : T
 
 -- Opening a page
 
--- the page is the sealed one of this tag and body
+-- the page is the sealed page of this tag and body. A blank page opens to nothing, and so does a torn one,
+-- by the premise on checks (`MayBeLeft`)
 pub record Opens (page : Page) (tag : Tag) (body : List ℕ) : Type 0 where
   pub tag_right : IsTag tag
   pub body_right : IsBlock body
   pub sealed : page ≡ seal_page tag body
 
--- the data of a settings page and of a mark keep their rules
+-- the data of a settings page are settings in their ranges, and those of a mark are a
+-- mark's; other data are any bytes
 pub record DataHold (tag : Tag) (body : List ℕ) : Type 0 where
   pub settings : tag.kind ≡ 3 → IsSettingsBody body
   pub mark : tag.kind ≡ 4 → (fence : Option Fence) × (n : Numbers) × IsMarkBody fence n body
@@ -71,11 +75,13 @@ pub record DataHold (tag : Tag) (body : List ℕ) : Type 0 where
 pub data Cell : Type 0 where
   -- no page of the device: blank, torn, or not written by it
   Nothing : Cell
-  -- a page of a group
+  -- a page of a group, with its tag and its data
   GroupPage : (tag : Tag) → (body : List ℕ) → Cell
   -- a mark
   MarkPage : (mark : Mark) → Cell
 
+-- what a page is, read off its bytes: each page is one cell and no other. A page that opens and whose data break
+-- the rule of its kind is `Nothing`; a device never writes one
 abbrev pub IsCell : Page → Cell → Type 0
 IsCell page Nothing = (tag : Tag) (body : List ℕ) → Opens page tag body → DataHold tag body → ⊥
 IsCell page (GroupPage tag body) = Opens page tag body × DataHold tag body × (tag.kind ≢ 4)
@@ -88,26 +94,28 @@ key_of t = record { kind = t.kind; unit = t.unit; address = t.address }
 
 -- Arrays
 
--- the page at each place of all dies
+-- the page at each place, that is die, block and page, of all dies
 abbrev pub Array : Type 0
 Array = Place → Page
 
--- what each of them is
+-- the cell at each place: from here on most is said of cells, not of bytes
 abbrev pub Cells : Type 0
 Cells = Place → Cell
 
+-- these are the cells of that array, place by place
 abbrev pub Shows : Array → Cells → Type 0
 Shows array cells = (p : Place) → IsCell (array p) (cells p)
 
+-- compares two places by die, block and page
 abbrev pub same_place : Place → Place → Bool
 same_place p q = (p.die == q.die) && (p.block == q.block) && (p.page == q.page)
 
--- the place is one of the dies'
+-- the place lies on the dies that these numbers give
 pub record IsPlace (n : Numbers) (p : Place) : Type 0 where
   pub die : p.die < n.dies
   pub block : p.block < n.blocks
   pub page : p.page < n.pages
 
--- nothing stands outside the dies
+-- every cell outside the dies is `Nothing`
 abbrev pub AreWithin : Numbers → Cells → Type 0
 AreWithin n c = (p : Place) → (IsPlace n p → ⊥) → c p ≡ Nothing

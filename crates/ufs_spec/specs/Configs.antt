@@ -10,7 +10,8 @@ use Rattle.ufs_spec.specs.declared.configs.Numbers.{Numbers}
 use Rattle.ufs_spec.specs.declared.faults.ConfigFault.{ConfigFault}
 use Rattle.ufs_spec.specs.declared.faults.ConfigFault.TheVariants.{Range, TooLittleSpare, TwoBootUnits}
 
--- the numbers by name, in the order in which a configuration lists them
+-- the numbers by name, in the order in which a configuration lists them. `numbers_of` of Refusals is another one:
+-- the numbers of a state
 abbrev pub numbers_of : ℕ → ℕ → ℕ → List UnitSpec → ℕ → ℕ → ℕ → Numbers
 numbers_of dies blocks pages units rpmb slots spare =
     record {
@@ -23,17 +24,19 @@ numbers_of dies blocks pages units rpmb slots spare =
       spare = spare;
     }
 
--- Ranges
+-- ## Ranges
 
 -- whether a number lies between low and high, both included
 abbrev pub is_between : ℕ → ℕ → ℕ → Bool
 is_between low high n = nat_le low n && nat_le n high
 
--- whether a unit has 1 to 2,097,152 blocks (8 GiB), a boot number 0 to 2, and one of three ways of protection
+-- a unit has 1 to 2,097,152 blocks (8 GiB), boot number 0 none, 1 A or 2 B, and protection 0 never, 1 by fPowerOnWPEn
+-- or 2 by fPermanentWPEn (JESD220, 14.1.4.5)
 abbrev pub unit_in_range : UnitSpec → Bool
 unit_in_range u = is_between 1 2097152 u.blocks && is_between 0 2 u.boot && is_between 0 2 u.protect
 
--- whether each number is in its range
+-- each number is in its range (this profile); `rpmb` counts steps of 128 KiB, `slots` how many blocks the write cache
+-- holds at once, `spare` how many blocks may go bad
 abbrev pub in_range : Numbers → Bool
 in_range n =
     is_between 1 8 n.dies
@@ -45,22 +48,23 @@ in_range n =
     && is_between 64 1024 n.slots
     && is_between 0 (n.dies * n.blocks) n.spare
 
--- how many blocks a command may have in a configuration, each of them a page of its group
+-- how many blocks a command may have in a configuration, each of them a page of its group: the same in each
 abbrev pub command_blocks : Numbers → ℕ
 command_blocks n = greatest_command
 
--- Room
+-- ## Room
 
--- the blocks of all units
+-- how many blocks of 4096 bytes all units have together
 abbrev pub unit_blocks : Numbers → ℕ
 unit_blocks n = sum_by (λ u. u.blocks) n.units.items
 
--- how many pages hold everything once: a page for each block of a unit and for each 4096 bytes of the RPMB
--- area, and two for the settings
+-- how many pages hold everything once: one for each block of a unit, 32 for each step of the RPMB area,
+-- and two for the settings
 abbrev pub pages_kept : Numbers → ℕ
 pages_kept n = unit_blocks n + 32 * n.rpmb + 2
 
--- the blocks that hold all pages and four times the slots, and four for each die and eight to collect with
+-- the blocks of the dies that hold these pages and four times the slots, and four for each die and
+-- eight more to collect with
 abbrev pub blocks_needed : Numbers → ℕ
 blocks_needed n = div_ceil (pages_kept n + 4 * n.slots) n.pages + 4 * n.dies + 8
 
@@ -68,44 +72,47 @@ blocks_needed n = div_ceil (pages_kept n + 4 * n.slots) n.pages + 4 * n.dies + 8
 abbrev pub blocks_left : Numbers → ℕ
 blocks_left n = n.dies * n.blocks - n.spare
 
+-- fewer blocks are left then than are needed
 abbrev pub has_too_little_spare : Numbers → Bool
 has_too_little_spare n = nat_lt (blocks_left n) (blocks_needed n)
 
--- Boot numbers
+-- ## Boot numbers
 
--- how many units have the boot number
+-- how many units have this boot number: 1 is A, 2 is B
 abbrev pub boot_count : ℕ → Numbers → ℕ
 boot_count boot n = count_by (λ u. u.boot == boot) n.units.items
 
+-- two units have A, or two have B, so that the boot setting would not name one
 abbrev pub has_two_boot_units : Numbers → Bool
 has_two_boot_units n = nat_lt 1 (boot_count 1 n) || nat_lt 1 (boot_count 2 n)
 
--- Why numbers are no configuration
+-- ## Why numbers are no configuration
 
--- the first of these that holds
+-- the first that applies of a number out of its range, too little spare and two boot units
 abbrev pub first_fault : Bool → Bool → Bool → Option ConfigFault
 first_fault true little two = Some Range
 first_fault false true two = Some TooLittleSpare
 first_fault false false true = Some TwoBootUnits
 first_fault false false false = None
 
+-- why the numbers are no configuration; None if they are one
 abbrev pub config_fault : Numbers → Option ConfigFault
 config_fault n = first_fault (not (in_range n)) (has_too_little_spare n) (has_two_boot_units n)
 
--- numbers without a fault
+-- no fault is found in the numbers, so that a device may be opened with them
 abbrev pub IsConfig : Numbers → Type 0
 IsConfig n = config_fault n ≡ None
 
--- What a caller may rely on
+-- ## What a caller may rely on
 
--- the ranges of one unit
+-- what `unit_in_range` checks of one unit, as statements
 pub record UnitInRange (u : UnitSpec) : Type 0 where
   pub has_block : 1 ≤ u.blocks
   pub blocks_bound : u.blocks ≤ 2097152
   pub boot_bound : u.boot ≤ 2
   pub protect_bound : u.protect ≤ 2
 
--- the ranges of all numbers
+-- what `in_range` checks, as statements
 pub record InRange (n : Numbers) : Type 0 where
   pub has_die : 1 ≤ n.dies
   pub dies_bound : n.dies ≤ 8

@@ -1,5 +1,5 @@
--- What is known of the dies in one life: what their pages are, which programs have ended well, how far each block is,
--- the job of each die, and which blocks are being erased; what the endings of jobs and a stop make of them; and
+-- What is known of the dies in one life: what their pages are, which programs have ended well, how far each block
+-- is, the job of each die, and which blocks are being erased; what the endings of jobs and a stop make of them; and
 -- which pages may go (this profile).
 use Rattle.std.specs.Prelude.{◌≡◌, ◌≢◌, ◌⊎◌, ℕ, ◌+◌, ◌<◌, ◌≤◌, ◌==◌, ◌&&◌, Bool, true, false, if◌then◌else◌, List}
 use Rattle.std.specs.Prelude.{Option, Some, None}
@@ -21,58 +21,67 @@ pub record Spot : Type 0 where
   pub die : ℕ
   pub block : ℕ
 
+-- the block in which the place lies
 abbrev pub spot_of : Place → Spot
 spot_of p = record { die = p.die; block = p.block }
 
+-- compares two blocks by die and number
 abbrev pub same_spot : Spot → Spot → Bool
 same_spot a b = (a.die == b.die) && (a.block == b.block)
 
+-- a page of the block
 abbrev pub place_in : Spot → ℕ → Place
 place_in s page = record { die = s.die; block = s.block; page = page }
 
+-- how far a block is in this life
 pub data BlockState : Type 0 where
   -- nothing in it is needed: it may be erased
   Free : BlockState
-  -- it was erased in this life, and its next page is this one
+  -- it was erased in this life, and this page of it is programmed next
   Filling : (next : ℕ) → BlockState
-  -- it is full, or it stood at the life's start
+  -- it is full, or something was in it at the life's start
   Closed : BlockState
   -- one of its jobs failed, in this life or before
   Bad : BlockState
 
 -- Jobs
 
--- for whom a page is read: a block of a task, the step under way, or the rest of a page that a command has in part; for
--- nobody, once the task is gone
+-- for whom a page is read
 pub data Reader : Type 0 where
+  -- the block with this index of the READ with this tag
   ForTask : (tag index : ℕ) → Reader
+  -- the step of mending or collection that is under way
   ForStep : Reader
+  -- the page of a group, by number and index, that a command has only in part: the rest of it is read
   ForRest : (number index : ℕ) → Reader
+  -- whoever wanted it has let go of it since the read was given: nothing follows from its end
   ForNobody : Reader
 
--- what a die does
+-- what a die does: it reads a page, programs a page so that it becomes this cell, or erases a block
 pub data Flight : Type 0 where
   Reading : (reader : Reader) → (place : Place) → Flight
   Programming : (place : Place) → (cell : Cell) → Flight
   Erasing : (spot : Spot) → Flight
 
--- the page that is written as a cell
+-- the page that is programmed for a cell, and that opens to it
 abbrev pub page_of : Cell → Page
 page_of Nothing = blank_page
 page_of (GroupPage tag body) = seal_page tag body
 page_of (MarkPage m) = seal_page (mark_tag m) (mark_bytes m.numbers m.fence)
 
--- what the die is told
+-- what the die is told: places and bytes, and no word of the reader
 abbrev pub job_of : Flight → Job
 job_of (Reading reader place) = job.Read place
 job_of (Programming place cell) = job.Program place (page_of cell)
 job_of (Erasing spot) = job.Erase spot.die spot.block
 
+-- what one life knows of its dies
 pub record Disk : Type 0 where
   -- what each page is
   pub cells : Cells
-  -- whether it stood at the life's start or its program has ended well
+  -- whether the page was there at the life's start or its program has ended well
   pub finished : Place → Bool
+  -- how far each block is
   pub blocks : Spot → BlockState
   -- the job of each die
   pub flights : ℕ → Option Flight
@@ -81,34 +90,38 @@ pub record Disk : Type 0 where
 
 -- One value more
 
+-- the function with one value changed: that of this place
 abbrev pub at_place : {A : Type 0} → (Place → A) → Place → A → Place → A
 at_place f p x q = if same_place q p then x else f q
 
+-- the function with one value changed: that of this block
 abbrev pub at_spot : {A : Type 0} → (Spot → A) → Spot → A → Spot → A
 at_spot f s x t = if same_spot t s then x else f t
 
+-- the function with one value changed: that of this die
 abbrev pub at_die : {A : Type 0} → (ℕ → A) → ℕ → A → ℕ → A
 at_die f d x e = if e == d then x else f e
 
 -- What becomes of the dies
 
+-- which blocks are being erased once this job is given: an erase counts from the moment at which it is handed out
 abbrev pub erasing_begun : Disk → Flight → Spot → Bool
 erasing_begun d (Erasing s) = at_spot d.erasing s true
 erasing_begun d _ = d.erasing
 
--- the die has a job
+-- the die has this job from now on
 abbrev pub job_begun : Disk → ℕ → Flight → Disk
 job_begun d die flight = record d { flights = at_die d.flights die (Some flight); erasing = erasing_begun d flight }
 
--- the die has none
+-- the die has no job any more
 abbrev pub ended : Disk → ℕ → Disk
 ended d die = record d { flights = at_die d.flights die None }
 
--- a block is closed once its last page is programmed
+-- what a block is after the program of this page: closed if that was its last
 abbrev pub state_behind : ℕ → ℕ → BlockState
 state_behind pages page = if page + 1 == pages then Closed else Filling (page + 1)
 
--- a program ended well, in blocks of so many pages
+-- a program ended well, in blocks of so many pages: the page is what was intended, and is finished
 abbrev pub programmed : ℕ → Disk → Place → Cell → Disk
 programmed pages d p cell =
     record (ended d p.die) {
@@ -117,7 +130,8 @@ programmed pages d p cell =
       blocks = at_spot d.blocks (spot_of p) (state_behind pages p.page);
     }
 
--- an erase ended well
+-- an erase ended well: each page of the block is nothing, its first page is programmed next, and it
+-- no longer counts as being erased
 abbrev pub erased : Disk → Spot → Disk
 erased d s =
     record (ended d s.die) {
@@ -126,7 +140,7 @@ erased d s =
       erasing = at_spot d.erasing s false;
     }
 
--- a program failed, and left these cells
+-- a program failed, and left these cells: its page is not finished and the block is bad
 abbrev pub program_failed : Disk → Place → Cells → Disk
 program_failed d p left =
     record (ended d p.die) {
@@ -135,50 +149,54 @@ program_failed d p left =
       blocks = at_spot d.blocks (spot_of p) Bad;
     }
 
--- an erase failed, and left these cells: the block counts as being erased for the rest of the life
+-- an erase failed, and left these cells: the block is bad, and counts as being erased for the rest of the life, so
+-- that no page in it lets another page go
 abbrev pub erase_failed : Disk → Spot → Cells → Disk
 erase_failed d s left = record (ended d s.die) { cells = left; blocks = at_spot d.blocks s Bad }
 
 -- What an interruption may leave
 
--- the job touches the page there, which is to become this one
+-- the job touches the page there, which is to become this cell: a program touches its own page, an erase each page
+-- of its block, which is to become `Nothing`, and a read none
 abbrev pub Touches : Option Flight → Place → Cell → Type 0
 Touches (Some (Programming q cell)) p intended = (q ≡ p) × (intended ≡ cell)
 Touches (Some (Erasing s)) p intended = (s ≡ spot_of p) × (intended ≡ Nothing)
 Touches _ p intended = ⊥
 
--- pages outside the jobs in flight are unchanged; a page that a job touches has its old content, the intended one, or a
--- check that fails
+-- what an interruption may leave of an array. Pages outside the jobs in flight are unchanged; a page that a job
+-- touches has its old content, the intended one, or a check that fails
 abbrev pub Crash : Array → (ℕ → Option Flight) → Array → Type 0
 Crash array flights left = (p : Place) →
     (left p ≡ array p)
     ⊎ ((intended : Cell) × Touches (flights p.die) p intended × MayBeLeft (array p) (page_of intended) (left p))
 
--- the same of what the pages are
+-- the same of cells: a page that a job touches is what it was, what was intended, or `Nothing`
 abbrev pub CellCrash : Cells → (ℕ → Option Flight) → Cells → Type 0
 CellCrash cells flights left = (p : Place) →
     (left p ≡ cells p)
     ⊎ ((intended : Cell) × Touches (flights p.die) p intended × ((left p ≡ intended) ⊎ (left p ≡ Nothing)))
 
--- the job of one die alone
+-- the job of one die alone: a failed job leaves what an interruption of only that job may
 abbrev pub flight_alone : (ℕ → Option Flight) → ℕ → ℕ → Option Flight
 flight_alone flights die other = if other == die then flights other else None
 
 -- Pages that may go
 
--- the mark is finished there, and its block is not being erased
+-- the mark is at a place that is finished and outside every block being erased
 pub record Stands (d : Disk) (m : Mark) : Type 0 where
   pub place : Place
   pub there : d.cells place ≡ MarkPage m
   pub finished : d.finished place ≡ true
   pub stays : d.erasing (spot_of place) ≡ false
 
--- it has the greatest number of all finished marks
+-- the mark stands so, and no finished mark has a greater number, wherever that one lies. So while the newest
+-- finished mark is itself being erased there is none, and nothing may go. An older mark would not do: it may be
+-- erased at any time, and then the greatest recorded frontier could fall below a group that has lost pages
 pub record IsNewestFinished (d : Disk) (m : Mark) : Type 0 where
   pub stands : Stands d m
   pub newest : (p : Place) (other : Mark) → d.cells p ≡ MarkPage other → d.finished p ≡ true → other.number ≤ m.number
 
--- a finished page with the same tag and data stands where no block is being erased
+-- a finished copy of the page lies outside every block being erased
 pub record HasCopy (d : Disk) (t : Tag) (body : List ℕ) : Type 0 where
   pub place : Place
   pub tag : Tag
@@ -187,7 +205,8 @@ pub record HasCopy (d : Disk) (t : Tag) (body : List ℕ) : Type 0 where
   pub finished : d.finished place ≡ true
   pub stays : d.erasing (spot_of place) ≡ false
 
--- a page of its key with a greater number counts, and the mark records a frontier at or above that number
+-- a page of its key, wherever it lies, has a greater number that is outside the mark's fence and at or under
+-- the frontier that the mark records
 pub record IsReplaced (d : Disk) (m : Mark) (t : Tag) : Type 0 where
   pub place : Place
   pub tag : Tag
@@ -198,21 +217,22 @@ pub record IsReplaced (d : Disk) (m : Mark) (t : Tag) : Type 0 where
   pub newer : t.number < tag.number
   pub recorded : tag.number ≤ m.records
 
--- by the newest finished mark the page may go
+-- by this mark, the newest finished one, the page may go: its number is in the mark's fence, or it has a copy, or
+-- it is replaced. A mark may go if it is older
 abbrev pub SpentBy : Disk → Mark → Cell → Type 0
 SpentBy d m Nothing = ⊥
 SpentBy d m (GroupPage t body) = IsFenced m.fence t.number ⊎ (HasCopy d t body ⊎ IsReplaced d m t)
 SpentBy d m (MarkPage other) = other.number < m.number
 
--- the block counts as being erased
+-- the dies with this block counted as being erased
 abbrev pub with_erasing : Disk → Spot → Disk
 with_erasing d s = record d { erasing = at_spot d.erasing s true }
 
--- the page there may go: its own block counts as being erased
+-- the page there may go, even with its whole block: its own block counts as being erased, so it is not its own copy
 abbrev pub Spent : Disk → Place → Type 0
 Spent d p =
     (m : Mark) × IsNewestFinished (with_erasing d (spot_of p)) m × SpentBy (with_erasing d (spot_of p)) m (d.cells p)
 
--- a block may be erased: each page in it that is something may go
+-- the block may be erased: each page in it that is something may go
 abbrev pub MayErase : Disk → Spot → Type 0
 MayErase d s = (p : Place) → spot_of p ≡ s → d.cells p ≢ Nothing → Spent d p

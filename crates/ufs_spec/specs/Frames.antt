@@ -3,30 +3,34 @@ use Rattle.std.specs.Prelude.{◌≡◌, ℕ, ◌<◌, ◌^◌, List, ◌++◌, 
 use Rattle.byteorder.specs.Endian.{big_bytes}
 use Rattle.ufs_spec.specs.Messages.{AreBytes}
 
--- a frame of 512 bytes: 196 stuff bytes, the key or the MAC of 32, 256 of data, a nonce of 16, and five numbers
+-- a frame of 512 bytes (JESD220, 12.4): 196 stuff bytes, the key or the MAC of 32, 256 of data, a nonce
+-- of 16, and five numbers
 pub record Frame : Type 0 where
   pub stuff : List ℕ
   pub key_or_mac : List ℕ
   pub payload : List ℕ
   pub nonce : List ℕ
+  -- the write counter (4 bytes); the other numbers have 2
   pub counter : ℕ
+  -- the first block of 256 bytes, and how many blocks
   pub address : ℕ
   pub count : ℕ
   pub result : ℕ
+  -- which request or response it is
   pub kind : ℕ
 
--- the bytes that the MAC covers: from the data on
+-- the 284 bytes that the MAC covers: from the data on, so all but stuff bytes and MAC
 abbrev pub covered_bytes : Frame → List ℕ
 covered_bytes f =
     f.payload ++ f.nonce ++ big_bytes 4 f.counter ++ big_bytes 2 f.address ++ big_bytes 2 f.count ++ big_bytes 2
     f.result
     ++ big_bytes 2 f.kind
 
--- the 512 bytes of a frame
+-- the 512 bytes of a frame, numbers with the highest byte first
 abbrev pub frame_bytes : Frame → List ℕ
 frame_bytes f = f.stuff ++ f.key_or_mac ++ covered_bytes f
 
--- the parts of a frame have their lengths and widths
+-- the parts of a frame have their lengths, and its numbers fit their widths
 pub record IsFrame (f : Frame) : Type 0 where
   pub stuff : (length f.stuff ≡ 196) × AreBytes f.stuff
   pub key_or_mac : (length f.key_or_mac ≡ 32) × AreBytes f.key_or_mac

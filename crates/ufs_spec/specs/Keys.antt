@@ -1,6 +1,6 @@
--- Keys name what a device holds piece by piece, each piece as long as a page: a block of a unit, 4096 bytes of the
--- RPMB area, or the settings with the RPMB key and counter. A plain state is the same as a content for each key
--- (this profile).
+-- Keys name what a device holds piece by piece, each piece as long as the data of a page: a block of a unit,
+-- 4096 bytes of the RPMB area, or the settings with the RPMB key and counter. A plain state is the same as a
+-- content for each key (this profile).
 use Rattle.std.specs.Prelude.{◌≡◌, ℕ, zero, suc, ◌+◌, ◌-◌, ◌*◌, ◌/◌, ◌<◌, ◌≤◌, ◌^◌, ◌==◌, ◌&&◌, Bool, true, false}
 use Rattle.std.specs.Prelude.{if◌then◌else◌, List, [], ◌∷◌, ◌++◌, All, length, take, drop, map, replicate, slice_index}
 use Rattle.std.specs.Prelude.{slice_index_or, Option, Some, None}
@@ -16,55 +16,59 @@ use Rattle.ufs_spec.specs.declared.flash.Key.{Key}
 
 -- Keys
 
--- a block of a unit, by its address
+-- a block of a unit, by its address: kind 1
 abbrev pub data_key : ℕ → ℕ → Key
 data_key unit address = record { kind = 1; unit = unit; address = address }
 
--- sixteen blocks of the RPMB area, by their page
+-- sixteen blocks of the RPMB area, 4096 bytes, by their page: kind 2
 abbrev pub area_key : ℕ → Key
 area_key page = record { kind = 2; unit = 0; address = page }
 
--- the settings, the RPMB key and the write counter
+-- the settings, the RPMB key and the write counter: kind 3
 abbrev pub settings_key : Key
 settings_key = record { kind = 3; unit = 0; address = 0 }
 
--- how many keys the RPMB area has
+-- how many keys the RPMB area has, one for each 4096 bytes
 abbrev pub area_pages : Shape → ℕ
 area_pages s = s.area / 4096
 
--- the device has the key
+-- a device of this shape has the key
 pub data IsKey (s : Shape) : Key → Type 0 where
   IsData : (unit address : ℕ) → unit < length s.blocks → address < slice_index_or s.blocks unit 0 →
       IsKey s (data_key unit address)
   IsArea : (page : ℕ) → page < area_pages s → IsKey s (area_key page)
   IsSettings : IsKey s settings_key
 
+-- compares two keys by kind, unit and address
 abbrev pub same_key : Key → Key → Bool
 same_key j k = (j.kind == k.kind) && (j.unit == k.unit) && (j.address == k.address)
 
 -- Settings pages
 
+-- a flag as a byte: 1 if it is set
 abbrev pub flag_byte : Bool → ℕ
 flag_byte true = 1
 flag_byte false = 0
 
--- whether a key is set, a zero, and the key, zeros without one
+-- 34 bytes: whether an RPMB key is set, a zero, and the key; zeros without one
 abbrev pub key_bytes : Option (List ℕ) → List ℕ
 key_bytes None = replicate 34 0
 key_bytes (Some bytes) = (1 ∷ 0 ∷ []) ++ bytes
 
--- the boot setting, fPermanentWPEn, whether a key is set, a zero, the key and the write counter; all else is zero
+-- the 4096 bytes of a settings page: byte 0 is the boot setting, 1 fPermanentWPEn, 2 whether an RPMB key is set,
+-- 4..35 the key, 36..39 the write counter, and all else is zero. Those of a new device are all zero
 abbrev pub settings_bytes : ℕ → Bool → Option (List ℕ) → ℕ → List ℕ
 settings_bytes boot permanent key counter =
     zero_filled 4096 ((boot ∷ flag_byte permanent ∷ []) ++ key_bytes key ++ big_bytes 4 counter)
 
--- the ranges of what a settings page says
+-- the ranges of what a settings page says: bBootLunEn is at most 2, an RPMB key has 32 bytes and the
+-- write counter 32 bits (JESD220, 12.4)
 pub record AreSettings (boot : ℕ) (key : Option (List ℕ)) (counter : ℕ) : Type 0 where
   pub boot_bound : boot ≤ 2
   pub key_length : (bytes : List ℕ) → key ≡ Some bytes → (length bytes ≡ 32) × AreBytes bytes
   pub counter_fits : counter < 2 ^ 32
 
--- the body of a settings page
+-- the body of a settings page: these bytes spell settings in their ranges
 pub record IsSettingsBody (body : List ℕ) : Type 0 where
   pub boot : ℕ
   pub permanent : Bool
@@ -79,14 +83,15 @@ pub record IsSettingsBody (body : List ℕ) : Type 0 where
 abbrev pub Contents : Type 0
 Contents = Key → List ℕ
 
--- 4096 bytes of the RPMB area
+-- the 4096 bytes of the RPMB area that are this page of it
 abbrev pub area_page : ℕ → List ℕ → List ℕ
 area_page page area = take 4096 (drop (4096 * page) area)
 
+-- the settings page of a plain state
 abbrev pub settings_of : Plain → List ℕ
 settings_of p = settings_bytes p.boot p.permanent p.key p.counter
 
--- the content of a key in a plain state
+-- the content of a key in a plain state: a block of a unit, a page of the RPMB area, or the settings
 abbrev pub content : Plain → Contents
 content p k =
     if k.kind == 1 then block_at k.unit k.address p
@@ -97,7 +102,8 @@ content p k =
 abbrev pub IsBlock : List ℕ → Type 0
 IsBlock bytes = (length bytes ≡ 4096) × AreBytes bytes
 
--- what a plain state is made of: blocks and an area of bytes, in whole pages, and settings in their ranges
+-- what a plain state is made of: blocks of 4096 bytes, an area of bytes in whole
+-- pages, and settings in their ranges
 pub record IsPlain (p : Plain) : Type 0 where
   pub blocks : All (All IsBlock) p.units
   pub area : length p.area ≡ 4096 * area_pages (shape_of p)
@@ -111,15 +117,16 @@ pub record AreContents (s : Shape) (f : Contents) : Type 0 where
 
 -- Back from contents
 
--- the numbers below n
+-- the numbers from 0 to n - 1
 abbrev pub below : ℕ → List ℕ
 below zero = []
 below (suc n) = below n ++ n ∷ []
 
+-- the RPMB key that the bytes of a settings page name; none if byte 2 is not 1
 abbrev pub key_in : List ℕ → Option (List ℕ)
 key_in body = if slice_index body 2 == 1 then Some (take 32 (drop 4 body)) else None
 
--- the plain state of a content
+-- the plain state of this shape that has these contents
 abbrev pub plain_of : Shape → Contents → Plain
 plain_of s f =
     record {
@@ -134,14 +141,14 @@ plain_of s f =
 
 -- Commands
 
--- the data of a command are bytes, in whole blocks
+-- the data of a command are bytes, and of a write they are whole blocks
 abbrev pub IsCommand : Command → Type 0
 IsCommand (cmd.Write unit address blocks) = All IsBlock blocks
 IsCommand (cmd.SetKey bytes) = AreBytes bytes
 IsCommand (cmd.RpmbWrite address bytes) = AreBytes bytes
 IsCommand _ = Unit {0}
 
--- the commands may come one after another
+-- the commands may come one after another, each in the state that those before it leave
 abbrev pub CanApplyAll : Plain → List Command → Type 0
 CanApplyAll p [] = Unit {0}
 CanApplyAll p (c ∷ cs) = IsCommand c × CanApply p c × CanApplyAll (apply p c) cs
@@ -150,11 +157,12 @@ CanApplyAll p (c ∷ cs) = IsCommand c × CanApply p c × CanApplyAll (apply p c
 abbrev pub data_keys : ℕ → ℕ → ℕ → List Key
 data_keys unit address n = map (λ i. data_key unit (address + i)) (below n)
 
--- the area pages from that of one block of 256 bytes to that of another, in rising order
+-- the keys of the area pages from that of one block of 256 bytes to that of another, in rising order
 abbrev pub area_keys : ℕ → ℕ → List Key
 area_keys first last = map (λ i. area_key (first / 16 + i)) (below (last / 16 + 1 - first / 16))
 
--- the keys that a command touches, in the order in which its group has them
+-- the keys that a command touches, in the order in which its group has them. A setting or a key touches the
+-- settings alone; an RPMB write touches its area pages and then the settings, which have the counter
 abbrev pub keys : Command → List Key
 keys (cmd.Write unit address blocks) = data_keys unit address (length blocks)
 keys (cmd.Zero unit address count) = data_keys unit address count
@@ -170,24 +178,26 @@ pub record Item : Type 0 where
   pub key : Key
   pub body : List ℕ
 
+-- the pages of one command, in the order of their indexes
 abbrev pub Group : Type 0
 Group = List Item
 
--- the group of a command: its keys, with their content in the state after it
+-- the group of a command: its keys, with their content in the state after it. So an area page of which the command
+-- has only some blocks also holds what the command leaves of the others
 abbrev pub group_of : Plain → Command → Group
 group_of p c = map (λ k. record { key = k; body = content (apply p c) k }) (keys c)
 
--- the groups of commands, one after another
+-- the groups of commands, one after another, each made in the state that those before it leave
 abbrev pub groups_of : Plain → List Command → List Group
 groups_of p [] = []
 groups_of p (c ∷ cs) = group_of p c ∷ groups_of (apply p c) cs
 
--- contents with a group's keys replaced
+-- contents with a group's keys replaced; all other keys keep their content
 abbrev pub put_group : Contents → Group → Contents
 put_group f [] k = f k
 put_group f (item ∷ items) k = if same_key item.key k then item.body else put_group f items k
 
--- contents after groups, one after another
+-- contents after groups, one after another: of several with one key the last one shows
 abbrev pub put_groups : Contents → List Group → Contents
 put_groups f [] = f
 put_groups f (g ∷ gs) = put_groups (put_group f g) gs

@@ -1,6 +1,7 @@
 pub mod CdbFields
 pub mod Cdbs
 pub mod Cells
+pub mod Codes
 pub mod Commands
 pub mod Configs
 pub mod DieLaws

@@ -1,5 +1,5 @@
--- What the translation layer is when a life begins over an array: a relation, since it is read off the whole array
--- (this profile).
+-- What the translation layer is when a life begins over an array: a relation, since it is read
+-- off the whole array (this profile).
 use Rattle.std.specs.Prelude.{◌≡◌, ◌≢◌, ◌⊎◌, ℕ, suc, ◌<◌, ◌≤◌, Bool, true, false, List, [], Option, Some, None}
 use Rattle.std.specs.Prelude.{slice_get}
 use Rattle.ufs_spec.specs.Cells.{Cells, GroupPage, Mark, MarkPage, Nothing, key_of}
@@ -18,32 +18,34 @@ use Rattle.ufs_spec.specs.declared.flash.Tag.{Tag}
 
 -- Numbers seen
 
--- no group's page, recorded frontier or last number of the newest mark's fence is above it
+-- no number seen is above it: that of a group's page, whether it counts or not, a recorded frontier, or the last
+-- number of the newest mark's fence
 pub record IsAtMost (c : Cells) (m : Option Mark) (top : ℕ) : Type 0 where
   pub numbers : (p : Place) (t : Tag) (body : List ℕ) → c p ≡ GroupPage t body → t.number ≤ top
   pub frontiers : (p : Place) (t : Tag) (body : List ℕ) → c p ≡ GroupPage t body → t.frontier ≤ top
   pub marks : (p : Place) (other : Mark) → c p ≡ MarkPage other → other.records ≤ top
   pub fence : (f : Fence) → fence_in m ≡ Some f → f.last ≤ top
 
--- the greatest number seen
+-- the greatest number seen; the groups of this life are numbered from the one after it on
 abbrev pub IsTop : Cells → Option Mark → ℕ → Type 0
 IsTop c m top = IsAtMost c m top × ((other : ℕ) → IsAtMost c m other → top ≤ other)
 
--- the first number that is lost: that of the old fence, else the one behind the kept number
+-- the first lost number: that of the old fence, since what it shut out must stay out, else the one after the kept
+-- number. All from it to the greatest number seen is lost
 abbrev pub lost_from : Option Fence → ℕ → ℕ
 lost_from None kept = suc kept
 lost_from (Some f) kept = f.first
 
 -- Keys in order
 
--- by kind, then by unit, then by address
+-- the order of keys: by kind, then by unit, then by address
 abbrev pub IsBefore : Key → Key → Type 0
 IsBefore j k =
     (j.kind < k.kind)
     ⊎ (((j.kind ≡ k.kind) × (j.unit < k.unit))
     ⊎ ((j.kind ≡ k.kind) × (j.unit ≡ k.unit) × (j.address < k.address)))
 
--- a page of the key that opens has a lost number
+-- the key has a lost page: one that opens, with a lost number
 abbrev pub IsLost : Cells → ℕ → ℕ → Key → Type 0
 IsLost c low top k =
     (p : Place) × (t : Tag) × (body : List ℕ)
@@ -57,29 +59,30 @@ pub record AreLost (c : Cells) (low top : ℕ) (keys : List Key) : Type 0 where
 
 -- Pages by name
 
--- no later in the order by die, then by block, then by page
+-- the order of places: p is no later than q by die, then by block, then by page
 abbrev pub IsNotHigher : Place → Place → Type 0
 IsNotHigher p q =
     (p.die < q.die)
     ⊎ (((p.die ≡ q.die) × (p.block < q.block))
     ⊎ ((p.die ≡ q.die) × (p.block ≡ q.block) × (p.page ≤ q.page)))
 
+-- a page with this number and index is there
 abbrev pub HasName : Cells → Name → Place → Type 0
 HasName c name p = (t : Tag) × (body : List ℕ) × (c p ≡ GroupPage t body) × (name_of t ≡ name)
 
--- the lowest of the places that hold the page of this name
+-- where the page of this name is taken to be: at the lowest of the places that hold it; nowhere if none does
 abbrev pub StandsAt : Cells → Name → Option Place → Type 0
 StandsAt c name None = (p : Place) → HasName c name p → ⊥
 StandsAt c name (Some p) = HasName c name p × ((q : Place) → HasName c name q → IsNotHigher p q)
 
--- what the page of the name has
+-- what the page of the name has; all pages of one name are copies of each other in a sound array
 abbrev pub IsEntry : Cells → Name → Option Entry → Type 0
 IsEntry c name None = (p : Place) → HasName c name p → ⊥
 IsEntry c name (Some e) =
     (p : Place) × (t : Tag) × (c p ≡ GroupPage t e.item.body) × (name_of t ≡ name)
     × (e.item.key ≡ key_of t) × (e.size ≡ t.size)
 
--- the name of the page that has the key's content
+-- the name of the page that has the key's kept content; none if no page has it, so that it is zeros
 abbrev pub IsFirst : Cells → Option Mark → ℕ → Key → Option Name → Type 0
 IsFirst c m kept k None = HasNone c m (suc kept) k
 IsFirst c m kept k (Some name) =
@@ -87,7 +90,8 @@ IsFirst c m kept k (Some name) =
 
 -- Blocks
 
--- a bad block is bad; one of whose pages none is anything is free; any other is closed
+-- what a block is at first: bad if a job of it failed in an earlier life, free if each page of it is nothing, else
+-- closed. So no block that an earlier life began is filled further
 abbrev pub IsBlockState : Cells → (Spot → Bool) → Spot → BlockState → Type 0
 IsBlockState c bad s Bad = bad s ≡ true
 IsBlockState c bad s Free = (bad s ≡ false) × ((p : Place) → spot_of p ≡ s → c p ≡ Nothing)
@@ -96,15 +100,17 @@ IsBlockState c bad s state = ⊥
 
 -- Mending
 
--- the fence of the first mark: over what is lost, or none where nothing is and no fence stood
+-- the fence of the first mark: over all that is lost; none if nothing is lost and there was no fence
 abbrev pub IsFirstFence : Option Mark → ℕ → ℕ → Option Fence → Type 0
 IsFirstFence m low top None = (fence_in m ≡ None) × (top < low)
 IsFirstFence m low top (Some f) = (f.first ≡ low) × (f.last ≡ top) × (low ≤ top)
 
--- the device is mended at once where a mark counts, it has no fence and nothing is lost
+-- the device is mended at once if there is a mark, the newest has no fence, and nothing is lost
 abbrev pub MayBeMended : Option Mark → ℕ → ℕ → Type 0
 MayBeMended m low top = (m ≢ None) × (fence_in m ≡ None) × (top < low)
 
+-- how far the mending is when a life begins: it is over at once, or it is before its first mark, with the fence and
+-- the keys with a lost page
 abbrev pub IsMendingAt : Cells → Option Mark → ℕ → ℕ → Mending → Type 0
 IsMendingAt c m low top Mended = MayBeMended m low top
 IsMendingAt c m low top (Unmarked fence lost) =
@@ -113,11 +119,12 @@ IsMendingAt c m low top mending = ⊥
 
 -- The opening
 
+-- the number of a mark; 0 without one
 abbrev pub number_of : Option Mark → ℕ
 number_of None = 0
 number_of (Some m) = m.number
 
--- what is known of the dies: all that stands is finished, no job is in flight
+-- what is known of the dies: all that is there is finished, and no job is in flight
 pub record IsOpenedDisk (c : Cells) (bad : Spot → Bool) (d : Disk) : Type 0 where
   pub cells : d.cells ≡ c
   pub finished : (p : Place) → d.finished p ≡ true
@@ -125,7 +132,7 @@ pub record IsOpenedDisk (c : Cells) (bad : Spot → Bool) (d : Disk) : Type 0 wh
   pub idle : (die : ℕ) → d.flights die ≡ None
   pub none_erasing : (s : Spot) → d.erasing s ≡ false
 
--- what is known of numbers and contents
+-- what is known of numbers and contents: those of the array, with nothing of this life yet
 pub record IsOpenedLedger (n : Numbers) (c : Cells) (l : Ledger) : Type 0 where
   pub newest : IsNewestMark c l.newest
   pub kept : ℕ
@@ -139,6 +146,7 @@ pub record IsOpenedLedger (n : Numbers) (c : Cells) (l : Ledger) : Type 0 where
   pub first_page : (k : Key) → IsKey (shape_of_numbers n) k → IsFirst c l.newest kept k (l.first_page k)
   pub none_new : l.groups ≡ []
   pub none_repaired : l.repairs ≡ 0
+  -- nothing is waited for: what was not kept is lost
   pub frontier : l.frontier ≡ l.greatest_seen
   pub marks : l.marks ≡ number_of l.newest
   pub none_held : l.held ≡ 0

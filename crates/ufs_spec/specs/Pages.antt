@@ -1,5 +1,10 @@
--- How a flash page holds a block, what its tag says and the check of both. The layouts are this
--- profile's, version 1; the check is the SHA-256 of FIPS 180-4.
+-- How a flash page holds a block, what its tag says and the check of both. The layouts are this profile's, version
+-- 1; the check is the SHA-256 of FIPS 180-4. A page has 4096 body bytes and 96 spare bytes.
+--
+-- Each accepted command is one group with the next number, and each page of the group has an index. The
+-- frontier is the number at or under which every group is lost or was wholly on the dies. A mark is a page of
+-- the device's own, with the configuration and perhaps a fence, a range of numbers whose pages do not count.
+-- Groups and marks are numbered apart.
 use Rattle.std.specs.Prelude.{◌≡◌, ◌⊎◌, ◌-◌, ◌^◌, ◌<◌, ◌≤◌, ℕ, List, [], ◌∷◌, ◌++◌, Option, None, Some, drop, length}
 use Rattle.std.specs.Prelude.{replicate, slice_index, take}
 use Rattle.std.specs.List.{flat_map}
@@ -13,7 +18,8 @@ use Rattle.ufs_spec.specs.declared.flash.Fence.{Fence}
 use Rattle.ufs_spec.specs.declared.flash.Page.{Page}
 use Rattle.ufs_spec.specs.declared.flash.Tag.{Tag}
 
--- the first 64 spare bytes: `UFSP`, version 1, and what the tag says
+-- the first 64 spare bytes: `UFSP`, version 1, and what the tag says: the kind is byte 5, the unit 6, the address
+-- 8..11, the number 12..19, the index 20, the size 21, the recorded frontier 24..31. All other bytes are zero
 abbrev pub spare_front : Tag → List ℕ
 spare_front t =
     (85 ∷ 70 ∷ 83 ∷ 80 ∷ 1 ∷ t.kind ∷ t.unit ∷ 0 ∷ [])
@@ -22,7 +28,7 @@ spare_front t =
     ++ big_bytes 8 t.frontier
     ++ replicate 32 0
 
--- the tag that spare bytes name
+-- the tag that spare bytes name, whether or not it is in its ranges
 abbrev pub tag_in : List ℕ → Tag
 tag_in s = record {
   kind = slice_index s 5;
@@ -34,50 +40,57 @@ tag_in s = record {
   frontier = field_at 8 24 s;
 }
 
--- how many pages a group may have as its tags say it, whatever the configuration: one for each block of a command
+-- how many pages a group may have as its tags say it, whatever the configuration: one for each block of a command.
+-- So one byte each is enough for the index and the size
 abbrev pub group_bound : ℕ
 group_bound = greatest_command
 
--- the ranges of a tag: kind 1 is data, 2 the RPMB area, 3 settings and 4 a mark
+-- the greatest number that a group or a mark may have (this profile): no device lives to see it
+abbrev pub greatest_number : ℕ
+greatest_number = 2 ^ 62
+
+-- the ranges of a tag. Kind 1 is data, 2 the RPMB area, 3 settings and 4 a mark; only data have a unit other than
+-- 0, only data and area pages have an address, and a mark is alone in its group
 pub record IsTag (t : Tag) : Type 0 where
   pub kind_known : (1 ≤ t.kind) × (t.kind ≤ 4)
   pub unit_known : t.unit < 8
   pub unit_of_data_alone : 2 ≤ t.kind → t.unit ≡ 0
   pub address_fits : t.address < 2 ^ 32
   pub address_of_blocks_alone : 3 ≤ t.kind → t.address ≡ 0
-  pub number_given : (1 ≤ t.number) × (t.number ≤ 2 ^ 62)
+  pub number_given : (1 ≤ t.number) × (t.number ≤ greatest_number)
   pub group_not_long : (1 ≤ t.size) × (t.size ≤ group_bound)
   pub index_in_group : t.index < t.size
   pub mark_alone : t.kind ≡ 4 → (t.index ≡ 0) × (t.size ≡ 1)
-  pub frontier_fits : t.frontier ≤ 2 ^ 62
+  pub frontier_fits : t.frontier ≤ greatest_number
 
--- the check of 4096 body bytes and spare bytes 0 to 63
+-- the check of 4096 body bytes and spare bytes 0 to 63: their SHA-256 (FIPS 180-4)
 abbrev pub check_of : List ℕ → List ℕ → List ℕ
 check_of body front = sha256 (body ++ front)
 
--- the page of a tag and a block
+-- the page that is programmed for a tag and a block: the check of both is its last 32 spare bytes
 abbrev pub seal_page : Tag → List ℕ → Page
 seal_page t body = record { body = body; spare = spare_front t ++ check_of body (spare_front t) }
 
--- the last 32 spare bytes are the check of all that stands before them
+-- the last 32 spare bytes are the check of all that is before them, whatever that says; a
+-- page without this opens to nothing
 abbrev pub IsCheckRight : Page → Type 0
 IsCheckRight p = drop 64 p.spare ≡ check_of p.body (take 64 p.spare)
 
--- what a stop or a failed program may leave of a page: the old content, the intended one, or
--- one whose check fails
+-- what a stop or a failed job may leave of one page: the old content, the intended one, or one whose check fails.
+-- That no other page with a right check is left is a premise of the promise of power loss
 abbrev pub MayBeLeft : Page → Page → Page → Type 0
 MayBeLeft before intended after = (after ≡ before) ⊎ (after ≡ intended) ⊎ (¬ IsCheckRight after)
 
--- bytes, and zeros behind them up to a length
+-- bytes, and zeros after them up to a length
 unfoldable pub zero_filled : ℕ → List ℕ → List ℕ
 zero_filled n bytes = bytes ++ replicate (n - length bytes) 0
 
--- the first and the last number of a fence, both 0 for none
+-- the first and the last number of a fence, eight bytes each; all zero says that there is none
 abbrev pub fence_bytes : Option Fence → List ℕ
 fence_bytes None = replicate 16 0
 fence_bytes (Some fence) = big_bytes 8 fence.first ++ big_bytes 8 fence.last
 
--- the numbers of a configuration, but for those of each unit
+-- sixteen bytes of a configuration's numbers, with the count of its units but not what each unit has
 abbrev pub numbers_bytes : Numbers → List ℕ
 numbers_bytes n =
     (n.dies ∷ length n.units.items ∷ [])
@@ -86,11 +99,11 @@ numbers_bytes n =
     ++ big_bytes 2 n.slots ++ big_bytes 2 n.spare
     ++ replicate 4 0
 
--- the eight bytes of a unit
+-- the eight bytes of a unit: its blocks, its boot number and its protection
 abbrev pub unit_bytes : UnitSpec → List ℕ
 unit_bytes u = big_bytes 4 u.blocks ++ (u.boot ∷ u.protect ∷ 0 ∷ 0 ∷ [])
 
--- the body of a mark: its fence, the configuration's numbers, and an entry for each unit
+-- the body of a mark: its fence, the configuration's numbers, an entry for each unit, and zeros
 abbrev pub mark_bytes : Numbers → Option Fence → List ℕ
 mark_bytes n fence =
     zero_filled 4096 (fence_bytes fence ++ numbers_bytes n ++ flat_map unit_bytes n.units.items)

@@ -1,5 +1,6 @@
 -- Queries: descriptors, attributes and flags, and the table by which a query is refused: the first line that applies
--- decides (JESD220, 10.7.8 and 14; the order of the lines and the values are this profile's).
+-- decides (JESD220, 10.7.8 and 14; the order of the lines and the values that a configuration does not give are this
+-- profile's). The machine does not use these definitions yet.
 use Rattle.std.specs.Prelude.{ℕ, ◌==◌, ◌&&◌, ◌||◌, nat_lt, nat_le, not, Bool, if◌then◌else◌, is_none, List, [], ◌∷◌}
 use Rattle.std.specs.Prelude.{◌++◌, length, replicate, slice_get, take, Option, Some, None}
 use Rattle.std.specs.List.{list_any}
@@ -12,7 +13,8 @@ use Rattle.ufs_spec.specs.declared.configs.Numbers.{Numbers}
 use Rattle.ufs_spec.specs.declared.configs.UnitSpec.{UnitSpec}
 use Rattle.ufs_spec.specs.declared.messages.Asked.{Asked}
 
--- a query: standard read (01h) or standard write (81h), what is asked, the length field and the value
+-- a QUERY REQUEST (JESD220, 10.7.8): standard read (01h) or standard write (81h), opcode with IDN, index and selector,
+-- the length field and the value
 pub record Query : Type 0 where
   pub function : ℕ
   pub asked : Asked
@@ -21,6 +23,7 @@ pub record Query : Type 0 where
 
 -- ## Classes
 
+-- what the opcode of a query is about: a descriptor, an attribute or a flag
 pub data Class : Type 0 where
   DescriptorClass : Class
   AttributeClass : Class
@@ -36,7 +39,8 @@ class_of opcode =
     else if is_among (5 ∷ 6 ∷ 7 ∷ 8 ∷ []) opcode then FlagClass
     else NoClass
 
--- the IDNs: device and unit descriptor; bBootLunEn; fDeviceInit, fPermanentWPEn and fPowerOnWPEn
+-- the IDNs that each class has: device descriptor (00h) and unit descriptor (02h); bBootLunEn (00h); fDeviceInit (01h),
+-- fPermanentWPEn (02h) and fPowerOnWPEn (03h)
 abbrev pub idns : Class → List ℕ
 idns DescriptorClass = 0x00 ∷ 0x02 ∷ []
 idns AttributeClass = 0x00 ∷ []
@@ -45,6 +49,7 @@ idns NoClass = []
 
 -- ## Descriptors
 
+-- the unit has boot number A or B, so that the boot setting can name it
 abbrev pub boots : UnitSpec → Bool
 boots u = not (u.boot == 0)
 
@@ -62,71 +67,80 @@ unit_descriptor index u =
     (0x23 ∷ 0x02 ∷ index ∷ 0x01 ∷ u.boot ∷ u.protect ∷ 0 ∷ 0 ∷ 0 ∷ 0x01 ∷ 0x0C ∷ [])
     ++ big_bytes 8 u.blocks ++ big_bytes 4 1 ++ (0x03 ∷ []) ++ big_bytes 8 u.blocks ++ replicate 3 0
 
+-- the descriptor of the unit at an index, empty if there is no such unit
 abbrev pub unit_descriptor_at : ℕ → Option UnitSpec → List ℕ
 unit_descriptor_at index None = []
 unit_descriptor_at index (Some u) = unit_descriptor index u
 
+-- the descriptor that is asked for: the device's (IDN 00h), or that of the unit whose number is the index (02h)
 abbrev pub descriptor : Numbers → Asked → List ℕ
 descriptor n a =
     if a.idn == 0x00 then device_descriptor n else unit_descriptor_at a.index (slice_get n.units.items a.index)
 
 -- ## Refusals
 
--- FEh: an opcode above 8, or one that its function does not have
+-- line 1 (FEh): an opcode above 8, or one that its function does not have
 abbrev pub has_wrong_opcode : Query → Bool
 has_wrong_opcode q =
     nat_lt 8 q.asked.opcode
     || (is_among (1 ∷ 3 ∷ 5 ∷ []) q.asked.opcode && (q.function == 0x81))
     || (is_among (2 ∷ 4 ∷ 6 ∷ 7 ∷ 8 ∷ []) q.asked.opcode && (q.function == 0x01))
 
--- FDh: an IDN that its class does not have
+-- line 3 (FDh): an IDN that its class does not have
 abbrev pub has_wrong_idn : Query → Bool
 has_wrong_idn q = not (is_among (idns (class_of q.asked.opcode)) q.asked.idn)
 
+-- a unit descriptor is read or written; only it may have an index that is not 0
 abbrev pub is_unit_descriptor : Query → Bool
 is_unit_descriptor q = is_among (1 ∷ 2 ∷ []) q.asked.opcode && (q.asked.idn == 0x02)
 
--- FCh: an index that is not 0, and of a unit descriptor one that no unit has
+-- line 4 (FCh): an index that is not 0, and of a unit descriptor one that no unit has
 abbrev pub has_wrong_index : Numbers → Query → Bool
 has_wrong_index n q =
     if is_unit_descriptor q then nat_le (length n.units.items) q.asked.index else not (q.asked.index == 0)
 
--- F7h: descriptors are not written, and flags not cleared or toggled
+-- line 6 (F7h): descriptors are not written, and flags not cleared or toggled
 abbrev pub is_not_writable : Query → Bool
 is_not_writable q = is_among (2 ∷ 7 ∷ 8 ∷ []) q.asked.opcode
 
--- F9h: a descriptor is read with a length of 0, or an attribute or a flag has a length
+-- line 7 (F9h): a descriptor is read with a length of 0, or an attribute or a flag has a length
 abbrev pub has_wrong_size : Query → Bool
 has_wrong_size q = if q.asked.opcode == 1 then q.length == 0 else not (q.length == 0)
 
--- FAh: a boot setting above 2
+-- line 8 (FAh): a boot setting above 2 (0 is none, 1 A, 2 B)
 abbrev pub has_wrong_value : Query → Bool
 has_wrong_value q = (q.asked.opcode == 4) && nat_lt 2 q.value
 
+-- fPermanentWPEn is set; no query clears it again
 abbrev pub sets_permanent : Query → Bool
 sets_permanent q = (q.asked.opcode == 6) && (q.asked.idn == 0x02)
 
--- the command of a query that is a setting: writing bBootLunEn, and setting fPermanentWPEn
+-- the command of a query that is a setting: writing bBootLunEn, and setting fPermanentWPEn.
+-- It becomes an accepted command
 abbrev pub setting_of : Query → Option Command
 setting_of q =
     if q.asked.opcode == 4 then Some (SetBoot q.value) else if sets_permanent q then Some SetPermanent else None
 
--- FFh: a setting that cannot be accepted now
+-- line 10 (FFh): a setting, while none can be accepted (`may_accept`)
 abbrev pub is_shut : Bool → Query → Bool
 is_shut may_accept q = not (is_none (setting_of q)) && not may_accept
 
+-- a line of the table: whether it applies to the query, and the response code that it gives
 pub record QueryLine : Type 0 where
   pub applies : Bool
   pub code : ℕ
 
+-- a line with these two parts; it stands in the list below in one row
 abbrev pub query_line : Bool → ℕ → QueryLine
 query_line applies code = record { applies = applies; code = code }
 
+-- the code of the first line that applies; 00h, success, if none does
 abbrev pub first_code : List QueryLine → ℕ
 first_code [] = 0x00
 first_code (l ∷ ls) = if l.applies then l.code else first_code ls
 
--- the response of a query: 00h, success, where no line applies
+-- the response of a query (JESD220, 10.7.9), by ten lines. Three have no definition of their own: opcode 0, no
+-- operation (line 2, 00h), a selector that is not 0 (5, FBh), and setting fPermanentWPEn while it is set (9, F8h)
 abbrev pub query_code : Numbers → Plain → Bool → Query → ℕ
 query_code n p may_accept q =
     first_code
@@ -144,22 +158,23 @@ query_code n p may_accept q =
 
 -- ## What a query that succeeds tells
 
--- the first bytes of a descriptor, as many as were asked for
+-- the first bytes of a descriptor, as many as were asked for; other queries bring no data
 abbrev pub descriptor_told : Numbers → Query → List ℕ
 descriptor_told n q = if q.asked.opcode == 1 then take q.length (descriptor n q.asked) else []
 
--- a flag's value; fDeviceInit reads 0
+-- the value of a flag, 0 or 1; fDeviceInit (01h) always reads 0: there is nothing left to initialize
 abbrev pub flag_told : Plain → Bool → ℕ → ℕ
 flag_told p power_on idn =
     if idn == 0x02 then flag_byte p.permanent else if idn == 0x03 then flag_byte power_on else 0
 
--- the value as it stands behind the query: of the plain state that it leaves, and of fPowerOnWPEn
+-- the value that the response tells: the attribute or flag as it is after the query, from the plain state that the
+-- query leaves and from fPowerOnWPEn
 abbrev pub value_told : Plain → Bool → Query → ℕ
 value_told p power_on q =
     if is_among (3 ∷ 4 ∷ []) q.asked.opcode then p.boot
     else if is_among (5 ∷ 6 ∷ []) q.asked.opcode then flag_told p power_on q.asked.idn
     else 0
 
--- setting fPowerOnWPEn lasts until the next power cycle
+-- fPowerOnWPEn is set, which lasts until the next power cycle and is no command
 abbrev pub sets_power_on : Query → Bool
 sets_power_on q = (q.asked.opcode == 6) && (q.asked.idn == 0x03)

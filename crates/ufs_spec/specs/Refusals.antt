@@ -22,44 +22,58 @@ use Rattle.ufs_spec.specs.declared.configs.UnitSpec.{UnitSpec}
 use Rattle.ufs_spec.specs.declared.scsi.Cdb.{Cdb}
 use Rattle.ufs_spec.specs.declared.scsi.Cdb.TheVariants as cdb
 
--- All that can be read off one life so far
+-- ## The state
 
+-- all that can be read off one life so far. What the code keeps is said to describe such a state
 pub record State : Type 0 where
-  -- the pages of the dies
+  -- the pages of the dies, as they are now; a job in flight has done nothing yet
   pub array : Array
   -- the plain state at the life's start, and the commands accepted since, in order
   pub base : Plain
   pub accepted : List Command
+  -- what is owed to each die, and where the contents are (Translation)
   pub translation : Translation
+  -- the open commands and the exchanges of one reply, in the order in which they were opened (Exchanges)
   pub tasks : List Task
   pub shorts : List Short
-  -- fPowerOnWPEn, and the RPMB registers
+  -- fPowerOnWPEn, which lasts until the next power cycle, and the RPMB registers
   pub power_on : Bool
   pub registers : Registers
 
+-- the configuration, which stays through a life. `numbers_of` of Configs is another one: it makes the record
 abbrev pub numbers_of : State → Numbers
 numbers_of s = s.translation.numbers
 
--- what the device has after all that it accepted
+-- what the device has after all that it accepted, durable or not
 abbrev pub plain_now : State → Plain
 plain_now s = after s.base s.accepted
 
+-- whether the mending is over: all that was lost has its repairs, and a mark without a fence is finished. Before it
+-- most commands are refused (line 8)
 abbrev pub mended : State → Bool
 mended s = is_mended s.translation.work.mending
 
+-- whether the device takes no writes any more: more blocks are bad than may be, or no number for a group is left.
+-- In one life a lock never goes again
 abbrev pub locked : State → Bool
 locked s = is_locked s.translation
 
--- Units
+-- ## Units
 
 -- what a LUN byte names: a unit by its number, or one of the well-known ones (JESD220, 10.8.5)
 pub data Lun : Type 0 where
+  -- a unit of the configuration, 00h to 07h
   UnitOf : (unit : ℕ) → Lun
+  -- 81h
   ReportLunsUnit : Lun
+  -- B0h: the blocks of the unit that boots
   BootUnit : Lun
+  -- C4h: the replay protected memory block
   RpmbUnit : Lun
+  -- D0h: the device as a whole
   DeviceUnit : Lun
 
+-- the well-known unit with this LUN byte, taken yet or not
 abbrev pub well_known : ℕ → Option Lun
 well_known byte =
     if byte == 0x81 then Some ReportLunsUnit
@@ -68,18 +82,20 @@ well_known byte =
     else if byte == 0xD0 then Some DeviceUnit
     else None
 
+-- what a LUN byte names on a device of this configuration; of the well-known units only those that are taken by now
 abbrev pub lun_of : Numbers → ℕ → Option Lun
 lun_of n byte =
     if nat_lt byte (length n.units.items) then Some (UnitOf byte)
     else if is_among taken_luns byte then well_known byte
     else None
 
--- the operation codes that a unit takes: an ordinary one all but the security ones, the others a few each
+-- what a unit of the configuration takes: all operation codes but those of the security commands
 abbrev pub all_but_security : List ℕ
 all_but_security =
     test_unit_ready ∷ request_sense ∷ read_6 ∷ write_6 ∷ inquiry ∷ read_capacity_10 ∷ read_10 ∷ write_10
     ∷ synchronize_cache_10 ∷ unmap ∷ report_luns ∷ []
 
+-- the operation codes that each kind of unit takes (this profile): a well-known one only a few
 abbrev pub operations_of : Lun → List ℕ
 operations_of (UnitOf unit) = all_but_security
 operations_of ReportLunsUnit = test_unit_ready ∷ request_sense ∷ inquiry ∷ report_luns ∷ []
@@ -87,45 +103,54 @@ operations_of BootUnit = test_unit_ready ∷ request_sense ∷ inquiry ∷ read_
 operations_of RpmbUnit = test_unit_ready ∷ request_sense ∷ inquiry ∷ security_in ∷ security_out ∷ []
 operations_of DeviceUnit = test_unit_ready ∷ request_sense ∷ inquiry ∷ synchronize_cache_10 ∷ []
 
+-- the unit takes this operation code, and the code is one that is taken by now
 abbrev pub takes : Lun → ℕ → Bool
 takes lun operation = is_among (operations_of lun) operation && is_among taken_operations operation
 
--- the unit whose boot number is the boot setting, where that is not 0 (JESD220, 13.1 boot)
+-- the unit whose boot number is the boot setting, if that is not 0 (JESD220, 13.1)
 abbrev pub boot_unit : Numbers → ℕ → Option ℕ
 boot_unit n boot = if boot == 0 then None else position (λ (u : UnitSpec). u.boot == boot) n.units.items
 
--- the unit whose blocks a command reads or writes
+-- the unit whose blocks are read or written through a LUN: its own, or for the boot LUN those of the unit that the boot
+-- setting names. A LUN without blocks has none
 abbrev pub unit_named : Numbers → ℕ → Lun → Option ℕ
 unit_named n boot (UnitOf unit) = Some unit
 unit_named n boot BootUnit = boot_unit n boot
 unit_named n boot lun = None
 
--- Requests
+-- ## Requests
 
--- a COMMAND: its CDB as bytes, and the command that they spell, if they spell one that is taken
+-- a COMMAND (JESD220, 10.7.1)
 pub record Request : Type 0 where
   pub flags : ℕ
   pub lun : ℕ
   pub tag : ℕ
+  -- E: how many bytes the host sends or has room for
   pub expected : ℕ
+  -- the CDB, and the command that it spells, if it spells one that is taken
   pub bytes : List ℕ
   pub cdb : Option Cdb
 
+-- the operation code: byte 0 of the CDB, whatever the rest spells
 abbrev pub operation_in : Request → ℕ
 operation_in r = slice_index r.bytes 0
 
--- the unit that the request reads or writes
+-- the unit that the request reads or writes through this LUN. The boot setting is judged at the COMMAND, as it was
+-- accepted by then, durable or not
 abbrev pub unit_in : State → Request → Option Lun → Option ℕ
 unit_in s r None = None
 unit_in s r (Some lun) = unit_named (numbers_of s) (plain_now s).boot lun
 
+-- the same for the LUN byte of the request
 abbrev pub unit_of_request : State → Request → Option ℕ
 unit_of_request s r = unit_in s r (lun_of (numbers_of s) r.lun)
 
+-- how many blocks that unit has, its boot number and its protection
 abbrev pub spec_at : Numbers → Option ℕ → Option UnitSpec
 spec_at n None = None
 spec_at n (Some unit) = slice_get n.units.items unit
 
+-- the same for the unit of the request, if it has one
 abbrev pub spec_of : State → Request → Option UnitSpec
 spec_of s r = spec_at (numbers_of s) (unit_of_request s r)
 
@@ -135,86 +160,100 @@ units_listed n (cdb.ReportLuns select allocation) =
     if select == 0 then length n.units.items else if select == 1 then 4 else length n.units.items + 4
 units_listed n command = 0
 
--- the command's length in bytes
+-- how many bytes of data the command has on this device
 abbrev pub length_in : State → Cdb → ℕ
 length_in s command = length_of (units_listed (numbers_of s) command) command
 
--- Lines of the table
+-- ## Lines of the table
 
--- 1: there is no such unit, or a READ or READ CAPACITY of the boot unit finds none
+-- 1: the operation codes that need the blocks of the boot unit: READ and READ CAPACITY
 abbrev pub is_boot_read : ℕ → Bool
 is_boot_read operation = is_among (read_6 ∷ read_10 ∷ read_capacity_10 ∷ []) operation
 
+-- 1 (5/25/00): there is no such unit; or the request needs the blocks of the boot unit, and no unit boots. It refuses
+-- every command, INQUIRY too, for which SPC has a peripheral qualifier
 abbrev pub lacks_unit : State → Request → Option Lun → Bool
 lacks_unit s r None = true
 lacks_unit s r (Some BootUnit) = is_boot_read (operation_in r) && is_none (boot_unit (numbers_of s) (plain_now s).boot)
 lacks_unit s r (Some lun) = false
 
--- 2: the unit does not take the operation code
+-- 2 (5/20/00): the unit does not take the operation code
 abbrev pub not_taken : Request → Option Lun → Bool
 not_taken r None = false
 not_taken r (Some lun) = not (takes lun (operation_in r))
 
--- 4: more blocks than a command may have, or a security length that is not 512 to 4096 in steps of 512
+-- 4: the length of 1 to 8 RPMB frames
 abbrev pub is_frames : ℕ → Bool
 is_frames n = nat_le 512 n && nat_le n 4096 && (n % 512 == 0)
 
+-- 4 (5/24/00): more blocks than a command may have (`command_blocks`), or a security length that is not 512 to
+-- 4096 in steps of 512
 abbrev pub is_too_long : Numbers → Cdb → Bool
 is_too_long n (cdb.SecurityIn size) = not (is_frames size)
 is_too_long n (cdb.SecurityOut size) = not (is_frames size)
 is_too_long n command = nat_lt (command_blocks n) (blocks_of command)
 
--- 5: UNMAP's list is not of 0, 8 or 24 bytes
+-- 5 (5/1A/00): UNMAP's list is not of 0 bytes, of 8 (its header) or of 24 (with one descriptor)
 abbrev pub has_wrong_list : Cdb → Bool
 has_wrong_list (cdb.Unmap list) = not (is_among (0 ∷ 8 ∷ 24 ∷ []) list)
 has_wrong_list command = false
 
--- 6: there are data and the flag of their direction is not set, or the host has less to write than the command
+-- 6 (5/24/00): there are data, and the flag of their direction is not set (20h to the device, 40h to the host); or the
+-- host sends fewer bytes than the command has. A READ or WRITE of no blocks needs no flag
 abbrev pub lacks_data : Request → Direction → ℕ → Bool
 lacks_data r NoData n = false
 lacks_data r ToDevice n = nat_lt 0 n && (not (r.flags == 0x20) || nat_lt r.expected n)
 lacks_data r ToHost n = nat_lt 0 n && not (r.flags == 0x40)
 
--- 7: blocks past the unit's end
+-- 7 (5/21/00): address plus blocks is above the unit's count
 abbrev pub is_past : Cdb → Option UnitSpec → Bool
 is_past command None = false
 is_past command (Some u) = nat_lt u.blocks (address_of command + blocks_of command)
 
--- 8: the device is not mended, and the command needs that
+-- 8 (2/04/01): the operation codes that a device takes only once it is mended: all but REQUEST SENSE,
+-- READ CAPACITY(10), INQUIRY and REPORT LUNS
 abbrev pub needs_mended : ℕ → Bool
 needs_mended operation =
     is_among (test_unit_ready ∷ read_6 ∷ read_10 ∷ write_6 ∷ write_10 ∷ unmap ∷ synchronize_cache_10 ∷ security_in
     ∷ security_out ∷ []) operation
 
--- 9: a write to a protected unit or a locked device; a flush of a locked device with something pending
+-- 9: the command changes blocks: a WRITE of at least one, or an UNMAP of one descriptor. A count of
+-- 0 in WRITE(6) means 256
 abbrev pub writes : Cdb → Bool
 writes (cdb.Write6 address blocks) = true
 writes (cdb.Write10 address blocks forced) = nat_lt 0 blocks
 writes (cdb.Unmap list) = list == 24
 writes command = false
 
+-- 9: the unit is protected: with protection 1 while fPowerOnWPEn is set, with 2 while fPermanentWPEn is set,
+-- with 0 never (JESD220, 14.1.4.5)
 abbrev pub is_protected : State → Option UnitSpec → Bool
 is_protected s None = false
 is_protected s (Some u) = ((u.protect == 1) && s.power_on) || ((u.protect == 2) && (plain_now s).permanent)
 
+-- 9: the command is a flush, with IMMED or without
 abbrev pub flushes : Cdb → Bool
 flushes (cdb.SynchronizeCache10 address blocks immediate) = true
 flushes command = false
 
+-- 9 (7/27/00): a write to a protected unit or a locked device; a flush of a locked device with something
+-- accepted that is not durable
 abbrev pub is_refused_write : State → Option UnitSpec → Cdb → Bool
 is_refused_write s u command =
     (writes command && (is_protected s u || locked s)) || (flushes command && locked s && has_pending s.translation)
 
--- 10: SECURITY PROTOCOL IN without a response, or of another length than the response's
+-- 10 (5/2C/00): SECURITY PROTOCOL IN while no response frames wait
 abbrev pub lacks_response : State → Cdb → Bool
 lacks_response s (cdb.SecurityIn n) = length s.registers.response == 0
 lacks_response s command = false
 
+-- 10 (5/24/00): SECURITY PROTOCOL IN of another length than the waiting frames have
 abbrev pub has_other_response : State → Cdb → Bool
 has_other_response s (cdb.SecurityIn n) = not (n == 512 * length s.registers.response)
 has_other_response s command = false
 
--- 11: SECURITY PROTOCOL OUT while another is open, or too few free slots
+-- 11: how many slots of the write cache a command claims at its COMMAND: a WRITE one for each block, an UNMAP of one
+-- descriptor as many as a command may have blocks, SECURITY PROTOCOL OUT 3, for two pages of the area and the settings
 abbrev pub slots_needed : Numbers → Cdb → ℕ
 slots_needed n (cdb.Write6 address blocks) = blocks_of (cdb.Write6 address blocks)
 slots_needed n (cdb.Write10 address blocks forced) = blocks
@@ -222,33 +261,39 @@ slots_needed n (cdb.Unmap list) = if list == 24 then command_blocks n else 0
 slots_needed n (cdb.SecurityOut size) = 3
 slots_needed n command = 0
 
+-- 11: the command brings frames of the RPMB
 abbrev pub is_security_out : Cdb → Bool
 is_security_out (cdb.SecurityOut n) = true
 is_security_out command = false
 
+-- 11: the same of an open task; a refused one has no command, so that it does not count
 abbrev pub sends_frames : Option Cdb → Bool
 sends_frames None = false
 sends_frames (Some command) = is_security_out command
 
+-- 11 (status 08h): SECURITY PROTOCOL OUT while another is open; or fewer slots are free than are needed
 abbrev pub is_crowded : State → Cdb → Bool
 is_crowded s command =
     (is_security_out command && list_any (λ (task : Task). sends_frames task.command) s.tasks)
     || nat_lt (free_slots s.translation) (slots_needed (numbers_of s) command)
 
--- The table. Before it stands TASK SET FULL, where as many tasks are open as may be (Machine)
+-- ## The table. Line 0 comes before it: TASK SET FULL (28h) if 32 tasks are open (`command_heard` in Machine)
 
+-- a line of the table: whether it applies to the request, and the status that it answers with
 pub record Line : Type 0 where
   pub applies : Bool
   pub status : Status
 
+-- a line with these two parts; it stands in the lists below in one row each
 abbrev pub line : Bool → Status → Line
 line applies status = record { applies = applies; status = status }
 
+-- the status of the first line that applies; None if none does
 abbrev pub first_line : List Line → Option Status
 first_line [] = None
 first_line (l ∷ ls) = if l.applies then Some l.status else first_line ls
 
--- the lines for a CDB that spells a command
+-- lines 4 to 11, for a CDB that spells a command that is taken
 abbrev pub lines_for : State → Request → Cdb → List Line
 lines_for s r command =
     line (is_too_long (numbers_of s) command) invalid_field
@@ -262,12 +307,13 @@ lines_for s r command =
     ∷ line (is_crowded s command) Busy
     ∷ []
 
--- 3: a CDB that spells none breaks one of its fields
+-- line 3 (5/24/00) for a CDB that spells none: one of its fields, or a byte that must be zero, is wrong. For any
+-- other the lines after it
 abbrev pub lines_behind : State → Request → Option Cdb → List Line
 lines_behind s r None = line true invalid_field ∷ []
 lines_behind s r (Some command) = lines_for s r command
 
--- why a request is refused, if it is
+-- why a request is refused: what the first line says that applies. None if no line applies, and then the command begins
 abbrev pub refusal : State → Request → Option Status
 refusal s r =
     first_line

@@ -1,4 +1,5 @@
--- Which arrays a device may be opened over: new dies, and what stops leave (this profile).
+-- Which arrays a device may be opened over: new dies, and what stops leave (this profile). That every stop leaves a
+-- sound array is shown by the laws of power loss.
 use Rattle.std.specs.Prelude.{◌≡◌, ◌⊎◌, ℕ, ◌<◌, ◌≤◌, List, Option, Some}
 use Rattle.ufs_spec.specs.Cells.{Array, Cells, DataHold, GroupPage, Mark, MarkPage, Opens, Shows, key_of}
 use Rattle.ufs_spec.specs.Keys.{IsKey}
@@ -9,28 +10,30 @@ use Rattle.ufs_spec.specs.declared.flash.Fence.{Fence}
 use Rattle.ufs_spec.specs.declared.flash.Place.{Place}
 use Rattle.ufs_spec.specs.declared.flash.Tag.{Tag}
 
--- equal in data and tag, save the recorded frontier
+-- the pages are copies of each other: equal in key, number, index, size and data. What they record may differ,
+-- since a copy records the frontier of its own moment
 abbrev pub SamePage : Tag → List ℕ → Tag → List ℕ → Type 0
 SamePage t body u other =
     (key_of t ≡ key_of u) × (t.number ≡ u.number) × (t.index ≡ u.index) × (t.size ≡ u.size) × (body ≡ other)
 
--- with the newest mark m
+-- what holds of cells that honest dies and stops leave, with the newest mark m
 pub record CellsSound (c : Cells) (m : Option Mark) : Type 0 where
-  -- two pages of one group with one index, or with one key, are the same page
+  -- two pages of one group with one index, or with one key, are copies of each other
   pub pages : (p q : Place) (t u : Tag) (body other : List ℕ) →
       c p ≡ GroupPage t body → c q ≡ GroupPage u other → t.number ≡ u.number →
       (t.index ≡ u.index) ⊎ (key_of t ≡ key_of u) → SamePage t body u other
   -- two marks of one number are wholly equal
   pub marks : (p q : Place) (a b : Mark) → c p ≡ MarkPage a → c q ≡ MarkPage b → a.number ≡ b.number → a ≡ b
-  -- every group above what the newest mark records, up to the greatest recorded frontier, is whole
+  -- each group above what the newest mark records, up to the greatest recorded frontier, is whole: it was durable
   pub whole : (r n : ℕ) → IsRecorded c m r → recorded_in m < n → n ≤ r → IsWhole c n
-  -- a mark with a fence records its last number
+  -- a mark with a fence records the fence's last number
   pub fence : (f : Fence) → fence_in m ≡ Some f → recorded_in m ≡ f.last
-  -- a page above the fence has the content of its key below the fence
+  -- a page that counts above the fence has the content that its key has below the fence, so mending may begin anew
   pub repairs : (f : Fence) → fence_in m ≡ Some f → (p : Place) (t : Tag) (body : List ℕ) →
       Counts c m p t body → f.last < t.number → Holds c m f.first (key_of t) body
 
--- the cells are of a device with these numbers
+-- the cells are of a device with these numbers: its newest mark has them, and each page of a group
+-- is of one of its keys
 pub record CellsSuit (n : Numbers) (c : Cells) (m : Option Mark) : Type 0 where
   pub config : (newest : Mark) → m ≡ Some newest → newest.numbers ≡ n
   pub keys : (p : Place) (t : Tag) (body : List ℕ) → c p ≡ GroupPage t body → IsKey (shape_of_numbers n) (key_of t)
@@ -44,7 +47,7 @@ pub record Sound (array : Array) : Type 0 where
   pub sound : CellsSound cells newest
   pub hold : (p : Place) (t : Tag) (body : List ℕ) → Opens (array p) t body → DataHold t body
 
--- it suits the numbers
+-- the array is of a device with these numbers
 pub record Suits (n : Numbers) (array : Array) : Type 0 where
   pub cells : Cells
   pub shown : Shows array cells

@@ -33,6 +33,10 @@ pub enum Outcome {
     Failed,
 }
 
+/// The greatest number that a group or a mark may have (this profile): a device that is given a million
+/// of them a second reaches it after 146,000 years.
+pub const GREATEST_NUMBER: u64 = 1 << 62;
+
 /// What a page says of its block: what it is (1 data, 2 RPMB area, 3 settings, 4 mark), whose it is,
 /// its group's number, its index in the group and the group's size, and the frontier at the moment
 /// when its job was handed out.

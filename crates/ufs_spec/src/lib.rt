@@ -2,6 +2,7 @@
 //! Section numbers are those of JESD220 (UFS), SPC and SBC.
 #![tactic(auto)]
 
+pub mod codes;
 mod commands;
 mod configs;
 mod events;
@@ -11,11 +12,12 @@ mod messages;
 mod plain_device;
 mod scsi;
 
+pub use codes::{GREATEST_COMMAND, MOST_SHORT_EXCHANGES, MOST_TASKS};
 pub use commands::Cmd;
 pub use configs::{Numbers, UnitSpec};
 pub use events::{Event, Leftover, Output, RunFault, RunFaultKind, Trace};
 pub use faults::{ConfigFault, HostFault, NoMemory, OpenFault};
-pub use flash::{Fence, Job, Key, Opened, Outcome, Page, Place, Tag};
+pub use flash::{Fence, GREATEST_NUMBER, Job, Key, Opened, Outcome, Page, Place, Tag};
 pub use messages::{Asked, Data, Message};
 pub use plain_device::{PlainDevice, after_joined_commands, commands_keep_the_shape};
 pub use scsi::{Cdb, Sense};

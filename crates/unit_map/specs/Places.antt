@@ -17,6 +17,7 @@ pub record UnitMap : Type 0 where
 abbrev pub position_of : Numbers → Key → Option ℕ
 position_of n k = index_of (shape_of_numbers n) k
 
+-- what is noted at a position; at a position that is not there nothing is
 abbrev pub flat : Option (Option Stored) → Option Stored
 flat None = None
 flat (Some s) = s
@@ -30,7 +31,7 @@ abbrev pub number_if : Place → Option Stored → Option ℕ
 number_if p None = None
 number_if p (Some s) = if same_place s.place p then Some s.number else None
 
--- the same of what is noted at a position
+-- the number of the content's group, if what is noted at a position is on the page there
 abbrev pub number_there : Place → Option (Option Stored) → Option ℕ
 number_there p noted = number_if p (flat noted)
 

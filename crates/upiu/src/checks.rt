@@ -6,42 +6,13 @@ ghost use Rattle.ufs_spec.specs.Messages.{read_fault_of, segment_length};
 
 use ufs_bytes::{read_u16, read_u32};
 use ufs_spec::HostFault;
+use ufs_spec::codes::{
+    COMMAND, DATA_IN, DATA_OUT, NOP_IN, NOP_OUT, QUERY_REQUEST, QUERY_RESPONSE, READY_TO_TRANSFER,
+    RESPONSE, TASK_REQUEST, TASK_RESPONSE,
+};
 
 /// The bytes of a header.
 pub const HEADER: usize = 32;
-
-/// The transaction code of a NOP OUT.
-pub const NOP_OUT: u8 = 0x00;
-
-/// The transaction code of a COMMAND.
-pub const COMMAND: u8 = 0x01;
-
-/// The transaction code of a DATA OUT.
-pub const DATA_OUT: u8 = 0x02;
-
-/// The transaction code of a TASK MANAGEMENT REQUEST.
-pub const TASK_REQUEST: u8 = 0x04;
-
-/// The transaction code of a QUERY REQUEST.
-pub const QUERY_REQUEST: u8 = 0x16;
-
-/// The transaction code of a NOP IN.
-pub const NOP_IN: u8 = 0x20;
-
-/// The transaction code of a RESPONSE.
-pub const RESPONSE: u8 = 0x21;
-
-/// The transaction code of a DATA IN.
-pub const DATA_IN: u8 = 0x22;
-
-/// The transaction code of a TASK MANAGEMENT RESPONSE.
-pub const TASK_RESPONSE: u8 = 0x24;
-
-/// The transaction code of a READY TO TRANSFER.
-pub const READY_TO_TRANSFER: u8 = 0x31;
-
-/// The transaction code of a QUERY RESPONSE.
-pub const QUERY_RESPONSE: u8 = 0x36;
 
 // The bytes of the longest data segment.
 const LONGEST: usize = 4096;
@@ -161,11 +132,12 @@ fn can_have(bytes: &[u8], segment: usize) -> bool
     ensures { result ≡ may_have (code_of bytes.now) bytes.now segment }
 {
     match code(bytes) {
-        0x02 | 0x22 => segment > 0 && segment == read_u32(bytes, 16) as usize,
-        0x16 => segment == 0 || bytes[12] == 0x02,
-        0x21 if bytes[7] == 0x02 => segment == 20,
-        0x36 => segment == 0 || (bytes[12] == 0x01 && bytes[6] == 0x00),
-        0x00 | 0x01 | 0x04 | 0x20 | 0x21 | 0x24 | 0x31 => segment == 0,
+        DATA_OUT | DATA_IN => segment > 0 && segment == read_u32(bytes, 16) as usize,
+        QUERY_REQUEST => segment == 0 || bytes[12] == 0x02,
+        RESPONSE if bytes[7] == 0x02 => segment == 20,
+        QUERY_RESPONSE => segment == 0 || (bytes[12] == 0x01 && bytes[6] == 0x00),
+        NOP_OUT | COMMAND | TASK_REQUEST | NOP_IN | RESPONSE | TASK_RESPONSE | READY_TO_TRANSFER =>
+            segment == 0,
         _ => true,
     }
 }

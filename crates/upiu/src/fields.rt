@@ -7,11 +7,12 @@ ghost use Rattle.upiu.specs.Reading.{named_message, named_query_request, named_q
 ghost use Rattle.upiu.specs.Reading.{named_ready, named_response, named_task_request, segment_in};
 ghost use Rattle.upiu.specs.Reading.{sense_in, Passes};
 
-use crate::checks::{
-    COMMAND, DATA_IN, DATA_OUT, HEADER, NOP_IN, NOP_OUT, QUERY_REQUEST, READY_TO_TRANSFER,
-    RESPONSE, TASK_REQUEST, TASK_RESPONSE, code, stated_length,
-};
+use crate::checks::{HEADER, code, stated_length};
 use ufs_bytes::{read_u16, read_u32};
+use ufs_spec::codes::{
+    COMMAND, DATA_IN, DATA_OUT, NOP_IN, NOP_OUT, QUERY_REQUEST, READY_TO_TRANSFER, RESPONSE,
+    TASK_REQUEST, TASK_RESPONSE,
+};
 use ufs_spec::{Asked, Data, Message};
 
 /// The message that the fields name, whether or not the bytes spell it.

@@ -4,6 +4,10 @@ ghost use Rattle.ufs_spec.specs.Messages.{header, header_of, query_fields, segme
 ghost use Rattle.byteorder.specs.Endian.{big_bytes};
 
 use ufs_bytes::{write_u16, write_u32};
+use ufs_spec::codes::{
+    COMMAND, DATA_IN, DATA_OUT, NOP_IN, NOP_OUT, QUERY_REQUEST, QUERY_RESPONSE, READY_TO_TRANSFER,
+    RESPONSE, TASK_REQUEST, TASK_RESPONSE,
+};
 use ufs_spec::{Asked, Message};
 
 /// The 32 bytes of a message's header.
@@ -49,27 +53,27 @@ fn first_of(message: &Message) -> [u8; 4]
     ensures { result ≡ take 4 (header_of message.now) }
 {
     match message {
-        Message::NopOut { tag } => [0x00, 0, 0, *tag],
+        Message::NopOut { tag } => [NOP_OUT, 0, 0, *tag],
         Message::Command {
             flags,
             lun,
             tag,
             ..
-        } => [0x01, *flags, *lun, *tag],
-        Message::DataOut { lun, tag, .. } => [0x02, 0, *lun, *tag],
-        Message::TaskRequest { lun, tag, .. } => [0x04, 0, *lun, *tag],
-        Message::QueryRequest { tag, .. } => [0x16, 0, 0, *tag],
-        Message::NopIn { tag } => [0x20, 0, 0, *tag],
+        } => [COMMAND, *flags, *lun, *tag],
+        Message::DataOut { lun, tag, .. } => [DATA_OUT, 0, *lun, *tag],
+        Message::TaskRequest { lun, tag, .. } => [TASK_REQUEST, 0, *lun, *tag],
+        Message::QueryRequest { tag, .. } => [QUERY_REQUEST, 0, 0, *tag],
+        Message::NopIn { tag } => [NOP_IN, 0, 0, *tag],
         Message::Response {
             flags,
             lun,
             tag,
             ..
-        } => [0x21, *flags, *lun, *tag],
-        Message::DataIn { lun, tag, .. } => [0x22, 0, *lun, *tag],
-        Message::TaskResponse { lun, tag, .. } => [0x24, 0, *lun, *tag],
-        Message::ReadyToTransfer { lun, tag, .. } => [0x31, 0, *lun, *tag],
-        Message::QueryResponse { tag, .. } => [0x36, 0, 0, *tag],
+        } => [RESPONSE, *flags, *lun, *tag],
+        Message::DataIn { lun, tag, .. } => [DATA_IN, 0, *lun, *tag],
+        Message::TaskResponse { lun, tag, .. } => [TASK_RESPONSE, 0, *lun, *tag],
+        Message::ReadyToTransfer { lun, tag, .. } => [READY_TO_TRANSFER, 0, *lun, *tag],
+        Message::QueryResponse { tag, .. } => [QUERY_RESPONSE, 0, 0, *tag],
     }
 }
 

@@ -6,10 +6,11 @@ ghost use Rattle.ufs_spec.specs.Messages.{code_of, header, header_of, host_fault
 ghost use Rattle.ufs_spec.specs.declared.Message.{Message};
 ghost use Rattle.upiu.specs.HostMessages.{command_in, command_of, data_out_in, data_out_of};
 
-use crate::checks::{COMMAND, DATA_OUT, HEADER, code, host_fault, stated_length};
+use crate::checks::{HEADER, code, host_fault, stated_length};
 use crate::headers::{command_fields, transfer_header};
 use crate::reading::{are_flags, surround};
 use ufs_bytes::read_u32;
+use ufs_spec::codes::{COMMAND, DATA_OUT};
 
 /// A DATA OUT, whose data are the `count` bytes after its header (JESD220, 10.7.3).
 #[derive(Clone, Copy)]

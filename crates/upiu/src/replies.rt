@@ -4,11 +4,11 @@ ghost use Rattle.ufs_spec.specs.Messages.{header_of, sense_of, spelling};
 ghost use Rattle.ufs_spec.specs.declared.Message.{Message};
 ghost use Rattle.upiu.specs.Replies.{message_of};
 
-use crate::checks::{DATA_IN, READY_TO_TRANSFER, RESPONSE};
 use crate::headers::{command_fields, transfer_fields, transfer_header};
 use crate::writing::fill;
 use ufs_bytes::write_u16;
 use ufs_spec::Upiu;
+use ufs_spec::codes::{DATA_IN, READY_TO_TRANSFER, RESPONSE};
 
 /// A RESPONSE, which ends a command (JESD220, 10.7.2).
 #[derive(Clone, Copy)]

@@ -1,10 +1,12 @@
 -- How the cache's fields are seen, and the room that they keep.
 use Rattle.std.specs.Prelude.{◌≡◌, ◌≤◌, ◌<◌, ◌+◌, ◌^◌, ℕ, List, [], ◌∷◌, length, vec_capacity}
 use Rattle.std.specs.VecDeque.{deque_capacity}
+use Rattle.ufs_spec.specs.Pages.{greatest_number}
 use Rattle.write_cache.specs.declared.cache.Cache.TheInside.{Inside}
 use Rattle.write_cache.specs.declared.slots.Pending.{Pending}
 use Rattle.write_cache.specs.Kept.{WriteCache}
 
+-- what contracts see of the cache: its pending pages and its claims; blocks without use are not seen
 abbrev pub cache_of : Inside → WriteCache
 cache_of f = record {
   slots = f.slots;
@@ -28,5 +30,5 @@ pub record IsRoomy (f : Inside) : Type 0 where
   pub claim_room : f.slots ≤ deque_capacity f.claims
   pub free_room : f.slots ≤ vec_capacity f.free
   pub frontier : f.frontier ≤ f.last
-  pub numbers : f.last ≤ 2 ^ 62
+  pub numbers : f.last ≤ greatest_number
   pub in_order : AreInOrder 0 f.last f.pages.items

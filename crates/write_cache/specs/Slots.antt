@@ -4,6 +4,7 @@ use Rattle.std.specs.Prelude.{if◌then◌else◌, List, [], ◌∷◌, ◌++◌
 use Rattle.std.specs.Prelude.{is_none, length, map, position, reverse, slice_get, slice_set, Option, Some, None}
 use Rattle.std.specs.Prelude.{option_and_then, option_map}
 use Rattle.std.specs.List.{list_any}
+use Rattle.ufs_spec.specs.Pages.{greatest_number}
 use Rattle.ufs_spec.specs.Cells.{same_place}
 use Rattle.ufs_spec.specs.Keys.{below, same_key}
 use Rattle.ufs_spec.specs.Plain.{zero_block}
@@ -22,7 +23,7 @@ free_slots c = c.slots - length c.pages - length c.claims
 
 -- a number is left
 abbrev pub has_number : WriteCache → Bool
-has_number c = nat_lt c.last (2 ^ 62)
+has_number c = nat_lt c.last greatest_number
 
 -- the number behind the frontier, if it was given
 abbrev pub risen : WriteCache → ℕ
@@ -30,6 +31,7 @@ risen c = min (c.frontier + 1) c.last
 
 -- Pages
 
+-- the pending page is of this key
 abbrev pub is_page_of : Key → Pending → Bool
 is_page_of k p = same_key p.key k
 
@@ -37,17 +39,19 @@ is_page_of k p = same_key p.key k
 abbrev pub last_of : Key → List Pending → Option ℕ
 last_of k ps = option_map (λ behind. length ps - 1 - behind) (position (is_page_of k) (reverse ps))
 
--- that page
+-- the last page of a pending group that is of the address, so the newest content that is not durable
 abbrev pub last_page : Key → List Pending → Option Pending
 last_page k ps = option_and_then (slice_get ps) (last_of k ps)
 
+-- the pending page is that of this number and index
 abbrev pub is_named : ℕ → ℕ → Pending → Bool
 is_named number index p = (p.number == number) && (p.index == index)
 
+-- the pending page is of the group with this number
 abbrev pub is_of_group : ℕ → Pending → Bool
 is_of_group number p = p.number == number
 
--- the place is this one
+-- the page is written, and at this place
 abbrev pub is_at : Place → Option Place → Bool
 is_at place None = false
 is_at place (Some written) = same_place written place
@@ -61,6 +65,7 @@ abbrev pub written_at : List Pending → ℕ → Place → Option Pending → Li
 written_at ps k place None = ps
 written_at ps k place (Some p) = slice_set ps k (record p { written = Some place })
 
+-- the page at the position that was found is written there; if none was found all stay
 abbrev pub written_if : List Pending → Place → Option ℕ → List Pending
 written_if ps place None = ps
 written_if ps place (Some k) = written_at ps k place (slice_get ps k)
@@ -73,6 +78,7 @@ page_written ps number index place = written_if ps place (position (is_named num
 abbrev pub is_unwritten : ℕ → Pending → Bool
 is_unwritten number p = is_of_group number p && is_none p.written
 
+-- the number of the page's group, if no page of this group is still to be written
 abbrev pub whole_group : List Pending → Option Pending → Option ℕ
 whole_group ps None = None
 whole_group ps (Some p) = if list_any (is_unwritten p.number) ps then None else Some p.number
@@ -96,6 +102,7 @@ landed p = record { key = p.key; number = p.number; index = p.index; written = p
 
 -- Claims
 
+-- the reader has claimed this slot
 abbrev pub is_claim_of : ℕ → Claimed → Bool
 is_claim_of reader claim = claim.reader == reader
 
@@ -103,6 +110,7 @@ is_claim_of reader claim = claim.reader == reader
 abbrev pub claims_of : List Claimed → ℕ → List Claimed
 claims_of claims reader = filter (is_claim_of reader) claims
 
+-- a claimed slot before its block came: it holds zeros
 abbrev pub empty_claim : ℕ → ℕ → Claimed
 empty_claim reader i = record { reader = reader; index = i; body = zero_block }
 

@@ -5,6 +5,7 @@ ghost use Rattle.std.specs.Prelude.{map, filter, not, None, Some, option_copied,
 ghost use Rattle.std.specs.Prelude.{take, drop, position, reverse};
 ghost use Rattle.std.specs.List.{position_or_len};
 ghost use Rattle.std.specs.VecDeque.{deque_capacity};
+ghost use Rattle.ufs_spec.specs.Pages.{greatest_number};
 ghost use Rattle.write_cache.specs.Kept.{WriteCache};
 ghost use Rattle.write_cache.specs.Slots.{appended, claim_filled, claimed_all, claims_of, ends_run};
 ghost use Rattle.write_cache.specs.Slots.{free_slots, front_written, goes_on, has_number, empty_claim};
@@ -12,16 +13,12 @@ ghost use Rattle.write_cache.specs.Slots.{is_claim_of, is_named, is_of_group, is
 ghost use Rattle.write_cache.specs.Slots.{landed, last_page, page_claimed, page_written, risen, turned};
 ghost use Rattle.write_cache.specs.Slots.{without_claims};
 
-use crate::body::Body;
 use crate::slots::{Claimed, Landed, Pending, WholeGroup};
 use std::alloc::{AllocError, Global};
 use std::collections::VecDeque;
 use std::marker::Model;
-use ufs_bytes::Block;
-use ufs_spec::{Key, Place};
-
-/// No group and no mark has a greater number.
-pub const LAST_NUMBER: u64 = 0x4000_0000_0000_0000;
+use ufs_bytes::Body;
+use ufs_spec::{GREATEST_NUMBER, Key, Place};
 
 /// The write cache: slots for the blocks that are accepted or claimed and not durable. All memory is taken by
 /// `new`, and a block stays where it was put until its page is durable.
@@ -60,7 +57,7 @@ impl Cache {
     ///
     /// Only if memory was refused.
     pub fn new(alloc: Global, slots: u16, last: u64) -> Result<Cache, AllocError>
-        requires { last ≤ 2 ^ 62 }
+        requires { last ≤ greatest_number }
         ensures { IfOk result (λ c. c ≡ record {
           slots = slots;
           pages = [];
@@ -84,7 +81,7 @@ impl Cache {
     /// Every group up to this number is durable or lost.
     pub fn frontier(&self) -> u64
         ensures is { result ≡ self.now.frontier }
-        ensures bound { result ≤ 2 ^ 62 }
+        ensures bound { result ≤ greatest_number }
     {
         self.frontier
     }
@@ -92,7 +89,7 @@ impl Cache {
     /// The greatest number that was given to a group.
     pub fn last_number(&self) -> u64
         ensures is { result ≡ self.now.last }
-        ensures bound { result ≤ 2 ^ 62 }
+        ensures bound { result ≤ greatest_number }
         ensures behind { self.now.frontier ≤ result }
     {
         self.last
@@ -102,7 +99,7 @@ impl Cache {
     pub fn has_number(&self) -> bool
         ensures { result ≡ has_number self.now }
     {
-        self.last < LAST_NUMBER
+        self.last < GREATEST_NUMBER
     }
 
     /// How many slots neither a pending group nor a claim holds.

@@ -4,8 +4,7 @@ ghost use Rattle.ufs_spec.specs.Plain.{zero_block};
 ghost use Rattle.write_cache.specs.Slots.{claim_filled, empty_claim, ends_run, is_claim_of, is_named};
 ghost use Rattle.write_cache.specs.Slots.{is_of_group, is_page_of, is_there, key_at, page_claimed};
 
-use crate::body::Body;
-use ufs_bytes::Block;
+use ufs_bytes::Body;
 use ufs_spec::{Key, Place};
 
 /// A page of a pending group: the group's number and how many pages it has, which of them this is, and

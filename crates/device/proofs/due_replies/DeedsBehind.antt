@@ -23,16 +23,16 @@ use Rattle.task_set.specs.declared.tasks.Phase.{Phase}
 use Rattle.task_set.specs.declared.tasks.Phase.TheVariants as phase
 use Rattle.task_set.specs.declared.tasks.Sending.{Sending as Sends}
 use Rattle.task_set.specs.declared.tasks.ShortData.{ShortData}
-use Rattle.task_set.specs.declared.tasks.Status.TheVariants as status
+use Rattle.task_set.specs.declared.tasks.TaskEvent.TheVariants as event
 use Rattle.task_set.specs.Kept.{OpenTask, task_in}
 use Rattle.task_set.specs.declared.tasks.Transfer.{Transfer}
 use Rattle.device.specs.Describes.{Describes, IsDoing, IsGathering, IsSending}
 use Rattle.device.specs.Describes.{claims_in, is_lost, read_in}
 use Rattle.device.specs.Describes.{wanted_by, wanted_in, wanted_kept}
-use Rattle.device.specs.Hears.{with_phase}
+use Rattle.device.specs.Hears.{with_event}
 use Rattle.device.specs.Kept.{DeviceCore}
-use Rattle.device.specs.Replies.{HasMoved, moved_on, owed_by, owed_in, with_sent, without_task}
-use Rattle.task_set.specs.Tasks.{data_length, sent_next}
+use Rattle.device.specs.Replies.{HasMoved, moved_on, owed_by, owed_in, without_task}
+use Rattle.task_set.specs.Tasks.{data_length, next_sending, sent_next}
 use Rattle.device.proofs.described.Answered.{IsBehind}
 use Rattle.device.proofs.open_tasks.OpenTasks.{IsOpen}
 use Rattle.device.proofs.due_replies.BlocksBehind.{more_kept, none_kept, none_read_behind}
@@ -72,12 +72,13 @@ sends_more x expected total blocks n is more = record {
 module _ (d : DeviceCore) (s : State) (k : ℕ) (a : OpenTask) (b : exchange.Task) (h : Describes d s)
     (o : IsOpen (before_accepted s.translation.ledger) k d.tasks s.tasks a b) where
   asks : (after : Core) (x : Transfer) (purpose : Purpose) (gathered : List ℕ) (asked : Bool) →
-      b.deed ≡ Gathering purpose gathered asked → IsGathering x b.length purpose gathered →
+      a.phase ≡ phase.AskData x → b.deed ≡ Gathering purpose gathered asked → IsGathering x b.length purpose gathered →
       layer_kept.Describes after s.translation → claims_for after ≡ claims_for d.ftl →
-      IsBehind (with_layer after (with_phase d k (phase.AwaitData x)))
+      IsBehind (with_layer after (with_event d k event.DataAskedFor))
       (set_deed s b.tag (Gathering purpose gathered true))
-  asks after x purpose gathered asked deed its layer claims =
-      does_now d s k a b h o after (phase.AwaitData x) (Gathering purpose gathered true) (its, refl)
+  asks after x purpose gathered asked is deed its layer claims =
+      does_now d s k a b h o after event.DataAskedFor (phase.AskData x) (Gathering purpose gathered true) is
+      (its, refl) refl
       (record {
         wanted = λ index. ap (wanted_in index) deed;
         read = ap read_in deed;
@@ -86,12 +87,13 @@ module _ (d : DeviceCore) (s : State) (k : ℕ) (a : OpenTask) (b : exchange.Tas
       tt layer claims
 
   -- its data were handed out, which are no block
-  sends_data : (after : Core) (x : ShortData) (bytes : List ℕ) → b.deed ≡ SendingBytes bytes →
+  sends_data : (after : Core) (x : ShortData) (bytes : List ℕ) → a.phase ≡ phase.SendData x →
+      b.deed ≡ SendingBytes bytes →
       b.length ≡ data_length x → layer_kept.Describes after s.translation → claims_for after ≡ claims_for d.ftl →
-      IsBehind (with_layer after (with_phase d k (phase.Answer status.Good (data_length x))))
+      IsBehind (with_layer after (with_event d k event.DataSent))
       (set_deed s b.tag (Answering Good b.length))
-  sends_data after x bytes deed is layer claims =
-      does_now d s k a b h o after (phase.Answer status.Good (data_length x)) (Answering Good b.length) (refl, is)
+  sends_data after x bytes here deed is layer claims =
+      does_now d s k a b h o after event.DataSent (phase.SendData x) (Answering Good b.length) here (refl, is) refl
       (record {
         wanted = λ index. ap (wanted_in index) deed;
         read = ap read_in deed;
@@ -149,11 +151,12 @@ module _ (d : DeviceCore) (s : State) (k : ℕ) (a : OpenTask) (b : exchange.Tas
       ap (λ z. Some (deed_next b blocks n z)) e
   sent_deed blocks n NotRead more fine e = absurd (false≢true (sym fine))
 
-  sends_next : (after : Core) (x : Sends) (blocks : List ReadBlock) (n : ℕ) → b.deed ≡ Sending blocks n →
+  sends_next : (after : Core) (x : Sends) (blocks : List ReadBlock) (n : ℕ) → a.phase ≡ phase.SendBlocks x →
+      b.deed ≡ Sending blocks n →
       IsSending x a.expected b.length blocks n → claims_for after ≡ claims_for d.ftl →
       layer_kept.Describes after (sent_layer s.translation a.tag x.sent) →
       IsBehind (with_layer after (moved_on d k (phase.SendBlocks x))) (task_does s b (Sending blocks n))
-  sends_next after x blocks n deed is claims layer = by (nat_lt (x.sent + 1) x.blocks) refl
+  sends_next after x blocks n here deed is claims layer = by (nat_lt (x.sent + 1) x.blocks) refl
     where
       found : task_of b.tag s.tasks ≡ Some b
       found = found_task s.tasks k b h.tied.tasks.tasks_differ o.theirs
@@ -172,26 +175,31 @@ module _ (d : DeviceCore) (s : State) (k : ℕ) (a : OpenTask) (b : exchange.Tas
 
       -- the phase and the deed behind it
       path : (more : Bool) → nat_lt (x.sent + 1) x.blocks ≡ more →
-          IsBehind
-          (with_layer after (with_sent d k (sent_next x (next_if x more))))
+          IsBehind (with_layer after (with_event d k event.BlockSent))
           (task_behind (sent_state n) b (Some (deed_next b blocks n more))) →
           IsBehind (with_layer after (moved_on d k (phase.SendBlocks x))) (task_does s b (Sending blocks n))
       path more e it =
           subst (IsBehind (with_layer after (moved_on d k (phase.SendBlocks x))))
           (sym (sending_path blocks n next.0 (Some (deed_next b blocks n more))
           next.1 (sent_deed blocks n next.0.state more (is.readable next.0 next.1) (same_test ∙ e))))
-          (subst
-          (λ z. IsBehind
-          (with_layer after (with_sent d k (sent_next x (next_if x z))))
-          (task_behind (sent_state n) b (Some (deed_next b blocks n more))))
-          (sym e) it)
+          it
+
+      -- what the task does behind its next block
+      does : (deed : Deed) (more : Bool) → nat_lt (x.sent + 1) x.blocks ≡ more →
+          IsDoing (before_accepted s.translation.ledger) a.expected b.length (sent_next x (next_if x more)) deed →
+          IsDoing (before_accepted s.translation.ledger) a.expected b.length (sent_next x (next_sending x)) deed
+      does deed more e =
+          subst
+          (λ z. IsDoing (before_accepted s.translation.ledger) a.expected b.length (sent_next x (next_if x z)) deed)
+          (sym e)
 
       by : (more : Bool) → nat_lt (x.sent + 1) x.blocks ≡ more →
           IsBehind (with_layer after (moved_on d k (phase.SendBlocks x))) (task_does s b (Sending blocks n))
       by true e =
           path true e
-          (sends d s k a b h o after n (phase.SendBlocks (behind x)) (Sending blocks (n + 1))
-          (sends_more x a.expected b.length blocks n is (ltb-true (x.sent + 1) x.blocks e)) tt
+          (sends d s k a b h o after n x (Sending blocks (n + 1)) here
+          (does (Sending blocks (n + 1)) true e
+          (sends_more x a.expected b.length blocks n is (ltb-true (x.sent + 1) x.blocks e))) tt
           (more_kept b.tag n s.translation.pins blocks kept is.behind) (none_read_behind blocks n is.behind)
           (ap (claims_in b.tag) deed) claims its)
       by false e =
@@ -199,8 +207,9 @@ module _ (d : DeviceCore) (s : State) (k : ℕ) (a : OpenTask) (b : exchange.Tas
           let at = is.sent_is in
           let last = ltb-false (x.sent + 1) x.blocks e in
           path false e
-          (sends d s k a b h o after n (phase.Answer status.Good x.length) (Answering Good b.length) (refl, is.total_is)
-          tt (none_kept b.tag n s.translation.pins blocks kept (omega arith)) refl (ap (claims_in b.tag) deed) claims
+          (sends d s k a b h o after n x (Answering Good b.length) here
+          (does (Answering Good b.length) false e (refl, is.total_is)) tt
+          (none_kept b.tag n s.translation.pins blocks kept (omega arith)) refl (ap (claims_in b.tag) deed) claims
           its)
 
   -- a block that is durable is told so
@@ -208,32 +217,32 @@ module _ (d : DeviceCore) (s : State) (k : ℕ) (a : OpenTask) (b : exchange.Tas
   durable_told true m n e = refl
   durable_told false m n e = absurd (none-some n e)
 
-  moves_in : (after : Core) (p : Phase) (deed : Deed) (m : Message) → b.deed ≡ deed →
+  moves_in : (after : Core) (p : Phase) (deed : Deed) (m : Message) → a.phase ≡ p → b.deed ≡ deed →
       IsDoing (before_accepted s.translation.ledger) a.expected b.length p deed →
       owed_in s.translation a.block (task_in a) p ≡ Some m →
       HasMoved d.ftl after s.translation a.tag p → IsBehind (with_layer after (moved_on d k p)) (task_does s b deed)
-  moves_in after (phase.AskData x) (Gathering purpose gathered asked) m e doing due new =
-      asks after x purpose gathered asked e doing.0 new.0 new.1
-  moves_in after (phase.AwaitData x) deed m e doing due new = absurd (none-some m due)
-  moves_in after (phase.SendData x) (SendingBytes bytes) m e doing due new =
-      sends_data after x bytes e doing.1 new.0 new.1
-  moves_in after (phase.AwaitFrontier n size) (Awaiting commands) m e doing due new =
+  moves_in after (phase.AskData x) (Gathering purpose gathered asked) m here e doing due new =
+      asks after x purpose gathered asked here e doing.0 new.0 new.1
+  moves_in after (phase.AwaitData x) deed m here e doing due new = absurd (none-some m due)
+  moves_in after (phase.SendData x) (SendingBytes bytes) m here e doing due new =
+      sends_data after x bytes here e doing.1 new.0 new.1
+  moves_in after (phase.AwaitFrontier n size) (Awaiting commands) m here e doing due new =
       let frontier = s.translation.ledger.frontier in
       let low = leb-true n frontier (durable_told (nat_le n frontier) _ m due) in
       let is = doing.0 in
       awaits after commands new.1 (ap (claims_in b.tag) e) (new.0 commands (omega arith))
-  moves_in after (phase.SendBlocks x) (Sending blocks sent) m e doing due new =
-      sends_next after x blocks sent e doing new.1 new.0
-  moves_in after (phase.Answer told n) (Answering x carried) m e doing due new =
+  moves_in after (phase.SendBlocks x) (Sending blocks sent) m here e doing due new =
+      sends_next after x blocks sent here e doing new.1 new.0
+  moves_in after (phase.Answer told n) (Answering x carried) m here e doing due new =
       ends after new.1 (ap (claims_in b.tag) e) new.0
-  moves_in after (phase.Answer told n) (Sending blocks sent) m e doing due new =
+  moves_in after (phase.Answer told n) (Sending blocks sent) m here e doing due new =
       subst (IsBehind (with_layer after (moved_on d k (phase.Answer told n))))
       (sym (sending_path blocks sent doing.block None doing.there (ap (deed_behind_state b blocks sent) doing.lost)))
       (loses after blocks sent e new.1 new.0)
-  moves_in after p deed m e doing due new = absurd doing
+  moves_in after p deed m here e doing due new = absurd doing
 
   -- what a reply makes of the task
   pub moves_on : (after : Core) (m : Message) → owed_by s.translation a ≡ Some m →
       HasMoved d.ftl after s.translation a.tag a.phase →
       IsBehind (with_layer after (moved_on d k a.phase)) (task_does s b b.deed)
-  moves_on after m due new = moves_in after a.phase b.deed m refl o.kept.doing due new
+  moves_on after m due new = moves_in after a.phase b.deed m refl refl o.kept.doing due new

@@ -19,14 +19,18 @@ use Rattle.ftl_core.specs.Describes as layer_kept
 use Rattle.ftl_core.specs.Moves.{claims_for}
 use Rattle.write_cache.specs.declared.slots.Claimed.{Claimed}
 use Rattle.task_set.specs.declared.tasks.Phase.{Phase}
+use Rattle.task_set.specs.declared.tasks.Phase.TheVariants as phase
+use Rattle.task_set.specs.declared.tasks.Sending.{Sending}
+use Rattle.task_set.specs.declared.tasks.TaskEvent.{TaskEvent}
+use Rattle.task_set.specs.declared.tasks.TaskEvent.TheVariants as event
 use Rattle.task_set.specs.Kept.{OpenTask}
 use Rattle.device.specs.Describes.{Describes, IsDoing, IsTold, IsToldIn, Keeps, TasksKept}
 use Rattle.device.specs.Describes.{claims_by, claims_in, read_in, wanted_by, wanted_in, wanted_kept}
-use Rattle.task_set.specs.Lists.{tasks_sent, tasks_set}
-use Rattle.task_set.specs.Tasks.{after_sent}
-use Rattle.device.specs.Hears.{with_phase}
+use Rattle.task_set.specs.Lists.{task_happened}
+use Rattle.task_set.specs.Tasks.{block_after, next_sending, phase_after, sent_next, task_after}
+use Rattle.device.specs.Hears.{with_event}
 use Rattle.device.specs.Kept.{DeviceCore}
-use Rattle.device.specs.Replies.{with_sent, without_task}
+use Rattle.device.specs.Replies.{without_task}
 use Rattle.device.proofs.described.Answered.{IsBehind}
 use Rattle.device.proofs.open_tasks.OpenTasks.{IsOpen, one_changed, one_gone}
 use Rattle.device.proofs.open_tasks.KeptByTag.{KeptFor, KeptForAll, all_kept, deed_changed, one_goes}
@@ -68,42 +72,26 @@ module _ (d : DeviceCore) (s : State) (k : ℕ) (a : OpenTask) (b : exchange.Tas
   found : task_of b.tag s.tasks ≡ Some b
   found = found_task s.tasks k b h.tied.tasks.tasks_differ o.theirs
 
-  -- it does something else from now on
-  pub tasks_set_to : (p : Phase) (deed : Deed) → IsDoing (before_accepted s.translation.ledger) a.expected b.length p
-      deed → read_in b.deed ≡ read_in deed →
-      TasksKept (before_accepted s.translation.ledger) (tasks_set d.tasks k p (slice_get d.tasks k))
+  -- this happened to it in the phase in which it is
+  pub happened_to : (e : TaskEvent) (p : Phase) (deed : Deed) → a.phase ≡ p →
+      IsDoing (before_accepted s.translation.ledger) a.expected b.length (phase_after p e) deed →
+      block_after e p a.block ≡ read_in deed →
+      TasksKept (before_accepted s.translation.ledger) (task_happened d.tasks k e (slice_get d.tasks k))
       (map (with_deed b.tag deed) s.tasks)
-  tasks_set_to p deed doing read =
-      subst (λ x. TasksKept (before_accepted s.translation.ledger) (tasks_set d.tasks k p x)
+  happened_to e p deed is doing read =
+      subst (λ x. TasksKept (before_accepted s.translation.ledger) (task_happened d.tasks k e x)
       (map (with_deed b.tag deed) s.tasks)) (sym o.ours)
-      (one_changed (before_accepted s.translation.ledger) k d.tasks s.tasks (record a { phase = p }) b deed h.kept.tasks
+      (one_changed (before_accepted s.translation.ledger) k d.tasks s.tasks (task_after e a) b deed h.kept.tasks
       h.tied.tasks.tasks_differ o.theirs
       (record {
         lun = o.kept.lun;
         tag = o.kept.tag;
         expected = o.kept.expected;
         request = o.kept.request;
-        doing = doing;
-        read = o.kept.read ∙ read;
-      }))
-
-  -- its block was handed out, and it does something else from now on
-  tasks_sent_to : (p : Phase) (deed : Deed) → IsDoing (before_accepted s.translation.ledger) a.expected b.length p
-      deed → read_in deed ≡ None →
-      TasksKept (before_accepted s.translation.ledger) (tasks_sent d.tasks k p (slice_get d.tasks k))
-      (map (with_deed b.tag deed) s.tasks)
-  tasks_sent_to p deed doing read =
-      subst (λ x. TasksKept (before_accepted s.translation.ledger) (tasks_sent d.tasks k p x)
-      (map (with_deed b.tag deed) s.tasks)) (sym o.ours)
-      (one_changed (before_accepted s.translation.ledger) k d.tasks s.tasks (after_sent p a) b deed h.kept.tasks
-      h.tied.tasks.tasks_differ o.theirs
-      (record {
-        lun = o.kept.lun;
-        tag = o.kept.tag;
-        expected = o.kept.expected;
-        request = o.kept.request;
-        doing = doing;
-        read = sym read;
+        doing =
+            subst (λ q. IsDoing (before_accepted s.translation.ledger) a.expected b.length (phase_after q e) deed)
+            (sym is) doing;
+        read = ap (λ q. block_after e q a.block) is ∙ read;
       }))
 
   -- what its tag has claimed stays
@@ -184,17 +172,18 @@ module _ (d : DeviceCore) (s : State) (k : ℕ) (a : OpenTask) (b : exchange.Tas
   pub told_gone : locked s ≡ true → All (IsTold (durable s)) (exchange.without_task b.tag s.tasks)
   told_gone lock = All-filter (λ x. not (exchange.is_task_of b.tag x)) (IsTold (durable s)) s.tasks (h.told lock)
 
-  -- it does something else, which tells as much of blocks, over the layer as it is
-  pub does_now : (after : Core) (p : Phase) (deed : Deed) →
-      IsDoing (before_accepted s.translation.ledger) a.expected b.length p deed → SaysAsMuch b.tag b.deed deed →
+  -- what happened changes no block of it, and tells as much of blocks, over the layer as it is
+  pub does_now : (after : Core) (e : TaskEvent) (p : Phase) (deed : Deed) → a.phase ≡ p →
+      IsDoing (before_accepted s.translation.ledger) a.expected b.length (phase_after p e) deed →
+      block_after e p a.block ≡ a.block → SaysAsMuch b.tag b.deed deed →
       IsToldIn (durable s) deed → layer_kept.Describes after s.translation → claims_for after ≡ claims_for d.ftl →
-      IsBehind (with_layer after (with_phase d k p)) (set_deed s b.tag deed)
-  does_now after p deed doing same told layer claims = record {
+      IsBehind (with_layer after (with_event d k e)) (set_deed s b.tag deed)
+  does_now after e p deed is doing stays same told layer claims = record {
     keeps = record {
       permanent = h.kept.permanent;
       layer_kept = layer;
       few = few_set deed;
-      tasks = tasks_set_to p deed doing same.read;
+      tasks = happened_to e p deed is doing (stays ∙ (o.kept.read ∙ same.read));
       wanted = λ n. (kept n).wanted;
       claims = λ n. (kept n).claims;
       shorts = h.kept.shorts;
@@ -213,17 +202,18 @@ module _ (d : DeviceCore) (s : State) (k : ℕ) (a : OpenTask) (b : exchange.Tas
           (λ n index other. refl)
 
   -- its next block was handed out
-  pub sends : (after : Core) (n : ℕ) (p : Phase) (deed : Deed) →
-      IsDoing (before_accepted s.translation.ledger) a.expected b.length p deed → IsToldIn (durable s) deed →
+  pub sends : (after : Core) (n : ℕ) (x : Sending) (deed : Deed) → a.phase ≡ phase.SendBlocks x →
+      IsDoing (before_accepted s.translation.ledger) a.expected b.length (sent_next x (next_sending x)) deed →
+      IsToldIn (durable s) deed →
       ((index : ℕ) → wanted_kept (with_next b.tag n s.translation.pins) b.tag index ≡ wanted_in index deed) →
       read_in deed ≡ None → claims_in b.tag b.deed ≡ claims_in b.tag deed → claims_for after ≡ claims_for d.ftl →
       layer_kept.Describes after (sent_layer s.translation a.tag n) →
-      IsBehind (with_layer after (with_sent d k p))
+      IsBehind (with_layer after (with_event d k event.BlockSent))
       (set_deed (record s { translation = sent_layer s.translation b.tag n }) b.tag deed)
-  sends after n p deed doing told wanted read claims_same claims layer =
+  sends after n x deed is doing told wanted read claims_same claims layer =
       subst
       (λ tag. layer_kept.Describes after (sent_layer s.translation tag n) →
-      IsBehind (with_layer after (with_sent d k p))
+      IsBehind (with_layer after (with_event d k event.BlockSent))
       (set_deed (record s { translation = sent_layer s.translation b.tag n }) b.tag deed))
       o.kept.tag
       (λ its. record {
@@ -231,7 +221,7 @@ module _ (d : DeviceCore) (s : State) (k : ℕ) (a : OpenTask) (b : exchange.Tas
           permanent = h.kept.permanent;
           layer_kept = its;
           few = few_set deed;
-          tasks = tasks_sent_to p deed doing read;
+          tasks = happened_to event.BlockSent (phase.SendBlocks x) deed is doing (sym read);
           wanted = λ tag. (kept tag).wanted;
           claims = λ tag. (kept tag).claims;
           shorts = h.kept.shorts;

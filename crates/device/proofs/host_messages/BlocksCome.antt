@@ -2,7 +2,7 @@
 -- it was not written where the device is locked.
 use Rattle.std.proofs.Common.{◌≡◌, ◌∙◌, ℕ, ◌+◌, ◌*◌, ◌<◌, Bool, true, false, cond, List, [], ◌∷◌, ◌++◌, Some}
 use Rattle.std.proofs.Common.{None, length, map, refl, sym, ap, subst, arith}
-use Rattle.std.specs.Prelude.{nat_lt}
+use Rattle.std.specs.Prelude.{nat_lt, slice_get}
 use Rattle.std.proofs.lemmas.Bool.{le-ltb, lt-ltb, ltb-false, ltb-true}
 use Rattle.std.proofs.lemmas.List.{length-append, length-map}
 use Rattle.ufs_spec.specs.Commands.{Command}
@@ -36,12 +36,13 @@ use Rattle.task_set.specs.declared.tasks.TaskEvent.{TaskEvent}
 use Rattle.task_set.specs.declared.tasks.TaskEvent.TheVariants as event
 use Rattle.task_set.specs.declared.tasks.Transfer.{Transfer}
 use Rattle.device.specs.Calls.{HasFilled, HasGathered, HasGatheredThen, HasTaken, MayAccept, OthersClaim}
-use Rattle.device.specs.Describes.{Describes, IsDoing, Keeps, blocks_gathered, claims_by, claims_in}
+use Rattle.device.specs.Describes.{Describes, IsDoing, Keeps, TasksKept, blocks_gathered, claims_by, claims_in}
 use Rattle.device.specs.Describes.{read_in, wanted_by, wanted_in}
-use Rattle.device.specs.Hears.{with_phase}
+use Rattle.device.specs.Hears.{with_event}
 use Rattle.device.specs.Kept.{DeviceCore}
-use Rattle.task_set.specs.Tasks.{asked_next, failed, group_done, phase_after, write_error}
-use Rattle.device.proofs.due_replies.ReplyMoves.{few_set, tasks_set_to}
+use Rattle.task_set.specs.Lists.{task_happened}
+use Rattle.task_set.specs.Tasks.{asked_next, block_after, group_done, phase_after}
+use Rattle.device.proofs.due_replies.ReplyMoves.{few_set, happened_to}
 use Rattle.device.proofs.host_messages.GroupOfBlocks.{group_written, permanent_still}
 use Rattle.device.proofs.host_messages.NumbersAwaited.{number_awaited}
 use Rattle.device.proofs.host_messages.SlotsFilled.{all_came, next_filled}
@@ -89,8 +90,8 @@ write_claims tag true position n = refl
 write_claims tag false position n = refl
 
 module _ (d : DeviceCore) (s : State) (tag : ℕ) (bytes : List ℕ) (x : Transfer) (h : Describes d s)
-    (r : Stands (before_accepted s.translation.ledger) tag d.tasks s.tasks) (g : Gathers r.b.length x r.b.deed)
-    (long : length bytes ≡ 4096) where
+    (r : Stands (before_accepted s.translation.ledger) tag d.tasks s.tasks) (at : r.a.phase ≡ phase.AwaitData x)
+    (g : Gathers r.b.length x r.b.deed) (long : length bytes ≡ 4096) where
   abbrev purpose : Purpose
   purpose = ForWrite g.unit g.address x.blocks x.forced
 
@@ -104,8 +105,18 @@ module _ (d : DeviceCore) (s : State) (tag : ℕ) (bytes : List ℕ) (x : Transf
       let came = g.came in
       omega arith
 
-  abbrev core_with : Core → Phase → DeviceCore
-  core_with after p = record (with_phase d r.k p) { ftl = after }
+  abbrev core_with : Core → TaskEvent → DeviceCore
+  core_with after e = record (with_event d r.k e) { ftl = after }
+
+  -- it does something else from now on, and keeps its block
+  does : (e : TaskEvent) (deed : Deed) →
+      IsDoing (before_accepted s.translation.ledger) r.a.expected r.b.length (phase_after (phase.AwaitData x) e) deed →
+      block_after e (phase.AwaitData x) r.a.block ≡ r.a.block → read_in r.b.deed ≡ read_in deed →
+      TasksKept (before_accepted s.translation.ledger) (task_happened d.tasks r.k e (slice_get d.tasks r.k))
+      (map (with_deed r.b.tag deed) s.tasks)
+  does e deed doing stays read =
+      happened_to d s r.k r.a r.b h r.opened e (phase.AwaitData x) deed at doing
+      (stays ∙ (r.opened.kept.read ∙ read))
 
   found : task_of r.b.tag s.tasks ≡ Some r.b
   found = ap (λ (n : ℕ). task_of n s.tasks) r.tag_is ∙ r.found
@@ -154,7 +165,7 @@ module _ (d : DeviceCore) (s : State) (tag : ℕ) (bytes : List ℕ) (x : Transf
 
   more_keeps : (after : Core) → HasFilled d.ftl after s.translation r.b.tag x.gathered bytes →
       x.gathered + 1 < x.blocks →
-      Keeps (core_with after (phase.AskData next)) (set_deed s r.b.tag (Gathering purpose all false))
+      Keeps (core_with after event.BlockGathered) (set_deed s r.b.tag (Gathering purpose all false))
   more_keeps after filled more =
       let tags = tags_kept after (Gathering purpose all false) (record { wanted = λ index. refl; read = refl })
       (slots_filled after filled) filled.others in
@@ -163,7 +174,11 @@ module _ (d : DeviceCore) (s : State) (tag : ℕ) (bytes : List ℕ) (x : Transf
         layer_kept = filled.layer;
         few = few_set d s r.k r.a r.b h r.opened (Gathering purpose all false);
         tasks =
-            tasks_set_to d s r.k r.a r.b h r.opened (phase.AskData next) (Gathering purpose all false) (
+            does event.BlockGathered (Gathering purpose all false)
+            (subst
+            (λ c. IsDoing (before_accepted s.translation.ledger) r.a.expected r.b.length
+            (asked_next x (cond c (Some next) None)) (Gathering purpose all false))
+            (sym (lt-ltb (x.gathered + 1) x.blocks more)) (
               record {
                 write = (g.key_is, refl, refl);
                 came = all_length;
@@ -171,7 +186,7 @@ module _ (d : DeviceCore) (s : State) (tag : ℕ) (bytes : List ℕ) (x : Transf
                 total_is = g.total_is;
               },
               refl,
-            ) (ap read_in g.deed_is);
+            )) refl (ap read_in g.deed_is);
         wanted = λ n. (tags n).wanted;
         claims = λ n. (tags n).claims;
         shorts = h.kept.shorts;
@@ -235,7 +250,7 @@ module _ (d : DeviceCore) (s : State) (tag : ℕ) (bytes : List ℕ) (x : Transf
     -- a locked device gives the slots back
     refused_keeps : (after : Core) → layer_kept.Describes after (moved s.translation (Release (length bodies))) →
         claims_for after r.b.tag ≡ [] → OthersClaim d.ftl after r.b.tag →
-        Keeps (core_with after (failed write_error (4096 * x.blocks)))
+        Keeps (core_with after event.GroupRefused)
         (set_deed (with_moves s (Release x.blocks ∷ [])) r.b.tag (Answering exchange.write_error r.b.length))
     refused_keeps after layer none others =
         let tags = tags_kept after (Answering exchange.write_error r.b.length)
@@ -245,8 +260,8 @@ module _ (d : DeviceCore) (s : State) (tag : ℕ) (bytes : List ℕ) (x : Transf
           layer_kept = subst (λ n. layer_kept.Describes after (moved s.translation (Release n))) count layer;
           few = few_set d s r.k r.a r.b h r.opened (Answering exchange.write_error r.b.length);
           tasks =
-              tasks_set_to d s r.k r.a r.b h r.opened (failed write_error (4096 * x.blocks))
-              (Answering exchange.write_error r.b.length) (refl, g.total_is) (ap read_in g.deed_is);
+              does event.GroupRefused (Answering exchange.write_error r.b.length) (refl, g.total_is) refl
+              (ap read_in g.deed_is);
           wanted = λ n. (tags n).wanted;
           claims = λ n. (tags n).claims;
           shorts = h.kept.shorts;
@@ -264,7 +279,7 @@ module _ (d : DeviceCore) (s : State) (tag : ℕ) (bytes : List ℕ) (x : Transf
         layer_kept.Describes after
         (moved s.translation (Accept (length bodies) (group_of_blocks (data_key g.unit g.address) bodies))) →
         claims_for after r.b.tag ≡ [] → OthersClaim d.ftl after r.b.tag →
-        Keeps (core_with after (group_done x.forced (next_number s.translation.ledger) (4096 * x.blocks)))
+        Keeps (core_with after (event.GroupAccepted (next_number s.translation.ledger)))
         (set_deed (accepts s written x.blocks) r.b.tag (write_deed x.forced (length s.accepted + 1) r.b.length))
     accepted_keeps after layer none others =
         let tags = tags_kept after (write_deed x.forced (length s.accepted + 1) r.b.length)
@@ -275,9 +290,8 @@ module _ (d : DeviceCore) (s : State) (tag : ℕ) (bytes : List ℕ) (x : Transf
           layer_kept = subst (λ (m : Move). layer_kept.Describes after (moved s.translation m)) (sym move_is) layer;
           few = few_set d s r.k r.a r.b h r.opened (write_deed x.forced (length s.accepted + 1) r.b.length);
           tasks =
-              tasks_set_to d s r.k r.a r.b h r.opened
-              (group_done x.forced (next_number s.translation.ledger) (4096 * x.blocks))
-              (write_deed x.forced (length s.accepted + 1) r.b.length) (taken_does x.forced)
+              does (event.GroupAccepted (next_number s.translation.ledger))
+              (write_deed x.forced (length s.accepted + 1) r.b.length) (taken_does x.forced) refl
               (ap read_in g.deed_is ∙ sym (write_sends x.forced (length s.accepted + 1) r.b.length).read);
           wanted = λ n. (tags n).wanted;
           claims = λ n. (tags n).claims;
@@ -289,7 +303,7 @@ module _ (d : DeviceCore) (s : State) (tag : ℕ) (bytes : List ℕ) (x : Transf
     completes : (between after : Core) (e : TaskEvent) →
         HasFilled d.ftl between s.translation r.b.tag x.gathered bytes →
         HasTaken between after s.translation r.b.tag (data_key g.unit g.address) e →
-        Keeps (core_with after (phase_after (phase.AwaitData x) e))
+        Keeps (core_with after e)
         (write_complete s r.b g.unit g.address x.blocks x.forced all)
     completes between after e filled taken = by (locked s) refl
       where
@@ -315,19 +329,19 @@ module _ (d : DeviceCore) (s : State) (tag : ℕ) (bytes : List ℕ) (x : Transf
             (Accept (length bodies) (group_of_blocks (data_key g.unit g.address) bodies)))))
             is (taken.layer bodies claimed may_accept)
 
-        by : (b : Bool) → locked s ≡ b → Keeps (core_with after (phase_after (phase.AwaitData x) e))
+        by : (b : Bool) → locked s ≡ b → Keeps (core_with after e)
             (cond b
             (set_deed (with_moves s (Release x.blocks ∷ [])) r.b.tag (Answering exchange.write_error r.b.length))
             (set_deed (accepts s written x.blocks) r.b.tag
             (write_deed x.forced (length s.accepted + 1) r.b.length)))
         by true is =
             subst
-            (λ (y : TaskEvent). Keeps (core_with after (phase_after (phase.AwaitData x) y))
+            (λ (y : TaskEvent). Keeps (core_with after y)
             (set_deed (with_moves s (Release x.blocks ∷ [])) r.b.tag (Answering exchange.write_error r.b.length)))
             (sym (event_at true is)) (refused_keeps after (layer_at true is) taken.claims others)
         by false is =
             subst
-            (λ (y : TaskEvent). Keeps (core_with after (phase_after (phase.AwaitData x) y))
+            (λ (y : TaskEvent). Keeps (core_with after y)
             (set_deed (accepts s written x.blocks) r.b.tag
             (write_deed x.forced (length s.accepted + 1) r.b.length)))
             (sym (event_at false is)) (accepted_keeps after (layer_at false is) taken.claims others)
@@ -343,9 +357,9 @@ module _ (d : DeviceCore) (s : State) (tag : ℕ) (bytes : List ℕ) (x : Transf
 
   pub block_keeps : AreBytes bytes → (after : Core) (e : TaskEvent) →
       HasGathered d.ftl after s.translation tag x bytes e →
-      Keeps (core_with after (phase_after (phase.AwaitData x) e)) (data_heard s (task_of tag s.tasks) bytes)
+      Keeps (core_with after e) (data_heard s (task_of tag s.tasks) bytes)
   block_keeps are after e did =
-      subst (Keeps (core_with after (phase_after (phase.AwaitData x) e))) (sym path)
+      subst (Keeps (core_with after e)) (sym path)
       (by (nat_lt (x.gathered + 1) x.blocks) refl (subst
       (λ n. HasGathered d.ftl after s.translation n x bytes e) (sym r.tag_is) did))
     where
@@ -353,20 +367,18 @@ module _ (d : DeviceCore) (s : State) (tag : ℕ) (bytes : List ℕ) (x : Transf
       path = ap (λ o. data_heard s o bytes) r.found ∙ ap (λ (deed : Deed). data_for s r.b deed bytes) g.deed_is
 
       by : (more : Bool) → nat_lt (x.gathered + 1) x.blocks ≡ more → Then after e (nat_lt (x.gathered + 1) x.blocks) →
-          Keeps (core_with after (phase_after (phase.AwaitData x) e)) (heard_at (nat_lt (length all) r.b.length))
+          Keeps (core_with after e) (heard_at (nat_lt (length all) r.b.length))
       by true is got =
           let less = ltb-true (x.gathered + 1) x.blocks is in
           let its : Then after e true = subst (Then after e) is got in
           let came = all_length in
           let total = g.total_is in
           subst
-          (λ b. Keeps (core_with after (phase_after (phase.AwaitData x) e)) (heard_at b))
+          (λ b. Keeps (core_with after e) (heard_at b))
           (sym (lt-ltb (length all) r.b.length (omega arith)))
           (subst
-          (λ (y : TaskEvent). Keeps (core_with after (phase_after (phase.AwaitData x) y)) (heard_at true)) (sym its.0)
-          (subst
-          (λ b. Keeps (core_with after (asked_next x (cond b (Some next) None))) (heard_at true)) (sym is)
-          (more_keeps after its.1 less)))
+          (λ (y : TaskEvent). Keeps (core_with after y) (heard_at true)) (sym its.0)
+          (more_keeps after its.1 less))
       by false is got =
           let most = ltb-false (x.gathered + 1) x.blocks is in
           let its : Then after e false = subst (Then after e) is got in
@@ -374,7 +386,7 @@ module _ (d : DeviceCore) (s : State) (tag : ℕ) (bytes : List ℕ) (x : Transf
           let total = g.total_is in
           let more = g.more in
           subst
-          (λ b. Keeps (core_with after (phase_after (phase.AwaitData x) e)) (heard_at b))
+          (λ b. Keeps (core_with after e) (heard_at b))
           (sym (le-ltb (length all) r.b.length (omega arith)))
           (completes are (omega arith) its.0 after e its.1
           (subst (λ (k : Key). HasTaken its.0 after s.translation r.b.tag k e) g.key_is its.2))

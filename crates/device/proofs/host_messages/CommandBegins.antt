@@ -7,6 +7,7 @@ use Rattle.std.specs.Int.{div_ceil}
 use Rattle.std.proofs.lemmas.Bool.{le-leb}
 use Rattle.std.proofs.lemmas.List.{get_or-map, length-map, length-take}
 use Rattle.std.proofs.lemmas.Option.{slice_get_within, get_or_from_slice_get}
+use Rattle.ufs_spec.specs.Plain.{greatest_command}
 use Rattle.ufs_spec.specs.Cdbs.{IsTakenCdb, six_blocks}
 use Rattle.ufs_spec.specs.Exchanges.{Answering, Awaiting, Deed, ForWrite, Gathering, Good}
 use Rattle.ufs_spec.specs.Exchanges.{SendingBytes, Status, most_tasks, task_of}
@@ -135,7 +136,7 @@ module _ (d : DeviceCore) (s : State) (r : Request) (h : Describes d s) (free : 
       (sending (read_blocks s r.lun address m) n)
 
   read_begins : (unit : UnitSpec) (command : Cdb) (address blocks : ℕ) (p : Phase) →
-      slice_get (numbers_of s).units.items r.lun ≡ Some unit → blocks ≤ 32 → address + blocks ≤ unit.blocks →
+      slice_get (numbers_of s).units.items r.lun ≡ Some unit → blocks ≤ greatest_command → address + blocks ≤ unit.blocks →
       mended s ≡ true → (b : Bool) → ((blocks == 0) || (r.expected == 0)) ≡ b →
       Begins (Ok (if b then plan.Nothing (4096 * blocks)
       else plan.Read (data_key r.lun address) (sent_of blocks) (4096 * blocks))) p →
@@ -160,7 +161,7 @@ module _ (d : DeviceCore) (s : State) (r : Request) (h : Describes d s) (free : 
       sent : (1 ≤ m) × (m ≤ blocks)
       sent = some_expected r.expected blocks e
 
-      most : m ≤ 32
+      most : m ≤ greatest_command
       most = let few = sent.1 in omega arith
 
       state : read_begun s r command r.lun address n ≡ reading_at s r command n address m

@@ -9,6 +9,7 @@ use Rattle.std.proofs.lemmas.Bool.Decides.{nat_tests}
 use Rattle.std.proofs.lemmas.List.{length-drop}
 use Rattle.std.proofs.lemmas.List.Sums.{get_or-le-sum_by}
 use Rattle.ufs_spec.proofs.Facts.{eqb-true, false≢true, ltb-false, none-some, or_parts}
+use Rattle.ufs_spec.specs.Plain.{greatest_command}
 use Rattle.ufs_spec.specs.Cdbs.{IsTakenCdb, address_of, blocks_of, direction_of, operation_of}
 use Rattle.ufs_spec.specs.Exchanges.{Busy, Status, Task, invalid_field, invalid_operation, list_length_error}
 use Rattle.ufs_spec.specs.Exchanges.{no_unit, not_ready, out_of_range, sequence_error, write_protected}
@@ -65,23 +66,23 @@ checked s r command is none =
 pub record IsFree (s : State) (r : Request) (unit : UnitSpec) (command : Cdb) : Type 0 where
   pub unit_is : unit_of_request s r ≡ Some r.lun
   pub spec_is : spec_of s r ≡ Some unit
-  pub few : blocks_of command ≤ 32
+  pub few : blocks_of command ≤ greatest_command
   pub within : address_of command + blocks_of command ≤ unit.blocks
   pub mended : needs_mended (operation_of command) ≡ true → mended s ≡ true
   pub slots : slots_needed (numbers_of s) command ≤ free_slots s.translation
   pub refused : is_refused_write s (spec_of s r) command ≡ false
 
 few_told : (s : State) (command : Cdb) → IsTakenCdb command → is_too_long (numbers_of s) command ≡ false →
-    blocks_of command ≤ 32
-few_told s cdb.TestUnitReady taken h = ltb-false 32 (blocks_of cdb.TestUnitReady) h
-few_told s (cdb.RequestSense allocation) taken h = ltb-false 32 (blocks_of (cdb.RequestSense allocation)) h
-few_told s (cdb.Read6 address blocks) taken h = ltb-false 32 (blocks_of (cdb.Read6 address blocks)) h
-few_told s (cdb.Write6 address blocks) taken h = ltb-false 32 (blocks_of (cdb.Write6 address blocks)) h
-few_told s cdb.ReadCapacity10 taken h = ltb-false 32 (blocks_of cdb.ReadCapacity10) h
-few_told s (cdb.Read10 address blocks forced) taken h = ltb-false 32 (blocks_of (cdb.Read10 address blocks forced)) h
-few_told s (cdb.Write10 address blocks forced) taken h = ltb-false 32 (blocks_of (cdb.Write10 address blocks forced)) h
+    blocks_of command ≤ greatest_command
+few_told s cdb.TestUnitReady taken h = ltb-false greatest_command (blocks_of cdb.TestUnitReady) h
+few_told s (cdb.RequestSense allocation) taken h = ltb-false greatest_command (blocks_of (cdb.RequestSense allocation)) h
+few_told s (cdb.Read6 address blocks) taken h = ltb-false greatest_command (blocks_of (cdb.Read6 address blocks)) h
+few_told s (cdb.Write6 address blocks) taken h = ltb-false greatest_command (blocks_of (cdb.Write6 address blocks)) h
+few_told s cdb.ReadCapacity10 taken h = ltb-false greatest_command (blocks_of cdb.ReadCapacity10) h
+few_told s (cdb.Read10 address blocks forced) taken h = ltb-false greatest_command (blocks_of (cdb.Read10 address blocks forced)) h
+few_told s (cdb.Write10 address blocks forced) taken h = ltb-false greatest_command (blocks_of (cdb.Write10 address blocks forced)) h
 few_told s (cdb.SynchronizeCache10 address blocks immediate) taken h =
-    ltb-false 32 (blocks_of (cdb.SynchronizeCache10 address blocks immediate)) h
+    ltb-false greatest_command (blocks_of (cdb.SynchronizeCache10 address blocks immediate)) h
 few_told s command taken h = absurd taken
 
 mended_told : (a b : Bool) → (a && not b) ≡ false → a ≡ true → b ≡ true

@@ -6,6 +6,7 @@ use Rattle.std.specs.Prelude.{◌||◌, ◌&&◌, ◌==◌, if◌then◌else◌,
 use Rattle.std.specs.Prelude.{Result, Ok, Err, IfErr, IfOk, IsOk}
 use Rattle.std.proofs.lemmas.Bool.{le-ltb, lt-ltb}
 use Rattle.std.proofs.lemmas.Option.{slice_get_cases, slice_get_within}
+use Rattle.ufs_spec.specs.Plain.{greatest_command}
 use Rattle.ufs_spec.specs.Cdbs.{IsTakenCdb, IsTakenOperation, SpellsCdb, address_of, blocks_of, cdb_bytes}
 use Rattle.ufs_spec.specs.Cdbs.{direction_of, inquiry, length_of, operation_of, read_10, read_6, read_capacity_10}
 use Rattle.ufs_spec.specs.Cdbs.{report_luns, request_sense, synchronize_cache_10, taken_operations, test_unit_ready}
@@ -54,7 +55,7 @@ lines_of a b c e f g =
 
 abbrev lines_in : State → Request → UnitSpec → Cdb → List Line
 lines_in s r u c =
-    lines_of (nat_lt 32 (blocks_of c)) (lacks_data r (direction_of c) (length_of 0 c))
+    lines_of (nat_lt greatest_command (blocks_of c)) (lacks_data r (direction_of c) (length_of 0 c))
     (nat_lt u.blocks (address_of c + blocks_of c)) (needs_mended (operation_of c) && not (mended s))
     (is_refused_write s (Some u) c) (nat_lt (free_slots s.translation) (slots_needed (numbers_of s) c))
 
@@ -63,7 +64,7 @@ lines_are : (s : State) (r : Request) (u : UnitSpec) (c : Cdb) → IsTakenCdb c 
 lines_are s r u c taken spec = by c taken ∙ lines
   where
     at : Option UnitSpec → Option Status
-    at x = first_line (lines_of (nat_lt 32 (blocks_of c)) (lacks_data r (direction_of c) (length_of 0 c))
+    at x = first_line (lines_of (nat_lt greatest_command (blocks_of c)) (lacks_data r (direction_of c) (length_of 0 c))
         (is_past c x) (needs_mended (operation_of c) && not (mended s))
         (is_refused_write s x c) (nat_lt (free_slots s.translation) (slots_needed (numbers_of s) c)))
 
@@ -71,7 +72,7 @@ lines_are s r u c taken spec = by c taken ∙ lines
     lines = ap at spec
 
     by : (c : Cdb) → IsTakenCdb c → first_line (lines_for s r c) ≡ first_line
-        (lines_of (nat_lt 32 (blocks_of c)) (lacks_data r (direction_of c) (length_of 0 c))
+        (lines_of (nat_lt greatest_command (blocks_of c)) (lacks_data r (direction_of c) (length_of 0 c))
         (is_past c (spec_of s r)) (needs_mended (operation_of c) && not (mended s))
         (is_refused_write s (spec_of s r) c) (nat_lt (free_slots s.translation) (slots_needed (numbers_of s) c)))
     by cdb.TestUnitReady k = refl
@@ -111,7 +112,7 @@ checks_told false false false false false false = refl
 -- the checks in the words of the code
 abbrev pub checks_for : State → Request → UnitSpec → Cdb → Option kept_status.Status
 checks_for s r u c =
-    checks_of (nat_lt 32 (blocks_of c)) (lacks_data r (direction_of c) (length_of 0 c))
+    checks_of (nat_lt greatest_command (blocks_of c)) (lacks_data r (direction_of c) (length_of 0 c))
     (nat_lt u.blocks (address_of c + blocks_of c)) (needs_mended (operation_of c) && not (mended s))
     (is_refused_write s (Some u) c) (nat_lt (free_slots s.translation) (slots_needed (numbers_of s) c))
 
@@ -119,12 +120,12 @@ pub table_checked : (s : State) (r : Request) (u : UnitSpec) (c : Cdb) → IsTak
     first_line (lines_for s r c) ≡ option_map status_kept (checks_for s r u c)
 table_checked s r u c taken spec =
     lines_are s r u c taken spec
-    ∙ checks_told (nat_lt 32 (blocks_of c)) (lacks_data r (direction_of c) (length_of 0 c))
+    ∙ checks_told (nat_lt greatest_command (blocks_of c)) (lacks_data r (direction_of c) (length_of 0 c))
     (nat_lt u.blocks (address_of c + blocks_of c)) (needs_mended (operation_of c) && not (mended s))
     (is_refused_write s (Some u) c) (nat_lt (free_slots s.translation) (slots_needed (numbers_of s) c))
 
 pub told_by : (s : State) (r : Request) (u : UnitSpec) (c : Cdb) → IsTakenCdb c → spec_of s r ≡ Some u →
-    (a b p e f g : Bool) → nat_lt 32 (blocks_of c) ≡ a → lacks_data r (direction_of c) (length_of 0 c) ≡ b →
+    (a b p e f g : Bool) → nat_lt greatest_command (blocks_of c) ≡ a → lacks_data r (direction_of c) (length_of 0 c) ≡ b →
     nat_lt u.blocks (address_of c + blocks_of c) ≡ p → (needs_mended (operation_of c) && not (mended s)) ≡ e →
     is_refused_write s (Some u) c ≡ f → nat_lt (free_slots s.translation) (slots_needed (numbers_of s) c) ≡ g →
     first_line (lines_for s r c) ≡ option_map status_kept (checks_of a b p e f g)

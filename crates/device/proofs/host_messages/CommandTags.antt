@@ -4,6 +4,7 @@ use Rattle.std.proofs.Common.{inl, inr, cond}
 use Rattle.std.specs.Prelude.{◌||◌, ◌==◌, if◌then◌else◌, find, nat_le, is_some, position, Ok, Err, Some}
 use Rattle.std.specs.List.{list_any}
 use Rattle.std.proofs.lemmas.List.{length-map}
+use Rattle.ufs_spec.specs.Exchanges.{most_short_exchanges}
 use Rattle.ufs_spec.specs.Exchanges as exchange
 use Rattle.ufs_spec.specs.Exchanges.{is_short_of, task_of}
 use Rattle.ufs_spec.specs.Ledger.{before_accepted}
@@ -59,9 +60,9 @@ task_fault d s tag h = ap (λ (b : Bool). if b then Some TagInUse else None) (ta
 pub short_fault : (d : DeviceCore) (s : State) (tag : ℕ) → Describes d s →
     result_of (opening_fault s tag true) ≡ short_answer d tag
 short_fault d s tag h =
-    (λ i. result_of (if tag_used d s tag h i then Some TagInUse else if nat_le 32 (shorts i) then Some Backlog
+    (λ i. result_of (if tag_used d s tag h i then Some TagInUse else if nat_le most_short_exchanges (shorts i) then Some Backlog
     else None))
-    ∙ by (uses d tag) (nat_le 32 (length d.shorts))
+    ∙ by (uses d tag) (nat_le most_short_exchanges (length d.shorts))
   where
     shorts : length s.shorts ≡ length d.shorts
     shorts = ap length h.kept.shorts ∙ length-map d.shorts short_kept

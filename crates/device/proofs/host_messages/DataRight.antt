@@ -13,9 +13,8 @@ use Rattle.ufs_spec.specs.declared.messages.Message.TheVariants as message
 use Rattle.task_set.specs.declared.tasks.AskedFor.{AskedFor}
 use Rattle.task_set.specs.declared.tasks.Phase.TheVariants as phase
 use Rattle.device.specs.Describes.{Describes, IsAnswered, IsDoing, IsHeardAs}
-use Rattle.device.specs.Hears.{IsDataHeard, asked_for, with_phase}
+use Rattle.device.specs.Hears.{IsDataHeard, asked_for, with_event}
 use Rattle.device.specs.Kept.{DeviceCore}
-use Rattle.task_set.specs.Tasks.{phase_after}
 use Rattle.device.proofs.described.Answered.{answered, answered_told, stays}
 use Rattle.device.proofs.host_messages.AskedData.{AreAsked, data_asked}
 use Rattle.device.proofs.host_messages.BlocksCome.{block_keeps, gathers}
@@ -44,11 +43,11 @@ each_right d e s lun tag offset «data» whole asked is result h heard is_is (in
     (subst (λ p. IsDoing (before_accepted s.translation.ledger) r.a.expected r.b.length p r.b.deed) x.phase_is
     r.opened.kept.doing) in
     let new = its.1 in
-    let next = record (with_phase d r.k (phase_after (phase.AwaitData x.transfer) new.event)) { ftl = new.layer } in
+    let next = record (with_event d r.k new.event) { ftl = new.layer } in
     subst (λ (y : Result Unit HostFault). IsAnswered s (call_of lun tag offset «data») (OfHost y) e) (sym its.0)
     (answered_told d next e s (call_of lun tag offset «data»)
     (OfHost (Ok tt)) h (whole, heard) (ap (λ (b : Bool). result_of (asked_fault b)) (sym (is_is ∙ told)))
-    (block_keeps d s tag «data».items x.transfer h r g x.count_is heard.0.0.3.2 new.layer new.event
+    (block_keeps d s tag «data».items x.transfer h r x.phase_is g x.count_is heard.0.0.3.2 new.layer new.event
     (new.taken s.translation h.kept.layer_kept))
     new.told)
 

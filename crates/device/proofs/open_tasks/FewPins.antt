@@ -1,5 +1,5 @@
 -- There is room for what a READ keeps: each pin is of a block of an open task, no two are of the same, and a task has
--- at most 32 blocks.
+-- at most as many blocks as a command may have.
 use Rattle.std.proofs.Common.{◌≡◌, ◌∙◌, ℕ, ◌+◌, ◌*◌, ◌<◌, ◌≤◌, ◌==◌, Bool, true, false, cond, List, [], ◌∷◌, length}
 use Rattle.std.proofs.Common.{map, Option, Some, None, inl, inr, refl, sym, ap, subst, arith}
 use Rattle.std.specs.Prelude.{◌&&◌, ◌||◌, filter, find, nat_lt, not, option_map, slice_get}
@@ -13,6 +13,7 @@ use Rattle.std.proofs.lemmas.Option.{slice_get_within}
 use Rattle.std.proofs.lemmas.Map.Steps.{length-le_from_distinct_below}
 use Rattle.std.proofs.lemmas.Map.Views.{any-filter_same}
 use Rattle.ufs_spec.proofs.Facts.{and_parts, eqb-true, false≢true, none-some, or_parts, same_Some}
+use Rattle.ufs_spec.specs.Plain.{greatest_command}
 use Rattle.ufs_spec.specs.Exchanges as exchange
 use Rattle.ufs_spec.specs.Exchanges.{Answering, Awaiting, Deed, Gathering, ReadBlock, Sending, SendingBytes}
 use Rattle.ufs_spec.specs.Exchanges.{is_task_of, most_tasks, task_of}
@@ -93,9 +94,9 @@ any_index tag index (p ∷ pins) = by (p.tag == tag) (any_index tag index pins)
 
 -- no more than the indexes that there are
 few_of : (tag : ℕ) (pins : List Pin) → PinsDiffer pins →
-    ((index : ℕ) → list_any (is_pin_of tag index) pins ≡ true → index < 32) → length (filter (of_tag tag) pins) ≤ 32
+    ((index : ℕ) → list_any (is_pin_of tag index) pins ≡ true → index < greatest_command) → length (filter (of_tag tag) pins) ≤ greatest_command
 few_of tag pins differ low =
-    let most = length-le_from_distinct_below (indexes tag pins) 32 (indexes_differ tag pins differ)
+    let most = length-le_from_distinct_below (indexes tag pins) greatest_command (indexes_differ tag pins differ)
     (λ q e. low q (sym (any_index tag q pins) ∙ e)) in
     let same = length-map (filter (of_tag tag) pins) (λ (pin : Pin). pin.index) in
     omega arith
@@ -112,10 +113,10 @@ differ_left stays (p ∷ pins) h =
     by true first rest = (first, rest)
     by false first rest = rest
 
--- each is of a task, and has one of 32 indexes
+-- each is of a task, and has an index that a command may have
 abbrev AreOf : List exchange.Task → List Pin → Type 0
 AreOf us pins = (tag index : ℕ) → list_any (is_pin_of tag index) pins ≡ true →
-    (index < 32) × (list_any (is_task_of tag) us ≡ true)
+    (index < greatest_command) × (list_any (is_task_of tag) us ≡ true)
 
 -- those that are not of the first task are of the others
 are_left : (u : exchange.Task) (us : List exchange.Task) (pins : List Pin) → AreOf (u ∷ us) pins →
@@ -131,14 +132,14 @@ are_left u us pins h tag index = by (tag == u.tag) refl
         (λ pin is. ap not (ap (λ (n : ℕ). n == u.tag) (eqb-true pin.tag tag (and_parts _ _ is).0) ∙ e)) pins
 
     by : (b : Bool) → (tag == u.tag) ≡ b → list_any (is_pin_of tag index) left ≡ true →
-        (index < 32) × (list_any (is_task_of tag) us ≡ true)
+        (index < greatest_command) × (list_any (is_task_of tag) us ≡ true)
     by true e there = absurd (false≢true (sym (same true e) ∙ there))
     by false e there =
         let its = h tag index (sym (same false e) ∙ there) in
         (its.0, ap (λ b. b || list_any (is_task_of tag) us) (sym (other_way tag u.tag e)) ∙ its.1)
 
 few_pins : (us : List exchange.Task) (pins : List Pin) → PinsDiffer pins → AreOf us pins →
-    length pins ≤ 32 * length us
+    length pins ≤ greatest_command * length us
 few_pins [] [] differ h = omega arith
 few_pins [] (p ∷ pins) differ h = absurd (false≢true (h p.tag p.index here).1)
   where
@@ -183,7 +184,7 @@ kept_block index wanted (Awaiting commands) e = absurd (none-some wanted e)
 kept_block index wanted (Answering told carried) e = absurd (none-some wanted e)
 
 few_blocks : (before expected total : ℕ) (p : Phase) (blocks : List ReadBlock) (sent : ℕ) →
-    IsDoing before expected total p (Sending blocks sent) → length blocks ≤ 32
+    IsDoing before expected total p (Sending blocks sent) → length blocks ≤ greatest_command
 few_blocks before expected total (phase.SendBlocks x) blocks sent h =
     let count = h.count in let few = h.few in omega arith
 few_blocks before expected total (phase.Answer told n) blocks sent h = h.few
@@ -200,7 +201,7 @@ kept_for_task d s k tag index there =
     before = before_accepted s.translation.ledger
 
     its : (task : exchange.Task) → task_of tag s.tasks ≡ Some task → wanted_in index task.deed ≡ Some found.0.wanted →
-        StandsOrNot before tag d.tasks s.tasks → index < 32
+        StandsOrNot before tag d.tasks s.tasks → index < greatest_command
     its task is wanted (inl none) = absurd (none-some task (sym none.1 ∙ is))
     its task is wanted (inr r) =
         let b = kept_block index found.0.wanted task.deed wanted in
@@ -211,7 +212,7 @@ kept_for_task d s k tag index there =
         omega arith
 
     of_task : (o : Option exchange.Task) → task_of tag s.tasks ≡ o → wanted_by index o ≡ Some found.0.wanted →
-        (index < 32) × (list_any (is_task_of tag) s.tasks ≡ true)
+        (index < greatest_command) × (list_any (is_task_of tag) s.tasks ≡ true)
     of_task None is wanted = absurd (none-some found.0.wanted wanted)
     of_task (Some task) is wanted = (
       its task is wanted (tag_stands before tag d.tasks s.tasks k.tasks),
@@ -220,7 +221,7 @@ kept_for_task d s k tag index there =
 
 -- so a task more finds room for its blocks
 pub pin_has_room : (d : DeviceCore) (s : State) (blocks : ℕ) → Describes d s → PinsDiffer s.translation.pins →
-    length s.tasks < most_tasks → blocks ≤ 32 → has_room s.translation blocks ≡ true
+    length s.tasks < most_tasks → blocks ≤ greatest_command → has_room s.translation blocks ≡ true
 pin_has_room d s blocks h differ few most =
     let pins = few_pins s.tasks s.translation.pins differ (kept_for_task d s h.kept) in
     le-leb (length s.translation.pins + blocks) 1024 (omega arith)

@@ -3,6 +3,7 @@ use Rattle.std.proofs.Common.{◌≡◌, ◌∙◌, ℕ, suc, ◌+◌, ◌≤◌
 use Rattle.std.proofs.Common.{refl, sym, ap, subst, inl, inr, ⊎_elim, arith}
 use Rattle.std.specs.Prelude.{◌^◌, if◌then◌else◌, nat_lt, nat_le, option_map, slice_get, drop}
 use Rattle.ufs_spec.proofs.Facts.{false≢true, true≢false}
+use Rattle.ufs_spec.specs.Pages.{greatest_number}
 use Rattle.ufs_spec.specs.Cells.{Cells, Mark, MarkPage}
 use Rattle.ufs_spec.specs.declared.configs.Numbers.{Numbers}
 use Rattle.ufs_spec.specs.declared.flash.Fence.{Fence}
@@ -296,9 +297,9 @@ module _ (c : Core) (t : Translation) (die : ℕ) (b : Book) (o : OpenBlock) (m 
   mark_ends_wrong =
       subst (λ (f : Option Fence). Kept (went_bad (mark_ordered c fence) die o.block)
       (mark_again (record t { disk = disk.program_failed t.disk (next_place die o) cells }) f)) (sym failed_fence)
-      (both_ways (λ (z : Core) (u : Translation). Kept (went_bad z die o.block) u) (nat_le c.next_mark (2 ^ 62))
-      (nat_lt t.ledger.marks (2 ^ 62))
-      (ap (λ (n : ℕ). nat_le n (2 ^ 62)) h.kept.work.next_mark)
+      (both_ways (λ (z : Core) (u : Translation). Kept (went_bad z die o.block) u) (nat_le c.next_mark greatest_number)
+      (nat_lt t.ledger.marks greatest_number)
+      (ap (λ (n : ℕ). nat_le n greatest_number) h.kept.work.next_mark)
       (record c { step = Some (steps.Mark c.next_mark fence); next_mark = c.next_mark + 1 }) (record c { step = None })
       (layer.mark_ordered (record t { disk = disk.program_failed t.disk (next_place die o) cells }) fence)
       (record t { disk = disk.program_failed t.disk (next_place die o) cells; work = record t.work { step = None } })

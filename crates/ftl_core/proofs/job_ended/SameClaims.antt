@@ -4,6 +4,7 @@ use Rattle.std.proofs.Common.{subst}
 use Rattle.collector.specs.Plans.{Collection}
 use Rattle.ufs_spec.proofs.Facts.{none-some}
 use Rattle.std.specs.Prelude.{◌==◌, if◌then◌else◌, filter, find, fold, nat_le, nat_lt, slice_get, ◌-◌, ◌^◌}
+use Rattle.ufs_spec.specs.Pages.{greatest_number}
 use Rattle.ufs_spec.specs.declared.flash.Outcome.{Outcome}
 use Rattle.ufs_spec.specs.declared.flash.Key.{Key}
 use Rattle.ufs_spec.specs.declared.flash.Place.{Place}
@@ -127,7 +128,7 @@ over c (Some (steps.Copy n k from read)) die b place =
 again : (c : Core) (step : Option Step) → Stays c (step_again c step)
 again c None = same c
 again c (Some (steps.Mark n fence)) =
-    either (nat_le c.next_mark (2 ^ 62)) c _ _ (record { claims = refl; plan = λ p e. e })
+    either (nat_le c.next_mark greatest_number) c _ _ (record { claims = refl; plan = λ p e. e })
     (record { claims = refl; plan = λ p e. e })
 again c (Some (steps.Repair n k from there)) = same c
 again c (Some (steps.Copy n k from read)) = same c

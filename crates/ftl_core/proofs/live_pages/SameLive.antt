@@ -1,6 +1,7 @@
 -- What changes neither places of contents nor which pages are live.
 use Rattle.std.proofs.Common.{◌≡◌, ◌∙◌, ℕ, Bool, true, false, List, [], ◌∷◌, Option, Some, None, refl, ap, subst, sym}
 use Rattle.std.specs.Prelude.{if◌then◌else◌, nat_le, nat_lt, ◌-◌, ◌^◌}
+use Rattle.ufs_spec.specs.Pages.{greatest_number}
 use Rattle.ufs_spec.specs.declared.configs.Numbers.{Numbers}
 use Rattle.ufs_spec.specs.declared.flash.Outcome.{Outcome}
 use Rattle.ufs_spec.specs.declared.flash.Tag.{Tag}
@@ -51,7 +52,7 @@ written_same c die b None = refl
 written_same c die b (Some o) = either (nat_lt o.next (c.numbers.pages - 1)) _ _ (facts c) refl refl
 
 ordered_same : (c : Core) (fence : Option Fence) → facts (mark_ordered c fence) ≡ facts c
-ordered_same c fence = either (nat_le c.next_mark (2 ^ 62)) _ _ (facts c) refl refl
+ordered_same c fence = either (nat_le c.next_mark greatest_number) _ _ (facts c) refl refl
 
 pub again_same : (c : Core) (step : Option Step) → facts (step_again c step) ≡ facts c
 again_same c None = refl

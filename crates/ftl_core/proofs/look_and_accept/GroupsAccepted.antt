@@ -7,6 +7,8 @@ use Rattle.std.proofs.lemmas.List.{length-map}
 use Rattle.std.proofs.lemmas.Option.{get_or_from_slice_get, slice_get_within}
 use Rattle.ufs_spec.proofs.Facts.{eq-eqb, le-leb, leb-true, lt-ltb, none-some, same_Some}
 use Rattle.ufs_spec.proofs.Lists.{get_there, length-below}
+use Rattle.ufs_spec.specs.Plain.{greatest_command}
+use Rattle.ufs_spec.specs.Pages.{greatest_number}
 use Rattle.ufs_spec.specs.Configs.{InRange}
 use Rattle.ufs_spec.specs.Keys.{Group, IsKey, Item, below}
 use Rattle.ufs_spec.specs.Ledger as ledger
@@ -97,8 +99,8 @@ kind_there k m (x ∷ bodies) (suc i) item h = kind_there k (m + 1) bodies i ite
 record IsGathered (t : Translation) (k : Key) (bodies : List (List ℕ)) : Type 0 where
   pub kind : k.kind ≡ 1
   pub unit : k.unit ≤ 7
-  pub number : ledger.next_number t.ledger ≤ 2 ^ 62
-  pub short : length bodies ≤ 32
+  pub number : ledger.next_number t.ledger ≤ greatest_number
+  pub short : length bodies ≤ greatest_command
   pub keys : (i : ℕ) (body : List ℕ) → slice_get bodies i ≡ Some body → key_at k i ≡ key_behind k i
 
 page_kept : (t : Translation) (k : Key) (bodies : List (List ℕ)) (reader i : ℕ) (body : List ℕ) → Valid t →
@@ -136,14 +138,14 @@ page_kept t k bodies reader i body v is at = record {
     one : nat_le 1 (ledger.next_number t.ledger) ≡ true
     one = le-leb 1 (ledger.next_number t.ledger) (omega arith)
 
-    most : nat_le (ledger.next_number t.ledger) (2 ^ 62) ≡ true
-    most = le-leb (ledger.next_number t.ledger) (2 ^ 62) is.number
+    most : nat_le (ledger.next_number t.ledger) greatest_number ≡ true
+    most = le-leb (ledger.next_number t.ledger) greatest_number is.number
 
     index : nat_lt i (length bodies) ≡ true
     index = lt-ltb i (length bodies) (slice_get_within bodies i body at)
 
-    short : nat_le (length bodies) 32 ≡ true
-    short = le-leb (length bodies) 32 is.short
+    short : nat_le (length bodies) greatest_command ≡ true
+    short = le-leb (length bodies) greatest_command is.short
 
 -- All pages
 
@@ -293,7 +295,7 @@ accepts_right c t k bodies reader ranges h kind unit claimed may = record {
     gathered = record {
       kind = kind;
       unit = unit;
-      number = leb-true (ledger.next_number t.ledger) (2 ^ 62) may.1;
+      number = leb-true (ledger.next_number t.ledger) greatest_number may.1;
       short = let l = may.4.not_long in let e = items_length k 0 bodies in omega (arith, l, e);
       keys = λ i body at. keys_same t.numbers k i (subst InRange h.kept.numbers ranges) (key_right i body at);
     }

@@ -3,6 +3,7 @@ use Rattle.std.proofs.Common.{◌≡◌, ◌∙◌, ◌||◌, ℕ, Bool, List, [
 use Rattle.std.specs.Prelude.{◌^◌, option_map}
 use Rattle.std.specs.List.{list_any}
 use Rattle.geometry.specs.Keys.{key_total}
+use Rattle.ufs_spec.specs.Pages.{greatest_number}
 use Rattle.ufs_spec.specs.Plain.{shape_of_numbers, zero_block}
 use Rattle.ufs_spec.specs.declared.configs.Numbers.{Numbers}
 use Rattle.ufs_spec.specs.declared.flash.Key.{Key}
@@ -103,7 +104,7 @@ pub opened_as : (n : Numbers) (f : Found) (blocks : Blocks) (flights : List (Opt
     live ≡ lives_of_places n places →
     cache ≡ record { slots = n.slots; pages = []; claims = []; frontier = last; last = last } →
     states ≡ map state_of_found f.blocks.items → places ≡ map (option_map stored_of_found) f.contents.items →
-    last ≡ min f.greatest_seen (2 ^ 62) → pins ≡ [] → mending ≡ first_mending f → content ≡ zero_block →
+    last ≡ min f.greatest_seen greatest_number → pins ≡ [] → mending ≡ first_mending f → content ≡ zero_block →
     next ≡ mark_number_behind f → plan ≡ None →
     core_with n blocks flights map_is (without_pins live) cache pins plan mending f.lost.items content next
     ≡ opened n f

@@ -8,6 +8,7 @@ use Rattle.std.proofs.lemmas.Bool.Decides.{nat_tests}
 use Rattle.std.proofs.lemmas.List.{drop_all, get_or-replicate, length-map, length-replicate, take_all}
 use Rattle.std.proofs.lemmas.List.Elements.{All-cons, All-nil}
 use Rattle.std.proofs.lemmas.Option.{get_or_from_slice_get, slice_get-map, slice_get_within}
+use Rattle.ufs_spec.specs.Pages.{greatest_number}
 use Rattle.ufs_spec.specs.Cells.{AreWithin, Cells}
 use Rattle.ufs_spec.specs.Cells as cells
 use Rattle.ufs_spec.specs.Disk as disk
@@ -136,11 +137,11 @@ place_found n contents k i e index at =
 
 ledger_found : (n : Numbers) (f : Found) (t : Translation) → OpensFound n f t → t.ledger.groups ≡ [] →
     t.ledger.frontier ≡ t.ledger.greatest_seen →
-    LedgerKept n (map (option_map stored_of_found) f.contents.items) [] (min f.greatest_seen (2 ^ 62))
-    (min f.greatest_seen (2 ^ 62)) t.ledger
+    LedgerKept n (map (option_map stored_of_found) f.contents.items) [] (min f.greatest_seen greatest_number)
+    (min f.greatest_seen greatest_number) t.ledger
 ledger_found n f t h none still = record {
   frontier = min-eq_left h.seen_within ∙ (h.greatest_seen ∙ sym still);
-  last_given = (let least : min f.greatest_seen (2 ^ 62) ≡ f.greatest_seen = min-eq_left h.seen_within in
+  last_given = (let least : min f.greatest_seen greatest_number ≡ f.greatest_seen = min-eq_left h.seen_within in
       let same = h.greatest_seen in
       let long = ap (λ (gs : List keys.Group). length gs) none in omega (arith, least, same, long));
   pages = pages_none t.ledger.standing (entry_of t.ledger) t.ledger.frontier
@@ -220,10 +221,10 @@ every P all [] = All-nil P
 every P all (x ∷ xs) = All-cons P x xs (all x) (every P all xs)
 
 next_found : (m : Option Mark) (marks : ℕ) → marks ≡ number_of (option_map mark_of m) →
-    number_of (option_map mark_of m) ≤ 2 ^ 62 → number_behind m ≡ suc marks
+    number_of (option_map mark_of m) ≤ greatest_number → number_behind m ≡ suc marks
 next_found None marks e l = omega (arith, e)
 next_found (Some m) marks e l =
-    let least : min m.number (2 ^ 62) ≡ m.number = min-eq_left l in
+    let least : min m.number greatest_number ≡ m.number = min-eq_left l in
     omega (arith, e, least)
 
 none_dropped : {A : Type 0} (xs : List A) → drop 0 xs ≡ xs

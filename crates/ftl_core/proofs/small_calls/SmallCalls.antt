@@ -2,6 +2,7 @@
 use Rattle.std.proofs.Common.{◌≡◌, ◌∙◌, ℕ, ◌+◌, Bool, List, length, drop, refl, sym, ap, arith}
 use Rattle.std.specs.Prelude.{◌-◌, ◌||◌, ◌^◌, nat_lt, count_by, not, slice_get}
 use Rattle.std.proofs.lemmas.Bool.Decides.{nat_tests}
+use Rattle.ufs_spec.specs.Pages.{greatest_number}
 use Rattle.ufs_spec.specs.Disk.{Spot}
 use Rattle.ufs_spec.specs.Ledger as ledger
 use Rattle.ufs_spec.specs.Translation as layer
@@ -24,7 +25,7 @@ lock_same a b x y most e f = (λ i. e i || numbers i)
 pub locks_right : (c : Core) (t : Translation) → Describes c t → is_locked c ≡ layer.is_locked t
 locks_right c t h =
     lock_same c.has_bad (nat_lt 0 (count_by (λ (s : Spot). is_bad (t.disk.blocks s)) (spots t.numbers)))
-    c.last (ledger.next_number t.ledger) (2 ^ 62) h.kept.blocks.bad (numbers_right c t h)
+    c.last (ledger.next_number t.ledger) greatest_number h.kept.blocks.bad (numbers_right c t h)
 
 pub slots_right : (c : Core) (t : Translation) → Describes c t → free_slots c ≡ layer.free_slots t
 slots_right c t h =

@@ -4,6 +4,7 @@ use Rattle.std.proofs.Common.{ap, subst, arith}
 use Rattle.std.specs.Prelude.{◌+◌, ◌^◌, All, drop, if◌then◌else◌, map, nat_le}
 use Rattle.std.proofs.lemmas.List.Elements.{All-tail}
 use Rattle.ufs_spec.proofs.Facts.{false≢true, none-some, same_Some}
+use Rattle.ufs_spec.specs.Pages.{greatest_number}
 use Rattle.ufs_spec.specs.Cells.{Cell, Cells, GroupPage, key_of}
 use Rattle.ufs_spec.specs.Disk as disk
 use Rattle.ufs_spec.specs.Disk.{Spot}
@@ -166,7 +167,7 @@ none_copied cells plan step planned none = record {
 }
 
 marked_plan : (c : Core) (fence : Option Fence) → (mark_ordered c fence).plan ≡ c.plan
-marked_plan c fence = by (nat_le c.next_mark (2 ^ 62))
+marked_plan c fence = by (nat_le c.next_mark greatest_number)
   where
     by : (x : Bool) → (if x then record c {
       step = Some (steps.Mark c.next_mark fence);
@@ -203,7 +204,7 @@ pub mark_turn : (c : Core) (t : Translation) (fence : Option Fence) → Kept c t
     has_mark_number c ≡ true → Kept (mark_ordered c fence) (layer.mark_ordered t fence)
 mark_turn c t fence k none left =
     subst (λ (x : Core). Kept x (layer.mark_ordered t fence))
-    (sym (if_true (nat_le c.next_mark (2 ^ 62))
+    (sym (if_true (nat_le c.next_mark greatest_number)
     (record c { step = Some (steps.Mark c.next_mark fence); next_mark = c.next_mark + 1 }) (record c { step = None })
     left))
     (mark_waits c t fence c.next_mark (t.ledger.marks + 1) k none refl (omega (arith, k.work.next_mark)) refl)

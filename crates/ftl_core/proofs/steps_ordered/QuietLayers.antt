@@ -3,6 +3,7 @@ use Rattle.std.proofs.Common.{◌≡◌, ◌∙◌, ◌⊎◌, ℕ, zero, suc, �
 use Rattle.std.proofs.Common.{length, drop, refl, sym, ap, subst, inl, inr, arith}
 use Rattle.std.specs.Prelude.{◌^◌, if◌then◌else◌, nat_le, nat_lt, is_none, is_some, slice_get}
 use Rattle.std.proofs.lemmas.Bool.Decides.{nat_tests}
+use Rattle.ufs_spec.specs.Pages.{greatest_number}
 use Rattle.ufs_spec.specs.Ledger.{Ledger}
 use Rattle.ufs_spec.specs.Ledger as ledger
 use Rattle.ufs_spec.specs.Translation as layer
@@ -85,13 +86,13 @@ number_left : (next marks most : ℕ) → next ≡ suc marks → nat_le next mos
 number_left next marks most e = grind (arith, nat_tests)
 
 pub mark_number : (c : Core) (t : Translation) → Kept c t → has_mark_number c ≡ layer.has_mark_number t
-mark_number c t k = number_left c.next_mark t.ledger.marks (2 ^ 62) k.work.next_mark
+mark_number c t k = number_left c.next_mark t.ledger.marks greatest_number k.work.next_mark
 
 tests : (a b most : ℕ) → a + 1 ≡ b → nat_lt a most ≡ nat_le b most
 tests a b most e = grind (arith, nat_tests)
 
 pub group_number : (c : Core) (t : Translation) → Describes c t → has_number c ≡ layer.has_number t
-group_number c t h = tests c.last (ledger.next_number t.ledger) (2 ^ 62) (numbers_right c t h)
+group_number c t h = tests c.last (ledger.next_number t.ledger) greatest_number (numbers_right c t h)
 
 pub some_if : {A : Type 0} (b : Bool) (x : A) → b ≡ is_some (if b then Some x else None)
 some_if true x = refl

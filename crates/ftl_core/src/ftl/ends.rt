@@ -9,7 +9,6 @@ ghost use Rattle.ftl_core.specs.Gives.{IsContentOf, IsContentRead, IsReadAfter, 
 ghost use Rattle.ftl_core.specs.Done.{FlightEnds, IsCoreEnded, IsEnded, IsFlightAfter};
 ghost use Rattle.ftl_core.specs.Moves.{claims_for, moved_pin, erased, page_written, went_bad, pin_of, now_stored, stored_of};
 ghost use Rattle.write_cache.specs.Slots.{is_named};
-ghost use Rattle.ufs_spec.specs.Keys.{IsBlock};
 ghost use Rattle.ufs_spec.specs.Moves.{EndJob, Ending, IsEndingOf, MayEnd, moved, suits};
 ghost use Rattle.ufs_spec.specs.Translation.{Translation};
 ghost use Rattle.ufs_spec.specs.Disk.{Reader as WhoReads, Reading};
@@ -20,6 +19,7 @@ ghost use Rattle.page_tag.specs.Jobs.{IsTagOf, IsTagRead};
 ghost use Rattle.ftl_core.specs.Tells.{IsReadOf};
 ghost use Rattle.ftl_core.specs.declared.ftl.Ended.{Ended};
 
+use super::facts::bytes_are_a_block;
 use super::pin_counts::pin_moves;
 use super::{Ended, Ftl, move_live, move_page};
 use crate::books::{Book, Flight, Looked, Mending, Pin, Reader, Step};
@@ -38,12 +38,6 @@ fn names(tag: &Tag, key: Key, number: u64) -> bool
         && tag.number == number
 }
 
-/// A law: 4096 bytes are a block.
-fn one_block(bytes: &[u8])
-    requires { length bytes.now ≡ 4096 }
-    ensures { IsBlock bytes.now }
-{}
-
 /// The block of the page, which was sealed with this tag, where it is the page of this address with this
 /// number.
 fn body_of<'a>(page: &'a Page, tag: &Option<Tag>, key: Key, number: u64) -> Option<&'a Block>
@@ -54,7 +48,7 @@ fn body_of<'a>(page: &'a Page, tag: &Option<Tag>, key: Key, number: u64) -> Opti
     let Some(tag) = tag else {
         return None;
     };
-    one_block(page.body.as_slice());
+    bytes_are_a_block(page.body.as_slice());
     if names(tag, key, number) {
         Some(&page.body)
     } else {

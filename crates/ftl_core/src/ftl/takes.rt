@@ -2,7 +2,7 @@
 ghost use Rattle.std.specs.Prelude.{◌≡◌, ℕ, ◌<◌, ◌≤◌, ◌+◌, ◌^◌, IfNone, IfSome, length, slice_get, slice_set, Some, None};
 ghost use Rattle.std.specs.Prelude.{true, false, if◌then◌else◌, unwrap_or, count_by, find, option_copied, option_map, position};
 ghost use Rattle.std.specs.List.{list_any};
-ghost use Rattle.ufs_spec.specs.Pages.{IsTag};
+ghost use Rattle.ufs_spec.specs.Pages.{IsTag, greatest_number};
 ghost use Rattle.ftl_core.specs.Takes.{block_for, copy_program, core_taken, first_owed, flight_writes, group_job, is_group_page};
 ghost use Rattle.ftl_core.specs.Takes.{is_sealable, is_step_flight, is_step_reading, is_step_there, job_of, job_taken};
 ghost use Rattle.ftl_core.specs.Takes.{lowest_below, mark_program, next_place, owed_flight, owed_read, page_flight};
@@ -21,11 +21,8 @@ use super::Ftl;
 use crate::books::{Book, Flight, Looked, Pin, Reader, Step, Waiting};
 use block_table::{BlockState, OpenBlock};
 use page_tag::{UnsealedJob, mark_body};
-use ufs_spec::{Fence, Job, Key, Place, Tag};
-use write_cache::{LAST_NUMBER, Pending};
-
-/// How many pages a group has at most: a command has as many blocks.
-const MOST_PAGES: u16 = 32;
+use ufs_spec::{Fence, GREATEST_COMMAND, GREATEST_NUMBER, Job, Key, Place, Tag};
+use write_cache::Pending;
 
 /// The position of the first reader who is owed the read of a page of this die.
 fn first_owed(pins: &[Pin], flights: &[Option<Flight>], die: u8) -> Option<usize>
@@ -234,9 +231,9 @@ fn is_group_page(page: &Pending) -> bool
     page.key.kind == Tag::DATA
         && page.key.unit <= 7
         && page.number >= 1
-        && page.number <= LAST_NUMBER
+        && page.number <= GREATEST_NUMBER
         && page.index < page.size
-        && page.size <= MOST_PAGES
+        && page.size <= GREATEST_COMMAND
 }
 
 /// The tag of a group of one page, or of a mark.
@@ -300,13 +297,6 @@ impl Ftl {
         ensures { result ≡ state_of self.now die block }
     {
         self.blocks.state(die, block)
-    }
-
-    /// The configuration has at most 8 units. It does nothing: its contract says so.
-    fn has_few_units(&self)
-        ensures { length self.now.numbers.units.items ≤ 8 }
-    {
-        let _ = &self.config;
     }
 
     /// What is known of the die; `None` if there is no such die.
@@ -448,7 +438,7 @@ impl Ftl {
     /// The program of a mark: the configuration and this fence. Until the device is mended the
     /// frontier is the greatest number seen, which is the last of the fence.
     fn mark_program(&self, place: Place, number: u64, fence: Option<Fence>) -> UnsealedJob
-        requires { (1 ≤ number) × (number ≤ 2 ^ 62) }
+        requires { (1 ≤ number) × (number ≤ greatest_number) }
         ensures { result ≡ mark_program self.now place number fence }
     {
         let key = Key {
@@ -463,7 +453,7 @@ impl Ftl {
 
     /// The program of a repair.
     fn repair_program(&self, place: Place, number: u64, key: Key) -> UnsealedJob
-        requires numbered { (1 ≤ number) × (number ≤ 2 ^ 62) }
+        requires numbered { (1 ≤ number) × (number ≤ greatest_number) }
         requires named { is_sealable key ≡ true }
         ensures { result ≡ repair_program self.now place number key }
     {
@@ -473,7 +463,7 @@ impl Ftl {
 
     /// The program of the repair, if a tag can name its key.
     fn repair_job(&self, place: Place, number: u64, key: Key) -> Option<UnsealedJob>
-        requires { (1 ≤ number) × (number ≤ 2 ^ 62) }
+        requires { (1 ≤ number) × (number ≤ greatest_number) }
         ensures { result ≡ repair_job self.now place number key }
     {
         if is_sealable(&key) {

@@ -7,6 +7,7 @@ ghost use Rattle.ftl_core.specs.Turns.{IsBegunIf, IsCollectionTurnedIf, IsTurned
 ghost use Rattle.block_table.specs.Lives.{spots_in};
 ghost use Rattle.ftl_core.specs.Moves.{repair_ordered};
 ghost use Rattle.ufs_spec.specs.Moves.{TakeStep, moved};
+ghost use Rattle.ufs_spec.specs.Pages.{greatest_number};
 ghost use Rattle.ufs_spec.specs.Translation.{Translation, is_step_due};
 ghost use Rattle.ftl_core.specs.Describes.{Describes};
 ghost use Rattle.ftl_core.specs.Stops.{StopsRight};
@@ -14,8 +15,7 @@ ghost use Rattle.ftl_core.specs.Stops.{StopsRight};
 use super::{Ftl, zeros};
 use crate::books::{Mending, Step};
 use collector::{PlanStep, PlannedCopy};
-use ufs_spec::{Fence, Key};
-use write_cache::LAST_NUMBER;
+use ufs_spec::{Fence, GREATEST_NUMBER, Key};
 
 impl Ftl {
     /// Does one step of the mending or of collection, if one is due: it orders a mark, a repair or a copy.
@@ -59,7 +59,7 @@ impl Ftl {
         ensures due { result ≡ is_begin_due self.old }
         ensures after { IsBegunIf self.old result self.new }
     {
-        if self.next_mark > LAST_NUMBER || !self.wants_collection() {
+        if self.next_mark > GREATEST_NUMBER || !self.wants_collection() {
             return false;
         }
         self.plan_victim()
@@ -127,10 +127,10 @@ impl Ftl {
 
     /// Orders a mark with this fence, where a number is left.
     fn turn_mark(&mut self, fence: Option<Fence>) -> bool
-        ensures due { result ≡ nat_le self.old.next_mark (2 ^ 62) }
+        ensures due { result ≡ nat_le self.old.next_mark greatest_number }
         ensures after { self.new ≡ (if result then mark_ordered self.old fence else self.old) }
     {
-        if self.next_mark > LAST_NUMBER {
+        if self.next_mark > GREATEST_NUMBER {
             return false;
         }
         self.order_mark(fence);
@@ -163,7 +163,7 @@ impl Ftl {
     pub(super) fn order_mark(&mut self, fence: Option<Fence>)
         ensures { self.new ≡ mark_ordered self.old fence }
     {
-        if self.next_mark <= LAST_NUMBER {
+        if self.next_mark <= GREATEST_NUMBER {
             self.step = Some(Step::Mark {
                 number: self.next_mark,
                 fence,

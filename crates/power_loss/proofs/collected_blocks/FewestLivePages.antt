@@ -11,6 +11,7 @@ use Rattle.power_loss.proofs.Common.{is_mended, is_pinned, is_step_due, live_pla
 use Rattle.power_loss.proofs.Common.{spots, stepped, turned, victim, victim_order, wants_collection, with_plan, Place}
 use Rattle.power_loss.proofs.MachineWords.{IsBefore}
 use Rattle.std.proofs.Common.{nat_lt}
+use Rattle.ufs_spec.specs.Pages.{greatest_number}
 use Rattle.ufs_spec.specs.Stages.{most_bad}
 use Rattle.ufs_spec.specs.Translation.{count_blocks, gains, is_bad, is_bad_with_live}
 use Rattle.ufs_spec.specs.Translation.{least_of, live_count}
@@ -293,16 +294,16 @@ begins t d =
 
 -- The lock
 
-pub locks : (t : Translation) → (most_bad t.numbers < count_blocks t is_bad) ⊎ (2 ^ 62 < next_number t.ledger) →
+pub locks : (t : Translation) → (most_bad t.numbers < count_blocks t is_bad) ⊎ (greatest_number < next_number t.ledger) →
     is_locked t ≡ true
 locks t h = ⊎_elim
-    (λ k. or_left (nat_lt (most_bad t.numbers) (count_blocks t is_bad)) (nat_lt (2 ^ 62) (next_number t.ledger))
+    (λ k. or_left (nat_lt (most_bad t.numbers) (count_blocks t is_bad)) (nat_lt greatest_number (next_number t.ledger))
     (lt-ltb (most_bad t.numbers) (count_blocks t is_bad) k))
-    (λ k. or_right (nat_lt (most_bad t.numbers) (count_blocks t is_bad)) (nat_lt (2 ^ 62) (next_number t.ledger))
-    (lt-ltb (2 ^ 62) (next_number t.ledger) k)) h
+    (λ k. or_right (nat_lt (most_bad t.numbers) (count_blocks t is_bad)) (nat_lt greatest_number (next_number t.ledger))
+    (lt-ltb greatest_number (next_number t.ledger) k)) h
 
 pub locks_only : (t : Translation) → is_locked t ≡ true → (most_bad t.numbers < count_blocks t is_bad)
-    ⊎ (2 ^ 62 < next_number t.ledger)
+    ⊎ (greatest_number < next_number t.ledger)
 locks_only t h = ⊎_elim (λ k. inl (ltb-true (most_bad t.numbers) (count_blocks t is_bad) k))
-    (λ k. inr (ltb-true (2 ^ 62) (next_number t.ledger) k))
-    (or_cases (nat_lt (most_bad t.numbers) (count_blocks t is_bad)) (nat_lt (2 ^ 62) (next_number t.ledger)) h)
+    (λ k. inr (ltb-true greatest_number (next_number t.ledger) k))
+    (or_cases (nat_lt (most_bad t.numbers) (count_blocks t is_bad)) (nat_lt greatest_number (next_number t.ledger)) h)

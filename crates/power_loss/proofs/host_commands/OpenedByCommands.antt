@@ -12,6 +12,7 @@ use Rattle.power_loss.proofs.MachineWords.{tag_in, unit_or_first, with_moves, wi
 use Rattle.power_loss.proofs.MachineWords.{Request, State, numbers_of, operation_in, refusal, unit_of_request, UnitSpec}
 use Rattle.power_loss.proofs.MachineWords.{Message, Cdb, DeedFits, IsTied, ShortFits, WriteFits}
 use Rattle.std.specs.Prelude.{if◌then◌else◌}
+use Rattle.ufs_spec.specs.Exchanges.{most_short_exchanges}
 use Rattle.ufs_spec.specs.Machine.{in_use}
 use Rattle.ufs_spec.specs.Machine.{opening_fault}
 use Rattle.ufs_spec.specs.Machine.{data_begun}
@@ -38,7 +39,7 @@ pub is_free : (s : State) (tag : ℕ) (short : Bool) → opening_fault s tag sho
 is_free s tag short h = by (in_use s tag) refl h
   where
     by : (b : Bool) → in_use s tag ≡ b →
-        (if b then Some TagInUse else if short && nat_le 32 (length s.shorts) then Some Backlog else None) ≡ None →
+        (if b then Some TagInUse else if short && nat_le most_short_exchanges (length s.shorts) then Some Backlog else None) ≡ None →
         IsFree s tag
     by true e k = absurd (none-some TagInUse (sym k))
     by false e k =

@@ -17,6 +17,8 @@ use Rattle.power_loss.proofs.Common.{StepKindRight, Valid, program_unread as pro
 use Rattle.power_loss.proofs.MachineWords.{IsConfig, BookFits, EntryFits}
 use Rattle.std.specs.Prelude.{if◌then◌else◌, slice_get}
 use Rattle.std.proofs.lemmas.Bool.{ltb-true}
+use Rattle.ufs_spec.specs.Pages.{group_bound}
+use Rattle.ufs_spec.specs.Pages.{greatest_number}
 use Rattle.ufs_spec.specs.Ledger.{entry_of}
 use Rattle.ufs_spec.specs.Translation.{IsOwed}
 use Rattle.power_loss.proofs.moves.MovesKeepValid.{all_keep}
@@ -44,7 +46,7 @@ pub record Fits (t : Translation) : Type 0 where
   pub valid : Valid t
   pub book_fits : BookFits (book t)
   pub programs : ProgramsFit t.disk.flights
-  pub marks : t.ledger.marks ≤ 2 ^ 62
+  pub marks : t.ledger.marks ≤ greatest_number
   pub repaired : is_mended t.work.mending ≡ true → before_accepted t.ledger ≤ t.ledger.frontier
   pub base : BaseFits t.numbers t.ledger.base
 
@@ -83,7 +85,7 @@ effect_programs t e h = subst ProgramsFit (sym (effect_flights t e)) (left (die_
 -- What leaves the numbers and contents of the book
 
 light : {t u : Translation} → Fits t → Valid u → book u ≡ book t → ProgramsFit u.disk.flights →
-    u.ledger.marks ≤ 2 ^ 62 → (is_mended u.work.mending ≡ true → before_accepted u.ledger ≤ u.ledger.frontier) → Fits u
+    u.ledger.marks ≤ greatest_number → (is_mended u.work.mending ≡ true → before_accepted u.ledger ≤ u.ledger.frontier) → Fits u
 light {t} {u} f v b programs marks repaired = record {
   config = subst IsConfig (sym (ap (λ (x : Book). x.numbers) b)) f.config;
   valid = v;
@@ -100,7 +102,7 @@ abbrev pub ItemsFit : Group → Type 0
 ItemsFit g = (i : ℕ) (item : Item) → slice_get g i ≡ Some item → IsBlock item.body
     × (item.key.kind ≡ 3 → IsSettingsBody item.body)
 
-group_fits : {b : Book} (g : Group) → BookFits b → length g ≤ 32 → ItemsFit g → last_number b + 1 ≤ 2 ^ 62 →
+group_fits : {b : Book} (g : Group) → BookFits b → length g ≤ group_bound → ItemsFit g → last_number b + 1 ≤ greatest_number →
     BookFits (grown b g)
 group_fits {b} g f few items fit = record {
   entries = λ n i e is. ⊎_elim (f.entries n i e) (added n i e) (page_splits b g n i e is);
@@ -120,7 +122,7 @@ accepts_fit : {t : Translation} (claimed : ℕ) (g : Group) → Fits t → IsAll
     Fits (moved t (Accept claimed g))
 accepts_fit {t} claimed g f may = assumption (
   all_keep t (Accept claimed g) f.valid may,
-  group_fits g f.book_fits may.4.not_long items (leb-true (next_number t.ledger) (2 ^ 62) may.1),
+  group_fits g f.book_fits may.4.not_long items (leb-true (next_number t.ledger) greatest_number may.1),
 )
   where
     items : ItemsFit g
@@ -173,7 +175,7 @@ fence_fits fits h =
 
 records_fit : {t : Translation} (fence : Option Fence) → Fits t →
     ((f : Fence) → fence ≡ Some f → (f.first ≡ t.ledger.first_lost) × (f.last ≡ t.ledger.greatest_seen)
-    × (t.ledger.first_lost ≤ t.ledger.greatest_seen)) → records_now t.ledger fence ≤ 2 ^ 62
+    × (t.ledger.first_lost ≤ t.ledger.greatest_seen)) → records_now t.ledger fence ≤ greatest_number
 records_fit None f h = let w = f.valid.frontier.within in let l = f.book_fits.last in omega arith
 records_fit (Some fence) f h = let l = f.book_fits.last in let e = (h fence refl).1 in omega arith
 
@@ -245,8 +247,8 @@ mark_repaired {t} (Repairing left) v h r known =
     other number fence name from e = cc
 mark_repaired Mended v h r known = known refl
 
-numbered : (t : Translation) → has_mark_number t ≡ true → t.ledger.marks + 1 ≤ 2 ^ 62
-numbered t h = let lt = ltb-true t.ledger.marks (2 ^ 62) h in omega arith
+numbered : (t : Translation) → has_mark_number t ≡ true → t.ledger.marks + 1 ≤ greatest_number
+numbered t h = let lt = ltb-true t.ledger.marks greatest_number h in omega arith
 
 repairs_fit : {t : Translation} (k : Key) (left : List Key) → Fits t → t.work.mending ≡ Repairing (k ∷ left) →
     has_number t ≡ true → Valid (repair_ordered t k left) → Fits (repair_ordered t k left)
@@ -254,7 +256,7 @@ repairs_fit {t} k left f w number v = record {
   config = f.config;
   valid = v;
   book_fits = group_fits (record { key = k; body = t.ledger.base k } ∷ []) f.book_fits (omega arith) items
-      (leb-true (next_number t.ledger) (2 ^ 62) number);
+      (leb-true (next_number t.ledger) greatest_number number);
   programs = f.programs;
   marks = f.marks;
   repaired = λ h. absurd (false≢true h);

@@ -6,6 +6,7 @@ use Rattle.power_loss.proofs.Common.{IsAtMost, number_of, CellsSound, Translatio
 use Rattle.power_loss.proofs.Common.{CellsRight, book, last_number}
 use Rattle.power_loss.proofs.MachineWords.{BookFits, EntryFits, IsArrayOf}
 use Rattle.ufs_laws.proofs.pages.BlankPages.{blank_is_nothing}
+use Rattle.ufs_spec.specs.Pages.{greatest_number}
 use Rattle.ufs_spec.specs.Cells.{IsMarkBody}
 use Rattle.power_loss.proofs.openings.OpenedByName.{OldPage, Opened, low_cases, old_page, only_old}
 
@@ -33,27 +34,27 @@ cells_within c blank shows p out = blank_is_nothing (c p) (subst (λ page. IsCel
 
 -- no frontier that a mark records, and no number of one, is above 2^62
 mark_fits : (array : Array) (c : Cells) {p : Place} (m : Mark) → Shows array c → c p ≡ MarkPage m →
-    (m.records ≤ 2 ^ 62) × (m.number ≤ 2 ^ 62)
+    (m.records ≤ greatest_number) × (m.number ≤ greatest_number)
 mark_fits array c {p} m shows e = let is = mark_opens array c p m shows e in
     (is.1.tag_right.frontier_fits, is.1.tag_right.number_given.1)
 
 recorded_fits : (array : Array) (c : Cells) (m : Option Mark) → Shows array c → IsNewestMark c m →
-    recorded_in m ≤ 2 ^ 62
+    recorded_in m ≤ greatest_number
 recorded_fits array c None shows newest = omega arith
 recorded_fits array c (Some m) shows newest = (mark_fits array c m shows newest.0.1).0
 
 pub number_fits : (array : Array) (c : Cells) (m : Option Mark) → Shows array c → IsNewestMark c m →
-    number_of m ≤ 2 ^ 62
+    number_of m ≤ greatest_number
 number_fits array c None shows newest = omega arith
 number_fits array c (Some m) shows newest = (mark_fits array c {p = newest.0.0} m shows newest.0.1).1
 
 pub all_fit : (array : Array) {c : Cells} {m : Option Mark} → Shows array c → CellsSound c m → IsNewestMark c m →
-    IsAtMost c m (2 ^ 62)
+    IsAtMost c m greatest_number
 all_fit array {c} {m} shows sound newest = record {
   numbers = λ p t body e. let is = group_opens array c shows e in is.0.tag_right.number_given.1;
   frontiers = λ p t body e. let is = group_opens array c shows e in is.0.tag_right.frontier_fits;
   marks = λ p other e. (mark_fits array c other shows e).0;
-  fence = λ f e. subst (λ n. n ≤ 2 ^ 62) (sound.fence f e) (recorded_fits array c m shows newest);
+  fence = λ f e. subst (λ n. n ≤ greatest_number) (sound.fence f e) (recorded_fits array c m shows newest);
 }
 
 -- the last number of the newest mark's fence is a number
@@ -86,14 +87,14 @@ module _ (array : Array) (bad : Spot → Bool) (t : Translation) (o : Opened bad
         omega arith,
       )
 
-  top_fits : t.ledger.greatest_seen ≤ 2 ^ 62
-  top_fits = o.start.ledger.greatest_seen.1 (2 ^ 62) (all_fit array shows o.sound o.start.ledger.newest)
+  top_fits : t.ledger.greatest_seen ≤ greatest_number
+  top_fits = o.start.ledger.greatest_seen.1 greatest_number (all_fit array shows o.sound o.start.ledger.newest)
 
-  last_fits : last_number (book t) ≤ 2 ^ 62
+  last_fits : last_number (book t) ≤ greatest_number
   last_fits =
       let none = ap length o.start.ledger.none_new in
       let same : t.ledger.greatest_seen ≡ last_number (book t) = omega arith in
-      subst (λ n. n ≤ 2 ^ 62) same top_fits
+      subst (λ n. n ≤ greatest_number) same top_fits
 
   lost_some : t.ledger.first_lost ≤ t.ledger.greatest_seen → 1 ≤ t.ledger.greatest_seen
   lost_some lost = ⊎_elim

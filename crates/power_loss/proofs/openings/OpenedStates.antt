@@ -13,6 +13,7 @@ use Rattle.power_loss.proofs.openings.OpenedByName.{Opened, opened}
 use Rattle.power_loss.proofs.openings.OpenedIsValid.{opening_valid}
 use Rattle.power_loss.proofs.die_pages.PageRulesHold.{opened_hold}
 use Rattle.power_loss.proofs.calls.CallsLeaveTheDevice.{opened_inside}
+use Rattle.ufs_spec.specs.Pages.{greatest_number}
 
 -- No tasks
 
@@ -90,8 +91,8 @@ module _ (n : Numbers) (array : Array) (bad : Spot → Bool) (s : State) (config
   groups_is = none_left s.translation.ledger.repairs s.translation.ledger.groups h.translation.ledger.none_new
       ∙ sym (ap (groups_of s.base) h.none_accepted)
 
-  marks_is : s.translation.ledger.marks ≤ 2 ^ 62
-  marks_is = subst (λ k. k ≤ 2 ^ 62) (sym h.translation.ledger.marks)
+  marks_is : s.translation.ledger.marks ≤ greatest_number
+  marks_is = subst (λ k. k ≤ greatest_number) (sym h.translation.ledger.marks)
       (number_fits array h.cells s.translation.ledger.newest h.shown h.translation.ledger.newest)
 
   repaired_is : is_mended s.translation.work.mending ≡ true →

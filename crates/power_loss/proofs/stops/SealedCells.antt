@@ -14,6 +14,7 @@ use Rattle.std.proofs.Math.Nat.{mul-le-mul_right}
 use Rattle.ufs_laws.proofs.pages.BlankPages.{nothing_is_blank}
 use Rattle.ufs_laws.proofs.pages.ByteLists.{bytes-append, bytes-cons, bytes-filled, bytes-nil, bytes-number}
 use Rattle.ufs_laws.proofs.pages.ByteLists.{bytes-zeros, length-filled}
+use Rattle.ufs_spec.specs.Pages.{greatest_number}
 use Rattle.ufs_spec.specs.Cells.{NumbersFit, UnitFits}
 use Rattle.ufs_spec.specs.Configs.{InRange, UnitInRange}
 use Rattle.ufs_spec.specs.Pages.{IsTag, fence_bytes, mark_bytes, numbers_bytes, seal_page, unit_bytes}
@@ -100,7 +101,7 @@ number_within {b} {n} i e r is = ⊎_elim old new (cases_Bool (nat_le n b.greate
 
 entry_tag : {n : Numbers} {name : Name} {e : Entry} {frontier last : ℕ} → InRange n →
     IsKey (shape_of_numbers n) e.item.key → EntryFits e name.index → 1 ≤ name.number → name.number ≤ last →
-    frontier ≤ last → last ≤ 2 ^ 62 → IsTag (tag_of name e frontier)
+    frontier ≤ last → last ≤ greatest_number → IsTag (tag_of name e frontier)
 entry_tag r key fits some number reach l =
     let k = key_ranges r key in
     record {
@@ -118,7 +119,7 @@ entry_tag r key fits some number reach l =
 
 entry_cell : {n : Numbers} {name : Name} {e : Entry} {frontier last : ℕ} → InRange n →
     IsKey (shape_of_numbers n) e.item.key → EntryFits e name.index → 1 ≤ name.number → name.number ≤ last →
-    frontier ≤ last → last ≤ 2 ^ 62 → IsCell (seal_page (tag_of name e frontier) e.item.body)
+    frontier ≤ last → last ≤ greatest_number → IsCell (seal_page (tag_of name e frontier) e.item.body)
     (GroupPage (tag_of name e frontier) e.item.body)
 entry_cell r key fits some number reach l =
     let k = key_ranges r key in (
@@ -222,7 +223,7 @@ mark_is_block {n} f fit =
       bytes-filled 4096 (fence_bytes f ++ numbers_bytes n ++ flat_map unit_bytes n.units.items) bytes,
     )
 
-mark_is_tag : (m : Mark) → 1 ≤ m.number → m.number ≤ 2 ^ 62 → m.records ≤ 2 ^ 62 → IsTag (mark_tag m)
+mark_is_tag : (m : Mark) → 1 ≤ m.number → m.number ≤ greatest_number → m.records ≤ greatest_number → IsTag (mark_tag m)
 mark_is_tag m some number records = record {
   kind_known = (omega arith, omega arith);
   unit_known = omega arith;
@@ -237,7 +238,7 @@ mark_is_tag m some number records = record {
 }
 
 pub mark_cell : (m : Mark) → InRange m.numbers → ((f : Fence) → m.fence ≡ Some f → IsFence f) → 1 ≤ m.number →
-    m.number ≤ 2 ^ 62 → m.records ≤ 2 ^ 62 → IsCell (page_of (MarkPage m)) (MarkPage m)
+    m.number ≤ greatest_number → m.records ≤ greatest_number → IsCell (page_of (MarkPage m)) (MarkPage m)
 mark_cell m r fence some number records =
     let fit = numbers_fit r in (
       mark_bytes m.numbers m.fence,

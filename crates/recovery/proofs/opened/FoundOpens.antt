@@ -2,6 +2,7 @@
 use Rattle.std.proofs.Common.{◌≡◌, ◌==◌, suc, ◌∙◌, ℕ, ◌≤◌, ◌^◌, Bool, List, Option, Some, None, refl, ap, arith, subst}
 use Rattle.std.proofs.Common.{sym}
 use Rattle.std.specs.Prelude.{slice_get, slice_index}
+use Rattle.ufs_spec.specs.Pages.{greatest_number}
 use Rattle.ufs_spec.specs.Cells.{Cells, Mark}
 use Rattle.ufs_spec.specs.Disk.{BlockState, Bad, Closed, Filling, Free, Spot}
 use Rattle.ufs_spec.specs.Keys.{IsSettings, settings_key}
@@ -33,18 +34,18 @@ top_one : (c : Cells) (m : Option Mark) (x y : ℕ) → IsTop c m x → IsTop c 
 top_one c m x y h g = let l = h.1 y g.0 in let r = g.1 x h.0 in omega (arith, l, r)
 
 -- a newest mark's numbers are in range
-marked : (c : Cells) (m : Option Mark) → AreInRange c → IsNewestMark c m → (number_of m ≤ 2 ^ 62) ×
-    (recorded_in m ≤ 2 ^ 62)
+marked : (c : Cells) (m : Option Mark) → AreInRange c → IsNewestMark c m → (number_of m ≤ greatest_number) ×
+    (recorded_in m ≤ greatest_number)
 marked c None range newest = (omega arith, omega arith)
 marked c (Some m) range newest = range.marks newest.0.0 m newest.0.1
 
 -- no number that was seen is above the greatest
-seen_at_most : (c : Cells) (m : Option Mark) → AreInRange c → CellsSound c m → IsNewestMark c m → IsAtMost c m (2 ^ 62)
+seen_at_most : (c : Cells) (m : Option Mark) → AreInRange c → CellsSound c m → IsNewestMark c m → IsAtMost c m greatest_number
 seen_at_most c m range sound newest = record {
   numbers = λ p t body e. (range.pages p t body e).0;
   frontiers = λ p t body e. (range.pages p t body e).1;
   marks = λ p other e. (range.marks p other e).1;
-  fence = λ f e. subst (λ (x : ℕ). x ≤ 2 ^ 62) (sound.fence f e) (marked c m range newest).1;
+  fence = λ f e. subst (λ (x : ℕ). x ≤ greatest_number) (sound.fence f e) (marked c m range newest).1;
 }
 
 -- Blocks
@@ -130,7 +131,7 @@ module _ (n : Numbers) (c : Cells) (bad : Spot → Bool) (f : Found) (t : Transl
     marks = opened.ledger.marks ∙ ap number_of (sym same_newest);
     marks_within = (marked c (newest_found f) found.in_range found.newest).0;
     greatest_seen = same_top;
-    seen_within = top_there.1 (2 ^ 62)
+    seen_within = top_there.1 greatest_number
         (seen_at_most c t.ledger.newest found.in_range sound opened.ledger.newest);
     first_lost = same_low;
     contents = content_there;

@@ -2,6 +2,7 @@
 use Rattle.std.proofs.Common.{◌≡◌, ◌∙◌, ◌≤◌, ◌^◌, ℕ, Bool, List, length, map, Some, slice_get, ap, subst, sym}
 use Rattle.std.proofs.Common.{⊎_elim, arith}
 use Rattle.std.proofs.lemmas.List.{length-map}
+use Rattle.ufs_spec.specs.Pages.{greatest_number}
 use Rattle.ufs_spec.specs.Cells.{Array, Cells, GroupPage, IsCell, Mark, MarkPage, Shows}
 use Rattle.ufs_spec.specs.Dies.{DieState}
 use Rattle.ufs_spec.specs.Disk.{Spot}
@@ -35,10 +36,10 @@ shown_in_range array c shown = record {
 }
 
 pub frontiers_fit : (n : Numbers) (array : Array) (t : Table) → IsTableOf n array t → (i : ℕ) (e : FoundPage) →
-    slice_get t.pages.items i ≡ Some e → e.tag.frontier ≤ 2 ^ 62
+    slice_get t.pages.items i ≡ Some e → e.tag.frontier ≤ greatest_number
 frontiers_fit n array t h i e at = let x = shown_cells array in ((h x.0 x.1).pages.tags i e at).0.frontier_fits
 
-pub records_fit : (n : Numbers) (array : Array) (t : Table) → IsTableOf n array t → t.recorded ≤ 2 ^ 62
+pub records_fit : (n : Numbers) (array : Array) (t : Table) → IsTableOf n array t → t.recorded ≤ greatest_number
 records_fit n array t h =
     let x = shown_cells array in
     ⊎_elim
@@ -47,7 +48,7 @@ records_fit n array t h =
     (h x.0 x.1).recorded.1
   where
     within : (p : Place) (m : Mark) → (shown_cells array).0 p ≡ MarkPage m → m.records ≡ t.recorded →
-        t.recorded ≤ 2 ^ 62
+        t.recorded ≤ greatest_number
     within p m is same =
         let cell : IsCell (array p) (MarkPage m) = subst (IsCell (array p)) is ((shown_cells array).1 p) in
         let fits = cell.1.tag_right.frontier_fits in

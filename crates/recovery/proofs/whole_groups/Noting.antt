@@ -9,6 +9,7 @@ use Rattle.std.proofs.lemmas.List.{append-nil, drop_all, set_past, take_all}
 use Rattle.std.proofs.lemmas.Option.{none-some, same_Some}
 use Rattle.ufs_spec.proofs.Facts.{or_with_false}
 use Rattle.ufs_spec.proofs.Lists.{set_here, set_length, set_other}
+use Rattle.ufs_spec.specs.Pages.{group_bound}
 use Rattle.ufs_spec.specs.Pages.{IsTag}
 use Rattle.ufs_spec.specs.declared.flash.Tag.{Tag}
 use Rattle.recovery.proofs.greatest_numbers.Among.{among_before, among_last, among_more, among_none}
@@ -131,9 +132,9 @@ module _ (pages : List FoundPage) (i n : ℕ) (b : Bucket) (e : FoundPage) (at :
 
     index_fits : e.tag.index < length b.seen
     index_fits =
-        let room : length b.seen ≡ 32 = h.room in
+        let room : length b.seen ≡ group_bound = h.room in
         let below : e.tag.index < e.tag.size = tag.index_in_group in
-        let long : e.tag.size ≤ 32 = tag.group_not_long.1 in
+        let long : e.tag.size ≤ group_bound = tag.group_not_long.1 in
         omega arith
 
     new_seen : (k : ℕ) → slice_get (slice_set b.seen e.tag.index true) k ≡ Some true →
@@ -179,7 +180,7 @@ none_noted pages n = record {
   some = λ some. absurd (some refl);
   same = λ same x k. absurd (among_none pages x k.0);
   differ = λ differ. absurd (false≢true differ);
-  seen = λ k is. absurd (none_seen 32 k is);
+  seen = λ k is. absurd (none_seen group_bound k is);
   all = λ x k. absurd (among_none pages x k.0);
   room = refl;
 }

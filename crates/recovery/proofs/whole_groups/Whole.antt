@@ -5,6 +5,7 @@ use Rattle.std.specs.Prelude.{slice_get}
 use Rattle.std.proofs.lemmas.Bool.{cases_lt, false_from_ne_true}
 use Rattle.std.proofs.lemmas.Option.{slice_get_within}
 use Rattle.ufs_spec.proofs.Lists.{get_there}
+use Rattle.ufs_spec.specs.Pages.{greatest_number}
 use Rattle.ufs_spec.specs.Cells.{Cells, Mark}
 use Rattle.ufs_spec.specs.Kept.{HasPage, IsKept, IsRecorded, IsWhole}
 use Rattle.recovery.proofs.greatest_numbers.Among.{among_all}
@@ -75,10 +76,10 @@ module _ (c : Cells) (pages : List FoundPage) (listed : AreListed c pages) where
   numbered : (n : ℕ) → IsWhole c n → (j : ℕ) × (e : FoundPage) × (slice_get pages j ≡ Some e) × (e.tag.number ≡ n)
   numbered n whole = let r = found n 0 (whole.each 0 whole.some) in (r.0, r.1, r.2, r.3)
 
-  none_above : (n : ℕ) → 2 ^ 62 < n → IsWhole c n → ⊥
+  none_above : (n : ℕ) → greatest_number < n → IsWhole c n → ⊥
   none_above n more whole =
       let r = numbered n whole in
-      let fits : r.1.tag.number ≤ 2 ^ 62 = (tags_of r.0 r.1 r.2).number_given.1 in
+      let fits : r.1.tag.number ≤ greatest_number = (tags_of r.0 r.1 r.2).number_given.1 in
       let is : r.1.tag.number ≡ n = r.3 in
       absurd (omega arith)
 
@@ -127,16 +128,16 @@ module _ (c : Cells) (pages : List FoundPage) (listed : AreListed c pages) where
         let is : count ≡ k = omega arith in subst (λ (x : ℕ). IsWhole c (suc (from + x))) is last)
         (cases_lt k count)
 
-    all_whole : from ≤ 2 ^ 62 → count ≡ length buckets → IsWhole c (suc (from + count)) → ⊥
+    all_whole : from ≤ greatest_number → count ≡ length buckets → IsWhole c (suc (from + count)) → ⊥
     all_whole fits all last =
-        let counted : length buckets ≡ min (length pages) (2 ^ 62 - from) = are.count in
+        let counted : length buckets ≡ min (length pages) (greatest_number - from) = are.count in
         ⊎_elim (λ (l : count < length pages). none_above (suc (from + count)) (omega arith) last)
         (λ (r : length pages ≤ count).
         let is : count ≡ length pages = omega arith in
         no_more from (λ k less. one_more last k (subst (λ (x : ℕ). k < suc x) (sym is) less)))
         (cases_lt count (length pages))
 
-    pub kept_of : ((b : Bucket) → slice_get buckets count ≡ Some b → IsWholeBucket b → ⊥) → from ≤ 2 ^ 62 →
+    pub kept_of : ((b : Bucket) → slice_get buckets count ≡ Some b → IsWholeBucket b → ⊥) → from ≤ greatest_number →
         IsRecorded c m from → IsKept c m (from + count)
     kept_of stops fits recorded = record {
       from = from;

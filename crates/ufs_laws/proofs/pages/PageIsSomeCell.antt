@@ -1,6 +1,8 @@
 -- A page is some cell.
 use Rattle.std.proofs.Common.{◌≡◌, ℕ, ◌≤◌, ◌^◌, List, ◌++◌, refl, sym, ap, subst, arith}
 use Rattle.std.proofs.Math.Decide.{dec_le, dec_lt, map_dec, ℕ_discrete}
+use Rattle.ufs_spec.specs.Pages.{group_bound}
+use Rattle.ufs_spec.specs.Pages.{greatest_number}
 use Rattle.ufs_spec.specs.Cells.{Cell, DataHold, GroupPage, IsCell, Mark, MarkPage, Nothing, Opens, mark_tag}
 use Rattle.ufs_spec.specs.Pages.{IsTag, check_of, spare_front, tag_in}
 use Rattle.ufs_spec.specs.declared.flash.Page.{Page}
@@ -43,8 +45,8 @@ is_tag t =
     (dec_and (dec_lt t.unit 8) (dec_implies (dec_le 2 t.kind) (ℕ_discrete t.unit 0))))
     (dec_and
     (dec_and (dec_lt t.address (2 ^ 32)) (dec_implies (dec_le 3 t.kind) (ℕ_discrete t.address 0)))
-    (dec_and (dec_and (dec_between 1 (2 ^ 62) t.number) (dec_le t.frontier (2 ^ 62)))
-    (dec_and (dec_between 1 32 t.size) (dec_lt t.index t.size)))))
+    (dec_and (dec_and (dec_between 1 greatest_number t.number) (dec_le t.frontier greatest_number))
+    (dec_and (dec_between 1 group_bound t.size) (dec_lt t.index t.size)))))
 
 -- whether a page opens to a tag and its own block
 opens : (page : Page) (t : Tag) → Dec (Opens page t page.body)

@@ -9,20 +9,20 @@ pub returns-in-Some-mark_in : goal.returns-in-Some-mark_in
 returns-in-Some-mark_in c =
     let sealed = c.in-Some.ensures.sealed in
     let said = c.in-Some-mark_in.ensures.mark in
-    is_mark_page c.args.page.now c.in-Some.opened.tag c.in-Some.opened.body sealed.0 sealed.1 c.one_block.ensures
+    is_mark_page c.args.page.now c.in-Some.opened.tag c.in-Some.opened.body sealed.0 sealed.1 c.bytes_are_a_block.ensures
     (mark_of c.in-Some-mark_in.mark) c.if-opened-eq-MARK.true said.0 said.1 said.2
 
 pub returns-in-None : goal.returns-in-None
 returns-in-None c =
     let sealed = c.in-Some.ensures.sealed in
-    no_mark c.args.page.now c.in-Some.opened.tag c.in-Some.opened.body sealed.0 sealed.1 c.one_block.ensures
+    no_mark c.args.page.now c.in-Some.opened.tag c.in-Some.opened.body sealed.0 sealed.1 c.bytes_are_a_block.ensures
     c.if-opened-eq-MARK.true (c.mark_in.ensures.none c.in-None.is)
 
 pub returns : goal.returns
 returns c =
     let sealed = c.in-Some.ensures.sealed in
     let group = is_group_page c.args.page.now c.in-Some.opened.tag c.in-Some.opened.body sealed.0 sealed.1
-    c.one_block.ensures c.if-opened-eq-MARK.false in
+    c.bytes_are_a_block.ensures c.if-opened-eq-MARK.false in
     elim c.else-opened-eq-SETTINGS.branch [
       | goal.else-opened-eq-SETTINGS-via-then-opened-eq-SETTINGS+else-not-is_settings_body w ↦
           group (λ _. w.is_settings_body.ensures.0 w.if-not-is_settings_body.false)

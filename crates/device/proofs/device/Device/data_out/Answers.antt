@@ -1,7 +1,7 @@
 use Rattle.std.proofs.Common.{◌∙◌, refl, sym, subst, ap}
 use Rattle.std.specs.Prelude.{Option, Ok}
 use Rattle.device.specs.Calls.{lock_told}
-use Rattle.device.specs.Hears.{IsDataHeard, with_phase}
+use Rattle.device.specs.Hears.{IsDataHeard, with_event}
 use Rattle.task_set.specs.declared.tasks.AskedFor.{AskedFor}
 use Rattle.device.proofs.described.SameDevice.{same_layer}
 use Rattle.device.proofs.device.Device.data_out.Goals as goal
@@ -18,8 +18,8 @@ returns-clause-heard c =
         taken = c.gather-event.ensures.taken;
         told =
             λ t h.
-            c.end_waiting.ensures t (same_layer c.set_phase.new.self _ t c.set_phase.ensures h)
-            ∙ ap (lock_told t) (c.set_phase.ensures
-            ∙ (λ i. with_phase (c.gather-event.ensures.left i) c.in-Some.asked.index (c.after.ensures i)));
+            c.end_waiting.ensures t (same_layer c.happen.new.self _ t c.happen.ensures h)
+            ∙ ap (lock_told t) (c.happen.ensures
+            ∙ (λ i. with_event (c.gather-event.ensures.left i) c.in-Some.asked.index c.gather-event.result));
       },
     )

@@ -4,12 +4,13 @@ use Rattle.recovery.proofs.kept.Bucket.note.Goals as goal
 use Rattle.recovery.proofs.kept.Bucket.note.Goals.{Else-index-lt-LONGEST_GROUP}
 use Rattle.recovery.proofs.kept.Bucket.note.Goals.{else-self-eq0+else-self-tag, else-self-eq0+then-self-tag}
 use Rattle.recovery.proofs.kept.Bucket.note.Goals.{then-self-eq0}
+use Rattle.ufs_spec.specs.Pages.{group_bound}
 
--- an index that is not below 32 changes nothing
+-- an index that is not below the bound of a group changes nothing
 outside : (c : Else-index-lt-LONGEST_GROUP) → c.if-self-eq0.self.seen ≡ c.args.self.now.seen →
     c.if-self-eq0.self ≡ put_seen c.if-self-eq0.self c.args.tag.index
 outside c same =
-    let room : length c.args.self.now.seen ≡ 32 = omega arith in
+    let room : length c.args.self.now.seen ≡ group_bound = omega arith in
     let here : length c.if-self-eq0.self.seen ≡ length c.args.self.now.seen = ap length same in
     sym (put_past c.if-self-eq0.self c.args.tag.index (omega arith))
 

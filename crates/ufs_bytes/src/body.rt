@@ -1,11 +1,10 @@
 //! A block that stays where it is.
 ghost use Rattle.std.specs.Prelude.{◌≡◌, IfOk, ℕ, List, length};
-ghost use Rattle.ufs_spec.specs.Keys.{IsBlock};
-ghost use Rattle.ufs_spec.specs.Plain.{zero_block};
+ghost use Rattle.ufs_bytes.specs.Blocks.{zero_block};
 
+use crate::fields::Block;
 use std::alloc::{AllocError, Global};
 use std::marker::Model;
-use ufs_bytes::Block;
 
 /// A block behind a pointer: whoever moves it moves the pointer, and its bytes stay where they are.
 #[derive(Drop)]
@@ -58,7 +57,7 @@ impl Body {
 }
 
 /// A block of zeros.
-#[tactic(auto, unfolding(ufs_spec::specs::Plain::zero_block))]
+#[tactic(auto, unfolding(crate::specs::Blocks::zero_block))]
 fn zeros() -> Block
     ensures { result ≡ zero_block }
 {

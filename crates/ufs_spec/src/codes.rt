@@ -1,0 +1,44 @@
+//! The transaction codes of the eleven kinds of messages, bits 5 to 0 of byte 0 (JESD220, 10.5), and how
+//! many of them may be open at once (this profile).
+
+/// A host asks whether the device answers at all.
+pub const NOP_OUT: u8 = 0x00;
+
+/// A host hands over a CDB.
+pub const COMMAND: u8 = 0x01;
+
+/// A host sends data that were asked for.
+pub const DATA_OUT: u8 = 0x02;
+
+/// A host asks for a task management function.
+pub const TASK_REQUEST: u8 = 0x04;
+
+/// A host asks for a descriptor, an attribute or a flag.
+pub const QUERY_REQUEST: u8 = 0x16;
+
+/// A device answers a NOP OUT.
+pub const NOP_IN: u8 = 0x20;
+
+/// A device ends a command with its status.
+pub const RESPONSE: u8 = 0x21;
+
+/// A device sends data.
+pub const DATA_IN: u8 = 0x22;
+
+/// A device answers a task management request.
+pub const TASK_RESPONSE: u8 = 0x24;
+
+/// A device says which data the host may send now.
+pub const READY_TO_TRANSFER: u8 = 0x31;
+
+/// A device answers a query.
+pub const QUERY_RESPONSE: u8 = 0x36;
+
+/// How many tasks may be open.
+pub const MOST_TASKS: usize = 32;
+
+/// How many exchanges of one reply may be open.
+pub const MOST_SHORT_EXCHANGES: usize = 32;
+
+/// How many blocks one command may write, read or unmap, so how many pages its group may have.
+pub const GREATEST_COMMAND: u16 = 32;
