@@ -1,13 +1,13 @@
 //! Counts what a device programs and hashes for each block that a host writes again and again, and the
 //! steps that a FUA write takes from its COMMAND to its GOOD.
-use crate::{command, data_out};
-use anyhow::{Result, ensure};
+use anyhow::Result;
 use geometry::Config;
 use nand_model::work;
 use std::alloc::Global;
 use std::rt::Clock;
 use std::time::{Duration, Instant};
 use ufs_spec::{Job, UnitSpec};
+use workbench::messages::{FUA, WRITE, block_out, command};
 use workbench::{Workbench, new_dies};
 
 /// The numbers of a device, how large its unit is, in percent of the greatest that it may have, and how
@@ -175,20 +175,24 @@ impl Counted {
         Ok(())
     }
 
-    /// A FUA write of one block; false if it was not answered.
-    fn write<R: Clock>(&mut self, rt: &R, address: u32, out: &mut [u8; 4128]) -> Result<bool> {
-        let before = self.steps;
+    /// A FUA write of one block, up to its data: whether the device takes it.
+    fn begin(&mut self, address: u32, out: &[u8; 4128]) -> bool {
         self.turns = 0;
-        self.bench.send(&command(0x20, 0x2A, 0x08, address))?;
-        ensure!(self.bench.hear(), "no data were asked for");
-        out[..32].copy_from_slice(&data_out());
-        self.bench.send(out)?;
+        self.bench.send(&command(0, WRITE, FUA, address, 1)).is_ok()
+            && self.bench.hear()
+            && self.bench.send(out).is_ok()
+    }
+
+    /// A FUA write of one block; false if it was not answered.
+    fn write<R: Clock>(&mut self, rt: &R, address: u32, out: &[u8; 4128]) -> Result<bool> {
+        let before = self.steps;
+        if !self.begin(address, out) {
+            return Ok(false);
+        }
         for _ in 0..ROUNDS {
             if self.bench.hear() {
-                let status = self.bench.reply.get(7).copied();
-                ensure!(status == Some(0), "a write was not answered GOOD");
                 self.longest = self.longest.max(self.steps.saturating_sub(before));
-                return Ok(true);
+                return Ok(self.bench.reply.get(7).copied() == Some(0));
             }
             self.round(rt)?;
         }
@@ -226,10 +230,10 @@ fn play<R: Clock>(
     unit: u32,
     often: u32,
 ) -> Result<Option<u32>> {
-    let mut out = [0x5Au8; 4128];
+    let out = block_out(0, 0, 0x5A);
     all.rest(rt)?;
     for address in 0..unit {
-        if !all.write(rt, address, &mut out)? {
+        if !all.write(rt, address, &out)? {
             return Ok(Some(0));
         }
     }
@@ -238,7 +242,7 @@ fn play<R: Clock>(
             all.forget();
         }
         let address = all.address(host, count, unit);
-        if !all.write(rt, address, &mut out)? {
+        if !all.write(rt, address, &out)? {
             return Ok(Some(count));
         }
         if host.is_patient {

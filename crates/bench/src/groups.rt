@@ -1,12 +1,13 @@
 //! Times commands of 32 blocks, and 32 tasks at once: on a small device and on a large one, with few slots
 //! and with many.
-use crate::{data_out, hash_pages};
+use crate::clock::{each, percent, since, time_hash};
 use anyhow::{Result, ensure};
 use geometry::Config;
 use std::alloc::Global;
 use std::rt::Clock;
-use std::time::{Duration, Instant};
+use std::time::Instant;
 use ufs_spec::UnitSpec;
+use workbench::messages::{FUA, READ, SYNCHRONIZE, WRITE, block_out, command};
 use workbench::{Workbench, new_dies};
 
 /// How many blocks a command has, how many commands make a row, and how many blocks that are.
@@ -72,20 +73,6 @@ fn open(alloc: Global, shape: Shape) -> Result<Workbench> {
     Ok(Workbench::new(alloc, config, dies)?)
 }
 
-/// The COMMAND with this CDB: its operation code, its second byte, its address and how many blocks it has.
-fn command(tag: u8, flags: u8, operation: u8, second: u8, address: u32, blocks: u16) -> [u8; 32] {
-    let mut bytes = [0u8; 32];
-    bytes[0] = 0x01;
-    bytes[1] = flags;
-    bytes[3] = tag;
-    bytes[12..16].copy_from_slice(&(blocks as u32 * 4096).to_be_bytes());
-    bytes[16] = operation;
-    bytes[17] = second;
-    bytes[18..22].copy_from_slice(&address.to_be_bytes());
-    bytes[23..25].copy_from_slice(&blocks.to_be_bytes());
-    bytes
-}
-
 /// Takes a reply after as much work of all dies as it needs; false where none came.
 fn hear_working(bench: &mut Workbench, dies: u8) -> bool {
     for _ in 0..200u8 {
@@ -99,107 +86,150 @@ fn hear_working(bench: &mut Workbench, dies: u8) -> bool {
     false
 }
 
-/// GOOD comes, after as much work as it needs.
-fn expect_good(bench: &mut Workbench, dies: u8) -> Result<()> {
-    ensure!(hear_working(bench, dies), "no answer came");
-    ensure!(
-        bench.reply.get(7).copied() == Some(0),
-        "a command was not answered GOOD"
-    );
-    Ok(())
+/// Whether GOOD comes, after as much work as it needs.
+fn is_good(bench: &mut Workbench, dies: u8) -> bool {
+    hear_working(bench, dies) && bench.reply.get(7).copied() == Some(0)
 }
 
-/// The data of a write, each block as soon as it is asked for.
-fn send_blocks(bench: &mut Workbench, out: &mut [u8; 4128], blocks: u16) -> Result<()> {
+/// The data of a write, each block as soon as it is asked for: whether all were.
+fn send_blocks(bench: &mut Workbench, out: &mut [u8; 4128], blocks: u16) -> bool {
     for block in 0..blocks {
-        ensure!(bench.hear(), "no data were asked for");
+        if !bench.hear() {
+            return false;
+        }
         out[3] = bench.reply.get(3).copied().unwrap_or(0);
         out[12..16].copy_from_slice(&(block as u32 * 4096).to_be_bytes());
-        bench.send(out)?;
+        if bench.send(out).is_err() {
+            return false;
+        }
     }
-    Ok(())
+    true
 }
 
-/// WRITE(10) of 32 blocks up to the last of its data.
-fn write(bench: &mut Workbench, second: u8, address: u32, out: &mut [u8; 4128]) -> Result<()> {
-    bench.send(&command(0, 0x20, 0x2A, second, address, BLOCKS))?;
-    send_blocks(bench, out, BLOCKS)
+/// So many WRITE(10) of 32 blocks, one after another, each of which is answered after work of so many dies.
+fn write_all(
+    bench: &mut Workbench,
+    second: u8,
+    commands: u32,
+    dies: u8,
+    out: &mut [u8; 4128],
+) -> bool {
+    for index in 0..commands {
+        let message = command(0, WRITE, second, index.saturating_mul(32), BLOCKS);
+        if bench.send(&message).is_err()
+            || !send_blocks(bench, out, BLOCKS)
+            || !is_good(bench, dies)
+        {
+            return false;
+        }
+    }
+    true
 }
 
 /// READ(10) of 32 blocks.
-fn read(bench: &mut Workbench, dies: u8, address: u32) -> Result<()> {
-    bench.send(&command(0, 0x40, 0x28, 0, address, BLOCKS))?;
-    for _ in 0..BLOCKS {
-        ensure!(hear_working(bench, dies), "no block came");
-        ensure!(bench.reply.len() == 4128, "a block was not read");
+fn read(bench: &mut Workbench, dies: u8, address: u32) -> bool {
+    if bench.send(&command(0, READ, 0, address, BLOCKS)).is_err() {
+        return false;
     }
-    expect_good(bench, dies)
+    for _ in 0..BLOCKS {
+        if !hear_working(bench, dies) || bench.reply.len() != 4128 {
+            return false;
+        }
+    }
+    is_good(bench, dies)
+}
+
+/// So many of them, one after another.
+fn read_all(bench: &mut Workbench, commands: u32, dies: u8) -> bool {
+    for index in 0..commands {
+        if !read(bench, dies, index.saturating_mul(32)) {
+            return false;
+        }
+    }
+    true
 }
 
 /// SYNCHRONIZE CACHE(10), which is answered once all is durable that was accepted before it.
-fn flush(bench: &mut Workbench, dies: u8) -> Result<()> {
-    bench.send(&command(0, 0, 0x35, 0, 0, 0))?;
-    expect_good(bench, dies)
+fn flush(bench: &mut Workbench, dies: u8) -> bool {
+    bench.send(&command(0, SYNCHRONIZE, 0, 0, 0)).is_ok() && is_good(bench, dies)
 }
 
-/// Sequential writes with FUA.
-fn write_durable(bench: &mut Workbench, dies: u8, out: &mut [u8; 4128]) -> Result<()> {
-    for index in 0..COMMANDS {
-        write(bench, 0x08, index * 32, out)?;
-        expect_good(bench, dies)?;
-    }
-    Ok(())
-}
-
-/// Sequential reads of what stands on dies.
-fn read_all(bench: &mut Workbench, dies: u8) -> Result<()> {
-    for index in 0..COMMANDS {
-        read(bench, dies, index * 32)?;
-    }
-    Ok(())
-}
-
-/// Writes without FUA that fill half the slots.
-fn fill_slots(bench: &mut Workbench, shape: Shape, out: &mut [u8; 4128]) -> Result<()> {
-    for index in 0..(shape.slots / 64) as u32 {
-        write(bench, 0, index * 32, out)?;
-        expect_good(bench, 0)?;
-    }
-    Ok(())
-}
-
-/// Reads of what lies in slots.
-fn read_slots(bench: &mut Workbench, shape: Shape) -> Result<()> {
-    for index in 0..(shape.slots / 64) as u32 {
-        read(bench, 0, index * 32)?;
-    }
-    Ok(())
-}
-
-/// 32 writes with FUA of one block each are open at once.
-fn write_at_once(bench: &mut Workbench, dies: u8, first: u32, out: &mut [u8; 4128]) -> Result<()> {
+/// 32 FUA writes of a block each are open at once.
+fn write_at_once(bench: &mut Workbench, dies: u8, out: &mut [u8; 4128]) -> bool {
     for tag in 0..32u8 {
-        let address = first.saturating_add(tag as u32);
-        bench.send(&command(tag, 0x20, 0x2A, 0x08, address, 1))?;
+        if bench
+            .send(&command(tag, WRITE, FUA, u32::from(tag), 1))
+            .is_err()
+        {
+            return false;
+        }
     }
     for _ in 0..32u8 {
-        send_blocks(bench, out, 1)?;
+        if !send_blocks(bench, out, 1) {
+            return false;
+        }
     }
     for _ in 0..32u8 {
-        expect_good(bench, dies)?;
+        if !is_good(bench, dies) {
+            return false;
+        }
     }
-    Ok(())
+    true
 }
 
-/// Nanoseconds for each of so many blocks.
-fn each(total: Duration, blocks: u32) -> u64 {
-    let nanoseconds = total.as_nanos() / blocks.max(1) as u128;
-    nanoseconds.min(u64::MAX as u128) as u64
+/// What is timed.
+#[derive(Clone, Copy)]
+enum Row {
+    /// Writes with FUA, and reads from dies.
+    Durable,
+    Read,
+    /// Writes without FUA that fill half the slots, reads of what lies in slots, and one flush.
+    Fill,
+    Pending,
+    Flush,
+    /// 32 writes with FUA at once.
+    AtOnce,
 }
 
-/// So many hundredths of a hash.
-fn percent(nanoseconds: u64, hash: u64) -> u64 {
-    nanoseconds.saturating_mul(100) / hash.max(1)
+/// How many commands fill half the slots.
+fn half(shape: Shape) -> u32 {
+    u32::from(shape.slots / 64)
+}
+
+/// The commands of a row: whether each was answered.
+fn play(bench: &mut Workbench, shape: Shape, row: Row, out: &mut [u8; 4128]) -> bool {
+    let dies = shape.dies;
+    match row {
+        Row::Durable => write_all(bench, FUA, COMMANDS, dies, out),
+        Row::Read => read_all(bench, COMMANDS, dies),
+        Row::Fill => write_all(bench, 0, half(shape), 0, out),
+        Row::Pending => read_all(bench, half(shape), 0),
+        Row::Flush => flush(bench, dies),
+        Row::AtOnce => write_at_once(bench, dies, out),
+    }
+}
+
+/// How many blocks a row writes or reads.
+fn count_of(shape: Shape, row: Row) -> u32 {
+    match row {
+        Row::Durable => COUNT,
+        Row::Read => COUNT,
+        Row::AtOnce => 32,
+        _ => u32::from(shape.slots / 64) * 32,
+    }
+}
+
+/// What a row takes for a block, in nanoseconds.
+fn time_row<R: Clock>(
+    rt: &R,
+    bench: &mut Workbench,
+    shape: Shape,
+    row: Row,
+    out: &mut [u8; 4128],
+) -> Result<u64> {
+    let start = Instant::now(rt)?;
+    ensure!(play(bench, shape, row, out), "a command was not answered");
+    Ok(each(since(rt, start)?, count_of(shape, row)))
 }
 
 /// What each row took for a block, in hundredths of a hash that was timed right after it.
@@ -213,90 +243,18 @@ struct Times {
     at_once: u64,
 }
 
-/// What a hash takes now, in nanoseconds: the machine's speed changes within a run.
-fn time_hash<R: Clock>(rt: &R) -> Result<u64> {
-    let start = Instant::now(rt)?;
-    let all = hash_pages(COUNT);
-    let hash = each(start.elapsed(rt)?, COUNT);
-    ensure!(all > 0, "no hash was made");
-    Ok(hash)
-}
-
-/// Writes with FUA.
-fn time_durable<R: Clock>(
-    rt: &R,
-    bench: &mut Workbench,
-    dies: u8,
-    out: &mut [u8; 4128],
-) -> Result<u64> {
-    let start = Instant::now(rt)?;
-    write_durable(bench, dies, out)?;
-    Ok(each(start.elapsed(rt)?, COUNT))
-}
-
-/// Reads from dies.
-fn time_reads<R: Clock>(rt: &R, bench: &mut Workbench, dies: u8) -> Result<u64> {
-    let start = Instant::now(rt)?;
-    read_all(bench, dies)?;
-    Ok(each(start.elapsed(rt)?, COUNT))
-}
-
-/// How many blocks are in half the slots.
-fn half(shape: Shape) -> u32 {
-    (shape.slots / 64) as u32 * 32
-}
-
-/// Writes without FUA, up to their answers.
-fn time_filled<R: Clock>(
-    rt: &R,
-    bench: &mut Workbench,
-    shape: Shape,
-    out: &mut [u8; 4128],
-) -> Result<u64> {
-    let start = Instant::now(rt)?;
-    fill_slots(bench, shape, out)?;
-    Ok(each(start.elapsed(rt)?, half(shape)))
-}
-
-/// Reads from slots.
-fn time_pending<R: Clock>(rt: &R, bench: &mut Workbench, shape: Shape) -> Result<u64> {
-    let start = Instant::now(rt)?;
-    read_slots(bench, shape)?;
-    Ok(each(start.elapsed(rt)?, half(shape)))
-}
-
-/// One flush of what was written without FUA.
-fn time_flush<R: Clock>(rt: &R, bench: &mut Workbench, shape: Shape) -> Result<u64> {
-    let start = Instant::now(rt)?;
-    flush(bench, shape.dies)?;
-    Ok(each(start.elapsed(rt)?, half(shape)))
-}
-
-/// 32 writes with FUA at once.
-fn time_at_once<R: Clock>(
-    rt: &R,
-    bench: &mut Workbench,
-    dies: u8,
-    out: &mut [u8; 4128],
-) -> Result<u64> {
-    let start = Instant::now(rt)?;
-    write_at_once(bench, dies, 0, out)?;
-    Ok(each(start.elapsed(rt)?, 32))
-}
-
 /// All rows of a device of these sizes, one after another.
 fn measure<R: Clock>(rt: &R, bench: &mut Workbench, shape: Shape) -> Result<Times> {
-    let mut out = [0x5Au8; 4128];
-    out[..32].copy_from_slice(&data_out());
-    let durable = time_durable(rt, bench, shape.dies, &mut out)?;
-    let durable = percent(durable, time_hash(rt)?);
-    let read = time_reads(rt, bench, shape.dies)?;
-    let read = percent(read, time_hash(rt)?);
-    let filled = time_filled(rt, bench, shape, &mut out)?;
-    let pending = time_pending(rt, bench, shape)?;
-    let flushed = time_flush(rt, bench, shape)?;
-    let hash = time_hash(rt)?;
-    let at_once = time_at_once(rt, bench, shape.dies, &mut out)?;
+    let mut out = block_out(0, 0, 0x5A);
+    let durable = time_row(rt, bench, shape, Row::Durable, &mut out)?;
+    let durable = percent(durable, time_hash(rt, COUNT)?);
+    let read = time_row(rt, bench, shape, Row::Read, &mut out)?;
+    let read = percent(read, time_hash(rt, COUNT)?);
+    let filled = time_row(rt, bench, shape, Row::Fill, &mut out)?;
+    let pending = time_row(rt, bench, shape, Row::Pending, &mut out)?;
+    let flushed = time_row(rt, bench, shape, Row::Flush, &mut out)?;
+    let hash = time_hash(rt, COUNT)?;
+    let at_once = time_row(rt, bench, shape, Row::AtOnce, &mut out)?;
     Ok(Times {
         durable,
         read,

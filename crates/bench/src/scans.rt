@@ -1,32 +1,22 @@
 //! Times scans of dies of three sizes, of whose blocks a quarter is written.
 ghost use Rattle.std.specs.Prelude.{◌<◌, ◌^◌};
 
-use crate::hash_pages;
+use crate::clock::{a_second, each, percent, since, time_hash};
 use anyhow::{Result, bail, ensure};
 use geometry::Config;
 use nand_model::{Die, MemDie};
 use page_tag::seal;
 use recovery::scan;
-use row_config::fit;
 use std::alloc::Global;
 use std::rt::Clock;
 use std::time::Instant;
-use ufs_spec::{Job, NoMemory, Page, Place, Tag, UnitSpec};
+use ufs_spec::{Job, Page, Place, Tag, UnitSpec};
+use workbench::{fit, new_dies};
 
 /// How many blocks the dies have.
 const SIZES: [u16; 3] = [16, 64, 256];
 
 const PAGES: u16 = 64;
-
-/// Four new dies with so many blocks.
-fn four_dies(alloc: Global, blocks: u16) -> Result<Vec<MemDie>, NoMemory> {
-    let mut dies = Vec::with_capacity(alloc, 4)?;
-    for _ in 0..4u8 {
-        dies.push(MemDie::new(alloc, blocks, PAGES)?)
-            .map_err(|_| NoMemory)?;
-    }
-    Ok(dies)
-}
 
 /// The block of address A of unit 0, as the only page of group A + 1.
 fn data(address: u32) -> Page
@@ -75,49 +65,41 @@ fn time_scan<R: Clock>(
     config: &Config,
     dies: &mut [MemDie],
     groups: u32,
-) -> Result<u128> {
+) -> Result<u64> {
     ensure!(fit(config, dies), "the dies do not fit");
     let start = Instant::now(rt)?;
     let Ok(found) = scan(alloc, dies, config) else {
         bail!("the scan was refused");
     };
-    let scanned = start.elapsed(rt)?.as_nanos().max(1);
+    let scanned = since(rt, start)?;
     ensure!(found.kept == u64::from(groups), "not all groups were found");
     Ok(scanned)
 }
 
 /// How many nanoseconds a scan of four dies with so many blocks takes, of which so many pages are written.
-fn time_dies<R: Clock>(rt: &R, alloc: Global, blocks: u16, written: u32) -> Result<u128> {
+fn time_dies<R: Clock>(rt: &R, alloc: Global, blocks: u16, written: u32) -> Result<u64> {
     let unit = UnitSpec {
         blocks: written,
         boot: 0,
         protect: 0,
     };
     let config = Config::new(4, blocks, PAGES, &[unit], 1, 64, 4)?;
-    let mut dies = four_dies(alloc, blocks)?;
+    let mut dies = new_dies(alloc, 4, blocks, PAGES)?;
     write(dies.as_mut_slice(), blocks / 4)?;
     time_scan(rt, alloc, &config, dies.as_mut_slice(), written)
-}
-
-/// Prints what a scan of so many pages took, and as many hashes of pages.
-fn tell<R: Eprint>(rt: &R, all: u32, scanned: u128, hashed: u128) -> Result<()> {
-    let a_second = u128::from(all).saturating_mul(1_000_000_000) / scanned.max(1);
-    let to_all = scanned.saturating_mul(100) / hashed.max(1);
-    let to_written = to_all.saturating_mul(4);
-    eprintln!(rt; "a scan of {all} pages, a quarter of them written: {a_second} pages a second")?;
-    eprintln!(rt; "scan to a hash of each page: {to_all} %, of each written page: {to_written} %")?;
-    Ok(())
 }
 
 /// Times a scan of four dies with so many blocks, and as many hashes as it reads pages.
 fn time_size<R: Clock + Eprint>(rt: &R, alloc: Global, blocks: u16) -> Result<()> {
     let all = 4 * u32::from(blocks) * u32::from(PAGES);
     let scanned = time_dies(rt, alloc, blocks, all / 4)?;
-    let start = Instant::now(rt)?;
-    let sum = hash_pages(all);
-    let hashed = start.elapsed(rt)?.as_nanos();
-    ensure!(sum > 0, "no page was hashed");
-    tell(rt, all, scanned, hashed)
+    let hash = time_hash(rt, all)?;
+    let speed = a_second(scanned, all);
+    let to_all = percent(each(scanned, all), hash);
+    let to_written = to_all.saturating_mul(4);
+    eprintln!(rt; "a scan of {all} pages, a quarter of them written: {speed} pages a second")?;
+    eprintln!(rt; "scan to a hash of each page: {to_all} %, of each written page: {to_written} %")?;
+    Ok(())
 }
 
 /// Times a scan of each size.

@@ -2,7 +2,7 @@
 use thiserror::Error;
 
 /// What the program is asked to do.
-#[derive(Clone, Copy, Debug, PartialEq, Eq)]
+#[derive(Clone, Copy)]
 pub enum Call<'a> {
     /// Run the script in the file of this name.
     Run(&'a str),
@@ -13,7 +13,7 @@ pub enum Call<'a> {
 }
 
 /// Why there is nothing to do. The text is what the program prints after its name.
-#[derive(Clone, Copy, Debug, Error, PartialEq, Eq)]
+#[derive(Clone, Copy, Debug, Error)]
 pub enum CallFault {
     /// The words are none of the program's, or ask for help.
     #[error("usage")]

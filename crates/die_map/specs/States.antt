@@ -22,6 +22,7 @@ use Rattle.die_map.specs.declared.survey.Written.{Written}
 abbrev pub are_erased : List ℕ → Bool
 are_erased bytes = list_all (λ byte. byte == 0xFF) bytes
 
+-- the page is as an erase leaves it: all its bytes are FFh, also the spare ones
 abbrev pub is_free : Page → Bool
 is_free p = are_erased p.spare && are_erased p.body
 
@@ -54,9 +55,11 @@ abbrev pub written_below : DieState → ℕ → ℕ → ℕ
 written_below d b zero = 0
 written_below d b (suc k) = if is_free (page_at d b k) then written_below d b k else k + 1
 
+-- how many pages of the block there are up to the last one that is not free
 abbrev pub written_in : DieState → ℕ → ℕ
 written_in d b = written_below d b (length (pages_of d b))
 
+-- the die would take this page next, if it would take one at all
 abbrev pub is_next : Option ℕ → ℕ → Bool
 is_next None k = false
 is_next (Some next) k = next == k
@@ -76,18 +79,22 @@ block_state_of d b =
     else if written_in d b == 0 then block.Free
     else block.Closed
 
+-- drawn as free: no page of the block is written, and none may be before its next erase
 abbrev pub is_free_block : BlockState → Bool
 is_free_block block.Free = true
 is_free_block _ = false
 
+-- drawn as filling: the page behind the last written one may be programmed
 abbrev pub is_filling_block : BlockState → Bool
 is_filling_block block.Filling = true
 is_filling_block _ = false
 
+-- drawn as closed: pages of the block are written, and no other may be
 abbrev pub is_closed_block : BlockState → Bool
 is_closed_block block.Closed = true
 is_closed_block _ = false
 
+-- drawn as bad: the die says so, whatever its pages are
 abbrev pub is_bad_state : BlockState → Bool
 is_bad_state block.Bad = true
 is_bad_state _ = false
@@ -96,6 +103,7 @@ is_bad_state _ = false
 abbrev pub states_below : DieState → ℕ → List BlockState
 states_below d k = map (block_state_of d) (below k)
 
+-- what each block of the die is, in order
 abbrev pub states_of : DieState → List BlockState
 states_of d = states_below d (length d.blocks)
 

@@ -35,7 +35,7 @@ abbrev pub newer_mark : Place → Mark → Option FoundMark → Option FoundMark
 newer_mark p m f =
     if is_newer f m.number then Some (record { number = m.number; fence = m.fence; place = p }) else f
 
--- a page more
+-- the newest mark once this page was read too: only a mark can change it
 abbrev pub mark_after : Place → Cell → Option FoundMark → Option FoundMark
 mark_after p Nothing f = f
 mark_after p (GroupPage tag body) f = f
@@ -47,6 +47,7 @@ mark_after p (MarkPage m) f = newer_mark p m f
 abbrev pub Address : Type 0
 Address = ℕ × ℕ × ℕ
 
+-- the address that a page's tag names, whatever its number
 abbrev pub address_of : Tag → Address
 address_of t = (t.kind, t.unit, t.address)
 
@@ -54,6 +55,7 @@ address_of t = (t.kind, t.unit, t.address)
 abbrev pub address_cmp : Address → Address → Ordering
 address_cmp a b = ordering_then (ordering_then (nat_cmp a.0 b.0) (nat_cmp a.1 b.1)) (nat_cmp a.2 b.2)
 
+-- both have the same kind, unit and address
 abbrev pub same_address : Address → Address → Bool
 same_address a b = is_eq (address_cmp a b)
 
@@ -83,6 +85,7 @@ IsPageFound c mark a (Some w) =
     × ((p : Place) (t : Tag) (body : List ℕ) → c p ≡ GroupPage t body → address_of t ≡ a
     → is_fenced mark t.number ≡ false → t.number ≤ w.number)
 
+-- of each address the survey has the newest page that counts, or none if none counts
 abbrev pub ArePagesFound : Cells → Option FoundMark → (Address → Option Written) → Type 0
 ArePagesFound c mark found = (a : Address) → IsPageFound c mark a (found a)
 
@@ -98,7 +101,7 @@ with_page p t found a =
     then Some (record { number = t.number; place = p })
     else found a
 
--- a page more
+-- the newest pages once this page was read too: only a page of a group that counts can change them
 abbrev pub pages_after : Place → Cell → Option FoundMark → (Address → Option Written) → Address → Option Written
 pages_after p Nothing mark found a = found a
 pages_after p (MarkPage m) mark found a = found a

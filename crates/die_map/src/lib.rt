@@ -7,6 +7,7 @@ mod survey;
 mod svg;
 mod text;
 
+use device::World;
 use std::alloc::{AllocError, Global};
 use std::io;
 use std::io::Write;
@@ -17,7 +18,7 @@ use thiserror::Error;
 use ufsim::{ScriptFault, Word, world_after};
 
 /// How the dies are drawn.
-#[derive(Clone, Copy, Debug, PartialEq, Eq)]
+#[derive(Clone, Copy)]
 pub enum Form {
     /// A row of letters for each block that is not free.
     Text,
@@ -26,17 +27,29 @@ pub enum Form {
 }
 
 /// Why nothing is drawn.
-#[derive(Clone, Copy, Debug, Error, PartialEq, Eq)]
+#[derive(Clone, Copy, Debug, Error)]
 pub enum DrawFault {
     /// The script does not run so far. The tool explains such a line.
     #[error("{0}; see what 'ufstool explain' says of this line")]
-    Script(ScriptFault),
+    Script(#[from] ScriptFault),
     /// Memory was refused.
     #[error("there is not enough memory")]
     Memory,
     /// A write of the drawing failed.
     #[error("the drawing could not be written")]
     Output,
+}
+
+impl From<AllocError> for DrawFault {
+    fn from(_: AllocError) -> DrawFault {
+        DrawFault::Memory
+    }
+}
+
+impl From<io::Error> for DrawFault {
+    fn from(_: io::Error) -> DrawFault {
+        DrawFault::Output
+    }
 }
 
 /// Draws the dies on `out` as they are after the lines of a script up to the one with the number
@@ -70,13 +83,20 @@ fn try_draw<W: Write>(
     form: Form,
     out: &mut W,
 ) -> Result<(), DrawFault> {
-    let world = world_after(alloc, script, last).map_err(|fault| DrawFault::Script(fault))?;
-    let survey = Survey::new(alloc, world.dies()).map_err(|_| DrawFault::Memory)?;
-    let written = match form {
-        Form::Text => write_text(&survey, &world, out),
-        Form::Svg => write_svg(&survey, &world, out),
-    };
-    written
-        .and_then(|_| out.flush())
-        .map_err(|_| DrawFault::Output)
+    let world = world_after(alloc, script, last)?;
+    let survey = Survey::new(alloc, world.dies())?;
+    Ok(write_drawing(&survey, &world, form, out)?)
+}
+
+fn write_drawing<W: Write>(
+    survey: &Survey,
+    world: &World,
+    form: Form,
+    out: &mut W,
+) -> io::Result<()> {
+    match form {
+        Form::Text => write_text(survey, world, out)?,
+        Form::Svg => write_svg(survey, world, out)?,
+    }
+    out.flush()
 }

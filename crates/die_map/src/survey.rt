@@ -44,7 +44,7 @@ struct FoundMark {
 }
 
 /// What a page is.
-#[derive(Clone, Copy, Debug, PartialEq, Eq)]
+#[derive(Clone, Copy)]
 pub enum PageState {
     /// All its bytes are FFh, as after an erase.
     Free,
@@ -61,7 +61,7 @@ pub enum PageState {
 }
 
 /// What a block is.
-#[derive(Clone, Copy, Debug, PartialEq, Eq)]
+#[derive(Clone, Copy)]
 pub enum BlockState {
     /// All its pages are free, and it has to be erased before it is programmed.
     Free,

@@ -14,15 +14,18 @@ const LEFT: u32 = 110;
 /// The height of the line with the name of a die.
 const HEAD: u32 = 24;
 
+/// What comes after the size of the picture.
+const HEADING: &str =
+    " font-family=\"monospace\" font-size=\"8\">\n<title>Dies, blocks and pages</title>";
+
 /// Writes the dies as SVG.
 pub fn write_svg<W: Write>(survey: &Survey, world: &World, out: &mut W) -> io::Result<()> {
     let (width, height) = size_of(world.dies());
-    writeln!(
+    write!(
         out,
-        "<svg xmlns=\"http://www.w3.org/2000/svg\" width=\"{width}\" height=\"{height}\""
+        "<svg xmlns=\"http://www.w3.org/2000/svg\" width=\"{width}\""
     )?;
-    writeln!(out, " font-family=\"monospace\" font-size=\"8\">")?;
-    writeln!(out, "<title>Dies, blocks and pages</title>")?;
+    writeln!(out, " height=\"{height}\"\n{HEADING}")?;
     let mut top = 0u32;
     for (index, die) in world.dies().iter().enumerate() {
         write_die(survey, number_of(index), die, top, out)?;
@@ -98,7 +101,7 @@ fn write_block<W: Write>(
 }
 
 fn write_page<W: Write>(state: &PageState, place: Place, row: u32, out: &mut W) -> io::Result<()> {
-    if *state == PageState::Free {
+    if matches!(state, PageState::Free) {
         return Ok(());
     }
     let color = page_color(state);
@@ -134,39 +137,28 @@ fn page_color(state: &PageState) -> &'static str {
 impl fmt::Display for PageState {
     fn fmt<W: fmt::Write>(&self, f: &mut fmt::Formatter<W>) -> fmt::Result {
         match self {
-            PageState::Free => write!(f, "free"),
-            PageState::Live(tag) => {
-                let words = TagWords(*tag);
-                write!(f, "live, {words}")
-            }
-            PageState::Dead(tag) => {
-                let words = TagWords(*tag);
-                write!(f, "dead, {words}")
-            }
+            PageState::Free => f.write_str("free"),
+            PageState::Live(tag) => write_tag(f, "live", tag),
+            PageState::Dead(tag) => write_tag(f, "dead", tag),
             PageState::Mark(number) => write!(f, "the newest mark, number {number}"),
             PageState::OldMark(number) => write!(f, "an older mark, number {number}"),
-            PageState::Torn => write!(f, "torn"),
+            PageState::Torn => f.write_str("torn"),
         }
     }
 }
 
-/// Whose page it is, in words.
-#[derive(Clone, Copy)]
-struct TagWords(Tag);
-
-impl fmt::Display for TagWords {
-    fn fmt<W: fmt::Write>(&self, f: &mut fmt::Formatter<W>) -> fmt::Result {
-        let Tag {
-            kind,
-            unit,
-            address,
-            number,
-            ..
-        } = self.0;
-        match kind {
-            Tag::DATA => write!(f, "unit {unit} address {address}, number {number}"),
-            Tag::RPMB_AREA => write!(f, "RPMB page {address}, number {number}"),
-            _ => write!(f, "settings, number {number}"),
-        }
+// Whether a page is live or dead, and whose it is.
+fn write_tag<W: fmt::Write>(f: &mut fmt::Formatter<W>, state: &str, tag: &Tag) -> fmt::Result {
+    let Tag {
+        kind,
+        unit,
+        address,
+        number,
+        ..
+    } = *tag;
+    match kind {
+        Tag::DATA => write!(f, "{state}, unit {unit} address {address}, number {number}"),
+        Tag::RPMB_AREA => write!(f, "{state}, RPMB page {address}, number {number}"),
+        _ => write!(f, "{state}, settings, number {number}"),
     }
 }

@@ -30,7 +30,7 @@ fn write_die<W: Write>(survey: &Survey, number: u8, die: &MemDie, out: &mut W) -
     let mut first_free = None;
     for block in 0..die.blocks() {
         let state = block_state(die, block);
-        if state == BlockState::Free {
+        if matches!(state, BlockState::Free) {
             first_free = first_free.or(Some(block));
         } else {
             write_free(first_free, block, out)?;
@@ -93,23 +93,16 @@ fn letter_of(state: &PageState) -> char {
 
 // The job that a die has in flight.
 fn write_job<W: Write>(world: &World, die: u8, out: &mut W) -> io::Result<()> {
-    match world.job(die) {
-        None => Ok(()),
-        Some(Job::Read(place)) => {
-            let Place { block, page, .. } = *place;
-            writeln!(out, "  in flight: a read of page {page} of block {block}")
-        }
-        Some(Job::Program(place, _)) => {
-            let Place { block, page, .. } = *place;
-            writeln!(
-                out,
-                "  in flight: a program of page {page} of block {block}"
-            )
-        }
+    let (what, place) = match world.job(die) {
+        None => return Ok(()),
+        Some(Job::Read(place)) => ("a read", *place),
+        Some(Job::Program(place, _)) => ("a program", *place),
         Some(Job::Erase { block, .. }) => {
-            writeln!(out, "  in flight: an erase of block {block}")
+            return writeln!(out, "  in flight: an erase of block {block}");
         }
-    }
+    };
+    let Place { block, page, .. } = place;
+    writeln!(out, "  in flight: {what} of page {page} of block {block}")
 }
 
 /// How many blocks of a die are in each state.

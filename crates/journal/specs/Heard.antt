@@ -28,9 +28,11 @@ life_over base =
 
 -- ## The open commands
 
+-- the command was sent under this tag
 abbrev pub has_tag : ℕ → OpenTask → Bool
 has_tag tag t = t.tag == tag
 
+-- the open command at the position that was found, if one was found
 abbrev pub found_at : List OpenTask → Option ℕ → Option OpenTask
 found_at tasks None = None
 found_at tasks (Some k) = slice_get tasks k
@@ -39,11 +41,12 @@ found_at tasks (Some k) = slice_get tasks k
 abbrev pub open_with : ℕ → List OpenTask → Option OpenTask
 open_with tag tasks = found_at tasks (position (has_tag tag) tasks)
 
+-- the list without the command at that position; if none was found all stay
 abbrev pub removed_at : List OpenTask → Option ℕ → List OpenTask
 removed_at tasks None = tasks
 removed_at tasks (Some k) = remove tasks k
 
--- the open commands without it
+-- the open commands without the one of this tag
 abbrev pub without : ℕ → List OpenTask → List OpenTask
 without tag tasks = removed_at tasks (position (has_tag tag) tasks)
 
@@ -104,6 +107,7 @@ abbrev pub taken : Heard → OpenTask → Option WriteBegun → List ℕ → Hea
 taken j t None block = with_open j t
 taken j t (Some w) block = gathered j t (with_block w block)
 
+-- data whose tag no open command has change nothing
 abbrev pub taken_by : Heard → Option OpenTask → List ℕ → Heard
 taken_by j None block = j
 taken_by j (Some t) block = taken j t t.write block
@@ -112,6 +116,7 @@ taken_by j (Some t) block = taken j t t.write block
 abbrev pub received : Heard → ℕ → List ℕ → Heard
 received j tag block = taken_by (record j { tasks = without tag j.tasks }) (open_with tag j.tasks) block
 
+-- a DATA OUT with less than a block changes nothing
 abbrev pub received_from : Heard → ℕ → Option (List ℕ) → Heard
 received_from j tag None = j
 received_from j tag (Some block) = received j tag block

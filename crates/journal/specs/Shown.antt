@@ -8,12 +8,12 @@ use Rattle.ufs_spec.specs.declared.configs.Numbers.{Numbers}
 abbrev pub IsShownAt : List (List (List ℕ)) → Plain → ℕ → ℕ → Type 0
 IsShownAt found p unit address = slice_get (slice_index_or found unit []) address ≡ Some (block_at unit address p)
 
--- so it is at each address of each unit
+-- at each address of each unit the block of the plain device was found
 abbrev pub Shows : List (List (List ℕ)) → Plain → Type 0
 Shows found p =
     (unit address : ℕ) → unit < length p.units → address < length (unit_of unit p) → IsShownAt found p unit address
 
--- the command is a write of blocks that are there
+-- the command is a write of 1 to 32 blocks that are there; no other kind of command comes from a script
 abbrev pub IsWriteWithin : Numbers → Command → Type 0
 IsWriteWithin n (Write unit address blocks) = FitsIn n (Write unit address blocks)
 IsWriteWithin n _ = ⊥

@@ -12,15 +12,15 @@ pub record WriteBegun : Type 0 where
   pub forced : Bool
   pub blocks : List (List ℕ)
 
--- one block more came
+-- one block more came for the WRITE
 abbrev pub with_block : WriteBegun → List ℕ → WriteBegun
 with_block w block = record w { blocks = w.blocks ++ block ∷ [] }
 
--- all its blocks came
+-- all blocks of the WRITE came, so it can be accepted
 abbrev pub is_whole : WriteBegun → Bool
 is_whole w = nat_le w.count (length w.blocks)
 
--- the command that it is
+-- the WRITE as an accepted command
 abbrev pub write_of : WriteBegun → Command
 write_of w = Write w.unit w.address w.blocks
 
@@ -32,7 +32,7 @@ has_content block = list_any (λ byte. not (byte == 0)) block
 abbrev pub write_there : ℕ → ℕ → List ℕ → List Command
 write_there unit address block = if has_content block then Write unit address (block ∷ []) ∷ [] else []
 
--- so at an address, which has 32 bits
+-- a WRITE of this block at this address, unless all its bytes are zero; an address has 32 bits
 abbrev pub write_at : ℕ → ℕ → List ℕ → List Command
 write_at unit address block = if nat_lt address (2 ^ 32) then write_there unit address block else []
 
@@ -41,11 +41,11 @@ abbrev pub writes_from : ℕ → ℕ → List (List ℕ) → List Command
 writes_from unit address [] = []
 writes_from unit address (block ∷ blocks) = write_at unit address block ++ writes_from unit (address + 1) blocks
 
--- so of one unit, whose number is a byte
+-- the WRITEs that make one unit, whose number is a byte
 abbrev pub writes_to : ℕ → List (List ℕ) → List Command
 writes_to unit blocks = if nat_lt unit (2 ^ 8) then writes_from unit 0 blocks else []
 
--- so of each unit, the first of them having this number
+-- the WRITEs that make all units: the first of these units has this number, and each later one the next
 abbrev pub writes_of : ℕ → List (List (List ℕ)) → List Command
 writes_of unit [] = []
 writes_of unit (blocks ∷ units) = writes_to unit blocks ++ writes_of (unit + 1) units

@@ -2,11 +2,13 @@
 ghost use Rattle.std.specs.Prelude.{◌≡◌, ◌+◌, ◌<◌, ◌≤◌, ◌↔◌, ℕ, All, IfNone, IfOk, IfSome, None, false, length, map};
 ghost use Rattle.std.specs.Prelude.{slice_get, slice_index_or, Some, take, true};
 ghost use Rattle.ufs_spec.specs.Commands.{command_of};
-ghost use Rattle.ufs_spec.specs.Plain.{Plain, CanApply, after, apply, block_at, shape_of, shape_of_numbers, unit_of, zero};
+ghost use Rattle.ufs_spec.specs.Plain.{Plain, CanApply, after, apply, block_at, greatest_command, shape_of, shape_of_numbers, unit_of, zero};
 ghost use Rattle.journal.specs.Shown.{IsShownAt, IsWriteWithin, Shows};
 
 use std::alloc::Global;
-use ufs_spec::{Block, Cmd, NoMemory, Numbers, PlainDevice, UnitSpec, commands_keep_the_shape};
+use ufs_spec::{
+    Block, Cmd, GREATEST_COMMAND, NoMemory, Numbers, PlainDevice, UnitSpec, commands_keep_the_shape,
+};
 
 /// Where a block is.
 #[derive(Clone, Copy)]
@@ -82,14 +84,16 @@ pub fn is_write_within(numbers: &Numbers, command: &Cmd) -> bool
     }
 }
 
-/// Whether these are 1 to 32 blocks of a unit.
+/// Whether a command may have these blocks of a unit: one at least, and none past its end.
 fn is_within(units: &[UnitSpec], unit: u8, address: u32, count: usize) -> bool
-    ensures { result ≡ true ↔ (unit < length units.now) × (1 ≤ count) × (count ≤ 32)
+    ensures { result ≡ true ↔ (unit < length units.now) × (1 ≤ count) × (count ≤ greatest_command)
         × (address + count ≤ slice_index_or (map (λ u. u.blocks) units.now) unit 0) }
 {
     match units.get(unit as usize) {
         Some(spec) => {
-            1 <= count && count <= 32 && address as usize + count <= spec.blocks as usize
+            1 <= count
+                && count <= usize::from(GREATEST_COMMAND)
+                && address as usize + count <= spec.blocks as usize
         }
         None => false,
     }

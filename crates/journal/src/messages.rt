@@ -9,6 +9,7 @@ ghost use Rattle.journal.specs.Writes.{writes_from, writes_to};
 
 use std::alloc::Global;
 use std::marker::Model;
+use ufs_spec::codes::{COMMAND, DATA_OUT, RESPONSE};
 use ufs_spec::{Block, Cmd, NoMemory, read_u16, read_u32};
 
 /// What the host of one life wrote. The commands begin with those that make a new device what it was
@@ -71,12 +72,6 @@ impl Model for OpenWrite {
       blocks = w.blocks.items;
     } };
 }
-
-const COMMAND: u8 = 0x01;
-
-const DATA_OUT: u8 = 0x02;
-
-const RESPONSE: u8 = 0x21;
 
 const WRITE_6: u8 = 0x0A;
 
@@ -174,7 +169,10 @@ impl Journal {
     fn open_task(&mut self, task: OpenTask) -> Result<(), NoMemory>
         ensures { OnOk result (self.new ≡ with_open self.old task) }
     {
-        self.tasks.push(task).map_err(|_| NoMemory)
+        match self.tasks.push(task) {
+            Ok(()) => Ok(()),
+            Err(_) => Err(NoMemory),
+        }
     }
 
     // A block came for the open command with this tag.
@@ -273,7 +271,10 @@ impl OpenWrite {
     fn add(&mut self, block: Block) -> Result<(), NoMemory>
         ensures { OnOk result (self.new ≡ with_block self.old block) }
     {
-        self.blocks.push(block).map_err(|_| NoMemory)
+        match self.blocks.push(block) {
+            Ok(()) => Ok(()),
+            Err(_) => Err(NoMemory),
+        }
     }
 
     // Whether all its blocks came.
@@ -326,8 +327,10 @@ fn add_command(commands: &mut Vec<Cmd>, command: Cmd) -> Result<usize, NoMemory>
         ≡ map command_of commands.old.items ++ command_of command ∷ []) }
     ensures count { IfOk result (λ n. n ≡ length (map command_of commands.old.items) + 1) }
 {
-    commands.push(command).map_err(|_| NoMemory)?;
-    Ok(commands.len())
+    match commands.push(command) {
+        Ok(()) => Ok(commands.len()),
+        Err(_) => Err(NoMemory),
+    }
 }
 
 // A write of each block of a unit that is not all zeros, if the unit's number is a byte.
@@ -399,7 +402,8 @@ fn write_there(
         address,
         blocks,
     };
-    add_command(commands, command).map(|_| ())
+    add_command(commands, command)?;
+    Ok(())
 }
 
 // A list of one block.
@@ -407,8 +411,10 @@ fn one_block(alloc: Global, block: &Block) -> Result<Vec<Block>, NoMemory>
     ensures { IfOk result (λ v. v.items ≡ block.now ∷ []) }
 {
     let mut blocks = Vec::new(alloc);
-    blocks.push(*block).map_err(|_| NoMemory)?;
-    Ok(blocks)
+    match blocks.push(*block) {
+        Ok(()) => Ok(blocks),
+        Err(_) => Err(NoMemory),
+    }
 }
 
 // Whether not all bytes are zero.

@@ -2,29 +2,18 @@
 ghost use Rattle.std.specs.Prelude.{◌≡◌, ◌<◌, ◌≤◌, ◌^◌, IfOk, replicate};
 ghost use Rattle.ufs_spec.specs.Dies.{new_die};
 
-use crate::fault::{Fault, expect};
+use crate::fault::Fault;
 use geometry::Config;
 use nand_model::{Die, MemDie};
 use page_tag::{mark_body, seal};
 use std::alloc::Global;
-use ufs_spec::{ConfigFault, Job, NoMemory, Page, Place, Tag, UnitSpec};
+use ufs_spec::{Job, NoMemory, Page, Place, Tag};
+use workbench::collected::blank;
 
-/// How many blocks a die has, and how many pages a block.
+/// How many blocks a die has, and how many pages a block: these of the small configuration.
 pub const BLOCKS: u16 = 20;
 
 pub const PAGES: u16 = 16;
-
-/// Two such dies, a unit of 64 blocks, one step of RPMB, 64 slots, no spare block.
-pub fn config() -> Result<Config, ConfigFault>
-    ensures { IfOk result (λ c. (c.dies ≡ 2) × (c.blocks ≡ 20) × (c.pages ≡ 16)) }
-{
-    let units = [UnitSpec {
-        blocks: 64,
-        boot: 0,
-        protect: 0,
-    }];
-    Config::new(2, BLOCKS, PAGES, &units, 1, 64, 0)
-}
 
 /// New dies of these sizes.
 pub fn new_dies(alloc: Global) -> Result<Vec<MemDie>, NoMemory>
@@ -36,23 +25,8 @@ pub fn new_dies(alloc: Global) -> Result<Vec<MemDie>, NoMemory>
     Ok(dies)
 }
 
-/// A place on the dies.
-pub const fn at(die: u8, block: u16, page: u16) -> Place {
-    Place { die, block, page }
-}
-
-/// Sets the page there.
-pub fn put(dies: &mut [MemDie], place: Place, page: &Page) -> Result<(), Fault> {
-    let die = usize::from(place.die);
-    if die >= dies.len() || !dies[die].can_do(&Job::Read(place)) {
-        return Err(Fault::Wrong("there is no such page"));
-    }
-    dies[die].set_page(place.block, place.page, page);
-    Ok(())
-}
-
 /// The page of a group of one page: equal bytes at an address of the unit.
-pub fn data(address: u8, number: u8, frontier: u8, byte: u8) -> Page
+fn data(address: u8, number: u8, frontier: u8, byte: u8) -> Page
     requires { 1 ≤ number }
 {
     let tag = Tag {
@@ -81,58 +55,92 @@ fn mark(config: &Config) -> Page {
     seal(&tag, &mark_body(config.numbers(), None))
 }
 
-/// Dies with a mark, and with the groups 1 to 7, of which group N + 1 has the block of address N.
-pub fn written_dies(alloc: Global) -> Result<Vec<MemDie>, Fault> {
-    let mut dies = new_dies(alloc)?;
-    put(dies.as_mut_slice(), at(0, 0, 0), &mark(&config()?))?;
-    for address in 0..7u8 {
-        let page = data(address, address + 1, 0, 0x5A);
-        put(dies.as_mut_slice(), at(1, 0, u16::from(address)), &page)?;
-    }
-    Ok(dies)
+/// What stands on the dies.
+#[derive(Clone, Copy, PartialEq, Eq)]
+pub enum Written {
+    /// Nothing.
+    New,
+    /// A mark, and the groups 1 to 7, of which group N + 1 has the block of address N.
+    Groups,
+    /// The same, and behind a gap group 9, with the block of address 8.
+    Gap,
+    /// The groups, and the page of a write that a stop left whole.
+    Stopped,
 }
 
-/// The same, and behind a gap group 9, with the block of address 8.
-pub fn dies_with_gap(alloc: Global) -> Result<Vec<MemDie>, Fault> {
-    let mut dies = written_dies(alloc)?;
-    put(dies.as_mut_slice(), at(1, 1, 0), &data(8, 9, 0, 0x77))?;
-    Ok(dies)
+/// Where the write's page goes: the die that is asked has one closed block, and opens the next.
+pub const WRITTEN: Place = Place {
+    die: 0,
+    block: 1,
+    page: 0,
+};
+
+/// The page itself: group 8, and the frontier when it is handed out is 7.
+pub fn written_page() -> Page {
+    data(3, 8, 7, 0x44)
 }
 
-/// The pages of the dies are these.
-pub fn expect_pages(dies: &[MemDie], wanted: &[MemDie]) -> Result<(), Fault> {
-    expect(dies.len() == wanted.len(), "the dies are not as many")?;
-    for (die, other) in dies.iter().zip(wanted) {
-        expect(has_pages_of(die, other), "a page of a die is another")?;
+/// What stands there on such dies.
+fn page_there(config: &Config, written: Written, place: Place) -> Page {
+    let is_new = written == Written::New;
+    match (place.die, place.block, place.page) {
+        (0, 0, 0) if !is_new => mark(config),
+        (1, 0, 0..=6) if !is_new => {
+            let address = (place.page % 7) as u8;
+            data(address, address + 1, 0, 0x5A)
+        }
+        (1, 1, 0) if written == Written::Gap => data(8, 9, 0, 0x77),
+        (0, 1, 0) if written == Written::Stopped => written_page(),
+        _ => blank(),
     }
-    Ok(())
 }
 
-/// Whether the die has the sizes, the pages and the bad blocks of the other one.
-fn has_pages_of(die: &MemDie, other: &MemDie) -> bool {
-    if die.blocks() != other.blocks() || die.pages() != other.pages() {
-        return false;
+/// Sets the page there, if there is one.
+fn put(dies: &mut [MemDie], config: &Config, written: Written, place: Place) {
+    let die = usize::from(place.die);
+    if die < dies.len() && dies[die].can_do(&Job::Read(place)) {
+        let page = page_there(config, written, place);
+        dies[die].set_page(place.block, place.page, &page);
     }
-    for block in 0..die.blocks() {
-        for page in 0..die.pages() {
-            let is_there = block < other.blocks() && page < other.pages();
-            if !is_there || die.page_at(block, page) != other.page_at(block, page) {
-                return false;
+}
+
+/// Writes the first two blocks of each die so.
+fn write(dies: &mut [MemDie], config: &Config, written: Written) {
+    for die in 0..2u8 {
+        for block in 0..2u16 {
+            for page in 0..PAGES {
+                put(dies, config, written, Place { die, block, page });
             }
         }
-        if die.is_bad(block) != other.is_bad(block) {
-            return false;
-        }
     }
-    true
 }
 
-/// Whether the die is new: each byte of its pages is FFh, and no block is bad.
-pub fn is_new(die: &MemDie) -> bool {
-    for block in 0..die.blocks() {
-        for page in 0..die.pages() {
-            let page = die.page_at(block, page);
-            if page.body != [0xFF; 4096] || page.spare != [0xFF; 96] {
+/// Two dies on which this stands.
+pub fn dies_of(alloc: Global, config: &Config, written: Written) -> Result<Vec<MemDie>, Fault> {
+    let mut dies = new_dies(alloc)?;
+    write(dies.as_mut_slice(), config, written);
+    Ok(dies)
+}
+
+/// Whether there are two dies, and this stands on them, and no block is bad.
+pub fn hold(dies: &[MemDie], config: &Config, written: Written) -> bool {
+    dies.len() == 2 && holds(&dies[0], 0, config, written) && holds(&dies[1], 1, config, written)
+}
+
+/// Whether this stands on the die with this number, and no block is bad.
+pub fn holds(die: &MemDie, number: u8, config: &Config, written: Written) -> bool {
+    if die.blocks() != BLOCKS || die.pages() != PAGES {
+        return false;
+    }
+    for block in 0..BLOCKS {
+        for page in 0..PAGES {
+            let place = Place {
+                die: number,
+                block,
+                page,
+            };
+            let is_there = block < die.blocks() && page < die.pages();
+            if !is_there || *die.page_at(block, page) != page_there(config, written, place) {
                 return false;
             }
         }
@@ -140,5 +148,5 @@ pub fn is_new(die: &MemDie) -> bool {
             return false;
         }
     }
-    die.blocks() == BLOCKS && die.pages() == PAGES
+    true
 }

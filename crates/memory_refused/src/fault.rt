@@ -1,14 +1,11 @@
 //! Why a call was not found to answer rightly.
 use std::alloc::{AllocError, AllocFailed};
-use thiserror::Error;
 use ufs_spec::{ConfigFault, NoMemory};
 
-/// Why a call was not found to answer rightly.
-#[derive(Debug, Drop, Error)]
+/// Why a call was not found to answer rightly: memory was refused before it, or this is wrong.
+#[derive(Drop)]
 pub enum Fault {
-    #[error("no memory before the call")]
     Before,
-    #[error("wrong: {0}")]
     Wrong(&'static str),
 }
 

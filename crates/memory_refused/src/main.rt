@@ -1,25 +1,34 @@
-//! What calls make of refused memory. For each call the program prints a line that it answers
-//! rightly; where memory is refused to the call, the line tells that it said so, and that the same
-//! call then answered rightly, over dies that are as they were where they are still the caller's.
+//! What a device makes of refused memory. With no words the program plays a worked row by the device's five
+//! calls, which take no memory.
 //!
-//! The words `CALL COUNT` name one call, and how many allocations are made before all else: so the
-//! tool that refuses one allocation by its number has each allocation of each call refused. With no
-//! words the program goes through all calls.
+//! With the word `refused` it makes each call that takes memory, and prints a line for each, that the call
+//! answers rightly. Where memory is refused to a call, the call has to say so; it is made again, over dies that
+//! are as they were where they are still the caller's, and has to answer rightly then. So the lines are the same
+//! whichever one allocation of a call is refused. Where one before the call is refused, the program ends with
+//! status 1. The words `refused CALL` name one call.
+//!
+//! With a number behind the words, as `row COUNT` or `refused CALL COUNT`, the program takes memory so many times
+//! before all else, and reads its words once more at the end, which takes memory, too. So the tool that refuses one
+//! allocation by its number has each allocation of the row and of each call refused, and sees where they end.
 #![tactic(auto)]
 
 mod calls;
 mod dies;
 mod events;
 mod fault;
+mod five_calls;
 mod shares;
+mod worlds;
 
-use crate::calls::{Readers, new_die, new_world, open_device, run_events, scan_dies, stop_world};
+use crate::calls::{Readers, new_die, open_device, scan_dies};
 use crate::fault::Fault;
+use crate::five_calls::play_five_calls;
 use crate::shares::share_device;
+use crate::worlds::{new_world, run_events, stop_world};
 use anyhow::{Result, bail};
 use std::alloc::{AllocError, Global};
-use std::env;
 use std::thread::Threads;
+use std::{env, io};
 
 /// The names of the calls, in the order in which the program goes through them.
 const CALLS: [&str; 9] = [
@@ -42,10 +51,8 @@ fn take_memory(alloc: Global, count: u16) -> Result<(), AllocError> {
     Ok(())
 }
 
-/// Makes the call of this name, behind so many allocations; whether memory was refused to it before
-/// it answered rightly.
-fn make<R: Threads + Sync>(rt: &R, alloc: Global, name: &str, count: u16) -> Result<bool, Fault> {
-    take_memory(alloc, count)?;
+/// Makes the call of this name.
+fn make<R: Threads + Sync>(rt: &R, alloc: Global, name: &str) -> Result<(), Fault> {
     match name {
         "MemDie::new" => new_die(alloc),
         "scan" => scan_dies(rt, alloc, Readers::Caller),
@@ -61,11 +68,19 @@ fn make<R: Threads + Sync>(rt: &R, alloc: Global, name: &str, count: u16) -> Res
 }
 
 /// Makes the call, and prints what became of it.
-fn show<R: Threads + Sync + Print>(rt: &R, alloc: Global, name: &str, count: u16) -> Result<()> {
-    match make(rt, alloc, name, count) {
-        Ok(false) => println!(rt; "{name}: right")?,
-        Ok(true) => println!(rt; "{name}: no memory, and then right")?,
-        Err(fault) => println!(rt; "{name}: {fault}")?,
+fn show<R: Threads + Sync + Print>(rt: &R, alloc: Global, name: &str) -> Result<()> {
+    match make(rt, alloc, name) {
+        Ok(()) => println!(rt; "{name}: right")?,
+        Err(Fault::Wrong(what)) => println!(rt; "{name}: wrong: {what}")?,
+        Err(Fault::Before) => bail!("no memory before the call"),
+    }
+    Ok(())
+}
+
+/// Makes all calls, one after another.
+fn show_all<R: Threads + Sync + Print>(rt: &R, alloc: Global) -> Result<()> {
+    for name in CALLS {
+        show(rt, alloc, name)?;
     }
     Ok(())
 }
@@ -73,13 +88,21 @@ fn show<R: Threads + Sync + Print>(rt: &R, alloc: Global, name: &str, count: u16
 fn main(rt: HostRuntime) -> Result<()> {
     let words: Vec<String> = env::args(&rt)?.collect(rt.alloc())?;
     match words.as_slice() {
-        [_] => {
-            for name in CALLS {
-                show(&rt, rt.alloc(), name, 0)?;
-            }
+        [_] => play_five_calls(rt.alloc(), &mut io::writer(&rt)),
+        [_, word] if word.as_str() == "refused" => show_all(&rt, rt.alloc()),
+        [_, word, count] if word.as_str() == "row" => {
+            take_memory(rt.alloc(), count.parse::<u16>()?)?;
+            play_five_calls(rt.alloc(), &mut io::writer(&rt))?;
+            let _again: Vec<String> = env::args(&rt)?.collect(rt.alloc())?;
             Ok(())
         }
-        [_, name, count] => show(&rt, rt.alloc(), name, count.parse::<u16>()?),
-        _ => bail!("usage: memory_refused [CALL COUNT]"),
+        [_, word, name] if word.as_str() == "refused" => show(&rt, rt.alloc(), name),
+        [_, word, name, count] if word.as_str() == "refused" => {
+            take_memory(rt.alloc(), count.parse::<u16>()?)?;
+            show(&rt, rt.alloc(), name)?;
+            let _again: Vec<String> = env::args(&rt)?.collect(rt.alloc())?;
+            Ok(())
+        }
+        _ => bail!("usage: memory_refused [row COUNT | refused [CALL [COUNT]]]"),
     }
 }

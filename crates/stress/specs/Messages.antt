@@ -8,6 +8,7 @@ use Rattle.stress.specs.Writes.{address_of, content_of}
 
 -- ## What it sends
 
+-- a TEST UNIT READY for unit 0, which carries no data
 abbrev pub is_ready : ℕ → Message
 is_ready host = Command 0x00 0 host 0 (cdb_bytes TestUnitReady)
 
@@ -15,7 +16,7 @@ is_ready host = Command 0x00 0 host 0 (cdb_bytes TestUnitReady)
 abbrev pub write_one : ℕ → ℕ → Message
 write_one host write = Command 0x20 0 host 4096 (cdb_bytes (Write10 (address_of host write) 1 true))
 
--- the block
+-- the DATA OUT with the block of the WRITE
 abbrev pub bring : ℕ → ℕ → Message
 bring host write = DataOut 0 host 0 (record { items = content_of host write })
 
@@ -25,7 +26,7 @@ read_one host write = Command 0x40 0 host 4096 (cdb_bytes (Read10 (address_of ho
 
 -- ## What it has to hear
 
--- the task went well
+-- the RESPONSE that says GOOD: the command of this host went well
 abbrev pub good : ℕ → Message
 good host = Response 0 0 host 0 0 0 None
 

@@ -81,6 +81,15 @@ impl Crew {
         self.start_hosts(rt, ports)
     }
 
+    // What a new thread owns: the runtime, and what it shares with the others.
+    fn own<R: Threads + Wait + Clone + Send + 'static>(
+        &self,
+        rt: &R,
+    ) -> Result<(R, Arc<Common, Global>), StressFault> {
+        let own = rt.clone()?;
+        Ok((own, Arc::try_clone(&self.common)?))
+    }
+
     fn start_lanes<R: Threads + Wait + Clone + Send + 'static>(
         &mut self,
         rt: &R,
@@ -101,10 +110,9 @@ impl Crew {
     ) -> Result<(), StressFault>
         requires { lane.ended ≡ None }
     {
-        let own = rt.clone()?;
-        let common = Arc::try_clone(&self.common)?;
+        let (own, common) = self.own(rt)?;
         match thread::spawn(rt, move || serve_lane(&own, lane, common)) {
-            Ok(child) => self.servers.push(child).map_err(|_| StressFault::Memory),
+            Ok(child) => Ok(self.servers.push(child)?),
             Err(_) => Err(StressFault::Thread),
         }
     }
@@ -114,10 +122,9 @@ impl Crew {
         rt: &R,
         keeper: Keeper<MemDie>,
     ) -> Result<(), StressFault> {
-        let own = rt.clone()?;
-        let common = Arc::try_clone(&self.common)?;
+        let (own, common) = self.own(rt)?;
         match thread::spawn(rt, move || serve_keeper(&own, keeper, common)) {
-            Ok(child) => self.servers.push(child).map_err(|_| StressFault::Memory),
+            Ok(child) => Ok(self.servers.push(child)?),
             Err(_) => Err(StressFault::Thread),
         }
     }
@@ -141,11 +148,10 @@ impl Crew {
         port: Port<MemDie>,
         number: u8,
     ) -> Result<(), StressFault> {
-        let own = rt.clone()?;
+        let (own, common) = self.own(rt)?;
         let host = Host::new(port, number, Arc::try_clone(&self.common)?);
-        let common = Arc::try_clone(&self.common)?;
         match thread::spawn(rt, move || serve_host(&own, host, common)) {
-            Ok(child) => self.hosts.push(child).map_err(|_| StressFault::Memory),
+            Ok(child) => Ok(self.hosts.push(child)?),
             Err(_) => Err(StressFault::Thread),
         }
     }

@@ -1,11 +1,11 @@
 //! Why there is no line to print.
-use std::alloc::AllocError;
+use std::alloc::{AllocError, AllocFailed};
 use std::io;
 use thiserror::Error;
 use ufs_spec::{ConfigFault, NoMemory, OpenFault};
 
 /// Why a run ends with no line, as the program prints it after its name.
-#[derive(Clone, Copy, Debug, Error, PartialEq, Eq)]
+#[derive(Clone, Copy, Debug, Error)]
 pub enum StressFault {
     /// No device has so many dies.
     #[error("config")]
@@ -23,6 +23,13 @@ pub enum StressFault {
 
 impl From<AllocError> for StressFault {
     fn from(_: AllocError) -> StressFault {
+        StressFault::Memory
+    }
+}
+
+// What was to be added to a list that could not grow is let go.
+impl<T: Drop> From<AllocFailed<T>> for StressFault {
+    fn from(_: AllocFailed<T>) -> StressFault {
         StressFault::Memory
     }
 }

@@ -1,7 +1,7 @@
 //! A device over new dies, shared by hosts.
 ghost use Rattle.std.specs.Prelude.{◌≡◌, IfOk, None, length, replicate};
 ghost use Rattle.std.specs.List.{All};
-ghost use Rattle.row_config.specs.RowShape.{row_shape};
+ghost use Rattle.workbench.specs.RowShape.{row_shape};
 ghost use Rattle.ufs_spec.specs.Dies.{new_die};
 ghost use Rattle.ufs_spec.specs.Plain.{shape_of_numbers};
 
@@ -10,9 +10,9 @@ use device::Device;
 use geometry::Config;
 use lanes::Shared;
 use nand_model::MemDie;
-use row_config::row_config;
 use std::alloc::Global;
 use ufs_spec::{ConfigFault, NoMemory};
+use workbench::row_config;
 
 /// The configuration of the worked rows over so many dies. One die has twice as many blocks, so that the
 /// units have room.
@@ -44,7 +44,9 @@ fn new_dies(alloc: Global, config: &Config) -> Result<Vec<MemDie>, NoMemory>
     let mut dies = Vec::with_capacity(alloc, numbers.dies as usize)?;
     for _ in 0..numbers.dies {
         let die = MemDie::new(alloc, numbers.blocks, numbers.pages)?;
-        dies.push(die).map_err(|_| NoMemory)?;
+        if dies.push(die).is_err() {
+            return Err(NoMemory);
+        }
     }
     Ok(dies)
 }

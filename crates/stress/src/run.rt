@@ -62,9 +62,11 @@ fn run<R: Threads + Wait + Clock + Clone + Send + 'static>(
     dies: u8,
     hosts: u8,
 ) -> Result<u64, StressFault> {
-    let shared = new_shared(alloc, dies, hosts)?;
     let mut crew = Crew::new(alloc, dies as usize, hosts as usize)?;
-    let started = crew.start(rt, shared);
+    let started = match new_shared(alloc, dies, hosts) {
+        Ok(shared) => crew.start(rt, shared),
+        Err(fault) => Err(fault),
+    };
     if started.is_ok() {
         crew.watch(rt, WRITES * u64::from(hosts));
     }

@@ -11,7 +11,7 @@ use std::alloc::Global;
 use ufs_spec::{Block, Event, Job, Output};
 
 /// Which stops are tried at a program or an erase.
-#[derive(Clone, Copy, PartialEq, Eq)]
+#[derive(Clone, Copy)]
 pub enum Stops {
     /// One, with the same content on all dies that program or erase.
     One,
@@ -40,7 +40,7 @@ impl Check {
         Ok(Check {
             config,
             tries,
-            journal: Journal::new(alloc, &[]).map_err(|_| Word::Memory)?,
+            journal: Journal::new(alloc, &[])?,
             stops: 0,
             bad: 0,
         })
@@ -55,32 +55,44 @@ impl Check {
         event: &Event,
         output: &Output,
     ) -> Result<(), Word> {
-        match (event, output) {
-            (Event::Host(message), Output::Host(Ok(_))) => self
-                .journal
-                .hear(alloc, message.as_slice())
-                .map_err(|_| Word::Memory),
-            (_, Output::Reply(Some(message))) => {
+        match output {
+            Output::Host(Ok(_)) => self.hear(alloc, event),
+            Output::Reply(Some(message)) => {
                 self.journal.tell(message.as_slice());
                 Ok(())
             }
-            (Event::Take(_), _) if is_write(output) => self.stop_here(alloc, world),
-            (Event::Fail(_, Some(_)), _) => {
-                self.journal.lock();
+            Output::Take(Some(job)) if is_write(job) => self.stop_here(alloc, world),
+            Output::Ended => {
+                self.end(event);
                 Ok(())
             }
-            (Event::Stop(_), _) => self.begin_life(alloc, world),
+            Output::Stopped => self.begin_life(alloc, world),
             _ => Ok(()),
+        }
+    }
+
+    // The device took a message.
+    fn hear(&mut self, alloc: Global, event: &Event) -> Result<(), Word> {
+        match event {
+            Event::Host(message) => Ok(self.journal.hear(alloc, message.as_slice())?),
+            _ => Ok(()),
+        }
+    }
+
+    // A job ended. After a program or an erase that failed no write is accepted.
+    fn end(&mut self, event: &Event) {
+        if let Event::Fail(_, Some(_)) = event {
+            self.journal.lock();
         }
     }
 
     // The script's own stop: the base of the next life is what the dies then read as.
     fn begin_life(&mut self, alloc: Global, world: &World) -> Result<(), Word> {
-        let dies = copied_dies(alloc, world.dies()).map_err(|_| Word::Memory)?;
+        let dies = copied_dies(alloc, world.dies())?;
         let is_bad = has_bad(dies.as_slice());
         match blocks_held(alloc, &self.config, dies)? {
             Some(base) => {
-                self.journal = Journal::new(alloc, base.as_slice()).map_err(|_| Word::Memory)?;
+                self.journal = Journal::new(alloc, base.as_slice())?;
             }
             None => self.bad = self.bad.saturating_add(1),
         }
@@ -127,7 +139,7 @@ impl Check {
     fn is_kept(&self, alloc: Global, found: &[Vec<Block>]) -> Result<bool, Word> {
         let numbers = self.config.numbers();
         let held = self.journal.held();
-        is_kept(alloc, numbers, self.journal.commands(), held, found).map_err(|_| Word::Memory)
+        Ok(is_kept(alloc, numbers, self.journal.commands(), held, found)?)
     }
 
     // As `try_stop`, and in the mending a second stop at each program and each erase.
@@ -203,11 +215,7 @@ impl Check {
     }
 }
 
-// Whether a program or an erase was given to a die.
-fn is_write(output: &Output) -> bool {
-    match output {
-        Output::Take(Some(Job::Program(_, _))) => true,
-        Output::Take(Some(Job::Erase { .. })) => true,
-        _ => false,
-    }
+// Whether the job is a program or an erase.
+fn is_write(job: &Job) -> bool {
+    !matches!(job, Job::Read(_))
 }

@@ -50,15 +50,21 @@ impl Command {
         match first {
             b"host" => host(alloc, words),
             b"fill" => fill(alloc, words),
-            b"reply" => expect(words, 0).map(|_| Command::Reply),
+            b"reply" => alone(words, Command::Reply),
             b"take" => take(words),
             b"done" => done(words),
-            b"turn" => expect(words, 0).map(|_| Command::Turn),
+            b"turn" => alone(words, Command::Turn),
             b"settle" => settle(words),
             b"stop" => stop(alloc, words),
             _ => Err(Word::Word),
         }
     }
+}
+
+// A command without further words.
+fn alone(words: Words<'_>, command: Command) -> Result<Command, Word> {
+    expect(words, 0)?;
+    Ok(command)
 }
 
 fn host(alloc: Global, mut words: Words<'_>) -> Result<Command, Word> {
@@ -70,12 +76,19 @@ fn host(alloc: Global, mut words: Words<'_>) -> Result<Command, Word> {
 fn fill(alloc: Global, mut words: Words<'_>) -> Result<Command, Word> {
     expect(words, 3)?;
     let mut message = decoded(alloc, words.word()?)?;
-    let mut filler = [0];
-    hex::decode_to_slice(words.word()?, &mut filler).map_err(|_| Word::Hex)?;
-    let count = words.number()? as usize;
+    let (filler, count) = filling(words)?;
     let length = message.len().saturating_add(count.min(LONGEST + 1));
-    message.resize(length, filler[0]).map_err(|_| Word::Memory)?;
+    message.resize(length, filler)?;
     Ok(Command::Host(message))
+}
+
+// The byte BB and the number N.
+fn filling(mut words: Words<'_>) -> Result<(u8, usize), Word> {
+    let mut filler = [0];
+    if hex::decode_to_slice(words.word()?, &mut filler).is_err() {
+        return Err(Word::Hex);
+    }
+    Ok((filler[0], words.number()? as usize))
 }
 
 fn take(mut words: Words<'_>) -> Result<Command, Word> {
@@ -109,7 +122,7 @@ fn stop(alloc: Global, words: Words<'_>) -> Result<Command, Word> {
     for word in words {
         let (digits, content) = read_left(word)?;
         let die = number(digits)?;
-        all.push(Left { die, content }).map_err(|_| Word::Memory)?;
+        all.push(Left { die, content })?;
     }
     Ok(Command::Stop(all))
 }

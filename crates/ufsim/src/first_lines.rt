@@ -7,7 +7,7 @@ use device::World;
 use geometry::Config;
 use nand_model::MemDie;
 use std::alloc::Global;
-use ufs_spec::{NoMemory, RunFault, RunFaultKind, UnitSpec};
+use ufs_spec::{RunFault, RunFaultKind, UnitSpec};
 
 /// What the first lines say. A number that its field cannot hold stands there as the greatest that it
 /// can, which no configuration has.
@@ -32,7 +32,7 @@ impl<'a> FirstLines<'a> {
     pub fn read(script: &'a [u8]) -> Result<FirstLines<'a>, ScriptFault> {
         let mut lines = Lines::new(script);
         let line = next_line(&mut lines)?;
-        let config = fields::<6>(line.bytes, b"config").map_err(|word| line.fault(word))?;
+        let config = line.told(fields::<6>(line.bytes, b"config"))?;
         let [dies, blocks, pages, rpmb, slots, spare] = config;
         let mut first = FirstLines {
             dies: byte_field(dies),
@@ -53,7 +53,7 @@ impl<'a> FirstLines<'a> {
         let mut lines = self.rest;
         let mut line = next_line(&mut lines)?;
         loop {
-            let unit = fields::<3>(line.bytes, b"unit").map_err(|word| line.fault(word))?;
+            let unit = line.told(fields::<3>(line.bytes, b"unit"))?;
             self.add(unit);
             self.last = line;
             self.rest = lines;
@@ -75,7 +75,7 @@ impl<'a> FirstLines<'a> {
 
     /// The configuration of these lines: `Config` where it is refused.
     pub fn config(&self) -> Result<Config, Word> {
-        Config::new(
+        let made = Config::new(
             self.dies,
             self.blocks,
             self.pages,
@@ -83,16 +83,22 @@ impl<'a> FirstLines<'a> {
             self.rpmb,
             self.slots,
             self.spare,
-        )
-        .map_err(|_| Word::Config)
+        );
+        match made {
+            Ok(config) => Ok(config),
+            Err(_) => Err(Word::Config),
+        }
     }
 
     /// The device of these lines, over new dies: `Config` where it is refused, and `Memory` for want
     /// of memory.
     pub fn open(&self, alloc: Global) -> Result<World, Word> {
         let config = self.config()?;
-        let dies = new_dies(alloc, self.dies, self.blocks, self.pages).map_err(|_| Word::Memory)?;
-        World::new(alloc, config, dies).map_err(|fault| refused(&fault))
+        let dies = new_dies(alloc, self.dies, self.blocks, self.pages)?;
+        match World::new(alloc, config, dies) {
+            Ok(world) => Ok(world),
+            Err(fault) => Err(refused(&fault)),
+        }
     }
 }
 
@@ -134,11 +140,10 @@ fn short_field(number: u32) -> u16 {
 }
 
 // New dies of equal sizes.
-fn new_dies(alloc: Global, dies: u8, blocks: u16, pages: u16) -> Result<Vec<MemDie>, NoMemory> {
-    let mut all = Vec::with_capacity(alloc, dies as usize).map_err(|_| NoMemory)?;
+fn new_dies(alloc: Global, dies: u8, blocks: u16, pages: u16) -> Result<Vec<MemDie>, Word> {
+    let mut all = Vec::with_capacity(alloc, dies as usize)?;
     for _ in 0..dies {
-        all.push(MemDie::new(alloc, blocks, pages)?)
-            .map_err(|_| NoMemory)?;
+        all.push(MemDie::new(alloc, blocks, pages)?)?;
     }
     Ok(all)
 }

@@ -64,10 +64,10 @@ fn block_left(
         Some(die) => die.pages(),
         None => 0,
     };
-    let mut pages = Vec::with_capacity(alloc, count as usize).map_err(|_| Word::Memory)?;
+    let mut pages = Vec::with_capacity(alloc, count as usize)?;
     for page in 0..count {
         let left = page_left(dies, Place { die, block, page }, &BLANK, content);
-        pages.push(left).map_err(|_| Word::Memory)?;
+        pages.push(left)?;
     }
     Ok(pages)
 }

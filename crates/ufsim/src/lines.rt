@@ -12,11 +12,14 @@ pub(crate) struct Line<'a> {
 }
 
 impl Line<'_> {
-    /// The fault of this line.
-    pub fn fault(&self, word: Word) -> ScriptFault {
-        ScriptFault::Line {
-            number: self.number,
-            word,
+    /// What came of this line: its word becomes the fault of the line.
+    pub fn told<T>(&self, found: Result<T, Word>) -> Result<T, ScriptFault> {
+        match found {
+            Ok(value) => Ok(value),
+            Err(word) => Err(ScriptFault::Line {
+                number: self.number,
+                word,
+            }),
         }
     }
 }

@@ -1,18 +1,15 @@
 //! Opens a device again over dies, and reads by messages all that it holds.
-use crate::fault::Word;
+use crate::fault::{Word, word_of};
 use device::World;
 use geometry::Config;
 use journal::block_in;
 use nand_model::MemDie;
 use std::alloc::Global;
+use ufs_spec::codes::{COMMAND, DATA_IN, RESPONSE};
 use ufs_spec::{Block, Event, Output, RunFaultKind, UnitSpec, Upiu};
 
 /// How many replies and jobs a READ of one block may need.
 const READ_ROUNDS: usize = 8;
-
-const DATA_IN: u8 = 0x22;
-
-const RESPONSE: u8 = 0x21;
 
 /// The blocks of each unit as a device reads them that is opened over these dies and mended; `None` where
 /// it does not open, or does not answer each READ with its block.
@@ -58,10 +55,10 @@ impl Visit {
     }
 
     fn step(&mut self, event: &Event) -> Result<Output, Word> {
-        self.world.step(event).map_err(|fault| match fault.kind {
-            RunFaultKind::NoMemory => Word::Memory,
-            _ => Word::Event,
-        })
+        match self.world.step(event) {
+            Ok(output) => Ok(output),
+            Err(fault) => Err(word_of(&fault)),
+        }
     }
 
     /// Whether a step of mending or of collection was due.
@@ -76,7 +73,8 @@ impl Visit {
 
     /// The job of the die ends well.
     pub fn finish(&mut self, die: u8) -> Result<(), Word> {
-        self.step(&Event::Finish(die)).map(|_| ())
+        self.step(&Event::Finish(die))?;
+        Ok(())
     }
 
     // Rounds of a turn and of a job of each die, until none has work.
@@ -110,7 +108,7 @@ impl Visit {
                 return Ok(None);
             };
             match self.unit_blocks(number, unit.blocks)? {
-                Some(blocks) => all.push(blocks).map_err(|_| Word::Memory)?,
+                Some(blocks) => all.push(blocks)?,
                 None => return Ok(None),
             }
         }
@@ -122,7 +120,7 @@ impl Visit {
         let mut all = Vec::new(self.alloc);
         for address in 0..count {
             match self.block(unit, address)? {
-                Some(block) => all.push(block).map_err(|_| Word::Memory)?,
+                Some(block) => all.push(block)?,
                 None => return Ok(None),
             }
         }
@@ -131,10 +129,8 @@ impl Visit {
 
     // Reads a block; `None` where the READ is not answered with it and with GOOD.
     fn block(&mut self, unit: u8, address: u32) -> Result<Option<Block>, Word> {
-        let mut message = Vec::with_capacity(self.alloc, 32).map_err(|_| Word::Memory)?;
-        message
-            .extend_from_slice(&read_command(unit, address))
-            .map_err(|_| Word::Memory)?;
+        let mut message = Vec::with_capacity(self.alloc, 32)?;
+        message.extend_from_slice(&read_command(unit, address))?;
         let mut found = None;
         if let Output::Host(Err(_)) = self.step(&Event::Host(message))? {
             return Ok(found);
@@ -172,7 +168,7 @@ fn is_good(reply: &Upiu) -> bool {
 fn read_command(unit: u8, address: u32) -> [u8; 32] {
     let at = address.to_be_bytes();
     let mut message = [0; 32];
-    message[0] = 0x01;
+    message[0] = COMMAND;
     message[1] = 0x40;
     message[2] = unit;
     message[14] = 0x10;

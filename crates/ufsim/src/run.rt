@@ -3,7 +3,7 @@ ghost use Rattle.std.specs.Prelude.{◌≡◌, ◌≤◌};
 
 use crate::check::{Check, Stops};
 use crate::commands::{Command, Content, Left};
-use crate::fault::{ScriptFault, Word};
+use crate::fault::{ScriptFault, Word, word_of};
 use crate::first_lines::FirstLines;
 use crate::leftovers::leftover;
 use crate::lines::Lines;
@@ -11,7 +11,7 @@ use crate::outputs::show;
 use device::World;
 use std::alloc::Global;
 use std::io::Write;
-use ufs_spec::{Event, Job, Output, RunFaultKind};
+use ufs_spec::{Event, Job, Leftover, Output};
 
 /// Runs a script over new dies: writes a line of output for each of its lines to `out`, and the one
 /// line of a fault to `faults`. It answers the program's status: 0 where all lines were run, and 1
@@ -20,7 +20,7 @@ pub fn run_text<W: Write, F: Write>(alloc: Global, script: &[u8], out: &mut W, f
     ensures status { result ≤ 1 }
     ensures quiet { result ≡ 0 → faults.new ≡ faults.old }
 {
-    status_of(run_script(alloc, script, out).map(|_| true), faults)
+    status_of(run_script(alloc, script, out), faults)
 }
 
 /// Runs a script over new dies, and at each program and each erase that it gives to a die stops the
@@ -89,27 +89,22 @@ fn count_stops(
     first: FirstLines<'_>,
     tries: Stops,
 ) -> Result<(usize, usize), ScriptFault> {
-    let last = first.last;
-    let mut runner = Runner::checking(alloc, &first, tries).map_err(|word| last.fault(word))?;
-    runner.run_each(first.rest)?;
+    let mut runner = first.last.told(Runner::checking(alloc, &first, tries))?;
+    runner.run_to(first.rest, usize::MAX)?;
     Ok(runner.stops())
 }
 
 fn tell_stops<W: Write>(out: &mut W, stops: usize, bad: usize) -> Result<(), ScriptFault> {
-    writeln!(out, "check stops {stops} bad {bad}").map_err(|_| ScriptFault::Output)?;
-    out.flush().map_err(|_| ScriptFault::Output)
+    writeln!(out, "check stops {stops} bad {bad}")?;
+    Ok(out.flush()?)
 }
 
-fn run_script<W: Write>(alloc: Global, script: &[u8], out: &mut W) -> Result<(), ScriptFault> {
+// True if all lines were run.
+fn run_script<W: Write>(alloc: Global, script: &[u8], out: &mut W) -> Result<bool, ScriptFault> {
     let first = FirstLines::read(script)?;
-    let last = first.last;
-    let mut runner = Runner::new(alloc, &first).map_err(|word| last.fault(word))?;
-    for line in first.rest {
-        runner.run(line.bytes).map_err(|word| line.fault(word))?;
-        out.write_all(runner.shown.as_slice())
-            .map_err(|_| ScriptFault::Output)?;
-    }
-    out.flush().map_err(|_| ScriptFault::Output)
+    let mut runner = first.last.told(Runner::new(alloc, &first))?;
+    runner.print_each(first.rest, out)?;
+    Ok(true)
 }
 
 /// The device with its dies after the lines of a script up to the one with the number `last`. With a number
@@ -120,14 +115,8 @@ fn run_script<W: Write>(alloc: Global, script: &[u8], out: &mut W) -> Result<(),
 /// What `run_text` tells of these lines.
 pub fn world_after(alloc: Global, script: &[u8], last: usize) -> Result<World, ScriptFault> {
     let first = FirstLines::read(script)?;
-    let opened = first.last;
-    let mut runner = Runner::new(alloc, &first).map_err(|word| opened.fault(word))?;
-    for line in first.rest {
-        if line.number > last {
-            break;
-        }
-        runner.run(line.bytes).map_err(|word| line.fault(word))?;
-    }
+    let mut runner = first.last.told(Runner::new(alloc, &first))?;
+    runner.run_to(first.rest, last)?;
     Ok(runner.world)
 }
 
@@ -145,26 +134,42 @@ struct Runner {
 impl Runner {
     // The device of these lines.
     fn new(alloc: Global, first: &FirstLines) -> Result<Runner, Word> {
-        Ok(Runner {
-            alloc,
-            world: first.open(alloc)?,
-            dies: first.dies,
-            shown: Vec::new(alloc),
-            check: None,
-        })
+        Ok(Runner::over(alloc, first.open(alloc)?, first.dies, None))
     }
 
     // The same, with these stops tried at each program and each erase.
     fn checking(alloc: Global, first: &FirstLines, tries: Stops) -> Result<Runner, Word> {
-        let mut runner = Runner::new(alloc, first)?;
-        runner.check = Some(Check::new(alloc, first.config()?, tries)?);
-        Ok(runner)
+        let check = Check::new(alloc, first.config()?, tries)?;
+        Ok(Runner::over(alloc, first.open(alloc)?, first.dies, Some(check)))
     }
 
-    // Runs the lines, of which only the last one's output stays in `shown`.
-    fn run_each(&mut self, lines: Lines<'_>) -> Result<(), ScriptFault> {
+    // Over a device with so many dies.
+    fn over(alloc: Global, world: World, dies: u8, check: Option<Check>) -> Runner {
+        Runner {
+            alloc,
+            world,
+            dies,
+            shown: Vec::new(alloc),
+            check,
+        }
+    }
+
+    // Runs the lines, and writes the output of each one.
+    fn print_each<W: Write>(&mut self, lines: Lines<'_>, out: &mut W) -> Result<(), ScriptFault> {
         for line in lines {
-            self.run(line.bytes).map_err(|word| line.fault(word))?;
+            line.told(self.run(line.bytes))?;
+            out.write_all(self.shown.as_slice())?;
+        }
+        Ok(out.flush()?)
+    }
+
+    // Runs the lines up to the one with this number. Only the last one's output stays in `shown`.
+    fn run_to(&mut self, lines: Lines<'_>, last: usize) -> Result<(), ScriptFault> {
+        for line in lines {
+            if line.number > last {
+                break;
+            }
+            line.told(self.run(line.bytes))?;
         }
         Ok(())
     }
@@ -221,15 +226,18 @@ impl Runner {
 
     // The power fails, and the device is opened again.
     fn stop(&mut self, left: &[Left]) -> Result<(), Word> {
-        let mut leftovers = Vec::with_capacity(self.alloc, left.len()).map_err(|_| Word::Memory)?;
+        let mut leftovers = Vec::with_capacity(self.alloc, left.len())?;
         for one in left {
-            let Ok(die) = u8::try_from(one.die) else {
-                return Err(Word::Event);
-            };
-            let leftover = leftover(self.alloc, &self.world, die, one.content)?;
-            leftovers.push(leftover).map_err(|_| Word::Memory)?;
+            leftovers.push(self.leftover(*one)?)?;
         }
         self.tell(0, &Event::Stop(leftovers))
+    }
+
+    fn leftover(&self, left: Left) -> Result<Leftover, Word> {
+        match u8::try_from(left.die) {
+            Ok(die) => leftover(self.alloc, &self.world, die, left.content),
+            Err(_) => Err(Word::Event),
+        }
     }
 
     fn settle(&mut self, rounds: u32) -> Result<(), Word> {
@@ -239,19 +247,27 @@ impl Runner {
                 break;
             }
         }
-        writeln!(self.shown, "settle {rounds}").map_err(|_| Word::Memory)
+        Ok(writeln!(self.shown, "settle {rounds}")?)
     }
 
     // One turn, and then a job of each die. It answers whether there was any work.
     fn round(&mut self) -> Result<bool, Word> {
         let mut has_worked = matches!(self.step(&Event::Turn)?, Output::Turn(true));
         for die in 0..self.dies {
-            if let Output::Take(Some(_)) = self.step(&Event::Take(die))? {
-                self.step(&Event::Finish(die))?;
+            if self.work(die)? {
                 has_worked = true;
             }
         }
         Ok(has_worked)
+    }
+
+    // A job of the die, done well; whether there was one.
+    fn work(&mut self, die: u8) -> Result<bool, Word> {
+        let has_job = matches!(self.step(&Event::Take(die))?, Output::Take(Some(_)));
+        if has_job {
+            self.step(&Event::Finish(die))?;
+        }
+        Ok(has_job)
     }
 
     fn tell(&mut self, die: u32, event: &Event) -> Result<(), Word> {
@@ -260,17 +276,24 @@ impl Runner {
     }
 
     fn show(&mut self, die: u32, output: &Output) -> Result<(), Word> {
-        show(&mut self.shown, die, output).map_err(|_| Word::Memory)
+        Ok(show(&mut self.shown, die, output)?)
     }
 
     fn step(&mut self, event: &Event) -> Result<Output, Word> {
-        let output = self.world.step(event).map_err(|fault| match fault.kind {
-            RunFaultKind::NoMemory => Word::Memory,
-            _ => Word::Event,
-        })?;
-        if let Some(check) = &mut self.check {
-            check.note(self.alloc, &self.world, event, &output)?;
+        match self.world.step(event) {
+            Ok(output) => {
+                self.note(event, &output)?;
+                Ok(output)
+            }
+            Err(fault) => Err(word_of(&fault)),
         }
-        Ok(output)
+    }
+
+    // Where the script is checked, the stops at this moment are tried.
+    fn note(&mut self, event: &Event, output: &Output) -> Result<(), Word> {
+        match &mut self.check {
+            Some(check) => check.note(self.alloc, &self.world, event, output),
+            None => Ok(()),
+        }
     }
 }

@@ -5,16 +5,16 @@ use crate::leftovers::leftover;
 use device::World;
 use nand_model::{Die, MemDie};
 use std::alloc::Global;
-use ufs_spec::{Job, Leftover, NoMemory, Page};
+use ufs_spec::{Job, Leftover, Page};
 
 /// What a page or block may hold after a stop.
 pub(crate) const CONTENTS: [Content; 3] = [Content::Old, Content::New, Content::Torn];
 
 /// Equal dies.
-pub(crate) fn copied_dies(alloc: Global, dies: &[MemDie]) -> Result<Vec<MemDie>, NoMemory> {
-    let mut all = Vec::with_capacity(alloc, dies.len()).map_err(|_| NoMemory)?;
+pub(crate) fn copied_dies(alloc: Global, dies: &[MemDie]) -> Result<Vec<MemDie>, Word> {
+    let mut all = Vec::with_capacity(alloc, dies.len())?;
     for die in dies {
-        all.push(die.copy(alloc)?).map_err(|_| NoMemory)?;
+        all.push(die.copy(alloc)?)?;
     }
     Ok(all)
 }
@@ -48,7 +48,7 @@ pub(crate) fn stopped_dies(
     world: &World,
     content: Content,
 ) -> Result<Vec<MemDie>, Word> {
-    let mut dies = copied_dies(alloc, world.dies()).map_err(|_| Word::Memory)?;
+    let mut dies = copied_dies(alloc, world.dies())?;
     for (index, die) in dies.iter_mut().enumerate() {
         if let Ok(number) = u8::try_from(index) {
             leave(alloc, world, number, content, die)?;
@@ -65,7 +65,7 @@ pub(crate) fn pair_stopped(
     first: (u8, Content),
     second: (u8, Content),
 ) -> Result<Vec<MemDie>, Word> {
-    let mut dies = copied_dies(alloc, world.dies()).map_err(|_| Word::Memory)?;
+    let mut dies = copied_dies(alloc, world.dies())?;
     for (index, die) in dies.iter_mut().enumerate() {
         if index == first.0 as usize {
             leave(alloc, world, first.0, first.1, die)?;

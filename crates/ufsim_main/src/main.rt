@@ -26,7 +26,8 @@ fn main(rt: HostRuntime) -> ExitCode {
     }
 }
 
-// The words that the program was started with. One that is no text is none of its own.
+// The words that the program was started with. One that is not UTF-8 is `Usage`, even the name of a script that
+// exists: the kit's `args` gives no such word, and `fs::read` takes no such name.
 fn words(rt: &(impl Env + AllocGlobal)) -> Result<Vec<String>, CallFault> {
     let words = env::args(rt).map_err(|error| match error.kind() {
         ErrorKind::OutOfMemory => CallFault::Memory,

@@ -1,8 +1,36 @@
 //! What is wrong with an input, and what to do about it.
-use std::fmt;
+use std::alloc::AllocError;
+use std::{fmt, io};
+
+/// A number of the configuration, and what it has to be.
+#[derive(Clone, Copy)]
+pub struct Range {
+    pub name: &'static str,
+    pub number: u32,
+    pub low: u32,
+    pub high: u32,
+}
+
+impl Range {
+    /// Whether the number is as it has to be.
+    pub fn is_kept(&self) -> bool {
+        self.low <= self.number && self.number <= self.high
+    }
+
+    // What is wrong, where it is not.
+    fn write<W: fmt::Write>(&self, f: &mut fmt::Formatter<W>) -> fmt::Result {
+        let Range {
+            name,
+            number,
+            low,
+            high,
+        } = *self;
+        write!(f, "{name}: {number}; it has to be {low} to {high}")
+    }
+}
 
 /// Why a line of a script cannot be run. Its text names the cause and says what to do.
-#[derive(Clone, Copy, Debug, PartialEq, Eq)]
+#[derive(Clone, Copy)]
 pub enum Cause<'a> {
     /// The text begins with a byte order mark.
     ByteOrderMark,
@@ -19,15 +47,9 @@ pub enum Cause<'a> {
     /// No line begins with this word.
     Word(&'a str),
     /// The line has another count of words than its form.
-    WordCount {
-        count: usize,
-        form: &'static str,
-    },
+    WordCount { count: usize, form: &'static str },
     /// One of the words is none of those that may be there.
-    Choice {
-        word: &'a str,
-        form: &'static str,
-    },
+    Choice { word: &'a str, form: &'static str },
     /// The word is not of decimal digits.
     Number(&'a str),
     /// The number is above 4294967295.
@@ -41,17 +63,9 @@ pub enum Cause<'a> {
     /// A first line is missing, or is not in its place.
     Missing(&'static str),
     /// A number of the configuration is out of its range.
-    Range {
-        name: &'static str,
-        number: u32,
-        low: u32,
-        high: u32,
-    },
+    Range(Range),
     /// The dies have too few blocks.
-    Room {
-        needed: u64,
-        left: u64,
-    },
+    Room { needed: u64, left: u64 },
     /// Two units have the same boot number.
     BootTwice(u32),
     /// A line that says what the configuration is comes too late.
@@ -66,6 +80,18 @@ pub enum Cause<'a> {
     Memory,
     /// What was to be printed could not be written.
     Output,
+}
+
+impl<'a> From<AllocError> for Cause<'a> {
+    fn from(_: AllocError) -> Cause<'a> {
+        Cause::Memory
+    }
+}
+
+impl<'a> From<io::Error> for Cause<'a> {
+    fn from(_: io::Error) -> Cause<'a> {
+        Cause::Output
+    }
 }
 
 impl fmt::Display for Cause<'_> {
@@ -107,12 +133,7 @@ impl Cause<'_> {
     // The causes of the configuration and of the output, and those without a word of the line.
     fn write_rest<W: fmt::Write>(&self, f: &mut fmt::Formatter<W>) -> fmt::Result {
         match self {
-            Cause::Range {
-                name,
-                number,
-                low,
-                high,
-            } => write!(f, "{name}: {number}; it has to be {low} to {high}"),
+            Cause::Range(range) => range.write(f),
             Cause::Room { needed, left } => write!(
                 f,
                 "{needed} blocks are needed, {left} are there; give more, or fewer units, slots or spare ones"

@@ -6,83 +6,78 @@ use ufs_spec::{Cdb, Sense};
 
 /// What a COMMAND asks for, in words: its CDB, the direction of its data, and how many bytes its host
 /// expects.
-#[derive(Clone, Copy)]
-pub struct CommandWords<'a> {
-    pub flags: u8,
-    pub expected: u32,
-    pub cdb: &'a [u8; 16],
+pub fn write_command<W: fmt::Write>(
+    f: &mut fmt::Formatter<W>,
+    flags: u8,
+    expected: u32,
+    cdb: &[u8; 16],
+) -> fmt::Result {
+    let name = operation_name(cdb[0]);
+    write!(f, ": {name}")?;
+    write_cdb(f, cdb)?;
+    write_expected(f, flags, expected)
 }
 
-/// A command that a CDB spells, in words.
-#[derive(Clone, Copy)]
-struct CdbWords<'a>(&'a Cdb);
-
-/// How many blocks, in words.
-#[derive(Clone, Copy)]
-struct BlockWords(u32);
-
-impl fmt::Display for CommandWords<'_> {
-    fn fmt<W: fmt::Write>(&self, f: &mut fmt::Formatter<W>) -> fmt::Result {
-        let name = operation_name(self.cdb[0]);
-        match scsi_cdb::read(self.cdb) {
-            Ok(cdb) => {
-                let words = CdbWords(&cdb);
-                write!(f, "{name}{words}")?;
-            }
-            Err(Sense::INVALID_OPCODE) => {
-                let code = self.cdb[0];
-                write!(f, "{name} ({code:02X}h), which this device does not have")?;
-            }
-            Err(_) => write!(f, "{name} with a bit or byte set that must be zero")?,
+// What comes after the name of a command.
+fn write_cdb<W: fmt::Write>(f: &mut fmt::Formatter<W>, cdb: &[u8; 16]) -> fmt::Result {
+    match scsi_cdb::read(cdb) {
+        Ok(command) => write_fields(f, &command),
+        Err(Sense::INVALID_OPCODE) => {
+            let code = cdb[0];
+            write!(f, " ({code:02X}h), which this device does not have")
         }
-        let expected = self.expected;
-        match self.flags {
-            0x20 => write!(f, "; the host sends {expected} bytes"),
-            0x40 => write!(f, "; the host expects {expected} bytes"),
-            _ if expected == 0 => Ok(()),
-            _ => write!(
-                f,
-                "; {expected} bytes are expected, and no flag says in which direction"
-            ),
-        }
+        Err(_) => f.write_str(" with a bit or byte set that must be zero"),
     }
 }
 
-impl fmt::Display for CdbWords<'_> {
-    fn fmt<W: fmt::Write>(&self, f: &mut fmt::Formatter<W>) -> fmt::Result {
-        let blocks = BlockWords(blocks_of(self.0));
-        match self.0 {
-            Cdb::Read6 { address, .. } | Cdb::Write6 { address, .. } => {
-                write!(f, " of {blocks} at address {address}")
-            }
-            Cdb::Read10 {
-                address,
-                forced,
-                ..
-            }
-            | Cdb::Write10 {
-                address,
-                forced,
-                ..
-            } => {
-                let with = if *forced { " with FUA" } else { "" };
-                write!(f, "{with} of {blocks} at address {address}")
-            }
-            Cdb::SynchronizeCache10 {
-                immediate: true,
-                ..
-            } => write!(f, " with IMMED"),
-            Cdb::RequestSense { allocation } => { write!(f, " of at most {allocation} bytes") }
-            _ => Ok(()),
+fn write_fields<W: fmt::Write>(f: &mut fmt::Formatter<W>, command: &Cdb) -> fmt::Result {
+    let blocks = blocks_of(command);
+    match command {
+        Cdb::Read6 { address, .. } | Cdb::Write6 { address, .. } => {
+            write_span(f, "", blocks, *address)
         }
+        Cdb::Read10 {
+            address,
+            forced,
+            ..
+        }
+        | Cdb::Write10 {
+            address,
+            forced,
+            ..
+        } => write_span(f, if *forced { " with FUA" } else { "" }, blocks, *address),
+        Cdb::SynchronizeCache10 {
+            immediate: true,
+            ..
+        } => f.write_str(" with IMMED"),
+        Cdb::RequestSense { allocation } => write!(f, " of at most {allocation} bytes"),
+        _ => Ok(()),
     }
 }
 
-impl fmt::Display for BlockWords {
-    fn fmt<W: fmt::Write>(&self, f: &mut fmt::Formatter<W>) -> fmt::Result {
-        match self.0 {
-            1 => write!(f, "1 block"),
-            count => write!(f, "{count} blocks"),
-        }
+// How many blocks from which address on.
+fn write_span<W: fmt::Write>(
+    f: &mut fmt::Formatter<W>,
+    with: &str,
+    blocks: u32,
+    address: u32,
+) -> fmt::Result {
+    let noun = if blocks == 1 { "block" } else { "blocks" };
+    write!(f, "{with} of {blocks} {noun} at address {address}")
+}
+
+fn write_expected<W: fmt::Write>(
+    f: &mut fmt::Formatter<W>,
+    flags: u8,
+    expected: u32,
+) -> fmt::Result {
+    match flags {
+        0x20 => write!(f, "; the host sends {expected} bytes"),
+        0x40 => write!(f, "; the host expects {expected} bytes"),
+        _ if expected == 0 => Ok(()),
+        _ => write!(
+            f,
+            "; {expected} bytes are expected, and no flag says in which direction"
+        ),
     }
 }

@@ -1,6 +1,6 @@
 //! The first lines of a script: the numbers of its device.
-use crate::cause::Cause;
-use crate::lines::{Words, first_word};
+use crate::cause::{Cause, Range};
+use crate::lines::{first_word, numbers_in};
 use std::fmt;
 
 const CONFIG: &str = "config DIES BLOCKS PAGES RPMB SLOTS SPARE";
@@ -8,7 +8,7 @@ const CONFIG: &str = "config DIES BLOCKS PAGES RPMB SLOTS SPARE";
 const UNIT: &str = "unit BLOCKS BOOT PROTECT";
 
 /// The numbers of a `config` line.
-#[derive(Clone, Copy, Debug, PartialEq, Eq)]
+#[derive(Clone, Copy)]
 pub struct ConfigLine {
     pub dies: u32,
     pub blocks: u32,
@@ -19,7 +19,7 @@ pub struct ConfigLine {
 }
 
 /// The numbers of a `unit` line.
-#[derive(Clone, Copy, Debug, PartialEq, Eq)]
+#[derive(Clone, Copy)]
 pub struct UnitLine {
     pub blocks: u32,
     pub boot: u32,
@@ -27,7 +27,7 @@ pub struct UnitLine {
 }
 
 /// What the `unit` lines that were read so far add up to.
-#[derive(Clone, Copy, Debug, Default, PartialEq, Eq)]
+#[derive(Clone, Copy, Default)]
 pub struct UnitSum {
     pub count: u32,
     blocks: u64,
@@ -41,15 +41,14 @@ impl ConfigLine {
         if first_word(line) != "config" {
             return Err(Cause::Missing(CONFIG));
         }
-        let mut words = Words::new(line, 7, CONFIG)?;
-        let _name = words.word();
+        let [dies, blocks, pages, rpmb, slots, spare] = numbers_in::<6>(line, CONFIG)?;
         let config = ConfigLine {
-            dies: words.number()?,
-            blocks: words.number()?,
-            pages: words.number()?,
-            rpmb: words.number()?,
-            slots: words.number()?,
-            spare: words.number()?,
+            dies,
+            blocks,
+            pages,
+            rpmb,
+            slots,
+            spare,
         };
         config.check_ranges()?;
         Ok(config)
@@ -57,13 +56,15 @@ impl ConfigLine {
 
     // The ranges of docs/FORMATS.md, "Configuration".
     fn check_ranges(&self) -> Result<(), Cause<'static>> {
-        in_range("dies", self.dies, 1, 8)?;
-        in_range("blocks of a die", self.blocks, 16, 1024)?;
-        in_range("pages of a block", self.pages, 16, 256)?;
-        in_range("steps of 128 KiB of the RPMB area", self.rpmb, 1, 8)?;
-        in_range("slots of the write cache", self.slots, 64, 1024)?;
         let blocks = self.dies.saturating_mul(self.blocks);
-        in_range("spare blocks", self.spare, 0, blocks)
+        keep_ranges(&[
+            range("dies", self.dies, 1, 8),
+            range("blocks of a die", self.blocks, 16, 1024),
+            range("pages of a block", self.pages, 16, 256),
+            range("steps of 128 KiB of the RPMB area", self.rpmb, 1, 8),
+            range("slots of the write cache", self.slots, 64, 1024),
+            range("spare blocks", self.spare, 0, blocks),
+        ])
     }
 
     /// Sees that the dies have blocks enough for these units: what is needed is the blocks of the
@@ -93,17 +94,17 @@ impl UnitLine {
         if first_word(line) != "unit" {
             return Err(Cause::Missing(UNIT));
         }
-        let mut words = Words::new(line, 4, UNIT)?;
-        let _name = words.word();
-        let unit = UnitLine {
-            blocks: words.number()?,
-            boot: words.number()?,
-            protect: words.number()?,
-        };
-        in_range("blocks of a unit", unit.blocks, 1, 2_097_152)?;
-        in_range("boot number", unit.boot, 0, 2)?;
-        in_range("protection", unit.protect, 0, 2)?;
-        Ok(unit)
+        let [blocks, boot, protect] = numbers_in::<3>(line, UNIT)?;
+        keep_ranges(&[
+            range("blocks of a unit", blocks, 1, 2_097_152),
+            range("boot number", boot, 0, 2),
+            range("protection", protect, 0, 2),
+        ])?;
+        Ok(UnitLine {
+            blocks,
+            boot,
+            protect,
+        })
     }
 }
 
@@ -118,7 +119,7 @@ impl UnitSum {
         if unit.boot == 2 {
             self.second_boots = self.second_boots.saturating_add(1);
         }
-        in_range("units", self.count, 1, 8)
+        keep_ranges(&[range("units", self.count, 1, 8)])
     }
 
     /// Sees that no two units have the same boot number.
@@ -133,16 +134,23 @@ impl UnitSum {
     }
 }
 
-fn in_range(name: &'static str, number: u32, low: u32, high: u32) -> Result<(), Cause<'static>> {
-    if low <= number && number <= high {
-        return Ok(());
+// Sees that each number is in its range. The first that is not is told.
+fn keep_ranges(ranges: &[Range]) -> Result<(), Cause<'static>> {
+    for range in ranges {
+        if !range.is_kept() {
+            return Err(Cause::Range(*range));
+        }
     }
-    Err(Cause::Range {
+    Ok(())
+}
+
+fn range(name: &'static str, number: u32, low: u32, high: u32) -> Range {
+    Range {
         name,
         number,
         low,
         high,
-    })
+    }
 }
 
 /// The cause of a missing first line: a script without any `unit` line, or without all.

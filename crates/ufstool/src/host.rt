@@ -5,12 +5,13 @@ ghost use Rattle.ufs_spec.specs.Messages.{spelling, AreFlags, IsMessage};
 
 use scsi_cdb::{bytes_of, length_of};
 use std::alloc::{AllocError, Global};
+use std::io;
 use std::io::Write;
 use thiserror::Error;
 use ufs_spec::{Cdb, Data, Message, Upiu};
 
 /// A message that a line can be written for.
-#[derive(Clone, Copy, Debug, PartialEq, Eq)]
+#[derive(Clone, Copy)]
 pub enum HostMessage {
     /// NOP OUT.
     NopOut {
@@ -34,7 +35,7 @@ pub enum HostMessage {
 }
 
 /// Why a line cannot be written.
-#[derive(Clone, Copy, Debug, Error, PartialEq, Eq)]
+#[derive(Clone, Copy, Debug, Error)]
 pub enum LineFault {
     /// The fields of the command do not fit its bytes.
     #[error("the address has more than the 21 bits of READ(6) and WRITE(6); take read10 or write10")]
@@ -48,6 +49,12 @@ pub enum LineFault {
     /// A write of the line failed.
     #[error("the line could not be written")]
     Output,
+}
+
+impl From<io::Error> for LineFault {
+    fn from(_: io::Error) -> LineFault {
+        LineFault::Output
+    }
 }
 
 impl From<AllocError> for LineFault {
@@ -85,9 +92,8 @@ fn try_line<W: Write>(alloc: Global, wanted: &HostMessage, out: &mut W) -> Resul
         }
         _ => host_line(alloc, &message)?,
     };
-    out.write_all(line.as_slice())
-        .map_err(|_| LineFault::Output)?;
-    out.flush().map_err(|_| LineFault::Output)
+    out.write_all(line.as_slice())?;
+    Ok(out.flush()?)
 }
 
 /// The message, if its fields fit their bytes.
@@ -211,8 +217,10 @@ fn fill_line(alloc: Global, message: &Message, count: u16, fill: u8) -> Result<V
     let mut line = Vec::new(alloc);
     line.extend_from_slice(b"fill ")?;
     append_digits(&mut line, header_in(bytes.as_slice()))?;
-    writeln!(line, " {fill:02x} {count}").map_err(|_| LineFault::Memory)?;
-    Ok(line)
+    match writeln!(line, " {fill:02x} {count}") {
+        Ok(()) => Ok(line),
+        Err(_) => Err(LineFault::Memory),
+    }
 }
 
 // The header of a message, its first 32 bytes.
@@ -233,5 +241,8 @@ fn append_digits(line: &mut Vec<u8>, bytes: &[u8]) -> Result<(), AllocError>
     };
     line.resize(end, 0)?;
     let all = line.as_mut_slice();
-    hex::encode_to_slice(bytes, &mut all[start..]).map_err(|_| AllocError)
+    match hex::encode_to_slice(bytes, &mut all[start..]) {
+        Ok(()) => Ok(()),
+        Err(_) => Err(AllocError),
+    }
 }

@@ -69,7 +69,10 @@ pub fn line_text(bytes: &[u8]) -> Result<&str, Cause<'_>> {
     }
     match bytes.iter().find(|byte| !is_plain(**byte)) {
         Some(byte) => Err(Cause::Byte(*byte)),
-        None => std::str::from_utf8(bytes).map_err(|_| Cause::Byte(0)),
+        None => match std::str::from_utf8(bytes) {
+            Ok(text) => Ok(text),
+            Err(_) => Err(Cause::Byte(0)),
+        },
     }
 }
 
@@ -124,7 +127,24 @@ pub fn number(word: &str) -> Result<u32, Cause<'_>> {
     if !word.bytes().all(|byte| byte.is_ascii_digit()) {
         return Err(Cause::Number(word));
     }
-    word.parse().map_err(|_| Cause::NumberSize(word))
+    match word.parse() {
+        Ok(number) => Ok(number),
+        Err(_) => Err(Cause::NumberSize(word)),
+    }
+}
+
+/// The numbers of a line of a name and `N` numbers; `form` shows how the line is to be written.
+pub fn numbers_in<'a, const N: usize>(
+    line: &'a str,
+    form: &'static str,
+) -> Result<[u32; N], Cause<'a>> {
+    let mut words = Words::new(line, N.saturating_add(1), form)?;
+    let _name = words.word();
+    let mut numbers = [0; N];
+    for i in 0..N {
+        numbers[i] = words.number()?;
+    }
+    Ok(numbers)
 }
 
 /// The first word of a line, if it has any.

@@ -1,8 +1,8 @@
 //! Messages in words.
-use crate::commands::CommandWords;
+use crate::commands::write_command;
 use crate::names::{
-    additional_sense_name, query_name, query_response_name, sense_key_name, service_name,
-    status_name, task_function_name,
+    additional_sense_name, known_unit_name, query_name, query_response_name, sense_key_name,
+    service_name, status_name, task_function_name,
 };
 use std::fmt;
 use ufs_spec::{Asked, Message, Sense};
@@ -11,282 +11,206 @@ use ufs_spec::{Asked, Message, Sense};
 #[derive(Clone, Copy)]
 pub struct MessageWords<'a>(pub &'a Message);
 
-/// A LUN in words.
-#[derive(Clone, Copy)]
-struct LunWords(u8);
-
-/// The data of a message in words.
-#[derive(Clone, Copy)]
-struct DataWords<'a> {
-    offset: u32,
-    bytes: &'a [u8],
-}
-
-/// A query in words.
-#[derive(Clone, Copy)]
-struct QueryWords<'a>(&'a Asked);
-
-/// The sense data of a RESPONSE, if it has any.
-#[derive(Clone, Copy)]
-struct SenseWords<'a>(&'a Option<[u8; 20]>);
-
-/// The flags of a RESPONSE and its residual.
-#[derive(Clone, Copy)]
-struct ResidualWords {
-    flags: u8,
-    residual: u32,
-}
-
 /// So many bytes are shown one by one.
 const SHOWN_BYTES: usize = 18;
 
 impl fmt::Display for MessageWords<'_> {
     fn fmt<W: fmt::Write>(&self, f: &mut fmt::Formatter<W>) -> fmt::Result {
-        match self.0 {
-            Message::NopOut { tag } => write!(f, "NOP OUT (00h) task {tag:02X}h"),
-            Message::NopIn { tag } => write!(f, "NOP IN (20h) task {tag:02X}h"),
-            Message::Command { .. } => write_command(f, self.0),
-            Message::DataOut { .. } | Message::DataIn { .. } => write_data(f, self.0),
-            Message::ReadyToTransfer { .. } => write_ready(f, self.0),
-            Message::Response { .. } => write_response(f, self.0),
-            Message::TaskRequest { .. } | Message::TaskResponse { .. } => write_task(f, self.0),
-            Message::QueryRequest { .. } | Message::QueryResponse { .. } => write_query(f, self.0),
+        let (name, tag) = head_of(self.0);
+        write!(f, "{name} task {tag:02X}h")?;
+        if let Some(lun) = lun_of(self.0) {
+            write_lun(f, lun)?;
         }
+        write_fields(f, self.0)
     }
 }
 
-// A COMMAND: its CDB and how many bytes its host expects.
-fn write_command<W: fmt::Write>(f: &mut fmt::Formatter<W>, message: &Message) -> fmt::Result {
-    let Message::Command {
-        flags,
-        lun,
-        tag,
-        expected,
-        cdb,
-    } = message
-    else {
-        return Ok(());
-    };
-    let lun = LunWords(*lun);
-    let command = CommandWords {
-        flags: *flags,
-        expected: *expected,
-        cdb,
-    };
-    write!(f, "COMMAND (01h) task {tag:02X}h, {lun}: {command}")
-}
-
-// A DATA OUT or DATA IN: where its data are in those of the command, and what they are.
-fn write_data<W: fmt::Write>(f: &mut fmt::Formatter<W>, message: &Message) -> fmt::Result {
+// The name of a message with its transaction code, and its task tag.
+fn head_of(message: &Message) -> (&'static str, u8) {
     match message {
-        Message::DataOut {
-            lun,
-            tag,
-            offset,
-            data,
-        } => {
-            let lun = LunWords(*lun);
-            let data = DataWords {
-                offset: *offset,
-                bytes: data.as_slice(),
-            };
-            write!(f, "DATA OUT (02h) task {tag:02X}h, {lun}: {data}")
-        }
-        Message::DataIn {
-            lun,
-            tag,
-            offset,
-            data,
-        } => {
-            let lun = LunWords(*lun);
-            let data = DataWords {
-                offset: *offset,
-                bytes: data.as_slice(),
-            };
-            write!(f, "DATA IN (22h) task {tag:02X}h, {lun}: {data}")
-        }
-        _ => Ok(()),
+        Message::NopOut { tag } => ("NOP OUT (00h)", *tag),
+        Message::NopIn { tag } => ("NOP IN (20h)", *tag),
+        Message::Command { tag, .. } => ("COMMAND (01h)", *tag),
+        Message::DataOut { tag, .. } => ("DATA OUT (02h)", *tag),
+        Message::DataIn { tag, .. } => ("DATA IN (22h)", *tag),
+        Message::ReadyToTransfer { tag, .. } => ("READY TO TRANSFER (31h)", *tag),
+        Message::Response { tag, .. } => ("RESPONSE (21h)", *tag),
+        Message::TaskRequest { tag, .. } => ("TASK MANAGEMENT REQUEST (04h)", *tag),
+        Message::TaskResponse { tag, .. } => ("TASK MANAGEMENT RESPONSE (24h)", *tag),
+        Message::QueryRequest { tag, .. } => ("QUERY REQUEST (16h)", *tag),
+        Message::QueryResponse { tag, .. } => ("QUERY RESPONSE (36h)", *tag),
     }
 }
 
-// A READY TO TRANSFER: the data that it asks for.
-fn write_ready<W: fmt::Write>(f: &mut fmt::Formatter<W>, message: &Message) -> fmt::Result {
-    let Message::ReadyToTransfer {
-        lun,
-        tag,
-        offset,
-        count,
-    } = message
-    else {
-        return Ok(());
-    };
-    let lun = LunWords(*lun);
-    write!(
-        f,
-        "READY TO TRANSFER (31h) task {tag:02X}h, {lun}: asks for {count} bytes at offset {offset}"
-    )
-}
-
-// A RESPONSE: its status, its sense data and its residual.
-fn write_response<W: fmt::Write>(f: &mut fmt::Formatter<W>, message: &Message) -> fmt::Result {
-    let Message::Response {
-        flags,
-        lun,
-        tag,
-        status,
-        residual,
-        sense,
-        ..
-    } = message
-    else {
-        return Ok(());
-    };
-    let lun = LunWords(*lun);
-    let name = status_name(*status);
-    let sense = SenseWords(sense);
-    let residual = ResidualWords {
-        flags: *flags,
-        residual: *residual,
-    };
-    write!(
-        f,
-        "RESPONSE (21h) task {tag:02X}h, {lun}: {name}{sense}{residual}"
-    )
-}
-
-// Task management.
-fn write_task<W: fmt::Write>(f: &mut fmt::Formatter<W>, message: &Message) -> fmt::Result {
+// The LUN of a message, if its words tell it.
+fn lun_of(message: &Message) -> Option<u8> {
     match message {
-        Message::TaskRequest {
-            lun,
-            tag,
-            function,
-            meant,
-        } => {
-            let lun = LunWords(*lun);
-            let name = task_function_name(*function);
-            write!(f, "TASK MANAGEMENT REQUEST (04h) task {tag:02X}h, {lun}: ")?;
-            write!(f, "{name} ({function:02X}h) of task {meant:02X}h")
-        }
-        Message::TaskResponse { lun, tag, service } => {
-            let lun = LunWords(*lun);
-            let name = service_name(*service);
-            write!(
-                f,
-                "TASK MANAGEMENT RESPONSE (24h) task {tag:02X}h, {lun}: {name} ({service:02X}h)"
-            )
-        }
-        _ => Ok(()),
+        Message::Command { lun, .. }
+        | Message::DataOut { lun, .. }
+        | Message::DataIn { lun, .. }
+        | Message::ReadyToTransfer { lun, .. }
+        | Message::Response { lun, .. }
+        | Message::TaskRequest { lun, .. }
+        | Message::TaskResponse { lun, .. } => Some(*lun),
+        _ => None,
     }
 }
 
-// Queries.
-fn write_query<W: fmt::Write>(f: &mut fmt::Formatter<W>, message: &Message) -> fmt::Result {
+fn write_lun<W: fmt::Write>(f: &mut fmt::Formatter<W>, lun: u8) -> fmt::Result {
+    match known_unit_name(lun) {
+        Some(name) => write!(f, ", well known unit {name}"),
+        None => write!(f, ", unit {lun}"),
+    }
+}
+
+// What comes after the unit.
+fn write_fields<W: fmt::Write>(f: &mut fmt::Formatter<W>, message: &Message) -> fmt::Result {
     match message {
-        Message::QueryRequest { tag, asked, .. } => {
-            let query = QueryWords(asked);
-            write!(f, "QUERY REQUEST (16h) task {tag:02X}h: {query}")
+        Message::NopOut { .. } | Message::NopIn { .. } => Ok(()),
+        Message::Command {
+            flags,
+            expected,
+            cdb,
+            ..
+        } => write_command(f, *flags, *expected, cdb),
+        Message::DataOut { offset, data, .. } | Message::DataIn { offset, data, .. } => {
+            write_data(f, *offset, data.as_slice())
+        }
+        Message::Response {
+            flags,
+            status,
+            residual,
+            sense,
+            ..
+        } => write_response(f, *flags, *status, *residual, sense),
+        Message::QueryRequest { asked, .. } => {
+            f.write_str(": ")?;
+            write_query(f, asked)
         }
         Message::QueryResponse {
-            tag,
             response,
             asked,
             ..
         } => {
             let name = query_response_name(*response);
-            let query = QueryWords(asked);
-            write!(
-                f,
-                "QUERY RESPONSE (36h) task {tag:02X}h: {name} ({response:02X}h) to {query}"
-            )
+            write!(f, ": {name} ({response:02X}h) to ")?;
+            write_query(f, asked)
+        }
+        _ => write_short_fields(f, message),
+    }
+}
+
+// READY TO TRANSFER and task management.
+fn write_short_fields<W: fmt::Write>(f: &mut fmt::Formatter<W>, message: &Message) -> fmt::Result {
+    match message {
+        Message::ReadyToTransfer { offset, count, .. } => {
+            write!(f, ": asks for {count} bytes at offset {offset}")
+        }
+        Message::TaskRequest {
+            function,
+            meant,
+            ..
+        } => {
+            let name = task_function_name(*function);
+            write!(f, ": {name} ({function:02X}h) of task {meant:02X}h")
+        }
+        Message::TaskResponse { service, .. } => {
+            let name = service_name(*service);
+            write!(f, ": {name} ({service:02X}h)")
         }
         _ => Ok(()),
     }
 }
 
-impl fmt::Display for LunWords {
-    fn fmt<W: fmt::Write>(&self, f: &mut fmt::Formatter<W>) -> fmt::Result {
-        match self.0 {
-            0x81 => write!(f, "well known unit REPORT LUNS (81h)"),
-            0xB0 => write!(f, "well known unit BOOT (B0h)"),
-            0xC4 => write!(f, "well known unit RPMB (C4h)"),
-            0xD0 => write!(f, "well known unit UFS DEVICE (D0h)"),
-            unit => write!(f, "unit {unit}"),
-        }
+// The data of a message.
+fn write_data<W: fmt::Write>(f: &mut fmt::Formatter<W>, offset: u32, bytes: &[u8]) -> fmt::Result {
+    let count = bytes.len();
+    write!(f, ": {count} bytes at offset {offset}")?;
+    match repeated(bytes) {
+        Some(byte) => write!(f, ", each {byte:02X}h"),
+        None => write_bytes(f, bytes),
     }
 }
 
-impl fmt::Display for DataWords<'_> {
-    fn fmt<W: fmt::Write>(&self, f: &mut fmt::Formatter<W>) -> fmt::Result {
-        let offset = self.offset;
-        let length = self.bytes.len();
-        let first = match self.bytes.first() {
-            Some(first) => *first,
-            None => 0,
-        };
-        if length > 1 && self.bytes.iter().all(|byte| *byte == first) {
-            return write!(f, "{length} bytes at offset {offset}, each {first:02X}h");
-        }
-        write!(f, "{length} bytes at offset {offset}:")?;
-        for byte in self.bytes.iter().take(SHOWN_BYTES) {
-            write!(f, " {byte:02X}")?;
-        }
-        if length > SHOWN_BYTES {
-            write!(f, " ..")?;
-        }
-        Ok(())
+// The byte of which all of these are, if they are more than one.
+fn repeated(bytes: &[u8]) -> Option<u8> {
+    let first = *bytes.first()?;
+    if bytes.len() > 1 && bytes.iter().all(|byte| *byte == first) {
+        Some(first)
+    } else {
+        None
     }
 }
 
-impl fmt::Display for QueryWords<'_> {
-    fn fmt<W: fmt::Write>(&self, f: &mut fmt::Formatter<W>) -> fmt::Result {
-        let Asked {
-            opcode,
-            idn,
-            index,
-            selector,
-        } = *self.0;
-        let name = query_name(opcode);
-        write!(
-            f,
-            "{name} ({opcode:02X}h), IDN {idn:02X}h, index {index:02X}h, selector {selector:02X}h"
-        )
+fn write_bytes<W: fmt::Write>(f: &mut fmt::Formatter<W>, bytes: &[u8]) -> fmt::Result {
+    f.write_str(":")?;
+    for byte in bytes.iter().take(SHOWN_BYTES) {
+        write!(f, " {byte:02X}")?;
     }
+    f.write_str(if bytes.len() > SHOWN_BYTES { " .." } else { "" })
 }
 
-impl fmt::Display for SenseWords<'_> {
-    fn fmt<W: fmt::Write>(&self, f: &mut fmt::Formatter<W>) -> fmt::Result {
-        let Some(bytes) = self.0 else {
-            return Ok(());
-        };
-        // Two bytes of length come before the sense data.
-        let sense = Sense {
-            key: bytes[4] & 0x0F,
-            asc: bytes[14],
-            ascq: bytes[15],
-        };
-        let key = sense_key_name(sense.key);
-        let name = additional_sense_name(&sense);
-        let Sense {
-            key: number,
-            asc,
-            ascq,
-        } = sense;
-        write!(f, ", {key}, {name} ({number:X}/{asc:02X}/{ascq:02X})")
+// A RESPONSE: its status, its sense data and its residual.
+fn write_response<W: fmt::Write>(
+    f: &mut fmt::Formatter<W>,
+    flags: u8,
+    status: u8,
+    residual: u32,
+    sense: &Option<[u8; 20]>,
+) -> fmt::Result {
+    let name = status_name(status);
+    write!(f, ": {name}")?;
+    if let Some(bytes) = sense {
+        write_sense(f, bytes)?;
     }
+    write_residual(f, flags, residual)
 }
 
-impl fmt::Display for ResidualWords {
-    fn fmt<W: fmt::Write>(&self, f: &mut fmt::Formatter<W>) -> fmt::Result {
-        let residual = self.residual;
-        match (self.flags, residual) {
-            (0x00, 0) => Ok(()),
-            (0x20, 1..) => write!(f, ", underflow: {residual} bytes fewer than expected"),
-            (0x40, 1..) => write!(f, ", overflow: {residual} bytes more than expected"),
-            (flags, _) => write!(
+fn write_sense<W: fmt::Write>(f: &mut fmt::Formatter<W>, bytes: &[u8; 20]) -> fmt::Result {
+    // Two bytes of length come before the sense data.
+    let sense = Sense {
+        key: bytes[4] & 0x0F,
+        asc: bytes[14],
+        ascq: bytes[15],
+    };
+    let key = sense_key_name(sense.key);
+    let name = additional_sense_name(&sense);
+    let Sense {
+        key: number,
+        asc,
+        ascq,
+    } = sense;
+    write!(f, ", {key}, {name} ({number:X}/{asc:02X}/{ascq:02X})")
+}
+
+fn write_residual<W: fmt::Write>(
+    f: &mut fmt::Formatter<W>,
+    flags: u8,
+    residual: u32,
+) -> fmt::Result {
+    match (flags, residual) {
+        (0x00, 0) => Ok(()),
+        (0x20, 1..) => write!(f, ", underflow: {residual} bytes fewer than expected"),
+        (0x40, 1..) => write!(f, ", overflow: {residual} bytes more than expected"),
+        _ => {
+            write!(
                 f,
                 ", flags {flags:02X}h and residual {residual}, which do not agree"
-            ),
+            )
         }
     }
+}
+
+fn write_query<W: fmt::Write>(f: &mut fmt::Formatter<W>, asked: &Asked) -> fmt::Result {
+    let Asked {
+        opcode,
+        idn,
+        index,
+        selector,
+    } = *asked;
+    let name = query_name(opcode);
+    write!(
+        f,
+        "{name} ({opcode:02X}h), IDN {idn:02X}h, index {index:02X}h, selector {selector:02X}h"
+    )
 }

@@ -1,41 +1,53 @@
 //! The names that the standards give to codes (JESD220, SAM, SPC, SBC).
 use ufs_spec::{HostFault, Sense};
 
+// The name of a code among these.
+fn name_in(names: &[(u8, &'static str)], code: u8) -> Option<&'static str> {
+    for (known, name) in names {
+        if *known == code {
+            return Some(*name);
+        }
+    }
+    None
+}
+
+const STATUSES: [(u8, &str); 8] = [
+    (0x00, "GOOD"),
+    (0x02, "CHECK CONDITION"),
+    (0x04, "CONDITION MET"),
+    (0x08, "BUSY"),
+    (0x18, "RESERVATION CONFLICT"),
+    (0x28, "TASK SET FULL"),
+    (0x30, "ACA ACTIVE"),
+    (0x40, "TASK ABORTED"),
+];
+
 /// The name of a status (SAM, status codes).
 pub fn status_name(status: u8) -> &'static str {
-    match status {
-        0x00 => "GOOD",
-        0x02 => "CHECK CONDITION",
-        0x04 => "CONDITION MET",
-        0x08 => "BUSY",
-        0x18 => "RESERVATION CONFLICT",
-        0x28 => "TASK SET FULL",
-        0x30 => "ACA ACTIVE",
-        0x40 => "TASK ABORTED",
-        _ => "a status without a name",
-    }
+    name_in(&STATUSES, status).unwrap_or("a status without a name")
 }
+
+const SENSE_KEYS: [(u8, &str); 15] = [
+    (0x0, "NO SENSE"),
+    (0x1, "RECOVERED ERROR"),
+    (0x2, "NOT READY"),
+    (0x3, "MEDIUM ERROR"),
+    (0x4, "HARDWARE ERROR"),
+    (0x5, "ILLEGAL REQUEST"),
+    (0x6, "UNIT ATTENTION"),
+    (0x7, "DATA PROTECT"),
+    (0x8, "BLANK CHECK"),
+    (0x9, "VENDOR SPECIFIC"),
+    (0xA, "COPY ABORTED"),
+    (0xB, "ABORTED COMMAND"),
+    (0xD, "VOLUME OVERFLOW"),
+    (0xE, "MISCOMPARE"),
+    (0xF, "COMPLETED"),
+];
 
 /// The name of a sense key (SPC, sense key descriptions).
 pub fn sense_key_name(key: u8) -> &'static str {
-    match key {
-        0x0 => "NO SENSE",
-        0x1 => "RECOVERED ERROR",
-        0x2 => "NOT READY",
-        0x3 => "MEDIUM ERROR",
-        0x4 => "HARDWARE ERROR",
-        0x5 => "ILLEGAL REQUEST",
-        0x6 => "UNIT ATTENTION",
-        0x7 => "DATA PROTECT",
-        0x8 => "BLANK CHECK",
-        0x9 => "VENDOR SPECIFIC",
-        0xA => "COPY ABORTED",
-        0xB => "ABORTED COMMAND",
-        0xD => "VOLUME OVERFLOW",
-        0xE => "MISCOMPARE",
-        0xF => "COMPLETED",
-        _ => "a sense key without a name",
-    }
+    name_in(&SENSE_KEYS, key).unwrap_or("a sense key without a name")
 }
 
 /// The name of an additional sense code with its qualifier (SPC, additional sense codes).
@@ -57,98 +69,103 @@ pub fn additional_sense_name(sense: &Sense) -> &'static str {
     }
 }
 
+const OPERATIONS: [(u8, &str); 28] = [
+    (0x00, "TEST UNIT READY"),
+    (0x03, "REQUEST SENSE"),
+    (0x04, "FORMAT UNIT"),
+    (0x08, "READ(6)"),
+    (0x0A, "WRITE(6)"),
+    (0x12, "INQUIRY"),
+    (0x15, "MODE SELECT(6)"),
+    (0x1A, "MODE SENSE(6)"),
+    (0x1B, "START STOP UNIT"),
+    (0x1D, "SEND DIAGNOSTIC"),
+    (0x25, "READ CAPACITY(10)"),
+    (0x28, "READ(10)"),
+    (0x2A, "WRITE(10)"),
+    (0x2F, "VERIFY(10)"),
+    (0x34, "PRE-FETCH(10)"),
+    (0x35, "SYNCHRONIZE CACHE(10)"),
+    (0x3B, "WRITE BUFFER"),
+    (0x3C, "READ BUFFER"),
+    (0x42, "UNMAP"),
+    (0x55, "MODE SELECT(10)"),
+    (0x5A, "MODE SENSE(10)"),
+    (0x88, "READ(16)"),
+    (0x8A, "WRITE(16)"),
+    (0x91, "SYNCHRONIZE CACHE(16)"),
+    (0x9E, "SERVICE ACTION IN(16)"),
+    (0xA0, "REPORT LUNS"),
+    (0xA2, "SECURITY PROTOCOL IN"),
+    (0xB5, "SECURITY PROTOCOL OUT"),
+];
+
 /// The name of an operation code, byte 0 of a CDB (SPC and SBC, operation codes).
 pub fn operation_name(operation: u8) -> &'static str {
-    match operation {
-        0x00 => "TEST UNIT READY",
-        0x03 => "REQUEST SENSE",
-        0x04 => "FORMAT UNIT",
-        0x08 => "READ(6)",
-        0x0A => "WRITE(6)",
-        0x12 => "INQUIRY",
-        0x15 => "MODE SELECT(6)",
-        0x1A => "MODE SENSE(6)",
-        0x1B => "START STOP UNIT",
-        0x1D => "SEND DIAGNOSTIC",
-        0x25 => "READ CAPACITY(10)",
-        0x28 => "READ(10)",
-        0x2A => "WRITE(10)",
-        0x2F => "VERIFY(10)",
-        0x34 => "PRE-FETCH(10)",
-        0x35 => "SYNCHRONIZE CACHE(10)",
-        0x3B => "WRITE BUFFER",
-        0x3C => "READ BUFFER",
-        0x42 => "UNMAP",
-        0x55 => "MODE SELECT(10)",
-        0x5A => "MODE SENSE(10)",
-        0x88 => "READ(16)",
-        0x8A => "WRITE(16)",
-        0x91 => "SYNCHRONIZE CACHE(16)",
-        0x9E => "SERVICE ACTION IN(16)",
-        0xA0 => "REPORT LUNS",
-        0xA2 => "SECURITY PROTOCOL IN",
-        0xB5 => "SECURITY PROTOCOL OUT",
-        _ => "a command without a name here",
-    }
+    name_in(&OPERATIONS, operation).unwrap_or("a command without a name here")
 }
+
+const TASK_FUNCTIONS: [(u8, &str); 6] = [
+    (0x01, "ABORT TASK"),
+    (0x02, "ABORT TASK SET"),
+    (0x04, "CLEAR TASK SET"),
+    (0x08, "LOGICAL UNIT RESET"),
+    (0x80, "QUERY TASK"),
+    (0x81, "QUERY TASK SET"),
+];
 
 /// The name of a task management function (JESD220, 10.7.6).
 pub fn task_function_name(function: u8) -> &'static str {
-    match function {
-        0x01 => "ABORT TASK",
-        0x02 => "ABORT TASK SET",
-        0x04 => "CLEAR TASK SET",
-        0x08 => "LOGICAL UNIT RESET",
-        0x80 => "QUERY TASK",
-        0x81 => "QUERY TASK SET",
-        _ => "a function without a name",
-    }
+    name_in(&TASK_FUNCTIONS, function).unwrap_or("a function without a name")
 }
+
+const SERVICES: [(u8, &str); 5] = [
+    (0x00, "FUNCTION COMPLETE"),
+    (0x04, "FUNCTION NOT SUPPORTED"),
+    (0x05, "FUNCTION FAILED"),
+    (0x08, "FUNCTION SUCCEEDED"),
+    (0x09, "INCORRECT LOGICAL UNIT NUMBER"),
+];
 
 /// The name of a service response of task management (JESD220, 10.7.7).
 pub fn service_name(service: u8) -> &'static str {
-    match service {
-        0x00 => "FUNCTION COMPLETE",
-        0x04 => "FUNCTION NOT SUPPORTED",
-        0x05 => "FUNCTION FAILED",
-        0x08 => "FUNCTION SUCCEEDED",
-        0x09 => "INCORRECT LOGICAL UNIT NUMBER",
-        _ => "a service response without a name",
-    }
+    name_in(&SERVICES, service).unwrap_or("a service response without a name")
 }
+
+const QUERIES: [(u8, &str); 9] = [
+    (0x00, "NOP"),
+    (0x01, "READ DESCRIPTOR"),
+    (0x02, "WRITE DESCRIPTOR"),
+    (0x03, "READ ATTRIBUTE"),
+    (0x04, "WRITE ATTRIBUTE"),
+    (0x05, "READ FLAG"),
+    (0x06, "SET FLAG"),
+    (0x07, "CLEAR FLAG"),
+    (0x08, "TOGGLE FLAG"),
+];
 
 /// The name of a query's opcode (JESD220, 10.7.8).
 pub fn query_name(opcode: u8) -> &'static str {
-    match opcode {
-        0x00 => "NOP",
-        0x01 => "READ DESCRIPTOR",
-        0x02 => "WRITE DESCRIPTOR",
-        0x03 => "READ ATTRIBUTE",
-        0x04 => "WRITE ATTRIBUTE",
-        0x05 => "READ FLAG",
-        0x06 => "SET FLAG",
-        0x07 => "CLEAR FLAG",
-        0x08 => "TOGGLE FLAG",
-        _ => "an opcode without a name",
-    }
+    name_in(&QUERIES, opcode).unwrap_or("an opcode without a name")
 }
+
+const QUERY_RESPONSES: [(u8, &str); 11] = [
+    (0x00, "SUCCESS"),
+    (0xF6, "PARAMETER NOT READABLE"),
+    (0xF7, "PARAMETER NOT WRITEABLE"),
+    (0xF8, "PARAMETER ALREADY WRITTEN"),
+    (0xF9, "INVALID LENGTH"),
+    (0xFA, "INVALID VALUE"),
+    (0xFB, "INVALID SELECTOR"),
+    (0xFC, "INVALID INDEX"),
+    (0xFD, "INVALID IDN"),
+    (0xFE, "INVALID OPCODE"),
+    (0xFF, "GENERAL FAILURE"),
+];
 
 /// The name of a query's response (JESD220, 10.7.9).
 pub fn query_response_name(response: u8) -> &'static str {
-    match response {
-        0x00 => "SUCCESS",
-        0xF6 => "PARAMETER NOT READABLE",
-        0xF7 => "PARAMETER NOT WRITEABLE",
-        0xF8 => "PARAMETER ALREADY WRITTEN",
-        0xF9 => "INVALID LENGTH",
-        0xFA => "INVALID VALUE",
-        0xFB => "INVALID SELECTOR",
-        0xFC => "INVALID INDEX",
-        0xFD => "INVALID IDN",
-        0xFE => "INVALID OPCODE",
-        0xFF => "GENERAL FAILURE",
-        _ => "a response without a name",
-    }
+    name_in(&QUERY_RESPONSES, response).unwrap_or("a response without a name")
 }
 
 /// What a host fault says, and what to look at.
@@ -184,4 +201,16 @@ pub fn host_fault_of(number: u32) -> Option<HostFault> {
         9 => Some(HostFault::Backlog),
         _ => None,
     }
+}
+
+const KNOWN_UNITS: [(u8, &str); 4] = [
+    (0x81, "REPORT LUNS (81h)"),
+    (0xB0, "BOOT (B0h)"),
+    (0xC4, "RPMB (C4h)"),
+    (0xD0, "UFS DEVICE (D0h)"),
+];
+
+/// The name of a well known unit, with its LUN (JESD220, 10.5).
+pub fn known_unit_name(lun: u8) -> Option<&'static str> {
+    name_in(&KNOWN_UNITS, lun)
 }

@@ -111,15 +111,7 @@ fn is_number(word: &str, wanted: u32) -> bool {
 impl fmt::Display for Answer {
     fn fmt<W: fmt::Write>(&self, f: &mut fmt::Formatter<W>) -> fmt::Result {
         match self {
-            Answer::Taken => write!(f, "taken"),
-            Answer::Refused(fault) => match host_fault_of(*fault) {
-                Some(kind) => {
-                    let words = host_fault_words(kind);
-                    write!(f, "host fault {fault}: {words}")
-                }
-                None => write!(f, "host fault {fault}, a number without a name"),
-            },
-            Answer::NoReply => write!(f, "no reply is due"),
+            Answer::Refused(fault) => write_refusal(f, *fault),
             Answer::Reply(bytes) => write_reply(f, bytes.as_slice()),
             Answer::NoJob(die) => write!(f, "die {die} gets no job"),
             Answer::Read { die, block, page } => {
@@ -130,14 +122,32 @@ impl fmt::Display for Answer {
             }
             Answer::Erase { die, block } => write!(f, "die {die} erases block {block}"),
             Answer::Ended(die) => write!(f, "the device knows how the job of die {die} ended"),
-            Answer::Turn(true) => write!(f, "a step was done"),
-            Answer::Turn(false) => write!(f, "no step was due"),
             Answer::Settled(rounds) => write!(f, "done, {rounds} rounds at most"),
-            Answer::Stopped => write!(
-                f,
-                "the device is open again; its tasks and its cache are gone"
-            ),
+            _ => f.write_str(self.plain_words()),
         }
+    }
+}
+
+impl Answer {
+    // The answers whose text is always the same.
+    fn plain_words(&self) -> &'static str {
+        match self {
+            Answer::Taken => "taken",
+            Answer::NoReply => "no reply is due",
+            Answer::Turn(true) => "a step was done",
+            Answer::Turn(false) => "no step was due",
+            _ => "the device is open again; its tasks and its cache are gone",
+        }
+    }
+}
+
+fn write_refusal<W: fmt::Write>(f: &mut fmt::Formatter<W>, fault: u32) -> fmt::Result {
+    match host_fault_of(fault) {
+        Some(kind) => {
+            let words = host_fault_words(kind);
+            write!(f, "host fault {fault}: {words}")
+        }
+        None => write!(f, "host fault {fault}, a number without a name"),
     }
 }
 

@@ -37,10 +37,10 @@ pub fn read_request(alloc: Global, line: &str) -> Result<Request<'_>, Cause<'_>>
     match first_word(line) {
         "host" => read_host(alloc, line),
         "fill" => read_fill(alloc, line),
-        "reply" => Words::new(line, 1, "reply").map(|_| Request::Reply),
+        "reply" => read_alone(line, "reply", Request::Reply),
         "take" => read_take(line),
         "done" => read_done(line),
-        "turn" => Words::new(line, 1, "turn").map(|_| Request::Turn),
+        "turn" => read_alone(line, "turn", Request::Turn),
         "settle" => read_settle(line),
         "stop" => read_stop(line),
         "" => Err(Cause::Blank),
@@ -48,6 +48,16 @@ pub fn read_request(alloc: Global, line: &str) -> Result<Request<'_>, Cause<'_>>
         "unit" => Err(Cause::TooLate("unit")),
         word => Err(Cause::Word(word)),
     }
+}
+
+// A request whose line has no further word.
+fn read_alone<'a>(
+    line: &'a str,
+    form: &'static str,
+    request: Request<'a>,
+) -> Result<Request<'a>, Cause<'a>> {
+    let _words = Words::new(line, 1, form)?;
+    Ok(request)
 }
 
 fn read_host(alloc: Global, line: &str) -> Result<Request<'_>, Cause<'_>> {
@@ -61,11 +71,16 @@ fn read_fill(alloc: Global, line: &str) -> Result<Request<'_>, Cause<'_>> {
     let mut words = Words::new(line, 4, FILL)?;
     let _name = words.word();
     let mut message = decoded(alloc, words.word())?;
-    let filler = filler_of(words.word())?;
-    let count = (words.number()? as usize).min(LONGEST + 1);
-    let length = message.len().saturating_add(count);
-    message.resize(length, filler).map_err(|_| Cause::Memory)?;
+    let (filler, count) = filling(words)?;
+    let length = message.len().saturating_add(count.min(LONGEST + 1));
+    message.resize(length, filler)?;
     Ok(Request::Host(message))
+}
+
+// The byte BB and the number N.
+fn filling(mut words: Words<'_>) -> Result<(u8, usize), Cause<'_>> {
+    let filler = filler_of(words.word())?;
+    Ok((filler, words.number()? as usize))
 }
 
 fn filler_of(digits: &str) -> Result<u8, Cause<'_>> {
@@ -138,5 +153,8 @@ pub fn decoded(alloc: Global, digits: &str) -> Result<Vec<u8>, Cause<'_>> {
     if bytes.len() % 2 != 0 {
         return Err(Cause::HexCount(bytes.len()));
     }
-    hex::decode(alloc, bytes).map_err(|_| Cause::Memory)
+    match hex::decode(alloc, bytes) {
+        Ok(found) => Ok(found),
+        Err(_) => Err(Cause::Memory),
+    }
 }

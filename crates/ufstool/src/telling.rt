@@ -34,7 +34,7 @@ pub fn explain<W: Write, F: Write>(
         units: UnitSum::default(),
         last_unit: 0,
         is_open: false,
-        answers: output.map(|text| Lines::new(text)),
+        answers: lines_of(output),
         number: 0,
     };
     match told.tell_all(script, out) {
@@ -45,6 +45,13 @@ pub fn explain<W: Write, F: Write>(
             let _ = writeln!(faults, "ufstool: line {number}: {cause}");
             1
         }
+    }
+}
+
+fn lines_of(output: Option<&[u8]>) -> Option<Lines<'_>> {
+    match output {
+        Some(text) => Some(Lines::new(text)),
+        None => None,
     }
 }
 
@@ -73,6 +80,12 @@ impl Told<'_> {
             }
         }
         self.number = self.number.saturating_add(1);
+        self.end()?;
+        Ok(out.flush()?)
+    }
+
+    // The script is over: the first lines have to be there, and the output has to be over too.
+    fn end(&mut self) -> Result<(), Cause<'static>> {
         if self.units.count == 0 {
             return Err(missing_line(self.config.is_some()));
         }
@@ -82,28 +95,55 @@ impl Told<'_> {
                 return Err(Cause::Surplus);
             }
         }
-        out.flush().map_err(|_| Cause::Output)
+        Ok(())
     }
 
     // Tells a line.
     fn tell<'s, W: Write>(&mut self, line: Line<'s>, out: &mut W) -> Result<(), Cause<'s>> {
         let text = line_text(line.bytes)?;
-        let number = line.number;
-        let Some(config) = self.config else {
-            let config = ConfigLine::read(text)?;
-            self.config = Some(config);
-            return writeln!(out, "line {number}: {config}").map_err(|_| Cause::Output);
-        };
+        if self.config.is_none() {
+            return self.tell_config(line.number, text, out);
+        }
         if !self.is_open && (self.units.count == 0 || first_word(text) == "unit") {
-            let unit = UnitLine::read(text)?;
-            let index = self.units.count;
-            self.units.add(&unit)?;
-            self.last_unit = number;
-            return writeln!(out, "line {number}: unit {index}: {unit}").map_err(|_| Cause::Output);
+            return self.tell_unit(line.number, text, out);
         }
         self.open()?;
+        self.tell_request(line.number, text, out)
+    }
+
+    fn tell_config<'s, W: Write>(
+        &mut self,
+        number: usize,
+        text: &'s str,
+        out: &mut W,
+    ) -> Result<(), Cause<'s>> {
+        let config = ConfigLine::read(text)?;
+        self.config = Some(config);
+        Ok(writeln!(out, "line {number}: {config}")?)
+    }
+
+    fn tell_unit<'s, W: Write>(
+        &mut self,
+        number: usize,
+        text: &'s str,
+        out: &mut W,
+    ) -> Result<(), Cause<'s>> {
+        let unit = UnitLine::read(text)?;
+        let index = self.units.count;
+        self.units.add(&unit)?;
+        self.last_unit = number;
+        Ok(writeln!(out, "line {number}: unit {index}: {unit}")?)
+    }
+
+    // A line behind the first ones.
+    fn tell_request<'s, W: Write>(
+        &mut self,
+        number: usize,
+        text: &'s str,
+        out: &mut W,
+    ) -> Result<(), Cause<'s>> {
         let request = read_request(self.alloc, text)?;
-        writeln!(out, "line {number}: {request}").map_err(|_| Cause::Output)?;
+        writeln!(out, "line {number}: {request}")?;
         self.answer(&request, out)
     }
 
@@ -140,7 +180,7 @@ impl Told<'_> {
             return Err(wrong);
         };
         match read_answer(self.alloc, request, text) {
-            Some(answer) => writeln!(out, "    -> {answer}").map_err(|_| Cause::Output),
+            Some(answer) => Ok(writeln!(out, "    -> {answer}")?),
             None => Err(wrong),
         }
     }
@@ -171,26 +211,26 @@ impl fmt::Display for Request<'_> {
     fn fmt<W: fmt::Write>(&self, f: &mut fmt::Formatter<W>) -> fmt::Result {
         match self {
             Request::Host(bytes) => write_message(f, bytes.as_slice()),
-            Request::Reply => write!(f, "a reply is asked for"),
+            Request::Reply => f.write_str("a reply is asked for"),
             Request::Take(die) => write!(f, "a job is asked for die {die}"),
-            Request::Done { die, is_ok: true } => write!(f, "the job of die {die} ends well"),
-            Request::Done { die, is_ok: false } => {
-                write!(
-                    f,
-                    "the job of die {die} fails; after a program or an erase its block is bad"
-                )
+            Request::Done { die, is_ok } => {
+                let end = if *is_ok { WELL } else { FAILED };
+                write!(f, "the job of die {die} {end}")
             }
-            Request::Turn => write!(f, "the device may do a step of its own"),
-            Request::Settle(rounds) => {
-                write!(
-                    f,
-                    "up to {rounds} rounds: a step of the device, then a job of each die"
-                )
-            }
+            Request::Turn => f.write_str("the device may do a step of its own"),
+            Request::Settle(rounds) => write!(
+                f,
+                "up to {rounds} rounds: a step of the device, then a job of each die"
+            ),
             Request::Stop(line) => write_stop(f, line),
         }
     }
 }
+
+// How a job ends.
+const WELL: &str = "ends well";
+
+const FAILED: &str = "fails; after a program or an erase its block is bad";
 
 // A message of the host. One that no device takes is told with its fault.
 fn write_message<W: fmt::Write>(f: &mut fmt::Formatter<W>, bytes: &[u8]) -> fmt::Result {
@@ -209,16 +249,20 @@ fn write_message<W: fmt::Write>(f: &mut fmt::Formatter<W>, bytes: &[u8]) -> fmt:
 
 // A stop, with what is left of the jobs.
 fn write_stop<W: fmt::Write>(f: &mut fmt::Formatter<W>, line: &str) -> fmt::Result {
-    write!(f, "the power fails")?;
+    f.write_str("the power fails")?;
     for word in line.split_whitespace().skip(1) {
         if let Ok((die, content)) = read_left(word) {
-            let left = match content {
-                "old" => "its old content",
-                "new" => "its new content",
-                _ => "zeros, whose check fails",
-            };
-            write!(f, "; the page or block at which die {die} works has {left}")?;
+            write_left(f, die, content)?;
         }
     }
     Ok(())
+}
+
+fn write_left<W: fmt::Write>(f: &mut fmt::Formatter<W>, die: u32, content: &str) -> fmt::Result {
+    let left = match content {
+        "old" => "its old content",
+        "new" => "its new content",
+        _ => "zeros, whose check fails",
+    };
+    write!(f, "; the page or block at which die {die} works has {left}")
 }

@@ -4,7 +4,7 @@ use die_map::Form;
 use ufstool::{Cdb, HostMessage};
 
 /// What the program is asked to do.
-#[derive(Clone, Copy, Debug, PartialEq, Eq)]
+#[derive(Clone, Copy)]
 pub enum Call<'a> {
     /// Say in words what a script and its output tell.
     Explain {
@@ -43,65 +43,77 @@ pub fn read_call<'a>(matches: &ArgMatches<'a>) -> Option<Call<'a>> {
 }
 
 fn read_host(name: &str, matches: &ArgMatches<'_>) -> Option<HostMessage> {
-    let task = matches.get_one::<u8>("task")?;
+    let task = byte_in(matches, "task");
     match name {
         "nop" => Some(HostMessage::NopOut { task }),
         "data-out" => Some(HostMessage::DataOut {
-            unit: matches.get_one("unit")?,
+            unit: byte_in(matches, "unit"),
             task,
-            offset: matches.get_one("offset")?,
-            count: matches.get_one("bytes")?,
+            offset: long_in(matches, "offset"),
+            count: short_in(matches, "bytes"),
             fill: byte_of(matches.get_str("fill")?)?,
         }),
         _ => Some(HostMessage::Command {
-            unit: matches.get_one("unit")?,
+            unit: byte_in(matches, "unit"),
             task,
-            cdb: read_cdb(name, matches)?,
+            cdb: read_cdb(name, matches),
             expected: matches.get_one("expected"),
         }),
     }
 }
 
-fn read_cdb(name: &str, matches: &ArgMatches<'_>) -> Option<Cdb> {
+fn read_cdb(name: &str, matches: &ArgMatches<'_>) -> Cdb {
     match name {
-        "read6" | "write6" | "read10" | "write10" => read_transfer(name, matches),
-        "synchronize-cache" => Some(Cdb::SynchronizeCache10 {
+        "synchronize-cache" => Cdb::SynchronizeCache10 {
             address: 0,
             blocks: 0,
             immediate: matches.get_flag("immediate"),
-        }),
-        "request-sense" => Some(Cdb::RequestSense {
-            allocation: matches.get_one("allocation")?,
-        }),
-        "read-capacity" => Some(Cdb::ReadCapacity10),
-        "test-unit-ready" => Some(Cdb::TestUnitReady),
-        _ => None,
+        },
+        "request-sense" => Cdb::RequestSense {
+            allocation: byte_in(matches, "allocation"),
+        },
+        "read-capacity" => Cdb::ReadCapacity10,
+        "test-unit-ready" => Cdb::TestUnitReady,
+        _ => read_transfer(name, matches),
     }
 }
 
-fn read_transfer(name: &str, matches: &ArgMatches<'_>) -> Option<Cdb> {
-    let address = matches.get_one::<u32>("address")?;
-    let forced = matches.get_flag("fua");
+fn read_transfer(name: &str, matches: &ArgMatches<'_>) -> Cdb {
+    let address = long_in(matches, "address");
     match name {
-        "read6" => Some(Cdb::Read6 {
+        "read6" => Cdb::Read6 {
             address,
-            blocks: matches.get_one("blocks")?,
-        }),
-        "write6" => Some(Cdb::Write6 {
+            blocks: byte_in(matches, "blocks"),
+        },
+        "write6" => Cdb::Write6 {
             address,
-            blocks: matches.get_one("blocks")?,
-        }),
-        "read10" => Some(Cdb::Read10 {
+            blocks: byte_in(matches, "blocks"),
+        },
+        "read10" => Cdb::Read10 {
             address,
-            blocks: matches.get_one("blocks")?,
-            forced,
-        }),
-        _ => Some(Cdb::Write10 {
+            blocks: short_in(matches, "blocks"),
+            forced: matches.get_flag("fua"),
+        },
+        _ => Cdb::Write10 {
             address,
-            blocks: matches.get_one("blocks")?,
-            forced,
-        }),
+            blocks: short_in(matches, "blocks"),
+            forced: matches.get_flag("fua"),
+        },
     }
+}
+
+// The number of an option. The words were refused if it is missing or does not fit its type, so no 0
+// stands for another number here; so with the next two.
+fn byte_in(matches: &ArgMatches<'_>, name: &str) -> u8 {
+    matches.get_one(name).unwrap_or(0)
+}
+
+fn short_in(matches: &ArgMatches<'_>, name: &str) -> u16 {
+    matches.get_one(name).unwrap_or(0)
+}
+
+fn long_in(matches: &ArgMatches<'_>, name: &str) -> u32 {
+    matches.get_one(name).unwrap_or(0)
 }
 
 // The byte that two hexadecimal digits spell.

@@ -9,28 +9,36 @@ use crate::asked::{Call, read_call};
 use crate::program::program;
 use clap::ArgMatches;
 use clap::error::ErrorKind;
-use die_map::draw;
+use die_map::{Form, draw};
 use std::io::ErrorKind as FileError;
 use std::process::ExitCode;
-use std::rt::Files;
+use std::rt::{Env, Files};
 use std::{env, fs, io};
 use ufstool::{explain, write_host_line};
 
 fn main(rt: HostRuntime) -> ExitCode {
-    let Ok(words) = env::args(&rt) else {
-        return failed(&rt, "there is not enough memory");
-    };
-    let Ok(words) = words.collect(rt.alloc()) else {
-        return failed(&rt, "there is not enough memory");
-    };
-    let words: Vec<String> = words;
+    match words(&rt) {
+        Some(words) => call(&rt, words.as_slice()),
+        None => failed(&rt, "there is not enough memory"),
+    }
+}
+
+// The words that the program was started with; `None` for want of memory.
+fn words(rt: &(impl Env + AllocGlobal)) -> Option<Vec<String>> {
+    match env::args(rt) {
+        Ok(words) => words.collect(rt.alloc()).ok(),
+        Err(_) => None,
+    }
+}
+
+fn call(rt: &HostRuntime, words: &[String]) -> ExitCode {
     let Ok(program) = program(rt.alloc()) else {
-        return failed(&rt, "there is not enough memory");
+        return failed(rt, "there is not enough memory");
     };
-    match program.try_get_matches_from(words.as_slice()) {
-        Ok(matches) => run(&rt, &matches),
+    match program.try_get_matches_from(words) {
+        Ok(matches) => run(rt, &matches),
         Err(error) => {
-            let _ = error.print(&rt);
+            let _ = error.print(rt);
             match error.kind() {
                 ErrorKind::DisplayHelp | ErrorKind::DisplayVersion => ExitCode::SUCCESS,
                 ErrorKind::OutOfMemory => ExitCode::FAILURE,
@@ -43,22 +51,7 @@ fn main(rt: HostRuntime) -> ExitCode {
 fn run(rt: &HostRuntime, matches: &ArgMatches<'_>) -> ExitCode {
     match read_call(matches) {
         Some(Call::Explain { script, output }) => run_explain(rt, script, output),
-        Some(Call::Draw { script, last, form }) => match fs::read(rt, script) {
-            Ok(text) => {
-                let mut out = io::writer(rt);
-                let mut faults = rt.stderr();
-                let status = draw(
-                    rt.alloc(),
-                    text.as_slice(),
-                    last,
-                    form,
-                    &mut out,
-                    &mut faults,
-                );
-                ExitCode::from(status)
-            }
-            Err(error) => unread(rt, script, error.kind()),
-        },
+        Some(Call::Draw { script, last, form }) => run_draw(rt, script, last, form),
         Some(Call::Host(message)) => {
             let mut out = io::writer(rt);
             let status = write_host_line(rt.alloc(), &message, &mut out, &mut rt.stderr());
@@ -70,6 +63,25 @@ fn run(rt: &HostRuntime, matches: &ArgMatches<'_>) -> ExitCode {
             );
             ExitCode::from(2)
         }
+    }
+}
+
+fn run_draw(rt: &HostRuntime, script: &str, last: usize, form: Form) -> ExitCode {
+    match fs::read(rt, script) {
+        Ok(text) => {
+            let mut out = io::writer(rt);
+            let mut faults = rt.stderr();
+            let status = draw(
+                rt.alloc(),
+                text.as_slice(),
+                last,
+                form,
+                &mut out,
+                &mut faults,
+            );
+            ExitCode::from(status)
+        }
+        Err(error) => unread(rt, script, error.kind()),
     }
 }
 

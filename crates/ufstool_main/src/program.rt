@@ -2,220 +2,203 @@
 use clap::{Arg, ArgAction, Command, value_parser};
 use std::alloc::{AllocError, Global};
 
+/// A command that is being made; making one may want memory.
+type Made<'a> = Result<Command<'a>, AllocError>;
+
 /// The program with its commands.
-pub fn program<'a>(alloc: Global) -> Result<Command<'a>, AllocError> {
-    Command::new(alloc, "ufstool")
+pub fn program<'a>(alloc: Global) -> Made<'a> {
+    let program = Command::new(alloc, "ufstool")
         .bin_name("ufstool")?
         .version("0.1.0")
         .about(
             "Explains scripts of ufsim and their outputs, writes their lines, and draws the dies",
         )
         .subcommand_required(true)
-        .arg_required_else_help(true)
-        .subcommand(explain_command(alloc)?)?
-        .subcommand(host_command(alloc)?)?
-        .subcommand(draw_command(alloc)?)
+        .arg_required_else_help(true);
+    let program = with(Ok(program), explain_command(alloc));
+    let program = with(program, host_command(alloc));
+    with(program, draw_command(alloc))
 }
 
-fn explain_command<'a>(alloc: Global) -> Result<Command<'a>, AllocError> {
-    let script = Arg::new(alloc, "SCRIPT")
+// The command with one more below it.
+fn with<'a>(command: Made<'a>, below: Made<'a>) -> Made<'a> {
+    command?.subcommand(below?)
+}
+
+// The command with one more argument.
+fn with_arg<'a>(command: Made<'a>, arg: Arg<'a>) -> Made<'a> {
+    command?.arg(arg)
+}
+
+fn script<'a>(alloc: Global) -> Arg<'a> {
+    Arg::new(alloc, "SCRIPT")
         .help("The script, as ufsim reads it")
-        .required(true);
+        .required(true)
+}
+
+fn explain_command<'a>(alloc: Global) -> Made<'a> {
     let output = Arg::new(alloc, "OUTPUT").help("What 'ufsim run SCRIPT' printed");
-    Command::new(alloc, "explain")
-        .about("Says line by line what a script asks for and what was answered")
-        .arg(script)?
-        .arg(output)
+    let explain = Command::new(alloc, "explain").about(
+        "Says line by line what a script asks for and what was answered",
+    );
+    with_arg(explain.arg(script(alloc)), output)
 }
 
-fn draw_command<'a>(alloc: Global) -> Result<Command<'a>, AllocError> {
-    let script = Arg::new(alloc, "SCRIPT")
-        .help("The script, as ufsim reads it")
-        .required(true);
-    let line = Arg::new(alloc, "line")
-        .long("line")
-        .value_name("N")
-        .help("Runs the lines up to this one alone [default: all]")
-        .value_parser(value_parser!(usize));
-    let svg = Arg::new(alloc, "svg")
-        .long("svg")
-        .help("Draws SVG in place of text")
-        .action(ArgAction::SetTrue);
-    Command::new(alloc, "draw")
-        .about("Runs a script and draws the dies with their blocks and pages")
-        .arg(script)?
-        .arg(line)?
-        .arg(svg)
+fn draw_command<'a>(alloc: Global) -> Made<'a> {
+    let draw = Command::new(alloc, "draw").about(
+        "Runs a script and draws the dies with their blocks and pages",
+    );
+    let draw = with_arg(draw.arg(script(alloc)), line(alloc));
+    with_arg(draw, flag(alloc, "svg", "Draws SVG in place of text"))
 }
 
-fn host_command<'a>(alloc: Global) -> Result<Command<'a>, AllocError> {
+fn line<'a>(alloc: Global) -> Arg<'a> {
+    option(
+        alloc,
+        "line",
+        "N",
+        "Runs the lines up to this one alone [default: all]",
+    )
+    .value_parser(value_parser!(usize))
+}
+
+fn host_command<'a>(alloc: Global) -> Made<'a> {
     let host = Command::new(alloc, "host")
         .about("Writes the line of a script that hands the device a message")
         .subcommand_required(true)
         .arg_required_else_help(true);
-    let host = with_transfers(alloc, host)?;
-    let host = with_flush(alloc, host)?;
+    let host = with_transfers(alloc, Ok(host));
+    let host = with_flush(alloc, host);
     with_others(alloc, host)
 }
 
 // The command with the READs and WRITEs.
-fn with_transfers<'a>(alloc: Global, host: Command<'a>) -> Result<Command<'a>, AllocError> {
-    host.subcommand(transfer(alloc, "read6", "READ(6)")?)?
-        .subcommand(transfer(alloc, "write6", "WRITE(6)")?)?
-        .subcommand(forced_transfer(alloc, "read10", "READ(10)")?)?
-        .subcommand(forced_transfer(alloc, "write10", "WRITE(10)")?)
+fn with_transfers<'a>(alloc: Global, host: Made<'a>) -> Made<'a> {
+    let host = with(host, transfer(alloc, "read6", "READ(6)"));
+    let host = with(host, transfer(alloc, "write6", "WRITE(6)"));
+    let host = with(host, forced_transfer(alloc, "read10", "READ(10)"));
+    with(host, forced_transfer(alloc, "write10", "WRITE(10)"))
 }
 
 // The command with the flush and the question whether the unit is ready.
-fn with_flush<'a>(alloc: Global, host: Command<'a>) -> Result<Command<'a>, AllocError> {
-    host.subcommand(flush(alloc)?)?
-        .subcommand(plain(alloc, "test-unit-ready", "TEST UNIT READY")?)
+fn with_flush<'a>(alloc: Global, host: Made<'a>) -> Made<'a> {
+    let host = with(host, flush(alloc));
+    with(host, plain(alloc, "test-unit-ready", "TEST UNIT READY"))
 }
 
 // The command with all other messages.
-fn with_others<'a>(alloc: Global, host: Command<'a>) -> Result<Command<'a>, AllocError> {
-    host.subcommand(request_sense(alloc)?)?
-        .subcommand(plain(alloc, "read-capacity", "READ CAPACITY(10)")?)?
-        .subcommand(nop(alloc)?)?
-        .subcommand(data_out(alloc)?)
+fn with_others<'a>(alloc: Global, host: Made<'a>) -> Made<'a> {
+    let host = with(host, request_sense(alloc));
+    let host = with(host, plain(alloc, "read-capacity", "READ CAPACITY(10)"));
+    let host = with(host, nop(alloc));
+    with(host, data_out(alloc))
 }
 
 // A command with its unit, its task and how many bytes are expected.
-fn plain<'a>(alloc: Global, name: &'a str, about: &'a str) -> Result<Command<'a>, AllocError> {
-    let expected = Arg::new(alloc, "expected")
-        .long("expected")
-        .value_name("BYTES")
-        .help("How many bytes the host sends or has room for [default: those of the command]")
-        .value_parser(value_parser!(u32));
-    Command::new(alloc, name)
-        .about(about)
-        .arg(unit(alloc))?
-        .arg(task(alloc))?
-        .arg(expected)
+fn plain<'a>(alloc: Global, name: &'a str, about: &'a str) -> Made<'a> {
+    let command = Command::new(alloc, name).about(about);
+    let command = with_arg(command.arg(unit(alloc)), task(alloc));
+    with_arg(command, expected(alloc))
 }
 
 // A READ or WRITE.
-fn transfer<'a>(alloc: Global, name: &'a str, about: &'a str) -> Result<Command<'a>, AllocError> {
-    let blocks = Arg::new(alloc, "blocks")
-        .long("blocks")
-        .value_name("COUNT")
-        .help("How many blocks; the device takes up to 32")
-        .value_parser(value_parser!(u8))
-        .default_value("1");
-    plain(alloc, name, about)?.arg(address(alloc))?.arg(blocks)
+fn transfer<'a>(alloc: Global, name: &'a str, about: &'a str) -> Made<'a> {
+    let command = with_arg(plain(alloc, name, about), address(alloc));
+    let blocks = blocks(alloc).value_parser(value_parser!(u8));
+    with_arg(command, blocks)
 }
 
 // A READ or WRITE with FUA.
-fn forced_transfer<'a>(
-    alloc: Global,
-    name: &'a str,
-    about: &'a str,
-) -> Result<Command<'a>, AllocError> {
-    plain(alloc, name, about)?
-        .arg(address(alloc))?
-        .arg(blocks(alloc))?
-        .arg(forced(alloc))
+fn forced_transfer<'a>(alloc: Global, name: &'a str, about: &'a str) -> Made<'a> {
+    let command = with_arg(plain(alloc, name, about), address(alloc));
+    let command = with_arg(command, blocks(alloc).value_parser(value_parser!(u16)));
+    let help = "Sets FUA: a WRITE is answered once its blocks are durable";
+    with_arg(command, flag(alloc, "fua", help))
 }
 
-fn flush<'a>(alloc: Global) -> Result<Command<'a>, AllocError> {
-    let immediate = Arg::new(alloc, "immediate")
-        .long("immediate")
-        .help("Sets IMMED: it is answered at once")
-        .action(ArgAction::SetTrue);
-    plain(alloc, "synchronize-cache", "SYNCHRONIZE CACHE(10)")?
-        .visible_alias("flush")?
-        .arg(immediate)
+fn flush<'a>(alloc: Global) -> Made<'a> {
+    let flush = plain(alloc, "synchronize-cache", "SYNCHRONIZE CACHE(10)")?;
+    let help = "Sets IMMED: it is answered at once";
+    with_arg(flush.visible_alias("flush"), flag(alloc, "immediate", help))
 }
 
-fn request_sense<'a>(alloc: Global) -> Result<Command<'a>, AllocError> {
-    let allocation = Arg::new(alloc, "allocation")
-        .long("allocation")
-        .value_name("BYTES")
-        .help("The allocation length")
+fn request_sense<'a>(alloc: Global) -> Made<'a> {
+    let allocation = option(alloc, "allocation", "BYTES", "The allocation length")
         .value_parser(value_parser!(u8))
         .default_value("18");
-    plain(alloc, "request-sense", "REQUEST SENSE")?.arg(allocation)
+    with_arg(plain(alloc, "request-sense", "REQUEST SENSE"), allocation)
 }
 
-fn nop<'a>(alloc: Global) -> Result<Command<'a>, AllocError> {
+fn nop<'a>(alloc: Global) -> Made<'a> {
     Command::new(alloc, "nop").about("NOP OUT").arg(task(alloc))
 }
 
-fn data_out<'a>(alloc: Global) -> Result<Command<'a>, AllocError> {
-    Command::new(alloc, "data-out")
-        .about("DATA OUT with equal bytes")
-        .arg(unit(alloc))?
-        .arg(task(alloc))?
-        .arg(offset(alloc))?
-        .arg(bytes(alloc))?
-        .arg(fill(alloc))
+fn data_out<'a>(alloc: Global) -> Made<'a> {
+    let command = Command::new(alloc, "data-out").about("DATA OUT with equal bytes");
+    let command = with_arg(command.arg(unit(alloc)), task(alloc));
+    let command = with_arg(command, offset(alloc));
+    let command = with_arg(command, bytes(alloc));
+    with_arg(command, fill(alloc))
 }
 
-fn blocks<'a>(alloc: Global) -> Arg<'a> {
-    Arg::new(alloc, "blocks")
-        .long("blocks")
-        .value_name("COUNT")
-        .help("How many blocks; the device takes up to 32")
-        .value_parser(value_parser!(u16))
-        .default_value("1")
+// The option `--NAME VALUE`.
+fn option<'a>(alloc: Global, name: &'a str, value: &'a str, help: &'a str) -> Arg<'a> {
+    Arg::new(alloc, name)
+        .long(name)
+        .value_name(value)
+        .help(help)
 }
 
-fn forced<'a>(alloc: Global) -> Arg<'a> {
-    Arg::new(alloc, "fua")
-        .long("fua")
-        .help("Sets FUA: a WRITE is answered once its blocks are durable")
+// The option `--NAME`.
+fn flag<'a>(alloc: Global, name: &'a str, help: &'a str) -> Arg<'a> {
+    Arg::new(alloc, name)
+        .long(name)
+        .help(help)
         .action(ArgAction::SetTrue)
 }
 
+fn expected<'a>(alloc: Global) -> Arg<'a> {
+    let help = "How many bytes the host sends or has room for [default: those of the command]";
+    option(alloc, "expected", "BYTES", help).value_parser(value_parser!(u32))
+}
+
+fn blocks<'a>(alloc: Global) -> Arg<'a> {
+    let help = "How many blocks; the device takes up to 32";
+    option(alloc, "blocks", "COUNT", help).default_value("1")
+}
+
 fn offset<'a>(alloc: Global) -> Arg<'a> {
-    Arg::new(alloc, "offset")
-        .long("offset")
-        .value_name("BYTES")
-        .help("Where the data are in those of the command, as READY TO TRANSFER says")
+    let help = "Where the data are in those of the command, as READY TO TRANSFER says";
+    option(alloc, "offset", "BYTES", help)
         .value_parser(value_parser!(u32))
         .default_value("0")
 }
 
 fn bytes<'a>(alloc: Global) -> Arg<'a> {
-    Arg::new(alloc, "bytes")
-        .long("bytes")
-        .value_name("COUNT")
-        .help("How many bytes, 1 to 4096")
+    option(alloc, "bytes", "COUNT", "How many bytes, 1 to 4096")
         .value_parser(value_parser!(u16).range(1..=4096))
         .default_value("4096")
 }
 
 fn fill<'a>(alloc: Global) -> Arg<'a> {
-    Arg::new(alloc, "fill")
-        .long("fill")
-        .value_name("BYTE")
-        .help("The byte of which all data are, as two hexadecimal digits")
-        .default_value("00")
+    let help = "The byte of which all data are, as two hexadecimal digits";
+    option(alloc, "fill", "BYTE", help).default_value("00")
 }
 
 fn unit<'a>(alloc: Global) -> Arg<'a> {
-    Arg::new(alloc, "unit")
-        .long("unit")
-        .value_name("LUN")
-        .help("The LUN of the unit, 0 to 255")
+    option(alloc, "unit", "LUN", "The LUN of the unit, 0 to 255")
         .value_parser(value_parser!(u8))
         .default_value("0")
 }
 
 fn task<'a>(alloc: Global) -> Arg<'a> {
-    Arg::new(alloc, "task")
-        .long("task")
-        .value_name("TAG")
-        .help("The task tag, 0 to 255 in decimal")
+    option(alloc, "task", "TAG", "The task tag, 0 to 255 in decimal")
         .value_parser(value_parser!(u8))
         .default_value("0")
 }
 
 fn address<'a>(alloc: Global) -> Arg<'a> {
-    Arg::new(alloc, "address")
-        .long("address")
-        .value_name("BLOCK")
-        .help("The address of the first block")
+    option(alloc, "address", "BLOCK", "The address of the first block")
         .value_parser(value_parser!(u32))
         .required(true)
 }

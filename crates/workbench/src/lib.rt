@@ -1,5 +1,5 @@
-//! A device over dies in memory, driven by its five calls alone: what tests, timings and the program
-//! `five_calls` share. After `new` it takes no memory.
+//! What tests and programs share: a device over dies in memory, driven by its five calls alone, the
+//! configuration of the worked rows, and the messages of a host. After `new` the device takes no memory.
 #![tactic(auto)]
 
 ghost use Rattle.std.specs.Prelude.{IfOk};
@@ -8,9 +8,17 @@ ghost use Rattle.ufs_spec.specs.Refusals.{State};
 ghost use Rattle.ufs_spec.specs.Sound.{Sound};
 ghost use Rattle.device.specs.Describes.{Describes};
 
-use device::{Device, fit};
+mod blocks;
+pub mod collected;
+mod config;
+pub mod messages;
+mod sizes;
+
+pub use config::{row_config, small_config};
+use device::Device;
 use geometry::Config;
 use nand_model::{MemDie, work};
+pub use sizes::fit;
 use std::alloc::Global;
 use ufs_spec::{HostFault, Job, NoMemory, OpenFault, Upiu};
 
@@ -44,7 +52,7 @@ impl Workbench {
             IsOpened config (array_of dies.items) (bad_of dies.items) s → Describes w.device s) }
     {
         let mut dies = dies;
-        if !fit(&config, dies.as_slice()) {
+        if !device::fit(&config, dies.as_slice()) {
             return Err(OpenFault::OtherConfig);
         }
         let device = Device::open(alloc, config, dies.as_mut_slice())?;
@@ -63,8 +71,8 @@ impl Workbench {
         }
     }
 
-    /// Does the job on the die, and tells the device how it ended.
-    fn end(&mut self, die: u8, job: &Job) -> bool {
+    /// Does the job on the die, and tells the device how it ended; false where the device gave no such job.
+    pub fn end(&mut self, die: u8, job: &Job) -> bool {
         let index = die as usize;
         if index >= self.dies.len() || !self.dies[index].can_do(job) {
             return false;

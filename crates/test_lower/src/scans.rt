@@ -1,0 +1,362 @@
+//! What `recovery::scan` tells of dies whose pages were set by hand.
+//!
+//! The key of address A of unit 0 has the index A, since unit 0 stands first. The device has 417
+//! keys: 256, 64 and 64 blocks, 32 pages of the RPMB area, and the settings.
+ghost use Rattle.std.specs.Prelude.{◌<◌, ◌≤◌, ◌^◌};
+
+use crate::faulty_die::FaultyDie;
+use geometry::Config;
+use nand_model::{Die, MemDie};
+use page_tag::{mark_body, seal};
+use recovery::{Found, FoundBlock, scan};
+use std::alloc::Global;
+use std::process::Abort;
+use std::test::Fail;
+use ufs_spec::{Fence, Job, OpenFault, Page, Place, Tag, UnitSpec};
+use workbench::{fit, row_config};
+
+/// New dies hold nothing. A block that is bad is told bad, and no other is.
+#[test]
+fn new_dies_hold_nothing(rt: HostRuntime) -> Result<(), Fail> {
+    let mut dies = row_dies(rt.alloc())?;
+    assert!(rt; 2 < dies.len() && 5 < dies[2].blocks());
+    dies[2].set_bad(5);
+    let found = scanned(&rt, rt.alloc(), &row_config()?, dies.as_mut_slice())?;
+    assert!(rt; found.newest.is_none());
+    assert!(rt; has_numbers(&found, (0, 0, 1)));
+    assert!(rt; found.contents.len() == 417);
+    assert!(rt; has_no_content(&found));
+    assert!(rt; found.lost.is_empty());
+    assert!(rt; is_block(&found, 2, 5, FoundBlock::Bad));
+    assert!(rt; count_of(&found, FoundBlock::Free) == 63);
+    Ok(())
+}
+
+/// Of groups 1, 2 and 3 the second is torn, so that the kept number stops at 1, and the page of
+/// group 3 is lost. The block of the torn page has nothing else, so it is free.
+#[test]
+fn a_gap_loses_the_group_behind_it(rt: HostRuntime) -> Result<(), Fail> {
+    let config = row_config()?;
+    let mut dies = row_dies(rt.alloc())?;
+    let mut torn = data(1, 2, (0, 1));
+    torn.body[9] = 77;
+    put(
+        &rt,
+        dies.as_mut_slice(),
+        at(0, 0, 0),
+        &mark(&config, (1, 0), None),
+    );
+    put(&rt, dies.as_mut_slice(), at(0, 1, 0), &data(0, 1, (0, 1)));
+    put(&rt, dies.as_mut_slice(), at(1, 0, 0), &torn);
+    put(&rt, dies.as_mut_slice(), at(2, 0, 0), &data(2, 3, (0, 1)));
+    let found = scanned(&rt, rt.alloc(), &config, dies.as_mut_slice())?;
+    assert!(rt; is_newest(&found, 1));
+    assert!(rt; has_numbers(&found, (1, 3, 2)));
+    assert!(rt; lies_at(&found, 0, at(0, 1, 0)));
+    assert!(rt; lies_nowhere(&found, 1) && lies_nowhere(&found, 2));
+    assert!(rt; is_only_lost(&found, 2));
+    assert!(rt; is_block(&found, 0, 0, FoundBlock::Closed));
+    assert!(rt; is_block(&found, 0, 1, FoundBlock::Closed));
+    assert!(rt; is_block(&found, 2, 0, FoundBlock::Closed));
+    assert!(rt; count_of(&found, FoundBlock::Free) == 61);
+    Ok(())
+}
+
+/// The newest mark has the number 2, records 5 and fences 4 and 5. The older mark stands behind it.
+/// Address 5 has two pages of group 1, and the lower one is told. Address 6 has pages of groups 3
+/// and 2, and the newer one is told, though it was read first. The page of group 4 lies in the
+/// fence, so it is lost.
+#[test]
+fn the_newest_mark_and_pages_are_told(rt: HostRuntime) -> Result<(), Fail> {
+    let config = row_config()?;
+    let mut dies = row_dies(rt.alloc())?;
+    let newest = Some(Fence { first: 4, last: 5 });
+    let older = Some(Fence { first: 1, last: 3 });
+    put(
+        &rt,
+        dies.as_mut_slice(),
+        at(0, 0, 0),
+        &mark(&config, (2, 5), newest),
+    );
+    put(
+        &rt,
+        dies.as_mut_slice(),
+        at(3, 0, 0),
+        &mark(&config, (1, 3), older),
+    );
+    put(&rt, dies.as_mut_slice(), at(0, 3, 0), &data(5, 1, (0, 1)));
+    put(&rt, dies.as_mut_slice(), at(1, 1, 0), &data(5, 1, (0, 1)));
+    put(&rt, dies.as_mut_slice(), at(1, 2, 0), &data(6, 3, (0, 1)));
+    put(&rt, dies.as_mut_slice(), at(1, 2, 1), &data(6, 2, (0, 1)));
+    put(&rt, dies.as_mut_slice(), at(2, 0, 0), &data(7, 4, (0, 1)));
+    let found = scanned(&rt, rt.alloc(), &config, dies.as_mut_slice())?;
+    assert!(rt; is_newest(&found, 2));
+    assert!(rt; has_numbers(&found, (5, 5, 4)));
+    assert!(rt; lies_at(&found, 5, at(0, 3, 0)));
+    assert!(rt; lies_at(&found, 6, at(1, 2, 0)));
+    assert!(rt; lies_nowhere(&found, 7));
+    assert!(rt; is_only_lost(&found, 7));
+    Ok(())
+}
+
+/// A mark of a device with one unit, and a page behind the last address of unit 0.
+#[test]
+fn dies_of_another_configuration_are_refused(rt: HostRuntime) -> Result<(), Fail> {
+    let config = row_config()?;
+    let unit = UnitSpec {
+        blocks: 256,
+        boot: 1,
+        protect: 0,
+    };
+    let other = Config::new(4, 16, 64, &[unit], 1, 64, 4)?;
+    let mut dies = row_dies(rt.alloc())?;
+    put(
+        &rt,
+        dies.as_mut_slice(),
+        at(0, 0, 0),
+        &mark(&other, (1, 0), None),
+    );
+    assert!(rt; is_other(scanned(&rt, rt.alloc(), &config, dies.as_mut_slice())));
+    put(&rt, dies.as_mut_slice(), at(0, 0, 0), &data(255, 1, (0, 1)));
+    assert!(rt; !is_other(scanned(&rt, rt.alloc(), &config, dies.as_mut_slice())));
+    put(&rt, dies.as_mut_slice(), at(0, 0, 0), &data(256, 1, (0, 1)));
+    assert!(rt; is_other(scanned(&rt, rt.alloc(), &config, dies.as_mut_slice())));
+    Ok(())
+}
+
+/// A group of two pages is kept only if both are there.
+#[test]
+fn a_group_is_kept_whole_or_not_at_all(rt: HostRuntime) -> Result<(), Fail> {
+    let config = row_config()?;
+    let mut dies = row_dies(rt.alloc())?;
+    put(&rt, dies.as_mut_slice(), at(0, 0, 0), &data(9, 1, (1, 2)));
+    let found = scanned(&rt, rt.alloc(), &config, dies.as_mut_slice())?;
+    assert!(rt; has_numbers(&found, (0, 1, 1)));
+    assert!(rt; lies_nowhere(&found, 9));
+    assert!(rt; is_only_lost(&found, 9));
+    put(&rt, dies.as_mut_slice(), at(3, 15, 63), &data(8, 1, (0, 2)));
+    let found = scanned(&rt, rt.alloc(), &config, dies.as_mut_slice())?;
+    assert!(rt; has_numbers(&found, (1, 1, 2)));
+    assert!(rt; lies_at(&found, 8, at(3, 15, 63)) && lies_at(&found, 9, at(0, 0, 0)));
+    assert!(rt; found.lost.is_empty());
+    Ok(())
+}
+
+/// The first read of a page of die 2 fails; the other dies counted a failure before. The scan tells
+/// the place, and die 2 counts it. The dies stay as they are: a second scan finds what stands, the
+/// page of that read too.
+#[test]
+fn a_read_that_fails(rt: HostRuntime) -> Result<(), Fail> {
+    let config = row_config()?;
+    let mut good = row_dies(rt.alloc())?;
+    put(&rt, good.as_mut_slice(), at(0, 3, 0), &data(5, 1, (0, 1)));
+    put(&rt, good.as_mut_slice(), at(2, 7, 1), &data(6, 2, (0, 1)));
+    let mut dies = Vec::new(rt.alloc());
+    for die in good {
+        dies.push(FaultyDie {
+            die,
+            at: (7, 1),
+            failures: u64::from(dies.len() != 2),
+        })?;
+    }
+    assert!(rt;
+        is_fault_at(
+            scanned(&rt, rt.alloc(), &config, dies.as_mut_slice()),
+            at(2, 7, 1)
+        )
+    );
+    assert!(rt; have_failed_once(dies.as_slice()));
+    let found = scanned(&rt, rt.alloc(), &config, dies.as_mut_slice())?;
+    assert!(rt; have_failed_once(dies.as_slice()));
+    assert!(rt; has_numbers(&found, (2, 2, 3)));
+    assert!(rt; lies_at(&found, 5, at(0, 3, 0)) && lies_at(&found, 6, at(2, 7, 1)));
+    assert!(rt; found.lost.is_empty());
+    Ok(())
+}
+
+/// Settings with permanent write protection, and none without a page of them.
+#[test]
+fn settings_tell_permanent_protection(rt: HostRuntime) -> Result<(), Fail> {
+    let config = row_config()?;
+    let mut dies = row_dies(rt.alloc())?;
+    let found = scanned(&rt, rt.alloc(), &config, dies.as_mut_slice())?;
+    assert!(rt; !found.is_permanent);
+    put(&rt, dies.as_mut_slice(), at(1, 0, 0), &settings(1, true));
+    let found = scanned(&rt, rt.alloc(), &config, dies.as_mut_slice())?;
+    assert!(rt; found.is_permanent && lies_at(&found, 416, at(1, 0, 0)));
+    put(&rt, dies.as_mut_slice(), at(1, 0, 1), &settings(2, false));
+    let found = scanned(&rt, rt.alloc(), &config, dies.as_mut_slice())?;
+    assert!(rt; !found.is_permanent && lies_at(&found, 416, at(1, 0, 1)));
+    Ok(())
+}
+
+pub(crate) fn at(die: u8, block: u16, page: u16) -> Place {
+    Place { die, block, page }
+}
+
+/// New dies of the row configuration.
+pub(crate) fn row_dies(alloc: Global) -> Result<Vec<MemDie>, Fail> {
+    let mut dies = Vec::new(alloc);
+    for _ in 0..4u8 {
+        dies.push(MemDie::new(alloc, 16, 64)?)?;
+    }
+    Ok(dies)
+}
+
+/// A page of unit 0, with its group's number, and its index and the size of its group.
+pub(crate) fn data(address: u32, number: u64, part: (u16, u16)) -> Page
+    requires { (address < 2 ^ 32) × (1 ≤ number) × (number ≤ 2 ^ 62)
+        × (part.0 < part.1) × (part.1 ≤ 32) }
+{
+    let tag = Tag {
+        kind: Tag::DATA,
+        unit: 0,
+        address,
+        number,
+        index: part.0,
+        size: part.1,
+        frontier: 0,
+    };
+    seal(&tag, &[0x5A; 4096])
+}
+
+/// A page of the settings, with its group's number and whether write protection is permanent.
+pub(crate) fn settings(number: u64, is_permanent: bool) -> Page
+    requires { (1 ≤ number) × (number ≤ 2 ^ 62) }
+{
+    let tag = Tag {
+        kind: Tag::SETTINGS,
+        unit: 0,
+        address: 0,
+        number,
+        index: 0,
+        size: 1,
+        frontier: 0,
+    };
+    let mut body = [0u8; 4096];
+    body[1] = u8::from(is_permanent);
+    seal(&tag, &body)
+}
+
+/// A mark with its number and what it records.
+pub(crate) fn mark(config: &Config, counts: (u64, u64), fence: Option<Fence>) -> Page
+    requires { (1 ≤ counts.0) × (counts.0 ≤ 2 ^ 62) × (counts.1 ≤ 2 ^ 62) }
+{
+    let tag = Tag {
+        kind: Tag::MARK,
+        unit: 0,
+        address: 0,
+        number: counts.0,
+        index: 0,
+        size: 1,
+        frontier: counts.1,
+    };
+    seal(&tag, &mark_body(config.numbers(), fence))
+}
+
+/// Sets the page there.
+pub(crate) fn put(rt: &impl Abort, dies: &mut [MemDie], place: Place, page: &Page) {
+    let die = usize::from(place.die);
+    assert!(rt; die < dies.len());
+    let die = &mut dies[die];
+    assert!(rt; die.can_do(&Job::Read(place)));
+    die.set_page(place.block, place.page, page);
+}
+
+/// What the dies stand for. They have to fit the configuration.
+fn scanned<D: Die>(
+    rt: &impl Abort,
+    alloc: Global,
+    config: &Config,
+    dies: &mut [D],
+) -> Result<Found, OpenFault> {
+    assert!(rt; fit(config, dies));
+    scan(alloc, dies, config)
+}
+
+/// Whether the scan was refused for another configuration.
+fn is_other(found: Result<Found, OpenFault>) -> bool {
+    matches!(found, Err(OpenFault::OtherConfig))
+}
+
+/// Whether the scan was refused for the read of this place.
+fn is_fault_at(found: Result<Found, OpenFault>, place: Place) -> bool {
+    match found {
+        Err(OpenFault::ReadFault(at)) => at == place,
+        _ => false,
+    }
+}
+
+/// Whether these are the kept number, the greatest seen and the first lost one.
+fn has_numbers(found: &Found, numbers: (u64, u64, u64)) -> bool {
+    found.kept == numbers.0 && found.greatest_seen == numbers.1 && found.first_lost == numbers.2
+}
+
+/// Whether the newest mark has this number.
+fn is_newest(found: &Found, number: u64) -> bool {
+    match &found.newest {
+        Some(mark) => mark.number == number,
+        None => false,
+    }
+}
+
+/// Whether the content of the key with this index lies there.
+fn lies_at(found: &Found, index: usize, place: Place) -> bool {
+    if index >= found.contents.len() {
+        return false;
+    }
+    match found.contents[index] {
+        Some(page) => page.place == place,
+        None => false,
+    }
+}
+
+/// Whether no key has a content.
+fn has_no_content(found: &Found) -> bool {
+    for content in found.contents.iter() {
+        if content.is_some() {
+            return false;
+        }
+    }
+    true
+}
+
+/// Whether each die has counted one failure.
+fn have_failed_once(dies: &[FaultyDie]) -> bool {
+    for die in dies {
+        if die.failures != 1 {
+            return false;
+        }
+    }
+    true
+}
+
+/// Whether the key with this index has no content.
+fn lies_nowhere(found: &Found, index: usize) -> bool {
+    index < found.contents.len() && found.contents[index].is_none()
+}
+
+/// Whether the block of this address of unit 0 is lost, and nothing else.
+fn is_only_lost(found: &Found, address: u32) -> bool {
+    found.lost.len() == 1
+        && found.lost[0].kind == Tag::DATA
+        && found.lost[0].unit == 0
+        && found.lost[0].address == address
+}
+
+/// Whether the block of the die is told to be this.
+fn is_block(found: &Found, die: usize, block: usize, state: FoundBlock) -> bool {
+    let states = found.blocks.as_slice();
+    die < 4 && block < 16 && states.len() == 64 && states[16 * die + block] == state
+}
+
+/// How many blocks are told to be this.
+fn count_of(found: &Found, state: FoundBlock) -> usize {
+    let mut count = 0usize;
+    for block in found.blocks.iter() {
+        if *block == state {
+            count = count.saturating_add(1);
+        }
+    }
+    count
+}

@@ -1,0 +1,22 @@
+//! The worked rows and wrong input, as scripts. Expected bytes come from the device's formats and from the
+//! standards, never from its own output.
+#![tactic(auto)]
+
+#[cfg(test)]
+mod bad_input;
+#[cfg(test)]
+mod checks;
+#[cfg(test)]
+mod commands;
+#[cfg(test)]
+mod gap;
+#[cfg(test)]
+mod groups;
+#[cfg(test)]
+mod messages;
+#[cfg(test)]
+mod scripts;
+#[cfg(test)]
+mod stops;
+#[cfg(test)]
+mod worked_rows;

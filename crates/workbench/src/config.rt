@@ -1,0 +1,44 @@
+//! The configuration of the worked rows, and a small one.
+ghost use Rattle.std.specs.Prelude.{◌≡◌, IfOk};
+ghost use Rattle.workbench.specs.RowShape.{row_shape};
+ghost use Rattle.ufs_spec.specs.Plain.{shape_of_numbers};
+
+use geometry::Config;
+use ufs_spec::{ConfigFault, UnitSpec};
+
+/// 4 dies of 16 blocks of 64 pages, units of 256, 64 and 64 blocks, the last two of them boot units, one
+/// step of RPMB, 64 slots, 4 spare blocks.
+pub fn row_config() -> Result<Config, ConfigFault>
+    ensures { IfOk result (λ c. shape_of_numbers c ≡ row_shape) }
+{
+    let units = [
+        UnitSpec {
+            blocks: 256,
+            boot: 0,
+            protect: 0,
+        },
+        UnitSpec {
+            blocks: 64,
+            boot: 1,
+            protect: 0,
+        },
+        UnitSpec {
+            blocks: 64,
+            boot: 2,
+            protect: 0,
+        },
+    ];
+    Config::new(4, 16, 64, &units, 1, 64, 4)
+}
+
+/// Two dies of 20 blocks of 16 pages, and a unit of 64 blocks.
+pub fn small_config() -> Result<Config, ConfigFault>
+    ensures { IfOk result (λ c. (c.dies ≡ 2) × (c.blocks ≡ 20) × (c.pages ≡ 16)) }
+{
+    let units = [UnitSpec {
+        blocks: 64,
+        boot: 0,
+        protect: 0,
+    }];
+    Config::new(2, 20, 16, &units, 1, 64, 0)
+}
