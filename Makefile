@@ -13,27 +13,28 @@ PROGRAMS := ufsim ufstool
 INSTALLED = $(foreach it,$(PROGRAMS),bin/$(it) share/man/man1/$(it).1 share/bash-completion/completions/$(it) \
 	share/zsh/site-functions/_$(it) share/fish/vendor_completions.d/$(it).fish)
 
-.PHONY: help demo prove test format install uninstall bench collection wrong-bodies turned-rules lifted-limits refused-memory
+.PHONY: help demo test prove format install uninstall bench collection wrong-bodies turned-rules lifted-limits refused-memory
 
 help:
 	@echo 'make demo                  shows a write, a read and six stops; builds without proving, two minutes'
-	@echo 'make prove                 proves every crate, and says how far it is; installs nothing'
-	@echo 'make test                  proves everything from nothing and runs every test; two hours or three'
-	@echo 'make format                lays out the code and the proofs of every crate as make test wants them'
+	@echo 'make test                  runs every test, example and stored case; proves nothing; about 8 minutes'
+	@echo 'make prove                 proves everything, tries every wrong body, and runs what was proved: hours'
+	@echo '                           from nothing; what has not changed is kept, so later runs take minutes'
+	@echo 'make format                lays out the code and the proofs of every crate as make prove wants them'
 	@echo 'make install PREFIX=DIR    proves and builds ufsim and ufstool, and copies them to DIR/bin, with'
 	@echo '                           their manual pages and completions to DIR/share'
 	@echo 'make uninstall PREFIX=DIR  removes what was installed (both: without PREFIX, DIR is $(PREFIX))'
 	@echo 'make bench                 times writes and reads, also among threads, after it proves what they need'
 	@echo 'make collection            counts the pages that a device programs for each that is written, once it'
 	@echo '                           collects, and the same of a simulation'
-	@echo 'make wrong-bodies          tries the wrong bodies alone, and sees that the prover refuses each'
+	@echo 'make wrong-bodies          tries the wrong bodies that changed, and sees that the prover refuses each'
 	@echo 'make turned-rules          turns rules of the specification around, and sees that a law refuses each'
 	@echo 'make lifted-limits         lifts the limits of this stage in a copy, and proves the laws there'
 	@echo 'make refused-memory        refuses each allocation of each call that takes memory, one at a time'
 
 # Without the kit nothing can be proved or built. Under -q make runs nothing, adds no line of its own,
 # and ends with status 1.
-ifneq ($(filter demo prove test format install bench collection wrong-bodies turned-rules lifted-limits refused-memory,$(MAKECMDGOALS)),)
+ifneq ($(filter demo test prove format install bench collection wrong-bodies turned-rules lifted-limits refused-memory,$(MAKECMDGOALS)),)
 ifeq ($(shell command -v rt 2>/dev/null),)
 $(shell echo "butcherford: the Rattle kit's command rt is not on the PATH; it is needed to prove and build" >&2)
 MAKEFLAGS += -q
@@ -43,23 +44,24 @@ endif
 demo:
 	@python3 tools/demo.py examples/write_read.txt examples/stop_in_write.txt
 
+test:
+	@python3 tools/test.py
+
 prove:
 	@python3 tools/prove.py
-
-test:
-	@sh tools/test.sh
 
 # Without it `rt ci` counts a crate as not proved, and each crate above it: it takes a minute, the proofs hours.
 format:
 	@for it in crates/*/; do (cd "$$it" && rt fmt) || exit 1; done
 	@python3 tools/wrong_bodies.py --texts
+	@python3 tools/turn_rules.py --texts
 
 # The folder comes first, so that nobody waits for the proofs in vain.
 install:
 	@mkdir -p '$(BIN)' 2>/dev/null && test -w '$(BIN)' || { \
 		echo 'butcherford: $(BIN) cannot be written; name another folder, as in make install PREFIX=$(HOME)/.local' >&2; \
 		exit 1; }
-	@sh tools/build.sh
+	@python3 tools/build_programs.py
 	@mkdir -p '$(MAN)' '$(BASH)' '$(ZSH)' '$(FISH)'
 	@for it in $(PROGRAMS); do \
 		cp "crates/$${it}_main/out/$${it}_main" "$(BIN)/$$it" && \
@@ -82,7 +84,7 @@ uninstall:
 
 bench:
 	@cd crates/bench && rt run
-	@cd crates/lane_bench && rt run
+	@cd crates/bench && rt run -- lanes
 
 collection:
 	@cd crates/bench && rt run -- collection

@@ -3,7 +3,8 @@ import pathlib
 import re
 from typing import NamedTuple, Tuple
 
-ROOT = pathlib.Path(__file__).resolve().parent.parent
+from crates import ROOT
+
 FOLDER = ROOT / "wrong_bodies"
 CONTROL = "control"
 
@@ -48,9 +49,9 @@ def must_fail_edits(crate):
     return [read_edit(crate, path) for path in sorted((ROOT / "crates" / crate / "must-fail").glob("*.edit"))]
 
 
-def read_texts(crate):
+def read_texts(crate, root=ROOT):
     """The texts of a crate's code, by their files."""
-    folder = ROOT / "crates" / crate
+    folder = root / "crates" / crate
     files = sorted((folder / "src").rglob("*.rt"))
     return {str(path.relative_to(folder)): path.read_text(encoding="utf-8") for path in files}
 

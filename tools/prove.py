@@ -1,110 +1,112 @@
 #!/usr/bin/env python3
-"""Proves crates one after another, lowest first, and says after each how far it is.
+"""Proves everything, and says how far it is: the gate `rt ci`, then the wrong bodies, then the proved programs.
 
-usage: prove.py                    proves every crate of crates.txt
-       prove.py PROGRAM [WORD..]   proves a program and each crate below it, builds it as
-                                   crates/PROGRAM/out/PROGRAM, and runs it once, on these words
+usage: prove.py
 
-A crate that was proved before and has not changed takes a second or so. Of a crate that takes minutes a
-line is printed each minute. What rt says is shown only where a crate is not proved. The status is 0 where
-all are proved, and else 1.
+`rt ci` proves every crate and its tests, tries the must-fail edits, and runs programs and tests;
+each crate has a line that tells its place among all. Then tools/wrong_bodies.py tries the wrong
+bodies that have no kept verdict. Then tools/cases.py runs the proved programs on their stored
+cases, both as LLVM and as Rattle's own compiler built them. What was proved, and which wrong bodies
+were refused, is kept on this machine: a later run does only what changed.
+
+The last line is 'N passed, M failed'. The status is 0 only if nothing failed and each step told its
+counts.
 """
-import pathlib
+import os
+import re
+import shutil
 import subprocess
 import sys
-import tempfile
 import time
 
-ROOT = pathlib.Path(__file__).resolve().parent.parent
-MINUTE = 60
-# So many of the last lines of what rt said are shown of a crate that is not proved.
-SHOWN = 40
+from crates import ROOT, lines_of
+from verdicts import texts_sum
 
-
-def crates_in(text):
-    """The crates that crates.txt names, each with the crates of the repository that it stands on."""
-    lines = [line.partition("#")[0].partition(":") for line in text.splitlines()]
-    listed = {crate.split()[0]: libraries.split() for crate, colon, libraries in lines if colon}
-    return {crate: [it for it in libraries if it in listed] for crate, libraries in listed.items()}
-
-
-def lowest_first(wanted, crates):
-    """These crates and all below them, each after those that it stands on."""
-    found = []
-    for crate in wanted:
-        found += [it for it in [*lowest_first(crates[crate], crates), crate] if it not in found]
-    return found
-
-
-def command(crate, crates, program, arguments):
-    """How rt proves a crate: the program so that it is built, a library so that those above it find it."""
-    if crate == program:
-        return ["rt", "run", "--", *arguments]
-    is_used = any(crate in libraries for libraries in crates.values())
-    return ["rt", "lib"] if is_used else ["rt", "check"]
-
-
-def lasted(seconds):
-    return f"{seconds:.0f} s" if seconds < MINUTE else f"{seconds / MINUTE:.0f} min"
+PYTHON = sys.executable or "python3"
+COUNTS = re.compile(r"^(\d+) passed, (\d+) failed$")
+# What rt ci says of a crate once it is proved or not, or was proved by an earlier run.
+ENDED = re.compile(r"^rt: (\w+) (?:proved$|NOT PROVED|is kept: )")
 
 
 def say(text):
     print(text, flush=True)
 
 
-def run(words, folder, said, tell):
-    """Runs a command whose words go to a file, calls tell each minute until it ends, and returns its status."""
-    how = {"cwd": folder, "stdin": subprocess.DEVNULL, "stdout": said, "stderr": subprocess.STDOUT}
-    with subprocess.Popen(words, **how) as ran:
-        while True:
-            try:
-                return ran.wait(timeout=MINUTE)
-            except subprocess.TimeoutExpired:
-                tell()
-            except KeyboardInterrupt:
-                ran.terminate()
-                raise
+def with_place(lines, count):
+    """The lines of rt ci, with the place of each crate that ended."""
+    ended = set()
+    for line in lines:
+        crate = ENDED.match(line)
+        if crate:
+            ended.add(crate[1])
+        yield f"{len(ended)} of {count} crates: {line}" if crate else line
 
 
-def prove(crate, words, place):
-    """Proves one crate, and returns whether it is proved."""
-    began = time.monotonic()
+def told(name, words, count=None):
+    """Runs a step whose last line tells its counts, shows what it says, and gives the counts."""
+    began, counts = time.monotonic(), None
+    say(f"== {name}")
+    how = {"stdin": subprocess.DEVNULL, "stdout": subprocess.PIPE, "stderr": subprocess.STDOUT,
+           "encoding": "utf-8", "errors": "replace", "env": {**os.environ, "PYTHONUNBUFFERED": "1"}}
+    with subprocess.Popen(words, cwd=ROOT, **how) as ran:
+        try:
+            for line in with_place(ran.stdout, count) if count else ran.stdout:
+                print(line, end="", flush=True)
+                counts = COUNTS.match(line) or counts
+        except KeyboardInterrupt:
+            ran.terminate()
+            raise
+    passed, failed = map(int, counts.groups()) if counts else (0, 1)
+    if not counts:
+        say(f"{name}: no counts were told")
+    elif ran.returncode and not failed:
+        say(f"{name}: it ended with status {ran.returncode}")
+        failed = 1
+    say(f"{name}: {passed} passed, {failed} failed, {(time.monotonic() - began) / 60:.1f} minutes")
+    return passed, failed
 
-    def tell(word, more=""):
-        say(f"{word} {place}: {crate}, {lasted(time.monotonic() - began)}{more}")
 
-    with tempfile.TemporaryFile("w+", errors="replace") as said:
-        status = run(words, ROOT / "crates" / crate, said, lambda: tell("proving", " so far"))
-        if status == 0:
-            tell("proved")
-            return True
-        said.seek(0)
-        sys.stderr.writelines(said.readlines()[-SHOWN:])
-    print(
-        f"butcherford: {crate} is not proved, for what the lines above say; "
-        f"`{' '.join(words)}` in crates/{crate} says all of it (it ended with status {status})",
-        file=sys.stderr,
-    )
-    return False
+def libraries():
+    """The crates whose libraries are built, each with the number of the folder that it lies in."""
+    folders = {crate: ROOT / "crates" / crate / "out" / "rlib" for crate in lines_of()}
+    return {crate: folder.stat().st_ino for crate, folder in folders.items() if folder.is_dir()}
 
 
-def main(program=None, *arguments):
-    crates = crates_in((ROOT / "crates.txt").read_text(encoding="utf-8"))
-    if program and program not in crates:
-        print(f"butcherford: crates.txt names no crate {program}", file=sys.stderr)
+def texts():
+    return [texts_sum(ROOT, crate) for crate in lines_of()]
+
+
+def drop_libraries():
+    """Removes the libraries that the gate built. Without a stamp no other command takes them, and the
+    gate would put them back in the place of those that its next run builds."""
+    for crate in libraries():
+        folder = ROOT / "crates" / crate / "out" / "rlib"
+        if not (folder / "stamp").exists():
+            shutil.rmtree(folder, ignore_errors=True)
+
+
+def main():
+    if shutil.which("rt") is None:
+        print("prove: the kit's command rt is not on the PATH; it is needed to prove", file=sys.stderr)
         return 2
-    order = lowest_first([program] if program else crates, crates)
-    say(f"butcherford: proving {len(order)} crates, lowest first; the first time takes tens of minutes")
-    began = time.monotonic()
-    for number, crate in enumerate(order, 1):
-        if not prove(crate, command(crate, crates, program, arguments), f"{number} of {len(order)}"):
-            return 1
-    say(f"butcherford: all {len(order)} crates are proved, {lasted(time.monotonic() - began)}")
-    return 0
+    say("butcherford: proving everything; from nothing it takes hours, later runs do only what changed")
+    before, was_there = texts(), libraries()
+    counts = [told("the gate, rt ci", ["rt", "ci"], len(lines_of()))]
+    # Only what the gate built just now, of the texts that are here, serves the wrong bodies.
+    is_of_gate = texts() == before and not set(libraries().items()) & set(was_there.items())
+    wrong_bodies = [PYTHON, "tools/wrong_bodies.py", *(["--after-gate"] if is_of_gate else [])]
+    counts.append(told("wrong bodies", wrong_bodies))
+    for program in ("ufsim", "ufstool"):
+        words = [PYTHON, "tools/cases.py", "--proved", program]
+        counts.append(told(f"the proved {program}", words))
+    drop_libraries()
+    passed, failed = (sum(it) for it in zip(*counts))
+    say(f"{passed} passed, {failed} failed")
+    return 1 if failed else 0
 
 
 if __name__ == "__main__":
     try:
-        sys.exit(main(*sys.argv[1:]))
+        sys.exit(main())
     except KeyboardInterrupt:
         sys.exit(130)

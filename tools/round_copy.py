@@ -10,8 +10,7 @@ import sys
 import tempfile
 from typing import NamedTuple
 
-from edits import ROOT
-from trial_copy import needed
+from crates import ROOT, below, needed
 
 # What rt prints: its verdict on a function, and an error in a file of the crate.
 VERDICT = re.compile(r"^fn (\w+::\S+?): (.*)$", re.MULTILINE)
@@ -84,22 +83,6 @@ def run(words, folder):
         started.returncode = os.waitstatus_to_exitcode(status)
         out.seek(0)
         return started.returncode, out.read(), used.ru_utime + used.ru_stime
-
-
-def below(crate):
-    """The names of the crates that a crate stands on, lowest first."""
-    lines, _ = needed([crate])
-    uses = {line.split(":")[0].split()[0]: line.split(":")[1].split() for line in lines}
-    found = []
-
-    def add(name):
-        for it in uses.get(name, []):
-            if it in uses and it not in found:
-                add(it)
-                found.append(it)
-
-    add(crate)
-    return found
 
 
 def has_stamp(crate):

@@ -12,7 +12,8 @@ import subprocess
 import tempfile
 from typing import NamedTuple, Tuple
 
-ROOT = pathlib.Path(__file__).resolve().parent.parent
+from crates import ROOT, needed
+
 # These crates hold laws and lemmas only, so a part of them can be cut out. Of any other crate below, as that of the
 # definitions, only lemmas can be cut, as long as its functions are proved.
 CRATES_OF_LAWS = ("ufs_laws", "power_loss")
@@ -109,19 +110,6 @@ def read_faults(text, folder):
             names = (own[1],) if own else ()
             faults.append(Fault(file, int(line), names, "", missing=missing[1] if missing else ""))
     return faults
-
-
-def needed(crates):
-    """The lines of crates.txt for these crates and for all that they stand on, and the names of those here."""
-    lines = (ROOT / "crates.txt").read_text(encoding="utf-8").splitlines()
-    found = {line.split(":")[0].split()[0]: line for line in lines if ":" in line and not line.startswith("#")}
-    wanted, left = [], list(crates)
-    while left:
-        crate = left.pop()
-        if crate in found and crate not in wanted:
-            wanted.append(crate)
-            left.extend(found[crate].split(":")[1].split())
-    return [line for crate, line in found.items() if crate in wanted], wanted
 
 
 def has_law(crate, law):

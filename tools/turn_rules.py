@@ -1,15 +1,19 @@
 #!/usr/bin/env python3
 """Turns rules of the specification around, one at a time, and shows that a law refuses each.
 
-usage: turn_rules.py [--list] [--jobs N] [NAME..]
+usage: turn_rules.py [--list] [--texts] [--jobs N] [NAME..]
 
-Wrong bodies test the code; these edits test the definitions. They stand in wrong_rules.py. Each is made in a copy
-of the crates and is undone after `rt check`. It is refused only if the law that it names falls: a law that speaks of
-the rule. A law of a lower crate that falls first is cut out of the copy, and the check goes on to the named one; a
-proof that only quotes the rule's text is mended, if the edit says how. The definitions themselves have to stay accepted.
+Wrong bodies test the code; these edits test the definitions. They stand in wrong_rules/, and
+rules.py says in which form. Each is made in a copy of the crates and is undone after `rt check`. It
+is refused only if the law that it names falls: a law that speaks of the rule. A law of a lower
+crate that falls first is cut out of the copy, and the check goes on to the named one; a proof that
+only quotes the rule's text is mended, if the edit says how. The definitions themselves have to stay
+accepted.
 
-With names only these edits are made; --list shows them all, and tells each law that is not there. The last line
-counts. The status is 0 if each edit was refused, 1 if one was not, and 2 if nothing could be said.
+With names only these edits are made; --list shows them all, and tells each law that is not there.
+--texts only looks whether each text that an edit changes stands once, and whether its law is there.
+The last line counts. The status is 0 if each edit was refused, 1 if one was not, and 2 if nothing
+could be said.
 """
 import argparse
 import concurrent.futures
@@ -19,8 +23,8 @@ import signal
 import sys
 import time
 
+from rules import faults_of, rules
 from trial_copy import TrialCopy, has_law
-from wrong_rules import RULES
 
 
 def refused(rule, said, laws, lemmas, mended):
@@ -71,14 +75,14 @@ def stands(copy, crates):
     return True
 
 
-def run(rules, jobs):
+def run(chosen, jobs):
     """Tries each rule in one of several copies, and counts."""
-    crates = sorted({rule.law.split("::")[0] for rule in rules})
+    crates = sorted({rule.law.split("::")[0] for rule in chosen})
     copies = [TrialCopy(crates)]
     try:
         if not stands(copies[0], crates):
             return 2
-        copies += [TrialCopy(crates, copies[0].folder) for _ in range(min(jobs, len(rules)) - 1)]
+        copies += [TrialCopy(crates, copies[0].folder) for _ in range(min(jobs, len(chosen)) - 1)]
         free = queue.Queue()
         for copy in copies:
             free.put(copy)
@@ -94,43 +98,60 @@ def run(rules, jobs):
             return right
 
         with concurrent.futures.ThreadPoolExecutor(len(copies)) as pool:
-            count = sum(pool.map(try_one, rules))
+            count = sum(pool.map(try_one, chosen))
     finally:
         for copy in copies:
             copy.remove()
-    print(f"{count} refused, {len(rules) - count} not refused")
-    return 0 if count == len(rules) else 1
+    print(f"{count} refused, {len(chosen) - count} not refused")
+    return 0 if count == len(chosen) else 1
 
 
-def listed(rules):
+def listed(chosen):
     """Shows each rule with the law that is to refuse it."""
-    for rule in rules:
+    for rule in chosen:
         there = "" if has_law(*rule.law.split("::")) else ", which is not there"
         print(f"{rule.name} ({rule.law}{there}): {rule.says}")
     return 0
+
+
+def told_texts(chosen):
+    """Says which edits cannot be tried, and gives the status."""
+    bad = 0
+    for rule in chosen:
+        is_there = has_law(*rule.law.partition("::")[::2])
+        faults = faults_of(rule) + ([] if is_there else [f"{rule.name}: there is no law {rule.law}"])
+        bad += bool(faults)
+        for fault in faults:
+            print(fault)
+    print(f"{len(chosen) - bad} passed, {bad} failed")
+    return 1 if bad else 0
 
 
 def main():
     parser = argparse.ArgumentParser(description="Turns rules around and shows that a law refuses each.")
     parser.add_argument("names", nargs="*", metavar="NAME", help="the edits to try; all, if none is named")
     parser.add_argument("--list", action="store_true", help="show the edits, and try none")
+    parser.add_argument("--texts", action="store_true", help="only look whether each text stands once")
     parser.add_argument("--jobs", type=int, default=2, metavar="N", help="how many copies work at a time (2)")
     asked = parser.parse_args()
-    known = {rule.name: rule for rule in RULES}
+    every = rules()
+    known = {rule.name: rule for rule in every}
     missing = [name for name in asked.names if name not in known]
-    if missing or len(known) != len(RULES):
+    if missing or len(known) != len(every):
         print(f"turn_rules: there is no edit {', '.join(missing)}" if missing else "turn_rules: a name stands twice",
               file=sys.stderr)
         return 2
-    rules = [known[name] for name in asked.names] or list(RULES)
+    chosen = [known[name] for name in asked.names] or every
+    if asked.texts:
+        return told_texts(chosen)
     if asked.list:
-        return listed(rules)
+        return listed(chosen)
     if shutil.which("rt") is None:
         print("turn_rules: rt is not there", file=sys.stderr)
         return 2
     # The copies go also if the script is stopped.
     signal.signal(signal.SIGTERM, lambda number, frame: sys.exit(128 + number))
-    return run(rules, max(1, asked.jobs))
+    return run(chosen, max(1, asked.jobs))
 
 
 if __name__ == "__main__":

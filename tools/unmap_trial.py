@@ -3,12 +3,13 @@
 
 usage: unmap_trial.py
 
-A new command should add its lines to one proof file of each crate at most. This adds one: how it begins, and what comes
-of it once its list is there. In each crate from the definitions up it lists the proof files that break. Those of
-ufs_laws and power_loss get the lines that they need; of a crate of laws that has none here what falls is cut, so that
-the crates above it are reached. The lines may change a file that breaks only with a new line of a specification: it is
-listed too, and counts. The last line counts. The status is 0 if no crate has more than one file that changes, else 1;
-it is 2 if a text to be changed does not stand once.
+It is kept for the work on UNMAP alone: it goes once that command is built. A new command should add its lines to one
+proof file of each crate at most. This adds one: how it begins, and what comes of it once its list is there. In each
+crate from the definitions up it lists the proof files that break. Those of ufs_laws and power_loss get the lines that
+they need; of a crate of laws that has none here what falls is cut, so that the crates above it are reached. The lines
+may change a file that breaks only with a new line of a specification: it is listed too, and counts. The last line
+counts. The status is 0 if no crate has more than one file that changes, else 1; it is 2 if a text to be changed does
+not stand once.
 """
 import sys
 

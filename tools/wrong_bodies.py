@@ -1,20 +1,27 @@
 #!/usr/bin/env python3
 """Tries wrong bodies of the code, many in one check, and sees that the prover refuses each.
 
-usage: wrong_bodies.py [--texts] [--list] [--after-gate] [--lanes N] [CRATE [NAME..]]
+usage: wrong_bodies.py [--texts] [--list] [--after-gate] [--anew] [--lanes N] [CRATE [NAME..]]
 
-wrong_bodies/CRATE/NAME.edit has the form of the kit's must-fail edits: a line 'file: src/lib.rt', then pairs of lines
-'old: TEXT' and 'new: TEXT'. An edit goes into the first round whose edits touch none of its functions. A round is one
-check of a copy of the crate with all its edits. An edit is refused if a function of its own falls for a reason of its
-own: a goal that was not proved, or a proof that no longer fits, and not only a call of what fell. What a round does not
-tell is tried in halves, and alone in the end. wrong_bodies/CRATE/control.edit changes a body so that it means the same.
-It stands in each round and has to be proved there, as has each function that no edit touches. Only if the first round
-does not show that, the control is tried alone: the whole crate has to be proved with it before anything else is tried.
+wrong_bodies/CRATE/NAME.edit has the form of the kit's must-fail edits: a line 'file: src/lib.rt',
+then pairs of lines 'old: TEXT' and 'new: TEXT'. An edit goes into the first round whose edits touch
+none of its functions. A round is one check of a copy of the crate with all its edits. An edit is
+refused if a function of its own falls for a reason of its own: a goal that was not proved, or a
+proof that no longer fits, and not only a call of what fell. What a round does not tell is tried in
+halves, and alone in the end. wrong_bodies/CRATE/control.edit changes a body so that it means the
+same. It stands in each round and has to be proved there, as has each function that no edit touches.
+Only if the first round does not show that, the control is tried alone: the whole crate has to be
+proved with it before anything else is tried.
 
---texts only looks whether each text that an edit changes stands once, also those of must-fail/. --list shows rounds.
---after-gate takes the libraries that `rt ci` has just built in this folder. The last line counts the edits and the
-controls. The status is 0 if all is as it must be, 1 if not, and 2 if nothing could be said. With WRONG_BODIES_TIMES set
-each check tells its processor time.
+A verdict that is as it must be is kept in the user's cache, by the sums of all that it was made
+from (verdicts.py says which). A later run tries only what has no kept verdict; --anew tries all. A
+crate with nothing to try is not checked.
+
+--texts only looks whether each text that an edit changes stands once, also those of must-fail/.
+--list shows rounds. --after-gate takes the libraries that `rt ci` has just built in this folder.
+The last line counts the edits and the controls, and the one before says how many were tried in this
+run. The status is 0 if all is as it must be, 1 if not, and 2 if nothing could be said. With
+WRONG_BODIES_TIMES set each check tells its processor time.
 """
 import argparse
 import concurrent.futures
@@ -26,17 +33,22 @@ import sys
 import time
 
 from bodies import touched
-from edits import ROOT, Fault, changed, crates_of, edits_of, must_fail_edits, places, read_texts, together
+from crates import ROOT
+from edits import Fault, changed, crates_of, edits_of, must_fail_edits, places, read_texts, together
 from round_copy import RoundCopy, build_below, is_of_gate, is_proved
+from verdicts import Verdicts, stated_sum, texts_sum
 
 # A check takes up to so much memory.
 CHECK_BYTES = 4_000_000_000
+# What a verdict is made from, in two sums. The first is there at once. The second leaves out the bodies
+# below and stays the same where only one of them changes; it wants the libraries below.
+READ = (texts_sum, stated_sum)
 # What rt must-fail calls unreadable: an error in the code, or in the edited text.
 UNREAD = re.compile(r"^(?:\./)?src/\S+?:\d+:\d+: error: (?!`)", re.MULTILINE)
 
 
 class NoControl(Exception):
-    """Why the control of a crate is not proved."""
+    """Why nothing can be said of the wrong bodies of a crate."""
 
 
 class Crate:
@@ -47,13 +59,41 @@ class Crate:
         edits, self.control = edits_of(name)
         self.edits = [it for it in edits if not wanted or it.name in wanted]
         self.missing = [it for it in wanted if it not in [edit.name for edit in edits]]
-        self.lines, self.good, self.bad, self.seconds, self.checks = [], [], [], 0.0, 0
+        self.good, self.bad, self.kept, self.seconds, self.checks = [], [], [], 0.0, 0
         self.places, self.functions, self.is_control_proved = {}, {}, False
+        self.verdicts, self.sums, self.names = None, [], {}
+
+    def all(self):
+        """The edits, and the control, if there is one."""
+        return [*self.edits, *([self.control] if self.control else [])]
+
+    def look_up(self, verdicts, read):
+        """Takes the verdicts that earlier runs kept over what is read: only the other edits are tried."""
+        self.verdicts = verdicts
+        self.sums.append(read(ROOT, self.name))
+        for edit in [it for it in self.all() if it not in self.kept] if self.sums[-1] else ():
+            name = verdicts.name_of(self.sums[-1], edit, self.control)
+            self.names.setdefault(edit.name, []).append(name)
+            words = verdicts.words(name)
+            if words:
+                self.keep(edit, words)
+                self.kept.append(edit)
+        self.good = list(self.kept)
+        self.is_control_proved = self.control in self.kept
+
+    def keep(self, edit, words):
+        """Keeps a verdict under each of its names."""
+        for name in self.names[edit.name]:
+            self.verdicts.keep(name, words)
+
+    def is_done(self):
+        """Whether each verdict was kept."""
+        return len(self.kept) == len(self.all())
 
     def broken(self):
         """A line for each edit whose texts do not stand once."""
         lines = []
-        for edit in [*self.edits, *([self.control] if self.control else []), *must_fail_edits(self.name)]:
+        for edit in [*self.all(), *must_fail_edits(self.name)]:
             try:
                 changed(edit, self.texts)
             except Fault as fault:
@@ -61,15 +101,15 @@ class Crate:
         return lines
 
     def plan(self):
-        """Puts the edits into rounds."""
-        for edit in [*self.edits, *([self.control] if self.control else [])]:
+        """Puts the edits that are to be tried into rounds."""
+        for edit in self.all():
             self.places[edit.name] = places(edit, self.texts)
             parts = [touched(self.texts, *it[:3]) for it in self.places[edit.name] or []]
             # With a part outside of all bodies nobody knows what the edit touches.
             self.functions[edit.name] = {it for part in parts for it in part} if parts and all(parts) else set()
         kept = self.functions[self.control.name] if self.control else set()
         self.rounds, self.alone = [], []
-        for edit in self.edits:
+        for edit in [it for it in self.edits if it not in self.kept]:
             own = self.functions[edit.name]
             if not own or own & kept:
                 self.alone.append(edit)
@@ -95,6 +135,8 @@ class Crate:
 
     def note(self, edit, is_right, words):
         (self.good if is_right else self.bad).append(edit)
+        if is_right:
+            self.keep(edit, words)
         print(f"{edit}: {words}", flush=True)
 
     def fault_of(self, edits, said):
@@ -151,10 +193,17 @@ class Crate:
         self.is_control_proved = True
         self.note(self.control, True, "proved, as it must be (the control)")
 
+    def stand_on_texts(self, copy):
+        """Sees that the copy has the texts that the verdicts are kept under."""
+        found = [read(copy.folder, self.name) for read in READ]
+        if found != self.sums or read_texts(self.name, copy.folder) != self.texts:
+            raise NoControl("files of it, or of a crate below it, were changed while this ran: run it again")
+
     def run(self, of_gate, jobs):
         """Tries all rounds, and then what touches the control or stands outside of all bodies."""
         copy = RoundCopy(self.name, of_gate)
         try:
+            self.stand_on_texts(copy)
             for room in self.rounds:
                 self.try_round(copy, room, jobs)
             self.stand_on_control(copy, "no round showed it", jobs)
@@ -163,11 +212,11 @@ class Crate:
         except NoControl as fault:
             self.note(self.control, False, f"NOT PROVED: {self.name} has to be proved with it before a wrong body can "
                       f"be tried: {fault}")
-            self.bad += self.edits
+            self.bad += [it for it in self.edits if it not in self.good]
         finally:
             copy.remove()
-        print(f"{self.name}: {len(self.edits)} wrong bodies in {self.checks} checks, {len(self.bad)} not refused; "
-              f"{self.seconds:.0f} s of processor time", flush=True)
+        print(f"{self.name}: {len(self.edits)} wrong bodies in {self.checks} checks, {len(self.bad)} not refused, "
+              f"{len(self.kept)} verdicts kept from earlier runs; {self.seconds:.0f} s of processor time", flush=True)
 
 
 def free_bytes():
@@ -187,7 +236,9 @@ def lanes_here(asked):
 
 
 def listed(crates):
+    """Shows the rounds of all edits."""
     for crate in crates:
+        crate.plan()
         for number, room in enumerate(crate.rounds, 1):
             print(f"{crate.name}, round {number}: {' '.join(edit.name for edit in room)}")
         if crate.alone:
@@ -195,24 +246,49 @@ def listed(crates):
     return 0
 
 
-def tried(crates, after_gate, lanes):
-    """Tries the crates in lanes, those with the most rounds first, and counts."""
-    of_gate = after_gate and is_of_gate([it.name for it in crates])
-    if not of_gate and not build_below([it.name for it in crates]):
-        return 2
-    lanes, jobs = lanes_here(lanes)
-    began = time.monotonic()
-    with concurrent.futures.ThreadPoolExecutor(lanes) as pool:
-        by_length = sorted(crates, key=lambda it: -(len(it.rounds) + len(it.alone)))
-        for done in [pool.submit(it.run, of_gate, jobs) for it in by_length]:
-            done.result()
+def told_texts(crates, broken):
+    """Says which edits cannot be made, and gives the status."""
+    for line in broken:
+        print(line)
+    if broken:
+        print(f"{len(broken)} edits cannot be made: mend their lines 'old:'")
+    count = sum(len(it.all()) + len(must_fail_edits(it.name)) for it in crates)
+    print(f"{count - len(broken)} passed, {len(broken)} failed")
+    return 1 if broken else 0
+
+
+def told(crates, began):
+    """Says what came of all crates, and gives the status."""
     good, bad = [it for crate in crates for it in crate.good], [it for crate in crates for it in crate.bad]
     if bad:
         print(f"FAILED: {' '.join(str(it) for it in bad)}")
-    seconds = sum(it.seconds for it in crates)
-    print(f"wrong bodies: {seconds / 60:.1f} minutes of processor time, {(time.monotonic() - began) / 60:.1f} minutes")
+    kept, seconds = sum(len(it.kept) for it in crates), sum(it.seconds for it in crates)
+    print(f"wrong bodies: {len(good) + len(bad) - kept} tried in this run, {kept} kept from earlier runs; "
+          f"{seconds / 60:.1f} minutes of processor time, {(time.monotonic() - began) / 60:.1f} minutes")
     print(f"{len(good)} passed, {len(bad)} failed")
     return 1 if bad else 0
+
+
+def tried(crates, after_gate, lanes):
+    """Tries the crates in lanes, those with the most rounds first, and counts."""
+    began = time.monotonic()
+    left = [it for it in crates if not it.is_done()]
+    names = [it.name for it in left]
+    of_gate = after_gate and is_of_gate(names)
+    if not of_gate and not build_below(names):
+        return 2
+    for it in left:
+        it.look_up(it.verdicts, stated_sum)
+        it.plan()
+    left = [it for it in left if not it.is_done()]
+    names = " ".join(it.name for it in left) or "none"
+    print(f"wrong bodies: {len(left)} of {len(crates)} crates have some to be tried: {names}", flush=True)
+    lanes, jobs = lanes_here(lanes)
+    with concurrent.futures.ThreadPoolExecutor(lanes) as pool:
+        by_length = sorted(left, key=lambda it: -(len(it.rounds) + len(it.alone)))
+        for done in [pool.submit(it.run, of_gate, jobs) for it in by_length]:
+            done.result()
+    return told(crates, began)
 
 
 def main():
@@ -222,6 +298,7 @@ def main():
     parser.add_argument("--texts", action="store_true", help="only look whether each text stands once")
     parser.add_argument("--list", action="store_true", help="show the rounds, and try none")
     parser.add_argument("--after-gate", action="store_true", help="take the libraries that rt ci has just built here")
+    parser.add_argument("--anew", action="store_true", help="try also what an earlier run has kept a verdict of")
     parser.add_argument("--lanes", type=int, default=0, metavar="N", help="how many crates are tried at a time")
     asked = parser.parse_args()
     crates = [Crate(name, asked.names) for name in crates_of([asked.crate] if asked.crate else [])]
@@ -230,28 +307,29 @@ def main():
         print(f"wrong_bodies: there is no {', '.join(missing)}", file=sys.stderr)
         return 2
     broken = [line for it in crates for line in it.broken()]
-    if broken:
-        print("\n".join(broken))
-        print(f"{len(broken)} edits cannot be made: mend their lines 'old:'")
-        return 1
+    if broken or asked.texts:
+        return told_texts(crates, broken)
     crates = [it for it in crates if it.edits]
     without = [it.name for it in crates if it.control is None]
     if without:
         print(f"wrong_bodies: there is no control: wrong_bodies/{without[0]}/control.edit", file=sys.stderr)
         return 2
-    if asked.texts:
-        print("each text stands once")
-        return 0
-    for it in crates:
-        it.plan()
-    if asked.list:
-        return listed(crates)
+    return listed(crates) if asked.list else run(crates, asked)
+
+
+def run(crates, asked):
+    """Tries what has no kept verdict."""
     if shutil.which("rt") is None:
         print("wrong_bodies: rt is not there", file=sys.stderr)
         return 2
+    verdicts = Verdicts(asked.anew)
+    for it in crates:
+        it.look_up(verdicts, texts_sum)
     # The copies go also if the script is stopped.
     signal.signal(signal.SIGTERM, lambda number, frame: sys.exit(128 + number))
-    return tried(crates, asked.after_gate, asked.lanes)
+    status = tried(crates, asked.after_gate, asked.lanes)
+    verdicts.sweep()
+    return status
 
 
 if __name__ == "__main__":

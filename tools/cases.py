@@ -1,0 +1,214 @@
+#!/usr/bin/env python3
+"""Runs a program on its stored cases, and compares what it prints with what is stored.
+
+usage: cases.py [--proved | --write] ufsim|ufstool
+
+A case of ufsim is a script examples/NAME.txt, which it runs, or wrong words in tools/bad_calls/. A
+case of ufstool lies in examples/ufstool/. NAME.args has the words of the case NAME, one a line; a
+word that names a file beside it or in examples/ is that file. The case has to print NAME.stdout on
+standard output and NAME.stderr on standard error (nothing, if there is no such file), and to end
+with the status in NAME.status (0, if there is no such file). The outputs of a script are named
+after its whole name, as NAME.txt.stdout.
+
+The program is built once, without a proof. With --proved both programs are run that `rt ci` has
+proved and built here: LLVM's, and that of Rattle's own compiler. With --write the stored files are
+written anew: read them then.
+
+The last line is 'N passed, M failed'. The status is 0 if no case failed and there is one.
+"""
+import argparse
+import pathlib
+import re
+import shutil
+import signal
+import subprocess
+import sys
+import tempfile
+from typing import NamedTuple, Tuple
+
+from crates import ROOT
+
+EXAMPLES = ROOT / "examples"
+WRONG_WORDS = ROOT / "tools" / "bad_calls"
+ENDED = re.compile(r"^case=(\S+) run=(\w+)(?: status=(\d+))?.*$")
+# What rt ci calls the programs that it builds: by LLVM, and by Rattle's own compiler.
+BUILDS = ("", ".by-rattle")
+# A proved program has so many seconds, as under rt ci. An unproved one is slower, by its checks, and has more, so
+# that a busy machine fails none.
+SECONDS = 120
+TRY_SECONDS = 300
+# How a program is run: its output is read as text, and its status is looked at later.
+HOW = {"stdin": subprocess.DEVNULL, "capture_output": True, "encoding": "utf-8", "errors": "replace",
+       "check": False}
+
+
+class Output(NamedTuple):
+    """What a case printed on standard output and on standard error, and its status."""
+
+    stdout: str
+    stderr: str
+    status: int
+
+
+class Case(NamedTuple):
+    """A call of a program: its name, its words, and the path that its outputs are named after."""
+
+    name: str
+    words: Tuple[str, ...]
+    stem: pathlib.Path
+
+    def file(self, suffix):
+        return self.stem.with_name(f"{self.stem.name}.{suffix}")
+
+    def wanted(self):
+        """What is stored of the case."""
+        files = [self.file(suffix) for suffix in Output._fields]
+        texts = [it.read_text(encoding="utf-8") if it.is_file() else "" for it in files]
+        return Output(texts[0], texts[1], int(texts[2] or 0))
+
+    def write(self, found):
+        """Makes what the case printed what it has to print."""
+        texts = (found.stdout, found.stderr, f"{found.status}\n" if found.status else "")
+        for suffix, text in zip(Output._fields, texts):
+            if text:
+                self.file(suffix).write_text(text, encoding="utf-8")
+            else:
+                self.file(suffix).unlink(missing_ok=True)
+
+    def files(self):
+        """The files that words of the case name."""
+        folders = (EXAMPLES, self.stem.parent)
+        places = [(word, folder / word) for word in self.words for folder in folders if word]
+        return {word: file for word, file in places if file.is_file()}
+
+
+def scripts():
+    """A case for each script of the examples."""
+    return [Case(file.stem, ("run", file.name), file) for file in sorted(EXAMPLES.glob("*.txt"))]
+
+
+def cases_in(folder):
+    """The cases of a folder."""
+    texts = {file: file.read_text(encoding="utf-8") for file in sorted(folder.glob("*.args"))}
+    return [Case(it.stem, tuple(text.splitlines()), it.with_suffix("")) for it, text in texts.items()]
+
+
+def cases_of(program):
+    return scripts() + cases_in(WRONG_WORDS) if program == "ufsim" else cases_in(EXAMPLES / program)
+
+
+def tried(program, cases):
+    """What the program printed in each case, as `rt try` builds it once, and what rt said."""
+    named = {word: file for case in cases for word, file in case.files().items()}
+    data = [it for word, file in sorted(named.items()) for it in ("--data", f"{word}={file}")]
+    with tempfile.TemporaryDirectory(prefix="cases.") as folder:
+        for case in cases:
+            place = pathlib.Path(folder, case.name)
+            place.write_bytes(b"")
+            if case.words:
+                text = "".join(f"{it}\n" for it in case.words)
+                place.with_name(f"{case.name}.args").write_text(text, encoding="utf-8")
+        command = ["rt", "try", "--steps", "1", "--seconds", str(TRY_SECONDS), "--cases", folder, *data]
+        done = subprocess.run(command, cwd=ROOT / "crates" / f"{program}_main", **HOW)
+    outputs, endings = outputs_of(done.stdout), endings_of(done.stderr)
+    return {name: Output(outputs.get(name, ""), *ending) for name, ending in endings.items()}, done.stderr
+
+
+def outputs_of(printed):
+    """What each case wrote to standard output: it comes after a line with its name."""
+    parts = re.split(r"^== (\S+)\n", printed, flags=re.M)
+    return dict(zip(parts[1::2], parts[2::2]))
+
+
+def endings_of(told):
+    """What each case wrote to standard error, and its status, which a line after it tells."""
+    found, before = {}, ""
+    for line in told.splitlines(keepends=True):
+        ended = ENDED.match(line)
+        if ended:
+            found[ended[1]] = (before, int(ended[3]) if ended[2] == "ended" and ended[3] else -1)
+            before = ""
+        else:
+            before += line
+    return found
+
+
+def ran(built, cases):
+    """What a built program printed in each case, in a folder with the files that the case names."""
+    found = {}
+    for case in cases:
+        with tempfile.TemporaryDirectory(prefix="cases.") as folder:
+            for word, file in case.files().items():
+                shutil.copyfile(file, pathlib.Path(folder, word))
+            try:
+                done = subprocess.run([built, *case.words], cwd=folder, env={}, timeout=SECONDS, **HOW)
+                found[case.name] = Output(done.stdout, done.stderr, done.returncode)
+            except (OSError, subprocess.TimeoutExpired) as fault:
+                found[case.name] = Output("", f"{fault}\n", -1)
+    return found
+
+
+def show_first_difference(case, name, found, wanted):
+    """Says where two texts differ first."""
+    pairs = zip(found.splitlines() + ["(the end)"], wanted.splitlines() + ["(the end)"])
+    for number, (is_there, is_due) in enumerate(pairs, 1):
+        if is_there != is_due:
+            print(f"{case}: {name}, line {number}:\n  found:  {is_there}\n  wanted: {is_due}")
+            return
+    if found != wanted:
+        print(f"{case}: {name}: only what ends its lines is not as it is stored")
+
+
+def is_good(case, found):
+    """Whether the case printed what it has to print. It says what differs."""
+    wanted = case.wanted()
+    show_first_difference(case.name, "standard output", found.stdout, wanted.stdout)
+    show_first_difference(case.name, "standard error", found.stderr, wanted.stderr)
+    if found.status != wanted.status:
+        print(f"{case.name}: it ended with status {found.status}, and {wanted.status} is wanted")
+    return found == wanted
+
+
+def judged(cases, found, said=""):
+    """How many of the cases printed what they have to print."""
+    missing = [case.name for case in cases if case.name not in found]
+    if missing:
+        print(f"not run: {' '.join(missing)}; rt said:\n{said[-4000:]}")
+    return sum(is_good(case, found[case.name]) for case in cases if case.name in found)
+
+
+def proved(program, cases):
+    """How many cases come out right with the programs that rt ci has built, and how many there are."""
+    folder = ROOT / "crates" / f"{program}_main" / "out"
+    places = [folder / f"{program}_main{ending}" for ending in BUILDS]
+    there = [it for it in places if it.is_file()]
+    for place in [it for it in places if it not in there]:
+        print(f"there is no {place.relative_to(ROOT)}: run `rt ci` at the top of the repository first")
+    passed = sum(judged(cases, ran(str(place), cases)) for place in there)
+    return passed, len(places) * len(cases)
+
+
+def main():
+    parser = argparse.ArgumentParser(description="Compares what a program prints with what is stored.")
+    parser.add_argument("program", choices=("ufsim", "ufstool"))
+    how = parser.add_mutually_exclusive_group()
+    how.add_argument("--proved", action="store_true", help="run the programs that rt ci has built here")
+    how.add_argument("--write", action="store_true", help="write anew what is stored of each case")
+    asked = parser.parse_args()
+    cases = cases_of(asked.program)
+    if asked.proved:
+        passed, count = proved(asked.program, cases)
+    else:
+        found, said = tried(asked.program, cases)
+        for case in cases if asked.write else ():
+            if case.name in found:
+                case.write(found[case.name])
+        passed, count = judged(cases, found, said), len(cases)
+    print(f"{passed} passed, {count - passed} failed")
+    return 0 if count and passed == count else 1
+
+
+if __name__ == "__main__":
+    # So that what it made goes also if it is stopped.
+    signal.signal(signal.SIGTERM, lambda number, frame: sys.exit(128 + number))
+    sys.exit(main())

@@ -1,0 +1,49 @@
+#!/usr/bin/env python3
+"""Stands in for the kit's command rt in the tests of the tools: a function is proved if it gives the
+number that it is named after. Each check adds a line with its crate to the file that FAKE_LOG names.
+Before that it builds the library lower.
+"""
+import os
+import pathlib
+import re
+import sys
+
+FUNCTION = re.compile(r"fn (\w+)\(\) -> u8 \{\n    (.*)\n\}")
+NUMBERS = {"ten": 10, "twenty": 20, "thirty": 30, "forty": 40}
+
+
+def check(crate):
+    """Says of each function of the crate here whether it is proved, and gives the status."""
+    with open(os.environ["FAKE_LOG"], "a", encoding="utf-8") as log:
+        log.write(f"{crate}\n")
+    bodies = FUNCTION.findall(pathlib.Path("src/lib.rt").read_text(encoding="utf-8"))
+    fallen = [name for name, body in bodies if sum(map(int, body.split(" + "))) != NUMBERS[name]]
+    for name, _ in bodies:
+        verdict = "not proved: `search` did not prove its result" if name in fallen else "proved"
+        print(f"fn {crate}::{name}: {verdict}")
+    print("logic=failed" if fallen else "logic=proved")
+    return 1 if fallen else 0
+
+
+def build(folder):
+    """Builds the library of a crate: what it states are its functions without their bodies."""
+    text = (folder / "src" / "lib.rt").read_text(encoding="utf-8")
+    for part in ("lang", "interface/lang"):
+        place = folder / "out" / "rlib" / f"{folder.name}.rlib" / part
+        place.mkdir(parents=True, exist_ok=True)
+        (place / "lib.rt").write_text(FUNCTION.sub(r"fn \1() -> u8", text), encoding="utf-8")
+        (place / "made.json").write_text(text, encoding="utf-8")
+
+
+def main(words):
+    if words == ["version"]:
+        print(os.environ["FAKE_KIT"])
+    elif words == ["check", "--only", ""]:
+        build(pathlib.Path.cwd().parent / "lower")
+    elif words[0] == "check" and "--only" not in words:
+        return check(pathlib.Path.cwd().name)
+    return 0
+
+
+if __name__ == "__main__":
+    sys.exit(main(sys.argv[1:]))

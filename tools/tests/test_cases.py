@@ -1,0 +1,64 @@
+"""Tests how tools/cases.py compares what a program prints with what is stored."""
+import contextlib
+import io
+import pathlib
+import tempfile
+import unittest
+
+import cases
+
+PROGRAM = '#!/bin/sh\necho "$@"\ncat notes.txt 2>/dev/null\necho told >&2\nexit 3\n'
+
+
+class Cases(unittest.TestCase):
+    """A case passes only if both outputs and the status are as they are stored."""
+
+    def setUp(self):
+        place = tempfile.TemporaryDirectory(prefix="cases_test.")
+        self.addCleanup(place.cleanup)
+        self.folder = pathlib.Path(place.name)
+        self.write("program", PROGRAM)
+        (self.folder / "program").chmod(0o755)
+        self.write("notes.txt", "a note\n")
+        self.write("one.args", "show\nnotes.txt\n")
+        self.write("one.stdout", "show notes.txt\na note\n")
+        self.write("one.stderr", "told\n")
+        self.write("one.status", "3\n")
+
+    def write(self, name, text):
+        (self.folder / name).write_text(text, encoding="utf-8")
+
+    def passed(self):
+        """How many cases of the folder come out right with its program, and what is said of them."""
+        found = cases.cases_in(self.folder)
+        with contextlib.redirect_stdout(io.StringIO()) as printed:
+            count = cases.judged(found, cases.ran(str(self.folder / "program"), found))
+        return count, printed.getvalue()
+
+    def test_what_is_stored_passes(self):
+        self.assertEqual((1, ""), self.passed())
+
+    def test_each_difference_fails(self):
+        for suffix, text in (("stdout", "show notes.txt\nanother note\n"), ("stderr", ""), ("status", "")):
+            with self.subTest(suffix):
+                before = (self.folder / f"one.{suffix}").read_text(encoding="utf-8")
+                self.write(f"one.{suffix}", text)
+                count, printed = self.passed()
+                self.assertEqual(0, count)
+                self.assertIn("one: ", printed)
+                self.write(f"one.{suffix}", before)
+
+    def test_what_rt_try_tells_of_each_case(self):
+        self.assertEqual({"a": "x\ny\n", "b": ""}, cases.outputs_of("== a\nx\ny\n== b\n"))
+        told = "said\ncase=a run=ended status=2 proved=no\ncase=b run=no-answer proved=no\ncases=2 proved=no\n"
+        self.assertEqual({"a": ("said\n", 2), "b": ("", -1)}, cases.endings_of(told))
+
+    def test_a_case_that_did_not_run_fails(self):
+        found = cases.cases_in(self.folder)
+        with contextlib.redirect_stdout(io.StringIO()) as printed:
+            self.assertEqual(0, cases.judged(found, {}, "src/main.rt:1:1: error"))
+        self.assertIn("not run: one", printed.getvalue())
+
+
+if __name__ == "__main__":
+    unittest.main()

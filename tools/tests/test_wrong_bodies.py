@@ -1,0 +1,176 @@
+"""Tests which wrong bodies tools/wrong_bodies.py tries again, over a small repository and with a
+command rt that proves nothing."""
+import os
+import pathlib
+import re
+import shutil
+import subprocess
+import sys
+import tempfile
+import unittest
+
+HERE = pathlib.Path(__file__).resolve().parent
+BODY = "pub fn {name}() -> u8 {{\n    {number}\n}}\n"
+EDIT = "file: src/lib.rt\nold: {old}\nnew: {new}\n"
+NUMBERS = {"ten": 10, "twenty": 20, "thirty": 30, "forty": 40}
+COUNTS = re.compile(r"^wrong bodies: (\d+) tried in this run, (\d+) kept from earlier runs", re.M)
+# What a whole run has to try: two wrong bodies and the control.
+ALL = 3
+
+
+class Repository:
+    """A repository of two crates: upper, with wrong bodies, stands on lower, which has none."""
+
+    def __init__(self, folder):
+        self.folder = folder / "repository"
+        self.log = folder / "log"
+        self.cache = folder / "cache"
+        self.kit = "kit-1"
+
+    def make(self):
+        """Writes the files of the repository."""
+        left_out = shutil.ignore_patterns("tests", "__pycache__")
+        shutil.copytree(HERE.parent, self.folder / "tools", ignore=left_out)
+        self.write("crates.txt", "# Two crates.\nlower:\nupper: lower\n")
+        self.write("crates/lower/src/lib.rt", BODY.format(name="forty", number=40))
+        bodies = [BODY.format(name=name, number=number) for name, number in NUMBERS.items()]
+        self.write("crates/upper/src/lib.rt", "\n".join(bodies))
+        edits = {"ten_is_eleven": ("10", "11"), "twenty_is_one_more": ("20", "20 + 1"), "control": ("30", "10 + 20")}
+        for name, (old, new) in edits.items():
+            self.write(f"wrong_bodies/upper/{name}.edit", EDIT.format(old=old, new=new))
+        self.write("bin/rt", (HERE / "fake_rt.py").read_text(encoding="utf-8"))
+        (self.folder / "bin" / "rt").chmod(0o755)
+
+    def write(self, path, text):
+        file = self.folder / path
+        file.parent.mkdir(parents=True, exist_ok=True)
+        file.write_text(text, encoding="utf-8")
+
+    def forget_libraries(self):
+        """Removes what was built."""
+        for folder in self.folder.glob("crates/*/out"):
+            shutil.rmtree(folder)
+
+    def change(self, path, old, new):
+        text = (self.folder / path).read_text(encoding="utf-8")
+        assert text.count(old) == 1, f"{old!r} does not stand once in {path}"
+        self.write(path, text.replace(old, new))
+
+    def files(self):
+        """The files of the repository, without what Python keeps of the tools."""
+        found = {path for path in self.folder.rglob("*") if path.is_file()}
+        return {path for path in found if not {"__pycache__", "out"} & set(path.parts)}
+
+    def run(self, *words):
+        """Tries the wrong bodies: how many were tried and kept, what was said, and the status."""
+        self.log.write_text("", encoding="utf-8")
+        path = f"{self.folder / 'bin'}{os.pathsep}{os.environ['PATH']}"
+        environment = {**os.environ, "PATH": path, "XDG_CACHE_HOME": str(self.cache),
+                       "FAKE_LOG": str(self.log), "FAKE_KIT": self.kit}
+        command = [sys.executable, "-B", str(self.folder / "tools" / "wrong_bodies.py"), *words]
+        how = {"stdout": subprocess.PIPE, "stderr": subprocess.STDOUT, "encoding": "utf-8", "check": False}
+        done = subprocess.run(command, env=environment, **how)
+        counts = COUNTS.search(done.stdout)
+        tried, kept = map(int, counts.groups()) if counts else (-1, -1)
+        return tried, kept, done.stdout, done.returncode
+
+    def checks(self):
+        """How many checks the last run made."""
+        return len(self.log.read_text(encoding="utf-8").splitlines())
+
+
+class WrongBodies(unittest.TestCase):
+    """A first run tries all. What a second run tries depends on what was changed between them."""
+
+    @classmethod
+    def setUpClass(cls):
+        cls.place = tempfile.TemporaryDirectory(prefix="wrong_bodies_test.")
+        cls.addClassCleanup(cls.place.cleanup)
+        first = Repository(pathlib.Path(cls.place.name, "first"))
+        first.make()
+        found = first.run()
+        assert found[:2] == (ALL, 0), found
+
+    def setUp(self):
+        folder = pathlib.Path(self.place.name, self.id())
+        shutil.copytree(pathlib.Path(self.place.name, "first"), folder)
+        self.repository = Repository(folder)
+
+    def sees(self, tried, kept, *words, passed=ALL, failed=0):
+        """Runs the tool, and looks at its counts."""
+        found = self.repository.run(*words)
+        said = found[2]
+        self.assertEqual((tried, kept), found[:2], said)
+        self.assertEqual(f"{passed} passed, {failed} failed", said.splitlines()[-1], said)
+        self.assertEqual(1 if failed else 0, found[3], said)
+        self.assertEqual(tried > 0, self.repository.checks() > 0, said)
+
+    def test_nothing_is_tried_where_nothing_changed(self):
+        before = self.repository.files()
+        self.sees(tried=0, kept=ALL)
+        self.assertEqual(before, self.repository.files(), "verdicts lie in the cache alone")
+
+    def test_a_changed_edit_is_tried_again(self):
+        self.repository.change("wrong_bodies/upper/ten_is_eleven.edit", "new: 11", "new: 12")
+        self.sees(tried=1, kept=ALL - 1)
+
+    def test_all_edits_are_tried_again_where_the_control_changed(self):
+        self.repository.change("wrong_bodies/upper/control.edit", "10 + 20", "15 + 15")
+        self.sees(tried=ALL, kept=0)
+
+    def test_all_edits_are_tried_again_where_a_source_line_changed(self):
+        self.repository.change("crates/upper/src/lib.rt", "40", "39 + 1")
+        self.sees(tried=ALL, kept=0)
+
+    def test_all_edits_are_tried_again_where_a_proof_or_a_definition_changed(self):
+        self.repository.write("crates/upper/proofs/Lib.antt", "-- a line\n")
+        self.sees(tried=ALL, kept=0)
+        self.repository.write("crates/upper/specs/Lib.antt", "-- a line\n")
+        self.sees(tried=ALL, kept=0)
+
+    def test_all_edits_are_tried_again_where_a_lower_crate_states_something_else(self):
+        self.repository.change("crates/lower/src/lib.rt", "pub fn forty", "/// Twice twenty.\npub fn forty")
+        self.sees(tried=ALL, kept=0)
+
+    def test_no_edit_is_tried_again_where_only_a_body_below_changed(self):
+        self.repository.change("crates/lower/src/lib.rt", "40", "20 + 20")
+        self.sees(tried=0, kept=ALL)
+        self.repository.forget_libraries()
+        self.sees(tried=0, kept=ALL)
+
+    def test_all_edits_are_tried_again_where_crates_txt_says_more_of_the_crate(self):
+        self.repository.change("crates.txt", "upper: lower", "upper may_wait=1: lower")
+        self.sees(tried=ALL, kept=0)
+
+    def test_all_edits_are_tried_again_with_another_kit(self):
+        self.repository.kit = "kit-2"
+        self.sees(tried=ALL, kept=0)
+        self.repository.kit = "kit-1"
+        self.sees(tried=0, kept=ALL)
+
+    def test_all_edits_are_tried_again_where_the_tool_changed(self):
+        self.repository.change("tools/bodies.py", '"""Finds the', '"""It finds the')
+        self.sees(tried=ALL, kept=0)
+
+    def test_all_edits_are_tried_again_if_one_asks_for_it(self):
+        self.sees(ALL, 0, "--anew")
+
+    def test_what_is_not_refused_is_not_kept(self):
+        self.repository.change("wrong_bodies/upper/ten_is_eleven.edit", "new: 11", "new: 5 + 5")
+        self.sees(tried=1, kept=ALL - 1, passed=ALL - 1, failed=1)
+        self.sees(tried=1, kept=ALL - 1, passed=ALL - 1, failed=1)
+
+    def test_a_crate_that_is_not_proved_keeps_nothing(self):
+        self.repository.change("crates/upper/src/lib.rt", "40", "41")
+        self.sees(tried=ALL, kept=0, passed=0, failed=ALL)
+        self.sees(tried=ALL, kept=0, passed=0, failed=ALL)
+
+    def test_an_entry_that_is_not_whole_counts_for_nothing(self):
+        for entry in (self.repository.cache / "butcherford" / "wrong_bodies").iterdir():
+            entry.write_text("{", encoding="utf-8")
+        self.sees(tried=ALL, kept=0)
+        self.sees(tried=0, kept=ALL)
+
+
+if __name__ == "__main__":
+    unittest.main()
