@@ -6,12 +6,12 @@ use anyhow::{Result, bail, ensure};
 use geometry::Config;
 use nand_model::{Die, MemDie};
 use page_tag::seal;
-use recovery::scan;
+use recovery::{fit, scan};
 use std::alloc::Global;
 use std::rt::Clock;
 use std::time::Instant;
 use ufs_spec::{Job, Page, Place, Tag, UnitSpec};
-use workbench::{fit, new_dies};
+use workbench::new_dies;
 
 /// How many blocks the dies have.
 const SIZES: [u16; 3] = [16, 64, 256];

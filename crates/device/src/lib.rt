@@ -12,4 +12,4 @@ mod responses;
 mod world;
 
 pub use device::Device;
-pub use world::{World, fit, run};
+pub use world::{World, run};

@@ -2,7 +2,7 @@
 ghost use Rattle.std.specs.Prelude.{◌≡◌, ◌≢◌, ◌<◌, ◌+◌, ◌^◌, ◌++◌, ◌∷◌, [], false, true, length, map, replicate};
 ghost use Rattle.std.specs.Prelude.{All, AllPairs, Err, IfErr, IfNone, IfOk, IfSome, IsErr, None, Ok, OnErr, OnOk};
 ghost use Rattle.std.specs.Prelude.{Some, option_copied, slice_set};
-ghost use Rattle.ufs_spec.specs.Dies.{CanDo, IsOfSize, after_job, outcome_of, power_cycle_ended};
+ghost use Rattle.ufs_spec.specs.Dies.{CanDo, after_job, outcome_of, power_cycle_ended};
 ghost use Rattle.ufs_spec.specs.Lives.{Fit, IsOpened, array_of, bad_of, die_of};
 ghost use Rattle.ufs_spec.specs.Refusals.{State};
 ghost use Rattle.ufs_spec.specs.Sound.{Sound, Suits};
@@ -17,7 +17,8 @@ use crate::leftovers::{
     are_apart, die_of, end_power_cycles, fail_on, is_of_job, is_read, leave_on, may_job_leave,
 };
 use geometry::Config;
-use nand_model::{Die, MemDie, work};
+use nand_model::{MemDie, work};
+use recovery::fit;
 use std::alloc::{AllocError, Global};
 use std::marker::Model;
 use ufs_spec::{
@@ -53,36 +54,6 @@ impl Model for World {
     ghost view = { world_of };
 
     ghost invariant = { IsEven };
-}
-
-/// Whether the die has so many blocks, each of so many pages.
-fn is_of_size(die: &MemDie, blocks: u16, pages: u16) -> bool
-    ensures sized { result ≡ true → IsOfSize blocks pages die.now }
-    ensures not_sized { 0 < blocks → result ≡ false → IsOfSize blocks pages die.now → ⊥ }
-{
-    die.blocks() == blocks && die.pages() == pages
-}
-
-/// Whether the dies are as many and as large as the configuration says.
-pub fn fit(config: &Config, dies: &[MemDie]) -> bool
-    ensures fit { result ≡ true → Fit config.now dies.now }
-    ensures unfit { result ≡ false → Fit config.now dies.now → ⊥ }
-{
-    let numbers = config.numbers();
-    dies.len() == numbers.dies as usize && are_of_size(dies, numbers.blocks, numbers.pages)
-}
-
-/// Whether each of the dies has this size.
-fn are_of_size(dies: &[MemDie], blocks: u16, pages: u16) -> bool
-    ensures sized { result ≡ true → All (IsOfSize blocks pages) dies.now }
-    ensures not_sized { 0 < blocks → result ≡ false → All (IsOfSize blocks pages) dies.now → ⊥ }
-{
-    for die in dies {
-        if !is_of_size(die, blocks, pages) {
-            return false;
-        }
-    }
-    true
 }
 
 /// Opens a device over dies that fit the configuration, which stay as they are.

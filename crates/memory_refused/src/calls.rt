@@ -2,11 +2,11 @@
 //! it, and sees that the answer is right.
 use crate::dies::{BLOCKS, PAGES, Written, dies_of, hold, holds};
 use crate::fault::{Fault, expect};
-use device::{Device, fit};
+use device::Device;
 use geometry::Config;
 use lanes::open_parallel;
 use nand_model::MemDie;
-use recovery::{Found, scan, scan_parallel};
+use recovery::{Found, fit, scan, scan_parallel};
 use std::alloc::Global;
 use std::thread::Threads;
 use ufs_spec::{OpenFault, Upiu};

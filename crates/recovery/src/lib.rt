@@ -8,10 +8,12 @@ mod keys;
 mod pages;
 mod reading;
 mod settings;
+mod sizes;
 mod workers;
 
 pub use blocks::bad_blocks;
 pub use found::{Found, scan};
 pub use keys::FoundBlock;
 pub use pages::FoundPage;
+pub use sizes::fit;
 pub use workers::scan_parallel;

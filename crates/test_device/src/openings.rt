@@ -4,13 +4,13 @@ use device::Device;
 use geometry::Config;
 use lanes::open_parallel;
 use nand_model::MemDie;
-use recovery::{Found, scan, scan_parallel};
+use recovery::{Found, fit, scan, scan_parallel};
 use std::alloc::Global;
 use std::process::Abort;
 use std::test::Fail;
 use std::thread::Threads;
 use ufs_spec::{OpenFault, Page, Upiu};
-use workbench::{Workbench, fit, new_dies, row_config};
+use workbench::{Workbench, new_dies, row_config};
 
 /// How many workers the dies of a test are scanned and opened by.
 const WORKERS: [usize; 5] = [0, 1, 2, 3, 8];

@@ -2,7 +2,7 @@
 use crate::gate_die::{Gate, GateDie, two_gate_dies};
 use crate::sharing::two_dies_config;
 use geometry::Config;
-use recovery::{Found, scan_parallel};
+use recovery::{Found, fit, scan_parallel};
 use std::alloc::Global;
 use std::process::Abort;
 use std::sync::Arc;
@@ -10,7 +10,6 @@ use std::sync::atomic::Ordering;
 use std::test::*;
 use std::thread::Threads;
 use ufs_spec::OpenFault;
-use workbench::fit;
 
 /// What dies that fit stand for, which so many workers read.
 fn scanned<R: Threads + Abort + Sync>(

@@ -3,6 +3,7 @@ use device::Device;
 use geometry::Config;
 use lanes::open_parallel;
 use nand_model::MemDie;
+use recovery::fit;
 use std::alloc::Global;
 use std::process::Abort;
 use std::test::Fail;
@@ -11,7 +12,7 @@ use ufs_spec::{OpenFault, Upiu};
 use workbench::collected::{
     EACH_LEFT, Left, collect_old_page, read_in_turn, stopped_in_erase, write_in_turn,
 };
-use workbench::{Workbench, fit, new_dies, row_config};
+use workbench::{Workbench, new_dies, row_config};
 
 /// A device at rest over these dies.
 fn opened(alloc: Global, dies: Vec<MemDie>) -> Result<Workbench, Fail> {

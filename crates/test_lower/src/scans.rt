@@ -8,12 +8,12 @@ use crate::faulty_die::FaultyDie;
 use geometry::Config;
 use nand_model::{Die, MemDie};
 use page_tag::{mark_body, seal};
-use recovery::{Found, FoundBlock, scan};
+use recovery::{Found, FoundBlock, fit, scan};
 use std::alloc::Global;
 use std::process::Abort;
 use std::test::Fail;
 use ufs_spec::{Fence, Job, OpenFault, Page, Place, Tag, UnitSpec};
-use workbench::{fit, row_config};
+use workbench::row_config;
 
 /// New dies hold nothing. A block that is bad is told bad, and no other is.
 #[test]

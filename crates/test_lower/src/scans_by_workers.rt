@@ -3,13 +3,13 @@
 use crate::scans::{at, data, mark, put, row_dies, settings};
 use geometry::Config;
 use nand_model::{Die, MemDie};
-use recovery::{Found, scan, scan_parallel};
+use recovery::{Found, fit, scan, scan_parallel};
 use std::alloc::Global;
 use std::process::Abort;
 use std::test::Fail;
 use std::thread::Threads;
 use ufs_spec::{Fence, OpenFault};
-use workbench::{fit, row_config};
+use workbench::row_config;
 
 /// Four dies with pages, an older mark behind the newest, a fence, a lost page, a bad block and
 /// settings, each die with some of it.

@@ -12,13 +12,12 @@ mod blocks;
 pub mod collected;
 mod config;
 pub mod messages;
-mod sizes;
 
 pub use config::{row_config, small_config};
 use device::Device;
 use geometry::Config;
 use nand_model::{MemDie, work};
-pub use sizes::fit;
+use recovery::fit;
 use std::alloc::Global;
 use ufs_spec::{HostFault, Job, NoMemory, OpenFault, Upiu};
 
@@ -52,7 +51,7 @@ impl Workbench {
             IsOpened config (array_of dies.items) (bad_of dies.items) s → Describes w.device s) }
     {
         let mut dies = dies;
-        if !device::fit(&config, dies.as_slice()) {
+        if !fit(&config, dies.as_slice()) {
             return Err(OpenFault::OtherConfig);
         }
         let device = Device::open(alloc, config, dies.as_mut_slice())?;

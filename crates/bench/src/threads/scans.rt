@@ -5,12 +5,11 @@ use crate::threads::hashes::hashed_a_second;
 use anyhow::{Result, bail, ensure};
 use geometry::Config;
 use nand_model::MemDie;
-use recovery::scan_parallel;
+use recovery::{fit, scan_parallel};
 use std::alloc::Global;
 use std::rt::Clock;
 use std::thread::Threads;
 use std::time::Instant;
-use workbench::fit;
 
 /// How many written pages a scan by so many workers reads in a second.
 fn scanned_a_second<R: Threads + Sync + Clock>(

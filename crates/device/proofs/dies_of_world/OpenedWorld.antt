@@ -1,8 +1,8 @@
 -- A world whose device was opened over its dies.
-use Rattle.std.proofs.Common.{◌≡◌, ◌∙◌, List, Option, None, length, ap, sym, subst}
+use Rattle.std.proofs.Common.{◌≡◌, ◌∙◌, List, Option, None, length, map, ap, sym, subst}
 use Rattle.std.specs.Prelude.{Vec}
 use Rattle.std.specs.Vec.{with_items}
-use Rattle.std.proofs.lemmas.List.{with_items_is}
+use Rattle.std.proofs.lemmas.List.{map-id, with_items_is}
 use Rattle.std.specs.Prelude.{replicate}
 use Rattle.ufs_spec.specs.Configs.{IsConfig}
 use Rattle.ufs_spec.specs.Dies.{DieState}
@@ -21,6 +21,11 @@ use Rattle.device.proofs.dies_of_world.DiesFit.{opens_fit}
 -- what is written over a list as it was leaves it
 pub written_same : {X Z : Type 0} (v : Vec X Z) (ws : List X) → ws ≡ v.items → (with_items v ws).items ≡ v.items
 written_same v ws same = with_items_is v ws (ap length same ∙ sym v.ok.0) ∙ same
+
+-- a die in memory is its own state
+pub fit_same : (n : Numbers) (dies others : List DieState) → dies ≡ others → Fit n (map (λ (die : DieState). die) dies) →
+    Fit n others
+fit_same n dies others same fit = subst (Fit n) (map-id dies ∙ same) fit
 
 -- the device is the one that the definitions open over the dies
 abbrev pub IsOpenedOver : Numbers → List DieState → DeviceCore → Type 0

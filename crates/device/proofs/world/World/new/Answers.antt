@@ -1,7 +1,9 @@
 use Rattle.std.proofs.Common.{◌∙◌, None, ap, length, refl, replicate, sym, subst}
 use Rattle.std.proofs.lemmas.List.{length-replicate}
 use Rattle.ufs_spec.specs.Lives.{Fit}
-use Rattle.device.proofs.dies_of_world.OpenedWorld.{opened_fits, opened_over, suits_over, written_same}
+use Rattle.device.specs.Worlds.{IsOpeningFault}
+use Rattle.device.proofs.dies_of_world.OpenedWorld.{fit_same, opened_fits, opened_over, suits_over}
+use Rattle.device.proofs.dies_of_world.OpenedWorld.{written_same}
 use Rattle.device.proofs.world.World.new.Goals as goal
 
 pub invariant_of-result : goal.invariant_of-result
@@ -9,7 +11,8 @@ invariant_of-result c =
     let same = written_same c.args.dies c.open_device.new.dies
     (c.open_device.ensures.same ∙ c.as_mut_slice.ensures.value) in
     let fit : Fit c.args.config c.args.dies.items =
-    subst (Fit c.args.config) c.as_slice.ensures.value (c.fit.ensures.fit c.if-not-fit.false) in
+    fit_same c.args.config c.as_slice.result.now c.args.dies.items c.as_slice.ensures.value
+    (c.fit.ensures.fit c.if-not-fit.false) in
     record {
       jobs =
           ap length c.in-Ok-idle.ensures ∙ length-replicate c.len.result None
@@ -19,7 +22,8 @@ invariant_of-result c =
 
 pub returns-clause-suits : goal.returns-clause-suits
 returns-clause-suits c = (
-  subst (Fit c.args.config) c.as_slice.ensures.value (c.fit.ensures.fit c.if-not-fit.false),
+  fit_same c.args.config c.as_slice.result.now c.args.dies.items c.as_slice.ensures.value
+      (c.fit.ensures.fit c.if-not-fit.false),
   suits_over c.args.config c.copied.result c.args.dies.items c.as_mut_slice.result.now c.copied.ensures
       c.as_mut_slice.ensures.value c.in-Ok.ensures.suits,
 )
@@ -30,8 +34,15 @@ returns-clause-fits c =
     let same = written_same c.args.dies c.open_device.new.dies
     (c.open_device.ensures.same ∙ c.as_mut_slice.ensures.value) in
     let fit : Fit c.args.config c.args.dies.items =
-    subst (Fit c.args.config) c.as_slice.ensures.value (c.fit.ensures.fit c.if-not-fit.false) in
+    fit_same c.args.config c.as_slice.result.now c.args.dies.items c.as_slice.ensures.value
+    (c.fit.ensures.fit c.if-not-fit.false) in
     opened_fits _ c.args.config c.args.dies.items s fit refl same
     (c.in-Ok-idle.ensures ∙ ap (λ count. replicate count None) (c.len.ensures ∙ c.args.dies.ok.0))
     (opened_over c.args.config c.copied.result c.args.dies.items c.as_mut_slice.result.now c.in-Ok.device
     c.copied.ensures c.as_mut_slice.ensures.value c.in-Ok.ensures.described) sound opened
+
+pub returns-in_default-clause-refused : goal.returns-in_default-clause-refused
+returns-in_default-clause-refused c =
+    subst (IsOpeningFault c.args.config c.args.dies.items) (sym c.fault-in_default.ensures.kind)
+    (fit_same c.args.config c.as_slice.result.now c.args.dies.items c.as_slice.ensures.value
+    (c.fit.ensures.fit c.if-not-fit.false))

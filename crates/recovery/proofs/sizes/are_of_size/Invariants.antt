@@ -1,7 +1,7 @@
 use Rattle.std.proofs.Common.{◌<◌, ℕ}
 use Rattle.std.specs.Prelude.{map, slice_index_or}
 use Rattle.ufs_spec.specs.Dies.{DieState, IsOfSize}
-use Rattle.workbench.proofs.sizes.are_of_size.Given as goal
+use Rattle.recovery.proofs.sizes.are_of_size.Given as goal
 
 abbrev pub invariant-loop-die : goal.invariant-loop-die
 invariant-loop-die g l = (k : ℕ) (d : DieState) → k < l.die-index →
