@@ -5,9 +5,11 @@ usage: collector_simulation.py [--dies D] [--blocks B] [--pages P] [--slots S] [
                                [--fill PERCENT..]
 
 It knows nothing of the device's code and shares only its rules: one open block a die, into which pages go die after
-die; a collection is due if fewer than 2 * D + 4 blocks are free and there is a victim; the victim is the closed block
-with the fewest live pages, the lowest of several, and none that is wholly live; its live pages are copied, then comes
-one page for the mark, and the block is free. A page that a host writes opens no block while at most D + 2 are free.
+die; hosts leave g = D + 2 + 2 * ceil(S / P) blocks to copies and marks; a collection is due if fewer than 2 * D + 4
+or than g + 2 blocks are free and there is a victim; the victim is the closed block with the fewest live pages, the
+lowest of several, and none that is wholly live; its live pages are copied, then comes one page for the mark, and the
+block is free. A page that a host writes is programmed only while at least g blocks are free, and opens one only while
+more are; while fewer are free a copy or a mark opens one only where none is open.
 
 For each filling, in percent of the greatest unit that a configuration of these numbers may have, the unit is written
 once in order, and then overwritten W times, in order or at random. The second half of these is counted. The last
@@ -30,8 +32,9 @@ class NoRoom(Exception):
 class Dies:
     """Blocks of pages, a page of which holds an address, None for a mark, or nothing."""
 
-    def __init__(self, dies, blocks, pages):
+    def __init__(self, dies, blocks, pages, slots):
         self.dies, self.blocks, self.pages = dies, blocks, pages
+        self.left = left_by_hosts(dies, pages, slots)
         self.states = [[FREE] * blocks for _ in range(dies)]
         self.open = [None] * dies
         self.held = [[[] for _ in range(blocks)] for _ in range(dies)]
@@ -41,10 +44,16 @@ class Dies:
         self.next_die = 0
         self.programmed = 0
 
+    def may_open(self, is_hosts):
+        """Whether a block may be opened now."""
+        if is_hosts:
+            return self.free > self.left
+        return self.free >= self.left or all(block is None for block in self.open)
+
     def open_block(self, die, is_hosts):
         """The block that the die fills, opened if need be; None if it has none."""
         if self.open[die] is None:
-            if FREE not in self.states[die] or (is_hosts and self.free <= self.dies + 2):
+            if FREE not in self.states[die] or not self.may_open(is_hosts):
                 return None
             self.open[die] = self.states[die].index(FREE)
             self.states[die][self.open[die]] = OPEN
@@ -53,6 +62,8 @@ class Dies:
 
     def program(self, address, is_hosts):
         """Programs a page to the next die that has room; whether one had."""
+        if is_hosts and self.free < self.left:
+            return False
         for step in range(self.dies):
             die = (self.next_die + step) % self.dies
             block = self.open_block(die, is_hosts)
@@ -85,7 +96,7 @@ class Dies:
 
     def collect(self):
         """One collection, if one is due; how many pages it gained, or None."""
-        if self.free >= 2 * self.dies + 4:
+        if self.free >= wanted_free(self.dies, self.left):
             return None
         found = self.victim()
         if found is None:
@@ -122,6 +133,16 @@ class Dies:
         self.collect_all()
 
 
+def left_by_hosts(dies, pages, slots):
+    """How many free blocks a host's pages leave to copies and marks."""
+    return dies + 2 + 2 * -(-slots // pages)
+
+
+def wanted_free(dies, left):
+    """With fewer free blocks than this many a collection is due."""
+    return max(2 * dies + 4, left + 2)
+
+
 def greatest_unit(arguments):
     """The blocks of the greatest unit of a configuration with these numbers, and RPMB of 32 pages."""
     left = arguments.dies * arguments.blocks - arguments.spare - 4 * arguments.dies - 8
@@ -137,7 +158,7 @@ def addresses(kind, unit, writes, seed):
 
 def simulated(arguments, unit, kind):
     """Pages programmed for each page written, or how many writes came before there was no room."""
-    dies = Dies(arguments.dies, arguments.blocks, arguments.pages)
+    dies = Dies(arguments.dies, arguments.blocks, arguments.pages, arguments.slots)
     count = 0
     try:
         for address in range(unit):
@@ -154,7 +175,8 @@ def simulated(arguments, unit, kind):
 def on_paper(arguments, unit):
     """The formula for random overwrites: with u the share of live pages in a victim, and s that of the unit's pages in
     all blocks that are not kept free, s = (1 - u) / ln(1 / u), and each page written costs 1 / (1 - u) programs."""
-    kept = arguments.dies * arguments.blocks - (2 * arguments.dies + 4)
+    left = left_by_hosts(arguments.dies, arguments.pages, arguments.slots)
+    kept = arguments.dies * arguments.blocks - wanted_free(arguments.dies, left)
     share = unit / (kept * arguments.pages)
     low, high = 1e-12, 1 - 1e-12
     for _ in range(200):

@@ -44,14 +44,14 @@ fn small(percent: u8) -> Shape {
     }
 }
 
-/// A device of many blocks of few pages, with so many slots and the greatest unit.
-fn flat(slots: u16) -> Shape {
+/// A device of so many blocks of few pages, with so many slots, so many spare blocks and the greatest unit.
+fn flat(blocks: u16, slots: u16, spare: u16) -> Shape {
     Shape {
         dies: 4,
-        blocks: 256,
+        blocks,
         pages: 16,
         slots,
-        spare: 4,
+        spare,
         percent: 100,
         count: 4096,
     }
@@ -327,6 +327,7 @@ pub fn count_collections<R: Clock + Eprint>(rt: &R, alloc: Global) -> Result<()>
         is_random: true,
         is_patient: false,
     };
-    count_row(rt, alloc, flat(64), host)?;
-    count_row(rt, alloc, flat(288), host)
+    count_row(rt, alloc, flat(64, 64, 0), host)?;
+    count_row(rt, alloc, flat(256, 64, 4), host)?;
+    count_row(rt, alloc, flat(256, 288, 4), host)
 }

@@ -2,7 +2,7 @@
 //! beside it which pages are live, and which block is to be collected.
 #![tactic(auto)]
 
-ghost use Rattle.std.specs.Prelude.{◌≡◌, ◌≤◌, ◌*◌, IfOk, None, Some, count_by, length, replicate, slice_get, slice_set};
+ghost use Rattle.std.specs.Prelude.{◌≡◌, ◌≤◌, ◌*◌, IfOk, None, Some, count_by, is_some, length, replicate, slice_get, slice_set};
 ghost use Rattle.std.specs.List.{list_any};
 ghost use Rattle.block_table.specs.Blocks.{Blocks, block_index, freed, freed_state, gone_bad, is_bad, is_free, open_of, opened_at, page_written, state_of};
 
@@ -122,6 +122,13 @@ impl BlockTable {
         self.filling.get(die as usize).copied().flatten()
     }
 
+    /// Whether any die fills a block.
+    pub fn has_open_block(&self) -> bool
+        ensures { result ≡ list_any is_some self.now.filling }
+    {
+        any_open(self.filling.as_slice())
+    }
+
     /// The block is empty after an erase, and the die fills it from now on.
     pub fn erased(&mut self, die: u8, block: u16)
         ensures { self.new ≡ opened_at self.old die block }
@@ -215,6 +222,13 @@ fn any_bad(states: &[BlockState]) -> bool
     ensures { result ≡ list_any is_bad states.now }
 {
     states.iter().any(|state| is_bad(state))
+}
+
+/// Whether any of the dies fills a block.
+fn any_open(filling: &[Option<OpenBlock>]) -> bool
+    ensures { result ≡ list_any is_some filling.now }
+{
+    filling.iter().any(|open| open.is_some())
 }
 
 /// Whether a block that is so is free.

@@ -8,7 +8,7 @@ ghost use Rattle.ufs_spec.specs.Refusals.{Request, State, first_line, flushes, i
 ghost use Rattle.ufs_spec.specs.Refusals.{mended, numbers_of};
 ghost use Rattle.ufs_spec.specs.Translation.{free_slots};
 ghost use Rattle.ufs_spec.specs.Keys.{data_key};
-ghost use Rattle.ufs_spec.specs.Refusals.{lines_for, needs_mended, slots_needed, spec_of, writes};
+ghost use Rattle.ufs_spec.specs.Refusals.{lines_for, needs_mended, slots_needed, unit_numbers_of, writes};
 ghost use Rattle.ufs_spec.specs.declared.configs.Numbers.{Numbers};
 ghost use Rattle.ftl_core.specs.Describes.{Describes as IsLayer};
 ghost use Rattle.device.specs.Plans.{IsBare, IsPlanned, IsRequest, data_plan, plan_of, read_plan, write_plan};
@@ -202,10 +202,10 @@ impl Device {
     ) -> Result<Plan, Status>
         ensures planned { IfOk result (λ todo. IsTakenCdb cdb.now → todo ≡ plan_of unit lun expected cdb.now) }
         ensures passed { IsOk result → (s : State) (r : Request) → IsLayer self.now.ftl s.translation →
-            IsBare s self.now.is_permanent → spec_of s r ≡ Some unit → r.flags ≡ flags → r.expected ≡ expected →
+            IsBare s self.now.is_permanent → unit_numbers_of s r ≡ Some unit → r.flags ≡ flags → r.expected ≡ expected →
             IsTakenCdb cdb.now → first_line (lines_for s r cdb.now) ≡ None }
         ensures refused { IfErr result (λ told. (s : State) (r : Request) → IsLayer self.now.ftl s.translation →
-            IsBare s self.now.is_permanent → spec_of s r ≡ Some unit → r.flags ≡ flags → r.expected ≡ expected →
+            IsBare s self.now.is_permanent → unit_numbers_of s r ≡ Some unit → r.flags ≡ flags → r.expected ≡ expected →
             IsTakenCdb cdb.now → first_line (lines_for s r cdb.now) ≡ Some (status_kept told)) }
     {
         match self.refusal(unit, flags, expected, cdb) {
@@ -217,7 +217,7 @@ impl Device {
     /// Why a command of the unit that is taken is refused, if it is.
     fn refusal(&self, unit: UnitSpec, flags: u8, expected: u32, cdb: &Cdb) -> Option<Status>
         ensures what { (s : State) (r : Request) → IsLayer self.now.ftl s.translation →
-            IsBare s self.now.is_permanent → spec_of s r ≡ Some unit → r.flags ≡ flags → r.expected ≡ expected →
+            IsBare s self.now.is_permanent → unit_numbers_of s r ≡ Some unit → r.flags ≡ flags → r.expected ≡ expected →
             IsTakenCdb cdb.now → first_line (lines_for s r cdb.now) ≡ option_map status_kept result }
         ensures few { result ≡ None → blocks_of cdb.now ≤ greatest_command }
     {

@@ -1,5 +1,5 @@
 //! A device with its dies, and runs of events over one.
-ghost use Rattle.std.specs.Prelude.{◌≡◌, ◌≢◌, ◌<◌, ◌+◌, ◌^◌, ◌++◌, ◌∷◌, [], false, true, length, map, replicate};
+ghost use Rattle.std.specs.Prelude.{◌≡◌, ◌≢◌, ◌<◌, ◌≤◌, ◌+◌, ◌-◌, ◌^◌, ◌++◌, ◌∷◌, [], false, true, length, map, replicate};
 ghost use Rattle.std.specs.Prelude.{All, AllPairs, Err, IfErr, IfNone, IfOk, IfSome, IsErr, None, Ok, OnErr, OnOk};
 ghost use Rattle.std.specs.Prelude.{Some, option_copied, slice_set};
 ghost use Rattle.ufs_spec.specs.Dies.{CanDo, after_job, outcome_of, power_cycle_ended};
@@ -227,6 +227,7 @@ impl World {
         ensures going_on { OnOk result (self.new.is_over ≡ false) }
         ensures counted { self.old.steps + 1 < 2 ^ 64 → self.new.steps ≡ self.old.steps + 1 }
         ensures one_more { OnOk result (length trace.new.items ≡ length trace.old.items + 1) }
+        ensures none_more { IfErr result (λ k. trace.new.items ≡ trace.old.items) }
         ensures played { (s : State) → Fits self.old s → self.old.is_over ≡ false →
             Played s event.now self.new trace.old.items trace.new.items result }
     {
@@ -584,10 +585,16 @@ pub fn run(
     events: &[Event],
 ) -> Result<Trace, RunFault>
     ensures one_each { IfOk result (λ trace. length trace.items ≡ length events.now) }
+    // Dies of other sizes are refused, whatever is on them.
+    ensures fit { IfOk result (λ trace. Fit config dies.items) }
     // The promise. Each message is answered, each job given and each turn told as the specified
     // device does, in each of the lives between the stops.
     ensures promised { IfOk result (λ trace. Sound (array_of dies.items) →
         KeepsThePromise config dies.items events.now trace.items) }
+    // A fault names an event or the opening, and its trace is as long as the events before it are
+    // many, also over dies that are not sound.
+    ensures counted { IfErr result (λ f. (f.position ≤ length events.now)
+        × (length f.trace.items ≡ f.position - 1)) }
     // A fault says where: at position 0 the opening was refused; at any other one the event there
     // was refused, or memory was, and its trace is that of the events before it and keeps the
     // promise.

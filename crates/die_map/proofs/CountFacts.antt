@@ -1,12 +1,11 @@
 -- How many of the first blocks are so, block by block.
 use Rattle.std.proofs.Common.{◌≡◌, ◌∙◌, ◌++◌, ◌∷◌, [], ℕ, ◌+◌, ◌<◌, ◌≤◌, ◌^◌, Bool, true, false, List}
-use Rattle.std.proofs.Common.{ap, arith, sym, refl, cond}
+use Rattle.std.proofs.Common.{add-one, ap, arith, sym, refl, cond}
 use Rattle.std.proofs.lemmas.List.{map-append}
 use Rattle.std.proofs.lemmas.List.Sums.{sum_by-append, sum_by-cons}
 use Rattle.std.specs.Prelude.{count_by, map, sum_by}
 use Rattle.ufs_spec.specs.Dies.{DieState}
 use Rattle.ufs_spec.specs.Keys.{below}
-use Rattle.recovery.proofs.tables.Used.{below_more}
 use Rattle.die_map.specs.States.{block_state_of, states_below}
 use Rattle.die_map.specs.declared.survey.BlockState.{BlockState}
 
@@ -23,6 +22,9 @@ one_more test states s =
     let last = sum_by-cons one s [] in
     let none : sum_by one [] ≡ 0 = refl in
     omega (arith, joined, last, none)
+
+below_more : (k : ℕ) → below (k + 1) ≡ below k ++ k ∷ []
+below_more k = ap below (add-one k)
 
 states_more : (d : DieState) (k : ℕ) → states_below d (k + 1) ≡ states_below d k ++ block_state_of d k ∷ []
 states_more d k = ap (map (block_state_of d)) (below_more k) ∙ map-append (block_state_of d) (below k) (k ∷ [])

@@ -6,6 +6,7 @@ pub mod NextErases
 pub mod NextNames
 pub mod NextPages
 pub mod NextStarts
+pub mod OpenBlocks
 pub mod ReadsTaken
 pub mod StepPages
 pub mod Takings

@@ -1,8 +1,8 @@
 -- Which block is collected, and when one is, by what the layer keeps. Describes says what that means.
-use Rattle.std.specs.Prelude.{◌+◌, ◌*◌, ◌&&◌, ◌||◌, nat_lt, not, Bool, filter, None, Option}
+use Rattle.std.specs.Prelude.{◌&&◌, ◌||◌, nat_lt, not, Bool, filter, None, Option}
 use Rattle.std.specs.List.{list_any}
 use Rattle.ufs_spec.specs.Disk.{Spot}
-use Rattle.ufs_spec.specs.Translation.{least_of}
+use Rattle.ufs_spec.specs.Translation.{least_of, wanted_room}
 use Rattle.block_table.specs.Blocks.{is_bad}
 use Rattle.block_table.specs.Lives.{gains, live_count, spots_in}
 use Rattle.ftl_core.specs.Core.{Core}
@@ -24,9 +24,9 @@ victim c = least_of (live_count c.live) None (filter (may_be_victim c) (spots_in
 abbrev pub is_bad_with_live : Core → Spot → Bool
 is_bad_with_live c s = is_bad (state_of c s.die s.block) && not (is_pinned c s) && nat_lt 0 (live_count c.live s)
 
--- fewer than 2 * dies + 4 blocks are free
+-- fewer blocks are free than are wanted
 abbrev pub has_few_free : Core → Bool
-has_few_free c = nat_lt (free_blocks c) (2 * c.numbers.dies + 4)
+has_few_free c = nat_lt (free_blocks c) (wanted_room c.numbers)
 
 -- few blocks are free, or a bad block holds live pages
 abbrev pub wants_collection : Core → Bool

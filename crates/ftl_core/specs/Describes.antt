@@ -14,7 +14,7 @@ use Rattle.ufs_spec.specs.Moves.{Ending, ReadRight, ReadWrong, GiveJob, moved}
 use Rattle.ufs_spec.specs.Plain.{shape_of_numbers}
 use Rattle.ufs_spec.specs.Translation as layer
 use Rattle.ufs_spec.specs.Translation.{CopyStep, MarkStep, MayTake, Mended, Mending, RepairStep, Repairing, Step, Translation}
-use Rattle.ufs_spec.specs.Translation.{Unmarked, Work, flies_name, is_bad, is_mended, name_of, names_behind, spots}
+use Rattle.ufs_spec.specs.Translation.{Unmarked, Work, flies_name, is_bad, is_mended, name_of, names_after, spots}
 use Rattle.ufs_spec.specs.Translation.{tag_of}
 use Rattle.ufs_spec.specs.declared.configs.Numbers.{Numbers}
 use Rattle.ufs_spec.specs.declared.flash.Job.{Job}
@@ -165,7 +165,7 @@ PagesKept standing entries ps names = ⊥
 
 -- the names of the pages of groups that are accepted and not durable, by number and index
 abbrev pub names_pending : Ledger → List Name
-names_pending l = names_behind l.frontier (pending l)
+names_pending l = names_after l.frontier (pending l)
 
 -- Places
 

@@ -99,13 +99,13 @@ settled c = settled_by (length c.pages) c
 -- The step under way
 
 -- a mark with a fence is followed by the repairs; one without ends the mending
-abbrev pub mending_behind : Mending → Mending
-mending_behind (mending.Unmarked (Some fence)) = mending.Repairing
-mending_behind m = mending.Mended
+abbrev pub mending_after : Mending → Mending
+mending_after (mending.Unmarked (Some fence)) = mending.Repairing
+mending_after m = mending.Mended
 
 -- the mark is finished: no step is under way, and the mending goes on behind it
 abbrev pub mark_over : Core → Core
-mark_over c = record c { step = None; mending = mending_behind c.mending }
+mark_over c = record c { step = None; mending = mending_after c.mending }
 
 -- the block of a collection is free behind its mark, unless it is bad
 abbrev pub block_freed : Core → Spot → Core

@@ -4,10 +4,11 @@ use Rattle.ufs_spec.specs.declared.configs.Numbers.{Numbers}
 use Rattle.std.specs.Prelude.{ℕ, ◌+◌, ◌-◌, ◌*◌, ◌^◌, ◌==◌, min, nat_le, nat_lt, Bool, true, false, ◌&&◌, ◌||◌, not}
 use Rattle.std.specs.Prelude.{if◌then◌else◌, List, [], ◌++◌, length, map, replicate}
 use Rattle.std.specs.Prelude.{count_by, slice_get, slice_set, Option, Some, None, unwrap_or, option_map}
-use Rattle.std.specs.Prelude.{filter, find, is_none}
+use Rattle.std.specs.Prelude.{filter, find, is_none, is_some}
 use Rattle.std.specs.List.{list_any}
 use Rattle.ufs_spec.specs.Keys.{below}
 use Rattle.ufs_spec.specs.Plain.{zero_block}
+use Rattle.ufs_spec.specs.Translation.{own_room}
 use Rattle.ufs_spec.specs.declared.flash.Fence.{Fence}
 use Rattle.ufs_spec.specs.declared.flash.Key.{Key}
 use Rattle.ufs_spec.specs.declared.flash.Tag.{Tag}
@@ -202,10 +203,40 @@ abbrev pub is_owed_in : List (Option Flight) → ℕ → Pin → Bool
 is_owed_in flights die p =
     p.wanted && looks_on die p.looked && not (list_any (flight_reads p.reader p.index) flights)
 
--- for a group alone a block is opened only where more than dies + 2 blocks are free
+-- pages of groups may be programmed: at least as many blocks are free as groups leave to the device's own pages
+abbrev pub has_room_for_groups : Core → Bool
+has_room_for_groups c = nat_le (own_room c.numbers) (free_blocks c)
+
+-- the die fills a block
+abbrev pub fills : Book → Bool
+fills b = is_some b.filling
+
+-- the job in flight erases a block
+abbrev pub flight_erases : Option Flight → Bool
+flight_erases (Some (flight.Erase block)) = true
+flight_erases _ = false
+
+-- the die erases a block, which it will then fill
+abbrev pub erases : Book → Bool
+erases b = flight_erases b.flight
+
+-- a block of some die is being filled, or is being erased to be filled
+abbrev pub has_open_block : Core → Bool
+has_open_block c = list_any fills c.books || list_any erases c.books
+
+-- a block may be opened for a page of a group only where more blocks are free than groups leave
+abbrev pub may_open_for_group : Core → Bool
+may_open_for_group c = nat_lt (own_room c.numbers) (free_blocks c)
+
+-- for the page of a step any die opens its own block while groups may be programmed; below that a block is opened only
+-- where none is open
+abbrev pub may_open_for_step : Core → Bool
+may_open_for_step c = has_room_for_groups c || not (has_open_block c)
+
+-- a block may be opened for what waits
 abbrev pub may_open : Core → Waiting → Bool
-may_open c waiting.Step = true
-may_open c (waiting.Group n i) = nat_lt (length c.books + 2) (free_blocks c)
+may_open c waiting.Step = may_open_for_step c
+may_open c (waiting.Group n i) = may_open_for_group c
 
 -- the die has this job in flight, over the open block that it had
 abbrev pub started : Core → ℕ → Book → Flight → Core

@@ -26,7 +26,7 @@ use Rattle.ftl_core.specs.declared.books.Step.TheVariants as step
 use Rattle.ftl_core.specs.declared.books.Waiting.{Waiting}
 use Rattle.ftl_core.specs.declared.books.Waiting.TheVariants as waiting
 use Rattle.ftl_core.specs.Core.{Core}
-use Rattle.ftl_core.specs.Moves.{is_erasable, is_owed_by, mark_key, may_open, single_tag, started}
+use Rattle.ftl_core.specs.Moves.{has_room_for_groups, is_erasable, is_owed_by, mark_key, may_open, single_tag, started}
 use Rattle.write_cache.specs.Slots.{is_named}
 use Rattle.ftl_core.specs.Moves.{tag_of_page}
 
@@ -99,9 +99,13 @@ is_step_there (Some (step.Copy n k from tag)) = is_some tag
 abbrev pub step_waits : Core → Bool
 step_waits c = is_step_there c.step && not (list_any writes_step c.books)
 
+-- the page of a group that waits first, where there is room for groups
+abbrev pub waiting_group : Core → Option Waiting
+waiting_group c = if has_room_for_groups c then option_map waiting_page (page_waiting c) else None
+
 -- the page of a step goes before those of groups, and these in order of number and index
 abbrev pub waiting_of : Core → Option Waiting
-waiting_of c = if step_waits c then Some waiting.Step else option_map waiting_page (page_waiting c)
+waiting_of c = if step_waits c then Some waiting.Step else waiting_group c
 
 -- What is in flight then
 
@@ -245,10 +249,10 @@ abbrev pub job_taken : Core → ℕ → Option Job
 job_taken c die = option_and_then (job_of c die) (flight_taken c die)
 
 -- the die has this job in flight, if it is told one
-abbrev pub begun_with : Core → ℕ → Option Book → Option Flight → Option Job → Core
-begun_with c die (Some b) (Some f) (Some j) = started c die b f
-begun_with c die b f j = c
+abbrev pub begun_if_any : Core → ℕ → Option Book → Option Flight → Option Job → Core
+begun_if_any c die (Some b) (Some f) (Some j) = started c die b f
+begun_if_any c die b f j = c
 
 -- what is kept once the die was given its job
 abbrev pub core_taken : Core → ℕ → Core
-core_taken c die = begun_with c die (slice_get c.books die) (flight_taken c die) (job_taken c die)
+core_taken c die = begun_if_any c die (slice_get c.books die) (flight_taken c die) (job_taken c die)

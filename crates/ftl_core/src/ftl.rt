@@ -29,6 +29,7 @@ ghost use Rattle.ftl_core.specs.Tells.{IsPinned, PinsDiffer, claims_of_blocks, g
 mod ends;
 mod facts;
 mod pin_counts;
+mod room;
 mod takes;
 mod turns;
 

@@ -3,14 +3,14 @@
 pub use Rattle.power_loss.specs.Book.{AreWholeAbove, BaseAt, BaseNone, Book, BookRight, CellsRight, FirstRight, HasKey}
 pub use Rattle.power_loss.specs.Book.{IsFenceMark, IsKnown, IsLostNumber, IsOverwritten, IsPageAt, IsPlainMark}
 pub use Rattle.power_loss.specs.Book.{IsWholeOld, IsWritten, book, last_number, page_at}
-pub use Rattle.power_loss.specs.Invariant.{AreFreeBlank, AreNumbered, BlocksRight, EraseRight, FenceRight, Flights}
+pub use Rattle.power_loss.specs.Invariant.{AreNumbered, BlocksRight, EraseRight, FenceRight, Flights}
 pub use Rattle.power_loss.specs.Invariant.{FlightsRight, FrontierRight, HistoryRight, IsGroupPage, IsLastRepair}
 pub use Rattle.power_loss.specs.Invariant.{IsLaterMark, IsNeededPage, IsOpenedOrOwn, IsOwnMark, IsPrefix, IsSafe}
 pub use Rattle.power_loss.specs.Invariant.{IsSecure, IsToCopy, LookedRight, MarkFlightRight, MarkStands, MarkStepRight}
 pub use Rattle.power_loss.specs.Invariant.{MarksRight, MendingRight, OnePlanRight, PagesRight, PinsRight, PlanRight}
 pub use Rattle.power_loss.specs.Invariant.{ProgramRight, ReadsRight, RepairingRight, RestsRight, SafeRight, SlotsRight}
 pub use Rattle.power_loss.specs.Invariant.{SourceRight, Standing, StandsIn, StepKindRight, StepRight, ToReadRight}
-pub use Rattle.power_loss.specs.Invariant.{Valid}
+pub use Rattle.power_loss.specs.Invariant.{IsThereOrSpare, MayBeErased, Valid}
 pub use Rattle.std.proofs.Common.{All, Bool, List, None, Option, Some, [], ap, arith, cond, drop, false, fold, get_or}
 pub use Rattle.std.proofs.Common.{if◌then◌else◌, inl, inr, is_none, is_some, length, lt-ltb, map, min, not, refl}
 pub use Rattle.std.proofs.Common.{replicate, slice_get, subst, suc, sym, take, true, zero, ℕ, ⊎_elim, ◌&&◌, ◌*◌, ◌++◌}
@@ -46,7 +46,7 @@ pub use Rattle.ufs_spec.specs.Disk.{Bad, BlockState, CellCrash, Closed, Crash, D
 pub use Rattle.ufs_spec.specs.Disk.{ForNobody, ForRest, ForStep, ForTask, Free, HasCopy, IsNewestFinished, IsReplaced}
 pub use Rattle.ufs_spec.specs.Disk.{MayErase, Programming, Reader, Reading, Spent, SpentBy, Spot, Touches, at_die}
 pub use Rattle.ufs_spec.specs.Disk.{at_place, at_spot, erase_failed, erased, flight_alone, job_begun, page_of, place_in}
-pub use Rattle.ufs_spec.specs.Disk.{program_failed, programmed, same_spot, spot_of, state_behind, with_erasing}
+pub use Rattle.ufs_spec.specs.Disk.{program_failed, programmed, same_spot, spot_of, state_after, with_erasing}
 pub use Rattle.ufs_spec.specs.Kept.{CellsStandFor, Counts, HasPage, HoldAll, Holds, IsFenced, IsKept, IsNewestMark}
 pub use Rattle.ufs_spec.specs.Kept.{IsRecorded, IsWhole, StandsFor, fence_in, recorded_in}
 pub use Rattle.ufs_spec.specs.Keys.{CanApplyAll, Contents, Group, IsArea, IsBlock, IsCommand, IsData, IsKey, IsPlain}
@@ -59,11 +59,12 @@ pub use Rattle.ufs_spec.specs.Ledger.{looked_at, looked_on, name_or, next_number
 pub use Rattle.ufs_spec.specs.Moves.{Accept, Acknowledge, Claim, EndJob, Ending, GiveJob, IsAllowedMove, IsGroup, Keep}
 pub use Rattle.ufs_spec.specs.Moves.{KeysDiffer, LetGo, LetGoAll, MayEnd, Move, ReadRight, ReadWrong, Release, TakeStep}
 pub use Rattle.ufs_spec.specs.Moves.{WantPage, WentWell, WentWrong, die_idle, end_flight, fits, freed, is_for}
-pub use Rattle.ufs_spec.specs.Moves.{is_for_task, is_kind_of, is_pin_of, job_ended, mark_again, mending_behind, moved}
-pub use Rattle.ufs_spec.specs.Moves.{read_right, read_wrong, settled_pin, step_behind, step_there, with_wanted}
+pub use Rattle.ufs_spec.specs.Moves.{is_for_task, is_kind_of, is_pin_of, job_ended, mark_again, mending_after, moved}
+pub use Rattle.ufs_spec.specs.Moves.{read_right, read_wrong, settled_pin, step_after, step_there, with_wanted}
 pub use Rattle.ufs_spec.specs.Moves.{without_reader}
-pub use Rattle.ufs_spec.specs.Openings.{AreLost, HasName, IsAtMost, IsBefore, IsBlockState, IsEntry, IsFirst}
-pub use Rattle.ufs_spec.specs.Openings.{IsFirstFence, IsMendingAt, IsOpenedTranslation, IsTop, StandsAt, lost_from}
+pub use Rattle.ufs_spec.specs.Openings.{AreFirstBlocks, AreLost, HasName, HasStandIn, IsAtMost, IsBefore, IsEntry, IsFirst}
+pub use Rattle.ufs_spec.specs.Openings.{IsFirstFence, IsMendingAt, IsOpenedTranslation, IsSpare, IsTakenBefore, IsGreatestSeen, Overwrites, StandsAt}
+pub use Rattle.ufs_spec.specs.Openings.{lost_from}
 pub use Rattle.ufs_spec.specs.Openings.{number_of}
 pub use Rattle.ufs_spec.specs.Pages.{IsCheckRight, MayBeLeft}
 pub use Rattle.ufs_spec.specs.Plain.{CanApply, Plain, Shape, after, apply, block_at, shape_of, shape_of_numbers}
@@ -73,10 +74,12 @@ pub use Rattle.ufs_spec.specs.Translation.{CopyStep, FromPage, FromSlot, MarkSte
 pub use Rattle.ufs_spec.specs.Translation.{OrderCopy, OrderMark, OrderPlanMark, OrderRepair, Pin, Plan, RepairStep}
 pub use Rattle.ufs_spec.specs.Translation.{Repairing, Rest, Source, Step, StepKind, Translation, Unmarked, Want}
 pub use Rattle.ufs_spec.specs.Translation.{cell_now, cell_of_entry, copy_begun, due_order, flies_mark, flies_name}
-pub use Rattle.ufs_spec.specs.Translation.{flight_at, flight_for, free_slots, has_mark_number, has_number, is_free}
+pub use Rattle.ufs_spec.specs.Translation.{flight_at, flight_for, free_slots, has_mark_number, has_number}
+pub use Rattle.ufs_spec.specs.Translation.{has_open_block, has_room_for_groups, is_free}
 pub use Rattle.ufs_spec.specs.Translation.{is_live, is_live_cell, is_locked, is_mended, is_needed, is_pinned}
-pub use Rattle.ufs_spec.specs.Translation.{is_rest_of, is_step_due, live_places, looks_into, mark_ordered, may_open}
-pub use Rattle.ufs_spec.specs.Translation.{name_of, names_behind, next_order, next_place, ordered, pending_pages}
+pub use Rattle.ufs_spec.specs.Translation.{is_rest_of, is_step_due, live_places, looks_into, mark_ordered}
+pub use Rattle.ufs_spec.specs.Translation.{may_open_for_group, may_open_for_step}
+pub use Rattle.ufs_spec.specs.Translation.{name_of, names_after, next_order, next_place, ordered, pending_pages}
 pub use Rattle.ufs_spec.specs.Translation.{plan_order, reads_from, records_now, repair_ordered, rests_of, some_flight}
 pub use Rattle.ufs_spec.specs.Translation.{source_of, spots, standing_of, stands_there, step_cell, step_flies, stepped}
 pub use Rattle.ufs_spec.specs.Translation.{tag_of, taken, turned, victim, victim_order, waiting_name, waiting_step}

@@ -29,21 +29,21 @@ pub use Rattle.ufs_spec.specs.Lives.{IsLeftoverOf, IsLived, IsOpened, Leads, Lif
 pub use Rattle.ufs_spec.specs.Lives.{bad_in, die_of, ended_well, held, page_left}
 pub use Rattle.ufs_spec.specs.Machine.{Allowed, Answer, Call, Done, Due, Faulty, Heard, Host, IsCdbIn, IsHeard}
 pub use Rattle.ufs_spec.specs.Machine.{MayLeave, OfDone, OfHost, OfReply, OfTake, OfTurn, Reply, Spelled, Take, Turn}
-pub use Rattle.ufs_spec.specs.Machine.{abort_moves, accepts, array_behind, asked_fault, begun, begun_with, behind}
-pub use Rattle.ufs_spec.specs.Machine.{blocks_expected, blocks_in, claimed_by, command_heard, complete, data_for}
-pub use Rattle.ufs_spec.specs.Machine.{data_heard, deed_behind, deed_behind_block, deed_locked, deed_read, deed_reply}
+pub use Rattle.ufs_spec.specs.Machine.{abort_moves, accepts, array_after, asked_fault, begun, begun_if_any, behind}
+pub use Rattle.ufs_spec.specs.Machine.{blocks_expected, blocks_in, claimed_by, command_taken, complete, data_for}
+pub use Rattle.ufs_spec.specs.Machine.{data_heard, deed_after, deed_after_block, deed_locked, deed_read, deed_reply}
 pub use Rattle.ufs_spec.specs.Machine.{durable, ends_with, fill_moves, fills, given, heard, hears, in_block, is_aborted}
 pub use Rattle.ufs_spec.specs.Machine.{is_durable, is_to_fill, keeps, kept_at, lock_applied, managed, message_fault}
-pub use Rattle.ufs_spec.specs.Machine.{moves_behind, observe, opened_with, opens_short, query_unanswered, read_begun}
+pub use Rattle.ufs_spec.specs.Machine.{moves_after, observe, refused_or_begun, opens_short, query_unanswered, read_begun}
 pub use Rattle.ufs_spec.specs.Machine.{read_blocks, read_noted, replied_by, sending, service, set_deed, short_locked}
-pub use Rattle.ufs_spec.specs.Machine.{short_replied, tag_in, task_behind, task_filled, task_locked, task_read}
+pub use Rattle.ufs_spec.specs.Machine.{short_replied, tag_in, task_goes_on, task_filled, task_locked, task_read}
 pub use Rattle.ufs_spec.specs.Machine.{task_replied, unit_or_first, with_moves, with_short, with_task, without_tasks}
 pub use Rattle.ufs_spec.specs.Machine.{write_complete, write_deed}
 pub use Rattle.ufs_spec.specs.Messages.{AreBytes}
 pub use Rattle.ufs_spec.specs.Refusals.{BootUnit, DeviceUnit, Line, Lun, ReportLunsUnit, Request, RpmbUnit, State}
-pub use Rattle.ufs_spec.specs.Refusals.{UnitOf, first_line, is_past, lacks_unit, line, lines_behind, locked, lun_of}
+pub use Rattle.ufs_spec.specs.Refusals.{UnitOf, first_line, is_past, lacks_unit, line, lines_after, locked, lun_of}
 pub use Rattle.ufs_spec.specs.Refusals.{mended, needs_mended, not_taken, numbers_of, operation_in, plain_now, refusal}
-pub use Rattle.ufs_spec.specs.Refusals.{spec_at, takes, unit_in, unit_of_request}
+pub use Rattle.ufs_spec.specs.Refusals.{unit_numbers_at, takes, unit_in, unit_of_request}
 pub use Rattle.ufs_spec.specs.Exchanges.{most_tasks}
 pub use Rattle.ufs_spec.specs.declared.configs.UnitSpec.{UnitSpec}
 pub use Rattle.ufs_spec.specs.declared.events.Event.{Event}

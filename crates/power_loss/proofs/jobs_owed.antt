@@ -2,4 +2,5 @@ pub mod BegunPrograms
 pub mod CopiesAfterTheirRead
 pub mod OneDieForEachJob
 pub mod ProgramsAndErases
+pub mod RoomLeft
 pub mod WhatWaits

@@ -4,3 +4,4 @@ pub mod PagesStay
 pub mod ReadsAreOfPages
 pub mod ReadsStay
 pub mod SlotsBecomePages
+pub mod UnmendedPages

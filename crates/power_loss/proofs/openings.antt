@@ -1,6 +1,9 @@
 pub mod EachSoundArrayOpens
+pub mod FirstBlocks
 pub mod FirstPages
+pub mod FreeInOrder
 pub mod FoundInCells
+pub mod NewestOutside
 pub mod OpenedByName
 pub mod OpenedContents
 pub mod OpenedFromPages

@@ -3,3 +3,4 @@ pub mod BlockLost
 pub mod BlockLostAtAnyMoment
 pub mod CellsLost
 pub mod ErasedIsSpent
+pub mod FreeIsSpare

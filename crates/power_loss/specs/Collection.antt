@@ -2,7 +2,7 @@
 use Rattle.std.specs.Prelude.{◌≡◌, ◌⊎◌, ◌+◌, ◌*◌, ◌<◌, ◌≤◌, true, false, None}
 use Rattle.ufs_spec.specs.Disk.{Bad, Closed, Spot}
 use Rattle.ufs_spec.specs.Translation.{Translation, count_blocks, has_mark_number, is_free, is_mended, is_pinned}
-use Rattle.ufs_spec.specs.Translation.{live_count}
+use Rattle.ufs_spec.specs.Translation.{live_count, own_room}
 use Rattle.power_loss.specs.Exchange.{IsSpot}
 
 -- no task keeps a page of the block, and to collect it gains room: it is closed and not wholly live, or bad with live
@@ -30,9 +30,15 @@ pub record IsBadWithLive (t : Translation) (s : Spot) : Type 0 where
   pub unpinned : is_pinned t s ≡ false
   pub live : 0 < live_count t s
 
+-- fewer blocks are free than two for each die and four, or fewer than two more than groups leave to the device's own
+-- pages
+abbrev pub AreFewFree : Translation → Type 0
+AreFewFree t =
+    (count_blocks t is_free < 2 * t.numbers.dies + 4) ⊎ (count_blocks t is_free < own_room t.numbers + 2)
+
 -- few blocks are free, or a bad block holds live pages
 abbrev pub IsRoomScarce : Translation → Type 0
-IsRoomScarce t = (count_blocks t is_free < 2 * t.numbers.dies + 4) ⊎ ((s : Spot) × IsBadWithLive t s)
+IsRoomScarce t = AreFewFree t ⊎ ((s : Spot) × IsBadWithLive t s)
 
 -- collection is due: the device is mended, nothing is under way, a block can be collected and room is scarce
 pub record IsCollectionDue (t : Translation) : Type 0 where

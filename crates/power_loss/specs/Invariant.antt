@@ -9,7 +9,7 @@ use Rattle.ufs_spec.specs.Keys.{Group, Item, put_groups}
 use Rattle.ufs_spec.specs.Kept.{HoldAll, IsKept, IsNewestMark, recorded_in}
 use Rattle.ufs_spec.specs.Ledger.{Entry, InSlot, Ledger, Looked, Name, OnPage, Unwritten, accepted_groups}
 use Rattle.ufs_spec.specs.Ledger.{before_accepted}
-use Rattle.ufs_spec.specs.Openings.{IsFirstFence, number_of}
+use Rattle.ufs_spec.specs.Openings.{IsFirstFence, IsSpare, number_of}
 use Rattle.ufs_spec.specs.Sound.{CellsSound, CellsSuit}
 use Rattle.ufs_spec.specs.Translation.{CopyStep, FromPage, FromSlot, MarkStep, Mended, Mending, Pin, Plan, RepairStep}
 use Rattle.ufs_spec.specs.Translation.{Repairing, Rest, Source, Step, StepKind, Translation, Unmarked, Want, is_mended}
@@ -183,10 +183,16 @@ AreNumbered marks cells = (p : Place) (m : Mark) → cells p ≡ MarkPage m → 
 
 -- Mending
 
--- no page stands in a block that is free or being erased
-abbrev pub AreFreeBlank : Cells → (Spot → BlockState) → (Spot → Bool) → Type 0
-AreFreeBlank cells blocks erasing =
-    (p : Place) → (blocks (spot_of p) ≡ Free) ⊎ (erasing (spot_of p) ≡ true) → cells p ≡ Nothing
+-- the block is free, or counts as being erased: its pages may go
+abbrev pub MayBeErased : (Spot → BlockState) → (Spot → Bool) → Spot → Type 0
+MayBeErased blocks erasing s = (blocks s ≡ Free) ⊎ (erasing s ≡ true)
+
+-- the page of the opening is there, in a block of which no page may go, or it is spare: what stands in for it is there,
+-- in such a block
+abbrev pub IsThereOrSpare : Option Mark → Cells → (Spot → BlockState) → (Spot → Bool) → Place → Cell → Type 0
+IsThereOrSpare newest cells blocks erasing p opened =
+    ((cells p ≡ opened) × (MayBeErased blocks erasing (spot_of p) → ⊥))
+    ⊎ IsSpare cells newest (MayBeErased blocks erasing) opened
 
 -- a mark that a life writes first
 pub record IsOwnMark (b : Book) (newest : Option Mark) (marks : ℕ) (fence : Option Fence) (m : Mark) : Type 0 where
@@ -196,10 +202,12 @@ pub record IsOwnMark (b : Book) (newest : Option Mark) (marks : ℕ) (fence : Op
   pub fence_is : m.fence ≡ fence
   pub numbers : m.numbers ≡ b.numbers
 
--- the cell of the opening stands, or a mark whose program failed where nothing was
-abbrev pub IsOpenedOrOwn : Book → Option Mark → ℕ → Option Fence → Cell → Cell → Type 0
-IsOpenedOrOwn b newest marks fence opened cell =
-    (cell ≡ opened) ⊎ ((opened ≡ Nothing) × ((m : Mark) × (cell ≡ MarkPage m) × IsOwnMark b newest marks fence m))
+-- the cell of the opening stands or is gone, or a mark of this life stands whose program failed
+abbrev pub IsOpenedOrOwn : Book → Option Mark → ℕ → Option Fence → Cell → Cell → Bool → Type 0
+IsOpenedOrOwn b newest marks fence opened cell finished =
+    (cell ≡ opened)
+    ⊎ ((cell ≡ Nothing)
+    ⊎ ((finished ≡ false) × ((m : Mark) × (cell ≡ MarkPage m) × IsOwnMark b newest marks fence m)))
 
 -- the cells that the life began with are sound and suit the configuration, and the base is what they stand for
 pub record OpeningRight (b : Book) (newest : Option Mark) (opening : Cells) : Type 0 where
@@ -218,8 +226,8 @@ pub record LostRight (b : Book) (lost : List Key) : Type 0 where
   pub keys : (j : ℕ) (k : Key) → slice_get lost j ≡ Some k → HasKey b k
 
 -- the first mark of the life is not finished
-pub record UnmarkedRight (b : Book) (frontier marks : ℕ) (newest : Option Mark) (cells : Cells) (blocks : Spot →
-    BlockState) (erasing : Spot → Bool) (flights : Flights) (plan : Option Plan) (fence : Option Fence)
+pub record UnmarkedRight (b : Book) (frontier marks : ℕ) (newest : Option Mark) (cells : Cells) (finished : Place → Bool)
+    (blocks : Spot → BlockState) (erasing : Spot → Bool) (flights : Flights) (plan : Option Plan) (fence : Option Fence)
     (lost : List Key) : Type 0 where
   pub opening : Cells
   pub opened : OpeningRight b newest opening
@@ -227,10 +235,12 @@ pub record UnmarkedRight (b : Book) (frontier marks : ℕ) (newest : Option Mark
   pub lost_right : LostRight b lost
   pub none_new : b.groups ≡ []
   pub still : frontier ≡ b.greatest_seen
-  pub same : (p : Place) → IsOpenedOrOwn b newest marks fence (opening p) (cells p)
+  pub same : (p : Place) → IsOpenedOrOwn b newest marks fence (opening p) (cells p) (finished p)
+  pub spare : (p : Place) → opening p ≢ Nothing → IsThereOrSpare newest cells blocks erasing p (opening p)
+  pub unfinished : (p : Place) → finished p ≡ false →
+      (cells p ≡ Nothing) ⊎ ((m : Mark) × (cells p ≡ MarkPage m) × IsOwnMark b newest marks fence m)
   pub flies : (die : ℕ) (p : Place) (cell : Cell) → flights die ≡ Some (Programming p cell) →
       (m : Mark) × (cell ≡ MarkPage m) × IsOwnMark b newest marks fence m
-  pub blank : AreFreeBlank cells blocks erasing
   pub no_plan : plan ≡ None
 
 -- the step under way is the repair of the last group
@@ -240,8 +250,8 @@ IsLastRepair b step =
     × (step ≡ Some (record { kind = RepairStep (record { number = last_number b; index = 0 }) from; there = there }))
 
 -- the first mark is finished, and these keys have no repair yet
-pub record RepairingRight (b : Book) (frontier : ℕ) (cells : Cells) (blocks : Spot → BlockState) (erasing : Spot → Bool)
-    (newest : Mark) (plan : Option Plan) (step : Option Step) (left : List Key) : Type 0 where
+pub record RepairingRight (b : Book) (frontier : ℕ) (newest : Mark) (plan : Option Plan) (step : Option Step)
+    (left : List Key) : Type 0 where
   pub fence : IsFenceMark b newest
   pub repaired : (n i : ℕ) (e : Entry) → IsLostNumber b n → b.entries_before n i ≡ Some e →
       ((j : ℕ) × (slice_get left j ≡ Some e.item.key)) ⊎ IsWritten b e.item.key (last_number b)
@@ -250,7 +260,6 @@ pub record RepairingRight (b : Book) (frontier : ℕ) (cells : Cells) (blocks : 
   pub singles : (j : ℕ) (g : Group) → slice_get b.groups j ≡ Some g → length g ≡ 1
   -- all groups are at or under the frontier, or all but the one that the step repairs
   pub under_way : (frontier ≡ last_number b) ⊎ ((suc frontier ≡ last_number b) × IsLastRepair b step)
-  pub blank : AreFreeBlank cells blocks erasing
   pub no_plan : plan ≡ None
 
 -- the newest finished mark is there, and what holds of it
@@ -263,9 +272,8 @@ pub record IsMarked (b : Book) (d : Disk) (l : Ledger) (holds : Mark → Type 0)
 -- what holds by how far the mending is: before the first mark, while lost keys are repaired, and afterwards
 abbrev pub MendingRight : Book → Disk → Ledger → Option Plan → Option Step → Mending → Type 0
 MendingRight b d l plan step (Unmarked fence lost) =
-    UnmarkedRight b l.frontier l.marks l.newest d.cells d.blocks d.erasing d.flights plan fence lost
-MendingRight b d l plan step (Repairing left) =
-    IsMarked b d l (λ m. RepairingRight b l.frontier d.cells d.blocks d.erasing m plan step left)
+    UnmarkedRight b l.frontier l.marks l.newest d.cells d.finished d.blocks d.erasing d.flights plan fence lost
+MendingRight b d l plan step (Repairing left) = IsMarked b d l (λ m. RepairingRight b l.frontier m plan step left)
 MendingRight b d l plan step Mended = IsMarked b d l (IsPlainMark b)
 
 -- The step under way
@@ -399,11 +407,11 @@ pub record ToReadRight (cells : Cells) (finished : Place → Bool) (blocks : Spo
   pub wanted : All (λ (want : Want). IsNeededPage cells finished blocks erasing want.place) (wants_of_step step)
   pub copied : (pl : Plan) → plan ≡ Some pl → All (IsNeededPage cells finished blocks erasing) pl.copies
 
--- until the device is mended no page that stands goes
-pub record UnmendedRight (mended : Bool) (standing : Standing) (cells : Cells) (finished : Place → Bool)
+-- until the device is mended the page that a key began with stays
+pub record UnmendedRight (b : Book) (mended : Bool) (standing : Standing) (cells : Cells) (finished : Place → Bool)
     (blocks : Spot → BlockState) (erasing : Spot → Bool) : Type 0 where
-  pub stand : mended ≡ false → (n i : ℕ) (p : Place) → standing n i ≡ Some p →
-      IsSecure standing cells finished blocks erasing n i
+  pub stand : mended ≡ false → (k : Key) (name : Name) (p : Place) → HasKey b k → b.first_page k ≡ Some name →
+      standing name.number name.index ≡ Some p → IsSecure standing cells finished blocks erasing name.number name.index
 
 -- Slots
 
@@ -430,8 +438,8 @@ pub record Valid (t : Translation) : Type 0 where
       t.work.step t.work.plan
   pub history : HistoryRight (book t) t.ledger.repairs t.ledger.held t.ledger.frontier (is_mended t.work.mending)
   pub slots : SlotsRight t.numbers.slots (pending_pages t.ledger) t.claims
-  pub unmended : UnmendedRight (is_mended t.work.mending) t.ledger.standing t.disk.cells t.disk.finished t.disk.blocks
-      t.disk.erasing
+  pub unmended : UnmendedRight (book t) (is_mended t.work.mending) t.ledger.standing t.disk.cells t.disk.finished
+      t.disk.blocks t.disk.erasing
   pub pins : PinsRight (book t) t.ledger.frontier t.disk.cells t.disk.finished t.disk.erasing t.pins
   pub rests : RestsRight t.disk.cells t.disk.finished t.disk.erasing t.work.rests
   pub reads : ReadsRight t.disk.cells t.disk.finished t.disk.erasing t.disk.flights

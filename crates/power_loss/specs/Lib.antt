@@ -1,6 +1,7 @@
 pub mod Book
 pub mod Invariant
 pub mod Exchange
+pub mod FreeBlocks
 pub mod Collection
 pub mod Losing
 pub mod Mending
@@ -8,6 +9,7 @@ pub mod Promises
 pub mod Rests
 pub mod Runs
 pub mod OwedJobs
+pub mod OwnRoom
 pub mod Pending
 pub mod StoppedWrites
 pub mod Stops

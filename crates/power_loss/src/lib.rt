@@ -6,6 +6,7 @@ mod collection;
 mod erasing;
 mod exchange;
 mod fence;
+mod free_blocks;
 mod kept;
 mod mending;
 mod owed_jobs;
@@ -41,12 +42,15 @@ pub use exchange::{
     opened_state_is_valid,
 };
 pub use fence::the_fence_falls_last;
+pub use free_blocks::{first_blocks_are_one, free_pages_may_go};
 pub use kept::{
     a_page_that_is_read_is_a_groups, a_rest_keeps_its_page, kept_pages_stay,
     rests_are_found_at_the_accept,
 };
 pub use mending::{a_life_is_mended_soon, mending_ends_soon};
-pub use owed_jobs::{a_copy_is_programmed_after_its_read, one_die_each};
+pub use owed_jobs::{
+    a_copy_is_programmed_after_its_read, groups_leave_room, one_block_after_another, one_die_each,
+};
 pub use pending::pending_groups_become_durable_in_order;
 pub use promises::good_promises_durability;
 pub use runs::{

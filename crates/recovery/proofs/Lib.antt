@@ -1,4 +1,5 @@
 pub mod bad_listed
+pub mod frees
 pub mod greatest_numbers
 pub mod key_order
 pub mod opened

@@ -1,2 +1,3 @@
+pub mod BadBlocks
 pub mod BadListed
-pub mod UsedBlocks
+pub mod FreeLists

@@ -1,3 +1,4 @@
 pub mod ContentPages
 pub mod FoundOpens
 pub mod LostLists
+pub mod OutsidePages

@@ -4,5 +4,4 @@ pub mod Order
 pub mod Parts
 pub mod Shown
 pub mod Steps
-pub mod Used
 pub mod Whole

@@ -1,5 +1,5 @@
 -- What is noted of the pages of one group number, and what the groups behind a number are.
-use Rattle.std.specs.Prelude.{◌≡◌, ◌≢◌, ℕ, suc, ◌+◌, ◌-◌, ◌<◌, ◌^◌, ◌==◌, ◌&&◌, ◌||◌, min, true, false}
+use Rattle.std.specs.Prelude.{◌≡◌, ◌≢◌, ℕ, suc, ◌+◌, ◌-◌, ◌<◌, ◌==◌, ◌&&◌, ◌||◌, min, true, false}
 use Rattle.std.specs.Prelude.{List, Some, if◌then◌else◌, length, not, replicate, slice_get, slice_set}
 use Rattle.ufs_spec.specs.Pages.{group_bound}
 use Rattle.ufs_spec.specs.Pages.{greatest_number}

@@ -1,8 +1,8 @@
 -- What is computed of the keys of pages that were found (this profile).
-use Rattle.std.specs.Prelude.{◌≡◌, ◌≢◌, ◌⊎◌, ℕ, ◌<◌, ◌≤◌, ◌&&◌, Bool, true, false, List, Option, Some, None}
+use Rattle.std.specs.Prelude.{◌≡◌, ◌⊎◌, ℕ, ◌<◌, ◌≤◌, ◌&&◌, Bool, true, false, List, Option, Some, None}
 use Rattle.std.specs.Prelude.{if◌then◌else◌, nat_le, nat_lt, not, slice_get}
-use Rattle.ufs_spec.specs.Cells.{Cells, GroupPage, Nothing, key_of}
-use Rattle.ufs_spec.specs.Disk.{BlockState, Spot, spot_of}
+use Rattle.ufs_spec.specs.Cells.{Cells, GroupPage, key_of}
+use Rattle.ufs_spec.specs.Disk.{BlockState}
 use Rattle.ufs_spec.specs.Disk as disk
 use Rattle.ufs_spec.specs.Keys.{IsKey, same_key}
 use Rattle.ufs_spec.specs.Kept.{IsFenced}
@@ -76,19 +76,14 @@ pub record AreMarked (s : Shape) (marked : List Bool) (n : ℕ) (keys : List Key
 
 -- Blocks
 
--- whether one of the block's pages is anything
-pub record TellsUse (c : Cells) (s : Spot) (used : Bool) : Type 0 where
-  pub used_has : used ≡ true → (p : Place) × (spot_of p ≡ s) × (c p ≢ Nothing)
-  pub unused_has_none : used ≡ false → (p : Place) → spot_of p ≡ s → c p ≡ Nothing
-
 -- the state that a block has in an opened translation layer
 abbrev pub state_of_found : FoundBlock → BlockState
 state_of_found Free = disk.Free
 state_of_found Closed = disk.Closed
 state_of_found Bad = disk.Bad
 
--- what a block is by whether one of its pages is anything and whether its die says that it is bad
+-- what a block is by whether it is free and whether its die says that it is bad
 abbrev pub found_block : Bool → Bool → FoundBlock
-found_block used true = Bad
-found_block true false = Closed
-found_block false false = Free
+found_block free true = Bad
+found_block true false = Free
+found_block false false = Closed

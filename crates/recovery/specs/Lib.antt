@@ -1,5 +1,6 @@
 pub mod Buckets
 pub mod Found
+pub mod Frees
 pub mod Greatest
 pub mod KeysInOrder
 pub mod Listed

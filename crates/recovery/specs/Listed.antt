@@ -1,13 +1,15 @@
 -- A list of the pages of groups that stand on the dies, and what is read off it (this profile).
-use Rattle.std.specs.Prelude.{◌≡◌, ◌≢◌, ◌⊎◌, ℕ, suc, ◌<◌, ◌≤◌, ◌^◌, List, Option, Some, None, slice_get}
+use Rattle.std.specs.Prelude.{◌≡◌, ◌≢◌, ◌⊎◌, ℕ, suc, ◌<◌, ◌≤◌, Bool, if◌then◌else◌, List, Option, Some, None, slice_get}
 use Rattle.ufs_spec.specs.Pages.{greatest_number}
-use Rattle.ufs_spec.specs.Cells.{Cells, GroupPage, Mark, MarkPage, key_of}
+use Rattle.ufs_spec.specs.Cells.{Cells, GroupPage, Mark, MarkPage, Nothing, key_of}
+use Rattle.ufs_spec.specs.Disk.{Spot, spot_of}
 use Rattle.ufs_spec.specs.Kept.{Counts, HasNone, IsNewest}
 use Rattle.ufs_spec.specs.Openings.{IsNotHigher}
 use Rattle.ufs_spec.specs.Pages.{IsTag}
 use Rattle.ufs_spec.specs.declared.flash.Key.{Key}
 use Rattle.ufs_spec.specs.declared.flash.Place.{Place}
 use Rattle.ufs_spec.specs.declared.flash.Tag.{Tag}
+use Rattle.recovery.specs.declared.pages.FoundMark.{FoundMark}
 use Rattle.recovery.specs.declared.pages.FoundPage.{FoundPage}
 
 -- the pages of groups that stand in the cells, in the order of their places
@@ -19,6 +21,17 @@ pub record AreListed (c : Cells) (pages : List FoundPage) : Type 0 where
       (i : ℕ) × (slice_get pages i ≡ Some (record { place = p; tag = t }))
   pub rising : (i j : ℕ) (a b : FoundPage) → slice_get pages i ≡ Some a → slice_get pages j ≡ Some b → i < j →
       IsNotHigher a.place b.place
+
+-- the cells outside of the blocks that are free
+abbrev pub outside : (Spot → Bool) → Cells → Cells
+outside free c p = if free (spot_of p) then Nothing else c p
+
+-- the marks that stand in the cells
+pub record AreMarksListed (c : Cells) (marks : List FoundMark) : Type 0 where
+  pub there : (i : ℕ) (e : FoundMark) → slice_get marks i ≡ Some e →
+      (m : Mark) × (c e.place ≡ MarkPage m) × (m.number ≡ e.number) × (m.records ≡ e.records)
+  pub all : (p : Place) (m : Mark) → c p ≡ MarkPage m →
+      (i : ℕ) × (slice_get marks i ≡ Some (record { place = p; number = m.number; records = m.records }))
 
 -- the greatest frontier that a mark records; 0 if there is no mark
 abbrev pub IsMarksRecord : Cells → ℕ → Type 0

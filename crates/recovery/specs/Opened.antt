@@ -1,5 +1,5 @@
 -- What is found is what the definitions open over the same pages.
-use Rattle.std.specs.Prelude.{◌≡◌, ◌≢◌, ℕ, ◌≤◌, ◌^◌, AllPairs, List, Option, Some, None, length, slice_get}
+use Rattle.std.specs.Prelude.{◌≡◌, ◌≢◌, ℕ, ◌≤◌, AllPairs, List, Option, Some, None, length, slice_get}
 use Rattle.ufs_spec.specs.Pages.{greatest_number}
 use Rattle.ufs_spec.specs.Disk.{Spot}
 use Rattle.ufs_spec.specs.Ledger.{Name}

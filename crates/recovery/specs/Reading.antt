@@ -1,39 +1,22 @@
 -- What a reading of all pages writes down (this profile).
-use Rattle.std.specs.Prelude.{◌≡◌, ◌⊎◌, ℕ, ◌+◌, ◌<◌, ◌≤◌, Bool, true, false, List, [], ◌∷◌, ◌++◌, map, Option, Some}
+use Rattle.std.specs.Prelude.{◌≡◌, ◌⊎◌, ℕ, ◌+◌, ◌<◌, ◌≤◌, List, [], ◌∷◌, ◌++◌, Option, Some}
 use Rattle.std.specs.Prelude.{None, if◌then◌else◌, nat_lt, option_map, slice_get, slice_index_or}
-use Rattle.std.specs.List.{flat_map, list_any}
 use Rattle.ufs_spec.specs.Cells.{Cell, Cells, GroupPage, IsCell, Mark, MarkPage, Nothing}
 use Rattle.ufs_spec.specs.Dies.{DieState, page_at}
-use Rattle.ufs_spec.specs.Keys.{below}
 use Rattle.ufs_spec.specs.Kept.{IsNewestMark}
 use Rattle.ufs_spec.specs.declared.configs.Numbers.{Numbers}
 use Rattle.ufs_spec.specs.declared.faults.OpenFault.{OpenFault}
 use Rattle.ufs_spec.specs.declared.faults.OpenFault.TheVariants as fault
 use Rattle.ufs_spec.specs.declared.flash.Place.{Place}
 use Rattle.page_tag.specs.Contents.{mark_of}
-use Rattle.recovery.specs.Listed.{AreListed, IsMarksRecord}
+use Rattle.recovery.specs.Listed.{AreListed, AreMarksListed, IsMarksRecord}
+use Rattle.recovery.specs.declared.pages.FoundMark.{FoundMark}
 use Rattle.recovery.specs.declared.pages.FoundPage.{FoundPage}
 use Rattle.recovery.specs.declared.reading.Table.{Table}
-
--- ## Blocks
 
 -- a page by the numbers of its die, its block and itself
 abbrev pub place_at : ℕ → ℕ → ℕ → Place
 place_at die block page = record { die = die; block = block; page = page }
-
--- the page counts as a page of a group or as a mark
-abbrev pub is_something : Cell → Bool
-is_something Nothing = false
-is_something (GroupPage tag body) = true
-is_something (MarkPage m) = true
-
--- whether a page of the block is anything
-abbrev pub is_used : Numbers → Cells → ℕ → ℕ → Bool
-is_used n c die block = list_any (λ page. is_something (c (place_at die block page))) (below n.pages)
-
--- for each block of so many dies from the first on, in order, whether a page of it is anything
-abbrev pub used_of : Numbers → Cells → ℕ → ℕ → List Bool
-used_of n c first count = flat_map (λ i. map (is_used n c (first + i)) (below n.blocks)) (below count)
 
 -- ## Tables
 
@@ -41,13 +24,13 @@ used_of n c first count = flat_map (λ i. map (is_used n c (first + i)) (below n
 abbrev pub newest_in : Table → Option Mark
 newest_in t = option_map mark_of t.newest
 
--- what is read off the cells: their pages of groups, their newest mark, the greatest frontier that a mark records, and
--- for each block of each die, in order, whether a page of it is anything
+-- what is read off the cells: their pages of groups, their marks, the newest of these, and the greatest frontier that
+-- one records
 pub record IsTable (n : Numbers) (c : Cells) (t : Table) : Type 0 where
   pub pages : AreListed c t.pages.items
   pub newest : IsNewestMark c (newest_in t)
   pub recorded : IsMarksRecord c t.recorded
-  pub used : t.used.items ≡ used_of n c 0 n.dies
+  pub marks : AreMarksListed c t.marks.items
 
 -- ## Reading page by page
 
@@ -63,20 +46,26 @@ pub record AreRead (die block page : ℕ) (c seen : Cells) : Type 0 where
   pub read : (p : Place) → StandsBefore die block page p → seen p ≡ c p
   pub unread : (p : Place) → (StandsBefore die block page p → ⊥) → seen p ≡ Nothing
 
--- the table of the pages before this one, and of the blocks of its die before its block
+-- the table of the pages before this one
 pub record IsTableTo (n : Numbers) (die block page : ℕ) (c : Cells) (t : Table) : Type 0 where
   pub seen : Cells
   pub are_read : AreRead die block page c seen
   pub pages : AreListed seen t.pages.items
   pub newest : IsNewestMark seen (newest_in t)
   pub recorded : IsMarksRecord seen t.recorded
-  pub used : t.used.items ≡ map (is_used n c die) (below block)
+  pub marks : AreMarksListed seen t.marks.items
 
 -- what a page adds to the list of the pages of groups
 abbrev pub listed : Place → Cell → List FoundPage
 listed p Nothing = []
 listed p (GroupPage tag body) = record { place = p; tag = tag } ∷ []
 listed p (MarkPage m) = []
+
+-- what a page adds to the list of marks
+abbrev pub marked : Place → Cell → List FoundMark
+marked p Nothing = []
+marked p (GroupPage tag body) = []
+marked p (MarkPage m) = record { place = p; number = m.number; records = m.records } ∷ []
 
 -- the newer of two marks: the first unless the second has a greater number
 abbrev pub newer : Option Mark → Mark → Mark
@@ -100,7 +89,7 @@ pub record IsNoted (p : Place) (x : Cell) (old new : Table) : Type 0 where
   pub pages : new.pages.items ≡ old.pages.items ++ listed p x
   pub newest : newest_in new ≡ newest_after x (newest_in old)
   pub recorded : new.recorded ≡ recorded_after x old.recorded
-  pub used : new.used.items ≡ old.used.items
+  pub marks : new.marks.items ≡ old.marks.items ++ marked p x
 
 -- ## Die by die
 
@@ -120,7 +109,7 @@ pub record IsTableOf (n : Numbers) (first count : ℕ) (c : Cells) (t : Table) :
   pub pages : AreListed seen t.pages.items
   pub newest : IsNewestMark seen (newest_in t)
   pub recorded : IsMarksRecord seen t.recorded
-  pub used : t.used.items ≡ used_of n c first count
+  pub marks : AreMarksListed seen t.marks.items
 
 -- the newer of two marks, if there are any: the first unless the second has a greater number
 abbrev pub newer_of : Option Mark → Option Mark → Option Mark
@@ -136,7 +125,7 @@ pub record IsJoined (low high both : Table) : Type 0 where
   pub pages : both.pages.items ≡ low.pages.items ++ high.pages.items
   pub newest : newest_in both ≡ newer_of (newest_in low) (newest_in high)
   pub recorded : both.recorded ≡ greater_of low.recorded high.recorded
-  pub used : both.used.items ≡ low.used.items ++ high.used.items
+  pub marks : both.marks.items ≡ low.marks.items ++ high.marks.items
 
 -- the cells are what the pages of the die with this number are
 abbrev pub ShowsDie : ℕ → DieState → Cells → Type 0

@@ -19,8 +19,10 @@ ghost use Rattle.recovery.specs.Stood.{IsStoodFor};
 ghost use Rattle.recovery.specs.declared.pages.FoundPage.{FoundPage};
 
 use crate::blocks::bad_blocks;
+use crate::free::free_blocks;
 use crate::kept::{first_lost, greatest_seen, kept_number, recorded_frontier};
 use crate::keys::{FoundBlock, are_known, block_states, content_pages, lost_keys};
+use crate::outside::outside_pages;
 use crate::pages::FoundPage;
 use crate::reading::{Table, read_all};
 use crate::settings::is_permanent;
@@ -156,7 +158,6 @@ fn found_in(
 ) -> Result<Found, AllocError>
     requires pages { (i : ℕ) (e : FoundPage) → slice_get table.pages.items i ≡ Some e → e.tag.frontier ≤ greatest_number }
     requires marks { table.recorded ≤ greatest_number }
-    requires blocks { length table.used.items ≡ length bad.now }
     ensures { IfOk result (λ f. (c : Cells) (is_bad : Spot → Bool) → IsTable numbers.now c table → AreInRange c →
         AreWithin numbers.now c → CellsSuit numbers.now c (newest_in table) → bad.now ≡ map is_bad (spots numbers.now) →
         IsFound numbers.now c is_bad f) }
@@ -167,9 +168,12 @@ fn found_in(
     let kept = kept_number(alloc, pages, recorded)?;
     let first_lost = first_lost(fence, kept);
     let greatest_seen = greatest_seen(pages, fence, table.recorded);
-    let contents = content_pages(alloc, pages, fence, kept, numbers)?;
     let lost = lost_keys(alloc, pages, first_lost, numbers)?;
-    let blocks = block_states(alloc, table.used.as_slice(), bad)?;
+    let marks = table.marks.as_slice();
+    let free = free_blocks(alloc, &table.newest, pages, marks, bad, numbers)?;
+    let outside = outside_pages(alloc, pages, free.as_slice(), numbers.blocks)?;
+    let contents = content_pages(alloc, outside.as_slice(), fence, kept, numbers)?;
+    let blocks = block_states(alloc, free.as_slice(), bad)?;
     Ok(Found {
         newest: table.newest,
         kept,

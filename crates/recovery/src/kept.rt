@@ -2,7 +2,7 @@
 ghost use Rattle.std.specs.Prelude.{◌≡◌, ℕ, ◌<◌, ◌≤◌, ◌^◌, ◌↔◌, IsTrue, IfOk, Option, Some, length, replicate, slice_get};
 ghost use Rattle.ufs_spec.specs.Cells.{Cells, Mark};
 ghost use Rattle.ufs_spec.specs.Kept.{IsFenced, IsKept, IsRecorded, fence_in};
-ghost use Rattle.ufs_spec.specs.Openings.{IsTop, lost_from};
+ghost use Rattle.ufs_spec.specs.Openings.{IsGreatestSeen, lost_from};
 ghost use Rattle.ufs_spec.specs.Pages.{greatest_number};
 ghost use Rattle.recovery.specs.Buckets.{AreBuckets, IsNotedAt, IsWholeBucket, noted, nothing_noted};
 ghost use Rattle.recovery.specs.Greatest.{FrontiersWithin, NumbersWithin, fence_end};
@@ -54,7 +54,7 @@ fn fence_end(fence: Option<Fence>) -> u64
 /// The greatest number seen: of a page's group, of a frontier that a page or a mark records, or of
 /// the fence. Here `marks` is the greatest frontier that a mark records.
 pub(crate) fn greatest_seen(pages: &[FoundPage], fence: Option<Fence>, marks: u64) -> u64
-    ensures top { (c : Cells) (m : Option Mark) → AreListed c pages.now → fence_in m ≡ fence → IsMarksRecord c marks → IsTop c m result }
+    ensures top { (c : Cells) (m : Option Mark) → AreListed c pages.now → fence_in m ≡ fence → IsMarksRecord c marks → IsGreatestSeen c m result }
     ensures bounded { (limit : ℕ) → NumbersWithin pages.now limit → FrontiersWithin pages.now limit → marks ≤ limit → fence_end fence ≤ limit → result ≤ limit }
 {
     let mut greatest = marks.max(fence_end(fence));

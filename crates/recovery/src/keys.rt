@@ -1,15 +1,14 @@
 //! The page that has the content of each key, and the keys with a lost page.
 ghost use Rattle.std.specs.Prelude.{◌≡◌, ◌↔◌, ℕ, ◌≤◌, Bool, true, false, None, replicate, IfOk, IsTrue, Option, Some, List, length, slice_get};
 ghost use Rattle.ufs_spec.specs.Cells.{Cells, GroupPage, Mark, key_of};
-ghost use Rattle.ufs_spec.specs.Disk.{Spot};
 ghost use Rattle.ufs_spec.specs.Kept.{fence_in};
-ghost use Rattle.ufs_spec.specs.Openings.{AreLost, IsBlockState};
+ghost use Rattle.ufs_spec.specs.Openings.{AreLost};
 ghost use Rattle.ufs_spec.specs.Plain.{shape_of_numbers};
 ghost use Rattle.ufs_spec.specs.declared.flash.Place.{Place};
 ghost use Rattle.ufs_spec.specs.declared.flash.Key.{Key};
 ghost use Rattle.ufs_spec.specs.declared.flash.Tag.{Tag};
 ghost use Rattle.geometry.specs.Keys.{IsIndex, key_total};
-ghost use Rattle.recovery.specs.KeysInOrder.{AreKnown, AreMarked, IsLostAmong, TellsUse, found_block, is_fenced, is_newer, state_of_found, with_page};
+ghost use Rattle.recovery.specs.KeysInOrder.{AreKnown, AreMarked, IsLostAmong, found_block, is_fenced, is_newer, with_page};
 ghost use Rattle.recovery.specs.Listed.{AreListed, IsContentPage};
 
 use crate::pages::FoundPage;
@@ -20,16 +19,16 @@ use ufs_spec::{Fence, Key, Numbers, Tag};
 /// What a block is when a device is opened over written dies.
 #[derive(Clone, Copy, Debug, PartialEq, Eq)]
 pub enum FoundBlock {
-    /// None of its pages is anything.
+    /// None of its pages is needed: it may be erased.
     Free,
-    /// One of its pages is a page of a group or a mark.
+    /// One of its pages is needed.
     Closed,
     /// It is bad.
     Bad,
 }
 
 /// Whose content the page holds.
-fn key_of(tag: Tag) -> Key
+pub(crate) fn key_of(tag: Tag) -> Key
     ensures { result ≡ key_of tag }
 {
     Key {
@@ -113,7 +112,7 @@ fn note(
 }
 
 /// Whether the number lies within the fence.
-fn is_fenced(fence: Option<Fence>, number: u64) -> bool
+pub(crate) fn is_fenced(fence: Option<Fence>, number: u64) -> bool
     ensures { result ≡ is_fenced fence number }
 {
     match fence {
@@ -213,36 +212,33 @@ fn marked_keys(alloc: Global, marked: &[bool], numbers: &Numbers) -> Result<Vec<
     Ok(keys)
 }
 
-/// What each block is: bad, or in use, or free.
+/// What each block is, by whether it is free and whether it is bad.
 pub fn block_states(
     alloc: Global,
-    used: &[bool],
+    free: &[bool],
     bad: &[bool],
 ) -> Result<Vec<FoundBlock>, AllocError>
-    requires { length used.now ≡ length bad.now }
+    requires { length free.now ≡ length bad.now }
     ensures each_block { IfOk result (λ states. length states.items ≡ length bad.now) }
-    ensures states { IfOk result (λ states. (c : Cells) (is_bad : Spot → Bool) (s : Spot) (i : ℕ)
-        (in_use : Bool) → slice_get used.now i ≡ Some in_use → TellsUse c s in_use →
-        slice_get bad.now i ≡ Some (is_bad s) →
-        (b : FoundBlock) × (slice_get states.items i ≡ Some b)
-        × IsBlockState c is_bad s (state_of_found b)) }
+    ensures states { IfOk result (λ states. (i : ℕ) (is_free is_bad : Bool) → slice_get free.now i ≡ Some is_free →
+        slice_get bad.now i ≡ Some is_bad → slice_get states.items i ≡ Some (found_block is_free is_bad)) }
 {
     let mut states = Vec::with_capacity(alloc, bad.len())?;
     for (index, is_bad) in bad.iter().enumerate() {
-        states.push(found_block(used[index], *is_bad))?;
+        states.push(found_block(free[index], *is_bad))?;
     }
     Ok(states)
 }
 
 /// What a block is.
-fn found_block(is_used: bool, is_bad: bool) -> FoundBlock
-    ensures { result ≡ found_block is_used is_bad }
+fn found_block(is_free: bool, is_bad: bool) -> FoundBlock
+    ensures { result ≡ found_block is_free is_bad }
 {
     if is_bad {
         FoundBlock::Bad
-    } else if is_used {
-        FoundBlock::Closed
-    } else {
+    } else if is_free {
         FoundBlock::Free
+    } else {
+        FoundBlock::Closed
     }
 }

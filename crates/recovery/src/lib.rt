@@ -3,8 +3,10 @@
 
 mod blocks;
 mod found;
+mod free;
 mod kept;
 mod keys;
+mod outside;
 mod pages;
 mod reading;
 mod settings;

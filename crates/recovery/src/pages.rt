@@ -7,3 +7,11 @@ pub struct FoundPage {
     pub place: Place,
     pub tag: Tag,
 }
+
+/// A mark: where it lies, its number among marks, and the frontier that it records.
+#[derive(Clone, Copy)]
+pub struct FoundMark {
+    pub place: Place,
+    pub number: u64,
+    pub records: u64,
+}

@@ -1,14 +1,14 @@
 //! All pages of the dies, read once each.
-ghost use Rattle.std.specs.Prelude.{◌≡◌, ◌+◌, ◌<◌, ◌≤◌, ◌||◌, None, [], map, option_map, IfErr, IfOk, OnOk, length, slice_index_or};
+ghost use Rattle.std.specs.Prelude.{◌≡◌, ◌+◌, ◌<◌, ◌≤◌, None, [], map, option_map, IfErr, IfOk, OnOk, length, slice_index_or};
 ghost use Rattle.std.specs.List.{All};
 ghost use Rattle.page_tag.specs.Contents.{cell_of, mark_of};
 ghost use Rattle.ufs_spec.specs.Cells.{AreWithin, Cells, Shows};
 ghost use Rattle.ufs_spec.specs.Dies.{IsOfSize, LiesOnDie, new_die};
 ghost use Rattle.ufs_spec.specs.Lives.{Fit, array_of};
 ghost use Rattle.recovery.specs.Reading.{IsDieFault, IsFaultOf, IsJoined, IsNoted, IsReadingFault, IsTable, IsTableOf, IsTableTo, NoLower};
-ghost use Rattle.recovery.specs.Reading.{ShowsDie, ShowsDies, greater_of, is_something, newer, newer_of};
+ghost use Rattle.recovery.specs.Reading.{ShowsDie, ShowsDies, greater_of, newer, newer_of};
 
-use crate::pages::FoundPage;
+use crate::pages::{FoundMark, FoundPage};
 use nand_model::Die;
 use page_tag::{Content, Mark, content_of};
 use std::alloc::Global;
@@ -23,8 +23,8 @@ pub struct Table {
     pub newest: Option<Mark>,
     /// The greatest frontier that a mark records; 0 without a mark.
     pub recorded: u64,
-    /// For each block of each die, in order, whether a page of it is anything.
-    pub used: Vec<bool>,
+    /// All marks, in the order of die, block and page.
+    pub marks: Vec<FoundMark>,
 }
 
 impl Table {
@@ -33,13 +33,13 @@ impl Table {
         ensures pages { result.pages.items ≡ [] }
         ensures newest { result.newest ≡ None }
         ensures recorded { result.recorded ≡ 0 }
-        ensures used { result.used.items ≡ [] }
+        ensures marks { result.marks.items ≡ [] }
     {
         Table {
             pages: Vec::new(alloc),
             newest: None,
             recorded: 0,
-            used: Vec::new(alloc),
+            marks: Vec::new(alloc),
         }
     }
 
@@ -51,7 +51,7 @@ impl Table {
         if self.pages.append(&mut later.pages).is_err() {
             return Err(OpenFault::NoMemory);
         }
-        if self.used.append(&mut later.used).is_err() {
+        if self.marks.append(&mut later.marks).is_err() {
             return Err(OpenFault::NoMemory);
         }
         self.recorded = greater(self.recorded, later.recorded);
@@ -59,25 +59,37 @@ impl Table {
         Ok(())
     }
 
-    // Notes what a page is, and tells whether it is anything.
-    fn note(&mut self, place: Place, content: Content) -> Result<bool, OpenFault>
-        ensures noted { let x = cell_of content in
-            IfOk result (λ any. (any ≡ is_something x) × IsNoted place x self.old self.new) }
+    // Notes what a page is.
+    fn note(&mut self, place: Place, content: Content) -> Result<(), OpenFault>
+        ensures noted { OnOk result (IsNoted place (cell_of content) self.old self.new) }
         ensures fault { IfErr result (λ e. e ≡ OpenFault.NoMemory) }
     {
         match content {
-            Content::Nothing => Ok(false),
+            Content::Nothing => Ok(()),
             Content::Group(opened) => {
                 let tag = opened.tag;
                 if self.pages.push(FoundPage { place, tag }).is_err() {
                     return Err(OpenFault::NoMemory);
                 }
-                Ok(true)
+                Ok(())
             }
             Content::Mark(mark) => {
-                self.recorded = greater(self.recorded, mark.records);
+                let number = mark.number;
+                let records = mark.records;
+                if self
+                    .marks
+                    .push(FoundMark {
+                        place,
+                        number,
+                        records,
+                    })
+                    .is_err()
+                {
+                    return Err(OpenFault::NoMemory);
+                }
+                self.recorded = greater(self.recorded, records);
                 self.newest = Some(newer(self.newest.take(), mark));
-                Ok(true)
+                Ok(())
             }
         }
     }
@@ -210,42 +222,31 @@ fn read_block<D: Die>(
         IsTableTo numbers.now spot.0 (spot.1 + 1) 0 c table.new) }
     ensures fault { IfErr result (IsDieFault spot.0 (D.failed die.old) (D.failed die.new)) }
 {
-    let mut any = false;
     for index in 0..numbers.pages {
         let place = Place {
             die: spot.0,
             block: spot.1,
             page: index,
         };
-        match read_page(die, place, table, page) {
-            Ok(found) => any = either(any, found),
-            Err(fault) => return Err(fault),
+        if let Err(fault) = read_page(die, place, table, page) {
+            return Err(fault);
         }
-    }
-    if table.used.push(any).is_err() {
-        return Err(OpenFault::NoMemory);
     }
     Ok(())
 }
 
-fn either(one: bool, other: bool) -> bool
-    ensures { result ≡ (one || other) }
-{
-    one || other
-}
-
-// Reads a page of the die, and tells whether it is anything.
+// Reads a page of the die.
 fn read_page<D: Die>(
     die: &mut D,
     place: Place,
     table: &mut Table,
     page: &mut Page,
-) -> Result<bool, OpenFault>
+) -> Result<(), OpenFault>
     requires { LiesOnDie (D.state die.old) place.block place.page }
     ensures same { D.state die.new ≡ D.state die.old }
     ensures counted { D.failed die.old ≤ D.failed die.new }
-    ensures read { IfOk result (λ any. (c : Cells) → ShowsDie place.die (D.state die.old) c →
-        (any ≡ is_something (c place)) × IsNoted place (c place) table.old table.new) }
+    ensures read { OnOk result ((c : Cells) → ShowsDie place.die (D.state die.old) c →
+        IsNoted place (c place) table.old table.new) }
     ensures fault { IfErr result (IsDieFault place.die (D.failed die.old) (D.failed die.new)) }
 {
     let Ok(_) = die.read(place.block, place.page, page) else {

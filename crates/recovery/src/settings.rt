@@ -4,7 +4,7 @@ ghost use Rattle.ufs_spec.specs.Cells.{Cells, Shows};
 ghost use Rattle.ufs_spec.specs.Dies.{LiesOnDie, new_die};
 ghost use Rattle.ufs_spec.specs.Keys.{area_pages, settings_key};
 ghost use Rattle.ufs_spec.specs.Kept.{Holds};
-ghost use Rattle.ufs_spec.specs.Lives.{Fit, array_of};
+ghost use Rattle.ufs_spec.specs.Lives.{Fit, array_of, bad_of};
 ghost use Rattle.ufs_spec.specs.Plain.{shape_of_numbers};
 ghost use Rattle.ufs_spec.specs.Sound.{CellsSound};
 ghost use Rattle.recovery.specs.Found.{HasSettings, newest_found};
@@ -31,7 +31,7 @@ pub(crate) fn is_permanent<D: Die>(
 ) -> Result<bool, OpenFault>
     requires fit { Fit numbers.now (map D.state dies.old) }
     requires settings { (c : Cells) → Shows (array_of (map D.state dies.old)) c →
-        HasSettings numbers.now c found.now }
+        HasSettings numbers.now c (bad_of (map D.state dies.old)) found.now }
     ensures same { map D.state dies.new ≡ map D.state dies.old }
     // Over sound pages it is what the content of the settings says.
     ensures told { IfOk result (λ is. (c : Cells) → Shows (array_of (map D.state dies.old)) c →

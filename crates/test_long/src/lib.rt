@@ -5,4 +5,6 @@
 #[cfg(test)]
 mod collections;
 #[cfg(test)]
+mod held;
+#[cfg(test)]
 mod read_beside;

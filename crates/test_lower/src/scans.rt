@@ -63,9 +63,10 @@ fn a_gap_loses_the_group_behind_it(rt: HostRuntime) -> Result<(), Fail> {
 }
 
 /// The newest mark has the number 2, records 5 and fences 4 and 5. The older mark stands behind it.
-/// Address 5 has two pages of group 1, and the lower one is told. Address 6 has pages of groups 3
-/// and 2, and the newer one is told, though it was read first. The page of group 4 lies in the
-/// fence, so it is lost.
+/// Address 5 has a page of group 1 in two blocks: the lower block is free, and the page in the other
+/// one is told. Address 6 has pages of groups 3 and 2, and the newer one is told, though it was read
+/// first. The page of group 4 lies in the fence, so it is lost. The blocks of the older mark and of
+/// the lost page are free too.
 #[test]
 fn the_newest_mark_and_pages_are_told(rt: HostRuntime) -> Result<(), Fail> {
     let config = row_config()?;
@@ -92,10 +93,16 @@ fn the_newest_mark_and_pages_are_told(rt: HostRuntime) -> Result<(), Fail> {
     let found = scanned(&rt, rt.alloc(), &config, dies.as_mut_slice())?;
     assert!(rt; is_newest(&found, 2));
     assert!(rt; has_numbers(&found, (5, 5, 4)));
-    assert!(rt; lies_at(&found, 5, at(0, 3, 0)));
+    assert!(rt; lies_at(&found, 5, at(1, 1, 0)));
     assert!(rt; lies_at(&found, 6, at(1, 2, 0)));
     assert!(rt; lies_nowhere(&found, 7));
     assert!(rt; is_only_lost(&found, 7));
+    assert!(rt; is_block(&found, 0, 0, FoundBlock::Closed));
+    assert!(rt; is_block(&found, 0, 3, FoundBlock::Free));
+    assert!(rt; is_block(&found, 1, 1, FoundBlock::Closed));
+    assert!(rt; is_block(&found, 1, 2, FoundBlock::Closed));
+    assert!(rt; is_block(&found, 2, 0, FoundBlock::Free));
+    assert!(rt; is_block(&found, 3, 0, FoundBlock::Free));
     Ok(())
 }
 

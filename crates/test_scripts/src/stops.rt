@@ -106,6 +106,29 @@ fn a_stop_in_the_first_mark_is_mended(rt: HostRuntime) -> Result<(), Fail> {
     Ok(())
 }
 
+/// A die of 31 blocks, and more stops than blocks, each of which tears the first mark: none of them uses up a
+/// block, and the device is mended after the last one and takes a write.
+#[test]
+fn forty_torn_marks_use_up_no_block(rt: HostRuntime) -> Result<(), Fail> {
+    let alloc = rt.alloc();
+    let script = Text::new(alloc)
+        .with("config 1 31 16 1 64 0\nunit 14 0 0\n")?
+        .times("turn\ntake 0\ndone 0 ok\ntake 0\nstop 0:torn\n", 40)?
+        .with("settle 4\n")?
+        .command("01200007", "00001000", "2a0800000003000001")?
+        .with("reply\n")?
+        .data_out("02000007", "FF")?
+        .with("settle 2\nreply\n")?;
+    let torn = "turn yes\ntake 0 erase 0\ndone 0 yes\ntake 0 program 0 0\nstop ok\n";
+    let output = Text::new(alloc)
+        .times(torn, 40)?
+        .with("settle 4\nhost ok\n")?
+        .ready("31000007")?
+        .with("host ok\nsettle 2\n")?
+        .response("21000007", "00000000")?;
+    expect(&rt, alloc, &script, &output)
+}
+
 /// A stop while all dies have a job: each leaves what the line says.
 #[test]
 fn a_stop_with_all_dies_at_work_is_mended(rt: HostRuntime) -> Result<(), Fail> {

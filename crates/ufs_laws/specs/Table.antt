@@ -1,5 +1,5 @@
 -- Requests that more than one line of the table refuses.
-use Rattle.std.specs.Prelude.{ℕ, true, false, List, Some, None}
+use Rattle.std.specs.Prelude.{ℕ, Bool, true, false, List, Some, None}
 use Rattle.ufs_laws.specs.Runs.{IsAnswered}
 use Rattle.ufs_spec.specs.Cdbs.{cdb_bytes}
 use Rattle.ufs_spec.specs.Exchanges.{Status, response}
@@ -38,6 +38,10 @@ read_at address blocks = cdb.Read10 address blocks false
 -- WRITE(10) with FUA of one block at this address
 abbrev pub write_at : ℕ → Cdb
 write_at address = cdb.Write10 address 1 true
+
+-- SYNCHRONIZE CACHE(10) of a whole unit
+abbrev pub flush : Bool → Cdb
+flush immediate = cdb.SynchronizeCache10 0 0 immediate
 
 -- the request as the device hears it, with the command that its CDB spells or with none
 abbrev pub heard_as : Request → Heard

@@ -16,7 +16,7 @@ ghost use Rattle.ufs_spec.specs.Exchanges.{Answering, ForWrite, Gathering, Good,
 ghost use Rattle.ufs_spec.specs.Keys.{below};
 ghost use Rattle.ufs_spec.specs.Ledger.{InSlot, Name};
 ghost use Rattle.ufs_spec.specs.Lives.{IsOpened, Life};
-ghost use Rattle.ufs_spec.specs.Machine.{Allowed, Answer, Call, Heard, IsHeard, begun, blocks_expected, blocks_in, claimed_by, data_for, deed_behind, deed_reply, in_use, message_fault, observe, pin_of, read_begun, read_blocks, set_deed, tag_in, without_tasks};
+ghost use Rattle.ufs_spec.specs.Machine.{Allowed, Answer, Call, Heard, IsHeard, begun, blocks_expected, blocks_in, claimed_by, data_for, deed_after, deed_reply, in_use, message_fault, observe, pin_of, read_begun, read_blocks, set_deed, tag_in, without_tasks};
 ghost use Rattle.ufs_spec.specs.Messages.{IsAmong};
 ghost use Rattle.ufs_spec.specs.Plain.{block_at};
 ghost use Rattle.ufs_spec.specs.Refusals.{Request, State, locked, numbers_of, plain_now, refusal};
@@ -52,7 +52,7 @@ pub fn data_are_asked_for_in_order()
     ensures asks_once { (s : State) (task : Task) (purpose : Purpose) (gathered : List ℕ) →
         deed_reply s task (Gathering purpose gathered true) ≡ None }
     ensures was_asked { (task : Task) (purpose : Purpose) (gathered : List ℕ) →
-        deed_behind task (Gathering purpose gathered false) ≡ Some (Gathering purpose gathered true) }
+        deed_after task (Gathering purpose gathered false) ≡ Some (Gathering purpose gathered true) }
     ensures taken { (s : State) (lun tag offset : ℕ) (bytes : List ℕ) →
         message_fault s (message.DataOut lun tag offset (record { items = bytes })) ≡ None →
         (task : Task) × (task_of tag s.tasks ≡ Some task) × WasAsked task lun offset (length bytes) }
@@ -102,7 +102,7 @@ pub fn a_read_sends_its_blocks()
         (record { items = take (min 4096 (min task.expected task.length - 4096 * sent)) body }) }
     ensures goes_on { (task : Task) (blocks : List ReadBlock) (sent : ℕ) (block : ReadBlock) →
         slice_get blocks sent ≡ Some block →
-        block.state ≢ NotRead → deed_behind task (Sending blocks sent)
+        block.state ≢ NotRead → deed_after task (Sending blocks sent)
         ≡ Some (if nat_lt (sent + 1) (length blocks) then Sending blocks (sent + 1) else Answering Good task.length) }
     ensures stays { (s : State) (call : Call) (answer : Answer) (tag : ℕ) (bodies : List (List ℕ)) → IsSpoken call →
         Allowed s call answer → in_use s tag ≡ true → TagSends tag bodies s →

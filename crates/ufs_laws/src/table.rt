@@ -1,18 +1,18 @@
 //! The table by which a command is refused: the first line that applies decides.
 ghost use Rattle.std.specs.Prelude.{◌≡◌, ◌≤◌, ◌∷◌, [], ℕ, List, Bool, true, false, Option, Some, None, length};
 ghost use Rattle.ufs_laws.specs.Runs.{IsIdle};
-ghost use Rattle.ufs_laws.specs.Table.{IsRefused, asks, read_at, spells_none, write_at};
+ghost use Rattle.ufs_laws.specs.Table.{IsRefused, asks, flush, read_at, spells_none, write_at};
 ghost use Rattle.ufs_spec.specs.declared.Cdb.{Cdb};
 ghost use Rattle.ufs_spec.specs.declared.Numbers.{Numbers};
 ghost use Rattle.ufs_spec.specs.declared.Cdb.TheVariants as cdb;
 ghost use Rattle.ufs_spec.specs.declared.UnitSpec.{UnitSpec};
 ghost use Rattle.ufs_spec.specs.Cdbs.{inquiry};
 ghost use Rattle.ufs_spec.specs.Exchanges.{Busy, Status, TaskSetFull, invalid_field, invalid_operation, list_length_error, no_unit, not_ready, out_of_range, response, sequence_error, short_reply, write_protected};
-ghost use Rattle.ufs_spec.specs.Machine.{command_heard, with_short};
+ghost use Rattle.ufs_spec.specs.Machine.{command_taken, with_short};
 ghost use Rattle.ufs_spec.specs.Messages.{is_among};
 ghost use Rattle.ufs_spec.specs.Exchanges.{most_tasks};
 ghost use Rattle.ufs_spec.specs.Refusals.{BootUnit, Request, State, first_line, has_other_response, has_wrong_list, is_boot_read, is_crowded, is_refused_write, is_too_long, lacks_response, lines_for, locked, mended, not_taken, operations_of, refusal};
-ghost use Rattle.ufs_spec.specs.Translation.{free_slots};
+ghost use Rattle.ufs_spec.specs.Translation.{free_slots, has_pending};
 
 /// If two lines of the table apply, the one that stands first decides: for each line a request that a later line
 /// would refuse with another status. Of lines that no clause tells apart here, `lines_that_never_meet` says that
@@ -21,7 +21,7 @@ pub fn each_line_of_the_table_counts()
     // Too many tasks are open, and the command would be refused.
     ensures full { (s : State) (r : Request) (status : Status) → most_tasks ≤ length s.tasks →
         refusal s r ≡ Some status →
-        command_heard s r ≡ with_short s (short_reply r.tag (response r.lun r.tag r.expected 0 TaskSetFull)) }
+        command_taken s r ≡ with_short s (short_reply r.tag (response r.lun r.tag r.expected 0 TaskSetFull)) }
     // There is no unit 3, and the CDB spells no command.
     ensures unit { (s : State) (tag : ℕ) (bytes : List ℕ) → IsIdle s →
         IsRefused s (spells_none 0x40 3 tag bytes) no_unit }
@@ -45,6 +45,9 @@ pub fn each_line_of_the_table_counts()
     ensures protected { (s : State) (tag : ℕ) → IsIdle s → mended s ≡ true → locked s ≡ true →
         free_slots s.translation ≡ 0 →
         IsRefused s (asks 0x20 0 tag (write_at 0)) write_protected }
+    // A flush of a locked device with something accepted that is not durable, and nothing else, with IMMED or without.
+    ensures flush { (s : State) (tag : ℕ) (immediate : Bool) → IsIdle s → mended s ≡ true → locked s ≡ true →
+        has_pending s.translation ≡ true → IsRefused s (asks 0x00 0 tag (flush immediate)) write_protected }
     // SECURITY PROTOCOL IN without a response, before the device is mended; and of 512 bytes, without a response.
     ensures ready_first { (s : State) (tag : ℕ) → mended s ≡ false → s.registers.response ≡ [] →
         first_line (lines_for s (asks 0x40 0xC4 tag (cdb.SecurityIn 512)) (cdb.SecurityIn 512)) ≡ Some not_ready }

@@ -118,8 +118,8 @@ abbrev pub ended : Disk → ℕ → Disk
 ended d die = record d { flights = at_die d.flights die None }
 
 -- what a block is after the program of this page: closed if that was its last
-abbrev pub state_behind : ℕ → ℕ → BlockState
-state_behind pages page = if page + 1 == pages then Closed else Filling (page + 1)
+abbrev pub state_after : ℕ → ℕ → BlockState
+state_after pages page = if page + 1 == pages then Closed else Filling (page + 1)
 
 -- a program ended well, in blocks of so many pages: the page is what was intended, and is finished
 abbrev pub programmed : ℕ → Disk → Place → Cell → Disk
@@ -127,7 +127,7 @@ programmed pages d p cell =
     record (ended d p.die) {
       cells = at_place d.cells p cell;
       finished = at_place d.finished p true;
-      blocks = at_spot d.blocks (spot_of p) (state_behind pages p.page);
+      blocks = at_spot d.blocks (spot_of p) (state_after pages p.page);
     }
 
 -- an erase ended well: each page of the block is nothing, its first page is programmed next, and it

@@ -30,7 +30,7 @@ use Rattle.ufs_spec.specs.Plain.{block_at}
 use Rattle.ufs_spec.specs.Stages.{manages_tasks}
 use Rattle.ufs_spec.specs.Exchanges.{most_short_exchanges, most_tasks}
 use Rattle.ufs_spec.specs.Refusals.{Request, State, locked, lun_of, numbers_of, sends_frames, plain_now, refusal}
-use Rattle.ufs_spec.specs.Refusals.{slots_needed, spec_of, unit_of_request}
+use Rattle.ufs_spec.specs.Refusals.{slots_needed, unit_numbers_of, unit_of_request}
 use Rattle.ufs_spec.specs.Translation.{MayTake, Pin, Rest, is_rest_of, is_step_due}
 use Rattle.ufs_spec.specs.declared.configs.Numbers.{Numbers}
 use Rattle.ufs_spec.specs.declared.configs.UnitSpec.{UnitSpec}
@@ -367,7 +367,7 @@ begun s r unit (cdb.Write10 address blocks forced) =
     write_begun s r (cdb.Write10 address blocks forced) unit address blocks forced
 begun s r unit (cdb.SynchronizeCache10 address blocks immediate) =
     flush_begun s r (cdb.SynchronizeCache10 address blocks immediate) immediate
-begun s r unit cdb.ReadCapacity10 = data_begun s r cdb.ReadCapacity10 (capacity_bytes (spec_of s r))
+begun s r unit cdb.ReadCapacity10 = data_begun s r cdb.ReadCapacity10 (capacity_bytes (unit_numbers_of s r))
 begun s r unit (cdb.Inquiry allocation) = not_begun s r (cdb.Inquiry allocation)
 begun s r unit (cdb.Unmap list) = not_begun s r (cdb.Unmap list)
 begun s r unit (cdb.ReportLuns select allocation) = not_begun s r (cdb.ReportLuns select allocation)
@@ -375,23 +375,23 @@ begun s r unit (cdb.SecurityIn n) = not_begun s r (cdb.SecurityIn n)
 begun s r unit (cdb.SecurityOut n) = not_begun s r (cdb.SecurityOut n)
 
 -- the command that the CDB spells begins. A CDB that spells none is refused before (line 3), so nothing happens
-abbrev pub begun_with : State → Request → Option Cdb → State
-begun_with s r None = s
-begun_with s r (Some command) = begun s r (unit_or_first (unit_of_request s r)) command
+abbrev pub begun_if_any : State → Request → Option Cdb → State
+begun_if_any s r None = s
+begun_if_any s r (Some command) = begun s r (unit_or_first (unit_of_request s r)) command
 
 -- a refused command is a task too, until its answer is handed out: its tag is in use, and task management finds it.
 -- It has no command and no length, since nothing was carried
-abbrev pub opened_with : State → Request → Option Status → State
-opened_with s r (Some status) = with_task s r None 0 (Answering status 0)
-opened_with s r None = begun_with s r r.cdb
+abbrev pub refused_or_begun : State → Request → Option Status → State
+refused_or_begun s r (Some status) = with_task s r None 0 (Answering status 0)
+refused_or_begun s r None = begun_if_any s r r.cdb
 
 -- line 0 of the table of refusals: if 32 tasks are open, a command gets TASK SET FULL, as a short exchange, which task
 -- management does not find; all that the host expected is residual. Else the table decides (Refusals)
-abbrev pub command_heard : State → Request → State
-command_heard s r =
+abbrev pub command_taken : State → Request → State
+command_taken s r =
     if nat_le most_tasks (length s.tasks)
     then with_short s (short_reply r.tag (response r.lun r.tag r.expected 0 TaskSetFull))
-    else opened_with s r (refusal s r)
+    else refused_or_begun s r (refusal s r)
 
 -- ## What data make of it
 
@@ -504,8 +504,8 @@ abbrev pub abort_moves : Numbers → Task → List Move
 abort_moves n task = Release (claimed_by n task.deed task.command) ∷ LetGoAll task.tag ∷ []
 
 -- both RPMB registers become empty if one of the aborted tasks is a SECURITY PROTOCOL OUT that was not refused
-abbrev pub registers_behind : List Task → Registers → Registers
-registers_behind aborted registers =
+abbrev pub registers_after : List Task → Registers → Registers
+registers_after aborted registers =
     if list_any (λ (task : Task). sends_frames task.command) aborted then empty_registers else registers
 
 -- the tasks of which `is` holds are aborted: they hand out no reply any more, and their tags are free
@@ -513,7 +513,7 @@ abbrev pub without_tasks : State → (Task → Bool) → State
 without_tasks s is =
     record (with_moves s (flat_map (abort_moves (numbers_of s)) (filter is s.tasks))) {
       tasks = filter (λ task. not (is task)) s.tasks;
-      registers = registers_behind (filter is s.tasks) s.registers;
+      registers = registers_after (filter is s.tasks) s.registers;
     }
 
 -- only a request whose service response is 00h, complete, aborts anything
@@ -537,7 +537,7 @@ query_unanswered tag function asked =
 abbrev pub heard : State → Message → Option Cdb → State
 heard s (message.NopOut tag) c = with_short s (short_reply tag (message.NopIn tag))
 heard s (message.Command flags lun tag expected bytes) c =
-    command_heard s (record { flags = flags; lun = lun; tag = tag; expected = expected; bytes = bytes; cdb = c })
+    command_taken s (record { flags = flags; lun = lun; tag = tag; expected = expected; bytes = bytes; cdb = c })
 heard s (message.DataOut lun tag offset «data») c = data_heard s (task_of tag s.tasks) «data».items
 heard s (message.TaskRequest lun tag function meant) c =
     with_short (managed s lun function meant)
@@ -557,48 +557,48 @@ hears s (Spelled m c) = heard s m c
 hears s (Faulty fault) = s
 
 -- after one more block of a READ was handed out: the next one is to be sent, or after the last one GOOD is due
-abbrev pub deed_behind_sent : Task → List ReadBlock → ℕ → Deed
-deed_behind_sent task blocks sent =
+abbrev pub deed_after_sent : Task → List ReadBlock → ℕ → Deed
+deed_after_sent task blocks sent =
     if nat_lt (sent + 1) (length blocks) then Sending blocks (sent + 1) else Answering Good task.length
 
 -- the same, by how the block was found. A block that could not be read has ended the READ with 3/11/00, so that
 -- nothing is left to do
-abbrev pub deed_behind_state : Task → List ReadBlock → ℕ → ReadState → Option Deed
-deed_behind_state task blocks sent Unread = Some (deed_behind_sent task blocks sent)
-deed_behind_state task blocks sent WasRead = Some (deed_behind_sent task blocks sent)
-deed_behind_state task blocks sent NotRead = None
+abbrev pub deed_after_state : Task → List ReadBlock → ℕ → ReadState → Option Deed
+deed_after_state task blocks sent Unread = Some (deed_after_sent task blocks sent)
+deed_after_state task blocks sent WasRead = Some (deed_after_sent task blocks sent)
+deed_after_state task blocks sent NotRead = None
 
 -- the same for the block that came next; without one nothing was handed out
-abbrev pub deed_behind_block : Task → List ReadBlock → ℕ → Option ReadBlock → Option Deed
-deed_behind_block task blocks sent None = None
-deed_behind_block task blocks sent (Some block) = deed_behind_state task blocks sent block.state
+abbrev pub deed_after_block : Task → List ReadBlock → ℕ → Option ReadBlock → Option Deed
+deed_after_block task blocks sent None = None
+deed_after_block task blocks sent (Some block) = deed_after_state task blocks sent block.state
 
 -- what a task does after the reply that was due was handed out; None if that was its last
-abbrev pub deed_behind : Task → Deed → Option Deed
-deed_behind task (Gathering purpose gathered asked) = Some (Gathering purpose gathered true)
-deed_behind task (Sending blocks sent) =
-    deed_behind_block task blocks sent (slice_get blocks sent)
-deed_behind task (SendingBytes bytes) = Some (Answering Good task.length)
-deed_behind task (Awaiting commands) = None
-deed_behind task (Answering status carried) = None
+abbrev pub deed_after : Task → Deed → Option Deed
+deed_after task (Gathering purpose gathered asked) = Some (Gathering purpose gathered true)
+deed_after task (Sending blocks sent) =
+    deed_after_block task blocks sent (slice_get blocks sent)
+deed_after task (SendingBytes bytes) = Some (Answering Good task.length)
+deed_after task (Awaiting commands) = None
+deed_after task (Answering status carried) = None
 
 -- what the layer does after that reply: a block that was handed out is let go, and the page of the next one is wanted;
 -- a GOOD that waited acknowledges as durable the commands that it awaited
-abbrev pub moves_behind : Task → Deed → List Move
-moves_behind task (Gathering purpose gathered asked) = []
-moves_behind task (Sending blocks sent) = LetGo task.tag sent ∷ WantPage task.tag (sent + 1) ∷ []
-moves_behind task (SendingBytes bytes) = []
-moves_behind task (Awaiting commands) = Acknowledge commands ∷ []
-moves_behind task (Answering status carried) = []
+abbrev pub moves_after : Task → Deed → List Move
+moves_after task (Gathering purpose gathered asked) = []
+moves_after task (Sending blocks sent) = LetGo task.tag sent ∷ WantPage task.tag (sent + 1) ∷ []
+moves_after task (SendingBytes bytes) = []
+moves_after task (Awaiting commands) = Acknowledge commands ∷ []
+moves_after task (Answering status carried) = []
 
 -- the task goes on, or it has handed out its last reply: then it ends, its tag is free, and it keeps nothing
-abbrev pub task_behind : State → Task → Option Deed → State
-task_behind s task (Some deed) = set_deed s task.tag deed
-task_behind s task None = with_moves (record s { tasks = without_task task.tag s.tasks }) (LetGoAll task.tag ∷ [])
+abbrev pub task_goes_on : State → Task → Option Deed → State
+task_goes_on s task (Some deed) = set_deed s task.tag deed
+task_goes_on s task None = with_moves (record s { tasks = without_task task.tag s.tasks }) (LetGoAll task.tag ∷ [])
 
 -- the task has handed out the reply that was due
 abbrev pub task_replied : State → Task → State
-task_replied s task = task_behind (with_moves s (moves_behind task task.deed)) task (deed_behind task task.deed)
+task_replied s task = task_goes_on (with_moves s (moves_after task task.deed)) task (deed_after task task.deed)
 
 -- an answer that awaited so many commands acknowledges them as durable when it is handed out
 abbrev pub acknowledges : Option ℕ → List Move
@@ -676,26 +676,26 @@ array_done s (Programming place cell) = at_place s.array place (page_of cell)
 array_done s (Erasing spot) = λ p. if in_block (numbers_of s) spot p then blank_page else s.array p
 
 -- what the dies hold after a job that ended so; after a failed program or erase it is what came with the call
-abbrev pub array_behind : State → Flight → Ending → Array → Array
-array_behind s flight ReadRight left = s.array
-array_behind s flight ReadWrong left = s.array
-array_behind s flight WentWell left = array_done s flight
-array_behind s flight (WentWrong cells) left = left
+abbrev pub array_after : State → Flight → Ending → Array → Array
+array_after s flight ReadRight left = s.array
+array_after s flight ReadWrong left = s.array
+array_after s flight WentWell left = array_done s flight
+array_after s flight (WentWrong cells) left = left
 
 -- the end of a read is told to whom it was for; programs and erases are told to nobody
-abbrev pub read_noted_behind : State → Flight → Ending → State
-read_noted_behind s (Reading reader place) ReadRight = read_noted s reader WasRead
-read_noted_behind s (Reading reader place) ReadWrong = read_noted s reader NotRead
-read_noted_behind s (Reading reader place) WentWell = s
-read_noted_behind s (Reading reader place) (WentWrong left) = s
-read_noted_behind s (Programming place cell) ending = s
-read_noted_behind s (Erasing spot) ending = s
+abbrev pub read_noted_after : State → Flight → Ending → State
+read_noted_after s (Reading reader place) ReadRight = read_noted s reader WasRead
+read_noted_after s (Reading reader place) ReadWrong = read_noted s reader NotRead
+read_noted_after s (Reading reader place) WentWell = s
+read_noted_after s (Reading reader place) (WentWrong left) = s
+read_noted_after s (Programming place cell) ending = s
+read_noted_after s (Erasing spot) ending = s
 
 -- the job of a die ended so: of a die without a job nothing changes
 abbrev pub ends_with : State → ℕ → Option Flight → Ending → Array → State
 ends_with s die None ending left = s
 ends_with s die (Some flight) ending left =
-    with_moves (record (read_noted_behind s flight ending) { array = array_behind s flight ending left })
+    with_moves (record (read_noted_after s flight ending) { array = array_after s flight ending left })
     (EndJob die ending ∷ [])
 
 -- a die was given this job, or none

@@ -38,9 +38,9 @@ is_kind_of name (CopyStep other from) = same_name name other
 is_kind_of name (RepairStep other from) = same_name name other
 
 -- the step under way after a page of this name was programmed: if it is the copy or repair of that page, it is over
-abbrev pub step_behind : Name → Option Step → Option Step
-step_behind name None = None
-step_behind name (Some step) = if is_kind_of name step.kind then None else Some step
+abbrev pub step_after : Name → Option Step → Option Step
+step_after name None = None
+step_after name (Some step) = if is_kind_of name step.kind then None else Some step
 
 -- a page of a group was programmed there: it stands, the frontier climbs as far as it can, and a copy or a
 -- repair that wrote it is over
@@ -50,16 +50,16 @@ page_written t p tag body =
     (record t {
       disk = programmed t.numbers.pages t.disk p (GroupPage tag body);
       ledger = page_stands t.ledger (name_of tag) p;
-      work = record t.work { step = step_behind (name_of tag) t.work.step };
+      work = record t.work { step = step_after (name_of tag) t.work.step };
     })
 
 -- the mending after a mark: the first mark is followed by repairs if it has a fence, and ends the mending if it has
 -- none; the mark after the repairs ends it too
-abbrev pub mending_behind : Mending → Mending
-mending_behind (Unmarked None lost) = Mended
-mending_behind (Unmarked (Some fence) lost) = Repairing lost
-mending_behind (Repairing left) = Mended
-mending_behind Mended = Mended
+abbrev pub mending_after : Mending → Mending
+mending_after (Unmarked None lost) = Mended
+mending_after (Unmarked (Some fence) lost) = Repairing lost
+mending_after (Repairing left) = Mended
+mending_after Mended = Mended
 
 -- what a block is once its plan's mark is finished: free, unless it is bad
 abbrev pub freed_state : BlockState → BlockState
@@ -77,7 +77,7 @@ mark_written t p m =
     record t {
       disk = freed (programmed t.numbers.pages t.disk p (MarkPage m)) t.work.plan;
       ledger = record t.ledger { newest = Some m };
-      work = record t.work { mending = mending_behind t.work.mending; plan = None; step = None };
+      work = record t.work { mending = mending_after t.work.mending; plan = None; step = None };
     }
 
 -- what a program that ended well makes of the layer, by what was programmed

@@ -146,13 +146,13 @@ abbrev pub unit_of_request : State → Request → Option ℕ
 unit_of_request s r = unit_in s r (lun_of (numbers_of s) r.lun)
 
 -- how many blocks that unit has, its boot number and its protection
-abbrev pub spec_at : Numbers → Option ℕ → Option UnitSpec
-spec_at n None = None
-spec_at n (Some unit) = slice_get n.units.items unit
+abbrev pub unit_numbers_at : Numbers → Option ℕ → Option UnitSpec
+unit_numbers_at n None = None
+unit_numbers_at n (Some unit) = slice_get n.units.items unit
 
 -- the same for the unit of the request, if it has one
-abbrev pub spec_of : State → Request → Option UnitSpec
-spec_of s r = spec_at (numbers_of s) (unit_of_request s r)
+abbrev pub unit_numbers_of : State → Request → Option UnitSpec
+unit_numbers_of s r = unit_numbers_at (numbers_of s) (unit_of_request s r)
 
 -- how many units REPORT LUNS lists: the ordinary ones, the four well-known ones, or both
 abbrev pub units_listed : Numbers → Cdb → ℕ
@@ -277,7 +277,7 @@ is_crowded s command =
     (is_security_out command && list_any (λ (task : Task). sends_frames task.command) s.tasks)
     || nat_lt (free_slots s.translation) (slots_needed (numbers_of s) command)
 
--- ## The table. Line 0 comes before it: TASK SET FULL (28h) if 32 tasks are open (`command_heard` in Machine)
+-- ## The table. Line 0 comes before it: TASK SET FULL (28h) if 32 tasks are open (`command_taken` in Machine)
 
 -- a line of the table: whether it applies to the request, and the status that it answers with
 pub record Line : Type 0 where
@@ -299,9 +299,9 @@ lines_for s r command =
     line (is_too_long (numbers_of s) command) invalid_field
     ∷ line (has_wrong_list command) list_length_error
     ∷ line (lacks_data r (direction_of command) (length_in s command)) invalid_field
-    ∷ line (is_past command (spec_of s r)) out_of_range
+    ∷ line (is_past command (unit_numbers_of s r)) out_of_range
     ∷ line (needs_mended (operation_of command) && not (mended s)) not_ready
-    ∷ line (is_refused_write s (spec_of s r) command) write_protected
+    ∷ line (is_refused_write s (unit_numbers_of s r) command) write_protected
     ∷ line (lacks_response s command) sequence_error
     ∷ line (has_other_response s command) invalid_field
     ∷ line (is_crowded s command) Busy
@@ -309,9 +309,9 @@ lines_for s r command =
 
 -- line 3 (5/24/00) for a CDB that spells none: one of its fields, or a byte that must be zero, is wrong. For any
 -- other the lines after it
-abbrev pub lines_behind : State → Request → Option Cdb → List Line
-lines_behind s r None = line true invalid_field ∷ []
-lines_behind s r (Some command) = lines_for s r command
+abbrev pub lines_after : State → Request → Option Cdb → List Line
+lines_after s r None = line true invalid_field ∷ []
+lines_after s r (Some command) = lines_for s r command
 
 -- why a request is refused: what the first line says that applies. None if no line applies, and then the command begins
 abbrev pub refusal : State → Request → Option Status
@@ -319,4 +319,4 @@ refusal s r =
     first_line
     (line (lacks_unit s r (lun_of (numbers_of s) r.lun)) no_unit
     ∷ line (not_taken r (lun_of (numbers_of s) r.lun)) invalid_operation
-    ∷ lines_behind s r r.cdb)
+    ∷ lines_after s r r.cdb)

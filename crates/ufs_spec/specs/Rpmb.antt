@@ -148,9 +148,9 @@ abbrev pub with_end_bit : Plain → ℕ → ℕ
 with_end_bit p result = if has_key p && (p.counter == counter_end) then bit_or result 0x80 else result
 
 -- a request that failed a check has that check's result and accepts nothing; one that passed has result 0
-abbrev pub outcome_behind : Plain → Option Command → Option ℕ → RpmbOutcome
-outcome_behind p accepted (Some result) = Results (with_end_bit p result) None
-outcome_behind p accepted None = Results (with_end_bit (applied p accepted) 0) accepted
+abbrev pub outcome_after : Plain → Option Command → Option ℕ → RpmbOutcome
+outcome_after p accepted (Some result) = Results (with_end_bit p result) None
+outcome_after p accepted None = Results (with_end_bit (applied p accepted) 0) accepted
 
 -- a result is asked for, and none is there: no key or write request has left one in the result register
 abbrev pub lacks_result : Frame → Registers → Bool
@@ -163,4 +163,4 @@ rpmb_outcome p r locked [] = Refused invalid_list_field
 rpmb_outcome p r locked (f ∷ fs) =
     if not (is_well_formed f fs) then Refused invalid_list_field
     else if lacks_result f r then Refused sequence_error
-    else outcome_behind p (command_in f fs) (first_failed (checks p locked f fs))
+    else outcome_after p (command_in f fs) (first_failed (checks p locked f fs))

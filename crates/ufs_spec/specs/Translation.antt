@@ -1,8 +1,10 @@
 -- The translation layer of one life, which is all of the device that knows pages and knows no messages: what it
 -- owes to each die, when a step of mending or collection is due, and what each step makes of it (this profile).
-use Rattle.std.specs.Prelude.{◌≡◌, ◌⊎◌, ℕ, ◌+◌, ◌-◌, ◌*◌, ◌^◌, ◌==◌, ◌&&◌, ◌||◌, nat_le, nat_lt, not, Bool, true, false}
+use Rattle.std.specs.Prelude.{◌≡◌, ◌⊎◌, ℕ, ◌+◌, ◌-◌, ◌*◌, ◌==◌, ◌&&◌, ◌||◌, nat_le, nat_lt, max, not, Bool}
+use Rattle.std.specs.Prelude.{true, false}
 use Rattle.std.specs.Prelude.{if◌then◌else◌, is_none, is_some, List, [], ◌∷◌, ◌++◌, count_by, filter, filter_map, find}
 use Rattle.std.specs.Prelude.{length, map, sum_by, Option, Some, None, option_map, Contains, slice_get, option_and_then}
+use Rattle.std.specs.Int.{div_ceil}
 use Rattle.std.specs.List.{flat_map, list_any}
 use Rattle.ufs_spec.specs.Cells.{Cell, GroupPage, MarkPage, Nothing, key_of, same_place}
 use Rattle.ufs_spec.specs.Disk.{BlockState, Bad, Closed, Disk, Erasing, Filling, Flight, ForRest, ForStep, ForTask}
@@ -208,10 +210,19 @@ victim t = least_of (live_count t) None (filter (may_be_victim t) (spots t.numbe
 abbrev pub is_bad_with_live : Translation → Spot → Bool
 is_bad_with_live t s = is_bad (t.disk.blocks s) && not (is_pinned t s) && nat_lt 0 (live_count t s)
 
+-- how many free blocks groups leave to the device's own pages, to copies, marks and repairs: one for each die, two, and
+-- twice as many as the pages of a full write cache fill
+abbrev pub own_room : Numbers → ℕ
+own_room n = n.dies + 2 + 2 * div_ceil n.slots n.pages
+
+-- with fewer free blocks than this many room is to be gained
+abbrev pub wanted_room : Numbers → ℕ
+wanted_room n = max (2 * n.dies + 4) (own_room n + 2)
+
 -- when collection is due, if there is a victim: few blocks are free, or a bad block has live pages
 abbrev pub wants_collection : Translation → Bool
 wants_collection t =
-    nat_lt (count_blocks t is_free) (2 * t.numbers.dies + 4) || list_any (is_bad_with_live t) (spots t.numbers)
+    nat_lt (count_blocks t is_free) (wanted_room t.numbers) || list_any (is_bad_with_live t) (spots t.numbers)
 
 -- Steps
 
@@ -422,9 +433,9 @@ abbrev pub names_of : ℕ → Group → List Name
 names_of n g = map (λ i. record { number = n; index = i }) (below (length g))
 
 -- the names of the pages of groups numbered from n + 1 on
-abbrev pub names_behind : ℕ → List Group → List Name
-names_behind n [] = []
-names_behind n (g ∷ gs) = names_of (n + 1) g ++ names_behind (n + 1) gs
+abbrev pub names_after : ℕ → List Group → List Name
+names_after n [] = []
+names_after n (g ∷ gs) = names_of (n + 1) g ++ names_after (n + 1) gs
 
 -- the page of an accepted group waits: it is programmed nowhere, no die programs it, and its content is there.
 -- After a failed program it waits again at once, in its old place in the order
@@ -436,7 +447,7 @@ waits t name =
 
 -- of the pages of accepted groups, by number and index, the first that waits
 abbrev pub waiting_name : Translation → Option Name
-waiting_name t = find (waits t) (names_behind (before_accepted t.ledger) (accepted_groups t.ledger))
+waiting_name t = find (waits t) (names_after (before_accepted t.ledger) (accepted_groups t.ledger))
 
 -- What is owed to a die
 
@@ -536,10 +547,27 @@ may_be_erased t s = is_free (t.disk.blocks s) && not (is_pinned t s)
 abbrev pub next_erase : Translation → ℕ → Option Flight
 next_erase t die = option_map Erasing (find (may_be_erased t) (spots_of t.numbers die))
 
--- whether a block may be opened for a page of a group alone: only while more than dies + 2 blocks are free, so that
--- the steps of collection find one
-abbrev pub may_open : Translation → Bool
-may_open t = nat_lt (t.numbers.dies + 2) (count_blocks t is_free)
+-- whether a page of a group may be programmed: not into the room that groups leave to the device's own pages
+abbrev pub has_room_for_groups : Translation → Bool
+has_room_for_groups t = nat_le (own_room t.numbers) (count_blocks t is_free)
+
+-- whether a block may be opened for a page of a group: only while more blocks are free than groups leave
+abbrev pub may_open_for_group : Translation → Bool
+may_open_for_group t = nat_lt (own_room t.numbers) (count_blocks t is_free)
+
+-- whether a die with this job erases a block, which it will then fill
+abbrev pub flies_erase : Option Flight → Bool
+flies_erase (Some (Erasing s)) = true
+flies_erase _ = false
+
+-- whether a block of some die is being filled, or is being erased to be filled
+abbrev pub has_open_block : Translation → Bool
+has_open_block t = list_any (λ die. is_some (next_place t die)) (below t.numbers.dies) || some_flight t flies_erase
+
+-- whether a block may be opened for the page of a step: while groups may be programmed any die opens its own; below
+-- that, one block after another is filled, whatever its die
+abbrev pub may_open_for_step : Translation → Bool
+may_open_for_step t = has_room_for_groups t || not (has_open_block t)
 
 -- the program of the page at the die's next place; without such a place the erase of a block, if one may be opened
 abbrev pub flight_at : Translation → ℕ → Bool → Cell → Option Place → Option Flight
@@ -548,8 +576,10 @@ flight_at t die opens cell None = if opens then next_erase t die else None
 
 -- the page of a step goes before those of groups
 abbrev pub flight_for : Translation → ℕ → Option Cell → Option Name → Option Flight
-flight_for t die (Some cell) name = flight_at t die true cell (next_place t die)
-flight_for t die None (Some name) = flight_at t die (may_open t) (cell_now t.ledger name) (next_place t die)
+flight_for t die (Some cell) name = flight_at t die (may_open_for_step t) cell (next_place t die)
+flight_for t die None (Some name) =
+    if has_room_for_groups t then flight_at t die (may_open_for_group t) (cell_now t.ledger name) (next_place t die)
+    else None
 flight_for t die None None = None
 
 -- the program or the erase that is owed to the die, once no read is

@@ -9,7 +9,7 @@ use Rattle.ufs_spec.specs.Cells.{Array, Cell, Cells, GroupPage}
 use Rattle.ufs_spec.specs.Disk.{Erasing, Flight, ForNobody, ForStep, ForTask, Programming, Reader, Reading}
 use Rattle.ufs_spec.specs.Exchanges.{NotRead, ReadState, WasRead, task_of}
 use Rattle.ufs_spec.specs.Ledger.{before_accepted}
-use Rattle.ufs_spec.specs.Machine.{Done, MayLeave, OfDone, array_behind, ends_with, read_noted_behind, task_read}
+use Rattle.ufs_spec.specs.Machine.{Done, MayLeave, OfDone, array_after, ends_with, read_noted_after, task_read}
 use Rattle.ufs_spec.specs.Machine.{with_moves}
 use Rattle.ufs_spec.specs.Moves.{EndJob, Ending, IsEndingOf, Means, ReadRight, ReadWrong, WentWell, WentWrong, agree}
 use Rattle.ufs_spec.specs.Moves.{cell_read, end_flight, fits, is_pin_of, is_read_ending, is_read_job, is_read_outcome}
@@ -183,7 +183,7 @@ module _ (d : DeviceCore) (s : State) (die tag index : ℕ) (place : Place) (aft
 -- Each job
 
 -- a job that is for no task is noted of none
-none_noted : (s : State) (flight : Flight) (ending : Ending) → IsForNone flight → read_noted_behind s flight ending ≡ s
+none_noted : (s : State) (flight : Flight) (ending : Ending) → IsForNone flight → read_noted_after s flight ending ≡ s
 none_noted s (Reading ForNobody place) ReadRight none = refl
 none_noted s (Reading ForNobody place) ReadWrong none = refl
 none_noted s (Reading ForNobody place) WentWell none = refl
@@ -219,9 +219,9 @@ module _ (d : DeviceCore) (s : State) (die : ℕ) (left : Array) (after : Core) 
   nothing_keeps flight ending none is other layer =
       subst (λ x. Keeps (told (record d { ftl = after }) x) (ends_with s die (Some flight) ending left)) (sym other)
       (subst (λ x. Keeps (record d { ftl = after })
-      (with_moves (record x { array = array_behind s flight ending left }) (EndJob die ending ∷ [])))
+      (with_moves (record x { array = array_after s flight ending left }) (EndJob die ending ∷ [])))
       (sym (none_noted s flight ending none))
-      (layer_moves d after s (array_behind s flight ending left) (moved s.translation (EndJob die ending)) h.kept layer
+      (layer_moves d after s (array_after s flight ending left) (moved s.translation (EndJob die ending)) h.kept layer
       claims (subst (Leaves s.translation) (sym (moved_is s.translation die flight ending is))
       (job_leaves s.translation die flight ending none))))
 

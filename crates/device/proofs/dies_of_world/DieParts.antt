@@ -14,7 +14,7 @@ use Rattle.ufs_spec.specs.DieLaws.{has_page, pages_in, programmed_next, programm
 use Rattle.ufs_spec.specs.DieLaws.{with_block_elsewhere, with_page_there}
 use Rattle.ufs_spec.specs.DieLaws.{with_page_elsewhere_in_block}
 use Rattle.ufs_spec.specs.Disk.{BlockState, Closed, Filling, Flight, Spot, at_die, at_place, at_spot, job_of}
-use Rattle.ufs_spec.specs.Disk.{same_spot, spot_of, state_behind}
+use Rattle.ufs_spec.specs.Disk.{same_spot, spot_of, state_after}
 use Rattle.ufs_spec.specs.Lives.{Fit, array_of, bad_of}
 use Rattle.ufs_spec.specs.Machine.{in_block}
 use Rattle.ufs_spec.specs.Translation.{is_bad}
@@ -180,27 +180,27 @@ pages_put dies spot x q l leaves b e =
 
 -- A program
 
-behind_next : (pages page next : ℕ) → state_behind pages page ≡ Filling next → Some (page + 1) ≡ Some next
+behind_next : (pages page next : ℕ) → state_after pages page ≡ Filling next → Some (page + 1) ≡ Some next
 behind_next pages page next e = by (page + 1 == pages) e
   where
     by : (b : Bool) → (if b then Closed else Filling (page + 1)) ≡ Filling next → Some (page + 1) ≡ Some next
     by true h = cc
     by false h = cc
 
-behind_good : (pages page : ℕ) → is_bad (state_behind pages page) ≡ false
+behind_good : (pages page : ℕ) → is_bad (state_after pages page) ≡ false
 behind_good pages page = if_both (λ (s : BlockState). is_bad s ≡ false) (page + 1 == pages) refl refl
 
 pub program_blocks : (n : Numbers) (dies : List DieState) (blocks : Spot → BlockState) (p : Place) (content : Page) →
     Fit n dies → p.die < length dies → IsPlace n p → blocks (spot_of p) ≡ Filling p.page → BlocksFit n dies blocks →
     BlocksFit n (slice_set dies p.die (die_programmed (die_at dies p.die) p.block p.page content))
-    (at_spot blocks (spot_of p) (state_behind n.pages p.page))
+    (at_spot blocks (spot_of p) (state_after n.pages p.page))
 program_blocks n dies blocks p content fit l place fills h =
     let die = die_at dies p.die in
     let size = die_size n dies p.die fit l in
     let long : length die.ready ≡ n.blocks = size.2 in
     let within = place.block in
     let inside : p.block < length die.ready = omega arith in
-    put_blocks n dies blocks (spot_of p) (state_behind n.pages p.page) (die_programmed die p.block p.page content) l
+    put_blocks n dies blocks (spot_of p) (state_after n.pages p.page) (die_programmed die p.block p.page content) l
     (sym (h.bad (spot_of p)) ∙ (ap is_bad fills ∙ sym (behind_good n.pages p.page))) (λ c differ. refl)
     (λ next e. programmed_next die p.block p.page content inside ∙ behind_next n.pages p.page next e)
     (λ c differ. programmed_next_elsewhere die p.block p.page c content differ) h

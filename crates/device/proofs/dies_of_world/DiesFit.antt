@@ -11,10 +11,9 @@ use Rattle.ufs_spec.specs.Disk.{BlockState, Bad, Closed, Erasing, Filling, Fligh
 use Rattle.ufs_spec.specs.Disk.{at_die, at_place, job_of, page_of, spot_of}
 use Rattle.ufs_spec.specs.Lives.{Fit, IsOpened, array_of, bad_of, ended_well}
 use Rattle.ufs_spec.specs.Machine.{Reply, Done, OfDone, Take, OfTake, Heard, OfHost, Host, OfReply, Turn, OfTurn}
-use Rattle.ufs_spec.specs.Machine.{array_behind, given, hears, in_block, fills, lock_applied, observe, replied}
+use Rattle.ufs_spec.specs.Machine.{array_after, given, hears, in_block, fills, lock_applied, observe, replied}
 use Rattle.ufs_spec.specs.Machine.{with_moves}
 use Rattle.ufs_spec.specs.Moves.{Ending, IsEndingOf, TakeStep, fits}
-use Rattle.ufs_spec.specs.Openings.{IsBlockState}
 use Rattle.ufs_spec.specs.Refusals.{State}
 use Rattle.ufs_spec.specs.Translation.{MayTake, is_bad}
 use Rattle.ufs_spec.specs.declared.configs.Numbers.{Numbers}
@@ -31,6 +30,7 @@ use Rattle.ufs_laws.proofs.exchanges.RequestsSettled.{settled_jobs}
 use Rattle.ufs_laws.proofs.lives.EventsLead.{well_fits}
 use Rattle.ufs_laws.specs.Flights.{die_of_flight}
 use Rattle.ufs_laws.specs.Requests.{HaveNoRequest}
+use Rattle.power_loss.proofs.openings.FirstBlocks.{bad_as_before, never_filling}
 use Rattle.power_loss.specs.Exchange.{IsTied}
 use Rattle.power_loss.proofs.jobs_owed.ProgramsAndErases.{take_inside}
 use Rattle.power_loss.proofs.books.SmallFacts.{at_die_is, spot_is}
@@ -230,7 +230,7 @@ module _ (dies : List DieState) (jobs : List (Option Job)) (s : State) (fit : Fi
   done_by die flight = slice_set dies die (after_job (die_at dies die) (job_of flight))
 
   are_behind : (flight : Flight) → flights (die_of_flight flight) ≡ Some flight →
-      AreBehind n (done_by (die_of_flight flight) flight) (array_behind s flight (ended_well flight) s.array)
+      AreBehind n (done_by (die_of_flight flight) flight) (array_after s flight (ended_well flight) s.array)
       (blocks_behind s.translation flight)
   are_behind (Reading who p) flies =
       subst (λ (ds : List DieState). AreBehind n ds s.array s.translation.disk.blocks)
@@ -294,7 +294,7 @@ module _ (dies : List DieState) (jobs : List (Option Job)) (s : State) (fit : Fi
       FitState (done_by die flight) (slice_set jobs die None)
       (observe s (Done die (ended_well flight) s.array) (OfDone true))
   finish_fits die flight none flies =
-      let array = array_behind s flight (ended_well flight) s.array in
+      let array = array_after s flight (ended_well flight) s.array in
       let blocks = blocks_behind s.translation flight in
       let put : AreBehind n (done_by die flight) array blocks =
       subst (λ (e : ℕ). flights e ≡ Some flight → AreBehind n (done_by e flight) array blocks)
@@ -304,22 +304,6 @@ module _ (dies : List DieState) (jobs : List (Option Job)) (s : State) (fit : Fi
       (seen_behind s die flight flies)
 
 -- The opening
-
--- no block is being filled
-none_ready : (c : Cells) (bad : Spot → Bool) (spot : Spot) (state : BlockState) (next : ℕ) →
-    IsBlockState c bad spot state → state ≡ Filling next → ⊥
-none_ready c bad spot (Filling other) next h e = h
-none_ready c bad spot Free next h e = cc
-none_ready c bad spot Closed next h e = cc
-none_ready c bad spot Bad next h e = cc
-
--- the blocks that are bad to the state are those that were bad
-bad_same : (c : Cells) (bad : Spot → Bool) (spot : Spot) (state : BlockState) → IsBlockState c bad spot state →
-    is_bad state ≡ bad spot
-bad_same c bad spot (Filling next) h = absurd h
-bad_same c bad spot Free h = sym h.0
-bad_same c bad spot Closed h = sym h.0
-bad_same c bad spot Bad h = sym h
 
 -- no die has a job
 none_given : (count die : ℕ) → job_at (replicate count None) die ≡ None
@@ -340,9 +324,8 @@ opens_fit n dies s sizes opened =
       as_many = length-replicate (length dies) None;
       jobs_are = λ die. none_given (length dies) die ∙ sym (ap (option_map job_of) (t.disk.idle die));
       blocks_fit = record {
-        ready = λ spot next d b e. absurd (none_ready opened.cells (bad_of dies) spot (blocks spot) next
-            (t.disk.blocks spot) e);
-        bad = λ spot. bad_same opened.cells (bad_of dies) spot (blocks spot) (t.disk.blocks spot);
+        ready = λ spot next d b e. absurd (never_filling t.disk.blocks e);
+        bad = λ spot. bad_as_before spot t.disk.blocks;
       };
       erases = λ die spot e. absurd (none-some (Erasing spot) (sym (t.disk.idle die) ∙ e));
     }

@@ -4,10 +4,10 @@ use Rattle.ufs_spec.proofs.Facts.{if_both}
 use Rattle.ufs_spec.specs.Cells.{Array, Cell, Cells, GroupPage, MarkPage, Nothing}
 use Rattle.ufs_spec.specs.Disk.{Bad, BlockState, Erasing, Filling, Flight, ForNobody, ForRest, ForStep, ForTask}
 use Rattle.ufs_spec.specs.Disk.{Programming, Reader, Reading, Spot, at_die, at_spot, program_failed, programmed}
-use Rattle.ufs_spec.specs.Disk.{spot_of, state_behind}
+use Rattle.ufs_spec.specs.Disk.{spot_of, state_after}
 use Rattle.ufs_spec.specs.Exchanges.{NotRead, ReadState, WasRead}
 use Rattle.ufs_spec.specs.Lives.{ended_well}
-use Rattle.ufs_spec.specs.Machine.{Done, OfDone, array_behind, ends_with, observe, read_noted, read_noted_behind}
+use Rattle.ufs_spec.specs.Machine.{Done, OfDone, array_after, ends_with, observe, read_noted, read_noted_after}
 use Rattle.ufs_spec.specs.Moves.{Ending, ReadRight, ReadWrong, WentWell, WentWrong, die_idle, end_flight, fits}
 use Rattle.ufs_spec.specs.Moves.{freed, job_ended, read_right, read_wrong}
 use Rattle.ufs_spec.specs.Refusals.{State}
@@ -21,9 +21,9 @@ use Rattle.device.proofs.dies_of_world.QuietDies.{LayerSeen, layer_seen, seen, s
 -- the state of each block behind the end of a job that went well: the end of a mark frees the block of its plan
 abbrev pub blocks_behind : Translation → Flight → Spot → BlockState
 blocks_behind t (Reading reader place) = t.disk.blocks
-blocks_behind t (Programming p Nothing) = at_spot t.disk.blocks (spot_of p) (state_behind t.numbers.pages p.page)
+blocks_behind t (Programming p Nothing) = at_spot t.disk.blocks (spot_of p) (state_after t.numbers.pages p.page)
 blocks_behind t (Programming p (GroupPage tag body)) =
-    at_spot t.disk.blocks (spot_of p) (state_behind t.numbers.pages p.page)
+    at_spot t.disk.blocks (spot_of p) (state_after t.numbers.pages p.page)
 blocks_behind t (Programming p (MarkPage m)) =
     (freed (programmed t.numbers.pages t.disk p (MarkPage m)) t.work.plan).blocks
 blocks_behind t (Erasing spot) = at_spot t.disk.blocks spot (Filling 0)
@@ -50,7 +50,7 @@ told_keeps s (ForTask tag index) read = refl
 told_keeps s reader read = refl
 
 behind_keeps : (s : State) (flight : Flight) (ending : Ending) →
-    (read_noted_behind s flight ending).translation ≡ s.translation
+    (read_noted_after s flight ending).translation ≡ s.translation
 behind_keeps s (Reading reader place) ReadRight = told_keeps s reader WasRead
 behind_keeps s (Reading reader place) ReadWrong = told_keeps s reader NotRead
 behind_keeps s (Reading reader place) WentWell = refl
@@ -62,9 +62,9 @@ behind_keeps s (Erasing spot) ending = refl
 seen_ended : (s : State) (die : ℕ) (flight : Flight) (ending : Ending) (left : Array) →
     s.translation.disk.flights die ≡ Some flight →
     seen (observe s (Done die ending left) (OfDone true))
-    ≡ seen_over (array_behind s flight ending left) (layer_seen (job_ended s.translation die flight ending))
+    ≡ seen_over (array_after s flight ending left) (layer_seen (job_ended s.translation die flight ending))
 seen_ended s die flight ending left flies =
-    let array = array_behind s flight ending left in
+    let array = array_after s flight ending left in
     told_same (ends_with s die (s.translation.disk.flights die) ending left)
     ∙ ap (λ (o : Option Flight). seen (ends_with s die o ending left)) flies
     ∙ ap (λ (t : Translation). seen_over array (layer_seen (end_flight t die (t.disk.flights die) ending)))
@@ -73,10 +73,10 @@ seen_ended s die flight ending left flies =
 
 pub seen_behind : (s : State) (die : ℕ) (flight : Flight) → s.translation.disk.flights die ≡ Some flight →
     seen (observe s (Done die (ended_well flight) s.array) (OfDone true))
-    ≡ seen_over (array_behind s flight (ended_well flight) s.array) (layer_behind s.translation flight)
+    ≡ seen_over (array_after s flight (ended_well flight) s.array) (layer_behind s.translation flight)
 seen_behind s die flight flies =
     seen_ended s die flight (ended_well flight) s.array flies
-    ∙ ap (seen_over (array_behind s flight (ended_well flight) s.array)) (ended_layer s.translation die flight)
+    ∙ ap (seen_over (array_after s flight (ended_well flight) s.array)) (ended_layer s.translation die flight)
 
 -- A job that fails
 

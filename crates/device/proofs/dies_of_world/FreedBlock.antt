@@ -4,7 +4,7 @@ use Rattle.std.proofs.Common.{◌≡◌, ◌≢◌, ℕ, List, Option, Some, Non
 use Rattle.ufs_spec.specs.Cells.{Cell, GroupPage, MarkPage, Nothing}
 use Rattle.ufs_spec.specs.Dies.{DieState}
 use Rattle.ufs_spec.specs.Disk.{Bad, BlockState, Closed, Disk, Filling, Free, Programming, Spot, at_spot, programmed}
-use Rattle.ufs_spec.specs.Disk.{spot_of, state_behind}
+use Rattle.ufs_spec.specs.Disk.{spot_of, state_after}
 use Rattle.ufs_spec.specs.Moves.{freed, freed_state}
 use Rattle.ufs_spec.specs.Translation.{Plan, Translation, is_bad}
 use Rattle.ufs_spec.specs.declared.configs.Numbers.{Numbers}
@@ -51,7 +51,7 @@ freed_fits n dies d (Some plan) h = record {
 
 -- behind a program, whatever cell it programmed
 pub written_fits : (t : Translation) (dies : List DieState) (p : Place) (cell : Cell) →
-    BlocksFit t.numbers dies (at_spot t.disk.blocks (spot_of p) (state_behind t.numbers.pages p.page)) →
+    BlocksFit t.numbers dies (at_spot t.disk.blocks (spot_of p) (state_after t.numbers.pages p.page)) →
     BlocksFit t.numbers dies (blocks_behind t (Programming p cell))
 written_fits t dies p Nothing h = h
 written_fits t dies p (GroupPage tag body) h = h

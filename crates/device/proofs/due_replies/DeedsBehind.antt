@@ -8,8 +8,8 @@ use Rattle.ufs_spec.specs.Exchanges as exchange
 use Rattle.ufs_spec.specs.Exchanges.{Answering, Awaiting, Deed, Gathering, Good, NotRead, Purpose, ReadBlock, ReadState}
 use Rattle.ufs_spec.specs.Exchanges.{Sending, SendingBytes, Unread, WasRead, task_of}
 use Rattle.ufs_spec.specs.Ledger.{before_accepted}
-use Rattle.ufs_spec.specs.Machine.{deed_behind, deed_behind_block, deed_behind_state, moves_behind, set_deed}
-use Rattle.ufs_spec.specs.Machine.{task_behind}
+use Rattle.ufs_spec.specs.Machine.{deed_after, deed_after_block, deed_after_state, moves_after, set_deed}
+use Rattle.ufs_spec.specs.Machine.{task_goes_on}
 use Rattle.ufs_spec.specs.Machine.{with_moves}
 use Rattle.ufs_spec.specs.Moves.{Acknowledge, LetGo, LetGoAll, WantPage, moved}
 use Rattle.ufs_spec.specs.Refusals.{State}
@@ -41,7 +41,7 @@ use Rattle.device.proofs.due_replies.PinsLetGo.{gone_again}
 
 -- what the definitions make of a task
 abbrev pub task_does : State → exchange.Task → Deed → State
-task_does s b deed = task_behind (with_moves s (moves_behind b deed)) b (deed_behind b deed)
+task_does s b deed = task_goes_on (with_moves s (moves_after b deed)) b (deed_after b deed)
 
 -- a READ of which one block more was handed out, and more follow
 abbrev behind : Sends → Sends
@@ -103,7 +103,7 @@ module _ (d : DeviceCore) (s : State) (k : ℕ) (a : OpenTask) (b : exchange.Tas
 
   ends : (after : Core) → claims_for after ≡ claims_for d.ftl → claims_in b.tag b.deed ≡ [] →
       layer_kept.Describes after (moved s.translation (LetGoAll a.tag)) →
-      IsBehind (with_layer after (without_task d k)) (task_behind s b None)
+      IsBehind (with_layer after (without_task d k)) (task_goes_on s b None)
   ends after claims none layer = record {
     keeps = goes d s k a b h o after s.translation.ledger.held claims none layer;
     told = told_gone d s k a b h o;
@@ -112,7 +112,7 @@ module _ (d : DeviceCore) (s : State) (k : ℕ) (a : OpenTask) (b : exchange.Tas
   awaits : (after : Core) (commands : ℕ) → claims_for after ≡ claims_for d.ftl → claims_in b.tag b.deed ≡ [] →
       layer_kept.Describes after (moved (moved s.translation (Acknowledge commands)) (LetGoAll a.tag)) →
       IsBehind (with_layer after (without_task d k))
-      (task_behind (with_moves s (Acknowledge commands ∷ [])) b None)
+      (task_goes_on (with_moves s (Acknowledge commands ∷ [])) b None)
   awaits after commands claims none layer = record {
     keeps = goes d s k a b h o after (max s.translation.ledger.held commands) claims none layer;
     told = told_gone d s k a b h o;
@@ -124,26 +124,26 @@ module _ (d : DeviceCore) (s : State) (k : ℕ) (a : OpenTask) (b : exchange.Tas
 
   loses : (after : Core) (blocks : List ReadBlock) (n : ℕ) → b.deed ≡ Sending blocks n →
       claims_for after ≡ claims_for d.ftl → layer_kept.Describes after (moved s.translation (LetGoAll a.tag)) →
-      IsBehind (with_layer after (without_task d k)) (task_behind (sent_state n) b None)
+      IsBehind (with_layer after (without_task d k)) (task_goes_on (sent_state n) b None)
   loses after blocks n deed claims layer =
       subst (IsBehind (with_layer after (without_task d k))) (sym same)
       (ends after claims (ap (claims_in b.tag) deed) layer)
     where
-      same : task_behind (sent_state n) b None ≡ task_behind s b None
+      same : task_goes_on (sent_state n) b None ≡ task_goes_on s b None
       same =
           ap (λ (u : Translation). record s { tasks = exchange.without_task b.tag s.tasks; translation = u })
           (gone_again s.translation b.tag n)
 
   -- what its deed is behind its next block
   sending_path : (blocks : List ReadBlock) (n : ℕ) (block : ReadBlock) (x : Option Deed) →
-      slice_get blocks n ≡ Some block → deed_behind_state b blocks n block.state ≡ x →
-      task_does s b (Sending blocks n) ≡ task_behind (sent_state n) b x
+      slice_get blocks n ≡ Some block → deed_after_state b blocks n block.state ≡ x →
+      task_does s b (Sending blocks n) ≡ task_goes_on (sent_state n) b x
   sending_path blocks n block x there e =
-      ap (task_behind (sent_state n) b) (ap (deed_behind_block b blocks n) there ∙ e)
+      ap (task_goes_on (sent_state n) b) (ap (deed_after_block b blocks n) there ∙ e)
 
   sent_deed : (blocks : List ReadBlock) (n : ℕ) (state : ReadState) (more : Bool) → is_lost state ≡ false →
       nat_lt (n + 1) (length blocks) ≡ more →
-      deed_behind_state b blocks n state
+      deed_after_state b blocks n state
       ≡ Some (deed_next b blocks n more)
   sent_deed blocks n Unread more fine e =
       ap (λ z. Some (deed_next b blocks n z)) e
@@ -176,7 +176,7 @@ module _ (d : DeviceCore) (s : State) (k : ℕ) (a : OpenTask) (b : exchange.Tas
       -- the phase and the deed behind it
       path : (more : Bool) → nat_lt (x.sent + 1) x.blocks ≡ more →
           IsBehind (with_layer after (with_event d k event.BlockSent))
-          (task_behind (sent_state n) b (Some (deed_next b blocks n more))) →
+          (task_goes_on (sent_state n) b (Some (deed_next b blocks n more))) →
           IsBehind (with_layer after (moved_on d k (phase.SendBlocks x))) (task_does s b (Sending blocks n))
       path more e it =
           subst (IsBehind (with_layer after (moved_on d k (phase.SendBlocks x))))
@@ -237,7 +237,7 @@ module _ (d : DeviceCore) (s : State) (k : ℕ) (a : OpenTask) (b : exchange.Tas
       ends after new.1 (ap (claims_in b.tag) e) new.0
   moves_in after (phase.Answer told n) (Sending blocks sent) m here e doing due new =
       subst (IsBehind (with_layer after (moved_on d k (phase.Answer told n))))
-      (sym (sending_path blocks sent doing.block None doing.there (ap (deed_behind_state b blocks sent) doing.lost)))
+      (sym (sending_path blocks sent doing.block None doing.there (ap (deed_after_state b blocks sent) doing.lost)))
       (loses after blocks sent e new.1 new.0)
   moves_in after p deed m here e doing due new = absurd doing
 

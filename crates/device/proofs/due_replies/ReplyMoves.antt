@@ -8,7 +8,7 @@ use Rattle.std.proofs.lemmas.List.Filters.{length-filter_both}
 use Rattle.ufs_spec.specs.Exchanges as exchange
 use Rattle.ufs_spec.specs.Exchanges.{Deed, task_of, with_deed}
 use Rattle.ufs_spec.specs.Ledger.{before_accepted}
-use Rattle.ufs_spec.specs.Machine.{durable, set_deed, task_behind}
+use Rattle.ufs_spec.specs.Machine.{durable, set_deed, task_goes_on}
 use Rattle.ufs_spec.specs.Moves.{LetGo, LetGoAll, WantPage, moved}
 use Rattle.ufs_spec.specs.Refusals.{State, locked}
 use Rattle.ufs_spec.specs.Exchanges.{most_tasks}
@@ -132,11 +132,11 @@ module _ (d : DeviceCore) (s : State) (k : ℕ) (a : OpenTask) (b : exchange.Tas
   pub goes : (after : Core) (held : ℕ) → claims_for after ≡ claims_for d.ftl → claims_in b.tag b.deed ≡ [] →
       layer_kept.Describes after (moved (with_held s.translation held) (LetGoAll a.tag)) →
       Keeps (with_layer after (without_task d k))
-      (task_behind (record s { translation = with_held s.translation held }) b None)
+      (task_goes_on (record s { translation = with_held s.translation held }) b None)
   goes after held claims none layer =
       subst
       (λ n. layer_kept.Describes after (moved u (LetGoAll n)) →
-      Keeps (with_layer after (without_task d k)) (task_behind (record s { translation = u }) b None))
+      Keeps (with_layer after (without_task d k)) (task_goes_on (record s { translation = u }) b None))
       o.kept.tag
       (λ its. record {
         permanent = h.kept.permanent;

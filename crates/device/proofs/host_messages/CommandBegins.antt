@@ -13,8 +13,8 @@ use Rattle.ufs_spec.specs.Exchanges.{Answering, Awaiting, Deed, ForWrite, Gather
 use Rattle.ufs_spec.specs.Exchanges.{SendingBytes, Status, most_tasks, task_of}
 use Rattle.ufs_spec.specs.Keys.{IsData, IsKey, data_key}
 use Rattle.ufs_spec.specs.Ledger.{before_accepted}
-use Rattle.ufs_spec.specs.Machine.{begun_with, capacity_bytes, data_begun, durable, flush_begun, keeps}
-use Rattle.ufs_spec.specs.Machine.{no_sense, opened_with, read_begun, read_blocks, sending, unit_or_first, with_moves}
+use Rattle.ufs_spec.specs.Machine.{begun_if_any, capacity_bytes, data_begun, durable, flush_begun, keeps}
+use Rattle.ufs_spec.specs.Machine.{no_sense, refused_or_begun, read_begun, read_blocks, sending, unit_or_first, with_moves}
 use Rattle.ufs_spec.specs.Machine as machine
 use Rattle.ufs_spec.specs.Moves.{Claim, moved}
 use Rattle.ufs_spec.specs.Plain.{shape_of_numbers, zero_block}
@@ -279,7 +279,7 @@ module _ (d : DeviceCore) (s : State) (r : Request) (h : Describes d s) (free : 
   command_begins : (unit : UnitSpec) (command : Cdb) (p : Phase) → IsTakenCdb command →
       slice_get (numbers_of s).units.items r.lun ≡ Some unit → IsFree s r unit command →
       Begins (Ok (plan_of unit r.lun r.expected command)) p →
-      IsBehind (core_opened d r after p) (begun_with s r (Some command))
+      IsBehind (core_opened d r after p) (begun_if_any s r (Some command))
   command_begins unit cdb.TestUnitReady p taken there k begun =
       same_phase p (phase.Answer status.Good 0) _ begun.0
       (answer_opened (Some cdb.TestUnitReady) 0 0 Good status.Good 0 begun.1 refl refl)
@@ -314,19 +314,19 @@ module _ (d : DeviceCore) (s : State) (r : Request) (h : Describes d s) (free : 
   command_begins unit command p taken there k begun = absurd taken
 
   passes_begin : (todo : Plan) (p : Phase) → Passes s r todo → Begins (Ok todo) p →
-      IsBehind (core_opened d r after p) (begun_with s r r.cdb)
+      IsBehind (core_opened d r after p) (begun_if_any s r r.cdb)
   passes_begin todo p passes begun =
-      subst (IsBehind (core_opened d r after p)) (sym (ap (begun_with s r) passes.is))
+      subst (IsBehind (core_opened d r after p)) (sym (ap (begun_if_any s r) passes.is))
       (command_begins passes.unit passes.command p passes.taken passes.there (free_told s r todo passes)
       (subst (λ (x : Plan). Begins (Ok x) p) passes.todo_is begun))
 
   -- what is planned begins, and is described then
   pub planned_begins : (y : Result Plan kept_status.Status) (p : Phase) → IsPlanned s r y → Begins y p →
-      IsBehind (core_opened d r after p) (opened_with s r (refusal s r))
+      IsBehind (core_opened d r after p) (refused_or_begun s r (refusal s r))
   planned_begins (Err told) p planned begun =
-      subst (IsBehind (core_opened d r after p)) (sym (ap (opened_with s r) planned))
+      subst (IsBehind (core_opened d r after p)) (sym (ap (refused_or_begun s r) planned))
       (same_phase p (phase.Answer told 0) _ begun.0
       (answer_opened None 0 0 (status_kept told) told 0 begun.1 refl refl))
   planned_begins (Ok todo) p planned begun =
-      subst (IsBehind (core_opened d r after p)) (sym (ap (opened_with s r) planned.passed))
+      subst (IsBehind (core_opened d r after p)) (sym (ap (refused_or_begun s r) planned.passed))
       (passes_begin todo p planned begun)

@@ -17,9 +17,9 @@ use Rattle.ufs_spec.specs.Keys.{Group}
 use Rattle.ufs_spec.specs.Machine.{durable}
 use Rattle.ufs_spec.specs.Refusals.{Request, State, first_line, has_other_response, has_wrong_list}
 use Rattle.ufs_spec.specs.Refusals.{is_crowded, is_past, is_refused_write, is_security_out, is_too_long, lacks_data}
-use Rattle.ufs_spec.specs.Refusals.{lacks_response, lacks_unit, length_in, lines_behind, lines_for, locked, lun_of}
+use Rattle.ufs_spec.specs.Refusals.{lacks_response, lacks_unit, length_in, lines_after, lines_for, locked, lun_of}
 use Rattle.ufs_spec.specs.Refusals.{mended, needs_mended, not_taken, numbers_of, refusal, sends_frames, slots_needed}
-use Rattle.ufs_spec.specs.Refusals.{spec_at, spec_of, unit_of_request}
+use Rattle.ufs_spec.specs.Refusals.{unit_numbers_at, unit_numbers_of, unit_of_request}
 use Rattle.ufs_spec.specs.Translation.{free_slots, has_pending}
 use Rattle.ufs_spec.specs.declared.configs.UnitSpec.{UnitSpec}
 use Rattle.ufs_spec.specs.declared.scsi.Cdb.{Cdb}
@@ -40,9 +40,9 @@ not_here false x rest h = (refl, h)
 
 pub record Checked (s : State) (r : Request) (command : Cdb) : Type 0 where
   pub too_long : is_too_long (numbers_of s) command ≡ false
-  pub past : is_past command (spec_of s r) ≡ false
+  pub past : is_past command (unit_numbers_of s r) ≡ false
   pub unmended : (needs_mended (operation_of command) && not (mended s)) ≡ false
-  pub refused : is_refused_write s (spec_of s r) command ≡ false
+  pub refused : is_refused_write s (unit_numbers_of s r) command ≡ false
   pub crowded : is_crowded s command ≡ false
 
 checked : (s : State) (r : Request) (command : Cdb) → r.cdb ≡ Some command → refusal s r ≡ None → Checked s r command
@@ -50,13 +50,13 @@ checked s r command is none =
     let a = not_here (lacks_unit s r (lun_of (numbers_of s) r.lun)) no_unit _ none in
     let b = not_here (not_taken r (lun_of (numbers_of s) r.lun)) invalid_operation _ a.1 in
     let lines : first_line (lines_for s r command) ≡ None =
-    sym (ap (λ (c : Option Cdb). first_line (lines_behind s r c)) is) ∙ b.1 in
+    sym (ap (λ (c : Option Cdb). first_line (lines_after s r c)) is) ∙ b.1 in
     let c = not_here (is_too_long (numbers_of s) command) invalid_field _ lines in
     let d = not_here (has_wrong_list command) list_length_error _ c.1 in
     let e = not_here (lacks_data r (direction_of command) (length_in s command)) invalid_field _ d.1 in
-    let f = not_here (is_past command (spec_of s r)) out_of_range _ e.1 in
+    let f = not_here (is_past command (unit_numbers_of s r)) out_of_range _ e.1 in
     let g = not_here (needs_mended (operation_of command) && not (mended s)) not_ready _ f.1 in
-    let i = not_here (is_refused_write s (spec_of s r) command) write_protected _ g.1 in
+    let i = not_here (is_refused_write s (unit_numbers_of s r) command) write_protected _ g.1 in
     let j = not_here (lacks_response s command) sequence_error _ i.1 in
     let k = not_here (has_other_response s command) invalid_field _ j.1 in
     let l = not_here (is_crowded s command) Busy _ k.1 in
@@ -65,12 +65,12 @@ checked s r command is none =
 -- what is known of a command that passed
 pub record IsFree (s : State) (r : Request) (unit : UnitSpec) (command : Cdb) : Type 0 where
   pub unit_is : unit_of_request s r ≡ Some r.lun
-  pub spec_is : spec_of s r ≡ Some unit
+  pub spec_is : unit_numbers_of s r ≡ Some unit
   pub few : blocks_of command ≤ greatest_command
   pub within : address_of command + blocks_of command ≤ unit.blocks
   pub mended : needs_mended (operation_of command) ≡ true → mended s ≡ true
   pub slots : slots_needed (numbers_of s) command ≤ free_slots s.translation
-  pub refused : is_refused_write s (spec_of s r) command ≡ false
+  pub refused : is_refused_write s (unit_numbers_of s r) command ≡ false
 
 few_told : (s : State) (command : Cdb) → IsTakenCdb command → is_too_long (numbers_of s) command ≡ false →
     blocks_of command ≤ greatest_command
@@ -94,7 +94,7 @@ pub free_told : (s : State) (r : Request) (todo : Plan) → (h : Passes s r todo
 free_told s r todo h =
     let k = checked s r h.command h.is h.passed in
     let unit = unit_is s r h.unit h.there in
-    let spec : spec_of s r ≡ Some h.unit = ap (spec_at (numbers_of s)) unit ∙ h.there in
+    let spec : unit_numbers_of s r ≡ Some h.unit = ap (unit_numbers_at (numbers_of s)) unit ∙ h.there in
     record {
       unit_is = unit;
       spec_is = spec;

@@ -17,9 +17,9 @@ use Rattle.ufs_spec.specs.Exchanges.{not_ready, out_of_range, sequence_error, wr
 use Rattle.ufs_spec.specs.Machine.{IsCdbIn}
 use Rattle.ufs_spec.specs.Messages.{is_among}
 use Rattle.ufs_spec.specs.Refusals.{Line, Lun, Request, State, UnitOf, first_line, is_past}
-use Rattle.ufs_spec.specs.Refusals.{is_refused_write, lacks_data, lacks_unit, line, lines_behind}
+use Rattle.ufs_spec.specs.Refusals.{is_refused_write, lacks_data, lacks_unit, line, lines_after}
 use Rattle.ufs_spec.specs.Refusals.{lines_for, lun_of, mended, needs_mended, not_taken, numbers_of, operation_in}
-use Rattle.ufs_spec.specs.Refusals.{refusal, slots_needed, spec_at, spec_of, takes, unit_in}
+use Rattle.ufs_spec.specs.Refusals.{refusal, slots_needed, unit_numbers_at, unit_numbers_of, takes, unit_in}
 use Rattle.ufs_spec.specs.Refusals.{unit_of_request}
 use Rattle.ufs_spec.specs.Translation.{free_slots}
 use Rattle.ufs_spec.specs.declared.configs.Numbers.{Numbers}
@@ -59,7 +59,7 @@ lines_in s r u c =
     (nat_lt u.blocks (address_of c + blocks_of c)) (needs_mended (operation_of c) && not (mended s))
     (is_refused_write s (Some u) c) (nat_lt (free_slots s.translation) (slots_needed (numbers_of s) c))
 
-lines_are : (s : State) (r : Request) (u : UnitSpec) (c : Cdb) → IsTakenCdb c → spec_of s r ≡ Some u →
+lines_are : (s : State) (r : Request) (u : UnitSpec) (c : Cdb) → IsTakenCdb c → unit_numbers_of s r ≡ Some u →
     first_line (lines_for s r c) ≡ first_line (lines_in s r u c)
 lines_are s r u c taken spec = by c taken ∙ lines
   where
@@ -68,13 +68,13 @@ lines_are s r u c taken spec = by c taken ∙ lines
         (is_past c x) (needs_mended (operation_of c) && not (mended s))
         (is_refused_write s x c) (nat_lt (free_slots s.translation) (slots_needed (numbers_of s) c)))
 
-    lines : at (spec_of s r) ≡ first_line (lines_in s r u c)
+    lines : at (unit_numbers_of s r) ≡ first_line (lines_in s r u c)
     lines = ap at spec
 
     by : (c : Cdb) → IsTakenCdb c → first_line (lines_for s r c) ≡ first_line
         (lines_of (nat_lt greatest_command (blocks_of c)) (lacks_data r (direction_of c) (length_of 0 c))
-        (is_past c (spec_of s r)) (needs_mended (operation_of c) && not (mended s))
-        (is_refused_write s (spec_of s r) c) (nat_lt (free_slots s.translation) (slots_needed (numbers_of s) c)))
+        (is_past c (unit_numbers_of s r)) (needs_mended (operation_of c) && not (mended s))
+        (is_refused_write s (unit_numbers_of s r) c) (nat_lt (free_slots s.translation) (slots_needed (numbers_of s) c)))
     by cdb.TestUnitReady k = refl
     by (cdb.RequestSense allocation) k = refl
     by (cdb.Read6 address blocks) k = refl
@@ -116,7 +116,7 @@ checks_for s r u c =
     (nat_lt u.blocks (address_of c + blocks_of c)) (needs_mended (operation_of c) && not (mended s))
     (is_refused_write s (Some u) c) (nat_lt (free_slots s.translation) (slots_needed (numbers_of s) c))
 
-pub table_checked : (s : State) (r : Request) (u : UnitSpec) (c : Cdb) → IsTakenCdb c → spec_of s r ≡ Some u →
+pub table_checked : (s : State) (r : Request) (u : UnitSpec) (c : Cdb) → IsTakenCdb c → unit_numbers_of s r ≡ Some u →
     first_line (lines_for s r c) ≡ option_map status_kept (checks_for s r u c)
 table_checked s r u c taken spec =
     lines_are s r u c taken spec
@@ -124,7 +124,7 @@ table_checked s r u c taken spec =
     (nat_lt u.blocks (address_of c + blocks_of c)) (needs_mended (operation_of c) && not (mended s))
     (is_refused_write s (Some u) c) (nat_lt (free_slots s.translation) (slots_needed (numbers_of s) c))
 
-pub told_by : (s : State) (r : Request) (u : UnitSpec) (c : Cdb) → IsTakenCdb c → spec_of s r ≡ Some u →
+pub told_by : (s : State) (r : Request) (u : UnitSpec) (c : Cdb) → IsTakenCdb c → unit_numbers_of s r ≡ Some u →
     (a b p e f g : Bool) → nat_lt greatest_command (blocks_of c) ≡ a → lacks_data r (direction_of c) (length_of 0 c) ≡ b →
     nat_lt u.blocks (address_of c + blocks_of c) ≡ p → (needs_mended (operation_of c) && not (mended s)) ≡ e →
     is_refused_write s (Some u) c ≡ f → nat_lt (free_slots s.translation) (slots_needed (numbers_of s) c) ≡ g →
@@ -157,8 +157,8 @@ pub unit_is : (s : State) (r : Request) (u : UnitSpec) → slice_get (numbers_of
 unit_is s r u there = ap (unit_in s r) (is_lun (numbers_of s) r.lun u there)
 
 pub spec_is : (s : State) (r : Request) (u : UnitSpec) → slice_get (numbers_of s).units.items r.lun ≡ Some u →
-    spec_of s r ≡ Some u
-spec_is s r u there = ap (spec_at (numbers_of s)) (unit_is s r u there) ∙ there
+    unit_numbers_of s r ≡ Some u
+spec_is s r u there = ap (unit_numbers_at (numbers_of s)) (unit_is s r u there) ∙ there
 
 -- Operation codes: an ordinary unit takes all that are taken
 
@@ -234,10 +234,10 @@ module _ (s : State) (r : Request) (flags lun expected : ℕ) (bytes : List ℕ)
     (is : IsRequest r flags lun expected bytes) where
   abbrev refused_in : Option Lun → Option Cdb → Option Status
   refused_in l c =
-      first_line (line (lacks_unit s r l) no_unit ∷ line (not_taken r l) invalid_operation ∷ lines_behind s r c)
+      first_line (line (lacks_unit s r l) no_unit ∷ line (not_taken r l) invalid_operation ∷ lines_after s r c)
 
   abbrev refused_by : Bool → Option Cdb → Option Status
-  refused_by b c = first_line (line (not b) invalid_operation ∷ lines_behind s r c)
+  refused_by b c = first_line (line (not b) invalid_operation ∷ lines_after s r c)
 
   -- there is no such unit
   pub unit_lacks : slice_get (numbers_of s).units.items lun ≡ None →
@@ -250,7 +250,7 @@ module _ (s : State) (r : Request) (flags lun expected : ℕ) (bytes : List ℕ)
     there : slice_get (numbers_of s).units.items r.lun ≡ Some u
     there = ap (slice_get (numbers_of s).units.items) is.lun_is ∙ h
 
-    pub spec : spec_of s r ≡ Some u
+    pub spec : unit_numbers_of s r ≡ Some u
     spec = spec_is s r u there
 
     refused_there : (b : Bool) (c : Option Cdb) → is_among taken_operations (slice_index bytes 0) ≡ b → r.cdb ≡ c →
@@ -297,7 +297,7 @@ module _ (s : State) (r : Request) (flags lun expected : ℕ) (bytes : List ℕ)
           IfOk result (λ todo. IsTakenCdb command → todo ≡ plan_of u lun expected command) →
           (IsOk result → first_line (lines_for s r command) ≡ None) →
           IfErr result (λ told. (s : State) (r : Request) → Describes core s.translation → IsBare s permanent →
-          spec_of s r ≡ Some u → r.flags ≡ flags → r.expected ≡ expected → IsTakenCdb command →
+          unit_numbers_of s r ≡ Some u → r.flags ≡ flags → r.expected ≡ expected → IsTakenCdb command →
           first_line (lines_for s r command) ≡ Some (status_kept told)) →
           IsPlanned s r result
       read_planned core permanent (Err told) h bare planned passed refused =

@@ -7,8 +7,8 @@ use Rattle.std.proofs.lemmas.Bool.{leb-false}
 use Rattle.ufs_spec.proofs.Facts.{none-some, or_parts}
 use Rattle.ufs_spec.proofs.ReadBack.{one_message}
 use Rattle.ufs_spec.specs.Exchanges.{is_short_of, is_task_of, most_tasks, task_of}
-use Rattle.ufs_spec.specs.Machine.{Faulty, Heard, IsCdbIn, IsHeard, Spelled, cdb_of, command_heard, message_fault}
-use Rattle.ufs_spec.specs.Machine.{opened_with, opening_fault, result_of}
+use Rattle.ufs_spec.specs.Machine.{Faulty, Heard, IsCdbIn, IsHeard, Spelled, cdb_of, command_taken, message_fault}
+use Rattle.ufs_spec.specs.Machine.{refused_or_begun, opening_fault, result_of}
 use Rattle.ufs_spec.specs.Machine as machine
 use Rattle.ufs_spec.specs.Messages.{Spells, host_fault_of}
 use Rattle.ufs_spec.specs.Refusals.{Request, State, refusal}
@@ -64,10 +64,10 @@ module _ (d : DeviceCore) (s : State) (flags lun tag expected : ℕ) (cdb_bytes 
 
   -- the command is refused as a short exchange, or opens a task
   command_is : (c : Option Cdb) (b : Bool) → nat_le most_tasks (length s.tasks) ≡ b →
-      command_heard s (request c) ≡ (if b then machine.with_short s (short_kept full_reply)
-      else opened_with s (request c) (refusal s (request c)))
+      command_taken s (request c) ≡ (if b then machine.with_short s (short_kept full_reply)
+      else refused_or_begun s (request c) (refusal s (request c)))
   command_is c b e = ap (λ (x : Bool). if x then machine.with_short s (short_kept full_reply)
-      else opened_with s (request c) (refusal s (request c))) e
+      else refused_or_begun s (request c) (refusal s (request c))) e
 
   fault_is : (b : Bool) → nat_le most_tasks (length s.tasks) ≡ b → message_fault s said ≡ opening_fault s tag b
   fault_is b e = ap (opening_fault s tag) e
@@ -91,12 +91,12 @@ module _ (d : DeviceCore) (s : State) (flags lun tag expected : ℕ) (cdb_bytes 
   pub opened_right : (e : DeviceCore) → nat_le most_tasks (length d.tasks) ≡ false → uses d tag ≡ false →
       IsTaskOpened d e flags lun tag expected cdb_bytes → IsHeardAs s whole (Ok tt) e
   opened_right e many used k =
-      spelled_heard d e s (opened_with s (request command.0) (refusal s (request command.0))) whole said command.0
+      spelled_heard d e s (refused_or_begun s (request command.0) (refusal s (request command.0))) whole said command.0
       (Ok tt) h spells none command.1
       (sym (ap result_of (fault_is false (many_is false many) ∙ (task_fault d s tag h
       ∙ ap (λ (b : Bool). if b then Some TagInUse else None) used))))
       (command_is command.0 false (many_is false many))
-      (subst (λ (x : DeviceCore). IsBehind x (opened_with s (request command.0) (refusal s (request command.0))))
+      (subst (λ (x : DeviceCore). IsBehind x (refused_or_begun s (request command.0) (refusal s (request command.0))))
       (sym k.more)
       (planned_begins d s (request command.0) h free few k.layer k.todo k.phase
       (k.plan s (request command.0) h.kept.layer_kept

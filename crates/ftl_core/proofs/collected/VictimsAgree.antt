@@ -1,6 +1,6 @@
 -- What is found of the blocks in what is kept is what the specified layer has of them: the live pages of each, the
 -- block to be collected, and whether something is to be collected at all.
-use Rattle.std.proofs.Common.{◌≡◌, ◌∙◌, ◌+◌, ◌*◌, ◌&&◌, ◌||◌, Bool, true, false, not, List, [], ◌∷◌, None, ap, refl}
+use Rattle.std.proofs.Common.{◌≡◌, ◌∙◌, ◌&&◌, ◌||◌, Bool, true, false, not, List, [], ◌∷◌, None, ap, refl}
 use Rattle.std.proofs.Common.{sym, count_by, filter, length, map}
 use Rattle.std.specs.Prelude.{nat_lt}
 use Rattle.std.specs.List.{list_any}
@@ -10,7 +10,7 @@ use Rattle.ufs_spec.specs.Disk.{Spot, place_in}
 use Rattle.ufs_spec.specs.Keys.{below}
 use Rattle.ufs_spec.specs.Ledger.{entry_of}
 use Rattle.ufs_spec.specs.Translation as layer
-use Rattle.ufs_spec.specs.Translation.{Translation, count_blocks, least_of, spots}
+use Rattle.ufs_spec.specs.Translation.{Translation, count_blocks, least_of, spots, wanted_room}
 use Rattle.block_table.specs.Blocks.{is_bad, is_free}
 use Rattle.block_table.specs.Lives.{gains, has_block, is_live, live_count, spots_in}
 use Rattle.block_table.specs.declared.Sizes.{Sizes}
@@ -82,10 +82,10 @@ module _ (c : Core) (t : Translation) (h : Describes c t) where
 
   -- few blocks are free on both sides or on none
   few_agree : has_few_free c ≡
-      nat_lt (count_blocks t layer.is_free) (2 * t.numbers.dies + 4)
+      nat_lt (count_blocks t layer.is_free) (wanted_room t.numbers)
   few_agree =
       let free = ap (count_by is_free) h.kept.blocks.all ∙ free_counted t.numbers t.disk.blocks in
-      λ i. nat_lt (free i) (2 * (h.kept.numbers i).dies + 4)
+      λ i. nat_lt (free i) (wanted_room (h.kept.numbers i))
 
 -- the block that is found to be collected is the one that the layer is to collect
 pub victims_agree : (c : Core) (t : Translation) → Describes c t → victim c ≡ layer.victim t

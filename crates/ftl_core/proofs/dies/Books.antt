@@ -80,6 +80,13 @@ any_flight test [] (f ∷ fs) e = absurd (omega (arith, e))
 any_flight test (o ∷ os) [] e = refl
 any_flight test (o ∷ os) (f ∷ fs) e = ap (λ (b : Bool). test f || b) (any_flight test os fs (omega (arith, e)))
 
+-- a test of the blocks that are filled
+pub any_filling : (test : Option OpenBlock → Bool) (os : List (Option OpenBlock)) (fs : List (Option Flight)) →
+    length os ≡ length fs → list_any (λ (b : Book). test b.filling) (books_of os fs) ≡ list_any test os
+any_filling test [] fs e = refl
+any_filling test (o ∷ os) [] e = absurd (omega (arith, e))
+any_filling test (o ∷ os) (f ∷ fs) e = ap (λ (b : Bool). test o || b) (any_filling test os fs (omega (arith, e)))
+
 -- each job in flight changed in one way
 pub each_flight : (g : Option Flight → Option Flight) (os : List (Option OpenBlock)) (fs : List (Option Flight)) →
     books_of os (map g fs) ≡ map (λ (b : Book). record b { flight = g b.flight }) (books_of os fs)

@@ -2,6 +2,7 @@
 use Rattle.std.proofs.Common.{◌≡◌, ◌≤◌, ◌∙◌, ℕ, Bool, List, None, Option, length, ap, map, sym}
 use Rattle.std.specs.Prelude.{◌&&◌, is_none, not, position, slice_get, slice_set}
 use Rattle.std.specs.List.{list_any}
+use Rattle.block_table.specs.declared.OpenBlock.{OpenBlock}
 use Rattle.ftl_core.specs.declared.books.Book.{Book}
 use Rattle.ftl_core.specs.declared.books.Flight.{Flight}
 use Rattle.ftl_core.specs.declared.books.Pin.{Pin}
@@ -11,7 +12,7 @@ use Rattle.ftl_core.specs.Moves.{flight_reads, flight_set, in_flight, is_owed_by
 use Rattle.ftl_core.specs.Rooms.{books_of, core_of}
 use Rattle.ftl_core.specs.Takes.{first_owed, flight_writes, page_waits, page_waits_in}
 use Rattle.write_cache.specs.declared.slots.Pending.{Pending}
-use Rattle.ftl_core.proofs.dies.Books.{any_flight, each_flight, flight_put, no_book, none_beyond}
+use Rattle.ftl_core.proofs.dies.Books.{any_filling, any_flight, each_flight, flight_put, no_book, none_beyond}
 
 -- the same fields but for the jobs in flight
 pub core_in_flight : (f : Inside) (flights : List (Option Flight)) (c : Core) (die : ℕ) (job : Option Flight) →
@@ -42,6 +43,14 @@ pub any_now : (test : Option Flight → Bool) (f : Inside) (c : Core) →
 any_now test f c long view =
     sym (any_flight test f.blocks.filling f.flights.items long)
     ∙ ap (λ (z : Core). list_any (λ (b : Book). test b.flight) z.books) view
+
+-- what is asked of all blocks that are filled, asked of what is known of the dies
+pub any_filled_now : (test : Option OpenBlock → Bool) (f : Inside) (c : Core) →
+    length f.blocks.filling ≡ length f.flights.items → core_of f ≡ c →
+    list_any test f.blocks.filling ≡ list_any (λ (b : Book). test b.filling) c.books
+any_filled_now test f c long view =
+    sym (any_filling test f.blocks.filling f.flights.items long)
+    ∙ ap (λ (z : Core). list_any (λ (b : Book). test b.filling) z.books) view
 
 -- whether a page waits
 pub waits_now : (f : Inside) (c : Core) (p : Pending) → length f.blocks.filling ≡ length f.flights.items →

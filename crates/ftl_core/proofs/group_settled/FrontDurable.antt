@@ -9,7 +9,7 @@ use Rattle.ufs_spec.proofs.Facts.{true≢false}
 use Rattle.ufs_spec.specs.Ledger.{Entry, before_accepted, climbed, climbs, entry_in, entry_of, is_standing}
 use Rattle.ufs_spec.specs.Moves as moves
 use Rattle.ufs_spec.specs.Moves.{settled_pin}
-use Rattle.ufs_spec.specs.Translation.{Translation, is_mended, names_behind}
+use Rattle.ufs_spec.specs.Translation.{Translation, is_mended, names_after}
 use Rattle.ufs_spec.specs.declared.configs.Numbers.{Numbers}
 use Rattle.power_loss.proofs.books.FrontierClimbs.{climb}
 use Rattle.ftl_core.specs.Core.{Core}
@@ -61,7 +61,7 @@ seen u m = let l = m.top in omega arith
 pages_behind : (c : Core) (u : Translation) → Kept c u → MayClimb u → BehindKept c u.ledger
 pages_behind c u h m =
     subst (λ (gs : List keys.Group). PagesKept u.ledger.standing (entry_of u.ledger) c.pages
-    (names_behind u.ledger.frontier gs)) (pending_mended u.ledger m.top) h.ledger_kept.pages
+    (names_after u.ledger.frontier gs)) (pending_mended u.ledger m.top) h.ledger_kept.pages
 
 -- One group
 

@@ -10,7 +10,7 @@ use Rattle.ufs_spec.specs.Ledger.{Entry, Ledger, Name, all_stand, before_accepte
 use Rattle.ufs_spec.specs.Ledger.{latest_durable, latest_in, name_or, pending}
 use Rattle.ufs_spec.specs.Moves.{KeysDiffer}
 use Rattle.ufs_spec.specs.Plain.{shape_of_numbers}
-use Rattle.ufs_spec.specs.Translation.{Translation, names_behind}
+use Rattle.ufs_spec.specs.Translation.{Translation, names_after}
 use Rattle.ufs_spec.specs.declared.configs.Numbers.{Numbers}
 use Rattle.ufs_spec.specs.declared.flash.Key.{Key}
 use Rattle.power_loss.specs.Book.{IsPageAt, book}
@@ -129,7 +129,7 @@ pub record IsNextWhole (c : Core) (l : Ledger) (number : ℕ) : Type 0 where
   pub stand : AreStandingPages l.standing (suc l.frontier) 0 pages.front group
 
 abbrev pub BehindKept : Core → Ledger → Type 0
-BehindKept c l = PagesKept l.standing (entry_of l) c.pages (names_behind l.frontier (behind l))
+BehindKept c l = PagesKept l.standing (entry_of l) c.pages (names_after l.frontier (behind l))
 
 module _ (c : Core) (l : Ledger) (h : BehindKept c l) (low : l.greatest_seen ≤ l.frontier)
     (some : (j : ℕ) (g : keys.Group) → slice_get l.groups j ≡ Some g → 0 < length g) where
@@ -139,7 +139,7 @@ module _ (c : Core) (l : Ledger) (h : BehindKept c l) (low : l.greatest_seen ≤
 
   group_pages : (g : keys.Group) (gs : List keys.Group) → behind l ≡ g ∷ gs → FrontPages l g gs c.pages
   group_pages g gs e = front_pages l g gs c.pages low (group_there g gs e)
-      (subst (λ (hs : List keys.Group). PagesKept l.standing (entry_of l) c.pages (names_behind l.frontier hs)) e h)
+      (subst (λ (hs : List keys.Group). PagesKept l.standing (entry_of l) c.pages (names_after l.frontier hs)) e h)
 
   group_first : (g : keys.Group) (gs : List keys.Group) → behind l ≡ g ∷ gs → IsFirst (suc l.frontier) c.pages
   group_first g gs e = front_first l g gs c.pages (group_pages g gs e)
@@ -156,7 +156,7 @@ module _ (c : Core) (l : Ledger) (h : BehindKept c l) (low : l.greatest_seen ≤
       by [] f =
           let w = whole c.pages number e in
           absurd (subst (λ (z : List Pending × List keys.Group). PagesKept l.standing (entry_of l) z.0
-          (names_behind l.frontier z.1)) (λ i. (w.is i, f i)) h)
+          (names_after l.frontier z.1)) (λ i. (w.is i, f i)) h)
       by (g ∷ gs) f =
           let w = whole c.pages number e in
           let first = group_first g gs f in
@@ -267,7 +267,7 @@ ledger_next c l number h low right w = record {
   frontier = let e = h.frontier in omega arith;
   last_given = h.last_given;
   pages = subst (λ (hs : List keys.Group). PagesKept l.standing (entry_of l) w.pages.rest
-      (names_behind (suc l.frontier) hs)) (sym behind_next) w.pages.more;
+      (names_after (suc l.frontier) hs)) (sym behind_next) w.pages.more;
   keys = let same = places_same w.pages.front c in let long = h.keys in omega (arith, same, long);
   places = λ k isk. subst (λ (z : Option Stored × Option Name). IsStored l.standing z.0 z.1)
       (λ i. (

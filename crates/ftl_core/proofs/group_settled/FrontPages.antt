@@ -9,7 +9,7 @@ use Rattle.std.proofs.lemmas.List.Elements.{filter-append}
 use Rattle.std.proofs.lemmas.List.Folds.{list_any-append}
 use Rattle.ufs_spec.specs.Keys.{Group, Item, below}
 use Rattle.ufs_spec.specs.Ledger.{Entry, Ledger, Name, all_stand, entry_in, entry_of}
-use Rattle.ufs_spec.specs.Translation.{names_behind, names_of}
+use Rattle.ufs_spec.specs.Translation.{names_after, names_of}
 use Rattle.ufs_spec.specs.declared.flash.Key.{Key}
 use Rattle.ufs_spec.specs.declared.flash.Place.{Place}
 use Rattle.ufs_spec.proofs.Facts.{and_parts, eq-eqb, false≢true, lt-leb, or_parts, or_with_false, same_Some}
@@ -171,7 +171,7 @@ pub record FrontPages (l : Ledger) (g : Group) (gs : List Group) (ps : List Pend
   pub rest : List Pending
   pub is : ps ≡ front ++ rest
   pub items : AreItemPages l.standing (suc l.frontier) 0 front g
-  pub more : PagesKept l.standing (entry_of l) rest (names_behind (suc l.frontier) gs)
+  pub more : PagesKept l.standing (entry_of l) rest (names_after (suc l.frontier) gs)
 
 -- what the page of the first group behind the frontier has
 pub entry_next : (l : Ledger) (g : Group) (k : ℕ) → l.greatest_seen ≤ l.frontier →
@@ -190,7 +190,7 @@ entry_next l g k low there =
 
 pub front_pages : (l : Ledger) (g : Group) (gs : List Group) (ps : List Pending) → l.greatest_seen ≤ l.frontier →
     slice_get l.groups (l.frontier - l.greatest_seen) ≡ Some g →
-    PagesKept l.standing (entry_of l) ps (names_behind l.frontier (g ∷ gs)) → FrontPages l g gs ps
+    PagesKept l.standing (entry_of l) ps (names_after l.frontier (g ∷ gs)) → FrontPages l g gs ps
 front_pages l g gs ps low there h = record {
   front = take (length names) ps;
   rest = drop (length names) ps;
@@ -210,9 +210,9 @@ front_pages l g gs ps low there h = record {
     same k = omega arith
 
     both : PagesKept l.standing (entry_of l) (take (length names) ps) names
-        × PagesKept l.standing (entry_of l) (drop (length names) ps) (names_behind (suc l.frontier) gs)
-    both = pages_apart l.standing (entry_of l) ps names (names_behind (suc l.frontier) gs)
-        (subst (λ (m : ℕ). PagesKept l.standing (entry_of l) ps (names_of m g ++ names_behind m gs)) next h)
+        × PagesKept l.standing (entry_of l) (drop (length names) ps) (names_after (suc l.frontier) gs)
+    both = pages_apart l.standing (entry_of l) ps names (names_after (suc l.frontier) gs)
+        (subst (λ (m : ℕ). PagesKept l.standing (entry_of l) ps (names_of m g ++ names_after m gs)) next h)
 
     count : length (take (length names) ps) ≡ length names
     count = same_count l.standing (entry_of l) (take (length names) ps) names both.0
@@ -267,8 +267,8 @@ items_number st n i (q ∷ ps) (x ∷ xs) h (suc k) p at = items_number st n (su
 module _ (l : Ledger) (g : Group) (gs : List Group) (ps : List Pending) (f : FrontPages l g gs ps) where
   rest_other : (k : ℕ) (p : Pending) → slice_get f.rest k ≡ Some p → is_of_group (suc l.frontier) p ≡ false
   rest_other k p at =
-      let r = pages_get l.standing (entry_of l) f.rest (names_behind (suc l.frontier) gs) k p f.more at in
-      let above = (in_names (suc l.frontier) gs r.0 (at_has (names_behind (suc l.frontier) gs) k r.0 r.1)).above in
+      let r = pages_get l.standing (entry_of l) f.rest (names_after (suc l.frontier) gs) k p f.more at in
+      let above = (in_names (suc l.frontier) gs r.0 (at_has (names_after (suc l.frontier) gs) k r.0 r.1)).above in
       let number = r.2.number in
       grind (arith, above, number)
 

@@ -2,7 +2,7 @@
 use Rattle.std.proofs.Common.{◌≡◌, ℕ, true, List, Some, sym, subst}
 use Rattle.std.specs.Prelude.{slice_set}
 use Rattle.ufs_spec.specs.Moves as moves
-use Rattle.ufs_spec.specs.Moves.{step_behind}
+use Rattle.ufs_spec.specs.Moves.{step_after}
 use Rattle.ufs_spec.specs.Translation.{Translation, is_mended, name_of}
 use Rattle.ufs_spec.specs.declared.flash.Tag.{Tag}
 use Rattle.block_table.specs.Lives.{with_live}
@@ -43,7 +43,7 @@ module _ (c : Core) (t : Translation) (die : ℕ) (b : Book) (o : OpenBlock) (ta
   mended : is_mended t.work.mending ≡ true
   mended = flown_mended c t die b o tag body h f
 
-  no_repair : IsRepair (step_behind (name_of tag) t.work.step) → ⊥
+  no_repair : IsRepair (step_after (name_of tag) t.work.step) → ⊥
   no_repair r = no_repair_mended t h.valid
       (subst IsRepair (step_stays t.ledger c.step c.content t.work.step (name_of tag) h.kept.work.step_is
       (flown_new c t die b o tag body h.kept f) f.beside) r)

@@ -7,9 +7,9 @@ use Rattle.ufs_spec.specs.Disk as disk
 use Rattle.ufs_spec.specs.Disk.{at_spot, programmed}
 use Rattle.ufs_spec.specs.Keys as keys
 use Rattle.ufs_spec.specs.Ledger.{Entry, Name}
-use Rattle.ufs_spec.specs.Moves.{step_behind}
+use Rattle.ufs_spec.specs.Moves.{step_after}
 use Rattle.ufs_spec.specs.Translation.{Mended, Mending, Repairing, Step, Translation, Unmarked, flies_name}
-use Rattle.ufs_spec.specs.Translation.{is_bad, is_mended, name_of, names_behind}
+use Rattle.ufs_spec.specs.Translation.{is_bad, is_mended, name_of, names_after}
 use Rattle.ufs_spec.specs.declared.configs.Numbers.{Numbers}
 use Rattle.ufs_spec.specs.declared.flash.Place.{Place}
 use Rattle.ufs_spec.specs.declared.flash.Tag.{Tag}
@@ -45,7 +45,7 @@ abbrev pub with_group_page : Translation → Place → Tag → List ℕ → Tran
 with_group_page t p tag body = record t {
   disk = programmed t.numbers.pages t.disk p (GroupPage tag body);
   ledger = with_page t.ledger (name_of tag) p;
-  work = record t.work { step = step_behind (name_of tag) t.work.step };
+  work = record t.work { step = step_after (name_of tag) t.work.step };
 }
 
 -- a page of a group is in flight to the next page of the die's open block
@@ -115,7 +115,7 @@ pending_of c t name e h mended above known =
     let seen = h.valid.frontier.above in
     let g = in_group (book t) name.number name.index e (omega (arith, above, seen)) known in
     is_pending c t.ledger name h.kept.ledger_kept.pages
-    (subst (λ (gs : List keys.Group). IsIn name (names_behind t.ledger.frontier gs))
+    (subst (λ (gs : List keys.Group). IsIn name (names_after t.ledger.frontier gs))
     (sym (pending_mended t.ledger (h.kept.work.repaired mended)))
     (names_in t.ledger.frontier (behind t.ledger) name (record {
       above = above;

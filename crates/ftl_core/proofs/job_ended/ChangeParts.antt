@@ -7,7 +7,7 @@ use Rattle.ufs_spec.specs.Cells.{Cells, Mark}
 use Rattle.ufs_spec.specs.declared.configs.Numbers.{Numbers}
 use Rattle.ufs_spec.specs.declared.flash.Place.{Place}
 use Rattle.ufs_spec.specs.Disk as disk
-use Rattle.ufs_spec.specs.Disk.{Spot, at_die, at_spot, state_behind}
+use Rattle.ufs_spec.specs.Disk.{Spot, at_die, at_spot, state_after}
 use Rattle.ufs_spec.specs.Ledger.{Ledger, entry_of}
 use Rattle.ufs_spec.specs.Translation.{Translation, Work, is_bad, is_mended, spots}
 use Rattle.power_loss.proofs.books.SmallFacts.{at_spot_cases, if_false, if_true}
@@ -200,8 +200,8 @@ blocks_lost c t die block k there within =
 
 -- a block that is written next is closed with its last page
 page_ways : (pages next : ℕ) → next < pages →
-    ((nat_lt next (pages - 1) ≡ true) × (state_behind pages next ≡ disk.Filling (next + 1))) ⊎
-    ((nat_lt next (pages - 1) ≡ false) × (state_behind pages next ≡ disk.Closed))
+    ((nat_lt next (pages - 1) ≡ true) × (state_after pages next ≡ disk.Filling (next + 1))) ⊎
+    ((nat_lt next (pages - 1) ≡ false) × (state_after pages next ≡ disk.Closed))
 page_ways pages next within = ⊎_elim
     (λ (h : ((next + 1 == pages) ≡ true) × (next + 1 ≡ pages)). inr
     (let e = h.1 in at_end next pages e, if_true (next + 1 == pages) disk.Closed (disk.Filling (next + 1)) h.0))
@@ -222,7 +222,7 @@ pub page_ends : (now : Core) (die : ℕ) (b : Book) (o : OpenBlock) (pages : ℕ
     (u (disk.Filling (o.next + 1))) →
     Kept (with_book (with_state now die o.block state.Closed) die record { filling = None; flight = None })
     (u disk.Closed) →
-    Kept (page_written now die b (Some o)) (u (state_behind pages o.next))
+    Kept (page_written now die b (Some o)) (u (state_after pages o.next))
 page_ends now die b o pages u same within on last = ⊎_elim
     (λ w. subst (λ (z : Core × disk.BlockState). Kept z.0 (u z.1))
     (λ i. (

@@ -10,7 +10,7 @@ use Rattle.ufs_spec.specs.Disk as disk
 use Rattle.ufs_spec.specs.Disk.{at_place, at_spot}
 use Rattle.ufs_spec.specs.Ledger.{Entry, Ledger, Name, entry_of}
 use Rattle.ufs_spec.specs.Moves as moves
-use Rattle.ufs_spec.specs.Moves.{step_behind}
+use Rattle.ufs_spec.specs.Moves.{step_after}
 use Rattle.ufs_spec.specs.Translation as layer
 use Rattle.ufs_spec.specs.Translation.{CopyStep, Mended, Translation, flies_name, is_bad, is_mended, name_of}
 use Rattle.ufs_spec.specs.declared.configs.Numbers.{Numbers}
@@ -113,10 +113,10 @@ module _ (c : Core) (t : Translation) (die : ℕ) (b : Book) (o : OpenBlock) (ta
       (same_Some _ copy.right.entry (sym (h.valid.flights.known die place tag body flies) ∙ known))
       ∙ copy.right.key
 
-  ends_with_page : step_behind name t.work.step ≡ None
+  ends_with_page : step_after name t.work.step ≡ None
   ends_with_page =
-      ap (step_behind name) copy.step
-      ∙ subst (λ (z : Name). step_behind z (Some (record { kind = CopyStep copy.name from; there = true })) ≡ None)
+      ap (step_after name) copy.step
+      ∙ subst (λ (z : Name). step_after z (Some (record { kind = CopyStep copy.name from; there = true })) ≡ None)
       (sym same_name)
       (if_true _ None (Some (record { kind = CopyStep copy.name from; there = true })) (name_self copy.name))
 
@@ -182,7 +182,7 @@ module _ (c : Core) (t : Translation) (die : ℕ) (b : Book) (o : OpenBlock) (ta
   may_climb = record {
     top = h.kept.work.repaired mended;
     mended = mended;
-    no_repair = λ (r : IsRepair (step_behind name t.work.step)).
+    no_repair = λ (r : IsRepair (step_after name t.work.step)).
         let e : None ≡ Some _ = sym ends_with_page ∙ r.3 in cc;
     groups = record { are_keys = right.are_keys; differ = right.differ; some = right.some };
   }

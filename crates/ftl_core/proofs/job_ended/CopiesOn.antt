@@ -13,7 +13,7 @@ use Rattle.ufs_spec.specs.Ledger.{Name}
 use Rattle.ufs_spec.specs.Moves as moves
 use Rattle.ufs_spec.specs.Translation as layer
 use Rattle.ufs_spec.specs.Moves.{EndJob, Ending, MayEnd, ReadRight, ReadWrong, WentWell, WentWrong, end_flight, is_kind_of}
-use Rattle.ufs_spec.specs.Moves.{job_ended, mark_again, moved, step_behind, step_there}
+use Rattle.ufs_spec.specs.Moves.{job_ended, mark_again, moved, step_after, step_there}
 use Rattle.ufs_spec.specs.Translation.{CopyStep, Order, OrderCopy, OrderMark, OrderPlanMark, OrderRepair, Step}
 use Rattle.ufs_spec.specs.Translation.{StepKind, Translation, Want}
 use Rattle.ufs_spec.specs.Translation.{copy_begun, due_order, has_mark_number, mark_ordered, name_of, repair_ordered}
@@ -37,7 +37,7 @@ not_there name from (Some s) e = true≢false (ap there_in e)
     there_in None = false
     there_in (Some x) = x.there
 
-not_behind : (m name : Name) (from : Place) (w : Option Step) → step_behind m w ≡ Some (copying name from) →
+not_behind : (m name : Name) (from : Place) (w : Option Step) → step_after m w ≡ Some (copying name from) →
     w ≡ Some (copying name from)
 not_behind m name from None e = e
 not_behind m name from (Some s) e = by (is_kind_of m s.kind) e
@@ -243,7 +243,7 @@ module _ (t : Translation) (v : Valid t) (plan : Option Collection) (plan_is : t
       on (at_place t.disk.cells p Nothing) t.work.step (λ n f e. e)
       (λ f u b at. stays_put t v f u b at die p Nothing flies)
   ended die (disk.Programming p (GroupPage tag body)) WentWell flies may =
-      on (at_place t.disk.cells p (GroupPage tag body)) (step_behind (name_of tag) t.work.step)
+      on (at_place t.disk.cells p (GroupPage tag body)) (step_after (name_of tag) t.work.step)
       (λ n f e. not_behind (name_of tag) n f t.work.step e)
       (λ f u b at. stays_put t v f u b at die p (GroupPage tag body) flies)
   ended die (disk.Programming p (MarkPage m)) WentWell flies may =

@@ -9,11 +9,11 @@ use Rattle.ufs_spec.specs.declared.configs.Numbers.{Numbers}
 use Rattle.ufs_spec.specs.declared.flash.Fence.{Fence}
 use Rattle.ufs_spec.specs.declared.flash.Key.{Key}
 use Rattle.ufs_spec.specs.Disk as disk
-use Rattle.ufs_spec.specs.Disk.{Spot, at_place, state_behind}
+use Rattle.ufs_spec.specs.Disk.{Spot, at_place, state_after}
 use Rattle.ufs_spec.specs.declared.flash.Place.{Place}
 use Rattle.ufs_spec.specs.Ledger.{Ledger, Name, before_accepted}
 use Rattle.ufs_spec.specs.Moves.{cell_failed, mark_again}
-use Rattle.ufs_spec.specs.Moves.{mark_written as layer_written, mending_behind}
+use Rattle.ufs_spec.specs.Moves.{mark_written as layer_written, mending_after}
 use Rattle.ufs_spec.specs.Translation as layer
 use Rattle.ufs_spec.specs.Translation.{MarkStep, Mended, Mending, Plan, Repairing, StepKind, Translation, Unmarked}
 use Rattle.ufs_spec.specs.Translation.{is_bad, is_mended}
@@ -47,13 +47,13 @@ use Rattle.ftl_core.proofs.job_taken.Flown.{die_within, fly_over}
 -- What follows a mark
 
 mended_behind : (m : kept.Mending) (left : List Key) →
-    mending_behind (mending_kept m left) ≡ mending_kept (ends.mending_behind m) left
+    mending_after (mending_kept m left) ≡ mending_kept (ends.mending_after m) left
 mended_behind (mendings.Unmarked (Some fence)) left = refl
 mended_behind (mendings.Unmarked None) left = refl
 mended_behind mendings.Repairing left = refl
 mended_behind mendings.Mended left = refl
 
-not_before : (m : Mending) → is_mended (mending_behind m) ≡ false → is_mended m ≡ false
+not_before : (m : Mending) → is_mended (mending_after m) ≡ false → is_mended m ≡ false
 not_before (Unmarked None lost) e = absurd (true≢false e)
 not_before (Unmarked (Some fence) lost) e = refl
 not_before (Repairing left) e = refl
@@ -89,13 +89,13 @@ no_repair e = true≢false (ap is_repair e)
 durable_behind : (t : Translation) (n : ℕ) (fence : Option Fence) → Valid t →
     t.work.step ≡ Some (mark_step n fence true) →
     (is_mended t.work.mending ≡ true → before_accepted t.ledger ≤ t.ledger.frontier) →
-    is_mended (mending_behind t.work.mending) ≡ true → before_accepted t.ledger ≤ t.ledger.frontier
+    is_mended (mending_after t.work.mending) ≡ true → before_accepted t.ledger ≤ t.ledger.frontier
 durable_behind t n fence v step before = by t.work.mending refl
   where
     right : (m : Mending) → t.work.mending ≡ m → MendingRight (book t) t.disk t.ledger t.work.plan t.work.step m
     right m e = subst (MendingRight (book t) t.disk t.ledger t.work.plan t.work.step) e v.mending
 
-    by : (m : Mending) → t.work.mending ≡ m → is_mended (mending_behind m) ≡ true →
+    by : (m : Mending) → t.work.mending ≡ m → is_mended (mending_after m) ≡ true →
         before_accepted t.ledger ≤ t.ledger.frontier
     by (Unmarked None lost) e k =
         let r = right (Unmarked None lost) e in
@@ -125,7 +125,7 @@ mark_stands t die o m x =
     over t die (blocks_with t die o.block x) (at_place t.disk.cells (next_place die o) (MarkPage m))
     (at_place t.disk.finished (next_place die o) true) t.disk.erasing
     (record t.ledger { newest = Some m })
-    (record t.work { mending = mending_behind t.work.mending; step = None })
+    (record t.work { mending = mending_after t.work.mending; step = None })
 
 module _ (c : Core) (t : Translation) (die : ℕ) (b : Book) (o : OpenBlock) (m : Mark) (n : ℕ) (fence : Option Fence)
     (h : Describes c t) (there : slice_get c.books die ≡ Some b) (fills : b.filling ≡ Some o)
@@ -144,19 +144,19 @@ module _ (c : Core) (t : Translation) (die : ℕ) (b : Book) (o : OpenBlock) (m 
   mark_parts : (x : disk.BlockState) (states : List BlockState) (f : Option OpenBlock) →
       BlocksKept t.numbers (blocks_with t die o.block x) states c.has_bad →
       IsFilling t.numbers (blocks_with t die o.block x) die f →
-      Kept (changed c states (books_with c die f) c.has_bad c.pages (ends.mending_behind c.mending) None c.next_mark)
+      Kept (changed c states (books_with c die f) c.has_bad c.pages (ends.mending_after c.mending) None c.next_mark)
       (mark_stands t die o m x)
   mark_parts x states f bs fs =
-      kept_beside c t die o.block b x f states c.has_bad c.pages (ends.mending_behind c.mending) None c.next_mark
+      kept_beside c t die o.block b x f states c.has_bad c.pages (ends.mending_after c.mending) None c.next_mark
       (at_place t.disk.cells (next_place die o) (MarkPage m))
       (at_place t.disk.finished (next_place die o) true) t.disk.erasing
       (record t.ledger { newest = Some m })
-      (record t.work { mending = mending_behind t.work.mending; step = None })
+      (record t.work { mending = mending_after t.work.mending; step = None })
       h.kept there bs fs
       (fly_over t.ledger.standing t.disk.flights die c.books f h.kept.fly)
       (ledger_marked c.numbers c.places c.pages c.frontier c.last t.ledger (Some m) t.ledger.marks h.kept.ledger_kept)
       record {
-        mending_is = ap mending_behind h.kept.work.mending_is ∙ mended_behind c.mending left;
+        mending_is = ap mending_after h.kept.work.mending_is ∙ mended_behind c.mending left;
         step_is = tt;
         to_repair = λ e.
             left_kept t.ledger (record t.ledger { newest = Some m }) c.step n fence left step
@@ -172,7 +172,7 @@ module _ (c : Core) (t : Translation) (die : ℕ) (b : Book) (o : OpenBlock) (m 
       (λ e. h.kept.readers (not_before t.work.mending e))
 
   mark_on : Kept (changed c c.states (books_with c die (Some (record { block = o.block; next = o.next + 1 })))
-      c.has_bad c.pages (ends.mending_behind c.mending) None c.next_mark)
+      c.has_bad c.pages (ends.mending_after c.mending) None c.next_mark)
       (mark_stands t die o m (disk.Filling (o.next + 1)))
   mark_on = mark_parts (disk.Filling (o.next + 1)) c.states (Some (record { block = o.block; next = o.next + 1 }))
       (blocks_on t.numbers t.disk.blocks c.states c.has_bad (spot_at die o.block) o.next
@@ -180,7 +180,7 @@ module _ (c : Core) (t : Translation) (die : ℕ) (b : Book) (o : OpenBlock) (m 
       (filling_on t.numbers t.disk.blocks die o (o.next + 1) filling)
 
   mark_last : Kept (changed c (states_with c die o.block state.Closed)
-      (books_with c die None) c.has_bad c.pages (ends.mending_behind c.mending) None c.next_mark)
+      (books_with c die None) c.has_bad c.pages (ends.mending_after c.mending) None c.next_mark)
       (mark_stands t die o m disk.Closed)
   mark_last = mark_parts disk.Closed (states_with c die o.block state.Closed) None
       (blocks_put c t die o.block disk.Closed h.kept (die_within c t die b h.kept there) filling.0
@@ -188,7 +188,7 @@ module _ (c : Core) (t : Translation) (die : ℕ) (b : Book) (o : OpenBlock) (m 
       (filling_over t.numbers t.disk.blocks die o disk.Closed closed_fills filling)
 
   mark_done : Kept (page_written (mark_over c) die b (Some o))
-      (mark_stands t die o m (state_behind t.numbers.pages o.next))
+      (mark_stands t die o m (state_after t.numbers.pages o.next))
   mark_done =
       page_ends (mark_over c) die b o t.numbers.pages (mark_stands t die o m)
       (ap (λ (n : Numbers). n.pages) h.kept.numbers) (h.valid.blocks.filling (spot_at die o.block) o.next filling.1)
@@ -196,7 +196,7 @@ module _ (c : Core) (t : Translation) (die : ℕ) (b : Book) (o : OpenBlock) (m 
 
   -- the block of a plan is another one than the mark's, and not filled
   freeable : (p : Collection) → (page_written (mark_over c) die b (Some o)).plan ≡ Some p →
-      IsFreeable (mark_stands t die o m (state_behind t.numbers.pages o.next)) p.victim
+      IsFreeable (mark_stands t die o m (state_after t.numbers.pages o.next)) p.victim
   freeable p is =
       let planned = sym (plan_stays (mark_over c) die b (Some o)) ∙ is in
       let inside = h.kept.plan.inside p planned in
@@ -205,8 +205,8 @@ module _ (c : Core) (t : Translation) (die : ℕ) (b : Book) (o : OpenBlock) (m 
         die = inside.0;
         block = inside.1;
         state = ⊎_elim
-            (λ e. inl (beside (state_behind t.numbers.pages o.next) p.victim disk.Closed closed_fills e ∙ e))
-            (λ e. inr (beside (state_behind t.numbers.pages o.next) p.victim disk.Bad bad_fills e ∙ e))
+            (λ e. inl (beside (state_after t.numbers.pages o.next) p.victim disk.Closed closed_fills e ∙ e))
+            (λ e. inr (beside (state_after t.numbers.pages o.next) p.victim disk.Bad bad_fills e ∙ e))
             right.state;
       }
     where
@@ -223,7 +223,7 @@ module _ (c : Core) (t : Translation) (die : ℕ) (b : Book) (o : OpenBlock) (m 
       subst (λ (f : Option OpenBlock). Kept (plan_over (page_written (mark_over c) die b f))
       (layer_written t (next_place die o) m)) (sym fills)
       (plan_frees (page_written (mark_over c) die b (Some o))
-      (mark_stands t die o m (state_behind t.numbers.pages o.next)) mark_done freeable)
+      (mark_stands t die o m (state_after t.numbers.pages o.next)) mark_done freeable)
 
 -- A mark could not be written
 

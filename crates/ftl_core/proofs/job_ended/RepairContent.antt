@@ -97,7 +97,7 @@ base_page t k s v not_mended known stands =
     r = stored_name t.ledger.standing s (t.ledger.first_page k) stands
 
     secure : IsSecure t.ledger.standing t.disk.cells t.disk.finished t.disk.blocks t.disk.erasing r.0.number r.0.index
-    secure = v.unmended.stand not_mended r.0.number r.0.index s.place r.3
+    secure = v.unmended.stand not_mended k r.0 s.place known r.1 r.3
 
     at : secure.place ≡ s.place
     at = same_Some secure.place s.place (sym secure.known ∙ r.3)

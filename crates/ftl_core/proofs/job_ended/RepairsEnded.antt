@@ -5,11 +5,11 @@ use Rattle.std.specs.Prelude.{is_some, option_map, slice_get}
 use Rattle.ufs_spec.proofs.Facts.{false≢true}
 use Rattle.ufs_spec.specs.Cells.{GroupPage}
 use Rattle.ufs_spec.specs.Disk as disk
-use Rattle.ufs_spec.specs.Disk.{at_place, at_spot, programmed, state_behind}
+use Rattle.ufs_spec.specs.Disk.{at_place, at_spot, programmed, state_after}
 use Rattle.ufs_spec.specs.Keys.{IsKey, Item}
 use Rattle.ufs_spec.specs.Ledger.{Ledger, Name, climbed, entry_of, is_standing}
 use Rattle.ufs_spec.specs.Moves as moves
-use Rattle.ufs_spec.specs.Moves.{settled_pin, step_behind}
+use Rattle.ufs_spec.specs.Moves.{settled_pin, step_after}
 use Rattle.ufs_spec.specs.Plain.{shape_of_numbers}
 use Rattle.ufs_spec.specs.Translation as layer
 use Rattle.ufs_spec.specs.Translation.{RepairStep, Translation, flies_name, is_bad, is_mended, name_of}
@@ -79,10 +79,10 @@ key_known t n k from there content v r = v.book_right.keys n 0 _ r.entry
 
 -- it ends with its page
 ends_with_page : (name other : Name) (from : Option Place) (w : Option layer.Step) → name ≡ other →
-    w ≡ Some (repair_step other from true) → step_behind name w ≡ None
+    w ≡ Some (repair_step other from true) → step_after name w ≡ None
 ends_with_page name other from w same is =
-    ap (step_behind name) is
-    ∙ subst (λ (z : Name). step_behind z (Some (repair_step other from true)) ≡ None) (sym same)
+    ap (step_after name) is
+    ∙ subst (λ (z : Name). step_after z (Some (repair_step other from true)) ≡ None) (sym same)
     (if_true _ None (Some (repair_step other from true)) (name_self other))
 
 -- The page stands
@@ -162,7 +162,7 @@ module _ (c : Core) (t : Translation) (die : ℕ) (b : Book) (o : OpenBlock) (ta
   page_stands x states f bs fs =
       kept_beside c t die o.block b x f states c.has_bad c.pages c.mending None c.next_mark
       (at_place t.disk.cells place (GroupPage tag body)) (at_place t.disk.finished place true) t.disk.erasing
-      (with_page t.ledger name place) (record t.work { step = step_behind name t.work.step })
+      (with_page t.ledger name place) (record t.work { step = step_after name t.work.step })
       h.kept there bs fs
       (fly_written t.ledger.standing t.disk.flights die c.books f name place h.kept.fly (writers_fly c t h.kept) flown)
       ledger_stands
@@ -242,7 +242,7 @@ module _ (c : Core) (t : Translation) (die : ℕ) (b : Book) (o : OpenBlock) (ta
   }
 
   page_over : Kept (page_written (repair_over c k place) die b (Some o))
-      (raised_to (repair_written t die o tag body (state_behind t.numbers.pages o.next)) (suc t.ledger.frontier))
+      (raised_to (repair_written t die o tag body (state_after t.numbers.pages o.next)) (suc t.ledger.frontier))
   page_over =
       page_ends (repair_over c k place) die b o t.numbers.pages
       (λ (x : disk.BlockState). raised_to (repair_written t die o tag body x) (suc t.ledger.frontier))

@@ -9,6 +9,7 @@ use Rattle.ufs_spec.proofs.Facts.{true≢false}
 use Rattle.ufs_spec.specs.Cells.{Cell, GroupPage, MarkPage}
 use Rattle.ufs_spec.specs.Disk as disk
 use Rattle.ufs_spec.specs.Disk.{ForNobody, ForStep, ForTask, Spot, at_die}
+use Rattle.ufs_spec.specs.Keys.{below}
 use Rattle.ufs_spec.specs.Ledger.{Ledger, Name, same_name}
 use Rattle.ufs_spec.specs.Translation as layer
 use Rattle.ufs_spec.specs.Translation.{Translation, flies_mark, flies_name, flies_reader, name_of}
@@ -46,27 +47,36 @@ same_tests true false f g = sym (f refl)
 same_tests false true f g = g refl
 same_tests false false f g = refl
 
-books_agree : (c : Core) (t : Translation) (kept : Book → Bool) (is : Option disk.Flight → Bool) → Kept c t →
+-- what is asked of each book is what is asked of each die
+pub dies_agree : (c : Core) (t : Translation) (kept : Book → Bool) (is : ℕ → Bool) → Kept c t →
     ((die : ℕ) (b : Book) → slice_get c.books die ≡ Some b →
-    IsFlight t.numbers c.step die b.filling b.flight (t.disk.flights die) → kept b ≡ is (t.disk.flights die)) →
-    list_any kept c.books ≡ some_flight t is
-books_agree c t kept is k same = same_tests (list_any kept c.books) (some_flight t is) there back
+    BookKept t.numbers t.disk.blocks c.step die b (t.disk.flights die) → kept b ≡ is die) →
+    list_any kept c.books ≡ list_any is (below t.numbers.dies)
+dies_agree c t kept is k same = same_tests (list_any kept c.books) (list_any is (below t.numbers.dies)) there back
   where
-    there : list_any kept c.books ≡ true → some_flight t is ≡ true
+    there : list_any kept c.books ≡ true → list_any is (below t.numbers.dies) ≡ true
     there e =
         let r = any_told kept c.books e in
         let w = slice_get_within c.books r.0 r.1 r.2 in
         let d = k.dies.dies in
-        some_here t.numbers.dies r.0 (λ (die : ℕ). is (t.disk.flights die)) (omega (arith, w, d))
-        (sym (same r.0 r.1 r.2 (k.dies.each r.0 r.1 r.2).job) ∙ r.3)
+        some_here t.numbers.dies r.0 is (omega (arith, w, d))
+        (sym (same r.0 r.1 r.2 (k.dies.each r.0 r.1 r.2)) ∙ r.3)
 
-    back : some_flight t is ≡ true → list_any kept c.books ≡ true
+    back : list_any is (below t.numbers.dies) ≡ true → list_any kept c.books ≡ true
     back e =
-        let r = some_told t.numbers.dies (λ (die : ℕ). is (t.disk.flights die)) e in
+        let r = some_told t.numbers.dies is e in
         let w = r.1 in
         let d = k.dies.dies in
         let b = get_there c.books r.0 (omega (arith, w, d)) in
-        any_here kept c.books r.0 b.0 b.1 (same r.0 b.0 b.1 (k.dies.each r.0 b.0 b.1).job ∙ r.2)
+        any_here kept c.books r.0 b.0 b.1 (same r.0 b.0 b.1 (k.dies.each r.0 b.0 b.1) ∙ r.2)
+
+-- what is asked of each kept job is what is asked of each job in flight
+pub books_agree : (c : Core) (t : Translation) (kept : Book → Bool) (is : Option disk.Flight → Bool) → Kept c t →
+    ((die : ℕ) (b : Book) → slice_get c.books die ≡ Some b →
+    IsFlight t.numbers c.step die b.filling b.flight (t.disk.flights die) → kept b ≡ is (t.disk.flights die)) →
+    list_any kept c.books ≡ some_flight t is
+books_agree c t kept is k same =
+    dies_agree c t kept (λ die. is (t.disk.flights die)) k (λ die b at book. same die b at book.job)
 
 -- whether a die reads for this block of the reader
 pub reads_agree : (c : Core) (t : Translation) (reader index : ℕ) → Kept c t →

@@ -6,7 +6,7 @@ use Rattle.ufs_spec.proofs.Facts.{false≢true}
 use Rattle.ufs_spec.specs.Keys as keys
 use Rattle.ufs_spec.specs.Ledger.{Entry, Name, accepted_groups, before_accepted, entry_of}
 use Rattle.ufs_spec.specs.Translation as layer
-use Rattle.ufs_spec.specs.Translation.{Translation, is_mended, names_behind}
+use Rattle.ufs_spec.specs.Translation.{Translation, is_mended, names_after}
 use Rattle.power_loss.specs.Book.{book}
 use Rattle.power_loss.specs.Invariant.{StepKindRight, Valid}
 use Rattle.power_loss.proofs.books.PagesByName.{none_some}
@@ -37,7 +37,7 @@ pub none_waiting : (c : Core) (t : Translation) → Describes c t → is_mended 
 none_waiting c t h unmended =
     no_pages t.ledger.standing (entry_of t.ledger) c.pages
     (subst (λ (gs : List keys.Group).
-    PagesKept t.ledger.standing (entry_of t.ledger) c.pages (names_behind t.ledger.frontier gs))
+    PagesKept t.ledger.standing (entry_of t.ledger) c.pages (names_after t.ledger.frontier gs))
     (ap (drop (t.ledger.frontier - before_accepted t.ledger)) (none_accepted t h.valid unmended)
     ∙ drop_nothing (t.ledger.frontier - before_accepted t.ledger)) h.kept.ledger_kept.pages)
 

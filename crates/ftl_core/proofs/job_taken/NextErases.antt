@@ -1,21 +1,20 @@
 -- The block of a die that is erased next.
 use Rattle.std.proofs.Common.{◌≡◌, ◌∙◌, ℕ, zero, suc, ◌+◌, ◌*◌, ◌<◌, ◌&&◌, not, Bool, true, false, Option, Some, None}
-use Rattle.std.proofs.Common.{length, slice_get, count_by, option_map, refl, sym, ap, arith}
-use Rattle.std.specs.Prelude.{nat_lt, unwrap_or}
+use Rattle.std.proofs.Common.{slice_get, option_map, refl, sym, ap, arith}
+use Rattle.std.specs.Prelude.{unwrap_or}
 use Rattle.ufs_spec.specs.Disk as disk
 use Rattle.ufs_spec.specs.Disk.{Spot}
 use Rattle.ufs_spec.specs.Ledger.{entry_of}
-use Rattle.ufs_spec.specs.Translation as layer
 use Rattle.ufs_spec.specs.Translation.{Translation, may_be_erased, next_erase}
 use Rattle.ufs_spec.specs.declared.configs.Numbers.{Numbers}
 use Rattle.block_table.specs.declared.BlockState.TheVariants as state
 use Rattle.ftl_core.specs.Core.{Core}
 use Rattle.ftl_core.specs.Describes.{Describes, Kept, block_kept, spot_at}
-use Rattle.ftl_core.specs.Moves.{free_blocks, is_erasable, state_of}
+use Rattle.ftl_core.specs.Moves.{is_erasable, state_of}
 use Rattle.block_table.specs.Blocks.{is_free}
 use Rattle.ftl_core.specs.Takes.{found_or, lowest_below}
 use Rattle.ftl_core.proofs.pins.PinsAlike.{pinned_as}
-use Rattle.ftl_core.proofs.opened.Spots.{found_lowest, free_counted, same_free, state_there}
+use Rattle.ftl_core.proofs.opened.Spots.{found_lowest, same_free, state_there}
 
 -- The lowest that passes
 
@@ -96,11 +95,3 @@ pub block_right : (c : Core) (t : Translation) (die block : ℕ) → Describes c
 block_right c t die block h there found =
     (lowest_passes (λ b. may_be_erased t (spot_at die b)) t.numbers.blocks block
     (sym (block_same c t die h there) ∙ found)).0
-
--- enough blocks are free, or too few
-pub opens_alike : (c : Core) (t : Translation) → Describes c t →
-    layer.may_open t ≡ nat_lt (length c.books + 2) (free_blocks c)
-opens_alike c t h =
-    let dies = h.kept.dies.dies in
-    let free = ap (count_by is_free) h.kept.blocks.all ∙ free_counted t.numbers t.disk.blocks in
-    sym (λ i. nat_lt (dies i + 2) (free i))

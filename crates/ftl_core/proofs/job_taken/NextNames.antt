@@ -7,7 +7,7 @@ use Rattle.ufs_spec.specs.Keys as keys
 use Rattle.ufs_spec.specs.Keys.{below}
 use Rattle.ufs_spec.specs.Ledger.{Entry, Name, accepted_groups, before_accepted, entry_of, pending}
 use Rattle.ufs_spec.specs.Translation as layer
-use Rattle.ufs_spec.specs.Translation.{Translation, flies_name, is_mended, is_rest_of, names_behind}
+use Rattle.ufs_spec.specs.Translation.{Translation, flies_name, is_mended, is_rest_of, names_after}
 use Rattle.ufs_spec.specs.Translation.{some_flight, waiting_name}
 use Rattle.ufs_spec.specs.declared.flash.Place.{Place}
 use Rattle.power_loss.specs.Book.{IsPageAt, book}
@@ -36,18 +36,18 @@ skips_front p f (y ∷ ys) zs none = find_behind p (f y) (map f ys ++ zs) (none 
 skips_names : (p : Name → Bool) (d n : ℕ) (gs : List keys.Group) →
     ((j i : ℕ) (g : keys.Group) → j < d → slice_get gs j ≡ Some g → i < length g →
     p (record { number = n + suc j; index = i }) ≡ false) →
-    find p (names_behind n gs) ≡ find p (names_behind (n + d) (drop d gs))
-skips_names p zero n gs none = ap (λ z. find p (names_behind z gs)) (same n)
+    find p (names_after n gs) ≡ find p (names_after (n + d) (drop d gs))
+skips_names p zero n gs none = ap (λ z. find p (names_after z gs)) (same n)
   where
     same : (n : ℕ) → n ≡ n + 0
     same n = omega arith
 skips_names p (suc d) n [] none = refl
 skips_names p (suc d) n (g ∷ gs) none =
-    skips_front p (λ i. record { number = n + 1; index = i }) (below (length g)) (names_behind (n + 1) gs)
+    skips_front p (λ i. record { number = n + 1; index = i }) (below (length g)) (names_after (n + 1) gs)
     (λ j i h. none 0 i g (omega arith) refl (get_below (length g) j i h).1)
     ∙ skips_names p d (n + 1) gs (λ j i h l at u. ap (λ z. p (record { number = z; index = i })) (next n j)
     ∙ none (suc j) i h (omega arith) at u)
-    ∙ ap (λ z. find p (names_behind z (drop d gs))) (moved n d)
+    ∙ ap (λ z. find p (names_after z (drop d gs))) (moved n d)
   where
     next : (n j : ℕ) → n + 1 + suc j ≡ n + suc (suc j)
     next n j = omega arith
@@ -109,7 +109,7 @@ mended_name : (c : Core) (t : Translation) → Describes c t → is_mended t.wor
 mended_name c t h mended =
     skips_names (layer.waits t)
     (t.ledger.frontier - before_accepted t.ledger) (before_accepted t.ledger) (accepted_groups t.ledger) standing_below
-    ∙ ap (λ z. find (layer.waits t) (names_behind z (pending t.ledger)))
+    ∙ ap (λ z. find (layer.waits t) (names_after z (pending t.ledger)))
     (up (before_accepted t.ledger) t.ledger.frontier (h.kept.work.repaired mended))
     ∙ pages_found t.ledger.standing (entry_of t.ledger) (page_waits c.books) (layer.waits t) c.pages
     (names_pending t.ledger) (waits_alike c t h mended) h.kept.ledger_kept.pages
@@ -138,6 +138,6 @@ next_name c t h = ⊎_elim (mended_name c t h) none (two_ways (is_mended t.work.
   where
     none : is_mended t.work.mending ≡ false → waiting_name t ≡ option_map page_name (page_waiting c)
     none unmended =
-        ap (λ z. find (layer.waits t) (names_behind (before_accepted t.ledger) z)) (none_accepted t h.valid unmended)
+        ap (λ z. find (layer.waits t) (names_after (before_accepted t.ledger) z)) (none_accepted t h.valid unmended)
         ∙ ap (λ (ps : List Pending). option_map page_name (find (page_waits c.books) ps))
         (sym (none_waiting c t h unmended))

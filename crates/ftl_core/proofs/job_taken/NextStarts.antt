@@ -23,7 +23,7 @@ use Rattle.ftl_core.specs.Describes.{Describes, IsFlight, IsTaken, Kept, PagesFl
 use Rattle.ftl_core.specs.Describes.{IsWanted, StepReadsKept, WritesGroup}
 use Rattle.ftl_core.specs.declared.books.Pin.{Pin}
 use Rattle.ftl_core.specs.Moves.{is_pin_of, started}
-use Rattle.ftl_core.specs.Takes.{begun_with, core_taken, flight_taken, job_of, job_taken, step_wants}
+use Rattle.ftl_core.specs.Takes.{begun_if_any, core_taken, flight_taken, job_of, job_taken, step_wants}
 use Rattle.ftl_core.proofs.job_taken.Flown.{dies_put}
 use Rattle.ftl_core.proofs.job_taken.FlightKinds.{none_flies}
 use Rattle.ftl_core.proofs.opened.ListParts.{get_set}
@@ -182,13 +182,13 @@ nothing_taken c t die h none may = record {
   describes = subst (λ (z : Core). Describes z t) (sym still) h;
 }
   where
-    as_it_was : (o : Option Book) → begun_with c die o None None ≡ c
+    as_it_was : (o : Option Book) → begun_if_any c die o None None ≡ c
     as_it_was None = refl
     as_it_was (Some b) = refl
 
     still : core_taken c die ≡ c
     still =
-        (λ i. begun_with c die (slice_get c.books die) (none i) (option_and_then (job_of c die) (none i)))
+        (λ i. begun_if_any c die (slice_get c.books die) (none i) (option_and_then (job_of c die) (none i)))
         ∙ as_it_was (slice_get c.books die)
 
 -- or a job
@@ -210,4 +210,4 @@ job_begun c t die b f job h there taken told is begins may = record {
 }
   where
     begun : core_taken c die ≡ started c die b f
-    begun = λ i. begun_with c die (there i) (taken i) ((ap (option_and_then (job_of c die)) taken ∙ told) i)
+    begun = λ i. begun_if_any c die (there i) (taken i) ((ap (option_and_then (job_of c die)) taken ∙ told) i)

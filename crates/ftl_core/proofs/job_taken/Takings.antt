@@ -1,5 +1,5 @@
 -- The job that a die is given is one that is owed to it.
-use Rattle.std.proofs.Common.{◌≡◌, ◌∙◌, ℕ, ◌≤◌, Bool, true, false, [], Option, Some, None, length, refl}
+use Rattle.std.proofs.Common.{◌≡◌, ◌∙◌, ℕ, ◌<◌, ◌≤◌, Bool, true, false, [], Option, Some, None, length, refl}
 use Rattle.std.proofs.Common.{sym, ap, subst, inl, inr, is_none}
 use Rattle.std.specs.Prelude.{if◌then◌else◌, not, slice_get, option_and_then, option_map}
 use Rattle.std.specs.List.{list_any}
@@ -10,7 +10,7 @@ use Rattle.ufs_spec.specs.Disk.{job_of as told_by}
 use Rattle.ufs_spec.specs.Ledger.{Name, entry_of}
 use Rattle.ufs_spec.specs.Translation as layer
 use Rattle.ufs_spec.specs.Translation.{Translation, cell_now, flies_name, flight_at, flight_for, is_idle, is_mended}
-use Rattle.ufs_spec.specs.Translation.{name_of, next_flight, some_flight, waiting_step, wants_on}
+use Rattle.ufs_spec.specs.Translation.{name_of, next_erase, next_flight, some_flight, waiting_step, wants_on}
 use Rattle.ufs_spec.specs.declared.flash.Job.{Job}
 use Rattle.ufs_spec.specs.declared.flash.Place.{Place}
 use Rattle.ufs_spec.specs.declared.flash.Tag.{Tag}
@@ -25,19 +25,20 @@ use Rattle.ftl_core.specs.declared.books.Waiting.{Waiting}
 use Rattle.ftl_core.specs.declared.books.Waiting.TheVariants as waiting
 use Rattle.ftl_core.specs.Core.{Core}
 use Rattle.ftl_core.specs.Describes.{Describes, IsFlight, IsTaken, PageKept, names_pending, spot_at}
-use Rattle.ftl_core.specs.Moves.{is_owed_by, may_open, tag_of_page}
+use Rattle.ftl_core.specs.Moves.{has_room_for_groups, is_owed_by, may_open, tag_of_page}
 use Rattle.ftl_core.specs.Takes as takes
 use Rattle.ftl_core.specs.Takes.{block_for, core_taken, first_owed, flight_taken, group_job_of, idle_flight}
 use Rattle.ftl_core.specs.Takes.{is_group_page, job_of, job_taken, next_place, owed_flight, owed_read, page_of_group}
 use Rattle.ftl_core.specs.Takes.{page_waiting, page_waits, step_read, step_waits, waiting_flight, waiting_of}
-use Rattle.ftl_core.specs.Takes.{waiting_page, writes_page}
+use Rattle.ftl_core.specs.Takes.{waiting_group, waiting_page, writes_page}
 use Rattle.ftl_core.proofs.job_taken.Flown.{die_within, no_job, writes_agree}
 use Rattle.ftl_core.proofs.job_taken.Mended.{mended_with, no_repair}
-use Rattle.ftl_core.proofs.job_taken.NextErases.{block_next, block_right, erased_next, opens_alike}
+use Rattle.ftl_core.proofs.job_taken.NextErases.{block_next, block_right, erased_next}
 use Rattle.ftl_core.proofs.job_taken.NextNames.{next_name}
 use Rattle.ftl_core.proofs.job_taken.NextPages.{IsProgrammed, kept_found, page_name, page_programmed}
 use Rattle.ftl_core.proofs.job_taken.NextStarts.{MayBegin, is_free_die, job_begun, next_may, not_idle, nothing_taken}
 use Rattle.ftl_core.proofs.job_taken.NextStarts.{outside}
+use Rattle.ftl_core.proofs.job_taken.OpenBlocks.{group_alike, room_alike, step_alike}
 use Rattle.ftl_core.proofs.pins.FoundPins.{found_passes, position_missed}
 use Rattle.ftl_core.proofs.job_taken.ReadsTaken.{none_read, read_taken, step_taken}
 use Rattle.ftl_core.proofs.job_taken.StepPages.{StepPage, step_page}
@@ -102,13 +103,33 @@ module _ (c : Core) (t : Translation) (die : ℕ) (b : Book) (h : Describes c t)
   next_begun f job taken next told is begins =
       job_begun c t die b f job h there taken told is begins (next_may t die job free unread next)
 
-  -- no block is open: one is erased, if one may be
+  -- the die fills no block: one is erased, if one may be
   erase_taken : (w : Waiting) → b.filling ≡ None → waiting_of c ≡ Some w →
-      next_flight t die ≡ option_map (λ block. disk.Erasing (spot_at die block)) (block_for c die w) →
-      ((block : ℕ) → block_for c die w ≡ Some block → block_next c die ≡ Some block) →
+      next_flight t die ≡ (if may_open c w then next_erase t die else None) →
       IsTaken t die (job_taken c die) (core_taken c die)
-  erase_taken w closed waits next is = by (block_for c die w) refl
+  erase_taken w closed waits opens = by (block_for c die w) refl
     where
+      opened : (a : Bool) → (if a then option_map (λ block. disk.Erasing (spot_at die block))
+          (block_next c die) else None)
+          ≡ option_map (λ block. disk.Erasing (spot_at die block)) (if a then block_next c die else None)
+      opened true = refl
+      opened false = refl
+
+      opened_is : (a : Bool) (block : ℕ) → (if a then block_next c die else None) ≡ Some block →
+          block_next c die ≡ Some block
+      opened_is true block e = e
+      opened_is false block e = absurd (none_some block e)
+
+      here : (block : ℕ) → block_next c die ≡ Some block → block < t.numbers.blocks
+      here block e = block_right c t die block h (die_within c t die b h.kept there) e
+
+      next : next_flight t die ≡ option_map (λ block. disk.Erasing (spot_at die block)) (block_for c die w)
+      next =
+          opens
+          ∙ ap (λ (f : Option disk.Flight). if may_open c w then f else None)
+          (erased_next c t die h (die_within c t die b h.kept there))
+          ∙ opened (may_open c w)
+
       taken : flight_taken c die ≡ option_map flight.Erase (block_for c die w)
       taken = taken_is None closed ∙ ap (option_and_then (waiting_flight c die None)) waits
 
@@ -119,7 +140,7 @@ module _ (c : Core) (t : Translation) (die : ℕ) (b : Book) (h : Describes c t)
           (taken ∙ ap (option_map flight.Erase) e)
           (next ∙ ap (option_map (λ block. disk.Erasing (spot_at die block))) e)
           refl
-          (refl, block_right c t die block h (die_within c t die b h.kept there) (is block e), closed)
+          (refl, here block (opened_is (may_open c w) block e), closed)
           (erase_begins c t block (spot_at die block))
 
   -- the page of the step under way waits
@@ -127,29 +148,40 @@ module _ (c : Core) (t : Translation) (die : ℕ) (b : Book) (h : Describes c t)
       IsTaken t die (job_taken c die) (core_taken c die)
   page_taken page None waits fills =
       erase_taken waiting.Step fills
-      (ap (λ (z : Bool). if z then Some waiting.Step else option_map waiting_page (page_waiting c)) waits)
+      (ap (λ (z : Bool). if z then Some waiting.Step else waiting_group c) waits)
       (next_is (Some page.cell) page.waits
-      ∙ ap (flight_at t die true page.cell) (place_is None fills)
-      ∙ erased_next c t die h (die_within c t die b h.kept there))
-      (λ block e. e)
+      ∙ ap (flight_at t die (layer.may_open_for_step t) page.cell) (place_is None fills)
+      ∙ ap (λ (z : Bool). if z then next_erase t die else None) (sym (step_alike c t h)))
   page_taken page (Some o) waits fills = next_begun (flight.Step (next_place die o))
       (disk.Programming (next_place die o) page.cell)
       (taken_is (Some o) fills
       ∙ ap (λ (z : Bool). option_and_then (waiting_flight c die (Some o)) (if z then Some waiting.Step else
-      option_map waiting_page (page_waiting c))) waits)
+      waiting_group c)) waits)
       (next_is (Some page.cell) page.waits
-      ∙ ap (flight_at t die true page.cell) (place_is (Some o) fills))
+      ∙ ap (flight_at t die (layer.may_open_for_step t) page.cell) (place_is (Some o) fills))
       (page.told (next_place die o))
       (refl, (o, fills, refl), page.is)
       (page.begins (next_place die o))
 
-  -- a page of a group waits
+  -- a page of a group waits, and room is for groups
   group_taken : (p : Pending) (o : Option OpenBlock) → step_waits c ≡ false → waiting_step t t.work.step ≡ None →
-      page_waiting c ≡ Some p → b.filling ≡ o → IsTaken t die (job_taken c die) (core_taken c die)
-  group_taken p o no_step no_page first fills = by o fills
+      has_room_for_groups c ≡ true → page_waiting c ≡ Some p → b.filling ≡ o →
+      IsTaken t die (job_taken c die) (core_taken c die)
+  group_taken p o no_step no_page room first fills = by o fills
     where
       waits : waiting_of c ≡ Some (waiting_page p)
-      waits = λ i. if no_step i then Some waiting.Step else option_map waiting_page (first i)
+      waits =
+          (λ i. if no_step i then Some waiting.Step else waiting_group c)
+          ∙ (λ i. if room i then option_map waiting_page (first i) else None)
+
+      -- it goes to the die's next place
+      next_to : (at : Option Place) → layer.next_place t die ≡ at →
+          next_flight t die ≡ flight_at t die (layer.may_open_for_group t) (cell_now t.ledger (page_name p)) at
+      next_to at place =
+          next_is None no_page
+          ∙ (λ i. flight_for t die None (option_map page_name (first i)))
+          ∙ (λ i. if (sym (room_alike c t h) ∙ room) i then flight_at t die (layer.may_open_for_group t)
+          (cell_now t.ledger (page_name p)) (place i) else None)
 
       mended : is_mended t.work.mending ≡ true
       mended = mended_with c t (page_waits c.books) p h first
@@ -202,29 +234,12 @@ module _ (c : Core) (t : Translation) (die : ℕ) (b : Book) (h : Describes c t)
 
       by : (x : Option OpenBlock) → b.filling ≡ x → IsTaken t die (job_taken c die) (core_taken c die)
       by None e = erase_taken (waiting_page p) e waits
-          (next_is None no_page
-          ∙ (λ i. flight_for t die None (option_map page_name (first i)))
-          ∙ ap (flight_at t die (layer.may_open t) (cell_now t.ledger (page_name p))) (place_is None e)
-          ∙ (λ i. if opens_alike c t h i then erased_next c t die h (die_within c t die b h.kept there) i else None)
-          ∙ opened (may_open c (waiting_page p)))
-          (λ block e. opened_is (may_open c (waiting_page p)) block e)
-        where
-          opened : (a : Bool) → (if a then option_map (λ block. disk.Erasing (spot_at die block))
-              (block_next c die) else None)
-              ≡ option_map (λ block. disk.Erasing (spot_at die block)) (if a then block_next c die else None)
-          opened true = refl
-          opened false = refl
-
-          opened_is : (a : Bool) (block : ℕ) → (if a then block_next c die else None) ≡ Some block →
-              block_next c die ≡ Some block
-          opened_is true block e = e
-          opened_is false block e = absurd (none_some block e)
+          (next_to None (place_is None e)
+          ∙ ap (λ (z : Bool). if z then next_erase t die else None) (sym (group_alike c t h)))
       by (Some x) e = next_begun (flight.Group (next_place die x) p.number p.index)
           (disk.Programming (next_place die x) (GroupPage tag_now r.page.body))
           (taken_is (Some x) e ∙ ap (option_and_then (waiting_flight c die (Some x))) waits)
-          (next_is None no_page
-          ∙ (λ i. flight_for t die None (option_map page_name (first i)))
-          ∙ ap (flight_at t die (layer.may_open t) (cell_now t.ledger (page_name p))) (place_is (Some x) e)
+          (next_to (Some (next_place die x)) (place_is (Some x) e)
           ∙ ap (λ z. Some (disk.Programming (next_place die x) z)) r.cell)
           (job_is (next_place die x))
           (refl, (x, e, refl), r.kept.number, r.kept.index, no_repair c t h mended)
@@ -232,19 +247,45 @@ module _ (c : Core) (t : Translation) (die : ℕ) (b : Book) (h : Describes c t)
 
   -- what waits, if anything does
   next_taken : length c.numbers.units.items ≤ 8 → IsTaken t die (job_taken c die) (core_taken c die)
-  next_taken few = by (step_waits c) refl (page_waiting c) refl (step_page c t h few)
+  next_taken few = by (step_waits c) refl (step_page c t h few)
     where
-      by : (m : Bool) → step_waits c ≡ m → (o : Option Pending) → page_waiting c ≡ o →
-          (step_waits c ≡ true → StepPage c t) × (step_waits c ≡ false → waiting_step t t.work.step ≡ None) →
+      -- none of a group is taken where it has no room, or none waits
+      none_taken : step_waits c ≡ false → waiting_step t t.work.step ≡ None → waiting_group c ≡ None →
+          flight_for t die None (option_map page_name (page_waiting c)) ≡ None →
           IsTaken t die (job_taken c die) (core_taken c die)
-      by true e o f page = page_taken (page.0 e) b.filling e refl
-      by false e (Some p) f page = group_taken p b.filling e (page.1 e) f refl
-      by false e None f page = nothing_waits
+      none_taken e no_page none next = nothing_waits
           (taken_is b.filling refl
           ∙ (λ i. option_and_then (waiting_flight c die b.filling)
-          (if e i then Some waiting.Step else option_map waiting_page (f i))))
-          (next_is None (page.1 e)
-          ∙ (λ i. flight_for t die None (option_map page_name (f i))))
+          (if e i then Some waiting.Step else waiting_group c))
+          ∙ ap (option_and_then (waiting_flight c die b.filling)) none)
+          (next_is None no_page ∙ next)
+
+      no_room : (o : Option Name) → layer.has_room_for_groups t ≡ false → flight_for t die None o ≡ None
+      no_room None full = refl
+      no_room (Some name) full = ap (λ (z : Bool). if z then flight_at t die (layer.may_open_for_group t)
+          (cell_now t.ledger name) (layer.next_place t die) else None) full
+
+      no_group : (z : Bool) → (if z then option_map waiting_page None else None) ≡ None
+      no_group true = refl
+      no_group false = refl
+
+      by_group : step_waits c ≡ false → waiting_step t t.work.step ≡ None → (room : Bool) →
+          has_room_for_groups c ≡ room → (o : Option Pending) → page_waiting c ≡ o →
+          IsTaken t die (job_taken c die) (core_taken c die)
+      by_group e no_page true room (Some p) f = group_taken p b.filling e no_page room f refl
+      by_group e no_page true room None f = none_taken e no_page
+          ((λ i. if has_room_for_groups c then option_map waiting_page (f i) else None)
+          ∙ no_group (has_room_for_groups c))
+          (λ i. flight_for t die None (option_map page_name (f i)))
+      by_group e no_page false full o f = none_taken e no_page
+          (ap (λ (z : Bool). if z then option_map waiting_page (page_waiting c) else None) full)
+          (no_room (option_map page_name (page_waiting c)) (sym (room_alike c t h) ∙ full))
+
+      by : (m : Bool) → step_waits c ≡ m →
+          (step_waits c ≡ true → StepPage c t) × (step_waits c ≡ false → waiting_step t t.work.step ≡ None) →
+          IsTaken t die (job_taken c die) (core_taken c die)
+      by true e page = page_taken (page.0 e) b.filling e refl
+      by false e page = by_group e (page.1 e) (has_room_for_groups c) refl (page_waiting c) refl
 
 -- All dies
 

@@ -15,6 +15,7 @@ use Rattle.ufs_spec.specs.declared.flash.Key.{Key}
 use Rattle.ufs_spec.specs.declared.flash.Place.{Place}
 use Rattle.ufs_spec.specs.declared.flash.Tag.{Tag}
 use Rattle.power_loss.specs.Book.{FirstRight, HasKey, IsPageAt, book}
+use Rattle.power_loss.proofs.kept_pages.UnmendedPages.{new_secure, unmended_secure}
 use Rattle.power_loss.proofs.books.SmallFacts.{name_is}
 use Rattle.power_loss.specs.Invariant.{Valid}
 use Rattle.power_loss.proofs.books.LastOfEachKey.{IsLastOf, NoneOf, latest_cases}
@@ -88,7 +89,8 @@ durable_secure t k name p v has e known = ⊎_elim
     (λ m.
     let s = settled_mended t t.work.mending m v.mending in
     latest_secure t k v s (latest_right t k name v s.0 has e) known)
-    (λ un. v.unmended.stand un name.number name.index p known)
+    (λ un. unmended_secure k (take (t.ledger.frontier - t.ledger.greatest_seen) t.ledger.groups)
+    (latest_durable t.ledger k) name v un has refl e known)
     (cases_Bool (is_mended t.work.mending))
 
 -- A page above the frontier that stands
@@ -107,7 +109,7 @@ above_secure t name e p v is above known = ⊎_elim
     ⊎_elim (λ l. absurd (omega (arith, newer, within, above, l))) (λ l. absurd (omega (arith, last, above, l))) s.1)
     (v.safe.safe name.number name.index e p is known
     (λ lost. let to = lost.to in let seen = v.frontier.above in omega (arith, to, seen, above))))
-    (λ un. v.unmended.stand un name.number name.index p known)
+    (λ un. new_secure name.number name.index v un (let seen = v.frontier.above in omega (arith, seen, above)) known)
     (cases_Bool (is_mended t.work.mending))
 
 -- the page there is of the key, stands under its name, and has the key's content at the frontier

@@ -13,7 +13,7 @@ use Rattle.ufs_spec.proofs.Equalities.{key_self, key_told}
 use Rattle.ufs_spec.specs.Keys as keys
 use Rattle.ufs_spec.specs.Keys.{Item}
 use Rattle.ufs_spec.specs.Ledger.{Entry, Name, entry_of}
-use Rattle.ufs_spec.specs.Translation.{Translation, names_behind, names_of}
+use Rattle.ufs_spec.specs.Translation.{Translation, names_after, names_of}
 use Rattle.ufs_spec.specs.declared.flash.Key.{Key}
 use Rattle.power_loss.specs.Book.{book}
 use Rattle.power_loss.specs.Invariant.{Valid}
@@ -92,23 +92,23 @@ none_is k ps none =
 
 -- the numbers of names rise
 numbers_rise : (n : ℕ) (gs : List keys.Group) (i j : ℕ) (x y : Name) → i ≤ j →
-    slice_get (names_behind n gs) i ≡ Some x → slice_get (names_behind n gs) j ≡ Some y → x.number ≤ y.number
+    slice_get (names_after n gs) i ≡ Some x → slice_get (names_after n gs) j ≡ Some y → x.number ≤ y.number
 numbers_rise n [] i j x y l h k = absurd (none-some x h)
 numbers_rise n (g ∷ gs) i j x y l h k =
     by
     (numbers_rise (n + 1) gs (i - length (names_of (n + 1) g)) (j - length (names_of (n + 1) g)) x y)
-    (get_either (names_of (n + 1) g) (names_behind (n + 1) gs) i x h)
-    (get_either (names_of (n + 1) g) (names_behind (n + 1) gs) j y k)
+    (get_either (names_of (n + 1) g) (names_after (n + 1) gs) i x h)
+    (get_either (names_of (n + 1) g) (names_after (n + 1) gs) j y k)
   where
     by : (i - length (names_of (n + 1) g) ≤ j - length (names_of (n + 1) g) →
-        slice_get (names_behind (n + 1) gs) (i - length (names_of (n + 1) g)) ≡ Some x →
-        slice_get (names_behind (n + 1) gs) (j - length (names_of (n + 1) g)) ≡ Some y → x.number ≤ y.number) →
+        slice_get (names_after (n + 1) gs) (i - length (names_of (n + 1) g)) ≡ Some x →
+        slice_get (names_after (n + 1) gs) (j - length (names_of (n + 1) g)) ≡ Some y → x.number ≤ y.number) →
         ((i < length (names_of (n + 1) g)) × (slice_get (names_of (n + 1) g) i ≡ Some x))
         ⊎ ((length (names_of (n + 1) g) ≤ i)
-        × (slice_get (names_behind (n + 1) gs) (i - length (names_of (n + 1) g)) ≡ Some x)) →
+        × (slice_get (names_after (n + 1) gs) (i - length (names_of (n + 1) g)) ≡ Some x)) →
         ((j < length (names_of (n + 1) g)) × (slice_get (names_of (n + 1) g) j ≡ Some y))
         ⊎ ((length (names_of (n + 1) g) ≤ j)
-        × (slice_get (names_behind (n + 1) gs) (j - length (names_of (n + 1) g)) ≡ Some y)) →
+        × (slice_get (names_after (n + 1) gs) (j - length (names_of (n + 1) g)) ≡ Some y)) →
         x.number ≤ y.number
     by rest (inl a) (inl b) =
         let u = ap (λ (z : Name). z.number) (get_name (n + 1) i g x a.1).1 in
@@ -117,7 +117,7 @@ numbers_rise n (g ∷ gs) i j x y l h k =
     by rest (inl a) (inr b) =
         let u = ap (λ (z : Name). z.number) (get_name (n + 1) i g x a.1).1 in
         let w = (in_names (n + 1) gs y
-        (at_has (names_behind (n + 1) gs) (j - length (names_of (n + 1) g)) y b.1)).above in
+        (at_has (names_after (n + 1) gs) (j - length (names_of (n + 1) g)) y b.1)).above in
         omega (arith, u, w)
     by rest (inr a) (inl b) = let u = a.0 in let w = b.0 in absurd (omega (arith, u, w, l))
     by rest (inr a) (inr b) = let u = a.0 in let w = b.0 in rest (omega (arith, u, w, l)) a.1 b.1
@@ -147,7 +147,7 @@ group_above t name e v above is =
 -- a page of a group above the frontier that has the key, at its place among the names
 pub record IsPendingOf (t : Translation) (k : Key) (at : ℕ) : Type 0 where
   pub name : Name
-  pub there : slice_get (names_behind t.ledger.frontier (behind t.ledger)) at ≡ Some name
+  pub there : slice_get (names_after t.ledger.frontier (behind t.ledger)) at ≡ Some name
   pub above : t.ledger.frontier < name.number
   pub entry : Entry
   pub is : entry_of t.ledger name ≡ Some entry
@@ -157,15 +157,15 @@ pub record IsPendingOf (t : Translation) (k : Key) (at : ℕ) : Type 0 where
   pub has : slice_get group name.index ≡ Some entry.item
 
 module _ (t : Translation) (v : Valid t) (ps : List Pending)
-    (kept : PagesKept t.ledger.standing (entry_of t.ledger) ps (names_behind t.ledger.frontier (behind t.ledger)))
+    (kept : PagesKept t.ledger.standing (entry_of t.ledger) ps (names_after t.ledger.frontier (behind t.ledger)))
     (k : Key) where
   -- a kept page of the key is a page of a group of the ledger that has it
   has_key : (b : ℕ) (q : Pending) → slice_get ps b ≡ Some q → is_page_of k q ≡ true → IsPendingOf t k b
   has_key b q at passes =
-      let r = pages_get t.ledger.standing (entry_of t.ledger) ps (names_behind t.ledger.frontier (behind t.ledger)) b q
+      let r = pages_get t.ledger.standing (entry_of t.ledger) ps (names_after t.ledger.frontier (behind t.ledger)) b q
       kept at in
       let above = (in_names t.ledger.frontier (behind t.ledger) r.0
-      (at_has (names_behind t.ledger.frontier (behind t.ledger)) b r.0 r.1)).above in
+      (at_has (names_after t.ledger.frontier (behind t.ledger)) b r.0 r.1)).above in
       let entry : Entry = record { item = record { key = q.key; body = q.body }; size = q.size } in
       let g = group_above t r.0 entry v above r.2.entry in
       record {
@@ -191,11 +191,11 @@ module _ (t : Translation) (v : Valid t) (ps : List Pending)
     page.2.index,
   )
     where
-      spot : (a : ℕ) × (slice_get (names_behind t.ledger.frontier (behind t.ledger)) a ≡ Some l.name)
+      spot : (a : ℕ) × (slice_get (names_after t.ledger.frontier (behind t.ledger)) a ≡ Some l.name)
       spot =
           let number = l.number in
           let at : l.name.number - t.ledger.frontier - 1 ≡ l.at = omega arith in
-          has_at (names_behind t.ledger.frontier (behind t.ledger)) l.name
+          has_at (names_after t.ledger.frontier (behind t.ledger)) l.name
           (names_in t.ledger.frontier (behind t.ledger) l.name
           (record {
             above = omega arith;
@@ -206,7 +206,7 @@ module _ (t : Translation) (v : Valid t) (ps : List Pending)
 
       page : (p : Pending) × (slice_get ps spot.0 ≡ Some p) × PageKept t.ledger.standing (entry_of t.ledger) p l.name
       page = names_get t.ledger.standing (entry_of t.ledger) ps
-          (names_behind t.ledger.frontier (behind t.ledger)) spot.0 l.name kept spot.1
+          (names_after t.ledger.frontier (behind t.ledger)) spot.0 l.name kept spot.1
 
       -- it has the key
       there : entry_of t.ledger l.name ≡ Some (record { item = l.item; size = length l.group })

@@ -8,7 +8,7 @@ use Rattle.ufs_spec.proofs.Facts.{true≢false}
 use Rattle.ufs_spec.specs.Ledger.{Entry, InSlot, Ledger, Looked, Name, OnPage, Unwritten, before_accepted, entry_of}
 use Rattle.ufs_spec.specs.Ledger.{latest_durable, latest_in, next_number, pending}
 use Rattle.ufs_spec.specs.Translation as layer
-use Rattle.ufs_spec.specs.Translation.{Translation, Work, is_mended, names_behind, names_of}
+use Rattle.ufs_spec.specs.Translation.{Translation, Work, is_mended, names_after, names_of}
 use Rattle.ufs_spec.specs.declared.flash.Key.{Key}
 use Rattle.ufs_spec.specs.declared.flash.Place.{Place}
 use Rattle.ufs_spec.proofs.Lists.{grown_length}
@@ -45,7 +45,7 @@ names_grow : (l : Ledger) (g : keys.Group) → l.greatest_seen ≤ l.frontier �
     pending (with_group l g) ≡ pending l ++ g ∷ [] →
     names_pending (with_group l g) ≡ names_pending l ++ names_of (next_number l) g
 names_grow l g above within repaired pends =
-    ap (names_behind l.frontier) pends
+    ap (names_after l.frontier) pends
     ∙ (names_more l.frontier (pending l) (g ∷ [])
     ∙ ap (λ (names : List Name). names_pending l ++ names)
     (append-nil (names_of (l.frontier + length (pending l) + 1) g) ∙ ap (λ (n : ℕ). names_of n g) number))

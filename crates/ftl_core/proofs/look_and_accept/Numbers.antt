@@ -9,10 +9,10 @@ use Rattle.std.specs.Prelude.{is_some}
 use Rattle.power_loss.proofs.books.PagesByName.{none_some}
 use Rattle.power_loss.proofs.books.SmallFacts.{if_false, name_cases}
 use Rattle.ufs_spec.specs.Ledger.{Entry, Ledger, Name, before_accepted, entry_of, pending, same_name}
-use Rattle.ufs_spec.specs.Moves.{step_behind}
+use Rattle.ufs_spec.specs.Moves.{step_after}
 use Rattle.ufs_spec.specs.Translation as layer
 use Rattle.ufs_spec.specs.Translation.{RepairStep, Repairing, Translation, is_mended}
-use Rattle.ufs_spec.specs.Translation.{names_behind, pending_pages}
+use Rattle.ufs_spec.specs.Translation.{names_after, pending_pages}
 use Rattle.ufs_spec.specs.declared.flash.Key.{Key}
 use Rattle.ufs_spec.specs.declared.flash.Place.{Place}
 use Rattle.ufs_spec.proofs.Facts.{cases_Bool, true≢false}
@@ -28,9 +28,9 @@ use Rattle.ftl_core.proofs.pages.PagesNamed.{same_count}
 
 -- as many pages are kept as the groups have
 pub pages_length : (standing : Standing) (entries : Name → Option Entry) (n : ℕ) (ps : List Pending)
-    (gs : List keys.Group) → PagesKept standing entries ps (names_behind n gs) → length ps ≡ sum_by length gs
+    (gs : List keys.Group) → PagesKept standing entries ps (names_after n gs) → length ps ≡ sum_by length gs
 pages_length standing entries n ps gs h =
-    same_count standing entries ps (names_behind n gs) h ∙ count_names n gs
+    same_count standing entries ps (names_after n gs) h ∙ count_names n gs
 
 -- The step under way
 
@@ -119,16 +119,16 @@ beside_none l step content u h none =
 
 pub step_stays : (l : Ledger) (step : Option kept_step.Step) (content : List ℕ) (u : Option layer.Step) (name : Name) →
     StepKept l step content u → l.standing name.number name.index ≡ None → repairs_in step ≡ 0 →
-    step_behind name u ≡ u
+    step_after name u ≡ u
 step_stays l None content None name h new e = refl
 step_stays l None content (Some s) name h new e = absurd h
 step_stays l (Some (steps.Mark n fence)) content None name h new e = absurd h
 step_stays l (Some (steps.Mark n fence)) content (Some s) name h new e =
-    subst (λ (z : layer.Step). step_behind name (Some z) ≡ Some z) (sym h) refl
+    subst (λ (z : layer.Step). step_after name (Some z) ≡ Some z) (sym h) refl
 step_stays l (Some (steps.Repair n k from there)) content u name h new e = cc
 step_stays l (Some (steps.Copy n k from read)) content None name h new e = absurd h
 step_stays l (Some (steps.Copy n k from read)) content (Some s) name h new e =
-    subst (λ (z : layer.Step). step_behind name (Some z) ≡ Some z) (sym h.1)
+    subst (λ (z : layer.Step). step_after name (Some z) ≡ Some z) (sym h.1)
     (if_false (same_name name h.0) None (Some (record { kind = layer.CopyStep h.0 from; there = is_some read }))
     (⊎_elim
     (λ (w : (same_name name h.0 ≡ true) × (name ≡ h.0)).
@@ -151,10 +151,10 @@ module _ (c : Core) (t : Translation) (h : Describes c t) where
 
   -- once the device is mended the pages that are kept are those of all groups above the frontier
   pub kept_pages : is_mended t.work.mending ≡ true →
-      PagesKept t.ledger.standing (entry_of t.ledger) c.pages (names_behind t.ledger.frontier (behind t.ledger))
+      PagesKept t.ledger.standing (entry_of t.ledger) c.pages (names_after t.ledger.frontier (behind t.ledger))
   kept_pages e =
       subst (λ (gs : List keys.Group). PagesKept t.ledger.standing (entry_of t.ledger) c.pages
-      (names_behind t.ledger.frontier gs)) (pending_mended t.ledger (h.kept.work.repaired e)) h.kept.ledger_kept.pages
+      (names_after t.ledger.frontier gs)) (pending_mended t.ledger (h.kept.work.repaired e)) h.kept.ledger_kept.pages
 
   -- the greatest number that was given is that of the last group
   pub last_right : c.last ≡ t.ledger.greatest_seen + length t.ledger.groups

@@ -4,7 +4,7 @@ use Rattle.std.specs.Prelude.{option_map}
 use Rattle.std.proofs.lemmas.Option.{slice_get_within}
 use Rattle.ufs_spec.proofs.Facts.{same_Some}
 use Rattle.ufs_spec.specs.Ledger.{Entry, entry_of}
-use Rattle.ufs_spec.specs.Translation.{Translation, is_mended, names_behind}
+use Rattle.ufs_spec.specs.Translation.{Translation, is_mended, names_after}
 use Rattle.write_cache.specs.declared.slots.Pending.{Pending}
 use Rattle.ftl_core.specs.Core.{Core}
 use Rattle.ftl_core.specs.Describes.{Describes, name_at}
@@ -25,7 +25,7 @@ above_frontier c t n i e h above is =
 pub slot_is : (c : Core) (t : Translation) (n i : ℕ) (e : Entry) → Describes c t → is_mended t.work.mending ≡ true →
     t.ledger.frontier < n → entry_of t.ledger (name_at n i) ≡ Some e → slot_of c n i ≡ Some e.item.body
 slot_is c t n i e h mended above is =
-    let p = page_named t.ledger.standing (entry_of t.ledger) c.pages (names_behind t.ledger.frontier (behind t.ledger))
+    let p = page_named t.ledger.standing (entry_of t.ledger) c.pages (names_after t.ledger.frontier (behind t.ledger))
     (name_at n i) (kept_pages c t h mended)
     (names_in t.ledger.frontier (behind t.ledger) (name_at n i) (above_frontier c t n i e h above is)) in
     ap (option_map (λ (x : Pending). x.body)) p.1

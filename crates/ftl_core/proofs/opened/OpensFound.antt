@@ -18,12 +18,12 @@ use Rattle.ufs_spec.specs.Keys.{area_pages}
 use Rattle.ufs_spec.specs.Kept.{fence_in}
 use Rattle.ufs_spec.specs.Ledger as ledger
 use Rattle.ufs_spec.specs.Ledger.{Entry, Ledger, Name, entry_of, latest_durable}
-use Rattle.ufs_spec.specs.Openings.{IsBlockState, IsMendingAt, IsOpenedTranslation, MayBeMended, number_of}
+use Rattle.ufs_spec.specs.Openings.{IsMendingAt, IsOpenedTranslation, MayBeMended, number_of}
 use Rattle.ufs_spec.specs.Plain.{Shape, shape_of_numbers}
 use Rattle.ufs_spec.specs.Sound.{CellsSound}
 use Rattle.ufs_spec.specs.Translation as layer
 use Rattle.ufs_spec.specs.Translation.{Mended, Mending, Repairing, Translation, Unmarked, flies_name}
-use Rattle.ufs_spec.specs.Translation.{names_behind}
+use Rattle.ufs_spec.specs.Translation.{names_after}
 use Rattle.ufs_spec.specs.declared.configs.Numbers.{Numbers}
 use Rattle.ufs_spec.specs.declared.flash.Fence.{Fence}
 use Rattle.ufs_spec.specs.declared.flash.Key.{Key}
@@ -51,6 +51,7 @@ use Rattle.ftl_core.specs.Moves.{first_mending, idle_book, mark_number_behind, m
 use Rattle.unit_map.specs.Places.{flat}
 use Rattle.ftl_core.specs.Moves.{number_behind, opened, stored_of_found}
 use Rattle.unit_map.specs.Places.{stored_in}
+use Rattle.power_loss.proofs.openings.FirstBlocks.{never_filling}
 use Rattle.ftl_core.proofs.live_pages.OpenedLive.{opened_knows}
 use Rattle.ftl_core.proofs.live_pages.StoredPages.{stored_owned}
 use Rattle.ftl_core.proofs.opened.FoundBlocks.{blocks_found}
@@ -62,10 +63,6 @@ all_of_one n x i y at =
     let within = slice_get_within (replicate n x) i y at in
     sym (get_or_from_slice_get (replicate n x) i y y at)
     ∙ get_or-replicate n i x y (omega (arith, length-replicate n x))
-
-no_filling : (c : Cells) (bad : Spot → Bool) (s : Spot) (x : disk.BlockState) (next : ℕ) → IsBlockState c bad s x →
-    x ≡ disk.Filling next → ⊥
-no_filling c bad s x next h e = subst (IsBlockState c bad s) e h
 
 flies_none : (name : Name) (f : Option disk.Flight) → f ≡ None → flies_name name f ≡ true → ⊥
 flies_none name f e h = let clash : false ≡ true = sym (ap (flies_name name) e) ∙ h in absurd (cc)
@@ -90,9 +87,9 @@ dies_idle n m blocks flights same idle none_fills = record {
 -- Pages and places
 
 pages_none : (standing : Standing) (entries : Name → Option Entry) (n k r : ℕ) (gs : List keys.Group) → gs ≡ [] →
-    PagesKept standing entries [] (names_behind n (drop k (drop r gs)))
+    PagesKept standing entries [] (names_after n (drop k (drop r gs)))
 pages_none standing entries n k r gs none =
-    subst (λ (hs : List keys.Group). PagesKept standing entries [] (names_behind n hs)) (sym (all_gone k r gs none)) tt
+    subst (λ (hs : List keys.Group). PagesKept standing entries [] (names_after n hs)) (sym (all_gone k r gs none)) tt
   where
     all_gone : (k r : ℕ) (gs : List keys.Group) → gs ≡ [] → drop k (drop r gs) ≡ []
     all_gone k r gs none = ap (λ (hs : List keys.Group). drop k (drop r hs)) none
@@ -275,8 +272,7 @@ pub opens_right : (n : Numbers) (f : Found) (c : Cells) (bad : Spot → Bool) (t
     Describes (opened n f) t
 opens_right n f c bad t pages right within sound found o =
     let h = found_opens n c bad f t sound found o in
-    let fills = λ (s : Spot) (next : ℕ) (e : t.disk.blocks s ≡ disk.Filling next). no_filling c bad s
-    (t.disk.blocks s) next (o.disk.blocks s) e in
+    let fills = λ (s : Spot) (next : ℕ) (e : t.disk.blocks s ≡ disk.Filling next). never_filling o.disk.blocks e in
     let valid = opening_valid n c bad t pages right within sound o in
     let kept : Kept (opened n f) t =
     record {

@@ -7,7 +7,7 @@ use Rattle.std.proofs.lemmas.List.{append_assoc, length-map}
 use Rattle.std.proofs.lemmas.List.Sums.{sum_by-cons}
 use Rattle.ufs_spec.specs.Keys.{Group, below}
 use Rattle.ufs_spec.specs.Ledger.{Name}
-use Rattle.ufs_spec.specs.Translation.{names_behind, names_of}
+use Rattle.ufs_spec.specs.Translation.{names_after, names_of}
 use Rattle.ufs_spec.proofs.Facts.{none-some, same_Some}
 use Rattle.ufs_spec.proofs.Lists.{get_below, length-below}
 use Rattle.power_loss.proofs.jobs_owed.WhatWaits.{name_of_group}
@@ -39,12 +39,12 @@ get_either (y ∷ xs) ys (suc k) x h =
 
 -- How many
 
-pub count_names : (n : ℕ) (gs : List Group) → length (names_behind n gs) ≡ sum_by length gs
+pub count_names : (n : ℕ) (gs : List Group) → length (names_after n gs) ≡ sum_by length gs
 count_names n [] = refl
 count_names n (g ∷ gs) =
     let front = length-map (below (length g)) (name_at (n + 1)) in
     let long = length-below (length g) in
-    let both = length-append (names_of (n + 1) g) (names_behind (n + 1) gs) in
+    let both = length-append (names_of (n + 1) g) (names_after (n + 1) gs) in
     let rest = count_names (n + 1) gs in
     let all = sum_by-cons length g gs in
     omega (arith, front, long, both, rest, all)
@@ -52,15 +52,15 @@ count_names n (g ∷ gs) =
 -- More groups
 
 pub names_more : (n : ℕ) (gs hs : List Group) →
-    names_behind n (gs ++ hs) ≡ names_behind n gs ++ names_behind (n + length gs) hs
-names_more n [] hs = ap (λ (m : ℕ). names_behind m hs) (same n)
+    names_after n (gs ++ hs) ≡ names_after n gs ++ names_after (n + length gs) hs
+names_more n [] hs = ap (λ (m : ℕ). names_after m hs) (same n)
   where
     same : (n : ℕ) → n ≡ n + 0
     same n = omega arith
 names_more n (g ∷ gs) hs =
     ap (λ (names : List Name). names_of (n + 1) g ++ names) (names_more (n + 1) gs hs)
-    ∙ (ap (λ (m : ℕ). names_of (n + 1) g ++ (names_behind (n + 1) gs ++ names_behind m hs)) (next n (length gs))
-    ∙ sym (append_assoc (names_of (n + 1) g) (names_behind (n + 1) gs) (names_behind (n + suc (length gs)) hs)))
+    ∙ (ap (λ (m : ℕ). names_of (n + 1) g ++ (names_after (n + 1) gs ++ names_after m hs)) (next n (length gs))
+    ∙ sym (append_assoc (names_of (n + 1) g) (names_after (n + 1) gs) (names_after (n + suc (length gs)) hs)))
   where
     next : (n k : ℕ) → n + 1 + k ≡ n + suc k
     next n k = omega arith
@@ -74,7 +74,7 @@ pub record IsOfGroups (n : ℕ) (gs : List Group) (name : Name) : Type 0 where
   pub is : slice_get gs (name.number - n - 1) ≡ Some group
   pub index : name.index < length group
 
-pub in_names : (n : ℕ) (gs : List Group) (name : Name) → IsIn name (names_behind n gs) → IsOfGroups n gs name
+pub in_names : (n : ℕ) (gs : List Group) (name : Name) → IsIn name (names_after n gs) → IsOfGroups n gs name
 in_names n gs name h =
     let r = name_of_group n gs name h in
     let e = r.number in
@@ -83,24 +83,24 @@ in_names n gs name h =
 
 -- the page of a group has a name
 pub page_in : (n at i : ℕ) (gs : List Group) (g : Group) → slice_get gs at ≡ Some g → i < length g →
-    IsIn (name_at (n + suc at) i) (names_behind n gs)
+    IsIn (name_at (n + suc at) i) (names_after n gs)
 page_in n at i [] g h l = absurd (none-some g h)
 page_in n zero i (x ∷ gs) g h l =
-    in_left (name_at (n + 1) i) (names_of (n + 1) x) (names_behind (n + 1) gs)
+    in_left (name_at (n + 1) i) (names_of (n + 1) x) (names_after (n + 1) gs)
     (in_map (name_at (n + 1)) i (below (length x)) (in_below (length x) i (subst (λ (y : Group). i < length y)
     (sym (same_Some x g h)) l)))
 page_in n (suc at) i (x ∷ gs) g h l =
-    in_right (name_at (n + suc (suc at)) i) (names_of (n + 1) x) (names_behind (n + 1) gs)
-    (subst (λ (m : ℕ). IsIn (name_at m i) (names_behind (n + 1) gs)) (next n at) (page_in (n + 1) at i gs g h l))
+    in_right (name_at (n + suc (suc at)) i) (names_of (n + 1) x) (names_after (n + 1) gs)
+    (subst (λ (m : ℕ). IsIn (name_at m i) (names_after (n + 1) gs)) (next n at) (page_in (n + 1) at i gs g h l))
   where
     next : (n k : ℕ) → n + 1 + suc k ≡ n + suc (suc k)
     next n k = omega arith
 
-pub names_in : (n : ℕ) (gs : List Group) (name : Name) → IsOfGroups n gs name → IsIn name (names_behind n gs)
+pub names_in : (n : ℕ) (gs : List Group) (name : Name) → IsOfGroups n gs name → IsIn name (names_after n gs)
 names_in n gs name h =
     let l = h.above in
     let e : name.number ≡ n + suc (name.number - n - 1) = omega arith in
-    subst (λ (x : Name). IsIn x (names_behind n gs)) (sym (name_is name e refl))
+    subst (λ (x : Name). IsIn x (names_after n gs)) (sym (name_is name e refl))
     (page_in n (name.number - n - 1) name.index gs h.group h.is h.index)
 
 -- They differ
@@ -116,8 +116,8 @@ get_name n k g name h =
     (omega arith, sym r.2 ∙ ap (name_at n) s.0)
 
 -- no name stands twice
-pub names_differ : (n : ℕ) (gs : List Group) (i j : ℕ) (name : Name) → slice_get (names_behind n gs) i ≡ Some name →
-    slice_get (names_behind n gs) j ≡ Some name → i ≡ j
+pub names_differ : (n : ℕ) (gs : List Group) (i j : ℕ) (name : Name) → slice_get (names_after n gs) i ≡ Some name →
+    slice_get (names_after n gs) j ≡ Some name → i ≡ j
 names_differ n [] i j name h k = absurd (none-some name h)
 names_differ n (g ∷ gs) i j name h k = by (get_either front rest i name h) (get_either front rest j name k)
     (names_differ (n + 1) gs (i - length front) (j - length front) name)
@@ -126,12 +126,12 @@ names_differ n (g ∷ gs) i j name h k = by (get_either front rest i name h) (ge
     front = map (name_at (n + 1)) (below (length g))
 
     rest : List Name
-    rest = names_behind (n + 1) gs
+    rest = names_after (n + 1) gs
 
     -- no name of the first group is one of those behind it
     apart : (m q : ℕ) → slice_get front m ≡ Some name → slice_get rest q ≡ Some name → ⊥
     apart m q e f =
-        let l = (in_names (n + 1) gs name (at_has (names_behind (n + 1) gs) q name f)).above in
+        let l = (in_names (n + 1) gs name (at_has (names_after (n + 1) gs) q name f)).above in
         let a = ap (λ (x : Name). x.number) (get_name (n + 1) m g name e).1 in
         omega (arith, l, a)
 

@@ -2,14 +2,14 @@
 use Rattle.std.proofs.Common.{◌≡◌, List, [], ◌∷◌, Option, length, ap}
 use Rattle.std.proofs.lemmas.List.{nil_from_length}
 use Rattle.ufs_spec.specs.Ledger.{Entry, Ledger, Name, pending}
-use Rattle.ufs_spec.specs.Translation.{names_behind}
+use Rattle.ufs_spec.specs.Translation.{names_after}
 use Rattle.write_cache.specs.declared.slots.Pending.{Pending}
 use Rattle.ftl_core.specs.Describes.{PagesKept, Standing, names_pending}
 use Rattle.ftl_core.proofs.look_and_accept.Numbers.{none_pending}
 
 -- no name is pending where all groups are repairs
 pub no_names : (l : Ledger) → l.repairs ≡ length l.groups → names_pending l ≡ []
-no_names l all = ap (names_behind l.frontier) (nil_from_length (pending l) (none_pending l all))
+no_names l all = ap (names_after l.frontier) (nil_from_length (pending l) (none_pending l all))
 
 -- and no page is to be kept then
 pub none_kept : (standing : Standing) (entries : Name → Option Entry) (ps : List Pending) (names : List Name) →

@@ -2,7 +2,7 @@
 ghost use Rattle.std.specs.Prelude.{◌≡◌, ℕ, ◌<◌, ◌≤◌, IfNone, List, Option, length, if◌then◌else◌, map, option_map, is_some, slice_get, Some, None, find, not, option_copied};
 ghost use Rattle.ftl_core.specs.Ends.{noted, page_durable, page_landed, pages_landed, risen, settled, pins_moved};
 ghost use Rattle.ftl_core.specs.Ends.{copy_durable, copy_over, copy_pending, index_in};
-ghost use Rattle.ftl_core.specs.Ends.{mark_over, mending_behind, plan_over, repair_over, step_failed, step_there, step_written};
+ghost use Rattle.ftl_core.specs.Ends.{mark_over, mending_after, plan_over, repair_over, step_failed, step_there, step_written};
 ghost use Rattle.ftl_core.specs.Ends.{with_content};
 ghost use Rattle.ftl_core.specs.Gives.{Gives, GivesIf, IsBodyLooked, IsBodyOf, IsGiven, change_after, change_ended, ending, erase_ended, group_ended, is_read, names, other_for, IsGivenTo, wanted_no_more};
 ghost use Rattle.ftl_core.specs.Gives.{IsContentOf, IsContentRead, IsReadAfter, IsReadOver, step_ended};
@@ -156,8 +156,8 @@ fn move_pins(pins: &mut [Pin], index: u16, stored: Stored)
 }
 
 /// How far the mending is once its mark is finished: one with a fence is followed by the repairs.
-fn mending_behind(mending: Mending) -> Mending
-    ensures { result ≡ mending_behind mending }
+fn mending_after(mending: Mending) -> Mending
+    ensures { result ≡ mending_after mending }
 {
     match mending {
         Mending::Unmarked(Some(_)) => Mending::Repairing,
@@ -369,7 +369,7 @@ impl Ftl {
         ensures { self.new ≡ mark_over self.old }
     {
         self.step = None;
-        self.mending = mending_behind(self.mending);
+        self.mending = mending_after(self.mending);
     }
 
     /// The repair is durable: its key reads from this place.

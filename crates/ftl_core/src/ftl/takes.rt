@@ -10,8 +10,8 @@ ghost use Rattle.ftl_core.specs.Takes.{page_of_group, page_waiting, page_waits, 
 ghost use Rattle.ftl_core.specs.Takes.{repair_job, repair_program, writes_step};
 ghost use Rattle.ftl_core.specs.Takes.{step_job, step_read, step_waits, step_wants, waiting_flight, waiting_of};
 ghost use Rattle.ftl_core.specs.Takes.{waiting_page};
-ghost use Rattle.ftl_core.specs.Moves.{claims_for, flight_reads, free_blocks, in_flight, is_erasable, is_owed_in, keeps};
-ghost use Rattle.ftl_core.specs.Moves.{looks_on, may_open, single_tag, state_of, tag_of_page};
+ghost use Rattle.ftl_core.specs.Moves.{claims_for, flight_reads, in_flight, is_erasable, is_owed_in, keeps};
+ghost use Rattle.ftl_core.specs.Moves.{looks_on, single_tag, state_of, tag_of_page};
 ghost use Rattle.ufs_spec.specs.Translation.{Translation};
 ghost use Rattle.ftl_core.specs.Describes.{Describes, IsTaken, spot_at};
 ghost use Rattle.ftl_core.specs.Stops.{MayGo, StopsRightGiven};
@@ -320,13 +320,6 @@ impl Ftl {
         }
     }
 
-    /// How many blocks of all dies are free.
-    pub(super) fn free_blocks(&self) -> usize
-        ensures { result ≡ free_blocks self.now }
-    {
-        self.blocks.free_blocks()
-    }
-
     /// Whether a reader keeps a page of the block.
     fn is_pinned(&self, die: u8, block: u16) -> bool
         requires die_there { die < length self.now.books }
@@ -410,28 +403,16 @@ impl Ftl {
     }
 
     /// What waits first: the page of a step goes before those of groups, and these in order of
-    /// number and index.
+    /// number and index, where there is room for them.
     fn waiting(&self) -> Option<Waiting>
         ensures { result ≡ waiting_of self.now }
     {
         if self.step_waits() {
             Some(Waiting::Step)
-        } else {
+        } else if self.has_room_for_groups() {
             self.waiting_group()
-        }
-    }
-
-    /// Whether a block may be opened for what waits: for a group only if more than dies + 2 blocks
-    /// are free now.
-    fn may_open(&self, waiting: Waiting) -> bool
-        ensures { result ≡ may_open self.now waiting }
-    {
-        match waiting {
-            Waiting::Step => true,
-            Waiting::Group {
-                number: _,
-                index: _,
-            } => self.free_blocks() > self.flights.len() + 2,
+        } else {
+            None
         }
     }
 

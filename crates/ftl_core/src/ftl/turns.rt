@@ -2,7 +2,7 @@
 ghost use Rattle.std.specs.Prelude.{◌≡◌, ◌<◌, ◌+◌, ◌^◌, IsTrue, Option, length, if◌then◌else◌, nat_le, is_some, slice_get, Some, None};
 ghost use Rattle.std.specs.List.{list_any};
 ghost use Rattle.ftl_core.specs.Moves.{claims_for, has_number, mark_ordered};
-ghost use Rattle.ftl_core.specs.Collects.{has_few_free, is_bad_with_live, victim, wants_collection};
+ghost use Rattle.ftl_core.specs.Collects.{is_bad_with_live, victim, wants_collection};
 ghost use Rattle.ftl_core.specs.Turns.{IsBegunIf, IsCollectionTurnedIf, IsTurned, copy_ordered, is_begin_due, is_collection_due, is_plan_due, is_repair_due, is_turn_due, plan_turned, repair_turned};
 ghost use Rattle.block_table.specs.Lives.{spots_in};
 ghost use Rattle.ftl_core.specs.Moves.{repair_ordered};
@@ -80,13 +80,6 @@ impl Ftl {
         ensures { result ≡ wants_collection self.now }
     {
         self.has_few_free() || (self.blocks.has_bad() && self.has_bad_with_live())
-    }
-
-    /// Whether fewer than twice the dies and 4 blocks are free.
-    fn has_few_free(&self) -> bool
-        ensures { result ≡ has_few_free self.now }
-    {
-        self.free_blocks() < 2 * usize::from(self.config.numbers().dies) + 4
     }
 
     /// Whether a bad block without a pin holds live pages.

@@ -12,7 +12,7 @@ MarksOf t newest = MarksRight (book t) t.ledger.frontier t.ledger.marks t.disk.c
 -- its first mark is due, with this fence for these keys
 abbrev pub UnmarkedOf : Translation → Option Fence → List Key → Type 0
 UnmarkedOf t fence lost = UnmarkedRight (book t) t.ledger.frontier t.ledger.marks t.ledger.newest t.disk.cells
-    t.disk.blocks t.disk.erasing t.disk.flights t.work.plan fence lost
+    t.disk.finished t.disk.blocks t.disk.erasing t.disk.flights t.work.plan fence lost
 
 -- the mark is one of those that it writes first
 abbrev pub OwnMarkOf : Translation → Option Fence → Mark → Type 0

@@ -5,7 +5,7 @@ use Rattle.power_loss.proofs.Common.{inr, ⊎_elim, Array, Erasing, Flight, Spot
 use Rattle.power_loss.proofs.Common.{TakeStep, is_for, is_for_task, LetGo, LetGoAll, moved, MayTake, Translation}
 use Rattle.power_loss.proofs.Common.{Numbers, erase_unread as unread_erases}
 use Rattle.power_loss.proofs.MachineWords.{Allowed, Answer, Reply, Call, Done, OfDone, Take, OfTake, Host, Turn, OfTurn}
-use Rattle.power_loss.proofs.MachineWords.{array_behind, observe, with_moves, IsOpened, Leads, State, numbers_of, Event}
+use Rattle.power_loss.proofs.MachineWords.{array_after, observe, with_moves, IsOpened, Leads, State, numbers_of, Event}
 use Rattle.power_loss.proofs.MachineWords.{Output, IsSpot}
 use Rattle.ufs_laws.proofs.walk.SmallChanges.{Change, IsSmall, IsSmallMove, Moves, Small, changed, first, first_kept}
 use Rattle.ufs_laws.proofs.walk.SmallChanges.{job_over, kept, observed}
@@ -113,7 +113,7 @@ call_kept s call answer =
 -- the pages that the end of a job leaves
 abbrev pub array_ended : State → Option Flight → Ending → Array → Array
 array_ended s None ending left = s.array
-array_ended s (Some flight) ending left = array_behind s flight ending left
+array_ended s (Some flight) ending left = array_after s flight ending left
 
 -- the pages that a call leaves are those that were, or those that the end of a job leaves
 abbrev pub Leaves : State → Call → Array → Type 0

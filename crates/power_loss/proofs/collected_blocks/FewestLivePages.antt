@@ -1,6 +1,6 @@
 -- The victim has the fewest live pages of all blocks that can be collected, and collection begins exactly when it is
 -- due.
-use Rattle.power_loss.proofs.Common.{◌≡◌, ℕ, ◌+◌, ◌*◌, ◌<◌, ◌≤◌, ◌⊎◌, ◌&&◌, ◌||◌, ◌^◌, not, is_none, is_some}
+use Rattle.power_loss.proofs.Common.{◌≡◌, ℕ, ◌+◌, ◌*◌, ◌<◌, ◌≤◌, ◌⊎◌, ◌&&◌, not, is_none, is_some}
 use Rattle.power_loss.proofs.Common.{if◌then◌else◌, Bool, true, false, List, [], ◌∷◌, Option, Some, None, refl, sym, ap}
 use Rattle.power_loss.proofs.Common.{◌∙◌, subst, inl, inr, ⊎_elim, arith, lt-ltb, filter, list_any, none_is, and_parts}
 use Rattle.power_loss.proofs.Common.{false≢true, ltb-false, ltb-true, not-true, or_cases, and_from, or_left, or_right}
@@ -10,13 +10,13 @@ use Rattle.power_loss.proofs.Common.{Plan, Translation, copy_begun, due_order, h
 use Rattle.power_loss.proofs.Common.{is_mended, is_pinned, is_step_due, live_places, next_order, ordered, plan_order}
 use Rattle.power_loss.proofs.Common.{spots, stepped, turned, victim, victim_order, wants_collection, with_plan, Place}
 use Rattle.power_loss.proofs.MachineWords.{IsBefore}
-use Rattle.std.proofs.Common.{nat_lt}
+use Rattle.std.proofs.Common.{max, nat_lt}
 use Rattle.ufs_spec.specs.Pages.{greatest_number}
 use Rattle.ufs_spec.specs.Stages.{most_bad}
 use Rattle.ufs_spec.specs.Translation.{count_blocks, gains, is_bad, is_bad_with_live}
 use Rattle.ufs_spec.specs.Translation.{least_of, live_count}
-use Rattle.ufs_spec.specs.Translation.{may_be_victim}
-use Rattle.power_loss.specs.Collection.{CanBeCollected, IsBadWithLive, IsCollectionDue, IsRoomScarce}
+use Rattle.ufs_spec.specs.Translation.{may_be_victim, own_room, wanted_room}
+use Rattle.power_loss.specs.Collection.{AreFewFree, CanBeCollected, IsBadWithLive, IsCollectionDue, IsRoomScarce}
 use Rattle.power_loss.specs.Collection.{IsVictim}
 use Rattle.power_loss.proofs.ordered_lists.ElementsAndOrders.{IsIn, IsOrdered, filter_in, in_spots, kept_in}
 use Rattle.power_loss.proofs.ordered_lists.ElementsAndOrders.{ordered_filter, spots_in, spots_ordered}
@@ -203,20 +203,35 @@ live_shown {t} {s} r = and_from (is_bad (t.disk.blocks s) && not (is_pinned t s)
     (lt-ltb 0 (live_count t s) r.live)
 
 abbrev is_few : Translation → Bool
-is_few t = nat_lt (count_blocks t is_free) (2 * t.numbers.dies + 4)
+is_few t = nat_lt (count_blocks t is_free) (wanted_room t.numbers)
 
 abbrev is_any_bad : Translation → Bool
 is_any_bad t = list_any (is_bad_with_live t) (spots t.numbers)
 
+-- fewer than the greater of two is fewer than one of them
+under_either : (free a b : ℕ) → free < max a b → (free < a) ⊎ (free < b)
+under_either free a b h = grind arith
+
+under_one : (free a b : ℕ) → (free < a) ⊎ (free < b) → free < max a b
+under_one free a b h = grind arith
+
+few_told : (t : Translation) → is_few t ≡ true → AreFewFree t
+few_told t h = under_either (count_blocks t is_free) (2 * t.numbers.dies + 4) (own_room t.numbers + 2)
+    (ltb-true (count_blocks t is_free) (wanted_room t.numbers) h)
+
+few_shown : (t : Translation) → AreFewFree t → is_few t ≡ true
+few_shown t h = lt-ltb (count_blocks t is_free) (wanted_room t.numbers)
+    (under_one (count_blocks t is_free) (2 * t.numbers.dies + 4) (own_room t.numbers + 2) h)
+
 scarce_told : (t : Translation) → wants_collection t ≡ true → IsRoomScarce t
 scarce_told t h =
-    ⊎_elim (λ k. inl (ltb-true (count_blocks t is_free) (2 * t.numbers.dies + 4) k))
+    ⊎_elim (λ k. inl (few_told t k))
     (λ k. let r = any_in (is_bad_with_live t) (spots t.numbers) k in inr (r.0, live_told r.1 r.2))
     (or_cases (is_few t) (is_any_bad t) h)
 
 scarce_shown : (t : Translation) → IsRoomScarce t → wants_collection t ≡ true
 scarce_shown t r =
-    ⊎_elim (λ k. or_left (is_few t) (is_any_bad t) (lt-ltb (count_blocks t is_free) (2 * t.numbers.dies + 4) k))
+    ⊎_elim (λ k. or_left (is_few t) (is_any_bad t) (few_shown t k))
     (λ (k : (s : Spot) × IsBadWithLive t s). or_right (is_few t) (is_any_bad t)
     (in_any (is_bad_with_live t) k.0 (spots t.numbers) (in_spots k.1.inside) (live_shown k.1))) r
 

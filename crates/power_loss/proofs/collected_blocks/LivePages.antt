@@ -1,6 +1,6 @@
 -- A live page of a mended device is pending, or the newest of its key at or under the frontier: it is there, in a block
 -- that is not free, and nothing but its copy spends it.
-use Rattle.power_loss.proofs.Common.{◌≡◌, ◌≢◌, ℕ, ◌<◌, ◌≤◌, ◌&&◌, Bool, true, All, List, map, Option, Some, None, refl}
+use Rattle.power_loss.proofs.Common.{◌≡◌, ◌≢◌, ℕ, ◌-◌, ◌<◌, ◌≤◌, ◌&&◌, Bool, true, false, take, All, List, map, Option, Some, None, refl}
 use Rattle.power_loss.proofs.Common.{sym, ap, ◌∙◌, subst, inl, inr, ⊎_elim, arith, All-weaker, and_parts, false≢true}
 use Rattle.power_loss.proofs.Common.{ltb-true, or_cases, same_Some, Cell, GroupPage, Mark, key_of, same_place, Erasing}
 use Rattle.power_loss.proofs.Common.{Free, IsNewestFinished, IsReplaced, SpentBy, Spot, spot_of, HasCopy, Spent}
@@ -14,6 +14,7 @@ use Rattle.power_loss.proofs.books.PagesByName.{is_old, written_more}
 use Rattle.power_loss.proofs.kept_pages.LookedUpPages.{AreRewritten, IsLatest, latest_right}
 use Rattle.power_loss.proofs.jobs_owed.ProgramsAndErases.{erase_owed}
 use Rattle.power_loss.proofs.kept_pages.ReadsStay.{needed_secure}
+use Rattle.power_loss.proofs.kept_pages.UnmendedPages.{new_secure, unmended_secure}
 use Rattle.power_loss.proofs.spent.ErasedIsSpent.{entry_for, fenced_none, lost_or_not}
 use Rattle.ufs_spec.proofs.Equalities.{is_name_told, place_told}
 use Rattle.power_loss.proofs.books.LayerParts.{NeededOf, SecureOf, MendingOf}
@@ -139,14 +140,36 @@ live_has_copy t p tag body v = mended_copy t.work.mending p v v.mending
 
 -- A block that is erased has no live page
 
-never_free : (t : Translation) (w : Mending) (p : Place) (tag : Tag) (body : List ℕ) → Valid t →
-    MendingOf t w → t.disk.cells p ≡ GroupPage tag body →
+-- a live page of an unmended device stands securely
+unmended_free : (t : Translation) (p : Place) (tag : Tag) (body : List ℕ) → Valid t →
+    is_mended t.work.mending ≡ false → t.disk.cells p ≡ GroupPage tag body →
     is_live_cell t.ledger p (GroupPage tag body) ≡ true → t.disk.blocks (spot_of p) ≡ Free → ⊥
-never_free t (Unmarked fence lost) p tag body v r h live free =
-    page_not_nothing (t.disk.cells p) tag body h (r.blank p (inl free))
-never_free t (Repairing left) p tag body v r h live free =
-    page_not_nothing (t.disk.cells p) tag body h (r.more.blank p (inl free))
-never_free t Mended p tag body v r h live free =
+unmended_free t p tag body v un h live free =
+    let at = same_Some secure.place p (sym secure.known ∙ told.0) in
+    secure.needed (ap (λ z. t.disk.blocks (spot_of z)) at ∙ free)
+  where
+    told : (t.ledger.standing tag.number tag.index ≡ Some p) × (is_needed t.ledger (name_of tag) (key_of tag) ≡ true)
+    told = live_told (t.ledger.standing tag.number tag.index) live
+
+    secure : SecureOf t tag.number tag.index
+    secure = ⊎_elim
+        (λ b.
+        let above = ltb-true t.ledger.frontier tag.number b in
+        let low = v.frontier.above in
+        new_secure tag.number tag.index v un (omega arith) told.0)
+        (λ b. unmended_secure (key_of tag) (take (t.ledger.frontier - t.ledger.greatest_seen) t.ledger.groups)
+        (latest_durable t.ledger (key_of tag)) (name_of tag) v un
+        (v.book_right.keys tag.number tag.index (entry_for tag body) (v.pages.known p tag body h)) refl
+        (is_name_told (name_of tag) (latest_durable t.ledger (key_of tag)) b) told.0)
+        (or_cases (nat_lt t.ledger.frontier tag.number) (is_name (name_of tag) (latest_durable t.ledger (key_of tag)))
+        told.1)
+
+never_free : (t : Translation) (w : Mending) (p : Place) (tag : Tag) (body : List ℕ) → Valid t →
+    t.work.mending ≡ w → MendingOf t w → t.disk.cells p ≡ GroupPage tag body →
+    is_live_cell t.ledger p (GroupPage tag body) ≡ true → t.disk.blocks (spot_of p) ≡ Free → ⊥
+never_free t (Unmarked fence lost) p tag body v is r h live free = unmended_free t p tag body v (ap is_mended is) h live free
+never_free t (Repairing left) p tag body v is r h live free = unmended_free t p tag body v (ap is_mended is) h live free
+never_free t Mended p tag body v is r h live free =
     let l = live_right body v r.more r.right.within h live in
     let c = live_secure body v r.is h l in
     let at = same_Some c.place p (sym c.known ∙ l.known) in
@@ -157,7 +180,7 @@ pub live_never_erased : (t : Translation) (die : ℕ) (s : Spot) (p : Place) →
 live_never_erased t die s p v may live at =
     let o = erase_owed t die s may in
     let page = live_is_page t p (t.disk.cells p) live in
-    never_free t t.work.mending p page.0 page.1 v v.mending page.2 (sym (ap (is_live_cell t.ledger p) page.2) ∙ live)
+    never_free t t.work.mending p page.0 page.1 v refl v.mending page.2 (sym (ap (is_live_cell t.ledger p) page.2) ∙ live)
     (ap t.disk.blocks at ∙ o.free)
 
 -- The live pages of a block are there

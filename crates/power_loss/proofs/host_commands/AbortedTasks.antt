@@ -4,7 +4,7 @@ use Rattle.power_loss.proofs.Common.{◌-◌, filter, flat_map, LetGoAll, Releas
 use Rattle.power_loss.proofs.MachineWords.{Task, is_task_of, abort_moves, is_aborted, managed, service, with_moves}
 use Rattle.power_loss.proofs.MachineWords.{without_tasks, State, numbers_of, IsTied, claim_of, claims_of}
 use Rattle.std.specs.Prelude.{if◌then◌else◌}
-use Rattle.ufs_spec.specs.Machine.{registers_behind}
+use Rattle.ufs_spec.specs.Machine.{registers_after}
 use Rattle.power_loss.proofs.host_commands.OpenedByCommands.{IsFree}
 use Rattle.power_loss.proofs.open_tasks.TaggedLists.{any_fewer}
 use Rattle.power_loss.proofs.open_tasks.TaskLists.{tasks_fewer}
@@ -54,7 +54,7 @@ aborts_right {s} is v =
     let back = aborted u (numbers_of s) (filter is s.tasks) (right_keeps gone v) (omega arith) in
     Both gone
     (Both back
-    (One (SetsRegisters (registers_behind (filter is s.tasks) s.registers))
+    (One (SetsRegisters (registers_after (filter is s.tasks) s.registers))
     (record { small = tt; layer = tt; tasks = (right_keeps back (right_keeps gone v)).tasks })))
 
 pub managed_right : {s : State} (lun function meant : ℕ) → IsTied s → Right s (managed s lun function meant)

@@ -5,12 +5,12 @@ use Rattle.power_loss.proofs.Common.{LetGoAll, Acknowledge, WantPage, none-some,
 use Rattle.power_loss.proofs.MachineWords.{Answering, Awaiting, Deed, ForWrite, Gathering, Good, NotRead, Purpose}
 use Rattle.power_loss.proofs.MachineWords.{ReadBlock, ReadState, Sending, Short, Task, SendingBytes, is_short_of}
 use Rattle.power_loss.proofs.MachineWords.{is_task_of, response, task_of, without_short, without_task, with_deed, Due}
-use Rattle.power_loss.proofs.MachineWords.{claimed_by, deed_behind, deed_behind_block, deed_reply, durable, is_durable}
-use Rattle.power_loss.proofs.MachineWords.{moves_behind, replied_by, set_deed, short_replied, tag_in, task_behind}
+use Rattle.power_loss.proofs.MachineWords.{claimed_by, deed_after, deed_after_block, deed_reply, durable, is_durable}
+use Rattle.power_loss.proofs.MachineWords.{moves_after, replied_by, set_deed, short_replied, tag_in, task_goes_on}
 use Rattle.power_loss.proofs.MachineWords.{with_moves, State, numbers_of, Message, Cdb, DeedFits, ShortAwaits}
 use Rattle.power_loss.proofs.MachineWords.{ShortFits, IsTied, claim_of}
 use Rattle.std.specs.Prelude.{if◌then◌else◌, slice_get}
-use Rattle.ufs_spec.specs.Machine.{deed_behind_state}
+use Rattle.ufs_spec.specs.Machine.{deed_after_state}
 use Rattle.ufs_spec.specs.Machine.{replied}
 use Rattle.ufs_spec.specs.Machine.{acknowledges}
 use Rattle.ufs_spec.proofs.Facts.{leb-true}
@@ -95,19 +95,19 @@ module _ (s : State) (task : Task) (v : IsTied s) (there : task_of task.tag s.ta
   sent_right blocks sent false = set_right (Answering Good task.length) v there tt (omega arith)
 
   state_right : (blocks : List ReadBlock) (sent : ℕ) (state : ReadState) →
-      Right s (task_behind s task (deed_behind_state task blocks sent state))
+      Right s (task_goes_on s task (deed_after_state task blocks sent state))
   state_right blocks sent NotRead = removed_right task.tag v
   state_right blocks sent state = sent_right blocks sent (nat_lt (sent + 1) (length blocks))
 
   block_right : (blocks : List ReadBlock) (sent : ℕ) (x : Option ReadBlock) →
-      Right s (task_behind s task (deed_behind_block task blocks sent x))
+      Right s (task_goes_on s task (deed_after_block task blocks sent x))
   block_right blocks sent None = removed_right task.tag v
   block_right blocks sent (Some block) = state_right blocks sent block.state
 
 deed_replies : {s : State} {task : Task} (deed : Deed) {m : Message} → IsTied s → task_of task.tag s.tasks ≡ Some task →
     FitsIn s task deed → claim_of (numbers_of s) task ≡ claimed_by (numbers_of s) deed task.command →
     deed_reply s task deed ≡ Some m →
-    Right s (task_behind (with_moves s (moves_behind task deed)) task (deed_behind task deed))
+    Right s (task_goes_on (with_moves s (moves_after task deed)) task (deed_after task deed))
 deed_replies {s} {task} (Gathering purpose gathered asked) v there fits claim h =
     let same = claim_same (numbers_of s) purpose purpose gathered gathered true asked task.command in
     set_right (Gathering purpose gathered true) v there (asked_fits s task purpose gathered asked fits) (omega arith)

@@ -6,8 +6,8 @@ use Rattle.power_loss.proofs.Common.{data_key, Claim, free_slots, is_mended}
 use Rattle.power_loss.proofs.MachineWords.{address_of, blocks_of, operation_of, Answering, Awaiting, Deed, ForWrite}
 use Rattle.power_loss.proofs.MachineWords.{Gathering, Good, ReadBlock, Sending, Short, Status, Task, TaskSetFull}
 use Rattle.power_loss.proofs.MachineWords.{SendingBytes, is_short_of, is_task_of, response, short_reply, ForFrames}
-use Rattle.power_loss.proofs.MachineWords.{ForUnmap, Purpose, begun, begun_with, blocks_expected, claimed_by}
-use Rattle.power_loss.proofs.MachineWords.{command_heard, kept_at, opened_with, read_begun, read_blocks, sending}
+use Rattle.power_loss.proofs.MachineWords.{ForUnmap, Purpose, begun, begun_if_any, blocks_expected, claimed_by}
+use Rattle.power_loss.proofs.MachineWords.{command_taken, kept_at, refused_or_begun, read_begun, read_blocks, sending}
 use Rattle.power_loss.proofs.MachineWords.{tag_in, unit_or_first, with_moves, with_short, with_task, most_tasks}
 use Rattle.power_loss.proofs.MachineWords.{Request, State, numbers_of, operation_in, refusal, unit_of_request, UnitSpec}
 use Rattle.power_loss.proofs.MachineWords.{Message, Cdb, DeedFits, IsTied, ShortFits, WriteFits}
@@ -199,19 +199,19 @@ begins s r command v free p op = begins_by (Right s) s r unit command one
         gathers_right n ForFrames v free p slots (ready_now s command needs p.ready)
 
 opened_right : {s : State} (r : Request) → IsTied s → IsFree s r.tag → IsSpelled r → (x : Option Status) →
-    refusal s r ≡ x → Right s (opened_with s r x)
+    refusal s r ≡ x → Right s (refused_or_begun s r x)
 opened_right {s} r v free spelled (Some status) e = answer_right r None 0 status 0 v free
 opened_right {s} r v free spelled None e = by r.cdb refl
   where
-    by : (c : Option Cdb) → r.cdb ≡ c → Right s (begun_with s r c)
+    by : (c : Option Cdb) → r.cdb ≡ c → Right s (begun_if_any s r c)
     by None h = Still
     by (Some command) h = begins s r command v free (passed s r command h e) (spelled command h)
 
-pub command_right : {s : State} (r : Request) → IsTied s → IsFree s r.tag → IsSpelled r → Right s (command_heard s r)
+pub command_right : {s : State} (r : Request) → IsTied s → IsFree s r.tag → IsSpelled r → Right s (command_taken s r)
 command_right {s} r v free spelled = by (nat_le most_tasks (length s.tasks))
   where
     by : (b : Bool) → Right s
         (if b then with_short s (short_reply r.tag (response r.lun r.tag r.expected 0 TaskSetFull))
-        else opened_with s r (refusal s r))
+        else refused_or_begun s r (refusal s r))
     by true = reply_right (response r.lun r.tag r.expected 0 TaskSetFull) v free refl
     by false = opened_right r v free spelled (refusal s r) refl

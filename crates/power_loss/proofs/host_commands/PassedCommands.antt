@@ -5,15 +5,15 @@ use Rattle.power_loss.proofs.Common.{AllByRecursion, get_or-map, slice_get-get_o
 use Rattle.power_loss.proofs.Common.{none-some, not-false, is_mended, Numbers}
 use Rattle.power_loss.proofs.MachineWords.{address_of, blocks_of, operation_of, invalid_operation, no_unit, BootUnit}
 use Rattle.power_loss.proofs.MachineWords.{DeviceUnit, Line, Lun, ReportLunsUnit, Request, RpmbUnit, State, UnitOf}
-use Rattle.power_loss.proofs.MachineWords.{first_line, is_past, lacks_unit, line, lines_behind, lun_of, mended}
-use Rattle.power_loss.proofs.MachineWords.{needs_mended, not_taken, numbers_of, operation_in, refusal, spec_at, takes}
+use Rattle.power_loss.proofs.MachineWords.{first_line, is_past, lacks_unit, line, lines_after, lun_of, mended}
+use Rattle.power_loss.proofs.MachineWords.{needs_mended, not_taken, numbers_of, operation_in, refusal, unit_numbers_at, takes}
 use Rattle.power_loss.proofs.MachineWords.{unit_in, unit_of_request, UnitSpec, Cdb}
 use Rattle.std.specs.Prelude.{if◌then◌else◌}
 use Rattle.ufs_spec.specs.Cdbs.{write_10, write_6}
 use Rattle.ufs_spec.specs.Messages.{is_among}
 use Rattle.ufs_spec.specs.Stages.{taken_luns}
 use Rattle.ufs_spec.specs.Refusals.{is_crowded, is_too_long}
-use Rattle.ufs_spec.specs.Refusals.{spec_of, well_known}
+use Rattle.ufs_spec.specs.Refusals.{unit_numbers_of, well_known}
 
 -- No line of the table applies
 
@@ -31,7 +31,7 @@ pub record Passed (s : State) (r : Request) (command : Cdb) : Type 0 where
   pub unit : lacks_unit s r (lun_of (numbers_of s) r.lun) ≡ false
   pub taken : not_taken r (lun_of (numbers_of s) r.lun) ≡ false
   pub not_long : is_too_long (numbers_of s) command ≡ false
-  pub within : is_past command (spec_of s r) ≡ false
+  pub within : is_past command (unit_numbers_of s r) ≡ false
   pub ready : (needs_mended (operation_of command) && not (mended s)) ≡ false
   pub room : is_crowded s command ≡ false
 
@@ -40,8 +40,8 @@ passed s r command e h =
     let lun = lun_of (numbers_of s) r.lun in
     let first = line (lacks_unit s r lun) no_unit in
     let second = line (not_taken r lun) invalid_operation in
-    let p = all_pass (first ∷ second ∷ lines_behind s r (Some command))
-    (subst (λ (c : Option Cdb). first_line (first ∷ second ∷ lines_behind s r c) ≡ None) e h) in
+    let p = all_pass (first ∷ second ∷ lines_after s r (Some command))
+    (subst (λ (c : Option Cdb). first_line (first ∷ second ∷ lines_after s r c) ≡ None) e h) in
     record {
       unit = p.0;
       taken = p.1.0;
@@ -112,13 +112,13 @@ pub no_spec : UnitSpec
 no_spec = record { blocks = 0; boot = 0; protect = 0 }
 
 -- the blocks lie within the unit
-pub lies_within : {s : State} {r : Request} (command : Cdb) → UnitTold s r → is_past command (spec_of s r) ≡ false →
+pub lies_within : {s : State} {r : Request} (command : Cdb) → UnitTold s r → is_past command (unit_numbers_of s r) ≡ false →
     address_of command + blocks_of command
     ≤ get_or (map (λ (u : UnitSpec). u.blocks) (numbers_of s).units.items) r.lun 0
 lies_within {s} {r} command told h =
     let units = (numbers_of s).units.items in
     let unit = get_or units r.lun no_spec in
-    let spec : spec_of s r ≡ Some unit = ap (spec_at (numbers_of s)) told.is ∙ slice_get-get_or units r.lun no_spec
+    let spec : unit_numbers_of s r ≡ Some unit = ap (unit_numbers_at (numbers_of s)) told.is ∙ slice_get-get_or units r.lun no_spec
     told.there in
     let past = subst (λ (u : Option UnitSpec). is_past command u ≡ false) spec h in
     let bound = ltb-false unit.blocks (address_of command + blocks_of command) past in

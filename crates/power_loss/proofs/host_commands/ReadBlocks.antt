@@ -8,7 +8,7 @@ use Rattle.power_loss.proofs.Common.{look, Keep, shape_of_numbers, Pin, Numbers,
 use Rattle.power_loss.proofs.MachineWords.{address_of, blocks_of, read_10, read_6, blocks_expected, unit_or_first}
 use Rattle.power_loss.proofs.MachineWords.{with_moves, BootUnit, DeviceUnit, Lun, ReportLunsUnit, Request, RpmbUnit}
 use Rattle.power_loss.proofs.MachineWords.{State, UnitOf, is_past, lacks_unit, lun_of, not_taken, numbers_of}
-use Rattle.power_loss.proofs.MachineWords.{operation_in, plain_now, spec_at, takes, unit_in, unit_of_request, UnitSpec}
+use Rattle.power_loss.proofs.MachineWords.{operation_in, plain_now, unit_numbers_at, takes, unit_in, unit_of_request, UnitSpec}
 use Rattle.power_loss.proofs.MachineWords.{Cdb, IsTied}
 use Rattle.std.proofs.Common.{position}
 use Rattle.std.specs.Prelude.{if◌then◌else◌, is_none}
@@ -145,7 +145,7 @@ key_read {s} {r} {command} {n} size reads p i l =
 
     room : address_of command + blocks_of command ≤ u.spec.blocks
     room = ltb-false u.spec.blocks (address_of command + blocks_of command)
-        (subst (λ (x : Option UnitSpec). is_past command x ≡ false) (ap (spec_at (numbers_of s)) u.is ∙ u.there)
+        (subst (λ (x : Option UnitSpec). is_past command x ≡ false) (ap (unit_numbers_at (numbers_of s)) u.is ∙ u.there)
         p.within)
 
     blocks : get_or (map (λ (x : UnitSpec). x.blocks) units) u.number 0 ≡ u.spec.blocks

@@ -1,11 +1,12 @@
 -- A change of the disk that keeps what stands safely keeps a life valid: each page is as it was, or nothing, or left by
 -- a program that failed; and what is in flight was in flight.
-use Rattle.power_loss.proofs.Common.{◌≡◌, ℕ, suc, ◌<◌, ◌≤◌, Bool, true, false, ◌⊎◌, All, List, [], Option, Some, refl}
+use Rattle.power_loss.proofs.Common.{◌≡◌, ◌≢◌, ℕ, suc, ◌<◌, ◌≤◌, Bool, true, false, ◌⊎◌, All, List, [], Option, Some, None}
+use Rattle.power_loss.proofs.Common.{refl, cases_Bool, HasKey, HasStandIn, IsSpare, IsThereOrSpare, MayBeErased}
 use Rattle.power_loss.proofs.Common.{sym, ap, ◌∙◌, subst, inl, inr, ⊎_elim, arith, All-nil, Cell, Cells, GroupPage}
 use Rattle.power_loss.proofs.Common.{Mark, MarkPage, Nothing, Bad, Closed, Disk, Erasing, Flight, Free, Programming}
 use Rattle.power_loss.proofs.Common.{Spot, spot_of, Name, CopyStep, MarkStep, Mended, Mending, Plan, Repairing, Step}
 use Rattle.power_loss.proofs.Common.{StepKind, Translation, Unmarked, Want, wants_of_step, is_mended, Fence, Key, Place}
-use Rattle.power_loss.proofs.Common.{Tag, mark_not_nothing, page_not_nothing, Book, book, last_number, AreFreeBlank}
+use Rattle.power_loss.proofs.Common.{Tag, mark_not_nothing, page_not_nothing, Book, book, last_number}
 use Rattle.power_loss.proofs.Common.{AreNumbered, BlocksRight, EraseRight, FlightsRight, IsLastRepair, IsOpenedOrOwn}
 use Rattle.power_loss.proofs.Common.{IsNeededPage, IsOwnMark, IsToCopy, MarkFlightRight, MarksRight, MendingRight}
 use Rattle.power_loss.proofs.Common.{PagesRight, PlanRight, ProgramRight, ReadsRight, StepKindRight, StepRight}
@@ -32,6 +33,8 @@ pub record Change (t : Translation) (e : Disk) : Type 0 where
   pub keeps : Keeps t.disk e
   pub left : (q : Place) → IsLeft t e q
   pub ended : (q : Place) → e.finished q ≡ true → t.disk.finished q ≡ true
+  pub unended : (q : Place) → e.finished q ≡ false →
+      (t.disk.finished q ≡ false) ⊎ ((e.cells q ≡ Nothing) ⊎ IsFresh t e q)
   pub blocks : BlocksRight t.numbers e.cells e.finished e.blocks e.erasing
   pub flew : (die : ℕ) (p : Place) (cell : Cell) → e.flights die ≡ Some (Programming p cell) → t.disk.flights die ≡ Some
       (Programming p cell)
@@ -43,6 +46,11 @@ pub record Change (t : Translation) (e : Disk) : Type 0 where
   pub victims : (s : Spot) → (t.disk.blocks s ≡ Closed) ⊎ (t.disk.blocks s ≡ Bad) →
       (e.blocks s ≡ Closed) ⊎ (e.blocks s ≡ Bad)
   pub reads : ReadsRight e.cells e.finished e.erasing e.flights
+
+-- a page that is nothing was nothing, or lay in a block whose pages may go
+abbrev pub IsGone : Translation → Disk → Type 0
+IsGone t e = (p : Place) → e.cells p ≡ Nothing →
+    (t.disk.cells p ≡ Nothing) ⊎ MayBeErased t.disk.blocks t.disk.erasing (spot_of p)
 
 -- the step under way behind it, and the greatest mark number
 pub record Follows (t : Translation) (e : Disk) (marks : ℕ) (step : Option Step) : Type 0 where
@@ -96,6 +104,23 @@ flown_above {die} q p {m} other v h k =
 same_mark : {f : Option Flight} {p q : Place} {m other : Mark} → f ≡ Some (Programming p (MarkPage m)) →
     f ≡ Some (Programming q (MarkPage other)) → m ≡ other
 same_mark h k = cc
+
+-- a page that is spare is so where what may not go is as it was
+pub spare_moves : (before after : Cells) (newest : Option Mark) (A B : Spot → Type 0) (cell : Cell) →
+    ((s : Spot) → B s → A s) → ((q : Place) → before q ≢ Nothing → (A (spot_of q) → ⊥) → after q ≡ before q) →
+    IsSpare before newest A cell → IsSpare after newest B cell
+spare_moves before after None A B cell less still h = absurd h
+spare_moves before after (Some m) A B Nothing less still h = absurd h
+spare_moves before after (Some m) A B (MarkPage other) less still h = h
+spare_moves before after (Some m) A B (GroupPage tag body) less still (inl h) = inl h
+spare_moves before after (Some m) A B (GroupPage tag body) less still (inr s) = inr record {
+  place = s.place;
+  tag = s.tag;
+  other = s.other;
+  there = still s.place (page_not_nothing _ _ _ s.there) s.outside ∙ s.there;
+  outside = λ h. s.outside (less (spot_of s.place) h);
+  instead = s.instead;
+}
 
 -- The parts
 
@@ -155,12 +180,6 @@ module _ (t : Translation) (e : Disk) (v : Valid t) (c : Change t e) where
     flies = λ die p m h. r.flies die p m (c.flew die p (MarkPage m) h);
   }
 
-  blank_change : AreFreeBlank t.disk.cells t.disk.blocks t.disk.erasing → AreFreeBlank e.cells e.blocks e.erasing
-  blank_change old p may = ⊎_elim
-      (λ h. h ∙ old p (⊎_elim (λ free. inl (c.freed (spot_of p) free)) (λ er. c.spent (spot_of p) er) may))
-      (λ h. ⊎_elim (λ k. k)
-      (λ f. absurd (⊎_elim (λ free. free_is_not_bad free f.bad) (λ er. true_is_not_false er f.stays) may)) h) (c.left p)
-
   -- the first marks of a life
 
   own_more : {marks : ℕ} {fence : Option Fence} {m : Mark} → t.ledger.marks ≤ marks → OwnMarkOf t fence m →
@@ -169,33 +188,62 @@ module _ (t : Translation) (e : Disk) (v : Valid t) (c : Change t e) where
       let within : m.number ≤ marks = let w = o.within in omega arith in
       assumption
 
-  opened_same : (marks : ℕ) (fence : Option Fence) (opened cell : Cell) → t.ledger.marks ≤ marks →
-      IsOpenedOrOwn (book t) t.ledger.newest t.ledger.marks fence opened cell →
-      IsOpenedOrOwn (book t) t.ledger.newest marks fence opened cell
-  opened_same marks fence opened cell l (inl h) = inl h
-  opened_same marks fence opened cell l (inr (h, (m, is, own))) = inr (h, (m, is, own_more l own))
-
-  opened_blank : (fence : Option Fence) {opened : Cell} → IsOpenedOrOwn (book t) t.ledger.newest t.ledger.marks fence
-      opened Nothing → opened ≡ Nothing
-  opened_blank fence (inl h) = sym h
-  opened_blank fence (inr (h, own)) = h
+  opened_same : (marks : ℕ) (fence : Option Fence) (opened cell : Cell) {finished ended : Bool} →
+      t.ledger.marks ≤ marks → (ended ≡ true → finished ≡ true) →
+      IsOpenedOrOwn (book t) t.ledger.newest t.ledger.marks fence opened cell finished →
+      IsOpenedOrOwn (book t) t.ledger.newest marks fence opened cell ended
+  opened_same marks fence opened cell l still (inl h) = inl h
+  opened_same marks fence opened cell l still (inr (inl h)) = inr (inl h)
+  opened_same marks fence opened cell {ended = ended} l still (inr (inr (h, (m, is, own)))) = inr (inr (
+    ⊎_elim (λ k. absurd (true_is_not_false (still k) h)) (λ k. k) (cases_Bool ended),
+    (m, is, own_more l own),
+  ))
 
   unmarked_same : (marks : ℕ) (fence : Option Fence) (lost : List Key) → t.ledger.marks ≤ marks →
-      (u : UnmarkedOf t fence lost) → (p : Place) → IsLeft t e p → (e.cells p ≡ Nothing → t.disk.cells p ≡ Nothing) →
-      IsOpenedOrOwn (book t) t.ledger.newest marks fence (u.opening p) (e.cells p)
-  unmarked_same marks fence lost l u p (inl h) gone =
-      subst (IsOpenedOrOwn (book t) t.ledger.newest marks fence (u.opening p)) (sym h)
-      (opened_same marks fence (u.opening p) (t.disk.cells p) l (u.same p))
-  unmarked_same marks fence lost l u p (inr (inl h)) gone =
-      subst (IsOpenedOrOwn (book t) t.ledger.newest marks fence (u.opening p)) (gone h ∙ sym h)
-      (opened_same marks fence (u.opening p) (t.disk.cells p) l (u.same p))
-  unmarked_same marks fence lost l u p (inr (inr f)) gone =
+      (u : UnmarkedOf t fence lost) → (p : Place) → IsLeft t e p →
+      IsOpenedOrOwn (book t) t.ledger.newest marks fence (u.opening p) (e.cells p) (e.finished p)
+  unmarked_same marks fence lost l u p (inl h) =
+      subst (λ x. IsOpenedOrOwn (book t) t.ledger.newest marks fence (u.opening p) x (e.finished p)) (sym h)
+      (opened_same marks fence (u.opening p) (t.disk.cells p) l (c.ended p) (u.same p))
+  unmarked_same marks fence lost l u p (inr (inl h)) = inr (inl h)
+  unmarked_same marks fence lost l u p (inr (inr f)) =
       let own = u.flies f.die p (e.cells p) f.flies in
-      inr (
-        opened_blank fence (subst (IsOpenedOrOwn (book t) t.ledger.newest t.ledger.marks fence
-            (u.opening p)) f.blank (u.same p)),
-        (own.0, own.1, own_more l own.2),
-      )
+      inr (inr (f.unfinished, (own.0, own.1, own_more l own.2)))
+
+  -- what may not go stays
+  still : IsGone t e → (p : Place) → t.disk.cells p ≢ Nothing →
+      (MayBeErased t.disk.blocks t.disk.erasing (spot_of p) → ⊥) → e.cells p ≡ t.disk.cells p
+  still gone p some out = ⊎_elim (λ h. h)
+      (λ h. ⊎_elim (λ k. absurd (⊎_elim (λ z. some z) (λ z. out z) (gone p k))) (λ f. absurd (some f.blank)) h) (c.left p)
+
+  may_still : (s : Spot) → MayBeErased e.blocks e.erasing s → MayBeErased t.disk.blocks t.disk.erasing s
+  may_still s may = ⊎_elim (λ free. inl (c.freed s free)) (λ er. c.spent s er) may
+
+  unmarked_spare : {fence : Option Fence} {lost : List Key} → IsGone t e → (u : UnmarkedOf t fence lost) → (p : Place) →
+      u.opening p ≢ Nothing → IsThereOrSpare t.ledger.newest e.cells e.blocks e.erasing p (u.opening p)
+  unmarked_spare gone u p some = ⊎_elim
+      (λ h. inl (still gone p (λ z. some (sym h.0 ∙ z)) h.1 ∙ h.0, λ may. h.1 (may_still (spot_of p) may)))
+      (λ h. inr (spare_moves t.disk.cells e.cells t.ledger.newest (MayBeErased t.disk.blocks t.disk.erasing)
+      (MayBeErased e.blocks e.erasing) (u.opening p) may_still (still gone) h)) (u.spare p some)
+
+  unmarked_unfinished : (marks : ℕ) (fence : Option Fence) (lost : List Key) → t.ledger.marks ≤ marks →
+      (u : UnmarkedOf t fence lost) → (p : Place) → e.finished p ≡ false → (e.cells p ≡ Nothing) ⊎
+      ((m : Mark) × (e.cells p ≡ MarkPage m) × IsOwnMark (book t) t.ledger.newest marks fence m)
+  unmarked_unfinished marks fence lost l u p h = ⊎_elim (λ k. by (c.left p) (u.unfinished p k))
+      (λ k. ⊎_elim (λ none. inl none) fresh k) (c.unended p h)
+    where
+      fresh : IsFresh t e p → (e.cells p ≡ Nothing) ⊎
+          ((m : Mark) × (e.cells p ≡ MarkPage m) × IsOwnMark (book t) t.ledger.newest marks fence m)
+      fresh f = let own = u.flies f.die p (e.cells p) f.flies in inr (own.0, own.1, own_more l own.2)
+
+      by : IsLeft t e p → (t.disk.cells p ≡ Nothing) ⊎
+          ((m : Mark) × (t.disk.cells p ≡ MarkPage m) × IsOwnMark (book t) t.ledger.newest t.ledger.marks fence m) →
+          (e.cells p ≡ Nothing) ⊎
+          ((m : Mark) × (e.cells p ≡ MarkPage m) × IsOwnMark (book t) t.ledger.newest marks fence m)
+      by (inl same) (inl none) = inl (same ∙ none)
+      by (inl same) (inr own) = inr (own.0, same ∙ own.1, own_more l own.2)
+      by (inr (inl none)) was = inl none
+      by (inr (inr f)) was = fresh f
 
   -- how far the mending is
 
@@ -205,10 +253,8 @@ module _ (t : Translation) (e : Disk) (v : Valid t) (c : Change t e) where
   last_repair f (inl h) = inl h
   last_repair f (inr (h, r)) = inr (h, f.repair r)
 
-  mending_change : {marks : ℕ} {step : Option Step} → Follows t e marks step →
-      (AreFreeBlank t.disk.cells t.disk.blocks t.disk.erasing → (p : Place) → e.cells p ≡ Nothing →
-      t.disk.cells p ≡ Nothing) → (w : Mending) → MendingOf t w → MendingRight (book t) e
-      (record t.ledger { marks = marks }) t.work.plan step w
+  mending_change : {marks : ℕ} {step : Option Step} → Follows t e marks step → IsGone t e → (w : Mending) →
+      MendingOf t w → MendingRight (book t) e (record t.ledger { marks = marks }) t.work.plan step w
   mending_change {marks} f gone (Unmarked fence lost) u = record {
     opening = u.opening;
     opened = u.opened;
@@ -216,17 +262,18 @@ module _ (t : Translation) (e : Disk) (v : Valid t) (c : Change t e) where
     lost_right = u.lost_right;
     none_new = u.none_new;
     still = u.still;
-    same = λ p. unmarked_same marks fence lost f.more u p (c.left p) (gone u.blank p);
+    same = λ p. unmarked_same marks fence lost f.more u p (c.left p);
+    spare = unmarked_spare gone u;
+    unfinished = unmarked_unfinished marks fence lost f.more u;
     flies = λ die p cell h. let own = u.flies die p cell (c.flew die p cell h) in
         (own.0, own.1, own_more f.more own.2);
-    blank = blank_change u.blank;
     no_plan = u.no_plan;
   }
   mending_change {marks} {step} f gone (Repairing left) m = record {
     mark = m.mark;
     is = m.is;
     right = marks_change m.right;
-    more = assumption (last_repair f m.more.under_way, blank_change m.more.blank);
+    more = assumption (last_repair f m.more.under_way);
   }
   mending_change {marks} f gone Mended m =
       record { mark = m.mark; is = m.is; right = marks_change m.right; more = m.more }
@@ -268,11 +315,6 @@ module _ (t : Translation) (e : Disk) (v : Valid t) (c : Change t e) where
   numbered_more : (marks : ℕ) → t.ledger.marks ≤ marks → AreNumbered marks e.cells
   numbered_more marks l p m h = let z = numbered_change p m h in omega arith
 
--- a page that is nothing was nothing, or no block of the kind holds it
-abbrev pub IsGone : Translation → Disk → Type 0
-IsGone t e = AreFreeBlank t.disk.cells t.disk.blocks t.disk.erasing → (p : Place) → e.cells p ≡ Nothing →
-    t.disk.cells p ≡ Nothing
-
 pub changed : {t : Translation} {e : Disk} {marks : ℕ} {step : Option Step} → Valid t → Change t e → IsGone t e →
     Follows t e marks step → HeldStay t e →
     Valid (record t { disk = e; ledger = record t.ledger { marks = marks }; work = record t.work { step = step } })
@@ -283,8 +325,9 @@ changed {t} {e} {marks} {step} v c gone f held = assumption (
   numbered_more t e v c marks f.more,
   mending_change t e v c f gone t.work.mending v.mending,
   plan_change t e v c f,
-  λ (un : is_mended t.work.mending ≡ false) (n i : ℕ) (p : Place) (h : t.ledger.standing n i ≡ Some p).
-      secure_moves c.keeps (v.unmended.stand un n i p h),
+  λ (un : is_mended t.work.mending ≡ false) (key : Key) (name : Name) (p : Place) (has : HasKey (book t) key)
+      (first : (book t).first_page key ≡ Some name) (h : t.ledger.standing name.number name.index ≡ Some p).
+      secure_moves c.keeps (v.unmended.stand un key name p has first h),
   to_read_change t e v c f,
 )
 

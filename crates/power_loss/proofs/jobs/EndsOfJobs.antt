@@ -8,7 +8,7 @@ use Rattle.power_loss.proofs.Common.{EndJob, Ending, MayEnd, ReadRight, ReadWron
 use Rattle.power_loss.proofs.Common.{end_flight, freed, moved, read_right, read_wrong, MayBeLeft, Plan, Translation}
 use Rattle.power_loss.proofs.Common.{has_mark_number, is_mended, mark_ordered, Numbers, Fence, Place, torn_is_nothing}
 use Rattle.power_loss.proofs.MachineWords.{blank_page, Answering, Awaiting, Deed, Gathering, NotRead, ReadState}
-use Rattle.power_loss.proofs.MachineWords.{Sending, Task, SendingBytes, WasRead, is_task_of, array_behind, claimed_by}
+use Rattle.power_loss.proofs.MachineWords.{Sending, Task, SendingBytes, WasRead, is_task_of, array_after, claimed_by}
 use Rattle.power_loss.proofs.MachineWords.{deed_read, ends_with, in_block, read_noted, task_read, with_moves, State}
 use Rattle.power_loss.proofs.MachineWords.{numbers_of, DeedFits, IsTied, claim_of}
 use Rattle.std.specs.Prelude.{if◌then◌else◌}
@@ -98,7 +98,7 @@ ends_right s die (Some (Erasing spot)) ending left v = Still
 
 pub record EndsRight (s : State) (die : ℕ) (flight : Flight) (ending : Ending) (left : Array) : Type 0 where
   pub may : MayEnd s.translation.disk die (Some flight) ending
-  pub shown : Shows (array_behind s flight ending left) (end_flight s.translation die (Some flight) ending).disk.cells
+  pub shown : Shows (array_after s flight ending left) (end_flight s.translation die (Some flight) ending).disk.cells
 
 pub over_keeps : (s : State) (die : ℕ) (flight : Flight) (ending : Ending) (left : Array) → IsTied s →
     s.translation.disk.flights die ≡ Some flight → EndsRight s die flight ending left →
@@ -108,8 +108,8 @@ over_keeps s die flight ending left v e r =
     let u = moved t (EndJob die ending) in
     let stays = move_stays t (EndJob die ending) in
     let leaves = end_leaves die (t.disk.flights die) ending v.valid in
-    let shown : Shows (array_behind s flight ending left) u.disk.cells =
-    subst (λ x. Shows (array_behind s flight ending left) (end_flight t die x ending).disk.cells) (sym e) r.shown in
+    let shown : Shows (array_after s flight ending left) u.disk.cells =
+    subst (λ x. Shows (array_after s flight ending left) (end_flight t die x ending).disk.cells) (sym e) r.shown in
     let may : MayEnd t.disk die (t.disk.flights die) ending = subst (λ x. MayEnd t.disk die x ending) (sym e) r.may in
     let claims = leaves.claims in
     whole (job_over s die (Some flight) ending left) (move_fits (EndJob die ending) (fits_of v) may)
@@ -151,7 +151,7 @@ again_shown array u fence false h = h
 
 pub written_shown : {s : State} (die : ℕ) (p : Place) (cell : Cell) (left : Array) → IsTied s →
     s.translation.disk.flights die ≡ Some (Programming p cell) →
-    Shows (array_behind s (Programming p cell) WentWell left) (end_flight s.translation die
+    Shows (array_after s (Programming p cell) WentWell left) (end_flight s.translation die
     (Some (Programming p cell)) WentWell).disk.cells
 written_shown die p Nothing left v e = absurd (v.valid.flights.something die p e)
 written_shown {s} die p (GroupPage tag body) left v e = put_shown s.array s.translation.disk.cells p

@@ -74,6 +74,7 @@ erased_change {t} s v free erasing = record {
   keeps = keeps_erased s erasing;
   left = λ q. ⊎_elim (λ k. inl k) (λ k. inr (inl k)) (erased_less t s q);
   ended = λ q h. h;
+  unended = λ q h. inl h;
   blocks = erased_blocks s v free;
   flew = (idle_fewer s.die).programs;
   programs = other_program s.die s (Filling 0) v free;
@@ -91,8 +92,8 @@ pub ends_erase : {t : Translation} (die : ℕ) (s : Spot) → Valid t → t.disk
 ends_erase {t} die s v e =
     let r = v.flights.erases die s e in
     lost_pages v (erased_change s v r.free r.counted)
-    (λ blank p h. ⊎_elim (λ k. blank p (inl (ap t.disk.blocks k.1 ∙ r.free))) (λ k. sym (erased_other t.disk s p k.1) ∙
-    h) (spot_cases (spot_of p) s)) (erased_less t s) (held_stay (erased t.disk s) v (stay_erased t.disk s r.counted))
+    (λ p h. ⊎_elim (λ k. inr (inl (ap t.disk.blocks k.1 ∙ r.free))) (λ k. inl (sym (erased_other t.disk s p k.1) ∙ h))
+    (spot_cases (spot_of p) s)) (erased_less t s) (held_stay (erased t.disk s) v (stay_erased t.disk s r.counted))
 
 -- An erase that failed
 
@@ -109,6 +110,7 @@ failed_change {t} {s} left v free erasing less = record {
   keeps = keeps_erase_failed s erasing (λ q out. ⊎_elim (λ k. k) (λ k. absurd (out k.0)) (less q));
   left = λ q. ⊎_elim (λ k. inl k) (λ k. inr (inl k.1)) (less q);
   ended = λ q h. h;
+  unended = λ q h. inl h;
   blocks = failed_blocks s v free (λ q. ⊎_elim (λ k. inl k) (λ k. inr k.1) (less q));
   flew = (idle_fewer s.die).programs;
   programs = other_program s.die s Bad v free;
@@ -128,7 +130,7 @@ fails_erase {t} die s left v e crash =
     let r = v.flights.erases die s e in
     let less = erase_left t.disk die left e crash in
     lost_pages v (failed_change left v r.free r.counted less)
-    (λ blank p h. ⊎_elim (λ k. sym k ∙ h) (λ k. blank p (inl (ap t.disk.blocks k.0 ∙ r.free))) (less p))
+    (λ p h. ⊎_elim (λ k. inl (sym k ∙ h)) (λ k. inr (inl (ap t.disk.blocks k.0 ∙ r.free))) (less p))
     (λ q. ⊎_elim (λ k. inl k) (λ k. inr k.1) (less q))
     (held_stay (erase_failed t.disk s left) v (stay_unerased t.disk.cells left t.disk.finished t.disk.erasing s
     (λ q. left q ≡ Nothing) r.counted less))

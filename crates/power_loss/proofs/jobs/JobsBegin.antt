@@ -19,6 +19,7 @@ use Rattle.power_loss.proofs.kept_pages.ReadsStay.{reads_erase_begun}
 use Rattle.power_loss.proofs.jobs.StandsSecurely.{at_spot_here, at_spot_other, keeps_erase_begun}
 use Rattle.power_loss.proofs.jobs_owed.WhatWaits.{MarkWaits, PageWaits, name_cell_waits, step_cell_waits}
 use Rattle.power_loss.proofs.books.PagesByName.{written_more}
+use Rattle.power_loss.proofs.stops.LeftImage.{Started, newest_there}
 
 -- An erase
 
@@ -38,6 +39,7 @@ erase_change {t} {die} {s} v o = record {
   keeps = keeps_erase_begun die s o.free;
   left = λ q. inl refl;
   ended = λ q h. h;
+  unended = λ q h. inl h;
   blocks = record {
     unfinished = v.blocks.unfinished;
     filling = v.blocks.filling;
@@ -73,7 +75,7 @@ erase_change {t} {die} {s} v o = record {
 
 pub takes_erase : (t : Translation) (die : ℕ) (s : Spot) → Valid t → MayTake t die (Some (Erasing s)) →
     Valid (taken t die (Erasing s))
-takes_erase t die s v may = lost_pages v (erase_change v (erase_owed t die s may)) (λ blank p h. h) (λ q. inl refl)
+takes_erase t die s v may = lost_pages v (erase_change v (erase_owed t die s may)) (λ p h. inl h) (λ q. inl refl)
     (held_begun t s (job_begun t.disk die (Erasing s)) v (erase_owed t die s may).unkept refl refl refl)
 
 page_right : {t : Translation} {cell : Cell} → PageWaits t cell → CellRight t cell
@@ -181,12 +183,14 @@ later_mark t number fence Mended step above right m is once =
 
 -- the first mark of the life
 
-newest_below : {b : Book} (newest : Option Mark) {marks number : ℕ} {fence : Option Fence} {opening cells : Cells} →
-    IsNewestMark opening newest → ((p : Place) → IsOpenedOrOwn b newest marks fence (opening p) (cells p)) →
-    ((p : Place) (m : Mark) → cells p ≡ MarkPage m → m.number < number) → 0 < number → number_of newest < number
-newest_below None is same above given = given
-newest_below {b} (Some m) {marks} {fence} {opening} {cells} is same above given = ⊎_elim
-    (λ h. above is.0.0 m (h ∙ is.0.1)) (λ h. absurd (mark_not_nothing _ _ is.0.1 h.0)) (same is.0.0)
+newest_below : (t : Translation) {fence : Option Fence} (u : Started t fence) {number : ℕ} →
+    ((p : Place) (m : Mark) → t.disk.cells p ≡ MarkPage m → m.number < number) → 0 < number →
+    number_of t.ledger.newest < number
+newest_below t u {number} above given = by t.ledger.newest refl
+  where
+    by : (newest : Option Mark) → t.ledger.newest ≡ newest → number_of newest < number
+    by None is = given
+    by (Some m) is = let n = newest_there t u is in above n.0 m n.2
 
 records_top : (t : Translation) (newest : Option Mark) (low : ℕ) {top : ℕ} (fence : Option Fence) →
     IsFirstFence newest low top fence → t.ledger.frontier ≡ top → records_now t.ledger fence ≡ top
@@ -197,7 +201,7 @@ own_mark : (t : Translation) {number : ℕ} {fence : Option Fence} {first : Opti
     MarkStepRight t.ledger.marks t.disk.cells t.work.mending t.work.plan number fence → UnmarkedOf t first lost →
     fence ≡ first → OwnMarkOf t first (step_mark t number fence)
 own_mark t {first = first} s u e = record {
-  newer = newest_below t.ledger.newest u.opened.is_newest u.same s.above s.given;
+  newer = newest_below t (_, u) s.above s.given;
   within = let l = s.last in omega arith;
   records = ap (records_now t.ledger) e ∙ records_top t t.ledger.newest t.ledger.first_lost first u.fence_right u.still;
   fence_is = e;

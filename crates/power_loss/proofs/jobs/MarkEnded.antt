@@ -1,9 +1,9 @@
 -- The program of a mark ended well: the block of the plan is freed, and the mending moves on.
-use Rattle.power_loss.proofs.Common.{◌≡◌, ◌≢◌, ℕ, ◌<◌, ◌≤◌, ◌⊎◌, true, false, List, length, Option, Some, None, refl}
+use Rattle.power_loss.proofs.Common.{mark_not_nothing, ◌≡◌, ◌≢◌, ℕ, ◌<◌, ◌≤◌, ◌⊎◌, true, false, List, length, Option, Some, None, refl}
 use Rattle.power_loss.proofs.Common.{sym, ap, ◌∙◌, subst, inl, inr, ⊎_elim, arith, All-nil, Cells, GroupPage, IsPlace}
 use Rattle.power_loss.proofs.Common.{Mark, MarkPage, BlockState, Disk, Free, Programming, Spot, at_die, at_place}
 use Rattle.power_loss.proofs.Common.{programmed, spot_of, IsNewestMark, recorded_in, WentWell, freed, job_ended}
-use Rattle.power_loss.proofs.Common.{mending_behind, number_of, MarkStep, Mended, Mending, Plan, Translation, Unmarked}
+use Rattle.power_loss.proofs.Common.{mending_after, number_of, MarkStep, Mended, Mending, Plan, Translation, Unmarked}
 use Rattle.power_loss.proofs.Common.{is_mended, Fence, Key, Place, Tag, one_mark, page_not_mark, false≢true, none-some}
 use Rattle.power_loss.proofs.Common.{none_in_empty, at_place_is, AreWholeAbove, Book, IsPlainMark, book, FlightsRight}
 use Rattle.power_loss.proofs.Common.{MarksRight, MendingRight, OnePlanRight, PagesRight, RepairingRight, Valid}
@@ -12,7 +12,7 @@ use Rattle.power_loss.proofs.kept_pages.PagesStay.{pins_stay, rests_stay}
 use Rattle.power_loss.proofs.kept_pages.ReadsStay.{idle_reads, reads_stay}
 use Rattle.power_loss.proofs.jobs.StandsSecurely.{at_place_here, at_place_other, secure_from, secure_moves}
 use Rattle.power_loss.proofs.stops.LeftImage.{opened_below}
-use Rattle.power_loss.proofs.jobs.ProgramEnded.{AreOverwritten, Frees, GoesTo, blank_programmed, blocks_behind}
+use Rattle.power_loss.proofs.jobs.ProgramEnded.{AreOverwritten, Frees, GoesTo, blocks_behind}
 use Rattle.power_loss.proofs.jobs.ProgramEnded.{blocks_freed, blocks_programmed, erase_goes_on, frees_none, frees_one}
 use Rattle.power_loss.proofs.jobs.ProgramEnded.{goes_to, keeps, needed_now, not_there, other_flight, program_goes_on}
 use Rattle.power_loss.proofs.jobs.ProgramEnded.{safe_freed, safe_marked, stay, still_victim}
@@ -36,7 +36,7 @@ plain_unlost e l = record {
   repaired = λ n i x lost h. absurd (let f = lost.from in let u = lost.to in omega (arith, f, u, l));
 }
 
-behind_unmended : (w : Mending) → is_mended (mending_behind w) ≡ false → is_mended w ≡ false
+behind_unmended : (w : Mending) → is_mended (mending_after w) ≡ false → is_mended w ≡ false
 behind_unmended Mended e = e
 behind_unmended w e = refl
 
@@ -58,7 +58,7 @@ marked_with t p m after =
     record t {
       disk = marked_disk t p m after;
       ledger = record t.ledger { newest = Some m };
-      work = record t.work { mending = mending_behind t.work.mending; plan = None; step = None };
+      work = record t.work { mending = mending_after t.work.mending; plan = None; step = None };
     }
 
 module _ {t : Translation} {die : ℕ} {p : Place} {m : Mark} (v : Valid t)
@@ -81,7 +81,8 @@ module _ {t : Translation} {die : ℕ} {p : Place} {m : Mark} (v : Valid t)
   own_or_opened : {fence : Option Fence} {lost : List Key} (q : Place) {other : Mark} (u : UnmarkedOf t fence lost) →
       t.disk.cells q ≡ MarkPage other → (u.opening q ≡ MarkPage other) ⊎ OwnMarkOf t fence other
   own_or_opened {fence} q u h = ⊎_elim (λ e. inl (sym e ∙ h))
-      (λ e. inr (subst (OwnMarkOf t fence) (one_mark _ _ (sym e.1.1 ∙ h)) e.1.2)) (u.same q)
+      (λ e. ⊎_elim (λ k. absurd (mark_not_nothing _ _ h k))
+      (λ k. inr (subst (OwnMarkOf t fence) (one_mark _ _ (sym k.1.1 ∙ h)) k.1.2)) e) (u.same q)
 
   own_flight : (fence : Option Fence) {lost : List Key} → UnmarkedOf t fence lost → OwnMarkOf t fence m
   own_flight fence u = let r = u.flies die p (MarkPage m) job in subst (OwnMarkOf t fence) (one_mark _ _ (sym r.1)) r.2
@@ -221,10 +222,9 @@ module _ {t : Translation} {die : ℕ} {p : Place} {m : Mark} (v : Valid t)
     -- The mending moves on
 
     -- the first mark stands, and the repairs begin
-    mark_repairing : (fence : Fence) {lost : List Key} → UnmarkedOf t (Some fence) lost → ((s : Spot) → IsVictim s →
-        ⊥) → RepairingRight (book t) t.ledger.frontier (at_place t.disk.cells p (MarkPage m)) after t.disk.erasing m
-        None None lost
-    mark_repairing fence u none = record {
+    mark_repairing : (fence : Fence) {lost : List Key} → UnmarkedOf t (Some fence) lost →
+        RepairingRight (book t) t.ledger.frontier m None None lost
+    mark_repairing fence u = record {
       fence = record {
         fence = fence;
         is = (own_flight (Some fence) u).fence_is;
@@ -237,15 +237,12 @@ module _ {t : Translation} {die : ℕ} {p : Place} {m : Mark} (v : Valid t)
       keys = u.lost_right.keys;
       singles = λ j group h. absurd (none_in_empty t.ledger.groups j group u.none_new h);
       under_way = let s = u.still in let e = ap length u.none_new in inl (omega (arith, s, e));
-      blank = λ q h. blank_programmed goes (MarkPage m) u.blank q
-          (⊎_elim (λ f. inl (⊎_elim (λ k. k) (λ k. absurd (none (spot_of q) k)) (frees.freed (spot_of q) f)))
-          (λ f. inr f) h);
       no_plan = refl;
     }
 
     mark_mending : (w : Mending) → (IsVictim (spot_of p) → ⊥) → ((s : Spot) → IsVictim s → w ≡ Mended) → MendingOf t w →
         MendingRight (book t) (marked_disk t p m after) (record t.ledger { newest = Some m }) None None
-        (mending_behind w)
+        (mending_after w)
     mark_mending (Unmarked None lost) out of r = record {
       mark = m;
       is = refl;
@@ -256,7 +253,7 @@ module _ {t : Translation} {die : ℕ} {p : Place} {m : Mark} (v : Valid t)
       mark = m;
       is = refl;
       right = mark_marks out (unmarked_ends (Some fence) r);
-      more = mark_repairing fence r (λ s h. false≢true (ap is_mended (of s h)));
+      more = mark_repairing fence r;
     }
     mark_mending w out of r = record {
       mark = m;
@@ -285,9 +282,9 @@ module _ {t : Translation} {die : ℕ} {p : Place} {m : Mark} (v : Valid t)
       plan = record { mended = λ pl e. absurd (none-some pl e); one = λ pl e. absurd (none-some pl e) };
       slots = v.slots;
       unmended = record {
-        stand = λ un n i q h.
+        stand = λ un key name q has first h.
             let was = behind_unmended t.work.mending un in
-            let s = secure_moves (keeps goes (MarkPage m)) (v.unmended.stand was n i q h) in
+            let s = secure_moves (keeps goes (MarkPage m)) (v.unmended.stand was key name q has first h) in
             secure_from s s.known refl s.ended s.stays (⊎_elim (λ k. k)
             (λ k. absurd (false≢true (sym was ∙ ap is_mended (of (spot_of s.place) k))))
             (frees.needed (spot_of s.place) s.needed));
@@ -296,7 +293,7 @@ module _ {t : Translation} {die : ℕ} {p : Place} {m : Mark} (v : Valid t)
       rests = rests_stay (stay goes (MarkPage m)) v.rests;
       reads = reads_stay (stay goes (MarkPage m)) (idle_reads t.disk.flights p.die) v.reads;
       to_read = record { wanted = All-nil _; copied = λ pl e. absurd (none-some pl e) };
-      history = assumption (λ (e : is_mended (mending_behind t.work.mending) ≡ false).
+      history = assumption (λ (e : is_mended (mending_after t.work.mending) ≡ false).
           v.history.mending (behind_unmended t.work.mending e));
     }
 
@@ -322,5 +319,5 @@ ends_mark {t} die p m v job = subst
     (λ (d : Disk). Valid (record t {
       disk = d;
       ledger = record t.ledger { newest = Some m };
-      work = record t.work { mending = mending_behind t.work.mending; plan = None; step = None };
+      work = record t.work { mending = mending_after t.work.mending; plan = None; step = None };
     })) (freed_is (programmed t.numbers.pages t.disk p (MarkPage m)) t.work.plan) (by_plan v job t.work.plan refl)

@@ -3,7 +3,7 @@ use Rattle.power_loss.proofs.Common.{◌≡◌, ◌≢◌, ℕ, suc, ◌-◌, �
 use Rattle.power_loss.proofs.Common.{Option, Some, None, slice_get, refl, sym, ap, ◌∙◌, subst, inl, inr, ⊎_elim, arith}
 use Rattle.power_loss.proofs.Common.{◌+◌, GroupPage, IsPlace, Mark, MarkPage, Programming, at_die, at_place, programmed}
 use Rattle.power_loss.proofs.Common.{spot_of, Group, recorded_in, Entry, Name, accepted_groups, at_name}
-use Rattle.power_loss.proofs.Common.{before_accepted, page_stands, WentWell, is_kind_of, job_ended, step_behind, Mended}
+use Rattle.power_loss.proofs.Common.{before_accepted, page_stands, WentWell, is_kind_of, job_ended, step_after, Mended}
 use Rattle.power_loss.proofs.Common.{Mending, Plan, Repairing, Step, Translation, Unmarked, name_of, Want, Place, Tag}
 use Rattle.power_loss.proofs.Common.{cases_Bool, cond-false, cond-true, none-some, same_Some, page_not_mark, one_page}
 use Rattle.power_loss.proofs.Common.{at_place_is, name_cases, Book, IsKnown, IsPageAt, book, last_number, FlightsRight}
@@ -19,14 +19,14 @@ use Rattle.power_loss.proofs.kept_pages.PagesStay.{StayThere, pins_settle, rests
 use Rattle.power_loss.proofs.accepted_groups.ClaimedSlots.{fewer_pages, slots_fewer}
 use Rattle.power_loss.proofs.jobs.DiskChanges.{kind_goes_on}
 use Rattle.power_loss.proofs.jobs.StandsSecurely.{at_place_other, mark_stands_moves}
-use Rattle.power_loss.proofs.jobs.ProgramEnded.{GoesTo, blank_programmed, blocks_behind, blocks_programmed}
+use Rattle.power_loss.proofs.jobs.ProgramEnded.{GoesTo, blocks_behind, blocks_programmed}
 use Rattle.power_loss.proofs.jobs.ProgramEnded.{erase_goes_on, goes_to, keeps, not_there, other_flight, program_goes_on}
 use Rattle.power_loss.proofs.jobs.ProgramEnded.{safe_written, secure_written, stay, still_free, still_victim}
 
 -- The step under way
 
 -- what is left of the step is the step, and is none for the name
-pub behind_of : (name : Name) (step : Option Step) {s : Step} → step_behind name step ≡ Some s →
+pub behind_of : (name : Name) (step : Option Step) {s : Step} → step_after name step ≡ Some s →
     (step ≡ Some s) × (is_kind_of name s.kind ≡ false)
 behind_of name None e = cc
 behind_of name (Some x) {s} e =
@@ -36,8 +36,8 @@ behind_of name (Some x) {s} e =
 
 -- a step that is none for the name is left
 pub behind_keeps : (name : Name) {step : Option Step} {s : Step} → step ≡ Some s → is_kind_of name s.kind ≡ false →
-    step_behind name step ≡ Some s
-behind_keeps name {s} e h = ap (step_behind name) e ∙ cond-false (is_kind_of name s.kind) None (Some s) h
+    step_after name step ≡ Some s
+behind_keeps name {s} e h = ap (step_after name) e ∙ cond-false (is_kind_of name s.kind) None (Some s) h
 
 later_more : {b : Book} {frontier to : ℕ} {newest m : Mark} → frontier ≤ to → IsLaterMark b frontier newest m →
     IsLaterMark b to newest m
@@ -52,7 +52,7 @@ IsUnderWay b to step = (to ≡ last_number b) ⊎ ((suc to ≡ last_number b) ×
 repair_under_way : (b : Book) (standing : Standing) {frontier : ℕ} (name : Name) (p : Place) {step : Option Step} →
     b.greatest_seen ≤ frontier → climbed_to b (at_name standing name (Some p)) frontier ≤ last_number b →
     ((j : ℕ) (g : Group) → slice_get b.groups j ≡ Some g → length g ≡ 1) → IsUnderWay b frontier step →
-    IsUnderWay b (climbed_to b (at_name standing name (Some p)) frontier) (step_behind name step)
+    IsUnderWay b (climbed_to b (at_name standing name (Some p)) frontier) (step_after name step)
 repair_under_way b standing {frontier} name p low up singles (inl e) =
     let c = climbs_up b (at_name standing name (Some p)) frontier in inl (omega arith)
 repair_under_way b standing {frontier} name p low up singles (inr e) = ⊎_elim (λ h.
@@ -161,7 +161,7 @@ module _ {t : Translation} {die : ℕ} {p : Place} {tag : Tag} {body : List ℕ}
       this q u other h = at_place_is t.disk.cells p (GroupPage tag body) q (GroupPage u other) h
 
   page_flights : FlightsRight (book t) to t.ledger.marks (blocks_behind t.numbers t.disk p) t.disk.erasing
-      (at_die t.disk.flights p.die None) (step_behind (name_of tag) t.work.step)
+      (at_die t.disk.flights p.die None) (step_after (name_of tag) t.work.step)
   page_flights = record {
     programs = λ e q cell h. let o = other_flight t.disk.flights h in
         program_goes_on goes (v.flights.programs e q cell o.1) o.0;
@@ -183,18 +183,15 @@ module _ {t : Translation} {die : ℕ} {p : Place} {tag : Tag} {body : List ℕ}
   -- Mending
 
   page_mending : (w : Mending) → MendingOf t w → MendingRight (book t) (programmed t.numbers.pages t.disk p
-      (GroupPage tag body)) (page_stands t.ledger (name_of tag) p) t.work.plan (step_behind (name_of tag) t.work.step) w
+      (GroupPage tag body)) (page_stands t.ledger (name_of tag) p) t.work.plan (step_after (name_of tag) t.work.step) w
   page_mending (Unmarked fence lost) m =
       let r = m.flies die p (GroupPage tag body) job in absurd (page_not_mark _ tag body r.0 refl r.1)
   page_mending (Repairing left) m = record {
     mark = m.mark;
     is = m.is;
     right = page_marks m.right;
-    more = assumption (
-      repair_under_way (book t) t.ledger.standing (name_of tag) p v.frontier.above page_frontier.within m.more.singles
-          m.more.under_way,
-      blank_programmed goes (GroupPage tag body) m.more.blank,
-    );
+    more = assumption (repair_under_way (book t) t.ledger.standing (name_of tag) p v.frontier.above page_frontier.within
+        m.more.singles m.more.under_way);
   }
   page_mending Mended m = record { mark = m.mark; is = m.is; right = page_marks m.right; more = m.more }
 
@@ -202,7 +199,7 @@ module _ {t : Translation} {die : ℕ} {p : Place} {tag : Tag} {body : List ℕ}
 
   page_plan : {pl : Plan} → OnePlanRight (book t) t.ledger.frontier t.ledger.standing t.disk.blocks t.disk.flights
       t.work.step pl → OnePlanRight (book t) to (at_name t.ledger.standing (name_of tag) (Some p))
-      (blocks_behind t.numbers t.disk p) (at_die t.disk.flights p.die None) (step_behind (name_of tag) t.work.step) pl
+      (blocks_behind t.numbers t.disk p) (at_die t.disk.flights p.die None) (step_after (name_of tag) t.work.step) pl
   page_plan {pl} r = record {
     state = still_victim goes r.state;
     copied = λ n i e q h. let o = before n i e q h in ⊎_elim (λ c. inl (overwritten_more up c))
@@ -218,7 +215,7 @@ module _ {t : Translation} {die : ℕ} {p : Place} {tag : Tag} {body : List ℕ}
           (stood t.ledger.standing p n i q h.known)
 
       to_copy : (n i : ℕ) (q : Place) → (((n ≡ tag.number) × (i ≡ tag.index)) → ⊥) →
-          IsToCopy pl.copies t.work.step n i q → IsToCopy pl.copies (step_behind (name_of tag) t.work.step) n i q
+          IsToCopy pl.copies t.work.step n i q → IsToCopy pl.copies (step_after (name_of tag) t.work.step) n i q
       to_copy n i q other (inl h) = inl h
       to_copy n i q other (inr h) = inr (
         h.0,
@@ -249,8 +246,9 @@ ends_page {t} die p tag body v job = record {
       (fewer_pages (accepted_groups t.ledger) (t.ledger.frontier - before_accepted t.ledger)
       (to v job - before_accepted t.ledger) (let u = up v job in omega (arith, u))) (omega arith) v.slots;
   unmended = record {
-    stand = λ un n i q h. secure_written g tag body (⊎_elim (λ k. inr (k.0, k.1))
-        (λ k. inl (v.unmended.stand un n i q k.1)) (stood t.ledger.standing p n i q h));
+    stand = λ un key name q has first h. secure_written g tag body (⊎_elim (λ k. inr (k.0, k.1))
+        (λ k. inl (v.unmended.stand un key name q has first k.1))
+        (stood t.ledger.standing p name.number name.index q h));
   };
   pins = pins_settle (page_stands t.ledger (name_of tag) p) there
       (settles (book t) (recorded_in t.ledger.newest) t.ledger.frontier (page_stands t.ledger (name_of tag) p) _ _

@@ -3,11 +3,11 @@
 use Rattle.power_loss.proofs.Common.{◌≡◌, ◌≢◌, ℕ, zero, suc, ◌+◌, ◌<◌, ◌≤◌, ◌⊎◌, ◌==◌, Bool, true, false, List, Some}
 use Rattle.power_loss.proofs.Common.{None, refl, sym, ap, ◌∙◌, inl, inr, ⊎_elim, arith, eqb_tells, Cell, Cells}
 use Rattle.power_loss.proofs.Common.{GroupPage, IsPlace, Nothing, BlockState, Bad, Closed, Disk, Filling, Flight, Free}
-use Rattle.power_loss.proofs.Common.{Spot, at_die, at_place, at_spot, programmed, spot_of, state_behind, Entry, at_name}
+use Rattle.power_loss.proofs.Common.{Spot, at_die, at_place, at_spot, programmed, spot_of, state_after, Entry, at_name}
 use Rattle.power_loss.proofs.Common.{name_of, Numbers, Key, Place, Tag, page_not_nothing, cases_Bool, cond-false}
 use Rattle.power_loss.proofs.Common.{cond-true, none-some, true≢false, at_die_is, at_name_cases, at_place_is}
 use Rattle.power_loss.proofs.Common.{at_spot_cases, at_spot_is, Book, IsLostNumber, IsOverwritten, IsPageAt}
-use Rattle.power_loss.proofs.Common.{AreFreeBlank, BlocksRight, EraseRight, Flights, FrontierRight, IsSafe, IsSecure}
+use Rattle.power_loss.proofs.Common.{BlocksRight, EraseRight, Flights, FrontierRight, IsSafe, IsSecure}
 use Rattle.power_loss.proofs.Common.{ProgramRight, SafeRight, Standing}
 use Rattle.ufs_spec.specs.Moves.{freed_state}
 use Rattle.power_loss.proofs.books.PagesByName.{overwritten_more, overwritten_twice}
@@ -19,7 +19,7 @@ use Rattle.power_loss.proofs.jobs.StandsSecurely.{free_is_not_filling, keeps_pro
 use Rattle.power_loss.proofs.jobs.StandsSecurely.{free_is_not_bad, one_filling, victim_kept}
 
 -- a block behind a program is filled up to its next page
-behind_filling : {pages page next : ℕ} → page < pages → state_behind pages page ≡ Filling next →
+behind_filling : {pages page next : ℕ} → page < pages → state_after pages page ≡ Filling next →
     (page + 1 ≡ next) × (next < pages)
 behind_filling {pages} {page} {next} l e = ⊎_elim (λ k. absurd (closed_is_not_filling refl
     (sym (cond-true (page + 1 == pages) Closed (Filling (page + 1)) k.0) ∙ e)))
@@ -47,7 +47,7 @@ goes_to r g = record {
 
 -- the blocks behind it
 abbrev pub blocks_behind : Numbers → Disk → Place → Spot → BlockState
-blocks_behind n d p = at_spot d.blocks (spot_of p) (state_behind n.pages p.page)
+blocks_behind n d p = at_spot d.blocks (spot_of p) (state_after n.pages p.page)
 
 -- what flies behind it flew on another die
 pub other_flight : (flights : Flights) {die e : ℕ} {f : Flight} → at_die flights die None e ≡ Some f →
@@ -63,15 +63,15 @@ module _ {n : Numbers} {d : Disk} {p : Place} (g : GoesTo n d p) where
   -- what is free behind the program was free, and is elsewhere
   pub still_free : {s : Spot} → blocks_behind n d p s ≡ Free → (s ≢ spot_of p) × (d.blocks s ≡ Free)
   still_free {s} h = ⊎_elim (λ k. absurd (behind_is_not_free n.pages p.page k.1)) (λ k. k)
-      (at_spot_is d.blocks (spot_of p) (state_behind n.pages p.page) s Free h)
+      (at_spot_is d.blocks (spot_of p) (state_after n.pages p.page) s Free h)
 
   still : {s : Spot} {x : BlockState} → d.blocks s ≡ x → (Filling p.page ≡ x → ⊥) → blocks_behind n d p s ≡ x
   still {s} e other = ⊎_elim (λ h. absurd (other (sym g.next ∙ ap d.blocks (sym h.0) ∙ e))) (λ h. h.1 ∙ e)
-      (at_spot_cases d.blocks (spot_of p) (state_behind n.pages p.page) s)
+      (at_spot_cases d.blocks (spot_of p) (state_after n.pages p.page) s)
 
   pub still_victim : {s : Spot} → (d.blocks s ≡ Closed) ⊎ (d.blocks s ≡ Bad) → (blocks_behind n d p s ≡ Closed) ⊎
       (blocks_behind n d p s ≡ Bad)
-  still_victim = victim_kept d.blocks (spot_of p) (state_behind n.pages p.page)
+  still_victim = victim_kept d.blocks (spot_of p) (state_after n.pages p.page)
       (λ c. closed_is_not_filling c g.next) (filling_is_not_bad g.next)
 
   pub blocks_programmed : (y : Cell) → BlocksRight n d.cells d.finished d.blocks d.erasing →
@@ -80,24 +80,16 @@ module _ {n : Numbers} {d : Disk} {p : Place} (g : GoesTo n d p) where
     unfinished = λ q h. ⊎_elim (λ k. absurd (true≢false k.1))
         (λ k. still (r.unfinished q k.1) (filling_is_not_bad refl)) (at_place_is d.finished p true q false h);
     filling = λ s next h. ⊎_elim (λ k. (behind_filling g.place.page k.1).1) (λ k. r.filling s next k.1)
-        (at_spot_is d.blocks (spot_of p) (state_behind n.pages p.page) s (Filling next) h);
+        (at_spot_is d.blocks (spot_of p) (state_after n.pages p.page) s (Filling next) h);
     blank = λ q next h l. ⊎_elim
         (λ k. let u = (behind_filling g.place.page k.1).0 in
         at_place_other d.cells p y q (λ e. let z = ap (λ (w : Place). w.page) e in omega (arith, u, l, z))
         ∙ r.blank q p.page (ap d.blocks k.0 ∙ g.next) (omega (arith, u, l)))
         (λ k. at_place_other d.cells p y q (λ e. k.0 (ap spot_of e)) ∙ r.blank q next k.1 l)
-        (at_spot_is d.blocks (spot_of p) (state_behind n.pages p.page) (spot_of q) (Filling next) h);
+        (at_spot_is d.blocks (spot_of p) (state_after n.pages p.page) (spot_of q) (Filling next) h);
     erased = λ s h. ⊎_elim (λ e. inl (still e (λ k. free_is_not_filling k refl)))
         (λ e. inr (still e (filling_is_not_bad refl))) (r.erased s h);
   }
-
-  -- no page stands in a block that is free or being erased
-  pub blank_programmed : (y : Cell) → AreFreeBlank d.cells d.blocks d.erasing → AreFreeBlank (at_place d.cells p y)
-      (blocks_behind n d p) d.erasing
-  blank_programmed y blank q h = ⊎_elim
-      (λ f. let r = still_free f in at_place_other d.cells p y q (λ e. r.0 (ap spot_of e)) ∙ blank q (inl r.1))
-      (λ f. at_place_other d.cells p y q (λ e. true≢false (sym f ∙ ap d.erasing (ap spot_of e) ∙ g.stays))
-      ∙ blank q (inr f)) h
 
   -- programs and erases of other dies go on
   pub program_goes_on : {q : Place} {e : ℕ} → ProgramRight n d.blocks e q → e ≢ p.die →

@@ -88,6 +88,9 @@ module _ (t : Translation) (die : ℕ) (p : Place) (cell : Cell) (left : Cells) 
     keeps = keeps_program_failed p (program_blank v (v.flights.programs die p cell e)) left_other;
     left = λ q. fresh_at q (by q);
     ended = λ q h. ⊎_elim (λ k. absurd (false≢true k.1)) (λ k. k.1) (at_place_is t.disk.finished p false q true h);
+    unended = λ q h. ⊎_elim
+        (λ k. ⊎_elim (λ s. inr (inl (s ∙ ap t.disk.cells k.0 ∙ program_blank v place))) (λ x. inr x) (fresh_at q (by q)))
+        (λ k. inl k.1) (at_place_is t.disk.finished p false q false h);
     blocks = bad_blocks;
     flew = (idle_fewer {f = t.disk.flights} p.die).programs;
     programs = other_place;
@@ -103,8 +106,8 @@ module _ (t : Translation) (die : ℕ) (p : Place) (cell : Cell) (left : Cells) 
   }
 
   pub program_gone : IsGone t (program_failed t.disk p left)
-  program_gone blank q h = ⊎_elim (λ k. sym k ∙ h)
-      (λ k. ap t.disk.cells k.0 ∙ program_blank v (v.flights.programs die p cell e)) (by q)
+  program_gone q h = inl (⊎_elim (λ k. sym k ∙ h)
+      (λ k. ap t.disk.cells k.0 ∙ program_blank v (v.flights.programs die p cell e)) (by q))
 
 -- what is kept is not there
 failed_held : {t : Translation} {die : ℕ} {p : Place} {cell : Cell} {left : Cells} → Valid t → t.disk.flights die ≡ Some

@@ -91,7 +91,8 @@ fewer_mending t (Unmarked fence lost) l m = record {
   still = m.still;
   same = m.same;
   flies = λ die p cell h. m.flies die p cell (l.programs die p cell h);
-  blank = m.blank;
+  spare = m.spare;
+  unfinished = m.unfinished;
   no_plan = m.no_plan;
 }
 fewer_mending t {g} w l m =

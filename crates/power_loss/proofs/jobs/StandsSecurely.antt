@@ -4,7 +4,7 @@ use Rattle.power_loss.proofs.Common.{◌≡◌, ◌≢◌, ℕ, ◌+◌, ◌≤�
 use Rattle.power_loss.proofs.Common.{ap, ◌∙◌, subst, inl, inr, ⊎_elim, eqb_tells, Cell, Cells, Mark, Nothing}
 use Rattle.power_loss.proofs.Common.{BlockState, Bad, CellCrash, Closed, Disk, Erasing, Filling, Flight, Free}
 use Rattle.power_loss.proofs.Common.{Programming, Spot, Touches, at_place, at_spot, job_begun, erase_failed, erased}
-use Rattle.power_loss.proofs.Common.{flight_alone, program_failed, programmed, same_spot, spot_of, state_behind, Key}
+use Rattle.power_loss.proofs.Common.{flight_alone, program_failed, programmed, same_spot, spot_of, state_after, Key}
 use Rattle.power_loss.proofs.Common.{Place, mark_not_nothing, page_not_nothing, cases_Bool, cond-false, cond-true}
 use Rattle.power_loss.proofs.Common.{place_cases, spot_cases, Book, IsSafe, IsSecure, MarkStands, SafeRight, Standing}
 use Rattle.power_loss.proofs.Common.{Numbers, BlocksRight, at_spot_is}
@@ -141,7 +141,7 @@ blocks_bad {blocks = blocks} s r unfinished blank = record {
     bad a h = ⊎_elim (λ e. at_spot_here blocks s Bad a e.1) (λ o. at_spot_other blocks s Bad a o.1 ∙ h) (spot_cases a s)
 
 -- a block behind a program is closed or is being filled
-pub behind_is_not_free : (pages page : ℕ) → state_behind pages page ≢ Free
+pub behind_is_not_free : (pages page : ℕ) → state_after pages page ≢ Free
 behind_is_not_free pages page h = ⊎_elim
     (λ e. closed_is_not_free refl (sym (cond-true (page + 1 == pages) Closed (Filling (page + 1)) e) ∙ h))
     (λ e. free_is_not_filling (sym (cond-false (page + 1 == pages) Closed (Filling (page + 1)) e) ∙ h) refl)

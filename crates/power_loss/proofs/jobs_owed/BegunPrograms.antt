@@ -103,7 +103,8 @@ module _ (t : Translation) (die : ℕ) (p : Place) (cell : Cell) (v : Valid t)
     flies = λ d q other h. ⊎_elim
         (λ (k : (d ≡ die) × (p ≡ q) × (cell ≡ other)). let m = c.unmarked fence lost e in (m.0, sym k.2 ∙ m.1, m.2))
         (λ k. u.flies d q other k) (is_this t h);
-    blank = u.blank;
+    spare = u.spare;
+    unfinished = u.unfinished;
     no_plan = u.no_plan;
   }
   begun_mending w e m = record {

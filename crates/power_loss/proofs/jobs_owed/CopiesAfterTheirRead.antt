@@ -4,7 +4,7 @@ use Rattle.power_loss.proofs.Common.{sym, ap, ◌∙◌, subst, inl, inr, ⊎_el
 use Rattle.power_loss.proofs.Common.{GroupPage, MarkPage, Nothing, Erasing, Flight, ForRest, ForStep, ForTask}
 use Rattle.power_loss.proofs.Common.{Programming, Reader, Reading, program_failed, Name, EndJob, Ending, Move}
 use Rattle.power_loss.proofs.Common.{ReadRight, ReadWrong, TakeStep, WentWell, WentWrong, die_idle, end_flight}
-use Rattle.power_loss.proofs.Common.{is_kind_of, mark_again, moved, read_right, read_wrong, step_behind, CopyStep}
+use Rattle.power_loss.proofs.Common.{is_kind_of, mark_again, moved, read_right, read_wrong, step_after, CopyStep}
 use Rattle.power_loss.proofs.Common.{MayTake, Order, OrderCopy, Step, StepKind, Translation, Want, copy_begun}
 use Rattle.power_loss.proofs.Common.{due_order, has_mark_number, mark_ordered, name_of, next_order, stepped, turned}
 use Rattle.power_loss.proofs.Common.{want_at, wants_of_step, with_plan, Fence, Place}
@@ -51,7 +51,7 @@ begun t name from there none = order_begins t (due_order t) none name from there
 abbrev Keeps : Option Step → Option Step → Type 0
 Keeps before now = (now ≡ before) ⊎ (is_copy now ≡ false)
 
-behind_keeps : (name : Name) (s : Option Step) → Keeps s (step_behind name s)
+behind_keeps : (name : Name) (s : Option Step) → Keeps s (step_after name s)
 behind_keeps name None = inl refl
 behind_keeps name (Some s) = by (is_kind_of name s.kind)
   where

@@ -5,7 +5,8 @@ use Rattle.power_loss.proofs.Common.{none_is, and_parts, ltb-true, none-some, no
 use Rattle.power_loss.proofs.Common.{Erasing, Filling, Flight, Free, Programming, Reading, Spot, place_in, spot_of}
 use Rattle.power_loss.proofs.Common.{below, Name, accepted_groups, before_accepted, is_standing, MayTake, Step}
 use Rattle.power_loss.proofs.Common.{Translation, cell_now, flies_name, flight_at, flight_for, is_free, is_pinned}
-use Rattle.power_loss.proofs.Common.{is_rest_of, may_open, names_behind, next_place, some_flight, step_cell, step_flies}
+use Rattle.power_loss.proofs.Common.{has_room_for_groups, is_rest_of, may_open_for_group, may_open_for_step}
+use Rattle.power_loss.proofs.Common.{names_after, next_place, some_flight, step_cell, step_flies}
 use Rattle.power_loss.proofs.Common.{waiting_name, waiting_step, Numbers, Place}
 use Rattle.power_loss.proofs.MachineWords.{IsSpot}
 use Rattle.std.proofs.Common.{find, option_map}
@@ -57,11 +58,23 @@ at_flight t die opens {cell} (Some p) {w} {waiting} {f} e is h =
 at_flight t die true None {w} {waiting} {f} e is h = erase_flight t die w waiting _ refl h
 at_flight t die false None {f = f} e is h = absurd (none-some f h)
 
+-- what is owed for a group alone is owed where room is for groups
+pub with_room : (t : Translation) (die : ℕ) (name : Name) {f : Flight} → flight_for t die None (Some name) ≡ Some f →
+    (has_room_for_groups t ≡ true)
+    × (flight_at t die (may_open_for_group t) (cell_now t.ledger name) (next_place t die) ≡ Some f)
+with_room t die name {f} h =
+    by (has_room_for_groups t) (flight_at t die (may_open_for_group t) (cell_now t.ledger name) (next_place t die)) h
+  where
+    by : (b : Bool) (o : Option Flight) → (if b then o else None) ≡ Some f → (b ≡ true) × (o ≡ Some f)
+    by true o e = (refl, e)
+    by false o e = absurd (none-some f e)
+
 flight_is : (t : Translation) (die : ℕ) (w : Option Cell) (waiting : Option Name) {f : Flight} →
     flight_for t die w waiting ≡ Some f → IsFlight t die w waiting f
-flight_is t die (Some cell) waiting {f} h = at_flight t die true (next_place t die) refl (inl refl) h
-flight_is t die None (Some name) {f} h = at_flight t die (may_open t) (next_place t die) refl
-    (inr (refl, (name, refl, refl))) h
+flight_is t die (Some cell) waiting {f} h =
+    at_flight t die (may_open_for_step t) (next_place t die) refl (inl refl) h
+flight_is t die None (Some name) {f} h = at_flight t die (may_open_for_group t) (next_place t die) refl
+    (inr (refl, (name, refl, refl))) (with_room t die name h).1
 flight_is t die None None {f} h = absurd (none-some f h)
 
 -- Erases
@@ -143,14 +156,14 @@ step_owed t (Some s) cell e h =
 
 -- the page of a group waits
 pub record NameOwed (t : Translation) (name : Name) : Type 0 where
-  pub behind : IsIn name (names_behind (before_accepted t.ledger) (accepted_groups t.ledger))
+  pub behind : IsIn name (names_after (before_accepted t.ledger) (accepted_groups t.ledger))
   pub nowhere : is_standing t.ledger name.number name.index ≡ false
   pub flies : some_flight t (flies_name name) ≡ false
   pub whole : list_any (is_rest_of name) t.work.rests ≡ false
 
 pub name_owed : (t : Translation) (name : Name) → waiting_name t ≡ Some name → NameOwed t name
 name_owed t name h =
-    let r = found_in (waits t) (names_behind (before_accepted t.ledger) (accepted_groups t.ledger)) name h in
+    let r = found_in (waits t) (names_after (before_accepted t.ledger) (accepted_groups t.ledger)) name h in
     let a = and_parts _ (not (list_any (is_rest_of name) t.work.rests)) r.1 in
     let b = and_parts (not (is_standing t.ledger name.number name.index)) _ a.0 in
     record {

@@ -4,7 +4,7 @@ use Rattle.power_loss.proofs.Common.{slice_get, Option, Some, refl, sym, ap, ◌
 use Rattle.power_loss.proofs.Common.{none-some, true≢false, Cell, GroupPage, MarkPage, Group, below, Entry, Ledger}
 use Rattle.power_loss.proofs.Common.{Name, accepted_groups, before_accepted, CopyStep, MarkStep, Mending, RepairStep}
 use Rattle.power_loss.proofs.Common.{Step, StepKind, Translation, Unmarked, cell_now, cell_of_entry, flies_mark}
-use Rattle.power_loss.proofs.Common.{names_behind, records_now, some_flight, step_cell, step_flies, tag_of}
+use Rattle.power_loss.proofs.Common.{names_after, records_now, some_flight, step_cell, step_flies, tag_of}
 use Rattle.power_loss.proofs.Common.{waiting_name, waiting_step, Fence, Key, IsPageAt, book, MarkStepRight}
 use Rattle.power_loss.proofs.Common.{StepKindRight, Valid}
 use Rattle.ufs_spec.proofs.Lists.{get_there}
@@ -26,7 +26,7 @@ pub record IsNameOf (n : ℕ) (gs : List Group) (name : Name) : Type 0 where
   pub number : name.number ≡ n + suc at
   pub index : name.index < length group
 
-pub name_of_group : (n : ℕ) (gs : List Group) (name : Name) → IsIn name (names_behind n gs) → IsNameOf n gs name
+pub name_of_group : (n : ℕ) (gs : List Group) (name : Name) → IsIn name (names_after n gs) → IsNameOf n gs name
 name_of_group n [] name h = absurd h
 name_of_group n (g ∷ gs) name h = ⊎_elim
     (λ k.
@@ -37,7 +37,7 @@ name_of_group n (g ∷ gs) name h = ⊎_elim
     let r = name_of_group (n + 1) gs name k in
     let e = r.number in
     record { at = suc r.at; group = r.group; is = r.is; number = omega arith; index = r.index })
-    (in_either name (names_of (n + 1) g) (names_behind (n + 1) gs) h)
+    (in_either name (names_of (n + 1) g) (names_after (n + 1) gs) h)
 
 -- a page of a group of this life has an entry
 new_entry : (t : Translation) (name : Name) (j : ℕ) {g : Group} → name.number ≡ t.ledger.greatest_seen + suc j →

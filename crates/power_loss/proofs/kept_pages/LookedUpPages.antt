@@ -15,6 +15,7 @@ use Rattle.power_loss.proofs.books.PagesByName.{is_old, new_page, old_page, page
 use Rattle.power_loss.proofs.books.LastOfEachKey.{IsLastOf, NoneOf, latest_cases}
 use Rattle.ufs_spec.proofs.Lists.{get_take, take_get}
 use Rattle.power_loss.proofs.books.LayerParts.{LookedOf, SecureOf, MendingOf}
+use Rattle.power_loss.proofs.kept_pages.UnmendedPages.{unmended_secure}
 
 -- All groups
 
@@ -238,7 +239,8 @@ module _ (t : Translation) (k : Key) where
       (λ m.
       let s = settled_mended t t.work.mending m v.mending in
       latest_secure v s (latest_right name v s.0 has (latest_is_durable name v e low)) known)
-      (λ un. v.unmended.stand un name.number name.index p known) (cases_Bool (is_mended t.work.mending))
+      (λ un. unmended_secure k t.ledger.groups (latest t.ledger k) name v un has refl e known)
+      (cases_Bool (is_mended t.work.mending))
 
   latest_looks : (o : Option Name) → Valid t → HasKey (book t) k → latest t.ledger k ≡ o →
       LookedOf t (looked_at t.ledger o)

@@ -3,9 +3,10 @@ use Rattle.power_loss.proofs.Common.{◌≡◌, ◌≢◌, ℕ, Bool, true, fals
 use Rattle.power_loss.proofs.Common.{Some, None, refl, sym, ap, ◌∙◌, subst, ⊎_elim, All-cons, All-head, All-nil}
 use Rattle.power_loss.proofs.Common.{All-tail, All-weaker, false≢true, none-some, same_Some, Cell, Cells, BlockState}
 use Rattle.power_loss.proofs.Common.{Disk, Erasing, Flight, ForStep, Free, Programming, Reader, Reading, Spot, at_die}
-use Rattle.power_loss.proofs.Common.{at_spot, same_spot, spot_of, state_behind, Name, is_kind_of, step_behind}
+use Rattle.power_loss.proofs.Common.{at_spot, same_spot, spot_of, state_after, Name, is_kind_of, step_after}
 use Rattle.power_loss.proofs.Common.{step_there, without_reader, CopyStep, Plan, RepairStep, Step, Translation, Want}
-use Rattle.power_loss.proofs.Common.{is_mended, standing_of, want_at, wants_of_step, Place, at_die_is, at_spot_is}
+use Rattle.power_loss.proofs.Common.{is_mended, standing_of, want_at, wants_of_step, HasKey, book, Key, Place, at_die_is}
+use Rattle.power_loss.proofs.Common.{at_spot_is}
 use Rattle.power_loss.proofs.Common.{spot_cases, page_not_nothing, Flights, IsGroupPage, IsNeededPage, IsSecure}
 use Rattle.power_loss.proofs.Common.{ReadsRight, Standing, ToReadRight, Valid}
 use Rattle.power_loss.proofs.kept_pages.LookedUpPages.{secure_page}
@@ -132,12 +133,12 @@ needed_keeps d e {p} k h =
 -- a block that is programmed does not become free
 pub needed_written : {c after : Cells} {f ended : Place → Bool} {b : Spot → BlockState} {e erasing : Spot → Bool}
     (s : Spot) (pages page : ℕ) {p : Place} → StayThere c f e after ended erasing →
-    IsNeededPage c f b e p → IsNeededPage after ended (at_spot b s (state_behind pages page)) erasing p
+    IsNeededPage c f b e p → IsNeededPage after ended (at_spot b s (state_after pages page)) erasing p
 needed_written {c} {after} {f} {ended} {b} {e} {erasing} s pages page {p} stay h = record {
   name = h.name;
   page = page_stays stay h.page;
-  needed = λ z. ⊎_elim (λ (k : (spot_of p ≡ s) × (state_behind pages page ≡ Free)). behind_is_not_free pages page k.1)
-      (λ k. h.needed k.1) (at_spot_is b s (state_behind pages page) (spot_of p) Free z);
+  needed = λ z. ⊎_elim (λ (k : (spot_of p ≡ s) × (state_after pages page ≡ Free)). behind_is_not_free pages page k.1)
+      (λ k. h.needed k.1) (at_spot_is b s (state_after pages page) (spot_of p) Free z);
 }
 
 pub needed_secure : {standing : Standing} {c : Cells} {f : Place → Bool} {b : Spot → BlockState} {e : Spot → Bool}
@@ -165,7 +166,7 @@ to_read_stay {c} {after} {f} {ended} {b} {blocks} {e} {erasing} {step} stay h = 
 
 -- a step that is over, or has its content, needs no read
 pub behind_wants : (P : Want → Type 0) (name : Name) (step : Option Step) → All P (wants_of_step step) →
-    All P (wants_of_step (step_behind name step))
+    All P (wants_of_step (step_after name step))
 behind_wants P name None h = h
 behind_wants P name (Some step) h = by (is_kind_of name step.kind)
   where
@@ -189,11 +190,12 @@ copy_wants P name p h = All-cons P (want_at ForStep p) [] h (All-nil P)
 
 -- What is ordered
 
--- until the device is mended a page that stands is needed
-pub stands_needed : {t : Translation} (o : Option Name) {p : Place} → Valid t → is_mended t.work.mending ≡ false →
-    standing_of t.ledger o ≡ Some p → NeededOf t p
-stands_needed None {p} v un e = absurd (none-some p e)
-stands_needed {t} (Some name) {p} v un e = needed_secure name e (v.unmended.stand un name.number name.index p e)
+-- until the device is mended the page that a key began with is needed
+pub stands_needed : {t : Translation} (k : Key) (o : Option Name) {p : Place} → Valid t →
+    is_mended t.work.mending ≡ false → HasKey (book t) k → t.ledger.first_page k ≡ o → standing_of t.ledger o ≡ Some p →
+    NeededOf t p
+stands_needed k None {p} v un has is e = absurd (none-some p e)
+stands_needed {t} k (Some name) {p} v un has is e = needed_secure name e (v.unmended.stand un k name p has is e)
 
 -- the first page of a plan's copies is there, and so are the others
 pub copy_read : {t : Translation} (s : Spot) {p : Place} (ps : List Place) {next : Option Step} → Valid t →

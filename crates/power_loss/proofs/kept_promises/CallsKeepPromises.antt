@@ -7,10 +7,10 @@ use Rattle.power_loss.proofs.MachineWords.{Command, Answering, Awaiting, Deed, G
 use Rattle.power_loss.proofs.MachineWords.{Task, SendingBytes, is_asked_of, is_short_of, is_task_of, short_reply}
 use Rattle.power_loss.proofs.MachineWords.{task_of, with_deed, without_task, Allowed, Answer, Reply, Call, Faulty, Done}
 use Rattle.power_loss.proofs.MachineWords.{OfDone, Take, OfTake, OfHost, Host, OfReply, Spelled, Turn, OfTurn}
-use Rattle.power_loss.proofs.MachineWords.{asked_fault, behind, data_heard, deed_behind, ends_with, given, heard}
-use Rattle.power_loss.proofs.MachineWords.{is_aborted, lock_applied, managed, message_fault, moves_behind, observe}
+use Rattle.power_loss.proofs.MachineWords.{asked_fault, behind, data_heard, deed_after, ends_with, given, heard}
+use Rattle.power_loss.proofs.MachineWords.{is_aborted, lock_applied, managed, message_fault, moves_after, observe}
 use Rattle.power_loss.proofs.MachineWords.{query_unanswered, replied_by, service, short_locked, short_replied, tag_in}
-use Rattle.power_loss.proofs.MachineWords.{task_behind, task_locked, task_read, task_replied, with_moves, with_short}
+use Rattle.power_loss.proofs.MachineWords.{task_goes_on, task_locked, task_read, task_replied, with_moves, with_short}
 use Rattle.power_loss.proofs.MachineWords.{without_tasks, fills, task_filled, Request, State, locked, numbers_of, Event}
 use Rattle.power_loss.proofs.MachineWords.{Output, Message, Cdb, IsTied, TasksDiffer, ValidState, has_task}
 use Rattle.std.specs.Prelude.{if◌then◌else◌, is_some}
@@ -155,8 +155,8 @@ given_tracks p tag bytes s die (Some flight) h = h
 
 own_reply : (p : Promise) {tag : ℕ} (bytes : List ℕ) (s u : State) (task : Task) (deed : Deed) → u.tasks ≡ s.tasks →
     u.accepted ≡ s.accepted → task.tag ≡ tag →
-    KeepsTo p s.accepted bytes deed → has_task tag (task_behind u task (deed_behind task deed)) ≡ true →
-    TrackedIn p tag bytes s → TrackedIn p tag bytes (task_behind u task (deed_behind task deed))
+    KeepsTo p s.accepted bytes deed → has_task tag (task_goes_on u task (deed_after task deed)) ≡ true →
+    TrackedIn p tag bytes s → TrackedIn p tag bytes (task_goes_on u task (deed_after task deed))
 own_reply p {tag} bytes s u task (Gathering purpose gathered asked) e f own keeps still h = subst
     (λ (cs : List Command). Tracked p tag bytes (map (with_deed task.tag (Gathering purpose gathered true)) u.tasks) cs)
     (sym f)
@@ -182,7 +182,7 @@ task_reply p tag bytes s {task} found grows still h = by (task.tag == tag) refl
         let own : task.tag ≡ tag = eq_told task.tag tag e in
         let same : h.task ≡ task =
         same_Some h.task task (sym h.there ∙ (ap (λ (n : ℕ). task_of n s.tasks) (sym own) ∙ found)) in
-        own_reply p bytes s (with_moves s (moves_behind task task.deed)) task task.deed refl refl own
+        own_reply p bytes s (with_moves s (moves_after task task.deed)) task task.deed refl refl own
         (subst (λ (x : Task). KeepsTo p s.accepted bytes x.deed) same h.keeps) still h
 
 replied_tracks : (p : Promise) (tag : ℕ) (bytes : List ℕ) (s : State) (other : ℕ) (x : Option Task) →

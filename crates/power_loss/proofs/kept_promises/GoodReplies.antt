@@ -5,9 +5,9 @@ use Rattle.power_loss.proofs.Common.{list_any, nat_tests, false≢true, none-som
 use Rattle.power_loss.proofs.MachineWords.{Command, Answering, Awaiting, Deed, ForWrite, Gathering, Good, Short, Status}
 use Rattle.power_loss.proofs.MachineWords.{Task, TaskSetFull, invalid_operation, is_task_of, no_unit, response}
 use Rattle.power_loss.proofs.MachineWords.{short_reply, task_of, Life, held, Reply, Due, OfHost, Host, IsCdbIn, OfReply}
-use Rattle.power_loss.proofs.MachineWords.{begun_with, command_heard, deed_reply, message_fault, opened_with}
+use Rattle.power_loss.proofs.MachineWords.{begun_if_any, command_taken, deed_reply, message_fault, refused_or_begun}
 use Rattle.power_loss.proofs.MachineWords.{opens_short, tag_in, unit_or_first, with_moves, with_short, with_task}
-use Rattle.power_loss.proofs.MachineWords.{most_tasks, Line, Request, State, first_line, lacks_unit, line, lines_behind}
+use Rattle.power_loss.proofs.MachineWords.{most_tasks, Line, Request, State, first_line, lacks_unit, line, lines_after}
 use Rattle.power_loss.proofs.MachineWords.{lun_of, not_taken, numbers_of, refusal, unit_of_request, Event, Output}
 use Rattle.power_loss.proofs.MachineWords.{Message, Cdb, IsTied, ValidState, IsReplied, has_task}
 use Rattle.std.specs.Prelude.{if◌then◌else◌}
@@ -45,14 +45,14 @@ first_bad (l ∷ ls) status all e = by l.applies e (first_bad ls status all.1)
     by true k rest = subst NotGood (same_Some l.status status k) all.0
     by false k rest = rest k
 
-lines_bad : (s : State) (r : Request) (c : Option Cdb) → AreBad (lines_behind s r c)
+lines_bad : (s : State) (r : Request) (c : Option Cdb) → AreBad (lines_after s r c)
 lines_bad s r None = (tt, tt)
 lines_bad s r (Some c) = (tt, (tt, (tt, (tt, (tt, (tt, (tt, (tt, (tt, tt)))))))))
 
 refused_bad : (s : State) (r : Request) {status : Status} → refusal s r ≡ Some status → NotGood status
 refused_bad s r {status} e =
     let lun = lun_of (numbers_of s) r.lun in
-    first_bad (line (lacks_unit s r lun) no_unit ∷ line (not_taken r lun) invalid_operation ∷ lines_behind s r r.cdb)
+    first_bad (line (lacks_unit s r lun) no_unit ∷ line (not_taken r lun) invalid_operation ∷ lines_after s r r.cdb)
     status (tt, (tt, lines_bad s r r.cdb)) e
 
 -- a task that is opened
@@ -71,25 +71,25 @@ opens p s r c n deed none keeps later =
 -- what a COMMAND of this kind promises
 abbrev pub IsPromise : State → Request → Promise → Type 0
 IsPromise s r p = (u : State) → list_any (is_task_of r.tag) s.tasks ≡ false → refusal s r ≡ None →
-    u ≡ begun_with s r r.cdb → TrackedIn p r.tag [] u
+    u ≡ begun_if_any s r r.cdb → TrackedIn p r.tag [] u
 
 opened_tracks : (p : Promise) (s : State) (r : Request) → list_any (is_task_of r.tag) s.tasks ≡ false →
     first_of p ≤ length s.accepted → IsPromise s r p → (x : Option Status) → refusal s r ≡ x →
-    TrackedIn p r.tag [] (opened_with s r x)
+    TrackedIn p r.tag [] (refused_or_begun s r x)
 opened_tracks p s r none later is (Some status) e =
     opens p s r None 0 (Answering status 0) none (refused_bad s r e) later
-opened_tracks p s r none later is None e = is (begun_with s r r.cdb) none e refl
+opened_tracks p s r none later is None e = is (begun_if_any s r r.cdb) none e refl
 
 command_tracks : (p : Promise) (s : State) (r : Request) → list_any (is_task_of r.tag) s.tasks ≡ false →
     first_of p ≤ length s.accepted → IsPromise s r p →
-    has_task r.tag (command_heard s r) ≡ true → TrackedIn p r.tag [] (command_heard s r)
+    has_task r.tag (command_taken s r) ≡ true → TrackedIn p r.tag [] (command_taken s r)
 command_tracks p s r none later is still = by (nat_le most_tasks (length s.tasks)) still
   where
     by : (b : Bool) →
         has_task r.tag (if b then with_short s (short_reply r.tag (response r.lun r.tag r.expected 0 TaskSetFull))
-        else opened_with s r (refusal s r)) ≡ true →
+        else refused_or_begun s r (refusal s r)) ≡ true →
         TrackedIn p r.tag [] (if b then with_short s (short_reply r.tag (response r.lun r.tag r.expected 0 TaskSetFull))
-        else opened_with s r (refusal s r))
+        else refused_or_begun s r (refusal s r))
     by true k = closed r.tag s.tasks (none_found (is_task_of r.tag) s.tasks none) k
     by false k = opened_tracks p s r none later is (refusal s r) refl
 
@@ -98,10 +98,10 @@ taken_tracks : (p : Promise) {s t : State} {r : Request} → IsTaken s r t → f
 taken_tracks p {s = s} {r = r} taken later is still =
     let fault = no_fault (message_fault s (command_message r)) taken.right in
     let free = is_free s r.tag (opens_short s (command_message r)) fault in
-    let open_now = settled_open r.tag (command_heard s r) (subst (λ (x : State). has_task r.tag x ≡ true) taken.next
+    let open_now = settled_open r.tag (command_taken s r) (subst (λ (x : State). has_task r.tag x ≡ true) taken.next
     still) in
     subst (TrackedIn p r.tag []) (sym taken.next)
-    (settled_tracks p r.tag [] (command_heard s r) (command_tracks p s r free.no_task later is open_now))
+    (settled_tracks p r.tag [] (command_taken s r) (command_tracks p s r free.no_task later is open_now))
 
 taken_valid : {s t : State} {r : Request} → ValidState s → IsTaken s r t → ValidState t
 taken_valid {s} {t} {r} v taken = one_event s t (event.Host taken.bytes) (output.Host (Ok tt)) v (record {
@@ -117,7 +117,7 @@ taken_valid {s} {t} {r} v taken = one_event s t (event.Host taken.bytes) (output
 flush_promises : (s : State) (r : Request) (address blocks : ℕ) →
     r.cdb ≡ Some (cdb.SynchronizeCache10 address blocks false) → IsPromise s r (OfFlush (length s.accepted))
 flush_promises s r address blocks e = λ u none passes is.
-    subst (TrackedIn (OfFlush (length s.accepted)) r.tag []) (sym (is ∙ ap (begun_with s r) e))
+    subst (TrackedIn (OfFlush (length s.accepted)) r.tag []) (sym (is ∙ ap (begun_if_any s r) e))
     (opens (OfFlush (length s.accepted)) s r (Some (cdb.SynchronizeCache10 address blocks false)) 0
     (Awaiting (length s.accepted)) none (omega arith) (omega arith))
 
@@ -130,7 +130,7 @@ write_promises s r address blocks e some spelled = λ u none passes is.
     let pass = passed s r c e passes in
     let told = unit_told s r c (subst TakenByUnits (sym (operation_is r.cdb c r.bytes spelled e)) units_take_10) pass in
     let here : unit ≡ r.lun = ap unit_or_first told.is in
-    subst (TrackedIn (OfWrite (length s.accepted) r.lun address blocks) r.tag []) (sym (is ∙ ap (begun_with s r) e))
+    subst (TrackedIn (OfWrite (length s.accepted) r.lun address blocks) r.tag []) (sym (is ∙ ap (begun_if_any s r) e))
     (begins unit here none (blocks == 0) (not_zero some))
   where
     p : Promise

@@ -2,7 +2,7 @@
 use Rattle.power_loss.proofs.Common.{◌≡◌, ℕ, suc, ◌+◌, ◌≤◌, ◌&&◌, not, is_some, if◌then◌else◌, Bool, true, false, List}
 use Rattle.power_loss.proofs.Common.{[], ◌∷◌, Option, Some, None, refl, sym, ap, ◌∙◌, arith, Mark, MarkPage, Flight}
 use Rattle.power_loss.proofs.Common.{Programming, Name, same_name, EndJob, IsAllowedMove, Move, TakeStep}
-use Rattle.power_loss.proofs.Common.{mending_behind, moved, step_behind, step_there, CopyStep, MarkStep, Mended}
+use Rattle.power_loss.proofs.Common.{mending_after, moved, step_after, step_there, CopyStep, MarkStep, Mended}
 use Rattle.power_loss.proofs.Common.{Mending, Order, OrderCopy, OrderMark, OrderPlanMark, OrderRepair, RepairStep}
 use Rattle.power_loss.proofs.Common.{Repairing, Step, StepKind, Translation, Unmarked, has_mark_number, is_mended}
 use Rattle.power_loss.proofs.Common.{is_step_due, mark_ordered, name_of, ordered, turned, Fence, Key, Place, Valid}
@@ -36,7 +36,7 @@ no_number (Repairing left) b = omega arith
 no_number Mended b = omega arith
 
 -- behind a mark
-behind_mark : (w : Mending) (a b : Bool) → turns_of (mending_behind w) false a ≤ turns_of w true b
+behind_mark : (w : Mending) (a b : Bool) → turns_of (mending_after w) false a ≤ turns_of w true b
 behind_mark (Unmarked None lost) a b = omega arith
 behind_mark (Unmarked (Some fence) lost) true b = omega arith
 behind_mark (Unmarked (Some fence) lost) false b = omega arith
@@ -92,14 +92,14 @@ cut_marks false step h = h
 
 -- a page's program ends no mark
 kind_behind : (name : Name) (kind : StepKind) (there : Bool) →
-    is_marking (step_behind name (Some (record { kind = kind; there = there }))) ≡ is_mark kind
+    is_marking (step_after name (Some (record { kind = kind; there = there }))) ≡ is_mark kind
 kind_behind name (MarkStep number fence) there = refl
 kind_behind name (CopyStep other from) there =
     cut_marks (same_name name other) (record { kind = CopyStep other from; there = there }) refl
 kind_behind name (RepairStep other from) there =
     cut_marks (same_name name other) (record { kind = RepairStep other from; there = there }) refl
 
-marks_behind : (name : Name) (s : Option Step) → is_marking (step_behind name s) ≡ is_marking s
+marks_behind : (name : Name) (s : Option Step) → is_marking (step_after name s) ≡ is_marking s
 marks_behind name None = refl
 marks_behind name (Some step) = kind_behind name step.kind step.there
 

@@ -1,16 +1,17 @@
 -- What each move leaves of a translation layer whose pages, once programmed, open as they are meant to.
-use Rattle.power_loss.proofs.Common.{◌≡◌, ℕ, zero, suc, ◌+◌, ◌-◌, ◌≤◌, ◌^◌, ◌&&◌, Bool, true, false, not, List, [], ◌∷◌}
+use Rattle.power_loss.proofs.Common.{◌≡◌, ℕ, zero, suc, ◌+◌, ◌-◌, ◌≤◌, ◌&&◌, Bool, true, false, not, List, [], ◌∷◌}
 use Rattle.power_loss.proofs.Common.{Option, Some, None, length, drop, refl, sym, ap, ◌∙◌, subst, ⊎_elim, arith}
 use Rattle.power_loss.proofs.Common.{option_map, leb-true, length-append, get_or_from_slice_get, slice_get_within}
 use Rattle.power_loss.proofs.Common.{false≢true, none-some, same_Some, Cell, IsCell, IsFence, Mark, MarkPage, Disk}
 use Rattle.power_loss.proofs.Common.{Erasing, Flight, Programming, Reader, Spot, at_die, page_of, Contents, Group}
 use Rattle.power_loss.proofs.Common.{IsBlock, IsKey, IsSettingsBody, Item, Entry, Ledger, Name, at_name}
 use Rattle.power_loss.proofs.Common.{before_accepted, next_number, is_standing, Accept, EndJob, IsAllowedMove, LetGo}
-use Rattle.power_loss.proofs.Common.{LetGoAll, Move, GiveJob, TakeStep, mending_behind, moved, without_reader}
+use Rattle.power_loss.proofs.Common.{LetGoAll, Move, GiveJob, TakeStep, mending_after, moved, without_reader}
 use Rattle.power_loss.proofs.Common.{IsFirstFence, shape_of_numbers, CopyStep, MarkStep, Mended, Mending, MayTake, Plan}
 use Rattle.power_loss.proofs.Common.{Repairing, RepairStep, Step, StepKind, Translation, Unmarked, flight_at}
 use Rattle.power_loss.proofs.Common.{has_mark_number, cell_now, flight_for, is_mended, has_number, name_of}
-use Rattle.power_loss.proofs.Common.{repair_ordered, may_open, next_place, waiting_name, step_flies, records_now}
+use Rattle.power_loss.proofs.Common.{repair_ordered, may_open_for_group, may_open_for_step, next_place}
+use Rattle.power_loss.proofs.Common.{waiting_name, step_flies, records_now}
 use Rattle.power_loss.proofs.Common.{step_cell, taken, waiting_step, Numbers, Fence, Key, Place, Book, book}
 use Rattle.power_loss.proofs.Common.{last_number, Flights, FenceRight, IsLastRepair, MarkFlightRight, MendingRight}
 use Rattle.power_loss.proofs.Common.{StepKindRight, Valid, program_unread as program_left}
@@ -22,6 +23,7 @@ use Rattle.ufs_spec.specs.Pages.{greatest_number}
 use Rattle.ufs_spec.specs.Ledger.{entry_of}
 use Rattle.ufs_spec.specs.Translation.{IsOwed}
 use Rattle.power_loss.proofs.moves.MovesKeepValid.{all_keep}
+use Rattle.power_loss.proofs.jobs_owed.ProgramsAndErases.{with_room}
 use Rattle.power_loss.proofs.books.PagesByName.{IsAdded, grown, page_splits}
 use Rattle.power_loss.proofs.books.FrontierClimbs.{climb}
 use Rattle.ufs_laws.proofs.walk.LayerEffects.{ComesOf, Effect, MarkAgain, MarkOrdered, MarkWritten, PageWritten}
@@ -206,9 +208,10 @@ owed_fits : {t : Translation} (die : ℕ) (w : Option Cell) (name : Option Name)
     waiting_step t t.work.step ≡ w → flight_for t die w name ≡ Some (Programming p cell) → IsFit cell
 owed_fits {t} die (Some new) name p cell f e h =
     let x = waiting_cell t t.work.step e in
-    let same = x.2 ∙ flight_cell t die true (next_place t die) p h in
+    let same = x.2 ∙ flight_cell t die (may_open_for_step t) (next_place t die) p h in
     subst IsFit same (step_cell_fits x.0.kind f (f.valid.step.kind x.0 x.1))
-owed_fits {t} die None (Some name) p cell f e h = subst IsFit (flight_cell t die (may_open t) (next_place t die) p h)
+owed_fits {t} die None (Some name) p cell f e h =
+    subst IsFit (flight_cell t die (may_open_for_group t) (next_place t die) p (with_room t die name h).1)
     (cell_now_fits name f)
 owed_fits die None None p cell f e h = cc
 
@@ -313,7 +316,7 @@ move_fits {t} move f may = light f (all_keep t move f.valid may) refl f.programs
 
 -- the mending never goes back
 
-behind_mended : (w : Mending) → is_mended w ≡ true → is_mended (mending_behind w) ≡ true
+behind_mended : (w : Mending) → is_mended w ≡ true → is_mended (mending_after w) ≡ true
 behind_mended (Unmarked fence lost) h = absurd (false≢true h)
 behind_mended w h = refl
 

@@ -5,9 +5,9 @@ use Rattle.power_loss.proofs.Common.{◌≡◌, ℕ, ◌==◌, Bool, true, false
 use Rattle.power_loss.proofs.Common.{Some, None, refl, sym, ap, ◌∙◌, subst, nat_le, nat_lt, append-nil, false≢true}
 use Rattle.power_loss.proofs.Common.{eqb-true, cond-false}
 use Rattle.power_loss.proofs.MachineWords.{Deed, Gathering, Purpose, Short, Status, Task, TaskSetFull, is_task_of}
-use Rattle.power_loss.proofs.MachineWords.{response, short_reply, task_of, with_deed, without_task, begun, begun_with}
-use Rattle.power_loss.proofs.MachineWords.{command_heard, complete, data_for, data_heard, deed_behind, moves_behind}
-use Rattle.power_loss.proofs.MachineWords.{opened_with, set_deed, task_behind, task_replied, with_moves, with_short}
+use Rattle.power_loss.proofs.MachineWords.{response, short_reply, task_of, with_deed, without_task, begun, begun_if_any}
+use Rattle.power_loss.proofs.MachineWords.{command_taken, complete, data_for, data_heard, deed_after, moves_after}
+use Rattle.power_loss.proofs.MachineWords.{refused_or_begun, set_deed, task_goes_on, task_replied, with_moves, with_short}
 use Rattle.power_loss.proofs.MachineWords.{most_tasks, Request, State, refusal, Cdb}
 use Rattle.std.specs.Prelude.{if◌then◌else◌}
 use Rattle.ufs_laws.proofs.walk.WaysOfCommands.{Beginning, Completion, Told, Waiting, WhyBegun, WhyCompleted, begins_by}
@@ -39,22 +39,22 @@ begun_adds {s} r unit c = begins_by (AddsTasks s) s r unit c one
     one Waiting why = one_task _ refl refl
     one b why = one_task _ refl refl
 
-begins_adds : {s : State} (r : Request) (c : Option Cdb) → AddsTasks s (begun_with s r c)
+begins_adds : {s : State} (r : Request) (c : Option Cdb) → AddsTasks s (begun_if_any s r c)
 begins_adds {s} r None = record { tasks = []; tasks_are = sym (append-nil s.tasks); shorts_same = refl }
 begins_adds {s} r (Some c) = begun_adds r _ c
 
-pub opened_adds : {s : State} (r : Request) (refused : Option Status) → AddsTasks s (opened_with s r refused)
+pub opened_adds : {s : State} (r : Request) (refused : Option Status) → AddsTasks s (refused_or_begun s r refused)
 opened_adds r (Some status) = one_task _ refl refl
 opened_adds {s} r None = begins_adds r r.cdb
 
 pub adds_short : {s : State} (x : Short) → Adds s (with_short s x)
 adds_short {s} x = record { tasks = []; tasks_are = sym (append-nil s.tasks); shorts = x ∷ []; shorts_are = refl }
 
-pub command_adds : {s : State} (r : Request) → Adds s (command_heard s r)
+pub command_adds : {s : State} (r : Request) → Adds s (command_taken s r)
 command_adds {s} r = by (nat_le most_tasks (length s.tasks))
   where
     by : (b : Bool) → Adds s (if b then with_short s (short_reply r.tag (response r.lun r.tag r.expected 0 TaskSetFull))
-        else opened_with s r (refusal s r))
+        else refused_or_begun s r (refusal s r))
     by true = adds_short _
     by false =
         let more = opened_adds r (refusal s r) in
@@ -136,10 +136,10 @@ data_leaves {s} {tag} (Some task) bytes e = subst (λ (n : ℕ). LeavesOthers n 
 -- Replies
 
 behind_leaves : {s : State} (task : Task) (moves : State) (deed : Option Deed) → moves.tasks ≡ s.tasks →
-    moves.shorts ≡ s.shorts → LeavesOthers task.tag s (task_behind moves task deed)
+    moves.shorts ≡ s.shorts → LeavesOthers task.tag s (task_goes_on moves task deed)
 behind_leaves {s} task moves (Some deed) e f = leaves_set moves deed e f
 behind_leaves {s} task moves None e f = leaves_without (ap (without_task task.tag) e) f
 
 pub replied_leaves : {s : State} (task : Task) → LeavesOthers task.tag s (task_replied s task)
-replied_leaves {s} task = behind_leaves task (with_moves s (moves_behind task task.deed)) (deed_behind task task.deed)
+replied_leaves {s} task = behind_leaves task (with_moves s (moves_after task task.deed)) (deed_after task task.deed)
     refl refl

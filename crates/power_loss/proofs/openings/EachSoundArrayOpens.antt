@@ -1,7 +1,7 @@
 -- A device can be opened over any array that is sound and suits it: the state that an opening finds is one.
 use Rattle.power_loss.proofs.Common.{◌≡◌, ℕ, suc, ◌≤◌, Bool, true, false, [], Option, Some, None, refl, ap, subst}
-use Rattle.power_loss.proofs.Common.{arith, AreWithin, Array, Cells, Mark, Shows, Disk, Spot, content, HoldAll, IsKept}
-use Rattle.power_loss.proofs.Common.{IsNewestMark, StandsFor, fence_in, Ledger, IsOpenedTranslation, IsTop, lost_from}
+use Rattle.power_loss.proofs.Common.{arith, AreFirstBlocks, AreWithin, Array, BlockState, Cells, Mark, Shows, Disk, Spot, content, HoldAll, IsKept}
+use Rattle.power_loss.proofs.Common.{IsNewestMark, StandsFor, fence_in, Ledger, IsOpenedTranslation, IsGreatestSeen, lost_from}
 use Rattle.power_loss.proofs.Common.{number_of, Plain, CellsSound, CellsSuit, Sound, Suits, Translation, Numbers, Fence}
 use Rattle.power_loss.proofs.Common.{none-some, CellsRight}
 use Rattle.power_loss.proofs.MachineWords.{IsOpened, State, IsArrayOf}
@@ -13,16 +13,18 @@ use Rattle.ufs_laws.proofs.plain_contents.PlainFromContents.{contents_there, sta
 use Rattle.ufs_spec.specs.Exchanges.{empty_registers}
 use Rattle.ufs_spec.specs.Openings.{IsOpenedDisk, IsOpenedLedger}
 use Rattle.power_loss.proofs.openings.OpenedFromPages.{cells_right}
-use Rattle.power_loss.proofs.openings.FoundInCells.{block_at, first_of, is_entry, mending_at, some_top, stands_at}
+use Rattle.power_loss.proofs.openings.FoundInCells.{first_of, is_entry, mending_at, some_top, stands_at}
+use Rattle.power_loss.proofs.openings.FreeInOrder.{are_found, first_blocks, found_free}
+use Rattle.power_loss.specs.FreeBlocks.{blocks_by}
 
 module _ (n : Numbers) (c : Cells) (within : AreWithin n c) (bad : Spot → Bool) (m : Option Mark)
     (newest : IsNewestMark c m) (kept : ℕ) (is_kept : IsKept c m kept) (base : Plain)
-    (holds_base : HoldAll n c m kept (content base)) (suit : CellsSuit n c m)
+    (holds_base : HoldAll n c m kept (content base)) (suit : CellsSuit n c m) (sound : CellsSound c m)
     (ordered : (f : Fence) → fence_in m ≡ Some f → f.first ≤ f.last) where
   last : ℕ
   last = (some_top n c within m).0
 
-  last_is : IsTop c m last
+  last_is : IsGreatestSeen c m last
   unfolding last
   last_is = (some_top n c within m).1
 
@@ -37,11 +39,20 @@ module _ (n : Numbers) (c : Cells) (within : AreWithin n c) (bad : Spot → Bool
       let b = last_is.0.fence f e in
       omega arith
 
+  -- what each block is
+  blocks : Spot → BlockState
+  blocks = blocks_by bad (found_free n c within m sound bad)
+
+  blocks_are : AreFirstBlocks c m bad blocks
+  unfolding blocks
+  blocks_are = first_blocks n c within m sound bad (found_free n c within m sound bad)
+      (are_found n c within m sound bad)
+
   disk : Disk
   disk = record {
     cells = c;
     finished = λ p. true;
-    blocks = λ s. (block_at n c within bad s (bad s) refl).0;
+    blocks = blocks;
     flights = λ die. None;
     erasing = λ s. false;
   }
@@ -56,7 +67,7 @@ module _ (n : Numbers) (c : Cells) (within : AreWithin n c) (bad : Spot → Bool
     first_lost = low;
     groups = [];
     repairs = 0;
-    standing = λ number index. (stands_at n c within (record { number = number; index = index })).0;
+    standing = λ number index. (stands_at n c within blocks (record { number = number; index = index })).0;
     frontier = last;
     newest = m;
     marks = number_of m;
@@ -73,17 +84,17 @@ module _ (n : Numbers) (c : Cells) (within : AreWithin n c) (bad : Spot → Bool
     pins = [];
   }
 
-  disk_opens : IsOpenedDisk c bad disk
+  disk_opens : IsOpenedDisk c m bad disk
   unfolding disk
   disk_opens = record {
     cells = refl;
     finished = λ p. refl;
-    blocks = λ s. (block_at n c within bad s (bad s) refl).1;
+    blocks = blocks_are;
     idle = λ die. refl;
     none_erasing = λ s. refl;
   }
 
-  ledger_opens : IsOpenedLedger n c ledger
+  ledger_opens : IsOpenedLedger n c blocks ledger
   unfolding ledger low
   ledger_opens = record {
     newest = newest;
@@ -93,7 +104,7 @@ module _ (n : Numbers) (c : Cells) (within : AreWithin n c) (bad : Spot → Bool
     greatest_seen = last_is;
     first_lost = refl;
     entries_before = λ number index. (is_entry n c within (record { number = number; index = index })).1;
-    standing = λ number index. (stands_at n c within (record { number = number; index = index })).1;
+    standing = λ number index. (stands_at n c within blocks (record { number = number; index = index })).1;
     first_page = λ k key. (first_of n c within m kept k (holds n c within m (suc kept) k).0
         (holds n c within m (suc kept) k).1).1;
     none_new = refl;
@@ -104,7 +115,7 @@ module _ (n : Numbers) (c : Cells) (within : AreWithin n c) (bad : Spot → Bool
   }
 
   translation_opens : IsOpenedTranslation n c bad translation
-  unfolding translation ledger
+  unfolding translation ledger disk
   translation_opens = record {
     numbers = refl;
     suits = suit;
@@ -176,4 +187,5 @@ any_opens n array bad inside sound suits =
     let suit : CellsSuit n c is.newest = subst (CellsSuit n c) one
     (subst (λ x. CellsSuit n x suits.newest) suited suits.suit) in
     opens n c within bad is.newest is.is_newest is.kept is.is_kept base is.holds suit
+    (subst (CellsSound c) (mark_one c sound.newest sound.newest is.newest right first is.is_newest) right)
     (ordered_fence is.newest (cells_right array shown) is.is_newest) array shown found.1

@@ -1,15 +1,16 @@
 -- What an opening finds in cells: the page of each name, the greatest number seen, the lost keys in order, the mending
 -- that is due and the state of each block.
 use Rattle.power_loss.proofs.Common.{◌≡◌, ◌≢◌, ◌⊎◌, ℕ, suc, ◌≤◌, Bool, true, false, List, Option, Some, None, refl, sym}
+use Rattle.power_loss.proofs.Common.{cases_Bool, is_free, true≢false}
 use Rattle.power_loss.proofs.Common.{ap, ◌∙◌, subst, inl, inr, ⊎_elim, arith, AreWithin, Cell, Cells, GroupPage}
-use Rattle.power_loss.proofs.Common.{IsPlace, Mark, MarkPage, Nothing, key_of, BlockState, Bad, Closed, Free, Spot}
-use Rattle.power_loss.proofs.Common.{same_spot, spot_of, Holds, fence_in, Entry, Name, AreLost, HasName, IsAtMost}
-use Rattle.power_loss.proofs.Common.{IsBlockState, IsEntry, IsFirst, IsMendingAt, IsTop, StandsAt, Mended, Mending}
+use Rattle.power_loss.proofs.Common.{IsPlace, Mark, MarkPage, Nothing, key_of, BlockState, Bad, Closed, Filling, Free, Spot}
+use Rattle.power_loss.proofs.Common.{spot_of, Holds, fence_in, Entry, Name, AreLost, HasName, IsAtMost}
+use Rattle.power_loss.proofs.Common.{IsEntry, IsFirst, IsMendingAt, IsGreatestSeen, StandsAt, Mended, Mending}
 use Rattle.power_loss.proofs.Common.{Unmarked, name_of, Numbers, Fence, Key, Place, Tag, none-some, name_cases}
 use Rattle.power_loss.proofs.Common.{spot_cases, mark_not_nothing, page_not_nothing}
 use Rattle.std.specs.Prelude.{max, if◌then◌else◌}
 use Rattle.ufs_laws.proofs.deciding.SearchOverPlaces.{Decided, Greatest, greatest, is_place, some_cell, split}
-use Rattle.ufs_spec.specs.Openings.{IsLost}
+use Rattle.ufs_spec.specs.Openings.{IsLost, IsNotHigher}
 use Rattle.power_loss.proofs.books.PagesByName.{entry_for}
 use Rattle.power_loss.proofs.ordered_lists.LowestPlaces.{lowest}
 use Rattle.power_loss.proofs.ordered_lists.SortedKeys.{Below, Listed, at_has, collect, has_at, none_listed, one_listed}
@@ -37,9 +38,76 @@ has_name : (c : Cells) {name : Name} {p : Place} → HasName c name p → IsName
 has_name c {name} h = subst (IsNamed name) (sym h.2) h.3
 
 module _ (n : Numbers) (c : Cells) (within : AreWithin n c) where
-  pub stands_at : (name : Name) → (o : Option Place) × StandsAt c name o
-  stands_at name = ⊎_elim (λ h. (Some h.0, ((named_page (c h.0) h.1.0), λ q g. h.1.1 q (has_name c g))))
-      (λ no. (None, λ p h. no p (has_name c h))) (lowest n c within (IsNamed name) (is_named name) (λ h. h))
+  -- the cells outside of the free blocks
+  abbrev outside_free : (Spot → BlockState) → Cells
+  outside_free blocks p = if is_free (blocks (spot_of p)) then Nothing else c p
+
+  outside_within : (blocks : Spot → BlockState) → AreWithin n (outside_free blocks)
+  outside_within blocks p out = by (is_free (blocks (spot_of p)))
+    where
+      by : (b : Bool) → (if b then Nothing else c p) ≡ Nothing
+      by true = refl
+      by false = within p out
+
+  module _ (blocks : Spot → BlockState) (name : Name) where
+    named_there : (p : Place) → IsNamed name (c p) → HasName c name p
+    named_there p h = named_page (c p) h
+
+    -- a page outside of the free blocks
+    named_outside : (p : Place) → IsNamed name (outside_free blocks p) →
+        (is_free (blocks (spot_of p)) ≡ false) × IsNamed name (c p)
+    named_outside p h = by (is_free (blocks (spot_of p))) refl h
+      where
+        by : (b : Bool) → is_free (blocks (spot_of p)) ≡ b → IsNamed name (if b then Nothing else c p) →
+            (is_free (blocks (spot_of p)) ≡ false) × IsNamed name (c p)
+        by true e h = absurd h
+        by false e h = (e, h)
+
+    outside_named : (p : Place) → is_free (blocks (spot_of p)) ≡ false → IsNamed name (c p) →
+        IsNamed name (outside_free blocks p)
+    outside_named p e h = subst (λ b. IsNamed name (if b then Nothing else c p)) (sym e) h
+
+    not_free : {x : BlockState} → is_free x ≡ false → x ≢ Free
+    not_free e h = true≢false (sym (ap is_free h) ∙ e)
+
+    free_is : (x : BlockState) → is_free x ≡ true → x ≡ Free
+    free_is Free e = refl
+    free_is (Filling next) e = cc
+    free_is Closed e = cc
+    free_is Bad e = cc
+
+    abbrev IsLowestOutside : Place → Type 0
+    IsLowestOutside p =
+        IsNamed name (outside_free blocks p) ×
+        ((q : Place) → IsNamed name (outside_free blocks q) → IsNotHigher p q)
+
+    by_outside : (p : Place) → IsLowestOutside p → StandsAt c blocks name (Some p)
+    by_outside p h =
+        let o = named_outside p h.0 in (
+          named_there p o.1,
+          λ q g. ⊎_elim (λ f. inl (not_free o.0, free_is (blocks (spot_of q)) f))
+              (λ f. inr (o.0 ∙ sym f, h.1 q (outside_named q f (has_name c g))))
+              (cases_Bool (is_free (blocks (spot_of q)))),
+        )
+
+    by_any : ((q : Place) → IsNamed name (outside_free blocks q) → ⊥) →
+        ((p : Place) × (IsNamed name (c p) × ((q : Place) → IsNamed name (c q) → IsNotHigher p q))) ⊎
+        ((p : Place) → IsNamed name (c p) → ⊥) → (o : Option Place) × StandsAt c blocks name o
+    by_any none (inl h) =
+        let free = λ (q : Place) (g : IsNamed name (c q)). ⊎_elim (λ f. f)
+        (λ f. absurd (none q (outside_named q f g))) (cases_Bool (is_free (blocks (spot_of q)))) in (
+          Some h.0,
+          (
+            named_there h.0 h.1.0,
+            λ q g. inr (free h.0 h.1.0 ∙ sym (free q (has_name c g)), h.1.1 q (has_name c g)),
+          ),
+        )
+    by_any none (inr nowhere) = (None, λ p h. nowhere p (has_name c h))
+
+    pub stands_at : (o : Option Place) × StandsAt c blocks name o
+    stands_at = ⊎_elim (λ h. (Some h.0, by_outside h.0 h.1))
+        (λ none. by_any none (lowest n c within (IsNamed name) (is_named name) (λ h. h)))
+        (lowest n (outside_free blocks) (outside_within blocks) (IsNamed name) (is_named name) (λ h. h))
 
   entry_of : (t : Tag) (body : List ℕ) → Entry
   entry_of t body = entry_for t body
@@ -104,7 +172,7 @@ module _ (n : Numbers) (c : Cells) (within : AreWithin n c) where
         (⊎_elim (λ e. omega arith) (λ r. let l = at_most h r.0 (c r.0) refl in let e = r.1 in omega arith) g.reached)
         (fence_low (fence_in m) x h.fence)
 
-    is_top : IsTop c m top
+    is_top : IsGreatestSeen c m top
     unfolding top
     is_top = (
       record {
@@ -118,7 +186,7 @@ module _ (n : Numbers) (c : Cells) (within : AreWithin n c) where
       least,
     )
 
-  pub some_top : (m : Option Mark) → (x : ℕ) × IsTop c m x
+  pub some_top : (m : Option Mark) → (x : ℕ) × IsGreatestSeen c m x
   some_top m = let g = greatest n c within weight refl in (top m g, is_top m g)
 
   -- Lost keys
@@ -203,43 +271,3 @@ module _ (n : Numbers) (c : Cells) (within : AreWithin n c) where
           l,
         ),
       )) (split low last)
-
-  -- Blocks
-
-  abbrev only_in : Spot → Cells
-  only_in s p = if same_spot (spot_of p) s then c p else Nothing
-
-  only_within : (s : Spot) → AreWithin n (only_in s)
-  only_within s p out = by (same_spot (spot_of p) s)
-    where
-      by : (b : Bool) → (if b then c p else Nothing) ≡ Nothing
-      by true = within p out
-      by false = refl
-
-  is_some : (x : Cell) → Decided (x ≢ Nothing)
-  is_some Nothing = inr (λ h. h refl)
-  is_some (GroupPage t body) = inl (page_not_nothing _ _ _ refl)
-  is_some (MarkPage m) = inl (mark_not_nothing _ _ refl)
-
-  -- what stands in the block's cells alone stands in it
-  in_spot : {s : Spot} (p : Place) → only_in s p ≢ Nothing → (spot_of p ≡ s) × (c p ≢ Nothing)
-  in_spot {s} p h = ⊎_elim (λ e. (e.1, λ z. h (ap (λ b. if b then c p else Nothing) e.0 ∙ z)))
-      (λ e. absurd (h (ap (λ b. if b then c p else Nothing) e.0))) (spot_cases (spot_of p) s)
-
-  spot_in : {s : Spot} (p : Place) → spot_of p ≡ s → c p ≢ Nothing → only_in s p ≢ Nothing
-  spot_in {s} p e h = ⊎_elim (λ g z. h (sym (ap (λ b. if b then c p else Nothing) g.0) ∙ z)) (λ g. absurd (g.1 e))
-      (spot_cases (spot_of p) s)
-
-  nothing_or : {x : Cell} → (x ≢ Nothing → ⊥) → x ≡ Nothing
-  nothing_or {x} none = ⊎_elim (λ h. absurd (none h)) (λ h. double x h) (is_some x)
-    where
-      double : (y : Cell) → (y ≢ Nothing → ⊥) → y ≡ Nothing
-      double Nothing h = refl
-      double (GroupPage t body) h = absurd (h (page_not_nothing _ _ _ refl))
-      double (MarkPage m) h = absurd (h (mark_not_nothing _ _ refl))
-
-  pub block_at : (bad : Spot → Bool) (s : Spot) → (b : Bool) → bad s ≡ b → (x : BlockState) × IsBlockState c bad s x
-  block_at bad s true e = (Bad, e)
-  block_at bad s false e = ⊎_elim (λ h. let g = in_spot h.0 h.1 in (Closed, (e, (h.0, g.0, g.1))))
-      (λ none. (Free, (e, λ p there. nothing_or (λ some. none (p, spot_in p there some)))))
-      (some_cell n (only_in s) (only_within s) (λ x. x ≢ Nothing) is_some (λ h. h refl))

@@ -112,14 +112,14 @@ module _ {bad : Spot → Bool} {t : Translation} (o : Opened bad t) where
       (o.start.ledger.standing tag.number tag.index)
     where
       go : (x : Option Place) → t.ledger.standing tag.number tag.index ≡ x → StandsAt t.disk.cells
-          (record { number = tag.number; index = tag.index }) x →
+          t.disk.blocks (record { number = tag.number; index = tag.index }) x →
           (q : Place) × (t.ledger.standing tag.number tag.index ≡ Some q)
       go None is x = absurd (x p (tag, body, h, refl))
       go (Some q) is x = (q, is)
 
   pub stands_there : (n i : ℕ) {p : Place} → t.ledger.standing n i ≡ Some p → HasName t.disk.cells
       (record { number = n; index = i }) p
-  stands_there n i h = (subst (StandsAt t.disk.cells (record { number = n; index = i })) h
+  stands_there n i h = (subst (StandsAt t.disk.cells t.disk.blocks (record { number = n; index = i })) h
       (o.start.ledger.standing n i)).0
 
   -- The lost numbers

@@ -5,15 +5,17 @@ use Rattle.power_loss.proofs.Common.{Mark, MarkPage, Spot, spot_of, IsNewestMark
 use Rattle.power_loss.proofs.Common.{AreLost, IsMendingAt, IsOpenedTranslation, CellsSound, Mended, Mending, Repairing}
 use Rattle.power_loss.proofs.Common.{Translation, Unmarked, is_mended, wants_of_step, Numbers, Key, Place}
 use Rattle.power_loss.proofs.Common.{before_accepted, at_most, none-some, CellsRight, HasKey, IsWholeOld, book}
-use Rattle.power_loss.proofs.Common.{HistoryRight, MarkStands, Valid}
+use Rattle.power_loss.proofs.Common.{HistoryRight, MarkStands, MayBeErased, Valid, inr, true≢false}
 use Rattle.power_loss.specs.Invariant.{LostRight}
 use Rattle.power_loss.proofs.books.LayerParts.{MarksOf, MendingOf, NeededOf, LookedOf, SourceOf}
 use Rattle.power_loss.proofs.accepted_groups.ClaimedSlots.{no_pages}
 use Rattle.power_loss.proofs.openings.OpenedByName.{Opened, low_cases, no_group, old_page, opened, page_is_old, shown}
 use Rattle.power_loss.proofs.openings.OpenedContents.{book_is_right}
-use Rattle.power_loss.proofs.openings.OpenedPages.{all_safe, blocks_are_right, flights_are_right, free_blank}
-use Rattle.power_loss.proofs.openings.OpenedPages.{frontier_is_right, mark_not_free, none_flies, numbered}
-use Rattle.power_loss.proofs.openings.OpenedPages.{pages_are_right, stands_secure}
+use Rattle.power_loss.proofs.openings.OpenedPages.{all_safe, blocks_are_right, first_stands, flights_are_right}
+use Rattle.power_loss.proofs.openings.OpenedPages.{free_mark, free_or_not, frontier_is_right, mark_not_free}
+use Rattle.power_loss.proofs.openings.OpenedPages.{none_flies, not_erasing, numbered, pages_are_right}
+use Rattle.power_loss.proofs.jobs.DiskChanges.{spare_moves}
+use Rattle.ufs_spec.specs.Openings.{IsFree}
 
 module _ {bad : Spot → Bool} {t : Translation} (o : Opened bad t) where
   whole_is_old : {n : ℕ} → IsWhole t.disk.cells n → IsWholeOld (book t) n
@@ -38,14 +40,14 @@ module _ {bad : Spot → Bool} {t : Translation} (o : Opened bad t) where
       (λ z. let e = z.1 in
       omega arith) (λ z. absurd (none-some _ (sym none ∙ z.1))) (low_cases o)
 
-  mark_stands : {m : Mark} (p : Place) → t.disk.cells p ≡ MarkPage m →
+  mark_stands : {m : Mark} (p : Place) → t.ledger.newest ≡ Some m → t.disk.cells p ≡ MarkPage m →
       MarkStands t.disk.cells t.disk.finished t.disk.blocks t.disk.erasing m
-  mark_stands p h = record {
+  mark_stands p is h = record {
     place = p;
     there = h;
     ended = o.start.disk.finished p;
     stays = o.start.disk.none_erasing (spot_of p);
-    needed = mark_not_free o p h;
+    needed = mark_not_free o p is h;
   }
 
   marks_are_right : {m : Mark} → t.ledger.newest ≡ Some m → IsNewestMark t.disk.cells (Some m) →
@@ -55,7 +57,7 @@ module _ {bad : Spot → Bool} {t : Translation} (o : Opened bad t) where
       let r = ap recorded_in is in
       let k = all_kept none l in
       record {
-        stands = mark_stands x.0.0 x.0.1;
+        stands = mark_stands x.0.0 is x.0.1;
         within = let z = o.start.ledger.greatest_seen.0.marks x.0.0 m x.0.1 in omega arith;
         numbers = o.start.suits.config m is;
         whole = λ n low up. whole_above (omega arith) (omega arith);
@@ -66,7 +68,7 @@ module _ {bad : Spot → Bool} {t : Translation} (o : Opened bad t) where
               omega arith),
         );
         same = λ p q a b h u e. o.sound.marks p q a b h u e;
-        freed = λ p other h free. absurd (mark_not_free o p h free);
+        freed = λ p other h free. free_mark o p is h free;
         flies = λ die p other h. absurd (none_flies o h);
       }
 
@@ -117,8 +119,15 @@ module _ {bad : Spot → Bool} {t : Translation} (o : Opened bad t) where
     none_new = o.start.ledger.none_new;
     still = o.start.ledger.frontier;
     same = λ p. inl refl;
+    spare = λ p some. ⊎_elim
+        (λ free. inr (spare_moves t.disk.cells t.disk.cells t.ledger.newest (IsFree t.disk.blocks)
+        (MayBeErased t.disk.blocks t.disk.erasing) (t.disk.cells p)
+        (λ s may. ⊎_elim (λ f. f) (λ near. absurd (not_erasing o near)) may) (λ q was out. refl)
+        (o.start.disk.blocks.spare p free some)))
+        (λ out. inl (refl, λ may. ⊎_elim (λ f. out f) (λ near. not_erasing o near) may))
+        (free_or_not (t.disk.blocks (spot_of p)));
+    unfinished = λ p h. absurd (true≢false (sym (o.start.disk.finished p) ∙ h));
     flies = λ die p cell h. absurd (none_flies o h);
-    blank = free_blank o;
     no_plan = o.start.no_plan;
   }
 
@@ -158,7 +167,7 @@ module _ {bad : Spot → Bool} {t : Translation} (o : Opened bad t) where
           let claims = o.start.no_claims in
           omega (arith, none, claims);
     };
-    unmended = record { stand = λ un n i p h. stands_secure o n i h };
+    unmended = record { stand = λ un k name p has first h. first_stands o k name p has first h };
     pins = record { each = subst (All (λ pin. LookedOf t pin.looked)) (sym o.start.no_pins) (All-nil _) };
     rests = record { each = subst (All (λ rest. SourceOf t rest.source)) (sym o.start.no_rests) (All-nil _) };
     reads = record {

@@ -1,7 +1,7 @@
 -- The mark without a fence is ordered once each lost key has a durable repair, and it ends the mending.
 use Rattle.power_loss.proofs.Common.{◌≡◌, ℕ, suc, ◌+◌, ◌==◌, is_none, if◌then◌else◌, true, List, [], ◌∷◌, Option, Some}
 use Rattle.power_loss.proofs.Common.{None, refl, sym, ap, ◌∙◌, subst, ⊎_elim, arith, Mark, MarkPage, Programming}
-use Rattle.power_loss.proofs.Common.{EndJob, WentWell, end_flight, mending_behind, moved, IsFirstFence, MarkStep}
+use Rattle.power_loss.proofs.Common.{EndJob, WentWell, end_flight, mending_after, moved, IsFirstFence, MarkStep}
 use Rattle.power_loss.proofs.Common.{MayTake, Mended, Mending, OrderMark, Repairing, Step, StepKind, Translation}
 use Rattle.power_loss.proofs.Common.{Unmarked, due_order, has_mark_number, is_mended, next_order, stepped, taken}
 use Rattle.power_loss.proofs.Common.{turned, Fence, Key, Place, none-some, eqb-self, cond-true, IsPlainMark, book}
@@ -74,7 +74,7 @@ ordered t v w none more =
 -- Its program
 
 ended : (t : Translation) (w : Mending) (die : ℕ) (p : Place) (m : Mark) → MendingOf t w →
-    t.disk.flights die ≡ Some (Programming p (MarkPage m)) → m.fence ≡ None → is_mended (mending_behind w) ≡ true
+    t.disk.flights die ≡ Some (Programming p (MarkPage m)) → m.fence ≡ None → is_mended (mending_after w) ≡ true
 ended t (Unmarked None lost) die p m u job none = refl
 ended t (Unmarked (Some fence) lost) die p m u job none =
     let f = u.flies die p (MarkPage m) job in

@@ -62,10 +62,12 @@ own_more {more = more} {m = m} l h =
     let within : m.number ≤ more = let w = h.within in omega arith in
     assumption
 
-opened_more : {b : Book} {newest : Option Mark} {marks more : ℕ} {fence : Option Fence} {opened cell : Cell} →
-    marks ≤ more → IsOpenedOrOwn b newest marks fence opened cell → IsOpenedOrOwn b newest more fence opened cell
+opened_more : {b : Book} {newest : Option Mark} {marks more : ℕ} {fence : Option Fence} {opened cell : Cell}
+    {finished : Bool} → marks ≤ more → IsOpenedOrOwn b newest marks fence opened cell finished →
+    IsOpenedOrOwn b newest more fence opened cell finished
 opened_more l (inl h) = inl h
-opened_more l (inr h) = inr (h.0, (h.1.0, h.1.1, own_more l h.1.2))
+opened_more l (inr (inl h)) = inr (inl h)
+opened_more l (inr (inr h)) = inr (inr (h.0, (h.1.0, h.1.1, own_more l h.1.2)))
 
 marks_more : {b : Book} {frontier marks more : ℕ} {cells : Cells} {finished : Place → Bool} {blocks : Spot → BlockState}
     {erasing : Spot → Bool} {flights : Flights} {newest : Mark} →
@@ -90,7 +92,8 @@ step_mending b d l more plan next (Unmarked fence lost) e up m = record {
   still = m.still;
   same = λ p. opened_more up (m.same p);
   flies = λ die p cell h. let f = m.flies die p cell h in (f.0, f.1, own_more up f.2);
-  blank = m.blank;
+  spare = m.spare;
+  unfinished = λ p h. ⊎_elim (λ k. inl k) (λ k. inr (k.0, k.1, own_more up k.2)) (m.unfinished p h);
   no_plan = m.no_plan;
 }
 step_mending b d l more plan next (Repairing left) e up m =
@@ -195,11 +198,11 @@ repair_done {b} k left {key} (inr h) =
 abbrev repair_step : ℕ → Option Place → Step
 repair_step n from = record { kind = RepairStep (record { number = n; index = 0 }) from; there = is_none from }
 
-repair_left : {b : Book} (d : Disk) {frontier n : ℕ} {newest : Mark} {plan : Option Plan} {step : Option Step} (k : Key)
+repair_left : {b : Book} {frontier n : ℕ} {newest : Mark} {plan : Option Plan} {step : Option Step} (k : Key)
     {left : List Key} (from : Option Place) → step ≡ None → n ≡ suc (last_number b) →
-    RepairingRight b frontier d.cells d.blocks d.erasing newest plan step (k ∷ left) → RepairingRight
-    (grown b (repair_group b.base k)) frontier d.cells d.blocks d.erasing newest plan (Some (repair_step n from)) left
-repair_left {b} d {newest = newest} k {left} from none e r = record {
+    RepairingRight b frontier newest plan step (k ∷ left) →
+    RepairingRight (grown b (repair_group b.base k)) frontier newest plan (Some (repair_step n from)) left
+repair_left {b} {newest = newest} k {left} from none e r = record {
   fence = fence_grows (repair_group b.base k) r.fence;
   repaired = λ m i x lost is. repair_done k left (r.repaired m i x (lost_before (repair_group b.base k) lost) is);
   keys = λ j x h. r.keys (suc j) x h;
@@ -210,7 +213,6 @@ repair_left {b} d {newest = newest} k {left} from none e r = record {
       let up = last_grows b (repair_group b.base k) in
       let now = none_under_way b none r.under_way in
       inr (omega arith, (from, is_none from, ap (λ z. Some (repair_step z from)) (omega arith)));
-  blank = r.blank;
   no_plan = r.no_plan;
 }
 
@@ -246,7 +248,7 @@ repairs_ordered {t} k left v none m = record {
     mark = repairing.mark;
     is = repairing.is;
     right = marks_grow g t.disk repairing.right;
-    more = repair_left t.disk k from none (omega arith) repairing.more;
+    more = repair_left k from none (omega arith) repairing.more;
   };
   step = record {
     kind = λ s h. subst (λ (z : Step). StepKindRight b t.ledger.marks t.disk.cells (Repairing left) t.work.plan z.kind)
@@ -257,14 +259,14 @@ repairs_ordered {t} k left v none m = record {
       (subst (λ (z : Mending). HistoryRight (book t) t.ledger.repairs t.ledger.held t.ledger.frontier (is_mended z)) m
       v.history);
   slots = slots_fewer (omega (arith, no_more)) (omega arith) v.slots;
-  unmended = record { stand = λ un n i p h. v.unmended.stand (ap is_mended m) n i p h };
+  unmended = record { stand = λ un key name p has is h. v.unmended.stand (ap is_mended m) key name p has is h };
   pins = pins_stay (λ n i e h. page_grows (book t) g n i e h)
       (λ q some ended stays. record { there = refl; ended = ended; stays = stays }) v.pins;
   rests = v.rests;
   reads = v.reads;
   to_read = record {
     wanted = repair_wants (λ (w : Want). NeededOf t w.place)
-        (record { number = n; index = 0 }) from (λ p e. stands_needed (t.ledger.first_page k) v (ap is_mended m) e);
+        (record { number = n; index = 0 }) from (λ p e. stands_needed k (t.ledger.first_page k) v (ap is_mended m) (repairing.more.keys 0 k refl) refl e);
     copied = v.to_read.copied;
   };
 }

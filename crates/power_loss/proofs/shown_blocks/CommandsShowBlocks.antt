@@ -4,8 +4,8 @@ use Rattle.power_loss.proofs.Common.{Some, None, fold, length, map, refl, sym, a
 use Rattle.power_loss.proofs.Common.{All-weaker, get_or_from_slice_get, slice_get_within, IsKey, below, data_key}
 use Rattle.power_loss.proofs.Common.{Ledger, look, moved, block_at, shape_of_numbers, is_mended, eqb-self}
 use Rattle.power_loss.proofs.MachineWords.{operation_of, address_of, Answering, Deed, ReadBlock, Status, Unread}
-use Rattle.power_loss.proofs.MachineWords.{is_task_of, begun, begun_with, blocks_expected, command_heard, kept_at}
-use Rattle.power_loss.proofs.MachineWords.{keeps, opened_with, read_begun, read_blocks, sending, unit_or_first}
+use Rattle.power_loss.proofs.MachineWords.{is_task_of, begun, begun_if_any, blocks_expected, command_taken, kept_at}
+use Rattle.power_loss.proofs.MachineWords.{keeps, refused_or_begun, read_begun, read_blocks, sending, unit_or_first}
 use Rattle.power_loss.proofs.MachineWords.{with_task, most_tasks, Request, State, numbers_of, operation_in, plain_now}
 use Rattle.power_loss.proofs.MachineWords.{refusal, unit_of_request, needs_mended, Cdb, IsTied, IsShown, ShowsBlock}
 use Rattle.power_loss.proofs.MachineWords.{ShowsReads, ShowsRight}
@@ -97,15 +97,15 @@ begun_shows s r command v free p op h = begins_by ShowsReads s r unit command on
     one b why = opens s r _ _ _ h
 
 opened_shows : {s : State} (r : Request) → IsTied s → IsFree s r.tag → IsSpelled r → (x : Option Status) →
-    refusal s r ≡ x → ShowsReads s → ShowsReads (opened_with s r x)
+    refusal s r ≡ x → ShowsReads s → ShowsReads (refused_or_begun s r x)
 opened_shows {s} r v free spelled (Some status) e h = opens s r None 0 (Answering status 0) h
 opened_shows {s} r v free spelled None e h = by r.cdb refl
   where
-    by : (c : Option Cdb) → r.cdb ≡ c → ShowsReads (begun_with s r c)
+    by : (c : Option Cdb) → r.cdb ≡ c → ShowsReads (begun_if_any s r c)
     by None k = h
     by (Some command) k = begun_shows s r command v free (passed s r command k e) (spelled command k) h
 
 pub command_shows : {s : State} (r : Request) → IsTied s → IsFree s r.tag → IsSpelled r → ShowsReads s →
-    ShowsReads (command_heard s r)
+    ShowsReads (command_taken s r)
 command_shows {s} r v free spelled h = shows_if (nat_le most_tasks (length s.tasks)) _ _ h
     (opened_shows r v free spelled (refusal s r) refl h)

@@ -5,14 +5,14 @@ use Rattle.power_loss.proofs.Common.{All-weaker, none-some, same_Some, group_of,
 use Rattle.power_loss.proofs.MachineWords.{Answering, Awaiting, Deed, Gathering, Good, NotRead, Purpose, ReadBlock}
 use Rattle.power_loss.proofs.MachineWords.{ReadState, Sending, Short, Task, SendingBytes, Unread, WasRead, is_short_of}
 use Rattle.power_loss.proofs.MachineWords.{is_task_of, task_of, with_deed, Host, Spelled, abort_moves, accepts}
-use Rattle.power_loss.proofs.MachineWords.{complete, data_for, data_heard, deed_behind, deed_behind_block, heard}
-use Rattle.power_loss.proofs.MachineWords.{is_aborted, managed, message_fault, moves_behind, replied_by, service}
-use Rattle.power_loss.proofs.MachineWords.{set_deed, short_replied, task_behind, with_moves, without_tasks, opens_short}
+use Rattle.power_loss.proofs.MachineWords.{complete, data_for, data_heard, deed_after, deed_after_block, heard}
+use Rattle.power_loss.proofs.MachineWords.{is_aborted, managed, message_fault, moves_after, replied_by, service}
+use Rattle.power_loss.proofs.MachineWords.{set_deed, short_replied, task_goes_on, with_moves, without_tasks, opens_short}
 use Rattle.power_loss.proofs.MachineWords.{State, plain_now, numbers_of, Message, IsTied, MayCome, ShowsReads}
 use Rattle.power_loss.proofs.MachineWords.{ShowsRight}
 use Rattle.std.proofs.Common.{filter, find, nat_lt}
 use Rattle.std.specs.Prelude.{slice_get}
-use Rattle.ufs_spec.specs.Machine.{deed_behind_sent}
+use Rattle.ufs_spec.specs.Machine.{deed_after_sent}
 use Rattle.ufs_spec.specs.Commands as command
 use Rattle.ufs_spec.specs.declared.messages.Message.TheVariants as message
 use Rattle.ufs_laws.proofs.walk.WaysOfCommands.{Accepted, Completion, IsAcceptedDeed, MeetsLock, Told, WhyCompleted}
@@ -99,7 +99,7 @@ heard_shows m c v may free h = h
 -- Replies
 
 sent_same : (task : Task) (blocks : List ReadBlock) (sent : ℕ) →
-    SameBlocks (Sending blocks sent) (deed_behind_sent task blocks sent)
+    SameBlocks (Sending blocks sent) (deed_after_sent task blocks sent)
 sent_same task blocks sent = by (nat_lt (sent + 1) (length blocks))
   where
     by : (b : Bool) →
@@ -108,20 +108,20 @@ sent_same task blocks sent = by (nat_lt (sent + 1) (length blocks))
     by false = λ l x index h. tt
 
 block_same : (task : Task) (blocks : List ReadBlock) (sent : ℕ) (o : Option ReadBlock) {deed : Deed} →
-    deed_behind_block task blocks sent o ≡ Some deed → SameBlocks (Sending blocks sent) deed
+    deed_after_block task blocks sent o ≡ Some deed → SameBlocks (Sending blocks sent) deed
 block_same task blocks sent None {deed} e = absurd (none-some deed e)
 block_same task blocks sent (Some block) {deed} e = by block.state e
   where
     by : (state : ReadState) →
-        deed_behind_block task blocks sent (Some (record { body = block.body; state = state })) ≡ Some deed →
+        deed_after_block task blocks sent (Some (record { body = block.body; state = state })) ≡ Some deed →
         SameBlocks (Sending blocks sent) deed
-    by Unread k = subst (SameBlocks (Sending blocks sent)) (same_Some (deed_behind_sent task blocks sent) deed k)
+    by Unread k = subst (SameBlocks (Sending blocks sent)) (same_Some (deed_after_sent task blocks sent) deed k)
         (sent_same task blocks sent)
-    by WasRead k = subst (SameBlocks (Sending blocks sent)) (same_Some (deed_behind_sent task blocks sent) deed k)
+    by WasRead k = subst (SameBlocks (Sending blocks sent)) (same_Some (deed_after_sent task blocks sent) deed k)
         (sent_same task blocks sent)
     by NotRead k = absurd (none-some deed k)
 
-behind_same : (task : Task) (before : Deed) {deed : Deed} → deed_behind task before ≡ Some deed → SameBlocks before deed
+behind_same : (task : Task) (before : Deed) {deed : Deed} → deed_after task before ≡ Some deed → SameBlocks before deed
 behind_same task (Sending blocks sent) {deed} e = block_same task blocks sent (slice_get blocks sent) e
 behind_same task (Gathering purpose gathered asked) {deed} e =
     subst (SameBlocks (Gathering purpose gathered asked)) (same_Some (Gathering purpose gathered true) deed e)
@@ -130,18 +130,18 @@ behind_same task (SendingBytes bytes) {deed} e =
     subst (SameBlocks (SendingBytes bytes)) (same_Some (Answering Good task.length) deed e) (λ l x index h. tt)
 behind_same task before {deed} e = absurd (none-some deed e)
 
-moves_show : (s : State) (task : Task) (deed : Deed) → ShowsReads s → ShowsReads (with_moves s (moves_behind task deed))
+moves_show : (s : State) (task : Task) (deed : Deed) → ShowsReads s → ShowsReads (with_moves s (moves_after task deed))
 moves_show s task (Sending blocks sent) h = wanted_shows s.translation.ledger s.tasks task.tag (sent + 1) true
     (filter (λ pin. not (is_pin_of task.tag sent pin)) s.translation.pins)
     (All-filter (λ pin. not (is_pin_of task.tag sent pin))
     (ShowsRight s.translation.ledger s.tasks) s.translation.pins h)
 moves_show s task (Awaiting commands) h = show_known s.translation.ledger
-    (with_moves s (moves_behind task (Awaiting commands))).translation.ledger s.tasks s.translation.pins
+    (with_moves s (moves_after task (Awaiting commands))).translation.ledger s.tasks s.translation.pins
     (λ name e k. k) h
 moves_show s task deed h = h
 
 task_behind_shows : (s : State) {task : Task} (deed : Option Deed) → task_of task.tag s.tasks ≡ Some task →
-    ((d : Deed) → deed ≡ Some d → SameBlocks task.deed d) → ShowsReads s → ShowsReads (task_behind s task deed)
+    ((d : Deed) → deed ≡ Some d → SameBlocks task.deed d) → ShowsReads s → ShowsReads (task_goes_on s task deed)
 task_behind_shows s {task} (Some deed) found same h =
     show_goes s.translation.ledger s.tasks (map (with_deed task.tag deed) s.tasks) s.translation.pins
     (set_goes s.tasks task deed found (same deed refl)) h
@@ -183,6 +183,6 @@ pub replied_shows : (s : State) (tag : ℕ) (o : Option Task) → task_of tag s.
     ShowsReads (replied_by s tag o)
 replied_shows s tag (Some task) e h =
     let own : task.tag ≡ tag = eq_told task.tag tag (found_is (is_task_of tag) s.tasks task e) in
-    task_behind_shows (with_moves s (moves_behind task task.deed)) (deed_behind task task.deed)
+    task_behind_shows (with_moves s (moves_after task task.deed)) (deed_after task task.deed)
     (ap (λ (n : ℕ). task_of n s.tasks) own ∙ e) (λ d k. behind_same task task.deed k) (moves_show s task task.deed h)
 replied_shows s tag None e h = short_shows s (find (is_short_of tag) s.shorts) h

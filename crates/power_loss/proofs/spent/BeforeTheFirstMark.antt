@@ -5,7 +5,7 @@ use Rattle.power_loss.proofs.Common.{GroupPage, Mark, MarkPage, Nothing, Erasing
 use Rattle.power_loss.proofs.Common.{ForTask, Programming, Reader, Reading, Spot, erase_failed, erased, program_failed}
 use Rattle.power_loss.proofs.Common.{spot_of, IsKept, IsNewestMark, fence_in, recorded_in, EndJob, Ending}
 use Rattle.power_loss.proofs.Common.{IsAllowedMove, MayEnd, Move, ReadRight, ReadWrong, TakeStep, WentWell, WentWrong}
-use Rattle.power_loss.proofs.Common.{die_idle, end_flight, mark_again, mending_behind, moved, read_right, read_wrong}
+use Rattle.power_loss.proofs.Common.{die_idle, end_flight, mark_again, mending_after, moved, read_right, read_wrong}
 use Rattle.power_loss.proofs.Common.{IsOpenedTranslation, lost_from, number_of, Mended, Mending, Order, OrderMark}
 use Rattle.power_loss.proofs.Common.{OrderPlanMark, OrderRepair, Plan, Repairing, Translation, Unmarked, copy_begun}
 use Rattle.power_loss.proofs.Common.{has_mark_number, has_number, live_places, mark_ordered, next_order, plan_order}
@@ -148,7 +148,7 @@ erased_same t s = record {
       (spot_cases (spot_of p) s);
 }
 
-marked_behind : (w : Mending) → is_marked (mending_behind w) ≡ true
+marked_behind : (w : Mending) → is_marked (mending_after w) ≡ true
 marked_behind (Unmarked None lost) = refl
 marked_behind (Unmarked (Some fence) lost) = refl
 marked_behind (Repairing left) = refl

@@ -1,18 +1,19 @@
 -- A block of which each page may go loses its pages, at any moment of a life.
-use Rattle.power_loss.proofs.Common.{◌≡◌, ℕ, suc, ◌≤◌, true, List, length, Option, Some, None, refl, sym, ap, ◌∙◌}
+use Rattle.power_loss.proofs.Common.{◌≡◌, ℕ, suc, ◌<◌, ◌≤◌, true, List, length, Option, Some, None, refl, sym, ap, ◌∙◌}
 use Rattle.power_loss.proofs.Common.{subst, inl, inr, ⊎_elim, arith, Cell, Cells, GroupPage, Mark, MarkPage, Nothing}
 use Rattle.power_loss.proofs.Common.{IsNewestFinished, MayErase, SpentBy, Spot, spot_of, with_erasing, Holds, IsFenced}
 use Rattle.power_loss.proofs.Common.{IsKept, IsNewestMark, fence_in, recorded_in, number_of, CellsSound, CellsSuit}
 use Rattle.power_loss.proofs.Common.{Mended, Mending, Repairing, Translation, Unmarked, Fence, Place, Tag, cases_Bool}
 use Rattle.power_loss.proofs.Common.{true≢false, mark_not_nothing, one_mark, page_not_nothing, IsLostNumber, book}
-use Rattle.power_loss.proofs.Common.{IsPrefix, Valid}
+use Rattle.power_loss.proofs.Common.{IsPrefix, Valid, IsSpare, MayBeErased, Overwrites, key_of}
 use Rattle.power_loss.proofs.MachineWords.{IsStartRight, LosesIn, StartsRight, is_marked}
 use Rattle.power_loss.proofs.books.LayerParts.{StopLeaves, MendingOf}
 use Rattle.power_loss.proofs.spent.BlockLost.{ImageLeft, IsGone, Judged, image_left, left_image, marked, newest_was}
 use Rattle.power_loss.proofs.spent.BlockLost.{outside, restored_crash, restored_gone, spent, was}
 use Rattle.power_loss.proofs.spent.CellsLost.{Loss, MayGo, holds_less, kept_less, less_sound, less_suits}
 use Rattle.power_loss.proofs.stops.LeftCells.{stays}
-use Rattle.power_loss.proofs.stops.LeftImage.{Started, Unchanged, disk_mark, outcome}
+use Rattle.power_loss.proofs.stops.LeftImage.{Started, Unchanged, disk_mark, disk_page, newest_there, not_erasing}
+use Rattle.power_loss.proofs.stops.LeftImage.{outcome}
 use Rattle.power_loss.proofs.stops.LeftIsSound.{image_prefix, image_sound, image_suits, prefix, sound, suits}
 
 -- all that is promised of what is left
@@ -40,7 +41,7 @@ module _ (t : Translation) (s : Spot) (c left : Cells) (v : Valid t) (may : MayE
   -- a finished mark stood at the opening
   mark_opened : (m : Mark) (n : IsNewestFinished (with_erasing t.disk s) m) → u.1.opening n.stands.place ≡ MarkPage m
   mark_opened m n = ⊎_elim (λ e. e)
-      (λ own. absurd (true≢false (sym n.stands.finished ∙ st.own n.stands.place m n.stands.there own.newer)))
+      (λ own. absurd (true≢false (sym n.stands.finished ∙ own.0)))
       (disk_mark t u m n.stands.there)
 
   -- without a mark at the opening nothing may go
@@ -65,23 +66,24 @@ module _ (t : Translation) (s : Spot) (c left : Cells) (v : Valid t) (may : MayE
     first : IsNewestMark u.1.opening (Some newest)
     first = subst (IsNewestMark u.1.opening) is u.1.opened.is_newest
 
-    first_stands : t.disk.cells first.0.0 ≡ MarkPage newest
-    first_stands = ⊎_elim (λ e. e ∙ first.0.1)
-        (λ e. absurd (mark_not_nothing _ _ (sym e.0 ∙ first.0.1) refl)) (u.1.same first.0.0)
+    -- where the newest mark is
+    at : (p : Place) × (u.1.opening p ≡ MarkPage newest) × (t.disk.cells p ≡ MarkPage newest) ×
+        (MayBeErased t.disk.blocks t.disk.erasing (spot_of p) → ⊥)
+    at = newest_there t u is
 
-    first_finished : t.disk.finished first.0.0 ≡ true
+    first_finished : t.disk.finished at.0 ≡ true
     first_finished = ⊎_elim (λ e. e)
-        (λ e. ⊎_elim (λ k. absurd (mark_not_nothing _ _ (sym k ∙ first_stands) refl))
+        (λ e. ⊎_elim (λ k. absurd (mark_not_nothing _ _ (sym k ∙ at.2) refl))
         (λ k.
-        let same = ap (λ z. z.number) (one_mark k.0 newest (sym k.1 ∙ first_stands)) in
+        let same = ap (λ z. z.number) (one_mark k.0 newest (sym k.1 ∙ at.2)) in
         let l = k.2 in
         let n = ap number_of is in
-        absurd (omega arith)) (st.unfinished first.0.0 e)) (cases_Bool (t.disk.finished first.0.0))
+        absurd (omega arith)) (st.unfinished at.0 e)) (cases_Bool (t.disk.finished at.0))
 
     one : (m : Mark) → IsNewestFinished (with_erasing t.disk s) m → m ≡ newest
     one m n =
         let low = first.1 n.stands.place m (mark_opened m n) in
-        let up = n.newest first.0.0 newest first_stands first_finished in
+        let up = n.newest at.0 newest at.2 first_finished in
         u.1.opened.sound.marks n.stands.place first.0.0 m newest (mark_opened m n) first.0.1 (omega arith)
 
     under : newest.records ≤ t.ledger.greatest_seen
@@ -113,11 +115,52 @@ module _ (t : Translation) (s : Spot) (c left : Cells) (v : Valid t) (may : MayE
       within = let a = under in let b = v.frontier.above in omega arith;
     }
 
-    -- where a group page stands no erase is near
-    page_stays : (p : Place) (tag : Tag) (body : List ℕ) → t.disk.cells p ≡ GroupPage tag body →
-        c p ≡ GroupPage tag body
-    page_stays p tag body h = ⊎_elim (λ e. absurd (page_not_nothing _ _ _ (sym (u.1.blank p (inr e)) ∙ h) refl))
-        (λ e. stays v crash (λ z. page_not_nothing _ _ _ (sym z) refl) h e) (cases_Bool (t.disk.erasing (spot_of p)))
+    -- a page that is newer than another is left, or one that is as new or newer is
+    abbrev Newer : Tag → Type 0
+    Newer tag =
+        (q : Place) × (w : Tag) × (other : List ℕ) × (c q ≡ GroupPage w other) × (IsFenced newest.fence w.number → ⊥)
+        × (key_of w ≡ key_of tag) × (tag.number < w.number) × (w.number ≤ newest.records)
+
+    newer_left : (r : Place) (tag over : Tag) (body : List ℕ) → t.disk.cells r ≡ GroupPage over body →
+        Overwrites newest over tag → Newer tag
+    newer_left r tag over body h o = ⊎_elim
+        (λ e. here r over body (e.0 ∙ disk_page t u h) e.1 o)
+        (λ k. spare (subst (λ (z : Option Mark × Cell). IsSpare t.disk.cells z.0
+        (MayBeErased t.disk.blocks t.disk.erasing) z.1) (λ i. (is i, disk_page t u h i)) k))
+        (u.1.spare r (page_not_nothing _ _ _ (disk_page t u h)))
+      where
+        here : (q : Place) (w : Tag) (other : List ℕ) → t.disk.cells q ≡ GroupPage w other →
+            (MayBeErased t.disk.blocks t.disk.erasing (spot_of q) → ⊥) → Overwrites newest w tag → Newer tag
+        here q w other at out o = (
+          q,
+          w,
+          other,
+          stays v crash (λ z. page_not_nothing _ _ _ (sym z) refl) at (not_erasing t out),
+          o.counts,
+          o.key,
+          o.newer,
+          o.recorded,
+        )
+
+        spare : IsSpare t.disk.cells (Some newest) (MayBeErased t.disk.blocks t.disk.erasing) (GroupPage over body) →
+            Newer tag
+        spare (inl f) = absurd (o.counts f)
+        spare (inr s) = here s.place s.tag s.other s.there s.outside (⊎_elim
+            (λ same.
+            let n = same.1 in
+            let a = o.newer in
+            let b = o.recorded in
+            record {
+              key = sym same.0 ∙ o.key;
+              newer = omega arith;
+              recorded = omega arith;
+              counts = λ f. o.counts (subst (IsFenced newest.fence) (sym same.1) f);
+            })
+            (λ more.
+            let a = o.newer in
+            let b = more.newer in
+            record { key = more.key ∙ o.key; newer = omega arith; recorded = more.recorded; counts = more.counts })
+            s.instead)
 
     loss : (n : IsNewestMark left (Some newest)) → Loss c left newest
     loss n = record {
@@ -142,16 +185,8 @@ module _ (t : Translation) (s : Spot) (c left : Cells) (v : Valid t) (may : MayE
                   (λ z. page_not_nothing _ _ _ (sym z) refl) k.there k.stays,
               k.same,
             ))
-        by tag body (inr (inr r)) = inr (inr (
-          r.place,
-          r.tag,
-          r.body,
-          page_stays r.place r.tag r.body r.there,
-          r.counts,
-          r.key,
-          r.newer,
-          r.recorded,
-        ))
+        by tag body (inr (inr r)) = inr (inr (newer_left r.place tag r.tag r.body r.there
+            (record { key = r.key; newer = r.newer; recorded = r.recorded; counts = r.counts })))
 
         goes : (tag : Tag) (body : List ℕ) → (m : Mark) × IsNewestFinished (with_erasing t.disk s) m × SpentBy
             (with_erasing t.disk s) m (GroupPage tag body) → MayGo c left newest tag body

@@ -6,8 +6,8 @@ use Rattle.power_loss.proofs.Common.{slice_get_within, Array, Spot, Numbers}
 use Rattle.power_loss.proofs.MachineWords.{Every, IsSpoken, TaskSpeaks, Short, Task, TaskSetFull, is_short_of, response}
 use Rattle.power_loss.proofs.MachineWords.{short_reply, task_of, IsOpened, Life, Allowed, Answer, Call, Done, Due}
 use Rattle.power_loss.proofs.MachineWords.{Faulty, Heard, Host, IsHeard, OfDone, OfHost, OfReply, OfTake, OfTurn, Reply}
-use Rattle.power_loss.proofs.MachineWords.{Spelled, Take, Turn, behind, command_heard, fills, heard, hears, is_durable}
-use Rattle.power_loss.proofs.MachineWords.{lock_applied, managed, observe, opened_with, query_unanswered, replied_by}
+use Rattle.power_loss.proofs.MachineWords.{Spelled, Take, Turn, behind, command_taken, fills, heard, hears, is_durable}
+use Rattle.power_loss.proofs.MachineWords.{lock_applied, managed, observe, refused_or_begun, query_unanswered, replied_by}
 use Rattle.power_loss.proofs.MachineWords.{service, short_locked, short_replied, tag_in, task_locked, with_short}
 use Rattle.power_loss.proofs.MachineWords.{Request, State, locked, lun_of, numbers_of, refusal, most_tasks, Event}
 use Rattle.power_loss.proofs.MachineWords.{Output, Message, Cdb}
@@ -40,14 +40,14 @@ one_speaks s tag m is h = All-append ShortSpeaks s.shorts (short_reply tag m ∷
 -- A COMMAND
 
 command_speaks : (s : State) (r : Request) → IsMessage (response r.lun r.tag r.expected 0 TaskSetFull) → ShortsSpeak s →
-    ShortsSpeak (command_heard s r)
+    ShortsSpeak (command_taken s r)
 command_speaks s r is h = by (nat_le most_tasks (length s.tasks))
   where
     by : (b : Bool) → ShortsSpeak
         (if b then with_short s (short_reply r.tag (response r.lun r.tag r.expected 0 TaskSetFull))
-        else opened_with s r (refusal s r))
+        else refused_or_begun s r (refusal s r))
     by true = one_speaks s r.tag (response r.lun r.tag r.expected 0 TaskSetFull) is h
-    by false = same_speak s (opened_with s r (refusal s r)) (opened_adds r (refusal s r)).shorts_same h
+    by false = same_speak s (refused_or_begun s r (refusal s r)) (opened_adds r (refusal s r)).shorts_same h
 
 -- A TASK MANAGEMENT REQUEST, whether it is carried out or not
 

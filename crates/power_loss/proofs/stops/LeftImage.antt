@@ -1,7 +1,9 @@
 -- What a stop leaves of a life: what the life began with, or an image of its book with a mark that stands.
-use Rattle.power_loss.proofs.Common.{◌≡◌, ℕ, ◌≤◌, ◌⊎◌, List, [], Option, Some, None, slice_get, refl, sym, ap, ◌∙◌}
+use Rattle.power_loss.proofs.Common.{◌≡◌, ◌≢◌, ℕ, suc, ◌<◌, ◌≤◌, ◌⊎◌, false, List, [], Option, Some, None, slice_get}
+use Rattle.power_loss.proofs.Common.{refl, sym, ap, ◌∙◌, AreWithin, Holds, HasStandIn, IsSpare, MayBeErased, Spot}
+use Rattle.power_loss.proofs.Common.{spot_of, cases_Bool, mark_not_nothing, page_not_nothing}
 use Rattle.power_loss.proofs.Common.{subst, inl, inr, ⊎_elim, arith, slice_get_within, Cell, Cells, GroupPage, Mark}
-use Rattle.power_loss.proofs.Common.{MarkPage, Nothing, Erasing, Flight, Free, Programming, Touches, Group, Item}
+use Rattle.power_loss.proofs.Common.{MarkPage, Nothing, Programming, Group, Item}
 use Rattle.power_loss.proofs.Common.{HasPage, IsNewestMark, recorded_in, Entry, IsFirstFence, number_of, Mended}
 use Rattle.power_loss.proofs.Common.{Mending, Repairing, Translation, Unmarked, is_mended, Fence, Key, Place, Tag}
 use Rattle.power_loss.proofs.Common.{one_mark, AreWholeAbove, Book, BookRight, IsFenceMark, IsKnown, IsLostNumber}
@@ -9,8 +11,10 @@ use Rattle.power_loss.proofs.Common.{IsOverwritten, IsPageAt, IsPlainMark, book,
 use Rattle.power_loss.proofs.Common.{Valid}
 use Rattle.power_loss.specs.Invariant.{OpeningRight}
 use Rattle.power_loss.proofs.books.LayerParts.{MarksOf, StopLeaves, MendingOf, OwnMarkOf, SecureOf, UnmarkedOf}
-use Rattle.power_loss.proofs.stops.LeftCells.{blank_there, known, mark_from, mark_stays, marks_differ, page_stays}
-use Rattle.power_loss.proofs.stops.LeftCells.{recorded}
+use Rattle.power_loss.proofs.spent.CellsLost.{Loss, MayGo, holds_less, kept_less, less_sound, less_suits}
+use Rattle.power_loss.proofs.stops.LeftCells.{known, mark_from, mark_stays, marks_differ, page_from, page_stays}
+use Rattle.power_loss.proofs.stops.LeftCells.{recorded, stays, within}
+use Rattle.ufs_laws.proofs.array_cells.KeptNumberFound.{kept as kept_number}
 
 -- An image of the book
 
@@ -196,15 +200,67 @@ first_good newest (Some fence) none f e r = inl record {
     no_group : (j : ℕ) (g : Group) → slice_get [] j ≡ Some g → ⊥
     no_group j g h = cc
 
+pub some_or_nothing : (x : Cell) → (x ≡ Nothing) ⊎ (x ≢ Nothing)
+some_or_nothing Nothing = inl refl
+some_or_nothing (GroupPage tag body) = inr (page_not_nothing _ _ _ refl)
+some_or_nothing (MarkPage m) = inr (mark_not_nothing _ _ refl)
+
+pub not_erasing : (t : Translation) {s : Spot} → (MayBeErased t.disk.blocks t.disk.erasing s → ⊥) →
+    t.disk.erasing s ≡ false
+not_erasing t {s} out = ⊎_elim (λ e. absurd (out (inr e))) (λ e. e) (cases_Bool (t.disk.erasing s))
+
+-- the cells of an opening that lose spare pages are as good
+thinned : {b : Book} {c left : Cells} {m : Mark} → AreWithin b.numbers left → Loss c left m →
+    OpeningRight b (Some m) c → OpeningRight b (Some m) left
+thinned {b} {c} {left} {m} within x o =
+    let found = kept_number b.numbers left within (Some m) in
+    let same : o.kept ≡ found.0 = kept_less c left m x o.sound o.is_kept found.1 in
+    let low = found.1.recorded.marks x.place m x.there in
+    let high = found.1.above in
+    record {
+      sound = less_sound c left m x o.sound o.is_kept.recorded;
+      is_newest = ((x.place, x.there), λ p other h. o.is_newest.1 p other (x.marks p other h));
+      kept = found.0;
+      is_kept = found.1;
+      holds = λ k has. holds_less c left m x o.sound (suc found.0) k (b.base k) (λ j free far. omega arith)
+          (subst (λ y. Holds c (Some m) (suc y) k (b.base k)) same (o.holds k has));
+      suits = less_suits c left m x o.sound o.suits;
+      marks = λ p other h. o.marks p other (x.marks p other h);
+    }
+
 abbrev NoneOwn : Translation → Option Fence → Cells → Type 0
 NoneOwn t fence c = (p : Place) (m : Mark) → c p ≡ MarkPage m → OwnMarkOf t fence m → ⊥
 
+pub page_no_mark : {tag : Tag} {body : List ℕ} {m : Mark} → GroupPage tag body ≡ MarkPage m → ⊥
+page_no_mark e = cc
+
 module _ (t : Translation) {fence : Option Fence} (u : Started t fence) where
-  -- a mark on the disk stood at the opening, or is one of this life
+  -- a page of a group on the disk stood at the opening
+  pub disk_page : {p : Place} {tag : Tag} {body : List ℕ} → t.disk.cells p ≡ GroupPage tag body →
+      u.1.opening p ≡ GroupPage tag body
+  disk_page {p} h = ⊎_elim (λ k. sym k ∙ h)
+      (λ k. ⊎_elim (λ e. absurd (page_not_nothing _ _ _ h e)) (λ o. absurd (page_no_mark (sym h ∙ o.1.1))) k)
+      (u.1.same p)
+
+  -- a mark on the disk stood at the opening, or is one of this life, which is not finished
   pub disk_mark : {p : Place} (m : Mark) → t.disk.cells p ≡ MarkPage m → (u.1.opening p ≡ MarkPage m) ⊎
-      OwnMarkOf t fence m
+      ((t.disk.finished p ≡ false) × OwnMarkOf t fence m)
   disk_mark {p} m h = ⊎_elim (λ k. inl (sym k ∙ h))
-      (λ k. inr (subst (OwnMarkOf t fence) (one_mark k.1.0 m (sym k.1.1 ∙ h)) k.1.2)) (u.1.same p)
+      (λ k. ⊎_elim (λ e. absurd (mark_not_nothing _ _ h e))
+      (λ o. inr (o.0, subst (OwnMarkOf t fence) (one_mark o.1.0 m (sym o.1.1 ∙ h)) o.1.2)) k) (u.1.same p)
+
+  -- the newest mark of the opening is there, in a block of which no page may go
+  pub newest_there : {m : Mark} → t.ledger.newest ≡ Some m → (p : Place) × (u.1.opening p ≡ MarkPage m) ×
+      (t.disk.cells p ≡ MarkPage m) × (MayBeErased t.disk.blocks t.disk.erasing (spot_of p) → ⊥)
+  newest_there {m} is =
+      let n = subst (IsNewestMark u.1.opening) is u.1.opened.is_newest in
+      ⊎_elim (λ e. (n.0.0, n.0.1, e.0 ∙ n.0.1, e.1))
+      (λ s. absurd (not_spare (subst (λ (z : Option Mark × Cell). IsSpare t.disk.cells z.0
+      (MayBeErased t.disk.blocks t.disk.erasing) z.1) (λ i. (is i, n.0.1 i)) s)))
+      (u.1.spare n.0.0 (mark_not_nothing _ _ n.0.1))
+    where
+      not_spare : m.number < m.number → ⊥
+      not_spare l = omega arith
 
   flown_mark : (die : ℕ) (p : Place) (m : Mark) → t.disk.flights die ≡ Some (Programming p (MarkPage m)) →
       OwnMarkOf t fence m
@@ -213,7 +269,7 @@ module _ (t : Translation) {fence : Option Fence} (u : Started t fence) where
 
   shown_mark : {c : Cells} {p : Place} {m : Mark} → StopLeaves t c → c p ≡ MarkPage m → (u.1.opening p ≡ MarkPage m) ⊎
       OwnMarkOf t fence m
-  shown_mark {c} {p} {m} crash h = ⊎_elim (λ e. disk_mark m e)
+  shown_mark {c} {p} {m} crash h = ⊎_elim (λ e. ⊎_elim (λ k. inl k) (λ k. inr k.1) (disk_mark m e))
       (λ e. inr (flown_mark p.die p m e)) (mark_from t.disk c p {m = m} crash h)
 
   started_same : {c : Cells} (p q : Place) {m other : Mark} → StopLeaves t c → c p ≡ MarkPage m → c q ≡ MarkPage other →
@@ -250,38 +306,86 @@ module _ (t : Translation) {fence : Option Fence} (u : Started t fence) where
     numbers = own.numbers;
   }
 
-  opening_blank : (p : Place) → t.disk.cells p ≡ Nothing → u.1.opening p ≡ Nothing
-  opening_blank p h = ⊎_elim (λ k. sym k ∙ h) (λ k. k.0) (u.1.same p)
+  module _ {c : Cells} (v : Valid t) (crash : StopLeaves t c) (none : NoneOwn t fence c) where
+    left_page : (p : Place) (tag : Tag) (body : List ℕ) → c p ≡ GroupPage tag body → u.1.opening p ≡ GroupPage tag body
+    left_page p tag body h = ⊎_elim (λ e. disk_page e)
+        (λ e. let f = u.1.flies p.die p (GroupPage tag body) e in absurd (page_no_mark f.1)) (page_from t.disk p crash h)
 
-touched_alike : {t : Translation} {c : Cells} {fence : Option Fence} (u : Started t fence) (p : Place)
-    (f : Option Flight) {intended : Cell} → Valid t → NoneOwn t fence c → t.disk.flights p.die ≡ f →
-    Touches f p intended → (c p ≡ intended) ⊎ (c p ≡ Nothing) → c p ≡ u.1.opening p
-touched_alike u p (Some (Programming q cell)) v none job touches (inl k) =
-    let f = u.1.flies p.die q cell job in absurd (none p f.0 (k ∙ touches.1 ∙ f.1) f.2)
-touched_alike {t} u p (Some (Programming q cell)) v none job touches (inr k) =
-    k ∙ sym (opening_blank t u p (blank_there p v (job ∙ λ i. Some (Programming (touches.0 i) cell))))
-touched_alike {t} u p (Some (Erasing s)) v none job touches k = ⊎_elim (λ e. e ∙ touches.1) (λ e. e) k
-    ∙ sym (opening_blank t u p
-    (u.1.blank p (inl (subst (λ z. t.disk.blocks z ≡ Free) touches.0 (v.flights.erases p.die s job).free))))
-touched_alike u p f v none job touches k = absurd touches
+    left_mark : (p : Place) (m : Mark) → c p ≡ MarkPage m → u.1.opening p ≡ MarkPage m
+    left_mark p m h = ⊎_elim (λ e. e) (λ own. absurd (none p m h own)) (shown_mark crash h)
 
-alike : {t : Translation} {c : Cells} {fence : Option Fence} (u : Started t fence) (p : Place) → Valid t →
-    StopLeaves t c → NoneOwn t fence c → c p ≡ u.1.opening p
-alike {t} u p v crash none = ⊎_elim
-    (λ e. ⊎_elim (λ k. e ∙ k) (λ k. absurd (none p k.1.0 (e ∙ k.1.1) k.1.2)) (u.1.same p))
-    (λ e. touched_alike u p (t.disk.flights p.die) v none refl e.1 e.2) (crash p)
+    -- what stands in for a page is left
+    stand_in_left : {m : Mark} {tag : Tag} {body : List ℕ} →
+        HasStandIn t.disk.cells m (MayBeErased t.disk.blocks t.disk.erasing) tag body → MayGo u.1.opening c m tag body
+    stand_in_left s = ⊎_elim
+        (λ same. inr (inl (
+          s.place,
+          s.tag,
+          page_stays v crash (s.there ∙ ap (GroupPage s.tag) (sym same.4)) (not_erasing t s.outside),
+          (same.0, same.1, same.2, same.3, refl),
+        )))
+        (λ over. inr (inr (
+          s.place,
+          s.tag,
+          s.other,
+          disk_page s.there,
+          over.counts,
+          over.key,
+          over.newer,
+          over.recorded,
+        ))) s.instead
+
+    spare_left : {m : Mark} {tag : Tag} {body : List ℕ} →
+        IsSpare t.disk.cells (Some m) (MayBeErased t.disk.blocks t.disk.erasing) (GroupPage tag body) →
+        MayGo u.1.opening c m tag body
+    spare_left (inl f) = inl f
+    spare_left (inr s) = stand_in_left s
+
+    -- of the pages of the opening only spare ones are gone
+    loss : {m : Mark} → t.ledger.newest ≡ Some m → Loss u.1.opening c m
+    loss {m} is = record {
+      pages = left_page;
+      marks = left_mark;
+      may = λ p tag body h. ⊎_elim (λ e. inl (page_stays v crash (e.0 ∙ h) (not_erasing t e.1)))
+          (λ s. inr (spare_left (subst (λ (z : Option Mark × Cell). IsSpare t.disk.cells z.0
+          (MayBeErased t.disk.blocks t.disk.erasing) z.1) (λ i. (is i, h i)) s)))
+          (u.1.spare p (page_not_nothing _ _ _ h));
+      place = (newest_there is).0;
+      there = let n = newest_there is in mark_stays v crash n.0 m n.2 (not_erasing t n.3);
+    }
+
+    -- without a mark none is gone
+    all_left : t.ledger.newest ≡ None → c ≡ u.1.opening
+    all_left is = λ i p. by p (some_or_nothing (u.1.opening p)) i
+      where
+        blank : (p : Place) (x : Cell) → c p ≡ x → u.1.opening p ≡ Nothing → x ≡ Nothing
+        blank p Nothing h out = refl
+        blank p (GroupPage tag body) h out = absurd (page_not_nothing _ _ _ (left_page p tag body h) out)
+        blank p (MarkPage m) h out = absurd (mark_not_nothing _ _ (left_mark p m h) out)
+
+        by : (p : Place) → (u.1.opening p ≡ Nothing) ⊎ (u.1.opening p ≢ Nothing) → c p ≡ u.1.opening p
+        by p (inl out) = blank p (c p) refl out ∙ sym out
+        by p (inr some) = ⊎_elim (λ e. stays v crash some e.0 (not_erasing t e.1))
+            (λ s. absurd (subst (λ z. IsSpare t.disk.cells z (MayBeErased t.disk.blocks t.disk.erasing)
+            (u.1.opening p)) is s)) (u.1.spare p some)
 
 unchanged : {t : Translation} {c : Cells} {fence : Option Fence} (u : Started t fence) {m : Option Mark} → Valid t →
     StopLeaves t c → NoneOwn t fence c → IsNewestMark c m → Unchanged (book t) t.ledger.newest c m
-unchanged {t} {c} u {m} v crash none n = record {
-  opened = subst (OpeningRight (book t) t.ledger.newest) (sym e) u.1.opened;
-  newest_is = newest_one m t.ledger.newest u.1.opened.sound.marks
-      (subst (λ x. IsNewestMark x m) e n) u.1.opened.is_newest;
-  none_new = u.1.none_new;
-}
+unchanged {t} {c} u {m} v crash none n = by t.ledger.newest refl
   where
-    e : c ≡ u.1.opening
-    e = λ i p. alike u p v crash none i
+    with_opened : OpeningRight (book t) t.ledger.newest c → Unchanged (book t) t.ledger.newest c m
+    with_opened o = record {
+      opened = o;
+      newest_is = newest_one m t.ledger.newest o.sound.marks n o.is_newest;
+      none_new = u.1.none_new;
+    }
+
+    by : (newest : Option Mark) → t.ledger.newest ≡ newest → Unchanged (book t) t.ledger.newest c m
+    by None is = with_opened (subst (OpeningRight (book t) t.ledger.newest) (sym (all_left t u v crash none is))
+        u.1.opened)
+    by (Some first) is = with_opened (subst (λ z. OpeningRight (book t) z c) (sym is)
+        (thinned (within t c v crash) (loss t u v crash none is)
+        (subst (λ z. OpeningRight (book t) z u.1.opening) is u.1.opened)))
 
 started : {t : Translation} (c : Cells) {fence : Option Fence} (u : Started t fence) (m : Option Mark) → Valid t →
     StopLeaves t c → IsNewestMark c m → Outcome t c m

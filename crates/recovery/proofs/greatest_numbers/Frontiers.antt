@@ -1,5 +1,5 @@
 -- The greatest recorded frontier, page by page.
-use Rattle.std.proofs.Common.{◌≡◌, ◌⊎◌, ℕ, ◌+◌, ◌<◌, ◌≤◌, List, Option, Some, length, max, refl, sym, ◌∙◌, subst}
+use Rattle.std.proofs.Common.{◌≡◌, ◌⊎◌, ℕ, ◌+◌, ◌<◌, ◌≤◌, List, Option, Some, length, max, sym, ◌∙◌, subst}
 use Rattle.std.proofs.Common.{⊎_elim, inl, inr, arith}
 use Rattle.std.specs.Prelude.{slice_get}
 use Rattle.ufs_spec.proofs.Facts.{at_most}
@@ -8,9 +8,8 @@ use Rattle.ufs_spec.specs.Kept.{Counts, IsFenced, IsRecorded, fence_in}
 use Rattle.ufs_spec.specs.declared.flash.Fence.{Fence}
 use Rattle.ufs_spec.specs.declared.flash.Place.{Place}
 use Rattle.ufs_spec.specs.declared.flash.Tag.{Tag}
-use Rattle.recovery.proofs.greatest_numbers.Among.{among_all, among_before, among_last, among_more, among_none}
+use Rattle.recovery.proofs.greatest_numbers.Among.{among_all, among_before, among_last, among_more}
 use Rattle.recovery.specs.Buckets.{IsAmong}
-use Rattle.recovery.specs.Greatest.{FrontiersWithin}
 use Rattle.recovery.specs.Listed.{AreListed, IsMarksRecord}
 use Rattle.recovery.specs.declared.pages.FoundPage.{FoundPage}
 

@@ -4,10 +4,10 @@ use Rattle.std.proofs.Common.{⊎_elim, arith}
 use Rattle.std.specs.Prelude.{slice_get}
 use Rattle.ufs_spec.specs.Cells.{Cells, Mark, MarkPage}
 use Rattle.ufs_spec.specs.Kept.{fence_in}
-use Rattle.ufs_spec.specs.Openings.{IsTop}
+use Rattle.ufs_spec.specs.Openings.{IsGreatestSeen}
 use Rattle.ufs_spec.specs.declared.flash.Fence.{Fence}
 use Rattle.ufs_spec.specs.declared.flash.Place.{Place}
-use Rattle.recovery.proofs.greatest_numbers.Among.{among_all, among_before, among_last, among_more, among_none}
+use Rattle.recovery.proofs.greatest_numbers.Among.{among_all, among_before, among_last, among_more}
 use Rattle.recovery.specs.Buckets.{IsAmong}
 use Rattle.recovery.specs.Greatest.{FrontiersWithin, NumbersWithin, fence_end}
 use Rattle.recovery.specs.Listed.{AreListed, IsMarksRecord}
@@ -71,7 +71,7 @@ module _ (pages : List FoundPage) (fence : Option Fence) (records : ℕ) where
 
   -- of all pages
   pub top_seen : (c : Cells) (m : Option Mark) (top : ℕ) → AreListed c pages → fence_in m ≡ fence →
-      IsMarksRecord c records → IsTopAmong pages fence records (length pages) top → IsTop c m top
+      IsMarksRecord c records → IsTopAmong pages fence records (length pages) top → IsGreatestSeen c m top
   top_seen c m top listed is marks h = (
     record {
       numbers = λ p t body at.

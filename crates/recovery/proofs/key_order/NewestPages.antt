@@ -21,12 +21,12 @@ use Rattle.recovery.specs.declared.pages.FoundPage.{FoundPage}
 
 -- Whether a page is of the key and kept
 
-fenced_told : (f : Option Fence) (n : ℕ) → is_fenced f n ≡ true → IsFenced f n
+pub fenced_told : (f : Option Fence) (n : ℕ) → is_fenced f n ≡ true → IsFenced f n
 fenced_told None n h = false≢true h
 fenced_told (Some f) n h =
     let r = and_parts (nat_le f.first n) (nat_le n f.last) h in (leb-true f.first n r.0, leb-true n f.last r.1)
 
-fenced_test : (f : Option Fence) (n : ℕ) → IsFenced f n → is_fenced f n ≡ true
+pub fenced_test : (f : Option Fence) (n : ℕ) → IsFenced f n → is_fenced f n ≡ true
 fenced_test None n h = absurd h
 fenced_test (Some f) n h =
     and_from (nat_le f.first n) (nat_le n f.last) (le-leb f.first n h.0) (le-leb n f.last h.1)

@@ -1,6 +1,10 @@
 -- The page that has a key's content, found among all pages, is the one that stands under the name with which an opened
 -- layer has the key.
-use Rattle.std.proofs.Common.{◌≡◌, ◌∙◌, ℕ, suc, List, Option, Some, None, refl, ap, arith, inl, inr, subst, sym}
+use Rattle.std.proofs.Common.{◌≡◌, ◌≢◌, ◌∙◌, ℕ, suc, Bool, true, false, List, Option, Some, None, refl, ap, arith}
+use Rattle.std.proofs.Common.{inl, inr, subst, sym, ⊎_elim}
+use Rattle.ufs_spec.specs.Disk.{BlockState, Bad, Closed, Filling, Free, Spot, spot_of}
+use Rattle.ufs_spec.specs.Translation.{is_free}
+use Rattle.ufs_spec.proofs.Facts.{cases_Bool}
 use Rattle.ufs_spec.specs.Cells.{Cells, GroupPage, Mark, key_of}
 use Rattle.ufs_spec.specs.Kept.{Counts, IsFenced, IsNewest, fence_in}
 use Rattle.ufs_spec.specs.Ledger.{Name}
@@ -11,7 +15,8 @@ use Rattle.ufs_spec.specs.declared.flash.Key.{Key}
 use Rattle.ufs_spec.specs.declared.flash.Place.{Place}
 use Rattle.ufs_spec.specs.declared.flash.Tag.{Tag}
 use Rattle.ufs_spec.proofs.Equalities.{place_is}
-use Rattle.recovery.specs.Listed.{IsContentPage}
+use Rattle.power_loss.specs.FreeBlocks.{block_by, blocks_by}
+use Rattle.recovery.proofs.opened.OutsidePages.{IsPageOutside}
 use Rattle.recovery.specs.Opened.{IsPageOf}
 use Rattle.recovery.specs.declared.pages.FoundPage.{FoundPage}
 
@@ -23,7 +28,27 @@ named : (t : Tag) (number index : ℕ) → t.number ≡ number → t.index ≡ i
     name_of t ≡ record { number = number; index = index }
 named t number index e f i = record { number = e i; index = f i }
 
-module _ (c : Cells) (m : Option Mark) (sound : CellsSound c m) where
+free_same : {x y : BlockState} → is_free x ≡ is_free y → y ≢ Free → x ≢ Free
+free_same {x} {y} e out free = out (told y (sym e ∙ ap is_free free))
+  where
+    told : (y : BlockState) → is_free y ≡ true → y ≡ Free
+    told Free e = refl
+    told (Filling next) e = cc
+    told Closed e = cc
+    told Bad e = cc
+
+module _ (c : Cells) (m : Option Mark) (sound : CellsSound c m) (bad free : Spot → Bool)
+    (good : (s : Spot) → free s ≡ true → bad s ≡ false) where
+  out_of_free : (s : Spot) → free s ≡ false → blocks_by bad free s ≢ Free
+  out_of_free s e h = told (bad s) (sym (ap (λ f. block_by (bad s) f) e) ∙ h)
+    where
+      told : (b : Bool) → block_by b false ≡ Free → ⊥
+      told true h = cc
+      told false h = cc
+
+  free_of_out : (s : Spot) → blocks_by bad free s ≢ Free → free s ≡ false
+  free_of_out s h = ⊎_elim (λ e. absurd (h (λ i. block_by (good s e i) (e i)))) (λ e. e) (cases_Bool (free s))
+
   -- of two newest pages of a key both have one number, and so one index
   same_number : (bound : ℕ) (k : Key) (p q : Place) (t u : Tag) (body other : List ℕ) →
       IsNewest c m bound k p t body → IsNewest c m bound k q u other → t.number ≡ u.number
@@ -41,39 +66,44 @@ module _ (c : Cells) (m : Option Mark) (sound : CellsSound c m) where
   same_key p q t u body other h g same index = (sound.pages p q t u body other h g same (inl index)).0
 
   module _ (k : Key) (p : Place) (t : Tag) (body : List ℕ) (counts : Counts c m p t body) (key : key_of t ≡ k)
-      (lowest : (q : Place) (u : Tag) (other : List ℕ) → Counts c m q u other → key_of u ≡ k → u.number ≡ t.number →
-      IsNotHigher p q) where
+      (out : free (spot_of p) ≡ false)
+      (lowest : (q : Place) (u : Tag) (other : List ℕ) → free (spot_of q) ≡ false → Counts c m q u other →
+      key_of u ≡ k → u.number ≡ t.number → IsNotHigher p q) where
     -- a page of the same name counts as this one does, and has its key
-    no_lower : (q : Place) → HasName c (name_of t) q → IsNotHigher p q
-    no_lower q h =
+    no_lower : (q : Place) → free (spot_of q) ≡ false → HasName c (name_of t) q → IsNotHigher p q
+    no_lower q there h =
         let number : h.0.number ≡ t.number = ap (λ (x : Name). x.number) h.3 in
         let index : h.0.index ≡ t.index = ap (λ (x : Name). x.index) h.3 in
-        lowest q h.0 h.1
+        lowest q h.0 h.1 there
         (record { there = h.2; free = λ x. counts.free (subst (IsFenced (fence_in m)) number x) })
         (same_key q p h.0 t h.1 body h.2 counts.there number index ∙ key)
         number
 
-    stands_there : (o : Option Place) → StandsAt c (name_of t) o → o ≡ Some p
+    stands_there : (o : Option Place) → StandsAt c (blocks_by bad free) (name_of t) o → o ≡ Some p
     stands_there None h = absurd (h p (t, body, counts.there, refl))
-    stands_there (Some q) h = ap Some (same_place q p (h.1 p (t, body, counts.there, refl)) (no_lower q h.0))
+    stands_there (Some q) h = ⊎_elim (λ k. absurd (out_of_free (spot_of p) out k.1))
+        (λ k. ap Some (same_place q p k.1 (no_lower q
+        (free_of_out (spot_of q) (free_same k.0 (out_of_free (spot_of p) out))) h.0)))
+        (h.1 p (t, body, counts.there, refl))
 
   pub is_page_of : (standing : ℕ → ℕ → Option Place) →
-      ((number index : ℕ) → StandsAt c (record { number = number; index = index }) (standing number index)) →
-      (kept : ℕ) (k : Key) (e : Option FoundPage) (name : Option Name) → IsContentPage c m kept k e →
+      ((number index : ℕ) → StandsAt c (blocks_by bad free) (record { number = number; index = index })
+      (standing number index)) → (kept : ℕ) (k : Key) (e : Option FoundPage) (name : Option Name) →
+      IsPageOutside free c m kept k e →
       IsFirst c m kept k name → IsPageOf standing e name
   is_page_of standing stands kept k None None h g = tt
   is_page_of standing stands kept k None (Some name) h (p, t, body, newest, is) =
       let l = h p t body newest.counts newest.key in let w = newest.within in absurd (omega (arith, l, w))
-  is_page_of standing stands kept k (Some e) None (body, newest, lowest) g =
+  is_page_of standing stands kept k (Some e) None (body, newest, out, lowest) g =
       let l = g e.place e.tag body newest.counts newest.key in let w = newest.within in absurd (omega (arith, l, w))
-  is_page_of standing stands kept k (Some e) (Some name) (body, newest, lowest) (p, t, other, first, is) =
+  is_page_of standing stands kept k (Some e) (Some name) (body, newest, out, lowest) (p, t, other, first, is) =
       let number = same_number (suc kept) k e.place p e.tag t body other newest first in
       let index = same_index k e.place p e.tag t body other newest.counts.there first.counts.there newest.key first.key
       number in
       let numbered : t.number ≡ name.number = ap (λ (x : Name). x.number) is in
       let indexed : t.index ≡ name.index = ap (λ (x : Name). x.index) is in
       let at : standing e.tag.number e.tag.index ≡ Some e.place =
-      stands_there k e.place e.tag body newest.counts newest.key lowest (standing e.tag.number e.tag.index)
+      stands_there k e.place e.tag body newest.counts newest.key out lowest (standing e.tag.number e.tag.index)
       (stands e.tag.number e.tag.index) in (
         sym (number ∙ numbered),
         (λ i. standing ((sym (number ∙ numbered)) i) ((sym (index ∙ indexed)) i)) ∙ at,

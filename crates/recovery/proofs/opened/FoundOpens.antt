@@ -1,36 +1,36 @@
 -- What a scan finds is what the definitions open over the same pages.
-use Rattle.std.proofs.Common.{◌≡◌, ◌==◌, suc, ◌∙◌, ℕ, ◌≤◌, ◌^◌, Bool, List, Option, Some, None, refl, ap, arith, subst}
+use Rattle.std.proofs.Common.{◌≡◌, ◌∙◌, ℕ, ◌≤◌, Bool, List, Option, Some, None, ap, arith, subst}
 use Rattle.std.proofs.Common.{sym}
-use Rattle.std.specs.Prelude.{slice_get, slice_index}
+use Rattle.std.specs.Prelude.{slice_get}
 use Rattle.ufs_spec.specs.Pages.{greatest_number}
 use Rattle.ufs_spec.specs.Cells.{Cells, Mark}
-use Rattle.ufs_spec.specs.Disk.{BlockState, Bad, Closed, Filling, Free, Spot}
-use Rattle.ufs_spec.specs.Keys.{IsSettings, settings_key}
-use Rattle.ufs_spec.specs.Kept.{Holds, IsKept, IsNewestMark, fence_in, recorded_in}
-use Rattle.ufs_spec.specs.Openings.{AreLost, IsAtMost, IsBlockState, IsFirstFence, IsMendingAt, IsOpenedTranslation}
-use Rattle.ufs_spec.specs.Openings.{IsTop, lost_from, number_of}
+use Rattle.ufs_spec.specs.Disk.{Spot}
+use Rattle.ufs_spec.specs.Kept.{IsKept, IsNewestMark, fence_in, recorded_in}
+use Rattle.ufs_spec.specs.Openings.{AreLost, IsAtMost, IsFirstFence, IsMendingAt, IsOpenedTranslation, IsGreatestSeen}
+use Rattle.ufs_spec.specs.Openings.{StandsAt, lost_from, number_of}
 use Rattle.ufs_spec.specs.Plain.{shape_of_numbers}
 use Rattle.ufs_spec.specs.Sound.{CellsSound}
 use Rattle.ufs_spec.specs.Translation.{Translation, Unmarked}
 use Rattle.ufs_spec.specs.declared.configs.Numbers.{Numbers}
 use Rattle.ufs_spec.specs.declared.flash.Fence.{Fence}
 use Rattle.ufs_spec.specs.declared.flash.Key.{Key}
-use Rattle.ufs_spec.proofs.Facts.{true≢false}
 use Rattle.ufs_laws.proofs.array_cells.StandsForOne.{kept_one, mark_one}
 use Rattle.recovery.specs.Found.{IsFound, newest_found}
 use Rattle.geometry.specs.Keys.{IsIndex}
-use Rattle.recovery.specs.KeysInOrder.{state_of_found}
-use Rattle.recovery.specs.Listed.{AreInRange, IsContentPage}
+use Rattle.recovery.specs.Listed.{AreInRange, IsContentPage, outside}
 use Rattle.recovery.specs.Opened.{IsFenceFound, IsPageOf, OpensFound}
 use Rattle.recovery.specs.declared.found.Found.{Found}
 use Rattle.recovery.specs.declared.pages.FoundPage.{FoundPage}
 use Rattle.geometry.proofs.Indexes.{index_known}
+use Rattle.power_loss.specs.FreeBlocks.{AreFoundFree, blocks_by}
+use Rattle.power_loss.proofs.openings.FreeInOrder.{blocks_one, first_blocks}
 use Rattle.recovery.proofs.opened.ContentPages.{is_page_of}
+use Rattle.recovery.proofs.opened.OutsidePages.{page_outside, recorded_kept}
 use Rattle.recovery.proofs.opened.LostLists.{lost_differ, lost_one}
 
 -- Numbers
 
-top_one : (c : Cells) (m : Option Mark) (x y : ℕ) → IsTop c m x → IsTop c m y → x ≡ y
+top_one : (c : Cells) (m : Option Mark) (x y : ℕ) → IsGreatestSeen c m x → IsGreatestSeen c m y → x ≡ y
 top_one c m x y h g = let l = h.1 y g.0 in let r = g.1 x h.0 in omega (arith, l, r)
 
 -- a newest mark's numbers are in range
@@ -47,27 +47,6 @@ seen_at_most c m range sound newest = record {
   marks = λ p other e. (range.marks p other e).1;
   fence = λ f e. subst (λ (x : ℕ). x ≤ greatest_number) (sound.fence f e) (marked c m range newest).1;
 }
-
--- Blocks
-
-closed_or_free : (c : Cells) (bad : Spot → Bool) (s : Spot) → IsBlockState c bad s Closed → IsBlockState c bad s Free →
-    ⊥
-closed_or_free c bad s h g = h.1.2 (g.1 h.1.0 h.1.1)
-
--- an opened block has one state
-state_one : (c : Cells) (bad : Spot → Bool) (s : Spot) (x y : BlockState) → IsBlockState c bad s x →
-    IsBlockState c bad s y → x ≡ y
-state_one c bad s Bad Bad h g = refl
-state_one c bad s Bad Free h g = absurd (true≢false (sym h ∙ g.0))
-state_one c bad s Bad Closed h g = absurd (true≢false (sym h ∙ g.0))
-state_one c bad s Free Bad h g = absurd (true≢false (sym g ∙ h.0))
-state_one c bad s Free Free h g = refl
-state_one c bad s Free Closed h g = absurd (closed_or_free c bad s g h)
-state_one c bad s Closed Bad h g = absurd (true≢false (sym g ∙ h.0))
-state_one c bad s Closed Free h g = absurd (closed_or_free c bad s h g)
-state_one c bad s Closed Closed h g = refl
-state_one c bad s (Filling next) y h g = absurd h
-state_one c bad s x (Filling next) h g = absurd g
 
 -- Mending
 
@@ -88,8 +67,8 @@ module _ (n : Numbers) (c : Cells) (bad : Spot → Bool) (f : Found) (t : Transl
   pub same_kept : f.kept ≡ opened.ledger.kept
   same_kept = kept_one c t.ledger.newest f.kept opened.ledger.kept kept_there opened.ledger.is_kept
 
-  top_there : IsTop c t.ledger.newest f.greatest_seen
-  top_there = subst (λ m. IsTop c m f.greatest_seen) same_newest found.greatest_seen
+  top_there : IsGreatestSeen c t.ledger.newest f.greatest_seen
+  top_there = subst (λ m. IsGreatestSeen c m f.greatest_seen) same_newest found.greatest_seen
 
   same_top : f.greatest_seen ≡ t.ledger.greatest_seen
   same_top = top_one c t.ledger.newest f.greatest_seen t.ledger.greatest_seen top_there opened.ledger.greatest_seen
@@ -97,18 +76,34 @@ module _ (n : Numbers) (c : Cells) (bad : Spot → Bool) (f : Found) (t : Transl
   same_low : f.first_lost ≡ t.ledger.first_lost
   same_low = found.first_lost ∙ (λ i. lost_from (fence_in (same_newest i)) (same_kept i)) ∙ sym opened.ledger.first_lost
 
+  -- the blocks that were found free are those of the opening
+  free_there : AreFoundFree c t.ledger.newest bad found.free
+  free_there = subst (λ m. AreFoundFree c m bad found.free) same_newest
+      (found.free_right (subst (CellsSound c) (sym same_newest) sound))
+
+  same_blocks : t.disk.blocks ≡ blocks_by bad found.free
+  same_blocks = λ i s. blocks_one n c found.within t.ledger.newest bad t.disk.blocks (blocks_by bad found.free)
+      opened.disk.blocks (first_blocks n c found.within t.ledger.newest sound bad found.free free_there) s i
+
+  standing_there : (number index : ℕ) → StandsAt c (blocks_by bad found.free)
+      (record { number = number; index = index }) (t.ledger.standing number index)
+  standing_there number index = subst (λ blocks. StandsAt c blocks (record { number = number; index = index })
+      (t.ledger.standing number index)) same_blocks (opened.ledger.standing number index)
+
   content_there : (k : Key) (i : ℕ) → IsIndex (shape_of_numbers n) k i →
       (e : Option FoundPage) × (slice_get f.contents.items i ≡ Some e)
       × IsPageOf t.ledger.standing e (t.ledger.first_page k)
   content_there k i index =
       let r = found.contents k i index in
-      let page : IsContentPage c t.ledger.newest opened.ledger.kept k r.0 =
-      subst (λ x. IsContentPage c t.ledger.newest x k r.0) same_kept
-      (subst (λ m. IsContentPage c m f.kept k r.0) same_newest r.2) in (
+      let page : IsContentPage (outside found.free c) t.ledger.newest opened.ledger.kept k r.0 =
+      subst (λ x. IsContentPage (outside found.free c) t.ledger.newest x k r.0) same_kept
+      (subst (λ m. IsContentPage (outside found.free c) m f.kept k r.0) same_newest r.2) in (
         r.0,
         r.1,
-        is_page_of c t.ledger.newest sound t.ledger.standing opened.ledger.standing opened.ledger.kept k r.0
-            (t.ledger.first_page k) page
+        is_page_of c t.ledger.newest sound bad found.free free_there.good t.ledger.standing standing_there
+            opened.ledger.kept k r.0 (t.ledger.first_page k)
+            (page_outside n c found.within t.ledger.newest sound bad found.free free_there opened.ledger.kept
+            (recorded_kept c t.ledger.newest opened.ledger.kept opened.ledger.newest opened.ledger.is_kept) k r.0 page)
             (opened.ledger.first_page k (index_known (shape_of_numbers n) k i index)),
       )
 
@@ -140,5 +135,5 @@ module _ (n : Numbers) (c : Cells) (bad : Spot → Bool) (f : Found) (t : Transl
     as_many = found.as_many;
     blocks = λ i s at.
         let r = found.blocks i s at in
-        (r.0, r.1, state_one c bad s (t.disk.blocks s) (state_of_found r.0) (opened.disk.blocks s) r.2);
+        (r.0, r.1, ap (λ blocks. blocks s) same_blocks ∙ sym r.2);
   }

@@ -21,7 +21,8 @@ use Rattle.ufs_laws.proofs.array_cells.StandsForOne.{content_one}
 use Rattle.ufs_laws.proofs.deciding.SearchOverPlaces.{is_place}
 use Rattle.recovery.specs.Found.{HasSettings, IsFound, newest_found}
 use Rattle.geometry.specs.Keys.{AtSettings}
-use Rattle.recovery.specs.Listed.{IsContentPage}
+use Rattle.recovery.specs.Listed.{IsContentPage, outside}
+use Rattle.recovery.proofs.opened.OutsidePages.{IsPageOutside, outside_there, page_outside, recorded_kept}
 use Rattle.recovery.specs.declared.found.Found.{Found}
 use Rattle.recovery.specs.declared.pages.FoundPage.{FoundPage}
 use Rattle.recovery.proofs.table_facts.TableFacts.{shown_cells}
@@ -29,21 +30,32 @@ use Rattle.recovery.proofs.tables.Counts.{lies}
 use Rattle.recovery.proofs.tables.Whole.{shown_within}
 
 -- what was found has a page of the settings, or none, as it has of each key
-pub has_settings : (n : Numbers) (c : Cells) (bad : Spot → Bool) (f : Found) → IsFound n c bad f → HasSettings n c f
-has_settings n c bad f found =
-    found.contents settings_key (sum (shape_of_numbers n).blocks + area_pages (shape_of_numbers n))
-    (AtSettings refl refl refl refl)
+pub has_settings : (n : Numbers) (c : Cells) (bad : Spot → Bool) (f : Found) → IsFound n c bad f →
+    HasSettings n c bad f
+has_settings n c bad f found = record {
+  within = found.within;
+  newest = found.newest;
+  kept = found.kept;
+  free = found.free;
+  free_right = found.free_right;
+  page =
+      found.contents settings_key (sum (shape_of_numbers n).blocks + area_pages (shape_of_numbers n))
+      (AtSettings refl refl refl refl);
+}
 
 -- what was found stays so, whatever the settings say
 pub still_found : (n : Numbers) (c : Cells) (bad : Spot → Bool) (f : Found) (is : Bool) → IsFound n c bad f →
     IsFound n c bad (record f { is_permanent = is })
 still_found n c bad f is found = record {
+  within = found.within;
   newest = found.newest;
   suits = found.suits;
   in_range = found.in_range;
   kept = found.kept;
   greatest_seen = found.greatest_seen;
   first_lost = found.first_lost;
+  free = found.free;
+  free_right = found.free_right;
   contents = found.contents;
   lost = found.lost;
   as_many = found.as_many;
@@ -69,23 +81,36 @@ body_there array c p t body shown is =
 
 -- The page that was found for the settings
 
-abbrev pub IsSettingsPage : Array → Found → Option FoundPage → Type 0
-IsSettingsPage array f o =
-    (c : Cells) → Shows array c → IsContentPage c (newest_found f) f.kept settings_key o
+pub record IsPageFor (n : Numbers) (c : Cells) (bad : Spot → Bool) (f : Found) (o : Option FoundPage) : Type 0 where
+  pub has : HasSettings n c bad f
+  pub content : IsContentPage (outside has.free c) (newest_found f) f.kept settings_key o
 
-pub settings_there : (n : Numbers) (array : Array) (f : Found) (xs : List (Option FoundPage)) (o : Option FoundPage) →
-    ((c : Cells) → Shows array c → HasSettings n c f) → xs ≡ f.contents.items →
+abbrev pub IsSettingsPage : Numbers → (Spot → Bool) → Array → Found → Option FoundPage → Type 0
+IsSettingsPage n bad array f o = (c : Cells) → Shows array c → IsPageFor n c bad f o
+
+pub settings_there : (n : Numbers) (bad : Spot → Bool) (array : Array) (f : Found) (xs : List (Option FoundPage))
+    (o : Option FoundPage) → ((c : Cells) → Shows array c → HasSettings n c bad f) → xs ≡ f.contents.items →
     ((e : Option FoundPage) → slice_get xs (sum (shape_of_numbers n).blocks + area_pages (shape_of_numbers n)) ≡ Some e
-    → o ≡ e) → IsSettingsPage array f o
-settings_there n array f xs o has same told c shown =
+    → o ≡ e) → IsSettingsPage n bad array f o
+settings_there n bad array f xs o has same told c shown =
     let h = has c shown in
-    subst (IsContentPage c (newest_found f) f.kept settings_key)
-    (sym (told h.0
-    (ap (λ (ys : List (Option FoundPage)). slice_get ys
-    (sum (shape_of_numbers n).blocks + area_pages (shape_of_numbers n))) same ∙ h.1))) h.2
+    record {
+      has = h;
+      content = subst (IsContentPage (outside h.free c) (newest_found f) f.kept settings_key)
+          (sym (told h.page.0
+          (ap (λ (ys : List (Option FoundPage)). slice_get ys
+          (sum (shape_of_numbers n).blocks + area_pages (shape_of_numbers n))) same ∙ h.page.1))) h.page.2;
+    }
 
-module _ (n : Numbers) (dies : List DieState) (f : Found) (fit : Fit n dies) (e : FoundPage)
-    (page : IsSettingsPage (array_of dies) f (Some e)) where
+-- over sound pages it is the page among all
+page_for : (n : Numbers) (c : Cells) (bad : Spot → Bool) (f : Found) (o : Option FoundPage) (h : IsPageFor n c bad f o) →
+    CellsSound c (newest_found f) → IsPageOutside h.has.free c (newest_found f) f.kept settings_key o
+page_for n c bad f o h sound = page_outside n c h.has.within (newest_found f) sound bad h.has.free
+    (h.has.free_right sound) f.kept (recorded_kept c (newest_found f) f.kept h.has.newest h.has.kept) settings_key o
+    h.content
+
+module _ (n : Numbers) (bad : Spot → Bool) (dies : List DieState) (f : Found) (fit : Fit n dies) (e : FoundPage)
+    (page : IsSettingsPage n bad (array_of dies) f (Some e)) where
   pub lies_there : (e.place.die < length dies)
       × LiesOnDie (slice_index_or dies e.place.die (new_die 0 0)) e.place.block e.place.page
   lies_there =
@@ -97,23 +122,26 @@ module _ (n : Numbers) (dies : List DieState) (f : Found) (fit : Fit n dies) (e 
         omega (arith, inside.die, fit.0),
         lies n dies e.place.die e.place.block e.place.page fit inside.die inside.block inside.page,
       ))
-      (λ out. absurd (page_not_nothing (some.0 e.place) e.tag h.0 h.1.counts.there (within e.place out)))
+      (λ out. absurd (page_not_nothing (some.0 e.place) e.tag h.content.0
+      (outside_there h.has.free some.0 e.place (GroupPage e.tag h.content.0)
+      (page_not_nothing (GroupPage e.tag h.content.0) e.tag h.content.0 refl) h.content.1.counts.there).1
+      (within e.place out)))
       (is_place n e.place)
 
 -- the page says what the content says
-pub page_says : (array : Array) (f : Found) (e : FoundPage) (is : Bool) → is ≡ says (array e.place).body →
-    IsSettingsPage array f (Some e) → (c : Cells) → Shows array c → CellsSound c (newest_found f) → (x : List ℕ) →
+pub page_says : (n : Numbers) (bad : Spot → Bool) (array : Array) (f : Found) (e : FoundPage) (is : Bool) →
+    is ≡ says (array e.place).body → IsSettingsPage n bad array f (Some e) → (c : Cells) → Shows array c → CellsSound c (newest_found f) → (x : List ℕ) →
     Holds c (newest_found f) (suc f.kept) settings_key x → is ≡ says x
-page_says array f e is same page c shown sound x holds =
-    let h = page c shown in
+page_says n bad array f e is same page c shown sound x holds =
+    let h = page_for n c bad f (Some e) (page c shown) sound in
     same ∙ ap says (body_there array c e.place e.tag h.0 shown h.1.counts.there
     ∙ content_one c (newest_found f) (suc f.kept) settings_key h.0 x sound (inl (e.place, e.tag, h.1)) holds)
 
 -- without a page the content is zeros
-pub none_says : (array : Array) (f : Found) → IsSettingsPage array f None → (c : Cells) → Shows array c → (x : List ℕ) →
-    Holds c (newest_found f) (suc f.kept) settings_key x → false ≡ says x
-none_says array f page c shown x holds = ⊎_elim
+pub none_says : (n : Numbers) (bad : Spot → Bool) (array : Array) (f : Found) → IsSettingsPage n bad array f None →
+    (c : Cells) → Shows array c → CellsSound c (newest_found f) → (x : List ℕ) → Holds c (newest_found f) (suc f.kept) settings_key x → false ≡ says x
+none_says n bad array f page c shown sound x holds = ⊎_elim
     (λ (h : (p : Place) × (t : Tag) × IsNewest c (newest_found f) (suc f.kept) settings_key p t x).
-    let l = page c shown h.0 h.1 x h.2.counts h.2.key in let w = h.2.within in absurd (omega (arith, l, w)))
+    let l = page_for n c bad f None (page c shown) sound h.0 h.1 x h.2.counts h.2.key in let w = h.2.within in absurd (omega (arith, l, w)))
     (λ (h : HasNone c (newest_found f) (suc f.kept) settings_key × (x ≡ zero_block)).
     zeros_say ∙ ap says (sym h.1)) holds

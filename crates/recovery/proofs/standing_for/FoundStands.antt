@@ -17,7 +17,7 @@ use Rattle.ufs_laws.proofs.pages.PageIsOneCell.{one_cell}
 use Rattle.ufs_laws.proofs.plain_contents.PlainFromContents.{contents_there, state_is_plain}
 use Rattle.recovery.specs.Found.{IsFound, newest_found}
 use Rattle.geometry.specs.Keys.{IsIndex}
-use Rattle.recovery.specs.Listed.{IsContentPage}
+use Rattle.recovery.proofs.opened.OutsidePages.{IsPageOutside, page_outside, recorded_kept}
 use Rattle.recovery.specs.Stood.{HasContent, IsStoodFor}
 use Rattle.recovery.specs.declared.found.Found.{Found}
 use Rattle.recovery.specs.declared.pages.FoundPage.{FoundPage}
@@ -32,9 +32,9 @@ are_there = λ s f contents whole k is_key. contents_there s f contents k is_key
 module _ (array : Array) (c : Cells) (m : Option Mark) (kept : ℕ) (shown : Shows array c) (sound : CellsSound c m)
     (k : Key) (x : List ℕ) (holds : Holds c m (suc kept) k x) where
   -- the page that has the key's content up to the kept number has what is held there
-  has_content : (e : Option FoundPage) → IsContentPage c m kept k e → HasContent array e x
-  has_content None none = content_one c m (suc kept) k x zero_block sound holds (inr (none, refl))
-  has_content (Some e) page =
+  has_content : (free : Spot → Bool) (e : Option FoundPage) → IsPageOutside free c m kept k e → HasContent array e x
+  has_content free None none = content_one c m (suc kept) k x zero_block sound holds (inr (none, refl))
+  has_content free (Some e) page =
       let cell : IsCell (array e.place) (GroupPage e.tag page.0) =
       subst (IsCell (array e.place)) page.1.counts.there (shown e.place) in
       subst (Opens (array e.place) e.tag)
@@ -60,7 +60,9 @@ module _ (n : Numbers) (array : Array) (c : Cells) (bad : Spot → Bool) (f : Fo
         r.1,
         has_content array c (newest_found f) f.kept shown sound k (content p k)
             (subst (λ m. Holds c m (suc f.kept) k (content p k)) same_newest
-            (subst (λ y. Holds c st.newest (suc y) k (content p k)) same_kept held)) r.0 r.2,
+            (subst (λ y. Holds c st.newest (suc y) k (content p k)) same_kept held)) found.free r.0
+            (page_outside n c found.within (newest_found f) sound bad found.free (found.free_right sound) f.kept
+            (recorded_kept c (newest_found f) f.kept found.newest found.kept) k r.0 r.2),
       )
 
 -- over sound dies there is the plain state that they stand for, and it is told

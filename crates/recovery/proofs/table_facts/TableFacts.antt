@@ -1,11 +1,10 @@
 -- What holds of each table that was read off pages: its numbers have their ranges, and it has each block.
-use Rattle.std.proofs.Common.{◌≡◌, ◌∙◌, ◌≤◌, ◌^◌, ℕ, Bool, List, length, map, Some, slice_get, ap, subst, sym}
+use Rattle.std.proofs.Common.{◌≡◌, ◌∙◌, ◌≤◌, ℕ, Bool, List, length, map, Some, slice_get, ap, subst, sym}
 use Rattle.std.proofs.Common.{⊎_elim, arith}
 use Rattle.std.proofs.lemmas.List.{length-map}
 use Rattle.ufs_spec.specs.Pages.{greatest_number}
 use Rattle.ufs_spec.specs.Cells.{Array, Cells, GroupPage, IsCell, Mark, MarkPage, Shows}
 use Rattle.ufs_spec.specs.Dies.{DieState}
-use Rattle.ufs_spec.specs.Disk.{Spot}
 use Rattle.ufs_spec.specs.Lives.{Fit, bad_of}
 use Rattle.ufs_spec.specs.Translation.{spots}
 use Rattle.ufs_spec.specs.declared.configs.Numbers.{Numbers}
@@ -15,7 +14,6 @@ use Rattle.recovery.specs.Listed.{AreInRange}
 use Rattle.recovery.specs.Reading.{IsTable}
 use Rattle.recovery.specs.declared.pages.FoundPage.{FoundPage}
 use Rattle.recovery.specs.declared.reading.Table.{Table}
-use Rattle.recovery.proofs.bad_listed.UsedBlocks.{used_in_order, used_spot}
 
 -- what the pages are, whatever they are
 pub shown_cells : (array : Array) → (c : Cells) × Shows array c
@@ -53,13 +51,6 @@ records_fit n array t h =
         let cell : IsCell (array p) (MarkPage m) = subst (IsCell (array p)) is ((shown_cells array).1 p) in
         let fits = cell.1.tag_right.frontier_fits in
         omega (arith, fits, same)
-
-pub each_block : (n : Numbers) (array : Array) (t : Table) (is_bad : Spot → Bool) (bads : List Bool) →
-    IsTableOf n array t → bads ≡ map is_bad (spots n) → length t.used.items ≡ length bads
-each_block n array t is_bad bads h is =
-    let x = shown_cells array in
-    ap length ((h x.0 x.1).used ∙ used_in_order n x.0)
-    ∙ (length-map (spots n) (used_spot n x.0) ∙ sym (ap length is ∙ length-map (spots n) is_bad))
 
 -- which blocks are bad, told of dies that are as they were
 pub bads_of : {D : Type 0} (state : D → DieState) (n m : Numbers) (old new : List D) (bads : List Bool) → n ≡ m →

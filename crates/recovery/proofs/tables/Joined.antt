@@ -11,11 +11,11 @@ use Rattle.ufs_spec.specs.declared.flash.Tag.{Tag}
 use Rattle.ufs_spec.proofs.CellKinds.{mark_not_nothing, page_not_nothing}
 use Rattle.ufs_spec.proofs.Facts.{cases_Bool, cases_lt, cond-false, cond-true, le-ltb, lt-ltb, ltb-false, ltb-true}
 use Rattle.ufs_spec.proofs.Facts.{none-some}
-use Rattle.recovery.specs.Listed.{AreListed, IsMarksRecord}
+use Rattle.recovery.specs.Listed.{AreListed, AreMarksListed, IsMarksRecord}
 use Rattle.recovery.specs.Reading.{AreOfDies, IsJoined, IsTableOf, greater_of, newer, newer_of, newest_in}
+use Rattle.recovery.specs.declared.pages.FoundMark.{FoundMark}
 use Rattle.recovery.specs.declared.pages.FoundPage.{FoundPage}
 use Rattle.recovery.specs.declared.reading.Table.{Table}
-use Rattle.recovery.proofs.tables.Used.{used_dies}
 
 -- ## Two lists, one behind the other
 
@@ -164,6 +164,20 @@ module _ (c : Cells) (first a b : ℕ) (low high : Cells) (of_low : AreOfDies fi
   mark_high : (p : Place) (m : Mark) → high p ≡ MarkPage m → both p ≡ MarkPage m
   mark_high p m = from_high p (MarkPage m) (mark_not_nothing (MarkPage m) m refl)
 
+  marks_both : (xs ys : List FoundMark) → AreMarksListed low xs → AreMarksListed high ys → AreMarksListed both (xs ++ ys)
+  marks_both xs ys in_low in_high = record {
+    there = λ i e h. ⊎_elim
+        (λ old. let k = in_low.there i e old.1 in (k.0, mark_low e.place k.0 k.1, k.2, k.3))
+        (λ new. let k = in_high.there new.0 e new.2 in (k.0, mark_high e.place k.0 k.1, k.2, k.3))
+        (in_either xs ys i e h);
+    all = λ p m h. ⊎_elim
+        (λ l.
+        let k = in_low.all p m l in
+        (k.0, in_front xs ys k.0 (record { place = p; number = m.number; records = m.records }) k.1))
+        (λ r. let k = in_high.all p m r in (length xs + k.0, in_back xs ys k.0 ∙ k.1))
+        (from_either p (MarkPage m) h);
+  }
+
   each_mark : (P : Mark → Type 0) → ((p : Place) (m : Mark) → low p ≡ MarkPage m → P m)
       → ((p : Place) (m : Mark) → high p ≡ MarkPage m → P m) → (p : Place) (m : Mark) → both p ≡ MarkPage m → P m
   each_mark P of_one of_other p m h = ⊎_elim (of_one p m) (of_other p m) (from_either p (MarkPage m) h)
@@ -238,5 +252,7 @@ dies_joined n c first a b t u v r s joined =
       recorded =
           subst (IsMarksRecord seen) (sym joined.recorded)
           (record_both c first a b r.seen s.seen r.are_of s.are_of t.recorded u.recorded r.recorded s.recorded);
-      used = joined.used ∙ (λ i. r.used i ++ s.used i) ∙ used_dies n c first a b;
+      marks =
+          subst (AreMarksListed seen) (sym joined.marks)
+          (marks_both c first a b r.seen s.seen r.are_of s.are_of t.marks.items u.marks.items r.marks s.marks);
     }

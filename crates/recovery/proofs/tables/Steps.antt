@@ -16,8 +16,10 @@ use Rattle.ufs_spec.proofs.CellKinds.{mark_not_nothing, one_mark, one_page, page
 use Rattle.ufs_spec.proofs.Facts.{cases_Bool, cond-false, cond-true, ltb-false, ltb-true}
 use Rattle.ufs_spec.proofs.Lists.{get_grows, get_last, get_splits}
 use Rattle.ufs_spec.proofs.Updates.{at_place_cases, at_place_is}
-use Rattle.recovery.specs.Listed.{AreListed, IsMarksRecord}
+use Rattle.recovery.specs.Listed.{AreListed, AreMarksListed, IsMarksRecord}
 use Rattle.recovery.specs.Reading.{listed, newer, newest_after, recorded_after}
+use Rattle.recovery.specs.Reading.{marked as marked_by}
+use Rattle.recovery.specs.declared.pages.FoundMark.{FoundMark}
 use Rattle.recovery.specs.declared.pages.FoundPage.{FoundPage}
 
 -- The cells s, and x at the place p, where nothing stood
@@ -53,6 +55,14 @@ module _ (s : Cells) (p : Place) (x : Cell) (empty : s p ≡ Nothing) where
   }
 
   -- no mark more
+  marks_same : (marks : List FoundMark) → ((o : Mark) → x ≢ MarkPage o) → AreMarksListed s marks →
+      AreMarksListed after marks
+  marks_same marks other l = record {
+    there = λ i e h. let k = l.there i e h in (k.0, mark_stays e.place k.0 k.1, k.2, k.3);
+    all = λ q o h. ⊎_elim (λ at. absurd (other o at.1)) (λ apart. l.all q o apart.1)
+        (at_place_is s p x q (MarkPage o) h);
+  }
+
   newest_same : (m : Option Mark) → ((o : Mark) → x ≢ MarkPage o) → IsNewestMark s m → IsNewestMark after m
   newest_same None other none = λ q o h.
       ⊎_elim (λ at. absurd (other o at.1)) (λ apart. none q o apart.1) (at_place_is s p x q (MarkPage o) h)
@@ -163,6 +173,28 @@ module _ (s : Cells) (p : Place) (m : Mark) (empty : s p ≡ Nothing) where
           subst (λ (o : Mark). IsNewestMark marked (Some o)) (sym (cond-false (nat_lt k.number m.number) m k e))
           (other e)
 
+  abbrev noted : FoundMark
+  noted = record { place = p; number = m.number; records = m.records }
+
+  marks_more : (marks : List FoundMark) → AreMarksListed s marks → AreMarksListed marked (marks ++ noted ∷ [])
+  marks_more marks l = record {
+    there = λ i e h. ⊎_elim
+        (λ old. let k = l.there i e old in (k.0, mark_stays s p (MarkPage m) empty e.place k.0 k.1, k.2, k.3))
+        (λ last. subst (λ (f : FoundMark). (o : Mark) × (marked f.place ≡ MarkPage o) × (o.number ≡ f.number) ×
+        (o.records ≡ f.records)) (sym last.1) (m, here s p (MarkPage m) empty, refl, refl))
+        (get_splits marks noted i e h);
+    all = λ q o h. ⊎_elim
+        (λ at.
+        let same = one_mark m o at.1 in
+        let entry : noted ≡ record { place = q; number = o.number; records = o.records } =
+        λ i. record { place = sym at.0 i; number = (same i).number; records = (same i).records } in
+        (length marks, get_last marks noted ∙ ap Some entry))
+        (λ apart.
+        let k = l.all q o apart.1 in
+        (k.0, get_grows marks noted k.0 (record { place = q; number = o.number; records = o.records }) k.1))
+        (at_place_is s p (MarkPage m) q (MarkPage o) h);
+  }
+
   record_more : (r : ℕ) → IsMarksRecord s r → IsMarksRecord marked (recorded_after (MarkPage m) r)
   record_more r (most, some) = told (cases_Bool (nat_lt r m.records))
     where
@@ -190,36 +222,44 @@ module _ (s : Cells) (p : Place) (m : Mark) (empty : s p ≡ Nothing) where
 -- Whatever the page is
 
 -- what is read off the cells
-pub record IsReadOff (s : Cells) (found : List FoundPage) (known : Option Mark) (frontier : ℕ) : Type 0 where
+pub record IsReadOff (s : Cells) (found : List FoundPage) (all_marks : List FoundMark) (known : Option Mark) (frontier : ℕ) :
+    Type 0 where
   pub pages : AreListed s found
+  pub marks : AreMarksListed s all_marks
   pub newest : IsNewestMark s known
   pub recorded : IsMarksRecord s frontier
 
-pub page_more : (s : Cells) (p : Place) (page : Page) (x : Cell) (pages : List FoundPage) (newest : Option Mark)
-    (recorded : ℕ) → s p ≡ Nothing → IsCell page x
+pub page_more : (s : Cells) (p : Place) (page : Page) (x : Cell) (pages : List FoundPage) (marks : List FoundMark)
+    (newest : Option Mark) (recorded : ℕ) → s p ≡ Nothing → IsCell page x
     → ((i : ℕ) (e : FoundPage) → slice_get pages i ≡ Some e → IsNotHigher e.place p)
-    → IsReadOff s pages newest recorded
-    → IsReadOff (at_place s p x) (pages ++ listed p x) (newest_after x newest) (recorded_after x recorded)
-page_more s p page Nothing pages newest recorded empty is behind r =
+    → IsReadOff s pages marks newest recorded
+    → IsReadOff (at_place s p x) (pages ++ listed p x) (marks ++ marked_by p x) (newest_after x newest)
+    (recorded_after x recorded)
+page_more s p page Nothing pages marks newest recorded empty is behind r =
     let none : (o : Mark) → Nothing ≢ MarkPage o = λ o e. mark_not_nothing Nothing o e refl in
     record {
       pages =
           subst (AreListed (at_place s p Nothing)) (sym (append-nil pages))
           (listed_same s p Nothing empty pages (λ t body e. page_not_nothing Nothing t body e refl) r.pages);
+      marks = subst (AreMarksListed (at_place s p Nothing)) (sym (append-nil marks))
+          (marks_same s p Nothing empty marks none r.marks);
       newest = newest_same s p Nothing empty newest none r.newest;
       recorded = record_same s p Nothing empty recorded none r.recorded;
     }
-page_more s p page (GroupPage t body) pages newest recorded empty is behind r =
+page_more s p page (GroupPage t body) pages marks newest recorded empty is behind r =
     let none : (o : Mark) → GroupPage t body ≢ MarkPage o = λ o. page_not_mark (GroupPage t body) t body o refl in
     record {
       pages = listed_more s p t body empty pages r.pages is.0.tag_right is.2 behind;
+      marks = subst (AreMarksListed (at_place s p (GroupPage t body))) (sym (append-nil marks))
+          (marks_same s p (GroupPage t body) empty marks none r.marks);
       newest = newest_same s p (GroupPage t body) empty newest none r.newest;
       recorded = record_same s p (GroupPage t body) empty recorded none r.recorded;
     }
-page_more s p page (MarkPage m) pages newest recorded empty is behind r = record {
+page_more s p page (MarkPage m) pages marks newest recorded empty is behind r = record {
   pages =
       subst (AreListed (at_place s p (MarkPage m))) (sym (append-nil pages))
       (listed_same s p (MarkPage m) empty pages (λ t body e. page_not_mark (MarkPage m) t body m e refl) r.pages);
+  marks = marks_more s p m empty marks r.marks;
   newest = newest_more s p m empty newest r.newest;
   recorded = record_more s p m empty recorded r.recorded;
 }

@@ -1,11 +1,9 @@
 -- A table grows page by page, block by block and die by die to that of all pages.
-use Rattle.std.proofs.Common.{◌≡◌, ◌≢◌, ◌∙◌, ℕ, ◌+◌, ◌<◌, ◌≤◌, ◌==◌, Bool, true, false, List, [], ◌∷◌, ◌++◌, Some, None}
-use Rattle.std.proofs.Common.{if◌then◌else◌, ⊎_elim, arith, refl, sym, subst, inl, map}
-use Rattle.std.specs.List.{list_any}
+use Rattle.std.proofs.Common.{◌≡◌, ◌≢◌, ◌∙◌, ℕ, ◌+◌, ◌<◌, ◌≤◌, ◌==◌, true, false, List, [], Some, None}
+use Rattle.std.proofs.Common.{if◌then◌else◌, ⊎_elim, arith, refl, sym, subst, inl}
 use Rattle.std.specs.Prelude.{slice_get}
 use Rattle.ufs_spec.specs.Cells.{AreWithin, Cells, IsCell, Nothing, Shows}
 use Rattle.ufs_spec.specs.Dies.{DieState, page_at}
-use Rattle.ufs_spec.specs.Keys.{below}
 use Rattle.ufs_spec.specs.Disk.{at_place}
 use Rattle.ufs_spec.specs.Kept.{IsNewestMark}
 use Rattle.ufs_spec.specs.Lives.{Fit, array_of}
@@ -17,15 +15,14 @@ use Rattle.ufs_spec.proofs.CellKinds.{mark_not_nothing, page_not_nothing}
 use Rattle.ufs_spec.proofs.Facts.{cases_Bool, cases_lt, cond-false, cond-true, eq-eqb, eqb-true, none-some}
 use Rattle.ufs_laws.proofs.array_cells.StandsForSomething.{within_dies}
 use Rattle.power_loss.proofs.die_pages.BlankOutsideDies.{fit_inside}
-use Rattle.recovery.specs.Listed.{AreListed, IsMarksRecord}
+use Rattle.recovery.specs.Listed.{AreListed, AreMarksListed, IsMarksRecord}
 use Rattle.recovery.specs.Reading.{AreRead, IsNoted, IsTable, IsTableOf, IsTableTo, ShowsDie, StandsBefore}
-use Rattle.recovery.specs.Reading.{is_something, is_used, newest_in, place_at}
+use Rattle.recovery.specs.Reading.{newest_in, place_at}
 use Rattle.recovery.specs.declared.pages.FoundPage.{FoundPage}
 use Rattle.recovery.specs.declared.reading.Table.{Table}
 use Rattle.recovery.proofs.tables.Order.{before_is_lower, block_is_read, die_is_read, is_before}
 use Rattle.recovery.proofs.tables.Order.{not_before_itself, nothing_before, page_is_read}
 use Rattle.recovery.proofs.tables.Steps.{page_more}
-use Rattle.recovery.proofs.tables.Used.{used_block, used_die}
 
 -- what the dies show lies within them
 pub shown_within : (n : Numbers) (dies : List DieState) (c : Cells) → Fit n dies → Shows (array_of dies) c
@@ -41,10 +38,16 @@ module _ (n : Numbers) (c : Cells) where
     rising = λ i j a b h k less. absurd (none-some a h);
   }
 
+  none_marked : AreMarksListed (λ p. Nothing) []
+  none_marked = record {
+    there = λ i e h. absurd (none-some e h);
+    all = λ p m e. absurd (mark_not_nothing Nothing m e refl);
+  }
+
   -- before the pages of a die, when nothing stands on the dies before it
   pub nothing_read : (d : ℕ) (t : Table) → ((p : Place) → p.die < d → c p ≡ Nothing) → t.pages.items ≡ []
-      → newest_in t ≡ None → t.recorded ≡ 0 → t.used.items ≡ [] → IsTableTo n d 0 0 c t
-  nothing_read d t before pages newest recorded used = record {
+      → newest_in t ≡ None → t.recorded ≡ 0 → t.marks.items ≡ [] → IsTableTo n d 0 0 c t
+  nothing_read d t before pages newest recorded marks = record {
     seen = λ p. Nothing;
     are_read = nothing_before d c before;
     pages = subst (AreListed (λ p. Nothing)) (sym pages) none_listed;
@@ -52,13 +55,13 @@ module _ (n : Numbers) (c : Cells) where
     recorded =
         subst (IsMarksRecord (λ p. Nothing)) (sym recorded)
         (λ p m e. absurd (mark_not_nothing Nothing m e refl), inl refl);
-    used = used;
+    marks = subst (AreMarksListed (λ p. Nothing)) (sym marks) none_marked;
   }
 
   -- of no die
   pub none_read : (first : ℕ) (t : Table) → t.pages.items ≡ [] → newest_in t ≡ None → t.recorded ≡ 0
-      → t.used.items ≡ [] → IsTableOf n first 0 c t
-  none_read first t pages newest recorded used = record {
+      → t.marks.items ≡ [] → IsTableOf n first 0 c t
+  none_read first t pages newest recorded marks = record {
     seen = λ p. Nothing;
     are_of = record { inside = λ p on. absurd (omega (arith, on.0, on.1)); outside = λ p out. refl };
     pages = subst (AreListed (λ p. Nothing)) (sym pages) none_listed;
@@ -66,7 +69,7 @@ module _ (n : Numbers) (c : Cells) where
     recorded =
         subst (IsMarksRecord (λ p. Nothing)) (sym recorded)
         (λ p m e. absurd (mark_not_nothing Nothing m e refl), inl refl);
-    used = used;
+    marks = subst (AreMarksListed (λ p. Nothing)) (sym marks) none_marked;
   }
 
   module _ (d b g : ℕ) (t u : Table) (page : Page) (r : IsTableTo n d b g c t) (is : IsCell page (c (place_at d b g)))
@@ -81,8 +84,9 @@ module _ (n : Numbers) (c : Cells) where
     pub page_read : IsTableTo n d b (g + 1) c u
     page_read =
         let empty : r.seen (place_at d b g) ≡ Nothing = r.are_read.unread (place_at d b g) (not_before_itself d b g) in
-        let more = page_more r.seen (place_at d b g) page (c (place_at d b g)) t.pages.items (newest_in t) t.recorded
-        empty is behind (record { pages = r.pages; newest = r.newest; recorded = r.recorded }) in
+        let more = page_more r.seen (place_at d b g) page (c (place_at d b g)) t.pages.items t.marks.items (newest_in t)
+        t.recorded empty is behind
+        (record { pages = r.pages; marks = r.marks; newest = r.newest; recorded = r.recorded }) in
         let seen : Cells = at_place r.seen (place_at d b g) (c (place_at d b g)) in
         record {
           seen = seen;
@@ -90,20 +94,18 @@ module _ (n : Numbers) (c : Cells) where
           pages = subst (AreListed seen) (sym noted.pages) more.pages;
           newest = subst (IsNewestMark seen) (sym noted.newest) more.newest;
           recorded = subst (IsMarksRecord seen) (sym noted.recorded) more.recorded;
-          used = noted.used ∙ r.used;
+          marks = subst (AreMarksListed seen) (sym noted.marks) more.marks;
         }
 
   module _ (within : AreWithin n c) where
-    pub block_read : (d b : ℕ) (t u : Table) (any : Bool) → IsTableTo n d b n.pages c t → any ≡ is_used n c d b
-        → u.pages.items ≡ t.pages.items → newest_in u ≡ newest_in t → u.recorded ≡ t.recorded
-        → u.used.items ≡ t.used.items ++ any ∷ [] → IsTableTo n d (b + 1) 0 c u
-    block_read d b t u any r is pages newest recorded used = record {
+    pub block_read : (d b : ℕ) (t : Table) → IsTableTo n d b n.pages c t → IsTableTo n d (b + 1) 0 c t
+    block_read d b t r = record {
       seen = r.seen;
       are_read = block_is_read n c r.seen within d b r.are_read;
-      pages = subst (AreListed r.seen) (sym pages) r.pages;
-      newest = subst (IsNewestMark r.seen) (sym newest) r.newest;
-      recorded = subst (IsMarksRecord r.seen) (sym recorded) r.recorded;
-      used = used ∙ (λ i. r.used i ++ is i ∷ []) ∙ used_block n c d b;
+      pages = r.pages;
+      newest = r.newest;
+      recorded = r.recorded;
+      marks = r.marks;
     }
 
     -- all dies are read
@@ -112,7 +114,7 @@ module _ (n : Numbers) (c : Cells) where
       pages = subst (λ (s : Cells). AreListed s t.pages.items) whole r.pages;
       newest = subst (λ (s : Cells). IsNewestMark s (newest_in t)) whole r.newest;
       recorded = subst (λ (s : Cells). IsMarksRecord s t.recorded) whole r.recorded;
-      used = r.used;
+      marks = subst (λ (s : Cells). AreMarksListed s t.marks.items) whole r.marks;
     }
       where
         each : (p : Place) → r.seen p ≡ c p
@@ -170,14 +172,8 @@ die_read n c within d t r = record {
   pages = r.pages;
   newest = r.newest;
   recorded = r.recorded;
-  used = r.used ∙ same ∙ used_die n c d;
+  marks = r.marks;
 }
   where
     whole : AreRead (d + 1) 0 0 (only d c) r.seen
     whole = die_is_read n (only d c) r.seen (only_within n d c within) d r.are_read
-
-    same : map (is_used n (only d c) d) (below n.blocks) ≡ map (is_used n c d) (below n.blocks)
-    same = λ i.
-        map
-        (λ b. list_any (λ page. is_something (only_here d c (place_at d b page) refl i)) (below n.pages))
-        (below n.blocks)

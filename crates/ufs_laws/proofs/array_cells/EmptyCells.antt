@@ -1,12 +1,13 @@
 -- Where nothing stands: what the cells record, keep and hold, and that a life that begins there knows nothing else.
-use Rattle.std.proofs.Common.{◌≡◌, ℕ, Bool, true, false, List, [], ◌∷◌, Option, Some, None, refl, sym, ◌∙◌, inl, arith}
+use Rattle.std.proofs.Common.{◌≡◌, ℕ, Bool, true, false, List, [], ◌∷◌, Option, Some, None, refl, sym, ◌∙◌, ap, inl}
+use Rattle.std.proofs.Common.{⊎_elim, arith}
 use Rattle.ufs_spec.proofs.CellKinds.{mark_not_nothing, page_not_nothing}
-use Rattle.ufs_spec.proofs.Facts.{false≢true, none-some}
+use Rattle.ufs_spec.proofs.Facts.{none-some}
 use Rattle.ufs_spec.specs.Cells.{Cells, GroupPage, Mark, MarkPage, Nothing}
-use Rattle.ufs_spec.specs.Disk.{Bad, BlockState, Closed, Filling, Free, Spot}
+use Rattle.ufs_spec.specs.Disk.{Bad, BlockState, Closed, Free, Spot}
 use Rattle.ufs_spec.specs.Kept.{HasNone, IsKept, IsNewestMark, IsRecorded, IsWhole}
 use Rattle.ufs_spec.specs.Ledger.{Entry, Name}
-use Rattle.ufs_spec.specs.Openings.{AreLost, IsAtMost, IsBlockState, IsEntry, IsMendingAt, IsTop, StandsAt}
+use Rattle.ufs_spec.specs.Openings.{AreFirstBlocks, AreLost, IsAtMost, IsEntry, IsMendingAt, IsGreatestSeen, StandsAt}
 use Rattle.ufs_spec.specs.Sound.{CellsSound, CellsSuit}
 use Rattle.ufs_spec.specs.Translation.{Mended, Mending, Repairing, Unmarked}
 use Rattle.ufs_spec.specs.declared.configs.Numbers.{Numbers}
@@ -71,10 +72,10 @@ module _ (c : Cells) (empty : (p : Place) → c p ≡ Nothing) where
     fence = λ f e. absurd (none-some f e);
   }
 
-  pub top_is : IsTop c None 0
+  pub top_is : IsGreatestSeen c None 0
   top_is = (none_above 0, λ other h. omega arith)
 
-  pub is_top : (top : ℕ) → IsTop c None top → top ≡ 0
+  pub is_top : (top : ℕ) → IsGreatestSeen c None top → top ≡ 0
   is_top top h = let l = h.1 0 (none_above 0) in omega arith
 
   -- Sound, and of every configuration
@@ -97,22 +98,30 @@ module _ (c : Cells) (empty : (p : Place) → c p ≡ Nothing) where
   no_entry name None h = refl
   no_entry name (Some e) h = absurd (no_page h.0 h.1 e.item.body h.2)
 
-  pub none_stands : (name : Name) (p : Option Place) → StandsAt c name p → p ≡ None
-  none_stands name None h = refl
-  none_stands name (Some p) h = absurd (no_page p h.0.0 h.0.1 h.0.2)
+  pub none_stands : (blocks : Spot → BlockState) (name : Name) (p : Option Place) → StandsAt c blocks name p → p ≡ None
+  none_stands blocks name None h = refl
+  none_stands blocks name (Some p) h = absurd (no_page p h.0.0 h.0.1 h.0.2)
 
-  pub block_is : (bad : Spot → Bool) (s : Spot) (b : Bool) → bad s ≡ b → IsBlockState c bad s (fresh_block b)
-  block_is bad s true e = e
-  block_is bad s false e = (e, λ p at. empty p)
+  fresh_open : (b : Bool) → fresh_block b ≡ Closed → ⊥
+  fresh_open true e = cc
+  fresh_open false e = cc
 
-  pub is_block : (bad : Spot → Bool) (s : Spot) (b : Bool) (x : BlockState) → bad s ≡ b → IsBlockState c bad s x →
-      x ≡ fresh_block b
-  is_block bad s true Bad e h = refl
-  is_block bad s false Free e h = refl
-  is_block bad s true Free e h = absurd (false≢true (sym h.0 ∙ e))
-  is_block bad s false Bad e h = absurd (false≢true (sym e ∙ h))
-  is_block bad s b Closed e h = absurd (h.1.2 (empty h.1.0))
-  is_block bad s b (Filling n) e h = absurd h
+  pub blocks_are : (m : Option Mark) (bad : Spot → Bool) → AreFirstBlocks c m bad (λ s. fresh_block (bad s))
+  blocks_are m bad = record {
+    were_bad = λ s e. ap fresh_block e;
+    were_good = λ s e. inl (ap fresh_block e);
+    spare = λ p free some. absurd (some (empty p));
+    oldest_first = λ s closed. absurd (fresh_open (bad s) closed);
+  }
+
+  pub blocks_one : (m : Option Mark) (bad : Spot → Bool) (blocks : Spot → BlockState) → AreFirstBlocks c m bad blocks →
+      (s : Spot) → blocks s ≡ fresh_block (bad s)
+  blocks_one m bad blocks h s = by (bad s) refl
+    where
+      by : (b : Bool) → bad s ≡ b → blocks s ≡ fresh_block b
+      by true e = h.were_bad s e
+      by false e = ⊎_elim (λ free. free) (λ closed. let x = h.oldest_first s closed in absurd (x.2 (empty x.0)))
+          (h.were_good s e)
 
   none_lost : (low top : ℕ) → AreLost c low top []
   none_lost low top = record {

@@ -6,7 +6,7 @@ use Rattle.ufs_laws.specs.Exchange.{Every}
 use Rattle.ufs_spec.proofs.Facts.{if_both, if_cases, none-some, same_Some}
 use Rattle.ufs_spec.specs.Exchanges.{Answering, Awaiting, Deed, Gathering, Good, NotRead, Purpose, ReadBlock, ReadState}
 use Rattle.ufs_spec.specs.Exchanges.{Sending, SendingBytes, Task, filled, is_task_of, with_deed, write_error}
-use Rattle.ufs_spec.specs.Machine.{deed_behind, deed_behind_block, deed_behind_sent, deed_behind_state, deed_locked}
+use Rattle.ufs_spec.specs.Machine.{deed_after, deed_after_block, deed_after_sent, deed_after_state, deed_locked}
 use Rattle.ufs_spec.specs.Machine.{deed_read, durable, is_to_fill, task_filled, task_read, with_block}
 use Rattle.ufs_spec.specs.Refusals.{State}
 
@@ -22,20 +22,20 @@ pub record IsDeedLaw (D : Deed → Type 0) (task : Task) : Type 0 where
       D (Sending (with_block blocks index state (slice_get blocks index)) sent)
 
 module _ (D : Deed → Type 0) (task : Task) (law : IsDeedLaw D task) where
-  state_behind : (blocks : List ReadBlock) (sent : ℕ) (state : ReadState) (deed : Deed) → D (Sending blocks sent) →
-      deed_behind_state task blocks sent state ≡ Some deed → D deed
-  state_behind blocks sent NotRead deed d e = absurd (none-some deed e)
-  state_behind blocks sent state deed d e =
-      subst D (same_Some (deed_behind_sent task blocks sent) deed e)
+  state_after : (blocks : List ReadBlock) (sent : ℕ) (state : ReadState) (deed : Deed) → D (Sending blocks sent) →
+      deed_after_state task blocks sent state ≡ Some deed → D deed
+  state_after blocks sent NotRead deed d e = absurd (none-some deed e)
+  state_after blocks sent state deed d e =
+      subst D (same_Some (deed_after_sent task blocks sent) deed e)
       (if_cases D (nat_lt (sent + 1) (length blocks)) (λ more. law.next blocks sent more d) (λ last. law.sent))
 
   block_behind : (blocks : List ReadBlock) (sent : ℕ) (block : Option ReadBlock) (deed : Deed) →
       D (Sending blocks sent) →
-      deed_behind_block task blocks sent block ≡ Some deed → D deed
+      deed_after_block task blocks sent block ≡ Some deed → D deed
   block_behind blocks sent None deed d e = absurd (none-some deed e)
-  block_behind blocks sent (Some block) deed d e = state_behind blocks sent block.state deed d e
+  block_behind blocks sent (Some block) deed d e = state_after blocks sent block.state deed d e
 
-  pub goes : (before deed : Deed) → D before → deed_behind task before ≡ Some deed → D deed
+  pub goes : (before deed : Deed) → D before → deed_after task before ≡ Some deed → D deed
   goes (Gathering purpose gathered was) deed d e =
       subst D (same_Some (Gathering purpose gathered true) deed e) (law.asked purpose gathered was d)
   goes (Sending blocks sent) deed d e = block_behind blocks sent (slice_get blocks sent) deed d e

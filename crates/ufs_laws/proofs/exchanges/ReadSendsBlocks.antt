@@ -12,8 +12,8 @@ use Rattle.ufs_spec.proofs.Facts.{at_most, eqb-true, same_Some, true≢false}
 use Rattle.ufs_spec.specs.Exchanges.{Answering, Deed, Gathering, Good, NotRead, Purpose, ReadBlock, ReadState, Sending}
 use Rattle.ufs_spec.specs.Exchanges.{Task, Unread, WasRead, block_message, count_at, read_error, response}
 use Rattle.ufs_spec.specs.Keys.{below}
-use Rattle.ufs_spec.specs.Machine.{Allowed, Answer, Call, block_reply, blocks_expected, deed_behind, deed_behind_block}
-use Rattle.ufs_spec.specs.Machine.{deed_behind_state, deed_reply, in_use, is_at_hand, next_block_reply, observe, pin_of}
+use Rattle.ufs_spec.specs.Machine.{Allowed, Answer, Call, block_reply, blocks_expected, deed_after, deed_after_block}
+use Rattle.ufs_spec.specs.Machine.{deed_after_state, deed_reply, in_use, is_at_hand, next_block_reply, observe, pin_of}
 use Rattle.ufs_spec.specs.Machine.{read_begun, read_blocks, sending, set_state, unit_or_first, with_block}
 use Rattle.ufs_spec.specs.Machine.{needs_no_read}
 use Rattle.ufs_spec.specs.Plain.{block_at}
@@ -143,15 +143,15 @@ owed s task blocks sent block pin name there unread kept slot awaited =
 
 pub goes_on : (task : Task) (blocks : List ReadBlock) (sent : ℕ) (block : ReadBlock) →
     slice_get blocks sent ≡ Some block → block.state ≢ NotRead →
-    deed_behind task (Sending blocks sent) ≡ Some (if nat_lt (sent + 1) (length blocks) then Sending blocks (sent + 1)
+    deed_after task (Sending blocks sent) ≡ Some (if nat_lt (sent + 1) (length blocks) then Sending blocks (sent + 1)
     else Answering Good task.length)
-goes_on task blocks sent block there read = ap (deed_behind_block task blocks sent) there ∙ by block.state refl
+goes_on task blocks sent block there read = ap (deed_after_block task blocks sent) there ∙ by block.state refl
   where
-    by : (state : ReadState) → block.state ≡ state → deed_behind_state task blocks sent block.state ≡ Some
+    by : (state : ReadState) → block.state ≡ state → deed_after_state task blocks sent block.state ≡ Some
         (if nat_lt (sent + 1) (length blocks) then Sending blocks (sent + 1) else Answering Good task.length)
     by NotRead e = absurd (read e)
-    by Unread e = ap (deed_behind_state task blocks sent) e
-    by WasRead e = ap (deed_behind_state task blocks sent) e
+    by Unread e = ap (deed_after_state task blocks sent) e
+    by WasRead e = ap (deed_after_state task blocks sent) e
 
 -- ## Whatever comes later
 

@@ -6,7 +6,7 @@ use Rattle.ufs_spec.specs.Exchanges.{Registers, Status}
 use Rattle.ufs_spec.specs.Plain.{Plain}
 use Rattle.ufs_spec.specs.Frames.{Frame}
 use Rattle.ufs_spec.specs.Rpmb.{Refused, Results, RpmbOutcome, applied, checks, command_in, counter_end, first_failed}
-use Rattle.ufs_spec.specs.Rpmb.{has_key, lacks_result, outcome_behind, rpmb_outcome, with_end_bit}
+use Rattle.ufs_spec.specs.Rpmb.{has_key, lacks_result, outcome_after, rpmb_outcome, with_end_bit}
 
 end_bit : (b : Bool) → (cond b (bit_or 0 0x80) 0 ≡ 0) ⊎ (cond b (bit_or 0 0x80) 0 ≡ 0x80)
 end_bit true = inr refl
@@ -22,7 +22,7 @@ no_command : (n result : ℕ) (c : Command) → Results n None ≡ Results resul
 no_command n result c e = cc
 
 behind : (p : Plain) (a : Option Command) (failed : Option ℕ) (result : ℕ) (c : Command) →
-    outcome_behind p a failed ≡ Results result (Some c) → (result ≡ 0) ⊎ (result ≡ 0x80)
+    outcome_after p a failed ≡ Results result (Some c) → (result ≡ 0) ⊎ (result ≡ 0x80)
 behind p a (Some r) result c e = absurd (no_command (with_end_bit p r) result c e)
 behind p a None result c e =
     let same = same_result (with_end_bit (applied p a) 0) result a c e in

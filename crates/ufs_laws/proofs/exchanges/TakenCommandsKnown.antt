@@ -15,11 +15,11 @@ use Rattle.ufs_spec.specs.Exchanges.{Answering, Awaiting, CheckCondition, Deed, 
 use Rattle.ufs_spec.specs.Exchanges.{Gathering, Good, Purpose, ReadBlock, Sending, Status, Task, invalid_field}
 use Rattle.ufs_spec.specs.Exchanges.{invalid_operation, no_unit, write_error}
 use Rattle.ufs_spec.specs.Machine.{Answer, Call, IsCdbIn, begun, blocks_expected, capacity_bytes, data_begun}
-use Rattle.ufs_spec.specs.Machine.{deed_behind, flush_begun, no_sense, observe, read_begun, sending_bytes}
+use Rattle.ufs_spec.specs.Machine.{deed_after, flush_begun, no_sense, observe, read_begun, sending_bytes}
 use Rattle.ufs_spec.specs.Machine.{read_blocks, sending, unit_or_first, write_begun, write_deed, with_block, Allowed}
 use Rattle.ufs_spec.specs.Messages.{IsAmong}
-use Rattle.ufs_spec.specs.Refusals.{Lun, Request, State, first_line, lacks_unit, lines_behind, lun_of, not_taken}
-use Rattle.ufs_spec.specs.Refusals.{numbers_of, operation_in, refusal, slots_needed, spec_of, unit_of_request}
+use Rattle.ufs_spec.specs.Refusals.{Lun, Request, State, first_line, lacks_unit, lines_after, lun_of, not_taken}
+use Rattle.ufs_spec.specs.Refusals.{numbers_of, operation_in, refusal, slots_needed, unit_numbers_of, unit_of_request}
 use Rattle.ufs_spec.specs.declared.scsi.Cdb.{Cdb}
 use Rattle.ufs_spec.specs.declared.scsi.Cdb.TheVariants as cdb
 use Rattle.ufs_spec.proofs.CdbsBack.{first_byte}
@@ -39,7 +39,7 @@ passed_line false status rest e = (refl, e)
 pub record Past (s : State) (r : Request) : Type 0 where
   pub there : lacks_unit s r (lun_of (numbers_of s) r.lun) ≡ false
   pub taken : not_taken r (lun_of (numbers_of s) r.lun) ≡ false
-  pub later : first_line (lines_behind s r r.cdb) ≡ None
+  pub later : first_line (lines_after s r r.cdb) ≡ None
 
 pub past : (s : State) (r : Request) → refusal s r ≡ None → Past s r
 past s r e =
@@ -68,7 +68,7 @@ passes s r is e = by r.cdb refl is.1.2
     by : (o : Option Cdb) → r.cdb ≡ o → IsCdbIn (Some r.bytes) o → (c : Cdb) × (r.cdb ≡ Some c)
         × IsAmong taken_operations (operation_of c)
     by None same spells = absurd
-        (no_line (subst (λ (o : Option Cdb). first_line (lines_behind s r o) ≡ None) same p.later))
+        (no_line (subst (λ (o : Option Cdb). first_line (lines_after s r o) ≡ None) same p.later))
     by (Some c) same spells =
         let operation : operation_in r ≡ operation_of c = ap (λ (b : List ℕ). slice_index b 0) spells.2
         ∙ first_byte c in
@@ -138,7 +138,7 @@ begins s r unit (cdb.Read6 address blocks) is = read_known s r (cdb.Read6 addres
     (length_of 0 (cdb.Read6 address blocks))
 begins s r unit (cdb.Write6 address blocks) is = write_known s r (cdb.Write6 address blocks) unit address
     (slots_needed (numbers_of s) (cdb.Write6 address blocks)) false
-begins s r unit cdb.ReadCapacity10 is = data_known s r cdb.ReadCapacity10 (capacity_bytes (spec_of s r))
+begins s r unit cdb.ReadCapacity10 is = data_known s r cdb.ReadCapacity10 (capacity_bytes (unit_numbers_of s r))
 begins s r unit (cdb.Read10 address blocks forced) is = read_known s r (cdb.Read10 address blocks forced) unit address
     (4096 * blocks)
 begins s r unit (cdb.SynchronizeCache10 address blocks immediate) is =
@@ -199,7 +199,7 @@ known_deeds c task = record {
 
 -- a task that answers does nothing behind it, so what it does is known of every command
 goes_known : (c : Option Cdb) (task : Task) (before deed : Deed) → IsKnownTask c before →
-    deed_behind task before ≡ Some deed → IsKnownDeed deed
+    deed_after task before ≡ Some deed → IsKnownDeed deed
 goes_known (Some command) task before deed h e = goes IsKnownDeed task (known_deeds (Some command) task) before deed h e
 goes_known None task (Answering status carried) deed h e = absurd (none-some deed e)
 goes_known None task before deed h e = goes IsKnownDeed task (known_deeds (Some cdb.TestUnitReady) task) before deed h e

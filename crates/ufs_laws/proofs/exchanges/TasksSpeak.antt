@@ -25,8 +25,8 @@ use Rattle.ufs_spec.specs.Machine.{no_sense, read_begun, read_blocks, sending, s
 use Rattle.ufs_spec.specs.Machine.{with_block}
 use Rattle.ufs_spec.specs.Messages.{AreBytes, zeros}
 use Rattle.ufs_spec.specs.Plain.{block_at}
-use Rattle.ufs_spec.specs.Refusals.{Line, Request, State, first_line, lacks_unit, line, lines_behind, lun_of, not_taken}
-use Rattle.ufs_spec.specs.Refusals.{numbers_of, plain_now, refusal, spec_of, unit_of_request}
+use Rattle.ufs_spec.specs.Refusals.{Line, Request, State, first_line, lacks_unit, line, lines_after, lun_of, not_taken}
+use Rattle.ufs_spec.specs.Refusals.{numbers_of, plain_now, refusal, unit_numbers_of, unit_of_request}
 use Rattle.ufs_spec.specs.declared.configs.UnitSpec.{UnitSpec}
 use Rattle.ufs_spec.specs.declared.scsi.Cdb.{Cdb}
 use Rattle.ufs_laws.proofs.exchanges.DeedLaws.{IsDeedLaw, filled_keeps, goes, locks, read_keeps, reads}
@@ -49,7 +49,7 @@ line_status (l ∷ ls) status all e = by l.applies e (λ k. line_status ls statu
 is_field : IsStatus invalid_field
 is_field = (omega arith, omega arith, omega arith)
 
-later_status : (s : State) (r : Request) (c : Option Cdb) → AllStatus (lines_behind s r c)
+later_status : (s : State) (r : Request) (c : Option Cdb) → AllStatus (lines_after s r c)
 later_status s r None = (is_field, tt)
 later_status s r (Some c) = (
   is_field,
@@ -72,7 +72,7 @@ pub table_status : (s : State) (r : Request) (status : Status) → refusal s r �
 table_status s r status e =
     line_status
     (line (lacks_unit s r (lun_of (numbers_of s) r.lun)) no_unit ∷ line (not_taken r (lun_of (numbers_of s) r.lun))
-    invalid_operation ∷ lines_behind s r r.cdb)
+    invalid_operation ∷ lines_after s r r.cdb)
     status ((omega arith, omega arith, omega arith), ((omega arith, omega arith, omega arith), later_status s r r.cdb))
     e
 
@@ -224,7 +224,7 @@ begins_speaking s r c unit is fits reads = begins_by (λ t. OneMore TaskSpeaks s
         (sense_speaks s r c allocation is)
     one (Telling bytes) (inr e) =
         subst (λ (xs : List ℕ). OneMore TaskSpeaks s.tasks (data_begun s r c xs).tasks) (sym e)
-        (capacity_speaks s r c (spec_of s r) is)
+        (capacity_speaks s r c (unit_numbers_of s r) is)
     one (Reading u address n) (unit_is, address_is, size, read) =
         let few = command_few c fits in
         read_speaks s r c u address n is (omega arith)

@@ -1,6 +1,6 @@
 -- Each job that a die may be given lies on it.
 use Rattle.std.proofs.Common.{◌≡◌, ℕ, Bool, true, false, cond, List, [], ◌∷◌, map, filter_map, find, Option, Some, None}
-use Rattle.std.proofs.Common.{option_map, refl, sym, ap, ◌∙◌, eqb-true}
+use Rattle.std.proofs.Common.{option_map, if◌then◌else◌, refl, sym, ap, ◌∙◌, eqb-true}
 use Rattle.std.specs.List.{cons_option}
 use Rattle.std.proofs.lemmas.List.Elements.{All-contains, filter_passes}
 use Rattle.ufs_laws.specs.Flights.{die_of_flight}
@@ -9,8 +9,9 @@ use Rattle.ufs_spec.specs.Disk.{BlockState, Filling, Flight, Erasing, Programmin
 use Rattle.ufs_spec.specs.Keys.{below}
 use Rattle.ufs_spec.specs.Ledger.{Name}
 use Rattle.ufs_spec.specs.Translation.{MayTake, Translation, Want, cell_now, first_of, flight_at, flight_for, is_of_die}
-use Rattle.ufs_spec.specs.Translation.{may_be_erased, may_open, next_flight, next_in, next_place, waiting_name}
-use Rattle.ufs_spec.specs.Translation.{waiting_step, want_at, wants, wants_on}
+use Rattle.ufs_spec.specs.Translation.{has_room_for_groups, may_be_erased, may_open_for_group, may_open_for_step}
+use Rattle.ufs_spec.specs.Translation.{next_flight, next_in, next_place, waiting_name, waiting_step}
+use Rattle.ufs_spec.specs.Translation.{want_at, wants, wants_on}
 use Rattle.ufs_spec.specs.declared.flash.Place.{Place}
 
 -- Reads
@@ -77,9 +78,15 @@ flight_here t die false cell None flight next e = absurd (let none : None ≡ So
 
 flight_for_here : (t : Translation) (die : ℕ) (cell : Option Cell) (name : Option Name) (flight : Flight)
     → flight_for t die cell name ≡ Some flight → die_of_flight flight ≡ die
-flight_for_here t die (Some cell) name flight e = flight_here t die true cell (next_place t die) flight refl e
-flight_for_here t die None (Some name) flight e =
-    flight_here t die (may_open t) (cell_now t.ledger name) (next_place t die) flight refl e
+flight_for_here t die (Some cell) name flight e =
+    flight_here t die (may_open_for_step t) cell (next_place t die) flight refl e
+flight_for_here t die None (Some name) flight e = by (has_room_for_groups t) e
+  where
+    by : (b : Bool)
+        → (if b then flight_at t die (may_open_for_group t) (cell_now t.ledger name) (next_place t die) else None)
+        ≡ Some flight → die_of_flight flight ≡ die
+    by true k = flight_here t die (may_open_for_group t) (cell_now t.ledger name) (next_place t die) flight refl k
+    by false k = absurd (let none : None ≡ Some flight = k in cc)
 flight_for_here t die None None flight e = absurd (let none : None ≡ Some flight = e in cc)
 
 next_here : (t : Translation) (die : ℕ) (flight : Flight) → next_flight t die ≡ Some flight → die_of_flight flight ≡ die

@@ -1,10 +1,12 @@
 -- Jobs that dies may be given: one is there or none is owed, where it lies, and when it is one.
 use Rattle.std.proofs.Common.{◌≡◌, ◌⊎◌, ℕ, ◌<◌, Bool, true, false, List, [], ◌∷◌, Contains, nat_lt, is_none, Option}
-use Rattle.std.proofs.Common.{Some, None, option_map, refl, sym, ◌∙◌, subst, inl, inr, arith, ltb-true, true≢false}
+use Rattle.std.proofs.Common.{Some, None, option_map, if◌then◌else◌, refl, sym, ◌∙◌, subst, inl, inr}
+use Rattle.std.proofs.Common.{arith, ltb-true, true≢false}
 use Rattle.ufs_spec.specs.Cells.{Cell}
 use Rattle.ufs_spec.specs.Ledger.{Name}
 use Rattle.ufs_spec.specs.Disk.{Flight, Erasing, Reader, Reading, Spot}
-use Rattle.ufs_spec.specs.Translation.{IsOwed, MayTake, Translation, Want, flight_at, flight_for, is_idle, next_flight}
+use Rattle.ufs_spec.specs.Translation.{IsOwed, MayTake, Translation, Want, cell_now, flight_at, flight_for}
+use Rattle.ufs_spec.specs.Translation.{has_room_for_groups, is_idle, may_open_for_group, next_flight, next_place}
 use Rattle.ufs_spec.specs.Translation.{want_at, wants_on}
 use Rattle.ufs_spec.specs.declared.flash.Place.{Place}
 use Rattle.ufs_spec.proofs.Facts.{and_parts, none_is}
@@ -35,8 +37,14 @@ no_read_at t die opens cell p flight e read = read
 
 no_read_for : (t : Translation) (die : ℕ) (cell : Option Cell) (name : Option Name) (flight : Flight)
     → flight_for t die cell name ≡ Some flight → IsRead flight → ⊥
-no_read_for t die (Some cell) name flight e read = no_read_at t die true cell _ flight e read
-no_read_for t die None (Some name) flight e read = no_read_at t die _ _ _ flight e read
+no_read_for t die (Some cell) name flight e read = no_read_at t die _ cell _ flight e read
+no_read_for t die None (Some name) flight e read = by (has_room_for_groups t) e
+  where
+    by : (b : Bool)
+        → (if b then flight_at t die (may_open_for_group t) (cell_now t.ledger name) (next_place t die) else None)
+        ≡ Some flight → ⊥
+    by true k = no_read_at t die _ _ _ flight k read
+    by false k = cc
 no_read_for t die None None flight e read = cc
 
 next_is_no_read : (t : Translation) (die : ℕ) (flight : Flight) → next_flight t die ≡ Some flight → IsRead flight → ⊥

@@ -3,7 +3,7 @@ use Rattle.std.proofs.Common.{◌≡◌, ◌+◌, ℕ, true, false, List, length
 use Rattle.ufs_spec.specs.Commands as command
 use Rattle.ufs_spec.specs.Exchanges.{Awaiting, Deed, Task}
 use Rattle.ufs_spec.specs.Lives.{held}
-use Rattle.ufs_spec.specs.Machine.{accepts, blocks_in, deed_behind, moves_behind, set_deed, task_behind, task_replied}
+use Rattle.ufs_spec.specs.Machine.{accepts, blocks_in, deed_after, moves_after, set_deed, task_goes_on, task_replied}
 use Rattle.ufs_spec.specs.Machine.{with_moves, write_complete}
 use Rattle.ufs_spec.specs.Refusals.{State, locked}
 use Rattle.ufs_spec.proofs.Facts.{cond-false}
@@ -16,5 +16,5 @@ forced s task unit address blocks bytes h = cond-false (locked s) _ _ h
 pub handed : (s : State) (task : Task) (n : ℕ) → task.deed ≡ Awaiting n → held (task_replied s task) ≡ max (held s) n
 handed s task n h =
     subst
-    (λ (d : Deed). held (task_behind (with_moves s (moves_behind task d)) task (deed_behind task d)) ≡ max (held s) n)
+    (λ (d : Deed). held (task_goes_on (with_moves s (moves_after task d)) task (deed_after task d)) ≡ max (held s) n)
     (sym h) refl

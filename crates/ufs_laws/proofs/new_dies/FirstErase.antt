@@ -1,6 +1,6 @@
 -- In the first life of new dies each die with a block that is not bad is given an erase behind the first step.
 use Rattle.std.proofs.Common.{◌≡◌, ℕ, ◌<◌, Bool, true, false, List, [], ◌∷◌, find, filter_map, map, Some, None, refl}
-use Rattle.std.proofs.Common.{sym, ap, ◌∙◌, subst}
+use Rattle.std.proofs.Common.{is_some, not, sym, ap, ◌∙◌, ◌||◌, subst}
 use Rattle.std.proofs.lemmas.Option.{slice_get-map}
 use Rattle.std.specs.Prelude.{option_map}
 use Rattle.ufs_laws.proofs.array_cells.EmptyCells.{fresh_block}
@@ -9,7 +9,7 @@ use Rattle.ufs_laws.proofs.jobs.JobsOnTheirDies.{spot_at}
 use Rattle.ufs_laws.proofs.exchanges.RequestsSettled.{settled_is}
 use Rattle.ufs_laws.proofs.new_dies.NewDeviceState.{Open, first_is, first_layer, first_state, open_in}
 use Rattle.ufs_laws.proofs.array_cells.StandsForSomething.{AllBlank}
-use Rattle.ufs_spec.proofs.Facts.{false≢true, lt-ltb}
+use Rattle.ufs_spec.proofs.Facts.{false≢true, lt-ltb, or_right}
 use Rattle.ufs_spec.proofs.Lists.{below_at, find_some, none_passes}
 use Rattle.ufs_spec.specs.Cells.{Array}
 use Rattle.ufs_spec.specs.Disk.{Erasing, Spot}
@@ -18,8 +18,9 @@ use Rattle.ufs_spec.specs.Lives.{IsOpened}
 use Rattle.ufs_spec.specs.Machine.{Turn, OfTurn, observe, with_moves}
 use Rattle.ufs_spec.specs.Moves.{TakeStep}
 use Rattle.ufs_spec.specs.Refusals.{State}
-use Rattle.ufs_spec.specs.Translation.{MarkStep, MayTake, Translation, mark_ordered, may_be_erased, next_flight}
-use Rattle.ufs_spec.specs.Translation.{next_in, next_place, step_cell, waiting_step}
+use Rattle.ufs_spec.specs.Translation.{MarkStep, MayTake, Translation, has_open_block, has_room_for_groups}
+use Rattle.ufs_spec.specs.Translation.{mark_ordered, may_be_erased, may_open_for_step, next_flight, next_in}
+use Rattle.ufs_spec.specs.Translation.{next_place, step_cell, waiting_step}
 use Rattle.ufs_spec.specs.declared.configs.Numbers.{Numbers}
 
 -- no block of new dies is being filled
@@ -53,8 +54,22 @@ module _ (n : Numbers) (bad : Spot → Bool) (o : Open) (good : Spot) (there : g
   place : next_place t good.die ≡ None
   place = rw (none_filling bad good.die (below n.blocks)) refl
 
+  -- no block is open yet, so one may be opened
+  closed : has_open_block t ≡ false
+  closed =
+      let fills = none_passes (λ die. is_some (next_place t die)) (below n.dies)
+      (λ k die at e. false≢true (sym (ap is_some (nowhere die)) ∙ e)) in
+      let erases = none_passes (λ (die : ℕ). false) (below n.dies) (λ k die at e. false≢true e) in
+      λ i. fills i || erases i
+    where
+      nowhere : (die : ℕ) → next_place t die ≡ None
+      nowhere die = rw (none_filling bad die (below n.blocks)) refl
+
+  opens : may_open_for_step t ≡ true
+  opens = or_right (has_room_for_groups t) (not (has_open_block t)) (ap not closed)
+
   flight : next_flight t good.die ≡ Some (Erasing found.0)
-  flight = rw (waits, place, found.1) refl
+  flight = rw (waits, place, opens, found.1) refl
 
   first_erase : (spot : Spot) × MayTake t good.die (Some (Erasing spot))
   first_erase = (found.0, (rw (lt-ltb good.die n.dies there) refl, (refl, flight)))

@@ -12,7 +12,7 @@ use Rattle.ufs_laws.proofs.array_cells.StandsForSomething.{shows_nothing}
 use Rattle.ufs_laws.proofs.plain_contents.PlainFromContents.{same_contents}
 use Rattle.ufs_spec.proofs.PlainFacts.{new_shape}
 use Rattle.ufs_spec.specs.Cells.{Array, Nothing}
-use Rattle.ufs_spec.specs.Disk.{Spot}
+use Rattle.ufs_spec.specs.Disk.{BlockState, Spot}
 use Rattle.ufs_spec.specs.Keys.{content}
 use Rattle.ufs_spec.specs.Lives.{IsOpened}
 use Rattle.ufs_spec.specs.Machine.{Due}
@@ -32,17 +32,18 @@ zeros_over n array = record { array = array; base = zero_state n; contents = con
 none : (p : Place) → empty p ≡ Nothing
 none p = refl
 
-disk_opened : (bad : Spot → Bool) → IsOpenedDisk empty bad (first_disk bad)
+disk_opened : (bad : Spot → Bool) → IsOpenedDisk empty None bad (first_disk bad)
 disk_opened bad = record {
   cells = refl;
   finished = λ p. refl;
-  blocks = λ s. cells.block_is empty none bad s (bad s) refl;
+  blocks = cells.blocks_are empty none None bad;
   idle = λ die. refl;
   none_erasing = λ s. refl;
 }
 
-ledger_opened : (n : Numbers) (array : Array) → IsOpenedLedger n empty (new_ledger (zeros_over n array))
-ledger_opened n array = record {
+ledger_opened : (n : Numbers) (array : Array) (blocks : Spot → BlockState) →
+    IsOpenedLedger n empty blocks (new_ledger (zeros_over n array))
+ledger_opened n array blocks = record {
   newest = cells.no_mark empty none;
   kept = 0;
   is_kept = cells.none_kept empty none None;
@@ -71,7 +72,7 @@ opens_new n array bad blank = (
       numbers = refl;
       suits = cells.suit empty none n;
       disk = disk_opened bad;
-      ledger = ledger_opened n array;
+      ledger = ledger_opened n array (first_disk bad).blocks;
       mending = cells.unmarked_is empty none;
       no_plan = refl;
       no_step = refl;

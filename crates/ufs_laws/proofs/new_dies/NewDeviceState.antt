@@ -13,7 +13,7 @@ use Rattle.ufs_spec.specs.Keys.{Contents}
 use Rattle.ufs_spec.specs.Kept.{fence_in}
 use Rattle.ufs_spec.specs.Ledger.{Ledger, Name}
 use Rattle.ufs_spec.specs.Lives.{IsOpened}
-use Rattle.ufs_spec.specs.Openings.{IsMendingAt, IsTop, lost_from, number_of}
+use Rattle.ufs_spec.specs.Openings.{IsMendingAt, IsGreatestSeen, lost_from, number_of}
 use Rattle.ufs_spec.specs.Plain.{Plain}
 use Rattle.ufs_spec.specs.Refusals.{State}
 use Rattle.ufs_spec.specs.Translation.{Mending, Translation, Unmarked, Work}
@@ -107,7 +107,7 @@ module _ (n : Numbers) (array : Array) (bad : Spot → Bool) (s : State) (blank 
   top : s.translation.ledger.greatest_seen ≡ 0
   top =
       cells.is_top h.cells none_there s.translation.ledger.greatest_seen
-      (subst (λ m. IsTop h.cells m s.translation.ledger.greatest_seen) newest h.translation.ledger.greatest_seen)
+      (subst (λ m. IsGreatestSeen h.cells m s.translation.ledger.greatest_seen) newest h.translation.ledger.greatest_seen)
 
   low : s.translation.ledger.first_lost ≡ 1
   low =
@@ -137,7 +137,7 @@ module _ (n : Numbers) (array : Array) (bad : Spot → Bool) (s : State) (blank 
       record {
         cells = λ p. (ap (λ c. c p) d.cells ∙ none_there p) i;
         finished = λ p. d.finished p i;
-        blocks = λ b. cells.is_block h.cells none_there bad b (bad b) (s.translation.disk.blocks b) refl (d.blocks b) i;
+        blocks = λ b. cells.blocks_one h.cells none_there s.translation.ledger.newest bad s.translation.disk.blocks d.blocks b i;
         flights = λ die. d.idle die i;
         erasing = λ b. d.none_erasing b i;
       }
@@ -158,7 +158,7 @@ module _ (n : Numbers) (array : Array) (bad : Spot → Bool) (s : State) (blank 
         groups = l.none_new i;
         repairs = l.none_repaired i;
         standing = λ number index.
-            cells.none_stands h.cells none_there (name number index) (own.standing number index)
+            cells.none_stands h.cells none_there s.translation.disk.blocks (name number index) (own.standing number index)
             (l.standing number index) i;
         frontier = (l.frontier ∙ top) i;
         newest = newest i;

@@ -7,11 +7,11 @@ use Rattle.ufs_laws.specs.Runs.{Gets, IsAnswered, IsIdle, heard, read_of, refuse
 use Rattle.ufs_spec.specs.Cdbs.{Residual, cdb_bytes, read_10, residual_of}
 use Rattle.ufs_spec.specs.Exchanges.{Answering, Status, Task, check, invalid_field, invalid_operation, no_unit}
 use Rattle.ufs_spec.specs.Exchanges.{out_of_range, response, response_message}
-use Rattle.ufs_spec.specs.Machine.{Reply, Heard, Host, OfReply, Spelled, fills, lock_applied, observe, opened_with}
+use Rattle.ufs_spec.specs.Machine.{Reply, Heard, Host, OfReply, Spelled, fills, lock_applied, observe, refused_or_begun}
 use Rattle.ufs_spec.specs.Machine.{short_locked, task_locked, with_task}
 use Rattle.ufs_spec.specs.Messages.{is_among}
 use Rattle.ufs_spec.specs.Stages.{taken_luns}
-use Rattle.ufs_spec.specs.Refusals.{Request, State, UnitOf, first_line, lacks_unit, line, lines_behind, locked, lun_of}
+use Rattle.ufs_spec.specs.Refusals.{Request, State, UnitOf, first_line, lacks_unit, line, lines_after, locked, lun_of}
 use Rattle.ufs_spec.specs.Refusals.{not_taken, refusal, well_known}
 use Rattle.ufs_spec.specs.declared.messages.Message.{Message}
 use Rattle.ufs_spec.specs.declared.messages.Message.TheVariants as message
@@ -75,7 +75,7 @@ behind_reply s r status =
 
 is_behind : (s : State) (r : Request) (status : Status) → refusal (idle_state s) r ≡ Some status
     → observe (idle_state s) (Host (heard_as r)) heard ≡ lock_applied (behind s r status)
-is_behind s r status e = ap (λ o. lock_applied (fills (opened_with (idle_state s) r o))) e
+is_behind s r status e = ap (λ o. lock_applied (fills (refused_or_begun (idle_state s) r o))) e
 
 idle_answers : (s : State) (r : Request) (status : Status) → refusal (idle_state s) r ≡ Some status →
     IsAnswered (idle_state s) (heard_as r) (answer_of r status)
@@ -131,7 +131,7 @@ no_such_unit lun high other =
 pub lacks : (s : State) (r : Request) → 3 ≤ r.lun → well_known r.lun ≡ None → refusal (idle_state s) r ≡ Some no_unit
 lacks s r high other =
     ap (λ l. first_line (line (lacks_unit (idle_state s) r l) no_unit ∷ line (not_taken r l)
-    invalid_operation ∷ lines_behind (idle_state s) r r.cdb))
+    invalid_operation ∷ lines_after (idle_state s) r r.cdb))
     (no_such_unit r.lun high other)
 
 pub past_the_end : (s : State) (forced : Bool) (tag : ℕ) → IsIdle s →

@@ -1,26 +1,26 @@
 -- The line of the table that stands first decides.
-use Rattle.std.proofs.Common.{◌≡◌, ℕ, ◌*◌, ◌≤◌, ◌==◌, ◌||◌, nat_le, nat_lt, not, Bool, true, false, if◌then◌else◌, List}
+use Rattle.std.proofs.Common.{◌≡◌, ℕ, ◌*◌, ◌≤◌, ◌==◌, ◌&&◌, ◌||◌, nat_le, nat_lt, not, Bool, true, false, if◌then◌else◌, List}
 use Rattle.std.proofs.Common.{[], ◌∷◌, length, Option, Some, None, refl, ap, ◌∙◌, subst, arith}
 use Rattle.std.proofs.lemmas.Bool.{le-leb, le-ltb, lt-ltb, ltb-true}
 use Rattle.ufs_laws.proofs.refusals.RefusedCommands.{answers, idle_is, idle_state, lacks}
 use Rattle.ufs_laws.specs.Runs.{IsIdle}
-use Rattle.ufs_laws.specs.Table.{IsRefused, asks, read_at, spells_none, write_at}
+use Rattle.ufs_laws.specs.Table.{IsRefused, asks, flush, read_at, spells_none, write_at}
 use Rattle.ufs_spec.specs.Exchanges.{Busy, Status, TaskSetFull, invalid_field, invalid_operation, list_length_error}
 use Rattle.ufs_spec.specs.Exchanges.{no_unit, not_ready, out_of_range, response, sequence_error, short_reply}
 use Rattle.ufs_spec.specs.Exchanges.{write_protected}
-use Rattle.ufs_spec.specs.Machine.{command_heard, opened_with, with_short}
+use Rattle.ufs_spec.specs.Machine.{command_taken, refused_or_begun, with_short}
 use Rattle.ufs_spec.specs.Messages.{is_among}
 use Rattle.ufs_spec.specs.declared.configs.Numbers.{Numbers}
 use Rattle.ufs_spec.specs.Configs.{command_blocks}
 use Rattle.ufs_spec.specs.Exchanges.{most_tasks}
 use Rattle.ufs_spec.specs.Refusals.{BootUnit, is_boot_read, not_taken, operations_of, Request, State, first_line}
 use Rattle.ufs_spec.specs.Refusals.{has_other_response, has_wrong_list, is_crowded, is_past, is_refused_write}
-use Rattle.ufs_spec.specs.Refusals.{is_too_long, lacks_response, lines_for, locked, mended, refusal, spec_of}
-use Rattle.ufs_spec.specs.Translation.{free_slots}
+use Rattle.ufs_spec.specs.Refusals.{is_too_long, lacks_response, lines_for, locked, mended, refusal, unit_numbers_of}
+use Rattle.ufs_spec.specs.Translation.{free_slots, has_pending}
 use Rattle.ufs_spec.specs.declared.configs.UnitSpec.{UnitSpec}
 use Rattle.ufs_spec.specs.declared.scsi.Cdb.{Cdb}
 use Rattle.ufs_spec.specs.declared.scsi.Cdb.TheVariants as cdb
-use Rattle.ufs_spec.proofs.Facts.{cond-false, cond-true, or_with_false}
+use Rattle.ufs_spec.proofs.Facts.{and_from, cond-false, cond-true, or_with_false}
 
 -- ## Lines
 
@@ -34,9 +34,9 @@ leaves : (b : Bool) (status other : Status) (rest : Option Status) → b ≡ fal
 leaves b status other rest e k = cond-false b (Some status) rest e ∙ k
 
 pub full : (s : State) (r : Request) (status : Status) → most_tasks ≤ length s.tasks → refusal s r ≡ Some status →
-    command_heard s r ≡ with_short s (short_reply r.tag (response r.lun r.tag r.expected 0 TaskSetFull))
+    command_taken s r ≡ with_short s (short_reply r.tag (response r.lun r.tag r.expected 0 TaskSetFull))
 full s r status many e =
-    cond-true (nat_le most_tasks (length s.tasks)) _ (opened_with s r (refusal s r))
+    cond-true (nat_le most_tasks (length s.tasks)) _ (refused_or_begun s r (refusal s r))
     (le-leb most_tasks (length s.tasks) many)
 
 locked_idle : (s : State) (b : Bool) → IsIdle s → locked s ≡ b → locked (idle_state s) ≡ b
@@ -80,6 +80,17 @@ protected s tag h e k none = answers s (asks 0x20 0 tag (write_at 0)) write_prot
     (leaves (not (mended (idle_state s))) not_ready write_protected _ (ap not e)
     (decides (locked (idle_state s) || false) write_protected _ (or_with_false _ ∙ (locked_idle s true h k))))
 
+pending_idle : (s : State) → IsIdle s → has_pending s.translation ≡ true → has_pending (idle_state s).translation ≡ true
+pending_idle s h e = subst (λ (t : State). has_pending t.translation ≡ true) (idle_is s h) e
+
+pub flush_refused : (s : State) (tag : ℕ) (immediate : Bool) → IsIdle s → mended s ≡ true → locked s ≡ true →
+    has_pending s.translation ≡ true → IsRefused s (asks 0x00 0 tag (flush immediate)) write_protected
+flush_refused s tag immediate h e k some = answers s (asks 0x00 0 tag (flush immediate)) write_protected h
+    (leaves (not (mended (idle_state s))) not_ready write_protected _ (ap not e)
+    (decides (locked (idle_state s) && has_pending (idle_state s).translation) write_protected _
+    (and_from (locked (idle_state s)) (has_pending (idle_state s).translation) (locked_idle s true h k)
+    (pending_idle s h some))))
+
 pub crowded : (s : State) (tag : ℕ) → IsIdle s → mended s ≡ true → locked s ≡ false → free_slots s.translation ≡ 0 →
     IsRefused s (asks 0x20 0 tag (write_at 0)) Busy
 crowded s tag h e k none = answers s (asks 0x20 0 tag (write_at 0)) Busy h
@@ -91,8 +102,8 @@ crowded s tag h e k none = answers s (asks 0x20 0 tag (write_at 0)) Busy h
 -- ## Past the limits of today
 
 -- a command without blocks lies within any unit
-within : (s : State) (r : Request) (n : ℕ) → is_past (cdb.SecurityIn n) (spec_of s r) ≡ false
-within s r n = by (spec_of s r)
+within : (s : State) (r : Request) (n : ℕ) → is_past (cdb.SecurityIn n) (unit_numbers_of s r) ≡ false
+within s r n = by (unit_numbers_of s r)
   where
     by : (u : Option UnitSpec) → is_past (cdb.SecurityIn n) u ≡ false
     by None = refl
@@ -104,14 +115,14 @@ reads_response tag = asks 0x40 0xC4 tag (cdb.SecurityIn 512)
 pub ready_first : (s : State) (tag : ℕ) → mended s ≡ false → s.registers.response ≡ [] →
     first_line (lines_for s (reads_response tag) (cdb.SecurityIn 512)) ≡ Some not_ready
 ready_first s tag e none =
-    leaves (is_past (cdb.SecurityIn 512) (spec_of s (reads_response tag))) out_of_range not_ready _
+    leaves (is_past (cdb.SecurityIn 512) (unit_numbers_of s (reads_response tag))) out_of_range not_ready _
     (within s (reads_response tag) 512)
     (decides (not (mended s)) not_ready _ (ap not e))
 
 pub response_first : (s : State) (tag : ℕ) → mended s ≡ true → s.registers.response ≡ [] →
     first_line (lines_for s (reads_response tag) (cdb.SecurityIn 512)) ≡ Some sequence_error
 response_first s tag e none =
-    leaves (is_past (cdb.SecurityIn 512) (spec_of s (reads_response tag))) out_of_range sequence_error _
+    leaves (is_past (cdb.SecurityIn 512) (unit_numbers_of s (reads_response tag))) out_of_range sequence_error _
     (within s (reads_response tag) 512)
     (leaves (not (mended s)) not_ready sequence_error _ (ap not e)
     (decides (length s.registers.response == 0) sequence_error _
@@ -120,7 +131,7 @@ response_first s tag e none =
 pub other_response : (s : State) (tag : ℕ) (a b : List ℕ) → mended s ≡ true → s.registers.response ≡ a ∷ b ∷ [] →
     first_line (lines_for s (reads_response tag) (cdb.SecurityIn 512)) ≡ Some invalid_field
 other_response s tag a b e two =
-    leaves (is_past (cdb.SecurityIn 512) (spec_of s (reads_response tag))) out_of_range invalid_field _
+    leaves (is_past (cdb.SecurityIn 512) (unit_numbers_of s (reads_response tag))) out_of_range invalid_field _
     (within s (reads_response tag) 512)
     (leaves (not (mended s)) not_ready invalid_field _ (ap not e)
     (leaves (length s.registers.response == 0) sequence_error invalid_field _

@@ -10,10 +10,10 @@ use Rattle.ufs_spec.specs.Exchanges.{Answering, Deed, Gathering, NotRead, Purpos
 use Rattle.ufs_spec.specs.Exchanges.{WasRead, count_at, is_asked_in, is_asked_of, is_short_of, is_task_of, short_reply}
 use Rattle.ufs_spec.specs.Exchanges.{task_of}
 use Rattle.ufs_spec.specs.Machine.{Allowed, Answer, Call, Done, Faulty, Host, OfDone, OfHost, OfReply, OfTake, OfTurn}
-use Rattle.ufs_spec.specs.Machine.{Reply, Spelled, Take, Turn, array_behind, asked_fault, behind, begun, begun_with}
-use Rattle.ufs_spec.specs.Machine.{command_heard, data_for, data_heard, deed_behind, ends_with, heard, in_use}
-use Rattle.ufs_spec.specs.Machine.{is_aborted, moves_behind, opened_with, read_noted, opening_fault, replied_by}
-use Rattle.ufs_spec.specs.Machine.{result_of, service, set_deed, short_replied, tag_in, task_behind, task_read}
+use Rattle.ufs_spec.specs.Machine.{Reply, Spelled, Take, Turn, array_after, asked_fault, behind, begun, begun_if_any}
+use Rattle.ufs_spec.specs.Machine.{command_taken, data_for, data_heard, deed_after, ends_with, heard, in_use}
+use Rattle.ufs_spec.specs.Machine.{is_aborted, moves_after, refused_or_begun, read_noted, opening_fault, replied_by}
+use Rattle.ufs_spec.specs.Machine.{result_of, service, set_deed, short_replied, tag_in, task_goes_on, task_read}
 use Rattle.ufs_spec.specs.Machine.{unit_or_first, with_moves, with_short, with_task, without_tasks}
 use Rattle.ufs_spec.specs.Moves.{EndJob, Ending, GiveJob, ReadRight, ReadWrong, TakeStep, WentWell, WentWrong}
 use Rattle.ufs_spec.specs.Refusals.{Request, State, refusal, unit_of_request}
@@ -31,7 +31,7 @@ use Rattle.ufs_laws.proofs.walk.WaysOfCommands.{Completion, WhyCompleted, comple
 abbrev pub job_over : State → ℕ → Option Flight → Ending → Array → State
 job_over s die None ending left = s
 job_over s die (Some flight) ending left =
-    record (with_moves s (EndJob die ending ∷ [])) { array = array_behind s flight ending left }
+    record (with_moves s (EndJob die ending ∷ [])) { array = array_after s flight ending left }
 
 abbrev pub first : State → Call → Answer → State
 first s (Take die) (OfTake (Some flight)) = with_moves s (GiveJob die flight ∷ [])
@@ -68,8 +68,8 @@ happened s (Begins r c) = begun s r (unit_or_first (unit_of_request s r)) c
 happened s (Gathers task purpose all) = set_deed s task.tag (Gathering purpose all false)
 happened s (Completes task completion) = completed s task completion
 happened s (Aborts is short) = with_short (without_tasks s is) short
-happened s (GoesOn task deed) = set_deed (with_moves s (moves_behind task task.deed)) task.tag deed
-happened s (IsOver task) = task_behind (with_moves s (moves_behind task task.deed)) task None
+happened s (GoesOn task deed) = set_deed (with_moves s (moves_after task task.deed)) task.tag deed
+happened s (IsOver task) = task_goes_on (with_moves s (moves_after task task.deed)) task None
 happened s (ShortOver short) = short_replied s (Some short)
 happened s (BlockRead tag index state) = record s { tasks = map (task_read tag index state) s.tasks }
 
@@ -102,7 +102,7 @@ Why s call answer (Gathers task purpose all) =
 Why s call answer (Completes task completion) =
     (purpose : Purpose) × GetsData s call answer task purpose × WhyCompleted purpose task completion
 Why s call answer (GoesOn task deed) =
-    (task_of task.tag s.tasks ≡ Some task) × (deed_behind task task.deed ≡ Some deed)
+    (task_of task.tag s.tasks ≡ Some task) × (deed_after task task.deed ≡ Some deed)
 Why s call answer (IsOver task) = task_of task.tag s.tasks ≡ Some task
 Why s call answer happening = Unit {0}
 
@@ -150,15 +150,15 @@ module _ (P : State → Type 0) (s : State) (call : Call) (answer : Answer) (eac
   -- Commands
 
   opened_by : (r : Request) (refused : Option Status) → IsAsked s call answer r → refusal s r ≡ refused →
-      P (opened_with s r refused)
+      P (refused_or_begun s r refused)
   opened_by r (Some status) is e = each (Refuses r status) (is, e)
   opened_by r None is e = by r.cdb refl
     where
-      by : (c : Option Cdb) → r.cdb ≡ c → P (begun_with s r c)
+      by : (c : Option Cdb) → r.cdb ≡ c → P (begun_if_any s r c)
       by None k = each NothingMore tt
       by (Some c) k = each (Begins r c) (is, k, e)
 
-  command_by : (r : Request) → IsAsked s call answer r → P (command_heard s r)
+  command_by : (r : Request) → IsAsked s call answer r → P (command_taken s r)
   command_by r is =
       if_cases P (nat_le most_tasks (length s.tasks)) (λ e. each (Replies _) tt)
       (λ e. opened_by r (refusal s r) is refl)
@@ -195,8 +195,8 @@ module _ (P : State → Type 0) (s : State) (call : Call) (answer : Answer) (eac
   -- Replies
 
   task_by : (task : Task) (deed : Option Deed) → task_of task.tag s.tasks ≡ Some task →
-      deed_behind task task.deed ≡ deed →
-      P (task_behind (with_moves s (moves_behind task task.deed)) task deed)
+      deed_after task task.deed ≡ deed →
+      P (task_goes_on (with_moves s (moves_after task task.deed)) task deed)
   task_by task (Some deed) found e = each (GoesOn task deed) (found, e)
   task_by task None found e = each (IsOver task) found
 
@@ -205,7 +205,7 @@ module _ (P : State → Type 0) (s : State) (call : Call) (answer : Answer) (eac
   short_by (Some short) = each (ShortOver short) tt
 
   replied_by_kind : (tag : ℕ) (o : Option Task) → task_of tag s.tasks ≡ o → P (replied_by s tag o)
-  replied_by_kind tag (Some task) e = task_by task (deed_behind task task.deed) (found_self tag s.tasks task e) refl
+  replied_by_kind tag (Some task) e = task_by task (deed_after task task.deed) (found_self tag s.tasks task e) refl
   replied_by_kind tag None e = short_by (find (is_short_of tag) s.shorts)
 
 -- Messages

@@ -11,9 +11,9 @@ use Rattle.ufs_spec.specs.Exchanges.{Answering, Awaiting, Deed, ReadState, Regis
 use Rattle.ufs_spec.specs.Exchanges.{is_task_of, with_deed, RpmbRequest}
 use Rattle.ufs_spec.specs.Keys.{below, data_key, group_of}
 use Rattle.ufs_spec.specs.Machine.{Answer, Reply, Call, Done, OfDone, Take, OfTake, Heard, OfHost, Host, OfReply, Turn}
-use Rattle.ufs_spec.specs.Machine.{OfTurn, abort_moves, accepts, array_behind, behind, begun, blocks_expected}
+use Rattle.ufs_spec.specs.Machine.{OfTurn, abort_moves, accepts, array_after, behind, begun, blocks_expected}
 use Rattle.ufs_spec.specs.Machine.{claimed_by, fill_moves, fills, hears, is_to_fill, is_durable, kept_at, lock_applied}
-use Rattle.ufs_spec.specs.Machine.{moves_behind, observe, read_begun, registers_behind, replied, set_deed, short_locked}
+use Rattle.ufs_spec.specs.Machine.{moves_after, observe, read_begun, registers_after, replied, set_deed, short_locked}
 use Rattle.ufs_spec.specs.Machine.{task_filled, task_locked, task_read, acknowledges, with_moves, with_short, with_task}
 use Rattle.ufs_spec.specs.Machine.{without_tasks}
 use Rattle.ufs_spec.specs.Moves.{Accept, Claim, EndJob, Keep, LetGo, LetGoAll, Move, Release, GiveJob, Acknowledge}
@@ -199,11 +199,11 @@ aborts_small s n (task ∷ tasks) =
 without_small : (s : State) (is : Task → Bool) → Small s (without_tasks s is)
 without_small s is =
     Both (aborts_small s (numbers_of s) (filter is s.tasks))
-    (Both (One (Closes is) tt) (One (SetsRegisters (registers_behind (filter is s.tasks) s.registers)) tt))
+    (Both (One (Closes is) tt) (One (SetsRegisters (registers_after (filter is s.tasks) s.registers)) tt))
 
 -- Replies
 
-behind_small : (s : State) (task : Task) (deed : Deed) → Small s (with_moves s (moves_behind task deed))
+behind_small : (s : State) (task : Task) (deed : Deed) → Small s (with_moves s (moves_after task deed))
 behind_small s task (Sending blocks sent) =
     Both (one_move (LetGo task.tag sent) tt) (one_move (WantPage task.tag (sent + 1)) tt)
 behind_small s task (Awaiting commands) = one_move (Acknowledge commands) tt
@@ -290,7 +290,7 @@ first_kept R self one s (Done die ending left) (OfDone true) = by (s.translation
   where
     by : (flight : Option Flight) → R s (job_over s die flight ending left)
     by None = self s
-    by (Some flight) = one s (EndJob die ending) (array_behind s flight ending left)
+    by (Some flight) = one s (EndJob die ending) (array_after s flight ending left)
 first_kept R self one s Turn (OfTurn due) = one s TakeStep s.array
 first_kept R self one s call answer = self s
 

@@ -10,7 +10,7 @@ use Rattle.ufs_spec.specs.Disk.{Flight}
 use Rattle.ufs_spec.specs.Exchanges.{Answering, Awaiting, Deed, Gathering, Purpose, ReadState, Status, Task, is_task_of}
 use Rattle.ufs_spec.specs.Exchanges.{task_of, with_deed, write_error, count_at}
 use Rattle.ufs_spec.specs.Machine.{Answer, Reply, Call, Faulty, Done, OfDone, Take, OfTake, OfHost, Host, OfReply}
-use Rattle.ufs_spec.specs.Machine.{Spelled, Turn, OfTurn, begun, deed_behind, fills, observe, behind, task_filled}
+use Rattle.ufs_spec.specs.Machine.{Spelled, Turn, OfTurn, begun, deed_after, fills, observe, behind, task_filled}
 use Rattle.ufs_spec.specs.Machine.{task_locked, task_read, unit_or_first, Allowed, in_use, service}
 use Rattle.ufs_spec.specs.Moves.{Ending}
 use Rattle.ufs_spec.specs.Refusals.{Request, State, locked, refusal, unit_of_request}
@@ -84,7 +84,7 @@ pub record IsTaskLaw (P : Task → Type 0) (May : Task → Deed → Type 0) (Ask
   pub waits : (task : Task) (purpose : Purpose) (gathered : List ℕ) (asked : Bool) (position : ℕ) →
       task.deed ≡ Gathering purpose gathered asked → P task → May task (Awaiting position)
   -- that replied, whose request fills its register, that a lock meets, and of which a block was read
-  pub goes : (task : Task) (deed : Deed) → deed_behind task task.deed ≡ Some deed → P task → May task deed
+  pub goes : (task : Task) (deed : Deed) → deed_after task task.deed ≡ Some deed → P task → May task deed
   pub fills : (u : State) (task : Task) → P task → P (task_filled u task)
   pub locks : (u : State) (task : Task) → P task → P (task_locked u task)
   pub reads : (tag index : ℕ) (state : ReadState) (task : Task) → P task → P (task_read tag index state task)

@@ -12,7 +12,7 @@ use Rattle.ufs_spec.specs.Machine.{flush_begun, no_sense, read_begun, with_moves
 use Rattle.ufs_spec.specs.Commands.{Command}
 use Rattle.ufs_spec.specs.Moves.{Claim, Release}
 use Rattle.ufs_spec.specs.Refusals.{locked, Request, State, is_too_long, needs_mended, numbers_of, slots_needed}
-use Rattle.ufs_spec.specs.Refusals.{spec_of}
+use Rattle.ufs_spec.specs.Refusals.{unit_numbers_of}
 use Rattle.ufs_spec.specs.Configs.{command_blocks}
 use Rattle.ufs_spec.specs.declared.configs.Numbers.{Numbers}
 use Rattle.ufs_spec.specs.declared.scsi.Cdb.{Cdb}
@@ -56,7 +56,7 @@ WhyBegun s r unit c (Answered command status) =
     ((command ≡ None) × (status ≡ invalid_operation)) ⊎ ((command ≡ Some c) × (status ≡ Good))
 WhyBegun s r unit c Waiting = needs_mended (operation_of c) ≡ true
 WhyBegun s r unit c (Telling bytes) =
-    ((allocation : ℕ) × (bytes ≡ take allocation no_sense)) ⊎ (bytes ≡ capacity_bytes (spec_of s r))
+    ((allocation : ℕ) × (bytes ≡ take allocation no_sense)) ⊎ (bytes ≡ capacity_bytes (unit_numbers_of s r))
 WhyBegun s r unit c (Reading u address n) =
     (u ≡ unit) × (address ≡ address_of c) × (n ≡ blocks_of c * 4096)
     × ((operation_of c ≡ read_6) ⊎ (operation_of c ≡ read_10))

@@ -1,4 +1,4 @@
-use Rattle.std.proofs.Common.{◌∙◌, ◌+◌, ◌≤◌, List, [], length, sym, subst, ap}
+use Rattle.std.proofs.Common.{◌≡◌, ◌∙◌, ◌+◌, ◌≤◌, List, [], arith, length, sym, subst, ap}
 use Rattle.ufs_spec.specs.declared.events.Output.{Output}
 use Rattle.device.specs.Worlds.{IsUnderWay}
 use Rattle.device.proofs.dies_of_world.Runs.{MayRun, run_begins, run_breaks, run_broken, run_ends, run_more}
@@ -56,3 +56,13 @@ returns-clause-promised c =
     let all : length c.args.events.now ≤ c.loop-index.index = c.loop-index-test.false in
     run_ends c.args.config c.args.dies.items c.args.events.now c.loop-index.trace.items c.loop-index.index
     c.loop-index.world may sound all (c.loop-index.invariant.under_way sound)
+
+pub returns-clause-fit : goal.returns-clause-fit
+returns-clause-fit c = c.in_ok-world.ensures.suits.0
+
+pub returns-in-Err-clause-counted : goal.returns-in-Err-clause-counted
+returns-in-Err-clause-counted c =
+    let long : length c.play.new.trace.items ≡ c.loop-index.index =
+    ap length c.in-Err.ensures.none_more ∙ c.loop-index.invariant.counted in
+    let low = c.loop-index-test.true in
+    (omega arith, omega arith)

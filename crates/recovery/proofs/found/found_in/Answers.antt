@@ -1,23 +1,45 @@
-use Rattle.std.proofs.Common.{ap, Option, sym, subst, ◌∙◌, Bool, length, slice_get, List}
+use Rattle.std.proofs.Common.{◌≡◌, ap, Option, sym, subst, ◌∙◌, Bool, true, false, length, slice_get, List, refl}
 use Rattle.std.proofs.lemmas.List.{length-map}
-use Rattle.recovery.specs.Reading.{newest_in}
 use Rattle.ufs_spec.specs.Openings.{lost_from}
 use Rattle.ufs_spec.specs.Translation.{spots}
+use Rattle.ufs_spec.specs.declared.configs.Numbers.{Numbers}
 use Rattle.ufs_spec.specs.declared.flash.Fence.{Fence}
-use Rattle.recovery.proofs.bad_listed.UsedBlocks.{bad_at, told_of}
-use Rattle.recovery.specs.Listed.{AreListed}
+use Rattle.power_loss.specs.FreeBlocks.{block_by}
+use Rattle.recovery.specs.Frees.{is_free_in, is_outside}
+use Rattle.recovery.specs.KeysInOrder.{found_block, state_of_found}
+use Rattle.recovery.specs.Listed.{AreListed, AreMarksListed}
+use Rattle.recovery.specs.Listed as lists
+use Rattle.std.specs.List.{filter}
+use Rattle.recovery.specs.Reading.{newest_in}
+use Rattle.recovery.specs.declared.pages.FoundPage.{FoundPage}
+use Rattle.recovery.proofs.bad_listed.BadBlocks.{bad_at}
+use Rattle.recovery.proofs.bad_listed.FreeLists.{free_at, outside_listed}
 use Rattle.recovery.proofs.found.found_in.Goals as goal
 
--- src/found.rt:107:1
+-- what a block was found to be is what it is by the two answers
+state_is : (bad free : Bool) → state_of_found (found_block free bad) ≡ block_by bad free
+state_is true free = refl
+state_is false true = refl
+state_is false false = refl
+
 pub returns : goal.returns
-returns c = λ cells is_bad table in_range outside suits bads.
+returns c = λ cells is_bad table in_range within suits bads.
+    let n : Numbers = c.args.numbers.now in
     let m = newest_in c.args.table in
     let fence = sym c.fence_of-fence.ensures in
-    let listed : AreListed cells c.as_slice-pages.result.now =
+    let pages : List FoundPage = c.as_slice-pages.result.now in
+    let listed : AreListed cells pages =
     subst (AreListed cells) (sym c.as_slice-pages.ensures.value) table.pages in
+    let marks : AreMarksListed cells c.as_slice-marks.result.now =
+    subst (AreMarksListed cells) (sym c.as_slice-marks.ensures.value) table.marks in
+    let items : List Bool = c.in_ok-free.free.items in
+    let free = is_free_in n is_bad items in
+    let long : length items ≡ length (spots n) =
+    c.in_ok-free.ensures.as_many ∙ ap length bads ∙ length-map (spots n) is_bad in
     let recorded = c.recorded_frontier-recorded.ensures.recorded cells m listed fence table.recorded in
     let top = c.greatest_seen-greatest_seen.ensures.top cells m listed fence table.recorded in
     record {
+      within = within;
       newest = table.newest;
       suits = suits;
       in_range = in_range;
@@ -25,12 +47,20 @@ returns c = λ cells is_bad table in_range outside suits bads.
       greatest_seen = top;
       first_lost = c.first_lost-first_lost.ensures
           ∙ ap (λ (f : Option Fence). lost_from f c.in_ok-kept.kept) (sym fence);
-      contents = c.in_ok-contents.ensures.content cells m listed fence;
+      free = free;
+      free_right = λ sound. c.in_ok-free.ensures.free cells is_bad listed marks table.newest within suits sound bads;
+      contents = c.in_ok-contents.ensures.content (lists.outside free cells) m
+          (subst (AreListed (lists.outside free cells))
+          (sym (c.as_slice-2.ensures.value ∙ c.in_ok-outside.ensures
+          ∙ ap (λ (xs : List Bool). filter (is_outside n.blocks xs) pages) c.as_slice.ensures.value))
+          (outside_listed n is_bad items cells within pages listed)) fence;
       lost = c.in_ok-lost.ensures cells c.greatest_seen-greatest_seen.result listed top.0.numbers suits.keys;
-      as_many = c.in_ok-blocks.ensures.each_block ∙ ap length bads ∙ length-map (spots c.args.numbers.now) is_bad;
-      blocks = λ i s at.
-          let told = told_of c.args.numbers.now cells c.args.table.used.items i s outside table.used at in
-          c.in_ok-blocks.ensures.states cells is_bad s i told.0
-          (ap (λ (xs : List Bool). slice_get xs i) c.as_slice.ensures.value ∙ told.1) told.2
-          (bad_at c.args.numbers.now is_bad c.args.bad.now i s bads at);
+      as_many = c.in_ok-blocks.ensures.each_block ∙ ap length bads ∙ length-map (spots n) is_bad;
+      blocks = λ i s at. (
+        found_block (free s) (is_bad s),
+        c.in_ok-blocks.ensures.states i (free s) (is_bad s)
+            (ap (λ (xs : List Bool). slice_get xs i) c.as_slice-3.ensures.value
+            ∙ free_at n is_bad items i s long at) (bad_at n is_bad c.args.bad.now i s bads at),
+        state_is (is_bad s) (free s),
+      );
     }

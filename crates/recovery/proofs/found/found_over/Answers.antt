@@ -1,11 +1,11 @@
-use Rattle.std.proofs.Common.{sym, subst, ap, ◌∙◌, length, map, refl}
+use Rattle.std.proofs.Common.{sym, subst, ◌∙◌, map, refl}
 use Rattle.ufs_spec.specs.Cells.{AreWithin, Cells, Shows}
 use Rattle.ufs_spec.specs.Lives.{array_of, bad_of}
 use Rattle.ufs_spec.specs.Sound.{CellsSuit}
 use Rattle.ufs_spec.proofs.Facts.{false≢true}
 use Rattle.power_loss.proofs.die_pages.BlankOutsideDies.{fit_inside}
 use Rattle.recovery.proofs.settings_pages.SettingsPages.{has_settings, still_found}
-use Rattle.recovery.proofs.table_facts.TableFacts.{bads_of, each_block, frontiers_fit, records_fit, shown_in_range}
+use Rattle.recovery.proofs.table_facts.TableFacts.{bads_of, frontiers_fit, records_fit, shown_in_range}
 use Rattle.recovery.proofs.tables.Whole.{shown_within}
 use Rattle.recovery.specs.Found.{IsFound}
 use Rattle.recovery.specs.Reading.{newest_in}
@@ -38,18 +38,6 @@ found_in-requires-clause-marks g c =
     (sym c.numbers-numbers.ensures.value) c.requires.read in
     records_fit c.numbers-numbers.result.now (array_of (map g.D.Die.state c.args.dies.now)) c.args.table
     over
-
-pub found_in-requires-clause-blocks : goal.found_in-requires-clause-blocks
-found_in-requires-clause-blocks g c =
-    let over = subst (λ n. IsTableOver n (map g.D.Die.state c.args.dies.now) c.args.table)
-    (sym c.numbers-numbers.ensures.value) c.requires.read in
-    let dies = map g.D.Die.state c.args.dies.now in
-    each_block c.numbers-numbers.result.now (array_of dies) c.args.table (bad_of dies) c.in-Ok.bad.items
-    over
-    (bads_of g.D.Die.state c.numbers-numbers.result.now c.args.config.now c.args.dies.now c.args.dies.now
-    c.in-Ok.bad.items c.numbers-numbers.ensures.value c.requires.fit refl
-    c.in-Ok.ensures.in_order)
-    ∙ sym (ap length c.as_slice.ensures.value)
 
 pub is_permanent-requires-clause-settings : goal.is_permanent-requires-clause-settings
 is_permanent-requires-clause-settings g c = λ cells now.

@@ -1,12 +1,7 @@
-use Rattle.std.proofs.Common.{◌≡◌, ◌∙◌, ◌||◌, ◌++◌, ◌∷◌, [], ℕ, Bool, true, List, ap, arith, refl, subst, sym}
-use Rattle.std.specs.List.{list_any}
-use Rattle.std.specs.Result.{is_ok}
-use Rattle.ufs_spec.proofs.Facts.{cond-true}
+use Rattle.std.proofs.Common.{◌≡◌, ◌∙◌, ℕ, arith, refl, subst, sym}
 use Rattle.ufs_spec.specs.Dies.{DieState, LiesOnDie, page_at}
-use Rattle.ufs_spec.specs.Keys.{below}
-use Rattle.recovery.specs.Reading.{IsTableTo, ShowsDie, is_something, is_used, place_at}
+use Rattle.recovery.specs.Reading.{IsTableTo, ShowsDie, place_at}
 use Rattle.recovery.proofs.tables.Counts.{die_fault_later, lies_there}
-use Rattle.recovery.proofs.tables.Used.{any_more}
 use Rattle.recovery.proofs.tables.Whole.{block_read, page_read}
 use Rattle.recovery.proofs.reading.read_block.Goals as goal
 
@@ -14,7 +9,7 @@ pub loop-index-init : goal.loop-index-init
 loop-index-init g c = record {
   same = refl;
   counted = omega arith;
-  read = λ cells within shown r. (r, refl);
+  read = λ cells within shown r. r;
 }
 
 pub read_page-requires : goal.read_page-requires
@@ -33,16 +28,10 @@ loop-index-preserved g c =
           let place = place_at c.args.spot.0 c.args.spot.1 c.loop-index.index in
           let now = before.read cells within shown r in
           let still = subst (λ (die : DieState). ShowsDie c.args.spot.0 die cells) (sym before.same) shown in
-          let told = c.in-Ok.ensures.read cells still in (
-            page_read c.args.numbers.now cells c.args.spot.0 c.args.spot.1 c.loop-index.index c.loop-index.table
-                c.read_page.new.table
-                (page_at (g.D.Die.state c.args.die.now) c.args.spot.1 c.loop-index.index) now.0 (shown place refl)
-                told.1,
-            c.either-any.ensures ∙ (λ i. now.1 i || told.0 i)
-                ∙ sym
-                (any_more (λ page. is_something (cells (place_at c.args.spot.0 c.args.spot.1 page)))
-                c.loop-index.index),
-          );
+          let told = c.in_default.ensures.read cells still in
+          page_read c.args.numbers.now cells c.args.spot.0 c.args.spot.1 c.loop-index.index c.loop-index.table
+          c.read_page.new.table (page_at (g.D.Die.state c.args.die.now) c.args.spot.1 c.loop-index.index) now
+          (shown place refl) told;
     }
 
 pub returns-in-Err : goal.returns-in-Err
@@ -70,20 +59,7 @@ returns g c =
           let now = before.read cells within shown r in
           let end : c.loop-index.index ≡ n.pages =
           omega (arith, c.loop-index-test.false, c.loop-index.auto.index-end) in
-          let whole = subst (λ (k : ℕ). IsTableTo n spot.0 spot.1 k cells table) end now.0 in
-          let any : c.loop-index.any ≡ is_used n cells spot.0 spot.1 =
-          now.1 ∙ ap (λ (k : ℕ). list_any (λ page. is_something (cells (place_at spot.0 spot.1 page))) (below k)) end in
-          let ok : is_ok c.push.result ≡ true = c.if-is_err.ensures.negation in
-          let pushed : c.push.new.self.items ≡ table.used.items ++ c.loop-index.any ∷ [] =
-          c.push.ensures.items ∙ cond-true {A = List Bool} (is_ok c.push.result) _ _ ok in
-          block_read n cells within spot.0 spot.1
-          table
-          (record {
-            pages = table.pages;
-            newest = table.newest;
-            recorded = table.recorded;
-            used = c.push.new.self;
-          })
-          c.loop-index.any whole any refl refl refl pushed;
+          block_read n cells within spot.0 spot.1 table
+          (subst (λ (k : ℕ). IsTableTo n spot.0 spot.1 k cells table) end now);
       fault = tt;
     }

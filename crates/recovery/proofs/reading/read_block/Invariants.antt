@@ -1,8 +1,6 @@
 use Rattle.std.proofs.Common.{◌≡◌, ◌≤◌}
 use Rattle.ufs_spec.specs.Cells.{AreWithin, Cells}
-use Rattle.std.specs.List.{list_any}
-use Rattle.ufs_spec.specs.Keys.{below}
-use Rattle.recovery.specs.Reading.{IsTableTo, ShowsDie, is_something, place_at}
+use Rattle.recovery.specs.Reading.{IsTableTo, ShowsDie}
 use Rattle.recovery.proofs.reading.read_block.Given as goal
 
 abbrev pub invariant-loop-index : goal.invariant-loop-index
@@ -11,6 +9,5 @@ invariant-loop-index g l = record {
   counted : g.D.Die.failed l.fn.die ≤ g.D.Die.failed l.die;
   read : (c : Cells) → AreWithin l.numbers c → ShowsDie l.spot.0 (g.D.Die.state l.fn.die) c
       → IsTableTo l.numbers l.spot.0 l.spot.1 0 c l.fn.table
-      → IsTableTo l.numbers l.spot.0 l.spot.1 l.index c l.table
-      × (l.any ≡ list_any (λ page. is_something (c (place_at l.spot.0 l.spot.1 page))) (below l.index));
+      → IsTableTo l.numbers l.spot.0 l.spot.1 l.index c l.table;
 }

@@ -13,7 +13,7 @@ loop-block-init g c = record {
   read = λ cells within shown.
       nothing_read c.args.numbers.now (only c.args.number cells) c.args.number c.empty-table.result
       (only_before c.args.number cells) c.empty-table.ensures.pages (ap (option_map mark_of) c.empty-table.ensures.newest)
-      c.empty-table.ensures.recorded c.empty-table.ensures.used;
+      c.empty-table.ensures.recorded c.empty-table.ensures.marks;
 }
 
 pub read_block-requires-clause-size : goal.read_block-requires-clause-size

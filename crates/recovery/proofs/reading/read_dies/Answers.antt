@@ -16,7 +16,7 @@ loop-index-init g c = record {
   read = λ cells within shown.
       none_read c.args.numbers.now cells c.args.range.0 c.empty-table.result c.empty-table.ensures.pages
       (ap (option_map mark_of) c.empty-table.ensures.newest) c.empty-table.ensures.recorded
-      c.empty-table.ensures.used;
+      c.empty-table.ensures.marks;
 }
 
 pub read_die-requires : goal.read_die-requires

@@ -1,19 +1,19 @@
-use Rattle.std.proofs.Common.{◌≡◌, refl, subst, sym}
-use Rattle.std.proofs.lemmas.Result.{IfOk-weaker}
+use Rattle.std.proofs.Common.{refl, subst, sym}
+use Rattle.std.proofs.lemmas.Result.{on_ok_weaker}
 use Rattle.ufs_spec.specs.Cells.{Cell, IsCell}
 use Rattle.ufs_spec.specs.declared.flash.Page.{Page}
 use Rattle.ufs_laws.proofs.pages.PageIsOneCell.{one_cell}
 use Rattle.page_tag.specs.Contents.{cell_of}
-use Rattle.recovery.specs.Reading.{IsNoted, is_something}
+use Rattle.recovery.specs.Reading.{IsNoted}
 use Rattle.recovery.proofs.reading.read_page.Goals as goal
 
 pub returns-clause-read : goal.returns-clause-read
 returns-clause-read g c =
-    IfOk-weaker c.note.result _ _
-    (λ any h cells shown.
+    on_ok_weaker c.note.result
+    (λ h cells shown.
     let place = c.args.place in
     let found : IsCell c.read.new.into (cells place) =
     subst (λ (page : Page). IsCell page (cells place)) (sym c.in-Ok.ensures.found) (shown place refl) in
     let same = one_cell c.read.new.into (cell_of c.content_of.result) (cells place) c.content_of.ensures found in
-    subst (λ (x : Cell). (any ≡ is_something x) × IsNoted place x c.args.table.now c.note.new.self) same h)
+    subst (λ (x : Cell). IsNoted place x c.args.table.now c.note.new.self) same h)
     c.note.ensures.noted

@@ -2,7 +2,7 @@ use Rattle.std.proofs.Common.{◌≡◌, ◌<◌, ◌≤◌, ◌∙◌, ℕ, ap,
 use Rattle.std.proofs.lemmas.Bool.{cases_lt}
 use Rattle.std.proofs.lemmas.List.{get_or-map, length-map}
 use Rattle.std.specs.Prelude.{slice_index_or}
-use Rattle.ufs_spec.specs.Dies.{DieState, IsOfSize}
+use Rattle.ufs_spec.specs.Dies.{IsOfSize}
 use Rattle.recovery.proofs.sizes.are_of_size.Goals as goal
 
 pub loop-die-preserved : goal.loop-die-preserved

@@ -1,3 +1,4 @@
+use Rattle.ufs_laws.proofs.refusals.TableLines.{flush_refused}
 use Rattle.ufs_laws.proofs.refusals.TableLines.{blocks, crowded, flag, full, list, operation, other_response, past}
 use Rattle.ufs_laws.proofs.refusals.TableLines.{protected, ready, ready_first, response_first, unit}
 use Rattle.ufs_laws.proofs.table.each_line_of_the_table_counts.Goals as goal
@@ -28,6 +29,9 @@ returns-clause-ready c = ready
 
 pub returns-clause-protected : goal.returns-clause-protected
 returns-clause-protected c = protected
+
+pub returns-clause-flush : goal.returns-clause-flush
+returns-clause-flush c = flush_refused
 
 pub returns-clause-ready_first : goal.returns-clause-ready_first
 returns-clause-ready_first c = ready_first

@@ -1,0 +1,66 @@
+-- Where room is for groups, which blocks are open, and where one may be opened: what is kept says the same of it as the
+-- layer.
+use Rattle.std.proofs.Common.{◌≡◌, ◌∙◌, ◌||◌, Option, Some, None, not, count_by, is_some, option_map}
+use Rattle.std.proofs.Common.{refl, sym, ap}
+use Rattle.std.specs.Prelude.{nat_le, nat_lt}
+use Rattle.std.specs.List.{list_any}
+use Rattle.ufs_spec.specs.Disk as disk
+use Rattle.ufs_spec.specs.Keys.{below}
+use Rattle.ufs_spec.specs.Translation as layer
+use Rattle.ufs_spec.specs.Translation.{Translation, count_blocks, flies_erase, own_room, some_flight}
+use Rattle.ufs_spec.specs.declared.flash.Place.{Place}
+use Rattle.block_table.specs.Blocks.{is_free}
+use Rattle.block_table.specs.declared.OpenBlock.{OpenBlock}
+use Rattle.ftl_core.specs.declared.books.Flight.{Flight}
+use Rattle.ftl_core.specs.Core.{Core}
+use Rattle.ftl_core.specs.Describes.{Describes, Kept}
+use Rattle.ftl_core.specs.Moves.{erases, fills, flight_erases, free_blocks, has_open_block, has_room_for_groups}
+use Rattle.ftl_core.specs.Moves.{may_open_for_group, may_open_for_step}
+use Rattle.ftl_core.specs.Takes.{next_place}
+use Rattle.ftl_core.proofs.job_taken.FlightKinds.{flight_cases}
+use Rattle.ftl_core.proofs.job_taken.Flown.{books_agree, dies_agree}
+use Rattle.ftl_core.proofs.opened.Spots.{free_counted, next_found}
+
+-- Free blocks
+
+-- as many blocks are free
+pub free_alike : (c : Core) (t : Translation) → Kept c t → free_blocks c ≡ count_blocks t layer.is_free
+free_alike c t k = ap (count_by is_free) k.blocks.all ∙ free_counted t.numbers t.disk.blocks
+
+-- room is for groups on both sides or on none
+pub room_alike : (c : Core) (t : Translation) → Describes c t →
+    has_room_for_groups c ≡ layer.has_room_for_groups t
+room_alike c t h = λ i. nat_le (own_room (h.kept.numbers i)) (free_alike c t h.kept i)
+
+-- and so may a block be opened for a group
+pub group_alike : (c : Core) (t : Translation) → Describes c t → may_open_for_group c ≡ layer.may_open_for_group t
+group_alike c t h = λ i. nat_lt (own_room (h.kept.numbers i)) (free_alike c t h.kept i)
+
+-- Open blocks
+
+-- whether a die fills a block
+fills_agree : (c : Core) (t : Translation) → Kept c t →
+    list_any fills c.books ≡ list_any (λ die. is_some (layer.next_place t die)) (below t.numbers.dies)
+fills_agree c t k = dies_agree c t fills (λ die. is_some (layer.next_place t die)) k
+    (λ die b at book. sym (ap is_some (next_found t.numbers t.disk.blocks die b.filling book.filling)
+    ∙ mapped (next_place die) b.filling))
+  where
+    mapped : (f : OpenBlock → Place) (o : Option OpenBlock) → is_some (option_map f o) ≡ is_some o
+    mapped f None = refl
+    mapped f (Some x) = refl
+
+-- whether a die erases one
+erases_agree : (c : Core) (t : Translation) → Kept c t → list_any erases c.books ≡ some_flight t flies_erase
+erases_agree c t k = books_agree c t erases flies_erase k
+    (λ die b at h. flight_cases t.numbers c.step die b.filling
+    (λ (f : Option Flight) (g : Option disk.Flight). flight_erases f ≡ flies_erase g)
+    refl (λ place tag i. refl) (λ place. refl) (λ place. refl) (λ o cell fills page. refl)
+    (λ o tag body fills no_repair. refl) (λ block within none. refl) b.flight (t.disk.flights die) h)
+
+-- a block is open on both sides or on none
+pub open_alike : (c : Core) (t : Translation) → Kept c t → has_open_block c ≡ layer.has_open_block t
+open_alike c t k = λ i. fills_agree c t k i || erases_agree c t k i
+
+-- and so may one be opened for a step
+pub step_alike : (c : Core) (t : Translation) → Describes c t → may_open_for_step c ≡ layer.may_open_for_step t
+step_alike c t h = λ i. room_alike c t h i || not (open_alike c t h.kept i)

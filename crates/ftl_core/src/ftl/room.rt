@@ -1,0 +1,122 @@
+//! How many blocks stay free, and where one may be opened.
+ghost use Rattle.std.specs.Prelude.{◌≡◌, ◌<◌, ◌≤◌, ◌^◌, is_some};
+ghost use Rattle.std.specs.List.{list_any};
+ghost use Rattle.ufs_spec.specs.Configs.{InRange};
+ghost use Rattle.ufs_spec.specs.Translation.{own_room, wanted_room};
+ghost use Rattle.ftl_core.specs.Collects.{has_few_free};
+ghost use Rattle.ftl_core.specs.Moves.{erases, fills, flight_erases, free_blocks, has_open_block, has_room_for_groups, may_open, may_open_for_group, may_open_for_step};
+
+use super::Ftl;
+use crate::books::{Flight, Waiting};
+use ufs_spec::Numbers;
+
+/// How many free blocks groups leave to the device's own pages, to copies, marks and repairs: one
+/// for each die, two, and twice as many as the pages of a full write cache fill.
+fn own_room(numbers: &Numbers) -> usize
+    requires { InRange numbers.now }
+    ensures what { result ≡ own_room numbers.now }
+    ensures small { result < 2 ^ 20 }
+{
+    let filled = numbers.slots.div_ceil(numbers.pages);
+    usize::from(numbers.dies) + 2 + 2 * usize::from(filled)
+}
+
+/// With fewer free blocks than this many room is to be gained.
+fn wanted_room(numbers: &Numbers) -> usize
+    requires { InRange numbers.now }
+    ensures { result ≡ wanted_room numbers.now }
+{
+    let least = 2 * usize::from(numbers.dies) + 4;
+    least.max(own_room(numbers) + 2)
+}
+
+/// Whether some die erases a block.
+fn is_erasing_now(flights: &[Option<Flight>]) -> bool
+    ensures { result ≡ list_any flight_erases flights.now }
+{
+    flights.iter().any(|flight| erases(flight))
+}
+
+/// Whether the die erases a block.
+fn erases(flight: &Option<Flight>) -> bool
+    ensures { result ≡ flight_erases flight.now }
+{
+    match *flight {
+        Some(Flight::Erase { .. }) => true,
+        _ => false,
+    }
+}
+
+impl Ftl {
+    /// How many blocks of all dies are free.
+    fn free_blocks(&self) -> usize
+        ensures { result ≡ free_blocks self.now }
+    {
+        self.blocks.free_blocks()
+    }
+
+    /// Whether fewer blocks are free than are wanted.
+    pub(super) fn has_few_free(&self) -> bool
+        ensures { result ≡ has_few_free self.now }
+    {
+        self.free_blocks() < wanted_room(self.config.numbers())
+    }
+
+    /// Whether pages of groups may be programmed: not into the room that they leave to the device's
+    /// own pages.
+    pub(super) fn has_room_for_groups(&self) -> bool
+        ensures { result ≡ has_room_for_groups self.now }
+    {
+        self.free_blocks() >= own_room(self.config.numbers())
+    }
+
+    /// Whether some die fills a block.
+    fn is_filling(&self) -> bool
+        ensures { result ≡ list_any fills self.now.books }
+    {
+        self.blocks.has_open_block()
+    }
+
+    /// Whether some die erases a block.
+    fn is_erasing(&self) -> bool
+        ensures { result ≡ list_any erases self.now.books }
+    {
+        is_erasing_now(self.flights.as_slice())
+    }
+
+    /// Whether a block of some die is being filled, or is being erased to be filled.
+    fn has_open_block(&self) -> bool
+        ensures { result ≡ has_open_block self.now }
+    {
+        self.is_filling() || self.is_erasing()
+    }
+
+    /// Whether a block may be opened for a page of a group: only while more blocks are free than
+    /// groups leave.
+    fn may_open_for_group(&self) -> bool
+        ensures { result ≡ may_open_for_group self.now }
+    {
+        self.free_blocks() > own_room(self.config.numbers())
+    }
+
+    /// Whether a block may be opened for the page of a step: while groups may be programmed any die
+    /// opens its own; below that one block after another is filled, whatever its die.
+    fn may_open_for_step(&self) -> bool
+        ensures { result ≡ may_open_for_step self.now }
+    {
+        self.has_room_for_groups() || !self.has_open_block()
+    }
+
+    /// Whether a block may be opened for what waits.
+    pub(super) fn may_open(&self, waiting: Waiting) -> bool
+        ensures { result ≡ may_open self.now waiting }
+    {
+        match waiting {
+            Waiting::Step => self.may_open_for_step(),
+            Waiting::Group {
+                number: _,
+                index: _,
+            } => self.may_open_for_group(),
+        }
+    }
+}

@@ -1,0 +1,20 @@
+-- How many free blocks groups leave to the device's own pages, and what a die is given them for.
+use Rattle.std.specs.Prelude.{◌≡◌, ℕ, ◌+◌, ◌*◌, ◌≤◌, Some}
+use Rattle.ufs_spec.specs.Cells.{Cell}
+use Rattle.ufs_spec.specs.Translation.{Translation, waiting_step}
+use Rattle.ufs_spec.specs.declared.configs.Numbers.{Numbers}
+
+-- so many blocks hold the pages of a full write cache
+abbrev pub HoldCache : Numbers → ℕ → Type 0
+HoldCache n blocks = n.slots ≤ blocks * n.pages
+
+-- it is one block for each die, two, and twice the fewest blocks that hold the pages of a full write cache
+pub record IsOwnRoom (n : Numbers) (room : ℕ) : Type 0 where
+  pub filled : ℕ
+  pub hold : HoldCache n filled
+  pub fewest : (blocks : ℕ) → HoldCache n blocks → filled ≤ blocks
+  pub is : room ≡ n.dies + 2 + 2 * filled
+
+-- this is the page of the step under way, its content is there, and no die programs it yet
+abbrev pub IsWaitingStep : Translation → Cell → Type 0
+IsWaitingStep t cell = waiting_step t t.work.step ≡ Some cell

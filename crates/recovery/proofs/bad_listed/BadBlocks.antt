@@ -1,0 +1,14 @@
+-- What the list of bad blocks says of each block.
+use Rattle.std.proofs.Common.{◌≡◌, ◌∙◌, ℕ, Bool, List, map, ap, Some, slice_get}
+use Rattle.std.specs.Prelude.{option_map}
+use Rattle.std.proofs.lemmas.Option.{slice_get-map}
+use Rattle.ufs_spec.specs.Disk.{Spot}
+use Rattle.ufs_spec.specs.Translation.{spots}
+use Rattle.ufs_spec.specs.declared.configs.Numbers.{Numbers}
+
+-- whether it is bad
+pub bad_at : (n : Numbers) (is_bad : Spot → Bool) (bads : List Bool) (i : ℕ) (s : Spot) →
+    bads ≡ map is_bad (spots n) → slice_get (spots n) i ≡ Some s → slice_get bads i ≡ Some (is_bad s)
+bad_at n is_bad bads i s is at =
+    ap (λ (xs : List Bool). slice_get xs i) is
+    ∙ (slice_get-map is_bad (spots n) i ∙ ap (option_map is_bad) at)

@@ -1,0 +1,19 @@
+use Rattle.std.proofs.Common.{◌≡◌, None, Option, ap, option_map, subst, sym}
+use Rattle.std.proofs.lemmas.Result.{IfOk-weaker}
+use Rattle.ufs_spec.specs.Cells.{Mark}
+use Rattle.ufs_spec.specs.Kept.{IsNewestMark}
+use Rattle.page_tag.specs.Contents.{mark_of}
+use Rattle.recovery.specs.Frees.{AreFoundFree, is_free_in}
+use Rattle.recovery.proofs.frees.Rule.{free_unmarked}
+use Rattle.recovery.proofs.free.free_blocks.Goals as goal
+
+pub returns-in-None-clause-free : goal.returns-in-None-clause-free
+returns-in-None-clause-free c =
+    IfOk-weaker c.unused_blocks.result _ _
+    (λ v are cells is_bad listed marked newest within suits sound bads.
+    let n = c.args.numbers.now in
+    let none : option_map mark_of c.args.newest.now ≡ None = ap (option_map mark_of) c.in-None.is in
+    subst (λ (m : Option Mark). AreFoundFree cells m is_bad (is_free_in n is_bad v.items)) (sym none)
+    (free_unmarked n cells is_bad c.args.bad.now v.items c.args.pages.now within listed
+    (subst (IsNewestMark cells) none newest) bads are))
+    c.unused_blocks.ensures

@@ -1,0 +1,7 @@
+use Rattle.std.proofs.Common.{◌≡◌, take}
+use Rattle.std.specs.List.{filter}
+use Rattle.recovery.specs.Frees.{is_outside}
+use Rattle.recovery.proofs.outside.outside_pages.Given as goal
+
+abbrev pub invariant-loop-page : goal.invariant-loop-page
+invariant-loop-page l = l.all.items ≡ filter (is_outside l.blocks l.free) (take l.page-index l.pages)
