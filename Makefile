@@ -13,7 +13,7 @@ PROGRAMS := ufsim ufstool
 INSTALLED = $(foreach it,$(PROGRAMS),bin/$(it) share/man/man1/$(it).1 share/bash-completion/completions/$(it) \
 	share/zsh/site-functions/_$(it) share/fish/vendor_completions.d/$(it).fish)
 
-.PHONY: help demo test prove format install uninstall bench collection wrong-bodies turned-rules lifted-limits refused-memory
+.PHONY: help demo test prove format install uninstall bench collection wrong-bodies turned-rules lifted-limits refused-memory power-cycles
 
 help:
 	@echo 'make demo                  shows a write, a read and six stops; builds without proving, two minutes'
@@ -31,10 +31,11 @@ help:
 	@echo 'make turned-rules          turns rules of the specification around, and sees that a law refuses each'
 	@echo 'make lifted-limits         lifts the limits of this stage in a copy, and proves the laws there'
 	@echo 'make refused-memory        refuses each allocation of each call that takes memory, one at a time'
+	@echo 'make power-cycles          proves and plays rows of 10,000 lives, each of which ends with a stop: hours'
 
 # Without the kit nothing can be proved or built. Under -q make runs nothing, adds no line of its own,
 # and ends with status 1.
-ifneq ($(filter demo test prove format install bench collection wrong-bodies turned-rules lifted-limits refused-memory,$(MAKECMDGOALS)),)
+ifneq ($(filter demo test prove format install bench collection wrong-bodies turned-rules lifted-limits refused-memory power-cycles,$(MAKECMDGOALS)),)
 ifeq ($(shell command -v rt 2>/dev/null),)
 $(shell echo "butcherford: the Rattle kit's command rt is not on the PATH; it is needed to prove and build" >&2)
 MAKEFLAGS += -q
@@ -103,3 +104,6 @@ lifted-limits:
 
 refused-memory:
 	@python3 tools/refuse_memory.py
+
+power-cycles:
+	@cd crates/power_cycles && rt run -- all

@@ -76,6 +76,7 @@ def groups():
         Group("ufsim: examples and wrong words", (PYTHON, "cases.py", "ufsim"), tools, 120),
         Group("ufstool: stored cases", (PYTHON, "cases.py", "ufstool"), tools, 200),
         Group("no memory after the opening", (PYTHON, "refuse_memory.py", "--row"), tools, 90),
+        Group("lives one after another", (PYTHON, "power_cycles.py"), tools, 150),
         Group("texts of the wrong bodies", (PYTHON, "wrong_bodies.py", "--texts"), tools, 2),
         Group("texts of the wrong rules", (PYTHON, "turn_rules.py", "--texts"), tools, 2),
         Group("tests of the tools", (PYTHON, "-B", "-m", "unittest", "discover", "tests"), tools, 10),

@@ -125,7 +125,7 @@ fn count_there(bench: &mut Workbench, newer: u8, older: u8) -> Option<u32> {
         if is_there && count < address {
             return None;
         }
-        count += u32::from(is_there);
+        count = count.saturating_add(u32::from(is_there));
     }
     if count % 32 == 0 {
         Some(count / 32)

@@ -1,0 +1,290 @@
+//! Lives of a device one after another, each from an opening to a stop.
+use crate::fault::Fault;
+use crate::kept::Kept;
+use crate::player::{Player, Stop};
+use crate::shapes::{PAGES, Shape};
+use std::alloc::Global;
+use workbench::collected::{EACH_LEFT, Left};
+use workbench::new_dies;
+
+/// So many other blocks are read in each life, and all blocks in each so many-th life.
+const READ_BACK: u32 = 4;
+
+const ALL_READ: u32 = 128;
+
+/// The stamp of the write that a device over copies takes.
+const TRIED: u32 = u32::MAX;
+
+/// Up to so many WRITEs are begun one straight after another, and so many times in a life.
+const MOST_WRITES: u32 = 16;
+
+const MOST_BATCHES: u32 = 6;
+
+/// The stops after so many jobs, from 1 on, are tried.
+const MOST_JOBS: u32 = 50;
+
+/// What happens in each life.
+#[derive(Clone, Copy, PartialEq, Eq)]
+pub enum Plan {
+    /// The device is mended, and stopped.
+    NoWrite,
+    /// It is mended, and stopped after one durable write.
+    OneWrite,
+    /// The stop comes in the first mark that is programmed. The dies are new at first, and for a quarter of the
+    /// lives no mark is left whole.
+    FirstMark,
+    /// The device is mended and written, and the stop comes in the next mark that is programmed: that of a
+    /// collection.
+    NextMark,
+    /// The stop comes after as many jobs as in the life before, for a fiftieth of the lives each number from 1 on.
+    SameJob,
+    /// The stop comes after one job more than in the life before, and after 50 it begins at 1 again.
+    EachJob,
+    /// The same, while one die in turn does none of its jobs: the first that it has stays in flight.
+    HeldDie,
+}
+
+/// All of these.
+pub const PLANS: [Plan; 7] = [
+    Plan::NoWrite,
+    Plan::OneWrite,
+    Plan::FirstMark,
+    Plan::NextMark,
+    Plan::SameJob,
+    Plan::EachJob,
+    Plan::HeldDie,
+];
+
+impl Plan {
+    /// The word that names it.
+    pub fn name(self) -> &'static str {
+        match self {
+            Plan::NoWrite => "no-write",
+            Plan::OneWrite => "one-write",
+            Plan::FirstMark => "first-mark",
+            Plan::NextMark => "next-mark",
+            Plan::SameJob => "same-job",
+            Plan::EachJob => "each-job",
+            Plan::HeldDie => "held-die",
+        }
+    }
+}
+
+/// A row: a plan, how many lives it has, and on how many dies.
+#[derive(Clone, Copy)]
+pub struct Row {
+    pub plan: Plan,
+    pub dies: u8,
+    pub lives: u32,
+}
+
+/// A device that goes from life to life, what its host knows of it, and the most rounds that a mending took.
+#[derive(Drop)]
+pub struct Series {
+    alloc: Global,
+    row: Row,
+    shape: Shape,
+    player: Player,
+    kept: Kept,
+    /// How many lives came to their end.
+    pub ended: u32,
+    pub rounds: u32,
+}
+
+/// How many WRITEs this life begins one straight after another.
+fn batch_of(life: u32) -> u32 {
+    life % MOST_WRITES + 1
+}
+
+impl Series {
+    /// A new device, mended and with each block of its unit written.
+    pub fn new(alloc: Global, row: Row) -> Result<Series, Fault> {
+        let shape = Shape::of_dies(row.dies);
+        let dies = new_dies(alloc, shape.dies, shape.blocks, PAGES)?;
+        let mut series = Series {
+            alloc,
+            row,
+            shape,
+            player: Player::new(alloc, shape, dies)?,
+            kept: Kept::new(alloc, shape.unit)?,
+            ended: 0,
+            rounds: 0,
+        };
+        if row.plan != Plan::FirstMark {
+            series.fill()?;
+        }
+        Ok(series)
+    }
+
+    /// How many jobs the dies did in these lives.
+    pub fn jobs(&self) -> u64 {
+        self.player.jobs
+    }
+
+    /// Each block of the unit is written.
+    fn fill(&mut self) -> Result<(), Fault> {
+        self.mend(Stop::Never)?;
+        for address in 0..self.kept.unit() {
+            self.player.write_at(&mut self.kept, address, Stop::Never)?;
+        }
+        Ok(())
+    }
+
+    /// Waits until the device is mended: whether it is, or the stop is due first.
+    fn mend(&mut self, stop: Stop) -> Result<bool, Fault> {
+        let Some(rounds) = self.player.mend(stop)? else {
+            return Ok(false);
+        };
+        self.rounds = self.rounds.max(rounds);
+        Ok(true)
+    }
+
+    /// After how many jobs the stop comes in this life.
+    fn jobs_of(&self, life: u32) -> u32 {
+        match self.row.plan {
+            Plan::SameJob => life / (self.row.lives / MOST_JOBS).max(1) % MOST_JOBS + 1,
+            _ => life % MOST_JOBS + 1,
+        }
+    }
+
+    /// Writes until the stop is due, or as often as in a life.
+    fn write_on(&mut self, life: u32, stop: Stop) -> Result<(), Fault> {
+        for _ in 0..MOST_BATCHES {
+            if !self
+                .player
+                .write_batch(&mut self.kept, batch_of(life), stop)?
+            {
+                return Ok(());
+            }
+        }
+        Ok(())
+    }
+
+    /// Writes up to the stop in a mark; where none comes, the life ends in the middle of its last WRITEs.
+    fn write_to_mark(&mut self, life: u32) -> Result<(), Fault> {
+        for _ in 0..MOST_BATCHES {
+            if !self
+                .player
+                .write_batch(&mut self.kept, batch_of(life), Stop::InMark)?
+            {
+                return Ok(());
+            }
+        }
+        let jobs = self.player.done.saturating_add(life % 8 + 1);
+        self.player
+            .write_batch(&mut self.kept, batch_of(life), Stop::AfterJobs(jobs))?;
+        Ok(())
+    }
+
+    /// The device is mended and written until the stop is due.
+    fn mend_and_write(&mut self, life: u32, stop: Stop) -> Result<(), Fault> {
+        if self.mend(stop)? {
+            self.write_on(life, stop)?;
+        }
+        Ok(())
+    }
+
+    /// The device is mended; then a die is held while it is written until the stop is due.
+    fn live_beside_held(&mut self, life: u32) -> Result<(), Fault> {
+        if life % 2 == 0 {
+            self.mend(Stop::Never)?;
+        }
+        if self.shape.dies > 1 {
+            self.player.held = Some((life / 2 % u32::from(self.shape.dies.max(1))) as u8);
+        }
+        let jobs = self.jobs_of(life).saturating_add(MOST_JOBS);
+        self.mend_and_write(life, Stop::AfterJobs(jobs))
+    }
+
+    /// What the host does in this life, up to its stop.
+    fn live(&mut self, life: u32) -> Result<(), Fault> {
+        match self.row.plan {
+            Plan::NoWrite => {
+                self.mend(Stop::Never)?;
+            }
+            Plan::OneWrite => {
+                self.mend(Stop::Never)?;
+                self.player.write_batch(&mut self.kept, 1, Stop::Never)?;
+            }
+            Plan::FirstMark => {
+                if self.mend(Stop::InMark)? {
+                    self.write_to_mark(life)?;
+                }
+            }
+            Plan::NextMark => {
+                self.mend(Stop::Never)?;
+                self.write_to_mark(life)?;
+            }
+            Plan::HeldDie => self.live_beside_held(life)?,
+            Plan::SameJob | Plan::EachJob => {
+                let jobs = self.jobs_of(life);
+                self.mend_and_write(life, Stop::AfterJobs(jobs))?;
+            }
+        }
+        Ok(())
+    }
+
+    /// The life ends: in each other one dies without a job are given their next ones before it.
+    fn stop(&mut self, life: u32) -> Result<(), Fault> {
+        let has_jobs = matches!(self.row.plan, Plan::SameJob | Plan::EachJob);
+        if has_jobs && life % 2 == 1 {
+            self.player.begin_next()?;
+        }
+        let left = self.left_in(life);
+        self.player.stop(left)?;
+        self.kept.stop();
+        Ok(())
+    }
+
+    /// What the jobs in flight leave at the end of this life, in turn.
+    fn left_in(&self, life: u32) -> Left {
+        if self.row.plan == Plan::FirstMark && life < self.row.lives / 4 {
+            if life % 2 == 0 { Left::Old } else { Left::Torn }
+        } else {
+            EACH_LEFT[(life % 3) as usize]
+        }
+    }
+
+    /// A device that is opened over copies of the dies is mended, takes a write, and has what was kept.
+    fn try_copies(&mut self, life: u32) -> Result<(), Fault> {
+        let mut player = Player::new(self.alloc, self.shape, self.player.copies()?)?;
+        if let Some(rounds) = player.mend(Stop::Never)? {
+            self.rounds = self.rounds.max(rounds);
+        }
+        player.expect_begun(&mut self.kept)?;
+        self.expect_some(&mut player)?;
+        if life % ALL_READ == 0 {
+            self.expect_all(&mut player)?;
+        }
+        player.expect_written(life % self.kept.unit().max(1), TRIED)
+    }
+
+    /// Some blocks are read.
+    fn expect_some(&mut self, player: &mut Player) -> Result<(), Fault> {
+        let last = self.kept.next_stamp();
+        for stamp in last.saturating_sub(READ_BACK)..last {
+            let address = self.kept.address_of(stamp, 1);
+            player.expect(&mut self.kept, address)?;
+        }
+        Ok(())
+    }
+
+    /// All blocks are read.
+    fn expect_all(&mut self, player: &mut Player) -> Result<(), Fault> {
+        for address in 0..self.kept.unit() {
+            player.expect(&mut self.kept, address)?;
+        }
+        Ok(())
+    }
+
+    /// All lives of the row.
+    pub fn play(&mut self) -> Result<(), Fault> {
+        for life in 0..self.row.lives {
+            self.live(life)?;
+            self.stop(life)?;
+            self.try_copies(life)?;
+            self.ended = self.ended.saturating_add(1);
+        }
+        Ok(())
+    }
+}
