@@ -6,7 +6,7 @@ ghost use Rattle.std.specs.Prelude.{true, ◌++◌};
 ghost use Rattle.ufs_spec.specs.Cells.{Array, Cells, Shows};
 ghost use Rattle.ufs_spec.specs.Lives.{Fit, IsOpened, array_of, bad_of};
 ghost use Rattle.ufs_spec.specs.Machine.{Done, OfDone, MayLeave, Turn, OfTurn};
-ghost use Rattle.ufs_spec.specs.Moves.{Ending, IsEndingOf, suits};
+ghost use Rattle.ufs_spec.specs.Moves.{Ending, IsEndingOf, outcome_fits};
 ghost use Rattle.ufs_spec.specs.Refusals.{State};
 ghost use Rattle.ufs_spec.specs.Translation.{Translation};
 ghost use Rattle.ftl_core.specs.Describes.{Describes as IsLayer};
@@ -129,7 +129,7 @@ impl Device {
     /// or the outcome is not of its kind.
     pub fn done(&mut self, die: u8, outcome: &Outcome) -> bool
         ensures nothing { result ≡ false → self.new ≡ self.old }
-        ensures known { (s : State) → Describes self.old s → result ≡ suits (s.translation.disk.flights die) outcome.now }
+        ensures known { (s : State) → Describes self.old s → result ≡ outcome_fits (s.translation.disk.flights die) outcome.now }
         // However the job ended: what is kept then describes what this end makes of the specified device.
         ensures ended { (s : State) (ending : Ending) (left : Array) → Describes self.old s →
             IsEndingOf s.translation.disk.cells (s.translation.disk.flights die) outcome.now ending → MayLeave s die ending left →
@@ -143,7 +143,7 @@ impl Device {
     pub fn done_opened(&mut self, die: u8, outcome: &Outcome, tag: &Option<Tag>) -> bool
         requires { IsTagRead outcome.now tag.now }
         ensures nothing { result ≡ false → self.new ≡ self.old }
-        ensures known { (s : State) → Describes self.old s → result ≡ suits (s.translation.disk.flights die) outcome.now }
+        ensures known { (s : State) → Describes self.old s → result ≡ outcome_fits (s.translation.disk.flights die) outcome.now }
         // However the job ended: what is kept then describes what this end makes of the specified device.
         ensures ended { (s : State) (ending : Ending) (left : Array) → Describes self.old s →
             IsEndingOf s.translation.disk.cells (s.translation.disk.flights die) outcome.now ending → MayLeave s die ending left →

@@ -10,7 +10,7 @@ use Rattle.ufs_spec.specs.Dies.{with_block, with_page}
 use Rattle.ufs_spec.specs.Disk.{Erasing, Flight, Programming, Reading, job_of}
 use Rattle.ufs_spec.specs.Lives.{array_of}
 use Rattle.ufs_spec.specs.Machine.{Done, MayLeave, OfDone}
-use Rattle.ufs_spec.specs.Moves.{Ending, IsEndingOf, suits}
+use Rattle.ufs_spec.specs.Moves.{Ending, IsEndingOf, outcome_fits}
 use Rattle.ufs_spec.specs.Pages.{MayBeLeft}
 use Rattle.ufs_spec.specs.Refusals.{State, numbers_of}
 use Rattle.ufs_spec.specs.declared.configs.Numbers.{Numbers}
@@ -60,7 +60,7 @@ outcome_right s ds die f g flight o now pages home did = absurd did
 
 -- and of the kind of the job
 kind_right : (f g : ℕ) (before now : DieState) (flight : Flight) (o : Outcome) →
-    dies.Did f g before (job_of flight) o now → suits (Some flight) o ≡ true
+    dies.Did f g before (job_of flight) o now → outcome_fits (Some flight) o ≡ true
 kind_right f g before now (Reading who p) (outcome.Read page) did = refl
 kind_right f g before now (Reading who p) outcome.ReadFailed did = refl
 kind_right f g before now (Programming p cell) outcome.Done did = refl
@@ -202,7 +202,7 @@ module _ (w : WorldState) (s : State) (die : ℕ) (fit : Fits w s) (after : Devi
 module _ {D : Type 0} (state : D → DieState) (failed : D → ℕ) where
   pub done_meets : (before after : DeviceCore) (number : ℕ) (o : Outcome) (known : Bool) (die : D)
       (lane : Option (LaneView D)) → HasDone state failed lane number die o →
-      ((s : State) → Describes before s → known ≡ suits (s.translation.disk.flights number) o) →
+      ((s : State) → Describes before s → known ≡ outcome_fits (s.translation.disk.flights number) o) →
       ((s : State) (ending : Ending) (left : Array) → Describes before s →
       IsEndingOf s.translation.disk.cells (s.translation.disk.flights number) o ending → MayLeave s number ending left →
       (known ≡ true) × IsAnswered s (Done number ending left) (OfDone true) after) →
@@ -220,7 +220,7 @@ module _ {D : Type 0} (state : D → DieState) (failed : D → ℕ) where
         in
         let flies = has_flight w s number j fits has in
         let known_is : known ≡ true =
-        kind s describes ∙ ap (λ (x : Option Flight). suits x o) flies.1
+        kind s describes ∙ ap (λ (x : Option Flight). outcome_fits x o) flies.1
         ∙ kind_right (failed l.content) (failed die) (die_at w.dies number) (state die) flies.0 o
         (subst (λ (x : Job). dies.Did (failed l.content) (failed die) (die_at w.dies number) x o (state die)) (sym
         flies.2) did) in

@@ -58,12 +58,14 @@ pub use Rattle.ufs_spec.specs.Ledger.{index_in, is_name, is_standing, latest, la
 pub use Rattle.ufs_spec.specs.Ledger.{looked_at, looked_on, name_or, next_number, page_stands, same_name, settled_look}
 pub use Rattle.ufs_spec.specs.Moves.{Accept, Acknowledge, Claim, EndJob, Ending, GiveJob, IsAllowedMove, IsGroup, Keep}
 pub use Rattle.ufs_spec.specs.Moves.{KeysDiffer, LetGo, LetGoAll, MayEnd, Move, ReadRight, ReadWrong, Release, TakeStep}
-pub use Rattle.ufs_spec.specs.Moves.{WantPage, WentWell, WentWrong, die_idle, end_flight, fits, freed, is_for}
+pub use Rattle.ufs_spec.specs.Moves.{WantPage, WentWell, WentWrong, die_idle, end_flight, ending_fits, freed, is_for}
 pub use Rattle.ufs_spec.specs.Moves.{is_for_task, is_kind_of, is_pin_of, job_ended, mark_again, mending_after, moved}
 pub use Rattle.ufs_spec.specs.Moves.{read_right, read_wrong, settled_pin, step_after, step_there, with_wanted}
 pub use Rattle.ufs_spec.specs.Moves.{without_reader}
-pub use Rattle.ufs_spec.specs.Openings.{AreFirstBlocks, AreLost, HasName, HasStandIn, IsAtMost, IsBefore, IsEntry, IsFirst}
-pub use Rattle.ufs_spec.specs.Openings.{IsFirstFence, IsMendingAt, IsOpenedTranslation, IsSpare, IsTakenBefore, IsGreatestSeen, Overwrites, StandsAt}
+pub use Rattle.ufs_spec.specs.Openings.{AreFirstBlocks, AreLost, HasName, HasStandIn, IsAtMost, IsBefore, IsEntry}
+pub use Rattle.ufs_spec.specs.Openings.{IsFirst}
+pub use Rattle.ufs_spec.specs.Openings.{IsFirstFence, IsMendingAt, IsOpenedTranslation, IsSpare, IsTakenBefore}
+pub use Rattle.ufs_spec.specs.Openings.{IsGreatestSeen, Overwrites, StandsAt}
 pub use Rattle.ufs_spec.specs.Openings.{lost_from}
 pub use Rattle.ufs_spec.specs.Openings.{number_of}
 pub use Rattle.ufs_spec.specs.Pages.{IsCheckRight, MayBeLeft}

@@ -39,7 +39,7 @@ pub data BlockState : Type 0 where
   Free : BlockState
   -- it was erased in this life, and this page of it is programmed next
   Filling : (next : ℕ) → BlockState
-  -- it is full, or something was in it at the life's start
+  -- it is full, or something in it was needed at the life's start
   Closed : BlockState
   -- one of its jobs failed, in this life or before
   Bad : BlockState

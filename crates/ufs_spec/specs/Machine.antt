@@ -23,8 +23,9 @@ use Rattle.ufs_spec.specs.Exchanges.{short_reply, task_of, with_deed, without_sh
 use Rattle.ufs_spec.specs.Keys.{below, data_key, group_of}
 use Rattle.ufs_spec.specs.Ledger.{InSlot, Looked, OnPage, Unwritten, before_accepted, look}
 use Rattle.ufs_spec.specs.Messages.{Spells, host_fault_of, is_among, zeros}
-use Rattle.ufs_spec.specs.Moves.{Accept, Claim, EndJob, Ending, Keep, LetGo, LetGoAll, Move, ReadRight, ReadWrong}
-use Rattle.ufs_spec.specs.Moves.{Release, GiveJob, Acknowledge, TakeStep, WantPage, WentWell, WentWrong, fits}
+use Rattle.ufs_spec.specs.Moves.{Accept, Claim, EndJob, Ending, IfWrong, Keep, LetGo, LetGoAll, Move, ReadRight}
+use Rattle.ufs_spec.specs.Moves.{ReadWrong, Release, GiveJob, Acknowledge, TakeStep, WantPage, WentWell, WentWrong}
+use Rattle.ufs_spec.specs.Moves.{ending_fits}
 use Rattle.ufs_spec.specs.Moves.{is_pin_of, moved}
 use Rattle.ufs_spec.specs.Plain.{block_at}
 use Rattle.ufs_spec.specs.Stages.{manages_tasks}
@@ -155,11 +156,8 @@ is_durable s (Some commands) = nat_le commands (durable s)
 -- one job may leave (`Crash`), shown by these cells. Of every other ending nothing is said here: what it makes of
 -- the pages is known (`array_done`)
 abbrev pub MayLeave : State → ℕ → Ending → Array → Type 0
-MayLeave s die (WentWrong cells) left =
-    Crash s.array (flight_alone s.translation.disk.flights die) left × Shows left cells
-MayLeave s die ReadRight left = Unit {0}
-MayLeave s die ReadWrong left = Unit {0}
-MayLeave s die WentWell left = Unit {0}
+MayLeave s die ending left =
+    IfWrong ending (λ cells. Crash s.array (flight_alone s.translation.disk.flights die) left × Shows left cells)
 
 -- the message is the next reply of some task, or the reply of a short exchange that awaits nothing more. The replies of
 -- one tag come in order; of several tags any may go first
@@ -230,14 +228,14 @@ MayReply s (Some m) = Due s m
 MayReply s None = (m : Message) → Due s m → ⊥
 
 -- the answer to the call is right. A message is taken, or its lowest fault told; a job is one that `MayTake` gives;
--- the end of a job is known exactly if it `fits`; a turn is answered yes exactly if a step is due; a reply is one that
--- `MayReply` gives. An answer to another call is never right. The contracts of the five calls cite this
+-- the end of a job is known exactly if it fits the job; a turn is answered yes exactly if a step is due; a reply is one
+-- that `MayReply` gives. An answer to another call is never right. The contracts of the five calls cite this
 abbrev pub Allowed : State → Call → Answer → Type 0
 Allowed s (Host heard) (OfHost result) = MayHear s heard result
 Allowed s (Host heard) answer = ⊥
 Allowed s (Take die) (OfTake flight) = MayTake s.translation die flight
 Allowed s (Take die) answer = ⊥
-Allowed s (Done die ending left) (OfDone known) = known ≡ fits (s.translation.disk.flights die) ending
+Allowed s (Done die ending left) (OfDone known) = known ≡ ending_fits (s.translation.disk.flights die) ending
 Allowed s (Done die ending left) answer = ⊥
 Allowed s Turn (OfTurn due) = due ≡ is_step_due s.translation
 Allowed s Turn answer = ⊥

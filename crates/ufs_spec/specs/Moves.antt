@@ -11,7 +11,8 @@ use Rattle.ufs_spec.specs.Keys.{Group, IsBlock, IsKey, IsSettingsBody, Item}
 use Rattle.ufs_spec.specs.Ledger.{Ledger, Name, before_accepted, look, page_stands, same_name, settled_look}
 use Rattle.ufs_spec.specs.Plain.{shape_of_numbers}
 use Rattle.ufs_spec.specs.Translation.{CopyStep, MarkStep, MayTake, Mended, Mending, Pin, Plan, RepairStep, Repairing}
-use Rattle.ufs_spec.specs.Translation.{Rest, Step, StepKind, Translation, Unmarked, awaits, free_slots, has_mark_number}
+use Rattle.ufs_spec.specs.Translation.{Rest, Step, StepKind, Translation, Unmarked, awaited_read, free_slots}
+use Rattle.ufs_spec.specs.Translation.{has_mark_number}
 use Rattle.ufs_spec.specs.Translation.{has_number, is_mended, mark_ordered, name_of, rests_of, taken, turned}
 use Rattle.ufs_spec.specs.declared.flash.Fence.{Fence}
 use Rattle.ufs_spec.specs.declared.flash.Key.{Key}
@@ -117,7 +118,7 @@ step_there (Some step) = Some (record step { there = true })
 -- the rests that are still owed once the read of this name ended well: not its own, and not those
 -- that wait for the same read
 abbrev pub rests_without : Name → List Rest → List Rest
-rests_without name rests = filter (λ (rest : Rest). not (same_name (awaits rest.name rest.source) name)) rests
+rests_without name rests = filter (λ (rest : Rest). not (same_name (awaited_read rest) name)) rests
 
 -- the page that was wanted was read: a task has its block, the step its content, a page of a group
 -- its rest; for nobody nothing follows
@@ -183,29 +184,33 @@ is_read_outcome outcome.Done = false
 is_read_outcome outcome.Failed = false
 
 -- whether both are true or both false
-abbrev pub agree : Bool → Bool → Bool
-agree a b = if a then b else not b
+abbrev pub same_bool : Bool → Bool → Bool
+same_bool a b = if a then b else not b
 
 -- the ending is one that the job of a die can have: a read has those of reads, a program and an erase the others
-abbrev pub fits : Option Flight → Ending → Bool
-fits None ending = false
-fits (Some flight) ending = agree (is_read_job flight) (is_read_ending ending)
+abbrev pub ending_fits : Option Flight → Ending → Bool
+ending_fits None ending = false
+ending_fits (Some flight) ending = same_bool (is_read_job flight) (is_read_ending ending)
 
 -- the outcome is one that the job of a die can have, likewise
-abbrev pub suits : Option Flight → Outcome → Bool
-suits None outcome = false
-suits (Some flight) outcome = agree (is_read_job flight) (is_read_outcome outcome)
+abbrev pub outcome_fits : Option Flight → Outcome → Bool
+outcome_fits None outcome = false
+outcome_fits (Some flight) outcome = same_bool (is_read_job flight) (is_read_outcome outcome)
+
+-- this holds of the cells that a failed program or erase left; of every other ending nothing is said
+abbrev pub IfWrong : Ending → (Cells → Type 0) → Type 0
+IfWrong ReadRight P = Unit {0}
+IfWrong ReadWrong P = Unit {0}
+IfWrong WentWell P = Unit {0}
+IfWrong (WentWrong left) P = P left
 
 -- a job that failed leaves what an interruption of only that job may
 abbrev pub MayLeaveCells : Disk → ℕ → Ending → Type 0
-MayLeaveCells d die ReadRight = Unit {0}
-MayLeaveCells d die ReadWrong = Unit {0}
-MayLeaveCells d die WentWell = Unit {0}
-MayLeaveCells d die (WentWrong left) = CellCrash d.cells (flight_alone d.flights die) left
+MayLeaveCells d die ending = IfWrong ending (λ left. CellCrash d.cells (flight_alone d.flights die) left)
 
 -- the job of a die may end so: the ending is one that it can have, and leaves what it may
 abbrev pub MayEnd : Disk → ℕ → Option Flight → Ending → Type 0
-MayEnd d die flight ending = (fits flight ending ≡ true) × MayLeaveCells d die ending
+MayEnd d die flight ending = (ending_fits flight ending ≡ true) × MayLeaveCells d die ending
 
 -- How a job ends by what its die reports
 
@@ -234,7 +239,8 @@ Means cell outcome ending = ⊥
 
 -- how the job ended by what its die reports: the outcome is one that the job can have, and means the ending
 abbrev pub IsEndingOf : Cells → Option Flight → Outcome → Ending → Type 0
-IsEndingOf cells flight outcome ending = (suits flight outcome ≡ true) × Means (cell_read cells flight) outcome ending
+IsEndingOf cells flight outcome ending =
+    (outcome_fits flight outcome ≡ true) × Means (cell_read cells flight) outcome ending
 
 -- Moves
 
@@ -307,10 +313,10 @@ without_reader is flight = flight
 
 -- a task lets go of these pins, and a read that a die does for it is for nobody from then on
 abbrev pub let_go : Translation → (Pin → Bool) → (Reader → Bool) → Translation
-let_go t keeps reads =
+let_go t of_pin of_reader =
     record t {
-      disk = record t.disk { flights = λ die. without_reader reads (t.disk.flights die) };
-      pins = filter (λ pin. not (keeps pin)) t.pins;
+      disk = record t.disk { flights = λ die. without_reader of_reader (t.disk.flights die) };
+      pins = filter (λ pin. not (of_pin pin)) t.pins;
     }
 
 -- the end of the job of a die, if it has one

@@ -1,6 +1,7 @@
 -- What a device holds, as a host sees it, and what each command makes of it (JESD220, 10.8 logical units, 12.4 RPMB;
 -- the commands are this profile's). There are no pages, numbers or tables in it.
-use Rattle.std.specs.Prelude.{◌≡◌, ℕ, ◌+◌, ◌*◌, ◌<◌, ◌≤◌, Bool, true, false, List, ◌++◌, length, take, drop, map, fold}
+use Rattle.std.specs.Prelude.{◌≡◌, ℕ, ◌+◌, ◌-◌, ◌*◌, ◌^◌, ◌<◌, ◌≤◌, Bool, true, false, List, ◌++◌, length, take, drop}
+use Rattle.std.specs.Prelude.{map, fold}
 use Rattle.std.specs.Prelude.{replicate, slice_index_or, slice_set, [], Option, Some, None}
 unfoldable pub use Rattle.ufs_bytes.specs.Blocks.{zero_block}
 use Rattle.ufs_spec.specs.declared.configs.Numbers.{Numbers}
@@ -116,9 +117,14 @@ LiesWithin s (RpmbWrite address bytes) = IsAreaPart s address (length bytes)
 LiesWithin s (SetBoot boot) = boot ≤ 2
 LiesWithin s SetPermanent = Unit {0}
 
--- an RPMB write finds the counter below FFFFFFFFh, so that it can still be raised
+-- the last value of the write counter, FFFFFFFFh: no write passes any more, so that no counter is used twice
+-- (JESD220, 12.4)
+abbrev pub counter_end : ℕ
+counter_end = 2 ^ 32 - 1
+
+-- an RPMB write finds the counter below its end, so that it can still be raised
 abbrev pub FindsCounter : ℕ → Command → Type 0
-FindsCounter counter (RpmbWrite address bytes) = counter < 4294967295
+FindsCounter counter (RpmbWrite address bytes) = counter < counter_end
 FindsCounter counter _ = Unit {0}
 
 -- the command lies within what a device of this configuration has

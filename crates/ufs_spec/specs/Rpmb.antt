@@ -8,7 +8,7 @@ use Rattle.sha2.specs.Sha256.{sha256}
 use Rattle.ufs_spec.specs.Commands.{Command, RpmbWrite, SetKey}
 use Rattle.ufs_spec.specs.Exchanges.{Registers, Status, invalid_list_field, sequence_error}
 use Rattle.ufs_spec.specs.Frames.{Frame, covered_bytes}
-use Rattle.ufs_spec.specs.Plain.{Plain, apply}
+use Rattle.ufs_spec.specs.Plain.{Plain, apply, counter_end}
 
 -- ## The MAC (RFC 2104, HMAC with SHA-256 of FIPS 180-4)
 
@@ -92,10 +92,6 @@ first_failed (c ∷ cs) = if c.fails then Some c.result else first_failed cs
 -- a key is set; until then only setting it, and asking for a result, can succeed
 abbrev pub has_key : Plain → Bool
 has_key p = is_some p.key
-
--- the last value of the write counter, FFFFFFFFh: no write passes any more, so that no counter is used twice
-abbrev pub counter_end : ℕ
-counter_end = 2 ^ 32 - 1
 
 -- the request names blocks of 256 bytes past the end of the area
 abbrev pub is_past_area : Plain → Frame → Bool

@@ -395,17 +395,21 @@ waiting_step t (Some step) = if step.there && not (step_flies t step.kind) then 
 abbrev pub is_rest_of : Name → Rest → Bool
 is_rest_of name rest = same_name rest.name name
 
--- the name of the page whose read the rest waits for: its own, or that of the slot
-abbrev pub awaits : Name → Source → Name
-awaits name (FromPage place) = name
-awaits name (FromSlot other) = other
+-- the name of the page whose read gives a page of this name its rest: its own, or that of the slot
+abbrev pub read_from : Name → Source → Name
+read_from name (FromPage place) = name
+read_from name (FromSlot other) = other
+
+-- the name of the page whose read the rest waits for
+abbrev pub awaited_read : Rest → Name
+awaited_read rest = read_from rest.name rest.source
 
 -- where the rest of a page comes from that was looked up: nothing is owed of what was never written, nor of
 -- a slot that has its content
 abbrev pub source_of : List Rest → Looked → Option Source
 source_of rests Unwritten = None
 source_of rests (OnPage name place) = Some (FromPage place)
-source_of rests (InSlot name) = option_map (λ (rest : Rest). FromSlot (awaits rest.name rest.source))
+source_of rests (InSlot name) = option_map (λ (rest : Rest). FromSlot (awaited_read rest))
     (find (is_rest_of name) rests)
 
 -- only a page of the RPMB area is had in part: an RPMB write has at most 8 of its 16 blocks

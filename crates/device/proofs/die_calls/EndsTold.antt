@@ -11,8 +11,9 @@ use Rattle.ufs_spec.specs.Exchanges.{NotRead, ReadState, WasRead, task_of}
 use Rattle.ufs_spec.specs.Ledger.{before_accepted}
 use Rattle.ufs_spec.specs.Machine.{Done, MayLeave, OfDone, array_after, ends_with, read_noted_after, task_read}
 use Rattle.ufs_spec.specs.Machine.{with_moves}
-use Rattle.ufs_spec.specs.Moves.{EndJob, Ending, IsEndingOf, Means, ReadRight, ReadWrong, WentWell, WentWrong, agree}
-use Rattle.ufs_spec.specs.Moves.{cell_read, end_flight, fits, is_pin_of, is_read_ending, is_read_job, is_read_outcome}
+use Rattle.ufs_spec.specs.Moves.{EndJob, Ending, IsEndingOf, Means, ReadRight, ReadWrong, WentWell, WentWrong}
+use Rattle.ufs_spec.specs.Moves.{cell_read, end_flight, ending_fits, is_pin_of, is_read_ending, is_read_job}
+use Rattle.ufs_spec.specs.Moves.{is_read_outcome, same_bool}
 use Rattle.ufs_spec.specs.Moves.{job_ended, moved, with_wanted}
 use Rattle.ufs_spec.specs.Refusals.{State}
 use Rattle.ufs_spec.specs.Exchanges.{most_tasks}
@@ -58,10 +59,10 @@ means_same cell outcome.Failed (WentWrong left) h = refl
 means_same cell o ending h = absurd h
 
 pub ending_fits : (cells : Cells) (x : Option Flight) (o : Outcome) (ending : Ending) → IsEndingOf cells x o ending →
-    fits x ending ≡ true
+    ending_fits x ending ≡ true
 ending_fits cells None o ending h = h.0
 ending_fits cells (Some flight) o ending h =
-    ap (agree (is_read_job flight)) (sym (means_same (cell_read cells (Some flight)) o ending h.1)) ∙ h.0
+    ap (same_bool (is_read_job flight)) (sym (means_same (cell_read cells (Some flight)) o ending h.1)) ∙ h.0
 
 -- The content of a page that was read
 
@@ -208,7 +209,7 @@ module _ (d : DeviceCore) (s : State) (die : ℕ) (left : Array) (after : Core) 
   -- if this job ends so and this is told of it, what is kept then is kept of the state behind it
   abbrev EndKeeps : Option Flight → Ending → Type 0
   EndKeeps x ending =
-      s.translation.disk.flights die ≡ x → fits x ending ≡ true → IsTold s.translation.disk.cells x ending e →
+      s.translation.disk.flights die ≡ x → ending_fits x ending ≡ true → IsTold s.translation.disk.cells x ending e →
       layer_kept.Describes after (moved s.translation (EndJob die ending)) →
       Keeps (told (record d { ftl = after }) e) (ends_with s die x ending left)
 

@@ -13,7 +13,7 @@ use Rattle.ufs_spec.specs.Lives.{Fit, IsOpened, array_of, bad_of, ended_well}
 use Rattle.ufs_spec.specs.Machine.{Reply, Done, OfDone, Take, OfTake, Heard, OfHost, Host, OfReply, Turn, OfTurn}
 use Rattle.ufs_spec.specs.Machine.{array_after, given, hears, in_block, fills, lock_applied, observe, replied}
 use Rattle.ufs_spec.specs.Machine.{with_moves}
-use Rattle.ufs_spec.specs.Moves.{Ending, IsEndingOf, TakeStep, fits}
+use Rattle.ufs_spec.specs.Moves.{Ending, IsEndingOf, TakeStep, ending_fits}
 use Rattle.ufs_spec.specs.Refusals.{State}
 use Rattle.ufs_spec.specs.Translation.{MayTake, is_bad}
 use Rattle.ufs_spec.specs.declared.configs.Numbers.{Numbers}
@@ -261,7 +261,7 @@ module _ (dies : List DieState) (jobs : List (Option Job)) (s : State) (fit : Fi
   -- behind the end of a job the dies that hold what is behind it fit
   pub ended_fits : (die : ℕ) (flight : Flight) (ending : Ending) (left : Array) (after : List DieState) (array : Array)
       (blocks : Spot → BlockState) → HaveNoRequest s.tasks → flights die ≡ Some flight →
-      fits (Some flight) ending ≡ true → Fit n after → AreBehind n after array blocks →
+      ending_fits (Some flight) ending ≡ true → Fit n after → AreBehind n after array blocks →
       seen (observe s (Done die ending left) (OfDone true))
       ≡ seen_over array (record { numbers = n; blocks = blocks }) →
       FitState after (slice_set jobs die None) (observe s (Done die ending left) (OfDone true))

@@ -7,7 +7,7 @@ use Rattle.ufs_spec.specs.Disk.{job_of, spot_of}
 use Rattle.ufs_spec.specs.Ledger.{before_accepted}
 use Rattle.ufs_spec.specs.Lives.{Fit, IsFailure, IsLawfulLeftover, IsLeft, IsLeftoverOf, array_of, die_of}
 use Rattle.ufs_spec.specs.Machine.{Done, OfDone, MayLeave, observe}
-use Rattle.ufs_spec.specs.Moves.{Ending, IsEndingOf, ReadWrong, WentWrong, fits}
+use Rattle.ufs_spec.specs.Moves.{Ending, IsEndingOf, ReadWrong, WentWrong, ending_fits}
 use Rattle.ufs_spec.specs.Refusals.{State, numbers_of}
 use Rattle.ufs_spec.specs.declared.configs.Numbers.{Numbers}
 use Rattle.ufs_spec.specs.declared.events.Event.TheVariants as event
@@ -81,7 +81,7 @@ module _ (w : WorldState) (s : State) (die : ℕ) (l : Leftover) (fit : Fits w s
 
   -- whichever job it is
   fails : (flight : Flight) (core : DeviceCore) (c : Cells) (left : Array) → flights die ≡ Some flight →
-      IsFailure s die (Some flight) (Some l) (WentWrong c) left → fits (Some flight) (WentWrong c) ≡ true →
+      IsFailure s die (Some flight) (Some l) (WentWrong c) left → ending_fits (Some flight) (WentWrong c) ≡ true →
       IsLeft s.array (l ∷ []) left →
       seen (observe s (Done die (WentWrong c) left) (OfDone true))
       ≡ seen_over left (layer_failed s.translation (spot_left l)) →

@@ -8,7 +8,7 @@ use Rattle.ufs_spec.specs.Disk.{spot_of, state_after}
 use Rattle.ufs_spec.specs.Exchanges.{NotRead, ReadState, WasRead}
 use Rattle.ufs_spec.specs.Lives.{ended_well}
 use Rattle.ufs_spec.specs.Machine.{Done, OfDone, array_after, ends_with, observe, read_noted, read_noted_after}
-use Rattle.ufs_spec.specs.Moves.{Ending, ReadRight, ReadWrong, WentWell, WentWrong, die_idle, end_flight, fits}
+use Rattle.ufs_spec.specs.Moves.{Ending, ReadRight, ReadWrong, WentWell, WentWrong, die_idle, end_flight, ending_fits}
 use Rattle.ufs_spec.specs.Moves.{freed, job_ended, read_right, read_wrong}
 use Rattle.ufs_spec.specs.Refusals.{State}
 use Rattle.ufs_spec.specs.Translation.{Translation, has_mark_number}
@@ -126,9 +126,9 @@ seen_erase_failed s die spot c left flies = seen_ended s die (Erasing spot) (Wen
 
 pub flights_behind : (s : State) (die : ℕ) (flight : Flight) (ending : Ending) (left : Array) → HaveNoRequest s.tasks →
     s.translation.disk.flights die ≡ Some flight → die_of_flight flight ≡ die →
-    fits (Some flight) ending ≡ true →
+    ending_fits (Some flight) ending ≡ true →
     (observe s (Done die ending left) (OfDone true)).translation.disk.flights
     ≡ at_die s.translation.disk.flights die None
 flights_behind s die flight ending left none flies home fit =
     jobs_behind s die flight ending left none flies home
-    (sym fit ∙ ap (λ (o : Option Flight). fits o ending) (sym flies))
+    (sym fit ∙ ap (λ (o : Option Flight). ending_fits o ending) (sym flies))

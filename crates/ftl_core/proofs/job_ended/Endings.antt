@@ -5,7 +5,8 @@ use Rattle.ufs_spec.proofs.Facts.{false≢true}
 use Rattle.ufs_spec.specs.Cells.{Cell, Cells, GroupPage}
 use Rattle.ufs_spec.specs.Disk as disk
 use Rattle.ufs_spec.specs.Disk.{ForNobody, ForStep, ForTask, Reader, Spot}
-use Rattle.ufs_spec.specs.Moves.{EndJob, Ending, IsEndingOf, MayEnd, end_flight, WentWell, WentWrong, moved, suits}
+use Rattle.ufs_spec.specs.Moves.{EndJob, Ending, IsEndingOf, MayEnd, end_flight, WentWell, WentWrong, moved}
+use Rattle.ufs_spec.specs.Moves.{outcome_fits}
 use Rattle.ufs_spec.specs.Translation.{Translation}
 use Rattle.ufs_spec.specs.declared.flash.Outcome.{Outcome}
 use Rattle.ufs_spec.specs.declared.flash.Place.{Place}
@@ -222,21 +223,21 @@ read_known : (c : Core) (reader : kept.Reader) (r : Option Ended) (d : Bool) (o 
 read_known c reader r false o gives = ap is_some gives
 read_known c reader r true o gives = ap is_some gives.1
 
-reads_suit : (who : Reader) (p : Place) (o : Outcome) → is_read o ≡ suits (Some (disk.Reading who p)) o
+reads_suit : (who : Reader) (p : Place) (o : Outcome) → is_read o ≡ outcome_fits (Some (disk.Reading who p)) o
 reads_suit who p outcome.Done = refl
 reads_suit who p outcome.Failed = refl
 reads_suit who p (outcome.Read page) = refl
 reads_suit who p outcome.ReadFailed = refl
 
 programs_suit : (p : Place) (cell : Cell) (o : Outcome) →
-    is_some (option_map other_for (gives.ending o)) ≡ suits (Some (disk.Programming p cell)) o
+    is_some (option_map other_for (gives.ending o)) ≡ outcome_fits (Some (disk.Programming p cell)) o
 programs_suit p cell outcome.Done = refl
 programs_suit p cell outcome.Failed = refl
 programs_suit p cell (outcome.Read page) = refl
 programs_suit p cell outcome.ReadFailed = refl
 
 erases_suit : (s : Spot) (o : Outcome) →
-    is_some (option_map other_for (gives.ending o)) ≡ suits (Some (disk.Erasing s)) o
+    is_some (option_map other_for (gives.ending o)) ≡ outcome_fits (Some (disk.Erasing s)) o
 erases_suit s outcome.Done = refl
 erases_suit s outcome.Failed = refl
 erases_suit s (outcome.Read page) = refl
@@ -244,9 +245,9 @@ erases_suit s outcome.ReadFailed = refl
 
 known_then : (c : Core) (t : Translation) (die : ℕ) (o : Outcome) (r : Option Ended) (b : Book) → Describes c t →
     slice_get c.books die ≡ Some b →
-    FlightEnds c b.flight o r → is_some r ≡ suits (t.disk.flights die) o
+    FlightEnds c b.flight o r → is_some r ≡ outcome_fits (t.disk.flights die) o
 known_then c t die o r b h there answer =
-    flight_cases t.numbers c.step die b.filling (λ f g. FlightEnds c f o r → is_some r ≡ suits g o)
+    flight_cases t.numbers c.step die b.filling (λ f g. FlightEnds c f o r → is_some r ≡ outcome_fits g o)
     (λ told. ap is_some told)
     (λ place tag index told.
     read_known c (readers.Task tag index) r (is_read o) o told ∙ reads_suit (ForTask tag index) place o)
@@ -260,12 +261,12 @@ known_then c t die o r b h there answer =
 
 known_of : (c : Core) (t : Translation) (die : ℕ) (o : Outcome) (r : Option Ended) (book : Option Book) →
     Describes c t → slice_get c.books die ≡ book →
-    BookEnds c book o r → is_some r ≡ suits (t.disk.flights die) o
+    BookEnds c book o r → is_some r ≡ outcome_fits (t.disk.flights die) o
 known_of c t die o r None h there answer = ap is_some answer
-    ∙ ap (λ (g : Option disk.Flight). suits g o) (sym (no_book c t die h there))
+    ∙ ap (λ (g : Option disk.Flight). outcome_fits g o) (sym (no_book c t die h there))
 known_of c t die o r (Some b) h there answer = known_then c t die o r b h there answer
 
 -- an answer is there exactly where the outcome is of the kind of the die's job
 pub ends_known : (c : Core) (die : ℕ) (o : Outcome) (r : Option Ended) → IsEnded c die o r →
-    (t : Translation) → Describes c t → is_some r ≡ suits (t.disk.flights die) o
+    (t : Translation) → Describes c t → is_some r ≡ outcome_fits (t.disk.flights die) o
 ends_known c die o r answer t h = known_of c t die o r (slice_get c.books die) h refl answer

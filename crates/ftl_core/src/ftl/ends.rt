@@ -9,7 +9,7 @@ ghost use Rattle.ftl_core.specs.Gives.{IsContentOf, IsContentRead, IsReadAfter, 
 ghost use Rattle.ftl_core.specs.Done.{FlightEnds, IsCoreEnded, IsEnded, IsFlightAfter};
 ghost use Rattle.ftl_core.specs.Moves.{claims_for, moved_pin, erased, page_written, went_bad, pin_of, now_stored, stored_of};
 ghost use Rattle.write_cache.specs.Slots.{is_named};
-ghost use Rattle.ufs_spec.specs.Moves.{EndJob, Ending, IsEndingOf, MayEnd, moved, suits};
+ghost use Rattle.ufs_spec.specs.Moves.{EndJob, Ending, IsEndingOf, MayEnd, moved, outcome_fits};
 ghost use Rattle.ufs_spec.specs.Translation.{Translation};
 ghost use Rattle.ufs_spec.specs.Disk.{Reader as WhoReads, Reading};
 ghost use Rattle.ufs_spec.specs.declared.flash.Place.{Place};
@@ -635,7 +635,7 @@ impl Ftl {
         ensures answer { IsEnded self.old die outcome.now result }
         ensures after { IsCoreEnded self.old die outcome.now tag.now self.new }
         // It is known exactly where the outcome is of the kind of the job in flight.
-        ensures known { (t : Translation) → Describes self.old t → is_some result ≡ suits (t.disk.flights die) outcome.now }
+        ensures known { (t : Translation) → Describes self.old t → is_some result ≡ outcome_fits (t.disk.flights die) outcome.now }
         // What is kept then describes what the end makes of the layer, and the answer tells what it gave.
         ensures described { (t : Translation) (ending : Ending) → Describes self.old t →
             IsEndingOf t.disk.cells (t.disk.flights die) outcome.now ending → MayEnd t.disk die (t.disk.flights die) ending →

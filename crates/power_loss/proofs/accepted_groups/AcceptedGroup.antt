@@ -8,7 +8,7 @@ use Rattle.power_loss.proofs.Common.{Book, HasKey, book, HistoryRight, MendingRi
 use Rattle.power_loss.proofs.Common.{Contains, find, option_map, All-append, All-weaker, none-some, same_Some}
 use Rattle.power_loss.proofs.Common.{false≢true, get_splits, grown_length}
 use Rattle.power_loss.proofs.MachineWords.{IsRestOf}
-use Rattle.ufs_spec.specs.Translation.{awaits}
+use Rattle.ufs_spec.specs.Translation.{awaited_read}
 use Rattle.power_loss.proofs.books.PagesByName.{MayAdd, book_grows, grown, page_grows, plain_grows}
 use Rattle.std.proofs.lemmas.List.Elements.{All-contains_itself}
 use Rattle.power_loss.proofs.kept_pages.LookedUpPages.{look_right}
@@ -69,7 +69,7 @@ source_there t (OnPage name place) source h e = subst (SourceOf t) (same_Some (F
 source_there t (InSlot name) (FromSlot other) h e = tt
 source_there t (InSlot name) (FromPage place) h e = absurd (by (find (is_rest_of name) t.work.rests) e)
   where
-    by : (o : Option Rest) → option_map (λ (rest : Rest). FromSlot (awaits rest.name rest.source)) o ≡ Some
+    by : (o : Option Rest) → option_map (λ (rest : Rest). FromSlot (awaited_read rest)) o ≡ Some
         (FromPage place) → ⊥
     by None k = cc
     by (Some rest) k = cc

@@ -1,6 +1,7 @@
 -- Each call that is answered rightly keeps the state tied to its dies and commands, whatever a failed job leaves.
 use Rattle.power_loss.proofs.Common.{List, None, Option, Some, ap, refl, subst, sym, true, ℕ, ◌∙◌, ◌≡◌, false≢true, Ok}
-use Rattle.power_loss.proofs.Common.{Ending, GiveJob, ReadRight, ReadWrong, WentWell, WentWrong, fits, Array, Erasing}
+use Rattle.power_loss.proofs.Common.{Ending, GiveJob, ReadRight, ReadWrong, WentWell, WentWrong, ending_fits, Array}
+use Rattle.power_loss.proofs.Common.{Erasing}
 use Rattle.power_loss.proofs.Common.{Flight, Programming, Reading}
 use Rattle.power_loss.proofs.MachineWords.{operation_of, Allowed, Answer, Reply, Call, Faulty, Done, OfDone, Take}
 use Rattle.power_loss.proofs.MachineWords.{OfTake, Heard, OfHost, Host, IsCdbIn, IsHeard, MayLeave, OfReply, Spelled}
@@ -31,7 +32,7 @@ use Rattle.ufs_spec.proofs.CdbsBack.{first_byte}
 -- with what an interruption of the job may leave
 ending_keeps : (s : State) (die : ℕ) (flight : Option Flight) (ending : Ending) (left : Array) → IsTied s →
     s.translation.disk.flights die ≡ flight →
-    fits flight ending ≡ true → MayLeave s die ending left → IsTied (job_over s die flight ending left)
+    ending_fits flight ending ≡ true → MayLeave s die ending left → IsTied (job_over s die flight ending left)
 ending_keeps s die None ending left v e fit may = v
 ending_keeps s die (Some (Reading reader place)) ReadRight left v e fit may =
     over_keeps s die (Reading reader place) ReadRight left v e

@@ -2,7 +2,7 @@
 use Rattle.power_loss.proofs.Common.{◌≡◌, ◌==◌, ℕ, true, [], ◌∷◌, Option, Some, None, refl, sym, ap, ◌∙◌, subst, inl}
 use Rattle.power_loss.proofs.Common.{⊎_elim, Contains, Array, Cell, Cells, Shows, Crash, Erasing, Flight, Programming}
 use Rattle.power_loss.proofs.Common.{Reader, Reading, Spot, Touches, flight_alone, page_of, Ending, ReadWrong}
-use Rattle.power_loss.proofs.Common.{WentWrong, fits, MayBeLeft, Page, Place, cases_Bool, cond-false, cond-true}
+use Rattle.power_loss.proofs.Common.{WentWrong, ending_fits, MayBeLeft, Page, Place, cases_Bool, cond-false, cond-true}
 use Rattle.power_loss.proofs.Common.{eqb-self}
 use Rattle.power_loss.proofs.MachineWords.{IsFailure, IsLawfulLeftover, IsLeft, IsLeftoverOf, Leads, die_of, page_left}
 use Rattle.power_loss.proofs.MachineWords.{Done, OfDone, observe, State, numbers_of, Leftover, ValidState}
@@ -76,7 +76,7 @@ module _ (s : State) (v : ValidState s) (die : ℕ) (l : Leftover) where
 -- A job that fails leads on
 
 pub failure_leads : {s : State} (die : ℕ) {flight : Flight} {l : Option Leftover} (ending : Ending) (left : Array) →
-    s.translation.disk.flights die ≡ Some flight → fits (Some flight) ending ≡ true →
+    s.translation.disk.flights die ≡ Some flight → ending_fits (Some flight) ending ≡ true →
     IsFailure s die (Some flight) l ending left → Leads s (event.Fail die l) output.Ended
     (observe s (Done die ending left) (OfDone true))
 failure_leads {s} die {l} ending left flies fit h = record {
@@ -84,7 +84,7 @@ failure_leads {s} die {l} ending left flies fit h = record {
   answer = OfDone true;
   is_call = (ending, left, subst (λ f. IsFailure s die f l ending left) (sym flies) h, refl);
   is_shown = refl;
-  right = sym (ap (λ f. fits f ending) flies ∙ fit);
+  right = sym (ap (λ f. ending_fits f ending) flies ∙ fit);
   next = refl;
 }
 

@@ -10,7 +10,7 @@ use Rattle.ufs_spec.specs.Disk.{Flight, Reading}
 use Rattle.ufs_spec.specs.Exchanges.{Task}
 use Rattle.ufs_spec.specs.Machine.{Allowed, Answer, Done, Due, Host, OfDone, OfHost, OfReply, OfTake, OfTurn, Reply}
 use Rattle.ufs_spec.specs.Machine.{Spelled, Take, Turn, deed_reply, message_fault, result_of}
-use Rattle.ufs_spec.specs.Moves.{Ending, fits}
+use Rattle.ufs_spec.specs.Moves.{Ending, ending_fits}
 use Rattle.ufs_spec.specs.Refusals.{State}
 use Rattle.ufs_spec.specs.Translation.{IsOwed, MayTake, Want, is_idle, is_step_due, next_flight, want_at, wants_on}
 use Rattle.ufs_spec.specs.declared.faults.HostFault.{HostFault}
@@ -35,7 +35,7 @@ host_gets s m c result e = record { right = e; only = only }
     only other h = absurd h
 
 pub finish_gets : (s : State) (die : ℕ) (ending : Ending) (left : Array) (known : Bool) →
-    known ≡ fits (s.translation.disk.flights die) ending → Gets s (Done die ending left) (OfDone known)
+    known ≡ ending_fits (s.translation.disk.flights die) ending → Gets s (Done die ending left) (OfDone known)
 finish_gets s die ending left known e = record { right = e; only = only }
   where
     only : (other : Answer) → Allowed s (Done die ending left) other → other ≡ OfDone known

@@ -11,7 +11,7 @@ use Rattle.ufs_spec.specs.Exchanges.{Short, Task}
 use Rattle.ufs_spec.specs.Machine.{Allowed, Answer, Reply, Call, Due, Faulty, Done, OfDone, Take, OfTake, Heard, OfHost}
 use Rattle.ufs_spec.specs.Machine.{Host, OfReply, Spelled, Turn, OfTurn, deed_reply, is_durable, message_fault}
 use Rattle.ufs_spec.specs.Machine.{result_of}
-use Rattle.ufs_spec.specs.Moves.{Ending, fits}
+use Rattle.ufs_spec.specs.Moves.{Ending, ending_fits}
 use Rattle.ufs_spec.specs.Refusals.{State}
 use Rattle.ufs_spec.specs.Translation.{is_step_due}
 use Rattle.ufs_spec.specs.declared.faults.HostFault.{HostFault}
@@ -74,7 +74,7 @@ answered s (Take die) =
     (λ job. (OfTake (Some job.0), job.1))
     (λ none. (OfTake None, none))
     (given s.translation die)
-answered s (Done die ending left) = (OfDone (fits (s.translation.disk.flights die) ending), refl)
+answered s (Done die ending left) = (OfDone (ending_fits (s.translation.disk.flights die) ending), refl)
 answered s Turn = (OfTurn (is_step_due s.translation), refl)
 answered s Reply =
     ⊎_elim
@@ -96,7 +96,7 @@ pub one_end : (s : State) (die : ℕ) (ending : Ending) (left : Array) (a b : An
     Allowed s (Done die ending left) a →
     Allowed s (Done die ending left) b → a ≡ b
 one_end s die ending left =
-    one_right (finish_gets s die ending left (fits (s.translation.disk.flights die) ending) refl)
+    one_right (finish_gets s die ending left (ending_fits (s.translation.disk.flights die) ending) refl)
 
 pub one_step : (s : State) (a b : Answer) → Allowed s Turn a → Allowed s Turn b → a ≡ b
 one_step s = one_right (step_gets s (is_step_due s.translation) refl)

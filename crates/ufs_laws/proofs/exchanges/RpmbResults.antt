@@ -3,10 +3,10 @@ use Rattle.std.proofs.Common.{◌≡◌, ◌⊎◌, ◌&&◌, ◌==◌, ℕ, Boo
 use Rattle.std.proofs.Common.{bit_or, refl, ◌∙◌, inl, inr}
 use Rattle.ufs_spec.specs.Commands.{Command}
 use Rattle.ufs_spec.specs.Exchanges.{Registers, Status}
-use Rattle.ufs_spec.specs.Plain.{Plain}
+use Rattle.ufs_spec.specs.Plain.{Plain, counter_end}
 use Rattle.ufs_spec.specs.Frames.{Frame}
-use Rattle.ufs_spec.specs.Rpmb.{Refused, Results, RpmbOutcome, applied, checks, command_in, counter_end, first_failed}
-use Rattle.ufs_spec.specs.Rpmb.{has_key, lacks_result, outcome_after, rpmb_outcome, with_end_bit}
+use Rattle.ufs_spec.specs.Rpmb.{Refused, Results, RpmbOutcome, applied, checks, command_in, first_failed, has_key}
+use Rattle.ufs_spec.specs.Rpmb.{lacks_result, outcome_after, rpmb_outcome, with_end_bit}
 
 end_bit : (b : Bool) → (cond b (bit_or 0 0x80) 0 ≡ 0) ⊎ (cond b (bit_or 0 0x80) 0 ≡ 0x80)
 end_bit true = inr refl

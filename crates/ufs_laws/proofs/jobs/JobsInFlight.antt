@@ -16,7 +16,7 @@ use Rattle.ufs_spec.specs.Disk.{Flight, Erasing, Programming, Reading, at_die, j
 use Rattle.ufs_spec.specs.Exchanges.{ReadState, Task}
 use Rattle.ufs_spec.specs.Machine.{Allowed, Done, OfDone, Take, OfTake, ends_with, fills, given as given_job}
 use Rattle.ufs_spec.specs.Machine.{lock_applied, observe, task_read}
-use Rattle.ufs_spec.specs.Moves.{Ending, end_flight, fits, job_ended}
+use Rattle.ufs_spec.specs.Moves.{Ending, end_flight, ending_fits, job_ended}
 use Rattle.ufs_spec.specs.Refusals.{State, locked}
 use Rattle.ufs_spec.specs.Translation.{Translation}
 
@@ -73,7 +73,8 @@ at_home die (Programming place cell) here = here
 at_home die (Erasing spot) here = here
 
 end_frees : (t : Translation) (die : ℕ) (flight : Flight) (ending : Ending) → die_of_flight flight ≡ die →
-    fits (Some flight) ending ≡ true → (job_ended t die flight ending).disk.flights ≡ at_die t.disk.flights die None
+    ending_fits (Some flight) ending ≡ true →
+    (job_ended t die flight ending).disk.flights ≡ at_die t.disk.flights die None
 end_frees t die flight ending here fit =
     let h = effect_of t die (Some flight) ending in
     ap (λ (u : Translation). u.disk.flights) h.is
@@ -91,7 +92,8 @@ pub jobs_left : (s : State) (die : ℕ) (flight : Flight) (ending : Ending) (lef
     (over s die ending left).translation.disk.flights ≡ at_die s.translation.disk.flights die None
 jobs_left s die flight ending left e here right =
     let t = s.translation in
-    let fit : fits (Some flight) ending ≡ true = ap (λ (o : Option Flight). fits o ending) (sym e) ∙ sym right in
+    let fit : ending_fits (Some flight) ending ≡ true =
+    ap (λ (o : Option Flight). ending_fits o ending) (sym e) ∙ sym right in
     ap (λ (o : Option Flight). (job_over s die o ending left).translation.disk.flights) e
     ∙ ap (λ (o : Option Flight). (end_flight t die o ending).disk.flights) e
     ∙ end_frees t die flight ending here fit

@@ -8,7 +8,7 @@ use Rattle.ufs_spec.specs.Lives.{IsCall, IsFailure, IsFinish, IsShown, Leads, en
 use Rattle.ufs_spec.specs.Machine.{Allowed, Answer, Reply, Call, Due, Done, OfDone, Take, OfTake, OfHost, Host, OfReply}
 use Rattle.ufs_spec.specs.Machine.{Turn, OfTurn, observe}
 use Rattle.ufs_spec.specs.Messages.{spelling}
-use Rattle.ufs_spec.specs.Moves.{Ending, ReadWrong, WentWrong, fits}
+use Rattle.ufs_spec.specs.Moves.{Ending, ReadWrong, WentWrong, ending_fits}
 use Rattle.ufs_spec.specs.Refusals.{State}
 use Rattle.ufs_spec.specs.Translation.{MayTake, is_step_due}
 use Rattle.ufs_spec.specs.declared.events.Event.{Event}
@@ -42,23 +42,23 @@ take_leads s die =
     job.1)
     (λ none. leads s (event.Take die) (output.Take None) (Take die) (OfTake None) refl refl none)
 
-pub well_fits : (flight : Flight) → fits (Some flight) (ended_well flight) ≡ true
+pub well_fits : (flight : Flight) → ending_fits (Some flight) (ended_well flight) ≡ true
 well_fits (Reading reader place) = refl
 well_fits flight = refl
 
 -- an end that fits the job is known
 known : (s : State) (e : Event) (die : ℕ) (ending : Ending) (left : Array) → IsCall s e (Done die ending left)
-    → fits (s.translation.disk.flights die) ending ≡ true → Somewhere s e
+    → ending_fits (s.translation.disk.flights die) ending ≡ true → Somewhere s e
 known s e die ending left is_call fit =
     leads s e output.Ended (Done die ending left) (OfDone true) is_call refl (sym fit)
 
 finish_fits : (s : State) (die : ℕ) (o : Option Flight) (call : Call) → IsFinish s die o call
-    → (ending : Ending) × (call ≡ Done die ending s.array) × (fits o ending ≡ true)
+    → (ending : Ending) × (call ≡ Done die ending s.array) × (ending_fits o ending ≡ true)
 finish_fits s die None call h = absurd h
 finish_fits s die (Some flight) call h = (ended_well flight, h, well_fits flight)
 
 failure_fits : (s : State) (die : ℕ) (o : Option Flight) (l : Option Leftover) (ending : Ending) (left : Array) →
-    IsFailure s die o l ending left → fits o ending ≡ true
+    IsFailure s die o l ending left → ending_fits o ending ≡ true
 failure_fits s die (Some (Reading reader place)) None ReadWrong left h = refl
 failure_fits s die (Some (Reading reader place)) (Some l) (WentWrong cells) left h = absurd h.0
 failure_fits s die (Some flight) (Some l) (WentWrong cells) left h = refl

@@ -8,7 +8,8 @@ use Rattle.ufs_spec.specs.Disk.{Erasing, Flight, ForNobody, ForRest, ForStep, Fo
 use Rattle.ufs_spec.specs.Disk.{Spot, at_die, erase_failed, erased, program_failed, programmed}
 use Rattle.ufs_spec.specs.Ledger.{Ledger, Name}
 use Rattle.ufs_spec.specs.Moves.{Ending, ReadRight, ReadWrong, TakeStep, WentWell, WentWrong, die_idle, end_flight}
-use Rattle.ufs_spec.specs.Moves.{fits, freed, mark_written, moved, page_written, read_right, read_wrong, rests_without}
+use Rattle.ufs_spec.specs.Moves.{ending_fits, freed, mark_written, moved, page_written, read_right, read_wrong}
+use Rattle.ufs_spec.specs.Moves.{rests_without}
 use Rattle.ufs_spec.specs.Moves.{step_there, with_wanted}
 use Rattle.ufs_spec.specs.Translation.{CopyStep, Mended, Mending, Order, OrderCopy, OrderMark, OrderPlanMark}
 use Rattle.ufs_spec.specs.Translation.{OrderRepair, Plan, Repairing, Step, Translation, Unmarked, Work, copy_begun}
@@ -218,7 +219,7 @@ again_end t die p m left true e =
 again_end t die p m left false e = record { effect = MarkLost p left; is = refl; frees = refl; comes = (m, refl, e) }
 
 pub effect_of : (t : Translation) (die : ℕ) (flight : Option Flight) (ending : Ending) →
-    IsEnd t die flight (fits flight ending) (end_flight t die flight ending)
+    IsEnd t die flight (ending_fits flight ending) (end_flight t die flight ending)
 effect_of t die (Some (Reading reader place)) ReadRight = read_end t die reader place
 effect_of t die (Some (Reading reader place)) ReadWrong = wrong_end t die reader place
 effect_of t die (Some (Programming p Nothing)) WentWell =

@@ -28,7 +28,7 @@ use Rattle.ufs_spec.specs.Exchanges.{Answering, Awaiting, ForWrite, Good, Unread
 use Rattle.ufs_spec.specs.Lives.{ended_well, held}
 use Rattle.ufs_spec.specs.Machine.{Answer, Reply, Call, Done, Host, OfDone, Take, OfTake, OfReply, Turn, OfTurn}
 use Rattle.ufs_spec.specs.Machine.{observe, accepts, asked_fault, fills, lock_applied, result_of, set_deed}
-use Rattle.ufs_spec.specs.Moves.{fits}
+use Rattle.ufs_spec.specs.Moves.{ending_fits}
 use Rattle.ufs_spec.specs.Plain.{shape_of, shape_of_numbers}
 use Rattle.ufs_spec.specs.Refusals.{State, mended}
 use Rattle.ufs_spec.specs.Translation.{want_at}
@@ -66,7 +66,7 @@ ends {x = x} {flight = flight} same flies next goes = record {
   goes = record {
     right = subst (λ y. Gets y (end_of flight y) (OfDone true)) (sym same)
         (finish_gets x 0 (ended_well flight) x.array true
-        (sym (ap (λ o. fits o (ended_well flight)) flies ∙ well_fits flight)));
+        (sym (ap (λ o. ending_fits o (ended_well flight)) flies ∙ well_fits flight)));
     next = next;
     is = next ∙ ap (λ y. observe y (end_of flight y) (OfDone true)) same ∙ goes;
   };

@@ -1,5 +1,5 @@
 use Rattle.std.proofs.Common.{refl}
-use Rattle.ufs_spec.specs.Moves.{fits}
+use Rattle.ufs_spec.specs.Moves.{ending_fits}
 use Rattle.ufs_spec.specs.Translation.{is_step_due}
 use Rattle.ufs_laws.proofs.lives.EventsLead.{leads_somewhere}
 use Rattle.ufs_laws.proofs.jobs.OneJob.{given}
@@ -16,7 +16,7 @@ pub returns-clause-give : goal.returns-clause-give
 returns-clause-give c = λ s die. given s.translation die
 
 pub returns-clause-finish : goal.returns-clause-finish
-returns-clause-finish c = λ s die ending left. (fits (s.translation.disk.flights die) ending, refl)
+returns-clause-finish c = λ s die ending left. (ending_fits (s.translation.disk.flights die) ending, refl)
 
 pub returns-clause-step : goal.returns-clause-step
 returns-clause-step c = λ s. (is_step_due s.translation, refl)
