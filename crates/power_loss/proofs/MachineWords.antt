@@ -34,11 +34,11 @@ pub use Rattle.ufs_spec.specs.Machine.{blocks_expected, blocks_in, claimed_by, c
 pub use Rattle.ufs_spec.specs.Machine.{data_heard, deed_after, deed_after_block, deed_locked, deed_read, deed_reply}
 pub use Rattle.ufs_spec.specs.Machine.{durable, ends_with, fill_moves, fills, given, heard, hears, in_block, is_aborted}
 pub use Rattle.ufs_spec.specs.Machine.{is_durable, is_to_fill, keeps, kept_at, lock_applied, managed, message_fault}
-pub use Rattle.ufs_spec.specs.Machine.{moves_after, observe, refused_or_begun, opens_short, query_unanswered, read_begun}
-pub use Rattle.ufs_spec.specs.Machine.{read_blocks, read_noted, replied_by, sending, service, set_deed, short_locked}
-pub use Rattle.ufs_spec.specs.Machine.{short_replied, tag_in, task_goes_on, task_filled, task_locked, task_read}
-pub use Rattle.ufs_spec.specs.Machine.{task_replied, unit_or_first, with_moves, with_short, with_task, without_tasks}
-pub use Rattle.ufs_spec.specs.Machine.{write_complete, write_deed}
+pub use Rattle.ufs_spec.specs.Machine.{moves_after, observe, refused_or_begun, opens_short, query_unanswered}
+pub use Rattle.ufs_spec.specs.Machine.{read_begun, read_blocks, read_noted, replied_by, sending, service, set_deed}
+pub use Rattle.ufs_spec.specs.Machine.{short_locked, short_replied, tag_in, task_goes_on, task_filled, task_locked}
+pub use Rattle.ufs_spec.specs.Machine.{task_read, task_replied, unit_or_first, with_moves, with_short, with_task}
+pub use Rattle.ufs_spec.specs.Machine.{without_tasks, write_complete, write_deed}
 pub use Rattle.ufs_spec.specs.Messages.{AreBytes}
 pub use Rattle.ufs_spec.specs.Refusals.{BootUnit, DeviceUnit, Line, Lun, ReportLunsUnit, Request, RpmbUnit, State}
 pub use Rattle.ufs_spec.specs.Refusals.{UnitOf, first_line, is_past, lacks_unit, line, lines_after, locked, lun_of}

@@ -7,4 +7,5 @@ pub mod Lists
 pub mod PlainFacts
 pub mod ReadBack
 pub mod SealedPages
+pub mod SpellingParts
 pub mod Updates

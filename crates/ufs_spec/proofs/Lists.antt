@@ -1,11 +1,12 @@
 -- Small facts about lists: what stands where, what one more or one changed element leaves, and what searches find.
 use Rattle.std.proofs.Common.{◌≡◌, ◌≢◌, ◌⊎◌, ℕ, zero, suc, ◌+◌, ◌<◌, ◌≤◌, ◌||◌, Bool, true, false, cond, not, List, []}
 use Rattle.std.proofs.Common.{◌∷◌, ◌++◌, length, take, map, find, Some, None, option_map, refl, sym, ap, ◌∙◌, subst}
-use Rattle.std.proofs.Common.{inl, inr, ⊎_elim, arith, length-append}
+use Rattle.std.proofs.Common.{inl, inr, ⊎_elim, arith, length-append, replicate}
 use Rattle.std.specs.Prelude.{nat_lt, position, slice_get, slice_set}
-use Rattle.std.specs.List.{list_any, position_or_len}
+use Rattle.std.specs.List.{Contains, list_any, position_or_len}
+use Rattle.std.proofs.lemmas.List.{get_or-replicate, length-replicate}
 use Rattle.std.proofs.lemmas.List.Sums.{fails_before_first, passes_at_first}
-use Rattle.std.proofs.lemmas.Option.{get_or_from_slice_get, slice_get_within}
+use Rattle.std.proofs.lemmas.Option.{get_or_from_slice_get, slice_get-get_or, slice_get_within}
 use Rattle.ufs_spec.specs.Keys.{below}
 use Rattle.ufs_spec.proofs.Facts.{at_most, cases_Bool, cond-true, false≢true, le-ltb, lt-ltb, none-some, or_cases}
 use Rattle.ufs_spec.proofs.Facts.{or_left, or_right, same_Some}
@@ -34,6 +35,17 @@ take_get (suc n) [] k x l h = absurd (none-some x h)
 take_get (suc n) (y ∷ ys) zero x l h = h
 take_get (suc n) (y ∷ ys) (suc k) x l h = take_get n ys k x (omega arith) h
 
+pub get_replicate : {A : Type 0} (n k : ℕ) (x : A) → k < n → slice_get (replicate n x) k ≡ Some x
+get_replicate n k x l =
+    slice_get-get_or (replicate n x) k x (omega (arith, length-replicate n x, l)) ∙ ap Some (get_or-replicate n k x x l)
+
+-- what a list contains stands at a position of it, and the other way about
+pub contained_at : {A : Type 0} (xs : List A) (x : A) → Contains xs x → (k : ℕ) × (slice_get xs k ≡ Some x)
+contained_at xs x h = (h.0, slice_get-get_or xs h.0 x h.1 ∙ ap Some h.2)
+
+pub at_contained : {A : Type 0} (xs : List A) (k : ℕ) (x : A) → slice_get xs k ≡ Some x → Contains xs x
+at_contained xs k x h = (k, slice_get_within xs k x h, get_or_from_slice_get xs k x x h)
+
 pub map_twice : {A B C : Type 0} (f : B → C) (g : A → B) (xs : List A) → map f (map g xs) ≡ map (λ x. f (g x)) xs
 map_twice f g [] = refl
 map_twice {C = C} f g (x ∷ xs) = ap (λ (ys : List C). f (g x) ∷ ys) (map_twice f g xs)
@@ -59,6 +71,14 @@ get_splits [] y zero x h = inr (refl, sym (same_Some y x h))
 get_splits [] y (suc k) x h = absurd (none-some x h)
 get_splits (z ∷ zs) y zero x h = inl h
 get_splits (z ∷ zs) y (suc k) x h = ⊎_elim (λ k. inl k) (λ k. inr (ap suc k.0, k.1)) (get_splits zs y k x h)
+
+-- More elements at the end
+
+pub get_front : {A : Type 0} (xs ys : List A) (k : ℕ) (x : A) → slice_get xs k ≡ Some x →
+    slice_get (xs ++ ys) k ≡ Some x
+get_front [] ys k x h = absurd (none-some x h)
+get_front (y ∷ xs) ys zero x h = h
+get_front (y ∷ xs) ys (suc k) x h = get_front xs ys k x h
 
 -- One element changed
 

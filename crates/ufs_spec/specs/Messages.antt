@@ -194,7 +194,8 @@ may_have code bytes n =
     if is_among (data_out_code ∷ data_in_code ∷ []) code then nat_lt 0 n && (n == field_at 4 16 bytes)
     else if code == query_request_code then (n == 0) || (slice_index bytes 12 == 0x02)
     else if code == response_code then (n == (if slice_index bytes 7 == 0x02 then 20 else 0))
-    else if code == query_response_code then (n == 0) || ((slice_index bytes 12 == 0x01) && (slice_index bytes 6 == 0x00))
+    else if code == query_response_code then
+    (n == 0) || ((slice_index bytes 12 == 0x01) && (slice_index bytes 6 == 0x00))
     else if is_among unsegmented_codes code then (n == 0)
     else true
 

@@ -70,8 +70,8 @@ IsNotHigher p q =
 abbrev pub HasName : Cells → Name → Place → Type 0
 HasName c name p = (t : Tag) × (body : List ℕ) × (c p ≡ GroupPage t body) × (name_of t ≡ name)
 
--- of two places of one page the first is taken before the second: it lies outside the free blocks and the second in one,
--- or both do or neither does, and it is not higher
+-- of two places of one page the first is taken before the second: it lies outside the free blocks and the second in
+-- one, or both do or neither does, and it is not higher
 abbrev pub IsTakenBefore : (Spot → BlockState) → Place → Place → Type 0
 IsTakenBefore blocks p q =
     ((blocks (spot_of p) ≢ Free) × (blocks (spot_of q) ≡ Free))
@@ -151,8 +151,8 @@ IsFree blocks s = blocks s ≡ Free
 abbrev pub IsItOrFreeBefore : Cells → (Spot → BlockState) → Spot → Spot → Type 0
 IsItOrFreeBefore c blocks s other = (other ≡ s) ⊎ (IsFree blocks other × IsOlder c other s)
 
--- what each block is when a life begins. A block is bad if a job of it failed in an earlier life. Of the others a set is
--- free, and the rest are closed, so that no block that an earlier life began is filled further
+-- what each block is when a life begins. A block is bad if a job of it failed in an earlier life. Of the others a set
+-- is free, and the rest are closed, so that no block that an earlier life began is filled further
 pub record AreFirstBlocks (c : Cells) (m : Option Mark) (bad : Spot → Bool) (blocks : Spot → BlockState) : Type 0 where
   pub were_bad : (s : Spot) → bad s ≡ true → blocks s ≡ Bad
   pub were_good : (s : Spot) → bad s ≡ false → (blocks s ≡ Free) ⊎ (blocks s ≡ Closed)

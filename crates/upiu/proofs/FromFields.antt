@@ -13,7 +13,7 @@ use Rattle.ufs_spec.specs.Messages.{known_codes, may_have, padding, segment_leng
 use Rattle.ufs_spec.specs.Messages.{spelling, zeros}
 use Rattle.ufs_spec.specs.declared.messages.Message.{Message}
 use Rattle.upiu.proofs.HostFault.{of_each}
-use Rattle.upiu.proofs.Spelled.{header_long}
+use Rattle.ufs_spec.proofs.SpellingParts.{header_size}
 use Rattle.upiu.specs.Reading.{HasSets, Passes, named_by, named_message, segment_in, sense_in}
 
 -- a part of bytes is bytes
@@ -230,7 +230,7 @@ module _ (bytes : List ℕ) (small : AreBytes bytes) (p : Passes bytes) where
   spelled_whole m h same rest begins pad =
       let n : ℕ = segment_length bytes in
       let front : List ℕ = header_of m in
-      let e : bytes ≡ front ++ drop 32 bytes = front_and_rest bytes front rest (header_long m h) begins in
+      let e : bytes ≡ front ++ drop 32 bytes = front_and_rest bytes front rest (header_size m h) begins in
       let after : length (drop (32 + n) bytes) ≡ padding n = length-drop (32 + n) bytes ∙ omega (arith, p.total) in
       let size : length (segment_of m) ≡ n = ap length same ∙ segment_long in
       let last : drop (32 + n) bytes ≡ zeros (padding (length (segment_of m))) =

@@ -7,7 +7,8 @@ use Rattle.ufs_spec.specs.declared.messages.Message.{Message}
 use Rattle.ufs_spec.specs.declared.messages.Message.TheVariants as message
 use Rattle.upiu.proofs.FromFields.{front_and_rest, segment_long, spelled_from}
 use Rattle.upiu.proofs.HostFault.{host_none, host_read}
-use Rattle.upiu.proofs.Spelled.{clear, header_long, named, passes}
+use Rattle.ufs_spec.proofs.SpellingParts.{header_size}
+use Rattle.upiu.proofs.Spelled.{clear, named, passes}
 use Rattle.upiu.specs.HostMessages.{command_in, command_of, data_out_in, data_out_of}
 use Rattle.upiu.specs.Reading.{HasSets, IsAround, Passes, named_by, named_message}
 use Rattle.upiu.specs.declared.host_messages.Command.{Command}
@@ -68,7 +69,7 @@ kind_of bytes m kind spells code among =
 pub around_of : (bytes : List ℕ) (m : Message) → Spells m bytes → IsAround (header_of m) bytes
 around_of bytes m spells =
     let last : List ℕ = zeros (padding (length (segment_of m))) in (
-      front_and_rest bytes (header_of m) (segment_of m ++ last) (header_long m spells.0)
+      front_and_rest bytes (header_of m) (segment_of m ++ last) (header_size m spells.0)
           (spells.1 ∙ append_assoc (header_of m) (segment_of m) last),
       (named bytes m spells).rest,
     )

@@ -1,6 +1,6 @@
 -- The message that bytes spell is the one that their fields name, and such bytes have no early fault.
 use Rattle.std.proofs.Common.{◌≡◌, ◌≢◌, ◌≤◌, ◌+◌, ◌⊎◌, ℕ, Bool, true, false, cond, not, ◌==◌, ◌||◌, ◌&&◌}
-use Rattle.std.proofs.Common.{nat_lt, List, [], ◌++◌, length, take, drop, Option, Some, None, refl}
+use Rattle.std.proofs.Common.{nat_lt, List, [], ◌++◌, length, drop, Option, Some, None, refl}
 use Rattle.std.proofs.Common.{sym, ap, ◌∙◌, subst, inl, inr, arith, append_assoc, length-append}
 use Rattle.std.proofs.lemmas.Bool.{ltb-false, eqb-true, not-false, or_parts, or_from, and_from, le-ltb, lt-ltb}
 use Rattle.std.proofs.lemmas.Bool.{eq-eqb, cond-false, ne_eqb, cases_eq, or_left, or_right}
@@ -8,6 +8,7 @@ use Rattle.std.proofs.lemmas.List.{drop-drop, drop_at, length-replicate}
 use Rattle.byteorder.specs.Endian.{big_bytes}
 use Rattle.byteorder.specs.Numbers.{big_number-reads_back}
 use Rattle.ufs_spec.proofs.ReadBack.{again}
+use Rattle.ufs_spec.proofs.SpellingParts.{header_size, segment_size}
 use Rattle.ufs_bytes.specs.Fields.{field_at}
 use Rattle.ufs_spec.specs.Messages.{IsMessage, IsSense, Spells, code_of, has_digest, has_extra_header}
 use Rattle.ufs_spec.specs.Messages.{has_other_code, has_wrong_length, header_of, is_among, is_short, known_codes}
@@ -16,7 +17,7 @@ use Rattle.ufs_spec.specs.Messages.{spelling, zeros}
 use Rattle.ufs_spec.specs.declared.faults.HostFault.{HostFault}
 use Rattle.ufs_spec.specs.declared.faults.HostFault.TheVariants.{Short, Length, Digest, Ehs, Code}
 use Rattle.ufs_spec.specs.declared.messages.Message.{Message}
-use Rattle.ufs_spec.specs.declared.messages.Message.TheVariants.{NopOut, Command, DataOut, QueryRequest}
+use Rattle.ufs_spec.specs.declared.messages.Message.TheVariants.{NopOut, DataOut, QueryRequest}
 use Rattle.ufs_spec.specs.declared.messages.Message.TheVariants.{Response, DataIn}
 use Rattle.ufs_spec.specs.declared.messages.Message.TheVariants.{QueryResponse}
 use Rattle.upiu.specs.Reading.{Passes, named_message}
@@ -64,22 +65,6 @@ none_told bytes p digest extra =
 
 -- ## What a spelling tells of itself
 
--- the header of a message has 32 bytes
-pub header_long : (m : Message) → IsMessage m → length (header_of m) ≡ 32
-header_long (Command flags lun tag expected cdb) h =
-    length-append (take 16 (header_of (Command flags lun tag expected cdb))) cdb ∙ ap (λ (k : ℕ). 16 + k) h.4
-header_long other h = refl
-
--- a segment has at most 4096 bytes
-segment_most : (m : Message) → IsMessage m → length (segment_of m) ≤ 4096
-segment_most (DataOut lun tag offset «data») h = h.3.1
-segment_most (QueryRequest tag function asked size value «data») h = h.3
-segment_most (Response flags lun tag response status residual None) h = omega arith
-segment_most (Response flags lun tag response status residual (Some sense)) h = let twenty = h.6.1 in omega arith
-segment_most (DataIn lun tag offset «data») h = h.3.1
-segment_most (QueryResponse tag function response asked size value «data») h = h.4
-segment_most other h = omega arith
-
 -- two bytes tell a length of at most 4096
 length_told : (n : ℕ) (rest : List ℕ) → n ≤ 4096 → field_at 2 0 (big_bytes 2 n ++ rest) ≡ n
 length_told n rest most = big_number-reads_back 2 n rest (omega arith)
@@ -108,7 +93,7 @@ behind : (m : Message) → IsMessage m →
 behind m h =
     let last : List ℕ = zeros (padding (length (segment_of m))) in
     ap (drop 32) (append_assoc (header_of m) (segment_of m) last)
-    ∙ drop_at (header_of m) (segment_of m ++ last) 32 (header_long m h)
+    ∙ drop_at (header_of m) (segment_of m ++ last) 32 (header_size m h)
 
 -- ## The message that bytes spell is the one that their fields name
 
@@ -209,14 +194,14 @@ spelling_long m h =
     let last : length (zeros (padding n)) ≡ padding n = length-replicate (padding n) 0 in
     length-append (header_of m ++ segment_of m) (zeros (padding n))
     ∙ ap (λ (k : ℕ). k + length (zeros (padding n))) (length-append (header_of m) (segment_of m))
-    ∙ ap (λ (k : ℕ). k + n + length (zeros (padding n))) (header_long m h)
+    ∙ ap (λ (k : ℕ). k + n + length (zeros (padding n))) (header_size m h)
     ∙ ap (λ (k : ℕ). 32 + n + k) last
 
 spelling_passes : (m : Message) → IsMessage m → Passes (spelling m)
 spelling_passes m h =
     let size : length (segment_of m) ≡ segment_length (spelling m) = sym (segment_told m h) in
     record {
-      segment = subst (λ (k : ℕ). k ≤ 4096) size (segment_most m h);
+      segment = subst (λ (k : ℕ). k ≤ 4096) size (segment_size m h);
       may = subst (λ (k : ℕ). may_have (code_of (spelling m)) (spelling m) k ≡ true) size (segment_may m h);
       total = subst (λ (k : ℕ). length (spelling m) ≡ 32 + k + padding k) size (spelling_long m h);
       code = code_known m;

@@ -309,7 +309,8 @@ begins t d =
 
 -- The lock
 
-pub locks : (t : Translation) → (most_bad t.numbers < count_blocks t is_bad) ⊎ (greatest_number < next_number t.ledger) →
+pub locks : (t : Translation) →
+    (most_bad t.numbers < count_blocks t is_bad) ⊎ (greatest_number < next_number t.ledger) →
     is_locked t ≡ true
 locks t h = ⊎_elim
     (λ k. or_left (nat_lt (most_bad t.numbers) (count_blocks t is_bad)) (nat_lt greatest_number (next_number t.ledger))

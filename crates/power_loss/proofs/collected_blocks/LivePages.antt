@@ -1,13 +1,14 @@
 -- A live page of a mended device is pending, or the newest of its key at or under the frontier: it is there, in a block
 -- that is not free, and nothing but its copy spends it.
-use Rattle.power_loss.proofs.Common.{◌≡◌, ◌≢◌, ℕ, ◌-◌, ◌<◌, ◌≤◌, ◌&&◌, Bool, true, false, take, All, List, map, Option, Some, None, refl}
-use Rattle.power_loss.proofs.Common.{sym, ap, ◌∙◌, subst, inl, inr, ⊎_elim, arith, All-weaker, and_parts, false≢true}
-use Rattle.power_loss.proofs.Common.{ltb-true, or_cases, same_Some, Cell, GroupPage, Mark, key_of, same_place, Erasing}
-use Rattle.power_loss.proofs.Common.{Free, IsNewestFinished, IsReplaced, SpentBy, Spot, spot_of, HasCopy, Spent}
-use Rattle.power_loss.proofs.Common.{place_in, with_erasing, below, recorded_in, Entry, Name, is_name, latest_durable}
-use Rattle.power_loss.proofs.Common.{MayTake, Mended, Mending, Repairing, Translation, Unmarked, is_live, is_live_cell}
-use Rattle.power_loss.proofs.Common.{is_mended, is_needed, live_places, name_of, stands_there, Key, Place, Tag}
-use Rattle.power_loss.proofs.Common.{IsLostNumber, IsPageAt, IsPlainMark, book, MarksRight, Valid, page_not_nothing}
+use Rattle.power_loss.proofs.Common.{◌≡◌, ◌≢◌, ℕ, ◌-◌, ◌<◌, ◌≤◌, ◌&&◌, Bool, true, false, take, All, List, map, Option}
+use Rattle.power_loss.proofs.Common.{Some, None, refl, sym, ap, ◌∙◌, subst, inl, inr, ⊎_elim, arith, All-weaker}
+use Rattle.power_loss.proofs.Common.{and_parts, false≢true, ltb-true, or_cases, same_Some, Cell, GroupPage, Mark}
+use Rattle.power_loss.proofs.Common.{key_of, same_place, Erasing, Free, IsNewestFinished, IsReplaced, SpentBy, Spot}
+use Rattle.power_loss.proofs.Common.{spot_of, HasCopy, Spent, place_in, with_erasing, below, recorded_in, Entry, Name}
+use Rattle.power_loss.proofs.Common.{is_name, latest_durable, MayTake, Mended, Mending, Repairing, Translation}
+use Rattle.power_loss.proofs.Common.{Unmarked, is_live, is_live_cell, is_mended, is_needed, live_places, name_of}
+use Rattle.power_loss.proofs.Common.{stands_there, Key, Place, Tag, IsLostNumber, IsPageAt, IsPlainMark, book}
+use Rattle.power_loss.proofs.Common.{MarksRight, Valid}
 use Rattle.std.proofs.Common.{nat_lt}
 use Rattle.std.proofs.lemmas.List.Elements.{filter_passes}
 use Rattle.power_loss.proofs.books.PagesByName.{is_old, written_more}
@@ -167,7 +168,8 @@ unmended_free t p tag body v un h live free =
 never_free : (t : Translation) (w : Mending) (p : Place) (tag : Tag) (body : List ℕ) → Valid t →
     t.work.mending ≡ w → MendingOf t w → t.disk.cells p ≡ GroupPage tag body →
     is_live_cell t.ledger p (GroupPage tag body) ≡ true → t.disk.blocks (spot_of p) ≡ Free → ⊥
-never_free t (Unmarked fence lost) p tag body v is r h live free = unmended_free t p tag body v (ap is_mended is) h live free
+never_free t (Unmarked fence lost) p tag body v is r h live free =
+    unmended_free t p tag body v (ap is_mended is) h live free
 never_free t (Repairing left) p tag body v is r h live free = unmended_free t p tag body v (ap is_mended is) h live free
 never_free t Mended p tag body v is r h live free =
     let l = live_right body v r.more r.right.within h live in
@@ -180,7 +182,8 @@ pub live_never_erased : (t : Translation) (die : ℕ) (s : Spot) (p : Place) →
 live_never_erased t die s p v may live at =
     let o = erase_owed t die s may in
     let page = live_is_page t p (t.disk.cells p) live in
-    never_free t t.work.mending p page.0 page.1 v refl v.mending page.2 (sym (ap (is_live_cell t.ledger p) page.2) ∙ live)
+    never_free t t.work.mending p page.0 page.1 v refl v.mending page.2
+    (sym (ap (is_live_cell t.ledger p) page.2) ∙ live)
     (ap t.disk.blocks at ∙ o.free)
 
 -- The live pages of a block are there

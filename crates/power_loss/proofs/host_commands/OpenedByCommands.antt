@@ -39,7 +39,8 @@ pub is_free : (s : State) (tag : ℕ) (short : Bool) → opening_fault s tag sho
 is_free s tag short h = by (in_use s tag) refl h
   where
     by : (b : Bool) → in_use s tag ≡ b →
-        (if b then Some TagInUse else if short && nat_le most_short_exchanges (length s.shorts) then Some Backlog else None) ≡ None →
+        (if b then Some TagInUse else if short && nat_le most_short_exchanges (length s.shorts)
+        then Some Backlog else None) ≡ None →
         IsFree s tag
     by true e k = absurd (none-some TagInUse (sym k))
     by false e k =

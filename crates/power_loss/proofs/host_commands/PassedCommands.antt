@@ -6,8 +6,8 @@ use Rattle.power_loss.proofs.Common.{none-some, not-false, is_mended, Numbers}
 use Rattle.power_loss.proofs.MachineWords.{address_of, blocks_of, operation_of, invalid_operation, no_unit, BootUnit}
 use Rattle.power_loss.proofs.MachineWords.{DeviceUnit, Line, Lun, ReportLunsUnit, Request, RpmbUnit, State, UnitOf}
 use Rattle.power_loss.proofs.MachineWords.{first_line, is_past, lacks_unit, line, lines_after, lun_of, mended}
-use Rattle.power_loss.proofs.MachineWords.{needs_mended, not_taken, numbers_of, operation_in, refusal, unit_numbers_at, takes}
-use Rattle.power_loss.proofs.MachineWords.{unit_in, unit_of_request, UnitSpec, Cdb}
+use Rattle.power_loss.proofs.MachineWords.{needs_mended, not_taken, numbers_of, operation_in, refusal, unit_numbers_at}
+use Rattle.power_loss.proofs.MachineWords.{takes, unit_in, unit_of_request, UnitSpec, Cdb}
 use Rattle.std.specs.Prelude.{if◌then◌else◌}
 use Rattle.ufs_spec.specs.Cdbs.{write_10, write_6}
 use Rattle.ufs_spec.specs.Messages.{is_among}
@@ -112,13 +112,15 @@ pub no_spec : UnitSpec
 no_spec = record { blocks = 0; boot = 0; protect = 0 }
 
 -- the blocks lie within the unit
-pub lies_within : {s : State} {r : Request} (command : Cdb) → UnitTold s r → is_past command (unit_numbers_of s r) ≡ false →
+pub lies_within : {s : State} {r : Request} (command : Cdb) → UnitTold s r →
+    is_past command (unit_numbers_of s r) ≡ false →
     address_of command + blocks_of command
     ≤ get_or (map (λ (u : UnitSpec). u.blocks) (numbers_of s).units.items) r.lun 0
 lies_within {s} {r} command told h =
     let units = (numbers_of s).units.items in
     let unit = get_or units r.lun no_spec in
-    let spec : unit_numbers_of s r ≡ Some unit = ap (unit_numbers_at (numbers_of s)) told.is ∙ slice_get-get_or units r.lun no_spec
+    let spec : unit_numbers_of s r ≡ Some unit =
+    ap (unit_numbers_at (numbers_of s)) told.is ∙ slice_get-get_or units r.lun no_spec
     told.there in
     let past = subst (λ (u : Option UnitSpec). is_past command u ≡ false) spec h in
     let bound = ltb-false unit.blocks (address_of command + blocks_of command) past in

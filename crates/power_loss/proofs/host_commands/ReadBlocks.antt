@@ -8,8 +8,8 @@ use Rattle.power_loss.proofs.Common.{look, Keep, shape_of_numbers, Pin, Numbers,
 use Rattle.power_loss.proofs.MachineWords.{address_of, blocks_of, read_10, read_6, blocks_expected, unit_or_first}
 use Rattle.power_loss.proofs.MachineWords.{with_moves, BootUnit, DeviceUnit, Lun, ReportLunsUnit, Request, RpmbUnit}
 use Rattle.power_loss.proofs.MachineWords.{State, UnitOf, is_past, lacks_unit, lun_of, not_taken, numbers_of}
-use Rattle.power_loss.proofs.MachineWords.{operation_in, plain_now, unit_numbers_at, takes, unit_in, unit_of_request, UnitSpec}
-use Rattle.power_loss.proofs.MachineWords.{Cdb, IsTied}
+use Rattle.power_loss.proofs.MachineWords.{operation_in, plain_now, unit_numbers_at, takes, unit_in, unit_of_request}
+use Rattle.power_loss.proofs.MachineWords.{UnitSpec, Cdb, IsTied}
 use Rattle.std.proofs.Common.{position}
 use Rattle.std.specs.Prelude.{if◌then◌else◌, is_none}
 use Rattle.std.specs.Int.{div_ceil}

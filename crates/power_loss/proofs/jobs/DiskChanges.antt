@@ -1,16 +1,16 @@
 -- A change of the disk that keeps what stands safely keeps a life valid: each page is as it was, or nothing, or left by
 -- a program that failed; and what is in flight was in flight.
-use Rattle.power_loss.proofs.Common.{◌≡◌, ◌≢◌, ℕ, suc, ◌<◌, ◌≤◌, Bool, true, false, ◌⊎◌, All, List, [], Option, Some, None}
-use Rattle.power_loss.proofs.Common.{refl, cases_Bool, HasKey, HasStandIn, IsSpare, IsThereOrSpare, MayBeErased}
-use Rattle.power_loss.proofs.Common.{sym, ap, ◌∙◌, subst, inl, inr, ⊎_elim, arith, All-nil, Cell, Cells, GroupPage}
-use Rattle.power_loss.proofs.Common.{Mark, MarkPage, Nothing, Bad, Closed, Disk, Erasing, Flight, Free, Programming}
-use Rattle.power_loss.proofs.Common.{Spot, spot_of, Name, CopyStep, MarkStep, Mended, Mending, Plan, Repairing, Step}
-use Rattle.power_loss.proofs.Common.{StepKind, Translation, Unmarked, Want, wants_of_step, is_mended, Fence, Key, Place}
-use Rattle.power_loss.proofs.Common.{Tag, mark_not_nothing, page_not_nothing, Book, book, last_number}
-use Rattle.power_loss.proofs.Common.{AreNumbered, BlocksRight, EraseRight, FlightsRight, IsLastRepair, IsOpenedOrOwn}
-use Rattle.power_loss.proofs.Common.{IsNeededPage, IsOwnMark, IsToCopy, MarkFlightRight, MarksRight, MendingRight}
-use Rattle.power_loss.proofs.Common.{PagesRight, PlanRight, ProgramRight, ReadsRight, StepKindRight, StepRight}
-use Rattle.power_loss.proofs.Common.{ToReadRight, Valid, recorded_in}
+use Rattle.power_loss.proofs.Common.{◌≡◌, ◌≢◌, ℕ, suc, ◌<◌, ◌≤◌, Bool, true, false, ◌⊎◌, All, List, [], Option, Some}
+use Rattle.power_loss.proofs.Common.{None, refl, cases_Bool, HasKey, IsSpare, IsThereOrSpare, MayBeErased, sym, ap, ◌∙◌}
+use Rattle.power_loss.proofs.Common.{subst, inl, inr, ⊎_elim, arith, All-nil, Cell, Cells, GroupPage, Mark, MarkPage}
+use Rattle.power_loss.proofs.Common.{Nothing, Bad, Closed, Disk, Erasing, Flight, Free, Programming, Spot, spot_of}
+use Rattle.power_loss.proofs.Common.{Name, CopyStep, MarkStep, Mended, Mending, Plan, Repairing, Step, StepKind}
+use Rattle.power_loss.proofs.Common.{Translation, Unmarked, Want, wants_of_step, is_mended, Fence, Key, Place, Tag}
+use Rattle.power_loss.proofs.Common.{mark_not_nothing, page_not_nothing, Book, book, last_number, AreNumbered}
+use Rattle.power_loss.proofs.Common.{BlocksRight, EraseRight, FlightsRight, IsLastRepair, IsOpenedOrOwn, IsNeededPage}
+use Rattle.power_loss.proofs.Common.{IsOwnMark, IsToCopy, MarkFlightRight, MarksRight, MendingRight, PagesRight}
+use Rattle.power_loss.proofs.Common.{PlanRight, ProgramRight, ReadsRight, StepKindRight, StepRight, ToReadRight, Valid}
+use Rattle.power_loss.proofs.Common.{recorded_in}
 use Rattle.power_loss.proofs.books.LayerParts.{MarksOf, MendingOf, OwnMarkOf, UnmarkedOf}
 use Rattle.power_loss.proofs.jobs.StandsSecurely.{Keeps, all_safe, free_is_not_bad, mark_stands_moves, secure_moves}
 use Rattle.power_loss.proofs.jobs.StandsSecurely.{true_is_not_false}
@@ -214,7 +214,8 @@ module _ (t : Translation) (e : Disk) (v : Valid t) (c : Change t e) where
   still : IsGone t e → (p : Place) → t.disk.cells p ≢ Nothing →
       (MayBeErased t.disk.blocks t.disk.erasing (spot_of p) → ⊥) → e.cells p ≡ t.disk.cells p
   still gone p some out = ⊎_elim (λ h. h)
-      (λ h. ⊎_elim (λ k. absurd (⊎_elim (λ z. some z) (λ z. out z) (gone p k))) (λ f. absurd (some f.blank)) h) (c.left p)
+      (λ h. ⊎_elim (λ k. absurd (⊎_elim (λ z. some z) (λ z. out z) (gone p k))) (λ f. absurd (some f.blank)) h)
+      (c.left p)
 
   may_still : (s : Spot) → MayBeErased e.blocks e.erasing s → MayBeErased t.disk.blocks t.disk.erasing s
   may_still s may = ⊎_elim (λ free. inl (c.freed s free)) (λ er. c.spent s er) may

@@ -1,15 +1,15 @@
 -- A program and an erase that a die is given keep a life valid.
 use Rattle.power_loss.proofs.Common.{◌≡◌, ℕ, zero, suc, ◌<◌, Bool, true, false, ◌⊎◌, List, [], ◌∷◌, Option, Some, None}
 use Rattle.power_loss.proofs.Common.{refl, sym, ap, ◌∙◌, subst, inl, inr, ⊎_elim, arith, list_any, list_any-append}
-use Rattle.power_loss.proofs.Common.{Cell, Cells, Mark, MarkPage, Erasing, Flight, Programming, Spot, at_die, at_spot}
-use Rattle.power_loss.proofs.Common.{job_begun, spot_of, below, IsNewestMark, Entry, Name, IsFirstFence, number_of}
-use Rattle.power_loss.proofs.Common.{CopyStep, MarkStep, Mended, Mending, MayTake, Plan, RepairStep, Repairing, Step}
-use Rattle.power_loss.proofs.Common.{Translation, Unmarked, flies_mark, records_now, some_flight, taken, Fence, Key}
-use Rattle.power_loss.proofs.Common.{Place, spot_cases, at_die_is, at_spot_is, mark_not_nothing, one_mark}
-use Rattle.power_loss.proofs.Common.{page_not_mark, page_not_nothing, or_parts, same_Some, true≢false, none_in_empty}
-use Rattle.power_loss.proofs.Common.{Book, IsKnown, IsLostNumber, IsOverwritten, IsWritten, book, last_number}
-use Rattle.power_loss.proofs.Common.{FenceRight, IsLastRepair, IsLaterMark, IsOpenedOrOwn, IsToCopy, MarkFlightRight}
-use Rattle.power_loss.proofs.Common.{MarkStepRight, StandsIn, Valid, one_page}
+use Rattle.power_loss.proofs.Common.{Cell, Mark, MarkPage, Erasing, Flight, Programming, Spot, at_die, at_spot}
+use Rattle.power_loss.proofs.Common.{job_begun, spot_of, below, Entry, Name, IsFirstFence, number_of, CopyStep}
+use Rattle.power_loss.proofs.Common.{MarkStep, Mended, Mending, MayTake, Plan, RepairStep, Repairing, Step, Translation}
+use Rattle.power_loss.proofs.Common.{Unmarked, flies_mark, records_now, some_flight, taken, Fence, Key, Place}
+use Rattle.power_loss.proofs.Common.{spot_cases, at_die_is, at_spot_is, mark_not_nothing, one_mark, page_not_mark}
+use Rattle.power_loss.proofs.Common.{page_not_nothing, or_parts, same_Some, true≢false, none_in_empty, Book, IsKnown}
+use Rattle.power_loss.proofs.Common.{IsLostNumber, IsOverwritten, IsWritten, book, last_number, FenceRight}
+use Rattle.power_loss.proofs.Common.{IsLastRepair, IsLaterMark, IsToCopy, MarkFlightRight, MarkStepRight, StandsIn}
+use Rattle.power_loss.proofs.Common.{Valid, one_page}
 use Rattle.power_loss.proofs.books.LayerParts.{MarksOf, MendingOf, OwnMarkOf, UnmarkedOf}
 use Rattle.power_loss.proofs.kept_pages.PagesStay.{held_begun}
 use Rattle.power_loss.proofs.jobs_owed.BegunPrograms.{CellRight, IsMarkedOnce, begins}

@@ -1,12 +1,13 @@
 -- The program of a mark ended well: the block of the plan is freed, and the mending moves on.
-use Rattle.power_loss.proofs.Common.{mark_not_nothing, ◌≡◌, ◌≢◌, ℕ, ◌<◌, ◌≤◌, ◌⊎◌, true, false, List, length, Option, Some, None, refl}
-use Rattle.power_loss.proofs.Common.{sym, ap, ◌∙◌, subst, inl, inr, ⊎_elim, arith, All-nil, Cells, GroupPage, IsPlace}
-use Rattle.power_loss.proofs.Common.{Mark, MarkPage, BlockState, Disk, Free, Programming, Spot, at_die, at_place}
-use Rattle.power_loss.proofs.Common.{programmed, spot_of, IsNewestMark, recorded_in, WentWell, freed, job_ended}
-use Rattle.power_loss.proofs.Common.{mending_after, number_of, MarkStep, Mended, Mending, Plan, Translation, Unmarked}
-use Rattle.power_loss.proofs.Common.{is_mended, Fence, Key, Place, Tag, one_mark, page_not_mark, false≢true, none-some}
-use Rattle.power_loss.proofs.Common.{none_in_empty, at_place_is, AreWholeAbove, Book, IsPlainMark, book, FlightsRight}
-use Rattle.power_loss.proofs.Common.{MarksRight, MendingRight, OnePlanRight, PagesRight, RepairingRight, Valid}
+use Rattle.power_loss.proofs.Common.{mark_not_nothing, ◌≡◌, ◌≢◌, ℕ, ◌<◌, ◌≤◌, ◌⊎◌, true, false, List, length, Option}
+use Rattle.power_loss.proofs.Common.{Some, None, refl, sym, ap, ◌∙◌, subst, inl, inr, ⊎_elim, arith, All-nil, Cells}
+use Rattle.power_loss.proofs.Common.{GroupPage, IsPlace, Mark, MarkPage, BlockState, Disk, Free, Programming, Spot}
+use Rattle.power_loss.proofs.Common.{at_die, at_place, programmed, spot_of, IsNewestMark, recorded_in, WentWell, freed}
+use Rattle.power_loss.proofs.Common.{job_ended, mending_after, number_of, MarkStep, Mended, Mending, Plan, Translation}
+use Rattle.power_loss.proofs.Common.{Unmarked, is_mended, Fence, Key, Place, Tag, one_mark, page_not_mark, false≢true}
+use Rattle.power_loss.proofs.Common.{none-some, none_in_empty, at_place_is, AreWholeAbove, Book, IsPlainMark, book}
+use Rattle.power_loss.proofs.Common.{FlightsRight, MarksRight, MendingRight, OnePlanRight, PagesRight, RepairingRight}
+use Rattle.power_loss.proofs.Common.{Valid}
 use Rattle.power_loss.proofs.books.LayerParts.{MarksOf, MendingOf, OwnMarkOf, UnmarkedOf}
 use Rattle.power_loss.proofs.kept_pages.PagesStay.{pins_stay, rests_stay}
 use Rattle.power_loss.proofs.kept_pages.ReadsStay.{idle_reads, reads_stay}
@@ -36,7 +37,8 @@ plain_unlost e l = record {
   repaired = λ n i x lost h. absurd (let f = lost.from in let u = lost.to in omega (arith, f, u, l));
 }
 
-behind_unmended : (w : Mending) → is_mended (mending_after w) ≡ false → is_mended w ≡ false
+-- where the device is not mended behind a mark, it was not mended before it
+pub behind_unmended : (w : Mending) → is_mended (mending_after w) ≡ false → is_mended w ≡ false
 behind_unmended Mended e = e
 behind_unmended w e = refl
 

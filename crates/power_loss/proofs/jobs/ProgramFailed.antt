@@ -89,7 +89,8 @@ module _ (t : Translation) (die : ℕ) (p : Place) (cell : Cell) (left : Cells) 
     left = λ q. fresh_at q (by q);
     ended = λ q h. ⊎_elim (λ k. absurd (false≢true k.1)) (λ k. k.1) (at_place_is t.disk.finished p false q true h);
     unended = λ q h. ⊎_elim
-        (λ k. ⊎_elim (λ s. inr (inl (s ∙ ap t.disk.cells k.0 ∙ program_blank v place))) (λ x. inr x) (fresh_at q (by q)))
+        (λ k. ⊎_elim (λ s. inr (inl (s ∙ ap t.disk.cells k.0 ∙ program_blank v place))) (λ x. inr x)
+        (fresh_at q (by q)))
         (λ k. inl k.1) (at_place_is t.disk.finished p false q false h);
     blocks = bad_blocks;
     flew = (idle_fewer {f = t.disk.flights} p.die).programs;

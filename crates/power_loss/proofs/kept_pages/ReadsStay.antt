@@ -3,12 +3,11 @@ use Rattle.power_loss.proofs.Common.{◌≡◌, ◌≢◌, ℕ, Bool, true, fals
 use Rattle.power_loss.proofs.Common.{Some, None, refl, sym, ap, ◌∙◌, subst, ⊎_elim, All-cons, All-head, All-nil}
 use Rattle.power_loss.proofs.Common.{All-tail, All-weaker, false≢true, none-some, same_Some, Cell, Cells, BlockState}
 use Rattle.power_loss.proofs.Common.{Disk, Erasing, Flight, ForStep, Free, Programming, Reader, Reading, Spot, at_die}
-use Rattle.power_loss.proofs.Common.{at_spot, same_spot, spot_of, state_after, Name, is_kind_of, step_after}
-use Rattle.power_loss.proofs.Common.{step_there, without_reader, CopyStep, Plan, RepairStep, Step, Translation, Want}
-use Rattle.power_loss.proofs.Common.{is_mended, standing_of, want_at, wants_of_step, HasKey, book, Key, Place, at_die_is}
-use Rattle.power_loss.proofs.Common.{at_spot_is}
-use Rattle.power_loss.proofs.Common.{spot_cases, page_not_nothing, Flights, IsGroupPage, IsNeededPage, IsSecure}
-use Rattle.power_loss.proofs.Common.{ReadsRight, Standing, ToReadRight, Valid}
+use Rattle.power_loss.proofs.Common.{at_spot, same_spot, spot_of, state_after, Name, is_kind_of, step_after, step_there}
+use Rattle.power_loss.proofs.Common.{without_reader, CopyStep, Plan, RepairStep, Step, Translation, Want, is_mended}
+use Rattle.power_loss.proofs.Common.{standing_of, want_at, wants_of_step, HasKey, book, Key, Place, at_die_is}
+use Rattle.power_loss.proofs.Common.{at_spot_is, spot_cases, page_not_nothing, Flights, IsGroupPage, IsNeededPage}
+use Rattle.power_loss.proofs.Common.{IsSecure, ReadsRight, Standing, ToReadRight, Valid}
 use Rattle.power_loss.proofs.kept_pages.LookedUpPages.{secure_page}
 use Rattle.power_loss.proofs.kept_pages.PagesStay.{StayThere, page_begun, page_stays}
 use Rattle.power_loss.proofs.jobs.StandsSecurely.{Keeps, behind_is_not_free}

@@ -1,8 +1,8 @@
 -- Until the device is mended the page with a key's content stands where it is not erased.
-use Rattle.power_loss.proofs.Common.{◌≡◌, ℕ, ◌<◌, ◌≤◌, false, List, Option, Some, None, refl, sym, ap, ◌∙◌, ⊎_elim}
-use Rattle.power_loss.proofs.Common.{arith, subst, Cells, Mark, MarkPage, Group, IsNewestMark, recorded_in, Name}
-use Rattle.power_loss.proofs.Common.{latest_in, Mended, Mending, Repairing, Translation, Unmarked, is_mended, Key, Place}
-use Rattle.power_loss.proofs.Common.{true≢false, same_Some, HasKey, book, Valid}
+use Rattle.power_loss.proofs.Common.{◌≡◌, ℕ, ◌<◌, ◌≤◌, false, List, Option, Some, None, sym, ap, ◌∙◌, ⊎_elim, arith}
+use Rattle.power_loss.proofs.Common.{Cells, Mark, MarkPage, Group, IsNewestMark, recorded_in, Name, latest_in, Mended}
+use Rattle.power_loss.proofs.Common.{Mending, Repairing, Translation, Unmarked, is_mended, Key, Place, true≢false}
+use Rattle.power_loss.proofs.Common.{same_Some, HasKey, book, Valid}
 use Rattle.power_loss.proofs.books.LastOfEachKey.{IsLastOf, NoneOf, latest_cases}
 use Rattle.power_loss.proofs.books.LayerParts.{MendingOf, SecureOf}
 

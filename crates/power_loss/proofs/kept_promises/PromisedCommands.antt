@@ -1,7 +1,7 @@
 -- One promising command from its COMMAND on: what its task does in every state in which it is open.
 use Rattle.power_loss.proofs.Common.{◌≡◌, ℕ, suc, ◌+◌, ◌*◌, ◌≤◌, ◌==◌, Bool, true, false, List, [], ◌∷◌, ◌++◌, length}
-use Rattle.power_loss.proofs.Common.{Some, map, slice_get, refl, sym, ap, ◌∙◌, subst, arith, nat_le, nat_lt, append-nil}
-use Rattle.power_loss.proofs.Common.{append_assoc, length-append, if_both, false≢true, Release}
+use Rattle.power_loss.proofs.Common.{Some, map, slice_get, refl, sym, ap, ◌∙◌, subst, arith, nat_le, nat_lt}
+use Rattle.power_loss.proofs.Common.{length-append, if_both, false≢true, Release}
 use Rattle.power_loss.proofs.MachineWords.{Command, Write, Answering, Awaiting, Deed, ForWrite, Gathering, Good}
 use Rattle.power_loss.proofs.MachineWords.{Purpose, ReadState, Sending, Status, Task, count_at, is_asked_in, is_task_of}
 use Rattle.power_loss.proofs.MachineWords.{task_of, with_deed, write_error, accepts, blocks_in, data_for, deed_locked}
@@ -10,7 +10,8 @@ use Rattle.power_loss.proofs.MachineWords.{write_deed, State, locked}
 use Rattle.std.specs.Prelude.{◌&&◌, if◌then◌else◌}
 use Rattle.std.proofs.lemmas.Bool.{ltb-false}
 use Rattle.ufs_laws.proofs.walk.SmallChanges.{does}
-use Rattle.power_loss.proofs.books.PagesByName.{get_grows, get_last}
+use Rattle.ufs_spec.proofs.Lists.{get_front}
+use Rattle.power_loss.proofs.books.PagesByName.{get_last}
 use Rattle.power_loss.proofs.open_tasks.FoundInLists.{found_is, found_map}
 use Rattle.power_loss.proofs.books.SmallFacts.{and_true, eq_told, if_true}
 use Rattle.power_loss.proofs.host_commands.HandedOutReplies.{FitsIn}
@@ -68,16 +69,11 @@ TrackedIn p tag bytes s = Tracked p tag bytes s.tasks s.accepted
 
 -- Commands are accepted
 
-got_more : {A : Type 0} (xs ys : List A) (j : ℕ) (x : A) → slice_get xs j ≡ Some x → slice_get (xs ++ ys) j ≡ Some x
-got_more xs [] j x h = ap (λ zs. slice_get zs j) (append-nil xs) ∙ h
-got_more xs (y ∷ ys) j x h = ap (λ zs. slice_get zs j) (sym (append_assoc xs (y ∷ []) ys))
-    ∙ got_more (xs ++ y ∷ []) ys j x (get_grows xs y j x h)
-
 pub met_more : (p : Promise) (cs more : List Command) (bytes : List ℕ) (n : ℕ) → IsMet p cs bytes n →
     IsMet p (cs ++ more) bytes n
 met_more (OfFlush first) cs more bytes n h = h
 met_more (OfWrite first unit address blocks) cs more bytes n h =
-    (h.0, h.1, record { later = h.2.later; there = got_more cs more h.0 _ h.2.there; whole = h.2.whole })
+    (h.0, h.1, record { later = h.2.later; there = get_front cs more h.0 _ h.2.there; whole = h.2.whole })
 
 keeps_more : (p : Promise) (cs more : List Command) (bytes : List ℕ) (deed : Deed) → KeepsTo p cs bytes deed →
     KeepsTo p (cs ++ more) bytes deed

@@ -1,6 +1,6 @@
 -- A run over stops is lives one after another: so it keeps the promise, and each of its lives is right.
 use Rattle.power_loss.proofs.Common.{◌≡◌, Bool, List, [], ◌∷◌, ◌++◌, refl, sym, ap, ◌∙◌, subst, ⊎_elim, append_assoc}
-use Rattle.power_loss.proofs.Common.{append-nil, Array, Spot, Sound, Suits, Numbers}
+use Rattle.power_loss.proofs.Common.{append-nil, inl, Array, Spot, Sound, Suits, Numbers}
 use Rattle.power_loss.proofs.MachineWords.{IsConfig, DieState, Fit, GoesOn, IsLived, IsOpened, Life, Lived, Lives, Runs}
 use Rattle.power_loss.proofs.MachineWords.{Stops, array_of, bad_in, State, numbers_of, Event, Leftover, Output}
 use Rattle.power_loss.proofs.MachineWords.{IsArrayOf, ValidState, LivesRight, MayBeOpened, last_state}
@@ -17,6 +17,13 @@ use Rattle.power_loss.proofs.mending_steps.TurnsOfALife.{true_turns_of_life}
 use Rattle.power_loss.proofs.lives.NextLife.{sound_left, suits_left, within_left}
 use Rattle.ufs_spec.specs.declared.events.Event.TheVariants as event
 use Rattle.ufs_spec.specs.declared.events.Output.TheVariants as output
+
+-- A life is a run with no stop
+
+pub life_runs : (n : Numbers) (s t : State) (es : List Event) (os : List Output) → Life s es os t → Runs n s es os t
+life_runs n s t [] [] life = life
+life_runs n s t (e ∷ es) (o ∷ os) life = (life.0, inl life.1, life_runs n life.0 t es os life.2)
+life_runs n s t es os life = absurd life
 
 -- One event more
 

@@ -1,12 +1,12 @@
 -- No move adds to the turns that are left before the device is mended, and a turn that finds a step due takes one.
 use Rattle.power_loss.proofs.Common.{◌≡◌, ℕ, suc, ◌+◌, ◌≤◌, ◌&&◌, not, is_some, if◌then◌else◌, Bool, true, false, List}
 use Rattle.power_loss.proofs.Common.{[], ◌∷◌, Option, Some, None, refl, sym, ap, ◌∙◌, arith, Mark, MarkPage, Flight}
-use Rattle.power_loss.proofs.Common.{Programming, Name, same_name, EndJob, IsAllowedMove, Move, TakeStep}
-use Rattle.power_loss.proofs.Common.{mending_after, moved, step_after, step_there, CopyStep, MarkStep, Mended}
-use Rattle.power_loss.proofs.Common.{Mending, Order, OrderCopy, OrderMark, OrderPlanMark, OrderRepair, RepairStep}
-use Rattle.power_loss.proofs.Common.{Repairing, Step, StepKind, Translation, Unmarked, has_mark_number, is_mended}
-use Rattle.power_loss.proofs.Common.{is_step_due, mark_ordered, name_of, ordered, turned, Fence, Key, Place, Valid}
-use Rattle.power_loss.proofs.Common.{false≢true, none-some, true≢false}
+use Rattle.power_loss.proofs.Common.{Programming, Name, same_name, EndJob, IsAllowedMove, Move, TakeStep, mending_after}
+use Rattle.power_loss.proofs.Common.{moved, step_after, step_there, CopyStep, MarkStep, Mended, Mending, Order}
+use Rattle.power_loss.proofs.Common.{OrderCopy, OrderMark, OrderPlanMark, OrderRepair, RepairStep, Repairing, Step}
+use Rattle.power_loss.proofs.Common.{StepKind, Translation, Unmarked, has_mark_number, is_mended, is_step_due}
+use Rattle.power_loss.proofs.Common.{mark_ordered, name_of, ordered, turned, Fence, Key, Place, Valid, false≢true}
+use Rattle.power_loss.proofs.Common.{none-some, not-true, true≢false}
 use Rattle.power_loss.proofs.MachineWords.{AreAllowedMoves, is_marking, mending_turns, turns_left, turns_of}
 use Rattle.power_loss.specs.Mending.{is_mark, is_mending_turn, moved_by}
 use Rattle.power_loss.proofs.books.SmallFacts.{and_true}
@@ -155,10 +155,6 @@ move_keeps_turns {t} move v = le_same refl
 
 -- Moves in a row
 
-not_true : (b : Bool) → not b ≡ true → b ≡ false
-not_true true h = cc
-not_true false h = refl
-
 counted : {t : Translation} (move : Move) → Valid t →
     (if is_mending_turn t move then 1 else 0) + turns_left (moved t move) ≤ turns_left t
 counted {t} TakeStep v = go (is_step_due t && not (is_mended t.work.mending)) refl
@@ -167,7 +163,7 @@ counted {t} TakeStep v = go (is_step_due t && not (is_mended t.work.mending)) re
         (if b then 1 else 0) + turns_left (turned t) ≤ turns_left t
     go true is =
         let r = and_true (is_step_due t) (not (is_mended t.work.mending)) is in counted_one _ _
-        (turn_takes t (not_true (is_mended t.work.mending) r.1) r.0)
+        (turn_takes t (not-true (is_mended t.work.mending) r.1) r.0)
     go false is = uncounted _ _ (move_keeps_turns TakeStep v)
 counted {t} move v = uncounted _ _ (move_keeps_turns move v)
 

@@ -87,7 +87,8 @@ effect_programs t e h = subst ProgramsFit (sym (effect_flights t e)) (left (die_
 -- What leaves the numbers and contents of the book
 
 light : {t u : Translation} → Fits t → Valid u → book u ≡ book t → ProgramsFit u.disk.flights →
-    u.ledger.marks ≤ greatest_number → (is_mended u.work.mending ≡ true → before_accepted u.ledger ≤ u.ledger.frontier) → Fits u
+    u.ledger.marks ≤ greatest_number →
+    (is_mended u.work.mending ≡ true → before_accepted u.ledger ≤ u.ledger.frontier) → Fits u
 light {t} {u} f v b programs marks repaired = record {
   config = subst IsConfig (sym (ap (λ (x : Book). x.numbers) b)) f.config;
   valid = v;
@@ -104,8 +105,8 @@ abbrev pub ItemsFit : Group → Type 0
 ItemsFit g = (i : ℕ) (item : Item) → slice_get g i ≡ Some item → IsBlock item.body
     × (item.key.kind ≡ 3 → IsSettingsBody item.body)
 
-group_fits : {b : Book} (g : Group) → BookFits b → length g ≤ group_bound → ItemsFit g → last_number b + 1 ≤ greatest_number →
-    BookFits (grown b g)
+group_fits : {b : Book} (g : Group) → BookFits b → length g ≤ group_bound → ItemsFit g →
+    last_number b + 1 ≤ greatest_number → BookFits (grown b g)
 group_fits {b} g f few items fit = record {
   entries = λ n i e is. ⊎_elim (f.entries n i e) (added n i e) (page_splits b g n i e is);
   last = omega (arith, length-append b.groups (g ∷ []));

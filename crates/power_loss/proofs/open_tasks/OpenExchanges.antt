@@ -7,8 +7,8 @@ use Rattle.power_loss.proofs.Common.{eqb-true, cond-false}
 use Rattle.power_loss.proofs.MachineWords.{Deed, Gathering, Purpose, Short, Status, Task, TaskSetFull, is_task_of}
 use Rattle.power_loss.proofs.MachineWords.{response, short_reply, task_of, with_deed, without_task, begun, begun_if_any}
 use Rattle.power_loss.proofs.MachineWords.{command_taken, complete, data_for, data_heard, deed_after, moves_after}
-use Rattle.power_loss.proofs.MachineWords.{refused_or_begun, set_deed, task_goes_on, task_replied, with_moves, with_short}
-use Rattle.power_loss.proofs.MachineWords.{most_tasks, Request, State, refusal, Cdb}
+use Rattle.power_loss.proofs.MachineWords.{refused_or_begun, set_deed, task_goes_on, task_replied, with_moves}
+use Rattle.power_loss.proofs.MachineWords.{with_short, most_tasks, Request, State, refusal, Cdb}
 use Rattle.std.specs.Prelude.{if◌then◌else◌}
 use Rattle.ufs_laws.proofs.walk.WaysOfCommands.{Beginning, Completion, Told, Waiting, WhyBegun, WhyCompleted, begins_by}
 use Rattle.ufs_laws.proofs.walk.WaysOfCommands.{begun_as, completed, completes_by}

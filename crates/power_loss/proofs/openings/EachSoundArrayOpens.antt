@@ -1,9 +1,9 @@
 -- A device can be opened over any array that is sound and suits it: the state that an opening finds is one.
 use Rattle.power_loss.proofs.Common.{◌≡◌, ℕ, suc, ◌≤◌, Bool, true, false, [], Option, Some, None, refl, ap, subst}
-use Rattle.power_loss.proofs.Common.{arith, AreFirstBlocks, AreWithin, Array, BlockState, Cells, Mark, Shows, Disk, Spot, content, HoldAll, IsKept}
-use Rattle.power_loss.proofs.Common.{IsNewestMark, StandsFor, fence_in, Ledger, IsOpenedTranslation, IsGreatestSeen, lost_from}
-use Rattle.power_loss.proofs.Common.{number_of, Plain, CellsSound, CellsSuit, Sound, Suits, Translation, Numbers, Fence}
-use Rattle.power_loss.proofs.Common.{none-some, CellsRight}
+use Rattle.power_loss.proofs.Common.{arith, AreFirstBlocks, AreWithin, Array, BlockState, Cells, Mark, Shows, Disk}
+use Rattle.power_loss.proofs.Common.{Spot, content, HoldAll, IsKept, IsNewestMark, StandsFor, fence_in, Ledger}
+use Rattle.power_loss.proofs.Common.{IsOpenedTranslation, IsGreatestSeen, lost_from, number_of, Plain, CellsSound}
+use Rattle.power_loss.proofs.Common.{CellsSuit, Sound, Suits, Translation, Numbers, Fence, none-some, CellsRight}
 use Rattle.power_loss.proofs.MachineWords.{IsOpened, State, IsArrayOf}
 use Rattle.ufs_laws.proofs.array_cells.NewestFound.{holds}
 use Rattle.ufs_laws.proofs.array_cells.StandsForOne.{cells_one, mark_one}

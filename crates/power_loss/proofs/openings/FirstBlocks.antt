@@ -1,11 +1,11 @@
 -- What a block is when a life begins: it is not being filled, and it is bad only if it was.
-use Rattle.power_loss.proofs.Common.{◌≡◌, ℕ, Bool, true, false, Option, refl, sym, ap, ◌∙◌, ⊎_elim, cases_Bool, Cells}
-use Rattle.power_loss.proofs.Common.{Mark, BlockState, Closed, Filling, Free, Spot, AreFirstBlocks}
+use Rattle.power_loss.proofs.Common.{◌≡◌, ℕ, Bool, Option, sym, ap, ◌∙◌, ⊎_elim, cases_Bool, Cells, Mark, BlockState}
+use Rattle.power_loss.proofs.Common.{Filling, Spot, AreFirstBlocks}
 use Rattle.ufs_spec.specs.Translation.{is_bad}
 use Rattle.power_loss.proofs.jobs.StandsSecurely.{closed_is_not_filling, filling_is_not_bad, free_is_not_filling}
 
-pub never_filling : {c : Cells} {m : Option Mark} {bad : Spot → Bool} {blocks : Spot → BlockState} {s : Spot} {next : ℕ} →
-    AreFirstBlocks c m bad blocks → blocks s ≡ Filling next → ⊥
+pub never_filling : {c : Cells} {m : Option Mark} {bad : Spot → Bool} {blocks : Spot → BlockState} {s : Spot}
+    {next : ℕ} → AreFirstBlocks c m bad blocks → blocks s ≡ Filling next → ⊥
 never_filling {bad = bad} {s = s} x h = ⊎_elim (λ e. filling_is_not_bad h (x.were_bad s e))
     (λ e. ⊎_elim (λ free. free_is_not_filling free h) (λ closed. closed_is_not_filling closed h) (x.were_good s e))
     (cases_Bool (bad s))

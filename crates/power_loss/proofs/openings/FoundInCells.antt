@@ -1,13 +1,12 @@
 -- What an opening finds in cells: the page of each name, the greatest number seen, the lost keys in order, the mending
 -- that is due and the state of each block.
 use Rattle.power_loss.proofs.Common.{◌≡◌, ◌≢◌, ◌⊎◌, ℕ, suc, ◌≤◌, Bool, true, false, List, Option, Some, None, refl, sym}
-use Rattle.power_loss.proofs.Common.{cases_Bool, is_free, true≢false}
-use Rattle.power_loss.proofs.Common.{ap, ◌∙◌, subst, inl, inr, ⊎_elim, arith, AreWithin, Cell, Cells, GroupPage}
-use Rattle.power_loss.proofs.Common.{IsPlace, Mark, MarkPage, Nothing, key_of, BlockState, Bad, Closed, Filling, Free, Spot}
-use Rattle.power_loss.proofs.Common.{spot_of, Holds, fence_in, Entry, Name, AreLost, HasName, IsAtMost}
-use Rattle.power_loss.proofs.Common.{IsEntry, IsFirst, IsMendingAt, IsGreatestSeen, StandsAt, Mended, Mending}
-use Rattle.power_loss.proofs.Common.{Unmarked, name_of, Numbers, Fence, Key, Place, Tag, none-some, name_cases}
-use Rattle.power_loss.proofs.Common.{spot_cases, mark_not_nothing, page_not_nothing}
+use Rattle.power_loss.proofs.Common.{cases_Bool, is_free, true≢false, ap, ◌∙◌, subst, inl, inr, ⊎_elim, arith}
+use Rattle.power_loss.proofs.Common.{AreWithin, Cell, Cells, GroupPage, IsPlace, Mark, MarkPage, Nothing, key_of}
+use Rattle.power_loss.proofs.Common.{BlockState, Bad, Closed, Filling, Free, Spot, spot_of, Holds, fence_in, Entry}
+use Rattle.power_loss.proofs.Common.{Name, AreLost, HasName, IsAtMost, IsEntry, IsFirst, IsMendingAt, IsGreatestSeen}
+use Rattle.power_loss.proofs.Common.{StandsAt, Mended, Mending, Unmarked, name_of, Numbers, Fence, Key, Place, Tag}
+use Rattle.power_loss.proofs.Common.{none-some, name_cases, page_not_nothing}
 use Rattle.std.specs.Prelude.{max, if◌then◌else◌}
 use Rattle.ufs_laws.proofs.deciding.SearchOverPlaces.{Decided, Greatest, greatest, is_place, some_cell, split}
 use Rattle.ufs_spec.specs.Openings.{IsLost, IsNotHigher}

@@ -1,8 +1,8 @@
 -- The newest page of a key stands outside of the blocks that are free when a life begins, or a copy of it does.
-use Rattle.power_loss.proofs.Common.{◌≡◌, ◌≢◌, ◌⊎◌, ℕ, ◌<◌, ◌≤◌, Bool, List, Option, Some, None, refl, sym, ap, ◌∙◌, subst}
-use Rattle.power_loss.proofs.Common.{inl, inr, ⊎_elim, arith, Cell, Cells, GroupPage, Mark, BlockState, Free, Spot, spot_of}
-use Rattle.power_loss.proofs.Common.{IsFenced, fence_in, recorded_in, SamePage, AreFirstBlocks, IsSpare, Key, Place, Tag}
-use Rattle.power_loss.proofs.Common.{page_not_nothing}
+use Rattle.power_loss.proofs.Common.{◌≡◌, ◌≢◌, ℕ, ◌<◌, Bool, List, Option, Some, None, refl, sym, ap, ◌∙◌, subst, inl}
+use Rattle.power_loss.proofs.Common.{inr, ⊎_elim, arith, Cells, GroupPage, Mark, BlockState, Free, Spot, spot_of}
+use Rattle.power_loss.proofs.Common.{IsFenced, fence_in, recorded_in, SamePage, AreFirstBlocks, IsSpare, Key, Place}
+use Rattle.power_loss.proofs.Common.{Tag, page_not_nothing}
 use Rattle.power_loss.proofs.openings.OpenedPages.{free_or_not}
 use Rattle.ufs_spec.specs.Kept.{Counts, IsNewest}
 use Rattle.ufs_spec.specs.Openings.{IsFree}
@@ -41,4 +41,5 @@ module _ (c : Cells) (m : Option Mark) (bad : Spot → Bool) (blocks : Spot → 
     newest_outside = ⊎_elim
         (λ free. in_free m refl (subst (IsSpare c m (IsFree blocks)) newest.counts.there
         (x.spare p free (page_not_nothing _ _ _ newest.counts.there))))
-        (λ out. (p, t, body, newest.counts.there, (refl, refl, refl, refl, refl), out)) (free_or_not (blocks (spot_of p)))
+        (λ out. (p, t, body, newest.counts.there, (refl, refl, refl, refl, refl), out))
+        (free_or_not (blocks (spot_of p)))

@@ -1,5 +1,5 @@
 -- What pages that open say of an opened translation layer: the ends of fences, and entries and numbers that fit.
-use Rattle.power_loss.proofs.Common.{◌≡◌, ℕ, ◌<◌, ◌≤◌, ◌^◌, Bool, List, Option, Some, None, length, sym, ap, ◌∙◌, subst}
+use Rattle.power_loss.proofs.Common.{◌≡◌, ℕ, ◌<◌, ◌≤◌, Bool, List, Option, Some, None, length, sym, ap, ◌∙◌, subst}
 use Rattle.power_loss.proofs.Common.{⊎_elim, arith, AreWithin, Array, Cells, DataHold, GroupPage, IsCell, Mark}
 use Rattle.power_loss.proofs.Common.{MarkPage, Opens, Shows, mark_tag, Spot, IsNewestMark, fence_in, recorded_in, Entry}
 use Rattle.power_loss.proofs.Common.{IsAtMost, number_of, CellsSound, Translation, Numbers, Fence, Place, Tag}

@@ -1,19 +1,19 @@
 -- What an opened translation layer knows of the dies: the frontier, pages, blocks and jobs.
 use Rattle.power_loss.proofs.Common.{◌≡◌, ◌≢◌, ℕ, suc, ◌<◌, ◌≤◌, ◌⊎◌, Bool, true, List, Option, Some, None, refl, sym}
 use Rattle.power_loss.proofs.Common.{ap, ◌∙◌, subst, inl, inr, ⊎_elim, arith, cases_Bool, Cell, GroupPage, Mark}
-use Rattle.power_loss.proofs.Common.{MarkPage, Nothing, BlockState, Bad, Closed, Filling, Flight, Free, Spot, key_of}
-use Rattle.power_loss.proofs.Common.{spot_of, Counts, IsFenced, IsNewestMark, fence_in, recorded_in, Entry, Name}
-use Rattle.power_loss.proofs.Common.{HasStandIn, IsFirst, IsSpare, Overwrites, StandsAt, number_of, Translation, is_free}
-use Rattle.power_loss.proofs.Common.{name_of, Key, Place, Tag, mark_not_nothing, page_not_nothing, none-some, true≢false}
-use Rattle.power_loss.proofs.Common.{IsLostNumber, IsPageAt, book, AreNumbered, BlocksRight, FlightsRight, FrontierRight}
-use Rattle.power_loss.proofs.Common.{HasKey, PagesRight, SafeRight}
+use Rattle.power_loss.proofs.Common.{MarkPage, Nothing, BlockState, Bad, Closed, Filling, Flight, Free, Spot, spot_of}
+use Rattle.power_loss.proofs.Common.{Counts, IsFenced, IsNewestMark, fence_in, recorded_in, Entry, Name, HasStandIn}
+use Rattle.power_loss.proofs.Common.{IsFirst, IsSpare, Overwrites, StandsAt, number_of, Translation, is_free, name_of}
+use Rattle.power_loss.proofs.Common.{Key, Place, Tag, mark_not_nothing, page_not_nothing, none-some, true≢false}
+use Rattle.power_loss.proofs.Common.{IsLostNumber, IsPageAt, book, AreNumbered, BlocksRight, FlightsRight}
+use Rattle.power_loss.proofs.Common.{FrontierRight, HasKey, PagesRight, SafeRight}
 use Rattle.power_loss.specs.Invariant.{IsSecurelyOverwritten}
 use Rattle.ufs_spec.specs.Kept.{IsNewest}
 use Rattle.ufs_spec.specs.Openings.{IsFree}
 use Rattle.power_loss.proofs.books.LayerParts.{SecureOf}
 use Rattle.power_loss.proofs.jobs.StandsSecurely.{closed_is_not_filling, filling_is_not_bad, free_is_not_filling}
-use Rattle.power_loss.proofs.openings.OpenedByName.{Opened, from_old, is_known, low_cases, old_page, old_within, only_old}
-use Rattle.power_loss.proofs.openings.OpenedByName.{page_is_old, recorded_kept, shown, stands, stands_there}
+use Rattle.power_loss.proofs.openings.OpenedByName.{Opened, from_old, is_known, low_cases, old_page, old_within}
+use Rattle.power_loss.proofs.openings.OpenedByName.{only_old, page_is_old, recorded_kept, shown, stands, stands_there}
 use Rattle.power_loss.proofs.spent.ErasedIsSpent.{known_one}
 
 -- a page of the name
@@ -264,7 +264,8 @@ module _ {bad : Spot → Bool} {t : Translation} (o : Opened bad t) where
     where
       newest : (q : Place) × (u : Tag) × (body : List ℕ) ×
           IsNewest t.disk.cells t.ledger.newest (suc o.start.ledger.kept) k q u body × (name_of u ≡ name)
-      newest = subst (IsFirst t.disk.cells t.ledger.newest o.start.ledger.kept k) first (o.start.ledger.first_page k has)
+      newest = subst (IsFirst t.disk.cells t.ledger.newest o.start.ledger.kept k) first
+          (o.start.ledger.first_page k has)
 
       not_free : FreePage name.number name.index p → ⊥
       not_free x =

@@ -1,9 +1,9 @@
 -- A device that was opened over a sound array is in a valid state.
-use Rattle.power_loss.proofs.Common.{◌≡◌, ℕ, zero, suc, ◌≤◌, ◌^◌, Bool, true, List, [], ◌∷◌, Some, drop, refl, sym, ap}
-use Rattle.power_loss.proofs.Common.{◌∙◌, subst, arith, Array, Cell, IsCell, Shows, Programming, Spot, page_of}
-use Rattle.power_loss.proofs.Common.{CanApplyAll, Group, IsKey, IsPlain, content, groups_of, IsNewestMark}
-use Rattle.power_loss.proofs.Common.{accepted_groups, before_accepted, shape_of, shape_of_numbers, CellsSound, Sound}
-use Rattle.power_loss.proofs.Common.{is_mended, Numbers, Place, config_tests, ranges, none-some, Valid}
+use Rattle.power_loss.proofs.Common.{◌≡◌, ℕ, zero, suc, ◌≤◌, Bool, true, List, [], ◌∷◌, Some, drop, refl, sym, ap, ◌∙◌}
+use Rattle.power_loss.proofs.Common.{subst, arith, Array, Cell, IsCell, Shows, Programming, Spot, page_of, CanApplyAll}
+use Rattle.power_loss.proofs.Common.{Group, IsKey, IsPlain, content, groups_of, IsNewestMark, accepted_groups}
+use Rattle.power_loss.proofs.Common.{before_accepted, shape_of, shape_of_numbers, CellsSound, Sound, is_mended, Numbers}
+use Rattle.power_loss.proofs.Common.{Place, config_tests, ranges, none-some, Valid}
 use Rattle.power_loss.proofs.MachineWords.{IsConfig, Short, Task, IsOpened, State, numbers_of, IsArrayOf, IsTied}
 use Rattle.power_loss.proofs.MachineWords.{TasksRight, ValidState}
 use Rattle.ufs_laws.proofs.array_cells.StandsForOne.{cells_one, mark_one}

@@ -266,7 +266,8 @@ repairs_ordered {t} k left v none m = record {
   reads = v.reads;
   to_read = record {
     wanted = repair_wants (λ (w : Want). NeededOf t w.place)
-        (record { number = n; index = 0 }) from (λ p e. stands_needed k (t.ledger.first_page k) v (ap is_mended m) (repairing.more.keys 0 k refl) refl e);
+        (record { number = n; index = 0 }) from
+        (λ p e. stands_needed k (t.ledger.first_page k) v (ap is_mended m) (repairing.more.keys 0 k refl) refl e);
     copied = v.to_read.copied;
   };
 }

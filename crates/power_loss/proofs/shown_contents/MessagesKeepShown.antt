@@ -7,9 +7,9 @@ use Rattle.power_loss.proofs.MachineWords.{ReadState, Sending, Short, Task, Send
 use Rattle.power_loss.proofs.MachineWords.{is_task_of, task_of, with_deed, Host, Spelled, abort_moves, accepts}
 use Rattle.power_loss.proofs.MachineWords.{complete, data_for, data_heard, deed_after, deed_after_block, heard}
 use Rattle.power_loss.proofs.MachineWords.{is_aborted, managed, message_fault, moves_after, replied_by, service}
-use Rattle.power_loss.proofs.MachineWords.{set_deed, short_replied, task_goes_on, with_moves, without_tasks, opens_short}
-use Rattle.power_loss.proofs.MachineWords.{State, plain_now, numbers_of, Message, IsTied, MayCome, ShowsReads}
-use Rattle.power_loss.proofs.MachineWords.{ShowsRight}
+use Rattle.power_loss.proofs.MachineWords.{set_deed, short_replied, task_goes_on, with_moves, without_tasks}
+use Rattle.power_loss.proofs.MachineWords.{opens_short, State, plain_now, numbers_of, Message, IsTied, MayCome}
+use Rattle.power_loss.proofs.MachineWords.{ShowsReads, ShowsRight}
 use Rattle.std.proofs.Common.{filter, find, nat_lt}
 use Rattle.std.specs.Prelude.{slice_get}
 use Rattle.ufs_spec.specs.Machine.{deed_after_sent}

@@ -1,9 +1,9 @@
 -- A page of a free block is spare: what stands in for it lies outside of all free blocks.
-use Rattle.power_loss.proofs.Common.{◌≡◌, ◌≢◌, ℕ, ◌<◌, ◌≤◌, ◌⊎◌, List, Option, Some, None, refl, sym, ap, ◌∙◌, subst}
-use Rattle.power_loss.proofs.Common.{inl, inr, ⊎_elim, arith, Cell, GroupPage, Mark, MarkPage, Nothing, key_of, Free}
-use Rattle.power_loss.proofs.Common.{Spot, spot_of, IsFenced, recorded_in, Entry, HasStandIn, IsSpare, Overwrites, Mended}
-use Rattle.power_loss.proofs.Common.{Mending, Repairing, Translation, Unmarked, Place, Tag, IsLostNumber, IsPageAt, book}
-use Rattle.power_loss.proofs.Common.{IsSafe, IsWritten, MayBeErased, Valid}
+use Rattle.power_loss.proofs.Common.{◌≡◌, ◌≢◌, ℕ, ◌<◌, ◌≤◌, ◌⊎◌, List, Some, refl, sym, ap, ◌∙◌, subst, inl, inr}
+use Rattle.power_loss.proofs.Common.{⊎_elim, arith, Cell, GroupPage, Mark, MarkPage, Nothing, key_of, Free, spot_of}
+use Rattle.power_loss.proofs.Common.{IsFenced, recorded_in, Entry, HasStandIn, IsSpare, Mended, Mending, Repairing}
+use Rattle.power_loss.proofs.Common.{Translation, Unmarked, Place, Tag, IsLostNumber, IsPageAt, book, IsSafe, IsWritten}
+use Rattle.power_loss.proofs.Common.{MayBeErased, Valid}
 use Rattle.ufs_spec.specs.Openings.{IsFree}
 use Rattle.power_loss.proofs.books.LayerParts.{MarksOf, MendingOf, SecureOf}
 use Rattle.power_loss.proofs.jobs.DiskChanges.{spare_moves}

@@ -7,10 +7,10 @@ use Rattle.power_loss.proofs.MachineWords.{Every, IsSpoken, TaskSpeaks, Short, T
 use Rattle.power_loss.proofs.MachineWords.{short_reply, task_of, IsOpened, Life, Allowed, Answer, Call, Done, Due}
 use Rattle.power_loss.proofs.MachineWords.{Faulty, Heard, Host, IsHeard, OfDone, OfHost, OfReply, OfTake, OfTurn, Reply}
 use Rattle.power_loss.proofs.MachineWords.{Spelled, Take, Turn, behind, command_taken, fills, heard, hears, is_durable}
-use Rattle.power_loss.proofs.MachineWords.{lock_applied, managed, observe, refused_or_begun, query_unanswered, replied_by}
-use Rattle.power_loss.proofs.MachineWords.{service, short_locked, short_replied, tag_in, task_locked, with_short}
-use Rattle.power_loss.proofs.MachineWords.{Request, State, locked, lun_of, numbers_of, refusal, most_tasks, Event}
-use Rattle.power_loss.proofs.MachineWords.{Output, Message, Cdb}
+use Rattle.power_loss.proofs.MachineWords.{lock_applied, managed, observe, refused_or_begun, query_unanswered}
+use Rattle.power_loss.proofs.MachineWords.{replied_by, service, short_locked, short_replied, tag_in, task_locked}
+use Rattle.power_loss.proofs.MachineWords.{with_short, Request, State, locked, lun_of, numbers_of, refusal, most_tasks}
+use Rattle.power_loss.proofs.MachineWords.{Event, Output, Message, Cdb}
 use Rattle.std.specs.Prelude.{if◌then◌else◌, is_none, slice_get}
 use Rattle.ufs_laws.proofs.pages.ByteLists.{bytes-nil}
 use Rattle.ufs_laws.proofs.exchanges.ReplySizes.{reply_speaks, response_fits, size}

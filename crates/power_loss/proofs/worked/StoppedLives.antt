@@ -1,8 +1,8 @@
 -- A life of a new device that is stopped: what opens after the stop, and what it has.
 use Rattle.power_loss.proofs.Common.{◌≡◌, ◌++◌, Bool, true, false, if◌then◌else◌, List, [], ◌∷◌, refl, sym, ap, ◌∙◌}
-use Rattle.power_loss.proofs.Common.{subst, inl, inr, ⊎_elim, arith, Vec, Array, Cell, Cells, IsCell, Nothing, Shows}
-use Rattle.power_loss.proofs.Common.{Spot, at_place, IsData, data_key, CellsStandFor, IsCheckRight, Plain, block_at}
-use Rattle.power_loss.proofs.Common.{zero_block, Numbers, Page, Place, new_shape, opened_check, at_place_cases}
+use Rattle.power_loss.proofs.Common.{subst, inr, ⊎_elim, arith, Vec, Array, Cell, Cells, IsCell, Nothing, Shows, Spot}
+use Rattle.power_loss.proofs.Common.{at_place, IsData, data_key, CellsStandFor, IsCheckRight, Plain, block_at}
+use Rattle.power_loss.proofs.Common.{zero_block, Page, Place, new_shape, opened_check, at_place_cases}
 use Rattle.power_loss.proofs.MachineWords.{IsNew, row, IsOpened, Life, Runs, Stops, bad_in, State, Event, Leftover}
 use Rattle.power_loss.proofs.MachineWords.{Output, ValidState, MayBeOpened}
 use Rattle.ufs_laws.proofs.plain_contents.NewDevice.{new_plain, new_zeros}
@@ -14,7 +14,7 @@ use Rattle.ufs_spec.specs.Plain.{zero}
 use Rattle.power_loss.proofs.openings.EachSoundArrayOpens.{any_opens}
 use Rattle.power_loss.proofs.lives.EachEventKeeps.{many_events as event_keeps_many}
 use Rattle.power_loss.proofs.openings.OpenedStates.{opened_state as opened_valid}
-use Rattle.power_loss.proofs.lives.LivesOfRuns.{more}
+use Rattle.power_loss.proofs.lives.LivesOfRuns.{life_runs, more}
 use Rattle.power_loss.proofs.lives.StopsOfRuns.{run_leaves}
 use Rattle.ufs_spec.specs.declared.events.Event.TheVariants as event
 use Rattle.ufs_spec.specs.declared.events.Output.TheVariants as output
@@ -38,11 +38,6 @@ torn_shown array cells {p} page shown none wrong q = ⊎_elim
     (λ h. subst (λ x. IsCell x (cells q)) (sym h.1) (shown q)) (at_place_cases array p page q)
 
 -- A life of a new device
-
-life_runs : (n : Numbers) (s t : State) (es : List Event) (os : List Output) → Life s es os t → Runs n s es os t
-life_runs n s t [] [] life = life
-life_runs n s t (e ∷ es) (o ∷ os) life = (life.0, inl life.1, life_runs n life.0 t es os life.2)
-life_runs n s t es os life = absurd life
 
 module _ (s : State) (n : IsNew s) where
   new_may : MayBeOpened row n.array

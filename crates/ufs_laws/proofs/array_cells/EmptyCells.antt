@@ -1,5 +1,5 @@
 -- Where nothing stands: what the cells record, keep and hold, and that a life that begins there knows nothing else.
-use Rattle.std.proofs.Common.{◌≡◌, ℕ, Bool, true, false, List, [], ◌∷◌, Option, Some, None, refl, sym, ◌∙◌, ap, inl}
+use Rattle.std.proofs.Common.{◌≡◌, ℕ, Bool, true, false, List, [], ◌∷◌, Option, Some, None, refl, ap, inl}
 use Rattle.std.proofs.Common.{⊎_elim, arith}
 use Rattle.ufs_spec.proofs.CellKinds.{mark_not_nothing, page_not_nothing}
 use Rattle.ufs_spec.proofs.Facts.{none-some}

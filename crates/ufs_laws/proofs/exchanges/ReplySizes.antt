@@ -1,11 +1,12 @@
 -- Each message is spelled in at most 4128 bytes, and each reply of a task that fits is a message.
 use Rattle.std.proofs.Common.{◌≡◌, ℕ, zero, suc, ◌+◌, ◌-◌, ◌*◌, ◌≤◌, ◌<◌, ◌^◌, Bool, true, false, nat_le, nat_lt}
-use Rattle.std.proofs.Common.{if◌then◌else◌, List, [], ◌∷◌, ◌++◌, length, take, Option, Some, None, refl, ◌∙◌, subst}
+use Rattle.std.proofs.Common.{if◌then◌else◌, List, [], ◌∷◌, ◌++◌, length, take, Option, Some, None, refl, subst}
 use Rattle.std.proofs.Common.{arith}
 use Rattle.std.specs.Prelude.{slice_get}
 use Rattle.std.proofs.lemmas.List.{length-append, length-replicate, length-take-le}
 use Rattle.ufs_laws.specs.Replies.{DeedSpeaks, IsStatus, TaskSpeaks}
 use Rattle.ufs_spec.proofs.Facts.{same_Some}
+use Rattle.ufs_spec.proofs.SpellingParts.{header_size, segment_size}
 use Rattle.ufs_spec.specs.Cdbs.{Residual, fixed_sense, residual_of}
 use Rattle.ufs_spec.specs.Exchanges.{Answering, Awaiting, CheckCondition, Deed, Gathering, Good, NotRead, ReadBlock}
 use Rattle.ufs_spec.specs.Exchanges.{ReadState, Sending, Status, Task, SendingBytes, Unread, WasRead, block_message}
@@ -13,31 +14,12 @@ use Rattle.ufs_spec.specs.Exchanges.{bytes_sent, count_at, data_message, read_er
 use Rattle.ufs_spec.specs.Exchanges.{response_byte, sense_data, status_byte}
 use Rattle.ufs_spec.specs.Machine.{block_reply, deed_reply, durable, is_at_hand, next_block_reply, pin_of}
 use Rattle.ufs_spec.specs.Messages.{AreBytes, AreFlags, IsAmong, IsByte, IsMessage, IsSense, header_of, padding}
-use Rattle.ufs_spec.specs.Messages.{segment_of, sense_of, spelling, zeros}
+use Rattle.ufs_spec.specs.Messages.{segment_of, spelling, zeros}
 use Rattle.ufs_spec.specs.Refusals.{State}
 use Rattle.ufs_spec.specs.declared.messages.Message.{Message}
-use Rattle.ufs_spec.specs.declared.messages.Message.TheVariants as message
 use Rattle.ufs_laws.proofs.pages.ByteLists.{bytes-take}
 
 -- ## The size of a spelling
-
-header_size : (m : Message) → IsMessage m → length (header_of m) ≡ 32
-header_size (message.Command flags lun tag expected cdb) h =
-    length-append (take 16 (header_of (message.Command flags lun tag expected cdb))) cdb
-    ∙ (let sixteen = h.4 in omega arith)
-header_size other h = refl
-
-sense_size : (status : ℕ) (sense : Option (List ℕ)) → IsSense status sense → length (sense_of sense) ≤ 4096
-sense_size status None h = omega arith
-sense_size status (Some bytes) h = let twenty = h.1 in omega arith
-
-segment_size : (m : Message) → IsMessage m → length (segment_of m) ≤ 4096
-segment_size (message.DataOut lun tag offset «data») h = h.3.1
-segment_size (message.QueryRequest tag function asked size value «data») h = h.3
-segment_size (message.Response flags lun tag response status residual sense) h = sense_size status sense h.6
-segment_size (message.DataIn lun tag offset «data») h = h.3.1
-segment_size (message.QueryResponse tag function response asked size value «data») h = h.4
-segment_size other h = omega arith
 
 padded : (n : ℕ) → n ≤ 4096 → n + padding n ≤ 4096
 padded n low = omega arith

@@ -1,13 +1,13 @@
 -- What becomes due behind a call fills its register: nothing, if no task has a request. And each die does what it did.
-use Rattle.std.proofs.Common.{◌≡◌, Bool, true, false, ◌&&◌, cond, List, [], ◌∷◌, Option, None, map, refl, ap, ◌∙◌}
+use Rattle.std.proofs.Common.{◌≡◌, Bool, false, ◌&&◌, cond, List, [], ◌∷◌, Option, None, map, refl, ap, ◌∙◌}
 use Rattle.std.specs.Prelude.{filter, fold}
 use Rattle.ufs_laws.proofs.walk.SmallChanges.{settled_small}
 use Rattle.ufs_laws.proofs.jobs.SameJobs.{SameJobs, small_same}
 use Rattle.ufs_laws.specs.Requests.{HaveNoRequest}
 use Rattle.ufs_spec.specs.Exchanges.{Registers, RpmbRequest, Task, filled, is_unfilled}
 use Rattle.ufs_spec.specs.Machine.{fill_moves, filled_registers, fills, is_good_due, is_to_fill, lock_applied}
-use Rattle.ufs_spec.specs.Machine.{short_locked, task_filled, task_locked, with_moves}
-use Rattle.ufs_spec.specs.Refusals.{State, locked}
+use Rattle.ufs_spec.specs.Machine.{task_filled, task_locked, with_moves}
+use Rattle.ufs_spec.specs.Refusals.{State}
 
 pub settled_jobs : (s : State) → SameJobs s.translation (lock_applied (fills s)).translation
 settled_jobs s = small_same (settled_small s)

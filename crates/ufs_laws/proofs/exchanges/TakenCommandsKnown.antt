@@ -27,7 +27,8 @@ use Rattle.ufs_laws.proofs.exchanges.DeedLaws.{IsDeedLaw, filled_keeps, goes, lo
 
 -- ## What the table lets through
 
-passed_line : (applies : Bool) (status : Status) (rest : Option Status) →
+-- where no line applies, the first does not, nor one behind it
+pub passed_line : (applies : Bool) (status : Status) (rest : Option Status) →
     (if applies then Some status else rest) ≡ None → (applies ≡ false) × (rest ≡ None)
 passed_line true status rest e = absurd (none e)
   where

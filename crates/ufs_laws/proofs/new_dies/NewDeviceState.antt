@@ -1,6 +1,6 @@
 -- What a device is that was opened over new dies: all of it is known, but for the arrays, the base, and what its ledger
 -- says of keys.
-use Rattle.std.proofs.Common.{◌≡◌, ℕ, suc, Bool, true, false, [], Option, None, refl, ap, ◌∙◌, subst}
+use Rattle.std.proofs.Common.{◌≡◌, ℕ, suc, Bool, true, false, [], Option, None, ap, ◌∙◌, subst}
 use Rattle.ufs_laws.proofs.pages.BlankPages.{blank_is_nothing}
 use Rattle.ufs_laws.proofs.array_cells.EmptyCells as cells
 use Rattle.ufs_laws.proofs.array_cells.EmptyCells.{fresh_block}
@@ -106,8 +106,9 @@ module _ (n : Numbers) (array : Array) (bad : Spot → Bool) (s : State) (blank 
 
   top : s.translation.ledger.greatest_seen ≡ 0
   top =
-      cells.is_top h.cells none_there s.translation.ledger.greatest_seen
-      (subst (λ m. IsGreatestSeen h.cells m s.translation.ledger.greatest_seen) newest h.translation.ledger.greatest_seen)
+      let seen = s.translation.ledger.greatest_seen in
+      cells.is_top h.cells none_there seen
+      (subst (λ m. IsGreatestSeen h.cells m seen) newest h.translation.ledger.greatest_seen)
 
   low : s.translation.ledger.first_lost ≡ 1
   low =
@@ -137,7 +138,8 @@ module _ (n : Numbers) (array : Array) (bad : Spot → Bool) (s : State) (blank 
       record {
         cells = λ p. (ap (λ c. c p) d.cells ∙ none_there p) i;
         finished = λ p. d.finished p i;
-        blocks = λ b. cells.blocks_one h.cells none_there s.translation.ledger.newest bad s.translation.disk.blocks d.blocks b i;
+        blocks = λ b.
+            cells.blocks_one h.cells none_there s.translation.ledger.newest bad s.translation.disk.blocks d.blocks b i;
         flights = λ die. d.idle die i;
         erasing = λ b. d.none_erasing b i;
       }
@@ -158,8 +160,8 @@ module _ (n : Numbers) (array : Array) (bad : Spot → Bool) (s : State) (blank 
         groups = l.none_new i;
         repairs = l.none_repaired i;
         standing = λ number index.
-            cells.none_stands h.cells none_there s.translation.disk.blocks (name number index) (own.standing number index)
-            (l.standing number index) i;
+            cells.none_stands h.cells none_there s.translation.disk.blocks (name number index)
+            (own.standing number index) (l.standing number index) i;
         frontier = (l.frontier ∙ top) i;
         newest = newest i;
         marks = (l.marks ∙ ap number_of newest) i;

@@ -49,7 +49,8 @@ boot_back : (boot : ℕ) (permanent : Bool) (key : Option (List ℕ)) (counter :
 unfolding zero_filled
 boot_back boot permanent key counter = refl
 
-permanent_back : (boot : ℕ) (permanent : Bool) (key : Option (List ℕ)) (counter : ℕ) →
+-- what a body of settings says of protection
+pub permanent_back : (boot : ℕ) (permanent : Bool) (key : Option (List ℕ)) (counter : ℕ) →
     (slice_index (settings_bytes boot permanent key counter) 1 == 1) ≡ permanent
 unfolding zero_filled
 permanent_back boot true key counter = refl

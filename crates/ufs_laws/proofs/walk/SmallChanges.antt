@@ -1,6 +1,6 @@
 -- What a call makes of the state: first a job begins or ends, or a step; and then come small changes alone. What they
 -- keep is a case for each kind of them (`kept`, `layer_kept`).
-use Rattle.std.proofs.Common.{◌≡◌, ℕ, ◌+◌, Bool, true, false, not, if◌then◌else◌, List, [], ◌∷◌, ◌++◌, map, filter}
+use Rattle.std.proofs.Common.{◌≡◌, ℕ, ◌+◌, Bool, true, not, List, [], ◌∷◌, ◌++◌, map, filter}
 use Rattle.std.proofs.Common.{Option, Some, None, refl}
 use Rattle.std.specs.List.{flat_map}
 use Rattle.std.specs.Prelude.{Ok}
