@@ -18,6 +18,7 @@ pub mod openings
 pub mod ordered_lists
 pub mod ordered_steps
 pub mod pending_groups
+pub mod repaired_keys
 pub mod shown_blocks
 pub mod shown_contents
 pub mod spent

@@ -6,6 +6,7 @@ mod collection;
 mod erasing;
 mod exchange;
 mod fence;
+mod few_repairs;
 mod free_blocks;
 mod kept;
 mod mending;
@@ -42,6 +43,7 @@ pub use exchange::{
     opened_state_is_valid,
 };
 pub use fence::the_fence_falls_last;
+pub use few_repairs::{a_stop_leaves_few_repairs, each_mending_is_short};
 pub use free_blocks::{first_blocks_are_one, free_pages_may_go};
 pub use kept::{
     a_page_that_is_read_is_a_groups, a_rest_keeps_its_page, kept_pages_stay,

@@ -92,13 +92,13 @@ start_base n {array} l {base} sound stands h = plain_one one_cell same_contents 
     sound h.0.stands stands
 
 -- what holds at the end of a life
-record Ended (n : Numbers) (l : Lived) : Type 0 where
+pub record Ended (n : Numbers) (l : Lived) : Type 0 where
   pub valid : ValidState l.finish
   pub numbers : numbers_of l.finish ≡ n
   pub base : l.finish.base ≡ l.start.base
   pub inside : IsArrayOf n l.finish.array
 
-end_of_life : {n : Numbers} {array : Array} (bad : Spot → Bool) {l : Lived} → IsConfig n → IsArrayOf n array →
+pub end_of_life : {n : Numbers} {array : Array} (bad : Spot → Bool) {l : Lived} → IsConfig n → IsArrayOf n array →
     Sound array → IsLived n array bad l → Ended n l
 end_of_life {n} {array} bad {l} config blank sound h =
     let numbers : numbers_of l.start ≡ n = h.0.translation.numbers in
@@ -114,12 +114,12 @@ end_of_life {n} {array} bad {l} config blank sound h =
     }
 
 -- what a stop of it leaves
-record Left (n : Numbers) (l : Lived) (left : Array) : Type 0 where
+pub record Left (n : Numbers) (l : Lived) (left : Array) : Type 0 where
   pub sound : Sound left
   pub inside : IsArrayOf n left
 
-left_of : {n : Numbers} {l : Lived} {lefts : List Leftover} {left : Array} → Ended n l → Stops l.finish lefts left →
-    Left n l left
+pub left_of : {n : Numbers} {l : Lived} {lefts : List Leftover} {left : Array} → Ended n l →
+    Stops l.finish lefts left → Left n l left
 left_of {l = l} {lefts = lefts} {left = left} ended stops =
     let inside : IsArrayOf (numbers_of l.finish) left =
     within_left ended.valid stops (subst (λ x. IsArrayOf x l.finish.array) (sym ended.numbers) ended.inside) in

@@ -1,69 +1,13 @@
--- The keys with a lost page are so many, however they are listed; and how many turns are left when a life begins.
-use Rattle.power_loss.proofs.Common.{◌≡◌, ℕ, zero, suc, ◌+◌, ◌<◌, ◌≤◌, ◌⊎◌, Bool, true, false, List, [], ◌∷◌, length}
-use Rattle.power_loss.proofs.Common.{Option, Some, None, slice_get, refl, sym, ap, ◌∙◌, subst, inl, inr, arith}
-use Rattle.power_loss.proofs.Common.{slice_get_within, AreWithin, Cells, Mark, Spot, Move, AreLost, IsBefore}
+-- How many turns are left when a life begins, by the keys with a lost page.
+use Rattle.power_loss.proofs.Common.{ℕ, ◌+◌, ◌≤◌, Bool, true, false, List, length}
+use Rattle.power_loss.proofs.Common.{Option, Some, None, ap, arith}
+use Rattle.power_loss.proofs.Common.{AreWithin, Cells, Mark, Spot, Move, AreLost}
 use Rattle.power_loss.proofs.Common.{IsMendingAt, IsOpenedTranslation, CellsSound, Mended, Mending, Repairing}
-use Rattle.power_loss.proofs.Common.{Translation, Unmarked, has_mark_number, Numbers, Key, same_Some, CellsRight}
+use Rattle.power_loss.proofs.Common.{Translation, Unmarked, has_mark_number, Numbers, Key, CellsRight}
 use Rattle.power_loss.proofs.MachineWords.{AreAllowedMoves, is_marking, mending_turns, turns_left, turns_of}
 use Rattle.power_loss.proofs.openings.OpenedIsValid.{opening_valid}
 use Rattle.power_loss.proofs.mending_steps.TurnsLeft.{Keeps, all_counted}
-
--- Keys in order
-
-after_none : {a b : Key} → IsBefore a b → IsBefore b a → ⊥
-after_none (inl h) (inl l) = omega arith
-after_none (inl h) (inr (inl l)) = let e = l.0 in omega arith
-after_none (inl h) (inr (inr l)) = let e = l.0 in omega arith
-after_none (inr (inl h)) (inl l) = let e = h.0 in omega arith
-after_none (inr (inl h)) (inr (inl l)) = let x = h.1 in let y = l.1 in omega arith
-after_none (inr (inl h)) (inr (inr l)) = let x = h.1 in let y = l.1 in omega arith
-after_none (inr (inr h)) (inl l) = let e = h.0 in omega arith
-after_none (inr (inr h)) (inr (inl l)) = let x = h.1 in let y = l.1 in omega arith
-after_none (inr (inr h)) (inr (inr l)) = let x = h.2 in let y = l.2 in omega arith
-
-before_itself : {a : Key} {b : Key} → a ≡ b → IsBefore a b → ⊥
-before_itself {a} e h = after_none (subst (IsBefore a) (sym e) h) (subst (IsBefore a) (sym e) h)
-
--- Two lists of the lost keys
-
-there : (keys : List Key) (i : ℕ) → i < length keys → (k : Key) × (slice_get keys i ≡ Some k)
-there [] i h = absurd (omega arith)
-there (k ∷ ks) zero h = (k, refl)
-there (k ∷ ks) (suc i) h = there ks i (omega arith)
-
--- a key's place in another list is no lower
-no_lower : {c : Cells} {low top : ℕ} {keys others : List Key} → AreLost c low top keys → AreLost c low top others →
-    (i : ℕ) {k : Key} → slice_get keys i ≡ Some k → (j : ℕ) × (slice_get others j ≡ Some k) × (i ≤ j)
-no_lower x y zero {k} h = let z = y.all k (x.lost 0 k h) in (z.0, z.1, omega arith)
-no_lower {keys} {others} x y (suc i) {k} h =
-    let w = slice_get_within keys (suc i) k h in
-    let b = there keys i (omega arith) in
-    let r = no_lower x y i b.1 in
-    let z = y.all k (x.lost (suc i) k h) in
-    (z.0, z.1, above b.0 r.0 z.0 r.1 z.1 r.2 (x.ordered i (suc i) b.0 k b.1 h (omega arith)) (order r.0 z.0))
-  where
-    order : (a b : ℕ) → (a < b) ⊎ ((a ≡ b) ⊎ (b < a))
-    order a b = grind arith
-
-    above : (a : Key) (p q : ℕ) → slice_get others p ≡ Some a → slice_get others q ≡ Some k → i ≤ p → IsBefore a k →
-        (p < q) ⊎ ((p ≡ q) ⊎ (q < p)) → suc i ≤ q
-    above a p q u v l before (inl lower) = omega arith
-    above a p q u v l before (inr (inl same)) =
-        absurd (before_itself (same_Some _ _ (sym u ∙ ap (slice_get others) same ∙ v)) before)
-    above a p q u v l before (inr (inr higher)) = absurd (after_none before (y.ordered q p k a v u higher))
-
-as_many : {c : Cells} {low top : ℕ} {keys others : List Key} → AreLost c low top keys → AreLost c low top others →
-    length keys ≤ length others
-as_many {keys = keys} {others = others} x y = go (length keys) refl
-  where
-    go : (n : ℕ) → length keys ≡ n → length keys ≤ length others
-    go zero e = omega arith
-    go (suc n) e =
-        let b = there keys n (omega arith) in
-        let r = no_lower x y n b.1 in
-        let l = r.2 in
-        let w = slice_get_within others r.0 b.0 r.1 in
-        omega arith
+use Rattle.power_loss.proofs.repaired_keys.NoMoreKeys.{as_many}
 
 -- A life begins
 

@@ -140,7 +140,7 @@ true_turns_of_life n array bad s t es os lost config blank sound opened are life
 
 -- New dies
 
-none_lost : {c : Cells} {low top : ℕ} → ((p : Place) → c p ≡ Nothing) → AreLost c low top []
+pub none_lost : {c : Cells} {low top : ℕ} → ((p : Place) → c p ≡ Nothing) → AreLost c low top []
 none_lost none = record {
   ordered = λ i j a b e f l. absurd (let no : None ≡ Some a = e in cc);
   lost = λ i k e. absurd (let no : None ≡ Some k = e in cc);

@@ -229,7 +229,7 @@ takes_fit {t} die flight f may = light f (all_keep t (GiveJob die flight) f.vali
 -- Jobs that end
 
 -- behind a mark each repair is durable
-mark_repaired : {t : Translation} (w : Mending) {m : Mark} → Valid t →
+pub mark_repaired : {t : Translation} (w : Mending) {m : Mark} → Valid t →
     MarkFlightRight t.numbers t.ledger.marks t.work.step m → MendingOf t w →
     (is_mended w ≡ true → before_accepted t.ledger ≤ t.ledger.frontier) → before_accepted t.ledger ≤ t.ledger.frontier
 mark_repaired {t} (Unmarked fence lost) v h r known =

@@ -29,7 +29,7 @@ module _ {bad : Spot → Bool} {t : Translation} (o : Opened bad t) where
   }
 
   -- above what the newest mark records all groups up to the kept number are whole
-  whole_above : {n : ℕ} → recorded_in t.ledger.newest < n → n ≤ o.start.ledger.kept → IsWholeOld (book t) n
+  pub whole_above : {n : ℕ} → recorded_in t.ledger.newest < n → n ≤ o.start.ledger.kept → IsWholeOld (book t) n
   whole_above {n} low up = whole_is_old
       (⊎_elim (λ l. o.sound.whole o.start.ledger.is_kept.from n o.start.ledger.is_kept.recorded low l)
       (λ l. o.start.ledger.is_kept.whole n l up) (at_most _ _))

@@ -63,17 +63,17 @@ module _ (n : Numbers) (array : Array) (bad : Spot → Bool) (s : State) (config
       newest_here : IsNewestMark h.cells s.translation.ledger.newest
       newest_here = h.translation.ledger.newest
 
-  is_opened : Opened bad s.translation
+  pub is_opened : Opened bad s.translation
   is_opened = opened bad some_pages (cells_right array h.shown) (cells_within h.cells blank h.shown) cells_sound
       h.translation
 
-  cells_shown : Shows array s.translation.disk.cells
+  pub cells_shown : Shows array s.translation.disk.cells
   cells_shown = subst (Shows array) (sym h.translation.disk.cells) h.shown
 
   config_is : IsConfig (numbers_of s)
   config_is = subst IsConfig (sym h.translation.numbers) config
 
-  valid_is : Valid s.translation
+  pub valid_is : Valid s.translation
   valid_is = opening_valid n h.cells bad s.translation some_pages (cells_right array h.shown)
       (cells_within h.cells blank h.shown) cells_sound h.translation
 

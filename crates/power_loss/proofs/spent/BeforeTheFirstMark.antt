@@ -148,7 +148,7 @@ erased_same t s = record {
       (spot_cases (spot_of p) s);
 }
 
-marked_behind : (w : Mending) → is_marked (mending_after w) ≡ true
+pub marked_behind : (w : Mending) → is_marked (mending_after w) ≡ true
 marked_behind (Unmarked None lost) = refl
 marked_behind (Unmarked (Some fence) lost) = refl
 marked_behind (Repairing left) = refl

@@ -85,8 +85,8 @@ module _ {t : Translation} {c : Cells} (v : Valid t) (crash : StopLeaves t c) wh
   safe_shown n i e (inl s) = inl (secure_shown {n = n} {i = i} s)
   safe_shown n i e (inr o) = inr (o.by, secure_shown o.secure)
 
-  shown : (n i : ℕ) (e : Entry) → n ≤ t.ledger.frontier → IsPageAt (book t) n i e → (IsLostNumber (book t) n → ⊥) →
-      IsShown (book t) (recorded_in t.ledger.newest) c n i e
+  pub shown : (n i : ℕ) (e : Entry) → n ≤ t.ledger.frontier → IsPageAt (book t) n i e →
+      (IsLostNumber (book t) n → ⊥) → IsShown (book t) (recorded_in t.ledger.newest) c n i e
   shown n i e up is free =
       let s = v.frontier.stand n i e up is in
       safe_shown n i e (v.safe.safe n i e s.0 is s.1 free)
@@ -118,8 +118,8 @@ module _ {t : Translation} {c : Cells} (v : Valid t) (crash : StopLeaves t c) wh
   newest_stays {newest} r = mark_stays v crash r.stands.place newest r.stands.there r.stands.stays
 
   -- the newest mark of the cells is the newest finished one, or a later one
-  newest_or_later : {newest m : Mark} (p : Place) → MarksOf t newest → c p ≡ MarkPage m → newest.number ≤ m.number →
-      (m ≡ newest) ⊎ IsLaterMark (book t) t.ledger.frontier newest m
+  pub newest_or_later : {newest m : Mark} (p : Place) → MarksOf t newest → c p ≡ MarkPage m →
+      newest.number ≤ m.number → (m ≡ newest) ⊎ IsLaterMark (book t) t.ledger.frontier newest m
   newest_or_later {newest} {m} p r h up = ⊎_elim
       (λ e. ⊎_elim (λ l. let n = l.0 in inl (r.same p r.stands.place m newest e r.stands.there (omega arith)))
       (λ l. inr l) (r.known p m e)) (λ e. inr (r.flies p.die p m e)) (mark_from t.disk c p crash h)

@@ -1,0 +1,4 @@
+pub mod LivesMendSoon
+pub mod NoMoreKeys
+pub mod RepairsStayFew
+pub mod StopsLeaveFew
