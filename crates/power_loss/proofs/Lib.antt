@@ -19,6 +19,7 @@ pub mod ordered_lists
 pub mod ordered_steps
 pub mod pending_groups
 pub mod repaired_keys
+pub mod room_to_mend
 pub mod shown_blocks
 pub mod shown_contents
 pub mod spent

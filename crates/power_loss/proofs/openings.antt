@@ -1,8 +1,11 @@
+pub mod BlocksByAge
 pub mod EachSoundArrayOpens
 pub mod FirstBlocks
 pub mod FirstPages
-pub mod FreeInOrder
 pub mod FoundInCells
+pub mod FreeAlone
+pub mod FreeInOrder
+pub mod FreeTogether
 pub mod NewestOutside
 pub mod OpenedByName
 pub mod OpenedContents
@@ -10,3 +13,4 @@ pub mod OpenedFromPages
 pub mod OpenedIsValid
 pub mod OpenedPages
 pub mod OpenedStates
+pub mod PagesThatMayGo

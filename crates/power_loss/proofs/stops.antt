@@ -1,3 +1,4 @@
+pub mod BookImage
 pub mod ImageContents
 pub mod ImagePages
 pub mod LawfulLeftovers
@@ -6,5 +7,6 @@ pub mod LeftFront
 pub mod LeftImage
 pub mod LeftIsSound
 pub mod LeftPages
+pub mod LeftUnmarked
 pub mod LeftoverLists
 pub mod SealedCells

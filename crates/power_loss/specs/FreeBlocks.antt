@@ -3,16 +3,15 @@ use Rattle.std.specs.Prelude.{◌≡◌, ◌≢◌, ◌⊎◌, ◌<◌, Bool, tr
 use Rattle.ufs_spec.specs.Cells.{Cell, Cells, GroupPage, Mark, MarkPage, Nothing}
 use Rattle.ufs_spec.specs.Disk.{BlockState, Bad, Closed, Free, Spot, spot_of}
 use Rattle.ufs_spec.specs.Kept.{IsFenced}
-use Rattle.ufs_spec.specs.Openings.{IsOlder, Overwrites}
-use Rattle.ufs_spec.specs.Sound.{SamePage}
+use Rattle.ufs_spec.specs.Openings.{HasName, IsOlder, Overwrites}
+use Rattle.ufs_spec.specs.Translation.{name_of}
 use Rattle.ufs_spec.specs.declared.flash.Place.{Place}
 use Rattle.ufs_spec.specs.declared.flash.Tag.{Tag}
 
--- a copy of the page lies outside of these blocks
-abbrev pub HasCopyOutside : Cells → (Spot → Type 0) → Tag → List ℕ → Type 0
-HasCopyOutside c blocks t body =
-    (q : Place) × (u : Tag) × (other : List ℕ)
-    × (c q ≡ GroupPage u other) × SamePage t body u other × (blocks (spot_of q) → ⊥)
+-- a copy of the page lies outside of these blocks: a page of the same number and index. The tags alone say so, over any
+-- cells; over sound cells such pages are equal in all but what they record
+abbrev pub HasCopyOutside : Cells → (Spot → Type 0) → Tag → Type 0
+HasCopyOutside c blocks t = (q : Place) × HasName c (name_of t) q × (blocks (spot_of q) → ⊥)
 
 -- a page overwrites it, wherever that one lies
 abbrev pub IsOverwrittenIn : Cells → Mark → Tag → Type 0
@@ -24,7 +23,7 @@ abbrev pub MayGoWith : Cells → Option Mark → (Spot → Type 0) → Cell → 
 MayGoWith c None blocks cell = ⊥
 MayGoWith c (Some m) blocks Nothing = ⊥
 MayGoWith c (Some m) blocks (GroupPage t body) =
-    IsFenced m.fence t.number ⊎ (IsOverwrittenIn c m t ⊎ HasCopyOutside c blocks t body)
+    IsFenced m.fence t.number ⊎ (IsOverwrittenIn c m t ⊎ HasCopyOutside c blocks t)
 MayGoWith c (Some m) blocks (MarkPage other) = other.number < m.number
 
 -- the block itself, and those that were found free before it

@@ -6,6 +6,7 @@ pub mod FreeBlocks
 pub mod Collection
 pub mod Losing
 pub mod Mending
+pub mod MendingRoom
 pub mod Promises
 pub mod Rests
 pub mod Runs

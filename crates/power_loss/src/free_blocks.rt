@@ -21,6 +21,14 @@ pub fn first_blocks_are_one()
         AreWithin n c → AreFirstBlocks c m bad a → AreFirstBlocks c m bad b → a s ≡ b s }
 {}
 
+/// Over any cells, sound or not, there is one answer to which blocks are found free by their tags.
+pub fn found_free_is_one()
+    ensures some { (n : Numbers) (c : Cells) (m : Option Mark) (bad : Spot → Bool) →
+        AreWithin n c → (free : Spot → Bool) × AreFoundFree c m bad free }
+    ensures one { (n : Numbers) (c : Cells) (m : Option Mark) (bad a b : Spot → Bool) (s : Spot) →
+        AreWithin n c → AreFoundFree c m bad a → AreFoundFree c m bad b → a s ≡ b s }
+{}
+
 /// Each page of a free block may go, whatever is under way: at an opening, while the device is mended, and later.
 pub fn free_pages_may_go()
     ensures may_go { (t : Translation) (s : Spot) → Valid t → t.disk.blocks s ≡ Free → MayErase t.disk s }

@@ -10,6 +10,7 @@ mod few_repairs;
 mod free_blocks;
 mod kept;
 mod mending;
+mod mending_room;
 mod owed_jobs;
 mod pending;
 mod promises;
@@ -44,12 +45,13 @@ pub use exchange::{
 };
 pub use fence::the_fence_falls_last;
 pub use few_repairs::{a_stop_leaves_few_repairs, each_mending_is_short};
-pub use free_blocks::{first_blocks_are_one, free_pages_may_go};
+pub use free_blocks::{first_blocks_are_one, found_free_is_one, free_pages_may_go};
 pub use kept::{
     a_page_that_is_read_is_a_groups, a_rest_keeps_its_page, kept_pages_stay,
     rests_are_found_at_the_accept,
 };
 pub use mending::{a_life_is_mended_soon, mending_ends_soon};
+pub use mending_room::{a_life_with_room_goes_on, mending_with_room_goes_on};
 pub use owed_jobs::{
     a_copy_is_programmed_after_its_read, groups_leave_room, one_block_after_another, one_die_each,
 };

@@ -4,7 +4,7 @@ ghost use Rattle.ufs_spec.specs.Cells.{AreWithin, Cells, key_of};
 ghost use Rattle.ufs_spec.specs.Disk.{Spot};
 ghost use Rattle.ufs_spec.specs.Kept.{IsNewestMark};
 ghost use Rattle.ufs_spec.specs.Plain.{shape_of_numbers};
-ghost use Rattle.ufs_spec.specs.Sound.{CellsSound, CellsSuit};
+ghost use Rattle.ufs_spec.specs.Sound.{CellsSuit};
 ghost use Rattle.ufs_spec.specs.Translation.{spots};
 ghost use Rattle.geometry.specs.Keys.{IsIndex, key_total};
 ghost use Rattle.page_tag.specs.Contents.{mark_of};
@@ -367,7 +367,7 @@ fn free_behind(
     ensures as_many { IfOk result (λ v. length v.items ≡ length bad.now) }
     ensures free { let m = Some (mark_of mark.now) in let n = numbers.now in
         IfOk result (λ v. (c : Cells) (is_bad : Spot → Bool) → AreListed c pages.now → AreMarksListed c marks.now →
-        AreWithin n c → CellsSuit n c m → CellsSound c m → bad.now ≡ map is_bad (spots n) →
+        AreWithin n c → CellsSuit n c m → bad.now ≡ map is_bad (spots n) →
         AreFoundFree c m is_bad (is_free_in n is_bad v.items)) }
 {
     let blocks = numbers.blocks;
@@ -418,7 +418,8 @@ fn unused_blocks(
 /// mark. Blocks are gone through by the greatest frontier that a page of them records, the least
 /// first; a page is not needed if its number is in the mark's fence, a newer page of its key counts
 /// at or under what the mark records, or a copy lies in another block that was not found free before.
-/// Marks that are older than the newest are not needed. Without a mark each page is needed.
+/// A page of the same number and index is taken as a copy, so tags alone decide it. Marks that are
+/// older than the newest are not needed. Without a mark each page is needed.
 ///
 /// It takes time in proportion to the pages, the marks and the keys but for sorting and for going
 /// through the pages of a group and their copies for each page.
@@ -433,7 +434,7 @@ pub(crate) fn free_blocks(
     ensures as_many { IfOk result (λ v. length v.items ≡ length bad.now) }
     ensures free { let m = option_map mark_of newest.now in let n = numbers.now in
         IfOk result (λ v. (c : Cells) (is_bad : Spot → Bool) → AreListed c pages.now → AreMarksListed c marks.now →
-        IsNewestMark c m → AreWithin n c → CellsSuit n c m → CellsSound c m → bad.now ≡ map is_bad (spots n) →
+        IsNewestMark c m → AreWithin n c → CellsSuit n c m → bad.now ≡ map is_bad (spots n) →
         AreFoundFree c m is_bad (is_free_in n is_bad v.items)) }
 {
     match newest {

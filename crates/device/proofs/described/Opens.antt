@@ -46,7 +46,7 @@ found_suits n array bad f sound found = record {
   cells = sound.cells;
   shown = sound.shown;
   newest = newest_found f;
-  is_newest = found.newest;
+  is_newest = found.basis.newest;
   suit = found.suits;
 }
 
@@ -80,12 +80,12 @@ module _ (n : Numbers) (array : Array) (bad : Spot → Bool) (s : State) (f : Fo
 
   same_newest : s.translation.ledger.newest ≡ newest_found f
   same_newest = mark_one opened.cells sound.newest s.translation.ledger.newest (newest_found f) cells_sound
-      opened.translation.ledger.newest found_here.newest
+      opened.translation.ledger.newest found_here.basis.newest
 
   same_kept : opened.translation.ledger.kept ≡ f.kept
   same_kept = kept_one opened.cells (newest_found f) opened.translation.ledger.kept f.kept
       (subst (λ m. IsKept opened.cells m opened.translation.ledger.kept) same_newest opened.translation.ledger.is_kept)
-      found_here.kept
+      found_here.basis.kept
 
   held : Holds opened.cells (newest_found f) (suc f.kept) settings_key (s.translation.ledger.base settings_key)
   held = subst (λ m. Holds opened.cells m (suc f.kept) settings_key (s.translation.ledger.base settings_key))

@@ -95,9 +95,9 @@ climb_one stands n g gs e = let c = (climb stands (suc n) gs).from in rw e c
 
 -- A page more
 
-some_place : (o : Option Place) → is_some o ≡ true → (p : Place) × (o ≡ Some p)
-some_place None h = cc
-some_place (Some p) h = (p, refl)
+pub some_told : {A : Type 0} (o : Option A) → is_some o ≡ true → (x : A) × (o ≡ Some x)
+some_told None h = cc
+some_told (Some x) h = (x, refl)
 
 -- what stood stands, there or at the new place
 pub stands_more : (standing : Standing) (name : Name) (p : Place) (n i : ℕ) → (q : Place) × (standing n i ≡ Some q) →
@@ -141,7 +141,7 @@ climbs_stand b standing frontier n i e low l u is =
     let c = climb (λ n i. is_some (standing n i)) frontier (drop (frontier - b.greatest_seen) b.groups) in
     let at = get_drop b.groups (frontier - b.greatest_seen) (n - frontier - 1) ∙ ap (slice_get b.groups)
     (index b.greatest_seen frontier n low l) ∙ g.1 in
-    some_place (standing n i) (ap (λ z. is_some (standing z i)) (back frontier n l) ∙ c.all (n - frontier - 1) i g.0 at
+    some_told (standing n i) (ap (λ z. is_some (standing z i)) (back frontier n l) ∙ c.all (n - frontier - 1) i g.0 at
     (subst (λ z. z ≤ climbed_to b standing frontier) (back frontier n l) u) g.2)
   where
     index : (top frontier n : ℕ) → top ≤ frontier → frontier < n → frontier - top + (n - frontier - 1) ≡ n - top - 1

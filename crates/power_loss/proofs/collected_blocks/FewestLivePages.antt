@@ -172,7 +172,7 @@ pub mended_told : (w : Mending) → is_mended w ≡ true → w ≡ Mended
 mended_told Mended h = refl
 mended_told w h = absurd (false≢true h)
 
-any_in : {A : Type 0} (p : A → Bool) (xs : List A) → list_any p xs ≡ true → (x : A) × IsIn x xs × (p x ≡ true)
+pub any_in : {A : Type 0} (p : A → Bool) (xs : List A) → list_any p xs ≡ true → (x : A) × IsIn x xs × (p x ≡ true)
 any_in p [] h = cc
 any_in p (y ∷ ys) h = ⊎_elim (λ k. (y, inl refl, k)) (λ k. let r = any_in p ys k in (r.0, inr r.1, r.2))
     (or_cases (p y) (list_any p ys) h)

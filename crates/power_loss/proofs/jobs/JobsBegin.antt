@@ -2,14 +2,14 @@
 use Rattle.power_loss.proofs.Common.{◌≡◌, ℕ, zero, suc, ◌<◌, Bool, true, false, ◌⊎◌, List, [], ◌∷◌, Option, Some, None}
 use Rattle.power_loss.proofs.Common.{refl, sym, ap, ◌∙◌, subst, inl, inr, ⊎_elim, arith, list_any, list_any-append}
 use Rattle.power_loss.proofs.Common.{Cell, Mark, MarkPage, Erasing, Flight, Programming, Spot, at_die, at_spot}
-use Rattle.power_loss.proofs.Common.{job_begun, spot_of, below, Entry, Name, IsFirstFence, number_of, CopyStep}
-use Rattle.power_loss.proofs.Common.{MarkStep, Mended, Mending, MayTake, Plan, RepairStep, Repairing, Step, Translation}
-use Rattle.power_loss.proofs.Common.{Unmarked, flies_mark, records_now, some_flight, taken, Fence, Key, Place}
-use Rattle.power_loss.proofs.Common.{spot_cases, at_die_is, at_spot_is, mark_not_nothing, one_mark, page_not_mark}
-use Rattle.power_loss.proofs.Common.{page_not_nothing, or_parts, same_Some, true≢false, none_in_empty, Book, IsKnown}
-use Rattle.power_loss.proofs.Common.{IsLostNumber, IsOverwritten, IsWritten, book, last_number, FenceRight}
-use Rattle.power_loss.proofs.Common.{IsLastRepair, IsLaterMark, IsToCopy, MarkFlightRight, MarkStepRight, StandsIn}
-use Rattle.power_loss.proofs.Common.{Valid, one_page}
+use Rattle.power_loss.proofs.Common.{job_begun, spot_of, below, Entry, Name, IsFirstFence, number_of}
+use Rattle.power_loss.proofs.Common.{CopyStep, MarkStep, Mended, Mending, MayTake, Plan, RepairStep, Repairing, Step}
+use Rattle.power_loss.proofs.Common.{Translation, Unmarked, flies_mark, records_now, some_flight, taken, Fence, Key}
+use Rattle.power_loss.proofs.Common.{Place, spot_cases, at_die_is, at_spot_is, mark_not_nothing, one_mark}
+use Rattle.power_loss.proofs.Common.{page_not_mark, page_not_nothing, or_parts, same_Some, true≢false, none_in_empty}
+use Rattle.power_loss.proofs.Common.{Book, IsKnown, IsLostNumber, IsOverwritten, IsWritten, book, last_number}
+use Rattle.power_loss.proofs.Common.{FenceRight, IsLastRepair, IsLaterMark, IsToCopy, MarkFlightRight}
+use Rattle.power_loss.proofs.Common.{MarkStepRight, StandsIn, Valid, one_page}
 use Rattle.power_loss.proofs.books.LayerParts.{MarksOf, MendingOf, OwnMarkOf, UnmarkedOf}
 use Rattle.power_loss.proofs.kept_pages.PagesStay.{held_begun}
 use Rattle.power_loss.proofs.jobs_owed.BegunPrograms.{CellRight, IsMarkedOnce, begins}
@@ -19,11 +19,11 @@ use Rattle.power_loss.proofs.kept_pages.ReadsStay.{reads_erase_begun}
 use Rattle.power_loss.proofs.jobs.StandsSecurely.{at_spot_here, at_spot_other, keeps_erase_begun}
 use Rattle.power_loss.proofs.jobs_owed.WhatWaits.{MarkWaits, PageWaits, name_cell_waits, step_cell_waits}
 use Rattle.power_loss.proofs.books.PagesByName.{written_more}
-use Rattle.power_loss.proofs.stops.LeftImage.{Started, newest_there}
+use Rattle.power_loss.proofs.stops.LeftUnmarked.{newest_there, Started}
 
 -- An erase
 
-erase_is_no_program : {s : Spot} {p : Place} {cell : Cell} → Some (Erasing s) ≡ Some (Programming p cell) → ⊥
+pub erase_is_no_program : {s : Spot} {p : Place} {cell : Cell} → Some (Erasing s) ≡ Some (Programming p cell) → ⊥
 erase_is_no_program e = cc
 
 same_erase : {s a : Spot} → Some (Erasing s) ≡ Some (Erasing a) → s ≡ a

@@ -12,7 +12,7 @@ use Rattle.power_loss.proofs.books.LayerParts.{MarksOf, MendingOf, OwnMarkOf, Un
 use Rattle.power_loss.proofs.kept_pages.PagesStay.{pins_stay, rests_stay}
 use Rattle.power_loss.proofs.kept_pages.ReadsStay.{idle_reads, reads_stay}
 use Rattle.power_loss.proofs.jobs.StandsSecurely.{at_place_here, at_place_other, secure_from, secure_moves}
-use Rattle.power_loss.proofs.stops.LeftImage.{opened_below}
+use Rattle.power_loss.proofs.stops.LeftUnmarked.{opened_below}
 use Rattle.power_loss.proofs.jobs.ProgramEnded.{AreOverwritten, Frees, GoesTo, blocks_behind}
 use Rattle.power_loss.proofs.jobs.ProgramEnded.{blocks_freed, blocks_programmed, erase_goes_on, frees_none, frees_one}
 use Rattle.power_loss.proofs.jobs.ProgramEnded.{goes_to, keeps, needed_now, not_there, other_flight, program_goes_on}

@@ -5,7 +5,8 @@ use Rattle.power_loss.proofs.Common.{filter_map, list_any, false≢true, leb-tru
 use Rattle.power_loss.proofs.Common.{or_cases, or_left, or_right, Cell, Erasing, Filling, Flight, Programming}
 use Rattle.power_loss.proofs.Common.{Spot, below, place_in, Name, MayTake, Translation, cell_now, flight_at, flight_for}
 use Rattle.power_loss.proofs.Common.{has_open_block, has_room_for_groups, is_free, may_open_for_group}
-use Rattle.power_loss.proofs.Common.{may_open_for_step, next_place, some_flight, waiting_name, waiting_step, Numbers, Place}
+use Rattle.power_loss.proofs.Common.{may_open_for_step, next_place, some_flight, waiting_name, waiting_step, Numbers}
+use Rattle.power_loss.proofs.Common.{Place}
 use Rattle.power_loss.proofs.MachineWords.{IsSpot}
 use Rattle.std.proofs.Math.Nat.{lt_of_mul-lt-mul_right}
 use Rattle.std.proofs.lemmas.Grind.{div_ceil_times}
@@ -100,7 +101,7 @@ first_there x [] h = absurd h
 first_there x (y ∷ ys) h = refl
 
 -- a block that is being filled is open
-filled_open : (t : Translation) (s : Spot) (next : ℕ) → IsSpot t.numbers s → t.disk.blocks s ≡ Filling next →
+pub filled_open : (t : Translation) (s : Spot) (next : ℕ) → IsSpot t.numbers s → t.disk.blocks s ≡ Filling next →
     has_open_block t ≡ true
 filled_open t s next inside filling =
     or_left (list_any (λ die. is_some (next_place t die)) (below t.numbers.dies)) (some_flight t flies_erase)

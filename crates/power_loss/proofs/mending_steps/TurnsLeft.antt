@@ -62,7 +62,7 @@ mark_takes (Unmarked first lost) fence more due = omega arith
 mark_takes (Repairing left) fence more due = omega arith
 mark_takes Mended fence more due = absurd due
 
-order_takes : (t : Translation) (o : Order) → is_mended t.work.mending ≡ false → (t.work.step ≡ None) × IsDue t o →
+pub order_takes : (t : Translation) (o : Order) → is_mended t.work.mending ≡ false → (t.work.step ≡ None) × IsDue t o →
     suc (turns_left (ordered t o)) ≤ turns_left t
 order_takes t (OrderMark fence) unmended (none, (number, due)) =
     rw none (rw number (mark_takes t.work.mending fence _ due))

@@ -20,16 +20,16 @@ use Rattle.power_loss.proofs.openings.OpenedStates.{opened_state}
 use Rattle.power_loss.proofs.mending_steps.TurnsLeft.{move_keeps_turns, turn_takes}
 
 -- the turns that are left and the mending are the same
-abbrev SameTurns : Translation → Translation → Type 0
+abbrev pub SameTurns : Translation → Translation → Type 0
 SameTurns t u = (turns_left u ≡ turns_left t) × (is_mended u.work.mending ≡ is_mended t.work.mending)
 
-quiet_move : (t : Translation) (move : Move) → IsQuiet move → SameTurns t (moved t move)
+pub quiet_move : (t : Translation) (move : Move) → IsQuiet move → SameTurns t (moved t move)
 quiet_move t (GiveJob die flight) quiet = absurd quiet
 quiet_move t (EndJob die ending) quiet = absurd quiet
 quiet_move t TakeStep quiet = absurd quiet
 quiet_move t move quiet = (refl, refl)
 
-small_turns : {s t : State} → Small s t → SameTurns s.translation t.translation
+pub small_turns : {s t : State} → Small s t → SameTurns s.translation t.translation
 small_turns h =
     layer_kept SameTurns (record {
       self = λ t. (refl, refl);
@@ -40,9 +40,9 @@ small_turns h =
 -- Calls
 
 -- mended stays mended; and where it was not, what is counted is taken of the turns that are left
-record Takes (count : Bool) (s t : State) : Type 0 where
-  stays : mended s ≡ true → mended t ≡ true
-  takes : mended s ≡ false → (if count then 1 else 0) + turns_left t.translation ≤ turns_left s.translation
+pub record Takes (count : Bool) (s t : State) : Type 0 where
+  pub stays : mended s ≡ true → mended t ≡ true
+  pub takes : mended s ≡ false → (if count then 1 else 0) + turns_left t.translation ≤ turns_left s.translation
 
 none_taken : {s t : State} → SameTurns s.translation t.translation → Takes false s t
 none_taken h = record { stays = λ m. h.1 ∙ m; takes = λ unmended. let e = h.0 in omega arith }
@@ -99,18 +99,18 @@ shown_turn (OfReply None) (output.Turn shown) h = absurd h
 shown_turn (OfReply (Some m)) (output.Turn shown) h = absurd h
 shown_turn answer o h = refl
 
-event_takes : {s t : State} {e : Event} {o : Output} → ValidState s → Leads s e o t → Takes (is_true_turn o) s t
+pub event_takes : {s t : State} {e : Event} {o : Output} → ValidState s → Leads s e o t → Takes (is_true_turn o) s t
 event_takes {s = s} {t = t} {o = o} v l = subst (λ (b : Bool). Takes b s t) (shown_turn l.answer o l.is_shown)
     (subst (Takes (is_true_answer l.answer) s) (sym l.next) (call_takes l.call l.answer v.tied.valid l.right))
 
 -- A life
 
-false_before : (a : Bool) {b : Bool} → (a ≡ true → b ≡ true) → b ≡ false → a ≡ false
+pub false_before : (a : Bool) {b : Bool} → (a ≡ true → b ≡ true) → b ≡ false → a ≡ false
 false_before false h e = refl
 false_before true h e = let yes = h refl in cc
 
 -- where it is not mended at its end, it was not at its beginning
-life_takes : {s : State} (t : State) (es : List Event) (os : List Output) → ValidState s → Life s es os t →
+pub life_takes : {s : State} (t : State) (es : List Event) (os : List Output) → ValidState s → Life s es os t →
     mended t ≡ false → (mended s ≡ false) × (true_turns os + turns_left t.translation ≤ turns_left s.translation)
 life_takes t [] [] v life unmended =
     let e = ap (λ (x : State). turns_left x.translation) life in

@@ -14,7 +14,8 @@ use Rattle.ufs_spec.specs.Exchanges.{empty_registers}
 use Rattle.ufs_spec.specs.Openings.{IsOpenedDisk, IsOpenedLedger}
 use Rattle.power_loss.proofs.openings.OpenedFromPages.{cells_right}
 use Rattle.power_loss.proofs.openings.FoundInCells.{first_of, is_entry, mending_at, some_top, stands_at}
-use Rattle.power_loss.proofs.openings.FreeInOrder.{are_found, first_blocks, found_free}
+use Rattle.power_loss.proofs.openings.FreeInOrder.{are_found, found_free}
+use Rattle.power_loss.proofs.openings.FreeTogether.{first_blocks}
 use Rattle.power_loss.specs.FreeBlocks.{blocks_by}
 
 module _ (n : Numbers) (c : Cells) (within : AreWithin n c) (bad : Spot → Bool) (m : Option Mark)
@@ -41,12 +42,12 @@ module _ (n : Numbers) (c : Cells) (within : AreWithin n c) (bad : Spot → Bool
 
   -- what each block is
   blocks : Spot → BlockState
-  blocks = blocks_by bad (found_free n c within m sound bad)
+  blocks = blocks_by bad (found_free n c within m bad)
 
   blocks_are : AreFirstBlocks c m bad blocks
   unfolding blocks
-  blocks_are = first_blocks n c within m sound bad (found_free n c within m sound bad)
-      (are_found n c within m sound bad)
+  blocks_are = first_blocks n c within m sound bad (found_free n c within m bad)
+      (are_found n c within m bad)
 
   disk : Disk
   disk = record {

@@ -20,20 +20,20 @@ use Rattle.power_loss.proofs.ordered_lists.SortedKeys.{ordered_at}
 is_name : {a : Name} {b : Name} → Decided (a ≡ b)
 is_name {a} {b} = ⊎_elim (λ h. inl h.1) (λ h. inr h.1) (name_cases a b)
 
-abbrev IsNamed : Name → Cell → Type 0
+abbrev pub IsNamed : Name → Cell → Type 0
 IsNamed name (GroupPage t body) = name_of t ≡ name
 IsNamed name other = ⊥
 
-is_named : (name : Name) (x : Cell) → Decided (IsNamed name x)
+pub is_named : (name : Name) (x : Cell) → Decided (IsNamed name x)
 is_named name (GroupPage t body) = is_name
 is_named name x = inr (λ h. h)
 
-named_page : {name : Name} (x : Cell) → IsNamed name x → (t : Tag) × (body : List ℕ) × (x ≡ GroupPage t body) ×
+pub named_page : {name : Name} (x : Cell) → IsNamed name x → (t : Tag) × (body : List ℕ) × (x ≡ GroupPage t body) ×
     (name_of t ≡ name)
 named_page (GroupPage t body) h = (t, body, refl, h)
 named_page x h = absurd h
 
-has_name : (c : Cells) {name : Name} {p : Place} → HasName c name p → IsNamed name (c p)
+pub has_name : (c : Cells) {name : Name} {p : Place} → HasName c name p → IsNamed name (c p)
 has_name c {name} h = subst (IsNamed name) (sym h.2) h.3
 
 module _ (n : Numbers) (c : Cells) (within : AreWithin n c) where

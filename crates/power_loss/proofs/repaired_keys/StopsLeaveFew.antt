@@ -22,8 +22,9 @@ use Rattle.power_loss.proofs.repaired_keys.NoMoreKeys.{lost_no_more}
 use Rattle.power_loss.proofs.repaired_keys.RepairsStayFew.{all_few, opening_few}
 use Rattle.power_loss.proofs.stops.ImagePages.{kept_covers}
 use Rattle.power_loss.proofs.stops.LeftCells.{known}
-use Rattle.power_loss.proofs.stops.LeftImage.{Changed, Image, IsRepairing, Unchanged, all_repairs, finished_parts}
-use Rattle.power_loss.proofs.stops.LeftImage.{image, newest_or_later, newest_stays, outcome, shown}
+use Rattle.power_loss.proofs.stops.BookImage.{Changed, Image, IsRepairing, Unchanged, finished_parts, image}
+use Rattle.power_loss.proofs.stops.BookImage.{newest_or_later, newest_stays, shown}
+use Rattle.power_loss.proofs.stops.LeftImage.{all_repairs, outcome}
 
 module _ {t : Translation} {c : Cells} (v : Valid t) (crash : StopLeaves t c) where
   -- Whole groups stay whole

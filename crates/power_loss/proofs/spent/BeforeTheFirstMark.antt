@@ -15,7 +15,7 @@ use Rattle.power_loss.proofs.Common.{at_place_cases, Valid}
 use Rattle.power_loss.proofs.MachineWords.{IsStartRight, StartsRight, is_marked}
 use Rattle.power_loss.proofs.books.LayerParts.{MendingOf}
 use Rattle.power_loss.proofs.jobs.StandsSecurely.{erase_left, erased_here, erased_other, program_left}
-use Rattle.power_loss.proofs.stops.LeftImage.{opened_below}
+use Rattle.power_loss.proofs.stops.LeftUnmarked.{opened_below}
 
 -- A life begins so
 

@@ -12,8 +12,8 @@ use Rattle.power_loss.proofs.books.LayerParts.{MarksOf, StopLeaves, MendingOf, S
 use Rattle.power_loss.proofs.collected_blocks.LivePages.{newest_is}
 use Rattle.power_loss.proofs.spent.ErasedIsSpent.{entry_for, fenced_none, known_one, lost_or_not, old_page}
 use Rattle.power_loss.proofs.stops.LeftCells.{stays, within}
-use Rattle.power_loss.proofs.stops.LeftImage.{Image, IsRepairing, IsShown, all_repairs, finished_parts, image}
-use Rattle.power_loss.proofs.stops.LeftImage.{newest_stays}
+use Rattle.power_loss.proofs.stops.BookImage.{finished_parts, Image, image, IsRepairing, IsShown, newest_stays}
+use Rattle.power_loss.proofs.stops.LeftImage.{all_repairs}
 use Rattle.power_loss.proofs.books.PagesByName.{overwritten_twice}
 
 -- Pages that are gone stood on the disk

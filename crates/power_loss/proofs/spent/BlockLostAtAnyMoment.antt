@@ -12,8 +12,9 @@ use Rattle.power_loss.proofs.spent.BlockLost.{ImageLeft, IsGone, Judged, image_l
 use Rattle.power_loss.proofs.spent.BlockLost.{outside, restored_crash, restored_gone, spent, was}
 use Rattle.power_loss.proofs.spent.CellsLost.{Loss, MayGo, holds_less, kept_less, less_sound, less_suits}
 use Rattle.power_loss.proofs.stops.LeftCells.{stays}
-use Rattle.power_loss.proofs.stops.LeftImage.{Started, Unchanged, disk_mark, disk_page, newest_there, not_erasing}
+use Rattle.power_loss.proofs.stops.BookImage.{Unchanged}
 use Rattle.power_loss.proofs.stops.LeftImage.{outcome}
+use Rattle.power_loss.proofs.stops.LeftUnmarked.{disk_mark, disk_page, newest_there, not_erasing, Started}
 use Rattle.power_loss.proofs.stops.LeftIsSound.{image_prefix, image_sound, image_suits, prefix, sound, suits}
 
 -- all that is promised of what is left

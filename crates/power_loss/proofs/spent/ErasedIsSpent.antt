@@ -11,8 +11,8 @@ use Rattle.ufs_spec.specs.Disk.{Stands}
 use Rattle.power_loss.proofs.books.LayerParts.{MarksOf, MendingOf, OwnMarkOf, SecureOf}
 use Rattle.power_loss.proofs.jobs_owed.ProgramsAndErases.{erase_owed}
 use Rattle.power_loss.proofs.jobs.StandsSecurely.{at_spot_other, free_is_not_bad}
-use Rattle.power_loss.proofs.stops.LeftImage.{Started, disk_mark, newest_there, not_erasing, opened_below}
-use Rattle.power_loss.proofs.stops.LeftImage.{page_no_mark}
+use Rattle.power_loss.proofs.stops.LeftUnmarked.{disk_mark, newest_there, not_erasing, opened_below, page_no_mark}
+use Rattle.power_loss.proofs.stops.LeftUnmarked.{Started}
 pub use Rattle.power_loss.proofs.books.PagesByName.{entry_for, is_old as old_page}
 
 -- Pages of the book

@@ -8,7 +8,7 @@ use Rattle.power_loss.proofs.Common.{IsOverwritten, IsPageAt, IsPlainMark, IsWri
 use Rattle.ufs_spec.proofs.Equalities.{key_cases}
 use Rattle.power_loss.proofs.books.PagesByName.{entry_for, is_old, new_page, old_page, page_new}
 use Rattle.power_loss.proofs.stops.ImagePages.{kept_covers, read_page, shown_kept}
-use Rattle.power_loss.proofs.stops.LeftImage.{Image, IsRepairing}
+use Rattle.power_loss.proofs.stops.BookImage.{Image, IsRepairing}
 
 -- Contents after groups
 

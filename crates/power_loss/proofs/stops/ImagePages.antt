@@ -6,7 +6,7 @@ use Rattle.power_loss.proofs.Common.{same_Some, Book, IsLostNumber, IsPageAt, Is
 use Rattle.std.proofs.lemmas.Option.{slice_get_cases}
 use Rattle.power_loss.proofs.books.PagesByName.{entry_for, is_old, new_page, old_page, page_new, page_one, page_same}
 use Rattle.power_loss.proofs.books.PagesByName.{page_within}
-use Rattle.power_loss.proofs.stops.LeftImage.{Image, IsShown}
+use Rattle.power_loss.proofs.stops.BookImage.{Image, IsShown}
 
 -- Pages of an image
 

@@ -9,7 +9,8 @@ use Rattle.power_loss.proofs.books.LayerParts.{StopLeaves}
 use Rattle.power_loss.proofs.books.PagesByName.{entry_for, page_new, page_one, page_same}
 use Rattle.power_loss.proofs.stops.ImageContents.{after_none, after_same, base_stays, holds_kept}
 use Rattle.power_loss.proofs.stops.ImagePages.{kept_accepted, kept_covers, recorded_within, whole_up}
-use Rattle.power_loss.proofs.stops.LeftImage.{Changed, Image, IsRepairing, Unchanged, outcome}
+use Rattle.power_loss.proofs.stops.BookImage.{Changed, Image, IsRepairing, Unchanged}
+use Rattle.power_loss.proofs.stops.LeftImage.{outcome}
 
 -- Sound
 

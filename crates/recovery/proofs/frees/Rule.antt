@@ -8,21 +8,23 @@ use Rattle.ufs_spec.specs.Cells.{AreWithin, Cell, Cells, GroupPage, Mark, MarkPa
 use Rattle.ufs_spec.specs.Disk.{Spot, spot_of}
 use Rattle.ufs_spec.specs.Kept.{IsFenced, IsNewestMark}
 use Rattle.ufs_spec.specs.Plain.{shape_of_numbers}
-use Rattle.ufs_spec.specs.Sound.{CellsSound, CellsSuit}
-use Rattle.ufs_spec.specs.Translation.{spots}
+use Rattle.ufs_spec.specs.Sound.{CellsSuit}
+use Rattle.ufs_spec.specs.Ledger.{Name}
+use Rattle.ufs_spec.specs.Translation.{name_of, spots}
 use Rattle.ufs_spec.specs.declared.configs.Numbers.{Numbers}
 use Rattle.ufs_spec.specs.declared.flash.Key.{Key}
 use Rattle.ufs_spec.specs.declared.flash.Place.{Place}
 use Rattle.ufs_spec.specs.declared.flash.Tag.{Tag}
 use Rattle.ufs_spec.proofs.CellKinds.{mark_not_nothing}
+use Rattle.ufs_spec.proofs.Equalities.{name_is}
 use Rattle.ufs_spec.proofs.Facts.{and_from, and_parts, cases_Bool, cond-false, cond-true, false≢true, lt-ltb, ltb-true}
 use Rattle.ufs_spec.proofs.Facts.{same_Some, true≢false}
 use Rattle.geometry.specs.Keys.{IsIndex}
 use Rattle.geometry.proofs.Indexes.{known_index}
 use Rattle.recovery.specs.Frees.{AreDecided, AreFoundFree, AreGreatest, AreHeld, AreNeeded}
 use Rattle.recovery.specs.Frees.{AreSamePages, AreUnused, HasOtherThen, IsBefore, IsDecided, IsItOrFoundFree}
-use Rattle.recovery.specs.Frees.{IsNeededIn, IsOlder, IsOverwrittenIn, HasCopyOutside, MayGoWith, RecordsUpTo, block_of, has_spot}
-use Rattle.recovery.specs.Frees.{is_free_in, spot_number}
+use Rattle.recovery.specs.Frees.{IsNeededIn, IsOlder, IsOverwrittenIn, HasCopyOutside, MayGoWith, RecordsUpTo}
+use Rattle.recovery.specs.Frees.{block_of, has_spot, is_free_in, spot_number}
 use Rattle.recovery.specs.Listed.{AreListed, AreMarksListed, IsContentPage}
 use Rattle.recovery.specs.declared.pages.FoundMark.{FoundMark}
 use Rattle.recovery.specs.declared.pages.FoundPage.{FoundPage}
@@ -150,7 +152,7 @@ module _ (n : Numbers) (c : Cells) (bad : Spot → Bool) (bads free : List Bool)
 module _ (n : Numbers) (c : Cells) (m : Mark) (bad : Spot → Bool) (bads held needed free : List Bool)
     (pages named : List FoundPage) (marks : List FoundMark) (contents : List (Option FoundPage)) (latests : List ℕ)
     (within : AreWithin n c) (listed : AreListed c pages) (marked : AreMarksListed c marks)
-    (suits : CellsSuit n c (Some m)) (sound : CellsSound c (Some m)) (is_bad : bads ≡ map bad (spots n))
+    (suits : CellsSuit n c (Some m)) (is_bad : bads ≡ map bad (spots n))
     (content : (k : Key) (i : ℕ) → IsIndex (shape_of_numbers n) k i →
     (e : Option FoundPage) × (slice_get contents i ≡ Some e) × IsContentPage c (Some m) m.records k e)
     (need : AreNeeded (shape_of_numbers n) m.fence contents pages (length pages) needed)
@@ -195,18 +197,15 @@ module _ (n : Numbers) (c : Cells) (m : Mark) (bad : Spot → Bool) (bads held n
       ∙ (holds.lets_go (spot_number n.blocks s) ((decided_there s is).goes h).0).0)
 
   -- a copy in another block that is not both free and older
-  copy_outside : (s : Spot) → IsInside n s → (p : Place) (t : Tag) (body : List ℕ) → spot_of p ≡ s →
-      c p ≡ GroupPage t body → HasOtherThen n.blocks latests named free (record { place = p; tag = t }) →
-      HasCopyOutside c (IsItOrFoundFree c (is_free_in n bad free) s) t body
-  copy_outside s is p t body here e (i, q, there, other, out) =
+  copy_outside : (s : Spot) → IsInside n s → (p : Place) (t : Tag) → spot_of p ≡ s →
+      HasOtherThen n.blocks latests named free (record { place = p; tag = t }) →
+      HasCopyOutside c (IsItOrFoundFree c (is_free_in n bad free) s) t
+  copy_outside s is p t here (i, q, there, other, out) =
       let j = same.each i q there in
       let r = listed.there j.0 q j.1 in
       let lies : IsInside n (spot_of q.place) = page_inside n c within pages listed j.0 q j.1 in (
         q.place,
-        q.tag,
-        r.0,
-        r.1,
-        sound.pages p q.place t q.tag body r.0 e r.1 (sym other.number) (inl (sym other.index)),
+        (q.tag, r.0, r.1, name_is (name_of q.tag) (name_of t) other.number other.index),
         λ x. ⊎_elim
             (λ (at : spot_of q.place ≡ s).
             other.apart (ap (spot_number n.blocks) (at ∙ sym here)))
@@ -235,7 +234,7 @@ module _ (n : Numbers) (c : Cells) (m : Mark) (bad : Spot → Bool) (bads held n
           subst (MayGoWith c (Some m) blocks) (sym e)
           (⊎_elim
           (λ (on : told.0 ≡ true).
-          inr (inr (copy_outside s is p t body here e
+          inr (inr (copy_outside s is p t here
           (((decided_there s is).goes h).1 r.0 f
           (record { there = r.1; needed_there = told.1 ∙ ap Some on; inside = ap (spot_number n.blocks) here })))))
           (λ (off : told.0 ≡ false). ⊎_elim (λ x. inl x) (λ x. inr (inl x)) (told.2.0 off))
@@ -265,7 +264,7 @@ module _ (n : Numbers) (c : Cells) (m : Mark) (bad : Spot → Bool) (bads held n
       by : MayGoWith c (Some m) (IsItOrFoundFree c (is_free_in n bad free) s) (GroupPage e.tag body) → ⊥
       by (inl fenced) = told.2.1 on (inl fenced)
       by (inr (inl over)) = told.2.1 on (inr over)
-      by (inr (inr (q, u, other, at, copy, out))) =
+      by (inr (inr (q, (u, other, at, same_name), out))) =
           let j = listed.all q u other at in
           let f : FoundPage = record { place = q; tag = u } in
           let k = same.all j.0 f j.1 in
@@ -275,8 +274,8 @@ module _ (n : Numbers) (c : Cells) (m : Mark) (bad : Spot → Bool) (bads held n
             f,
             k.1,
             record {
-              number = sym copy.1;
-              index = sym copy.2;
+              number = ap (λ (x : Name). x.number) same_name;
+              index = ap (λ (x : Name). x.index) same_name;
               apart = λ e. out (inl (one_spot n (spot_of q) s lies is (e ∙ x.inside)));
             },
             λ free_too before. out (inr (
@@ -305,7 +304,8 @@ module _ (n : Numbers) (c : Cells) (m : Mark) (bad : Spot → Bool) (bads held n
             e.place,
             one_spot n (spot_of e.place) s (inside n c within e.place some) is at,
             some,
-            λ may. let low = subst (MayGoWith c (Some m) blocks) r.1 may in let same = r.2 in omega (arith, low, high, same),
+            λ may. let low = subst (MayGoWith c (Some m) blocks) r.1 may in let same = r.2 in
+                omega (arith, low, high, same),
           )
 
       by_mark : slice_get held (spot_number n.blocks s) ≡ Some true → Stays

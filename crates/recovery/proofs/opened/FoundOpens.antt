@@ -23,7 +23,8 @@ use Rattle.recovery.specs.declared.found.Found.{Found}
 use Rattle.recovery.specs.declared.pages.FoundPage.{FoundPage}
 use Rattle.geometry.proofs.Indexes.{index_known}
 use Rattle.power_loss.specs.FreeBlocks.{AreFoundFree, blocks_by}
-use Rattle.power_loss.proofs.openings.FreeInOrder.{blocks_one, first_blocks}
+use Rattle.power_loss.proofs.openings.FreeAlone.{blocks_one}
+use Rattle.power_loss.proofs.openings.FreeTogether.{first_blocks}
 use Rattle.recovery.proofs.opened.ContentPages.{is_page_of}
 use Rattle.recovery.proofs.opened.OutsidePages.{page_outside, recorded_kept}
 use Rattle.recovery.proofs.opened.LostLists.{lost_differ, lost_one}
@@ -40,7 +41,8 @@ marked c None range newest = (omega arith, omega arith)
 marked c (Some m) range newest = range.marks newest.0.0 m newest.0.1
 
 -- no number that was seen is above the greatest
-seen_at_most : (c : Cells) (m : Option Mark) → AreInRange c → CellsSound c m → IsNewestMark c m → IsAtMost c m greatest_number
+seen_at_most : (c : Cells) (m : Option Mark) → AreInRange c → CellsSound c m → IsNewestMark c m →
+    IsAtMost c m greatest_number
 seen_at_most c m range sound newest = record {
   numbers = λ p t body e. (range.pages p t body e).0;
   frontiers = λ p t body e. (range.pages p t body e).1;
@@ -59,10 +61,11 @@ fence_found f m low top (Some fence) first last h = (h.0 ∙ first, h.1 ∙ last
 module _ (n : Numbers) (c : Cells) (bad : Spot → Bool) (f : Found) (t : Translation)
     (sound : CellsSound c t.ledger.newest) (found : IsFound n c bad f) (opened : IsOpenedTranslation n c bad t) where
   pub same_newest : newest_found f ≡ t.ledger.newest
-  same_newest = mark_one c t.ledger.newest (newest_found f) t.ledger.newest sound found.newest opened.ledger.newest
+  same_newest = mark_one c t.ledger.newest (newest_found f) t.ledger.newest sound found.basis.newest
+      opened.ledger.newest
 
   kept_there : IsKept c t.ledger.newest f.kept
-  kept_there = subst (λ m. IsKept c m f.kept) same_newest found.kept
+  kept_there = subst (λ m. IsKept c m f.kept) same_newest found.basis.kept
 
   pub same_kept : f.kept ≡ opened.ledger.kept
   same_kept = kept_one c t.ledger.newest f.kept opened.ledger.kept kept_there opened.ledger.is_kept
@@ -77,15 +80,15 @@ module _ (n : Numbers) (c : Cells) (bad : Spot → Bool) (f : Found) (t : Transl
   same_low = found.first_lost ∙ (λ i. lost_from (fence_in (same_newest i)) (same_kept i)) ∙ sym opened.ledger.first_lost
 
   -- the blocks that were found free are those of the opening
-  free_there : AreFoundFree c t.ledger.newest bad found.free
-  free_there = subst (λ m. AreFoundFree c m bad found.free) same_newest
-      (found.free_right (subst (CellsSound c) (sym same_newest) sound))
+  free_there : AreFoundFree c t.ledger.newest bad found.basis.free
+  free_there = subst (λ m. AreFoundFree c m bad found.basis.free) same_newest found.basis.free_right
 
-  same_blocks : t.disk.blocks ≡ blocks_by bad found.free
-  same_blocks = λ i s. blocks_one n c found.within t.ledger.newest bad t.disk.blocks (blocks_by bad found.free)
-      opened.disk.blocks (first_blocks n c found.within t.ledger.newest sound bad found.free free_there) s i
+  same_blocks : t.disk.blocks ≡ blocks_by bad found.basis.free
+  same_blocks = λ i s. blocks_one n c found.basis.within t.ledger.newest bad t.disk.blocks
+      (blocks_by bad found.basis.free) opened.disk.blocks
+      (first_blocks n c found.basis.within t.ledger.newest sound bad found.basis.free free_there) s i
 
-  standing_there : (number index : ℕ) → StandsAt c (blocks_by bad found.free)
+  standing_there : (number index : ℕ) → StandsAt c (blocks_by bad found.basis.free)
       (record { number = number; index = index }) (t.ledger.standing number index)
   standing_there number index = subst (λ blocks. StandsAt c blocks (record { number = number; index = index })
       (t.ledger.standing number index)) same_blocks (opened.ledger.standing number index)
@@ -95,14 +98,15 @@ module _ (n : Numbers) (c : Cells) (bad : Spot → Bool) (f : Found) (t : Transl
       × IsPageOf t.ledger.standing e (t.ledger.first_page k)
   content_there k i index =
       let r = found.contents k i index in
-      let page : IsContentPage (outside found.free c) t.ledger.newest opened.ledger.kept k r.0 =
-      subst (λ x. IsContentPage (outside found.free c) t.ledger.newest x k r.0) same_kept
-      (subst (λ m. IsContentPage (outside found.free c) m f.kept k r.0) same_newest r.2) in (
+      let page : IsContentPage (outside found.basis.free c) t.ledger.newest opened.ledger.kept k r.0 =
+      subst (λ x. IsContentPage (outside found.basis.free c) t.ledger.newest x k r.0) same_kept
+      (subst (λ m. IsContentPage (outside found.basis.free c) m f.kept k r.0) same_newest r.2) in (
         r.0,
         r.1,
-        is_page_of c t.ledger.newest sound bad found.free free_there.good t.ledger.standing standing_there
+        is_page_of c t.ledger.newest sound bad found.basis.free free_there.good t.ledger.standing standing_there
             opened.ledger.kept k r.0 (t.ledger.first_page k)
-            (page_outside n c found.within t.ledger.newest sound bad found.free free_there opened.ledger.kept
+            (page_outside n c found.basis.within t.ledger.newest sound bad found.basis.free free_there
+            opened.ledger.kept
             (recorded_kept c t.ledger.newest opened.ledger.kept opened.ledger.newest opened.ledger.is_kept) k r.0 page)
             (opened.ledger.first_page k (index_known (shape_of_numbers n) k i index)),
       )
@@ -124,7 +128,7 @@ module _ (n : Numbers) (c : Cells) (bad : Spot → Bool) (f : Found) (t : Transl
   found_opens = record {
     newest = same_newest;
     marks = opened.ledger.marks ∙ ap number_of (sym same_newest);
-    marks_within = (marked c (newest_found f) found.in_range found.newest).0;
+    marks_within = (marked c (newest_found f) found.in_range found.basis.newest).0;
     greatest_seen = same_top;
     seen_within = top_there.1 greatest_number
         (seen_at_most c t.ledger.newest found.in_range sound opened.ledger.newest);

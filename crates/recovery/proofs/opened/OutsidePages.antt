@@ -13,7 +13,7 @@ use Rattle.ufs_spec.specs.declared.configs.Numbers.{Numbers}
 use Rattle.ufs_spec.proofs.Facts.{at_most, cases_Bool}
 use Rattle.ufs_laws.proofs.array_cells.NewestFound.{holds}
 use Rattle.power_loss.specs.FreeBlocks.{AreFoundFree, block_by, blocks_by}
-use Rattle.power_loss.proofs.openings.FreeInOrder.{first_blocks}
+use Rattle.power_loss.proofs.openings.FreeTogether.{first_blocks}
 use Rattle.power_loss.proofs.openings.NewestOutside.{newest_outside}
 use Rattle.recovery.specs.Listed.{IsContentPage, outside}
 use Rattle.recovery.specs.declared.pages.FoundPage.{FoundPage}

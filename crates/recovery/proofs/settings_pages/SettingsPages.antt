@@ -33,11 +33,7 @@ use Rattle.recovery.proofs.tables.Whole.{shown_within}
 pub has_settings : (n : Numbers) (c : Cells) (bad : Spot → Bool) (f : Found) → IsFound n c bad f →
     HasSettings n c bad f
 has_settings n c bad f found = record {
-  within = found.within;
-  newest = found.newest;
-  kept = found.kept;
-  free = found.free;
-  free_right = found.free_right;
+  basis = found.basis;
   page =
       found.contents settings_key (sum (shape_of_numbers n).blocks + area_pages (shape_of_numbers n))
       (AtSettings refl refl refl refl);
@@ -47,15 +43,17 @@ has_settings n c bad f found = record {
 pub still_found : (n : Numbers) (c : Cells) (bad : Spot → Bool) (f : Found) (is : Bool) → IsFound n c bad f →
     IsFound n c bad (record f { is_permanent = is })
 still_found n c bad f is found = record {
-  within = found.within;
-  newest = found.newest;
+  basis = record {
+    within = found.basis.within;
+    newest = found.basis.newest;
+    kept = found.basis.kept;
+    free = found.basis.free;
+    free_right = found.basis.free_right;
+  };
   suits = found.suits;
   in_range = found.in_range;
-  kept = found.kept;
   greatest_seen = found.greatest_seen;
   first_lost = found.first_lost;
-  free = found.free;
-  free_right = found.free_right;
   contents = found.contents;
   lost = found.lost;
   as_many = found.as_many;
@@ -83,7 +81,7 @@ body_there array c p t body shown is =
 
 pub record IsPageFor (n : Numbers) (c : Cells) (bad : Spot → Bool) (f : Found) (o : Option FoundPage) : Type 0 where
   pub has : HasSettings n c bad f
-  pub content : IsContentPage (outside has.free c) (newest_found f) f.kept settings_key o
+  pub content : IsContentPage (outside has.basis.free c) (newest_found f) f.kept settings_key o
 
 abbrev pub IsSettingsPage : Numbers → (Spot → Bool) → Array → Found → Option FoundPage → Type 0
 IsSettingsPage n bad array f o = (c : Cells) → Shows array c → IsPageFor n c bad f o
@@ -96,18 +94,20 @@ settings_there n bad array f xs o has same told c shown =
     let h = has c shown in
     record {
       has = h;
-      content = subst (IsContentPage (outside h.free c) (newest_found f) f.kept settings_key)
+      content = subst (IsContentPage (outside h.basis.free c) (newest_found f) f.kept settings_key)
           (sym (told h.page.0
           (ap (λ (ys : List (Option FoundPage)). slice_get ys
           (sum (shape_of_numbers n).blocks + area_pages (shape_of_numbers n))) same ∙ h.page.1))) h.page.2;
     }
 
 -- over sound pages it is the page among all
-page_for : (n : Numbers) (c : Cells) (bad : Spot → Bool) (f : Found) (o : Option FoundPage) (h : IsPageFor n c bad f o) →
-    CellsSound c (newest_found f) → IsPageOutside h.has.free c (newest_found f) f.kept settings_key o
-page_for n c bad f o h sound = page_outside n c h.has.within (newest_found f) sound bad h.has.free
-    (h.has.free_right sound) f.kept (recorded_kept c (newest_found f) f.kept h.has.newest h.has.kept) settings_key o
-    h.content
+page_for : (n : Numbers) (c : Cells) (bad : Spot → Bool) (f : Found) (o : Option FoundPage)
+    (h : IsPageFor n c bad f o) → CellsSound c (newest_found f) →
+    IsPageOutside h.has.basis.free c (newest_found f) f.kept settings_key o
+page_for n c bad f o h sound =
+    let b = h.has.basis in
+    page_outside n c b.within (newest_found f) sound bad b.free b.free_right f.kept
+    (recorded_kept c (newest_found f) f.kept b.newest b.kept) settings_key o h.content
 
 module _ (n : Numbers) (bad : Spot → Bool) (dies : List DieState) (f : Found) (fit : Fit n dies) (e : FoundPage)
     (page : IsSettingsPage n bad (array_of dies) f (Some e)) where
@@ -123,14 +123,15 @@ module _ (n : Numbers) (bad : Spot → Bool) (dies : List DieState) (f : Found) 
         lies n dies e.place.die e.place.block e.place.page fit inside.die inside.block inside.page,
       ))
       (λ out. absurd (page_not_nothing (some.0 e.place) e.tag h.content.0
-      (outside_there h.has.free some.0 e.place (GroupPage e.tag h.content.0)
+      (outside_there h.has.basis.free some.0 e.place (GroupPage e.tag h.content.0)
       (page_not_nothing (GroupPage e.tag h.content.0) e.tag h.content.0 refl) h.content.1.counts.there).1
       (within e.place out)))
       (is_place n e.place)
 
 -- the page says what the content says
 pub page_says : (n : Numbers) (bad : Spot → Bool) (array : Array) (f : Found) (e : FoundPage) (is : Bool) →
-    is ≡ says (array e.place).body → IsSettingsPage n bad array f (Some e) → (c : Cells) → Shows array c → CellsSound c (newest_found f) → (x : List ℕ) →
+    is ≡ says (array e.place).body → IsSettingsPage n bad array f (Some e) → (c : Cells) → Shows array c →
+    CellsSound c (newest_found f) → (x : List ℕ) →
     Holds c (newest_found f) (suc f.kept) settings_key x → is ≡ says x
 page_says n bad array f e is same page c shown sound x holds =
     let h = page_for n c bad f (Some e) (page c shown) sound in
@@ -139,9 +140,12 @@ page_says n bad array f e is same page c shown sound x holds =
 
 -- without a page the content is zeros
 pub none_says : (n : Numbers) (bad : Spot → Bool) (array : Array) (f : Found) → IsSettingsPage n bad array f None →
-    (c : Cells) → Shows array c → CellsSound c (newest_found f) → (x : List ℕ) → Holds c (newest_found f) (suc f.kept) settings_key x → false ≡ says x
+    (c : Cells) → Shows array c → CellsSound c (newest_found f) → (x : List ℕ) →
+    Holds c (newest_found f) (suc f.kept) settings_key x → false ≡ says x
 none_says n bad array f page c shown sound x holds = ⊎_elim
     (λ (h : (p : Place) × (t : Tag) × IsNewest c (newest_found f) (suc f.kept) settings_key p t x).
-    let l = page_for n c bad f None (page c shown) sound h.0 h.1 x h.2.counts h.2.key in let w = h.2.within in absurd (omega (arith, l, w)))
+    let l = page_for n c bad f None (page c shown) sound h.0 h.1 x h.2.counts h.2.key in
+    let w = h.2.within in
+    absurd (omega (arith, l, w)))
     (λ (h : HasNone c (newest_found f) (suc f.kept) settings_key × (x ≡ zero_block)).
     zeros_say ∙ ap says (sym h.1)) holds

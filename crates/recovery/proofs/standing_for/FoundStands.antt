@@ -43,13 +43,13 @@ module _ (array : Array) (c : Cells) (m : Option Mark) (kept : ℕ) (shown : Sho
 module _ (n : Numbers) (array : Array) (c : Cells) (bad : Spot → Bool) (f : Found) (p : Plain) (shown : Shows array c)
     (found : IsFound n c bad f) (st : CellsStandFor n c p) (sound : CellsSound c (newest_found f)) where
   same_newest : st.newest ≡ newest_found f
-  same_newest = mark_one c (newest_found f) st.newest (newest_found f) sound st.is_newest found.newest
+  same_newest = mark_one c (newest_found f) st.newest (newest_found f) sound st.is_newest found.basis.newest
 
   kept_there : IsKept c (newest_found f) st.kept
   kept_there = subst (λ m. IsKept c m st.kept) same_newest st.is_kept
 
   same_kept : st.kept ≡ f.kept
-  same_kept = kept_one c (newest_found f) st.kept f.kept kept_there found.kept
+  same_kept = kept_one c (newest_found f) st.kept f.kept kept_there found.basis.kept
 
   contents : (k : Key) (i : ℕ) → IsIndex (shape_of_numbers n) k i →
       (e : Option FoundPage) × (slice_get f.contents.items i ≡ Some e) × HasContent array e (content p k)
@@ -60,9 +60,9 @@ module _ (n : Numbers) (array : Array) (c : Cells) (bad : Spot → Bool) (f : Fo
         r.1,
         has_content array c (newest_found f) f.kept shown sound k (content p k)
             (subst (λ m. Holds c m (suc f.kept) k (content p k)) same_newest
-            (subst (λ y. Holds c st.newest (suc y) k (content p k)) same_kept held)) found.free r.0
-            (page_outside n c found.within (newest_found f) sound bad found.free (found.free_right sound) f.kept
-            (recorded_kept c (newest_found f) f.kept found.newest found.kept) k r.0 r.2),
+            (subst (λ y. Holds c st.newest (suc y) k (content p k)) same_kept held)) found.basis.free r.0
+            (page_outside n c found.basis.within (newest_found f) sound bad found.basis.free found.basis.free_right
+            f.kept (recorded_kept c (newest_found f) f.kept found.basis.newest found.basis.kept) k r.0 r.2),
       )
 
 -- over sound dies there is the plain state that they stand for, and it is told
@@ -80,7 +80,7 @@ found_stands n array bad f outside found s = (stood.0, record { stands = stood.1
           cells = s.cells;
           shown = s.shown;
           newest = newest_found f;
-          is_newest = here.newest;
+          is_newest = here.basis.newest;
           suit = here.suits;
         })
 
@@ -88,7 +88,7 @@ found_stands n array bad f outside found s = (stood.0, record { stands = stood.1
     same = cells_one one_cell array s.cells stood.1.0 s.shown stood.1.1
 
     newest : s.newest ≡ newest_found f
-    newest = mark_one s.cells s.newest s.newest (newest_found f) s.sound s.is_newest here.newest
+    newest = mark_one s.cells s.newest s.newest (newest_found f) s.sound s.is_newest here.basis.newest
 
     sound : CellsSound stood.1.0 (newest_found f)
     sound = subst (λ c. CellsSound c (newest_found f)) same (subst (CellsSound s.cells) newest s.sound)

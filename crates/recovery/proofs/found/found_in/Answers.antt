@@ -39,16 +39,18 @@ returns c = λ cells is_bad table in_range within suits bads.
     let recorded = c.recorded_frontier-recorded.ensures.recorded cells m listed fence table.recorded in
     let top = c.greatest_seen-greatest_seen.ensures.top cells m listed fence table.recorded in
     record {
-      within = within;
-      newest = table.newest;
+      basis = record {
+        within = within;
+        newest = table.newest;
+        kept = c.in_ok-kept.ensures.kept cells m listed recorded;
+        free = free;
+        free_right = c.in_ok-free.ensures.free cells is_bad listed marks table.newest within suits bads;
+      };
       suits = suits;
       in_range = in_range;
-      kept = c.in_ok-kept.ensures.kept cells m listed recorded;
       greatest_seen = top;
       first_lost = c.first_lost-first_lost.ensures
           ∙ ap (λ (f : Option Fence). lost_from f c.in_ok-kept.kept) (sym fence);
-      free = free;
-      free_right = λ sound. c.in_ok-free.ensures.free cells is_bad listed marks table.newest within suits sound bads;
       contents = c.in_ok-contents.ensures.content (lists.outside free cells) m
           (subst (AreListed (lists.outside free cells))
           (sym (c.as_slice-2.ensures.value ∙ c.in_ok-outside.ensures

@@ -27,7 +27,7 @@ free_in_order-requires-clause-inside c = λ i a h.
 pub returns-clause-free : goal.returns-clause-free
 returns-clause-free c =
     both_ok c.free_in_order.result _ _ _
-    (λ v as_many decided cells is_bad listed marked within suits sound bads.
+    (λ v as_many decided cells is_bad listed marked within suits bads.
     let n = c.args.numbers.now in
     let s = shape_of_numbers n in
     let m : Mark = mark_of c.args.mark.now in
@@ -47,7 +47,8 @@ returns-clause-free c =
     subst (λ (xs : List Bool). AreNeeded s m.fence contents pages (length pages) xs) (sym c.as_slice-4.ensures.value)
     c.in_ok-needed.ensures.told in
     let same : AreSamePages pages named =
-    subst (λ (xs : List FoundPage). AreSamePages pages xs) (sym c.as_slice-5.ensures.value) c.in_ok-named.ensures.same in
+    subst (λ (xs : List FoundPage). AreSamePages pages xs) (sym c.as_slice-5.ensures.value)
+    c.in_ok-named.ensures.same in
     let rising : AreRising (λ (e : FoundPage). e.tag.number) named =
     subst (λ (xs : List FoundPage). AreRising (λ (e : FoundPage). e.tag.number) xs) (sym c.as_slice-5.ensures.value)
     c.in_ok-named.ensures.rising in
@@ -57,6 +58,6 @@ returns-clause-free c =
     let age : AreByAge r.0 c.as_slice-2.result.now =
     subst (λ (xs : List Aged). AreByAge r.0 xs) (sym c.as_slice-2.ensures.value) r.3 in
     free_marked n cells m is_bad c.args.bad.now held needed v.items pages named marks contents r.0 within listed marked
-    suits sound bads content need same holds r.1 r.2 as_many
+    suits bads content need same holds r.1 r.2 as_many
     (decided r.0 age (pages_rise n cells within pages listed) rising))
     c.free_in_order.ensures.as_many c.free_in_order.ensures.decided

@@ -10,7 +10,7 @@ use Rattle.recovery.proofs.free.free_blocks.Goals as goal
 pub returns-in-None-clause-free : goal.returns-in-None-clause-free
 returns-in-None-clause-free c =
     IfOk-weaker c.unused_blocks.result _ _
-    (λ v are cells is_bad listed marked newest within suits sound bads.
+    (λ v are cells is_bad listed marked newest within suits bads.
     let n = c.args.numbers.now in
     let none : option_map mark_of c.args.newest.now ≡ None = ap (option_map mark_of) c.in-None.is in
     subst (λ (m : Option Mark). AreFoundFree cells m is_bad (is_free_in n is_bad v.items)) (sym none)

@@ -1,0 +1,84 @@
+-- While the device is not mended what tasks keep lies in no free block.
+use Rattle.power_loss.proofs.Common.{All, All-map, All-weaker, ◌≡◌, ℕ, ◌<◌, ◌≤◌, Bool, Option, Some, None, get_or, List}
+use Rattle.power_loss.proofs.Common.{map, nat_lt, if_both, refl, sym, ap, ◌∙◌, arith, same_Some, BlockState, Free, Spot}
+use Rattle.power_loss.proofs.Common.{spot_of, InSlot, Looked, Name, OnPage, Unwritten, latest, look, looked_at}
+use Rattle.power_loss.proofs.Common.{looked_on}
+use Rattle.power_loss.proofs.Common.{settled_look, settled_pin, is_pin_of, with_wanted, Pin, Translation, is_mended}
+use Rattle.power_loss.proofs.Common.{Key}
+use Rattle.power_loss.proofs.Common.{Place, HasKey, book, Valid, false}
+use Rattle.power_loss.specs.MendingRoom.{ArePinsOffFree, IsOffFree}
+use Rattle.power_loss.proofs.books.LayerParts.{LookedOf, SecureOf}
+use Rattle.power_loss.proofs.kept_pages.UnmendedPages.{new_secure, unmended_secure}
+
+-- no block is free now that was not
+abbrev pub IsNoneFreed : (Spot → BlockState) → (Spot → BlockState) → Type 0
+IsNoneFreed blocks now = (s : Spot) → now s ≡ Free → blocks s ≡ Free
+
+off_stays : {blocks now : Spot → BlockState} (looked : Looked) → IsNoneFreed blocks now → IsOffFree blocks looked →
+    IsOffFree now looked
+off_stays (OnPage name place) none off = λ free. off (none (spot_of place) free)
+off_stays looked none off = tt
+
+pub pins_stay : {blocks now : Spot → BlockState} (pins : List Pin) → IsNoneFreed blocks now →
+    All (λ (pin : Pin). IsOffFree blocks pin.looked) pins → All (λ (pin : Pin). IsOffFree now pin.looked) pins
+pins_stay {blocks} {now} pins none = All-weaker (λ (pin : Pin). IsOffFree blocks pin.looked)
+    (λ (pin : Pin). IsOffFree now pin.looked) (λ pin off. off_stays pin.looked none off) pins
+
+pub pins_wanted_off : (blocks : Spot → BlockState) (tag index : ℕ) (wanted : Bool) (pins : List Pin) →
+    All (λ (pin : Pin). IsOffFree blocks pin.looked) pins →
+    All (λ (pin : Pin). IsOffFree blocks pin.looked) (map (with_wanted tag index wanted) pins)
+pins_wanted_off blocks tag index wanted pins off =
+    All-map (λ (pin : Pin). IsOffFree blocks pin.looked) (with_wanted tag index wanted) pins
+    (All-weaker (λ (pin : Pin). IsOffFree blocks pin.looked)
+    (λ (pin : Pin). IsOffFree blocks (with_wanted tag index wanted pin).looked)
+    (λ pin k. if_both (λ (x : Pin). IsOffFree blocks x.looked) (is_pin_of tag index pin) k k) pins off)
+
+-- a page that stands securely lies in no free block
+secure_off : (t : Translation) (name : Name) (o : Option Place) → t.ledger.standing name.number name.index ≡ o →
+    ((p : Place) → o ≡ Some p → SecureOf t name.number name.index) → IsOffFree t.disk.blocks (looked_on name o)
+secure_off t name None at secure = tt
+secure_off t name (Some p) at secure =
+    let h = secure p refl in
+    let same = same_Some h.place p (sym h.known ∙ at) in
+    λ free. h.needed (ap (λ (q : Place). t.disk.blocks (spot_of q)) same ∙ free)
+
+-- what is looked up before the device is mended lies in none
+pub look_off : (t : Translation) (k : Key) → Valid t → is_mended t.work.mending ≡ false → HasKey (book t) k →
+    IsOffFree t.disk.blocks (look t.ledger k)
+look_off t k v un has = by (latest t.ledger k) refl
+  where
+    by : (o : Option Name) → latest t.ledger k ≡ o → IsOffFree t.disk.blocks (looked_at t.ledger o)
+    by None e = tt
+    by (Some name) e = if_both (IsOffFree t.disk.blocks) (nat_lt t.ledger.frontier name.number) tt
+        (secure_off t name (t.ledger.standing name.number name.index) refl
+        (λ p at. unmended_secure k t.ledger.groups (latest t.ledger k) name v un has refl e at))
+
+-- a slot is of a group above the frontier
+abbrev IsBehind : ℕ → Looked → Type 0
+IsBehind frontier (InSlot name) = frontier < name.number
+IsBehind frontier looked = Unit {0}
+
+-- nor does what was in a slot and is on its page now
+settled_off : (u : Translation) (blocks : Spot → BlockState) (frontier : ℕ) (looked : Looked) → Valid u →
+    is_mended u.work.mending ≡ false → u.ledger.greatest_seen ≤ frontier → IsNoneFreed blocks u.disk.blocks →
+    IsBehind frontier looked → IsOffFree blocks looked → IsOffFree u.disk.blocks (settled_look u.ledger looked)
+settled_off u blocks frontier Unwritten v un low none behind off = tt
+settled_off u blocks frontier (OnPage name place) v un low none behind off = off_stays (OnPage name place) none off
+settled_off u blocks frontier (InSlot name) v un low none behind off =
+    if_both (IsOffFree u.disk.blocks) (nat_lt u.ledger.frontier name.number) tt
+    (secure_off u name (u.ledger.standing name.number name.index) refl
+    (λ p at. new_secure name.number name.index v un (omega (arith, low, behind)) at))
+
+pub pins_settled_off : {t : Translation} (u : Translation) → Valid t → Valid u → is_mended u.work.mending ≡ false →
+    u.ledger.greatest_seen ≡ t.ledger.greatest_seen → IsNoneFreed t.disk.blocks u.disk.blocks → ArePinsOffFree t →
+    All (λ (pin : Pin). IsOffFree u.disk.blocks pin.looked) (map (settled_pin u.ledger) t.pins)
+pins_settled_off {t} u v w un same none off =
+    All-map (λ (pin : Pin). IsOffFree u.disk.blocks pin.looked) (settled_pin u.ledger) t.pins
+    (λ k x l.
+    settled_off u t.disk.blocks t.ledger.frontier (get_or t.pins k x).looked w un
+    (let a = v.frontier.above in omega (arith, same, a)) none
+    (slot_behind t (get_or t.pins k x).looked (v.pins.each k x l)) (off k x l))
+  where
+    slot_behind : (t : Translation) (looked : Looked) → LookedOf t looked → IsBehind t.ledger.frontier looked
+    slot_behind t (InSlot name) h = h.0
+    slot_behind t looked h = tt

@@ -1,0 +1,284 @@
+-- Each move by which no program or erase fails leaves room for the mending, which alone takes pages.
+use Rattle.power_loss.proofs.Common.{◌≡◌, ◌≢◌, ℕ, suc, ◌+◌, ◌≤◌, Bool, true, false, is_none, List, []}
+use Rattle.power_loss.proofs.Common.{Option, Some, None, refl, sym, ap, ◌∙◌, subst, ⊎_elim, arith}
+use Rattle.power_loss.proofs.Common.{◌==◌, at_die_is, none-some, same_Some}
+use Rattle.power_loss.proofs.Common.{true≢false, Cell, GroupPage, Mark, MarkPage}
+use Rattle.power_loss.proofs.Common.{Nothing, Erasing, Flight, ForNobody, ForRest, ForStep, ForTask, Programming}
+use Rattle.power_loss.proofs.Common.{Reader, Reading, Spot, at_die, programmed, erased, Accept, spot_of}
+use Rattle.power_loss.proofs.Common.{Acknowledge, Claim, EndJob, Ending, GiveJob, IsAllowedMove, Keep, LetGo, LetGoAll}
+use Rattle.power_loss.proofs.Common.{Move, ReadRight, ReadWrong, Release, TakeStep, WantPage, WentWell, WentWrong}
+use Rattle.power_loss.proofs.Common.{die_idle, end_flight, freed, is_for, is_for_task, is_pin_of, moved}
+use Rattle.power_loss.proofs.Common.{read_right, read_wrong, step_after, step_there}
+use Rattle.power_loss.proofs.Common.{MayTake, Order, OrderCopy}
+use Rattle.power_loss.proofs.Common.{OrderMark, OrderPlanMark, OrderRepair, Pin, Plan, Step}
+use Rattle.power_loss.proofs.Common.{Translation, Want, is_mended, mark_ordered}
+use Rattle.power_loss.proofs.Common.{name_of, ordered, repair_ordered, taken, turned, standing_of}
+use Rattle.power_loss.proofs.Common.{want_at, Place, Tag, Valid}
+use Rattle.power_loss.proofs.MachineWords.{turns_left}
+use Rattle.ufs_spec.specs.Moves.{let_go, mark_written, page_written, rests_without}
+use Rattle.ufs_spec.specs.Translation.{want_from, want_of_kind}
+use Rattle.ufs_laws.proofs.walk.LayerEffects.{IsDue, order_due, turned_if}
+use Rattle.power_loss.proofs.Common.{map, with_wanted, All, All-filter, All-push, at_spot, at_spot_is, BlockState, Filling, Free}
+use Rattle.power_loss.specs.MendingRoom.{ArePinsOffFree, HasRoom, IsOffFree, MendsAlone, fails_job, flies_kind}
+use Rattle.power_loss.specs.MendingRoom.{page_of_step, pages_left}
+use Rattle.power_loss.proofs.jobs.JobsBegin.{erase_is_no_program}
+use Rattle.power_loss.proofs.jobs.PageEnded.{ends_page}
+use Rattle.power_loss.proofs.jobs.StandsSecurely.{behind_is_not_free, free_is_not_filling}
+use Rattle.power_loss.proofs.room_to_mend.PinsOffFree.{IsNoneFreed, look_off, pins_settled_off, pins_stay}
+use Rattle.power_loss.proofs.room_to_mend.PinsOffFree.{pins_wanted_off}
+use Rattle.power_loss.proofs.mending_steps.TurnsLeft.{move_keeps_turns, order_takes}
+use Rattle.power_loss.proofs.room_to_mend.AloneKept.{AreFewer, begun_fewer, ended_fewer, fewer}
+use Rattle.power_loss.proofs.room_to_mend.AloneKept.{gone_fewer, name_over, none_readable, program_begins}
+use Rattle.power_loss.proofs.room_to_mend.AloneKept.{read_is_no_program, step_over, unflown}
+use Rattle.power_loss.proofs.room_to_mend.RoomInBlocks.{erase_leaves, program_takes}
+
+-- both hold of the layer
+abbrev pub Kept : Translation → Type 0
+Kept u = MendsAlone u × HasRoom u
+
+-- Numbers: what is needed and what is left
+
+as_before : (a b c d l m : ℕ) → a + b ≤ l → c ≤ a → d ≡ b → l ≤ m → c + d ≤ m
+as_before a b c d l m room turns step left = omega (arith, room, turns, step, left)
+
+one_done : (a b c d l m : ℕ) → a + b ≤ l → c ≤ a → b ≡ 1 → d ≡ 0 → l ≤ suc m → c + d ≤ m
+one_done a b c d l m room turns one none left = omega (arith, room, turns, one, none, left)
+
+one_ordered : (a b c l : ℕ) → a + b ≤ l → suc c ≤ a → c + 1 ≤ l
+one_ordered a b c l room turns = omega (arith, room, turns)
+
+same : (a : ℕ) → a ≤ a
+same a = omega arith
+
+there_still : (s : Option Step) → page_of_step (step_there s) ≡ page_of_step s
+there_still None = refl
+there_still (Some step) = refl
+
+module _ {t : Translation} (v : Valid t) (un : is_mended t.work.mending ≡ false) (alone : MendsAlone t)
+    (room : HasRoom t) where
+  kept_fewer : (u : Translation) → ArePinsOffFree u → u.work.rests ≡ [] → u.work.step ≡ t.work.step →
+      AreFewer t.disk.flights u.disk.flights → MendsAlone u
+  kept_fewer u = fewer u alone
+
+  end_turns : (die : ℕ) (flight : Option Flight) (ending : Ending) → t.disk.flights die ≡ flight →
+      turns_left (end_flight t die flight ending) ≤ turns_left t
+  end_turns die flight ending e =
+      subst (λ (o : Option Flight). turns_left (end_flight t die o ending) ≤ turns_left t) e
+      (move_keeps_turns (EndJob die ending) v)
+
+  -- Reads
+
+  wanted_off : (tag index : ℕ) (wanted : Bool) →
+      All (λ (pin : Pin). IsOffFree t.disk.blocks pin.looked) (map (with_wanted tag index wanted) t.pins)
+  wanted_off tag index wanted = pins_wanted_off t.disk.blocks tag index wanted t.pins alone.pins
+
+  step_read : (die : ℕ) → MendsAlone (read_right (die_idle t die) ForStep)
+  step_read die = record {
+    pins = alone.pins;
+    no_rests = alone.no_rests;
+    readable = λ step is absent. absurd (true≢false (sym (brought t.work.step step is) ∙ absent));
+    of_step = λ d p cell is.
+        let r = alone.of_step d p cell (ended_fewer t.disk.flights die d p cell is) in
+        (record r.0 { there = true }, ap step_there r.1, r.2);
+    one_die = λ d e p q cell more is k. alone.one_die d e p q cell more (ended_fewer t.disk.flights die d p cell is)
+        (ended_fewer t.disk.flights die e q more k);
+  }
+    where
+      brought : (s : Option Step) (step : Step) → step_there s ≡ Some step → step.there ≡ true
+      brought None step is = absurd (none-some step is)
+      brought (Some s) step is = sym (ap (λ (x : Step). x.there) (same_Some (record s { there = true }) step is))
+
+  read_ends : (die : ℕ) (reader : Reader) (place : Place) → t.disk.flights die ≡ Some (Reading reader place) →
+      Kept (read_right (die_idle t die) reader)
+  read_ends die ForNobody place e =
+      (kept_fewer (die_idle t die) alone.pins alone.no_rests refl (ended_fewer t.disk.flights die), room)
+  read_ends die (ForTask tag index) place e = (
+    kept_fewer (read_right (die_idle t die) (ForTask tag index)) (wanted_off tag index false)
+        alone.no_rests refl (ended_fewer t.disk.flights die),
+    room,
+  )
+  read_ends die ForStep place e = (
+    step_read die,
+    as_before (turns_left t) (page_of_step t.work.step) _ (page_of_step (step_there t.work.step)) (pages_left t)
+        (pages_left t) room (end_turns die (Some (Reading ForStep place)) ReadRight e) (there_still t.work.step)
+        (same (pages_left t)),
+  )
+  read_ends die (ForRest number index) place e = (
+    kept_fewer (read_right (die_idle t die) (ForRest number index)) alone.pins
+        (ap (rests_without (record { number = number; index = index })) alone.no_rests) refl
+        (ended_fewer t.disk.flights die),
+    room,
+  )
+
+  wrong_ends : (die : ℕ) (reader : Reader) → Kept (read_wrong (die_idle t die) reader)
+  wrong_ends die (ForTask tag index) = (
+    kept_fewer (read_wrong (die_idle t die) (ForTask tag index)) (wanted_off tag index false)
+        alone.no_rests refl (ended_fewer t.disk.flights die),
+    room,
+  )
+  wrong_ends die reader =
+      (kept_fewer (die_idle t die) alone.pins alone.no_rests refl (ended_fewer t.disk.flights die), room)
+
+  -- Programs
+
+  none_freed : (s : Spot) (x : BlockState) → x ≢ Free → IsNoneFreed t.disk.blocks (at_spot t.disk.blocks s x)
+  none_freed s x other z h =
+      ⊎_elim (λ k. absurd (other k.1)) (λ k. k.1) (at_spot_is t.disk.blocks s x z Free h)
+
+  none_flown : (die : ℕ) (p : Place) (cell : Cell) → t.disk.flights die ≡ Some (Programming p cell) →
+      (d : ℕ) (q : Place) (other : Cell) → at_die t.disk.flights p.die None d ≡ Some (Programming q other) → ⊥
+  none_flown die p cell e d q other h = ⊎_elim (λ k. none-some (Programming q other) k.1)
+      (λ k. k.0 (sym (alone.one_die die d p q cell other e k.1) ∙ sym (v.flights.programs die p cell e).at_home))
+      (at_die_is t.disk.flights p.die None d (Some (Programming q other)) h)
+
+  room_taken : (die : ℕ) (p : Place) (cell : Cell) → t.disk.flights die ≡ Some (Programming p cell) →
+      pages_left t ≤ suc (pages_left (record t { disk = programmed t.numbers.pages t.disk p cell }))
+  room_taken die p cell e =
+      let r = v.flights.programs die p cell e in
+      program_takes t.numbers t.disk.blocks (spot_of p) p.page r.place.page r.next
+
+  page_ends : (die : ℕ) (p : Place) (tag : Tag) (body : List ℕ) →
+      t.disk.flights die ≡ Some (Programming p (GroupPage tag body)) → Kept (page_written t p tag body)
+  page_ends die p tag body e = (
+    unflown (page_written t p tag body)
+        (pins_settled_off (page_written t p tag body) v (ends_page die p tag body v e) un refl
+        (none_freed (spot_of p) _ (behind_is_not_free t.numbers.pages p.page)) alone.pins)
+        alone.no_rests (none_readable over) (none_flown die p (GroupPage tag body) e),
+    one_done (turns_left t) (page_of_step t.work.step) (turns_left (page_written t p tag body)) _ (pages_left t) _ room
+        (end_turns die (Some (Programming p (GroupPage tag body))) WentWell e) (ap page_of_step of.1)
+        (ap page_of_step over) (room_taken die p (GroupPage tag body) e),
+  )
+    where
+      of : (step : Step) × (t.work.step ≡ Some step)
+          × (flies_kind step.kind (Some (Programming p (GroupPage tag body))) ≡ true)
+      of = alone.of_step die p (GroupPage tag body) e
+
+      over : step_after (name_of tag) t.work.step ≡ None
+      over = step_over (name_of tag) of.0 of.1 (name_over tag body p of.0.kind of.2)
+
+  mark_ends : (die : ℕ) (p : Place) (m : Mark) → t.disk.flights die ≡ Some (Programming p (MarkPage m)) →
+      Kept (mark_written t p m)
+  mark_ends die p m e = by t.work.plan refl
+    where
+      of : (step : Step) × (t.work.step ≡ Some step)
+          × (flies_kind step.kind (Some (Programming p (MarkPage m))) ≡ true)
+      of = alone.of_step die p (MarkPage m) e
+
+      by : (o : Option Plan) → t.work.plan ≡ o →
+          Kept (record (mark_written t p m) { disk = freed (programmed t.numbers.pages t.disk p (MarkPage m)) o })
+      by (Some pl) is = absurd (true≢false (sym (ap is_mended (v.plan.mended pl is)) ∙ un))
+      by None is = (
+        unflown (record (mark_written t p m) { disk = programmed t.numbers.pages t.disk p (MarkPage m) })
+            (pins_stay t.pins
+            (none_freed (spot_of p) _ (behind_is_not_free t.numbers.pages p.page)) alone.pins)
+            alone.no_rests (none_readable refl) (none_flown die p (MarkPage m) e),
+        one_done (turns_left t) (page_of_step t.work.step) (turns_left (mark_written t p m)) 0 (pages_left t) _ room
+            (end_turns die (Some (Programming p (MarkPage m))) WentWell e) (ap page_of_step of.1) refl
+            (room_taken die p (MarkPage m) e),
+      )
+
+  -- The end of any job
+
+  erase_ends : (die : ℕ) (s : Spot) → t.disk.flights die ≡ Some (Erasing s) →
+      Kept (record t { disk = erased t.disk s })
+  erase_ends die s e = (
+    kept_fewer (record t { disk = erased t.disk s })
+        (pins_stay t.pins (none_freed s (Filling 0) (λ e. free_is_not_filling e refl)) alone.pins) alone.no_rests refl
+        (ended_fewer t.disk.flights s.die),
+    as_before (turns_left t) (page_of_step t.work.step) (turns_left t) (page_of_step t.work.step) (pages_left t) _ room
+        (same (turns_left t)) refl (erase_leaves t.numbers t.disk.blocks s (v.flights.erases die s e).free),
+  )
+
+  ends : (die : ℕ) (flight : Option Flight) (ending : Ending) → t.disk.flights die ≡ flight →
+      fails_job (EndJob die ending) ≡ false → Kept (end_flight t die flight ending)
+  ends die flight (WentWrong left) e well = absurd (true≢false well)
+  ends die (Some (Reading reader place)) ReadRight e well = read_ends die reader place e
+  ends die (Some (Reading reader place)) ReadWrong e well = wrong_ends die reader
+  ends die (Some (Programming p Nothing)) WentWell e well = absurd (v.flights.something die p e)
+  ends die (Some (Programming p (GroupPage tag body))) WentWell e well = page_ends die p tag body e
+  ends die (Some (Programming p (MarkPage m))) WentWell e well = mark_ends die p m e
+  ends die (Some (Erasing s)) WentWell e well = erase_ends die s e
+  ends die flight ending e well = (alone, room)
+
+  -- Turns
+
+  no_program : t.work.step ≡ None → (die : ℕ) (p : Place) (cell : Cell) →
+      t.disk.flights die ≡ Some (Programming p cell) → ⊥
+  no_program none die p cell h = let r = alone.of_step die p cell h in none-some r.0 (sym none ∙ r.1)
+
+  content : (from : Option Place) → is_none from ≡ false → (want : Want) × (want_from from ≡ Some want)
+  content None absent = absurd (true≢false absent)
+  content (Some place) absent = (want_at ForStep place, refl)
+
+  orders : (o : Order) → (t.work.step ≡ None) × IsDue t o → Kept (ordered t o)
+  orders (OrderMark fence) (none, due) = (
+    unflown (mark_ordered t fence) alone.pins alone.no_rests
+        (λ step is absent. absurd (true≢false (ap (λ (x : Step). x.there) (same_Some _ step is) ∙ absent)))
+        (no_program none),
+    one_ordered (turns_left t) (page_of_step t.work.step) (turns_left (mark_ordered t fence)) (pages_left t) room
+        (order_takes t (OrderMark fence) un (none, due)),
+  )
+  orders (OrderRepair k left) (none, due) = (
+    unflown (repair_ordered t k left) alone.pins alone.no_rests
+        (λ step is. subst (λ (x : Step). x.there ≡ false → (want : Want) × (want_of_kind x.kind ≡ Some want))
+        (same_Some _ step is) (content (standing_of t.ledger (t.ledger.first_page k)))) (no_program none),
+    one_ordered (turns_left t) (page_of_step t.work.step) (turns_left (repair_ordered t k left)) (pages_left t) room
+        (order_takes t (OrderRepair k left) un (none, due)),
+  )
+  orders (OrderCopy s p left) (none, due) = absurd (true≢false (sym (ap is_mended due.0) ∙ un))
+  orders (OrderPlanMark s) (none, due) = absurd (true≢false (sym (ap is_mended due.1) ∙ un))
+
+  turns : Kept (turned t)
+  turns = turned_if Kept t (λ none. (alone, room)) (λ o due. orders o (order_due t o due))
+
+  -- Jobs that begin
+
+  takes : (die : ℕ) (flight : Flight) → MayTake t die (Some flight) → Kept (taken t die flight)
+  takes die (Reading reader place) may = (
+    kept_fewer (taken t die (Reading reader place)) alone.pins alone.no_rests refl
+        (begun_fewer t.disk.flights die (Some (Reading reader place)) (λ p cell h. read_is_no_program h)),
+    room,
+  )
+  takes die (Erasing s) may = (
+    kept_fewer (taken t die (Erasing s)) alone.pins alone.no_rests refl
+        (begun_fewer t.disk.flights die (Some (Erasing s)) (λ p cell h. erase_is_no_program h)),
+    room,
+  )
+  takes die (Programming p cell) may = (program_begins die p cell v un alone may, room)
+
+  -- Each move
+
+  let_go_kept : (of_pin : Pin → Bool) (of_reader : Reader → Bool) → Kept (let_go t of_pin of_reader)
+  let_go_kept of_pin of_reader = (
+    kept_fewer (let_go t of_pin of_reader)
+        (All-filter _ (λ (pin : Pin). IsOffFree t.disk.blocks pin.looked) t.pins alone.pins) alone.no_rests refl
+        (gone_fewer t.disk.flights of_reader),
+    room,
+  )
+
+  pub move_keeps_room : (move : Move) → IsAllowedMove t move → fails_job move ≡ false →
+      Kept (moved t move)
+  move_keeps_room (Claim count) may well =
+      (kept_fewer (moved t (Claim count)) alone.pins alone.no_rests refl (λ d p cell h. h), room)
+  move_keeps_room (Release count) may well =
+      (kept_fewer (moved t (Release count)) alone.pins alone.no_rests refl (λ d p cell h. h), room)
+  move_keeps_room (Accept claimed g) may well = absurd (true≢false (sym may.0 ∙ un))
+  move_keeps_room (Acknowledge count) may well =
+      (kept_fewer (moved t (Acknowledge count)) alone.pins alone.no_rests refl (λ d p cell h. h), room)
+  move_keeps_room (Keep key pin) may well = (
+    kept_fewer (moved t (Keep key pin))
+        (All-push (λ (x : Pin). IsOffFree t.disk.blocks x.looked) t.pins pin alone.pins
+        (subst (IsOffFree t.disk.blocks) (sym may.1) (look_off t key v un may.0))) alone.no_rests refl
+        (λ d p cell h. h),
+    room,
+  )
+  move_keeps_room (WantPage tag index) may well = (
+    kept_fewer (moved t (WantPage tag index)) (wanted_off tag index true) alone.no_rests refl
+        (λ d p cell h. h),
+    room,
+  )
+  move_keeps_room (LetGo tag index) may well = let_go_kept (is_pin_of tag index) (is_for tag index)
+  move_keeps_room (LetGoAll tag) may well = let_go_kept (λ pin. pin.tag == tag) (is_for_task tag)
+  move_keeps_room (GiveJob die flight) may well = takes die flight may
+  move_keeps_room (EndJob die ending) may well = ends die (t.disk.flights die) ending refl well
+  move_keeps_room TakeStep may well = turns
