@@ -8,10 +8,10 @@ use Rattle.std.proofs.Math.Nat.{mul_comm, mul-le-mul_left}
 use Rattle.std.proofs.lemmas.List.{map-append}
 use Rattle.std.proofs.lemmas.Nat.{mul-add-lt}
 use Rattle.std.proofs.lemmas.List.Elements.{filter-append}
-use Rattle.std.proofs.lemmas.List.{get_or-replicate, length-replicate}
+use Rattle.std.proofs.lemmas.List.{length-replicate}
 use Rattle.std.proofs.lemmas.Option.{get_or_from_slice_get, slice_get-get_or, slice_get_past, slice_get_within}
 use Rattle.ufs_spec.proofs.Facts.{and_parts, cases_Bool, cases_lt, ltb-true}
-use Rattle.ufs_spec.proofs.Lists.{set_here, set_other, set_there}
+use Rattle.ufs_spec.proofs.Lists.{get_replicate, set_here, set_other, set_there}
 use Rattle.ufs_spec.specs.Disk.{Spot, place_in, spot_of}
 use Rattle.ufs_spec.specs.Keys.{below}
 use Rattle.ufs_spec.specs.declared.flash.Place.{Place}
@@ -169,16 +169,11 @@ counts_none l s off = live_count_is l s ∙ count_zero l.sizes.pages (λ k. is_l
     ap (λ b. (b && nat_lt k l.sizes.pages)
     && unwrap_or (slice_get l.live (page_place l.sizes (place_in s k))) false) off)
 
-pub replicate_there : {A : Type 0} (n k : ℕ) (x : A) → k < n → slice_get (replicate n x) k ≡ Some x
-replicate_there n k x l =
-    slice_get-get_or (replicate n x) k x (omega (arith, length-replicate n x))
-    ∙ ap (λ y. Some y) (get_or-replicate n k x x l)
-
 pub replicate_off : (n k : ℕ) → unwrap_or (slice_get (replicate n false) k) false ≡ false
 replicate_off n k = by (cases_lt k n)
   where
     by : (k < n) ⊎ (n ≤ k) → unwrap_or (slice_get (replicate n false) k) false ≡ false
-    by (inl l) = ap (λ o. unwrap_or o false) (replicate_there n k false l)
+    by (inl l) = ap (λ o. unwrap_or o false) (get_replicate n k false l)
     by (inr l) =
         ap (λ o. unwrap_or o false) (slice_get_past (replicate n false) k (omega (arith, length-replicate n false)))
 
@@ -291,7 +286,7 @@ pub new_counted : (n : Sizes) (live : List Bool) (counts pins : List ℕ) →
     pins ≡ replicate (n.dies * n.blocks) 0 → AreCounted (record { sizes = n; live = live; pins = pins }) counts
 new_counted n live counts pins e f g s there =
     ap (λ (xs : List ℕ). slice_get xs (block_place n s)) f
-    ∙ replicate_there (n.dies * n.blocks) (block_place n s) 0 (spot_inside n s there)
+    ∙ get_replicate (n.dies * n.blocks) (block_place n s) 0 (spot_inside n s there)
     ∙ ap (λ (x : ℕ). Some x) (sym (counts_new n (n.dies * n.blocks * n.pages) (n.dies * n.blocks) s))
     ∙ sym (λ i. Some (live_count (record { sizes = n; live = e i; pins = g i }) s))
 

@@ -1,7 +1,7 @@
 -- What a layer above needs to put its own words in the place of the table's: a fact at each page and each block is a
 -- fact of the live pages and of the victim.
 use Rattle.std.proofs.Common.{◌≡◌, ◌≢◌, ◌∙◌, ◌⊎◌, ℕ, zero, suc, ◌*◌, ◌<◌, ◌&&◌, ◌||◌, Bool, true, false, cond, List, []}
-use Rattle.std.proofs.Common.{◌∷◌, ◌++◌, Option, Some, None, ap, arith, length, refl, sym, subst, inl, inr}
+use Rattle.std.proofs.Common.{◌∷◌, ◌++◌, Some, None, ap, arith, length, refl, sym, subst, inl, inr}
 use Rattle.std.proofs.Common.{if◌then◌else◌}
 use Rattle.std.specs.Prelude.{filter, map, nat_lt, slice_get, slice_set, unwrap_or}
 use Rattle.std.specs.List.{flat_map, list_any}
@@ -10,15 +10,14 @@ use Rattle.std.proofs.lemmas.Grind.{flat_map-append}
 use Rattle.std.proofs.lemmas.List.{map-append}
 use Rattle.std.proofs.lemmas.Nat.{mul-add-lt}
 use Rattle.ufs_spec.proofs.Facts.{and_from, and_parts, cases_Bool, if_both, lt-ltb, ltb-true}
-use Rattle.ufs_spec.proofs.Lists.{set_here, set_length, set_other}
 use Rattle.ufs_spec.specs.Disk.{Spot, place_in, spot_of}
 use Rattle.ufs_spec.specs.Keys.{below}
 use Rattle.ufs_spec.specs.Translation.{least_of}
 use Rattle.ufs_spec.specs.declared.flash.Place.{Place}
-use Rattle.block_table.specs.Lives.{Lives, block_place, has_block, has_page, is_live, page_place, pins_of, places_in}
-use Rattle.block_table.specs.Lives.{spot, spots_in, spots_of_die, with_live, with_pins}
+use Rattle.block_table.specs.Lives.{Lives, block_place, has_block, has_page, is_live, page_place, places_in}
+use Rattle.block_table.specs.Lives.{spot, spots_in, spots_of_die, with_live}
 use Rattle.block_table.specs.declared.Sizes.{Sizes}
-use Rattle.block_table.proofs.LiveCounts.{noted, noted_beside, noted_here, one_spot, spot_inside}
+use Rattle.block_table.proofs.LiveCounts.{noted, noted_beside, noted_here, spot_inside}
 
 -- Each of a list
 

@@ -1,16 +1,17 @@
--- What the block table says of each block and of each die (this profile).
+-- What the block table says of each block, and what a job's end makes of it (this profile).
 use Rattle.std.specs.Prelude.{ℕ, ◌+◌, ◌-◌, ◌*◌, nat_lt, Bool, true, false, if◌then◌else◌, List, slice_get, slice_set}
-use Rattle.std.specs.Prelude.{Option, Some, None, unwrap_or}
+use Rattle.std.specs.Prelude.{None, Option, Some, unwrap_or}
 use Rattle.block_table.specs.declared.BlockState.{BlockState}
 use Rattle.block_table.specs.declared.BlockState.TheVariants as state
-use Rattle.block_table.specs.declared.OpenBlock.{OpenBlock}
+use Rattle.block_table.specs.declared.rows.DieRow.{DieRow}
+use Rattle.block_table.specs.declared.rows.OpenBlock.{OpenBlock}
 use Rattle.block_table.specs.declared.Sizes.{Sizes}
 
--- what each block is, in order by die and block, which block each die fills, and whether one is bad
+-- what each block is, in order by die and block, what is known of each die, and whether a block is bad
 pub record Blocks : Type 0 where
   pub sizes : Sizes
   pub states : List BlockState
-  pub filling : List (Option OpenBlock)
+  pub rows : List DieRow
   pub has_bad : Bool
 
 -- the block holds nothing that is needed, so it may be erased
@@ -31,19 +32,14 @@ block_index t die block = die * t.sizes.blocks + block
 abbrev pub state_of : Blocks → ℕ → ℕ → BlockState
 state_of t die block = unwrap_or (slice_get t.states (block_index t die block)) state.Bad
 
--- the open block of a die that may not be there; then there is none
-abbrev pub open_in : Option (Option OpenBlock) → Option OpenBlock
-open_in None = None
-open_in (Some o) = o
+-- a die that fills this block and has no job
+abbrev pub row_after : Option OpenBlock → DieRow
+row_after o = record { filling = o; flight = None }
 
--- the block that the die fills, with its next page, if it fills one
-abbrev pub open_of : Blocks → ℕ → Option OpenBlock
-open_of t die = open_in (slice_get t.filling die)
-
--- the block is so from now on, and the die fills that one
+-- the block is so from now on, and the die fills that one and has no job
 abbrev pub changed : Blocks → ℕ → ℕ → BlockState → Option OpenBlock → Blocks
 changed t die block s o =
-    record t { states = slice_set t.states (block_index t die block) s; filling = slice_set t.filling die o }
+    record t { states = slice_set t.states (block_index t die block) s; rows = slice_set t.rows die (row_after o) }
 
 -- the block is empty, and the die fills it
 abbrev pub opened_at : Blocks → ℕ → ℕ → Blocks
@@ -51,10 +47,10 @@ opened_at t die block = changed t die block state.Open (Some (record { block = b
 
 -- the die's open block has one page less, and is closed with its last
 abbrev pub page_written : Blocks → ℕ → Option OpenBlock → Blocks
-page_written t die None = record t { filling = slice_set t.filling die None }
+page_written t die None = record t { rows = slice_set t.rows die (row_after None) }
 page_written t die (Some o) =
     if nat_lt o.next (t.sizes.pages - 1)
-    then record t { filling = slice_set t.filling die (Some (record { block = o.block; next = o.next + 1 })) }
+    then record t { rows = slice_set t.rows die (row_after (Some (record { block = o.block; next = o.next + 1 }))) }
     else changed t die o.block state.Closed None
 
 -- a block that is not bad is free after its collection
@@ -67,6 +63,6 @@ abbrev pub freed : Blocks → ℕ → ℕ → Blocks
 freed t die block =
     record t { states = slice_set t.states (block_index t die block) (freed_state (state_of t die block)) }
 
--- the block is bad, and the die fills none
+-- the block is bad, and the die fills none and has no job
 abbrev pub gone_bad : Blocks → ℕ → ℕ → Blocks
 gone_bad t die block = record (changed t die block state.Bad None) { has_bad = true }

@@ -5,7 +5,7 @@ use Rattle.block_table.specs.declared.BlockTable.TheInside.{Inside}
 
 -- what contracts see of the table; how many blocks are free is not seen, since it follows from their states
 abbrev pub blocks_of : Inside → Blocks
-blocks_of f = record { sizes = f.sizes; states = f.states.items; filling = f.filling.items; has_bad = f.has_bad }
+blocks_of f = record { sizes = f.sizes; states = f.states.items; rows = f.rows.items; has_bad = f.has_bad }
 
 -- the number of free blocks that is kept is how many of the states are free
 abbrev pub IsCounted : Inside → Type 0

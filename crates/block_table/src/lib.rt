@@ -1,17 +1,20 @@
-//! The block table: what each block is, how many are free, and which block each die fills; and
-//! beside it which pages are live, and which block is to be collected.
+//! The block table: what each block is, how many are free, which block each die fills, and which
+//! job each die has; and beside it which pages are live, and which block is to be collected.
 #![tactic(auto)]
 
-ghost use Rattle.std.specs.Prelude.{◌≡◌, ◌≤◌, ◌*◌, IfOk, None, Some, count_by, is_some, length, replicate, slice_get, slice_set};
+ghost use Rattle.std.specs.Prelude.{◌≡◌, ◌≤◌, ◌*◌, IfOk, None, Some, count_by, length, map, replicate, slice_get, slice_set};
 ghost use Rattle.std.specs.List.{list_any};
-ghost use Rattle.block_table.specs.Blocks.{Blocks, block_index, freed, freed_state, gone_bad, is_bad, is_free, open_of, opened_at, page_written, state_of};
+ghost use Rattle.block_table.specs.Blocks.{Blocks, block_index, freed, freed_state, gone_bad, is_bad, is_free, opened_at, page_written, state_of};
+ghost use Rattle.block_table.specs.Rows.{erases, fills, idle_row, reads_for, reads_step, rows_in_flight, without_block, without_reader, writes_page, writes_step};
 
 use std::alloc::{AllocError, Global};
 use std::marker::Model;
 
 mod live;
+mod rows;
 
 pub use live::{BlockAt, LivePages};
+pub use rows::{DieRow, Flight, OpenBlock, Reader};
 
 /// What a block is to the device: free to be erased, being filled, full, or bad.
 #[derive(Clone, Copy, Debug, Default, PartialEq, Eq)]
@@ -21,13 +24,6 @@ pub enum BlockState {
     Open,
     Closed,
     Bad,
-}
-
-/// The block of a die that is being filled, and its next page.
-#[derive(Clone, Copy, Debug, Default, PartialEq, Eq)]
-pub struct OpenBlock {
-    pub block: u16,
-    pub next: u16,
 }
 
 /// How many dies a device has, and how many blocks a die and pages a block.
@@ -44,8 +40,8 @@ pub struct BlockTable {
     sizes: Sizes,
     /// What each block is, in order by die and block.
     states: Vec<BlockState>,
-    /// Of each die the block that it fills, which has room.
-    filling: Vec<Option<OpenBlock>>,
+    /// Of each die the block that it fills, which has room, and its job in flight.
+    rows: Vec<DieRow>,
     /// How many blocks are free.
     free: usize,
     /// Whether any block is bad; it stays so.
@@ -65,7 +61,7 @@ impl Model for BlockTable {
 }
 
 impl BlockTable {
-    /// A table of blocks that are so, in order by die and block. No die fills one.
+    /// A table of blocks that are so, in order by die and block. No die fills one or has a job.
     ///
     /// # Errors
     ///
@@ -78,7 +74,7 @@ impl BlockTable {
         ensures { IfOk result (λ t. t ≡ record {
           sizes = sizes;
           states = states.items;
-          filling = replicate sizes.dies None;
+          rows = replicate sizes.dies idle_row;
           has_bad = list_any is_bad states.items;
         }) }
     {
@@ -87,7 +83,7 @@ impl BlockTable {
         Ok(BlockTable {
             sizes,
             states,
-            filling: none_open(alloc, sizes.dies)?,
+            rows: rows::idle(alloc, sizes.dies)?,
             free,
             has_bad,
         })
@@ -115,44 +111,104 @@ impl BlockTable {
         self.has_bad
     }
 
-    /// The block that the die fills, if it fills one.
-    pub fn open_block(&self, die: u8) -> Option<OpenBlock>
-        ensures { result ≡ open_of self.now die }
+    /// What is known of the die; `None` if there is no such die.
+    pub fn row(&self, die: u8) -> Option<DieRow>
+        ensures { result ≡ slice_get self.now.rows die }
     {
-        self.filling.get(die as usize).copied().flatten()
+        self.rows.get(die as usize).copied()
     }
 
     /// Whether any die fills a block.
-    pub fn has_open_block(&self) -> bool
-        ensures { result ≡ list_any is_some self.now.filling }
+    pub fn fills_any(&self) -> bool
+        ensures { result ≡ list_any fills self.now.rows }
     {
-        any_open(self.filling.as_slice())
+        rows::any_fills(self.rows.as_slice())
     }
 
-    /// The block is empty after an erase, and the die fills it from now on.
+    /// Whether any die erases a block, which it will then fill.
+    pub fn erases_any(&self) -> bool
+        ensures { result ≡ list_any erases self.now.rows }
+    {
+        rows::any_erases(self.rows.as_slice())
+    }
+
+    /// Whether any die programs the page of this index in the group of this number.
+    pub fn writes_page(&self, number: u64, index: u16) -> bool
+        ensures { result ≡ list_any (writes_page number index) self.now.rows }
+    {
+        rows::any_writes_page(self.rows.as_slice(), number, index)
+    }
+
+    /// Whether any die programs the page of the step under way.
+    pub fn writes_step(&self) -> bool
+        ensures { result ≡ list_any writes_step self.now.rows }
+    {
+        rows::any_writes_step(self.rows.as_slice())
+    }
+
+    /// Whether any die reads for the step under way.
+    pub fn reads_step(&self) -> bool
+        ensures { result ≡ list_any reads_step self.now.rows }
+    {
+        rows::any_reads_step(self.rows.as_slice())
+    }
+
+    /// Whether any die reads for this block of the reader.
+    pub fn reads_for(&self, reader: u8, index: u16) -> bool
+        ensures { result ≡ list_any (reads_for reader index) self.now.rows }
+    {
+        rows::any_reads_for(self.rows.as_slice(), reader, index)
+    }
+
+    /// This is in flight of the die from now on, if there is such a die.
+    pub fn set_flight(&mut self, die: u8, flight: Option<Flight>)
+        ensures { self.new ≡ record self.old { rows = rows_in_flight self.old.rows die flight } }
+    {
+        if let Some(row) = self.row(die) {
+            let filling = row.filling;
+            self.set_row(die, DieRow { filling, flight });
+        }
+    }
+
+    /// A read in flight for this reader goes on, for nobody.
+    pub fn forget_reader(&mut self, reader: u8)
+        ensures { self.new ≡ record self.old { rows = map (without_reader reader) self.old.rows } }
+    {
+        rows::forget_reader(self.rows.as_mut_slice(), reader);
+    }
+
+    /// A read in flight for this block of the reader goes on, for nobody.
+    pub fn forget_block(&mut self, reader: u8, index: u16)
+        ensures { self.new ≡ record self.old { rows = map (without_block reader index) self.old.rows } }
+    {
+        rows::forget_block(self.rows.as_mut_slice(), reader, index);
+    }
+
+    /// The block is empty after an erase: the die fills it from now on, and has no job.
     pub fn erased(&mut self, die: u8, block: u16)
         ensures { self.new ≡ opened_at self.old die block }
     {
         self.set_state(die, block, BlockState::Open);
-        self.set_open(die, Some(OpenBlock { block, next: 0 }));
+        self.job_over(die, Some(OpenBlock { block, next: 0 }));
     }
 
-    /// The next page of the block that the die fills is written: it is closed with its last page.
+    /// The next page of the block that the die fills is written: the block is closed with its last
+    /// page, and the die has no job.
     pub fn page_written(&mut self, die: u8, filled: Option<OpenBlock>)
         ensures { self.new ≡ page_written self.old die filled }
     {
         let Some(open) = filled else {
-            return self.set_open(die, None);
+            return self.job_over(die, None);
         };
         if open.next < self.sizes.pages.saturating_sub(1) {
             let next = OpenBlock {
                 block: open.block,
                 next: open.next + 1,
             };
-            self.set_open(die, Some(next));
+            self.job_over(die, Some(next));
         } else {
             self.set_state(die, open.block, BlockState::Closed);
-            self.set_open(die, None);
+            self.job_over(die, None);
         }
     }
 
@@ -164,13 +220,13 @@ impl BlockTable {
         self.set_state(die, block, state);
     }
 
-    /// The block is bad from now on, and the die fills none.
+    /// The block is bad from now on. The die fills none and has no job.
     pub fn went_bad(&mut self, die: u8, block: u16)
         ensures { self.new ≡ gone_bad self.old die block }
     {
         self.set_state(die, block, BlockState::Bad);
         self.has_bad = true;
-        self.set_open(die, None);
+        self.job_over(die, None);
     }
 
     /// Where the block is among all blocks.
@@ -199,13 +255,28 @@ impl BlockTable {
         self.states[index] = state;
     }
 
-    /// Notes which block the die fills from now on.
-    fn set_open(&mut self, die: u8, filled: Option<OpenBlock>)
-        ensures { self.new ≡ record self.old { filling = slice_set self.old.filling die filled } }
+    /// The die has no job any more, and fills this block.
+    fn job_over(&mut self, die: u8, filling: Option<OpenBlock>)
+        ensures { self.new ≡ record self.old {
+          rows = slice_set self.old.rows die record { filling = filling; flight = None };
+        } }
+    {
+        self.set_row(
+            die,
+            DieRow {
+                filling,
+                flight: None,
+            },
+        );
+    }
+
+    /// Notes what is known of the die from now on.
+    fn set_row(&mut self, die: u8, row: DieRow)
+        ensures { self.new ≡ record self.old { rows = slice_set self.old.rows die row } }
     {
         let index = die as usize;
-        if index < self.filling.len() {
-            self.filling[index] = filled;
+        if index < self.rows.len() {
+            self.rows[index] = row;
         }
     }
 }
@@ -222,13 +293,6 @@ fn any_bad(states: &[BlockState]) -> bool
     ensures { result ≡ list_any is_bad states.now }
 {
     states.iter().any(|state| is_bad(state))
-}
-
-/// Whether any of the dies fills a block.
-fn any_open(filling: &[Option<OpenBlock>]) -> bool
-    ensures { result ≡ list_any is_some filling.now }
-{
-    filling.iter().any(|open| open.is_some())
 }
 
 /// Whether a block that is so is free.
@@ -265,15 +329,4 @@ fn freed_state(state: BlockState) -> BlockState
         BlockState::Open => BlockState::Free,
         BlockState::Closed => BlockState::Free,
     }
-}
-
-/// Dies of which none fills a block.
-fn none_open(alloc: Global, dies: u8) -> Result<Vec<Option<OpenBlock>>, AllocError>
-    ensures { IfOk result (λ v. v.items ≡ replicate dies None) }
-{
-    let mut all = Vec::with_capacity(alloc, dies as usize)?;
-    for _ in 0..dies {
-        all.push(None)?;
-    }
-    Ok(all)
 }

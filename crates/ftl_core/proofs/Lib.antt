@@ -1,5 +1,5 @@
 pub mod collected
-pub mod dies
+pub mod FirstWaiting
 pub mod group_settled
 pub mod job_ended
 pub mod job_taken

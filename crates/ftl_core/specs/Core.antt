@@ -5,7 +5,7 @@ use Rattle.ufs_spec.specs.declared.flash.Key.{Key}
 use Rattle.block_table.specs.Lives.{Lives}
 use Rattle.collector.specs.Plans.{Collection}
 use Rattle.block_table.specs.declared.BlockState.{BlockState}
-use Rattle.ftl_core.specs.declared.books.Book.{Book}
+use Rattle.block_table.specs.declared.rows.DieRow.{DieRow}
 use Rattle.write_cache.specs.declared.slots.Claimed.{Claimed}
 use Rattle.unit_map.specs.declared.Stored.{Stored}
 use Rattle.ftl_core.specs.declared.books.Mending.{Mending}
@@ -20,7 +20,7 @@ use Rattle.ftl_core.specs.declared.books.Step.{Step}
 pub record Core : Type 0 where
   pub numbers : Numbers
   pub states : List BlockState
-  pub books : List Book
+  pub rows : List DieRow
   pub has_bad : Bool
   pub places : List (Option Stored)
   pub live : Lives

@@ -5,7 +5,7 @@ use Rattle.std.specs.Prelude.{All, AllPairs, find, is_some, length, map, slice_g
 use Rattle.std.specs.List.{list_any}
 use Rattle.ufs_spec.specs.Cells.{Cell, Cells, GroupPage, MarkPage, key_of}
 use Rattle.ufs_spec.specs.Disk as disk
-use Rattle.ufs_spec.specs.Disk.{Disk, ForNobody, ForStep, ForTask, Reader, Spot}
+use Rattle.ufs_spec.specs.Disk.{ForNobody, ForStep, ForTask, Reader, Spot}
 use Rattle.ufs_spec.specs.Keys.{IsKey}
 use Rattle.ufs_spec.specs.Ledger as ledger
 use Rattle.ufs_spec.specs.Ledger.{Entry, InSlot, Ledger, Name, OnPage, Unwritten, before_accepted, entry_of}
@@ -13,9 +13,9 @@ use Rattle.ufs_spec.specs.Ledger.{latest_durable, next_number, pending}
 use Rattle.ufs_spec.specs.Moves.{Ending, ReadRight, ReadWrong, GiveJob, moved}
 use Rattle.ufs_spec.specs.Plain.{shape_of_numbers}
 use Rattle.ufs_spec.specs.Translation as layer
-use Rattle.ufs_spec.specs.Translation.{CopyStep, MarkStep, MayTake, Mended, Mending, RepairStep, Repairing, Step, Translation}
-use Rattle.ufs_spec.specs.Translation.{Unmarked, Work, flies_name, is_bad, is_mended, name_of, names_after, spots}
-use Rattle.ufs_spec.specs.Translation.{tag_of}
+use Rattle.ufs_spec.specs.Translation.{CopyStep, MarkStep, MayTake, Mended, Mending, RepairStep, Repairing, Step}
+use Rattle.ufs_spec.specs.Translation.{Translation, Unmarked, Work, flies_name, is_bad, is_mended, name_of, names_after}
+use Rattle.ufs_spec.specs.Translation.{spots, tag_of}
 use Rattle.ufs_spec.specs.declared.configs.Numbers.{Numbers}
 use Rattle.ufs_spec.specs.declared.flash.Job.{Job}
 use Rattle.ufs_spec.specs.declared.flash.Key.{Key}
@@ -26,18 +26,18 @@ use Rattle.collector.specs.Plans.{Collection, layer_plan}
 use Rattle.collector.specs.declared.PlannedCopy.{PlannedCopy}
 use Rattle.block_table.specs.declared.BlockState.{BlockState}
 use Rattle.block_table.specs.declared.BlockState.TheVariants as state
-use Rattle.ftl_core.specs.declared.books.Book.{Book}
-use Rattle.ftl_core.specs.declared.books.Flight.{Flight}
-use Rattle.ftl_core.specs.declared.books.Flight.TheVariants as flight
+use Rattle.block_table.specs.declared.rows.DieRow.{DieRow}
+use Rattle.block_table.specs.declared.rows.Flight.{Flight}
+use Rattle.block_table.specs.declared.rows.Flight.TheVariants as flight
 use Rattle.ftl_core.specs.declared.books.Looked.{Looked}
 use Rattle.ftl_core.specs.declared.books.Looked.TheVariants as looked
 use Rattle.ftl_core.specs.declared.books.Mending as kept
 use Rattle.ftl_core.specs.declared.books.Mending.TheVariants as mendings
-use Rattle.block_table.specs.declared.OpenBlock.{OpenBlock}
+use Rattle.block_table.specs.declared.rows.OpenBlock.{OpenBlock}
 use Rattle.write_cache.specs.declared.slots.Pending.{Pending}
 use Rattle.ftl_core.specs.declared.books.Pin.{Pin}
-use Rattle.ftl_core.specs.declared.books.Reader as reader
-use Rattle.ftl_core.specs.declared.books.Reader.TheVariants as readers
+use Rattle.block_table.specs.declared.rows.Reader as reader
+use Rattle.block_table.specs.declared.rows.Reader.TheVariants as readers
 use Rattle.ftl_core.specs.declared.books.Step as kept_step
 use Rattle.ftl_core.specs.declared.books.Step.TheVariants as steps
 use Rattle.unit_map.specs.declared.Stored.{Stored}
@@ -114,16 +114,16 @@ IsFlight n step die filling (Some (flight.Erase block)) (Some (disk.Erasing s)) 
 IsFlight n step die filling kept other = ⊥
 
 -- what is kept of a die: the block that it fills, and the job that it has in flight
-pub record BookKept (n : Numbers) (blocks : Spot → disk.BlockState) (step : Option kept_step.Step) (die : ℕ) (b : Book)
+pub record RowKept (n : Numbers) (blocks : Spot → disk.BlockState) (step : Option kept_step.Step) (die : ℕ) (b : DieRow)
     (f : Option disk.Flight) : Type 0 where
   pub filling : IsFilling n blocks die b.filling
   pub job : IsFlight n step die b.filling b.flight f
 
 -- each die of the configuration has its book, and no other die has a job in flight
 pub record DiesKept (n : Numbers) (blocks : Spot → disk.BlockState) (flights : ℕ → Option disk.Flight)
-    (step : Option kept_step.Step) (books : List Book) : Type 0 where
-  pub dies : length books ≡ n.dies
-  pub each : (die : ℕ) (b : Book) → slice_get books die ≡ Some b → BookKept n blocks step die b (flights die)
+    (step : Option kept_step.Step) (rows : List DieRow) : Type 0 where
+  pub dies : length rows ≡ n.dies
+  pub each : (die : ℕ) (b : DieRow) → slice_get rows die ≡ Some b → RowKept n blocks step die b (flights die)
   pub no_more : (die : ℕ) → n.dies ≤ die → flights die ≡ None
 
 -- Groups
@@ -133,16 +133,16 @@ abbrev pub Standing : Type 0
 Standing = ℕ → ℕ → Option Place
 
 -- the die has the program of this page of a pending group in flight
-pub record WritesGroup (books : List Book) (die number index : ℕ) : Type 0 where
-  pub book : Book
-  pub there : slice_get books die ≡ Some book
+pub record WritesGroup (rows : List DieRow) (die number index : ℕ) : Type 0 where
+  pub book : DieRow
+  pub there : slice_get rows die ≡ Some book
   pub place : Place
   pub job : book.flight ≡ Some (flight.Group place number index)
 
 -- no two dies write the page of one name, and the page of a pending group that a die writes does not stand
-pub record PagesFly (standing : Standing) (flights : ℕ → Option disk.Flight) (books : List Book) : Type 0 where
+pub record PagesFly (standing : Standing) (flights : ℕ → Option disk.Flight) (rows : List DieRow) : Type 0 where
   pub one : (d e : ℕ) (name : Name) → flies_name name (flights d) ≡ true → flies_name name (flights e) ≡ true → d ≡ e
-  pub new : (d number index : ℕ) → WritesGroup books d number index → standing number index ≡ None
+  pub new : (d number index : ℕ) → WritesGroup rows d number index → standing number index ≡ None
 
 -- a page of a group is named by the group's number and its index in the group
 abbrev pub name_at : ℕ → ℕ → Name
@@ -327,8 +327,8 @@ pub record PlanKept (n : Numbers) (plan : Option Collection) (w : Option layer.P
 pub record Kept (c : Core) (t : Translation) : Type 0 where
   pub numbers : c.numbers ≡ t.numbers
   pub blocks : BlocksKept t.numbers t.disk.blocks c.states c.has_bad
-  pub dies : DiesKept t.numbers t.disk.blocks t.disk.flights c.step c.books
-  pub fly : PagesFly t.ledger.standing t.disk.flights c.books
+  pub dies : DiesKept t.numbers t.disk.blocks t.disk.flights c.step c.rows
+  pub fly : PagesFly t.ledger.standing t.disk.flights c.rows
   pub ledger_kept : LedgerKept c.numbers c.places c.pages c.frontier c.last t.ledger
   pub work : WorkKept c.mending (drop c.repaired c.lost) c.step c.content c.next_mark t.work t.ledger
   pub plan : PlanKept t.numbers c.plan t.work.plan

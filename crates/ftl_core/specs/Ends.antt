@@ -1,6 +1,6 @@
 -- How a group moves on until it is durable, as the code does it. Describes says what that means.
-use Rattle.std.specs.Prelude.{ℕ, zero, suc, ◌+◌, ◌==◌, if◌then◌else◌, min, nat_le, not, List, filter, find, fold, length}
-use Rattle.std.specs.Prelude.{drop, map, slice_get, take, Option, Some, None, true}
+use Rattle.std.specs.Prelude.{ℕ, zero, suc, ◌+◌, ◌==◌, if◌then◌else◌, min, nat_le, not, List, filter, find, fold}
+use Rattle.std.specs.Prelude.{length, drop, map, slice_get, take, Option, Some, None, true}
 use Rattle.ufs_spec.specs.declared.flash.Key.{Key}
 use Rattle.ufs_spec.specs.declared.flash.Place.{Place}
 use Rattle.ufs_spec.specs.declared.flash.Tag.{Tag}
@@ -9,7 +9,7 @@ use Rattle.block_table.specs.Lives.{with_live}
 use Rattle.collector.specs.Plans.{Collection}
 use Rattle.ufs_spec.specs.Disk.{Spot}
 use Rattle.unit_map.specs.declared.Stored.{Stored}
-use Rattle.ftl_core.specs.declared.books.Book.{Book}
+use Rattle.block_table.specs.declared.rows.DieRow.{DieRow}
 use Rattle.write_cache.specs.declared.slots.Landed.{Landed}
 use Rattle.write_cache.specs.declared.slots.Pending.{Pending}
 use Rattle.ftl_core.specs.declared.books.Mending.{Mending}
@@ -153,7 +153,7 @@ abbrev pub copy_over : Core → ℕ → Key → ℕ → Place → Core
 copy_over c n k i p = copy_stands (record c { step = None }) n k i p
 
 -- a page of the step that is under way is written, and the step is over
-abbrev pub step_over : Core → Option Step → ℕ → Book → Place → Core
+abbrev pub step_over : Core → Option Step → ℕ → DieRow → Place → Core
 step_over c None die b p = page_written c die b b.filling
 step_over c (Some (step.Mark n fence)) die b p = plan_over (page_written (mark_over c) die b b.filling)
 step_over c (Some (step.Repair n k from there)) die b p = page_written (repair_over c k p) die b b.filling
@@ -161,7 +161,7 @@ step_over c (Some (step.Copy n k from tag)) die b p =
     settled (page_written (copy_over c n k (index_in tag) p) die b b.filling)
 
 -- the page of the step under way was programmed at this place
-abbrev pub step_written : Core → ℕ → Book → Place → Core
+abbrev pub step_written : Core → ℕ → DieRow → Place → Core
 step_written c die b p = step_over c c.step die b p
 
 -- in place of a failed mark waits one with the next number and the same fence; a failed repair or copy waits again by

@@ -9,20 +9,20 @@ use Rattle.ufs_spec.specs.declared.flash.Outcome.TheVariants as outcome
 use Rattle.ufs_spec.specs.declared.flash.Page.{Page}
 use Rattle.ufs_spec.specs.declared.flash.Place.{Place}
 use Rattle.ufs_spec.specs.declared.flash.Tag.{Tag}
-use Rattle.ftl_core.specs.declared.books.Book.{Book}
-use Rattle.ftl_core.specs.declared.books.Flight.{Flight}
-use Rattle.ftl_core.specs.declared.books.Flight.TheVariants as flight
+use Rattle.block_table.specs.declared.rows.DieRow.{DieRow}
+use Rattle.block_table.specs.declared.rows.Flight.{Flight}
+use Rattle.block_table.specs.declared.rows.Flight.TheVariants as flight
 use Rattle.ftl_core.specs.declared.books.Looked.{Looked}
 use Rattle.ftl_core.specs.declared.books.Looked.TheVariants as looked
 use Rattle.ftl_core.specs.declared.books.Pin.{Pin}
-use Rattle.ftl_core.specs.declared.books.Reader.{Reader}
-use Rattle.ftl_core.specs.declared.books.Reader.TheVariants as reader
+use Rattle.block_table.specs.declared.rows.Reader.{Reader}
+use Rattle.block_table.specs.declared.rows.Reader.TheVariants as reader
 use Rattle.ftl_core.specs.declared.books.Step.{Step}
 use Rattle.ftl_core.specs.declared.books.Step.TheVariants as step
 use Rattle.ftl_core.specs.declared.ftl.Ended.{Ended}
 use Rattle.ftl_core.specs.declared.ftl.Ended.TheVariants as ended
 use Rattle.ftl_core.specs.Core.{Core}
-use Rattle.ftl_core.specs.Moves.{erased, is_pin_of, page_written, pin_of, went_bad, with_book}
+use Rattle.ftl_core.specs.Moves.{erased, is_pin_of, page_written, pin_of, went_bad, with_row}
 use Rattle.ftl_core.specs.Ends.{pending_written, settled, step_failed, step_written, with_content}
 
 -- Programs and erases
@@ -34,13 +34,13 @@ ending outcome.Failed = Some false
 ending _ = None
 
 -- a page whose program failed waits again by itself
-abbrev pub group_ended : Core → ℕ → Book → Place → ℕ → ℕ → Bool → Core
+abbrev pub group_ended : Core → ℕ → DieRow → Place → ℕ → ℕ → Bool → Core
 group_ended c die b place n i true =
     settled (page_written (pending_written c n i place) die b b.filling)
 group_ended c die b place n i false = went_bad c die place.block
 
 -- the program of the step's page ended: well, and the step is over; or it failed, and the step waits again
-abbrev pub step_ended : Core → ℕ → Book → Place → Bool → Core
+abbrev pub step_ended : Core → ℕ → DieRow → Place → Bool → Core
 step_ended c die b place true = step_written c die b place
 step_ended c die b place false = step_failed c die place
 
@@ -50,14 +50,14 @@ erase_ended c die block true = erased c die block
 erase_ended c die block false = went_bad c die block
 
 -- what the end of a program or of an erase makes of what is kept; `IsReadAfter` says it of a read
-abbrev pub change_ended : Core → ℕ → Book → Flight → Bool → Core
+abbrev pub change_ended : Core → ℕ → DieRow → Flight → Bool → Core
 change_ended c die b (flight.Read place reader) well = c
 change_ended c die b (flight.Step place) well = step_ended c die b place well
 change_ended c die b (flight.Group place n i) well = group_ended c die b place n i well
 change_ended c die b (flight.Erase block) well = erase_ended c die block well
 
 -- an outcome that only a read has changes nothing for a program or an erase
-abbrev pub change_after : Core → ℕ → Book → Flight → Option Bool → Core
+abbrev pub change_after : Core → ℕ → DieRow → Flight → Option Bool → Core
 change_after c die b f None = c
 change_after c die b f (Some well) = change_ended c die b f well
 
@@ -137,7 +137,7 @@ IsReadOver c o found reader.Nobody new = new ≡ c
 
 -- what is kept after a read: its die is idle, and its reader has what it waited for. An outcome that is not one of a
 -- read changes nothing
-abbrev pub IsReadAfter : Bool → Core → ℕ → Book → Outcome → Option Tag → Reader → Core → Type 0
+abbrev pub IsReadAfter : Bool → Core → ℕ → DieRow → Outcome → Option Tag → Reader → Core → Type 0
 IsReadAfter false c die b o found r new = new ≡ c
 IsReadAfter true c die b o found r new =
-    IsReadOver (with_book c die record { filling = b.filling; flight = None }) o found r new
+    IsReadOver (with_row c die record { filling = b.filling; flight = None }) o found r new

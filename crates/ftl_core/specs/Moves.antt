@@ -1,10 +1,9 @@
 -- What the layer's steps make of what it keeps, as the code does it. Describes says what that means.
 use Rattle.ufs_spec.specs.Pages.{greatest_number}
 use Rattle.ufs_spec.specs.declared.configs.Numbers.{Numbers}
-use Rattle.std.specs.Prelude.{ℕ, ◌+◌, ◌-◌, ◌*◌, ◌^◌, ◌==◌, min, nat_le, nat_lt, Bool, true, false, ◌&&◌, ◌||◌, not}
-use Rattle.std.specs.Prelude.{if◌then◌else◌, List, [], ◌++◌, length, map, replicate}
-use Rattle.std.specs.Prelude.{count_by, slice_get, slice_set, Option, Some, None, unwrap_or, option_map}
-use Rattle.std.specs.Prelude.{filter, find, is_none, is_some}
+use Rattle.std.specs.Prelude.{ℕ, ◌+◌, ◌-◌, ◌*◌, ◌==◌, min, nat_le, nat_lt, Bool, true, false, ◌&&◌, ◌||◌, not}
+use Rattle.std.specs.Prelude.{if◌then◌else◌, List, [], ◌++◌, length, map, replicate, count_by, slice_get, slice_set}
+use Rattle.std.specs.Prelude.{Option, Some, None, unwrap_or, option_map, filter, find, is_none, is_some}
 use Rattle.std.specs.List.{list_any}
 use Rattle.ufs_spec.specs.Keys.{below}
 use Rattle.ufs_spec.specs.Plain.{zero_block}
@@ -14,10 +13,9 @@ use Rattle.ufs_spec.specs.declared.flash.Key.{Key}
 use Rattle.ufs_spec.specs.declared.flash.Tag.{Tag}
 use Rattle.block_table.specs.declared.BlockState.{BlockState}
 use Rattle.block_table.specs.declared.BlockState.TheVariants as state
-use Rattle.block_table.specs.declared.OpenBlock.{OpenBlock}
-use Rattle.ftl_core.specs.declared.books.Book.{Book}
-use Rattle.ftl_core.specs.declared.books.Flight.{Flight}
-use Rattle.ftl_core.specs.declared.books.Flight.TheVariants as flight
+use Rattle.block_table.specs.declared.rows.OpenBlock.{OpenBlock}
+use Rattle.block_table.specs.declared.rows.DieRow.{DieRow}
+use Rattle.block_table.specs.declared.rows.Flight.{Flight}
 use Rattle.unit_map.specs.declared.Stored.{Stored}
 use Rattle.write_cache.specs.declared.slots.Claimed.{Claimed}
 use Rattle.write_cache.specs.declared.slots.Pending.{Pending}
@@ -26,7 +24,6 @@ use Rattle.ftl_core.specs.declared.books.Looked.TheVariants as looked
 use Rattle.ftl_core.specs.declared.books.Mending.{Mending}
 use Rattle.ftl_core.specs.declared.books.Mending.TheVariants as mending
 use Rattle.ftl_core.specs.declared.books.Pin.{Pin}
-use Rattle.ftl_core.specs.declared.books.Reader.TheVariants as reader
 use Rattle.ftl_core.specs.declared.books.Step.{Step}
 use Rattle.ftl_core.specs.declared.books.Step.TheVariants as step
 use Rattle.ftl_core.specs.declared.books.Waiting.{Waiting}
@@ -37,16 +34,15 @@ use Rattle.recovery.specs.declared.keys.FoundBlock.{FoundBlock}
 use Rattle.recovery.specs.declared.keys.FoundBlock.TheVariants as found
 use Rattle.recovery.specs.declared.pages.FoundPage.{FoundPage}
 use Rattle.block_table.specs.Blocks.{is_free}
+pub use Rattle.block_table.specs.Rows.{erases, fills, flight_erases, flight_reads, flight_set, flight_without}
+pub use Rattle.block_table.specs.Rows.{flight_without_block, idle_row, reads_for, rows_in_flight, without_block}
+pub use Rattle.block_table.specs.Rows.{without_reader}
 use Rattle.unit_map.specs.Places.{stored_in}
 use Rattle.write_cache.specs.Slots.{claim_filled, empty_claim, is_claim_of, is_named, key_at, last_page, page_claimed}
 use Rattle.ftl_core.specs.Core.{Core}
 use Rattle.ftl_core.specs.KnownLive.{lives_of_places}
 
 -- At the start
-
--- when a life begins a die fills no block and has no job
-abbrev pub idle_book : Book
-idle_book = record { filling = None; flight = None }
 
 -- what a block is when a life begins: one with a written page is closed, since no life fills a block that an earlier
 -- one began
@@ -95,7 +91,7 @@ abbrev pub opened : Numbers → Found → Core
 opened n f = record {
   numbers = n;
   states = map state_of_found f.blocks.items;
-  books = replicate n.dies idle_book;
+  rows = replicate n.dies idle_row;
   has_bad = list_any is_bad_found f.blocks.items;
   places = map (option_map stored_of_found) f.contents.items;
   live = lives_of_places n (map (option_map stored_of_found) f.contents.items);
@@ -158,8 +154,8 @@ abbrev pub with_state : Core → ℕ → ℕ → BlockState → Core
 with_state c die block s = record c { states = slice_set c.states (state_index c die block) s }
 
 -- the die fills this block and has this job from now on
-abbrev pub with_book : Core → ℕ → Book → Core
-with_book c die b = record c { books = slice_set c.books die b }
+abbrev pub with_row : Core → ℕ → DieRow → Core
+with_row c die b = record c { rows = slice_set c.rows die b }
 
 -- how many blocks of all dies are free
 abbrev pub free_blocks : Core → ℕ
@@ -180,49 +176,22 @@ is_erasable c die block = is_free (state_of c die block) && not (list_any (keeps
 
 -- What is owed to a die
 
--- the job in flight is the read for this block of the task with this tag
-abbrev pub flight_reads : ℕ → ℕ → Option Flight → Bool
-flight_reads tag index (Some (flight.Read place (reader.Task other i))) = (tag == other) && (index == i)
-flight_reads tag index _ = false
-
--- the die reads for this block of the reader
-abbrev pub reads_for : ℕ → ℕ → Book → Bool
-reads_for reader index b = flight_reads reader index b.flight
-
 -- what was looked up lies on this die
 abbrev pub looks_on : ℕ → Looked → Bool
 looks_on die (looked.Page s) = s.place.die == die
 looks_on die _ = false
 
 -- the reader is owed the read of a page of this die: it wants it, and no die reads for it
-abbrev pub is_owed_by : List Book → ℕ → Pin → Bool
-is_owed_by books die p = p.wanted && looks_on die p.looked && not (list_any (reads_for p.reader p.index) books)
-
--- the reader is owed the read of a page of this die, judged by the jobs in flight alone
-abbrev pub is_owed_in : List (Option Flight) → ℕ → Pin → Bool
-is_owed_in flights die p =
-    p.wanted && looks_on die p.looked && not (list_any (flight_reads p.reader p.index) flights)
+abbrev pub is_owed_by : List DieRow → ℕ → Pin → Bool
+is_owed_by rows die p = p.wanted && looks_on die p.looked && not (list_any (reads_for p.reader p.index) rows)
 
 -- pages of groups may be programmed: at least as many blocks are free as groups leave to the device's own pages
 abbrev pub has_room_for_groups : Core → Bool
 has_room_for_groups c = nat_le (own_room c.numbers) (free_blocks c)
 
--- the die fills a block
-abbrev pub fills : Book → Bool
-fills b = is_some b.filling
-
--- the job in flight erases a block
-abbrev pub flight_erases : Option Flight → Bool
-flight_erases (Some (flight.Erase block)) = true
-flight_erases _ = false
-
--- the die erases a block, which it will then fill
-abbrev pub erases : Book → Bool
-erases b = flight_erases b.flight
-
 -- a block of some die is being filled, or is being erased to be filled
 abbrev pub has_open_block : Core → Bool
-has_open_block c = list_any fills c.books || list_any erases c.books
+has_open_block c = list_any fills c.rows || list_any erases c.rows
 
 -- a block may be opened for a page of a group only where more blocks are free than groups leave
 abbrev pub may_open_for_group : Core → Bool
@@ -239,17 +208,12 @@ may_open c waiting.Step = may_open_for_step c
 may_open c (waiting.Group n i) = may_open_for_group c
 
 -- the die has this job in flight, over the open block that it had
-abbrev pub started : Core → ℕ → Book → Flight → Core
-started c die b f = with_book c die record { filling = b.filling; flight = Some f }
-
--- this is in flight of the die from now on, if there is such a die
-abbrev pub flight_set : List Book → ℕ → Option Flight → Option Book → List Book
-flight_set books die f None = books
-flight_set books die f (Some b) = slice_set books die (record { filling = b.filling; flight = f })
+abbrev pub started : Core → ℕ → DieRow → Flight → Core
+started c die b f = with_row c die record { filling = b.filling; flight = Some f }
 
 -- the die has this job in flight from now on, or none
 abbrev pub in_flight : Core → ℕ → Option Flight → Core
-in_flight c die f = record c { books = flight_set c.books die f (slice_get c.books die) }
+in_flight c die f = record c { rows = rows_in_flight c.rows die f }
 
 -- the key by which the page of a mark is tagged: kind 4, and no unit or address
 abbrev pub mark_key : Key
@@ -280,17 +244,17 @@ mark_ordered c fence =
     else record c { step = None }
 
 -- the die's open block has one page less, and is closed with its last; no job is in flight
-abbrev pub page_written : Core → ℕ → Book → Option OpenBlock → Core
-page_written c die b None = with_book c die record { filling = None; flight = None }
+abbrev pub page_written : Core → ℕ → DieRow → Option OpenBlock → Core
+page_written c die b None = with_row c die record { filling = None; flight = None }
 page_written c die b (Some o) =
     if nat_lt o.next (c.numbers.pages - 1)
-    then with_book c die record { filling = Some (record { block = o.block; next = o.next + 1 }); flight = None }
-    else with_book (with_state c die o.block state.Closed) die record { filling = None; flight = None }
+    then with_row c die record { filling = Some (record { block = o.block; next = o.next + 1 }); flight = None }
+    else with_row (with_state c die o.block state.Closed) die record { filling = None; flight = None }
 
 -- the block is bad from now on, and the die fills no block
 abbrev pub went_bad : Core → ℕ → ℕ → Core
 went_bad c die block =
-    with_book (record (with_state c die block state.Bad) { has_bad = true }) die record {
+    with_row (record (with_state c die block state.Bad) { has_bad = true }) die record {
       filling = None;
       flight = None;
     }
@@ -298,7 +262,7 @@ went_bad c die block =
 -- an erase ended well: the die fills the block, from its first page on
 abbrev pub erased : Core → ℕ → ℕ → Core
 erased c die block =
-    with_book (with_state c die block state.Open) die record {
+    with_row (with_state c die block state.Open) die record {
       filling = Some (record { block = block; next = 0 });
       flight = None;
     }
@@ -345,31 +309,11 @@ pin_now c reader k i =
 abbrev pub kept_all : Core → ℕ → Key → ℕ → Core
 kept_all c reader k n = record c { pins = c.pins ++ map (pin_now c reader k) (below n) }
 
--- a read in flight for a reader who let go is for nobody
-abbrev pub flight_without : ℕ → Option Flight → Option Flight
-flight_without tag (Some (flight.Read place (reader.Task other i))) =
-    Some (flight.Read place (if other == tag then reader.Nobody else reader.Task other i))
-flight_without tag f = f
-
--- the die's read for this reader goes on, for nobody
-abbrev pub without_reader : ℕ → Book → Book
-without_reader reader b = record b { flight = flight_without reader b.flight }
-
--- a read in flight for this block of the reader is for nobody; its other reads stay
-abbrev pub flight_without_block : ℕ → ℕ → Option Flight → Option Flight
-flight_without_block tag index (Some (flight.Read place (reader.Task other i))) =
-    Some (flight.Read place (if (other == tag) && (i == index) then reader.Nobody else reader.Task other i))
-flight_without_block tag index f = f
-
--- the die's read for this block of the reader goes on, for nobody
-abbrev pub without_block : ℕ → ℕ → Book → Book
-without_block reader index b = record b { flight = flight_without_block reader index b.flight }
-
 -- the reader keeps nothing any more
 abbrev pub unpinned : Core → ℕ → Core
 unpinned c reader =
     record c {
-      books = map (without_reader reader) c.books;
+      rows = map (without_reader reader) c.rows;
       pins = filter (λ p. not (is_of_reader reader p)) c.pins;
     }
 
@@ -381,7 +325,7 @@ wanted_now reader index p = record p { wanted = if is_pin_of reader index p then
 abbrev pub next_wanted : Core → ℕ → ℕ → Core
 next_wanted c reader index =
     record c {
-      books = map (without_block reader index) c.books;
+      rows = map (without_block reader index) c.rows;
       pins = map (wanted_now reader (index + 1)) (filter (λ p. not (is_pin_of reader index p)) c.pins);
     }
 

@@ -1,9 +1,6 @@
 -- How the layer's fields are seen, and the room that they keep.
-use Rattle.std.specs.Prelude.{◌≡◌, ◌≤◌, ◌+◌, ◌^◌, ℕ, List, [], ◌∷◌, length, vec_capacity, IfSome, Option, Some, None}
-use Rattle.block_table.specs.declared.OpenBlock.{OpenBlock}
+use Rattle.std.specs.Prelude.{◌≡◌, ◌≤◌, ◌+◌, ℕ, length, vec_capacity, IfSome, Option, Some, None}
 use Rattle.ftl_core.specs.declared.ftl.Ftl.TheInside.{Inside}
-use Rattle.ftl_core.specs.declared.books.Book.{Book}
-use Rattle.ftl_core.specs.declared.books.Flight.{Flight}
 use Rattle.ftl_core.specs.declared.books.Step.{Step}
 use Rattle.ftl_core.specs.declared.books.Step.TheVariants as step
 use Rattle.ufs_spec.specs.Pages.{greatest_number}
@@ -11,18 +8,12 @@ use Rattle.ufs_spec.specs.Pages.{IsTag}
 use Rattle.ftl_core.specs.Core.{Core}
 use Rattle.ftl_core.specs.PinCounts.{ArePinsCounted, without_pins}
 
--- what is known of each die: the block that it fills, and its job in flight
-abbrev pub books_of : List (Option OpenBlock) → List (Option Flight) → List Book
-books_of [] fs = []
-books_of (o ∷ os) [] = []
-books_of (o ∷ os) (f ∷ fs) = record { filling = o; flight = f } ∷ books_of os fs
-
 -- of the live pages no count of pins is seen: it follows from the pins
 abbrev pub core_of : Inside → Core
 core_of f = record {
   numbers = f.config;
   states = f.blocks.states;
-  books = books_of f.blocks.filling f.flights.items;
+  rows = f.blocks.rows;
   has_bad = f.blocks.has_bad;
   places = f.places.places;
   live = without_pins f.live;
@@ -53,7 +44,6 @@ IsStep (Some (step.Copy n key from tag)) = IfSome tag IsTag
 
 -- the parts are those of one configuration, and each pin has room
 pub record IsRoomy (f : Inside) : Type 0 where
-  pub dies : length f.blocks.filling ≡ length f.flights.items
   pub blocks : f.blocks.sizes.blocks ≡ f.config.blocks
   pub block_pages : f.blocks.sizes.pages ≡ f.config.pages
   pub keys : f.places.numbers ≡ f.config
@@ -66,6 +56,6 @@ pub record IsRoomy (f : Inside) : Type 0 where
   pub units : length f.config.units.items ≤ 8
   pub plan_pages : f.plan.pages ≡ f.config.pages
   -- the pins of each block are counted
-  pub live_dies : f.live.sizes.dies ≡ length f.flights.items
+  pub live_dies : f.live.sizes.dies ≡ length f.blocks.rows
   pub live_blocks : f.live.sizes.blocks ≡ f.config.blocks
   pub pinned : ArePinsCounted f.live f.pins.items

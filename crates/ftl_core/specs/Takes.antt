@@ -1,8 +1,8 @@
 -- Which job a die is given, and what its start makes of what the layer keeps, as the code does it. `IsTaken` of
 -- Describes says what that means.
-use Rattle.std.specs.Prelude.{ℕ, zero, suc, ◌==◌, ◌^◌, nat_le, nat_lt, Bool, true, false, ◌&&◌, ◌||◌, not}
-use Rattle.std.specs.Prelude.{if◌then◌else◌}
-use Rattle.std.specs.Prelude.{find, is_none, is_some, List, position, slice_get, Option, Some, None, option_and_then, option_map}
+use Rattle.std.specs.Prelude.{ℕ, zero, suc, ◌==◌, nat_le, nat_lt, Bool, true, false, ◌&&◌, ◌||◌, not, if◌then◌else◌}
+use Rattle.std.specs.Prelude.{find, is_none, is_some, List, position, slice_get, Option, Some, None, option_and_then}
+use Rattle.std.specs.Prelude.{option_map}
 use Rattle.std.specs.List.{list_any}
 use Rattle.ufs_spec.specs.Pages.{greatest_number, group_bound}
 use Rattle.ufs_spec.specs.Pages.{mark_bytes, seal_page}
@@ -12,20 +12,22 @@ use Rattle.ufs_spec.specs.declared.flash.Tag.{Tag}
 use Rattle.ufs_spec.specs.declared.flash.Fence.{Fence}
 use Rattle.ufs_spec.specs.declared.flash.Key.{Key}
 use Rattle.ufs_spec.specs.declared.flash.Place.{Place}
-use Rattle.block_table.specs.declared.OpenBlock.{OpenBlock}
-use Rattle.ftl_core.specs.declared.books.Book.{Book}
-use Rattle.ftl_core.specs.declared.books.Flight.{Flight}
-use Rattle.ftl_core.specs.declared.books.Flight.TheVariants as flight
+use Rattle.block_table.specs.declared.rows.OpenBlock.{OpenBlock}
+use Rattle.block_table.specs.declared.rows.DieRow.{DieRow}
+use Rattle.block_table.specs.declared.rows.Flight.{Flight}
+use Rattle.block_table.specs.declared.rows.Flight.TheVariants as flight
 use Rattle.write_cache.specs.declared.slots.Pending.{Pending}
 use Rattle.ftl_core.specs.declared.books.Looked.{Looked}
 use Rattle.ftl_core.specs.declared.books.Looked.TheVariants as looked
 use Rattle.ftl_core.specs.declared.books.Pin.{Pin}
-use Rattle.ftl_core.specs.declared.books.Reader.TheVariants as reader
+use Rattle.block_table.specs.declared.rows.Reader.TheVariants as reader
 use Rattle.ftl_core.specs.declared.books.Step.{Step}
 use Rattle.ftl_core.specs.declared.books.Step.TheVariants as step
 use Rattle.ftl_core.specs.declared.books.Waiting.{Waiting}
 use Rattle.ftl_core.specs.declared.books.Waiting.TheVariants as waiting
 use Rattle.ftl_core.specs.Core.{Core}
+pub use Rattle.block_table.specs.Rows.{flight_writes, is_step_flight, is_step_reading, reads_step, writes_page}
+pub use Rattle.block_table.specs.Rows.{writes_step}
 use Rattle.ftl_core.specs.Moves.{has_room_for_groups, is_erasable, is_owed_by, mark_key, may_open, single_tag, started}
 use Rattle.write_cache.specs.Slots.{is_named}
 use Rattle.ftl_core.specs.Moves.{tag_of_page}
@@ -45,44 +47,13 @@ lowest_below test (suc n) = found_or (lowest_below test n) (test n) n
 
 -- What waits
 
--- the job in flight programs the page of a group with this number and index
-abbrev pub flight_writes : ℕ → ℕ → Option Flight → Bool
-flight_writes number index (Some (flight.Group place n i)) = (number == n) && (index == i)
-flight_writes number index _ = false
-
--- the die writes the page of the group with this number that has this index
-abbrev pub writes_page : ℕ → ℕ → Book → Bool
-writes_page number index b = flight_writes number index b.flight
-
--- the job in flight programs the page of the step under way
-abbrev pub is_step_flight : Option Flight → Bool
-is_step_flight (Some (flight.Step place)) = true
-is_step_flight _ = false
-
--- the die writes the page of the step under way
-abbrev pub writes_step : Book → Bool
-writes_step b = is_step_flight b.flight
-
--- the job in flight is the read that the step under way needs
-abbrev pub is_step_reading : Option Flight → Bool
-is_step_reading (Some (flight.Read place reader.Step)) = true
-is_step_reading _ = false
-
--- the die reads for the step under way
-abbrev pub reads_step : Book → Bool
-reads_step b = is_step_reading b.flight
-
 -- the page is neither written nor in flight
-abbrev pub page_waits : List Book → Pending → Bool
-page_waits books p = is_none p.written && not (list_any (writes_page p.number p.index) books)
-
--- the page is neither written nor in flight, judged by the jobs in flight alone
-abbrev pub page_waits_in : List (Option Flight) → Pending → Bool
-page_waits_in flights p = is_none p.written && not (list_any (flight_writes p.number p.index) flights)
+abbrev pub page_waits : List DieRow → Pending → Bool
+page_waits rows p = is_none p.written && not (list_any (writes_page p.number p.index) rows)
 
 -- the pending page that waits first
 abbrev pub page_waiting : Core → Option Pending
-page_waiting c = find (page_waits c.books) c.pages
+page_waiting c = find (page_waits c.rows) c.pages
 
 -- a pending page that waits, by the number of its group and its index
 abbrev pub waiting_page : Pending → Waiting
@@ -97,7 +68,7 @@ is_step_there (Some (step.Copy n k from tag)) = is_some tag
 
 -- the page of the step under way can be programmed, and no die does so yet
 abbrev pub step_waits : Core → Bool
-step_waits c = is_step_there c.step && not (list_any writes_step c.books)
+step_waits c = is_step_there c.step && not (list_any writes_step c.rows)
 
 -- the page of a group that waits first, where there is room for groups
 abbrev pub waiting_group : Core → Option Waiting
@@ -138,7 +109,7 @@ read_of p = option_map (λ place. flight.Read place (reader.Task p.reader p.inde
 
 -- the position of the first reader who is owed the read of a page of this die
 abbrev pub first_owed : Core → ℕ → Option ℕ
-first_owed c die = position (is_owed_by c.books die) c.pins
+first_owed c die = position (is_owed_by c.rows die) c.pins
 
 -- where the page stands that the step under way is still to be read from
 abbrev pub step_wants : Option Step → Option Place
@@ -150,7 +121,7 @@ step_wants s = None
 abbrev pub step_read_at : Core → ℕ → Option Place → Option Flight
 step_read_at c die None = None
 step_read_at c die (Some place) =
-    if not (place.die == die) || list_any reads_step c.books then None else Some (flight.Read place reader.Step)
+    if not (place.die == die) || list_any reads_step c.rows then None else Some (flight.Read place reader.Step)
 
 -- the read that the step under way still needs from this die, if no die does it yet
 abbrev pub step_read : Core → ℕ → Option Flight
@@ -171,8 +142,8 @@ owed_flight c die filling (Some f) = Some f
 -- only data of a unit is programmed as a group, and only what its tag can name
 abbrev pub is_group_page : Pending → Bool
 is_group_page p =
-    (p.key.kind == 1) && nat_le p.key.unit 7 && nat_le 1 p.number && nat_le p.number greatest_number && nat_lt p.index p.size
-    && nat_le p.size group_bound
+    (p.key.kind == 1) && nat_le p.key.unit 7 && nat_le 1 p.number && nat_le p.number greatest_number
+    && nat_lt p.index p.size && nat_le p.size group_bound
 
 -- the page of a pending group
 abbrev pub page_of_group : Core → Place → Pending → Job
@@ -236,23 +207,23 @@ idle_flight c die filling None = owed_flight c die filling (owed_read c die (fir
 idle_flight c die filling (Some f) = None
 
 -- what the die is given, if the device has such a die
-abbrev pub flight_for : Core → ℕ → Option Book → Option Flight
+abbrev pub flight_for : Core → ℕ → Option DieRow → Option Flight
 flight_for c die None = None
 flight_for c die (Some b) = idle_flight c die b.filling b.flight
 
 -- the job that the die is given, for whom it is
 abbrev pub flight_taken : Core → ℕ → Option Flight
-flight_taken c die = flight_for c die (slice_get c.books die)
+flight_taken c die = flight_for c die (slice_get c.rows die)
 
 -- the job that the die is given
 abbrev pub job_taken : Core → ℕ → Option Job
 job_taken c die = option_and_then (job_of c die) (flight_taken c die)
 
 -- the die has this job in flight, if it is told one
-abbrev pub begun_if_any : Core → ℕ → Option Book → Option Flight → Option Job → Core
+abbrev pub begun_if_any : Core → ℕ → Option DieRow → Option Flight → Option Job → Core
 begun_if_any c die (Some b) (Some f) (Some j) = started c die b f
 begun_if_any c die b f j = c
 
 -- what is kept once the die was given its job
 abbrev pub core_taken : Core → ℕ → Core
-core_taken c die = begun_if_any c die (slice_get c.books die) (flight_taken c die) (job_taken c die)
+core_taken c die = begun_if_any c die (slice_get c.rows die) (flight_taken c die) (job_taken c die)

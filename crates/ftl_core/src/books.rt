@@ -1,44 +1,6 @@
-//! What the translation layer writes down of blocks, dies, groups and readers.
-use block_table::OpenBlock;
+//! What the translation layer writes down of readers, of the mending and of its steps.
 use ufs_spec::{Fence, Key, Place, Tag};
 use unit_map::Stored;
-
-/// For whom a page is read: for the block of this index of a reader who waits for it, or for nobody, once
-/// that one let go; or for the step under way.
-#[derive(Clone, Copy, Debug, PartialEq, Eq)]
-pub enum Reader {
-    Task { tag: u8, index: u16 },
-    Step,
-    Nobody,
-}
-
-/// The job in flight on a die: a read; the program of the page of the step under way, or of the page of
-/// this index in the pending group of this number; or an erase.
-#[derive(Clone, Copy, Debug, PartialEq, Eq)]
-pub enum Flight {
-    Read {
-        place: Place,
-        reader: Reader,
-    },
-    Step {
-        place: Place,
-    },
-    Group {
-        place: Place,
-        number: u64,
-        index: u16,
-    },
-    Erase {
-        block: u16,
-    },
-}
-
-/// What is known of a die. An open block always has room.
-#[derive(Clone, Copy, Debug, Default, PartialEq, Eq)]
-pub struct Book {
-    pub filling: Option<OpenBlock>,
-    pub flight: Option<Flight>,
-}
 
 /// What holds the content of an address: nothing (it reads as zeros), the slot of the page of this index
 /// in the pending group of this number, or a page of a die.

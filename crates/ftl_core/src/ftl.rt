@@ -1,9 +1,9 @@
 //! The translation layer and its calls.
 ghost use Rattle.std.specs.Prelude.{◌≡◌, ℕ, ◌<◌, ◌≤◌, ◌+◌, ◌^◌, length, IsTrue, vec_capacity, IfOk, IsSome, IfSome, nat_le, nat_lt, ◌-◌, ◌++◌, ◌∷◌, [], if◌then◌else◌, slice_get, map, filter, not, None, true, option_copied, position, replicate, reverse, Bool, false, find, option_map, fold, List, take};
 ghost use Rattle.std.specs.List.{list_any};
-ghost use Rattle.ftl_core.specs.Moves.{accepted, first_fence, first_mending, idle_book, is_bad_found};
+ghost use Rattle.ftl_core.specs.Moves.{accepted, first_fence, first_mending, idle_row, is_bad_found};
 ghost use Rattle.ftl_core.specs.Moves.{is_over, mark_number_behind, opened, state_of_found};
-ghost use Rattle.ftl_core.specs.Moves.{stored_of_found, slot_of, is_pin_of, is_of_reader, looked_by, pin_of, pin_now, kept_all, next_wanted, unpinned, look_of, stored_of, free_slots, is_locked, has_number, next_number, without_reader, without_block, flight_without, flight_without_block, wanted_now};
+ghost use Rattle.ftl_core.specs.Moves.{stored_of_found, slot_of, is_pin_of, is_of_reader, looked_by, pin_of, pin_now, kept_all, next_wanted, unpinned, look_of, stored_of, free_slots, is_locked, has_number, next_number, without_reader, without_block, wanted_now};
 ghost use Rattle.unit_map.specs.Places.{position_of};
 ghost use Rattle.write_cache.specs.Slots.{is_page_of, key_at, last_of, last_page, is_named};
 ghost use Rattle.ftl_core.specs.Moves.{claims_for, claimed_all, released, filled};
@@ -34,7 +34,7 @@ mod takes;
 mod turns;
 
 use self::pin_counts::{pin_block, unpin_block_of, unpin_blocks};
-use crate::books::{Flight, Looked, Mending, Pin, Reader, Step};
+use crate::books::{Looked, Mending, Pin, Step};
 use block_table::{BlockState, BlockTable, LivePages, Sizes};
 use collector::Plan;
 use geometry::{Config, key_count};
@@ -56,15 +56,13 @@ pub enum Ended {
     Other,
 }
 
-/// The translation layer of a device. What is in flight is in `flights` and nowhere else.
+/// The translation layer of a device. What is in flight is in `blocks` and nowhere else.
 #[derive(Drop)]
 pub struct Ftl {
     /// The configuration, which never changes; it has at most 8 units.
     config: Config,
-    /// What each block is, and which block each die fills.
+    /// What each block is, and of each die which block it fills and which job it has in flight.
     blocks: BlockTable,
-    /// The job in flight of each die.
-    flights: Vec<Option<Flight>>,
     /// Where the durable content of each key is.
     places: UnitMap,
     /// Which pages are live: those where such a content stands, and those written for pending groups;
@@ -178,72 +176,6 @@ fn looked_by(pins: &[Pin], reader: u8, index: u16) -> Option<Looked>
     Some(pin.looked)
 }
 
-/// The job in flight, which is for nobody if it is a read for this reader.
-fn flight_without(flight: Option<Flight>, reader: u8) -> Option<Flight>
-    ensures { result ≡ flight_without reader flight }
-{
-    match flight {
-        Some(
-            Flight::Read {
-                place,
-                reader: Reader::Task { tag, index: _ },
-            },
-        ) => {
-            if tag == reader {
-                Some(Flight::Read {
-                    place,
-                    reader: Reader::Nobody,
-                })
-            } else {
-                flight
-            }
-        }
-        _ => flight,
-    }
-}
-
-/// The job in flight, which is for nobody if it is a read for this block of the reader.
-fn flight_without_block(flight: Option<Flight>, reader: u8, block: u16) -> Option<Flight>
-    ensures { result ≡ flight_without_block reader block flight }
-{
-    match flight {
-        Some(
-            Flight::Read {
-                place,
-                reader: Reader::Task { tag, index },
-            },
-        ) => {
-            if tag == reader && index == block {
-                Some(Flight::Read {
-                    place,
-                    reader: Reader::Nobody,
-                })
-            } else {
-                flight
-            }
-        }
-        _ => flight,
-    }
-}
-
-/// The reads in flight for this reader are for nobody from now on.
-fn forget_reader(flights: &mut [Option<Flight>], reader: u8)
-    ensures { flights.new ≡ map (flight_without reader) flights.old }
-{
-    for flight in flights.iter_mut() {
-        *flight = flight_without(*flight, reader);
-    }
-}
-
-/// The reads in flight for this block of the reader are for nobody from now on.
-fn forget_block(flights: &mut [Option<Flight>], reader: u8, index: u16)
-    ensures { flights.new ≡ map (flight_without_block reader index) flights.old }
-{
-    for flight in flights.iter_mut() {
-        *flight = flight_without_block(*flight, reader, index);
-    }
-}
-
 /// What the blocks are when the layer is opened.
 fn states_of(alloc: Global, blocks: &[FoundBlock]) -> Result<Vec<BlockState>, AllocError>
     ensures { IfOk result (λ v. v.items ≡ map state_of_found blocks.now) }
@@ -263,17 +195,6 @@ fn state_of_found(block: FoundBlock) -> BlockState
         FoundBlock::Closed => BlockState::Closed,
         FoundBlock::Bad => BlockState::Bad,
     }
-}
-
-/// Dies with no job in flight.
-fn idle_flights(alloc: Global, dies: u8) -> Result<Vec<Option<Flight>>, AllocError>
-    ensures { IfOk result (λ v. v.items ≡ replicate dies None) }
-{
-    let mut all = Vec::with_capacity(alloc, dies as usize)?;
-    for _ in 0..dies {
-        all.push(None)?;
-    }
-    Ok(all)
 }
 
 /// Where the content of each key stands when the layer is opened.
@@ -422,7 +343,6 @@ impl Ftl {
         let last = found.greatest_seen.min(GREATEST_NUMBER);
         Ok(Ftl {
             blocks: BlockTable::new(alloc, sizes, states)?,
-            flights: idle_flights(alloc, sizes.dies)?,
             live: live_at(alloc, sizes, places.as_slice(), keys)?,
             places: UnitMap::new(config.copied(), places),
             cache: Cache::new(alloc, slots, last)?,
@@ -676,9 +596,9 @@ impl Ftl {
 
     /// No die reads for the reader any more.
     fn forget(&mut self, reader: u8)
-        ensures { self.new ≡ record self.old { books = map (without_reader reader) self.old.books } }
+        ensures { self.new ≡ record self.old { rows = map (without_reader reader) self.old.rows } }
     {
-        forget_reader(self.flights.as_mut_slice(), reader);
+        self.blocks.forget_reader(reader);
     }
 
     /// The reader keeps this block no more, and wants the next one.
@@ -696,9 +616,9 @@ impl Ftl {
 
     /// No die reads for this block of the reader any more.
     fn forget_one(&mut self, reader: u8, index: u16)
-        ensures { self.new ≡ record self.old { books = map (without_block reader index) self.old.books } }
+        ensures { self.new ≡ record self.old { rows = map (without_block reader index) self.old.rows } }
     {
-        forget_block(self.flights.as_mut_slice(), reader, index);
+        self.blocks.forget_block(reader, index);
     }
 
     /// What is looked at for this block of the reader; `None` where nothing is kept.

@@ -100,7 +100,8 @@ none_bad : (bad test : Spot → Bool) → ((s : Spot) → bad s ≡ false → te
 none_bad bad test only [] e = refl
 none_bad bad test only (s ∷ ss) e = by (bad s) refl e (none_bad bad test only ss)
   where
-    by : (b : Bool) → bad s ≡ b → (b || list_any bad ss) ≡ false → (list_any bad ss ≡ false → list_any test ss ≡ false) →
+    by : (b : Bool) → bad s ≡ b → (b || list_any bad ss) ≡ false →
+        (list_any bad ss ≡ false → list_any test ss ≡ false) →
         (test s || list_any test ss) ≡ false
     by true is f rest = cc
     by false is f rest = ap (λ (x : Bool). x || list_any test ss) (only s is) ∙ rest f

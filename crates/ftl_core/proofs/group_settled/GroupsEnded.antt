@@ -6,8 +6,8 @@ use Rattle.ufs_spec.specs.Moves.{step_after}
 use Rattle.ufs_spec.specs.Translation.{Translation, is_mended, name_of}
 use Rattle.ufs_spec.specs.declared.flash.Tag.{Tag}
 use Rattle.block_table.specs.Lives.{with_live}
-use Rattle.ftl_core.specs.declared.books.Book.{Book}
-use Rattle.block_table.specs.declared.OpenBlock.{OpenBlock}
+use Rattle.block_table.specs.declared.rows.DieRow.{DieRow}
+use Rattle.block_table.specs.declared.rows.OpenBlock.{OpenBlock}
 use Rattle.ftl_core.specs.Core.{Core}
 use Rattle.ftl_core.specs.Describes.{Describes, Kept}
 use Rattle.ftl_core.specs.Ends.{pending_written, settled}
@@ -23,7 +23,7 @@ use Rattle.ftl_core.proofs.group_settled.PageWritten.{with_group_page}
 use Rattle.ftl_core.proofs.look_and_accept.Numbers.{IsRepair, no_repair_mended, step_stays}
 
 -- the page at the position is written
-abbrev pub so_far : (c : Core) (t : Translation) → ℕ → Book → OpenBlock → (tag : Tag) →
+abbrev pub so_far : (c : Core) (t : Translation) → ℕ → DieRow → OpenBlock → (tag : Tag) →
     IsPending c t.ledger (name_of tag) → Core
 so_far c t die b o tag at =
     page_written (record c {
@@ -32,7 +32,7 @@ so_far c t die b o tag at =
       live = with_live c.live (next_place die o) true;
     }) die b (Some o)
 
-module _ (c : Core) (t : Translation) (die : ℕ) (b : Book) (o : OpenBlock) (tag : Tag) (body : List ℕ)
+module _ (c : Core) (t : Translation) (die : ℕ) (b : DieRow) (o : OpenBlock) (tag : Tag) (body : List ℕ)
     (h : Describes c t) (f : IsGroupFlight c t die b o tag body) where
   right : GroupsRight t.numbers t.ledger
   right = groups_right t h.valid

@@ -16,10 +16,10 @@ use Rattle.power_loss.proofs.ordered_lists.ElementsAndOrders.{IsIn}
 use Rattle.write_cache.specs.declared.slots.Pending.{Pending}
 use Rattle.block_table.specs.Lives.{with_live}
 use Rattle.unit_map.specs.declared.Stored.{Stored}
-use Rattle.block_table.specs.declared.OpenBlock.{OpenBlock}
-use Rattle.ftl_core.specs.declared.books.Book.{Book}
-use Rattle.ftl_core.specs.declared.books.Flight.{Flight}
-use Rattle.ftl_core.specs.declared.books.Flight.TheVariants as flight
+use Rattle.block_table.specs.declared.rows.OpenBlock.{OpenBlock}
+use Rattle.block_table.specs.declared.rows.DieRow.{DieRow}
+use Rattle.block_table.specs.declared.rows.Flight.{Flight}
+use Rattle.block_table.specs.declared.rows.Flight.TheVariants as flight
 use Rattle.ftl_core.specs.declared.books.Step.{Step}
 use Rattle.ufs_spec.specs.Cells.{GroupPage}
 use Rattle.ftl_core.specs.Core.{Core}
@@ -142,16 +142,16 @@ ledger_written n places pages frontier last l name place k p h new at named = re
 }
 
 -- the page that one die wrote flies no more
-pub fly_written : (standing : Standing) (flights : ℕ → Option disk.Flight) (die : ℕ) (books : List Book)
-    (filling : Option OpenBlock) (name : Name) (p : Place) → PagesFly standing flights books →
-    ((d : ℕ) (m : Name) → WritesGroup books d m.number m.index → flies_name m (flights d) ≡ true) →
+pub fly_written : (standing : Standing) (flights : ℕ → Option disk.Flight) (die : ℕ) (rows : List DieRow)
+    (filling : Option OpenBlock) (name : Name) (p : Place) → PagesFly standing flights rows →
+    ((d : ℕ) (m : Name) → WritesGroup rows d m.number m.index → flies_name m (flights d) ≡ true) →
     flies_name name (flights die) ≡ true →
     PagesFly (at_name standing name (Some p)) (at_die flights die None)
-    (slice_set books die (record { filling = filling; flight = None }))
-fly_written standing flights die books filling name p h flies flown = record {
-  one = (fly_over standing flights die books filling h).one;
+    (slice_set rows die (record { filling = filling; flight = None }))
+fly_written standing flights die rows filling name p h flies flown = record {
+  one = (fly_over standing flights die rows filling h).one;
   new = λ d number index w.
-      let before = wrote_before books die filling d number index w in
+      let before = wrote_before rows die filling d number index w in
       let m : Name = record { number = number; index = index } in
       ⊎_elim
       (λ (e : (same_name m name ≡ true) × (m ≡ name)).
@@ -180,7 +180,7 @@ group_flies n step die number index place filling f g is h = by g (subst
     by g h = absurd h
 
 pub writers_fly : (c : Core) (t : Translation) → Kept c t → (d : ℕ) (m : Name) →
-    WritesGroup c.books d m.number m.index → flies_name m (t.disk.flights d) ≡ true
+    WritesGroup c.rows d m.number m.index → flies_name m (t.disk.flights d) ≡ true
 writers_fly c t k d m w =
     group_flies t.numbers c.step d m.number m.index w.place w.book.filling w.book.flight (t.disk.flights d) w.job
     (k.dies.each d w.book w.there).job

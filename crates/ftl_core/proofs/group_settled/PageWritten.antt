@@ -22,9 +22,9 @@ use Rattle.power_loss.proofs.ordered_lists.ElementsAndOrders.{IsIn}
 use Rattle.block_table.specs.Lives.{with_live}
 use Rattle.block_table.specs.declared.BlockState.{BlockState}
 use Rattle.block_table.specs.declared.BlockState.TheVariants as state
-use Rattle.ftl_core.specs.declared.books.Book.{Book}
-use Rattle.ftl_core.specs.declared.books.Flight.TheVariants as flight
-use Rattle.block_table.specs.declared.OpenBlock.{OpenBlock}
+use Rattle.block_table.specs.declared.rows.DieRow.{DieRow}
+use Rattle.block_table.specs.declared.rows.Flight.TheVariants as flight
+use Rattle.block_table.specs.declared.rows.OpenBlock.{OpenBlock}
 use Rattle.write_cache.specs.declared.slots.Pending.{Pending}
 use Rattle.ftl_core.specs.Core.{Core}
 use Rattle.ftl_core.specs.Describes.{BlocksKept, Describes, IsFilling, Kept, WorkKept, names_pending, spot_at}
@@ -49,9 +49,9 @@ with_group_page t p tag body = record t {
 }
 
 -- a page of a group is in flight to the next page of the die's open block
-pub record IsGroupFlight (c : Core) (t : Translation) (die : ℕ) (b : Book) (o : OpenBlock) (tag : Tag)
+pub record IsGroupFlight (c : Core) (t : Translation) (die : ℕ) (b : DieRow) (o : OpenBlock) (tag : Tag)
     (body : List ℕ) : Type 0 where
-  pub there : slice_get c.books die ≡ Some b
+  pub there : slice_get c.rows die ≡ Some b
   pub filling : b.filling ≡ Some o
   pub flies : t.disk.flights die ≡ Some (disk.Programming (next_place die o) (GroupPage tag body))
   pub job : b.flight ≡ Some (flight.Group (next_place die o) tag.number tag.index)
@@ -60,14 +60,14 @@ pub record IsGroupFlight (c : Core) (t : Translation) (die : ℕ) (b : Book) (o 
 -- Which page it is
 
 -- it does not stand yet
-pub flown_new : (c : Core) (t : Translation) (die : ℕ) (b : Book) (o : OpenBlock) (tag : Tag) (body : List ℕ) →
+pub flown_new : (c : Core) (t : Translation) (die : ℕ) (b : DieRow) (o : OpenBlock) (tag : Tag) (body : List ℕ) →
     Kept c t → IsGroupFlight c t die b o tag body →
     t.ledger.standing tag.number tag.index ≡ None
 flown_new c t die b o tag body k f = k.fly.new die tag.number tag.index
     (record { book = b; there = f.there; place = next_place die o; job = f.job })
 
 -- so its group is above the frontier
-flown_above : (c : Core) (t : Translation) (die : ℕ) (b : Book) (o : OpenBlock) (tag : Tag) (body : List ℕ) →
+flown_above : (c : Core) (t : Translation) (die : ℕ) (b : DieRow) (o : OpenBlock) (tag : Tag) (body : List ℕ) →
     Describes c t → IsGroupFlight c t die b o tag body → t.ledger.frontier < tag.number
 flown_above c t die b o tag body h f =
     let known = h.valid.flights.known die (next_place die o) tag body f.flies in
@@ -95,7 +95,7 @@ none_above t v none e = by t.work.mending v.mending e
     by Mended r e = cc
 
 -- so the device is mended
-pub flown_mended : (c : Core) (t : Translation) (die : ℕ) (b : Book) (o : OpenBlock) (tag : Tag) (body : List ℕ) →
+pub flown_mended : (c : Core) (t : Translation) (die : ℕ) (b : DieRow) (o : OpenBlock) (tag : Tag) (body : List ℕ) →
     Describes c t → IsGroupFlight c t die b o tag body → is_mended t.work.mending ≡ true
 flown_mended c t die b o tag body h f =
     let known = h.valid.flights.known die (next_place die o) tag body f.flies in
@@ -103,7 +103,8 @@ flown_mended c t die b o tag body h f =
     let within = page_within (book t) tag.number tag.index _ known in
     ⊎_elim (λ e. e)
     (λ e.
-    let last = none_above t h.valid (beside_none t.ledger c.step c.content t.work.step h.kept.work.step_is f.beside) e in
+    let last = none_above t h.valid
+    (beside_none t.ledger c.step c.content t.work.step h.kept.work.step_is f.beside) e in
     absurd (omega (arith, above, within, last)))
     (two_ways (is_mended t.work.mending))
 
@@ -130,7 +131,7 @@ pending_of c t name e h mended above known =
     index top frontier n low l = omega arith
 
 -- so is the page in flight
-pub flown_pending : (c : Core) (t : Translation) (die : ℕ) (b : Book) (o : OpenBlock) (tag : Tag) (body : List ℕ) →
+pub flown_pending : (c : Core) (t : Translation) (die : ℕ) (b : DieRow) (o : OpenBlock) (tag : Tag) (body : List ℕ) →
     Describes c t → IsGroupFlight c t die b o tag body → IsPending c t.ledger (name_of tag)
 flown_pending c t die b o tag body h f =
     pending_of c t (name_of tag) _ h (flown_mended c t die b o tag body h f) (flown_above c t die b o tag body h f)
@@ -146,7 +147,7 @@ written_at t die o tag body x = record (with_group_page t (next_place die o) tag
   };
 }
 
-module _ (c : Core) (t : Translation) (die : ℕ) (b : Book) (o : OpenBlock) (tag : Tag) (body : List ℕ) (j : ℕ)
+module _ (c : Core) (t : Translation) (die : ℕ) (b : DieRow) (o : OpenBlock) (tag : Tag) (body : List ℕ) (j : ℕ)
     (p : Pending)
     (h : Describes c t) (f : IsGroupFlight c t die b o tag body) (at : slice_get c.pages j ≡ Some p)
     (named : slice_get (names_pending t.ledger) j ≡ Some (name_of tag)) (mended : is_mended t.work.mending ≡ true) where
@@ -164,7 +165,7 @@ module _ (c : Core) (t : Translation) (die : ℕ) (b : Book) (o : OpenBlock) (ta
       Kept
       (record c {
         states = states;
-        books = slice_set c.books die (record { filling = filling; flight = None });
+        rows = slice_set c.rows die (record { filling = filling; flight = None });
         pages = slice_set c.pages j (record p { written = Some (next_place die o) });
         live = with_live c.live (next_place die o) true;
       })
@@ -173,9 +174,9 @@ module _ (c : Core) (t : Translation) (die : ℕ) (b : Book) (o : OpenBlock) (ta
     numbers = h.kept.numbers;
     blocks = blocks;
     dies = dies_put t.numbers t.disk.blocks (at_spot t.disk.blocks (spot_at die o.block) x) t.disk.flights
-        c.step c.books die b (record { filling = filling; flight = None }) None h.kept.dies f.there
+        c.step c.rows die b (record { filling = filling; flight = None }) None h.kept.dies f.there
         (elsewhere t.disk.blocks die o.block x) (record { filling = is_open; job = tt });
-    fly = fly_written t.ledger.standing t.disk.flights die c.books filling (name_of tag) (next_place die o) h.kept.fly
+    fly = fly_written t.ledger.standing t.disk.flights die c.rows filling (name_of tag) (next_place die o) h.kept.fly
         (writers_fly c t h.kept) (ap (flies_name (name_of tag)) f.flies ∙ name_self (name_of tag));
     ledger_kept = ledger_written c.numbers c.places c.pages c.frontier c.last t.ledger (name_of tag)
         (next_place die o) j p h.kept.ledger_kept (flown_new c t die b o tag body h.kept f) at named;

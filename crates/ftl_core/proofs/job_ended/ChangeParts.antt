@@ -14,33 +14,33 @@ use Rattle.power_loss.proofs.books.SmallFacts.{at_spot_cases, if_false, if_true}
 use Rattle.ftl_core.specs.Core.{Core}
 use Rattle.block_table.specs.declared.BlockState.{BlockState}
 use Rattle.block_table.specs.declared.BlockState.TheVariants as state
-use Rattle.ftl_core.specs.declared.books.Book.{Book}
+use Rattle.block_table.specs.declared.rows.DieRow.{DieRow}
 use Rattle.ftl_core.specs.declared.books.Mending.{Mending}
-use Rattle.block_table.specs.declared.OpenBlock.{OpenBlock}
+use Rattle.block_table.specs.declared.rows.OpenBlock.{OpenBlock}
 use Rattle.write_cache.specs.declared.slots.Pending.{Pending}
 use Rattle.ftl_core.specs.declared.books.Step.{Step}
 use Rattle.unit_map.specs.declared.Stored.{Stored}
 use Rattle.ftl_core.specs.Describes.{BlocksKept, IsFilling, IsFlight, Kept, LedgerKept, PagesFly, PinsKept}
 use Rattle.ftl_core.specs.Describes.{StepReadsKept, WorkKept, block_kept, spot_at}
-use Rattle.ftl_core.specs.Moves.{page_written, with_book, with_state}
+use Rattle.ftl_core.specs.Moves.{page_written, with_row, with_state}
 use Rattle.ftl_core.proofs.job_taken.Flown.{dies_changed, reads_over, step_reads_over}
 use Rattle.ftl_core.proofs.opened.Spots.{block_lost, block_put}
 
 -- The job that ends
 
-pub filling_kept : (c : Core) (t : Translation) (die : ℕ) (b : Book) (o : Option OpenBlock) → Kept c t →
-    slice_get c.books die ≡ Some b → b.filling ≡ o → IsFilling t.numbers t.disk.blocks die o
+pub filling_kept : (c : Core) (t : Translation) (die : ℕ) (b : DieRow) (o : Option OpenBlock) → Kept c t →
+    slice_get c.rows die ≡ Some b → b.filling ≡ o → IsFilling t.numbers t.disk.blocks die o
 filling_kept c t die b o k there is =
     subst (λ (x : Option OpenBlock). IsFilling t.numbers t.disk.blocks die x) is (k.dies.each die b there).filling
 
 -- What is known once it ended
 
 -- some of what is kept is other than it was
-abbrev pub changed : Core → List BlockState → List Book → Bool → List Pending → Mending → Option Step → ℕ → Core
-changed c states books has_bad pages mending step next =
+abbrev pub changed : Core → List BlockState → List DieRow → Bool → List Pending → Mending → Option Step → ℕ → Core
+changed c states rows has_bad pages mending step next =
     record c {
       states = states;
-      books = books;
+      rows = rows;
       has_bad = has_bad;
       pages = pages;
       mending = mending;
@@ -53,8 +53,8 @@ abbrev pub states_with : Core → ℕ → ℕ → BlockState → List BlockState
 states_with c die block s = slice_set c.states (die * c.numbers.blocks + block) s
 
 -- one die has no job, and this open block
-abbrev pub books_with : Core → ℕ → Option OpenBlock → List Book
-books_with c die f = slice_set c.books die record { filling = f; flight = None }
+abbrev pub rows_with : Core → ℕ → Option OpenBlock → List DieRow
+rows_with c die f = slice_set c.rows die record { filling = f; flight = None }
 
 -- the same of the device
 abbrev pub blocks_with : Translation → ℕ → ℕ → disk.BlockState → Spot → disk.BlockState
@@ -82,33 +82,33 @@ elsewhere blocks die block x s apart = ⊎_elim (λ h. absurd (apart (ap (λ (z 
     (at_spot_cases blocks (spot_at die block) x s)
 
 -- the jobs of the other dies suit the step that is then under way
-abbrev pub StepSuits : Numbers → Option Step → Option Step → ℕ → List Book → (ℕ → Option disk.Flight) → Type 0
-StepSuits n step after die books flights =
-    (e : ℕ) (y : Book) → e ≢ die → slice_get books e ≡ Some y → IsFlight n step e y.filling y.flight (flights e) →
+abbrev pub StepSuits : Numbers → Option Step → Option Step → ℕ → List DieRow → (ℕ → Option disk.Flight) → Type 0
+StepSuits n step after die rows flights =
+    (e : ℕ) (y : DieRow) → e ≢ die → slice_get rows e ≡ Some y → IsFlight n step e y.filling y.flight (flights e) →
     IsFlight n after e y.filling y.flight (flights e)
 
 -- the job of one die ended that was no read: the pins are as they were, one block has another state, and the step may
 -- be another
-pub kept_beside : (c : Core) (t : Translation) (die block : ℕ) (b : Book) (x : disk.BlockState) (f : Option OpenBlock)
+pub kept_beside : (c : Core) (t : Translation) (die block : ℕ) (b : DieRow) (x : disk.BlockState) (f : Option OpenBlock)
     (states : List BlockState) (has_bad : Bool) (pages : List Pending) (mending : Mending) (step : Option Step)
     (next : ℕ) (cells : Cells) (finished : Place → Bool) (erasing : Spot → Bool) (ledger : Ledger) (work : Work) →
-    Kept c t → slice_get c.books die ≡ Some b →
+    Kept c t → slice_get c.rows die ≡ Some b →
     BlocksKept t.numbers (blocks_with t die block x) states has_bad →
     IsFilling t.numbers (blocks_with t die block x) die f →
-    PagesFly ledger.standing (at_die t.disk.flights die None) (books_with c die f) →
+    PagesFly ledger.standing (at_die t.disk.flights die None) (rows_with c die f) →
     LedgerKept c.numbers c.places pages c.frontier c.last ledger →
     WorkKept mending (drop c.repaired c.lost) step c.content next work ledger →
     PinsKept ledger.frontier (entry_of ledger) c.pins t.pins →
-    StepSuits t.numbers c.step step die c.books t.disk.flights →
+    StepSuits t.numbers c.step step die c.rows t.disk.flights →
     StepReadsKept (at_die t.disk.flights die None) step → work.plan ≡ t.work.plan →
     (is_mended work.mending ≡ false → c.pins ≡ []) →
-    Kept (changed c states (books_with c die f) has_bad pages mending step next)
+    Kept (changed c states (rows_with c die f) has_bad pages mending step next)
     (over t die (blocks_with t die block x) cells finished erasing ledger work)
 kept_beside c t die block b x f states has_bad pages mending step next cells finished erasing ledger work k there bs fs
     flies ls ws ps suits reads plan readers = record {
       numbers = k.numbers;
       blocks = bs;
-      dies = dies_changed t.numbers t.disk.blocks (blocks_with t die block x) t.disk.flights c.step step c.books die b
+      dies = dies_changed t.numbers t.disk.blocks (blocks_with t die block x) t.disk.flights c.step step c.rows die b
           (record { filling = f; flight = None }) None k.dies there (elsewhere t.disk.blocks die block x) suits
           (record { filling = fs; job = tt });
       fly = flies;
@@ -124,18 +124,18 @@ kept_beside c t die block b x f states has_bad pages mending step next cells fin
     }
 
 -- the same where the step and the mending stay
-pub kept_over : (c : Core) (t : Translation) (die block : ℕ) (b : Book) (x : disk.BlockState) (f : Option OpenBlock)
+pub kept_over : (c : Core) (t : Translation) (die block : ℕ) (b : DieRow) (x : disk.BlockState) (f : Option OpenBlock)
     (states : List BlockState) (has_bad : Bool) (pages : List Pending)
     (cells : Cells) (finished : Place → Bool) (erasing : Spot → Bool) (ledger : Ledger) (work : Work) →
-    Kept c t → slice_get c.books die ≡ Some b →
+    Kept c t → slice_get c.rows die ≡ Some b →
     BlocksKept t.numbers (blocks_with t die block x) states has_bad →
     IsFilling t.numbers (blocks_with t die block x) die f →
-    PagesFly ledger.standing (at_die t.disk.flights die None) (books_with c die f) →
+    PagesFly ledger.standing (at_die t.disk.flights die None) (rows_with c die f) →
     LedgerKept c.numbers c.places pages c.frontier c.last ledger →
     WorkKept c.mending (drop c.repaired c.lost) c.step c.content c.next_mark work ledger →
     PinsKept ledger.frontier (entry_of ledger) c.pins t.pins → work.plan ≡ t.work.plan →
     (is_mended work.mending ≡ false → c.pins ≡ []) →
-    Kept (changed c states (books_with c die f) has_bad pages c.mending c.step c.next_mark)
+    Kept (changed c states (rows_with c die f) has_bad pages c.mending c.step c.next_mark)
     (over t die (blocks_with t die block x) cells finished erasing ledger work)
 kept_over c t die block b x f states has_bad pages cells finished erasing ledger work k there bs fs flies ls ws ps
     plan readers =
@@ -216,11 +216,11 @@ page_ways pages next within = ⊎_elim
     before_end next pages l apart = let low : next < pages - 1 = omega arith in lt-ltb next (pages - 1) low
 
 -- a page is written: the open block goes on, or is closed with its last page
-pub page_ends : (now : Core) (die : ℕ) (b : Book) (o : OpenBlock) (pages : ℕ) (u : disk.BlockState → Translation) →
+pub page_ends : (now : Core) (die : ℕ) (b : DieRow) (o : OpenBlock) (pages : ℕ) (u : disk.BlockState → Translation) →
     now.numbers.pages ≡ pages → o.next < pages →
-    Kept (with_book now die record { filling = Some (record { block = o.block; next = o.next + 1 }); flight = None })
+    Kept (with_row now die record { filling = Some (record { block = o.block; next = o.next + 1 }); flight = None })
     (u (disk.Filling (o.next + 1))) →
-    Kept (with_book (with_state now die o.block state.Closed) die record { filling = None; flight = None })
+    Kept (with_row (with_state now die o.block state.Closed) die record { filling = None; flight = None })
     (u disk.Closed) →
     Kept (page_written now die b (Some o)) (u (state_after pages o.next))
 page_ends now die b o pages u same within on last = ⊎_elim
@@ -239,10 +239,10 @@ page_ends now die b o pages u same within on last = ⊎_elim
     (page_ways pages o.next within)
   where
     more : Core
-    more = with_book now die record { filling = Some (record { block = o.block; next = o.next + 1 }); flight = None }
+    more = with_row now die record { filling = Some (record { block = o.block; next = o.next + 1 }); flight = None }
 
     full : Core
-    full = with_book (with_state now die o.block state.Closed) die record { filling = None; flight = None }
+    full = with_row (with_state now die o.block state.Closed) die record { filling = None; flight = None }
 
 -- Dies
 

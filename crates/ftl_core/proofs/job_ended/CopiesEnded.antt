@@ -12,7 +12,7 @@ use Rattle.ufs_spec.specs.Ledger.{Entry, Ledger, Name, entry_of}
 use Rattle.ufs_spec.specs.Moves as moves
 use Rattle.ufs_spec.specs.Moves.{step_after}
 use Rattle.ufs_spec.specs.Translation as layer
-use Rattle.ufs_spec.specs.Translation.{CopyStep, Mended, Translation, flies_name, is_bad, is_mended, name_of}
+use Rattle.ufs_spec.specs.Translation.{CopyStep, Translation, flies_name, is_bad, is_mended, name_of}
 use Rattle.ufs_spec.specs.declared.configs.Numbers.{Numbers}
 use Rattle.ufs_spec.specs.declared.flash.Key.{Key}
 use Rattle.ufs_spec.specs.declared.flash.Place.{Place}
@@ -22,12 +22,12 @@ use Rattle.power_loss.proofs.books.SmallFacts.{if_false, if_true, name_self}
 use Rattle.block_table.specs.Lives.{Lives}
 use Rattle.block_table.specs.declared.BlockState.{BlockState}
 use Rattle.block_table.specs.declared.BlockState.TheVariants as state
-use Rattle.block_table.specs.declared.OpenBlock.{OpenBlock}
+use Rattle.block_table.specs.declared.rows.OpenBlock.{OpenBlock}
 use Rattle.unit_map.specs.Places.{places_noted, position_of}
 use Rattle.unit_map.specs.declared.Stored.{Stored}
 use Rattle.write_cache.specs.Slots.{is_named}
 use Rattle.write_cache.specs.declared.slots.Pending.{Pending}
-use Rattle.ftl_core.specs.declared.books.Book.{Book}
+use Rattle.block_table.specs.declared.rows.DieRow.{DieRow}
 use Rattle.ftl_core.specs.declared.books.Step.{Step}
 use Rattle.ftl_core.specs.declared.books.Step.TheVariants as steps
 use Rattle.ftl_core.specs.Core.{Core}
@@ -41,7 +41,7 @@ use Rattle.ftl_core.proofs.group_settled.FrontDurable.{MayClimb, all_settled, cl
 use Rattle.ftl_core.proofs.group_settled.FrontLedger.{GroupsRight, groups_right}
 use Rattle.ftl_core.proofs.group_settled.PageStands.{IsPending, fly_written, with_page, writers_fly}
 use Rattle.ftl_core.proofs.group_settled.PageWritten.{with_group_page, written_at}
-use Rattle.ftl_core.proofs.job_ended.ChangeParts.{blocks_on, blocks_put, books_with, closed_fills, elsewhere}
+use Rattle.ftl_core.proofs.job_ended.ChangeParts.{blocks_on, blocks_put, rows_with, closed_fills, elsewhere}
 use Rattle.ftl_core.proofs.job_ended.ChangeParts.{filling_kept, page_ends, states_with}
 use Rattle.ftl_core.proofs.job_ended.CopyLedger.{found, is_key, ledger_left, ledger_moved, ledger_pending, now_written}
 use Rattle.ftl_core.proofs.job_ended.CopyLedger.{pages_are, pending_page}
@@ -77,8 +77,8 @@ copy_of l n k from read content None h = absurd h
 copy_of l n k from read content (Some s) h =
     record { name = h.0; step = ap (λ (z : layer.Step). Some z) h.1; right = h.2 }
 
-module _ (c : Core) (t : Translation) (die : ℕ) (b : Book) (o : OpenBlock) (tag : Tag) (body : List ℕ) (n : ℕ) (k : Key)
-    (from : Place) (read : Tag) (h : Describes c t) (there : slice_get c.books die ≡ Some b)
+module _ (c : Core) (t : Translation) (die : ℕ) (b : DieRow) (o : OpenBlock) (tag : Tag) (body : List ℕ) (n : ℕ) (k : Key)
+    (from : Place) (read : Tag) (h : Describes c t) (there : slice_get c.rows die ≡ Some b)
     (fills : b.filling ≡ Some o)
     (flies : t.disk.flights die ≡ Some (disk.Programming (next_place die o) (GroupPage tag body)))
     (step : c.step ≡ Some (steps.Copy n k from (Some read))) (page : IsStepCell c.step (GroupPage tag body)) where
@@ -130,16 +130,16 @@ module _ (c : Core) (t : Translation) (die : ℕ) (b : Book) (o : OpenBlock) (ta
     kept_copied : (x : disk.BlockState) (states : List BlockState) (filling : Option OpenBlock) →
         BlocksKept t.numbers (at_spot t.disk.blocks (spot_at die o.block) x) states c.has_bad →
         IsFilling t.numbers (at_spot t.disk.blocks (spot_at die o.block) x) die filling →
-        Kept (record now { states = states; books = books_with c die filling }) (written_at t die o tag body x)
+        Kept (record now { states = states; rows = rows_with c die filling }) (written_at t die o tag body x)
     kept_copied x states filling blocks is_open = record {
       numbers = h.kept.numbers;
       blocks = blocks;
       dies = dies_changed t.numbers t.disk.blocks (at_spot t.disk.blocks (spot_at die o.block) x) t.disk.flights
-          c.step None c.books die b (record { filling = filling; flight = None }) None h.kept.dies there
+          c.step None c.rows die b (record { filling = filling; flight = None }) None h.kept.dies there
           (elsewhere t.disk.blocks die o.block x)
           (suits_next c t die place (GroupPage tag body) h flies page None refl)
           (record { filling = is_open; job = tt });
-      fly = fly_written t.ledger.standing t.disk.flights die c.books filling name place h.kept.fly
+      fly = fly_written t.ledger.standing t.disk.flights die c.rows filling name place h.kept.fly
           (writers_fly c t h.kept) (ap (flies_name name) flies ∙ name_self name);
       ledger_kept = ledger;
       work = record {
@@ -331,7 +331,8 @@ module _ (c : Core) (t : Translation) (die : ℕ) (b : Book) (o : OpenBlock) (ta
         pages = s.pages;
         live = s.live;
         is = if_true (nat_le n c.frontier) (copy_durable (record c { step = None }) n k place (stored_of c k))
-            (copy_pending (record c { step = None }) n read.index place (find (is_named n read.index) c.pages)) e ∙ s.is;
+            (copy_pending (record c { step = None }) n read.index place (find (is_named n read.index) c.pages)) e
+            ∙ s.is;
         ledger = s.ledger;
         all = s.all;
       }
@@ -344,7 +345,8 @@ module _ (c : Core) (t : Translation) (die : ℕ) (b : Book) (o : OpenBlock) (ta
         pages = s.pages;
         live = s.live;
         is = if_false (nat_le n c.frontier) (copy_durable (record c { step = None }) n k place (stored_of c k))
-            (copy_pending (record c { step = None }) n read.index place (find (is_named n read.index) c.pages)) e ∙ s.is;
+            (copy_pending (record c { step = None }) n read.index place (find (is_named n read.index) c.pages)) e
+            ∙ s.is;
         ledger = s.ledger;
         all = s.all;
       }

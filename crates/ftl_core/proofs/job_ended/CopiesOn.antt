@@ -12,12 +12,10 @@ use Rattle.ufs_spec.specs.Disk.{same_spot, spot_of}
 use Rattle.ufs_spec.specs.Ledger.{Name}
 use Rattle.ufs_spec.specs.Moves as moves
 use Rattle.ufs_spec.specs.Translation as layer
-use Rattle.ufs_spec.specs.Moves.{EndJob, Ending, MayEnd, ReadRight, ReadWrong, WentWell, WentWrong, end_flight, is_kind_of}
-use Rattle.ufs_spec.specs.Moves.{job_ended, mark_again, moved, step_after, step_there}
-use Rattle.ufs_spec.specs.Translation.{CopyStep, Order, OrderCopy, OrderMark, OrderPlanMark, OrderRepair, Step}
-use Rattle.ufs_spec.specs.Translation.{StepKind, Translation, Want}
-use Rattle.ufs_spec.specs.Translation.{copy_begun, due_order, has_mark_number, mark_ordered, name_of, repair_ordered}
-use Rattle.ufs_spec.specs.Translation.{stepped, want_at, wants_of_step, with_plan}
+use Rattle.ufs_spec.specs.Moves.{EndJob, Ending, MayEnd, ReadRight, ReadWrong, WentWell, WentWrong, end_flight}
+use Rattle.ufs_spec.specs.Moves.{is_kind_of, job_ended, mark_again, moved, step_after, step_there}
+use Rattle.ufs_spec.specs.Translation.{CopyStep, Step, StepKind, Translation, Want, has_mark_number, mark_ordered}
+use Rattle.ufs_spec.specs.Translation.{name_of, want_at, wants_of_step}
 use Rattle.ufs_spec.specs.declared.flash.Fence.{Fence}
 use Rattle.ufs_spec.specs.declared.flash.Place.{Place}
 use Rattle.ufs_spec.specs.declared.flash.Tag.{Tag}

@@ -89,7 +89,8 @@ module _ (c : Core) (t : Translation) (h : Describes c t) (name : Name) (k : Key
 
   -- the names of pending pages are above the frontier
   pending_above : (j : ℕ) (m : Name) → slice_get (names_pending t.ledger) j ≡ Some m → t.ledger.frontier < m.number
-  pending_above j m at = (in_names t.ledger.frontier (pending t.ledger) m (at_has (names_pending t.ledger) j m at)).above
+  pending_above j m at = (in_names t.ledger.frontier (pending t.ledger) m
+      (at_has (names_pending t.ledger) j m at)).above
 
   pages_stay : name.number ≤ t.ledger.frontier →
       PagesKept (with_page t.ledger name place).standing (entry_of t.ledger) c.pages (names_pending t.ledger)

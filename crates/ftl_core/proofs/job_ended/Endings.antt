@@ -14,17 +14,17 @@ use Rattle.ufs_spec.specs.declared.flash.Tag.{Tag}
 use Rattle.ufs_spec.specs.declared.flash.Outcome.TheVariants as outcome
 use Rattle.page_tag.specs.Jobs.{IsTagRead}
 use Rattle.power_loss.proofs.moves.MovesKeepValid.{all_keep}
-use Rattle.ftl_core.specs.declared.books.Book.{Book}
-use Rattle.ftl_core.specs.declared.books.Flight.{Flight}
-use Rattle.ftl_core.specs.declared.books.Flight.TheVariants as flight
-use Rattle.ftl_core.specs.declared.books.Reader as kept
-use Rattle.ftl_core.specs.declared.books.Reader.TheVariants as readers
+use Rattle.block_table.specs.declared.rows.DieRow.{DieRow}
+use Rattle.block_table.specs.declared.rows.Flight.{Flight}
+use Rattle.block_table.specs.declared.rows.Flight.TheVariants as flight
+use Rattle.block_table.specs.declared.rows.Reader as kept
+use Rattle.block_table.specs.declared.rows.Reader.TheVariants as readers
 use Rattle.ftl_core.specs.declared.ftl.Ended.{Ended}
 use Rattle.ftl_core.specs.declared.ftl.Ended.TheVariants as ended
 use Rattle.ftl_core.specs.Core.{Core}
 use Rattle.ftl_core.specs.Describes.{Describes, IsStepCell, IsTold, Kept, spot_at}
 use Rattle.ftl_core.specs.Moves.{repairs_in}
-use Rattle.ftl_core.specs.Done.{BookEnds, FlightEnds, IsBookAfter, IsCoreEnded, IsEnded, IsFlightAfter}
+use Rattle.ftl_core.specs.Done.{RowEnds, FlightEnds, IsRowAfter, IsCoreEnded, IsEnded, IsFlightAfter}
 use Rattle.ftl_core.specs.Gives.{GivesIf, IsReadAfter, is_read, other_for}
 use Rattle.ftl_core.specs.Gives as gives
 use Rattle.ftl_core.proofs.job_ended.ChangesEnded.{erase_ends_well, erase_ends_wrong, page_ends_wrong}
@@ -34,7 +34,7 @@ use Rattle.ftl_core.proofs.job_ended.StepContent.{step_read_ends}
 use Rattle.ftl_core.proofs.job_ended.StepsEnded.{step_ends_well, step_ends_wrong}
 use Rattle.ftl_core.proofs.group_settled.GroupsEnded.{group_ends_well}
 use Rattle.ftl_core.specs.Takes.{next_place}
-use Rattle.block_table.specs.declared.OpenBlock.{OpenBlock}
+use Rattle.block_table.specs.declared.rows.OpenBlock.{OpenBlock}
 use Rattle.ftl_core.proofs.job_taken.NextStarts.{outside}
 use Rattle.ftl_core.proofs.job_ended.ReadsEnded.{idle_kept, read_ends, task_kept}
 use Rattle.ftl_core.proofs.job_ended.ReadsGiven.{lost_told, step_told, task_told}
@@ -64,14 +64,14 @@ erase_ends P cells s well wrong outcome.ReadFailed ending is = absurd (false≢t
 erase_ends P cells s well wrong o ending is = absurd is.1
 
 -- a die without a book has no job
-no_book : (c : Core) (t : Translation) (die : ℕ) → Describes c t → slice_get c.books die ≡ None →
+no_row : (c : Core) (t : Translation) (die : ℕ) → Describes c t → slice_get c.rows die ≡ None →
     t.disk.flights die ≡ None
-no_book c t die h there = h.kept.dies.no_more die (outside c t die h.kept there)
+no_row c t die h there = h.kept.dies.no_more die (outside c t die h.kept there)
 
 -- What is kept
 
-kept_then : (c : Core) (t : Translation) (die : ℕ) (o : Outcome) (tag : Option Tag) (ending : Ending) (b : Book)
-    (after : Core) → IsTagRead o tag → Describes c t → slice_get c.books die ≡ Some b →
+kept_then : (c : Core) (t : Translation) (die : ℕ) (o : Outcome) (tag : Option Tag) (ending : Ending) (b : DieRow)
+    (after : Core) → IsTagRead o tag → Describes c t → slice_get c.rows die ≡ Some b →
     IsEndingOf t.disk.cells (t.disk.flights die) o ending →
     IsFlightAfter c die b b.flight o tag after → Kept after (moved t (EndJob die ending))
 kept_then c t die o tag ending b after found h there is new =
@@ -134,12 +134,12 @@ kept_then c t die o tag ending b after found h there is new =
         (λ left e. same _ _ (erase_ends_wrong c t die b block h there closed within flies left) e) o ending now new
 
 kept_of : (c : Core) (t : Translation) (die : ℕ) (o : Outcome) (tag : Option Tag) (ending : Ending)
-    (book : Option Book) (after : Core) → IsTagRead o tag → Describes c t → slice_get c.books die ≡ book →
+    (book : Option DieRow) (after : Core) → IsTagRead o tag → Describes c t → slice_get c.rows die ≡ book →
     IsEndingOf t.disk.cells (t.disk.flights die) o ending →
-    IsBookAfter c die book o tag after → Kept after (moved t (EndJob die ending))
+    IsRowAfter c die book o tag after → Kept after (moved t (EndJob die ending))
 kept_of c t die o tag ending None after found h there is new =
     absurd (false≢true (subst (λ (g : Option disk.Flight). IsEndingOf t.disk.cells g o ending)
-    (no_book c t die h there) is).0)
+    (no_row c t die h there) is).0)
 kept_of c t die o tag ending (Some b) after found h there is new =
     kept_then c t die o tag ending b after found h there is new
 
@@ -150,16 +150,16 @@ pub ends_right : (c after : Core) (die : ℕ) (o : Outcome) (tag : Option Tag) �
     Describes after (moved t (EndJob die ending))
 ends_right c after die o tag found new t ending h is may = record {
   valid = all_keep t (EndJob die ending) h.valid may;
-  kept = kept_of c t die o tag ending (slice_get c.books die) after found h refl is new;
-  live = live_of c t die o tag (slice_get c.books die) after h refl new;
+  kept = kept_of c t die o tag ending (slice_get c.rows die) after found h refl is new;
+  live = live_of c t die o tag (slice_get c.rows die) after h refl new;
   copies = copies_on t h.valid c.plan h.kept.plan.plan_is h.copies after.plan (same_plan c after die o tag new) die
       ending may;
 }
 
 -- What is told
 
-told_then : (c : Core) (t : Translation) (die : ℕ) (o : Outcome) (ending : Ending) (r : Option Ended) (b : Book) →
-    Describes c t → slice_get c.books die ≡ Some b →
+told_then : (c : Core) (t : Translation) (die : ℕ) (o : Outcome) (ending : Ending) (r : Option Ended) (b : DieRow) →
+    Describes c t → slice_get c.rows die ≡ Some b →
     IsEndingOf t.disk.cells (t.disk.flights die) o ending → FlightEnds c b.flight o r →
     (e : Ended) × (r ≡ Some e) × IsTold t.disk.cells (t.disk.flights die) ending e
 told_then c t die o ending r b h there is answer =
@@ -201,19 +201,19 @@ told_then c t die o ending r b h there is answer =
     )
 
 told_of : (c : Core) (t : Translation) (die : ℕ) (o : Outcome) (ending : Ending) (r : Option Ended)
-    (book : Option Book) → Describes c t → slice_get c.books die ≡ book →
-    IsEndingOf t.disk.cells (t.disk.flights die) o ending → BookEnds c book o r →
+    (book : Option DieRow) → Describes c t → slice_get c.rows die ≡ book →
+    IsEndingOf t.disk.cells (t.disk.flights die) o ending → RowEnds c book o r →
     (e : Ended) × (r ≡ Some e) × IsTold t.disk.cells (t.disk.flights die) ending e
 told_of c t die o ending r None h there is answer =
     absurd (false≢true (subst (λ (g : Option disk.Flight). IsEndingOf t.disk.cells g o ending)
-    (no_book c t die h there) is).0)
+    (no_row c t die h there) is).0)
 told_of c t die o ending r (Some b) h there is answer = told_then c t die o ending r b h there is answer
 
 -- the end of a job is told as the definitions say
 pub ends_told : (c : Core) (die : ℕ) (o : Outcome) (r : Option Ended) → IsEnded c die o r →
     (t : Translation) (ending : Ending) → Describes c t → IsEndingOf t.disk.cells (t.disk.flights die) o ending →
     (e : Ended) × (r ≡ Some e) × IsTold t.disk.cells (t.disk.flights die) ending e
-ends_told c die o r answer t ending h is = told_of c t die o ending r (slice_get c.books die) h refl is answer
+ends_told c die o r answer t ending h is = told_of c t die o ending r (slice_get c.rows die) h refl is answer
 
 -- Which outcomes are refused
 
@@ -243,8 +243,8 @@ erases_suit s outcome.Failed = refl
 erases_suit s (outcome.Read page) = refl
 erases_suit s outcome.ReadFailed = refl
 
-known_then : (c : Core) (t : Translation) (die : ℕ) (o : Outcome) (r : Option Ended) (b : Book) → Describes c t →
-    slice_get c.books die ≡ Some b →
+known_then : (c : Core) (t : Translation) (die : ℕ) (o : Outcome) (r : Option Ended) (b : DieRow) → Describes c t →
+    slice_get c.rows die ≡ Some b →
     FlightEnds c b.flight o r → is_some r ≡ outcome_fits (t.disk.flights die) o
 known_then c t die o r b h there answer =
     flight_cases t.numbers c.step die b.filling (λ f g. FlightEnds c f o r → is_some r ≡ outcome_fits g o)
@@ -259,14 +259,14 @@ known_then c t die o r b h there answer =
     (λ block within closed told. ap is_some told ∙ erases_suit (spot_at die block) o)
     b.flight (t.disk.flights die) (h.kept.dies.each die b there).job answer
 
-known_of : (c : Core) (t : Translation) (die : ℕ) (o : Outcome) (r : Option Ended) (book : Option Book) →
-    Describes c t → slice_get c.books die ≡ book →
-    BookEnds c book o r → is_some r ≡ outcome_fits (t.disk.flights die) o
+known_of : (c : Core) (t : Translation) (die : ℕ) (o : Outcome) (r : Option Ended) (book : Option DieRow) →
+    Describes c t → slice_get c.rows die ≡ book →
+    RowEnds c book o r → is_some r ≡ outcome_fits (t.disk.flights die) o
 known_of c t die o r None h there answer = ap is_some answer
-    ∙ ap (λ (g : Option disk.Flight). outcome_fits g o) (sym (no_book c t die h there))
+    ∙ ap (λ (g : Option disk.Flight). outcome_fits g o) (sym (no_row c t die h there))
 known_of c t die o r (Some b) h there answer = known_then c t die o r b h there answer
 
 -- an answer is there exactly where the outcome is of the kind of the die's job
 pub ends_known : (c : Core) (die : ℕ) (o : Outcome) (r : Option Ended) → IsEnded c die o r →
     (t : Translation) → Describes c t → is_some r ≡ outcome_fits (t.disk.flights die) o
-ends_known c die o r answer t h = known_of c t die o r (slice_get c.books die) h refl answer
+ends_known c die o r answer t h = known_of c t die o r (slice_get c.rows die) h refl answer

@@ -5,7 +5,7 @@ use Rattle.ufs_spec.specs.Disk as disk
 use Rattle.ufs_spec.specs.Disk.{Spot, at_spot}
 use Rattle.power_loss.proofs.books.SmallFacts.{at_spot_is}
 use Rattle.power_loss.proofs.jobs.StandsSecurely.{at_spot_here}
-use Rattle.block_table.specs.declared.OpenBlock.{OpenBlock}
+use Rattle.block_table.specs.declared.rows.OpenBlock.{OpenBlock}
 use Rattle.ftl_core.specs.Describes.{IsFilling, spot_at}
 
 -- the block that was filled is filled no more

@@ -1,7 +1,7 @@
 -- The program of a mark ends.
 use Rattle.std.proofs.Common.{◌≡◌, ◌∙◌, ℕ, suc, ◌+◌, ◌≤◌, Bool, true, false, List, Option, Some, None, length}
 use Rattle.std.proofs.Common.{refl, sym, ap, subst, inl, inr, ⊎_elim, arith}
-use Rattle.std.specs.Prelude.{◌^◌, if◌then◌else◌, nat_lt, nat_le, option_map, slice_get, drop}
+use Rattle.std.specs.Prelude.{if◌then◌else◌, nat_lt, nat_le, option_map, slice_get, drop}
 use Rattle.ufs_spec.proofs.Facts.{false≢true, true≢false}
 use Rattle.ufs_spec.specs.Pages.{greatest_number}
 use Rattle.ufs_spec.specs.Cells.{Cells, Mark, MarkPage}
@@ -15,18 +15,19 @@ use Rattle.ufs_spec.specs.Ledger.{Ledger, Name, before_accepted}
 use Rattle.ufs_spec.specs.Moves.{cell_failed, mark_again}
 use Rattle.ufs_spec.specs.Moves.{mark_written as layer_written, mending_after}
 use Rattle.ufs_spec.specs.Translation as layer
-use Rattle.ufs_spec.specs.Translation.{MarkStep, Mended, Mending, Plan, Repairing, StepKind, Translation, Unmarked}
-use Rattle.ufs_spec.specs.Translation.{is_bad, is_mended}
+use Rattle.ufs_spec.specs.Translation.{MarkStep, Mended, Mending, Repairing, StepKind, Translation, Unmarked, is_bad}
+use Rattle.ufs_spec.specs.Translation.{is_mended}
 use Rattle.power_loss.specs.Book.{book}
 use Rattle.power_loss.proofs.books.SmallFacts.{at_spot_cases}
+use Rattle.power_loss.proofs.jobs.MarkEnded.{behind_unmended}
 use Rattle.power_loss.specs.Invariant.{MendingRight, Valid}
 use Rattle.ftl_core.specs.Core.{Core}
 use Rattle.block_table.specs.declared.BlockState.{BlockState}
 use Rattle.block_table.specs.declared.BlockState.TheVariants as state
-use Rattle.ftl_core.specs.declared.books.Book.{Book}
+use Rattle.block_table.specs.declared.rows.DieRow.{DieRow}
 use Rattle.ftl_core.specs.declared.books.Mending as kept
 use Rattle.ftl_core.specs.declared.books.Mending.TheVariants as mendings
-use Rattle.block_table.specs.declared.OpenBlock.{OpenBlock}
+use Rattle.block_table.specs.declared.rows.OpenBlock.{OpenBlock}
 use Rattle.ftl_core.specs.declared.books.Step.{Step}
 use Rattle.ftl_core.specs.declared.books.Step.TheVariants as steps
 use Rattle.ftl_core.specs.Describes.{AreToRepair, BlocksKept, Describes, IsFilling, IsStepCell, Kept, StepKept}
@@ -38,7 +39,7 @@ use Rattle.collector.specs.Plans.{Collection, layer_plan}
 use Rattle.ftl_core.specs.Moves.{mark_ordered, page_written, repairs_in, went_bad}
 use Rattle.ftl_core.specs.Takes.{next_place}
 use Rattle.ftl_core.proofs.job_ended.ChangeParts.{bad_fills, blocks_lost, blocks_on, blocks_put, blocks_with}
-use Rattle.ftl_core.proofs.job_ended.ChangeParts.{books_with, changed, closed_fills, filling_kept}
+use Rattle.ftl_core.proofs.job_ended.ChangeParts.{rows_with, changed, closed_fills, filling_kept}
 use Rattle.ftl_core.proofs.job_ended.ChangeParts.{kept_beside, ledger_marked, over, page_ends, states_with}
 use Rattle.ftl_core.proofs.job_ended.JobsOver.{filling_on, filling_over}
 use Rattle.ftl_core.proofs.job_ended.StepsOver.{none_reads, suits_next}
@@ -52,12 +53,6 @@ mended_behind (mendings.Unmarked (Some fence)) left = refl
 mended_behind (mendings.Unmarked None) left = refl
 mended_behind mendings.Repairing left = refl
 mended_behind mendings.Mended left = refl
-
-not_before : (m : Mending) → is_mended (mending_after m) ≡ false → is_mended m ≡ false
-not_before (Unmarked None lost) e = absurd (true≢false e)
-not_before (Unmarked (Some fence) lost) e = refl
-not_before (Repairing left) e = refl
-not_before Mended e = e
 
 abbrev mark_step : ℕ → Option Fence → Bool → layer.Step
 mark_step n fence there = record { kind = MarkStep n fence; there = there }
@@ -127,8 +122,8 @@ mark_stands t die o m x =
     (record t.ledger { newest = Some m })
     (record t.work { mending = mending_after t.work.mending; step = None })
 
-module _ (c : Core) (t : Translation) (die : ℕ) (b : Book) (o : OpenBlock) (m : Mark) (n : ℕ) (fence : Option Fence)
-    (h : Describes c t) (there : slice_get c.books die ≡ Some b) (fills : b.filling ≡ Some o)
+module _ (c : Core) (t : Translation) (die : ℕ) (b : DieRow) (o : OpenBlock) (m : Mark) (n : ℕ) (fence : Option Fence)
+    (h : Describes c t) (there : slice_get c.rows die ≡ Some b) (fills : b.filling ≡ Some o)
     (flies : t.disk.flights die ≡ Some (disk.Programming (next_place die o) (MarkPage m)))
     (step : c.step ≡ Some (steps.Mark n fence)) (page : IsStepCell c.step (MarkPage m)) where
   abbrev left : List Key
@@ -144,7 +139,7 @@ module _ (c : Core) (t : Translation) (die : ℕ) (b : Book) (o : OpenBlock) (m 
   mark_parts : (x : disk.BlockState) (states : List BlockState) (f : Option OpenBlock) →
       BlocksKept t.numbers (blocks_with t die o.block x) states c.has_bad →
       IsFilling t.numbers (blocks_with t die o.block x) die f →
-      Kept (changed c states (books_with c die f) c.has_bad c.pages (ends.mending_after c.mending) None c.next_mark)
+      Kept (changed c states (rows_with c die f) c.has_bad c.pages (ends.mending_after c.mending) None c.next_mark)
       (mark_stands t die o m x)
   mark_parts x states f bs fs =
       kept_beside c t die o.block b x f states c.has_bad c.pages (ends.mending_after c.mending) None c.next_mark
@@ -153,7 +148,7 @@ module _ (c : Core) (t : Translation) (die : ℕ) (b : Book) (o : OpenBlock) (m 
       (record t.ledger { newest = Some m })
       (record t.work { mending = mending_after t.work.mending; step = None })
       h.kept there bs fs
-      (fly_over t.ledger.standing t.disk.flights die c.books f h.kept.fly)
+      (fly_over t.ledger.standing t.disk.flights die c.rows f h.kept.fly)
       (ledger_marked c.numbers c.places c.pages c.frontier c.last t.ledger (Some m) t.ledger.marks h.kept.ledger_kept)
       record {
         mending_is = ap mending_after h.kept.work.mending_is ∙ mended_behind c.mending left;
@@ -161,7 +156,7 @@ module _ (c : Core) (t : Translation) (die : ℕ) (b : Book) (o : OpenBlock) (m 
         to_repair = λ e.
             left_kept t.ledger (record t.ledger { newest = Some m }) c.step n fence left step
             (λ k. record { differ = k.differ; unrepaired = k.unrepaired })
-            (h.kept.work.to_repair (not_before t.work.mending e));
+            (h.kept.work.to_repair (behind_unmended t.work.mending e));
         no_rests = h.kept.work.no_rests;
         next_mark = h.kept.work.next_mark;
         repaired = durable_behind t n fence h.valid layer_step h.kept.work.repaired;
@@ -169,9 +164,9 @@ module _ (c : Core) (t : Translation) (die : ℕ) (b : Book) (o : OpenBlock) (m 
       h.kept.pins
       (suits_next c t die (next_place die o) (MarkPage m) h flies page None refl)
       (none_reads c t die (next_place die o) (MarkPage m) h flies page None) refl
-      (λ e. h.kept.readers (not_before t.work.mending e))
+      (λ e. h.kept.readers (behind_unmended t.work.mending e))
 
-  mark_on : Kept (changed c c.states (books_with c die (Some (record { block = o.block; next = o.next + 1 })))
+  mark_on : Kept (changed c c.states (rows_with c die (Some (record { block = o.block; next = o.next + 1 })))
       c.has_bad c.pages (ends.mending_after c.mending) None c.next_mark)
       (mark_stands t die o m (disk.Filling (o.next + 1)))
   mark_on = mark_parts (disk.Filling (o.next + 1)) c.states (Some (record { block = o.block; next = o.next + 1 }))
@@ -180,7 +175,7 @@ module _ (c : Core) (t : Translation) (die : ℕ) (b : Book) (o : OpenBlock) (m 
       (filling_on t.numbers t.disk.blocks die o (o.next + 1) filling)
 
   mark_last : Kept (changed c (states_with c die o.block state.Closed)
-      (books_with c die None) c.has_bad c.pages (ends.mending_after c.mending) None c.next_mark)
+      (rows_with c die None) c.has_bad c.pages (ends.mending_after c.mending) None c.next_mark)
       (mark_stands t die o m disk.Closed)
   mark_last = mark_parts disk.Closed (states_with c die o.block state.Closed) None
       (blocks_put c t die o.block disk.Closed h.kept (die_within c t die b h.kept there) filling.0
@@ -249,8 +244,8 @@ both_ways P true false e c d t u h k = cc
 both_ways P false true e c d t u h k = cc
 both_ways P false false e c d t u h k = k
 
-module _ (c : Core) (t : Translation) (die : ℕ) (b : Book) (o : OpenBlock) (m : Mark) (n : ℕ) (fence : Option Fence)
-    (cells : Cells) (h : Describes c t) (there : slice_get c.books die ≡ Some b) (fills : b.filling ≡ Some o)
+module _ (c : Core) (t : Translation) (die : ℕ) (b : DieRow) (o : OpenBlock) (m : Mark) (n : ℕ) (fence : Option Fence)
+    (cells : Cells) (h : Describes c t) (there : slice_get c.rows die ≡ Some b) (fills : b.filling ≡ Some o)
     (flies : t.disk.flights die ≡ Some (disk.Programming (next_place die o) (MarkPage m)))
     (step : c.step ≡ Some (steps.Mark n fence)) (page : IsStepCell c.step (MarkPage m)) where
   failed_filling : IsFilling t.numbers t.disk.blocks die (Some o)
@@ -269,7 +264,7 @@ module _ (c : Core) (t : Translation) (die : ℕ) (b : Book) (o : OpenBlock) (m 
       (record t.ledger { marks = marks }) (record t.work { step = w })
       h.kept there (blocks_lost c t die o.block h.kept (die_within c t die b h.kept there) failed_filling.0)
       (filling_over t.numbers t.disk.blocks die o disk.Bad bad_fills failed_filling)
-      (fly_over t.ledger.standing t.disk.flights die c.books None h.kept.fly)
+      (fly_over t.ledger.standing t.disk.flights die c.rows None h.kept.fly)
       (ledger_marked c.numbers c.places c.pages c.frontier c.last t.ledger t.ledger.newest marks h.kept.ledger_kept)
       record {
         mending_is = h.kept.work.mending_is;

@@ -12,9 +12,9 @@ use Rattle.ufs_spec.specs.declared.configs.Numbers.{Numbers}
 use Rattle.power_loss.proofs.books.SmallFacts.{at_spot_cases, at_spot_is}
 use Rattle.block_table.specs.Blocks.{freed_state}
 use Rattle.block_table.specs.declared.BlockState.{BlockState}
-use Rattle.block_table.specs.declared.OpenBlock.{OpenBlock}
+use Rattle.block_table.specs.declared.rows.OpenBlock.{OpenBlock}
 use Rattle.collector.specs.Plans.{Collection, layer_plan}
-use Rattle.ftl_core.specs.declared.books.Book.{Book}
+use Rattle.block_table.specs.declared.rows.DieRow.{DieRow}
 use Rattle.ftl_core.specs.Core.{Core}
 use Rattle.ftl_core.specs.Describes.{BlocksKept, IsFilling, Kept, block_kept, spot_at}
 use Rattle.ftl_core.specs.Ends.{plan_freed, plan_over}
@@ -24,7 +24,7 @@ use Rattle.ftl_core.proofs.job_taken.NextErases.{state_kept}
 
 -- A page that is written leaves the collection
 
-pub plan_stays : (c : Core) (die : ℕ) (b : Book) (o : Option OpenBlock) → (page_written c die b o).plan ≡ c.plan
+pub plan_stays : (c : Core) (die : ℕ) (b : DieRow) (o : Option OpenBlock) → (page_written c die b o).plan ≡ c.plan
 plan_stays c die b None = refl
 plan_stays c die b (Some o) = by (nat_lt o.next (c.numbers.pages - 1)) _ _ refl refl
   where
@@ -83,7 +83,8 @@ module _ (c : Core) (t : Translation) (k : Kept c t) (s : Spot) (h : IsFreeable 
   abbrev states : List BlockState
   states = states_with c s.die s.block (freed_state (state_of c s.die s.block))
 
-  told : (x : disk.BlockState) → t.disk.blocks s ≡ x → BlocksKept t.numbers (at_spot t.disk.blocks s (moves.freed_state x))
+  told : (x : disk.BlockState) → t.disk.blocks s ≡ x →
+      BlocksKept t.numbers (at_spot t.disk.blocks s (moves.freed_state x))
       (states_with c s.die s.block (freed_state (block_kept x))) c.has_bad →
       BlocksKept t.numbers now states c.has_bad
   told x is b = subst (λ (z : disk.BlockState × BlockState).

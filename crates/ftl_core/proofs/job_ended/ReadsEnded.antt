@@ -14,14 +14,14 @@ use Rattle.ufs_spec.specs.declared.flash.Outcome.TheVariants as outcome
 use Rattle.ufs_spec.specs.declared.flash.Place.{Place}
 use Rattle.power_loss.proofs.books.PagesByName.{none_some}
 use Rattle.power_loss.proofs.books.SmallFacts.{at_die_cases, two_ways}
-use Rattle.ftl_core.specs.declared.books.Book.{Book}
+use Rattle.block_table.specs.declared.rows.DieRow.{DieRow}
 use Rattle.ftl_core.specs.declared.books.Looked.TheVariants as looked
 use Rattle.ftl_core.specs.declared.books.Pin.{Pin}
 use Rattle.unit_map.specs.declared.Stored.{Stored}
 use Rattle.ftl_core.specs.Core.{Core}
 use Rattle.ftl_core.specs.Describes.{Describes, IsWanted, Kept, ReadsKept}
 use Rattle.ftl_core.specs.Gives.{is_read, wanted_no_more}
-use Rattle.ftl_core.specs.Moves.{is_pin_of, with_book}
+use Rattle.ftl_core.specs.Moves.{is_pin_of, with_row}
 use Rattle.ftl_core.proofs.job_taken.Flown.{dies_put, fly_over, reads_over, step_reads_over}
 use Rattle.ftl_core.proofs.pins.FoundPins.{found_mapped, found_passes, pin_told}
 use Rattle.ftl_core.proofs.pins.PinsAlike.{pins_mapped}
@@ -53,16 +53,16 @@ one_place p q a b same x y = sym x.place_is
 
 -- What is kept
 
-pub idle_kept : (c : Core) (t : Translation) (die : ℕ) (b : Book) → Kept c t → slice_get c.books die ≡ Some b →
-    Kept (with_book c die record { filling = b.filling; flight = None })
+pub idle_kept : (c : Core) (t : Translation) (die : ℕ) (b : DieRow) → Kept c t → slice_get c.rows die ≡ Some b →
+    Kept (with_row c die record { filling = b.filling; flight = None })
     (record t { disk = record t.disk { flights = at_die t.disk.flights die None } })
 idle_kept c t die b k there = record {
   numbers = k.numbers;
   blocks = k.blocks;
-  dies = dies_put t.numbers t.disk.blocks t.disk.blocks t.disk.flights c.step c.books die b
+  dies = dies_put t.numbers t.disk.blocks t.disk.blocks t.disk.flights c.step c.rows die b
       (record { filling = b.filling; flight = None }) None k.dies there
       (λ s apart. refl) (record { filling = (k.dies.each die b there).filling; job = tt });
-  fly = fly_over t.ledger.standing t.disk.flights die c.books b.filling k.fly;
+  fly = fly_over t.ledger.standing t.disk.flights die c.rows b.filling k.fly;
   ledger_kept = k.ledger_kept;
   work = k.work;
   plan = k.plan;
@@ -79,10 +79,10 @@ abbrev pub reader_told : Core → ℕ → ℕ → Core
 reader_told c reader index = record c { pins = map (wanted_no_more reader index) c.pins }
 
 -- a read ended that was for a block of a task
-pub task_kept : (c : Core) (t : Translation) (die reader index : ℕ) (b : Book) (place : Place) → Describes c t →
-    slice_get c.books die ≡ Some b →
+pub task_kept : (c : Core) (t : Translation) (die reader index : ℕ) (b : DieRow) (place : Place) → Describes c t →
+    slice_get c.rows die ≡ Some b →
     t.disk.flights die ≡ Some (disk.Reading (ForTask reader index) place) →
-    Kept (reader_told (with_book c die record { filling = b.filling; flight = None }) reader index)
+    Kept (reader_told (with_row c die record { filling = b.filling; flight = None }) reader index)
     (record t {
       disk = record t.disk { flights = at_die t.disk.flights die None };
       pins = map (with_wanted reader index false) t.pins;
@@ -105,7 +105,7 @@ task_kept c t die reader index b place h there flies = record {
   readers = λ e. ap (map (wanted_no_more reader index)) (k.readers e);
 }
   where
-    k : Kept (with_book c die record { filling = b.filling; flight = None })
+    k : Kept (with_row c die record { filling = b.filling; flight = None })
         (record t { disk = record t.disk { flights = at_die t.disk.flights die None } })
     k = idle_kept c t die b h.kept there
 

@@ -24,8 +24,8 @@ use Rattle.power_loss.proofs.books.SmallFacts.{and_true, eq_self, eq_told}
 use Rattle.ftl_core.specs.declared.books.Looked.{Looked}
 use Rattle.ftl_core.specs.declared.books.Looked.TheVariants as looked
 use Rattle.ftl_core.specs.declared.books.Pin.{Pin}
-use Rattle.ftl_core.specs.declared.books.Reader as kept
-use Rattle.ftl_core.specs.declared.books.Reader.TheVariants as readers
+use Rattle.block_table.specs.declared.rows.Reader as kept
+use Rattle.block_table.specs.declared.rows.Reader.TheVariants as readers
 use Rattle.unit_map.specs.declared.Stored.{Stored}
 use Rattle.ftl_core.specs.declared.ftl.Ended.{Ended}
 use Rattle.ftl_core.specs.declared.ftl.Ended.TheVariants as ended

@@ -11,7 +11,7 @@ use Rattle.ufs_spec.specs.Ledger.{Entry, Ledger, Name}
 use Rattle.ufs_spec.specs.Moves.{IsAnother, ReadRight, ReadWrong, end_flight, step_there}
 use Rattle.ufs_spec.specs.Plain.{shape_of_numbers}
 use Rattle.ufs_spec.specs.Translation as layer
-use Rattle.ufs_spec.specs.Translation.{CopyStep, Translation, Want, is_mended, name_of, tag_of, want_at, wants_of_step}
+use Rattle.ufs_spec.specs.Translation.{Translation, is_mended}
 use Rattle.ufs_spec.specs.declared.flash.Key.{Key}
 use Rattle.ufs_spec.specs.declared.flash.Page.{Page}
 use Rattle.ufs_spec.specs.declared.flash.Place.{Place}
@@ -20,7 +20,7 @@ use Rattle.power_loss.specs.Book.{book}
 use Rattle.power_loss.specs.Invariant.{IsSecure, Valid}
 use Rattle.power_loss.proofs.books.PagesByName.{entry_for, old_page, page_one, page_same}
 use Rattle.power_loss.proofs.books.SmallFacts.{at_die_cases}
-use Rattle.ftl_core.specs.declared.books.Book.{Book}
+use Rattle.block_table.specs.declared.rows.DieRow.{DieRow}
 use Rattle.ftl_core.specs.declared.books.Step.{Step}
 use Rattle.ftl_core.specs.declared.books.Step.TheVariants as steps
 use Rattle.unit_map.specs.declared.Stored.{Stored}
@@ -30,7 +30,7 @@ use Rattle.ftl_core.specs.Describes.{Standing, StepKept, StepReadsKept, keys_to_
 use Rattle.ftl_core.specs.Ends as ends
 use Rattle.ftl_core.specs.Ends.{with_content}
 use Rattle.ftl_core.specs.Gives.{IsContentOf}
-use Rattle.ftl_core.specs.Moves.{repairs_in, with_book}
+use Rattle.ftl_core.specs.Moves.{repairs_in, with_row}
 use Rattle.ftl_core.specs.Takes.{step_wants}
 use Rattle.ftl_core.proofs.job_ended.ReadsEnded.{idle_kept}
 use Rattle.ftl_core.proofs.job_ended.ReadsGiven.{IsPageOf, right_body, wrong_body}
@@ -140,10 +140,10 @@ suits_there : (n : ℕ) (k : Key) (from : Option Stored) (cell : Cell) →
 suits_there n k from (GroupPage tag body) h = absurd (false≢true h.2)
 suits_there n k from cell h = absurd h
 
-module _ (c : Core) (t : Translation) (die : ℕ) (b : Book) (place : Place) (h : Describes c t)
-    (there : slice_get c.books die ≡ Some b) (flies : t.disk.flights die ≡ Some (disk.Reading ForStep place)) where
+module _ (c : Core) (t : Translation) (die : ℕ) (b : DieRow) (place : Place) (h : Describes c t)
+    (there : slice_get c.rows die ≡ Some b) (flies : t.disk.flights die ≡ Some (disk.Reading ForStep place)) where
   abbrev pub idle : Core
-  idle = with_book c die record { filling = b.filling; flight = None }
+  idle = with_row c die record { filling = b.filling; flight = None }
 
   -- no other die reads for the step
   pub one_read : (after : Option Step) → StepReadsKept (at_die t.disk.flights die None) after
@@ -166,8 +166,8 @@ module _ (c : Core) (t : Translation) (die : ℕ) (b : Book) (place : Place) (h 
 
 -- The read for a repair
 
-module _ (c : Core) (t : Translation) (die : ℕ) (b : Book) (place : Place) (h : Describes c t)
-    (there : slice_get c.books die ≡ Some b) (flies : t.disk.flights die ≡ Some (disk.Reading ForStep place))
+module _ (c : Core) (t : Translation) (die : ℕ) (b : DieRow) (place : Place) (h : Describes c t)
+    (there : slice_get c.rows die ≡ Some b) (flies : t.disk.flights die ≡ Some (disk.Reading ForStep place))
     (step_read : IsReadFor c.step place) where
   abbrev idle_c : Core
   idle_c = idle c t die b place h there flies
@@ -187,14 +187,14 @@ module _ (c : Core) (t : Translation) (die : ℕ) (b : Book) (place : Place) (h 
   content_there = record {
     numbers = h.kept.numbers;
     blocks = h.kept.blocks;
-    dies = dies_changed t.numbers t.disk.blocks t.disk.blocks t.disk.flights c.step after c.books die b
+    dies = dies_changed t.numbers t.disk.blocks t.disk.blocks t.disk.flights c.step after c.rows die b
         (record { filling = b.filling; flight = None }) None h.kept.dies there (λ s apart. refl)
         (λ e y apart got job. flight_suits t.numbers c.step after e y.filling y.flight (t.disk.flights e)
         (λ q cell is page. suits_there step_read.number step_read.key (Some step_read.stored) cell
         (subst (λ (z : Option Step). IsStepCell z cell) step_read.is page))
         (λ none. sym (ap repairs_in step_read.is) ∙ none) job)
         (record { filling = (h.kept.dies.each die b there).filling; job = tt });
-    fly = fly_over t.ledger.standing t.disk.flights die c.books b.filling h.kept.fly;
+    fly = fly_over t.ledger.standing t.disk.flights die c.rows b.filling h.kept.fly;
     ledger_kept = h.kept.ledger_kept;
     work = record {
       mending_is = h.kept.work.mending_is;

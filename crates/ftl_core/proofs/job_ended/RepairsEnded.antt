@@ -22,8 +22,8 @@ use Rattle.power_loss.specs.Invariant.{Valid}
 use Rattle.power_loss.proofs.books.SmallFacts.{if_true, name_is, name_self}
 use Rattle.block_table.specs.declared.BlockState.{BlockState}
 use Rattle.block_table.specs.declared.BlockState.TheVariants as state
-use Rattle.ftl_core.specs.declared.books.Book.{Book}
-use Rattle.block_table.specs.declared.OpenBlock.{OpenBlock}
+use Rattle.block_table.specs.declared.rows.DieRow.{DieRow}
+use Rattle.block_table.specs.declared.rows.OpenBlock.{OpenBlock}
 use Rattle.ftl_core.specs.declared.books.Step.{Step}
 use Rattle.ftl_core.specs.declared.books.Step.TheVariants as steps
 use Rattle.unit_map.specs.declared.Stored.{Stored}
@@ -37,7 +37,7 @@ use Rattle.ftl_core.specs.Takes.{next_place}
 use Rattle.ftl_core.proofs.group_settled.FrontDurable.{climbed_of, raised_to}
 use Rattle.ftl_core.proofs.group_settled.PageStands.{at_here, fly_written, stored_on, with_page, writers_fly}
 use Rattle.ftl_core.proofs.group_settled.PageWritten.{with_group_page}
-use Rattle.ftl_core.proofs.job_ended.ChangeParts.{blocks_on, blocks_put, books_with, changed, closed_fills}
+use Rattle.ftl_core.proofs.job_ended.ChangeParts.{blocks_on, blocks_put, rows_with, changed, closed_fills}
 use Rattle.ftl_core.proofs.job_ended.ChangeParts.{filling_kept, kept_beside, page_ends, states_with}
 use Rattle.ftl_core.proofs.job_ended.JobsOver.{filling_on, filling_over}
 use Rattle.ftl_core.proofs.job_ended.RepairLedger.{climbs_one, last_alone, ledger_repaired, pins_empty}
@@ -95,8 +95,8 @@ repair_written t die o tag body x = record (with_group_page t (next_place die o)
   };
 }
 
-module _ (c : Core) (t : Translation) (die : ℕ) (b : Book) (o : OpenBlock) (tag : Tag) (body : List ℕ) (n : ℕ) (k : Key)
-    (from : Option Stored) (h : Describes c t) (there : slice_get c.books die ≡ Some b) (fills : b.filling ≡ Some o)
+module _ (c : Core) (t : Translation) (die : ℕ) (b : DieRow) (o : OpenBlock) (tag : Tag) (body : List ℕ) (n : ℕ) (k : Key)
+    (from : Option Stored) (h : Describes c t) (there : slice_get c.rows die ≡ Some b) (fills : b.filling ≡ Some o)
     (flies : t.disk.flights die ≡ Some (disk.Programming (next_place die o) (GroupPage tag body)))
     (step : c.step ≡ Some (steps.Repair n k from true)) (page : IsStepCell c.step (GroupPage tag body)) where
   abbrev left : List Key
@@ -157,14 +157,14 @@ module _ (c : Core) (t : Translation) (die : ℕ) (b : Book) (o : OpenBlock) (ta
   page_stands : (x : disk.BlockState) (states : List BlockState) (f : Option OpenBlock) →
       BlocksKept t.numbers (at_spot t.disk.blocks (spot_at die o.block) x) states c.has_bad →
       IsFilling t.numbers (at_spot t.disk.blocks (spot_at die o.block) x) die f →
-      Kept (changed c states (books_with c die f) c.has_bad c.pages c.mending None c.next_mark)
+      Kept (changed c states (rows_with c die f) c.has_bad c.pages c.mending None c.next_mark)
       (repair_written t die o tag body x)
   page_stands x states f bs fs =
       kept_beside c t die o.block b x f states c.has_bad c.pages c.mending None c.next_mark
       (at_place t.disk.cells place (GroupPage tag body)) (at_place t.disk.finished place true) t.disk.erasing
       (with_page t.ledger name place) (record t.work { step = step_after name t.work.step })
       h.kept there bs fs
-      (fly_written t.ledger.standing t.disk.flights die c.books f name place h.kept.fly (writers_fly c t h.kept) flown)
+      (fly_written t.ledger.standing t.disk.flights die c.rows f name place h.kept.fly (writers_fly c t h.kept) flown)
       ledger_stands
       record {
         mending_is = h.kept.work.mending_is;
@@ -208,9 +208,9 @@ module _ (c : Core) (t : Translation) (die : ℕ) (b : Book) (o : OpenBlock) (ta
       (ap (λ (m : ℕ). name_at m 0) (sym repair.right.next) ∙ sym same_name)
 
   page_durable : (x : disk.BlockState) (states : List BlockState) (f : Option OpenBlock) →
-      Kept (changed c states (books_with c die f) c.has_bad c.pages c.mending None c.next_mark)
+      Kept (changed c states (rows_with c die f) c.has_bad c.pages c.mending None c.next_mark)
       (repair_written t die o tag body x) →
-      Kept (noted (record (changed c states (books_with c die f) c.has_bad c.pages c.mending None c.next_mark) {
+      Kept (noted (record (changed c states (rows_with c die f) c.has_bad c.pages c.mending None c.next_mark) {
         frontier = risen c;
       }) k stored) (raised_to (repair_written t die o tag body x) (suc t.ledger.frontier))
   page_durable x states f k0 = record {
@@ -218,7 +218,7 @@ module _ (c : Core) (t : Translation) (die : ℕ) (b : Book) (o : OpenBlock) (ta
     blocks = k0.blocks;
     dies = k0.dies;
     fly = k0.fly;
-    ledger_kept = ledger_repaired (changed c states (books_with c die f) c.has_bad c.pages c.mending None c.next_mark)
+    ledger_kept = ledger_repaired (changed c states (rows_with c die f) c.has_bad c.pages c.mending None c.next_mark)
         (with_page t.ledger name place) k stored item k0.ledger_kept low all_repairs no_pages alone refl known number
         number stands;
     work = record {

@@ -3,32 +3,31 @@ use Rattle.std.proofs.Common.{◌≡◌, ◌∙◌, ℕ, zero, suc, Bool, true, 
 use Rattle.std.proofs.Common.{subst}
 use Rattle.collector.specs.Plans.{Collection}
 use Rattle.ufs_spec.proofs.Facts.{none-some}
-use Rattle.std.specs.Prelude.{◌==◌, if◌then◌else◌, filter, find, fold, nat_le, nat_lt, slice_get, ◌-◌, ◌^◌}
+use Rattle.std.specs.Prelude.{◌==◌, if◌then◌else◌, filter, find, fold, nat_le, nat_lt, slice_get, ◌-◌}
 use Rattle.ufs_spec.specs.Pages.{greatest_number}
 use Rattle.ufs_spec.specs.declared.flash.Outcome.{Outcome}
 use Rattle.ufs_spec.specs.declared.flash.Key.{Key}
 use Rattle.ufs_spec.specs.declared.flash.Place.{Place}
 use Rattle.ufs_spec.specs.declared.flash.Tag.{Tag}
 use Rattle.unit_map.specs.declared.Stored.{Stored}
-use Rattle.ftl_core.specs.declared.books.Book.{Book}
-use Rattle.ftl_core.specs.declared.books.Flight.{Flight}
-use Rattle.ftl_core.specs.declared.books.Flight.TheVariants as flight
-use Rattle.block_table.specs.declared.OpenBlock.{OpenBlock}
+use Rattle.block_table.specs.declared.rows.DieRow.{DieRow}
+use Rattle.block_table.specs.declared.rows.Flight.{Flight}
+use Rattle.block_table.specs.declared.rows.Flight.TheVariants as flight
+use Rattle.block_table.specs.declared.rows.OpenBlock.{OpenBlock}
 use Rattle.write_cache.specs.declared.slots.Pending.{Pending}
-use Rattle.ftl_core.specs.declared.books.Reader.{Reader}
-use Rattle.ftl_core.specs.declared.books.Reader.TheVariants as readers
+use Rattle.block_table.specs.declared.rows.Reader.{Reader}
+use Rattle.block_table.specs.declared.rows.Reader.TheVariants as readers
 use Rattle.ftl_core.specs.declared.books.Step.{Step}
 use Rattle.ftl_core.specs.declared.books.Step.TheVariants as steps
 use Rattle.ftl_core.specs.Core.{Core}
-use Rattle.ftl_core.specs.Done.{IsBookAfter, IsCoreEnded, IsFlightAfter}
-use Rattle.ftl_core.specs.Ends.{copy_durable, copy_over, copy_pending, copy_stands, index_in, mark_over, plan_freed, plan_over}
-use Rattle.ftl_core.specs.Ends.{repair_over}
-use Rattle.ftl_core.specs.Ends.{front_written, group_durable, page_durable, page_durable_at}
+use Rattle.ftl_core.specs.Done.{IsRowAfter, IsCoreEnded, IsFlightAfter}
+use Rattle.ftl_core.specs.Ends.{copy_durable, copy_over, copy_pending, copy_stands, index_in, mark_over, plan_freed}
+use Rattle.ftl_core.specs.Ends.{plan_over, repair_over, front_written, group_durable, page_durable, page_durable_at}
 use Rattle.write_cache.specs.Slots.{is_named, is_of_group}
 use Rattle.ftl_core.specs.Ends.{pending_written, settled_by, step_again, step_over, with_content}
 use Rattle.ftl_core.specs.Gives.{IsReadAfter, IsReadOver, change_after, change_ended, ending, is_read}
 use Rattle.ftl_core.specs.Ends.{settled}
-use Rattle.ftl_core.specs.Moves.{claims_for, page_written, stored_of, with_book}
+use Rattle.ftl_core.specs.Moves.{claims_for, page_written, stored_of, with_row}
 use Rattle.write_cache.specs.Slots.{is_claim_of}
 
 -- What stays
@@ -52,7 +51,7 @@ either : (test : Bool) (c x y : Core) → Stays c x → Stays c y → Stays c (i
 either true c x y h k = h
 either false c x y h k = k
 
-written : (c : Core) (die : ℕ) (b : Book) (o : Option OpenBlock) → Stays c (page_written c die b o)
+written : (c : Core) (die : ℕ) (b : DieRow) (o : Option OpenBlock) → Stays c (page_written c die b o)
 written c die b None = record { claims = refl; plan = λ p e. e }
 written c die b (Some o) =
     either (nat_lt o.next (c.numbers.pages - 1)) c _ _ (record { claims = refl; plan = λ p e. e })
@@ -109,7 +108,7 @@ freed : (c : Core) (o : Option Collection) → Stays c (plan_freed c o)
 freed c None = same c
 freed c (Some p) = record { claims = refl; plan = λ q e. absurd (none-some q e) }
 
-over : (c : Core) (step : Option Step) (die : ℕ) (b : Book) (place : Place) → Stays c (step_over c step die b place)
+over : (c : Core) (step : Option Step) (die : ℕ) (b : DieRow) (place : Place) → Stays c (step_over c step die b place)
 over c None die b place = written c die b b.filling
 over c (Some (steps.Mark n fence)) die b place =
     let now = page_written (mark_over c) die b b.filling in
@@ -135,7 +134,7 @@ again c (Some (steps.Copy n k from read)) = same c
 
 -- Programs and erases
 
-changed : (c : Core) (die : ℕ) (b : Book) (f : Flight) (well : Bool) → Stays c (change_ended c die b f well)
+changed : (c : Core) (die : ℕ) (b : DieRow) (f : Flight) (well : Bool) → Stays c (change_ended c die b f well)
 changed c die b (flight.Read place reader) well = same c
 changed c die b (flight.Step place) true = over c c.step die b place
 changed c die b (flight.Step place) false =
@@ -149,7 +148,7 @@ changed c die b (flight.Group place n i) false = record { claims = refl; plan = 
 changed c die b (flight.Erase block) true = record { claims = refl; plan = λ p e. e }
 changed c die b (flight.Erase block) false = record { claims = refl; plan = λ p e. e }
 
-change_over : (c : Core) (die : ℕ) (b : Book) (f : Flight) (o : Option Bool) → Stays c (change_after c die b f o)
+change_over : (c : Core) (die : ℕ) (b : DieRow) (f : Flight) (o : Option Bool) → Stays c (change_after c die b f o)
 change_over c die b f None = same c
 change_over c die b f (Some well) = changed c die b f well
 
@@ -165,16 +164,16 @@ read_over c o found (readers.Task tag index) new h = is_as c new _ h (record { c
 read_over c o found readers.Step new h = is_as c new _ h.2 (content c found h.0)
 read_over c o found readers.Nobody new h = is_as c new c h (same c)
 
-read_after : (known : Bool) (c : Core) (die : ℕ) (b : Book) (o : Outcome) (found : Option Tag) (reader : Reader)
+read_after : (known : Bool) (c : Core) (die : ℕ) (b : DieRow) (o : Outcome) (found : Option Tag) (reader : Reader)
     (new : Core) → IsReadAfter known c die b o found reader new → Stays c new
 read_after false c die b o found reader new h = is_as c new c h (same c)
 read_after true c die b o found reader new h =
-    let r = read_over (with_book c die record { filling = b.filling; flight = None }) o found reader new h in
+    let r = read_over (with_row c die record { filling = b.filling; flight = None }) o found reader new h in
     record { claims = r.claims; plan = r.plan }
 
 -- All of it
 
-flight_after : (c : Core) (die : ℕ) (b : Book) (f : Option Flight) (o : Outcome) (tag : Option Tag) (new : Core) →
+flight_after : (c : Core) (die : ℕ) (b : DieRow) (f : Option Flight) (o : Outcome) (tag : Option Tag) (new : Core) →
     IsFlightAfter c die b f o tag new → Stays c new
 flight_after c die b None o tag new h = is_as c new c h (same c)
 flight_after c die b (Some (flight.Read place reader)) o tag new h = read_after (is_read o) c die b o tag reader new h
@@ -185,16 +184,16 @@ flight_after c die b (Some (flight.Group place n i)) o tag new h =
 flight_after c die b (Some (flight.Erase block)) o tag new h =
     is_as c new _ h (change_over c die b (flight.Erase block) (ending o))
 
-book_after : (c : Core) (die : ℕ) (b : Option Book) (o : Outcome) (tag : Option Tag) (new : Core) →
-    IsBookAfter c die b o tag new → Stays c new
-book_after c die None o tag new h = is_as c new c h (same c)
-book_after c die (Some b) o tag new h = flight_after c die b b.flight o tag new h
+row_after : (c : Core) (die : ℕ) (b : Option DieRow) (o : Outcome) (tag : Option Tag) (new : Core) →
+    IsRowAfter c die b o tag new → Stays c new
+row_after c die None o tag new h = is_as c new c h (same c)
+row_after c die (Some b) o tag new h = flight_after c die b b.flight o tag new h
 
 pub same_claims : (c after : Core) (die : ℕ) (o : Outcome) (tag : Option Tag) → IsCoreEnded c die o tag after →
     claims_for after ≡ claims_for c
 same_claims c after die o tag h =
-    λ i reader. filter (is_claim_of reader) ((book_after c die (slice_get c.books die) o tag after h).claims i)
+    λ i reader. filter (is_claim_of reader) ((row_after c die (slice_get c.rows die) o tag after h).claims i)
 
 pub same_plan : (c after : Core) (die : ℕ) (o : Outcome) (tag : Option Tag) → IsCoreEnded c die o tag after →
     (p : Collection) → after.plan ≡ Some p → c.plan ≡ Some p
-same_plan c after die o tag h = (book_after c die (slice_get c.books die) o tag after h).plan
+same_plan c after die o tag h = (row_after c die (slice_get c.rows die) o tag after h).plan

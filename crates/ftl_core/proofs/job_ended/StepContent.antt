@@ -11,7 +11,7 @@ use Rattle.ufs_spec.specs.Disk.{ForStep, at_die}
 use Rattle.ufs_spec.specs.Ledger.{Entry, Name, entry_of}
 use Rattle.ufs_spec.specs.Moves.{Ending, IsAnother, IsEndingOf, ReadRight, ReadWrong, end_flight, step_there}
 use Rattle.ufs_spec.specs.Translation as layer
-use Rattle.ufs_spec.specs.Translation.{CopyStep, Translation, Want, is_mended, name_of, tag_of, want_at, wants_of_step}
+use Rattle.ufs_spec.specs.Translation.{CopyStep, Translation, Want, name_of, tag_of, want_at, wants_of_step}
 use Rattle.ufs_spec.specs.declared.flash.Key.{Key}
 use Rattle.ufs_spec.specs.declared.flash.Outcome.{Outcome}
 use Rattle.ufs_spec.specs.declared.flash.Outcome.TheVariants as outcome
@@ -24,8 +24,8 @@ use Rattle.page_tag.specs.Jobs.{IsTagOf, IsTagRead}
 use Rattle.page_tag.proofs.Sealed.{one_tag}
 use Rattle.power_loss.specs.Invariant.{IsNeededPage}
 use Rattle.power_loss.proofs.books.PagesByName.{entry_for}
-use Rattle.ftl_core.specs.declared.books.Book.{Book}
-use Rattle.ftl_core.specs.declared.books.Reader.TheVariants as readers
+use Rattle.block_table.specs.declared.rows.DieRow.{DieRow}
+use Rattle.block_table.specs.declared.rows.Reader.TheVariants as readers
 use Rattle.ftl_core.specs.declared.books.Step.{Step}
 use Rattle.ftl_core.specs.declared.books.Step.TheVariants as steps
 use Rattle.ftl_core.specs.Core.{Core}
@@ -37,7 +37,8 @@ use Rattle.ftl_core.specs.Gives.{IsContentOf, IsReadAfter, is_read}
 use Rattle.ftl_core.proofs.job_ended.ReadsGiven.{IsPageOf, right_body, wrong_body}
 use Rattle.ftl_core.proofs.job_ended.StepsOver.{flight_suits}
 use Rattle.ftl_core.proofs.job_taken.Flown.{dies_changed, fly_over, reads_over}
-use Rattle.ftl_core.proofs.job_ended.RepairContent.{IsReadFor, idle, one_read, read_for, read_was_none, read_was_right, read_was_wrong}
+use Rattle.ftl_core.proofs.job_ended.RepairContent.{IsReadFor, idle, one_read, read_for, read_was_none, read_was_right}
+use Rattle.ftl_core.proofs.job_ended.RepairContent.{read_was_wrong}
 
 -- The read for a copy
 
@@ -68,8 +69,8 @@ copy_of c t number key place is kept =
       right = k.2;
     }
 
-module _ (c : Core) (t : Translation) (die : ℕ) (b : Book) (place : Place) (h : Describes c t)
-    (there : slice_get c.books die ≡ Some b) (flies : t.disk.flights die ≡ Some (disk.Reading ForStep place))
+module _ (c : Core) (t : Translation) (die : ℕ) (b : DieRow) (place : Place) (h : Describes c t)
+    (there : slice_get c.rows die ≡ Some b) (flies : t.disk.flights die ≡ Some (disk.Reading ForStep place))
     (copy : IsCopyOf c t place) where
   abbrev idle_then : Core
   idle_then = idle c t die b place h there flies
@@ -136,13 +137,13 @@ module _ (c : Core) (t : Translation) (die : ℕ) (b : Book) (place : Place) (h 
   copy_there = record {
     numbers = h.kept.numbers;
     blocks = h.kept.blocks;
-    dies = dies_changed t.numbers t.disk.blocks t.disk.blocks t.disk.flights c.step copied c.books die b
+    dies = dies_changed t.numbers t.disk.blocks t.disk.blocks t.disk.flights c.step copied c.rows die b
         (record { filling = b.filling; flight = None }) None h.kept.dies there (λ s apart. refl)
         (λ e y apart got job. flight_suits t.numbers c.step copied e y.filling y.flight (t.disk.flights e)
         (λ q cell is page. absurd (subst (λ (z : Option Step). IsStepCell z cell) copy.is page))
         (λ none. refl) job)
         (record { filling = (h.kept.dies.each die b there).filling; job = tt });
-    fly = fly_over t.ledger.standing t.disk.flights die c.books b.filling h.kept.fly;
+    fly = fly_over t.ledger.standing t.disk.flights die c.rows b.filling h.kept.fly;
     ledger_kept = h.kept.ledger_kept;
     work = record {
       mending_is = h.kept.work.mending_is;
@@ -210,8 +211,8 @@ module _ (c : Core) (t : Translation) (die : ℕ) (b : Book) (place : Place) (h 
 
 -- The content is there where the read ended well, and else it is owed again
 
-module _ (c : Core) (t : Translation) (die : ℕ) (b : Book) (place : Place) (h : Describes c t)
-    (there : slice_get c.books die ≡ Some b) (flies : t.disk.flights die ≡ Some (disk.Reading ForStep place)) where
+module _ (c : Core) (t : Translation) (die : ℕ) (b : DieRow) (place : Place) (h : Describes c t)
+    (there : slice_get c.rows die ≡ Some b) (flies : t.disk.flights die ≡ Some (disk.Reading ForStep place)) where
   for_whom : IsReadFor c.step place ⊎ IsCopyOf c t place
   for_whom = ⊎_elim (λ r. inl r)
       (λ (r : (number : ℕ) × (key : Key) × (c.step ≡ Some (steps.Copy number key place None))).

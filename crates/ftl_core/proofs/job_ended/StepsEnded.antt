@@ -6,8 +6,8 @@ use Rattle.ufs_spec.specs.Cells.{Cell, Cells, GroupPage, MarkPage}
 use Rattle.ufs_spec.specs.Disk as disk
 use Rattle.ufs_spec.specs.Moves.{cell_failed, cell_written}
 use Rattle.ufs_spec.specs.Translation.{Translation}
-use Rattle.ftl_core.specs.declared.books.Book.{Book}
-use Rattle.block_table.specs.declared.OpenBlock.{OpenBlock}
+use Rattle.block_table.specs.declared.rows.DieRow.{DieRow}
+use Rattle.block_table.specs.declared.rows.OpenBlock.{OpenBlock}
 use Rattle.ftl_core.specs.declared.books.Step.{Step}
 use Rattle.ftl_core.specs.declared.books.Step.TheVariants as steps
 use Rattle.ftl_core.specs.Core.{Core}
@@ -20,8 +20,8 @@ use Rattle.ftl_core.proofs.job_ended.CopiesEnded.{copy_ends_well}
 use Rattle.ftl_core.proofs.job_ended.MarksEnded.{mark_ends_well, mark_ends_wrong}
 use Rattle.ftl_core.proofs.job_ended.RepairsEnded.{repair_ends_well}
 
-module _ (c : Core) (t : Translation) (die : ℕ) (b : Book) (o : OpenBlock) (h : Describes c t)
-    (there : slice_get c.books die ≡ Some b) (fills : b.filling ≡ Some o) where
+module _ (c : Core) (t : Translation) (die : ℕ) (b : DieRow) (o : OpenBlock) (h : Describes c t)
+    (there : slice_get c.rows die ≡ Some b) (fills : b.filling ≡ Some o) where
   back : (step : Option Step) (cell : Cell) → c.step ≡ step → IsStepCell step cell → IsStepCell c.step cell
   back step cell is page = subst (λ (z : Option Step). IsStepCell z cell) (sym is) page
 

@@ -10,9 +10,9 @@ use Rattle.ufs_spec.specs.Disk.{at_die}
 use Rattle.ufs_spec.specs.Ledger.{Name}
 use Rattle.ufs_spec.specs.Translation.{Translation, flies_name, name_of}
 use Rattle.power_loss.proofs.books.SmallFacts.{at_die_cases, name_is, name_self}
-use Rattle.ftl_core.specs.declared.books.Flight.{Flight}
-use Rattle.ftl_core.specs.declared.books.Flight.TheVariants as flight
-use Rattle.block_table.specs.declared.OpenBlock.{OpenBlock}
+use Rattle.block_table.specs.declared.rows.Flight.{Flight}
+use Rattle.block_table.specs.declared.rows.Flight.TheVariants as flight
+use Rattle.block_table.specs.declared.rows.OpenBlock.{OpenBlock}
 use Rattle.ftl_core.specs.declared.books.Step.{Step}
 use Rattle.ftl_core.specs.declared.books.Step.TheVariants as steps
 use Rattle.ftl_core.specs.Core.{Core}
@@ -109,7 +109,7 @@ module _ (c : Core) (t : Translation) (die : ℕ) (p : Place) (cell : Cell) (h :
 
   -- so their jobs suit any step behind it that is no repair
   pub suits_next : (after : Option Step) → repairs_in after ≡ 0 →
-      StepSuits t.numbers c.step after die c.books t.disk.flights
+      StepSuits t.numbers c.step after die c.rows t.disk.flights
   suits_next after none e y apart got job =
       flight_suits t.numbers c.step after e y.filling y.flight (t.disk.flights e)
       (λ q other is that. absurd (none_writes e q other apart is that)) (λ was. none) job

@@ -8,16 +8,16 @@ use Rattle.std.proofs.lemmas.List.Folds.{list_any-append}
 use Rattle.ufs_spec.proofs.Facts.{true≢false}
 use Rattle.ufs_spec.specs.Cells.{Cell, GroupPage}
 use Rattle.ufs_spec.specs.Disk as disk
-use Rattle.ufs_spec.specs.Disk.{ForNobody, ForStep, ForTask, Spot, at_die}
+use Rattle.ufs_spec.specs.Disk.{ForNobody, ForStep, ForTask, Spot}
 use Rattle.ufs_spec.specs.Keys.{below}
 use Rattle.ufs_spec.specs.declared.configs.Numbers.{Numbers}
 use Rattle.ufs_spec.specs.declared.flash.Place.{Place}
 use Rattle.ufs_spec.specs.declared.flash.Tag.{Tag}
 use Rattle.power_loss.proofs.books.SmallFacts.{two_ways}
-use Rattle.ftl_core.specs.declared.books.Flight.{Flight}
-use Rattle.ftl_core.specs.declared.books.Flight.TheVariants as flight
-use Rattle.block_table.specs.declared.OpenBlock.{OpenBlock}
-use Rattle.ftl_core.specs.declared.books.Reader.TheVariants as reader
+use Rattle.block_table.specs.declared.rows.Flight.{Flight}
+use Rattle.block_table.specs.declared.rows.Flight.TheVariants as flight
+use Rattle.block_table.specs.declared.rows.OpenBlock.{OpenBlock}
+use Rattle.block_table.specs.declared.rows.Reader.TheVariants as reader
 use Rattle.ftl_core.specs.declared.books.Step.{Step}
 use Rattle.ftl_core.specs.Describes.{IsFlight, IsStepCell}
 use Rattle.ftl_core.specs.Describes.{spot_at}

@@ -1,4 +1,4 @@
--- Jobs in flight: what the books say of them is what the definitions say, and one die's job changes.
+-- Jobs in flight: what the rows say of them is what the definitions say, and one die's job changes.
 use Rattle.std.proofs.Common.{◌≡◌, ◌≢◌, ◌∙◌, ℕ, ◌<◌, Bool, true, false, List, Option}
 use Rattle.std.proofs.Common.{Some, None, refl, sym, ap, subst, ⊎_elim, arith}
 use Rattle.std.specs.Prelude.{slice_get, slice_set}
@@ -8,7 +8,7 @@ use Rattle.std.proofs.lemmas.Option.{slice_get_within}
 use Rattle.ufs_spec.proofs.Facts.{true≢false}
 use Rattle.ufs_spec.specs.Cells.{Cell, GroupPage, MarkPage}
 use Rattle.ufs_spec.specs.Disk as disk
-use Rattle.ufs_spec.specs.Disk.{ForNobody, ForStep, ForTask, Spot, at_die}
+use Rattle.ufs_spec.specs.Disk.{ForStep, ForTask, Spot, at_die}
 use Rattle.ufs_spec.specs.Keys.{below}
 use Rattle.ufs_spec.specs.Ledger.{Ledger, Name, same_name}
 use Rattle.ufs_spec.specs.Translation as layer
@@ -21,16 +21,16 @@ use Rattle.ufs_spec.specs.declared.flash.Place.{Place}
 use Rattle.ufs_spec.specs.declared.flash.Tag.{Tag}
 use Rattle.power_loss.proofs.books.PagesByName.{none_some}
 use Rattle.power_loss.proofs.books.SmallFacts.{at_die_cases, name_cases, name_is, name_self}
-use Rattle.ftl_core.specs.declared.books.Book.{Book}
-use Rattle.ftl_core.specs.declared.books.Flight.{Flight}
-use Rattle.ftl_core.specs.declared.books.Flight.TheVariants as flight
-use Rattle.block_table.specs.declared.OpenBlock.{OpenBlock}
+use Rattle.block_table.specs.declared.rows.DieRow.{DieRow}
+use Rattle.block_table.specs.declared.rows.Flight.{Flight}
+use Rattle.block_table.specs.declared.rows.Flight.TheVariants as flight
+use Rattle.block_table.specs.declared.rows.OpenBlock.{OpenBlock}
 use Rattle.ftl_core.specs.declared.books.Pin.{Pin}
 use Rattle.ftl_core.specs.declared.books.Step.{Step}
 use Rattle.ftl_core.specs.declared.books.Step.TheVariants as steps
 use Rattle.unit_map.specs.declared.Stored.{Stored}
 use Rattle.ftl_core.specs.Core.{Core}
-use Rattle.ftl_core.specs.Describes.{BookKept, CopyKept, DiesKept, IsFilling, IsFlight, IsStepCell, Kept, PagesFly}
+use Rattle.ftl_core.specs.Describes.{RowKept, CopyKept, DiesKept, IsFilling, IsFlight, IsStepCell, Kept, PagesFly}
 use Rattle.ftl_core.specs.Describes.{ReadsKept, Standing, StepKept, StepReadsKept, WritesGroup, name_at, spot_at}
 use Rattle.ftl_core.specs.Moves.{flight_reads, reads_for, repairs_in}
 use Rattle.ftl_core.specs.Takes.{flight_writes, is_step_flight, is_step_reading, next_place, reads_step, writes_page}
@@ -39,7 +39,7 @@ use Rattle.ftl_core.proofs.opened.ListParts.{get_set}
 use Rattle.ufs_spec.proofs.Lists.{set_length, any_here, any_told, get_there}
 use Rattle.ftl_core.proofs.job_taken.FlightKinds.{flight_cases, some_here, some_told}
 
--- What the books say is what the definitions say
+-- What the rows say is what the definitions say
 
 pub same_tests : (a b : Bool) → (a ≡ true → b ≡ true) → (b ≡ true → a ≡ true) → a ≡ b
 same_tests true true f g = refl
@@ -48,40 +48,40 @@ same_tests false true f g = g refl
 same_tests false false f g = refl
 
 -- what is asked of each book is what is asked of each die
-pub dies_agree : (c : Core) (t : Translation) (kept : Book → Bool) (is : ℕ → Bool) → Kept c t →
-    ((die : ℕ) (b : Book) → slice_get c.books die ≡ Some b →
-    BookKept t.numbers t.disk.blocks c.step die b (t.disk.flights die) → kept b ≡ is die) →
-    list_any kept c.books ≡ list_any is (below t.numbers.dies)
-dies_agree c t kept is k same = same_tests (list_any kept c.books) (list_any is (below t.numbers.dies)) there back
+pub dies_agree : (c : Core) (t : Translation) (kept : DieRow → Bool) (is : ℕ → Bool) → Kept c t →
+    ((die : ℕ) (b : DieRow) → slice_get c.rows die ≡ Some b →
+    RowKept t.numbers t.disk.blocks c.step die b (t.disk.flights die) → kept b ≡ is die) →
+    list_any kept c.rows ≡ list_any is (below t.numbers.dies)
+dies_agree c t kept is k same = same_tests (list_any kept c.rows) (list_any is (below t.numbers.dies)) there back
   where
-    there : list_any kept c.books ≡ true → list_any is (below t.numbers.dies) ≡ true
+    there : list_any kept c.rows ≡ true → list_any is (below t.numbers.dies) ≡ true
     there e =
-        let r = any_told kept c.books e in
-        let w = slice_get_within c.books r.0 r.1 r.2 in
+        let r = any_told kept c.rows e in
+        let w = slice_get_within c.rows r.0 r.1 r.2 in
         let d = k.dies.dies in
         some_here t.numbers.dies r.0 is (omega (arith, w, d))
         (sym (same r.0 r.1 r.2 (k.dies.each r.0 r.1 r.2)) ∙ r.3)
 
-    back : list_any is (below t.numbers.dies) ≡ true → list_any kept c.books ≡ true
+    back : list_any is (below t.numbers.dies) ≡ true → list_any kept c.rows ≡ true
     back e =
         let r = some_told t.numbers.dies is e in
         let w = r.1 in
         let d = k.dies.dies in
-        let b = get_there c.books r.0 (omega (arith, w, d)) in
-        any_here kept c.books r.0 b.0 b.1 (same r.0 b.0 b.1 (k.dies.each r.0 b.0 b.1) ∙ r.2)
+        let b = get_there c.rows r.0 (omega (arith, w, d)) in
+        any_here kept c.rows r.0 b.0 b.1 (same r.0 b.0 b.1 (k.dies.each r.0 b.0 b.1) ∙ r.2)
 
 -- what is asked of each kept job is what is asked of each job in flight
-pub books_agree : (c : Core) (t : Translation) (kept : Book → Bool) (is : Option disk.Flight → Bool) → Kept c t →
-    ((die : ℕ) (b : Book) → slice_get c.books die ≡ Some b →
+pub rows_agree : (c : Core) (t : Translation) (kept : DieRow → Bool) (is : Option disk.Flight → Bool) → Kept c t →
+    ((die : ℕ) (b : DieRow) → slice_get c.rows die ≡ Some b →
     IsFlight t.numbers c.step die b.filling b.flight (t.disk.flights die) → kept b ≡ is (t.disk.flights die)) →
-    list_any kept c.books ≡ some_flight t is
-books_agree c t kept is k same =
+    list_any kept c.rows ≡ some_flight t is
+rows_agree c t kept is k same =
     dies_agree c t kept (λ die. is (t.disk.flights die)) k (λ die b at book. same die b at book.job)
 
 -- whether a die reads for this block of the reader
 pub reads_agree : (c : Core) (t : Translation) (reader index : ℕ) → Kept c t →
-    list_any (reads_for reader index) c.books ≡ some_flight t (flies_reader (ForTask reader index))
-reads_agree c t reader index k = books_agree c t (reads_for reader index) (flies_reader (ForTask reader index)) k
+    list_any (reads_for reader index) c.rows ≡ some_flight t (flies_reader (ForTask reader index))
+reads_agree c t reader index k = rows_agree c t (reads_for reader index) (flies_reader (ForTask reader index)) k
     (λ die b at h. flight_cases t.numbers c.step die b.filling
     (λ (f : Option Flight) (g : Option disk.Flight).
     flight_reads reader index f ≡ flies_reader (ForTask reader index) g)
@@ -90,8 +90,8 @@ reads_agree c t reader index k = books_agree c t (reads_for reader index) (flies
 
 -- whether a die reads for the step under way
 pub step_reads_agree : (c : Core) (t : Translation) → Kept c t →
-    list_any reads_step c.books ≡ some_flight t (flies_reader ForStep)
-step_reads_agree c t k = books_agree c t reads_step (flies_reader ForStep) k
+    list_any reads_step c.rows ≡ some_flight t (flies_reader ForStep)
+step_reads_agree c t k = rows_agree c t reads_step (flies_reader ForStep) k
     (λ die b at h. flight_cases t.numbers c.step die b.filling
     (λ (f : Option Flight) (g : Option disk.Flight). is_step_reading f ≡ flies_reader ForStep g)
     refl (λ place tag i. refl) (λ place. refl) (λ place. refl) (λ o cell fills page. refl)
@@ -126,8 +126,8 @@ no_name l step content w name place cell kept new none page = absurd page
 -- whether a die writes the page of the group with this number that has this index, which does not stand
 pub writes_agree : (c : Core) (t : Translation) (name : Name) → Kept c t →
     t.ledger.standing name.number name.index ≡ None → repairs_in c.step ≡ 0 →
-    list_any (writes_page name.number name.index) c.books ≡ some_flight t (flies_name name)
-writes_agree c t name k new no_repairs = books_agree c t (writes_page name.number name.index) (flies_name name) k
+    list_any (writes_page name.number name.index) c.rows ≡ some_flight t (flies_name name)
+writes_agree c t name k new no_repairs = rows_agree c t (writes_page name.number name.index) (flies_name name) k
     (λ die b at h. flight_cases t.numbers c.step die b.filling
     (λ (f : Option Flight) (g : Option disk.Flight). flight_writes name.number name.index f ≡ flies_name name g)
     refl (λ place tag i. refl) (λ place. refl) (λ place. refl)
@@ -144,8 +144,8 @@ mark_page number fence place cell page = absurd page
 
 -- whether a die writes the mark that is the step under way
 pub marks_agree : (c : Core) (t : Translation) (number : ℕ) (fence : Option Fence) → Kept c t →
-    c.step ≡ Some (steps.Mark number fence) → list_any writes_step c.books ≡ some_flight t flies_mark
-marks_agree c t number fence k is = books_agree c t writes_step flies_mark k
+    c.step ≡ Some (steps.Mark number fence) → list_any writes_step c.rows ≡ some_flight t flies_mark
+marks_agree c t number fence k is = rows_agree c t writes_step flies_mark k
     (λ die b at h. flight_cases t.numbers (Some (steps.Mark number fence)) die b.filling
     (λ (f : Option Flight) (g : Option disk.Flight). is_step_flight f ≡ flies_mark g)
     refl (λ place tag i. refl) (λ place. refl) (λ place. refl)
@@ -165,8 +165,8 @@ repair_page number key from there place cell page = absurd page
 -- whether a die writes the page of the repair that is the step under way
 pub repairs_agree : (c : Core) (t : Translation) (number : ℕ) (key : Key) (from : Option Stored) (there : Bool) →
     Kept c t → c.step ≡ Some (steps.Repair number key from there) →
-    list_any writes_step c.books ≡ some_flight t (flies_name (name_at number 0))
-repairs_agree c t number key from there k is = books_agree c t writes_step (flies_name (name_at number 0)) k
+    list_any writes_step c.rows ≡ some_flight t (flies_name (name_at number 0))
+repairs_agree c t number key from there k is = rows_agree c t writes_step (flies_name (name_at number 0)) k
     (λ die b at h. flight_cases t.numbers (Some (steps.Repair number key from there)) die b.filling
     (λ (f : Option Flight) (g : Option disk.Flight). is_step_flight f ≡ flies_name (name_at number 0) g)
     refl (λ place tag i. refl) (λ place. refl) (λ place. refl)
@@ -189,8 +189,8 @@ copied_page l n k from (Some read) content name place cell h page = absurd page
 pub copies_agree : (c : Core) (t : Translation) (number : ℕ) (key : Key) (from : Place) (read : Option Tag)
     (name : Name) → Kept c t → CopyKept t.ledger number key read c.content name →
     c.step ≡ Some (steps.Copy number key from read) →
-    list_any writes_step c.books ≡ some_flight t (flies_name name)
-copies_agree c t number key from read name k copy is = books_agree c t writes_step (flies_name name) k
+    list_any writes_step c.rows ≡ some_flight t (flies_name name)
+copies_agree c t number key from read name k copy is = rows_agree c t writes_step (flies_name name) k
     (λ die b at h. flight_cases t.numbers (Some (steps.Copy number key from read)) die b.filling
     (λ (f : Option Flight) (g : Option disk.Flight). b.flight ≡ f → is_step_flight f ≡ flies_name name g)
     (λ f. refl) (λ place tag i f. refl) (λ place f. refl) (λ place f. refl)
@@ -208,18 +208,18 @@ copies_agree c t number key from read name k copy is = books_agree c t writes_st
 -- where no step is under way, a page that a die programs is that of a pending group
 pub group_writer : (c : Core) (t : Translation) (die : ℕ) (p : Place) (tag : Tag) (body : List ℕ) → Kept c t →
     c.step ≡ None → t.disk.flights die ≡ Some (disk.Programming p (GroupPage tag body)) →
-    WritesGroup c.books die tag.number tag.index
+    WritesGroup c.rows die tag.number tag.index
 group_writer c t die p tag body k none flies = ⊎_elim
     (λ low.
     let all = k.dies.dies in
-    let b = get_there c.books die (omega (arith, low, all)) in
+    let b = get_there c.rows die (omega (arith, low, all)) in
     let r = by b.0 b.0.flight (subst (λ (z : Option Step × Option disk.Flight).
     IsFlight t.numbers z.0 die b.0.filling b.0.flight z.1) (λ i. (none i, flies i)) (k.dies.each die b.0 b.1).job) in
     record { book = b.0; there = b.1; place = r.0; job = r.1 })
     (λ high. absurd (none_some _ (sym (k.dies.no_more die high) ∙ flies)))
     (cases_lt die t.numbers.dies)
   where
-    by : (b : Book) (f : Option Flight) →
+    by : (b : DieRow) (f : Option Flight) →
         IsFlight t.numbers None die b.filling f (Some (disk.Programming p (GroupPage tag body))) →
         (place : Place) × (f ≡ Some (flight.Group place tag.number tag.index))
     by b (Some (flight.Step place)) h = absurd h.2
@@ -227,7 +227,7 @@ group_writer c t die p tag body k none flies = ⊎_elim
     by b f h = absurd h
 
 -- a die that is kept as idle has no job
-pub no_job : (c : Core) (t : Translation) (die : ℕ) (b : Book) → Kept c t → slice_get c.books die ≡ Some b →
+pub no_job : (c : Core) (t : Translation) (die : ℕ) (b : DieRow) → Kept c t → slice_get c.rows die ≡ Some b →
     b.flight ≡ None →
     t.disk.flights die ≡ None
 no_job c t die b k at idle =
@@ -239,9 +239,9 @@ no_job c t die b k at idle =
     none None h = refl
     none (Some g) h = absurd h
 
-pub die_within : (c : Core) (t : Translation) (die : ℕ) (b : Book) → Kept c t → slice_get c.books die ≡ Some b →
+pub die_within : (c : Core) (t : Translation) (die : ℕ) (b : DieRow) → Kept c t → slice_get c.rows die ≡ Some b →
     die < t.numbers.dies
-die_within c t die b k at = let w = slice_get_within c.books die b at in let d = k.dies.dies in omega (arith, w, d)
+die_within c t die b k at = let w = slice_get_within c.rows die b at in let d = k.dies.dies in omega (arith, w, d)
 
 -- One die's job is another
 
@@ -259,38 +259,38 @@ filling_same n blocks now die (Some o) same h = (
 
 -- a die has another job, only its own blocks change, and the jobs of the others suit the step that is then under way
 pub dies_changed : (n : Numbers) (blocks now : Spot → disk.BlockState) (flights : ℕ → Option disk.Flight)
-    (step after : Option Step) (books : List Book) (die : ℕ) (b x : Book) (job : Option disk.Flight) →
-    DiesKept n blocks flights step books → slice_get books die ≡ Some b →
+    (step after : Option Step) (rows : List DieRow) (die : ℕ) (b x : DieRow) (job : Option disk.Flight) →
+    DiesKept n blocks flights step rows → slice_get rows die ≡ Some b →
     ((s : Spot) → s.die ≢ die → now s ≡ blocks s) →
-    ((e : ℕ) (y : Book) → e ≢ die → slice_get books e ≡ Some y → IsFlight n step e y.filling y.flight (flights e) →
+    ((e : ℕ) (y : DieRow) → e ≢ die → slice_get rows e ≡ Some y → IsFlight n step e y.filling y.flight (flights e) →
     IsFlight n after e y.filling y.flight (flights e)) →
-    BookKept n now after die x job → DiesKept n now (at_die flights die job) after (slice_set books die x)
-dies_changed n blocks now flights step after books die b x job h at same suits this = record {
-  dies = set_length books die x ∙ h.dies;
-  each = λ e y got. ⊎_elim (λ k. here e y k.0 k.1) (λ k. other e y k.0 k.1) (get_set books die x e y got);
+    RowKept n now after die x job → DiesKept n now (at_die flights die job) after (slice_set rows die x)
+dies_changed n blocks now flights step after rows die b x job h at same suits this = record {
+  dies = set_length rows die x ∙ h.dies;
+  each = λ e y got. ⊎_elim (λ k. here e y k.0 k.1) (λ k. other e y k.0 k.1) (get_set rows die x e y got);
   no_more = λ e past. ⊎_elim
       (λ (k : (e ≡ die) × (at_die flights die job e ≡ job)).
-      let w = slice_get_within books die b at in let d = h.dies in let is = k.0 in absurd
+      let w = slice_get_within rows die b at in let d = h.dies in let is = k.0 in absurd
       (omega (arith, w, d, is, past)))
       (λ (k : (e ≢ die) × (at_die flights die job e ≡ flights e)). k.1 ∙ h.no_more e past)
       (at_die_cases flights die job e);
 }
   where
-    here : (e : ℕ) (y : Book) → e ≡ die → x ≡ y → BookKept n now after e y (at_die flights die job e)
+    here : (e : ℕ) (y : DieRow) → e ≡ die → x ≡ y → RowKept n now after e y (at_die flights die job e)
     here e y is one = ⊎_elim
         (λ (k : (e ≡ die) × (at_die flights die job e ≡ job)).
-        subst (λ (z : ℕ × Book × Option disk.Flight). BookKept n now after z.0 z.1 z.2)
+        subst (λ (z : ℕ × DieRow × Option disk.Flight). RowKept n now after z.0 z.1 z.2)
         (λ i. (sym is i, one i, sym k.1 i)) this)
         (λ k. absurd (k.0 is))
         (at_die_cases flights die job e)
 
-    other : (e : ℕ) (y : Book) → e ≢ die → slice_get books e ≡ Some y →
-        BookKept n now after e y (at_die flights die job e)
+    other : (e : ℕ) (y : DieRow) → e ≢ die → slice_get rows e ≡ Some y →
+        RowKept n now after e y (at_die flights die job e)
     other e y apart got = ⊎_elim
         (λ k. absurd (apart k.0))
         (λ (k : (e ≢ die) × (at_die flights die job e ≡ flights e)).
         let r = h.each e y got in
-        subst (λ (g : Option disk.Flight). BookKept n now after e y g) (sym k.1)
+        subst (λ (g : Option disk.Flight). RowKept n now after e y g) (sym k.1)
         (record {
           filling = filling_same n blocks now e y.filling (λ block. same (spot_at e block) apart) r.filling;
           job = suits e y apart got r.job;
@@ -299,12 +299,12 @@ dies_changed n blocks now flights step after books die b x job h at same suits t
 
 -- the same where the step under way stays
 pub dies_put : (n : Numbers) (blocks now : Spot → disk.BlockState) (flights : ℕ → Option disk.Flight)
-    (step : Option Step) (books : List Book) (die : ℕ) (b x : Book) (job : Option disk.Flight) →
-    DiesKept n blocks flights step books → slice_get books die ≡ Some b →
-    ((s : Spot) → s.die ≢ die → now s ≡ blocks s) → BookKept n now step die x job →
-    DiesKept n now (at_die flights die job) step (slice_set books die x)
-dies_put n blocks now flights step books die b x job h at same this =
-    dies_changed n blocks now flights step step books die b x job h at same (λ e y apart got is. is) this
+    (step : Option Step) (rows : List DieRow) (die : ℕ) (b x : DieRow) (job : Option disk.Flight) →
+    DiesKept n blocks flights step rows → slice_get rows die ≡ Some b →
+    ((s : Spot) → s.die ≢ die → now s ≡ blocks s) → RowKept n now step die x job →
+    DiesKept n now (at_die flights die job) step (slice_set rows die x)
+dies_put n blocks now flights step rows die b x job h at same this =
+    dies_changed n blocks now flights step step rows die b x job h at same (λ e y apart got is. is) this
 
 -- The job of one die ends
 
@@ -317,23 +317,23 @@ fewer flights die is d none h = ⊎_elim
     (at_die_cases flights die None d)
 
 -- a die that writes a group's page then wrote it before
-pub wrote_before : (books : List Book) (die : ℕ) (filling : Option OpenBlock) (d number index : ℕ) →
-    WritesGroup (slice_set books die (record { filling = filling; flight = None })) d number index →
-    WritesGroup books d number index × (d ≢ die)
-wrote_before books die filling d number index w = ⊎_elim
+pub wrote_before : (rows : List DieRow) (die : ℕ) (filling : Option OpenBlock) (d number index : ℕ) →
+    WritesGroup (slice_set rows die (record { filling = filling; flight = None })) d number index →
+    WritesGroup rows d number index × (d ≢ die)
+wrote_before rows die filling d number index w = ⊎_elim
     (λ (e : (d ≡ die) × (record { filling = filling; flight = None } ≡ w.book)).
-    absurd (none_some (flight.Group w.place number index) (ap (λ (z : Book). z.flight) e.1 ∙ w.job)))
-    (λ (e : (d ≢ die) × (slice_get books d ≡ Some w.book)).
+    absurd (none_some (flight.Group w.place number index) (ap (λ (z : DieRow). z.flight) e.1 ∙ w.job)))
+    (λ (e : (d ≢ die) × (slice_get rows d ≡ Some w.book)).
     (record { book = w.book; there = e.1; place = w.place; job = w.job }, e.0))
-    (get_set books die (record { filling = filling; flight = None }) d w.book w.there)
+    (get_set rows die (record { filling = filling; flight = None }) d w.book w.there)
 
-pub fly_over : (standing : Standing) (flights : ℕ → Option disk.Flight) (die : ℕ) (books : List Book)
-    (filling : Option OpenBlock) → PagesFly standing flights books →
-    PagesFly standing (at_die flights die None) (slice_set books die (record { filling = filling; flight = None }))
-fly_over standing flights die books filling h = record {
+pub fly_over : (standing : Standing) (flights : ℕ → Option disk.Flight) (die : ℕ) (rows : List DieRow)
+    (filling : Option OpenBlock) → PagesFly standing flights rows →
+    PagesFly standing (at_die flights die None) (slice_set rows die (record { filling = filling; flight = None }))
+fly_over standing flights die rows filling h = record {
   one = λ d e name f g.
       h.one d e name (fewer flights die (flies_name name) d refl f) (fewer flights die (flies_name name) e refl g);
-  new = λ d number index w. h.new d number index (wrote_before books die filling d number index w).0;
+  new = λ d number index w. h.new d number index (wrote_before rows die filling d number index w).0;
 }
 
 pub reads_over : (flights : ℕ → Option disk.Flight) (die : ℕ) (pins : List Pin) → ReadsKept flights pins →

@@ -82,7 +82,7 @@ and_nothing false b test xs h = refl
 -- a page waits if its name does
 waits_alike : (c : Core) (t : Translation) → Describes c t → is_mended t.work.mending ≡ true → (p : Pending)
     (name : Name) → PageKept t.ledger.standing (entry_of t.ledger) p name →
-    page_waits c.books p ≡ layer.waits t name
+    page_waits c.rows p ≡ layer.waits t name
 waits_alike c t h mended p name k =
     sym (and_nothing (not (is_some (t.ledger.standing name.number name.index)))
     (not (some_flight t (flies_name name)))
@@ -90,12 +90,12 @@ waits_alike c t h mended p name k =
     t.work.rests h.kept.work.no_rests
     ∙ (λ i. not (is_some (k.stands i)) && not (some_flight t (flies_name name)))
     ∙ by p.written refl
-    ∙ (λ i. not (is_some p.written) && not (list_any (writes_page (sym k.number i) (sym k.index i)) c.books))
-    ∙ none_is p.written (not (list_any (writes_page p.number p.index) c.books)))
+    ∙ (λ i. not (is_some p.written) && not (list_any (writes_page (sym k.number i) (sym k.index i)) c.rows))
+    ∙ none_is p.written (not (list_any (writes_page p.number p.index) c.rows)))
   where
     by : (o : Option Place) → p.written ≡ o →
         (not (is_some o) && not (some_flight t (flies_name name)))
-        ≡ (not (is_some o) && not (list_any (writes_page name.number name.index) c.books))
+        ≡ (not (is_some o) && not (list_any (writes_page name.number name.index) c.rows))
     by None e = ap not (sym (writes_agree c t name h.kept (k.stands ∙ e) (no_repair c t h mended)))
     by (Some place) e = refl
 
@@ -111,7 +111,7 @@ mended_name c t h mended =
     (t.ledger.frontier - before_accepted t.ledger) (before_accepted t.ledger) (accepted_groups t.ledger) standing_below
     ∙ ap (λ z. find (layer.waits t) (names_after z (pending t.ledger)))
     (up (before_accepted t.ledger) t.ledger.frontier (h.kept.work.repaired mended))
-    ∙ pages_found t.ledger.standing (entry_of t.ledger) (page_waits c.books) (layer.waits t) c.pages
+    ∙ pages_found t.ledger.standing (entry_of t.ledger) (page_waits c.rows) (layer.waits t) c.pages
     (names_pending t.ledger) (waits_alike c t h mended) h.kept.ledger_kept.pages
   where
     up : (n m : ℕ) → n ≤ m → n + (m - n) ≡ m
@@ -139,5 +139,5 @@ next_name c t h = ⊎_elim (mended_name c t h) none (two_ways (is_mended t.work.
     none : is_mended t.work.mending ≡ false → waiting_name t ≡ option_map page_name (page_waiting c)
     none unmended =
         ap (λ z. find (layer.waits t) (names_after (before_accepted t.ledger) z)) (none_accepted t h.valid unmended)
-        ∙ ap (λ (ps : List Pending). option_map page_name (find (page_waits c.books) ps))
+        ∙ ap (λ (ps : List Pending). option_map page_name (find (page_waits c.rows) ps))
         (sym (none_waiting c t h unmended))

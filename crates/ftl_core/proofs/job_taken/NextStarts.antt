@@ -15,9 +15,9 @@ use Rattle.ufs_laws.proofs.jobs.OneJob.{given as some_job, nothing_inside}
 use Rattle.power_loss.proofs.moves.MovesKeepValid.{all_keep}
 use Rattle.power_loss.proofs.books.PagesByName.{none_some}
 use Rattle.power_loss.proofs.books.SmallFacts.{at_die_cases}
-use Rattle.ftl_core.specs.declared.books.Book.{Book}
-use Rattle.ftl_core.specs.declared.books.Flight.{Flight}
-use Rattle.ftl_core.specs.declared.books.Flight.TheVariants as flight
+use Rattle.block_table.specs.declared.rows.DieRow.{DieRow}
+use Rattle.block_table.specs.declared.rows.Flight.{Flight}
+use Rattle.block_table.specs.declared.rows.Flight.TheVariants as flight
 use Rattle.ftl_core.specs.Core.{Core}
 use Rattle.ftl_core.specs.Describes.{Describes, IsFlight, IsTaken, Kept, PagesFly, ReadsKept, Standing, given}
 use Rattle.ftl_core.specs.Describes.{IsWanted, StepReadsKept, WritesGroup}
@@ -29,13 +29,13 @@ use Rattle.ftl_core.proofs.job_taken.FlightKinds.{none_flies}
 use Rattle.ftl_core.proofs.opened.ListParts.{get_set}
 
 -- the page of no name flies from two dies, if no other die flies that of the new job
-fly_begun : (standing : Standing) (flights : ℕ → Option disk.Flight) (books : List Book) (die : ℕ) (b : Book)
-    (kept : Flight) (f : disk.Flight) → PagesFly standing flights books →
+fly_begun : (standing : Standing) (flights : ℕ → Option disk.Flight) (rows : List DieRow) (die : ℕ) (b : DieRow)
+    (kept : Flight) (f : disk.Flight) → PagesFly standing flights rows →
     ((name : Name) → flies_name name (Some f) ≡ true → (e : ℕ) → flies_name name (flights e) ≡ false) →
     ((place : Place) (number index : ℕ) → kept ≡ flight.Group place number index → standing number index ≡ None) →
     PagesFly standing (at_die flights die (Some f))
-    (slice_set books die (record { filling = b.filling; flight = Some kept }))
-fly_begun standing flights books die b kept f h alone fresh = record { one = one; new = new }
+    (slice_set rows die (record { filling = b.filling; flight = Some kept }))
+fly_begun standing flights rows die b kept f h alone fresh = record { one = one; new = new }
   where
     -- the new job's page, and one that flew before
     both : (e : ℕ) (name : Name) → flies_name name (Some f) ≡ true → flies_name name (flights e) ≡ true → ⊥
@@ -61,15 +61,15 @@ fly_begun standing flights books die b kept f h alone fresh = record { one = one
     same_job x y e = cc
 
     new : (d number index : ℕ) →
-        WritesGroup (slice_set books die (record { filling = b.filling; flight = Some kept })) d number index →
+        WritesGroup (slice_set rows die (record { filling = b.filling; flight = Some kept })) d number index →
         standing number index ≡ None
     new d number index w = ⊎_elim
         (λ (e : (d ≡ die) × (record { filling = b.filling; flight = Some kept } ≡ w.book)).
         fresh w.place number index
-        (same_job kept (flight.Group w.place number index) (ap (λ (z : Book). z.flight) e.1 ∙ w.job)))
-        (λ (e : (d ≢ die) × (slice_get books d ≡ Some w.book)).
+        (same_job kept (flight.Group w.place number index) (ap (λ (z : DieRow). z.flight) e.1 ∙ w.job)))
+        (λ (e : (d ≢ die) × (slice_get rows d ≡ Some w.book)).
         h.new d number index (record { book = w.book; there = e.1; place = w.place; job = w.job }))
-        (get_set books die (record { filling = b.filling; flight = Some kept }) d w.book w.there)
+        (get_set rows die (record { filling = b.filling; flight = Some kept }) d w.book w.there)
 
 -- a job that may begin: a page that it writes flies from no die, and that of a group does not stand; a page that it
 -- reads for a task is one that its reader wants, and one for the step under way the page that this wants
@@ -81,16 +81,16 @@ pub record MayBegin (c : Core) (t : Translation) (kept : Flight) (job : disk.Fli
       (p : Pin) × (find (is_pin_of tag index) c.pins ≡ Some p) × IsWanted place p
   pub step_wanted : (place : Place) → job ≡ disk.Reading ForStep place → step_wants c.step ≡ Some place
 
-pub kept_begun : (c : Core) (t : Translation) (die : ℕ) (b : Book) (f : Flight) (job : disk.Flight) → Kept c t →
-    slice_get c.books die ≡ Some b → IsFlight t.numbers c.step die b.filling (Some f) (Some job) → MayBegin c t f job →
+pub kept_begun : (c : Core) (t : Translation) (die : ℕ) (b : DieRow) (f : Flight) (job : disk.Flight) → Kept c t →
+    slice_get c.rows die ≡ Some b → IsFlight t.numbers c.step die b.filling (Some f) (Some job) → MayBegin c t f job →
     Kept (started c die b f) (taken t die job)
 kept_begun c t die b f job k at is may = record {
   numbers = k.numbers;
   blocks = k.blocks;
-  dies = dies_put t.numbers t.disk.blocks t.disk.blocks t.disk.flights c.step c.books die b
+  dies = dies_put t.numbers t.disk.blocks t.disk.blocks t.disk.flights c.step c.rows die b
       (record { filling = b.filling; flight = Some f })
       (Some job) k.dies at (λ s apart. refl) (record { filling = (k.dies.each die b at).filling; job = is });
-  fly = fly_begun t.ledger.standing t.disk.flights c.books die b f job k.fly
+  fly = fly_begun t.ledger.standing t.disk.flights c.rows die b f job k.fly
       (λ name flies. none_flies t.numbers.dies t.disk.flights (flies_name name) refl k.dies.no_more
       (may.alone name flies)) may.fresh;
   ledger_kept = k.ledger_kept;
@@ -122,12 +122,12 @@ kept_begun c t die b f job k at is may = record {
 -- Idle dies
 
 -- a die without a book is outside the numbers
-pub outside : (c : Core) (t : Translation) (die : ℕ) → Kept c t → slice_get c.books die ≡ None → t.numbers.dies ≤ die
+pub outside : (c : Core) (t : Translation) (die : ℕ) → Kept c t → slice_get c.rows die ≡ None → t.numbers.dies ≤ die
 outside c t die k there = ⊎_elim
-    (λ (w : (x : Book) × (die < length c.books) × (slice_get c.books die ≡ Some x) × (get_or c.books die x ≡ x)).
+    (λ (w : (x : DieRow) × (die < length c.rows) × (slice_get c.rows die ≡ Some x) × (get_or c.rows die x ≡ x)).
     absurd (none_some w.0 (sym there ∙ w.2)))
     (λ w. subst (λ (n : ℕ). n ≤ die) k.dies.dies w.0)
-    (slice_get_cases c.books die).1
+    (slice_get_cases c.rows die).1
 
 -- a die outside the numbers is not idle, and neither is one with a job
 pub not_idle : (t : Translation) (die : ℕ) → (t.numbers.dies ≤ die) ⊎ (is_none (t.disk.flights die) ≡ false) →
@@ -182,18 +182,18 @@ nothing_taken c t die h none may = record {
   describes = subst (λ (z : Core). Describes z t) (sym still) h;
 }
   where
-    as_it_was : (o : Option Book) → begun_if_any c die o None None ≡ c
+    as_it_was : (o : Option DieRow) → begun_if_any c die o None None ≡ c
     as_it_was None = refl
     as_it_was (Some b) = refl
 
     still : core_taken c die ≡ c
     still =
-        (λ i. begun_if_any c die (slice_get c.books die) (none i) (option_and_then (job_of c die) (none i)))
-        ∙ as_it_was (slice_get c.books die)
+        (λ i. begun_if_any c die (slice_get c.rows die) (none i) (option_and_then (job_of c die) (none i)))
+        ∙ as_it_was (slice_get c.rows die)
 
 -- or a job
-pub job_begun : (c : Core) (t : Translation) (die : ℕ) (b : Book) (f : Flight) (job : disk.Flight) → Describes c t →
-    slice_get c.books die ≡ Some b → flight_taken c die ≡ Some f → job_of c die f ≡ Some (told_by job) →
+pub job_begun : (c : Core) (t : Translation) (die : ℕ) (b : DieRow) (f : Flight) (job : disk.Flight) → Describes c t →
+    slice_get c.rows die ≡ Some b → flight_taken c die ≡ Some f → job_of c die f ≡ Some (told_by job) →
     IsFlight t.numbers c.step die b.filling (Some f) (Some job) → MayBegin c t f job → MayTake t die (Some job) →
     IsTaken t die (job_taken c die) (core_taken c die)
 job_begun c t die b f job h there taken told is begins may = record {

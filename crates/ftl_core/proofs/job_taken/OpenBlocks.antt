@@ -10,15 +10,15 @@ use Rattle.ufs_spec.specs.Translation as layer
 use Rattle.ufs_spec.specs.Translation.{Translation, count_blocks, flies_erase, own_room, some_flight}
 use Rattle.ufs_spec.specs.declared.flash.Place.{Place}
 use Rattle.block_table.specs.Blocks.{is_free}
-use Rattle.block_table.specs.declared.OpenBlock.{OpenBlock}
-use Rattle.ftl_core.specs.declared.books.Flight.{Flight}
+use Rattle.block_table.specs.declared.rows.OpenBlock.{OpenBlock}
+use Rattle.block_table.specs.declared.rows.Flight.{Flight}
 use Rattle.ftl_core.specs.Core.{Core}
 use Rattle.ftl_core.specs.Describes.{Describes, Kept}
 use Rattle.ftl_core.specs.Moves.{erases, fills, flight_erases, free_blocks, has_open_block, has_room_for_groups}
 use Rattle.ftl_core.specs.Moves.{may_open_for_group, may_open_for_step}
 use Rattle.ftl_core.specs.Takes.{next_place}
 use Rattle.ftl_core.proofs.job_taken.FlightKinds.{flight_cases}
-use Rattle.ftl_core.proofs.job_taken.Flown.{books_agree, dies_agree}
+use Rattle.ftl_core.proofs.job_taken.Flown.{rows_agree, dies_agree}
 use Rattle.ftl_core.proofs.opened.Spots.{free_counted, next_found}
 
 -- Free blocks
@@ -40,7 +40,7 @@ group_alike c t h = λ i. nat_lt (own_room (h.kept.numbers i)) (free_alike c t h
 
 -- whether a die fills a block
 fills_agree : (c : Core) (t : Translation) → Kept c t →
-    list_any fills c.books ≡ list_any (λ die. is_some (layer.next_place t die)) (below t.numbers.dies)
+    list_any fills c.rows ≡ list_any (λ die. is_some (layer.next_place t die)) (below t.numbers.dies)
 fills_agree c t k = dies_agree c t fills (λ die. is_some (layer.next_place t die)) k
     (λ die b at book. sym (ap is_some (next_found t.numbers t.disk.blocks die b.filling book.filling)
     ∙ mapped (next_place die) b.filling))
@@ -50,8 +50,8 @@ fills_agree c t k = dies_agree c t fills (λ die. is_some (layer.next_place t di
     mapped f (Some x) = refl
 
 -- whether a die erases one
-erases_agree : (c : Core) (t : Translation) → Kept c t → list_any erases c.books ≡ some_flight t flies_erase
-erases_agree c t k = books_agree c t erases flies_erase k
+erases_agree : (c : Core) (t : Translation) → Kept c t → list_any erases c.rows ≡ some_flight t flies_erase
+erases_agree c t k = rows_agree c t erases flies_erase k
     (λ die b at h. flight_cases t.numbers c.step die b.filling
     (λ (f : Option Flight) (g : Option disk.Flight). flight_erases f ≡ flies_erase g)
     refl (λ place tag i. refl) (λ place. refl) (λ place. refl) (λ o cell fills page. refl)

@@ -28,10 +28,10 @@ use Rattle.ftl_core.specs.Moves.{is_owed_by, is_pin_of, looks_on, reads_for}
 use Rattle.ftl_core.proofs.job_taken.Flown.{die_within, no_job, reads_agree, step_reads_agree}
 use Rattle.ufs_spec.proofs.Facts.{false≢true}
 use Rattle.ufs_spec.specs.Disk as disk
-use Rattle.ftl_core.specs.declared.books.Book.{Book}
-use Rattle.ftl_core.specs.declared.books.Flight.{Flight}
-use Rattle.ftl_core.specs.declared.books.Flight.TheVariants as flight
-use Rattle.ftl_core.specs.declared.books.Reader.TheVariants as reader
+use Rattle.block_table.specs.declared.rows.DieRow.{DieRow}
+use Rattle.block_table.specs.declared.rows.Flight.{Flight}
+use Rattle.block_table.specs.declared.rows.Flight.TheVariants as flight
+use Rattle.block_table.specs.declared.rows.Reader.TheVariants as reader
 use Rattle.ftl_core.specs.declared.books.Step.{Step}
 use Rattle.ftl_core.specs.declared.books.Step.TheVariants as steps
 use Rattle.unit_map.specs.declared.Stored.{Stored}
@@ -101,10 +101,10 @@ is_free t reader = not (some_flight t (flies_reader reader))
 
 owed_passes : (c : Core) (t : Translation) (die : ℕ) (p : Pin) (q : layer.Pin) → Kept c t →
     PinKept t.ledger.frontier (entry_of t.ledger) p q →
-    is_owed_by c.books die p ≡ passes (is_unread t) (is_of_die die) (want_of_pin q)
+    is_owed_by c.rows die p ≡ passes (is_unread t) (is_of_die die) (want_of_pin q)
 owed_passes c t die p q k h =
     want_passes (is_free t) die (ForTask p.reader p.index) p.wanted
-    (not (list_any (reads_for p.reader p.index) c.books)) p.looked q.looked h.looked_at
+    (not (list_any (reads_for p.reader p.index) c.rows)) p.looked q.looked h.looked_at
     (ap not (reads_agree c t p.reader p.index k))
     ∙ (λ i. passes (is_unread t) (is_of_die die)
     (if sym h.wanted i then want_of_look (ForTask (sym h.tag i) (sym h.index i)) q.looked else None))
@@ -217,24 +217,24 @@ two_want c t die k =
 
 -- where no reader is owed one, the step's is left
 step_left : (c : Core) (t : Translation) (die : ℕ) → Kept c t →
-    ((j : ℕ) (p : Pin) → slice_get c.pins j ≡ Some p → is_owed_by c.books die p ≡ false) →
+    ((j : ℕ) (p : Pin) → slice_get c.pins j ≡ Some p → is_owed_by c.rows die p ≡ false) →
     wants_on t die ≡ left t die (cons_option (want_from (step_wants c.step)) [])
 step_left c t die k none =
     two_want c t die k
     ∙ ap (λ (ws : List Want). ws ++ left t die (cons_option (want_from (step_wants c.step)) []))
     (none_left (is_unread t) (is_of_die die) t.ledger.frontier (entry_of t.ledger)
-    (is_owed_by c.books die) c.pins t.pins
+    (is_owed_by c.rows die) c.pins t.pins
     (λ p q h. owed_passes c t die p q k h) k.pins none)
 
 -- whether the step's read is still to be begun on the die
 step_free : (c : Core) (t : Translation) (die : ℕ) (place : Place) → Kept c t →
     passes (is_unread t) (is_of_die die) (Some (want_at ForStep place))
-    ≡ (not (list_any reads_step c.books) && (place.die == die))
+    ≡ (not (list_any reads_step c.rows) && (place.die == die))
 step_free c t die place k = ap (λ (b : Bool). not b && (place.die == die)) (sym (step_reads_agree c t k))
 
 -- where neither a reader nor the step is owed one, none is owed to the die
 pub none_read : (c : Core) (t : Translation) (die : ℕ) → Kept c t →
-    ((j : ℕ) (p : Pin) → slice_get c.pins j ≡ Some p → is_owed_by c.books die p ≡ false) → step_read c die ≡ None →
+    ((j : ℕ) (p : Pin) → slice_get c.pins j ≡ Some p → is_owed_by c.rows die p ≡ false) → step_read c die ≡ None →
     wants_on t die ≡ []
 none_read c t die k none unread = step_left c t die k none ∙ by (step_wants c.step) unread
   where
@@ -248,11 +248,11 @@ none_read c t die k none unread = step_left c t die k none ∙ by (step_wants c.
     by None e = refl
     by (Some place) e = dropped (is_unread t) (is_of_die die) (Some (want_at ForStep place)) []
         (step_free c t die place k
-        ∙ passed (place.die == die) (list_any reads_step c.books) (flight.Read place reader.Step) e)
+        ∙ passed (place.die == die) (list_any reads_step c.rows) (flight.Read place reader.Step) e)
 
 -- the read that a reader is owed is one of them
 one_read : (c : Core) (t : Translation) (die k : ℕ) (p : Pin) (q : layer.Pin) (place : Place) → Kept c t →
-    slice_get t.pins k ≡ Some q → PinKept t.ledger.frontier (entry_of t.ledger) p q → is_owed_by c.books die p ≡ true →
+    slice_get t.pins k ≡ Some q → PinKept t.ledger.frontier (entry_of t.ledger) p q → is_owed_by c.rows die p ≡ true →
     want_of_pin q ≡ Some (want_at (ForTask p.reader p.index) place) →
     Contains (wants_on t die) (want_at (ForTask p.reader p.index) place)
 one_read c t die k p q place kept at h owed want =
@@ -265,8 +265,8 @@ one_read c t die k p q place kept at h owed want =
 
 -- The read that the step under way is owed
 
-pub step_taken : (c : Core) (t : Translation) (die : ℕ) (b : Book) (f : Flight) → Describes c t →
-    slice_get c.books die ≡ Some b → b.flight ≡ None → first_owed c die ≡ None → step_read c die ≡ Some f →
+pub step_taken : (c : Core) (t : Translation) (die : ℕ) (b : DieRow) (f : Flight) → Describes c t →
+    slice_get c.rows die ≡ Some b → b.flight ≡ None → first_owed c die ≡ None → step_read c die ≡ Some f →
     IsTaken t die (job_taken c die) (core_taken c die)
 step_taken c t die b f h there idle none_owed read = by (step_wants c.step) refl read
   where
@@ -290,7 +290,7 @@ step_taken c t die b f h there idle none_owed read = by (step_wants c.step) refl
         job_begun c t die b (flight.Read place reader.Step) (disk.Reading ForStep place) h there
         (ap (takes.flight_for c die) there ∙ ap (idle_flight c die b.filling) idle
         ∙ ap (λ (k : Option ℕ). owed_flight c die b.filling (owed_read c die k)) none_owed
-        ∙ ap (owed_flight c die b.filling) (read ∙ sym (taken_is (place.die == die) (list_any reads_step c.books)
+        ∙ ap (owed_flight c die b.filling) (read ∙ sym (taken_is (place.die == die) (list_any reads_step c.rows)
         (flight.Read place reader.Step) f e)))
         refl
         (refl, tt)
@@ -302,21 +302,21 @@ step_taken c t die b f h there idle none_owed read = by (step_wants c.step) refl
         }) (
           is_free_die t die (die_within c t die b h.kept there) (no_job c t die b h.kept there idle),
           subst (λ (ws : List Want). Contains ws (want_at ForStep place))
-              (sym (step_left c t die h.kept (position_missed (is_owed_by c.books die) c.pins none_owed)
+              (sym (step_left c t die h.kept (position_missed (is_owed_by c.rows die) c.pins none_owed)
               ∙ ap (λ (o : Option Place). left t die (cons_option (want_from o) [])) is))
               (kept_here (is_unread t) (is_of_die die) (want_at ForStep place) []
               (step_free c t die place h.kept
-              ∙ passed (place.die == die) (list_any reads_step c.books) (flight.Read place reader.Step) f e)),
+              ∙ passed (place.die == die) (list_any reads_step c.rows) (flight.Read place reader.Step) f e)),
         )
 
 -- A read that a reader is owed
 
-owed_told : (books : List Book) (die : ℕ) (p : Pin) → is_owed_by books die p ≡ true →
+owed_told : (rows : List DieRow) (die : ℕ) (p : Pin) → is_owed_by rows die p ≡ true →
     (p.wanted ≡ true) × (s : Stored) × (p.looked ≡ looked.Page s) × (s.place.die ≡ die)
-owed_told books die p h = by p.looked refl
+owed_told rows die p h = by p.looked refl
   where
-    r : ((p.wanted && looks_on die p.looked) ≡ true) × (not (list_any (reads_for p.reader p.index) books) ≡ true)
-    r = and_true (p.wanted && looks_on die p.looked) (not (list_any (reads_for p.reader p.index) books)) h
+    r : ((p.wanted && looks_on die p.looked) ≡ true) × (not (list_any (reads_for p.reader p.index) rows) ≡ true)
+    r = and_true (p.wanted && looks_on die p.looked) (not (list_any (reads_for p.reader p.index) rows)) h
 
     u : (p.wanted ≡ true) × (looks_on die p.looked ≡ true)
     u = and_true p.wanted (looks_on die p.looked) r.0
@@ -327,7 +327,7 @@ owed_told books die p h = by p.looked refl
     by looked.Nothing e = absurd (false≢true (sym (ap (looks_on die) e) ∙ u.1))
     by (looked.Slot n i) e = absurd (false≢true (sym (ap (looks_on die) e) ∙ u.1))
 
-pub read_taken : (c : Core) (t : Translation) (die k : ℕ) (b : Book) → Describes c t → slice_get c.books die ≡ Some b →
+pub read_taken : (c : Core) (t : Translation) (die k : ℕ) (b : DieRow) → Describes c t → slice_get c.rows die ≡ Some b →
     b.flight ≡ None → first_owed c die ≡ Some k → IsTaken t die (job_taken c die) (core_taken c die)
 read_taken c t die k b h there idle owed =
     job_begun c t die b (flight.Read s.place (reader.Task p.reader p.index))
@@ -349,14 +349,14 @@ read_taken c t die k b h there idle owed =
       one_read c t die k p q.0 s.place h.kept q.1 q.2 at.2 want,
     )
   where
-    at : (x : Pin) × (slice_get c.pins k ≡ Some x) × (is_owed_by c.books die x ≡ true)
-    at = position_told (is_owed_by c.books die) c.pins k owed
+    at : (x : Pin) × (slice_get c.pins k ≡ Some x) × (is_owed_by c.rows die x ≡ true)
+    at = position_told (is_owed_by c.rows die) c.pins k owed
 
     p : Pin
     p = at.0
 
     told : (p.wanted ≡ true) × (s : Stored) × (p.looked ≡ looked.Page s) × (s.place.die ≡ die)
-    told = owed_told c.books die p at.2
+    told = owed_told c.rows die p at.2
 
     s : Stored
     s = told.1

@@ -5,10 +5,10 @@ use Rattle.std.specs.Prelude.{◌&&◌, not, option_map}
 use Rattle.std.specs.List.{list_any}
 use Rattle.std.proofs.lemmas.List.{length-map}
 use Rattle.std.proofs.lemmas.Bool.{le-leb}
-use Rattle.ufs_spec.proofs.Facts.{false≢true}
+use Rattle.ufs_spec.proofs.Facts.{false≢true, not-true}
 use Rattle.ufs_spec.specs.Cells.{Cell, GroupPage, MarkPage}
 use Rattle.ufs_spec.specs.Disk as disk
-use Rattle.ufs_spec.specs.Disk.{ForStep, ForTask, job_of as told_by}
+use Rattle.ufs_spec.specs.Disk.{job_of as told_by}
 use Rattle.ufs_spec.specs.Keys.{IsKey, IsArea, IsData, IsSettings}
 use Rattle.ufs_spec.specs.Ledger.{Entry, Name}
 use Rattle.ufs_spec.specs.Openings.{IsFirstFence}
@@ -16,8 +16,7 @@ use Rattle.ufs_spec.specs.Pages.{seal_page}
 use Rattle.ufs_spec.specs.Plain.{Shape, shape_of_numbers}
 use Rattle.ufs_spec.specs.Translation as layer
 use Rattle.ufs_spec.specs.Translation.{CopyStep, MarkStep, Mended, Mending, RepairStep, Repairing, Translation}
-use Rattle.ufs_spec.specs.Translation.{Unmarked}
-use Rattle.ufs_spec.specs.Translation.{cell_of_entry, flies_mark, flies_name, records_now, some_flight, step_cell}
+use Rattle.ufs_spec.specs.Translation.{Unmarked, cell_of_entry, flies_name, records_now, some_flight, step_cell}
 use Rattle.ufs_spec.specs.Translation.{step_flies, waiting_step}
 use Rattle.ufs_spec.specs.declared.configs.Numbers.{Numbers}
 use Rattle.ufs_spec.specs.declared.flash.Fence.{Fence}
@@ -33,7 +32,7 @@ use Rattle.ftl_core.specs.declared.books.Step.{Step}
 use Rattle.ftl_core.specs.declared.books.Step.TheVariants as steps
 use Rattle.unit_map.specs.declared.Stored.{Stored}
 use Rattle.ftl_core.specs.Core.{Core}
-use Rattle.ftl_core.specs.declared.books.Flight.TheVariants as flight
+use Rattle.block_table.specs.declared.rows.Flight.TheVariants as flight
 use Rattle.ftl_core.specs.Describes.{CopyKept, Describes, IsCopied, IsStepCell, RepairKept, StepKept, name_at}
 use Rattle.ftl_core.specs.Moves.{single_tag}
 use Rattle.ftl_core.specs.Takes.{is_sealable, is_step_there, repair_program, step_job, step_waits, writes_step}
@@ -91,18 +90,14 @@ pub record StepPage (c : Core) (t : Translation) : Type 0 where
 
 -- the page of the step is there and no die writes it
 abbrev is_waiting : Core → Option Step → Bool
-is_waiting c kept = is_step_there kept && not (list_any writes_step c.books)
+is_waiting c kept = is_step_there kept && not (list_any writes_step c.rows)
 
 -- the step waits here and there alike
 waits_alike : (c : Core) (t : Translation) (kept : Option Step) (s : layer.Step) → c.step ≡ kept →
-    s.there ≡ is_step_there kept → step_flies t s.kind ≡ list_any writes_step c.books →
+    s.there ≡ is_step_there kept → step_flies t s.kind ≡ list_any writes_step c.rows →
     (s.there && not (step_flies t s.kind)) ≡ step_waits c
 waits_alike c t kept s is there flies =
     (λ i. there i && not (flies i)) ∙ ap (is_waiting c) (sym is)
-
-not_true : (b : Bool) → not b ≡ true → b ≡ false
-not_true true e = cc
-not_true false e = refl
 
 mark_page : (c : Core) (t : Translation) (number : ℕ) (fence : Option Fence) → Describes c t →
     c.step ≡ Some (steps.Mark number fence) →
@@ -173,7 +168,8 @@ copy_page c t number k from read name h is r unflown waits = record {
   is = subst (λ (s : Option Step). IsStepCell s (GroupPage (record read { frontier = t.ledger.frontier }) c.content))
       (sym is) (sym (ap (λ (z : Tag). z.number) (copied.tag_is 0)) ∙ r.number_is, refl);
   told = λ place. ap (step_job c place) is
-      ∙ (λ i. Some (job.Program place (seal_page (record read { frontier = h.kept.ledger_kept.frontier i }) c.content)));
+      ∙ (λ i. Some (job.Program place
+      (seal_page (record read { frontier = h.kept.ledger_kept.frontier i }) c.content)));
   begins = λ place. record {
     alone = λ other e.
         let same : other ≡ name = name_told other name_read e ∙ name_same in
@@ -239,8 +235,8 @@ step_page c t h few = by c.step refl t.work.step refl h.kept.work.step_is
         let flies = sym (copies_agree c t number key from (Some read) k.0 h.kept k.2 is) in
         let same = waits_alike c t (Some (steps.Copy number key from (Some read))) copy is refl flies in (
           λ does.
-              let unwritten : list_any writes_step c.books ≡ false =
-              not_true (list_any writes_step c.books) (sym (ap (is_waiting c) is) ∙ does) in
+              let unwritten : list_any writes_step c.rows ≡ false =
+              not-true (list_any writes_step c.rows) (sym (ap (is_waiting c) is) ∙ does) in
               copy_page c t number key from read k.0 h is k.2 (flies ∙ unwritten) (one copy step same does),
           none copy step same,
         )
@@ -254,9 +250,9 @@ step_page c t h few = by c.step refl t.work.step refl h.kept.work.step_is
         let flies = sym (repairs_agree c t number key from there h.kept is) in
         let same = waits_alike c t (Some (steps.Repair number key from there)) repair is refl flies in (
           λ does.
-              let parts = and_true there (not (list_any writes_step c.books))
+              let parts = and_true there (not (list_any writes_step c.rows))
               (sym (ap (is_waiting c) is) ∙ does) in
               repair_page c t number key from there h few is k.1 parts.0
-              (flies ∙ not_true (list_any writes_step c.books) parts.1) (one repair step same does),
+              (flies ∙ not-true (list_any writes_step c.rows) parts.1) (one repair step same does),
           none repair step same,
         )

@@ -16,10 +16,10 @@ use Rattle.ufs_spec.specs.declared.flash.Place.{Place}
 use Rattle.ufs_spec.specs.declared.flash.Tag.{Tag}
 use Rattle.power_loss.proofs.books.PagesByName.{none_some}
 use Rattle.power_loss.proofs.books.SmallFacts.{and_true, if_true, name_is, name_told}
-use Rattle.ftl_core.specs.declared.books.Book.{Book}
-use Rattle.ftl_core.specs.declared.books.Flight.{Flight}
-use Rattle.ftl_core.specs.declared.books.Flight.TheVariants as flight
-use Rattle.block_table.specs.declared.OpenBlock.{OpenBlock}
+use Rattle.block_table.specs.declared.rows.DieRow.{DieRow}
+use Rattle.block_table.specs.declared.rows.Flight.{Flight}
+use Rattle.block_table.specs.declared.rows.Flight.TheVariants as flight
+use Rattle.block_table.specs.declared.rows.OpenBlock.{OpenBlock}
 use Rattle.write_cache.specs.declared.slots.Pending.{Pending}
 use Rattle.ftl_core.specs.declared.books.Waiting.{Waiting}
 use Rattle.ftl_core.specs.declared.books.Waiting.TheVariants as waiting
@@ -61,7 +61,7 @@ not-true' : (b : Bool) → not b ≡ true → b ≡ false
 not-true' true e = cc
 not-true' false e = refl
 
-module _ (c : Core) (t : Translation) (die : ℕ) (b : Book) (h : Describes c t) (there : slice_get c.books die ≡ Some b)
+module _ (c : Core) (t : Translation) (die : ℕ) (b : DieRow) (h : Describes c t) (there : slice_get c.rows die ≡ Some b)
     (idle : b.flight ≡ None) (none_owed : first_owed c die ≡ None) (step_unread : step_read c die ≡ None) where
   flies_none : t.disk.flights die ≡ None
   flies_none = no_job c t die b h.kept there idle
@@ -70,7 +70,7 @@ module _ (c : Core) (t : Translation) (die : ℕ) (b : Book) (h : Describes c t)
   free = is_free_die t die (die_within c t die b h.kept there) flies_none
 
   unread : wants_on t die ≡ []
-  unread = none_read c t die h.kept (position_missed (is_owed_by c.books die) c.pins none_owed) step_unread
+  unread = none_read c t die h.kept (position_missed (is_owed_by c.rows die) c.pins none_owed) step_unread
 
   -- what is in flight then is what waits
   taken_is : (o : Option OpenBlock) → b.filling ≡ o →
@@ -184,28 +184,28 @@ module _ (c : Core) (t : Translation) (die : ℕ) (b : Book) (h : Describes c t)
           (cell_now t.ledger (page_name p)) (place i) else None)
 
       mended : is_mended t.work.mending ≡ true
-      mended = mended_with c t (page_waits c.books) p h first
+      mended = mended_with c t (page_waits c.rows) p h first
 
       r : IsProgrammed c t (page_name p)
-      r = page_programmed c t (page_waits c.books) p h first
+      r = page_programmed c t (page_waits c.rows) p h first
 
       tag_now : Tag
       tag_now = tag_of_page r.page.key r.page.number r.page.index r.page.size c.frontier
 
       k : PageKept t.ledger.standing (entry_of t.ledger) p (page_name p)
-      k = (kept_found t.ledger.standing (entry_of t.ledger) (page_waits c.books) c.pages (names_pending t.ledger) p
+      k = (kept_found t.ledger.standing (entry_of t.ledger) (page_waits c.rows) c.pages (names_pending t.ledger) p
           h.kept.ledger_kept.pages first).1
 
-      waits_here : (is_none p.written ≡ true) × (not (list_any (writes_page p.number p.index) c.books) ≡ true)
-      waits_here = and_true (is_none p.written) (not (list_any (writes_page p.number p.index) c.books))
-          (found_passes (page_waits c.books) c.pages p first)
+      waits_here : (is_none p.written ≡ true) × (not (list_any (writes_page p.number p.index) c.rows) ≡ true)
+      waits_here = and_true (is_none p.written) (not (list_any (writes_page p.number p.index) c.rows))
+          (found_passes (page_waits c.rows) c.pages p first)
 
       new : t.ledger.standing p.number p.index ≡ None
       new = k.stands ∙ none_is p.written waits_here.0
 
       unflown : some_flight t (flies_name (page_name p)) ≡ false
       unflown = sym (writes_agree c t (page_name p) h.kept new (no_repair c t h mended))
-          ∙ not-true' (list_any (writes_page p.number p.index) c.books) waits_here.1
+          ∙ not-true' (list_any (writes_page p.number p.index) c.rows) waits_here.1
 
       job_is : (place : Place) → job_of c die (flight.Group place p.number p.index)
           ≡ Some (told_by (disk.Programming place (GroupPage tag_now r.page.body)))
@@ -294,9 +294,9 @@ pub takes_right : (c after : Core) (die : ℕ) (told : Option Job) → told ≡ 
     length c.numbers.units.items ≤ 8 → (t : Translation) → Describes c t → IsTaken t die told after
 takes_right c after die told is new few t h =
     subst (λ (z : Option Job × Core). IsTaken t die z.0 z.1) (λ i. (sym is i, sym new i))
-    (by_book (slice_get c.books die) refl)
+    (by_row (slice_get c.rows die) refl)
   where
-    by_owed : (b : Book) → slice_get c.books die ≡ Some b → b.flight ≡ None → (k : Option ℕ) → first_owed c die ≡ k →
+    by_owed : (b : DieRow) → slice_get c.rows die ≡ Some b → b.flight ≡ None → (k : Option ℕ) → first_owed c die ≡ k →
         IsTaken t die (job_taken c die) (core_taken c die)
     by_owed b there idle None owed = by_read (step_read c die) refl
       where
@@ -305,7 +305,7 @@ takes_right c after die told is new few t h =
         by_read (Some f) read = step_taken c t die b f h there idle owed read
     by_owed b there idle (Some k) owed = read_taken c t die k b h there idle owed
 
-    busy : (b : Book) (f : Flight) (g : Option disk.Flight) → IsFlight t.numbers c.step die b.filling (Some f) g →
+    busy : (b : DieRow) (f : Flight) (g : Option disk.Flight) → IsFlight t.numbers c.step die b.filling (Some f) g →
         is_none g ≡ false
     busy b f (Some g) is = refl
     busy b (flight.Read place reader) None is = absurd is
@@ -313,7 +313,7 @@ takes_right c after die told is new few t h =
     busy b (flight.Group place number index) None is = absurd is
     busy b (flight.Erase block) None is = absurd is
 
-    by_job : (b : Book) → slice_get c.books die ≡ Some b → (f : Option Flight) → b.flight ≡ f →
+    by_job : (b : DieRow) → slice_get c.rows die ≡ Some b → (f : Option Flight) → b.flight ≡ f →
         IsTaken t die (job_taken c die) (core_taken c die)
     by_job b there None idle = by_owed b there idle (first_owed c die) refl
     by_job b there (Some f) job = nothing_taken c t die h
@@ -322,7 +322,7 @@ takes_right c after die told is new few t h =
         (subst (λ (x : Option Flight). IsFlight t.numbers c.step die b.filling x (t.disk.flights die)) job
         (h.kept.dies.each die b there).job)))))
 
-    by_book : (o : Option Book) → slice_get c.books die ≡ o → IsTaken t die (job_taken c die) (core_taken c die)
-    by_book None there = nothing_taken c t die h (ap (takes.flight_for c die) there)
+    by_row : (o : Option DieRow) → slice_get c.rows die ≡ o → IsTaken t die (job_taken c die) (core_taken c die)
+    by_row None there = nothing_taken c t die h (ap (takes.flight_for c die) there)
         (inl (not_idle t die (inl (outside c t die h.kept there))))
-    by_book (Some b) there = by_job b there b.flight refl
+    by_row (Some b) there = by_job b there b.flight refl

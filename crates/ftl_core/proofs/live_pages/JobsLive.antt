@@ -4,21 +4,20 @@ use Rattle.std.specs.Prelude.{slice_get}
 use Rattle.ufs_spec.proofs.Facts.{false≢true}
 use Rattle.ufs_spec.specs.Cells.{Cell, GroupPage}
 use Rattle.ufs_spec.specs.Disk as disk
-use Rattle.ufs_spec.specs.Disk.{ForNobody, ForStep, ForTask}
 use Rattle.ufs_spec.specs.Translation.{Translation}
 use Rattle.ufs_spec.specs.declared.flash.Outcome.{Outcome}
 use Rattle.ufs_spec.specs.declared.flash.Tag.{Tag}
-use Rattle.block_table.specs.declared.OpenBlock.{OpenBlock}
+use Rattle.block_table.specs.declared.rows.OpenBlock.{OpenBlock}
 use Rattle.collector.specs.Plans.{Collection}
-use Rattle.ftl_core.specs.declared.books.Book.{Book}
-use Rattle.ftl_core.specs.declared.books.Flight.{Flight}
-use Rattle.ftl_core.specs.declared.books.Flight.TheVariants as flight
-use Rattle.ftl_core.specs.declared.books.Reader.TheVariants as readers
+use Rattle.block_table.specs.declared.rows.DieRow.{DieRow}
+use Rattle.block_table.specs.declared.rows.Flight.{Flight}
+use Rattle.block_table.specs.declared.rows.Flight.TheVariants as flight
+use Rattle.block_table.specs.declared.rows.Reader.TheVariants as readers
 use Rattle.ftl_core.specs.declared.books.Step.{Step}
 use Rattle.ftl_core.specs.declared.books.Step.TheVariants as steps
 use Rattle.ftl_core.specs.Core.{Core}
 use Rattle.ftl_core.specs.Describes.{Describes, IsStepCell, spot_at}
-use Rattle.ftl_core.specs.Done.{IsBookAfter, IsFlightAfter}
+use Rattle.ftl_core.specs.Done.{IsRowAfter, IsFlightAfter}
 use Rattle.ftl_core.specs.Ends.{mark_over, plan_freed, step_failed, step_over}
 use Rattle.ftl_core.specs.Gives.{change_after, change_ended, ending, is_read}
 use Rattle.ftl_core.specs.Moves.{page_written, repairs_in}
@@ -35,10 +34,10 @@ freed_same : (c : Core) (o : Option Collection) → facts (plan_freed c o) ≡ f
 freed_same c None = refl
 freed_same c (Some p) = refl
 
-module _ (c : Core) (t : Translation) (die : ℕ) (b : Book) (o : OpenBlock) (h : Describes c t) where
+module _ (c : Core) (t : Translation) (die : ℕ) (b : DieRow) (o : OpenBlock) (h : Describes c t) where
   step_well : (step : Option Step) (cell : Cell) → c.step ≡ step → IsStepCell step cell →
       t.disk.flights die ≡ Some (disk.Programming (next_place die o) cell) →
-      slice_get c.books die ≡ Some b → b.filling ≡ Some o →
+      slice_get c.rows die ≡ Some b → b.filling ≡ Some o →
       Knows (facts (step_over c step die b (next_place die o)))
   step_well None cell is page flies there fills = absurd page
   step_well (Some (steps.Mark n fence)) cell is page flies there fills =
@@ -61,8 +60,8 @@ module _ (c : Core) (t : Translation) (die : ℕ) (b : Book) (o : OpenBlock) (h 
 
 -- Any job
 
-module _ (c : Core) (t : Translation) (die : ℕ) (o : Outcome) (tag : Option Tag) (b : Book) (after : Core) (h : Describes c t)
-    (there : slice_get c.books die ≡ Some b) where
+module _ (c : Core) (t : Translation) (die : ℕ) (o : Outcome) (tag : Option Tag) (b : DieRow) (after : Core)
+    (h : Describes c t) (there : slice_get c.rows die ≡ Some b) where
   Goal : Option Flight → Option disk.Flight → Type 0
   Goal f g = b.flight ≡ f → t.disk.flights die ≡ g → IsFlightAfter c die b f o tag after → Knows (facts after)
 
@@ -116,8 +115,8 @@ module _ (c : Core) (t : Translation) (die : ℕ) (o : Outcome) (tag : Option Ta
           by true = h.live
           by false = h.live
 
-pub live_of : (c : Core) (t : Translation) (die : ℕ) (o : Outcome) (tag : Option Tag) (book : Option Book)
-    (after : Core) → Describes c t → slice_get c.books die ≡ book → IsBookAfter c die book o tag after →
+pub live_of : (c : Core) (t : Translation) (die : ℕ) (o : Outcome) (tag : Option Tag) (book : Option DieRow)
+    (after : Core) → Describes c t → slice_get c.rows die ≡ book → IsRowAfter c die book o tag after →
     Knows (facts after)
 live_of c t die o tag None after h there new = knows_on c after (ap facts new) h.live
 live_of c t die o tag (Some b) after h there new = live_then c t die o tag b after h there new

@@ -12,7 +12,7 @@ use Rattle.ufs_spec.specs.Ledger.{Entry, Ledger, Name, entry_of, is_name, latest
 use Rattle.ufs_spec.specs.Plain.{shape_of_numbers}
 use Rattle.ufs_spec.specs.Translation as layer
 use Rattle.ufs_spec.specs.Translation.{Mended, Mending, RepairStep, Repairing, Translation, Unmarked, is_live_cell}
-use Rattle.ufs_spec.specs.Translation.{is_mended, is_needed, name_of, stands_there}
+use Rattle.ufs_spec.specs.Translation.{is_mended, name_of, stands_there}
 use Rattle.ufs_spec.specs.declared.configs.Numbers.{Numbers}
 use Rattle.ufs_spec.specs.declared.flash.Place.{Place}
 use Rattle.ufs_spec.specs.declared.flash.Tag.{Tag}

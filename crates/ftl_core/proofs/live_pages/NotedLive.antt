@@ -1,19 +1,18 @@
 -- Which pages are live once the place of an address is noted: each page of the dies is of one key at most.
-use Rattle.std.proofs.Common.{◌≡◌, ◌≢◌, ◌∙◌, ◌⊎◌, ℕ, ◌*◌, ◌<◌, Bool, true, false, List, Option, Some, None}
-use Rattle.std.proofs.Common.{length, refl, sym, ap, subst, inl, inr, ⊎_elim, arith}
-use Rattle.std.specs.Prelude.{if◌then◌else◌, nat_lt, option_and_then, slice_get, slice_set}
+use Rattle.std.proofs.Common.{◌≡◌, ◌≢◌, ◌∙◌, ◌⊎◌, ℕ, ◌*◌, Bool, true, false, List, Option, Some, None, length, refl}
+use Rattle.std.proofs.Common.{sym, ap, subst, inl, inr, ⊎_elim}
+use Rattle.std.specs.Prelude.{if◌then◌else◌, option_and_then, slice_get, slice_set}
 use Rattle.ufs_spec.proofs.Equalities.{key_cases, place_cases}
-use Rattle.ufs_spec.proofs.Facts.{and_parts, cases_Bool, ltb-true, none-some, same_Some}
+use Rattle.ufs_spec.proofs.Facts.{none-some, same_Some}
 use Rattle.ufs_spec.proofs.Lists.{set_length}
 use Rattle.ufs_spec.specs.Cells.{Cells, GroupPage, key_of}
-use Rattle.ufs_spec.specs.Disk.{spot_of}
 use Rattle.ufs_spec.specs.Keys.{IsKey}
 use Rattle.ufs_spec.specs.Plain.{shape_of_numbers}
 use Rattle.ufs_spec.specs.declared.configs.Numbers.{Numbers}
 use Rattle.ufs_spec.specs.declared.flash.Key.{Key}
 use Rattle.ufs_spec.specs.declared.flash.Place.{Place}
 use Rattle.ufs_spec.specs.declared.flash.Tag.{Tag}
-use Rattle.block_table.specs.Lives.{Lives, block_place, has_block, has_page, is_live, page_place, with_live}
+use Rattle.block_table.specs.Lives.{Lives, has_page, is_live, page_place, with_live}
 use Rattle.block_table.specs.declared.Sizes.{Sizes}
 use Rattle.block_table.proofs.Relations.{live_beside, live_here}
 use Rattle.geometry.proofs.KeyIndexes.{index_known}

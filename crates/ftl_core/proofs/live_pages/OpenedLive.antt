@@ -1,11 +1,9 @@
 -- Which pages are live when the layer is opened.
-use Rattle.std.proofs.Common.{◌≡◌, ◌≢◌, ◌∙◌, ◌⊎◌, ℕ, zero, suc, ◌+◌, ◌-◌, ◌*◌, ◌<◌, ◌≤◌, Bool, true, false, List, []}
-use Rattle.std.proofs.Common.{◌∷◌, Option, Some, None, length, take, sum, refl, sym, ap, inl, inr, ⊎_elim, arith}
-use Rattle.std.proofs.Common.{replicate}
-use Rattle.std.specs.Prelude.{fold, option_and_then, slice_get, slice_index_or, unwrap_or}
-use Rattle.std.proofs.lemmas.List.{get_or-replicate, length-replicate}
+use Rattle.std.proofs.Common.{◌≡◌, ◌≢◌, ◌∙◌, ◌⊎◌, ℕ, zero, suc, ◌+◌, ◌-◌, ◌*◌, ◌<◌, ◌≤◌, true, false, List, [], ◌∷◌}
+use Rattle.std.proofs.Common.{Option, Some, None, length, take, sum, refl, sym, ap, inl, inr, ⊎_elim, arith}
+use Rattle.std.specs.Prelude.{fold, option_and_then, slice_get, slice_index_or}
+use Rattle.std.proofs.lemmas.List.{length-replicate}
 use Rattle.std.proofs.lemmas.List.Sums.{sum_by-cons}
-use Rattle.std.proofs.lemmas.Option.{slice_get-get_or, slice_get_past}
 use Rattle.ufs_spec.proofs.Equalities.{place_cases}
 use Rattle.ufs_spec.proofs.Facts.{and_parts, cases_lt, false≢true, none-some, same_Some}
 use Rattle.ufs_spec.proofs.Lists.{get_take, take_get}

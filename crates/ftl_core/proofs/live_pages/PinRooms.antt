@@ -1,13 +1,13 @@
 -- The layer's fields go on to be right after what changes pins.
-use Rattle.std.proofs.Common.{◌≡◌, ◌∙◌, ℕ, ◌<◌, ◌≤◌, ◌++◌, Bool, not, List, [], ◌∷◌, Option, None, ap, arith, length}
+use Rattle.std.proofs.Common.{◌≡◌, ◌∙◌, ℕ, ◌<◌, ◌≤◌, ◌++◌, Bool, not, List, [], ◌∷◌, Option, ap, arith, length}
 use Rattle.std.proofs.Common.{length-append, map, replicate, subst, sym, Global, Vec, vec_capacity}
 use Rattle.std.specs.Prelude.{filter, fold}
 use Rattle.std.proofs.lemmas.List.{length-map, length-replicate}
 use Rattle.block_table.specs.Lives.{Lives}
-use Rattle.block_table.specs.declared.OpenBlock.{OpenBlock}
 use Rattle.block_table.specs.declared.Sizes.{Sizes}
 use Rattle.unit_map.specs.declared.Stored.{Stored}
-use Rattle.ftl_core.specs.declared.books.Flight.{Flight}
+use Rattle.block_table.specs.declared.rows.DieRow.{DieRow}
+use Rattle.block_table.specs.Rows.{idle_row}
 use Rattle.ftl_core.specs.declared.books.Pin.{Pin}
 use Rattle.ftl_core.specs.declared.ftl.Ftl.TheInside.{Inside}
 use Rattle.ftl_core.specs.KnownLive.{none_live, with_stored}
@@ -27,7 +27,6 @@ roomy_on : (f : Inside) (l : Lives) (ps : Vec Pin Global) → IsRoomy f → with
     length ps.items ≤ 1024 → 1024 ≤ vec_capacity ps → ArePinsCounted l ps.items →
     IsRoomy (record f { live = l; pins = ps })
 roomy_on f l ps h same few room counted = record {
-  dies = h.dies;
   blocks = h.blocks;
   block_pages = h.block_pages;
   keys = h.keys;
@@ -104,19 +103,12 @@ first_sizes : (n : Sizes) (l : Lives) (places : List (Option Stored)) → l ≡ 
     l.sizes ≡ n
 first_sizes n l places is = ap (λ (m : Lives). m.sizes) is ∙ stored_sizes places (none_live n)
 
-pub first_dies : (n : Sizes) (l : Lives) (places : List (Option Stored)) (flights : List (Option Flight)) →
-    l ≡ fold with_stored (none_live n) places → flights ≡ replicate n.dies None → l.sizes.dies ≡ length flights
-first_dies n l places flights is idle =
+pub first_dies : (n : Sizes) (l : Lives) (places : List (Option Stored)) (rows : List DieRow) →
+    l ≡ fold with_stored (none_live n) places → rows ≡ replicate n.dies idle_row → l.sizes.dies ≡ length rows
+first_dies n l places rows is idle =
     ap (λ (m : Sizes). m.dies) (first_sizes n l places is)
-    ∙ sym (ap (λ (fs : List (Option Flight)). length fs) idle ∙ length-replicate n.dies None)
+    ∙ sym (ap (λ (rs : List DieRow). length rs) idle ∙ length-replicate n.dies idle_row)
 
 pub first_blocks : (n : Sizes) (l : Lives) (places : List (Option Stored)) →
     l ≡ fold with_stored (none_live n) places → l.sizes.blocks ≡ n.blocks
 first_blocks n l places is = ap (λ (m : Sizes). m.blocks) (first_sizes n l places is)
-
-pub first_long : (n : ℕ) (filling : List (Option OpenBlock)) (flights : List (Option Flight)) →
-    filling ≡ replicate n None → flights ≡ replicate n None → length filling ≡ length flights
-first_long n filling flights none idle =
-    ap (λ (os : List (Option OpenBlock)). length os) none
-    ∙ length-replicate n None
-    ∙ sym (ap (λ (fs : List (Option Flight)). length fs) idle ∙ length-replicate n None)

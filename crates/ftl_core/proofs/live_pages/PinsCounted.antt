@@ -8,17 +8,16 @@ use Rattle.std.proofs.Math.Nat.{min-eq_left}
 use Rattle.std.proofs.lemmas.List.Elements.{filter-append}
 use Rattle.ufs_spec.proofs.Equalities.{spot_cases, spot_self}
 use Rattle.ufs_spec.proofs.Facts.{and_from, cases_Bool, false≢true, lt-ltb}
-use Rattle.ufs_spec.proofs.Lists.{set_other, set_there}
+use Rattle.ufs_spec.proofs.Lists.{get_replicate, set_other, set_there}
 use Rattle.ufs_spec.specs.Disk.{Spot, same_spot, spot_of}
-use Rattle.ufs_spec.specs.declared.flash.Place.{Place}
 use Rattle.block_table.specs.Lives.{Lives, block_place, has_block, pins_of, with_live, with_pins}
 use Rattle.block_table.specs.declared.Sizes.{Sizes}
-use Rattle.block_table.proofs.LiveCounts.{one, one_spot, replicate_there, spot_inside}
+use Rattle.block_table.proofs.LiveCounts.{one, one_spot, spot_inside}
 use Rattle.unit_map.specs.declared.Stored.{Stored}
 use Rattle.ftl_core.specs.declared.books.Looked.{Looked}
 use Rattle.ftl_core.specs.declared.books.Looked.TheVariants as looked
 use Rattle.ftl_core.specs.declared.books.Pin.{Pin}
-use Rattle.ftl_core.specs.KnownLive.{live_moved, none_live, with_stored}
+use Rattle.ftl_core.specs.KnownLive.{none_live, with_stored}
 use Rattle.ftl_core.specs.Moves.{keeps, keeps_page, moved_pin, now_stored}
 use Rattle.ftl_core.specs.PinCounts.{ArePinsCounted, block_pinned, block_unpinned, is_slot_of, let_go, pin_moves}
 use Rattle.ftl_core.specs.PinCounts.{pins_on, without_pins}
@@ -319,4 +318,4 @@ stored_counted (None ∷ ps) l pins kept = stored_counted ps l pins kept
 stored_counted (Some s ∷ ps) l pins kept = stored_counted ps (with_live l s.place true) pins kept
 
 pub none_counted : (n : Sizes) → ArePinsCounted (none_live n) []
-none_counted n s there = replicate_there (n.dies * n.blocks) (block_place n s) 0 (spot_inside n s there)
+none_counted n s there = get_replicate (n.dies * n.blocks) (block_place n s) 0 (spot_inside n s there)

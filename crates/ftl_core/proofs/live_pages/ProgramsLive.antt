@@ -20,10 +20,10 @@ use Rattle.ufs_spec.specs.declared.flash.Tag.{Tag}
 use Rattle.power_loss.specs.Book.{IsPageAt, book}
 use Rattle.block_table.specs.Lives.{has_page, is_live, with_live}
 use Rattle.block_table.specs.declared.Sizes.{Sizes}
-use Rattle.block_table.specs.declared.OpenBlock.{OpenBlock}
+use Rattle.block_table.specs.declared.rows.OpenBlock.{OpenBlock}
 use Rattle.unit_map.specs.declared.Stored.{Stored}
 use Rattle.write_cache.specs.declared.slots.Pending.{Pending}
-use Rattle.ftl_core.specs.declared.books.Book.{Book}
+use Rattle.block_table.specs.declared.rows.DieRow.{DieRow}
 use Rattle.ftl_core.specs.declared.books.Step.{Step}
 use Rattle.ftl_core.specs.declared.books.Step.TheVariants as steps
 use Rattle.ftl_core.specs.Core.{Core}
@@ -191,7 +191,7 @@ module _ (c : Core) (t : Translation) (die : ℕ) (o : OpenBlock) (tag : Tag) (b
 
   -- A page of a group
 
-  module _ (b : Book) (f : IsGroupFlight c t die b o tag body) where
+  module _ (b : DieRow) (f : IsGroupFlight c t die b o tag body) where
     named : IsPending c t.ledger (name_of tag)
     named = pending_page c t die b o tag body h f
 
@@ -296,7 +296,7 @@ module _ (c : Core) (t : Translation) (die : ℕ) (o : OpenBlock) (tag : Tag) (b
 
   -- The page of a repair
 
-  pub repair_live : (b : Book) (n : ℕ) (k : Key) (from : Option Stored) →
+  pub repair_live : (b : DieRow) (n : ℕ) (k : Key) (from : Option Stored) →
       c.step ≡ Some (steps.Repair n k from true) → IsStepCell c.step (GroupPage tag body) →
       Knows (facts (page_written (repair_over c k place) die b b.filling))
   repair_live b n k from step page =

@@ -1,16 +1,16 @@
 -- What changes neither places of contents nor which pages are live.
 use Rattle.std.proofs.Common.{◌≡◌, ◌∙◌, ℕ, Bool, true, false, List, [], ◌∷◌, Option, Some, None, refl, ap, subst, sym}
-use Rattle.std.specs.Prelude.{if◌then◌else◌, nat_le, nat_lt, ◌-◌, ◌^◌}
+use Rattle.std.specs.Prelude.{if◌then◌else◌, nat_le, nat_lt, ◌-◌}
 use Rattle.ufs_spec.specs.Pages.{greatest_number}
 use Rattle.ufs_spec.specs.declared.configs.Numbers.{Numbers}
 use Rattle.ufs_spec.specs.declared.flash.Outcome.{Outcome}
 use Rattle.ufs_spec.specs.declared.flash.Tag.{Tag}
 use Rattle.block_table.specs.Lives.{Lives}
-use Rattle.block_table.specs.declared.OpenBlock.{OpenBlock}
+use Rattle.block_table.specs.declared.rows.OpenBlock.{OpenBlock}
 use Rattle.unit_map.specs.declared.Stored.{Stored}
-use Rattle.ftl_core.specs.declared.books.Book.{Book}
-use Rattle.ftl_core.specs.declared.books.Reader.{Reader}
-use Rattle.ftl_core.specs.declared.books.Reader.TheVariants as readers
+use Rattle.block_table.specs.declared.rows.DieRow.{DieRow}
+use Rattle.block_table.specs.declared.rows.Reader.{Reader}
+use Rattle.block_table.specs.declared.rows.Reader.TheVariants as readers
 use Rattle.ftl_core.specs.declared.books.Step.{Step}
 use Rattle.ftl_core.specs.declared.books.Step.TheVariants as steps
 use Rattle.write_cache.specs.declared.slots.Pending.{Pending}
@@ -47,7 +47,7 @@ either : (test : Bool) (x y : Core) (f : Facts) → facts x ≡ f → facts y �
 either true x y f e g = e
 either false x y f e g = g
 
-pub written_same : (c : Core) (die : ℕ) (b : Book) (o : Option OpenBlock) → facts (page_written c die b o) ≡ facts c
+pub written_same : (c : Core) (die : ℕ) (b : DieRow) (o : Option OpenBlock) → facts (page_written c die b o) ≡ facts c
 written_same c die b None = refl
 written_same c die b (Some o) = either (nat_lt o.next (c.numbers.pages - 1)) _ _ (facts c) refl refl
 
@@ -72,7 +72,7 @@ read_over c o found (readers.Task tag index) new h = ap facts h
 read_over c o found readers.Step new h = ap facts h.2 ∙ content c found h.0
 read_over c o found readers.Nobody new h = ap facts h
 
-pub read_same : (known : Bool) (c : Core) (die : ℕ) (b : Book) (o : Outcome) (found : Option Tag) (reader : Reader)
+pub read_same : (known : Bool) (c : Core) (die : ℕ) (b : DieRow) (o : Outcome) (found : Option Tag) (reader : Reader)
     (new : Core) → IsReadAfter known c die b o found reader new → facts new ≡ facts c
 read_same false c die b o found reader new h = ap facts h
 read_same true c die b o found reader new h = read_over _ o found reader new h

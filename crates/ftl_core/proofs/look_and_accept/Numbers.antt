@@ -1,8 +1,8 @@
 -- The numbers of groups: behind the frontier come those of the pending groups, or that of the repair under way. The
 -- pages that are kept are those of the pending groups.
-use Rattle.std.proofs.Common.{◌≡◌, ◌∙◌, ◌⊎◌, ℕ, suc, ◌+◌, ◌-◌, ◌<◌, ◌≤◌, Bool, true, false, List, Option}
-use Rattle.std.proofs.Common.{Some, None, length, drop, refl, sym, ap, subst, inl, inr, ⊎_elim, arith, sum_by}
-use Rattle.std.proofs.lemmas.List.{drop-drop, length-drop, nil_from_length}
+use Rattle.std.proofs.Common.{◌≡◌, ◌∙◌, ◌⊎◌, ℕ, suc, ◌+◌, ◌-◌, ◌≤◌, Bool, true, false, List, Option, Some, None, length}
+use Rattle.std.proofs.Common.{drop, refl, sym, ap, subst, inl, inr, ⊎_elim, arith, sum_by}
+use Rattle.std.proofs.lemmas.List.{drop-drop, length-drop}
 use Rattle.ufs_spec.specs.Keys as keys
 use Rattle.ufs_spec.specs.Ledger as ledger
 use Rattle.std.specs.Prelude.{is_some}
@@ -15,7 +15,7 @@ use Rattle.ufs_spec.specs.Translation.{RepairStep, Repairing, Translation, is_me
 use Rattle.ufs_spec.specs.Translation.{names_after, pending_pages}
 use Rattle.ufs_spec.specs.declared.flash.Key.{Key}
 use Rattle.ufs_spec.specs.declared.flash.Place.{Place}
-use Rattle.ufs_spec.proofs.Facts.{cases_Bool, true≢false}
+use Rattle.ufs_spec.proofs.Facts.{true≢false}
 use Rattle.power_loss.specs.Invariant.{Valid}
 use Rattle.write_cache.specs.declared.slots.Pending.{Pending}
 use Rattle.ftl_core.specs.declared.books.Step as kept_step

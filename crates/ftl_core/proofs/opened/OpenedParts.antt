@@ -1,6 +1,6 @@
 -- What is kept when the layer is opened, from what its parts are then.
 use Rattle.std.proofs.Common.{◌≡◌, ◌∙◌, ◌||◌, ℕ, Bool, List, [], ◌∷◌, None, Option, ap, map, min, refl, replicate, take}
-use Rattle.std.specs.Prelude.{◌^◌, option_map}
+use Rattle.std.specs.Prelude.{option_map}
 use Rattle.std.specs.List.{list_any}
 use Rattle.geometry.specs.Keys.{key_total}
 use Rattle.ufs_spec.specs.Pages.{greatest_number}
@@ -18,17 +18,14 @@ use Rattle.recovery.specs.declared.keys.FoundBlock.TheVariants as found
 use Rattle.unit_map.specs.Places.{UnitMap}
 use Rattle.unit_map.specs.declared.Stored.{Stored}
 use Rattle.write_cache.specs.Kept.{WriteCache}
-use Rattle.ftl_core.specs.declared.books.Book.{Book}
-use Rattle.ftl_core.specs.declared.books.Flight.{Flight}
+use Rattle.block_table.specs.declared.rows.DieRow.{DieRow}
 use Rattle.ftl_core.specs.declared.books.Mending.{Mending}
 use Rattle.ftl_core.specs.declared.books.Pin.{Pin}
 use Rattle.ftl_core.specs.Core.{Core}
 use Rattle.ftl_core.specs.KnownLive.{lives_of_places, none_live, sizes_of}
 use Rattle.ftl_core.specs.Moves.{first_mending, is_bad_found, mark_number_behind, opened, state_of_found}
-use Rattle.ftl_core.specs.Moves.{stored_of_found}
+use Rattle.ftl_core.specs.Moves.{idle_row, stored_of_found}
 use Rattle.ftl_core.specs.PinCounts.{without_pins}
-use Rattle.ftl_core.specs.Rooms.{books_of}
-use Rattle.ftl_core.proofs.dies.Books.{all_idle}
 use Rattle.ftl_core.proofs.live_pages.PinsCounted.{stored_bare}
 
 -- bad blocks were found to be so
@@ -44,12 +41,12 @@ bad_same (b ∷ bs) =
     one found.Bad = refl
 
 -- the parts together
-abbrev pub core_with : Numbers → Blocks → List (Option Flight) → UnitMap → Lives → WriteCache → List Pin →
+abbrev pub core_with : Numbers → Blocks → UnitMap → Lives → WriteCache → List Pin →
     Option Collection → Mending → List Key → List ℕ → ℕ → Core
-core_with n blocks flights places live cache pins plan mending lost content next = record {
+core_with n blocks places live cache pins plan mending lost content next = record {
   numbers = n;
   states = blocks.states;
-  books = books_of blocks.filling flights;
+  rows = blocks.rows;
   has_bad = blocks.has_bad;
   places = places.places;
   live = live;
@@ -68,11 +65,11 @@ core_with n blocks flights places live cache pins plan mending lost content next
 }
 
 -- what the lists of blocks and places give
-abbrev with_lists : Numbers → Found → List BlockState → List Book → Bool → List (Option Stored) → ℕ → Core
-with_lists n f states books has_bad places last = record {
+abbrev with_lists : Numbers → Found → List BlockState → List DieRow → Bool → List (Option Stored) → ℕ → Core
+with_lists n f states rows has_bad places last = record {
   numbers = n;
   states = states;
-  books = books;
+  rows = rows;
   has_bad = has_bad;
   places = places;
   live = lives_of_places n places;
@@ -90,28 +87,27 @@ with_lists n f states books has_bad places last = record {
   next_mark = mark_number_behind f;
 }
 
-pub opened_as : (n : Numbers) (f : Found) (blocks : Blocks) (flights : List (Option Flight)) (map_is : UnitMap)
-    (live : Lives) (cache : WriteCache) (pins : List Pin) (plan : Option Collection) (mending : Mending)
+pub opened_as : (n : Numbers) (f : Found) (blocks : Blocks) (map_is : UnitMap) (live : Lives) (cache : WriteCache) (pins : List Pin) (plan : Option Collection) (mending : Mending)
     (content : List ℕ) (next : ℕ)
     (sizes : Sizes) (states : List BlockState) (places : List (Option Stored)) (last : ℕ) →
     blocks ≡ record {
       sizes = sizes;
       states = states;
-      filling = replicate n.dies None;
+      rows = replicate n.dies idle_row;
       has_bad = list_any is_bad states;
     } →
-    flights ≡ replicate n.dies None → map_is ≡ record { numbers = n; places = places } →
+    map_is ≡ record { numbers = n; places = places } →
     live ≡ lives_of_places n places →
     cache ≡ record { slots = n.slots; pages = []; claims = []; frontier = last; last = last } →
     states ≡ map state_of_found f.blocks.items → places ≡ map (option_map stored_of_found) f.contents.items →
     last ≡ min f.greatest_seen greatest_number → pins ≡ [] → mending ≡ first_mending f → content ≡ zero_block →
     next ≡ mark_number_behind f → plan ≡ None →
-    core_with n blocks flights map_is (without_pins live) cache pins plan mending f.lost.items content next
+    core_with n blocks map_is (without_pins live) cache pins plan mending f.lost.items content next
     ≡ opened n f
-opened_as n f blocks flights map_is live cache pins plan mending content next sizes states places last
-    eb ef em eq ec es ep el en ed ez ek en_plan =
-    (λ i. core_with n (eb i) (ef i) (em i) (bare i) (ec i) (en i) (en_plan i) (ed i) f.lost.items (ez i) (ek i))
-    ∙ (λ i. with_lists n f (es i) (all_idle n.dies i) (list_any is_bad (es i)) (ep i) (el i))
+opened_as n f blocks map_is live cache pins plan mending content next sizes states places last
+    eb em eq ec es ep el en ed ez ek en_plan =
+    (λ i. core_with n (eb i) (em i) (bare i) (ec i) (en i) (en_plan i) (ed i) f.lost.items (ez i) (ek i))
+    ∙ (λ i. with_lists n f (es i) (replicate n.dies idle_row) (list_any is_bad (es i)) (ep i) (el i))
     ∙ ap (λ (b : Bool). record (opened n f) { has_bad = b }) (bad_same f.blocks.items)
   where
     bare : without_pins live ≡ lives_of_places n places

@@ -1,8 +1,8 @@
 -- What is kept over what a scan found is the layer that the definitions open over the same pages.
-use Rattle.std.proofs.Common.{◌≡◌, ◌≢◌, ◌∙◌, ℕ, zero, suc, ◌+◌, ◌<◌, ◌≤◌, Bool, true, false, List, [], ◌∷◌, Option, Some}
-use Rattle.std.proofs.Common.{None, drop, take, length, map, refl, sym, ap, subst, arith}
-use Rattle.std.specs.Prelude.{◌-◌, ◌^◌, if◌then◌else◌, nat_lt, All, min, slice_get, option_and_then, option_map}
-use Rattle.std.specs.Prelude.{replicate, sum}
+use Rattle.std.proofs.Common.{◌≡◌, ◌≢◌, ◌∙◌, ℕ, zero, suc, ◌+◌, ◌<◌, ◌≤◌, Bool, true, false, List, [], ◌∷◌, Option}
+use Rattle.std.proofs.Common.{Some, None, drop, take, length, map, refl, sym, ap, subst, arith}
+use Rattle.std.specs.Prelude.{◌-◌, if◌then◌else◌, nat_lt, All, min, slice_get, option_and_then, option_map, replicate}
+use Rattle.std.specs.Prelude.{sum}
 use Rattle.std.proofs.Math.Nat.{min-eq_left}
 use Rattle.std.proofs.lemmas.Bool.Decides.{nat_tests}
 use Rattle.std.proofs.lemmas.List.{drop_all, get_or-replicate, length-map, length-replicate, take_all}
@@ -39,15 +39,15 @@ use Rattle.recovery.specs.declared.found.Found.{Found}
 use Rattle.recovery.specs.declared.pages.FoundPage.{FoundPage}
 use Rattle.geometry.proofs.KeyIndexes.{is_index, known_index}
 use Rattle.recovery.proofs.opened.FoundOpens.{found_opens}
-use Rattle.ftl_core.specs.declared.books.Book.{Book}
-use Rattle.ftl_core.specs.declared.books.Flight.TheVariants as flight
+use Rattle.block_table.specs.declared.rows.DieRow.{DieRow}
+use Rattle.block_table.specs.declared.rows.Flight.TheVariants as flight
 use Rattle.ufs_spec.proofs.Facts.{same_Some}
 use Rattle.unit_map.specs.declared.Stored.{Stored}
 use Rattle.ftl_core.specs.Core.{Core}
-use Rattle.ftl_core.specs.Describes.{AreToRepair, BookKept, Describes, DiesKept, IsStored, Kept}
+use Rattle.ftl_core.specs.Describes.{AreToRepair, RowKept, Describes, DiesKept, IsStored, Kept}
 use Rattle.ftl_core.specs.Describes.{LedgerKept, PagesKept, PinsKept, Standing, StepKept, WorkKept, mending_kept}
 use Rattle.ftl_core.specs.Describes.{WritesGroup, spot_at}
-use Rattle.ftl_core.specs.Moves.{first_mending, idle_book, mark_number_behind, mending_from}
+use Rattle.ftl_core.specs.Moves.{first_mending, idle_row, mark_number_behind, mending_from}
 use Rattle.unit_map.specs.Places.{flat}
 use Rattle.ftl_core.specs.Moves.{number_behind, opened, stored_of_found}
 use Rattle.unit_map.specs.Places.{stored_in}
@@ -67,20 +67,20 @@ all_of_one n x i y at =
 flies_none : (name : Name) (f : Option disk.Flight) → f ≡ None → flies_name name f ≡ true → ⊥
 flies_none name f e h = let clash : false ≡ true = sym (ap (flies_name name) e) ∙ h in absurd (cc)
 
-book_idle : (n : Numbers) (blocks : Spot → disk.BlockState) (die : ℕ) (b : Book) (f : Option disk.Flight) →
-    b ≡ idle_book → f ≡ None → ((s : Spot) (next : ℕ) → blocks s ≡ disk.Filling next → ⊥) →
-    BookKept n blocks None die b f
-book_idle n blocks die b f same none none_fills =
-    subst (λ (x : Book × Option disk.Flight). BookKept n blocks None die x.0 x.1) (λ i. (sym same i, sym none i))
+row_idle : (n : Numbers) (blocks : Spot → disk.BlockState) (die : ℕ) (b : DieRow) (f : Option disk.Flight) →
+    b ≡ idle_row → f ≡ None → ((s : Spot) (next : ℕ) → blocks s ≡ disk.Filling next → ⊥) →
+    RowKept n blocks None die b f
+row_idle n blocks die b f same none none_fills =
+    subst (λ (x : DieRow × Option disk.Flight). RowKept n blocks None die x.0 x.1) (λ i. (sym same i, sym none i))
     (record { filling = λ block next within e. none_fills (spot_at die block) next e; job = tt })
 
 dies_idle : (n m : Numbers) (blocks : Spot → disk.BlockState) (flights : ℕ → Option disk.Flight) → n ≡ m →
     ((die : ℕ) → flights die ≡ None) → ((s : Spot) (next : ℕ) → blocks s ≡ disk.Filling next → ⊥) →
-    DiesKept m blocks flights None (replicate n.dies idle_book)
+    DiesKept m blocks flights None (replicate n.dies idle_row)
 dies_idle n m blocks flights same idle none_fills = record {
-  dies = length-replicate n.dies idle_book ∙ ap (λ (x : Numbers). x.dies) same;
+  dies = length-replicate n.dies idle_row ∙ ap (λ (x : Numbers). x.dies) same;
   each = λ die b at.
-      book_idle m blocks die b (flights die) (all_of_one n.dies idle_book die b at) (idle die) none_fills;
+      row_idle m blocks die b (flights die) (all_of_one n.dies idle_row die b at) (idle die) none_fills;
   no_more = λ die above. idle die;
 }
 
@@ -252,11 +252,11 @@ work_found n f c bad t content h o = record {
 
 -- no die writes a page
 
-idle_writes : (dies d number index : ℕ) → WritesGroup (replicate dies idle_book) d number index → ⊥
+idle_writes : (dies d number index : ℕ) → WritesGroup (replicate dies idle_row) d number index → ⊥
 idle_writes zero d number index w = none_some w.book w.there
 idle_writes (suc dies) zero number index w =
     none_some (flight.Group w.place number index)
-    (ap (λ (b : Book). b.flight) (same_Some idle_book w.book w.there) ∙ w.job)
+    (ap (λ (b : DieRow). b.flight) (same_Some idle_row w.book w.there) ∙ w.job)
 idle_writes (suc dies) (suc d) number index w =
     idle_writes dies d number index (record { book = w.book; there = w.there; place = w.place; job = w.job })
 

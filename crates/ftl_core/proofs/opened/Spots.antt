@@ -26,7 +26,7 @@ use Rattle.ufs_laws.proofs.plain_contents.ListParts.{made_of, made_same}
 use Rattle.power_loss.proofs.books.SmallFacts.{at_spot_cases}
 use Rattle.block_table.specs.declared.BlockState.{BlockState}
 use Rattle.block_table.specs.declared.BlockState.TheVariants as state
-use Rattle.block_table.specs.declared.OpenBlock.{OpenBlock}
+use Rattle.block_table.specs.declared.rows.OpenBlock.{OpenBlock}
 use Rattle.ftl_core.specs.Describes.{BlocksKept, IsFilling, block_kept, spot_at}
 use Rattle.block_table.specs.Blocks.{is_free}
 use Rattle.ftl_core.specs.Takes.{lowest_below, next_place, found_or}

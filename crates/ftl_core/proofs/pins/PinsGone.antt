@@ -15,16 +15,16 @@ use Rattle.ufs_spec.specs.declared.configs.Numbers.{Numbers}
 use Rattle.ufs_spec.specs.declared.flash.Place.{Place}
 use Rattle.ufs_spec.specs.Cells.{GroupPage}
 use Rattle.power_loss.proofs.books.PagesByName.{none_some, some_is}
-use Rattle.ftl_core.specs.declared.books.Book.{Book}
-use Rattle.ftl_core.specs.declared.books.Flight.{Flight}
-use Rattle.ftl_core.specs.declared.books.Flight.TheVariants as flight
-use Rattle.block_table.specs.declared.OpenBlock.{OpenBlock}
+use Rattle.block_table.specs.declared.rows.DieRow.{DieRow}
+use Rattle.block_table.specs.declared.rows.Flight.{Flight}
+use Rattle.block_table.specs.declared.rows.Flight.TheVariants as flight
+use Rattle.block_table.specs.declared.rows.OpenBlock.{OpenBlock}
 use Rattle.ftl_core.specs.declared.books.Pin.{Pin}
-use Rattle.ftl_core.specs.declared.books.Reader as kept
-use Rattle.ftl_core.specs.declared.books.Reader.TheVariants as readers
+use Rattle.block_table.specs.declared.rows.Reader as kept
+use Rattle.block_table.specs.declared.rows.Reader.TheVariants as readers
 use Rattle.ftl_core.specs.declared.books.Step.{Step}
 use Rattle.ftl_core.specs.Core.{Core}
-use Rattle.ftl_core.specs.Describes.{BookKept, IsFlight, IsReader, Kept, PinsKept, WritesGroup}
+use Rattle.ftl_core.specs.Describes.{RowKept, IsFlight, IsReader, Kept, PinsKept, WritesGroup}
 use Rattle.ftl_core.specs.Moves.{flight_without, flight_without_block, is_of_reader, is_pin_of, without_block}
 use Rattle.ftl_core.specs.Moves.{without_reader}
 use Rattle.ftl_core.proofs.pins.FoundPins.{found_kept, pin_told}
@@ -45,8 +45,8 @@ flight_left gone (Some (flight.Step place)) = Some (flight.Step place)
 flight_left gone (Some (flight.Group place n i)) = Some (flight.Group place n i)
 flight_left gone (Some (flight.Erase block)) = Some (flight.Erase block)
 
-abbrev book_left : (ℕ → ℕ → Bool) → Book → Book
-book_left gone b = record b { flight = flight_left gone b.flight }
+abbrev row_left : (ℕ → ℕ → Bool) → DieRow → DieRow
+row_left gone b = record b { flight = flight_left gone b.flight }
 
 abbrev is_left : (ℕ → ℕ → Bool) → Pin → Bool
 is_left gone p = not (gone p.reader p.index)
@@ -91,10 +91,10 @@ flight_gone n step gone die filling (Some (flight.Erase block)) (Some (disk.Eras
 flight_gone n step gone die filling f g h = absurd h
 
 -- what is known of each die
-book_gone : (n : Numbers) (blocks : Spot → disk.BlockState) (step : Option Step) (gone : ℕ → ℕ → Bool) (die : ℕ)
-    (b : Book) (g : Option disk.Flight) → BookKept n blocks step die b g →
-    BookKept n blocks step die (book_left gone b) (layer_without (is_gone gone) g)
-book_gone n blocks step gone die b g h = record {
+row_gone : (n : Numbers) (blocks : Spot → disk.BlockState) (step : Option Step) (gone : ℕ → ℕ → Bool) (die : ℕ)
+    (b : DieRow) (g : Option disk.Flight) → RowKept n blocks step die b g →
+    RowKept n blocks step die (row_left gone b) (layer_without (is_gone gone) g)
+row_gone n blocks step gone die b g h = record {
   filling = h.filling;
   job = flight_gone n step gone die b.filling b.flight g h.job;
 }
@@ -160,15 +160,15 @@ still_group gone (Some (flight.Step at)) place number index e = cc
 still_group gone (Some (flight.Group at n i)) place number index e = e
 still_group gone (Some (flight.Erase block)) place number index e = cc
 
-wrote_still : (gone : ℕ → ℕ → Bool) (books : List Book) (d number index : ℕ) →
-    WritesGroup (map (book_left gone) books) d number index → WritesGroup books d number index
-wrote_still gone books d number index w =
-    let r = get_map (book_left gone) books d w.book w.there in
+wrote_still : (gone : ℕ → ℕ → Bool) (rows : List DieRow) (d number index : ℕ) →
+    WritesGroup (map (row_left gone) rows) d number index → WritesGroup rows d number index
+wrote_still gone rows d number index w =
+    let r = get_map (row_left gone) rows d w.book w.there in
     record {
       book = r.0;
       there = r.1;
       place = w.place;
-      job = still_group gone r.0.flight w.place number index (ap (λ (b : Book). b.flight) (sym r.2) ∙ w.job);
+      job = still_group gone r.0.flight w.place number index (ap (λ (b : DieRow). b.flight) (sym r.2) ∙ w.job);
     }
 
 -- What is kept
@@ -192,18 +192,18 @@ kept_pins gone frontier entries (p ∷ ps) (q ∷ qs) h =
     by false false f behind = behind
 
 left_kept : (c : Core) (t : Translation) (gone : ℕ → ℕ → Bool) → Kept c t →
-    Kept (record c { books = map (book_left gone) c.books; pins = filter (is_left gone) c.pins })
+    Kept (record c { rows = map (row_left gone) c.rows; pins = filter (is_left gone) c.pins })
     (let_go t (λ q. gone q.tag q.index) (is_gone gone))
 left_kept c t gone k = record {
   numbers = k.numbers;
   blocks = k.blocks;
   dies = record {
-    dies = length-map c.books (book_left gone) ∙ k.dies.dies;
+    dies = length-map c.rows (row_left gone) ∙ k.dies.dies;
     each = λ die b at.
-        let r = get_map (book_left gone) c.books die b at in
-        subst (λ (x : Book). BookKept t.numbers t.disk.blocks c.step die x
+        let r = get_map (row_left gone) c.rows die b at in
+        subst (λ (x : DieRow). RowKept t.numbers t.disk.blocks c.step die x
         (layer_without (is_gone gone) (t.disk.flights die))) (sym r.2)
-        (book_gone t.numbers t.disk.blocks c.step gone die r.0 (t.disk.flights die) (k.dies.each die r.0 r.1));
+        (row_gone t.numbers t.disk.blocks c.step gone die r.0 (t.disk.flights die) (k.dies.each die r.0 r.1));
     no_more = λ die above. ap (layer_without (is_gone gone)) (k.dies.no_more die above);
   };
   fly = record {
@@ -211,7 +211,7 @@ left_kept c t gone k = record {
         k.fly.one d e name
         (sym (same_names (is_gone gone) name (t.disk.flights d)) ∙ f)
         (sym (same_names (is_gone gone) name (t.disk.flights e)) ∙ g);
-    new = λ d number index w. k.fly.new d number index (wrote_still gone c.books d number index w);
+    new = λ d number index w. k.fly.new d number index (wrote_still gone c.rows d number index w);
   };
   ledger_kept = k.ledger_kept;
   work = k.work;
@@ -234,7 +234,7 @@ left_kept c t gone k = record {
 
 -- Of one block, or of all that a reader kept
 
--- what the books and the layer make of their jobs
+-- what the rows and the layer make of their jobs
 abbrev Lets : Type 0
 Lets = (Option Flight → Option Flight) × (Reader → Bool)
 
@@ -244,7 +244,7 @@ told_kept : (c : Core) (t : Translation) (gone : ℕ → ℕ → Bool) (without 
     ((who : Reader) → reads who ≡ is_gone gone who) → Kept c t →
     Kept
     (record c {
-      books = map (λ (b : Book). record b { flight = without b.flight }) c.books;
+      rows = map (λ (b : DieRow). record b { flight = without b.flight }) c.rows;
       pins = filter (is_left gone) c.pins;
     })
     (let_go t (λ q. gone q.tag q.index) reads)
@@ -252,7 +252,7 @@ told_kept c t gone without reads same same_reads k =
     subst
     (λ (z : Lets). Kept
     (record c {
-      books = map (λ (b : Book). record b { flight = z.0 b.flight }) c.books;
+      rows = map (λ (b : DieRow). record b { flight = z.0 b.flight }) c.rows;
       pins = filter (is_left gone) c.pins;
     })
     (let_go t (λ q. gone q.tag q.index) z.1))
@@ -261,7 +261,7 @@ told_kept c t gone without reads same same_reads k =
 pub let_go_kept : (c : Core) (t : Translation) (reader : ℕ) → Kept c t →
     Kept
     (record c {
-      books = map (without_reader reader) c.books;
+      rows = map (without_reader reader) c.rows;
       pins = filter (λ p. not (is_of_reader reader p)) c.pins;
     })
     (moved t (LetGoAll reader))
@@ -286,7 +286,7 @@ let_go_kept c t reader =
 pub let_one_go_kept : (c : Core) (t : Translation) (reader index : ℕ) → Kept c t →
     Kept
     (record c {
-      books = map (without_block reader index) c.books;
+      rows = map (without_block reader index) c.rows;
       pins = filter (λ p. not (is_pin_of reader index p)) c.pins;
     })
     (moved t (LetGo reader index))

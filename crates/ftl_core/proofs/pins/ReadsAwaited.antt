@@ -9,13 +9,13 @@ use Rattle.ufs_spec.specs.Ledger.{OnPage, entry_of}
 use Rattle.ufs_spec.specs.Translation.{Translation}
 use Rattle.ufs_spec.specs.declared.configs.Numbers.{Numbers}
 use Rattle.ufs_spec.specs.declared.flash.Place.{Place}
-use Rattle.ftl_core.specs.declared.books.Book.{Book}
-use Rattle.ftl_core.specs.declared.books.Flight.{Flight}
-use Rattle.ftl_core.specs.declared.books.Flight.TheVariants as flight
+use Rattle.block_table.specs.declared.rows.DieRow.{DieRow}
+use Rattle.block_table.specs.declared.rows.Flight.{Flight}
+use Rattle.block_table.specs.declared.rows.Flight.TheVariants as flight
 use Rattle.ftl_core.specs.declared.books.Looked.{Looked}
-use Rattle.block_table.specs.declared.OpenBlock.{OpenBlock}
-use Rattle.ftl_core.specs.declared.books.Reader as kept
-use Rattle.ftl_core.specs.declared.books.Reader.TheVariants as readers
+use Rattle.block_table.specs.declared.rows.OpenBlock.{OpenBlock}
+use Rattle.block_table.specs.declared.rows.Reader as kept
+use Rattle.block_table.specs.declared.rows.Reader.TheVariants as readers
 use Rattle.ftl_core.specs.declared.books.Step.{Step}
 use Rattle.ftl_core.specs.Core.{Core}
 use Rattle.ftl_core.specs.Describes.{Describes, IsFlight, IsLookedAt, IsReader}
@@ -56,7 +56,7 @@ task_reads c t die tag index place h flies =
 
 pub read_awaited : (c : Core) (die : ℕ) (t : Translation) (who : Reader) (place : Place) → Describes c t →
     t.disk.flights die ≡ Some (Reading who place) → IsReadOf t place who
-read_awaited c die t who place h flies = by (slice_get c.books die) refl
+read_awaited c die t who place h flies = by (slice_get c.rows die) refl
   where
     known : ((who ≡ ForNobody) ⊎ (who ≡ ForStep)) ⊎ ((tag : ℕ) × (index : ℕ) × (who ≡ ForTask tag index)) →
         IsReadOf t place who
@@ -65,7 +65,7 @@ read_awaited c die t who place h flies = by (slice_get c.books die) refl
     known (inr e) = subst (IsReadOf t place) (sym e.2)
         (task_reads c t die e.0 e.1 place h (flies ∙ ap (λ (x : Reader). Some (Reading x place)) e.2))
 
-    by : (b : Option Book) → slice_get c.books die ≡ b → IsReadOf t place who
+    by : (b : Option DieRow) → slice_get c.rows die ≡ b → IsReadOf t place who
     by None e = absurd (none-some _ (sym (h.kept.dies.no_more die (outside c t die h.kept e)) ∙ flies))
     by (Some b) e =
         known (reader_is t.numbers c.step die b.filling b.flight who place

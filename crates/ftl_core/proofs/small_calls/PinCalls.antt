@@ -66,7 +66,7 @@ unpins_told c after reader is t h =
 pub lets_go_right : (c : Core) (t : Translation) (reader index : ℕ) → Describes c t →
     Describes
     (record c {
-      books = map (without_block reader index) c.books;
+      rows = map (without_block reader index) c.rows;
       pins = filter (λ p. not (is_pin_of reader index p)) c.pins;
     })
     (moved t (LetGo reader index))
@@ -93,7 +93,7 @@ wants_next c after reader index is t h =
     subst (λ (x : Core). Describes x (moved (moved t (LetGo reader index)) (WantPage reader (index + 1)))) (sym is)
     (wants_right
     (record c {
-      books = map (without_block reader index) c.books;
+      rows = map (without_block reader index) c.rows;
       pins = filter (λ p. not (is_pin_of reader index p)) c.pins;
     })
     (moved t (LetGo reader index)) reader (index + 1) (lets_go_right c t reader index h))

@@ -1,18 +1,15 @@
 -- What the smaller calls tell.
-use Rattle.std.proofs.Common.{◌≡◌, ◌∙◌, ℕ, ◌+◌, Bool, List, length, drop, refl, sym, ap, arith}
-use Rattle.std.specs.Prelude.{◌-◌, ◌||◌, ◌^◌, nat_lt, count_by, not, slice_get}
+use Rattle.std.proofs.Common.{◌≡◌, ℕ, ◌+◌, Bool, length, ap, arith}
+use Rattle.std.specs.Prelude.{◌-◌, ◌||◌, nat_lt, count_by, not, slice_get}
 use Rattle.std.proofs.lemmas.Bool.Decides.{nat_tests}
 use Rattle.ufs_spec.specs.Pages.{greatest_number}
 use Rattle.ufs_spec.specs.Disk.{Spot}
 use Rattle.ufs_spec.specs.Ledger as ledger
 use Rattle.ufs_spec.specs.Translation as layer
 use Rattle.ufs_spec.specs.Translation.{Translation, is_bad, spots}
-use Rattle.ufs_spec.specs.declared.flash.Key.{Key}
-use Rattle.ftl_core.specs.declared.books.Mending.{Mending}
-use Rattle.ftl_core.specs.declared.books.Mending.TheVariants as mendings
 use Rattle.ftl_core.specs.Core.{Core}
-use Rattle.ftl_core.specs.Describes.{Describes, mending_kept}
-use Rattle.ftl_core.specs.Moves.{free_slots, is_locked, is_over}
+use Rattle.ftl_core.specs.Describes.{Describes}
+use Rattle.ftl_core.specs.Moves.{free_slots, is_locked}
 use Rattle.ftl_core.proofs.look_and_accept.Numbers.{kept_length, numbers_right}
 
 -- no number is left where the next one is above the greatest

@@ -1,17 +1,15 @@
 -- A collection begins, or goes on.
 use Rattle.std.proofs.Common.{◌≡◌, ◌∙◌, ℕ, Bool, true, false, List, [], ◌∷◌, Option, Some, None, refl, sym}
 use Rattle.std.proofs.Common.{ap, subst, inl, inr, ⊎_elim}
-use Rattle.std.specs.Prelude.{◌&&◌, All, Contains, filter, if◌then◌else◌, is_some, map}
-use Rattle.std.specs.Prelude.{option_map, slice_get}
+use Rattle.std.specs.Prelude.{◌&&◌, All, filter, if◌then◌else◌, is_some, map, option_map}
 use Rattle.std.proofs.lemmas.List.Elements.{All-cons, All-head, All-nil, All-tail, filter_passes}
-use Rattle.std.proofs.lemmas.Option.{get_or_from_slice_get, slice_get-get_or, slice_get_within}
 use Rattle.ufs_spec.proofs.Facts.{and_from, and_parts}
+use Rattle.ufs_spec.proofs.Lists.{at_contained, contained_at}
 use Rattle.ufs_spec.specs.Cells.{key_of}
 use Rattle.ufs_spec.specs.Disk as disk
 use Rattle.ufs_spec.specs.Disk.{Spot}
 use Rattle.ufs_spec.specs.Translation as layer
-use Rattle.ufs_spec.specs.Translation.{CopyStep, Mended, Order, OrderPlanMark, StepKind, Translation, is_live_cell}
-use Rattle.ufs_spec.specs.Translation.{name_of, stepped, with_plan}
+use Rattle.ufs_spec.specs.Translation.{Mended, Order, OrderPlanMark, Translation, is_live_cell, stepped}
 use Rattle.ufs_spec.specs.Keys.{below}
 use Rattle.ufs_spec.specs.declared.configs.Numbers.{Numbers}
 use Rattle.ufs_spec.specs.declared.flash.Key.{Key}
@@ -72,25 +70,19 @@ goes_on c t p h none is due =
 
 -- A collection begins
 
-has_position : {A : Type 0} (xs : List A) (x : A) → Contains xs x → (j : ℕ) × (slice_get xs j ≡ Some x)
-has_position xs x at = (at.0, slice_get-get_or xs at.0 x at.1 ∙ ap (λ z. Some z) at.2)
-
-is_contained : {A : Type 0} (xs : List A) (j : ℕ) (x : A) → slice_get xs j ≡ Some x → Contains xs x
-is_contained xs j x e = (j, slice_get_within xs j x e, get_or_from_slice_get xs j x x e)
-
 module _ (c : Core) (t : Translation) (h : Describes c t) where
   -- what names a live page names its key and its group
   live_owned : (x : PlannedCopy) → IsNamed (record { numbers = c.numbers; places = c.places }) c.pages x →
       layer.is_live t x.from ≡ true → IsPageOf c.numbers t.disk.cells x.key x.number x.from
   live_owned x (inl (inl e)) live = stored_owned c t h.valid h.kept x.key _ e
   live_owned x (inl (inr n)) live =
-      let at = has_position c.pages n.0 n.1 in
+      let at = contained_at c.pages n.0 n.1 in
       let r = pending_right c t h.valid h.kept at.0 n.0 at.1 x.from n.2 in
       subst (λ (z : Key × ℕ). IsPageOf c.numbers t.disk.cells z.0 z.1 x.from) (λ i. (n.3 i, n.4 i)) r.1
   live_owned x (inr bare) live = absurd (⊎_elim
       (λ at. bare.durable at.0 at.1 at.2 at.3)
       (λ w. let at = written_at c.pages x.from w in
-      bare.pending at.1 (is_contained c.pages at.0 at.1 at.2) at.3)
+      bare.pending at.1 (at_contained c.pages at.0 at.1 at.2) at.3)
       (h.live.held x.from (live_named c t h x.from ∙ live)))
 
   live_of : (x : PlannedCopy) → IsPageOf c.numbers t.disk.cells x.key x.number x.from → IsOf t.disk.cells x

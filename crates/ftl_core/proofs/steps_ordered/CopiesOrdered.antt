@@ -1,7 +1,7 @@
 -- A copy of a collection is ordered, or the mark that follows the copies.
 use Rattle.std.proofs.Common.{◌≡◌, ◌∙◌, ℕ, ◌<◌, Bool, true, false, List, [], ◌∷◌, Option, Some, None, refl, sym}
 use Rattle.std.proofs.Common.{ap, subst, arith}
-use Rattle.std.specs.Prelude.{◌+◌, ◌^◌, All, drop, if◌then◌else◌, map, nat_le}
+use Rattle.std.specs.Prelude.{◌+◌, All, drop, if◌then◌else◌, map, nat_le}
 use Rattle.std.proofs.lemmas.List.Elements.{All-tail}
 use Rattle.ufs_spec.proofs.Facts.{false≢true, none-some, same_Some}
 use Rattle.ufs_spec.specs.Pages.{greatest_number}
@@ -10,8 +10,8 @@ use Rattle.ufs_spec.specs.Disk as disk
 use Rattle.ufs_spec.specs.Disk.{Spot}
 use Rattle.ufs_spec.specs.Ledger.{Ledger, Name, entry_of}
 use Rattle.ufs_spec.specs.Translation as layer
-use Rattle.ufs_spec.specs.Translation.{CopyStep, Mended, Order, OrderPlanMark, StepKind, Translation, is_live_cell}
-use Rattle.ufs_spec.specs.Translation.{name_of, stepped, with_plan}
+use Rattle.ufs_spec.specs.Translation.{CopyStep, Order, OrderPlanMark, StepKind, Translation, name_of, stepped}
+use Rattle.ufs_spec.specs.Translation.{with_plan}
 use Rattle.ufs_spec.specs.declared.flash.Fence.{Fence}
 use Rattle.ufs_spec.specs.declared.flash.Key.{Key}
 use Rattle.ufs_spec.specs.declared.flash.Place.{Place}
@@ -19,7 +19,7 @@ use Rattle.ufs_spec.specs.declared.flash.Tag.{Tag}
 use Rattle.power_loss.proofs.books.SmallFacts.{if_true}
 use Rattle.power_loss.proofs.books.PagesByName.{entry_for}
 use Rattle.collector.specs.Plans as plans
-use Rattle.collector.specs.Plans.{Collection, IsBare, IsCollected, IsNamed, NamesIt, layer_plan, place_of}
+use Rattle.collector.specs.Plans.{Collection, place_of}
 use Rattle.collector.specs.declared.PlannedCopy.{PlannedCopy}
 use Rattle.ftl_core.specs.declared.books.Step.{Step}
 use Rattle.ftl_core.specs.declared.books.Step.TheVariants as steps
@@ -88,7 +88,7 @@ copy_waits : (c : Core) (t : Translation) (x : PlannedCopy) → Kept c t → c.s
 copy_waits c t x k none page = record {
   numbers = k.numbers;
   blocks = k.blocks;
-  dies = dies_on t.numbers t.disk.blocks t.disk.flights c.step (steps.Copy x.number x.key x.from None) c.books none
+  dies = dies_on t.numbers t.disk.blocks t.disk.flights c.step (steps.Copy x.number x.key x.from None) c.rows none
       (λ die. may_copy x (t.disk.flights die)) k.dies;
   fly = k.fly;
   ledger_kept = k.ledger_kept;
@@ -143,7 +143,8 @@ kind_in : StepKind → Option layer.Step → StepKind
 kind_in other None = other
 kind_in other (Some s) = s.kind
 
-same_copy : (name other : Name) (p q : Place) → Some (copying name p) ≡ Some (copying other q) → (name ≡ other) × (p ≡ q)
+same_copy : (name other : Name) (p q : Place) → Some (copying name p) ≡ Some (copying other q) →
+    (name ≡ other) × (p ≡ q)
 unfolding name_in place_in kind_in
 same_copy name other p q e =
     let kind = ap (kind_in (CopyStep name p)) e in (ap (name_in name) kind, ap (place_in p) kind)

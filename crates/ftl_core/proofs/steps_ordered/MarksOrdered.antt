@@ -11,10 +11,10 @@ use Rattle.ufs_spec.specs.declared.configs.Numbers.{Numbers}
 use Rattle.ufs_spec.specs.declared.flash.Fence.{Fence}
 use Rattle.ufs_spec.specs.declared.flash.Key.{Key}
 use Rattle.ufs_spec.specs.declared.flash.Place.{Place}
-use Rattle.ftl_core.specs.declared.books.Book.{Book}
-use Rattle.ftl_core.specs.declared.books.Flight.{Flight}
-use Rattle.ftl_core.specs.declared.books.Flight.TheVariants as flight
-use Rattle.block_table.specs.declared.OpenBlock.{OpenBlock}
+use Rattle.block_table.specs.declared.rows.DieRow.{DieRow}
+use Rattle.block_table.specs.declared.rows.Flight.{Flight}
+use Rattle.block_table.specs.declared.rows.Flight.TheVariants as flight
+use Rattle.block_table.specs.declared.rows.OpenBlock.{OpenBlock}
 use Rattle.ftl_core.specs.declared.books.Step.{Step}
 use Rattle.ftl_core.specs.declared.books.Step.TheVariants as steps
 use Rattle.ftl_core.specs.Core.{Core}
@@ -41,9 +41,9 @@ job_on n s die filling f g may h = absurd h
 
 -- a step begins
 pub dies_on : (n : Numbers) (blocks : Spot → disk.BlockState) (flights : ℕ → Option disk.Flight)
-    (step : Option Step) (s : Step) (books : List Book) → step ≡ None → ((die : ℕ) → MayBegin s (flights die)) →
-    DiesKept n blocks flights step books → DiesKept n blocks flights (Some s) books
-dies_on n blocks flights step s books none may h = record {
+    (step : Option Step) (s : Step) (rows : List DieRow) → step ≡ None → ((die : ℕ) → MayBegin s (flights die)) →
+    DiesKept n blocks flights step rows → DiesKept n blocks flights (Some s) rows
+dies_on n blocks flights step s rows none may h = record {
   dies = h.dies;
   each = λ die b at. (let k = h.each die b at in record {
     filling = k.filling;
@@ -83,7 +83,7 @@ pub mark_waits : (c : Core) (t : Translation) (fence : Option Fence) (n m : ℕ)
 mark_waits c t fence n m k none next same marks = record {
   numbers = k.numbers;
   blocks = k.blocks;
-  dies = dies_on t.numbers t.disk.blocks t.disk.flights c.step (steps.Mark n fence) c.books none
+  dies = dies_on t.numbers t.disk.blocks t.disk.flights c.step (steps.Mark n fence) c.rows none
       (λ die. may_mark n fence (t.disk.flights die)) k.dies;
   fly = k.fly;
   ledger_kept = ledger_marked c.numbers c.places c.pages c.frontier c.last t.ledger t.ledger.newest m k.ledger_kept;

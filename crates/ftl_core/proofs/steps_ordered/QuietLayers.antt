@@ -1,13 +1,13 @@
 -- A layer whose mending has no step under way: when a step is due, and that nothing else is pending.
 use Rattle.std.proofs.Common.{◌≡◌, ◌∙◌, ◌⊎◌, ℕ, zero, suc, ◌+◌, Bool, true, false, List, [], ◌∷◌, Option, Some, None}
 use Rattle.std.proofs.Common.{length, drop, refl, sym, ap, subst, inl, inr, arith}
-use Rattle.std.specs.Prelude.{◌^◌, if◌then◌else◌, nat_le, nat_lt, is_none, is_some, slice_get}
+use Rattle.std.specs.Prelude.{if◌then◌else◌, nat_le, nat_lt, is_none, is_some, slice_get}
 use Rattle.std.proofs.lemmas.Bool.Decides.{nat_tests}
 use Rattle.ufs_spec.specs.Pages.{greatest_number}
 use Rattle.ufs_spec.specs.Ledger.{Ledger}
 use Rattle.ufs_spec.specs.Ledger as ledger
 use Rattle.ufs_spec.specs.Translation as layer
-use Rattle.ufs_spec.specs.Translation.{Mending, OrderMark, OrderRepair, Repairing, Translation, due_order, is_mended}
+use Rattle.ufs_spec.specs.Translation.{OrderMark, OrderRepair, Repairing, Translation, due_order, is_mended}
 use Rattle.ufs_spec.specs.declared.flash.Key.{Key}
 use Rattle.ufs_spec.proofs.Facts.{none_is}
 use Rattle.power_loss.proofs.books.PagesByName.{none_some}

@@ -190,7 +190,7 @@ pub repair_waits : (c : Core) (t : Translation) (k : Key) (left : List Key) → 
 repair_waits c t k left h none repairing at mending q = record {
   numbers = h.kept.numbers;
   blocks = h.kept.blocks;
-  dies = dies_on t.numbers t.disk.blocks t.disk.flights c.step (repair_step c k) c.books none
+  dies = dies_on t.numbers t.disk.blocks t.disk.flights c.step (repair_step c k) c.rows none
       (λ die. may_repair (repair_step c k) (t.disk.flights die) (none_written c t h.valid h.kept none q.frontier die))
       h.kept.dies;
   fly = record { one = h.kept.fly.one; new = h.kept.fly.new };

@@ -22,7 +22,8 @@ ghost use Rattle.ftl_core.specs.declared.ftl.Ended.{Ended};
 use super::facts::bytes_are_a_block;
 use super::pin_counts::pin_moves;
 use super::{Ended, Ftl, move_live, move_page};
-use crate::books::{Book, Flight, Looked, Mending, Pin, Reader, Step};
+use crate::books::{Looked, Mending, Pin, Step};
+use block_table::{DieRow, Flight, Reader};
 use page_tag::one_seal;
 use ufs_spec::{Block, Key, Outcome, Page, Place, Tag};
 use unit_map::Stored;
@@ -246,11 +247,10 @@ fn index_in(tag: &Option<Tag>) -> u16
 
 impl Ftl {
     /// The die has no job in flight any more, and its open block has one page less.
-    fn page_written(&mut self, die: u8, book: Book)
-        ensures { self.new ≡ page_written self.old die book book.filling }
+    fn page_written(&mut self, die: u8, row: DieRow)
+        ensures { self.new ≡ page_written self.old die row row.filling }
     {
-        self.blocks.page_written(die, book.filling);
-        self.set_flight(die, None);
+        self.blocks.page_written(die, row.filling);
     }
 
     /// The block is bad from now on, and the die fills no block.
@@ -258,7 +258,6 @@ impl Ftl {
         ensures { self.new ≡ went_bad self.old die block }
     {
         self.blocks.went_bad(die, block);
-        self.set_flight(die, None);
     }
 
     /// The block is empty, and the die fills it from now on.
@@ -266,16 +265,15 @@ impl Ftl {
         ensures { self.new ≡ erased self.old die block }
     {
         self.blocks.erased(die, block);
-        self.set_flight(die, None);
     }
 
     /// The page of the step under way is written, and the step is over.
-    fn step_written(&mut self, die: u8, book: Book, place: Place)
-        ensures { self.new ≡ step_written self.old die book place }
+    fn step_written(&mut self, die: u8, row: DieRow, place: Place)
+        ensures { self.new ≡ step_written self.old die row place }
     {
         match self.step {
-            Some(Step::Mark { .. }) => self.mark_written(die, book),
-            Some(Step::Repair { key, .. }) => self.repair_written(die, book, key, place),
+            Some(Step::Mark { .. }) => self.mark_written(die, row),
+            Some(Step::Repair { key, .. }) => self.repair_written(die, row, key, place),
             Some(
                 Step::Copy {
                     number,
@@ -284,18 +282,18 @@ impl Ftl {
                     ..
                 },
             ) => {
-                self.copy_written(die, book, number, key, index_in(&tag), place);
+                self.copy_written(die, row, number, key, index_in(&tag), place);
             }
-            None => self.page_written(die, book),
+            None => self.page_written(die, row),
         }
     }
 
     /// A mark is written. If it is that of a collection, the collected block is free.
-    fn mark_written(&mut self, die: u8, book: Book)
-        ensures { self.new ≡ plan_over (page_written (mark_over self.old) die book book.filling) }
+    fn mark_written(&mut self, die: u8, row: DieRow)
+        ensures { self.new ≡ plan_over (page_written (mark_over self.old) die row row.filling) }
     {
         self.mark_over();
-        self.page_written(die, book);
+        self.page_written(die, row);
         self.plan_over();
     }
 
@@ -310,21 +308,29 @@ impl Ftl {
     }
 
     /// The page of a repair is written.
-    fn repair_written(&mut self, die: u8, book: Book, key: Key, place: Place)
-        ensures { self.new ≡ page_written (repair_over self.old key place) die book book.filling }
+    fn repair_written(&mut self, die: u8, row: DieRow, key: Key, place: Place)
+        ensures { self.new ≡ page_written (repair_over self.old key place) die row row.filling }
     {
         self.repair_over(key, place);
-        self.page_written(die, book);
+        self.page_written(die, row);
     }
 
     /// A copy is written. No group becomes durable by it, since its page stood before: `settle` finds
     /// nothing to do, and keeps one clause for all pages of groups.
-    fn copy_written(&mut self, die: u8, book: Book, number: u64, key: Key, index: u16, place: Place)
+    fn copy_written(
+        &mut self,
+        die: u8,
+        row: DieRow,
+        number: u64,
+        key: Key,
+        index: u16,
+        place: Place,
+    )
         ensures { self.new ≡
-            settled (page_written (copy_over self.old number key index place) die book book.filling) }
+            settled (page_written (copy_over self.old number key index place) die row row.filling) }
     {
         self.copy_over(number, key, index, place);
-        self.page_written(die, book);
+        self.page_written(die, row);
         self.settle();
     }
 
@@ -462,18 +468,18 @@ impl Ftl {
     fn group_ended(
         &mut self,
         die: u8,
-        book: Book,
+        row: DieRow,
         place: Place,
         number: u64,
         index: u16,
         is_done: bool,
     )
-        ensures { self.new ≡ group_ended self.old die book place number index is_done }
+        ensures { self.new ≡ group_ended self.old die row place number index is_done }
     {
         if is_done {
             self.cache.mark_written(number, index, place);
             self.live.set_live(place);
-            self.page_written(die, book);
+            self.page_written(die, row);
             self.settle();
         } else {
             self.went_bad(die, place.block);
@@ -481,11 +487,11 @@ impl Ftl {
     }
 
     /// The end of the program of the page of the step under way.
-    fn step_ended(&mut self, die: u8, book: Book, place: Place, is_done: bool)
-        ensures { self.new ≡ step_ended self.old die book place is_done }
+    fn step_ended(&mut self, die: u8, row: DieRow, place: Place, is_done: bool)
+        ensures { self.new ≡ step_ended self.old die row place is_done }
     {
         if is_done {
-            self.step_written(die, book, place);
+            self.step_written(die, row, place);
         } else {
             self.step_failed(die, place);
         }
@@ -503,17 +509,17 @@ impl Ftl {
     }
 
     /// What the end of a program or an erase changes.
-    fn change_ended(&mut self, die: u8, book: Book, flight: Flight, is_done: bool)
-        ensures { self.new ≡ change_ended self.old die book flight is_done }
+    fn change_ended(&mut self, die: u8, row: DieRow, flight: Flight, is_done: bool)
+        ensures { self.new ≡ change_ended self.old die row flight is_done }
     {
         match flight {
             Flight::Read { .. } => {}
-            Flight::Step { place } => self.step_ended(die, book, place, is_done),
+            Flight::Step { place } => self.step_ended(die, row, place, is_done),
             Flight::Group {
                 place,
                 number,
                 index,
-            } => self.group_ended(die, book, place, number, index, is_done),
+            } => self.group_ended(die, row, place, number, index, is_done),
             Flight::Erase { block } => self.erase_ended(die, block, is_done),
         }
     }
@@ -522,15 +528,15 @@ impl Ftl {
     fn change_done(
         &mut self,
         die: u8,
-        book: Book,
+        row: DieRow,
         flight: Flight,
         outcome: &Outcome,
     ) -> Option<Ended>
         ensures answer { result ≡ option_map other_for (ending outcome.now) }
-        ensures after { self.new ≡ change_after self.old die book flight (ending outcome.now) }
+        ensures after { self.new ≡ change_after self.old die row flight (ending outcome.now) }
     {
         let is_done = ending(outcome)?;
-        self.change_ended(die, book, flight, is_done);
+        self.change_ended(die, row, flight, is_done);
         Some(Ended::Other)
     }
 
@@ -589,15 +595,15 @@ impl Ftl {
     fn read_ended(
         &mut self,
         die: u8,
-        book: Book,
+        row: DieRow,
         reader: Reader,
         outcome: &Outcome,
         tag: &Option<Tag>,
     ) -> Option<Ended>
-        requires book { slice_get self.old.books die ≡ Some book }
+        requires row { slice_get self.old.rows die ≡ Some row }
         requires tag { IsTagRead outcome.now tag.now }
         ensures answer { GivesIf (is_read outcome.now) self.old outcome.now reader result }
-        ensures after { IsReadAfter (is_read outcome.now) self.old die book outcome.now tag.now reader self.new }
+        ensures after { IsReadAfter (is_read outcome.now) self.old die row outcome.now tag.now reader self.new }
     {
         if !is_read(outcome) {
             return None;
@@ -610,19 +616,19 @@ impl Ftl {
     fn job_ended(
         &mut self,
         die: u8,
-        book: Book,
+        row: DieRow,
         outcome: &Outcome,
         tag: &Option<Tag>,
     ) -> Option<Ended>
-        requires book { slice_get self.old.books die ≡ Some book }
+        requires row { slice_get self.old.rows die ≡ Some row }
         requires tag { IsTagRead outcome.now tag.now }
         ensures nothing { IfNone result (self.new ≡ self.old) }
-        ensures answer { FlightEnds self.old book.flight outcome.now result }
-        ensures after { IsFlightAfter self.old die book book.flight outcome.now tag.now self.new }
+        ensures answer { FlightEnds self.old row.flight outcome.now result }
+        ensures after { IsFlightAfter self.old die row row.flight outcome.now tag.now self.new }
     {
-        match book.flight? {
-            Flight::Read { reader, .. } => self.read_ended(die, book, reader, outcome, tag),
-            flight => self.change_done(die, book, flight, outcome),
+        match row.flight? {
+            Flight::Read { reader, .. } => self.read_ended(die, row, reader, outcome, tag),
+            flight => self.change_done(die, row, flight, outcome),
         }
     }
 
@@ -652,7 +658,7 @@ impl Ftl {
             t.disk.flights die ≡ Some (Reading who place) → IsReadOf t place who }
         ensures same_claims { claims_for self.new ≡ claims_for self.old }
     {
-        let book = self.book(die)?;
-        self.job_ended(die, book, outcome, tag)
+        let row = self.row(die)?;
+        self.job_ended(die, row, outcome, tag)
     }
 }

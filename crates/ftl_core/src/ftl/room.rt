@@ -4,10 +4,10 @@ ghost use Rattle.std.specs.List.{list_any};
 ghost use Rattle.ufs_spec.specs.Configs.{InRange};
 ghost use Rattle.ufs_spec.specs.Translation.{own_room, wanted_room};
 ghost use Rattle.ftl_core.specs.Collects.{has_few_free};
-ghost use Rattle.ftl_core.specs.Moves.{erases, fills, flight_erases, free_blocks, has_open_block, has_room_for_groups, may_open, may_open_for_group, may_open_for_step};
+ghost use Rattle.ftl_core.specs.Moves.{erases, fills, free_blocks, has_open_block, has_room_for_groups, may_open, may_open_for_group, may_open_for_step};
 
 use super::Ftl;
-use crate::books::{Flight, Waiting};
+use crate::books::Waiting;
 use ufs_spec::Numbers;
 
 /// How many free blocks groups leave to the device's own pages, to copies, marks and repairs: one
@@ -28,23 +28,6 @@ fn wanted_room(numbers: &Numbers) -> usize
 {
     let least = 2 * usize::from(numbers.dies) + 4;
     least.max(own_room(numbers) + 2)
-}
-
-/// Whether some die erases a block.
-fn is_erasing_now(flights: &[Option<Flight>]) -> bool
-    ensures { result ≡ list_any flight_erases flights.now }
-{
-    flights.iter().any(|flight| erases(flight))
-}
-
-/// Whether the die erases a block.
-fn erases(flight: &Option<Flight>) -> bool
-    ensures { result ≡ flight_erases flight.now }
-{
-    match *flight {
-        Some(Flight::Erase { .. }) => true,
-        _ => false,
-    }
 }
 
 impl Ftl {
@@ -72,16 +55,16 @@ impl Ftl {
 
     /// Whether some die fills a block.
     fn is_filling(&self) -> bool
-        ensures { result ≡ list_any fills self.now.books }
+        ensures { result ≡ list_any fills self.now.rows }
     {
-        self.blocks.has_open_block()
+        self.blocks.fills_any()
     }
 
     /// Whether some die erases a block.
     fn is_erasing(&self) -> bool
-        ensures { result ≡ list_any erases self.now.books }
+        ensures { result ≡ list_any erases self.now.rows }
     {
-        is_erasing_now(self.flights.as_slice())
+        self.blocks.erases_any()
     }
 
     /// Whether a block of some die is being filled, or is being erased to be filled.

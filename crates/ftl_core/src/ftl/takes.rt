@@ -3,14 +3,14 @@ ghost use Rattle.std.specs.Prelude.{◌≡◌, ℕ, ◌<◌, ◌≤◌, ◌+◌,
 ghost use Rattle.std.specs.Prelude.{true, false, if◌then◌else◌, unwrap_or, count_by, find, option_copied, option_map, position};
 ghost use Rattle.std.specs.List.{list_any};
 ghost use Rattle.ufs_spec.specs.Pages.{IsTag, greatest_number};
-ghost use Rattle.ftl_core.specs.Takes.{block_for, copy_program, core_taken, first_owed, flight_writes, group_job, is_group_page};
-ghost use Rattle.ftl_core.specs.Takes.{is_sealable, is_step_flight, is_step_reading, is_step_there, job_of, job_taken};
+ghost use Rattle.ftl_core.specs.Takes.{block_for, copy_program, core_taken, first_owed, group_job, is_group_page};
+ghost use Rattle.ftl_core.specs.Takes.{is_sealable, is_step_there, job_of, job_taken};
 ghost use Rattle.ftl_core.specs.Takes.{lowest_below, mark_program, next_place, owed_flight, owed_read, page_flight};
-ghost use Rattle.ftl_core.specs.Takes.{page_of_group, page_waiting, page_waits, page_waits_in, read_of, reads_step};
+ghost use Rattle.ftl_core.specs.Takes.{page_of_group, page_waiting, page_waits, read_of, reads_step};
 ghost use Rattle.ftl_core.specs.Takes.{repair_job, repair_program, writes_step};
 ghost use Rattle.ftl_core.specs.Takes.{step_job, step_read, step_waits, step_wants, waiting_flight, waiting_of};
 ghost use Rattle.ftl_core.specs.Takes.{waiting_page};
-ghost use Rattle.ftl_core.specs.Moves.{claims_for, flight_reads, in_flight, is_erasable, is_owed_in, keeps};
+ghost use Rattle.ftl_core.specs.Moves.{claims_for, in_flight, is_erasable, is_owed_by, keeps};
 ghost use Rattle.ftl_core.specs.Moves.{looks_on, single_tag, state_of, tag_of_page};
 ghost use Rattle.ufs_spec.specs.Translation.{Translation};
 ghost use Rattle.ftl_core.specs.Describes.{Describes, IsTaken, spot_at};
@@ -18,25 +18,25 @@ ghost use Rattle.ftl_core.specs.Stops.{MayGo, StopsRightGiven};
 ghost use Rattle.ufs_spec.specs.declared.flash.Job.TheVariants as job;
 
 use super::Ftl;
-use crate::books::{Book, Flight, Looked, Pin, Reader, Step, Waiting};
-use block_table::{BlockState, OpenBlock};
+use crate::books::{Looked, Pin, Step, Waiting};
+use block_table::{BlockState, BlockTable, DieRow, Flight, OpenBlock, Reader};
 use page_tag::{UnsealedJob, mark_body};
 use ufs_spec::{Fence, GREATEST_COMMAND, GREATEST_NUMBER, Job, Key, Place, Tag};
 use write_cache::Pending;
 
 /// The position of the first reader who is owed the read of a page of this die.
-fn first_owed(pins: &[Pin], flights: &[Option<Flight>], die: u8) -> Option<usize>
-    ensures what { result ≡ position (is_owed_in flights.now die) pins.now }
+fn first_owed(pins: &[Pin], blocks: &BlockTable, die: u8) -> Option<usize>
+    ensures what { result ≡ position (is_owed_by blocks.now.rows die) pins.now }
     ensures less { IfSome result (λ k. k < length pins.now) }
 {
-    pins.iter().position(|pin| is_owed_in(pin, flights, die))
+    pins.iter().position(|pin| is_owed(pin, blocks, die))
 }
 
 /// Whether the reader is owed the read of a page of this die: it wants it, and no die reads for it.
-fn is_owed_in(pin: &Pin, flights: &[Option<Flight>], die: u8) -> bool
-    ensures { result ≡ is_owed_in flights.now die pin.now }
+fn is_owed(pin: &Pin, blocks: &BlockTable, die: u8) -> bool
+    ensures { result ≡ is_owed_by blocks.now.rows die pin.now }
 {
-    pin.wanted && looks_on(&pin.looked, die) && !is_read_for(flights, pin.reader, pin.index)
+    pin.wanted && looks_on(&pin.looked, die) && !blocks.reads_for(pin.reader, pin.index)
 }
 
 /// Whether a page of the die is looked at.
@@ -65,69 +65,6 @@ fn read_of(pin: &Pin) -> Option<Flight>
     }
 }
 
-/// Whether some die reads for this block of the reader.
-fn is_read_for(flights: &[Option<Flight>], reader: u8, index: u16) -> bool
-    ensures { result ≡ list_any (flight_reads reader index) flights.now }
-{
-    flights
-        .iter()
-        .any(|flight| reads_for(flight, reader, index))
-}
-
-/// Whether the die reads for this block of the reader.
-fn reads_for(flight: &Option<Flight>, reader: u8, block: u16) -> bool
-    ensures { result ≡ flight_reads reader block flight.now }
-{
-    match *flight {
-        Some(
-            Flight::Read {
-                place: _,
-                reader: Reader::Task { tag, index },
-            },
-        ) => reader == tag && block == index,
-        _ => false,
-    }
-}
-
-/// Whether some die writes the page of the group with this number that has this index.
-fn is_written_now(flights: &[Option<Flight>], number: u64, index: u16) -> bool
-    ensures { result ≡ list_any (flight_writes number index) flights.now }
-{
-    flights
-        .iter()
-        .any(|flight| writes_page(flight, number, index))
-}
-
-/// Whether the die writes the page of the group with this number that has this index.
-fn writes_page(flight: &Option<Flight>, group: u64, page: u16) -> bool
-    ensures { result ≡ flight_writes group page flight.now }
-{
-    match *flight {
-        Some(
-            Flight::Group {
-                place: _,
-                number,
-                index,
-            },
-        ) => group == number && page == index,
-        _ => false,
-    }
-}
-
-/// Whether the page is neither written nor in flight.
-fn page_waits(page: &Pending, flights: &[Option<Flight>]) -> bool
-    ensures { result ≡ page_waits_in flights.now page.now }
-{
-    page.written.is_none() && !is_written_now(flights, page.number, page.index)
-}
-
-/// What is in flight of the die; `None` if there is no such die.
-fn flight_of(flights: &[Option<Flight>], die: u8) -> Option<Option<Flight>>
-    ensures { result ≡ slice_get flights.now die }
-{
-    flights.get(die as usize).copied()
-}
-
 /// What waits, if it is this page.
 fn waiting_page(page: &Pending) -> Waiting
     ensures { result ≡ waiting_page page.now }
@@ -135,45 +72,6 @@ fn waiting_page(page: &Pending) -> Waiting
     Waiting::Group {
         number: page.number,
         index: page.index,
-    }
-}
-
-/// Whether some die writes the page of the step under way.
-fn is_step_written_now(flights: &[Option<Flight>]) -> bool
-    ensures { result ≡ list_any is_step_flight flights.now }
-{
-    flights.iter().any(|flight| writes_step(flight))
-}
-
-/// Whether the die writes the page of the step under way.
-fn writes_step(flight: &Option<Flight>) -> bool
-    ensures { result ≡ is_step_flight flight.now }
-{
-    match *flight {
-        Some(Flight::Step { .. }) => true,
-        _ => false,
-    }
-}
-
-/// Whether some die reads for the step under way.
-fn is_step_read_now(flights: &[Option<Flight>]) -> bool
-    ensures { result ≡ list_any is_step_reading flights.now }
-{
-    flights.iter().any(|flight| reads_step(flight))
-}
-
-/// Whether the die reads for the step under way.
-fn reads_step(flight: &Option<Flight>) -> bool
-    ensures { result ≡ is_step_reading flight.now }
-{
-    match *flight {
-        Some(
-            Flight::Read {
-                reader: Reader::Step,
-                ..
-            },
-        ) => true,
-        _ => false,
     }
 }
 
@@ -300,29 +198,22 @@ impl Ftl {
     }
 
     /// What is known of the die; `None` if there is no such die.
-    pub(super) fn book(&self, die: u8) -> Option<Book>
-        ensures { result ≡ slice_get self.now.books die }
+    pub(super) fn row(&self, die: u8) -> Option<DieRow>
+        ensures { result ≡ slice_get self.now.rows die }
     {
-        let flight = flight_of(self.flights.as_slice(), die)?;
-        Some(Book {
-            filling: self.blocks.open_block(die),
-            flight,
-        })
+        self.blocks.row(die)
     }
 
     /// This is in flight of the die from now on, if there is such a die.
     pub(super) fn set_flight(&mut self, die: u8, flight: Option<Flight>)
         ensures { self.new ≡ in_flight self.old die flight }
     {
-        let index = die as usize;
-        if index < self.flights.len() {
-            self.flights[index] = flight;
-        }
+        self.blocks.set_flight(die, flight);
     }
 
     /// Whether a reader keeps a page of the block.
     fn is_pinned(&self, die: u8, block: u16) -> bool
-        requires die_there { die < length self.now.books }
+        requires die_there { die < length self.now.rows }
         requires block_there { block < self.now.numbers.blocks }
         ensures { result ≡ list_any (keeps die block) self.now.pins }
     {
@@ -331,7 +222,7 @@ impl Ftl {
 
     /// Whether the block is free and no reader keeps a page of it.
     fn is_erasable(&self, die: u8, block: u16) -> bool
-        requires die_there { die < length self.now.books }
+        requires die_there { die < length self.now.rows }
         requires block_there { block < self.now.numbers.blocks }
         ensures { result ≡ is_erasable self.now die block }
     {
@@ -340,7 +231,7 @@ impl Ftl {
 
     /// The lowest free block of the die without a pin.
     fn lowest_free(&self, die: u8) -> Option<u16>
-        requires { die < length self.now.books }
+        requires { die < length self.now.rows }
         ensures found { IfSome result (λ b. (b < self.now.numbers.blocks) × (is_erasable self.now die b ≡ true)) }
         ensures lowest { IfSome result (λ b. (k : ℕ) → k < b → is_erasable self.now die k ≡ false) }
         ensures none { IfNone result ((k : ℕ) → k < self.now.numbers.blocks → is_erasable self.now die k ≡ false) }
@@ -355,23 +246,23 @@ impl Ftl {
 
     /// Whether some die writes the page of the step under way.
     fn is_step_written(&self) -> bool
-        ensures { result ≡ list_any writes_step self.now.books }
+        ensures { result ≡ list_any writes_step self.now.rows }
     {
-        is_step_written_now(self.flights.as_slice())
+        self.blocks.writes_step()
     }
 
     /// Whether some die reads for the step under way.
     fn is_step_read(&self) -> bool
-        ensures { result ≡ list_any reads_step self.now.books }
+        ensures { result ≡ list_any reads_step self.now.rows }
     {
-        is_step_read_now(self.flights.as_slice())
+        self.blocks.reads_step()
     }
 
     /// Whether the page is neither written nor in flight.
     fn page_waits(&self, page: &Pending) -> bool
-        ensures { result ≡ page_waits self.now.books page.now }
+        ensures { result ≡ page_waits self.now.rows page.now }
     {
-        page_waits(page, self.flights.as_slice())
+        page.written.is_none() && !self.blocks.writes_page(page.number, page.index)
     }
 
     /// The position of the first reader who is owed the read of a page of this die.
@@ -379,7 +270,7 @@ impl Ftl {
         ensures what { result ≡ first_owed self.now die }
         ensures less { IfSome result (λ k. k < length self.now.pins) }
     {
-        first_owed(self.pins.as_slice(), self.flights.as_slice(), die)
+        first_owed(self.pins.as_slice(), &self.blocks, die)
     }
 
     /// The page of a group that waits first.
@@ -516,7 +407,7 @@ impl Ftl {
 
     /// The block of the die that is erased for what waits, where one may be opened for it.
     fn block_for(&self, die: u8, waiting: Waiting) -> Option<u16>
-        requires { die < length self.now.books }
+        requires { die < length self.now.rows }
         ensures { result ≡ block_for self.now die waiting }
     {
         if self.may_open(waiting) {
@@ -528,11 +419,11 @@ impl Ftl {
 
     /// The job of what waits: it goes to the next page of the open block, and a block is erased for
     /// it if none is open.
-    fn waiting_flight(&self, die: u8, book: Book, waiting: Waiting) -> Option<Flight>
-        requires { die < length self.now.books }
-        ensures { result ≡ waiting_flight self.now die book.filling waiting }
+    fn waiting_flight(&self, die: u8, row: DieRow, waiting: Waiting) -> Option<Flight>
+        requires { die < length self.now.rows }
+        ensures { result ≡ waiting_flight self.now die row.filling waiting }
     {
-        let Some(open) = book.filling else {
+        let Some(open) = row.filling else {
             let block = self.block_for(die, waiting)?;
             return Some(Flight::Erase { block });
         };
@@ -564,14 +455,14 @@ impl Ftl {
     }
 
     /// The job that an idle die is owed: a read, else that of what waits first.
-    fn owed_flight(&self, die: u8, book: Book) -> Option<Flight>
-        requires { die < length self.now.books }
-        ensures { result ≡ owed_flight self.now die book.filling (owed_read self.now die (first_owed self.now die)) }
+    fn owed_flight(&self, die: u8, row: DieRow) -> Option<Flight>
+        requires { die < length self.now.rows }
+        ensures { result ≡ owed_flight self.now die row.filling (owed_read self.now die (first_owed self.now die)) }
     {
         match self.owed_read(die) {
             Some(flight) => Some(flight),
             None => match self.waiting() {
-                Some(waiting) => self.waiting_flight(die, book, waiting),
+                Some(waiting) => self.waiting_flight(die, row, waiting),
                 None => None,
             },
         }
@@ -595,11 +486,11 @@ impl Ftl {
         ensures same_claims { claims_for self.new ≡ claims_for self.old }
     {
         self.has_few_units();
-        let book = self.book(die)?;
-        if book.flight.is_some() {
+        let row = self.row(die)?;
+        if row.flight.is_some() {
             return None;
         }
-        let flight = self.owed_flight(die, book)?;
+        let flight = self.owed_flight(die, row)?;
         let job = self.job_of(die, flight);
         if job.is_none() {
             return None;

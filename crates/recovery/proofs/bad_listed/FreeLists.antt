@@ -1,10 +1,9 @@
 -- A list with an answer for each block: where each block stands in it, and the pages outside of the free blocks.
-use Rattle.std.proofs.Common.{◌≡◌, ◌∙◌, ℕ, zero, suc, ◌+◌, ◌*◌, ◌<◌, Bool, true, false, not, List, [], ◌∷◌, ◌++◌, length}
-use Rattle.std.proofs.Common.{map, Some, cond, refl, sym, ap, subst, arith, if◌then◌else◌, ⊎_elim}
+use Rattle.std.proofs.Common.{◌≡◌, ◌∙◌, ℕ, zero, suc, ◌+◌, ◌*◌, ◌<◌, Bool, true, false, not, List, [], ◌∷◌, length}
+use Rattle.std.proofs.Common.{Some, cond, refl, sym, ap, subst, arith, if◌then◌else◌, ⊎_elim}
 use Rattle.std.specs.List.{filter, flat_map}
 use Rattle.std.specs.Prelude.{nat_lt, option_map, slice_get, slice_index_or}
-use Rattle.std.proofs.Math.Nat.{mul-suc, mul_comm}
-use Rattle.std.proofs.lemmas.List.{append-nil, append_assoc, length-append, length-map}
+use Rattle.std.proofs.lemmas.List.{flat_map_more, length-map}
 use Rattle.std.proofs.lemmas.Option.{slice_get-get_or, slice_get-map, slice_get_within}
 use Rattle.ufs_spec.specs.Cells.{AreWithin, Cells, GroupPage, Nothing}
 use Rattle.ufs_spec.specs.Disk.{Spot, spot_of}
@@ -15,45 +14,16 @@ use Rattle.ufs_spec.specs.declared.flash.Place.{Place}
 use Rattle.ufs_spec.specs.declared.flash.Tag.{Tag}
 use Rattle.ufs_spec.proofs.CellKinds.{page_not_nothing}
 use Rattle.ufs_spec.proofs.Facts.{and_from, cond-true, lt-ltb, none-some, same_Some, true≢false}
-use Rattle.ufs_spec.proofs.Lists.{below_at}
+use Rattle.ufs_spec.proofs.Lists.{below_at, length-below}
 use Rattle.ufs_laws.proofs.deciding.SearchOverPlaces.{is_place}
 use Rattle.recovery.specs.Frees.{block_of, has_spot, is_free_in, is_outside, spot_number}
 use Rattle.recovery.specs.Listed.{AreListed, outside}
 use Rattle.recovery.specs.declared.pages.FoundPage.{FoundPage}
+use Rattle.recovery.proofs.frees.Spots.{row, rows_long}
 use Rattle.recovery.proofs.tables.Joined.{in_either}
 use Rattle.recovery.proofs.opened.OutsidePages.{outside_there}
 
 -- ## Where a block stands
-
-flat_snoc : {A B : Type 0} (f : A → List B) (xs : List A) (y : A) → flat_map f (xs ++ y ∷ []) ≡ flat_map f xs ++ f y
-flat_snoc f [] y = append-nil (f y)
-flat_snoc {B = B} f (x ∷ xs) y = ap (λ (zs : List B). f x ++ zs) (flat_snoc f xs y)
-    ∙ sym (append_assoc (f x) (flat_map f xs) (f y))
-
-abbrev row : ℕ → ℕ → List Spot
-row columns die = map (λ (block : ℕ). record { die = die; block = block }) (below columns)
-
-length_below : (n : ℕ) → length (below n) ≡ n
-length_below zero = refl
-length_below (suc n) = length-append (below n) (n ∷ []) ∙ (let h = length_below n in omega arith)
-
-length_row : (columns die : ℕ) → length (row columns die) ≡ columns
-length_row columns die =
-    length-map (below columns) (λ (block : ℕ). record { die = die; block = block }) ∙ length_below columns
-
-one_more : (a b columns dies : ℕ) → a ≡ dies * columns → b ≡ columns → a + b ≡ suc dies * columns
-one_more a b columns dies many one =
-    let d : suc dies * columns ≡ columns * dies + columns = mul_comm (suc dies) columns ∙ mul-suc columns dies in
-    let e : columns * dies ≡ dies * columns = mul_comm columns dies in
-    omega arith
-
-length_rows : (columns dies : ℕ) → length (flat_map (row columns) (below dies)) ≡ dies * columns
-length_rows columns zero = omega arith
-length_rows columns (suc dies) =
-    ap length (flat_snoc (row columns) (below dies) dies)
-    ∙ (length-append (flat_map (row columns) (below dies)) (row columns dies)
-    ∙ one_more (length (flat_map (row columns) (below dies))) (length (row columns dies)) columns dies
-    (length_rows columns dies) (length_row columns dies))
 
 -- a block of a row
 in_row : (columns die j : ℕ) (s : Spot) → slice_get (row columns die) j ≡ Some s →
@@ -62,7 +32,7 @@ in_row columns die j s h =
     let l = slice_get_within (row columns die) j s h in
     let long : length (row columns die) ≡ length (below columns) =
     length-map (below columns) (λ (block : ℕ). record { die = die; block = block }) in
-    let all = length_below columns in
+    let all = length-below columns in
     let low : j < columns = omega arith in (
       same_Some s (record { die = die; block = j }) (sym h
           ∙ (slice_get-map (λ (block : ℕ). record { die = die; block = block }) (below columns) j
@@ -82,13 +52,13 @@ rows_at columns (suc dies) i s h = ⊎_elim
     let r = in_row columns dies new.0 s new.2 in
     let die = ap (λ (z : Spot). z.die) r.0 in
     let block = ap (λ (z : Spot). z.block) r.0 in
-    let long = length_rows columns dies in
+    let long = rows_long columns dies in
     let at = new.1 in
     let same : s.die * columns ≡ dies * columns = ap (λ (d : ℕ). d * columns) die in
     let low = r.1 in
     (omega arith, omega arith, omega arith))
     (in_either (flat_map (row columns) (below dies)) (row columns dies) i s
-    (sym (ap (λ (xs : List Spot). slice_get xs i) (flat_snoc (row columns) (below dies) dies)) ∙ h))
+    (ap (λ (xs : List Spot). slice_get xs i) (flat_map_more (row columns) [] (below dies) dies) ∙ h))
 
 -- in a list with an answer for each block this is the one of the block
 pub free_at : (n : Numbers) (is_bad : Spot → Bool) (items : List Bool) (i : ℕ) (s : Spot) →

@@ -64,8 +64,8 @@ one_recorded Before After old new block frontier raised are keeps more splits = 
 -- Pages
 
 -- what stands at the end of the first n + 1 is one of the first n, or the last of them
-pub last_of : {X : Type 0} (xs : List X) (n i : ℕ) (e f : X) → i < suc n → slice_get xs n ≡ Some e → slice_get xs i ≡ Some f →
-    (i < n) ⊎ (e ≡ f)
+pub last_of : {X : Type 0} (xs : List X) (n i : ℕ) (e f : X) → i < suc n → slice_get xs n ≡ Some e →
+    slice_get xs i ≡ Some f → (i < n) ⊎ (e ≡ f)
 last_of xs n i e f l at there =
     ⊎_elim (λ (m : i < n). inl m)
     (λ (m : n ≤ i). let same : i ≡ n = omega (arith, l, m) in
@@ -76,8 +76,8 @@ pub page_recorded : (blocks : ℕ) (pages : List FoundPage) (n : ℕ) (e : Found
     slice_get pages n ≡ Some e → IsRaised old new (block_of blocks e) e.tag.frontier →
     AreGreatest (PagesRecord blocks pages n) old → AreGreatest (PagesRecord blocks pages (suc n)) new
 page_recorded blocks pages n e old new at raised are =
-    one_recorded (PagesRecord blocks pages n) (PagesRecord blocks pages (suc n)) old new (block_of blocks e) e.tag.frontier
-    raised are
+    one_recorded (PagesRecord blocks pages n) (PagesRecord blocks pages (suc n)) old new (block_of blocks e)
+    e.tag.frontier raised are
     (λ k x r. let l = r.2 in (r.0, r.1, omega (arith, l), r.3, r.4, r.5))
     (n, e, omega arith, at, refl, refl)
     (λ k x r. ⊎_elim (λ (l : r.0 < n). inl (r.0, r.1, l, r.3, r.4, r.5))
@@ -90,7 +90,8 @@ page_recorded blocks pages n e old new at raised are =
 -- Marks
 
 pub no_mark_recorded : (blocks : ℕ) (pages : List FoundPage) (marks : List FoundMark) (latests : List ℕ) →
-    AreGreatest (PagesRecord blocks pages (length pages)) latests → AreGreatest (RecordsUpTo blocks pages marks 0) latests
+    AreGreatest (PagesRecord blocks pages (length pages)) latests →
+    AreGreatest (RecordsUpTo blocks pages marks 0) latests
 no_mark_recorded blocks pages marks latests are = record {
   within = λ k x h y r.
       ⊎_elim (λ s. are.within k x h y s)

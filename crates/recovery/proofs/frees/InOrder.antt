@@ -176,7 +176,8 @@ module _ (blocks : ℕ) (latests : List ℕ) (held : List Bool) (pages : List Fo
           IsDecided blocks latests held pages needed named new b.block
       one_decided before j b l there =
           ⊎_elim
-          (λ (s : b.block ≡ a.block). subst (λ (k : ℕ). IsDecided blocks latests held pages needed named new k) (sym s) here)
+          (λ (s : b.block ≡ a.block).
+          subst (λ (k : ℕ). IsDecided blocks latests held pages needed named new k) (sym s) here)
           (λ (apart : b.block ≢ a.block).
           ⊎_elim
           (λ (m : j < i).
@@ -209,4 +210,5 @@ module _ (blocks : ℕ) (latests : List ℕ) (held : List Bool) (pages : List Fo
       AreDecided blocks latests held pages needed named free
   all_decided order free age each k x h =
       let r = age.all k x h in
-      each r.0 (record { latest = x; block = k }) (slice_get_within order r.0 (record { latest = x; block = k }) r.1) r.1
+      each r.0 (record { latest = x; block = k })
+      (slice_get_within order r.0 (record { latest = x; block = k }) r.1) r.1

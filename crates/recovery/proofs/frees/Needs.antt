@@ -1,20 +1,15 @@
 -- Whether a page is needed, told by the newest page of its key, is whether the newest mark's fence has its number or a
 -- page overwrites it.
-use Rattle.std.proofs.Common.{◌≡◌, ◌∙◌, ◌⊎◌, Bool, true, false, not, Option, Some, None}
-use Rattle.std.proofs.Common.{inl, inr, ⊎_elim, refl, sym, arith}
+use Rattle.std.proofs.Common.{◌≡◌, ◌∙◌, ◌⊎◌, true, false, not, Option, Some, None, inl, inr, ⊎_elim, sym, arith}
 use Rattle.ufs_spec.specs.Cells.{Cells, Mark, key_of}
 use Rattle.ufs_spec.specs.Kept.{IsFenced}
 use Rattle.ufs_spec.specs.declared.flash.Tag.{Tag}
-use Rattle.ufs_spec.proofs.Facts.{and_false, and_parts, false≢true, lt-ltb, ltb-true, not-true}
+use Rattle.ufs_spec.proofs.Facts.{and_false, and_parts, false≢true, lt-ltb, ltb-true, not-false, not-true}
 use Rattle.recovery.specs.Frees.{IsOverwrittenIn, is_needed, is_older}
 use Rattle.recovery.specs.KeysInOrder.{is_fenced}
 use Rattle.recovery.specs.Listed.{IsContentPage}
 use Rattle.recovery.specs.declared.pages.FoundPage.{FoundPage}
 use Rattle.recovery.proofs.key_order.NewestPages.{fenced_test, fenced_told}
-
-not_off : (b : Bool) → not b ≡ false → b ≡ true
-not_off true h = refl
-not_off false h = absurd (false≢true (sym h))
 
 module _ (c : Cells) (m : Mark) (t : Tag) where
   older_told : (o : Option FoundPage) → IsContentPage c (Some m) m.records (key_of t) o → is_older t o ≡ true →
@@ -51,9 +46,9 @@ module _ (c : Cells) (m : Mark) (t : Tag) where
   spare_told o is h =
       ⊎_elim
       (λ (off : not (is_fenced m.fence t.number) ≡ false).
-      inl (fenced_told m.fence t.number (not_off (is_fenced m.fence t.number) off)))
+      inl (fenced_told m.fence t.number (not-false (is_fenced m.fence t.number) off)))
       (λ (off : (not (is_fenced m.fence t.number) ≡ true) × (not (is_older t o) ≡ false)).
-      inr (older_told o is (not_off (is_older t o) off.1)))
+      inr (older_told o is (not-false (is_older t o) off.1)))
       (and_false (not (is_fenced m.fence t.number)) (not (is_older t o)) h)
 
   -- a page that is needed is neither in the fence nor overwritten

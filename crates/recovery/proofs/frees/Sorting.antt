@@ -1,29 +1,21 @@
 -- Lists that rise by a number of what stands in them: where they are cut, what sorting makes of pages, and the blocks
 -- from the oldest on.
-use Rattle.std.proofs.Common.{◌≡◌, ◌∙◌, ◌⊎◌, ℕ, zero, suc, ◌+◌, ◌<◌, ◌≤◌, ◌==◌, Bool, true, false, List, length, Some, cond}
-use Rattle.std.proofs.Common.{inl, inr, ⊎_elim, refl, sym, ap, subst, arith, nat_lt, nat_le}
+use Rattle.std.proofs.Common.{◌≡◌, ◌∙◌, ◌⊎◌, ℕ, zero, suc, ◌+◌, ◌<◌, ◌≤◌, ◌==◌, Bool, true, false, List, length, Some}
+use Rattle.std.proofs.Common.{cond, inl, inr, ⊎_elim, refl, sym, ap, subst, arith, nat_lt, nat_le}
 use Rattle.std.specs.Prelude.{get_or, slice_get}
 use Rattle.std.specs.Ordering.{is_lt, nat_cmp}
-use Rattle.std.specs.List.{Contains}
 use Rattle.std.specs.declared.cmp.Ordering.TheVariants.{Equal, Greater}
 use Rattle.std.specs.List.Sorted.{IsNonDecreasingBy, IsPartitionPoint, IsPermutation, IsSortedByKey, IsStableByKey}
 use Rattle.std.proofs.lemmas.List.Sorted.{Contains-permutation, IsPermutation-sym, ties_still_rise}
 use Rattle.std.proofs.lemmas.Option.{get_or_from_slice_get, slice_get-get_or, slice_get_within}
 use Rattle.ufs_spec.proofs.Facts.{cases_lt, le-ltb, leb-false, leb-true, ltb-false, ltb-true, same_Some}
-use Rattle.ufs_spec.proofs.Lists.{get_there}
+use Rattle.ufs_spec.proofs.Lists.{at_contained, contained_at, get_there}
 use Rattle.recovery.specs.Frees.{AreAged, AreByAge, AreRising, AreSamePages, IsCutAt}
 use Rattle.recovery.specs.declared.free.Aged.{Aged}
 use Rattle.recovery.specs.declared.pages.FoundPage.{FoundPage}
 
 -- What stands in a list
 
-pub contained_at : {X : Type 0} (xs : List X) (x : X) → Contains xs x → (k : ℕ) × (slice_get xs k ≡ Some x)
-contained_at xs x h = (h.0, slice_get-get_or xs h.0 x h.1 ∙ ap Some h.2)
-
-pub at_contained : {X : Type 0} (xs : List X) (k : ℕ) (x : X) → slice_get xs k ≡ Some x → Contains xs x
-at_contained xs k x h = (k, slice_get_within xs k x h, get_or_from_slice_get xs k x x h)
-
--- it stands in each list with the same elements
 pub moved : {X : Type 0} (xs ys : List X) → IsPermutation xs ys → (k : ℕ) (x : X) → slice_get xs k ≡ Some x →
     (j : ℕ) × (slice_get ys j ≡ Some x)
 moved xs ys same k x h = contained_at ys x (Contains-permutation xs ys x same (at_contained xs k x h))

@@ -12,12 +12,12 @@ use Rattle.ufs_spec.specs.Keys.{below}
 use Rattle.ufs_spec.specs.Translation.{spots}
 use Rattle.ufs_spec.specs.declared.configs.Numbers.{Numbers}
 use Rattle.ufs_spec.proofs.Facts.{cases_lt, same_Some}
-use Rattle.ufs_spec.proofs.Lists.{below_at, length-below}
+use Rattle.ufs_spec.proofs.Lists.{below_at, get_front, length-below}
 use Rattle.recovery.specs.Frees.{IsLowerSpot, spot_number}
-use Rattle.recovery.proofs.tables.Joined.{in_back, in_front}
+use Rattle.recovery.proofs.tables.Joined.{in_back}
 
 -- the blocks of a die
-abbrev row : ℕ → ℕ → List Spot
+abbrev pub row : ℕ → ℕ → List Spot
 row blocks die = map (λ (block : ℕ). record { die = die; block = block }) (below blocks)
 
 row_at : (blocks die b : ℕ) → b < blocks → slice_get (row blocks die) b ≡ Some (record { die = die; block = b })
@@ -25,7 +25,7 @@ row_at blocks die b l =
     slice_get-map (λ (block : ℕ). record { die = die; block = block }) (below blocks) b
     ∙ ap (option_map (λ (block : ℕ). record { die = die; block = block })) (below_at blocks b l)
 
-rows_long : (blocks dies : ℕ) → length (flat_map (row blocks) (below dies)) ≡ dies * blocks
+pub rows_long : (blocks dies : ℕ) → length (flat_map (row blocks) (below dies)) ≡ dies * blocks
 rows_long blocks zero = sym (zero-mul blocks)
 rows_long blocks (suc dies) =
     let more = ap length (flat_map_more (row blocks) [] (below dies) dies) in
@@ -45,7 +45,7 @@ rows_at blocks (suc dies) d b l m =
     ap (λ (xs : List Spot). slice_get xs (d * blocks + b)) (sym (flat_map_more (row blocks) [] (below dies) dies))
     ∙ ⊎_elim
     (λ (low : d < dies).
-    in_front front (row blocks dies) (d * blocks + b) (record { die = d; block = b }) (rows_at blocks dies d b low m))
+    get_front front (row blocks dies) (d * blocks + b) (record { die = d; block = b }) (rows_at blocks dies d b low m))
     (λ (high : dies ≤ d).
     let same : d ≡ dies = omega arith in
     let at : d * blocks + b ≡ length front + b =

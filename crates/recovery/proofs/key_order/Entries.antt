@@ -4,7 +4,6 @@ use Rattle.std.proofs.Common.{◌++◌, length, take, drop, Option, Some, None, 
 use Rattle.std.proofs.Common.{replicate, add-one}
 use Rattle.std.specs.Prelude.{cond, get_or, nat_le, slice_get, slice_set}
 use Rattle.std.proofs.Math.Seq.{take-append_seam}
-use Rattle.std.proofs.lemmas.List.{get_or-replicate, length-replicate}
 use Rattle.std.proofs.lemmas.Option.{get_or_from_slice_get, slice_get-get_or}
 use Rattle.ufs_spec.specs.Cells.{key_of}
 use Rattle.ufs_spec.specs.Keys.{IsKey, same_key}
@@ -13,7 +12,7 @@ use Rattle.ufs_spec.specs.declared.flash.Fence.{Fence}
 use Rattle.ufs_spec.specs.declared.flash.Key.{Key}
 use Rattle.ufs_spec.proofs.Equalities.{key_cases, key_same}
 use Rattle.ufs_spec.proofs.Facts.{and_from, cond-false, cond-true, le-leb, not_from_false}
-use Rattle.ufs_spec.proofs.Lists.{set_here, set_other}
+use Rattle.ufs_spec.proofs.Lists.{get_replicate, set_here, set_other}
 use Rattle.geometry.specs.Keys.{IsIndex, key_total}
 use Rattle.recovery.specs.KeysInOrder.{IsNewestOf, is_fenced, is_kept_page, is_newer, with_page}
 use Rattle.recovery.specs.declared.pages.FoundPage.{FoundPage}
@@ -27,12 +26,6 @@ pub whole_written : {A : Type 0} (n : ℕ) (new old : List A) → n ≡ length o
 whole_written n new old long same =
     subst (λ (m : ℕ). take m (new ++ drop (length new) old) ≡ new) (same ∙ sym long)
     (take-append_seam new (drop (length new) old))
-
--- The first pages
-
-pub none_yet : {A : Type 0} (n i : ℕ) (x : A) → i < n → slice_get (replicate n x) i ≡ Some x
-none_yet n i x l =
-    slice_get-get_or (replicate n x) i x (omega (arith, length-replicate n x, l)) ∙ ap Some (get_or-replicate n i x x l)
 
 -- One page
 
@@ -132,7 +125,7 @@ pub none_newest : (s : Shape) (pages : List FoundPage) (fence : Option Fence) (k
 none_newest s pages fence kept n entries count are k i index =
     let l = index_below s k i index in (
       None,
-      ap (λ (xs : List (Option FoundPage)). slice_get xs i) are ∙ none_yet n i None (omega (arith, l, count)),
+      ap (λ (xs : List (Option FoundPage)). slice_get xs i) are ∙ get_replicate n i None (omega (arith, l, count)),
       λ j e m there h. omega (arith, m),
     )
 

@@ -18,7 +18,7 @@ use Rattle.geometry.specs.Keys.{IsIndex, key_total}
 use Rattle.recovery.specs.KeysInOrder.{AreKnown, AreMarked, IsLostAmong}
 use Rattle.recovery.specs.Listed.{AreListed}
 use Rattle.recovery.specs.declared.pages.FoundPage.{FoundPage}
-use Rattle.recovery.proofs.key_order.Entries.{none_yet}
+use Rattle.ufs_spec.proofs.Lists.{get_replicate}
 use Rattle.geometry.proofs.Indexes.{index_below, indexes_apart, known_index, one_index, one_key, rise_before}
 
 -- Which keys are marked
@@ -32,7 +32,7 @@ pub none_lost : (s : Shape) (pages : List FoundPage) (low n : ℕ) (marked : Lis
     marked ≡ replicate n false → MarksLost s pages low 0 marked
 none_lost s pages low n marked count are k i index =
     let l = index_below s k i index in
-    let h = ap (λ (xs : List Bool). slice_get xs i) are ∙ none_yet n i false (omega (arith, l, count)) in (
+    let h = ap (λ (xs : List Bool). slice_get xs i) are ∙ get_replicate n i false (omega (arith, l, count)) in (
       λ m. absurd (true≢false (same_Some true false (sym m ∙ h))),
       λ m. let w = m.2 in absurd (omega (arith, w)),
     )

@@ -28,7 +28,8 @@ pub table_still : (n m : Numbers) (old new : List DieState) (t : Table) → n �
 table_still n m old new t is same h =
     subst (λ (k : Numbers). IsTableOver k new t) is (subst (λ (ds : List DieState). IsTableOver n ds t) (sym same) h)
 
-pub found_before : (n : Numbers) (old new : List DieState) (f : Found) → new ≡ old → IsFoundOn n new f → IsFoundOn n old f
+pub found_before : (n : Numbers) (old new : List DieState) (f : Found) → new ≡ old → IsFoundOn n new f →
+    IsFoundOn n old f
 found_before n old new f same h = subst (λ (ds : List DieState). IsFoundOn n ds f) same h
 
 -- a fault of the reading

@@ -10,7 +10,7 @@ use Rattle.ufs_spec.specs.declared.flash.Place.{Place}
 use Rattle.ufs_spec.specs.declared.flash.Tag.{Tag}
 use Rattle.ufs_spec.proofs.CellKinds.{mark_not_nothing, page_not_nothing}
 use Rattle.ufs_spec.proofs.Facts.{cases_Bool, cases_lt, cond-false, cond-true, le-ltb, lt-ltb, ltb-false, ltb-true}
-use Rattle.ufs_spec.proofs.Facts.{none-some}
+use Rattle.ufs_spec.proofs.Lists.{get_front}
 use Rattle.recovery.specs.Listed.{AreListed, AreMarksListed, IsMarksRecord}
 use Rattle.recovery.specs.Reading.{AreOfDies, IsJoined, IsTableOf, greater_of, newer, newer_of, newest_in}
 use Rattle.recovery.specs.declared.pages.FoundMark.{FoundMark}
@@ -18,11 +18,6 @@ use Rattle.recovery.specs.declared.pages.FoundPage.{FoundPage}
 use Rattle.recovery.specs.declared.reading.Table.{Table}
 
 -- ## Two lists, one behind the other
-
-pub in_front : {A : Type 0} (xs ys : List A) (k : ℕ) (x : A) → slice_get xs k ≡ Some x → slice_get (xs ++ ys) k ≡ Some x
-in_front [] ys k x h = absurd (none-some x h)
-in_front (y ∷ xs) ys zero x h = h
-in_front (y ∷ xs) ys (suc k) x h = in_front xs ys k x h
 
 pub in_back : {A : Type 0} (xs ys : List A) (k : ℕ) → slice_get (xs ++ ys) (length xs + k) ≡ slice_get ys k
 in_back [] ys k = ap (slice_get ys) (same k)
@@ -128,7 +123,7 @@ module _ (c : Cells) (first a b : ℕ) (low high : Cells) (of_low : AreOfDies fi
         → (i : ℕ) × (slice_get (xs ++ ys) i ≡ Some (record { place = p; tag = t }))
     all p t body h =
         ⊎_elim
-        (λ l. let k = in_low.all p t body l in (k.0, in_front xs ys k.0 (record { place = p; tag = t }) k.1))
+        (λ l. let k = in_low.all p t body l in (k.0, get_front xs ys k.0 (record { place = p; tag = t }) k.1))
         (λ r. let k = in_high.all p t body r in (length xs + k.0, in_back xs ys k.0 ∙ k.1))
         (from_either p (GroupPage t body) h)
 
@@ -164,7 +159,8 @@ module _ (c : Cells) (first a b : ℕ) (low high : Cells) (of_low : AreOfDies fi
   mark_high : (p : Place) (m : Mark) → high p ≡ MarkPage m → both p ≡ MarkPage m
   mark_high p m = from_high p (MarkPage m) (mark_not_nothing (MarkPage m) m refl)
 
-  marks_both : (xs ys : List FoundMark) → AreMarksListed low xs → AreMarksListed high ys → AreMarksListed both (xs ++ ys)
+  marks_both : (xs ys : List FoundMark) → AreMarksListed low xs → AreMarksListed high ys →
+      AreMarksListed both (xs ++ ys)
   marks_both xs ys in_low in_high = record {
     there = λ i e h. ⊎_elim
         (λ old. let k = in_low.there i e old.1 in (k.0, mark_low e.place k.0 k.1, k.2, k.3))
@@ -173,7 +169,7 @@ module _ (c : Cells) (first a b : ℕ) (low high : Cells) (of_low : AreOfDies fi
     all = λ p m h. ⊎_elim
         (λ l.
         let k = in_low.all p m l in
-        (k.0, in_front xs ys k.0 (record { place = p; number = m.number; records = m.records }) k.1))
+        (k.0, get_front xs ys k.0 (record { place = p; number = m.number; records = m.records }) k.1))
         (λ r. let k = in_high.all p m r in (length xs + k.0, in_back xs ys k.0 ∙ k.1))
         (from_either p (MarkPage m) h);
   }

@@ -1,6 +1,6 @@
 -- Some dies and the dies behind them, each read by a worker, are read.
-use Rattle.std.proofs.Common.{◌≡◌, ◌⊎◌, ◌∙◌, ℕ, zero, suc, ◌+◌, ◌<◌, List, [], ◌∷◌, ◌++◌, ap, arith, get_or, length, map}
-use Rattle.std.proofs.Common.{subst, sym, ⊎_elim, length-append, Result, Ok, Err}
+use Rattle.std.proofs.Common.{◌≡◌, ◌⊎◌, ◌∙◌, ℕ, zero, suc, ◌+◌, ◌<◌, List, [], ◌∷◌, ◌++◌, ap, arith, get_or, length}
+use Rattle.std.proofs.Common.{map, subst, sym, ⊎_elim, length-append, Result, Ok, Err}
 use Rattle.std.proofs.lemmas.List.{get_or-append-add, get_or_append_left, length-map, map-append}
 use Rattle.std.proofs.lemmas.Result.{IfErr-weaker, IfOk-weaker}
 use Rattle.std.specs.List.{All}
@@ -117,7 +117,8 @@ both_read n first middle xs ys us vs a b d e one rest both counts long ends h k 
       (λ (s : (one ≡ Err f) ⊎ (rest ≡ Err f)). ⊎_elim
       (λ (l : one ≡ Err f). front_fault first a b d e f long (failed one f (IsFaultOf first a b) l h.fault))
       (λ (r : rest ≡ Err f).
-      back_fault first middle a b d e f long (omega (arith, ends, counts)) (failed rest f (IsFaultOf middle d e) r k.fault)) s) o)
+      back_fault first middle a b d e f long (omega (arith, ends, counts))
+      (failed rest f (IsFaultOf middle d e) r k.fault)) s) o)
       joined.err;
 }
   where

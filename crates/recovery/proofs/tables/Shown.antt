@@ -9,7 +9,8 @@ use Rattle.ufs_spec.specs.Cells.{Cells, IsCell, Shows}
 use Rattle.ufs_spec.specs.Dies.{DieState, IsOfSize, new_die, page_at}
 use Rattle.ufs_spec.specs.Lives.{array_of}
 use Rattle.recovery.specs.Reading.{ShowsDies}
-use Rattle.recovery.proofs.tables.Joined.{in_back, in_front}
+use Rattle.ufs_spec.proofs.Lists.{get_front}
+use Rattle.recovery.proofs.tables.Joined.{in_back}
 
 -- the state of a die of the list
 pub state_at : {D : Type 0} (state : D → DieState) (dies : List D) (states : List DieState) (i : ℕ) (d : D) →
@@ -23,8 +24,8 @@ pub as_long : {D : Type 0} (state : D → DieState) (new old : List D) → map s
 as_long state new old same = sym (length-map new state) ∙ (ap length same ∙ length-map old state)
 
 -- it has the sizes of all
-pub size_at : {D : Type 0} (state : D → DieState) (dies : List D) (states : List DieState) (blocks pages i : ℕ) (d : D) →
-    map state dies ≡ states → i < length dies → All (IsOfSize blocks pages) states →
+pub size_at : {D : Type 0} (state : D → DieState) (dies : List D) (states : List DieState) (blocks pages i : ℕ)
+    (d : D) → map state dies ≡ states → i < length dies → All (IsOfSize blocks pages) states →
     IsOfSize blocks pages (state (get_or dies i d))
 size_at state dies states blocks pages i d same inside sizes =
     let at = state_at state dies states i d same inside in
@@ -45,7 +46,7 @@ all_shown states c shown i state at p e =
 
 -- dies and the dies behind them
 pub front_shown : (first : ℕ) (xs ys : List DieState) (c : Cells) → ShowsDies first (xs ++ ys) c → ShowsDies first xs c
-front_shown first xs ys c shown i state at = shown i state (in_front xs ys i state at)
+front_shown first xs ys c shown i state at = shown i state (get_front xs ys i state at)
 
 pub back_shown : (first : ℕ) (xs ys : List DieState) (c : Cells) → ShowsDies first (xs ++ ys) c →
     ShowsDies (first + length xs) ys c

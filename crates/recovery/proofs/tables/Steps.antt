@@ -222,8 +222,8 @@ module _ (s : Cells) (p : Place) (m : Mark) (empty : s p ≡ Nothing) where
 -- Whatever the page is
 
 -- what is read off the cells
-pub record IsReadOff (s : Cells) (found : List FoundPage) (all_marks : List FoundMark) (known : Option Mark) (frontier : ℕ) :
-    Type 0 where
+pub record IsReadOff (s : Cells) (found : List FoundPage) (all_marks : List FoundMark) (known : Option Mark)
+    (frontier : ℕ) : Type 0 where
   pub pages : AreListed s found
   pub marks : AreMarksListed s all_marks
   pub newest : IsNewestMark s known

@@ -19,22 +19,22 @@ returns-in-Ok-clause-same g c = c.found_over.ensures.same ∙ c.in-Ok.ensures.sa
 pub returns-in-Ok-clause-found : goal.returns-in-Ok-clause-found
 returns-in-Ok-clause-found g c =
     IfOk-weaker c.found_over.result _ _
-    (λ f h. (found_before c.args.config.now (map g.D.Die.state c.args.dies.now) (map g.D.Die.state c.read_all.new.dies) f
-    c.in-Ok.ensures.same h).found)
+    (λ f h. (found_before c.args.config.now (map g.D.Die.state c.args.dies.now)
+    (map g.D.Die.state c.read_all.new.dies) f c.in-Ok.ensures.same h).found)
     c.found_over.ensures.told
 
 pub returns-in-Ok-clause-stands : goal.returns-in-Ok-clause-stands
 returns-in-Ok-clause-stands g c =
     IfOk-weaker c.found_over.result _ _
-    (λ f h. (found_before c.args.config.now (map g.D.Die.state c.args.dies.now) (map g.D.Die.state c.read_all.new.dies) f
-    c.in-Ok.ensures.same h).stands)
+    (λ f h. (found_before c.args.config.now (map g.D.Die.state c.args.dies.now)
+    (map g.D.Die.state c.read_all.new.dies) f c.in-Ok.ensures.same h).stands)
     c.found_over.ensures.told
 
 pub returns-in-Ok-clause-permanent : goal.returns-in-Ok-clause-permanent
 returns-in-Ok-clause-permanent g c =
     IfOk-weaker c.found_over.result _ _
-    (λ f h. (found_before c.args.config.now (map g.D.Die.state c.args.dies.now) (map g.D.Die.state c.read_all.new.dies) f
-    c.in-Ok.ensures.same h).permanent)
+    (λ f h. (found_before c.args.config.now (map g.D.Die.state c.args.dies.now)
+    (map g.D.Die.state c.read_all.new.dies) f c.in-Ok.ensures.same h).permanent)
     c.found_over.ensures.told
 
 pub returns-in-Ok-clause-fault : goal.returns-in-Ok-clause-fault

@@ -38,7 +38,8 @@ loop-index-preserved c = λ named.
     let there = slice_get-get_or pages index no_page (omega (arith, c.end_of-end.ensures.bound)) in
     let told = slice_get-get_or c.args.needed.now index false
     (omega (arith, c.requires, c.end_of-end.ensures.bound)) in
-    let here : slice_get c.args.needed.now index ≡ Some true → HasOther c.args.blocks c.args.named.now c.args.free.now e =
+    let here : slice_get c.args.needed.now index ≡ Some true →
+    HasOther c.args.blocks c.args.named.now c.args.free.now e =
     elim c.else-needed-index.branch [
       | else-needed-index-via-then-needed-index+else-not-has_other w ↦
           λ need. w.has_other.ensures.goes w.if-not-has_other.false named

@@ -12,7 +12,8 @@ loop-block-init g c = record {
   counted = omega arith;
   read = λ cells within shown.
       nothing_read c.args.numbers.now (only c.args.number cells) c.args.number c.empty-table.result
-      (only_before c.args.number cells) c.empty-table.ensures.pages (ap (option_map mark_of) c.empty-table.ensures.newest)
+      (only_before c.args.number cells) c.empty-table.ensures.pages
+      (ap (option_map mark_of) c.empty-table.ensures.newest)
       c.empty-table.ensures.recorded c.empty-table.ensures.marks;
 }
 

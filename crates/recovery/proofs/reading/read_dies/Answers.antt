@@ -1,4 +1,5 @@
-use Rattle.std.proofs.Common.{◌≡◌, ◌∙◌, ℕ, ◌+◌, ◌<◌, ap, arith, get_or, length, map, option_map, refl, rules, subst, sym}
+use Rattle.std.proofs.Common.{◌≡◌, ◌∙◌, ℕ, ◌+◌, ◌<◌, ap, arith, get_or, length, map, option_map, refl, rules, subst}
+use Rattle.std.proofs.Common.{sym}
 use Rattle.page_tag.specs.Contents.{mark_of}
 use Rattle.ufs_spec.specs.Dies.{DieState}
 use Rattle.recovery.specs.Reading.{IsJoined, IsTableOf, ShowsDie}

@@ -10,10 +10,11 @@ use Rattle.recovery.proofs.settings.is_permanent.Goals as goal
 pub says_permanent-requires-clause-die : goal.says_permanent-requires-clause-die
 says_permanent-requires-clause-die g c =
     let dies = map g.D.Die.state c.args.dies.now in
-    let page : IsSettingsPage c.args.numbers.now (bad_of dies) (array_of dies) c.args.found.now (Some c.in-Some.content) =
+    let page : IsSettingsPage c.args.numbers.now (bad_of dies) (array_of dies) c.args.found.now
+    (Some c.in-Some.content) =
     subst (IsSettingsPage c.args.numbers.now (bad_of dies) (array_of dies) c.args.found.now) c.in-Some.is
-    (settings_there c.args.numbers.now (bad_of dies) (array_of dies) c.args.found.now c.as_slice.result.now c.settings_page.result
-    c.requires.settings c.as_slice.ensures.value c.settings_page.ensures) in
+    (settings_there c.args.numbers.now (bad_of dies) (array_of dies) c.args.found.now c.as_slice.result.now
+    c.settings_page.result c.requires.settings c.as_slice.ensures.value c.settings_page.ensures) in
     omega (
       arith,
       (lies_there c.args.numbers.now (bad_of dies) dies c.args.found.now c.requires.fit c.in-Some.content page).0,
@@ -24,23 +25,26 @@ says_permanent-requires-clause-die g c =
 pub says_permanent-requires-clause-there : goal.says_permanent-requires-clause-there
 says_permanent-requires-clause-there g c =
     let dies = map g.D.Die.state c.args.dies.now in
-    let page : IsSettingsPage c.args.numbers.now (bad_of dies) (array_of dies) c.args.found.now (Some c.in-Some.content) =
+    let page : IsSettingsPage c.args.numbers.now (bad_of dies) (array_of dies) c.args.found.now
+    (Some c.in-Some.content) =
     subst (IsSettingsPage c.args.numbers.now (bad_of dies) (array_of dies) c.args.found.now) c.in-Some.is
-    (settings_there c.args.numbers.now (bad_of dies) (array_of dies) c.args.found.now c.as_slice.result.now c.settings_page.result
-    c.requires.settings c.as_slice.ensures.value c.settings_page.ensures) in
+    (settings_there c.args.numbers.now (bad_of dies) (array_of dies) c.args.found.now c.as_slice.result.now
+    c.settings_page.result c.requires.settings c.as_slice.ensures.value c.settings_page.ensures) in
     (lies_there c.args.numbers.now (bad_of dies) dies c.args.found.now c.requires.fit c.in-Some.content page).1
 
 -- src/settings.rt:27:1
 pub returns-in-Some-clause-told : goal.returns-in-Some-clause-told
 returns-in-Some-clause-told g c =
     let dies = map g.D.Die.state c.args.dies.now in
-    let page : IsSettingsPage c.args.numbers.now (bad_of dies) (array_of dies) c.args.found.now (Some c.in-Some.content) =
+    let page : IsSettingsPage c.args.numbers.now (bad_of dies) (array_of dies) c.args.found.now
+    (Some c.in-Some.content) =
     subst (IsSettingsPage c.args.numbers.now (bad_of dies) (array_of dies) c.args.found.now) c.in-Some.is
-    (settings_there c.args.numbers.now (bad_of dies) (array_of dies) c.args.found.now c.as_slice.result.now c.settings_page.result
-    c.requires.settings c.as_slice.ensures.value c.settings_page.ensures) in
+    (settings_there c.args.numbers.now (bad_of dies) (array_of dies) c.args.found.now c.as_slice.result.now
+    c.settings_page.result c.requires.settings c.as_slice.ensures.value c.settings_page.ensures) in
     IfOk-weaker c.says_permanent.result _ _
     (λ is told cells shown sound x holds.
-    page_says c.args.numbers.now (bad_of dies) (array_of dies) c.args.found.now c.in-Some.content is told page cells shown sound x holds)
+    page_says c.args.numbers.now (bad_of dies) (array_of dies) c.args.found.now c.in-Some.content is told page
+    cells shown sound x holds)
     c.says_permanent.ensures.told
 
 -- src/settings.rt:27:1
@@ -49,6 +53,6 @@ returns-in-None-clause-told g c = λ cells shown sound x holds.
     let dies = map g.D.Die.state c.args.dies.now in
     let page : IsSettingsPage c.args.numbers.now (bad_of dies) (array_of dies) c.args.found.now None =
     subst (IsSettingsPage c.args.numbers.now (bad_of dies) (array_of dies) c.args.found.now) c.in-None.is
-    (settings_there c.args.numbers.now (bad_of dies) (array_of dies) c.args.found.now c.as_slice.result.now c.settings_page.result
-    c.requires.settings c.as_slice.ensures.value c.settings_page.ensures) in
+    (settings_there c.args.numbers.now (bad_of dies) (array_of dies) c.args.found.now c.as_slice.result.now
+    c.settings_page.result c.requires.settings c.as_slice.ensures.value c.settings_page.ensures) in
     none_says c.args.numbers.now (bad_of dies) (array_of dies) c.args.found.now page cells shown sound x holds

@@ -5,15 +5,15 @@ use Rattle.ftl_core.proofs.pins.ReadsAwaited.{read_awaited}
 use Rattle.ftl_core.proofs.stopped.EachStop.{stops_right}
 use Rattle.ftl_core.proofs.ftl.Ftl.done.Goals as goal
 
-pub returns-in_err-book-clause-described : goal.returns-in_err-book-clause-described
-returns-in_err-book-clause-described c =
+pub returns-in_err-row-clause-described : goal.returns-in_err-row-clause-described
+returns-in_err-row-clause-described c =
     ends_right c.args.self.now _ c.args.die c.args.outcome.now c.args.tag.now c.requires (search rules)
 
-pub returns-in_err-book-clause-told : goal.returns-in_err-book-clause-told
-returns-in_err-book-clause-told c = ends_told c.args.self.now c.args.die c.args.outcome.now _ (search rules)
+pub returns-in_err-row-clause-told : goal.returns-in_err-row-clause-told
+returns-in_err-row-clause-told c = ends_told c.args.self.now c.args.die c.args.outcome.now _ (search rules)
 
-pub returns-in_err-book-clause-read : goal.returns-in_err-book-clause-read
-returns-in_err-book-clause-read c = read_awaited c.args.self.now c.args.die
+pub returns-in_err-row-clause-read : goal.returns-in_err-row-clause-read
+returns-in_err-row-clause-read c = read_awaited c.args.self.now c.args.die
 
 pub returns-clause-known : goal.returns-clause-known
 returns-clause-known c =
@@ -21,7 +21,8 @@ returns-clause-known c =
 
 pub returns-clause-described : goal.returns-clause-described
 returns-clause-described c =
-    ends_right c.args.self.now c.job_ended.new.self c.args.die c.args.outcome.now c.args.tag.now c.requires (search rules)
+    ends_right c.args.self.now c.job_ended.new.self c.args.die c.args.outcome.now c.args.tag.now c.requires
+    (search rules)
 
 pub returns-clause-told : goal.returns-clause-told
 returns-clause-told c =
@@ -30,9 +31,9 @@ returns-clause-told c =
 pub returns-clause-read : goal.returns-clause-read
 returns-clause-read c = read_awaited c.args.self.now c.args.die
 
-pub returns-in_err-book-clause-stop : goal.returns-in_err-book-clause-stop
-returns-in_err-book-clause-stop c = λ t ending h is may.
-    stops_right _ _ (returns-in_err-book-clause-described c t ending h is may)
+pub returns-in_err-row-clause-stop : goal.returns-in_err-row-clause-stop
+returns-in_err-row-clause-stop c = λ t ending h is may.
+    stops_right _ _ (returns-in_err-row-clause-described c t ending h is may)
 
 pub returns-clause-stop : goal.returns-clause-stop
 returns-clause-stop c = λ t ending h is may. stops_right _ _ (returns-clause-described c t ending h is may)

@@ -8,7 +8,7 @@ use Rattle.ftl_core.proofs.ftl.Ftl.group_ended.Goals as goal
 
 pub returns-then-is_done : goal.returns-then-is_done
 returns-then-is_done c =
-    let b = c.args.book in
+    let b = c.args.row in
     c.settle.ensures
     ∙ ap (λ (z : Core). settled z)
     (c.page_written.ensures

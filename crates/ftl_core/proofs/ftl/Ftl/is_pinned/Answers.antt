@@ -2,15 +2,13 @@ use Rattle.std.proofs.Common.{◌∙◌, ap, arith, length}
 use Rattle.std.specs.List.{list_any}
 use Rattle.ftl_core.specs.Core.{Core}
 use Rattle.ftl_core.specs.Moves.{keeps}
-use Rattle.ftl_core.proofs.dies.Books.{books_long}
 use Rattle.ftl_core.proofs.live_pages.PinsCounted.{pinned_is}
 use Rattle.ftl_core.proofs.ftl.Ftl.is_pinned.Goals as goal
 
 pub returns : goal.returns
 returns c =
     let f = c.self.inside in
-    let long = books_long f.blocks.filling f.flights.items c.self.invariant.dies in
-    let seen = ap (λ (z : Core). length z.books) c.self.view_is in
+    let seen = ap (λ (z : Core). length z.rows) c.self.view_is in
     let numbers = ap (λ (z : Core). z.numbers.blocks) c.self.view_is in
     let dies = c.self.invariant.live_dies in
     let blocks = c.self.invariant.live_blocks in
@@ -18,5 +16,5 @@ returns c =
     let block_there = c.requires.block_there in
     c.is_pinned.ensures
     ∙ pinned_is f.live f.pins.items c.args.die c.args.block c.self.invariant.pinned
-    (omega (arith, long, seen, dies, die_there)) (omega (arith, numbers, blocks, block_there))
+    (omega (arith, seen, dies, die_there)) (omega (arith, numbers, blocks, block_there))
     ∙ ap (λ (z : Core). list_any (keeps c.args.die c.args.block) z.pins) c.self.view_is

@@ -1,9 +1,10 @@
-use Rattle.std.proofs.Common.{◌≡◌, [], None, replicate, rules, take}
+use Rattle.std.proofs.Common.{◌≡◌, [], replicate, rules, take}
 use Rattle.std.specs.Prelude.{fold}
 use Rattle.ufs_spec.specs.Plain.{shape_of_numbers}
 use Rattle.geometry.specs.Keys.{key_total}
+use Rattle.block_table.specs.Rows.{idle_row}
 use Rattle.ftl_core.specs.KnownLive.{none_live, sizes_of, with_stored}
-use Rattle.ftl_core.proofs.live_pages.PinRooms.{first_blocks, first_counted, first_dies, first_long}
+use Rattle.ftl_core.proofs.live_pages.PinRooms.{first_blocks, first_counted, first_dies}
 use Rattle.ftl_core.proofs.opened.OpenedParts.{opened_as}
 use Rattle.ftl_core.proofs.opened.OpensFound.{opens_described}
 use Rattle.ftl_core.proofs.stopped.EachStop.{stops_right}
@@ -11,12 +12,13 @@ use Rattle.ftl_core.proofs.ftl.Ftl.new.Goals as goal
 
 pub returns-clause-core : goal.returns-clause-core
 returns-clause-core c =
-    opened_as c.args.config c.args.found c.in_ok-new.field-0 c.in_ok-idle_flights.field-0.items c.new-2.result
+    opened_as c.args.config c.args.found c.in_ok-new.field-0 c.new-2.result
     c.in_ok-live_at.field-0 c.in_ok-new-2.field-0 c.in_ok-with_capacity.field-0.items c.in_ok-new-3.field-0.plan
     c.first_mending-mending.result c.zeros.result
-    c.mark_number_behind-next_mark.result c.in_ok-new.field-0.sizes c.in_ok-states.states.items c.in_ok-places.places.items c.min-last.result
+    c.mark_number_behind-next_mark.result c.in_ok-new.field-0.sizes c.in_ok-states.states.items
+    c.in_ok-places.places.items c.min-last.result
     (search rules) (search rules) (search rules) (search rules) (search rules) (search rules) (search rules)
-    (search rules) (search rules) (search rules) (search rules) (search rules) (search rules)
+    (search rules) (search rules) (search rules) (search rules) (search rules)
 
 pub returns-clause-described : goal.returns-clause-described
 returns-clause-described c = opens_described c.args.config c.args.found _ (returns-clause-core c)
@@ -31,11 +33,9 @@ invariant_of-result c =
     let l = c.in_ok-live_at.field-0 in
     let stored = take (key_total (shape_of_numbers n)) c.in_ok-places.places.items in
     let live : l ≡ fold with_stored (none_live (sizes_of n)) stored = search rules in
-    let idle : c.in_ok-idle_flights.field-0.items ≡ replicate n.dies None = search rules in
+    let idle : c.in_ok-new.field-0.rows ≡ replicate n.dies idle_row = search rules in
     let none : c.in_ok-with_capacity.field-0.items ≡ [] = search rules in
-    let filling : c.in_ok-new.field-0.filling ≡ replicate n.dies None = search rules in
     record {
-      dies = first_long n.dies c.in_ok-new.field-0.filling c.in_ok-idle_flights.field-0.items filling idle;
       blocks = search rules;
       block_pages = search rules;
       keys = search rules;
@@ -47,7 +47,7 @@ invariant_of-result c =
       pin_room = search rules;
       units = search rules;
       plan_pages = search rules;
-      live_dies = first_dies (sizes_of n) l stored c.in_ok-idle_flights.field-0.items live idle;
+      live_dies = first_dies (sizes_of n) l stored c.in_ok-new.field-0.rows live idle;
       live_blocks = first_blocks (sizes_of n) l stored live;
       pinned = first_counted (sizes_of n) l stored c.in_ok-with_capacity.field-0.items live none;
     }

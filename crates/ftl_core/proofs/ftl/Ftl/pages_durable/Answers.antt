@@ -2,10 +2,15 @@ use Rattle.std.proofs.Common.{◌≡◌, ◌∙◌, ap, drop, slice_get}
 use Rattle.write_cache.specs.Kept.{WriteCache}
 use Rattle.ftl_core.specs.Core.{Core}
 use Rattle.ftl_core.specs.Ends.{page_landed}
-use Rattle.ftl_core.proofs.dies.Changes.{over_cache}
+use Rattle.ftl_core.specs.Rooms.{core_of}
 use Rattle.ftl_core.proofs.group_settled.Settling.{land_first, landed_none, landed_some, next_landed}
 use Rattle.ftl_core.proofs.ftl.Ftl.pages_durable.Goals as goal
 use Rattle.ftl_core.proofs.ftl.Ftl.pages_durable.Goals.{in-Some, in_default}
+use Rattle.ftl_core.specs.declared.ftl.Ftl.TheInside.{Inside}
+
+-- the slots are so
+abbrev over_cache : Inside → WriteCache → Core
+over_cache f w = core_of (record f { cache = w })
 
 pub loop-preserved : goal.loop-preserved
 loop-preserved c =

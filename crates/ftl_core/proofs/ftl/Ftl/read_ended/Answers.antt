@@ -1,5 +1,5 @@
 use Rattle.std.proofs.Common.{◌≡◌, ◌∙◌, Bool, None, Option, ap, rules, subst, sym, true}
-use Rattle.ftl_core.specs.declared.books.Book.{Book}
+use Rattle.block_table.specs.declared.rows.DieRow.{DieRow}
 use Rattle.ftl_core.specs.Core.{Core}
 use Rattle.ftl_core.specs.Gives.{IsReadAfter, IsReadOver, is_read}
 use Rattle.ftl_core.specs.Moves.{flight_set}
@@ -11,7 +11,7 @@ returns-clause-after c =
     let o = c.args.outcome.now in
     let read : is_read o ≡ true = search rules in
     let idle = c.set_flight.ensures
-    ∙ ap (λ (b : Option Book). record was { books = flight_set was.books c.args.die None b }) c.requires.book in
+    ∙ ap (λ (b : Option DieRow). record was { rows = flight_set was.rows c.args.die None b }) c.requires.row in
     let tag = c.args.tag.now in
-    subst (λ (b : Bool). IsReadAfter b was c.args.die c.args.book o tag c.args.reader c.give.new.self) (sym read)
+    subst (λ (b : Bool). IsReadAfter b was c.args.die c.args.row o tag c.args.reader c.give.new.self) (sym read)
     (subst (λ (z : Core). IsReadOver z o tag c.args.reader c.give.new.self) idle c.give.ensures.after)

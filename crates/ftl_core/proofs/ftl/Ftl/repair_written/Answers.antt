@@ -7,4 +7,4 @@ use Rattle.ftl_core.proofs.ftl.Ftl.repair_written.Goals as goal
 pub returns : goal.returns
 returns c =
     c.page_written.ensures
-    ∙ ap (λ (d : Core). page_written d c.args.die c.args.book c.args.book.filling) c.repair_over.ensures
+    ∙ ap (λ (d : Core). page_written d c.args.die c.args.row c.args.row.filling) c.repair_over.ensures

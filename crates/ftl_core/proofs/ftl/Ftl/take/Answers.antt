@@ -55,7 +55,7 @@ pub returns-clause-erase : goal.returns-clause-erase
 returns-clause-erase c =
     takes_erase c.args.self.now c.set_flight.new.self c.args.die c.job_of-job.result (returns-clause-described c)
 
-pub returns-in_err-book-clause-stop : goal.returns-in_err-book-clause-stop
-returns-in_err-book-clause-stop c =
+pub returns-in_err-row-clause-stop : goal.returns-in_err-row-clause-stop
+returns-in_err-row-clause-stop c =
     takes_stop c.args.self.now c.args.self.now c.args.die _
     (takes_right c.args.self.now c.args.self.now c.args.die _ (search rules) (search rules) c.has_few_units.ensures)

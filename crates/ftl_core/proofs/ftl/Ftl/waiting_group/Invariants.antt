@@ -4,4 +4,4 @@ use Rattle.ftl_core.specs.Takes.{page_waits}
 use Rattle.ftl_core.proofs.ftl.Ftl.waiting_group.Given as goal
 
 abbrev pub invariant-loop-at : goal.invariant-loop-at
-invariant-loop-at l = find (page_waits l.self.books) (take l.at l.self.pages) ≡ None
+invariant-loop-at l = find (page_waits l.self.rows) (take l.at l.self.pages) ≡ None

@@ -1,4 +1,0 @@
-pub mod Books
-pub mod Changes
-pub mod FirstWaiting
-pub mod Flights
