@@ -5,3 +5,5 @@ pub mod OwedWhileMending
 pub mod PinsOffFree
 pub mod RoomInBlocks
 pub mod RoomKept
+pub mod RoomOfFailures
+pub mod RunsWithRoom

@@ -1,15 +1,19 @@
 -- How much room a mending needs, how much of it is left, and that a mending is not stuck.
-use Rattle.std.specs.Prelude.{◌≡◌, ◌≢◌, ◌⊎◌, ℕ, ◌+◌, ◌-◌, ◌<◌, ◌≤◌, Bool, true, false, [], All}
-use Rattle.std.specs.Prelude.{sum_by, Option, Some, None}
+use Rattle.std.specs.Prelude.{◌≡◌, ◌≢◌, ◌⊎◌, ℕ, ◌+◌, ◌-◌, ◌*◌, ◌<◌, ◌≤◌, if◌then◌else◌, Bool, true, false, [], All}
+use Rattle.std.specs.Prelude.{List, count_by, sum_by, Option, Some, None}
 use Rattle.ufs_spec.specs.Cells.{Cell}
 use Rattle.ufs_spec.specs.Disk.{BlockState, Filling, Flight, Free, Programming, Spot, spot_of}
 use Rattle.ufs_spec.specs.Ledger.{Looked, OnPage}
+use Rattle.ufs_spec.specs.Lives.{Life, Lived}
 use Rattle.ufs_spec.specs.Moves.{EndJob, Move, WentWrong}
+use Rattle.ufs_spec.specs.Refusals.{State, mended}
 use Rattle.ufs_spec.specs.Translation.{CopyStep, MarkStep, MayTake, Pin, RepairStep, Step, StepKind, Translation, Want}
 use Rattle.ufs_spec.specs.Translation.{flies_mark, flies_name, has_mark_number, has_number, is_step_due, spots}
-use Rattle.ufs_spec.specs.Translation.{want_of_kind}
+use Rattle.ufs_spec.specs.Translation.{count_blocks, is_free, own_room, want_of_kind}
+use Rattle.ufs_spec.specs.declared.configs.Numbers.{Numbers}
 use Rattle.ufs_spec.specs.declared.events.Event.{Event}
 use Rattle.ufs_spec.specs.declared.events.Event.TheVariants as event
+use Rattle.ufs_spec.specs.declared.events.Output.{Output}
 use Rattle.ufs_spec.specs.declared.flash.Place.{Place}
 use Rattle.power_loss.specs.Mending.{turns_left}
 
@@ -35,9 +39,9 @@ page_of_step (Some step) = 1
 abbrev pub pages_needed : Translation → ℕ
 pages_needed t = turns_left t + page_of_step t.work.step
 
--- the mending finds a place for each page that it still programs
-abbrev pub HasRoom : Translation → Type 0
-HasRoom t = pages_needed t ≤ pages_left t
+-- the mending finds a place for each page that it still programs, even if so many blocks become bad meanwhile
+abbrev pub HasRoom : ℕ → Translation → Type 0
+HasRoom failures t = pages_needed t + failures * t.numbers.pages ≤ pages_left t
 
 -- Nothing but the mending
 
@@ -78,6 +82,10 @@ abbrev pub fails_job : Move → Bool
 fails_job (EndJob die (WentWrong left)) = true
 fails_job move = false
 
+-- how many programs and erases fail by this move
+abbrev pub failures_of : Move → ℕ
+failures_of move = if fails_job move then 1 else 0
+
 -- Events
 
 -- a program or an erase fails in this event, and makes its block bad: of a read that fails nothing is left
@@ -102,3 +110,12 @@ IsOutOfNumbers t = (has_mark_number t ≡ false) ⊎ (has_number t ≡ false)
 -- the device may go on: a die has a job or is owed one, a turn finds a step due, or the numbers are used up
 abbrev pub MayGoOn : Translation → Type 0
 MayGoOn t = HasJob t ⊎ (OwesJob t ⊎ ((is_step_due t ≡ true) ⊎ IsOutOfNumbers t))
+
+-- Lives
+
+-- up to each of its events that does not find it mended, a life may go on, if it began with as many free blocks as
+-- groups leave, less one for each die, and with one more for each program and erase that failed
+abbrev pub IsNeverStuck : Numbers → Lived → Type 0
+IsNeverStuck n l = (es : List Event) (os : List Output) (middle : State) → Life l.start es os middle →
+    own_room n - n.dies + count_by makes_bad es ≤ count_blocks l.start.translation is_free → mended middle ≡ false →
+    MayGoOn middle.translation

@@ -51,7 +51,9 @@ pub use kept::{
     rests_are_found_at_the_accept,
 };
 pub use mending::{a_life_is_mended_soon, mending_ends_soon};
-pub use mending_room::{a_life_with_room_goes_on, mending_with_room_goes_on};
+pub use mending_room::{
+    a_life_with_room_goes_on, lives_with_room_go_on, mending_with_room_goes_on,
+};
 pub use owed_jobs::{
     a_copy_is_programmed_after_its_read, groups_leave_room, one_block_after_another, one_die_each,
 };

@@ -225,10 +225,17 @@ left_shown s die p (MarkPage m) left cells h =
     (has_mark_number s.translation) h
 left_shown s die p cell left cells h = h
 
+-- what a failed job leaves, as cells
+pub cells_left : {s : State} (die : ℕ) (cells : Cells) {left : Array} → IsTied s →
+    Crash s.array (flight_alone s.translation.disk.flights die) left → Shows left cells →
+    CellCrash s.translation.disk.cells (flight_alone s.translation.disk.flights die) cells
+cells_left {s} die cells {left} v crash shown =
+    crash_cells s.array left s.translation.disk.cells cells (flight_alone s.translation.disk.flights die) v.shown shown
+    crash (λ d p cell h. alone_fits die d p cell v h)
+
 pub failed_keeps : {s : State} {die : ℕ} {flight : Flight} (cells : Cells) {left : Array} → IsTied s →
     s.translation.disk.flights die ≡ Some flight → Crash s.array (flight_alone s.translation.disk.flights die) left →
     Shows left cells → (CellCrash s.translation.disk.cells (flight_alone s.translation.disk.flights die) cells →
     EndsRight s die flight (WentWrong cells) left) → IsTied (job_over s die (Some flight) (WentWrong cells) left)
-failed_keeps {s} {die} {flight} cells {left} v e crash shown right = over_keeps s die flight (WentWrong cells) left v e
-    (right (crash_cells s.array left s.translation.disk.cells cells (flight_alone s.translation.disk.flights die)
-    v.shown shown crash (λ d p cell h. alone_fits die d p cell v h)))
+failed_keeps {s} {die} {flight} cells {left} v e crash shown right =
+    over_keeps s die flight (WentWrong cells) left v e (right (cells_left die cells v crash shown))

@@ -74,7 +74,7 @@ none_above l = record {
 }
 
 -- the keys with a lost page when a life begins
-listed : {c : Cells} (m : Option Mark) {low top : ℕ} (w : Mending) → IsMendingAt c m low top w →
+pub listed : {c : Cells} (m : Option Mark) {low top : ℕ} (w : Mending) → IsMendingAt c m low top w →
     AreLost c low top (still_lost w)
 listed m (Unmarked fence lost) h = h.2
 listed m (Repairing left) h = absurd h
@@ -133,18 +133,29 @@ mends_soon n array bad l config blank sound few h = record {
       lefts left h.1 stops;
 }
 
-pub lives_mend_soon : (n : Numbers) (array : Array) (bad : Spot → Bool) (first : Lived) (later : List Lived)
-    (es : List Event) (os : List Output) → IsConfig n → IsArrayOf n array → Sound array → ArrayHasFewLost n array →
-    Lives n array bad first later es os → All (MendsSoon n) (first ∷ later)
-lives_mend_soon n array bad l [] es os config blank sound few h =
-    All-cons (MendsSoon n) l [] (mends_soon n array bad l config blank sound few h.0) (All-nil (MendsSoon n))
-lives_mend_soon n array bad l (m ∷ ls) es os config blank sound few h =
+-- what holds of each life that begins over such an array holds of each one of several
+abbrev pub OfEachLife : Numbers → (Lived → Type 0) → Type 0
+OfEachLife n P = (array : Array) (bad : Spot → Bool) (l : Lived) → IsArrayOf n array → Sound array →
+    ArrayHasFewLost n array → IsLived n array bad l → P l
+
+pub each_life : (P : Lived → Type 0) (n : Numbers) (array : Array) (bad : Spot → Bool) (first : Lived)
+    (later : List Lived) (es : List Event) (os : List Output) → OfEachLife n P → IsConfig n → IsArrayOf n array →
+    Sound array → ArrayHasFewLost n array → Lives n array bad first later es os → All P (first ∷ later)
+each_life P n array bad l [] es os one config blank sound few h =
+    All-cons P l [] (one array bad l blank sound few h.0) (All-nil P)
+each_life P n array bad l (m ∷ ls) es os one config blank sound few h =
     let left : Array = h.1.3 in
     let behind : Left n l left = left_of (end_of_life bad config blank sound h.0) h.1.6 in
     let soon = mends_soon n array bad l config blank sound few h.0 in
-    All-cons (MendsSoon n) l (m ∷ ls) soon
-    (lives_mend_soon n left (bad_in l.finish) m ls h.1.1 h.1.2 config behind.inside behind.sound
+    All-cons P l (m ∷ ls) (one array bad l blank sound few h.0)
+    (each_life P n left (bad_in l.finish) m ls h.1.1 h.1.2 one config behind.inside behind.sound
     (soon.stops h.1.0.items left h.1.6) h.1.7)
+
+pub lives_mend_soon : (n : Numbers) (array : Array) (bad : Spot → Bool) (first : Lived) (later : List Lived)
+    (es : List Event) (os : List Output) → IsConfig n → IsArrayOf n array → Sound array → ArrayHasFewLost n array →
+    Lives n array bad first later es os → All (MendsSoon n) (first ∷ later)
+lives_mend_soon n array bad first later es os config =
+    each_life (MendsSoon n) n array bad first later es os (λ a b l. mends_soon n a b l config) config
 
 -- New dies
 
@@ -155,16 +166,25 @@ new_few n array blank c m shows newest kept top lost is_kept greatest are =
     let l = as_many are (none_lost nothing) in
     omega arith
 
-pub runs_mend_soon : (n : Numbers) (dies : List DieState) (s t : State) (es : List Event) (os : List Output) →
-    IsConfig n → AreNewDies n dies → IsOpened n (array_of dies) (bad_of dies) s → Runs n s es os t →
+-- what holds of each life holds of those of a run over new dies
+pub each_life_of_a_run : (P : Lived → Type 0) (n : Numbers) (dies : List DieState) (s t : State) (es : List Event)
+    (os : List Output) → OfEachLife n P → IsConfig n → AreNewDies n dies →
+    IsOpened n (array_of dies) (bad_of dies) s → Runs n s es os t →
     (first : Lived) × (later : List Lived) × Lives n (array_of dies) (bad_of dies) first later es os
-    × All (MendsSoon n) (first ∷ later)
-runs_mend_soon n dies s t es os config new opened runs =
+    × All P (first ∷ later)
+each_life_of_a_run P n dies s t es os one config new opened runs =
     let r = lives_of opened runs in
     let may = new_opens n dies new in (
       r.first,
       r.later,
       r.lives,
-      lives_mend_soon n (array_of dies) (bad_of dies) r.first r.later es os config may.inside may.sound
+      each_life P n (array_of dies) (bad_of dies) r.first r.later es os one config may.inside may.sound
           (new_few n (array_of dies) (new_blank n dies new)) r.lives,
     )
+
+pub runs_mend_soon : (n : Numbers) (dies : List DieState) (s t : State) (es : List Event) (os : List Output) →
+    IsConfig n → AreNewDies n dies → IsOpened n (array_of dies) (bad_of dies) s → Runs n s es os t →
+    (first : Lived) × (later : List Lived) × Lives n (array_of dies) (bad_of dies) first later es os
+    × All (MendsSoon n) (first ∷ later)
+runs_mend_soon n dies s t es os config =
+    each_life_of_a_run (MendsSoon n) n dies s t es os (λ a b l. mends_soon n a b l config) config

@@ -135,6 +135,14 @@ unflown u pins rests readable none = record {
   one_die = λ die other p q cell more is e. absurd (none die p cell is);
 }
 
+-- the end of the one program in flight leaves none
+pub none_flown : {t : Translation} (die : ℕ) (p : Place) (cell : Cell) → Valid t → MendsAlone t →
+    t.disk.flights die ≡ Some (Programming p cell) → (d : ℕ) (q : Place) (other : Cell) →
+    at_die t.disk.flights p.die None d ≡ Some (Programming q other) → ⊥
+none_flown {t} die p cell v alone e d q other h = ⊎_elim (λ k. none-some (Programming q other) k.1)
+    (λ k. k.0 (sym (alone.one_die die d p q cell other e k.1) ∙ sym (v.flights.programs die p cell e).at_home))
+    (at_die_is t.disk.flights p.die None d (Some (Programming q other)) h)
+
 -- what a die begins to program is the page of the step that waits
 pub program_begins : {t : Translation} (die : ℕ) (p : Place) (cell : Cell) → Valid t →
     is_mended t.work.mending ≡ false → MendsAlone t → MayTake t die (Some (Programming p cell)) →

@@ -244,11 +244,11 @@ page_waits t {cell} idle alone waits left = ⊎_elim
     let r = sum_has (λ s. page_room t.numbers.pages (t.disk.blocks s)) (spots t.numbers) left in
     opens_one t r.0 idle alone waits h (spots_in r.1) r.2) (cases_Bool (has_open_block t))
 
-one_needed : (t : Translation) {step : Step} → t.work.step ≡ Some step → HasRoom t → 1 ≤ pages_left t
+one_needed : (t : Translation) {step : Step} → t.work.step ≡ Some step → HasRoom 0 t → 1 ≤ pages_left t
 one_needed t is room =
     let e = ap page_of_step is in omega (arith, e, room)
 
-step_owed : (t : Translation) (step : Step) → Valid t → MendsAlone t → HasRoom t → AllIdle t →
+step_owed : (t : Translation) (step : Step) → Valid t → MendsAlone t → HasRoom 0 t → AllIdle t →
     t.work.step ≡ Some step → OwesJob t
 step_owed t step v alone room idle is = ⊎_elim
     (λ there. page_waits t idle alone (waits there) (one_needed t is room))
@@ -262,7 +262,7 @@ step_owed t step v alone room idle is = ⊎_elim
 
 -- Together
 
-pub goes_on : (t : Translation) → Valid t → is_mended t.work.mending ≡ false → MendsAlone t → HasRoom t → MayGoOn t
+pub goes_on : (t : Translation) → Valid t → is_mended t.work.mending ≡ false → MendsAlone t → HasRoom 0 t → MayGoOn t
 goes_on t v un alone room = ⊎_elim (λ some. inl (has_job t some)) (λ none. inr (by t.work.step refl (no_job t none)))
     (cases_Bool (some_flight t is_some))
   where

@@ -5,6 +5,7 @@ use Rattle.power_loss.proofs.Common.{spot_of, InSlot, Looked, Name, OnPage, Unwr
 use Rattle.power_loss.proofs.Common.{looked_on}
 use Rattle.power_loss.proofs.Common.{settled_look, settled_pin, is_pin_of, with_wanted, Pin, Translation, is_mended}
 use Rattle.power_loss.proofs.Common.{Key}
+use Rattle.power_loss.proofs.Common.{◌≢◌, ⊎_elim, at_spot, at_spot_is}
 use Rattle.power_loss.proofs.Common.{Place, HasKey, book, Valid, false}
 use Rattle.power_loss.specs.MendingRoom.{ArePinsOffFree, IsOffFree}
 use Rattle.power_loss.proofs.books.LayerParts.{LookedOf, SecureOf}
@@ -13,6 +14,11 @@ use Rattle.power_loss.proofs.kept_pages.UnmendedPages.{new_secure, unmended_secu
 -- no block is free now that was not
 abbrev pub IsNoneFreed : (Spot → BlockState) → (Spot → BlockState) → Type 0
 IsNoneFreed blocks now = (s : Spot) → now s ≡ Free → blocks s ≡ Free
+
+-- where a block gets another state than that
+pub none_freed : (blocks : Spot → BlockState) (s : Spot) (x : BlockState) → x ≢ Free →
+    IsNoneFreed blocks (at_spot blocks s x)
+none_freed blocks s x other z h = ⊎_elim (λ k. absurd (other k.1)) (λ k. k.1) (at_spot_is blocks s x z Free h)
 
 off_stays : {blocks now : Spot → BlockState} (looked : Looked) → IsNoneFreed blocks now → IsOffFree blocks looked →
     IsOffFree now looked

@@ -1,6 +1,6 @@
 -- The pages that may still be programmed, summed over the blocks of all dies: what free blocks make of the sum at the
 -- least, and what one program and one erase leave of it.
-use Rattle.power_loss.proofs.Common.{◌≡◌, ◌≢◌, ℕ, suc, ◌+◌, ◌-◌, ◌*◌, ◌<◌, ◌≤◌, ◌==◌, cond, Bool, true, false}
+use Rattle.power_loss.proofs.Common.{Bad, ◌≡◌, ◌≢◌, ℕ, ◌+◌, ◌-◌, ◌*◌, ◌<◌, ◌≤◌, ◌==◌, cond, Bool, true, false}
 use Rattle.power_loss.proofs.Common.{if◌then◌else◌, length, List, [], ◌∷◌, refl, sym, ap, ◌∙◌, subst, inl, inr}
 use Rattle.power_loss.proofs.Common.{⊎_elim, arith}
 use Rattle.power_loss.proofs.Common.{at_most, eqb-true, sum_by-cons, BlockState, Closed, Filling, Free, Spot, at_spot}
@@ -62,21 +62,21 @@ apart : (a b s : Spot) → a ≡ s → b ≡ s → IsBefore a b → ⊥
 apart a b s e f (inl l) = let d = ap (λ (z : Spot). z.die) (e ∙ sym f) in omega (arith, l, d)
 apart a b s e f (inr (d, l)) = let k = ap (λ (z : Spot). z.block) (e ∙ sym f) in omega (arith, l, k)
 
--- where one block has one less at the most, and no other less, the sum has
-sum_one_less : (f g : Spot → ℕ) (s : Spot) (xs : List Spot) → IsOrdered IsBefore xs →
-    ((x : Spot) → x ≢ s → f x ≤ g x) → f s ≤ suc (g s) → sum_by f xs ≤ suc (sum_by g xs)
-sum_one_less f g s [] ordered others one = omega arith
-sum_one_less f g s (x ∷ xs) ordered others one =
+-- where one block has so much less at the most, and no other less, the sum has
+sum_less : (m : ℕ) (f g : Spot → ℕ) (s : Spot) (xs : List Spot) → IsOrdered IsBefore xs →
+    ((x : Spot) → x ≢ s → f x ≤ g x) → f s ≤ m + g s → sum_by f xs ≤ m + sum_by g xs
+sum_less m f g s [] ordered others one = omega arith
+sum_less m f g s (x ∷ xs) ordered others one =
     let a = sum_by-cons f x xs in
     let b = sum_by-cons g x xs in
     ⊎_elim
     (λ k.
-    let l : f x ≤ suc (g x) = subst (λ z. f z ≤ suc (g z)) (sym k.1) one in
+    let l : f x ≤ m + g x = subst (λ z. f z ≤ m + g z) (sym k.1) one in
     let r = sum_no_less f g xs (λ y i. others y (λ e. apart x y s k.1 e (ordered.0 y i))) in
     omega (arith, a, b, l, r))
     (λ k.
     let l = others x k.1 in
-    let r = sum_one_less f g s xs ordered.1 others one in
+    let r = sum_less m f g s xs ordered.1 others one in
     omega (arith, a, b, l, r)) (spot_cases x s)
 
 -- Room
@@ -95,36 +95,46 @@ pub room_of_free : (n : Numbers) (blocks : Spot → BlockState) →
 room_of_free n blocks = sum_of_passing (λ s. is_free (blocks s)) n.pages (λ s. page_room n.pages (blocks s)) (spots n)
     (λ s h. free_room n.pages (blocks s) h)
 
-room_taken : (pages page : ℕ) → page < pages → pages - page ≤ suc (page_room pages (state_after pages page))
+-- where one block changes, so much room is taken at the most as there was more of it
+room_less : (n : Numbers) (blocks : Spot → BlockState) (s : Spot) (x : BlockState) (m : ℕ) →
+    page_room n.pages (blocks s) ≤ m + page_room n.pages x → room_in n blocks ≤ m + room_in n (at_spot blocks s x)
+room_less n blocks s x m taken =
+    sum_less m (λ a. page_room n.pages (blocks a)) (λ a. page_room n.pages (at_spot blocks s x a)) s (spots n)
+    (spots_ordered n) others one
+  where
+    others : (a : Spot) → a ≢ s → page_room n.pages (blocks a) ≤ page_room n.pages (at_spot blocks s x a)
+    others a other = ⊎_elim (λ k. absurd (other k.0))
+        (λ k. let e = ap (page_room n.pages) k.1 in omega (arith, e)) (at_spot_cases blocks s x a)
+
+    one : page_room n.pages (blocks s) ≤ m + page_room n.pages (at_spot blocks s x s)
+    one = ⊎_elim (λ k. let e = ap (page_room n.pages) k.1 in omega (arith, e, taken)) (λ k. absurd (k.0 refl))
+        (at_spot_cases blocks s x s)
+
+room_taken : (pages page : ℕ) → page < pages → pages - page ≤ 1 + page_room pages (state_after pages page)
 room_taken pages page l = by (page + 1 == pages) refl
   where
     by : (b : Bool) → (page + 1 == pages) ≡ b →
-        pages - page ≤ suc (page_room pages (if b then Closed else Filling (page + 1)))
+        pages - page ≤ 1 + page_room pages (if b then Closed else Filling (page + 1))
     by true e = let k = eqb-true (page + 1) pages e in omega (arith, k, l)
     by false e = omega (arith, l)
 
 -- a program that ended well takes room for one page
 pub program_takes : (n : Numbers) (blocks : Spot → BlockState) (s : Spot) (page : ℕ) → page < n.pages →
-    blocks s ≡ Filling page → room_in n blocks ≤ suc (room_in n (at_spot blocks s (state_after n.pages page)))
+    blocks s ≡ Filling page → room_in n blocks ≤ 1 + room_in n (at_spot blocks s (state_after n.pages page))
 program_takes n blocks s page l is =
-    sum_one_less (λ x. page_room n.pages (blocks x)) (λ x. page_room n.pages (now x)) s (spots n) (spots_ordered n)
-    others one
-  where
-    now : Spot → BlockState
-    now = at_spot blocks s (state_after n.pages page)
+    room_less n blocks s (state_after n.pages page) 1
+    (let e = ap (page_room n.pages) is in let r = room_taken n.pages page l in omega (arith, e, r))
 
-    others : (x : Spot) → x ≢ s → page_room n.pages (blocks x) ≤ page_room n.pages (now x)
-    others x other = ⊎_elim (λ k. absurd (other k.0))
-        (λ k. let e = ap (page_room n.pages) k.1 in omega (arith, e))
-        (at_spot_cases blocks s (state_after n.pages page) x)
+room_within : (pages : ℕ) (x : BlockState) → page_room pages x ≤ pages
+room_within pages Free = omega arith
+room_within pages (Filling next) = omega arith
+room_within pages state = omega arith
 
-    one : page_room n.pages (blocks s) ≤ suc (page_room n.pages (now s))
-    one = ⊎_elim
-        (λ k.
-        let e = ap (page_room n.pages) k.1 in
-        let f = ap (page_room n.pages) is in
-        let r = room_taken n.pages page l in
-        omega (arith, e, f, r)) (λ k. absurd (k.0 refl)) (at_spot_cases blocks s (state_after n.pages page) s)
+-- one that failed takes no more than the room of its block, and so does an erase
+pub failure_takes : (n : Numbers) (blocks : Spot → BlockState) (s : Spot) →
+    room_in n blocks ≤ n.pages + room_in n (at_spot blocks s Bad)
+failure_takes n blocks s =
+    room_less n blocks s Bad n.pages (let l = room_within n.pages (blocks s) in omega (arith, l))
 
 -- a free block that was erased has as much room as before
 pub erase_leaves : (n : Numbers) (blocks : Spot → BlockState) (s : Spot) → blocks s ≡ Free →
@@ -140,17 +150,18 @@ erase_leaves n blocks s free =
 
 -- A life begins
 
--- what an opening leaves free is room for a mending of so many keys
-pub opening_room : (n : Numbers) (c : Cells) (bad : Spot → Bool) (t : Translation) (lost : List Key) →
+-- what an opening leaves free is room for a mending of so many keys, and for so many failures
+pub opening_room : (n : Numbers) (c : Cells) (bad : Spot → Bool) (t : Translation) (lost : List Key) (failures : ℕ) →
     IsOpenedTranslation n c bad t → AreLost c t.ledger.first_lost t.ledger.greatest_seen lost →
-    length lost + 2 ≤ n.pages * count_blocks t is_free → HasRoom t
-opening_room n c bad t lost o x room =
+    length lost + 2 + failures * n.pages ≤ n.pages * count_blocks t is_free → HasRoom failures t
+opening_room n c bad t lost failures o x room =
     let turns = turns_at_opening n c bad t lost o x in
     let step = ap page_of_step o.no_step in
     let pages : t.numbers.pages * count_blocks t is_free ≡ n.pages * count_blocks t is_free =
     ap (λ (k : Numbers). k.pages * count_blocks t is_free) o.numbers in
+    let bad = ap (λ (k : Numbers). failures * k.pages) o.numbers in
     let left = room_of_free t.numbers t.disk.blocks in
-    omega (arith, turns, step, pages, left, room)
+    omega (arith, turns, step, pages, bad, left, room)
 
 -- and nothing else is under way
 pub opening_alone : (n : Numbers) (c : Cells) (bad : Spot → Bool) (t : Translation) → IsOpenedTranslation n c bad t →
@@ -176,11 +187,11 @@ pub cache_fits : (n : Numbers) → 1 ≤ n.pages → n.slots + 2 ≤ n.pages * (
 cache_fits n some =
     enough n.pages n.slots n.dies (div_ceil n.slots n.pages) some (div_ceil_times n.slots n.pages some).0
 
--- so an opening that finds no less of it free has room for as many keys
-pub own_room_mends : (n : Numbers) (c : Cells) (bad : Spot → Bool) (t : Translation) (lost : List Key) →
+-- so an opening that finds no less of it free has room for as many keys, and each block more may become bad
+pub own_room_mends : (n : Numbers) (c : Cells) (bad : Spot → Bool) (t : Translation) (lost : List Key) (failures : ℕ) →
     1 ≤ n.pages → IsOpenedTranslation n c bad t → AreLost c t.ledger.first_lost t.ledger.greatest_seen lost →
-    length lost ≤ n.slots → own_room n - n.dies ≤ count_blocks t is_free → HasRoom t
-own_room_mends n c bad t lost some o x few free =
+    length lost ≤ n.slots → own_room n - n.dies + failures ≤ count_blocks t is_free → HasRoom failures t
+own_room_mends n c bad t lost failures some o x few free =
     let left = cache_fits n some in
     let more = mul-le-mul_left n.pages free in
-    opening_room n c bad t lost o x (omega (arith, left, more, few))
+    opening_room n c bad t lost failures o x (omega (arith, left, more, few))

@@ -1,10 +1,10 @@
 -- Each move by which no program or erase fails leaves room for the mending, which alone takes pages.
-use Rattle.power_loss.proofs.Common.{◌≡◌, ◌≢◌, ℕ, suc, ◌+◌, ◌≤◌, Bool, true, false, is_none, List, []}
-use Rattle.power_loss.proofs.Common.{Option, Some, None, refl, sym, ap, ◌∙◌, subst, ⊎_elim, arith}
-use Rattle.power_loss.proofs.Common.{◌==◌, at_die_is, none-some, same_Some}
+use Rattle.power_loss.proofs.Common.{◌≡◌, ℕ, suc, ◌+◌, ◌≤◌, Bool, true, false, is_none, List, []}
+use Rattle.power_loss.proofs.Common.{Option, Some, None, refl, sym, ap, ◌∙◌, subst, arith}
+use Rattle.power_loss.proofs.Common.{◌==◌, none-some, same_Some}
 use Rattle.power_loss.proofs.Common.{true≢false, Cell, GroupPage, Mark, MarkPage}
 use Rattle.power_loss.proofs.Common.{Nothing, Erasing, Flight, ForNobody, ForRest, ForStep, ForTask, Programming}
-use Rattle.power_loss.proofs.Common.{Reader, Reading, Spot, at_die, programmed, erased, Accept, spot_of}
+use Rattle.power_loss.proofs.Common.{Reader, Reading, Spot, programmed, erased, Accept, spot_of}
 use Rattle.power_loss.proofs.Common.{Acknowledge, Claim, EndJob, Ending, GiveJob, IsAllowedMove, Keep, LetGo, LetGoAll}
 use Rattle.power_loss.proofs.Common.{Move, ReadRight, ReadWrong, Release, TakeStep, WantPage, WentWell, WentWrong}
 use Rattle.power_loss.proofs.Common.{die_idle, end_flight, freed, is_for, is_for_task, is_pin_of, moved}
@@ -18,53 +18,54 @@ use Rattle.power_loss.proofs.MachineWords.{turns_left}
 use Rattle.ufs_spec.specs.Moves.{let_go, mark_written, page_written, rests_without}
 use Rattle.ufs_spec.specs.Translation.{want_from, want_of_kind}
 use Rattle.ufs_laws.proofs.walk.LayerEffects.{IsDue, order_due, turned_if}
-use Rattle.power_loss.proofs.Common.{map, with_wanted, All, All-filter, All-push, at_spot, at_spot_is, BlockState, Filling, Free}
+use Rattle.power_loss.proofs.Common.{map, with_wanted, All, All-filter, All-push, Filling}
 use Rattle.power_loss.specs.MendingRoom.{ArePinsOffFree, HasRoom, IsOffFree, MendsAlone, fails_job, flies_kind}
 use Rattle.power_loss.specs.MendingRoom.{page_of_step, pages_left}
 use Rattle.power_loss.proofs.jobs.JobsBegin.{erase_is_no_program}
 use Rattle.power_loss.proofs.jobs.PageEnded.{ends_page}
 use Rattle.power_loss.proofs.jobs.StandsSecurely.{behind_is_not_free, free_is_not_filling}
-use Rattle.power_loss.proofs.room_to_mend.PinsOffFree.{IsNoneFreed, look_off, pins_settled_off, pins_stay}
+use Rattle.power_loss.proofs.room_to_mend.PinsOffFree.{look_off, none_freed, pins_settled_off, pins_stay}
 use Rattle.power_loss.proofs.room_to_mend.PinsOffFree.{pins_wanted_off}
 use Rattle.power_loss.proofs.mending_steps.TurnsLeft.{move_keeps_turns, order_takes}
 use Rattle.power_loss.proofs.room_to_mend.AloneKept.{AreFewer, begun_fewer, ended_fewer, fewer}
-use Rattle.power_loss.proofs.room_to_mend.AloneKept.{gone_fewer, name_over, none_readable, program_begins}
+use Rattle.power_loss.proofs.room_to_mend.AloneKept.{gone_fewer, name_over, none_flown, none_readable, program_begins}
 use Rattle.power_loss.proofs.room_to_mend.AloneKept.{read_is_no_program, step_over, unflown}
 use Rattle.power_loss.proofs.room_to_mend.RoomInBlocks.{erase_leaves, program_takes}
 
 -- both hold of the layer
-abbrev pub Kept : Translation → Type 0
-Kept u = MendsAlone u × HasRoom u
+abbrev pub Kept : ℕ → Translation → Type 0
+Kept failures u = MendsAlone u × HasRoom failures u
 
 -- Numbers: what is needed and what is left
 
-as_before : (a b c d l m : ℕ) → a + b ≤ l → c ≤ a → d ≡ b → l ≤ m → c + d ≤ m
-as_before a b c d l m room turns step left = omega (arith, room, turns, step, left)
+as_before : (a b c d x l m : ℕ) → a + b + x ≤ l → c ≤ a → d ≡ b → l ≤ m → c + d + x ≤ m
+as_before a b c d x l m room turns step left = omega (arith, room, turns, step, left)
 
-one_done : (a b c d l m : ℕ) → a + b ≤ l → c ≤ a → b ≡ 1 → d ≡ 0 → l ≤ suc m → c + d ≤ m
-one_done a b c d l m room turns one none left = omega (arith, room, turns, one, none, left)
+one_done : (a b c d x l m : ℕ) → a + b + x ≤ l → c ≤ a → b ≡ 1 → d ≡ 0 → l ≤ 1 + m → c + d + x ≤ m
+one_done a b c d x l m room turns one none left = omega (arith, room, turns, one, none, left)
 
-one_ordered : (a b c l : ℕ) → a + b ≤ l → suc c ≤ a → c + 1 ≤ l
-one_ordered a b c l room turns = omega (arith, room, turns)
+one_ordered : (a b c x l : ℕ) → a + b + x ≤ l → suc c ≤ a → c + 1 + x ≤ l
+one_ordered a b c x l room turns = omega (arith, room, turns)
 
-same : (a : ℕ) → a ≤ a
+pub same : (a : ℕ) → a ≤ a
 same a = omega arith
 
 there_still : (s : Option Step) → page_of_step (step_there s) ≡ page_of_step s
 there_still None = refl
 there_still (Some step) = refl
 
-module _ {t : Translation} (v : Valid t) (un : is_mended t.work.mending ≡ false) (alone : MendsAlone t)
-    (room : HasRoom t) where
+-- the end of a job adds to no turn
+pub end_turns : {t : Translation} (die : ℕ) (flight : Option Flight) (ending : Ending) → Valid t →
+    t.disk.flights die ≡ flight → turns_left (end_flight t die flight ending) ≤ turns_left t
+end_turns {t} die flight ending v e =
+    subst (λ (o : Option Flight). turns_left (end_flight t die o ending) ≤ turns_left t) e
+    (move_keeps_turns (EndJob die ending) v)
+
+module _ {t : Translation} (v : Valid t) (un : is_mended t.work.mending ≡ false) (alone : MendsAlone t) (k : ℕ)
+    (room : HasRoom k t) where
   kept_fewer : (u : Translation) → ArePinsOffFree u → u.work.rests ≡ [] → u.work.step ≡ t.work.step →
       AreFewer t.disk.flights u.disk.flights → MendsAlone u
   kept_fewer u = fewer u alone
-
-  end_turns : (die : ℕ) (flight : Option Flight) (ending : Ending) → t.disk.flights die ≡ flight →
-      turns_left (end_flight t die flight ending) ≤ turns_left t
-  end_turns die flight ending e =
-      subst (λ (o : Option Flight). turns_left (end_flight t die o ending) ≤ turns_left t) e
-      (move_keeps_turns (EndJob die ending) v)
 
   -- Reads
 
@@ -89,7 +90,7 @@ module _ {t : Translation} (v : Valid t) (un : is_mended t.work.mending ≡ fals
       brought (Some s) step is = sym (ap (λ (x : Step). x.there) (same_Some (record s { there = true }) step is))
 
   read_ends : (die : ℕ) (reader : Reader) (place : Place) → t.disk.flights die ≡ Some (Reading reader place) →
-      Kept (read_right (die_idle t die) reader)
+      Kept k (read_right (die_idle t die) reader)
   read_ends die ForNobody place e =
       (kept_fewer (die_idle t die) alone.pins alone.no_rests refl (ended_fewer t.disk.flights die), room)
   read_ends die (ForTask tag index) place e = (
@@ -99,8 +100,8 @@ module _ {t : Translation} (v : Valid t) (un : is_mended t.work.mending ≡ fals
   )
   read_ends die ForStep place e = (
     step_read die,
-    as_before (turns_left t) (page_of_step t.work.step) _ (page_of_step (step_there t.work.step)) (pages_left t)
-        (pages_left t) room (end_turns die (Some (Reading ForStep place)) ReadRight e) (there_still t.work.step)
+    as_before (turns_left t) (page_of_step t.work.step) _ (page_of_step (step_there t.work.step)) _ (pages_left t)
+        (pages_left t) room (end_turns die (Some (Reading ForStep place)) ReadRight v e) (there_still t.work.step)
         (same (pages_left t)),
   )
   read_ends die (ForRest number index) place e = (
@@ -110,7 +111,7 @@ module _ {t : Translation} (v : Valid t) (un : is_mended t.work.mending ≡ fals
     room,
   )
 
-  wrong_ends : (die : ℕ) (reader : Reader) → Kept (read_wrong (die_idle t die) reader)
+  wrong_ends : (die : ℕ) (reader : Reader) → Kept k (read_wrong (die_idle t die) reader)
   wrong_ends die (ForTask tag index) = (
     kept_fewer (read_wrong (die_idle t die) (ForTask tag index)) (wanted_off tag index false)
         alone.no_rests refl (ended_fewer t.disk.flights die),
@@ -121,31 +122,21 @@ module _ {t : Translation} (v : Valid t) (un : is_mended t.work.mending ≡ fals
 
   -- Programs
 
-  none_freed : (s : Spot) (x : BlockState) → x ≢ Free → IsNoneFreed t.disk.blocks (at_spot t.disk.blocks s x)
-  none_freed s x other z h =
-      ⊎_elim (λ k. absurd (other k.1)) (λ k. k.1) (at_spot_is t.disk.blocks s x z Free h)
-
-  none_flown : (die : ℕ) (p : Place) (cell : Cell) → t.disk.flights die ≡ Some (Programming p cell) →
-      (d : ℕ) (q : Place) (other : Cell) → at_die t.disk.flights p.die None d ≡ Some (Programming q other) → ⊥
-  none_flown die p cell e d q other h = ⊎_elim (λ k. none-some (Programming q other) k.1)
-      (λ k. k.0 (sym (alone.one_die die d p q cell other e k.1) ∙ sym (v.flights.programs die p cell e).at_home))
-      (at_die_is t.disk.flights p.die None d (Some (Programming q other)) h)
-
   room_taken : (die : ℕ) (p : Place) (cell : Cell) → t.disk.flights die ≡ Some (Programming p cell) →
-      pages_left t ≤ suc (pages_left (record t { disk = programmed t.numbers.pages t.disk p cell }))
+      pages_left t ≤ 1 + pages_left (record t { disk = programmed t.numbers.pages t.disk p cell })
   room_taken die p cell e =
       let r = v.flights.programs die p cell e in
       program_takes t.numbers t.disk.blocks (spot_of p) p.page r.place.page r.next
 
   page_ends : (die : ℕ) (p : Place) (tag : Tag) (body : List ℕ) →
-      t.disk.flights die ≡ Some (Programming p (GroupPage tag body)) → Kept (page_written t p tag body)
+      t.disk.flights die ≡ Some (Programming p (GroupPage tag body)) → Kept k (page_written t p tag body)
   page_ends die p tag body e = (
     unflown (page_written t p tag body)
         (pins_settled_off (page_written t p tag body) v (ends_page die p tag body v e) un refl
-        (none_freed (spot_of p) _ (behind_is_not_free t.numbers.pages p.page)) alone.pins)
-        alone.no_rests (none_readable over) (none_flown die p (GroupPage tag body) e),
-    one_done (turns_left t) (page_of_step t.work.step) (turns_left (page_written t p tag body)) _ (pages_left t) _ room
-        (end_turns die (Some (Programming p (GroupPage tag body))) WentWell e) (ap page_of_step of.1)
+        (none_freed t.disk.blocks (spot_of p) _ (behind_is_not_free t.numbers.pages p.page)) alone.pins)
+        alone.no_rests (none_readable over) (none_flown die p (GroupPage tag body) v alone e),
+    one_done (turns_left t) (page_of_step t.work.step) (turns_left (page_written t p tag body)) _ _ (pages_left t) _
+        room (end_turns die (Some (Programming p (GroupPage tag body))) WentWell v e) (ap page_of_step of.1)
         (ap page_of_step over) (room_taken die p (GroupPage tag body) e),
   )
     where
@@ -157,7 +148,7 @@ module _ {t : Translation} (v : Valid t) (un : is_mended t.work.mending ≡ fals
       over = step_over (name_of tag) of.0 of.1 (name_over tag body p of.0.kind of.2)
 
   mark_ends : (die : ℕ) (p : Place) (m : Mark) → t.disk.flights die ≡ Some (Programming p (MarkPage m)) →
-      Kept (mark_written t p m)
+      Kept k (mark_written t p m)
   mark_ends die p m e = by t.work.plan refl
     where
       of : (step : Step) × (t.work.step ≡ Some step)
@@ -165,32 +156,32 @@ module _ {t : Translation} (v : Valid t) (un : is_mended t.work.mending ≡ fals
       of = alone.of_step die p (MarkPage m) e
 
       by : (o : Option Plan) → t.work.plan ≡ o →
-          Kept (record (mark_written t p m) { disk = freed (programmed t.numbers.pages t.disk p (MarkPage m)) o })
+          Kept k (record (mark_written t p m) { disk = freed (programmed t.numbers.pages t.disk p (MarkPage m)) o })
       by (Some pl) is = absurd (true≢false (sym (ap is_mended (v.plan.mended pl is)) ∙ un))
       by None is = (
         unflown (record (mark_written t p m) { disk = programmed t.numbers.pages t.disk p (MarkPage m) })
             (pins_stay t.pins
-            (none_freed (spot_of p) _ (behind_is_not_free t.numbers.pages p.page)) alone.pins)
-            alone.no_rests (none_readable refl) (none_flown die p (MarkPage m) e),
-        one_done (turns_left t) (page_of_step t.work.step) (turns_left (mark_written t p m)) 0 (pages_left t) _ room
-            (end_turns die (Some (Programming p (MarkPage m))) WentWell e) (ap page_of_step of.1) refl
+            (none_freed t.disk.blocks (spot_of p) _ (behind_is_not_free t.numbers.pages p.page)) alone.pins)
+            alone.no_rests (none_readable refl) (none_flown die p (MarkPage m) v alone e),
+        one_done (turns_left t) (page_of_step t.work.step) (turns_left (mark_written t p m)) 0 _ (pages_left t) _ room
+            (end_turns die (Some (Programming p (MarkPage m))) WentWell v e) (ap page_of_step of.1) refl
             (room_taken die p (MarkPage m) e),
       )
 
   -- The end of any job
 
   erase_ends : (die : ℕ) (s : Spot) → t.disk.flights die ≡ Some (Erasing s) →
-      Kept (record t { disk = erased t.disk s })
+      Kept k (record t { disk = erased t.disk s })
   erase_ends die s e = (
     kept_fewer (record t { disk = erased t.disk s })
-        (pins_stay t.pins (none_freed s (Filling 0) (λ e. free_is_not_filling e refl)) alone.pins) alone.no_rests refl
-        (ended_fewer t.disk.flights s.die),
-    as_before (turns_left t) (page_of_step t.work.step) (turns_left t) (page_of_step t.work.step) (pages_left t) _ room
-        (same (turns_left t)) refl (erase_leaves t.numbers t.disk.blocks s (v.flights.erases die s e).free),
+        (pins_stay t.pins (none_freed t.disk.blocks s (Filling 0) (λ e. free_is_not_filling e refl)) alone.pins)
+        alone.no_rests refl (ended_fewer t.disk.flights s.die),
+    as_before (turns_left t) (page_of_step t.work.step) (turns_left t) (page_of_step t.work.step) _ (pages_left t) _
+        room (same (turns_left t)) refl (erase_leaves t.numbers t.disk.blocks s (v.flights.erases die s e).free),
   )
 
   ends : (die : ℕ) (flight : Option Flight) (ending : Ending) → t.disk.flights die ≡ flight →
-      fails_job (EndJob die ending) ≡ false → Kept (end_flight t die flight ending)
+      fails_job (EndJob die ending) ≡ false → Kept k (end_flight t die flight ending)
   ends die flight (WentWrong left) e well = absurd (true≢false well)
   ends die (Some (Reading reader place)) ReadRight e well = read_ends die reader place e
   ends die (Some (Reading reader place)) ReadWrong e well = wrong_ends die reader
@@ -210,30 +201,30 @@ module _ {t : Translation} (v : Valid t) (un : is_mended t.work.mending ≡ fals
   content None absent = absurd (true≢false absent)
   content (Some place) absent = (want_at ForStep place, refl)
 
-  orders : (o : Order) → (t.work.step ≡ None) × IsDue t o → Kept (ordered t o)
+  orders : (o : Order) → (t.work.step ≡ None) × IsDue t o → Kept k (ordered t o)
   orders (OrderMark fence) (none, due) = (
     unflown (mark_ordered t fence) alone.pins alone.no_rests
         (λ step is absent. absurd (true≢false (ap (λ (x : Step). x.there) (same_Some _ step is) ∙ absent)))
         (no_program none),
-    one_ordered (turns_left t) (page_of_step t.work.step) (turns_left (mark_ordered t fence)) (pages_left t) room
+    one_ordered (turns_left t) (page_of_step t.work.step) (turns_left (mark_ordered t fence)) _ (pages_left t) room
         (order_takes t (OrderMark fence) un (none, due)),
   )
-  orders (OrderRepair k left) (none, due) = (
-    unflown (repair_ordered t k left) alone.pins alone.no_rests
+  orders (OrderRepair key left) (none, due) = (
+    unflown (repair_ordered t key left) alone.pins alone.no_rests
         (λ step is. subst (λ (x : Step). x.there ≡ false → (want : Want) × (want_of_kind x.kind ≡ Some want))
-        (same_Some _ step is) (content (standing_of t.ledger (t.ledger.first_page k)))) (no_program none),
-    one_ordered (turns_left t) (page_of_step t.work.step) (turns_left (repair_ordered t k left)) (pages_left t) room
-        (order_takes t (OrderRepair k left) un (none, due)),
+        (same_Some _ step is) (content (standing_of t.ledger (t.ledger.first_page key)))) (no_program none),
+    one_ordered (turns_left t) (page_of_step t.work.step) (turns_left (repair_ordered t key left)) _ (pages_left t) room
+        (order_takes t (OrderRepair key left) un (none, due)),
   )
   orders (OrderCopy s p left) (none, due) = absurd (true≢false (sym (ap is_mended due.0) ∙ un))
   orders (OrderPlanMark s) (none, due) = absurd (true≢false (sym (ap is_mended due.1) ∙ un))
 
-  turns : Kept (turned t)
-  turns = turned_if Kept t (λ none. (alone, room)) (λ o due. orders o (order_due t o due))
+  turns : Kept k (turned t)
+  turns = turned_if (Kept k) t (λ none. (alone, room)) (λ o due. orders o (order_due t o due))
 
   -- Jobs that begin
 
-  takes : (die : ℕ) (flight : Flight) → MayTake t die (Some flight) → Kept (taken t die flight)
+  takes : (die : ℕ) (flight : Flight) → MayTake t die (Some flight) → Kept k (taken t die flight)
   takes die (Reading reader place) may = (
     kept_fewer (taken t die (Reading reader place)) alone.pins alone.no_rests refl
         (begun_fewer t.disk.flights die (Some (Reading reader place)) (λ p cell h. read_is_no_program h)),
@@ -248,7 +239,7 @@ module _ {t : Translation} (v : Valid t) (un : is_mended t.work.mending ≡ fals
 
   -- Each move
 
-  let_go_kept : (of_pin : Pin → Bool) (of_reader : Reader → Bool) → Kept (let_go t of_pin of_reader)
+  let_go_kept : (of_pin : Pin → Bool) (of_reader : Reader → Bool) → Kept k (let_go t of_pin of_reader)
   let_go_kept of_pin of_reader = (
     kept_fewer (let_go t of_pin of_reader)
         (All-filter _ (λ (pin : Pin). IsOffFree t.disk.blocks pin.looked) t.pins alone.pins) alone.no_rests refl
@@ -257,7 +248,7 @@ module _ {t : Translation} (v : Valid t) (un : is_mended t.work.mending ≡ fals
   )
 
   pub move_keeps_room : (move : Move) → IsAllowedMove t move → fails_job move ≡ false →
-      Kept (moved t move)
+      Kept k (moved t move)
   move_keeps_room (Claim count) may well =
       (kept_fewer (moved t (Claim count)) alone.pins alone.no_rests refl (λ d p cell h. h), room)
   move_keeps_room (Release count) may well =

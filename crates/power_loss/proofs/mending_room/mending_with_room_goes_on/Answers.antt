@@ -1,7 +1,7 @@
 use Rattle.power_loss.proofs.room_to_mend.RoomInBlocks.{cache_fits, opening_alone, opening_room, own_room_mends}
 use Rattle.power_loss.proofs.room_to_mend.LivesWithRoom.{layer_goes_on, moves_keep_room}
 use Rattle.power_loss.proofs.room_to_mend.OwedWhileMending.{goes_on}
-use Rattle.power_loss.proofs.room_to_mend.RoomKept.{move_keeps_room}
+use Rattle.power_loss.proofs.room_to_mend.RoomOfFailures.{each_move}
 use Rattle.power_loss.proofs.mending_room.mending_with_room_goes_on.Goals as goal
 
 pub returns-clause-at_the_opening : goal.returns-clause-at_the_opening
@@ -11,7 +11,7 @@ pub returns-clause-alone : goal.returns-clause-alone
 returns-clause-alone c = opening_alone
 
 pub returns-clause-each_move : goal.returns-clause-each_move
-returns-clause-each_move c = λ t move v un alone room. move_keeps_room v un alone room move
+returns-clause-each_move c = λ t move failures v un alone room may. each_move move failures v un alone room may
 
 pub returns-clause-moves : goal.returns-clause-moves
 returns-clause-moves c = moves_keep_room
