@@ -1,7 +1,6 @@
 -- Which replies are due, what they say, and what becomes of their tasks.
-use Rattle.std.specs.Prelude.{◌≡◌, ℕ, ◌+◌, ◌-◌, ◌*◌, ◌≤◌, ◌++◌, min, nat_le, nat_lt, Bool, true, false}
-use Rattle.std.specs.Prelude.{if◌then◌else◌, find, ⊤}
-use Rattle.std.specs.Prelude.{List, remove, slice_get, take, Option, Some, None, option_map}
+use Rattle.std.specs.Prelude.{◌≡◌, ℕ, ◌+◌, ◌-◌, ◌*◌, ◌≤◌, ◌++◌, min, nat_le, nat_lt, Bool, true, false, if◌then◌else◌}
+use Rattle.std.specs.Prelude.{find, ⊤, List, remove, take, Option, Some, None, option_map}
 use Rattle.byteorder.specs.Endian.{big_bytes}
 use Rattle.ufs_spec.specs.Exchanges as exchange
 use Rattle.ufs_spec.specs.Exchanges.{response}

@@ -7,7 +7,7 @@ use lib.ListN.{get_elem?}
 use mathlib.Core.Logic.{dite}
 use native.Mathlib.Decide.{ℕ_discrete}
 use Rattle.atomic_table.specs.Table as table
-use Rattle.atomic_table.specs.Table.{Allows, Me, gives}
+use Rattle.atomic_table.specs.Table.{Allows, gives}
 use Rattle.atomic_table.proofs.Lists.{set_else, set_here}
 use Rattle.ufs_spec.specs.Dies.{CanDo, DieState, new_die}
 use Rattle.ufs_spec.specs.Refusals.{State}
@@ -211,7 +211,8 @@ module _ {D : Type 0} (state : D → DieState) where
         apart = two_set Apart s.views id w apart_flip k.apart (λ j u apart there. let a = k.apart id j v u at there (λ
             x. apart (sym x)) in record {
               numbers = a.numbers;
-              dies = λ l m il im x. let o = had_die v.lane lane' l meets.one_die il in a.dies o.0 m o.1 im (sym o.2 ∙ x);
+              dies = λ l m il im x. let o = had_die v.lane lane' l meets.one_die il in
+                  a.dies o.0 m o.1 im (sym o.2 ∙ x);
             });
         deals = deals_more opening s.views k.list k.world after id v w step at steps refl refl meets.one_die k.deals;
         place = inl record {

@@ -7,7 +7,7 @@ use lib.ListN.{get_elem?}
 use mathlib.Core.Logic.{dite}
 use native.Mathlib.Decide.{ℕ_discrete}
 use Rattle.atomic_table.specs.Table as table
-use Rattle.atomic_table.specs.Table.{Allows, Me, gives, keeps, takes}
+use Rattle.atomic_table.specs.Table.{Allows, keeps, takes}
 use Rattle.atomic_table.proofs.Lists.{at_set, set_again, set_else, set_here}
 use Rattle.ufs_spec.specs.Dies.{DieState}
 use Rattle.device.specs.Kept.{DeviceCore, WorldState}

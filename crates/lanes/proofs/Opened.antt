@@ -126,4 +126,5 @@ memory_dies_opened n v lent left core is new same opened =
 pub memory_dies_fit : (n : Numbers) (v : Vec DieState) (lent : List DieState) → lent ≡ v.items →
     v.items ≡ replicate n.dies (new_die n.blocks n.pages) → Fit n (map (λ (d : DieState). d) lent)
 memory_dies_fit n v lent is new =
-    let same = map_same lent in new_fit n (map (λ (d : DieState). d) lent) (are_new n (map (λ (d : DieState). d) lent) (same ∙ is ∙ new))
+    let same = map_same lent in new_fit n (map (λ (d : DieState). d) lent)
+    (are_new n (map (λ (d : DieState). d) lent) (same ∙ is ∙ new))

@@ -1,10 +1,11 @@
 -- What threads do is a life, and a stop among them is one of a run.
-use Rattle.std.proofs.Common.{◌≡◌, ◌∙◌, List, [], ◌∷◌, ◌++◌, inl, inr, map, refl, sym, ap, subst}
+use Rattle.std.proofs.Common.{◌≡◌, ◌∙◌, List, [], ◌∷◌, ◌++◌, inr, map, sym, ap, subst}
 use Rattle.std.specs.Global.{Vec}
 use Rattle.std.specs.Prelude.{take}
+use Rattle.std.proofs.lemmas.List.{append-nil}
 use Rattle.ufs_spec.specs.Configs.{IsConfig}
 use Rattle.ufs_spec.specs.Dies.{DieState}
-use Rattle.ufs_spec.specs.Lives.{Fit, GoesOn, IsOpened, Life, Runs, Stops, array_of, bad_in, bad_of}
+use Rattle.ufs_spec.specs.Lives.{Fit, GoesOn, IsOpened, Runs, Stops, array_of, bad_in, bad_of}
 use Rattle.ufs_spec.specs.Plain.{Plain, after}
 use Rattle.ufs_spec.specs.Refusals.{State, numbers_of}
 use Rattle.ufs_spec.specs.Sound.{Suits}
@@ -16,7 +17,7 @@ use Rattle.ufs_spec.specs.declared.events.Output.{Output}
 use Rattle.ufs_spec.specs.declared.events.Output.TheVariants as output
 use Rattle.power_loss.proofs.die_pages.BlankOutsideDies.{fit_inside}
 use Rattle.power_loss.proofs.lives.ChainedLives.{life_continues}
-use Rattle.power_loss.proofs.lives.LivesOfRuns.{headline, lives_of, lives_right, more}
+use Rattle.power_loss.proofs.lives.LivesOfRuns.{headline, life_runs, lives_of, lives_right, more}
 use Rattle.power_loss.proofs.lives.NextLife.{prefix_left, sound_left, suits_left, within_left}
 use Rattle.power_loss.proofs.openings.EachSoundArrayOpens.{any_opens}
 use Rattle.power_loss.specs.Exchange.{IsArrayOf}
@@ -43,15 +44,6 @@ life_of s t (e ∷ es) h =
       told_as = (h.1.told_as, rest.told_as);
       life = (h.0, h.1.leads, rest.life);
     }
-
-runs_of : (n : Numbers) (s t : State) (es : List Event) (os : List Output) → Life s es os t → Runs n s es os t
-runs_of n s t [] [] h = h
-runs_of n s t (e ∷ es) (o ∷ os) h = (h.0, inl h.1, runs_of n h.0 t es os h.2)
-runs_of n s t es os h = absurd h
-
-nothing_more : {A : Type 0} (xs : List A) → xs ++ [] ≡ xs
-nothing_more [] = refl
-nothing_more (x ∷ xs) = ap (λ l. x ∷ l) (nothing_more xs)
 
 module _ {D : Type 0} (state : D → DieState) (opening : Opening D) (is : IsOpening state opening) where
   abbrev n : Numbers
@@ -96,10 +88,10 @@ module _ {D : Type 0} (state : D → DieState) (opening : Opening D) (is : IsOpe
         outputs = life.outputs;
         told_as = life.told_as;
         promise =
-            subst (λ (es : List Event). KeepsThePromise n ds es (life.outputs ++ [])) (sym (nothing_more life.events))
-            (subst (λ (os : List Output). KeepsThePromise n ds life.events os) (sym (nothing_more life.outputs))
+            subst (λ (es : List Event). KeepsThePromise n ds es (life.outputs ++ [])) (sym (append-nil life.events))
+            (subst (λ (os : List Output). KeepsThePromise n ds life.events os) (sym (append-nil life.outputs))
             (keeps start.0 led.0 life.events life.outputs start.1
-            (runs_of n start.0 led.0 life.events life.outputs life.life)));
+            (life_runs n start.0 led.0 life.events life.outputs life.life)));
       }
 
   -- with a stop
@@ -148,7 +140,7 @@ module _ {D : Type 0} (state : D → DieState) (opening : Opening D) (is : IsOpe
           promise =
               keeps s reopens.0 (life.events ++ event.Stop lefts ∷ []) (life.outputs ++ output.Stopped ∷ []) opened
               (more n s now reopens.0 life.events life.outputs (event.Stop lefts) output.Stopped
-              (runs_of n s now life.events life.outputs life.life) reopens.1);
+              (life_runs n s now life.events life.outputs life.life) reopens.1);
         }
 
     pub stop_safe : IsStoppedSafely state opening list w lefts.items s

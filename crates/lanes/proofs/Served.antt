@@ -1,5 +1,5 @@
 -- The keeper makes one turn more, and a lane one step more.
-use Rattle.std.proofs.Common.{◌≡◌, ◌⊎◌, ◌∙◌, ℕ, suc, Bool, Option, Some, None, ap, inl, inr, refl, subst}
+use Rattle.std.proofs.Common.{◌≡◌, ◌∙◌, ℕ, suc, Bool, Option, Some, None, ap, inl, inr, refl, subst}
 use Rattle.ufs_spec.specs.Dies.{DieState}
 use Rattle.ufs_spec.specs.declared.flash.Job.{Job}
 use Rattle.lanes.specs.Callers.{job_of}

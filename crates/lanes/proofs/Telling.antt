@@ -6,7 +6,7 @@ use mathlib.Core.Option as maybe
 use lib.ListN.{get_elem?}
 use Rattle.std.proofs.lemmas.Bool.Decides.{leb_tells}
 use Rattle.atomic_table.specs.Table as table
-use Rattle.atomic_table.specs.Table.{Allows, Joins, Me, Splits, keeps}
+use Rattle.atomic_table.specs.Table.{Allows, Joins, Splits, keeps}
 use Rattle.atomic_table.proofs.Lists.{at_longer, set_again, set_else}
 use Rattle.ufs_spec.specs.Dies.{DieState}
 use Rattle.device.specs.Kept.{DeviceCore}
@@ -15,8 +15,8 @@ use Rattle.lanes.specs.declared.view.LaneView.{LaneView}
 use Rattle.lanes.specs.declared.view.Opening.{Opening}
 use Rattle.lanes.specs.declared.view.View.{View}
 use Rattle.lanes.specs.Legal.{Begins, mine}
-use Rattle.lanes.specs.Rule.{Apart, AtHome, Compared, HasHeard, HasMet, IsOut, Kept, Knows, Looked, both, longer}
-use Rattle.lanes.specs.Rule.{messenger, spent}
+use Rattle.lanes.specs.Rule.{Apart, AtHome, HasHeard, HasMet, IsOut, Kept, Knows, Looked, both, longer, messenger}
+use Rattle.lanes.specs.Rule.{spent}
 use Rattle.lanes.proofs.Dealing.{at_more, each_more, two_more}
 use Rattle.lanes.proofs.Growing.{mine-append}
 use Rattle.lanes.proofs.Moves.{apart_flip, deals_same, each_set, one_word_is, some_not_none, two_set}

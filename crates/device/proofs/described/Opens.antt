@@ -1,22 +1,22 @@
 -- A device over dies whose pages are sound is the one that the definitions open over them.
-use Rattle.std.proofs.Common.{◌≡◌, ◌∙◌, ℕ, suc, ◌≤◌, ◌==◌, Bool, true, false, List, [], Option, ap, arith, refl, subst}
+use Rattle.std.proofs.Common.{◌≡◌, ◌∙◌, ℕ, suc, ◌≤◌, ◌==◌, Bool, List, [], ap, arith, subst}
 use Rattle.std.specs.Prelude.{IfOk, Result, slice_index}
 use Rattle.std.proofs.lemmas.Result.{IfOk-weaker}
 use Rattle.ufs_spec.specs.Cells.{AreWithin, Array, Cells, Shows}
 use Rattle.ufs_spec.specs.Configs.{IsConfig}
 use Rattle.ufs_spec.specs.Disk.{Spot}
-use Rattle.ufs_spec.specs.Keys.{IsSettings, settings_bytes, settings_key}
+use Rattle.ufs_spec.specs.Keys.{IsSettings, settings_key}
 use Rattle.ufs_spec.specs.Kept.{Holds, IsKept, IsNewestMark}
 use Rattle.ufs_spec.specs.Dies.{DieState}
 use Rattle.ufs_spec.specs.Lives.{Fit, IsOpened, array_of, bad_of}
 use Rattle.ufs_spec.specs.Openings.{IsOpenedTranslation}
-use Rattle.ufs_spec.specs.Pages.{zero_filled}
 use Rattle.ufs_spec.specs.Refusals.{State}
 use Rattle.ufs_spec.specs.Sound.{CellsSound, Sound, Suits}
 use Rattle.ufs_spec.specs.Translation.{Translation}
 use Rattle.ufs_spec.specs.declared.configs.Numbers.{Numbers}
 use Rattle.ufs_laws.proofs.array_cells.StandsForOne.{cells_one, kept_one, mark_one}
 use Rattle.ufs_laws.proofs.pages.PageIsOneCell.{one_cell}
+use Rattle.ufs_laws.proofs.pages.SettingsBodies.{permanent_back}
 use Rattle.power_loss.specs.Book.{CellsRight}
 use Rattle.power_loss.specs.Exchange.{IsArrayOf}
 use Rattle.power_loss.proofs.die_pages.BlankOutsideDies.{fit_inside}
@@ -31,13 +31,6 @@ use Rattle.device.specs.Describes.{Describes}
 use Rattle.device.specs.Kept.{DeviceCore, idle_device}
 use Rattle.device.specs.Opened.{OpensOver, TellsPermanent}
 use Rattle.device.proofs.die_calls.CallsRight.{opens_right}
-
--- what a body of settings says of protection
-said_back : (boot : ℕ) (permanent : Bool) (key : Option (List ℕ)) (counter : ℕ) →
-    (slice_index (settings_bytes boot permanent key counter) 1 == 1) ≡ permanent
-unfolding zero_filled
-said_back boot true key counter = refl
-said_back boot false key counter = refl
 
 -- what is found suits the configuration
 found_suits : (n : Numbers) (array : Array) (bad : Spot → Bool) (f : Found) (sound : Sound array) →
@@ -98,7 +91,7 @@ module _ (n : Numbers) (array : Array) (bad : Spot → Bool) (s : State) (f : Fo
       told opened.cells opened.shown (subst (CellsSound opened.cells) same_newest sound_here)
       (s.translation.ledger.base settings_key) held
       ∙ (ap (λ body. slice_index body 1 == 1) (opened.contents settings_key IsSettings)
-      ∙ said_back s.base.boot s.base.permanent s.base.key s.base.counter)
+      ∙ permanent_back s.base.boot s.base.permanent s.base.key s.base.counter)
 
   layer_is : IsLayer layer s.translation
   layer_is =

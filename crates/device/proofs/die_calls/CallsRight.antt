@@ -28,7 +28,7 @@ use Rattle.ftl_core.specs.Moves.{claims_for}
 use Rattle.device.specs.Describes.{Describes, IsAnswered, IsGiven, TasksKept, IsTold, Keeps, claims_by}
 use Rattle.device.specs.Describes.{wanted_by, wanted_kept}
 use Rattle.device.specs.Kept.{DeviceCore, idle_device}
-use Rattle.device.proofs.die_calls.EndsTold.{ending_fits}
+use Rattle.device.proofs.die_calls.EndsTold.{meant_fits}
 use Rattle.std.proofs.lemmas.List.Elements.{All-nil}
 use Rattle.ufs_spec.specs.Ledger.{before_accepted}
 use Rattle.ufs_spec.specs.Exchanges.{most_tasks}
@@ -96,7 +96,7 @@ pub may_end : (d : DeviceCore) (s : State) (die : ℕ) (o : Outcome) (ending : E
     IsEndingOf s.translation.disk.cells (s.translation.disk.flights die) o ending → MayLeave s die ending left →
     MayEnd s.translation.disk die (s.translation.disk.flights die) ending
 may_end d s die o ending left h is leaves = (
-  ending_fits s.translation.disk.cells (s.translation.disk.flights die) o ending is,
+  meant_fits s.translation.disk.cells (s.translation.disk.flights die) o ending is,
   leaves_cells s die ending left
       h.tied leaves,
 )

@@ -58,10 +58,10 @@ means_same cell outcome.Done WentWell h = refl
 means_same cell outcome.Failed (WentWrong left) h = refl
 means_same cell o ending h = absurd h
 
-pub ending_fits : (cells : Cells) (x : Option Flight) (o : Outcome) (ending : Ending) → IsEndingOf cells x o ending →
+pub meant_fits : (cells : Cells) (x : Option Flight) (o : Outcome) (ending : Ending) → IsEndingOf cells x o ending →
     ending_fits x ending ≡ true
-ending_fits cells None o ending h = h.0
-ending_fits cells (Some flight) o ending h =
+meant_fits cells None o ending h = h.0
+meant_fits cells (Some flight) o ending h =
     ap (same_bool (is_read_job flight)) (sym (means_same (cell_read cells (Some flight)) o ending h.1)) ∙ h.0
 
 -- The content of a page that was read
@@ -149,7 +149,8 @@ module _ (d : DeviceCore) (s : State) (die tag index : ℕ) (place : Place) (aft
 
   -- once these are our tasks
   keeps_then : (state : ReadState) (ending : Ending) (ts : List OpenTask) → is_unread state ≡ false →
-      (over ending).pins ≡ pins → before_accepted (over ending).ledger ≡ before → layer_kept.Describes after (over ending) →
+      (over ending).pins ≡ pins → before_accepted (over ending).ledger ≡ before →
+      layer_kept.Describes after (over ending) →
       TasksKept before ts (map (task_read tag index state) s.tasks) →
       Keeps (record d { ftl = after; tasks = ts }) (read_state s tag index state s.array (over ending))
   keeps_then state ending ts ends are same_before layer tasks = record {
@@ -276,7 +277,7 @@ pub ends_right : (d new : DeviceCore) (s : State) (die : ℕ) (o : Outcome) (end
     new ≡ lock_told t (told (record d { ftl = after }) e)) →
     IsAnswered s (Done die ending left) (OfDone true) new
 ends_right d new s die o ending left after e h is leaves layer claims tells reads told_then =
-    let fit = ending_fits s.translation.disk.cells (s.translation.disk.flights die) o ending is in
+    let fit = meant_fits s.translation.disk.cells (s.translation.disk.flights die) o ending is in
     answered_told d (told (record d { ftl = after }) e) new s (Done die ending left) (OfDone true) h leaves (sym fit)
     (job_keeps d s die left after e h claims (s.translation.disk.flights die) ending reads refl fit tells layer)
     told_then

@@ -7,8 +7,8 @@ use Rattle.ufs_spec.proofs.Facts.{none-some}
 use Rattle.ufs_spec.specs.Cells.{Array, Cells, GroupPage, IsCell, IsPlace, Nothing}
 use Rattle.ufs_spec.specs.DieLaws.{has_page}
 use Rattle.ufs_spec.specs.Dies.{CanDo, DieState, IsOfSize, after_job, blank_page, outcome_of}
-use Rattle.ufs_spec.specs.Disk.{BlockState, Bad, Closed, Erasing, Filling, Flight, Free, Programming, Reading, Spot}
-use Rattle.ufs_spec.specs.Disk.{at_die, at_place, job_of, page_of, spot_of}
+use Rattle.ufs_spec.specs.Disk.{BlockState, Erasing, Flight, Programming, Reading, Spot, at_die, at_place, job_of}
+use Rattle.ufs_spec.specs.Disk.{page_of, spot_of}
 use Rattle.ufs_spec.specs.Lives.{Fit, IsOpened, array_of, bad_of, ended_well}
 use Rattle.ufs_spec.specs.Machine.{Reply, Done, OfDone, Take, OfTake, Heard, OfHost, Host, OfReply, Turn, OfTurn}
 use Rattle.ufs_spec.specs.Machine.{array_after, given, hears, in_block, fills, lock_applied, observe, replied}

@@ -23,8 +23,8 @@ pub written_same : {X Z : Type 0} (v : Vec X Z) (ws : List X) → ws ≡ v.items
 written_same v ws same = with_items_is v ws (ap length same ∙ sym v.ok.0) ∙ same
 
 -- a die in memory is its own state
-pub fit_same : (n : Numbers) (dies others : List DieState) → dies ≡ others → Fit n (map (λ (die : DieState). die) dies) →
-    Fit n others
+pub fit_same : (n : Numbers) (dies others : List DieState) → dies ≡ others →
+    Fit n (map (λ (die : DieState). die) dies) → Fit n others
 fit_same n dies others same fit = subst (Fit n) (map-id dies ∙ same) fit
 
 -- the device is the one that the definitions open over the dies

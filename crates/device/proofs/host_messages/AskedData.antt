@@ -68,8 +68,8 @@ SaySame lun offset count k a b p deed =
     ≡ ((true && (b.lun == lun)) && (4096 * x.gathered == offset)) && (count == 4096)))
 
 -- the tests of the two sides agree
-asked_same : (lun offset count k : ℕ) (a : OpenTask) (b : exchange.Task) (before expected : ℕ) (p : Phase) (deed : Deed) →
-    IsDoing before expected b.length p deed → SaySame lun offset count k a b p deed
+asked_same : (lun offset count k : ℕ) (a : OpenTask) (b : exchange.Task) (before expected : ℕ) (p : Phase)
+    (deed : Deed) → IsDoing before expected b.length p deed → SaySame lun offset count k a b p deed
 asked_same lun offset count k a b before expected (phase.AwaitData x) (Gathering purpose gathered asked) h =
     inr (
       x,

@@ -13,8 +13,8 @@ use Rattle.ufs_spec.specs.Exchanges.{Answering, Awaiting, Deed, ForWrite, Gather
 use Rattle.ufs_spec.specs.Exchanges.{SendingBytes, Status, most_tasks, task_of}
 use Rattle.ufs_spec.specs.Keys.{IsData, IsKey, data_key}
 use Rattle.ufs_spec.specs.Ledger.{before_accepted}
-use Rattle.ufs_spec.specs.Machine.{begun_if_any, capacity_bytes, data_begun, durable, flush_begun, keeps}
-use Rattle.ufs_spec.specs.Machine.{no_sense, refused_or_begun, read_begun, read_blocks, sending, unit_or_first, with_moves}
+use Rattle.ufs_spec.specs.Machine.{begun_if_any, capacity_bytes, data_begun, durable, flush_begun, keeps, no_sense}
+use Rattle.ufs_spec.specs.Machine.{refused_or_begun, read_begun, read_blocks, sending, unit_or_first, with_moves}
 use Rattle.ufs_spec.specs.Machine as machine
 use Rattle.ufs_spec.specs.Moves.{Claim, moved}
 use Rattle.ufs_spec.specs.Plain.{shape_of_numbers, zero_block}
@@ -136,8 +136,8 @@ module _ (d : DeviceCore) (s : State) (r : Request) (h : Describes d s) (free : 
       (sending (read_blocks s r.lun address m) n)
 
   read_begins : (unit : UnitSpec) (command : Cdb) (address blocks : ℕ) (p : Phase) →
-      slice_get (numbers_of s).units.items r.lun ≡ Some unit → blocks ≤ greatest_command → address + blocks ≤ unit.blocks →
-      mended s ≡ true → (b : Bool) → ((blocks == 0) || (r.expected == 0)) ≡ b →
+      slice_get (numbers_of s).units.items r.lun ≡ Some unit → blocks ≤ greatest_command →
+      address + blocks ≤ unit.blocks → mended s ≡ true → (b : Bool) → ((blocks == 0) || (r.expected == 0)) ≡ b →
       Begins (Ok (if b then plan.Nothing (4096 * blocks)
       else plan.Read (data_key r.lun address) (sent_of blocks) (4096 * blocks))) p →
       IsBehind (core_opened d r after p) (read_begun s r command r.lun address (4096 * blocks))

@@ -1,18 +1,18 @@
 -- What the table tells of a command that it lets through: no line of it applies.
 use Rattle.std.proofs.Common.{◌≡◌, ◌∙◌, ℕ, zero, suc, ◌+◌, ◌<◌, ◌≤◌, Bool, true, false, List, [], ◌∷◌, length}
 use Rattle.std.proofs.Common.{Option, Some, None, ◌⊎◌, drop, refl, sym, ap, inl, inr, arith}
-use Rattle.std.specs.Prelude.{◌*◌, ◌/◌, ◌%◌, ◌==◌, ◌||◌, ◌&&◌, if◌then◌else◌, min, nat_le, nat_lt, not, slice_get}
+use Rattle.std.specs.Prelude.{◌*◌, ◌/◌, ◌%◌, ◌==◌, ◌||◌, ◌&&◌, min, nat_le, nat_lt, not, slice_get}
 use Rattle.std.specs.Int.{div_ceil}
 use Rattle.std.specs.List.{list_any, sum_by}
 use Rattle.std.proofs.lemmas.Bool.{le-leb}
 use Rattle.std.proofs.lemmas.Bool.Decides.{nat_tests}
 use Rattle.std.proofs.lemmas.List.{length-drop}
 use Rattle.std.proofs.lemmas.List.Sums.{get_or-le-sum_by}
-use Rattle.ufs_spec.proofs.Facts.{eqb-true, false≢true, ltb-false, none-some, or_parts}
+use Rattle.ufs_spec.proofs.Facts.{eqb-true, false≢true, ltb-false, or_parts}
 use Rattle.ufs_spec.specs.Plain.{greatest_command}
 use Rattle.ufs_spec.specs.Cdbs.{IsTakenCdb, address_of, blocks_of, direction_of, operation_of}
-use Rattle.ufs_spec.specs.Exchanges.{Busy, Status, Task, invalid_field, invalid_operation, list_length_error}
-use Rattle.ufs_spec.specs.Exchanges.{no_unit, not_ready, out_of_range, sequence_error, write_protected}
+use Rattle.ufs_spec.specs.Exchanges.{Busy, Task, invalid_field, invalid_operation, list_length_error, no_unit}
+use Rattle.ufs_spec.specs.Exchanges.{not_ready, out_of_range, sequence_error, write_protected}
 use Rattle.ufs_spec.specs.Keys.{Group}
 use Rattle.ufs_spec.specs.Machine.{durable}
 use Rattle.ufs_spec.specs.Refusals.{Request, State, first_line, has_other_response, has_wrong_list}
@@ -24,6 +24,7 @@ use Rattle.ufs_spec.specs.Translation.{free_slots, has_pending}
 use Rattle.ufs_spec.specs.declared.configs.UnitSpec.{UnitSpec}
 use Rattle.ufs_spec.specs.declared.scsi.Cdb.{Cdb}
 use Rattle.ufs_spec.specs.declared.scsi.Cdb.TheVariants as cdb
+use Rattle.ufs_laws.proofs.exchanges.TakenCommandsKnown.{passed_line}
 use Rattle.ufs_laws.proofs.plain_contents.GroupsOfCommands.{length-groups}
 use Rattle.power_loss.specs.Exchange.{IsTied}
 use Rattle.device.specs.declared.plans.Plan.{Plan}
@@ -31,12 +32,6 @@ use Rattle.device.specs.Plans.{Passes}
 use Rattle.device.proofs.host_messages.CommandTable.{unit_is}
 
 -- Lines
-
--- where no line applies, the first does not, nor one behind it
-not_here : (b : Bool) (x : Status) (rest : Option Status) → (if b then Some x else rest) ≡ None →
-    (b ≡ false) × (rest ≡ None)
-not_here true x rest h = absurd (none-some x (sym h))
-not_here false x rest h = (refl, h)
 
 pub record Checked (s : State) (r : Request) (command : Cdb) : Type 0 where
   pub too_long : is_too_long (numbers_of s) command ≡ false
@@ -47,19 +42,19 @@ pub record Checked (s : State) (r : Request) (command : Cdb) : Type 0 where
 
 checked : (s : State) (r : Request) (command : Cdb) → r.cdb ≡ Some command → refusal s r ≡ None → Checked s r command
 checked s r command is none =
-    let a = not_here (lacks_unit s r (lun_of (numbers_of s) r.lun)) no_unit _ none in
-    let b = not_here (not_taken r (lun_of (numbers_of s) r.lun)) invalid_operation _ a.1 in
+    let a = passed_line (lacks_unit s r (lun_of (numbers_of s) r.lun)) no_unit _ none in
+    let b = passed_line (not_taken r (lun_of (numbers_of s) r.lun)) invalid_operation _ a.1 in
     let lines : first_line (lines_for s r command) ≡ None =
     sym (ap (λ (c : Option Cdb). first_line (lines_after s r c)) is) ∙ b.1 in
-    let c = not_here (is_too_long (numbers_of s) command) invalid_field _ lines in
-    let d = not_here (has_wrong_list command) list_length_error _ c.1 in
-    let e = not_here (lacks_data r (direction_of command) (length_in s command)) invalid_field _ d.1 in
-    let f = not_here (is_past command (unit_numbers_of s r)) out_of_range _ e.1 in
-    let g = not_here (needs_mended (operation_of command) && not (mended s)) not_ready _ f.1 in
-    let i = not_here (is_refused_write s (unit_numbers_of s r) command) write_protected _ g.1 in
-    let j = not_here (lacks_response s command) sequence_error _ i.1 in
-    let k = not_here (has_other_response s command) invalid_field _ j.1 in
-    let l = not_here (is_crowded s command) Busy _ k.1 in
+    let c = passed_line (is_too_long (numbers_of s) command) invalid_field _ lines in
+    let d = passed_line (has_wrong_list command) list_length_error _ c.1 in
+    let e = passed_line (lacks_data r (direction_of command) (length_in s command)) invalid_field _ d.1 in
+    let f = passed_line (is_past command (unit_numbers_of s r)) out_of_range _ e.1 in
+    let g = passed_line (needs_mended (operation_of command) && not (mended s)) not_ready _ f.1 in
+    let i = passed_line (is_refused_write s (unit_numbers_of s r) command) write_protected _ g.1 in
+    let j = passed_line (lacks_response s command) sequence_error _ i.1 in
+    let k = passed_line (has_other_response s command) invalid_field _ j.1 in
+    let l = passed_line (is_crowded s command) Busy _ k.1 in
     record { too_long = c.0; past = f.0; unmended = g.0; refused = i.0; crowded = l.0 }
 
 -- what is known of a command that passed
@@ -75,12 +70,15 @@ pub record IsFree (s : State) (r : Request) (unit : UnitSpec) (command : Cdb) : 
 few_told : (s : State) (command : Cdb) → IsTakenCdb command → is_too_long (numbers_of s) command ≡ false →
     blocks_of command ≤ greatest_command
 few_told s cdb.TestUnitReady taken h = ltb-false greatest_command (blocks_of cdb.TestUnitReady) h
-few_told s (cdb.RequestSense allocation) taken h = ltb-false greatest_command (blocks_of (cdb.RequestSense allocation)) h
+few_told s (cdb.RequestSense allocation) taken h =
+    ltb-false greatest_command (blocks_of (cdb.RequestSense allocation)) h
 few_told s (cdb.Read6 address blocks) taken h = ltb-false greatest_command (blocks_of (cdb.Read6 address blocks)) h
 few_told s (cdb.Write6 address blocks) taken h = ltb-false greatest_command (blocks_of (cdb.Write6 address blocks)) h
 few_told s cdb.ReadCapacity10 taken h = ltb-false greatest_command (blocks_of cdb.ReadCapacity10) h
-few_told s (cdb.Read10 address blocks forced) taken h = ltb-false greatest_command (blocks_of (cdb.Read10 address blocks forced)) h
-few_told s (cdb.Write10 address blocks forced) taken h = ltb-false greatest_command (blocks_of (cdb.Write10 address blocks forced)) h
+few_told s (cdb.Read10 address blocks forced) taken h =
+    ltb-false greatest_command (blocks_of (cdb.Read10 address blocks forced)) h
+few_told s (cdb.Write10 address blocks forced) taken h =
+    ltb-false greatest_command (blocks_of (cdb.Write10 address blocks forced)) h
 few_told s (cdb.SynchronizeCache10 address blocks immediate) taken h =
     ltb-false greatest_command (blocks_of (cdb.SynchronizeCache10 address blocks immediate)) h
 few_told s command taken h = absurd taken

@@ -74,7 +74,8 @@ lines_are s r u c taken spec = by c taken ∙ lines
     by : (c : Cdb) → IsTakenCdb c → first_line (lines_for s r c) ≡ first_line
         (lines_of (nat_lt greatest_command (blocks_of c)) (lacks_data r (direction_of c) (length_of 0 c))
         (is_past c (unit_numbers_of s r)) (needs_mended (operation_of c) && not (mended s))
-        (is_refused_write s (unit_numbers_of s r) c) (nat_lt (free_slots s.translation) (slots_needed (numbers_of s) c)))
+        (is_refused_write s (unit_numbers_of s r) c)
+        (nat_lt (free_slots s.translation) (slots_needed (numbers_of s) c)))
     by cdb.TestUnitReady k = refl
     by (cdb.RequestSense allocation) k = refl
     by (cdb.Read6 address blocks) k = refl
@@ -125,7 +126,8 @@ table_checked s r u c taken spec =
     (is_refused_write s (Some u) c) (nat_lt (free_slots s.translation) (slots_needed (numbers_of s) c))
 
 pub told_by : (s : State) (r : Request) (u : UnitSpec) (c : Cdb) → IsTakenCdb c → unit_numbers_of s r ≡ Some u →
-    (a b p e f g : Bool) → nat_lt greatest_command (blocks_of c) ≡ a → lacks_data r (direction_of c) (length_of 0 c) ≡ b →
+    (a b p e f g : Bool) → nat_lt greatest_command (blocks_of c) ≡ a →
+    lacks_data r (direction_of c) (length_of 0 c) ≡ b →
     nat_lt u.blocks (address_of c + blocks_of c) ≡ p → (needs_mended (operation_of c) && not (mended s)) ≡ e →
     is_refused_write s (Some u) c ≡ f → nat_lt (free_slots s.translation) (slots_needed (numbers_of s) c) ≡ g →
     first_line (lines_for s r c) ≡ option_map status_kept (checks_of a b p e f g)

@@ -60,8 +60,8 @@ task_fault d s tag h = ap (λ (b : Bool). if b then Some TagInUse else None) (ta
 pub short_fault : (d : DeviceCore) (s : State) (tag : ℕ) → Describes d s →
     result_of (opening_fault s tag true) ≡ short_answer d tag
 short_fault d s tag h =
-    (λ i. result_of (if tag_used d s tag h i then Some TagInUse else if nat_le most_short_exchanges (shorts i) then Some Backlog
-    else None))
+    (λ i. result_of (if tag_used d s tag h i then Some TagInUse
+    else if nat_le most_short_exchanges (shorts i) then Some Backlog else None))
     ∙ by (uses d tag) (nat_le most_short_exchanges (length d.shorts))
   where
     shorts : length s.shorts ≡ length d.shorts

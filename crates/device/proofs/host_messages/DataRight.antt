@@ -11,7 +11,6 @@ use Rattle.ufs_spec.specs.declared.faults.HostFault.{HostFault}
 use Rattle.ufs_spec.specs.declared.faults.HostFault.TheVariants.{NotAskedFor}
 use Rattle.ufs_spec.specs.declared.messages.Message.TheVariants as message
 use Rattle.task_set.specs.declared.tasks.AskedFor.{AskedFor}
-use Rattle.task_set.specs.declared.tasks.Phase.TheVariants as phase
 use Rattle.device.specs.Describes.{Describes, IsAnswered, IsDoing, IsHeardAs}
 use Rattle.device.specs.Hears.{IsDataHeard, asked_for, with_event}
 use Rattle.device.specs.Kept.{DeviceCore}

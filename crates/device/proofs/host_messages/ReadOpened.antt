@@ -48,7 +48,8 @@ reading_at s r command n address m =
 
 module _ (d : DeviceCore) (s : State) (r : Request) (h : Describes d s) (free : task_of r.tag s.tasks ≡ None)
     (few : length s.tasks < most_tasks) (after : Core) where
-  pub read_opened : (command : Cdb) (n address m : ℕ) → 1 ≤ m → m ≤ greatest_command → m ≡ div_ceil (min r.expected n) 4096 →
+  pub read_opened : (command : Cdb) (n address m : ℕ) → 1 ≤ m → m ≤ greatest_command →
+      m ≡ div_ceil (min r.expected n) 4096 →
       layer_kept.Describes after (fold moved s.translation (keeps s r.tag r.lun address m)) →
       claims_for after ≡ claims_for d.ftl →
       IsBehind (core_opened d r after (phase.SendBlocks (sending_now m 0 n))) (reading_at s r command n address m)

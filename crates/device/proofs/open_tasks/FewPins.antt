@@ -94,7 +94,8 @@ any_index tag index (p ∷ pins) = by (p.tag == tag) (any_index tag index pins)
 
 -- no more than the indexes that there are
 few_of : (tag : ℕ) (pins : List Pin) → PinsDiffer pins →
-    ((index : ℕ) → list_any (is_pin_of tag index) pins ≡ true → index < greatest_command) → length (filter (of_tag tag) pins) ≤ greatest_command
+    ((index : ℕ) → list_any (is_pin_of tag index) pins ≡ true → index < greatest_command) →
+    length (filter (of_tag tag) pins) ≤ greatest_command
 few_of tag pins differ low =
     let most = length-le_from_distinct_below (indexes tag pins) greatest_command (indexes_differ tag pins differ)
     (λ q e. low q (sym (any_index tag q pins) ∙ e)) in

@@ -2,7 +2,6 @@
 use Rattle.std.proofs.Common.{◌≡◌, ◌∙◌, ℕ, zero, suc, ◌+◌, ◌==◌, Bool, true, false, cond, List, [], ◌∷◌, ◌++◌, length}
 use Rattle.std.proofs.Common.{map, ◌⊎◌, Option, Some, None, refl, sym, ap, subst, inl, inr, arith}
 use Rattle.std.proofs.lemmas.Bool.Decides.{nat_tests}
-use Rattle.std.proofs.lemmas.List.{map-id}
 use Rattle.std.specs.Prelude.{nat_lt, not, option_map, position, remove, slice_get, slice_set}
 use Rattle.std.specs.List.{list_any, position_or_len}
 use Rattle.ufs_spec.proofs.Facts.{eqb-true, none-some, or_parts, same_Some}
@@ -22,11 +21,11 @@ use Rattle.task_set.specs.Tasks as ours
 -- What is found
 
 -- the task of the device at a position, and the specified one there
-pub record IsOpen (before k : ℕ) (ts : List OpenTask) (us : List exchange.Task) (a : OpenTask) (b : exchange.Task) : Type 0
-  where
-    pub ours : slice_get ts k ≡ Some a
-    pub theirs : slice_get us k ≡ Some b
-    pub kept : TaskKept before a b
+pub record IsOpen (before k : ℕ) (ts : List OpenTask) (us : List exchange.Task) (a : OpenTask)
+    (b : exchange.Task) : Type 0 where
+  pub ours : slice_get ts k ≡ Some a
+  pub theirs : slice_get us k ≡ Some b
+  pub kept : TaskKept before a b
 
 pub their_task : (before k : ℕ) (ts : List OpenTask) (us : List exchange.Task) (a : OpenTask) → TasksKept before ts us →
     slice_get ts k ≡ Some a → (b : exchange.Task) × IsOpen before k ts us a b
@@ -38,7 +37,8 @@ their_task before (suc k) (x ∷ ts) (y ∷ us) a h at =
     let r = their_task before k ts us a h.1 at in
     (r.0, record { ours = r.1.ours; theirs = r.1.theirs; kept = r.1.kept })
 
-pub our_task : (before k : ℕ) (ts : List OpenTask) (us : List exchange.Task) (b : exchange.Task) → TasksKept before ts us →
+pub our_task : (before k : ℕ) (ts : List OpenTask) (us : List exchange.Task) (b : exchange.Task) →
+    TasksKept before ts us →
     slice_get us k ≡ Some b → (a : OpenTask) × IsOpen before k ts us a b
 our_task before k [] [] b h at = absurd (none-some b at)
 our_task before zero (x ∷ ts) (y ∷ us) b h at =
@@ -66,12 +66,14 @@ one_there ts k task there = by (slice_get ts k) refl
     by (Some a) e = (a, refl)
 
 -- as many are open
-pub as_many : (before : ℕ) (ts : List OpenTask) (us : List exchange.Task) → TasksKept before ts us → length us ≡ length ts
+pub as_many : (before : ℕ) (ts : List OpenTask) (us : List exchange.Task) → TasksKept before ts us →
+    length us ≡ length ts
 as_many before [] [] h = refl
 as_many before (x ∷ ts) (y ∷ us) h = ap suc (as_many before ts us h.1)
 as_many before ts us h = absurd h
 
-pub no_requests : (before : ℕ) (ts : List OpenTask) (us : List exchange.Task) → TasksKept before ts us → HaveNoRequest us
+pub no_requests : (before : ℕ) (ts : List OpenTask) (us : List exchange.Task) → TasksKept before ts us →
+    HaveNoRequest us
 no_requests before [] [] h = tt
 no_requests before (x ∷ ts) (y ∷ us) h = (h.0.request, no_requests before ts us h.1)
 no_requests before ts us h = absurd h
@@ -186,8 +188,8 @@ each_changed before after f g (x ∷ ts) (y ∷ us) one h =
 each_changed before after f g ts us one h = absurd h
 
 -- the task at a position changes
-pub one_changed : (before k : ℕ) (ts : List OpenTask) (us : List exchange.Task) (a : OpenTask) (b : exchange.Task) (deed : Deed)
-    →
+pub one_changed : (before k : ℕ) (ts : List OpenTask) (us : List exchange.Task) (a : OpenTask) (b : exchange.Task)
+    (deed : Deed) →
     TasksKept before ts us → TasksDiffer us → slice_get us k ≡ Some b → TaskKept before a (record b { deed = deed }) →
     TasksKept before (slice_set ts k a) (map (with_deed b.tag deed) us)
 one_changed before k [] [] a b deed h differ at new = tt
@@ -215,7 +217,8 @@ none_goes tag (y ∷ us) h =
     ∙ ap (λ (ys : List exchange.Task). y ∷ ys) (none_goes tag us both.1)
 
 -- the task at a position goes
-pub one_gone : (before k : ℕ) (ts : List OpenTask) (us : List exchange.Task) (b : exchange.Task) → TasksKept before ts us →
+pub one_gone : (before k : ℕ) (ts : List OpenTask) (us : List exchange.Task) (b : exchange.Task) →
+    TasksKept before ts us →
     TasksDiffer us → slice_get us k ≡ Some b → TasksKept before (remove ts k) (exchange.without_task b.tag us)
 one_gone before k [] [] b h differ at = absurd (none-some b at)
 one_gone before zero (x ∷ ts) (y ∷ us) b h differ at =

@@ -77,8 +77,8 @@ copy_of l n k from read content None h = absurd h
 copy_of l n k from read content (Some s) h =
     record { name = h.0; step = ap (λ (z : layer.Step). Some z) h.1; right = h.2 }
 
-module _ (c : Core) (t : Translation) (die : ℕ) (b : DieRow) (o : OpenBlock) (tag : Tag) (body : List ℕ) (n : ℕ) (k : Key)
-    (from : Place) (read : Tag) (h : Describes c t) (there : slice_get c.rows die ≡ Some b)
+module _ (c : Core) (t : Translation) (die : ℕ) (b : DieRow) (o : OpenBlock) (tag : Tag) (body : List ℕ) (n : ℕ)
+    (k : Key) (from : Place) (read : Tag) (h : Describes c t) (there : slice_get c.rows die ≡ Some b)
     (fills : b.filling ≡ Some o)
     (flies : t.disk.flights die ≡ Some (disk.Programming (next_place die o) (GroupPage tag body)))
     (step : c.step ≡ Some (steps.Copy n k from (Some read))) (page : IsStepCell c.step (GroupPage tag body)) where

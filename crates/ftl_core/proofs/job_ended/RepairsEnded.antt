@@ -95,8 +95,9 @@ repair_written t die o tag body x = record (with_group_page t (next_place die o)
   };
 }
 
-module _ (c : Core) (t : Translation) (die : ℕ) (b : DieRow) (o : OpenBlock) (tag : Tag) (body : List ℕ) (n : ℕ) (k : Key)
-    (from : Option Stored) (h : Describes c t) (there : slice_get c.rows die ≡ Some b) (fills : b.filling ≡ Some o)
+module _ (c : Core) (t : Translation) (die : ℕ) (b : DieRow) (o : OpenBlock) (tag : Tag) (body : List ℕ) (n : ℕ)
+    (k : Key) (from : Option Stored) (h : Describes c t) (there : slice_get c.rows die ≡ Some b)
+    (fills : b.filling ≡ Some o)
     (flies : t.disk.flights die ≡ Some (disk.Programming (next_place die o) (GroupPage tag body)))
     (step : c.step ≡ Some (steps.Repair n k from true)) (page : IsStepCell c.step (GroupPage tag body)) where
   abbrev left : List Key

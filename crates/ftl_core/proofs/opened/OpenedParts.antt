@@ -87,8 +87,8 @@ with_lists n f states rows has_bad places last = record {
   next_mark = mark_number_behind f;
 }
 
-pub opened_as : (n : Numbers) (f : Found) (blocks : Blocks) (map_is : UnitMap) (live : Lives) (cache : WriteCache) (pins : List Pin) (plan : Option Collection) (mending : Mending)
-    (content : List ℕ) (next : ℕ)
+pub opened_as : (n : Numbers) (f : Found) (blocks : Blocks) (map_is : UnitMap) (live : Lives) (cache : WriteCache)
+    (pins : List Pin) (plan : Option Collection) (mending : Mending) (content : List ℕ) (next : ℕ)
     (sizes : Sizes) (states : List BlockState) (places : List (Option Stored)) (last : ℕ) →
     blocks ≡ record {
       sizes = sizes;

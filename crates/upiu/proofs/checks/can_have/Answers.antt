@@ -12,7 +12,8 @@ returns-then-segment-gt0 c =
 
 pub returns-else-segment-eq0 : goal.returns-else-segment-eq0
 returns-else-segment-eq0 c =
-    ap (λ (none : Bool). none || (slice_index c.args.bytes.now 12 == 0x02)) (sym (ne_eqb c.args.segment 0 c.if-segment-eq0.false))
+    ap (λ (none : Bool). none || (slice_index c.args.bytes.now 12 == 0x02))
+    (sym (ne_eqb c.args.segment 0 c.if-segment-eq0.false))
     ∙ ap (λ (code : ℕ). may_have code c.args.bytes.now c.args.segment) (sym c.in-22.is ∙ c.code.ensures)
 
 pub returns-in_default : goal.returns-in_default

@@ -9,6 +9,7 @@ returns c =
     λ t h.
     let mended = c.pinned.ensures.described_mended t (same_layer _ _ t c.self.view_is h)
     (ap is_some c.in_ok-looked.was) in
-    block_found t (read_at c.args.self.now.tasks c.args.index) c.args.tag c.args.sent c.pinned.result c.in_ok-looked.looked _ h.valid
+    block_found t (read_at c.args.self.now.tasks c.args.index) c.args.tag c.args.sent c.pinned.result
+    c.in_ok-looked.looked _ h.valid
     c.in_ok-looked.was (c.pinned.ensures.described t (same_layer _ _ t c.self.view_is h))
     (λ x at right. c.block_looked.ensures t x h mended at right)
