@@ -18,13 +18,20 @@ class Function(NamedTuple):
     start: int
     end: int
 
+    def modules(self):
+        """The modules of its file, below the crate."""
+        parts = self.file[len("src/"): -len(".rt")].split("/")
+        return [] if parts in (["lib"], ["main"]) else parts
+
+    def short_name(self):
+        """The end of rt's name of it. A method's has no module, as that is the one of its type, which may stand in
+        another file."""
+        return "::".join([self.owner, self.name] if self.owner else [*self.modules(), self.name])
+
     def is_named(self, said):
         """Whether rt's name of a function, as `ftl_core::ftl::Ftl::take`, is that of this one or of a closure in it."""
-        parts = said.split("::")[1:]
-        module = self.file[len("src/"): -len(".rt")].split("/")
-        module = [] if module in (["lib"], ["main"]) else module
+        parts, module = said.split("::")[1:], self.modules()
         if self.owner:
-            # The module of a method is that of its type, which may stand in another file.
             return parts[-2:] == [self.owner, self.name] or f"fn::{self.owner}::{self.name}::" in said
         return parts == [*module, self.name] or "::".join([*module, "fn", self.name]) + "::" in "::".join(parts)
 

@@ -9,9 +9,13 @@ none of its functions. A round is one check of a copy of the crate with all its 
 refused if a function of its own falls for a reason of its own: a goal that was not proved, or a
 proof that no longer fits, and not only a call of what fell. What a round does not tell is tried in
 halves, and alone in the end. wrong_bodies/CRATE/control.edit changes a body so that it means the
-same. It stands in each round and has to be proved there, as has each function that no edit touches.
-Only if the first round does not show that, the control is tried alone: the whole crate has to be
-proved with it before anything else is tried.
+same. It stands in each round and has to be proved there. Only if the first round does not show
+that, the control is tried alone: the whole crate has to be proved with it before anything else is
+tried.
+
+A wrong body is tried only in a crate that is proved as it stands. So a round need not prove the
+rest of the crate: it checks the functions that its edits and the control touch, and those that they
+call, which have to be proved unless an edit touches them too.
 
 A verdict that is as it must be is kept in the user's cache, by the sums of all that it was made
 from (verdicts.py says which). A later run tries only what has no kept verdict; --anew tries all. A
@@ -21,7 +25,7 @@ crate with nothing to try is not checked.
 --list shows rounds. --after-gate takes the libraries that `rt ci` has just built in this folder.
 The last line counts the edits and the controls, and the one before says how many were tried in this
 run. The status is 0 if all is as it must be, 1 if not, and 2 if nothing could be said. With
-WRONG_BODIES_TIMES set each check tells its processor time.
+WRONG_BODIES_TIMES set each check tells its processor time, and which functions it was long at.
 """
 import argparse
 import concurrent.futures
@@ -33,13 +37,15 @@ import sys
 import time
 
 from bodies import touched
-from crates import ROOT
+from crates import ROOT, below
 from edits import Fault, changed, crates_of, edits_of, must_fail_edits, places, read_texts, together
-from round_copy import RoundCopy, build_below, is_of_gate, is_proved
+from round_copy import RoundCopy, build_below, is_built, is_of_gate, is_proved, prove
 from verdicts import Verdicts, stated_sum, texts_sum
 
 # A check takes up to so much memory.
 CHECK_BYTES = 4_000_000_000
+# A function that takes so many seconds is worth a line.
+LONG = 5
 # What a verdict is made from, in two sums. The first is there at once. The second leaves out the bodies
 # below and stays the same where only one of them changes; it wants the libraries below.
 READ = (texts_sum, stated_sum)
@@ -60,7 +66,7 @@ class Crate:
         self.edits = [it for it in edits if not wanted or it.name in wanted]
         self.missing = [it for it in wanted if it not in [edit.name for edit in edits]]
         self.good, self.bad, self.kept, self.seconds, self.checks = [], [], [], 0.0, 0
-        self.places, self.functions, self.is_control_proved = {}, {}, False
+        self.places, self.functions, self.is_control_proved, self.unproved = {}, {}, False, None
         self.verdicts, self.sums, self.names = None, [], {}
 
     def all(self):
@@ -125,13 +131,26 @@ class Crate:
         """The names in rt's verdicts of the functions that an edit touches."""
         return [name for name in said.verdicts if any(it.is_named(name) for it in self.functions[edit.name])]
 
-    def check(self, copy, texts, jobs):
-        said = copy.check(texts, jobs)
+    def check(self, copy, texts, only=()):
+        said = copy.check(texts, only)
         self.seconds += said.seconds
         self.checks += 1
         if os.environ.get("WRONG_BODIES_TIMES"):
-            print(f"{self.name}: check {self.checks} took {said.seconds:.0f} s", flush=True)
+            longest = sorted(((wait, name) for name, wait in said.waits.items() if wait >= LONG), reverse=True)
+            of_them = "".join(f"; {name} {wait:.0f} s" for wait, name in longest)
+            print(f"{self.name}: check {self.checks} took {said.seconds:.0f} s{of_them}", flush=True)
         return said
+
+    def check_touched(self, copy, texts, edits):
+        """Checks the functions that these edits touch, and those that they call. If rt cannot tell functions apart by
+        the ends of their names, it checks the whole crate."""
+        said = self.check(copy, texts, {it.short_name() for edit in edits for it in self.functions[edit.name]})
+        return said if said.reached() else self.check(copy, texts)
+
+    def reason(self, edit, said):
+        """Why a function of the edit's own fell, if it fell for a reason of its own."""
+        reasons = [(name, said.reason_of(name)) for name in self.names_of(edit, said)]
+        return next((f"{name}: {why}" for name, why in reasons if why), None)
 
     def note(self, edit, is_right, words):
         (self.good if is_right else self.bad).append(edit)
@@ -150,48 +169,66 @@ class Crate:
         others = [name for name in said.verdicts if name not in mine and not said.fell_alone(name)]
         return f"{others[0]} fell, which no edit touches: {said.verdicts[others[0]][:120]}" if others else None
 
-    def try_round(self, copy, edits, jobs):
+    def try_round(self, copy, edits):
         """Tries the edits of a round together, and those that it does not tell of in smaller rounds."""
-        parts = [self.places[edit.name] for edit in [*edits, self.control]]
-        said = self.check(copy, together(parts, self.texts), jobs)
+        touch = [*edits, self.control]
+        said = self.check_touched(copy, together([self.places[it.name] for it in touch], self.texts), touch)
         fault = self.fault_of(edits, said)
-        self.stand_on_control(copy, fault, jobs)
+        self.stand_on_control(copy, fault)
         if fault and len(edits) > 1:
             print(f"{self.name}: a round of {len(edits)} is tried in two halves: {fault}", flush=True)
             half = len(edits) // 2
-            self.try_round(copy, edits[:half], jobs)
-            self.try_round(copy, edits[half:], jobs)
+            self.try_round(copy, edits[:half])
+            self.try_round(copy, edits[half:])
             return
         for edit in edits:
-            reasons = [(name, said.reason_of(name)) for name in self.names_of(edit, said)]
-            reason = None if fault else next((f"{name}: {why}" for name, why in reasons if why), None)
+            reason = None if fault else self.reason(edit, said)
             if reason:
                 self.note(edit, True, f"refused, as it must be ({reason})")
             else:
-                self.try_alone(copy, edit, jobs)
+                self.try_alone(copy, edit)
 
-    def try_alone(self, copy, edit, jobs):
+    def try_apart(self, copy, edit):
+        """Tries an edit that can be in no round: first only what it touches, if that is known, and then all."""
+        if self.functions[edit.name]:
+            said = self.check_touched(copy, changed(edit, self.texts), [edit])
+            reason = self.reason(edit, said)
+            if reason and said.reached():
+                self.note(edit, True, f"refused, as it must be (alone: {reason})")
+                return
+        self.try_alone(copy, edit)
+
+    def try_alone(self, copy, edit):
         """Tries one edit as the kit's `rt must-fail` does: the crate must not be proved with it."""
-        said = self.check(copy, changed(edit, self.texts), jobs)
+        said = self.check(copy, changed(edit, self.texts))
         if not said.reached() or UNREAD.search(said.text):
             self.note(edit, False, f"BAD EDIT: the prover could not read the edited text: {said.first_error()}")
         elif said.status == 0:
             self.note(edit, False, f"NOT REFUSED: {self.name} is proved with it, so a contract lets it through: mend that")
         else:
-            own = [said.reason_of(name) for name in self.names_of(edit, said)]
-            words = next((it for it in own if it), said.first_error())
+            words = self.reason(edit, said) or said.first_error()
             self.note(edit, True, f"refused, as it must be (alone: {words})")
 
-    def stand_on_control(self, copy, fault, jobs):
+    def stand_on_control(self, copy, fault):
         """Sees once that the control is proved: in the first round, or alone, if that round has a fault."""
         if self.is_control_proved:
             return
         if fault:
-            said = self.check(copy, changed(self.control, self.texts), jobs)
+            said = self.check(copy, changed(self.control, self.texts))
             if said.status or not self.names_of(self.control, said):
                 raise NoControl(said.first_error())
         self.is_control_proved = True
         self.note(self.control, True, "proved, as it must be (the control)")
+
+    def stand_on_proof(self, of_gate):
+        """Sees that the crate is proved as it stands: after the gate it has a library, as only a proved crate is built.
+        Else rt proves it. What that costs counts, though it is kept for later runs."""
+        if of_gate:
+            self.unproved = None if is_built(self.name) else "the gate did not prove it"
+            return
+        said = prove(self.name)
+        self.seconds += said.seconds
+        self.unproved = said.first_error() if said.status else None
 
     def stand_on_texts(self, copy):
         """Sees that the copy has the texts that the verdicts are kept under."""
@@ -199,16 +236,18 @@ class Crate:
         if found != self.sums or read_texts(self.name, copy.folder) != self.texts:
             raise NoControl("files of it, or of a crate below it, were changed while this ran: run it again")
 
-    def run(self, of_gate, jobs):
+    def run(self, of_gate):
         """Tries all rounds, and then what touches the control or stands outside of all bodies."""
         copy = RoundCopy(self.name, of_gate)
         try:
+            if self.unproved:
+                raise NoControl(self.unproved)
             self.stand_on_texts(copy)
             for room in self.rounds:
-                self.try_round(copy, room, jobs)
-            self.stand_on_control(copy, "no round showed it", jobs)
+                self.try_round(copy, room)
+            self.stand_on_control(copy, "no round showed it")
             for edit in self.alone:
-                self.try_alone(copy, edit, jobs)
+                self.try_apart(copy, edit)
         except NoControl as fault:
             self.note(self.control, False, f"NOT PROVED: {self.name} has to be proved with it before a wrong body can "
                       f"be tried: {fault}")
@@ -229,10 +268,8 @@ def free_bytes():
 
 
 def lanes_here(asked):
-    """How many crates are tried at a time, and how many processes each check may have."""
-    cores = len(os.sched_getaffinity(0))
-    lanes = asked or max(1, min(cores, 3, free_bytes() // CHECK_BYTES))
-    return lanes, max(1, (cores + lanes - 1) // lanes)
+    """How many crates are tried at a time."""
+    return asked or max(1, min(len(os.sched_getaffinity(0)), free_bytes() // CHECK_BYTES))
 
 
 def listed(crates):
@@ -281,12 +318,13 @@ def tried(crates, after_gate, lanes):
         it.look_up(it.verdicts, stated_sum)
         it.plan()
     left = [it for it in left if not it.is_done()]
+    for it in sorted(left, key=lambda it: len(below(it.name))):
+        it.stand_on_proof(of_gate)
     names = " ".join(it.name for it in left) or "none"
     print(f"wrong bodies: {len(left)} of {len(crates)} crates have some to be tried: {names}", flush=True)
-    lanes, jobs = lanes_here(lanes)
-    with concurrent.futures.ThreadPoolExecutor(lanes) as pool:
+    with concurrent.futures.ThreadPoolExecutor(lanes_here(lanes)) as pool:
         by_length = sorted(left, key=lambda it: -(len(it.rounds) + len(it.alone)))
-        for done in [pool.submit(it.run, of_gate, jobs) for it in by_length]:
+        for done in [pool.submit(it.run, of_gate) for it in by_length]:
             done.result()
     return told(crates, began)
 

@@ -1,7 +1,8 @@
 #!/usr/bin/env python3
 """Stands in for the kit's command rt in the tests of the tools: a function is proved if it gives the
-number that it is named after. Each check adds a line with its crate to the file that FAKE_LOG names.
-Before that it builds the library lower.
+number that it is named after. Each check adds a line to the file that FAKE_LOG names: the crate, and
+the functions that were to be checked, or that its library was to be built. It cannot tell which
+function FAKE_UNKNOWN names. Before the checks it builds the library lower.
 """
 import os
 import pathlib
@@ -12,16 +13,21 @@ FUNCTION = re.compile(r"fn (\w+)\(\) -> u8 \{\n    (.*)\n\}")
 NUMBERS = {"ten": 10, "twenty": 20, "thirty": 30, "forty": 40}
 
 
-def check(crate):
-    """Says of each function of the crate here whether it is proved, and gives the status."""
+def check(crate, only, wanted):
+    """Says of each function of the crate here whether it is proved, or of these alone, and gives the status."""
     with open(os.environ["FAKE_LOG"], "a", encoding="utf-8") as log:
-        log.write(f"{crate}\n")
+        log.write(f"{crate} {wanted or 'all'}\n")
     bodies = FUNCTION.findall(pathlib.Path("src/lib.rt").read_text(encoding="utf-8"))
+    if os.environ.get("FAKE_UNKNOWN") in only:
+        print("rattle: the name fits several functions")
+        return 2
+    bodies = [(name, body) for name, body in bodies if name in (only or NUMBERS)]
     fallen = [name for name, body in bodies if sum(map(int, body.split(" + "))) != NUMBERS[name]]
     for name, _ in bodies:
         verdict = "not proved: `search` did not prove its result" if name in fallen else "proved"
         print(f"fn {crate}::{name}: {verdict}")
-    print("logic=failed" if fallen else "logic=proved")
+    last = "logic=failed" if fallen else "logic=proved"
+    print(f"only={len(bodies)} proved={len(bodies) - len(fallen)}" if only else last)
     return 1 if fallen else 0
 
 
@@ -40,8 +46,9 @@ def main(words):
         print(os.environ["FAKE_KIT"])
     elif words == ["check", "--only", ""]:
         build(pathlib.Path.cwd().parent / "lower")
-    elif words[0] == "check" and "--only" not in words:
-        return check(pathlib.Path.cwd().name)
+    elif words[0] in ("check", "lib"):
+        only = [it for flag, it in zip(words, words[1:]) if flag == "--only"]
+        return check(pathlib.Path.cwd().name, only, "lib" if words[0] == "lib" else " ".join(only))
     return 0
 
 

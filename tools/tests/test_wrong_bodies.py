@@ -26,6 +26,7 @@ class Repository:
         self.log = folder / "log"
         self.cache = folder / "cache"
         self.kit = "kit-1"
+        self.unknown = ""
 
     def make(self):
         """Writes the files of the repository."""
@@ -66,7 +67,7 @@ class Repository:
         self.log.write_text("", encoding="utf-8")
         path = f"{self.folder / 'bin'}{os.pathsep}{os.environ['PATH']}"
         environment = {**os.environ, "PATH": path, "XDG_CACHE_HOME": str(self.cache),
-                       "FAKE_LOG": str(self.log), "FAKE_KIT": self.kit}
+                       "FAKE_LOG": str(self.log), "FAKE_KIT": self.kit, "FAKE_UNKNOWN": self.unknown}
         command = [sys.executable, "-B", str(self.folder / "tools" / "wrong_bodies.py"), *words]
         how = {"stdout": subprocess.PIPE, "stderr": subprocess.STDOUT, "encoding": "utf-8", "check": False}
         done = subprocess.run(command, env=environment, **how)
@@ -75,8 +76,8 @@ class Repository:
         return tried, kept, done.stdout, done.returncode
 
     def checks(self):
-        """How many checks the last run made."""
-        return len(self.log.read_text(encoding="utf-8").splitlines())
+        """The checks of the last run: of each the crate, and the functions that were to be checked."""
+        return self.log.read_text(encoding="utf-8").splitlines()
 
 
 class WrongBodies(unittest.TestCase):
@@ -103,7 +104,7 @@ class WrongBodies(unittest.TestCase):
         self.assertEqual((tried, kept), found[:2], said)
         self.assertEqual(f"{passed} passed, {failed} failed", said.splitlines()[-1], said)
         self.assertEqual(1 if failed else 0, found[3], said)
-        self.assertEqual(tried > 0, self.repository.checks() > 0, said)
+        self.assertEqual(tried > 0, bool(self.repository.checks()), said)
 
     def test_nothing_is_tried_where_nothing_changed(self):
         before = self.repository.files()
@@ -154,6 +155,33 @@ class WrongBodies(unittest.TestCase):
 
     def test_all_edits_are_tried_again_if_one_asks_for_it(self):
         self.sees(ALL, 0, "--anew")
+
+    def test_a_round_checks_only_what_is_touched(self):
+        self.sees(ALL, 0, "--anew")
+        self.assertEqual(["upper lib", "upper ten thirty twenty"], self.repository.checks())
+
+    def test_what_the_gate_proved_is_not_proved_again(self):
+        for part in ("lower/out/rlib/lower", "upper/out/rlib/upper"):
+            self.repository.write(f"crates/{part}.rlib/lang/lib.rt", "")
+        self.sees(ALL, 0, "--anew", "--after-gate")
+        self.assertEqual(["upper ten thirty twenty"], self.repository.checks())
+
+    def test_what_the_gate_did_not_prove_keeps_nothing(self):
+        self.repository.write("crates/lower/out/rlib/lower.rlib/lang/lib.rt", "")
+        found = self.repository.run("--anew", "--after-gate")
+        self.assertEqual((ALL, 0, 1), (*found[:2], found[3]), found[2])
+        self.assertIn("the gate did not prove it", found[2])
+        self.assertEqual([], self.repository.checks())
+
+    def test_a_round_checks_all_where_a_name_fits_several_functions(self):
+        self.repository.unknown = "twenty"
+        self.sees(ALL, 0, "--anew")
+        self.assertEqual(["upper lib", "upper ten thirty twenty", "upper all"], self.repository.checks())
+
+    def test_an_edit_that_its_round_does_not_refuse_is_tried_over_the_whole_crate(self):
+        self.repository.change("wrong_bodies/upper/ten_is_eleven.edit", "new: 11", "new: 5 + 5")
+        self.sees(ALL, 0, "--anew", passed=ALL - 1, failed=1)
+        self.assertEqual(["upper lib", "upper ten thirty twenty", "upper all"], self.repository.checks())
 
     def test_what_is_not_refused_is_not_kept(self):
         self.repository.change("wrong_bodies/upper/ten_is_eleven.edit", "new: 11", "new: 5 + 5")
