@@ -10,6 +10,8 @@ mod faulty_die;
 #[cfg(test)]
 mod journals;
 #[cfg(test)]
+mod macs;
+#[cfg(test)]
 mod page_contents;
 #[cfg(test)]
 mod plain_rows;
