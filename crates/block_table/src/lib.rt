@@ -14,6 +14,7 @@ mod live;
 mod rows;
 
 pub use live::{BlockAt, LivePages};
+use rows::{without_block, without_reader};
 pub use rows::{DieRow, Flight, OpenBlock, Reader};
 
 /// What a block is to the device: free to be erased, being filled, full, or bad.
@@ -83,7 +84,7 @@ impl BlockTable {
         Ok(BlockTable {
             sizes,
             states,
-            rows: rows::idle(alloc, sizes.dies)?,
+            rows: vec![in alloc; DieRow::default(); sizes.dies as usize]?,
             free,
             has_bad,
         })
@@ -122,42 +123,66 @@ impl BlockTable {
     pub fn fills_any(&self) -> bool
         ensures { result ≡ list_any fills self.now.rows }
     {
-        rows::any_fills(self.rows.as_slice())
+        self.rows.iter().any(|row| row.filling.is_some())
     }
 
     /// Whether any die erases a block, which it will then fill.
     pub fn erases_any(&self) -> bool
         ensures { result ≡ list_any erases self.now.rows }
     {
-        rows::any_erases(self.rows.as_slice())
+        self.rows
+            .iter()
+            .any(|row| matches!(row.flight, Some(Flight::Erase { .. })))
     }
 
     /// Whether any die programs the page of this index in the group of this number.
     pub fn writes_page(&self, number: u64, index: u16) -> bool
         ensures { result ≡ list_any (writes_page number index) self.now.rows }
     {
-        rows::any_writes_page(self.rows.as_slice(), number, index)
+        self.rows.iter().any(|row| {
+            matches!(
+                row.flight,
+                Some(Flight::Group { number: group, index: page, .. })
+                    if number == group && index == page
+            )
+        })
     }
 
     /// Whether any die programs the page of the step under way.
     pub fn writes_step(&self) -> bool
         ensures { result ≡ list_any writes_step self.now.rows }
     {
-        rows::any_writes_step(self.rows.as_slice())
+        self.rows
+            .iter()
+            .any(|row| matches!(row.flight, Some(Flight::Step { .. })))
     }
 
     /// Whether any die reads for the step under way.
     pub fn reads_step(&self) -> bool
         ensures { result ≡ list_any reads_step self.now.rows }
     {
-        rows::any_reads_step(self.rows.as_slice())
+        self.rows.iter().any(|row| {
+            matches!(
+                row.flight,
+                Some(Flight::Read {
+                    reader: Reader::Step,
+                    ..
+                })
+            )
+        })
     }
 
     /// Whether any die reads for this block of the reader.
     pub fn reads_for(&self, reader: u8, index: u16) -> bool
         ensures { result ≡ list_any (reads_for reader index) self.now.rows }
     {
-        rows::any_reads_for(self.rows.as_slice(), reader, index)
+        self.rows.iter().any(|row| {
+            matches!(
+                row.flight,
+                Some(Flight::Read { reader: Reader::Task { tag, index: block }, .. })
+                    if reader == tag && index == block
+            )
+        })
     }
 
     /// This is in flight of the die from now on, if there is such a die.
@@ -174,14 +199,18 @@ impl BlockTable {
     pub fn forget_reader(&mut self, reader: u8)
         ensures { self.new ≡ record self.old { rows = map (without_reader reader) self.old.rows } }
     {
-        rows::forget_reader(self.rows.as_mut_slice(), reader);
+        for row in self.rows.iter_mut() {
+            *row = without_reader(*row, reader);
+        }
     }
 
     /// A read in flight for this block of the reader goes on, for nobody.
     pub fn forget_block(&mut self, reader: u8, index: u16)
         ensures { self.new ≡ record self.old { rows = map (without_block reader index) self.old.rows } }
     {
-        rows::forget_block(self.rows.as_mut_slice(), reader, index);
+        for row in self.rows.iter_mut() {
+            *row = without_block(*row, reader, index);
+        }
     }
 
     /// The block is empty after an erase: the die fills it from now on, and has no job.

@@ -1,0 +1,8 @@
+use Rattle.std.proofs.Common.{◌≡◌, ◌++◌, map, take, drop}
+use Rattle.block_table.specs.Rows.{without_block}
+use Rattle.block_table.proofs.BlockTable.forget_block.Given as goal
+
+abbrev pub invariant-loop-row : goal.invariant-loop-row
+invariant-loop-row l =
+    l.row-items ≡ map (without_block l.reader l.index) (take l.row-index l.initial.row-items)
+    ++ drop l.row-index l.initial.row-items
