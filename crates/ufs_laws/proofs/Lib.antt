@@ -8,6 +8,7 @@ pub mod new_dies
 pub mod pages
 pub mod plain_contents
 pub mod refusals
+pub mod rpmb_frames
 pub mod walk
 pub mod worked_rows
 pub mod worked_run

@@ -7,7 +7,7 @@ ghost use Rattle.ufs_spec.specs.Exchanges.{Registers};
 ghost use Rattle.ufs_spec.specs.Plain.{Plain};
 ghost use Rattle.ufs_spec.specs.Queries.{query_code, unit_descriptor};
 ghost use Rattle.ufs_spec.specs.Frames.{Frame};
-ghost use Rattle.ufs_spec.specs.Rpmb.{Results, rpmb_outcome};
+ghost use Rattle.ufs_spec.specs.Rpmb.{Region, Results, rpmb_outcome};
 
 /// The descriptor of unit 1, of 64 blocks with boot number 1; setting fPermanentWPEn succeeds, again it is refused, and
 /// clearing it always is; a boot setting of 3 is refused.
@@ -27,8 +27,8 @@ pub fn worked_queries()
 
 /// An RPMB request with a result other than 0 and 0080h accepts nothing.
 pub fn failed_request_accepts_nothing()
-    ensures { (p : Plain) (r : Registers) (locked : Bool) (frames : List Frame) (result : ℕ) (c : Command) →
-        rpmb_outcome p r locked frames ≡ Results result (Some c) → (result ≡ 0) ⊎ (result ≡ 0x80) }
+    ensures { (region : Region) (r : Registers) (locked : Bool) (frames : List Frame) (result : ℕ) (c : Command) →
+        rpmb_outcome region r locked frames ≡ Results result (Some c) → (result ≡ 0) ⊎ (result ≡ 0x80) }
 {}
 
 /// The eighteen bytes of fixed sense data: 70h, the key in byte 2, 0Ah in byte 7, the code in byte 12 and its qualifier

@@ -1,6 +1,7 @@
 -- The frames of the replay protected memory block: 512 bytes, of which a MAC covers the last 284 (JESD220, 12.4).
-use Rattle.std.specs.Prelude.{◌≡◌, ℕ, ◌<◌, ◌^◌, List, ◌++◌, length}
+use Rattle.std.specs.Prelude.{◌≡◌, ℕ, zero, suc, ◌<◌, ◌^◌, List, [], ◌∷◌, ◌++◌, length, take, drop}
 use Rattle.byteorder.specs.Endian.{big_bytes}
+use Rattle.ufs_bytes.specs.Fields.{field_at}
 use Rattle.ufs_spec.specs.Messages.{AreBytes}
 
 -- a frame of 512 bytes (JESD220, 12.4): 196 stuff bytes, the key or the MAC of 32, 256 of data, a nonce
@@ -41,3 +42,23 @@ pub record IsFrame (f : Frame) : Type 0 where
   pub count : f.count < 2 ^ 16
   pub result : f.result < 2 ^ 16
   pub kind : f.kind < 2 ^ 16
+
+-- the frame that 512 bytes are (JESD220, 12.4): the parts by their places, the numbers with the highest byte first
+abbrev pub frame_in : List ℕ → Frame
+frame_in bytes =
+    record {
+      stuff = take 196 bytes;
+      key_or_mac = take 32 (drop 196 bytes);
+      payload = take 256 (drop 228 bytes);
+      nonce = take 16 (drop 484 bytes);
+      counter = field_at 4 500 bytes;
+      address = field_at 2 504 bytes;
+      count = field_at 2 506 bytes;
+      result = field_at 2 508 bytes;
+      kind = field_at 2 510 bytes;
+    }
+
+-- the frames that so many times 512 bytes are, one after another: the data of SECURITY PROTOCOL OUT
+abbrev pub frames_in : ℕ → List ℕ → List Frame
+frames_in zero bytes = []
+frames_in (suc n) bytes = frame_in (take 512 bytes) ∷ frames_in n (drop 512 bytes)

@@ -22,6 +22,7 @@ pub mod Plain
 pub mod Queries
 pub mod Refusals
 pub mod Rpmb
+pub mod RpmbResponses
 pub mod Sound
 pub mod Stages
 pub mod Translation

@@ -1,14 +1,39 @@
--- The replay protected memory block: the MAC of frames, and what a request does (JESD220, 12.4; RFC 2104; FIPS 180-4).
--- What of it is refused, and in which order, is this profile's. The machine does not use these definitions yet.
+-- The replay protected memory block: what a region of it holds, the MAC of frames, and what a request does
+-- (JESD220, 12.4; RFC 2104; FIPS 180-4). What of it is refused, and in which order, is this profile's. The machine does
+-- not use these definitions yet.
 use Rattle.std.specs.Prelude.{ℕ, ◌+◌, ◌-◌, ◌*◌, ◌==◌, ◌&&◌, nat_lt, nat_le, not, Bool, true, false, if◌then◌else◌}
 use Rattle.std.specs.Prelude.{is_none, is_some, List, [], ◌∷◌, ◌++◌, bit_or, bit_xor, length, map, replicate, Option}
 use Rattle.std.specs.Prelude.{Some, None}
 use Rattle.std.specs.List.{flat_map, list_all}
 use Rattle.sha2.specs.Sha256.{sha256}
-use Rattle.ufs_spec.specs.Commands.{Command, RpmbWrite, SetKey}
+use Rattle.ufs_spec.specs.Commands.{Command, RpmbWrite, SetBoot, SetKey, SetPermanent, Write, Zero}
 use Rattle.ufs_spec.specs.Exchanges.{Registers, Status, invalid_list_field, sequence_error}
 use Rattle.ufs_spec.specs.Frames.{Frame, covered_bytes}
-use Rattle.ufs_spec.specs.Plain.{Plain, apply, counter_end}
+use Rattle.ufs_spec.specs.Plain.{Plain, counter_end, with_part}
+
+-- ## Regions (JESD220, 12.4)
+
+-- what a region holds: its key, once it is programmed, the bytes of its area, and its write counter. Requests and
+-- their answers speak of one region, whatever else the device holds
+pub record Region : Type 0 where
+  pub key : Option (List ℕ)
+  pub area : List ℕ
+  pub counter : ℕ
+
+-- the region of a plain state; the profile has one
+abbrev pub region_of : Plain → Region
+region_of p = record { key = p.key; area = p.area; counter = p.counter }
+
+-- what a command makes of the region: a key is set, or a write puts its bytes in place and adds one to the counter. An
+-- address counts blocks of 256 bytes. No other command touches it
+abbrev pub changed_by : Region → Command → Region
+changed_by region (SetKey bytes) = record region { key = Some bytes }
+changed_by region (RpmbWrite address bytes) =
+    record region { area = with_part (256 * address) bytes region.area; counter = region.counter + 1 }
+changed_by region (Write unit address blocks) = region
+changed_by region (Zero unit address count) = region
+changed_by region (SetBoot boot) = region
+changed_by region SetPermanent = region
 
 -- ## The MAC (RFC 2104, HMAC with SHA-256 of FIPS 180-4)
 
@@ -90,12 +115,12 @@ first_failed [] = None
 first_failed (c ∷ cs) = if c.fails then Some c.result else first_failed cs
 
 -- a key is set; until then only setting it, and asking for a result, can succeed
-abbrev pub has_key : Plain → Bool
-has_key p = is_some p.key
+abbrev pub has_key : Region → Bool
+has_key region = is_some region.key
 
 -- the request names blocks of 256 bytes past the end of the area
-abbrev pub is_past_area : Plain → Frame → Bool
-is_past_area p f = nat_lt (length p.area) (256 * (f.address + f.count))
+abbrev pub is_past_area : Region → Frame → Bool
+is_past_area region f = nat_lt (length region.area) (256 * (f.address + f.count))
 
 -- the MAC of a request is in its last frame; the other frames' are not looked at
 abbrev pub last_mac : Frame → List Frame → List ℕ
@@ -116,14 +141,15 @@ has_wrong_mac (Some key) f fs = not (same_bytes (last_mac f fs) (frames_mac key 
 -- the checks of each kind of request, in order, with the result that each gives (JESD220, 12.4.3): 1 general failure,
 -- 2 authentication failure, 3 counter failure, 4 address failure, 5 write failure, 7 authentication key not yet
 -- programmed. `locked`: the device takes no writes any more
-abbrev pub checks : Plain → Bool → Frame → List Frame → List Check
-checks p locked f fs =
-    if f.kind == program_key then fails_if (has_key p) 1 ∷ fails_if locked 5 ∷ []
+abbrev pub checks : Region → Bool → Frame → List Frame → List Check
+checks region locked f fs =
+    if f.kind == program_key then fails_if (has_key region) 1 ∷ fails_if locked 5 ∷ []
     else if f.kind == write_data then
-    fails_if (not (has_key p)) 7 ∷ fails_if (p.counter == counter_end) 5 ∷ fails_if (is_past_area p f) 4
-    ∷ fails_if (has_wrong_mac p.key f fs) 2 ∷ fails_if (not (f.counter == p.counter)) 3 ∷ fails_if locked 5 ∷ []
-    else if f.kind == read_data then fails_if (not (has_key p)) 7 ∷ fails_if (is_past_area p f) 4 ∷ []
-    else if f.kind == read_counter then fails_if (not (has_key p)) 7 ∷ []
+    fails_if (not (has_key region)) 7 ∷ fails_if (region.counter == counter_end) 5 ∷ fails_if (is_past_area region f) 4
+    ∷ fails_if (has_wrong_mac region.key f fs) 2 ∷ fails_if (not (f.counter == region.counter)) 3
+    ∷ fails_if locked 5 ∷ []
+    else if f.kind == read_data then fails_if (not (has_key region)) 7 ∷ fails_if (is_past_area region f) 4 ∷ []
+    else if f.kind == read_counter then fails_if (not (has_key region)) 7 ∷ []
     else []
 
 -- the command of a request that passes its checks; only setting the key and a write change anything
@@ -133,20 +159,20 @@ command_in f fs =
     else if f.kind == write_data then Some (RpmbWrite f.address (flat_map (λ (g : Frame). g.payload) (f ∷ fs)))
     else None
 
--- what the command of a request leaves of the plain state, if it has one
-abbrev pub applied : Plain → Option Command → Plain
-applied p None = p
-applied p (Some c) = apply p c
+-- what a request leaves of its region: what its command makes of it, if it has one
+abbrev pub applied : Region → Option Command → Region
+applied region None = region
+applied region (Some c) = changed_by region c
 
 -- bit 0080h of a result says that the counter is at its end: a key is set, and the counter is FFFFFFFFh after the
 -- request. So the last write that passes has the result 0080h
-abbrev pub with_end_bit : Plain → ℕ → ℕ
-with_end_bit p result = if has_key p && (p.counter == counter_end) then bit_or result 0x80 else result
+abbrev pub with_end_bit : Region → ℕ → ℕ
+with_end_bit region result = if has_key region && (region.counter == counter_end) then bit_or result 0x80 else result
 
 -- a request that failed a check has that check's result and accepts nothing; one that passed has result 0
-abbrev pub outcome_after : Plain → Option Command → Option ℕ → RpmbOutcome
-outcome_after p accepted (Some result) = Results (with_end_bit p result) None
-outcome_after p accepted None = Results (with_end_bit (applied p accepted) 0) accepted
+abbrev pub outcome_after : Region → Option Command → Option ℕ → RpmbOutcome
+outcome_after region accepted (Some result) = Results (with_end_bit region result) None
+outcome_after region accepted None = Results (with_end_bit (applied region accepted) 0) accepted
 
 -- a result is asked for, and none is there: no key or write request has left one in the result register
 abbrev pub lacks_result : Frame → Registers → Bool
@@ -154,9 +180,9 @@ lacks_result f r = (f.kind == read_result) && is_none r.result
 
 -- what SECURITY PROTOCOL OUT does with these frames: malformed ones are refused with 5/26/00, a result read without a
 -- result with 5/2C/00, else the checks decide. That the read of a page failed (result 6) is no part of it
-abbrev pub rpmb_outcome : Plain → Registers → Bool → List Frame → RpmbOutcome
-rpmb_outcome p r locked [] = Refused invalid_list_field
-rpmb_outcome p r locked (f ∷ fs) =
+abbrev pub rpmb_outcome : Region → Registers → Bool → List Frame → RpmbOutcome
+rpmb_outcome region r locked [] = Refused invalid_list_field
+rpmb_outcome region r locked (f ∷ fs) =
     if not (is_well_formed f fs) then Refused invalid_list_field
     else if lacks_result f r then Refused sequence_error
-    else outcome_after p (command_in f fs) (first_failed (checks p locked f fs))
+    else outcome_after region (command_in f fs) (first_failed (checks region locked f fs))

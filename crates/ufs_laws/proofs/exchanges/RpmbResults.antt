@@ -3,17 +3,17 @@ use Rattle.std.proofs.Common.{◌≡◌, ◌⊎◌, ◌&&◌, ◌==◌, ℕ, Boo
 use Rattle.std.proofs.Common.{bit_or, refl, ◌∙◌, inl, inr}
 use Rattle.ufs_spec.specs.Commands.{Command}
 use Rattle.ufs_spec.specs.Exchanges.{Registers, Status}
-use Rattle.ufs_spec.specs.Plain.{Plain, counter_end}
+use Rattle.ufs_spec.specs.Plain.{counter_end}
 use Rattle.ufs_spec.specs.Frames.{Frame}
-use Rattle.ufs_spec.specs.Rpmb.{Refused, Results, RpmbOutcome, applied, checks, command_in, first_failed, has_key}
-use Rattle.ufs_spec.specs.Rpmb.{lacks_result, outcome_after, rpmb_outcome, with_end_bit}
+use Rattle.ufs_spec.specs.Rpmb.{Refused, Region, Results, RpmbOutcome, applied, checks, command_in, first_failed}
+use Rattle.ufs_spec.specs.Rpmb.{has_key, lacks_result, outcome_after, rpmb_outcome, with_end_bit}
 
 end_bit : (b : Bool) → (cond b (bit_or 0 0x80) 0 ≡ 0) ⊎ (cond b (bit_or 0 0x80) 0 ≡ 0x80)
 end_bit true = inr refl
 end_bit false = inl refl
 
-zero_or_end : (p : Plain) → (with_end_bit p 0 ≡ 0) ⊎ (with_end_bit p 0 ≡ 0x80)
-zero_or_end p = end_bit (has_key p && (p.counter == counter_end))
+zero_or_end : (region : Region) → (with_end_bit region 0 ≡ 0) ⊎ (with_end_bit region 0 ≡ 0x80)
+zero_or_end region = end_bit (has_key region && (region.counter == counter_end))
 
 same_result : (n result : ℕ) (a : Option Command) (c : Command) → Results n a ≡ Results result (Some c) → result ≡ n
 same_result n result a c e = cc
@@ -21,12 +21,12 @@ same_result n result a c e = cc
 no_command : (n result : ℕ) (c : Command) → Results n None ≡ Results result (Some c) → ⊥
 no_command n result c e = cc
 
-behind : (p : Plain) (a : Option Command) (failed : Option ℕ) (result : ℕ) (c : Command) →
-    outcome_after p a failed ≡ Results result (Some c) → (result ≡ 0) ⊎ (result ≡ 0x80)
-behind p a (Some r) result c e = absurd (no_command (with_end_bit p r) result c e)
-behind p a None result c e =
-    let same = same_result (with_end_bit (applied p a) 0) result a c e in
-    elim (zero_or_end (applied p a)) [ inl zero ↦ inl (same ∙ zero) | inr end ↦ inr (same ∙ end) ]
+behind : (region : Region) (a : Option Command) (failed : Option ℕ) (result : ℕ) (c : Command) →
+    outcome_after region a failed ≡ Results result (Some c) → (result ≡ 0) ⊎ (result ≡ 0x80)
+behind region a (Some r) result c e = absurd (no_command (with_end_bit region r) result c e)
+behind region a None result c e =
+    let same = same_result (with_end_bit (applied region a) 0) result a c e in
+    elim (zero_or_end (applied region a)) [ inl zero ↦ inl (same ∙ zero) | inr end ↦ inr (same ∙ end) ]
 
 refused : (status : Status) (result : ℕ) (c : Command) → Refused status ≡ Results result (Some c) → ⊥
 refused status result c e = cc
@@ -37,9 +37,9 @@ chosen true lacking s t o result c e = absurd (refused s result c e)
 chosen false true s t o result c e = absurd (refused t result c e)
 chosen false false s t o result c e = e
 
-pub accepted_result : (p : Plain) (r : Registers) (locked : Bool) (frames : List Frame) (result : ℕ) (c : Command) →
-    rpmb_outcome p r locked frames ≡ Results result (Some c) → (result ≡ 0) ⊎ (result ≡ 0x80)
-accepted_result p r locked [] result c e = absurd (refused _ result c e)
-accepted_result p r locked (f ∷ fs) result c e =
-    behind p (command_in f fs) (first_failed (checks p locked f fs)) result c
+pub accepted_result : (region : Region) (r : Registers) (locked : Bool) (frames : List Frame) (result : ℕ)
+    (c : Command) → rpmb_outcome region r locked frames ≡ Results result (Some c) → (result ≡ 0) ⊎ (result ≡ 0x80)
+accepted_result region r locked [] result c e = absurd (refused _ result c e)
+accepted_result region r locked (f ∷ fs) result c e =
+    behind region (command_in f fs) (first_failed (checks region locked f fs)) result c
     (chosen _ (lacks_result f r) _ _ _ result c e)

@@ -1,0 +1,3 @@
+pub mod FramesRead
+pub mod RightWrites
+pub mod Regions
