@@ -21,11 +21,11 @@ const HEADING: &str =
 /// Writes the dies as SVG.
 pub fn write_svg<W: Write>(survey: &Survey, world: &World, out: &mut W) -> io::Result<()> {
     let (width, height) = size_of(world.dies());
-    write!(
+    writeln!(
         out,
-        "<svg xmlns=\"http://www.w3.org/2000/svg\" width=\"{width}\""
+        "<svg xmlns=\"http://www.w3.org/2000/svg\" width=\"{width}\" height=\"{height}\"\n\
+         {HEADING}"
     )?;
-    writeln!(out, " height=\"{height}\"\n{HEADING}")?;
     let mut top = 0u32;
     for (index, die) in world.dies().iter().enumerate() {
         write_die(survey, number_of(index), die, top, out)?;
@@ -77,41 +77,47 @@ fn write_block<W: Write>(
     row: u32,
     out: &mut W,
 ) -> io::Result<()> {
-    let state = block_state(die, block);
-    let color = block_color(state);
-    let base = row.saturating_add(SIDE - 1);
-    let width = u32::from(die.pages()) * SIDE;
-    writeln!(
-        out,
-        "<text x=\"4\" y=\"{base}\">block {block} {state}</text>"
-    )?;
-    writeln!(
-        out,
-        "<rect x=\"{LEFT}\" y=\"{row}\" width=\"{width}\" height=\"7\" fill=\"{color}\"/>"
-    )?;
+    write_frame(block, block_state(die, block), die.pages(), row, out)?;
     for page in 0..die.pages() {
         let place = Place {
             die: number,
             block,
             page,
         };
-        write_page(&survey.page_state(die, place), place, row, out)?;
+        write_page(&survey.page_state(die, place), page, row, out)?;
     }
     Ok(())
 }
 
-fn write_page<W: Write>(state: &PageState, place: Place, row: u32, out: &mut W) -> io::Result<()> {
+// The name of a block, and the frame of its pages.
+fn write_frame<W: Write>(
+    block: u16,
+    state: BlockState,
+    pages: u16,
+    row: u32,
+    out: &mut W,
+) -> io::Result<()> {
+    let color = block_color(state);
+    let base = row.saturating_add(SIDE - 1);
+    let width = u32::from(pages) * SIDE;
+    writeln!(
+        out,
+        "<text x=\"4\" y=\"{base}\">block {block} {state}</text>\n\
+         <rect x=\"{LEFT}\" y=\"{row}\" width=\"{width}\" height=\"7\" fill=\"{color}\"/>"
+    )
+}
+
+fn write_page<W: Write>(state: &PageState, page: u16, row: u32, out: &mut W) -> io::Result<()> {
     if matches!(state, PageState::Free) {
         return Ok(());
     }
     let color = page_color(state);
-    let column = LEFT + u32::from(place.page) * SIDE;
-    let page = place.page;
-    write!(
+    let column = LEFT + u32::from(page) * SIDE;
+    writeln!(
         out,
-        "<rect x=\"{column}\" y=\"{row}\" width=\"7\" height=\"7\" fill=\"{color}\">"
-    )?;
-    writeln!(out, "<title>page {page}: {state}</title></rect>")
+        "<rect x=\"{column}\" y=\"{row}\" width=\"7\" height=\"7\" fill=\"{color}\">\
+         <title>page {page}: {state}</title></rect>"
+    )
 }
 
 fn block_color(state: BlockState) -> &'static str {

@@ -62,22 +62,28 @@ fn write_pages<W: Write>(
     block: u16,
     out: &mut W,
 ) -> io::Result<()> {
+    let last = die.pages().saturating_sub(1);
     for page in 0..die.pages() {
-        if page % LETTERS == 0 {
-            write!(out, "    ")?;
-        }
         let place = Place {
             die: number,
             block,
             page,
         };
         let letter = letter_of(&survey.page_state(die, place));
-        write!(out, "{letter}")?;
-        if page % LETTERS == LETTERS - 1 || page.saturating_add(1) == die.pages() {
-            writeln!(out)?;
-        }
+        write_letter(letter, page, last, out)?;
     }
     Ok(())
+}
+
+// The letter of a page. The first one of a line stands behind four spaces, and the last one ends it.
+fn write_letter<W: Write>(letter: char, page: u16, last: u16, out: &mut W) -> io::Result<()> {
+    let before = if page % LETTERS == 0 { "    " } else { "" };
+    let after = if page % LETTERS == LETTERS - 1 || page == last {
+        "\n"
+    } else {
+        ""
+    };
+    write!(out, "{before}{letter}{after}")
 }
 
 fn letter_of(state: &PageState) -> char {
@@ -93,15 +99,22 @@ fn letter_of(state: &PageState) -> char {
 
 // The job that a die has in flight.
 fn write_job<W: Write>(world: &World, die: u8, out: &mut W) -> io::Result<()> {
-    let (what, place) = match world.job(die) {
-        None => return Ok(()),
-        Some(Job::Read(place)) => ("a read", *place),
-        Some(Job::Program(place, _)) => ("a program", *place),
-        Some(Job::Erase { block, .. }) => {
-            return writeln!(out, "  in flight: an erase of block {block}");
-        }
-    };
-    let Place { block, page, .. } = place;
+    match world.job(die) {
+        Some(job) => write_in_flight(job, out),
+        None => Ok(()),
+    }
+}
+
+fn write_in_flight<W: Write>(job: &Job, out: &mut W) -> io::Result<()> {
+    match job {
+        Job::Read(place) => write_page_job("a read", place, out),
+        Job::Program(place, _) => write_page_job("a program", place, out),
+        Job::Erase { block, .. } => writeln!(out, "  in flight: an erase of block {block}"),
+    }
+}
+
+fn write_page_job<W: Write>(what: &str, place: &Place, out: &mut W) -> io::Result<()> {
+    let Place { block, page, .. } = *place;
     writeln!(out, "  in flight: {what} of page {page} of block {block}")
 }
 

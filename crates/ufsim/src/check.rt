@@ -2,13 +2,15 @@
 //! opens afterwards holds what a prefix of the accepted commands makes, with each acknowledged one in it.
 use crate::fault::Word;
 use crate::reading::{Visit, blocks_held};
-use crate::stopped::{CONTENTS, copied_dies, has_bad, is_at_work, pair_stopped, stopped_dies};
+use crate::stopped::{
+    CONTENTS, copied_dies, has_bad, is_at_work, is_write, pair_stopped, stopped_dies,
+};
 use device::World;
 use geometry::Config;
 use journal::{Journal, is_kept};
 use nand_model::MemDie;
 use std::alloc::Global;
-use ufs_spec::{Block, Event, Job, Output};
+use ufs_spec::{Block, Event, Output};
 
 /// Which stops are tried at a program or an erase.
 #[derive(Clone, Copy)]
@@ -213,9 +215,4 @@ impl Check {
         }
         Ok(())
     }
-}
-
-// Whether the job is a program or an erase.
-fn is_write(job: &Job) -> bool {
-    !matches!(job, Job::Read(_))
 }

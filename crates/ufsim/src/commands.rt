@@ -1,7 +1,7 @@
 //! What the lines behind the first ones ask for.
 use crate::fault::Word;
 use crate::spelling::decoded;
-use crate::words::{Words, expect, number};
+use crate::words::{Words, expect, index_of, number};
 use std::alloc::Global;
 
 /// What a line asks for. A die is as the line names it: a number above 255 names none.
@@ -69,7 +69,8 @@ fn alone(words: Words<'_>, command: Command) -> Result<Command, Word> {
 
 fn host(alloc: Global, mut words: Words<'_>) -> Result<Command, Word> {
     expect(words, 1)?;
-    Ok(Command::Host(decoded(alloc, words.word()?)?))
+    let message = decoded(alloc, words.word()?)?;
+    Ok(Command::Host(message))
 }
 
 // The bytes of HEX, then N times the byte BB.
@@ -129,7 +130,7 @@ fn stop(alloc: Global, words: Words<'_>) -> Result<Command, Word> {
 
 // The digits of a die, and what its job leaves.
 fn read_left(word: &[u8]) -> Result<(&[u8], Content), Word> {
-    let Some(colon) = word.iter().position(|byte| *byte == b':') else {
+    let Some(colon) = index_of(word, b':') else {
         return Err(Word::Word);
     };
     let content = match &word[colon + 1..] {

@@ -143,7 +143,8 @@ fn short_field(number: u32) -> u16 {
 fn new_dies(alloc: Global, dies: u8, blocks: u16, pages: u16) -> Result<Vec<MemDie>, Word> {
     let mut all = Vec::with_capacity(alloc, dies as usize)?;
     for _ in 0..dies {
-        all.push(MemDie::new(alloc, blocks, pages)?)?;
+        let die = MemDie::new(alloc, blocks, pages)?;
+        all.push(die)?;
     }
     Ok(all)
 }

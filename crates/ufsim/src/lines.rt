@@ -3,6 +3,7 @@ ghost use Rattle.std.specs.Prelude.{◌<◌, length};
 ghost use Rattle.std.specs.Iterator.{at_most};
 
 use crate::fault::{ScriptFault, Word};
+use crate::words::index_of;
 
 /// A line with its number, which counts from 1.
 #[derive(Clone, Copy)]
@@ -74,7 +75,7 @@ fn first_line(text: &[u8]) -> (&[u8], &[u8])
     requires { 0 < length text.now }
     ensures { length result.1.now < length text.now }
 {
-    match text.iter().position(|byte| *byte == b'\n') {
+    match index_of(text, b'\n') {
         Some(end) => (&text[..end], &text[end + 1..]),
         None => (text, &[]),
     }

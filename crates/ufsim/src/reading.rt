@@ -6,7 +6,7 @@ use journal::block_in;
 use nand_model::MemDie;
 use std::alloc::Global;
 use ufs_spec::codes::{COMMAND, DATA_IN, RESPONSE};
-use ufs_spec::{Block, Event, Output, RunFaultKind, UnitSpec, Upiu};
+use ufs_spec::{Block, Event, Output, RunFaultKind, UnitSpec, Upiu, write_u32};
 
 /// How many replies and jobs a READ of one block may need.
 const READ_ROUNDS: usize = 8;
@@ -129,8 +129,7 @@ impl Visit {
 
     // Reads a block; `None` where the READ is not answered with it and with GOOD.
     fn block(&mut self, unit: u8, address: u32) -> Result<Option<Block>, Word> {
-        let mut message = Vec::with_capacity(self.alloc, 32)?;
-        message.extend_from_slice(&read_command(unit, address))?;
+        let message = Vec::from_array(self.alloc, read_command(unit, address))?;
         let mut found = None;
         if let Output::Host(Err(_)) = self.step(&Event::Host(message))? {
             return Ok(found);
@@ -166,17 +165,13 @@ fn is_good(reply: &Upiu) -> bool {
 
 // The COMMAND of a READ(10) of one block, with the tag 0 (JESD220, 10.7.1; SBC, READ (10)).
 fn read_command(unit: u8, address: u32) -> [u8; 32] {
-    let at = address.to_be_bytes();
     let mut message = [0; 32];
     message[0] = COMMAND;
     message[1] = 0x40;
     message[2] = unit;
     message[14] = 0x10;
     message[16] = 0x28;
-    message[18] = at[0];
-    message[19] = at[1];
-    message[20] = at[2];
-    message[21] = at[3];
+    write_u32(&mut message, 18, address);
     message[24] = 1;
     message
 }

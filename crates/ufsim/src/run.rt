@@ -101,10 +101,18 @@ fn tell_stops<W: Write>(out: &mut W, stops: usize, bad: usize) -> Result<(), Scr
 
 // True if all lines were run.
 fn run_script<W: Write>(alloc: Global, script: &[u8], out: &mut W) -> Result<bool, ScriptFault> {
-    let first = FirstLines::read(script)?;
-    let mut runner = first.last.told(Runner::new(alloc, &first))?;
-    runner.print_each(first.rest, out)?;
+    print_script(alloc, FirstLines::read(script)?, out)?;
     Ok(true)
+}
+
+// Runs the lines behind these ones, and writes the output of each.
+fn print_script<W: Write>(
+    alloc: Global,
+    first: FirstLines<'_>,
+    out: &mut W,
+) -> Result<(), ScriptFault> {
+    let mut runner = first.last.told(Runner::new(alloc, &first))?;
+    runner.print_each(first.rest, out)
 }
 
 /// The device with its dies after the lines of a script up to the one with the number `last`. With a number
@@ -228,7 +236,8 @@ impl Runner {
     fn stop(&mut self, left: &[Left]) -> Result<(), Word> {
         let mut leftovers = Vec::with_capacity(self.alloc, left.len())?;
         for one in left {
-            leftovers.push(self.leftover(*one)?)?;
+            let leftover = self.leftover(*one)?;
+            leftovers.push(leftover)?;
         }
         self.tell(0, &Event::Stop(leftovers))
     }

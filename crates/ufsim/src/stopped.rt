@@ -36,10 +36,14 @@ fn has_bad_block(die: &MemDie) -> bool {
 /// Whether the die has a program or an erase in flight.
 pub(crate) fn is_at_work(world: &World, die: u8) -> bool {
     match world.job(die) {
-        Some(Job::Program(_, _)) => true,
-        Some(Job::Erase { .. }) => true,
-        _ => false,
+        Some(job) => is_write(job),
+        None => false,
     }
+}
+
+/// Whether the job is a program or an erase.
+pub(crate) fn is_write(job: &Job) -> bool {
+    !matches!(job, Job::Read(_))
 }
 
 /// Copies of the dies as a stop leaves them with this content in all that is programmed or erased.

@@ -1,5 +1,5 @@
 //! The words of a line and their numbers.
-ghost use Rattle.std.specs.Prelude.{length};
+ghost use Rattle.std.specs.Prelude.{◌<◌, length, IfSome};
 ghost use Rattle.std.specs.Iterator.{at_most};
 
 use crate::fault::Word;
@@ -35,13 +35,17 @@ impl<'a> Iterator for Words<'a> {
         let line = self.rest;
         let start = line.iter().position(|byte| *byte != b' ')?;
         let tail = &line[start + 1..];
-        let more = tail
-            .iter()
-            .position(|byte| *byte == b' ')
-            .unwrap_or(tail.len());
+        let more = index_of(tail, b' ').unwrap_or(tail.len());
         self.rest = &tail[more..];
         Some(&line[start..start + 1 + more])
     }
+}
+
+/// Where the byte first stands in the text.
+pub(crate) fn index_of(text: &[u8], byte: u8) -> Option<usize>
+    ensures { IfSome result (λ i. i < length text.now) }
+{
+    text.iter().position(|other| *other == byte)
 }
 
 /// `Word` unless just `count` words are left.
