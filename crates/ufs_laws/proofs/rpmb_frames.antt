@@ -1,3 +1,5 @@
+pub mod AcceptedWrites
 pub mod FramesRead
-pub mod RightWrites
 pub mod Regions
+pub mod RightWrites
+pub mod WorkedMacs

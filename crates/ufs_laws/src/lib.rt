@@ -32,8 +32,9 @@ pub use exchange::{
 pub use held::{acknowledged_commands_are_held, held_commands_stay_held};
 pub use rows::{gap_keeps_the_first_write, write_after_the_gap_is_kept};
 pub use rpmb::{
-    a_command_changes_its_region, a_mac_covers_every_frame, an_accepted_write_is_right,
-    frames_are_their_bytes, worked_registers, worked_requests, worked_responses,
+    a_command_changes_its_region, a_mac_covers_every_frame, a_right_write_is_accepted,
+    an_accepted_write_is_right, frames_are_their_bytes, worked_macs, worked_registers,
+    worked_requests, worked_responses,
 };
 pub use runs::{a_refused_read_says_why, a_written_block_is_read};
 pub use table::{each_line_of_the_table_counts, lines_that_never_meet};

@@ -44,6 +44,22 @@ pub fn a_mac_covers_every_frame()
     ensures long_key { (key m : List ℕ) → nat_lt 64 (length key) ≡ true → mac key m ≡ mac (sha256 key) m }
 {}
 
+/// The MACs of cases 1 and 2 of RFC 4231: of `Hi There` under twenty bytes 0Bh, and of `what do ya want for nothing?`
+/// under the key `Jefe`.
+pub fn worked_macs()
+    ensures case_1 { mac (replicate 20 0x0B) (0x48 ∷ 0x69 ∷ 0x20 ∷ 0x54 ∷ 0x68 ∷ 0x65 ∷ 0x72 ∷ 0x65 ∷ []) ≡
+        0xB0 ∷ 0x34 ∷ 0x4C ∷ 0x61 ∷ 0xD8 ∷ 0xDB ∷ 0x38 ∷ 0x53 ∷ 0x5C ∷ 0xA8 ∷ 0xAF ∷ 0xCE ∷ 0xAF ∷ 0x0B ∷ 0xF1 ∷ 0x2B
+        ∷ 0x88 ∷ 0x1D ∷ 0xC2 ∷ 0x00 ∷ 0xC9 ∷ 0x83 ∷ 0x3D ∷ 0xA7 ∷ 0x26 ∷ 0xE9 ∷ 0x37 ∷ 0x6C ∷ 0x2E ∷ 0x32 ∷ 0xCF ∷ 0xF7
+        ∷ [] }
+    ensures case_2 { mac (0x4A ∷ 0x65 ∷ 0x66 ∷ 0x65 ∷ [])
+        (0x77 ∷ 0x68 ∷ 0x61 ∷ 0x74 ∷ 0x20 ∷ 0x64 ∷ 0x6F ∷ 0x20 ∷ 0x79 ∷ 0x61 ∷ 0x20 ∷ 0x77 ∷ 0x61 ∷ 0x6E ∷ 0x74 ∷ 0x20
+        ∷ 0x66 ∷ 0x6F ∷ 0x72 ∷ 0x20 ∷ 0x6E ∷ 0x6F ∷ 0x74 ∷ 0x68 ∷ 0x69 ∷ 0x6E ∷ 0x67 ∷ 0x3F ∷ [])
+        ≡
+        0x5B ∷ 0xDC ∷ 0xC1 ∷ 0x46 ∷ 0xBF ∷ 0x60 ∷ 0x75 ∷ 0x4E ∷ 0x6A ∷ 0x04 ∷ 0x24 ∷ 0x26 ∷ 0x08 ∷ 0x95 ∷ 0x75 ∷ 0xC7
+        ∷ 0x5A ∷ 0x00 ∷ 0x3F ∷ 0x08 ∷ 0x9D ∷ 0x27 ∷ 0x39 ∷ 0x83 ∷ 0x9D ∷ 0xEC ∷ 0x58 ∷ 0xB9 ∷ 0x64 ∷ 0xEC ∷ 0x38 ∷ 0x43
+        ∷ [] }
+{}
+
 /// A write is accepted only with the present counter, below its end, and with the MAC of all its frames under the key;
 /// it lies in the area, its frames agree and are as many as it counts, and the device is not locked. Then the data of
 /// all its frames are written from its address on.
@@ -58,6 +74,14 @@ pub fn an_accepted_write_is_right()
         (result address : ℕ) (bytes : List ℕ) →
         rpmb_outcome region r locked (f ∷ fs) ≡ Results result (Some (RpmbWrite address bytes)) →
         (f.address ≡ address) × (flat_map (λ (g : Frame). g.payload) (f ∷ fs) ≡ bytes) }
+{}
+
+/// A right write is accepted, unless the device is locked: with result 0, or 0080h if it brings the counter to its end.
+pub fn a_right_write_is_accepted()
+    ensures { (region : Region) (r : Registers) (f : Frame) (fs : List Frame) → IsRightWrite region f fs →
+        (written : Command) → written ≡ RpmbWrite f.address (flat_map (λ (g : Frame). g.payload) (f ∷ fs)) →
+        rpmb_outcome region r false (f ∷ fs)
+        ≡ Results (with_end_bit (changed_by region written) 0) (Some written) }
 {}
 
 /// Requests and their outcomes, whatever is not named: frames whose counts or counters differ, a result read without a
