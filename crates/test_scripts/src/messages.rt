@@ -1,109 +1,77 @@
 //! Messages that the device refuses, by their lowest fault.
-use crate::scripts::{Text, expect};
-use std::test::Fail;
+use crate::steps::Step::{Block, Command, Good, Host, Lines, Response, Settle};
+use crate::steps::{Script, TAGS, expect};
 
 /// Each message is refused with its number, and nothing changes: the READ after them is answered.
 #[test]
-fn wrong_messages_are_refused_by_their_lowest_fault(rt: HostRuntime) -> Result<(), Fail> {
-    let alloc = rt.alloc();
-    let mut script = Text::script(alloc)?.with("settle 4\n")?;
-    // 31 and 33 zero bytes; HD; DD and an extra header segment; that segment alone with an unknown
-    // code; an unknown code; a RESPONSE; a reserved byte; data that nothing asked for.
-    let wrong = [
-        ("", 31),
-        ("", 33),
-        ("80000005", 32),
-        ("c000000000000000010000", 32),
-        ("3f00000000000000010000", 32),
-        ("3f", 32),
-        ("21000007", 32),
-        ("0140000301", 32),
-    ];
-    for (digits, count) in wrong {
-        script = script.with("host ")?.filled(digits, count)?.with("\n")?;
-    }
-    script = script
-        .data_out("02000007", "00")?
-        .command("01400003", "00000000", "28")?
-        .command("01400003", "00000000", "00")?
-        .with("reply\n")?;
-    let output = Text::new(alloc)
-        .with("settle 4\nhost fault 1\nhost fault 2\nhost fault 3\nhost fault 3\nhost fault 4\n")?
-        .with("host fault 5\nhost fault 5\nhost fault 6\nhost fault 8\nhost ok\nhost fault 7\n")?
-        .response("21000003", "00000000")?;
-    expect(&rt, alloc, &script, &output)
+fn wrong_messages_are_refused_by_their_lowest_fault(rt: HostRuntime) {
+    expect(
+        &rt,
+        rt.alloc(),
+        &[
+            Settle("4"),
+            // 31 and 33 zero bytes.
+            Host("", 31, "host fault 1"),
+            Host("", 33, "host fault 2"),
+            // HD; DD and an extra header segment; that segment alone with an unknown code.
+            Host("80000005", 32, "host fault 3"),
+            Host("c000000000000000010000", 32, "host fault 3"),
+            Host("3f00000000000000010000", 32, "host fault 4"),
+            // An unknown code; a RESPONSE; a reserved byte; data that nothing asked for.
+            Host("3f", 32, "host fault 5"),
+            Host("21000007", 32, "host fault 5"),
+            Host("0140000301", 32, "host fault 6"),
+            Lines(
+                "fill 0200000700000000000010000000000000001000000000000000000000000000 00 4096",
+                "host fault 8",
+            ),
+            // A READ of no block, and another command under its tag.
+            Command("014000", "03", "00000000", "28"),
+            Host("01400003", 32, "host fault 7"),
+            Good("03"),
+        ],
+    );
 }
 
-const DIGITS: [&str; 16] = [
-    "0", "1", "2", "3", "4", "5", "6", "7", "8", "9", "a", "b", "c", "d", "e", "f",
-];
-
-/// A line with a READ of the last block of unit 0, under the tag with these two digits.
-fn read_line(text: Text, high: &str, low: &str) -> Result<Text, Fail> {
-    text.with("host 014000")?
-        .with(high)?
-        .with(low)?
-        .times("00", 8)?
-        .filled("00001000", 4)?
-        .filled("2800000000ff000001", 16)?
-        .with("\n")
-}
+/// READ(10) of the last block of unit 0, where nothing was written.
+const READ: &str = "2800000000ff000001";
 
 /// While 32 tasks are open further commands get the status 28h, and the 33rd of these is refused. A
 /// task that ends makes room for another.
 #[test]
-fn a_33rd_task_finds_the_task_set_full(rt: HostRuntime) -> Result<(), Fail> {
-    let alloc = rt.alloc();
-    let mut script = Text::script(alloc)?.with("settle 4\n")?;
-    for high in ["0", "1", "2", "3"] {
-        for low in DIGITS {
-            script = read_line(script, high, low)?;
-        }
-    }
-    script = read_line(script, "4", "0")?.with("reply\nreply\n")?;
-    script = read_line(script, "4", "0")?.times("reply\n", 65)?;
-    let mut output = Text::new(alloc)
-        .with("settle 4\n")?
-        .times("host ok\n", 64)?
-        .with("host fault 9\n")?
-        .data_in("22000000", "1000", "00", 4096)?
-        .response("21000000", "00000000")?
-        .with("host ok\n")?;
-    output = read_replies(output)?;
-    expect(&rt, alloc, &script, &output)
+fn a_33rd_task_finds_the_task_set_full(rt: HostRuntime) {
+    let mut script = Script::new(rt.alloc());
+    script.add(&[Settle("4")]);
+    script.begin_reads(&TAGS);
+    script.add(&[
+        Host(
+            "014000400000000000000000000010002800000000ff000001",
+            32,
+            "host fault 9",
+        ),
+        Block("00", "00"),
+        Good("00"),
+        Command("014000", "40", "00001000", READ),
+    ]);
+    script.end_reads(&TAGS[1..32]);
+    script.end_reads(&["40"]);
+    // The first of the READs that found the task set full.
+    script.add(&[Response("212000", "20", "0128", "00001000")]);
+    script.run(&rt);
 }
 
-/// The replies of the tasks behind the first, up to the one that was opened last: each reads as
-/// zeros. Behind them comes the first of the commands that were refused.
-fn read_replies(mut output: Text) -> Result<Text, Fail> {
-    for high in ["0", "1"] {
-        for low in DIGITS {
-            if high != "0" || low != "0" {
-                output = read_reply(output, high, low)?;
-            }
+impl Script {
+    /// A READ of this block under each of these tags.
+    fn begin_reads(&mut self, tags: &[&str]) {
+        for tag in tags {
+            self.add(&[Command("014000", tag, "00001000", READ)]);
         }
     }
-    output = read_reply(output, "4", "0")?;
-    output
-        .with("reply ")?
-        .filled("2120002000000128", 12)?
-        .filled("00001000", 20)?
-        .with("\n")
-}
 
-/// The DATA IN and the RESPONSE of a READ of zeros.
-fn read_reply(output: Text, high: &str, low: &str) -> Result<Text, Fail> {
-    output
-        .with("reply 220000")?
-        .with(high)?
-        .with(low)?
-        .times("00", 6)?
-        .with("10000000000000001000")?
-        .times("00", 12)?
-        .times("00", 4096)?
-        .with("\nreply 210000")?
-        .with(high)?
-        .with(low)?
-        .times("00", 28)?
-        .with("\n")
+    /// What the READs with these tags are answered.
+    fn end_reads(&mut self, tags: &[&str]) {
+        for tag in tags {
+            self.add(&[Block(tag, "00"), Good(tag)]);
+        }
+    }
 }

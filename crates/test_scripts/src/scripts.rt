@@ -1,158 +1,96 @@
-//! What the tests share: scripts and their output, whose messages are spelled field by field.
+//! What the tests share: texts made piece by piece, and what the program writes of a script.
 use std::alloc::Global;
 use std::process::Abort;
-use std::test::Fail;
-use ufsim::run_text;
+use ufsim::{Stops, check_each_text, check_text, run_text};
 
-/// The first lines of a script with the row configuration: 4 dies of 16 blocks of 64 pages, units of
-/// 256, 64 and 64 blocks, one step of RPMB, 64 slots, 4 spare blocks.
-pub const FIRST_LINES: &str = "config 4 16 64 1 64 4\nunit 256 0 0\nunit 64 1 0\nunit 64 2 0\n";
-
-/// A text that is made piece by piece.
+/// A text that is made piece by piece. If memory was refused for a piece, the text lacks it, and `bytes` ends the
+/// test.
 #[derive(Drop)]
 pub struct Text {
-    pub bytes: Vec<u8>,
+    bytes: Vec<u8>,
+    refused: bool,
 }
 
 impl Text {
     pub fn new(alloc: Global) -> Text {
         Text {
             bytes: Vec::new(alloc),
+            refused: false,
         }
     }
 
-    /// A script with the row configuration.
-    pub fn script(alloc: Global) -> Result<Text, Fail> {
-        Text::new(alloc).with(FIRST_LINES)
+    /// Adds this at the end.
+    pub fn add(&mut self, text: &str) {
+        if self.bytes.extend_from_slice(text.as_bytes()).is_err() {
+            self.refused = true;
+        }
     }
 
-    /// The same text with this behind it.
-    pub fn with(mut self, text: &str) -> Result<Text, Fail> {
-        self.bytes.extend_from_slice(text.as_bytes())?;
-        Ok(self)
-    }
-
-    /// The same text with this behind it, so many times.
-    pub fn times(mut self, text: &str, count: usize) -> Result<Text, Fail> {
+    /// Adds this so many times.
+    pub fn add_times(&mut self, text: &str, count: usize) {
         for _ in 0..count {
-            self.bytes.extend_from_slice(text.as_bytes())?;
+            self.add(text);
         }
-        Ok(self)
     }
 
-    /// Bytes in hexadecimal digits, with zero bytes behind them up to this count.
-    pub fn filled(self, digits: &str, count: usize) -> Result<Text, Fail> {
-        let zeros = count.saturating_sub(digits.len() / 2);
-        self.with(digits)?.times("00", zeros)
+    /// Adds fields of a message: the digits of each, and the count of bytes that they and the zero bytes behind
+    /// them make up.
+    pub fn add_fields(&mut self, fields: &[(&str, usize)]) {
+        for (digits, count) in fields {
+            self.add(digits);
+            self.add_times("00", count.saturating_sub(digits.len() / 2));
+        }
     }
 
-    /// A line with a COMMAND: its first four bytes, the expected length and the CDB.
-    pub fn command(self, head: &str, expected: &str, cdb: &str) -> Result<Text, Fail> {
-        self.with("host ")?
-            .filled(head, 12)?
-            .filled(expected, 4)?
-            .filled(cdb, 16)?
-            .with("\n")
-    }
-
-    /// The header of a message for data from offset 0 on: its first four bytes, the length of its data
-    /// segment and the count of bytes, each of the two in two bytes.
-    fn transfer(self, head: &str, segment: &str, count: &str) -> Result<Text, Fail> {
-        self.filled(head, 10)?
-            .filled(segment, 6)?
-            .with("0000")?
-            .filled(count, 14)
-    }
-
-    /// A line with a DATA OUT of one block of equal bytes.
-    pub fn data_out(self, head: &str, byte: &str) -> Result<Text, Fail> {
-        self.with("fill ")?
-            .transfer(head, "1000", "1000")?
-            .with(" ")?
-            .with(byte)?
-            .with(" 4096\n")
-    }
-
-    /// The line of a READY TO TRANSFER for one block.
-    pub fn ready(self, head: &str) -> Result<Text, Fail> {
-        self.with("reply ")?
-            .transfer(head, "0000", "1000")?
-            .with("\n")
-    }
-
-    /// The line of a DATA IN with equal bytes: their count, as two fields of the header have it.
-    pub fn data_in(self, head: &str, count: &str, byte: &str, bytes: usize) -> Result<Text, Fail> {
-        self.with("reply ")?
-            .transfer(head, count, count)?
-            .times(byte, bytes)?
-            .with("\n")
-    }
-
-    /// The line of a RESPONSE without sense data: its first four bytes and the residual.
-    pub fn response(self, head: &str, residual: &str) -> Result<Text, Fail> {
-        self.with("reply ")?
-            .filled(head, 12)?
-            .filled(residual, 20)?
-            .with("\n")
-    }
-
-    /// The line of a RESPONSE with CHECK CONDITION: its first four bytes, the residual, the sense key and
-    /// the additional sense code with its qualifier.
-    pub fn refusal(self, head: &str, residual: &str, key: &str, code: &str) -> Result<Text, Fail> {
-        self.with("reply ")?
-            .filled(head, 6)?
-            .filled("010200000014", 6)?
-            .filled(residual, 20)?
-            .filled("001270", 4)?
-            .filled(key, 5)?
-            .filled("0a", 5)?
-            .filled(code, 6)?
-            .with("\n")
+    /// The whole text.
+    pub fn bytes(&self, rt: &impl Abort) -> &[u8] {
+        assert!(rt; !self.refused, "memory was refused");
+        self.bytes.as_slice()
     }
 }
 
-/// Runs a script, and compares output, fault line and status.
-pub fn expect_run(
-    rt: &(impl Abort),
-    alloc: Global,
-    script: &[u8],
-    output: &[u8],
-    fault: &[u8],
-) -> Result<(), Fail> {
-    let mut out = Vec::new(alloc);
-    let mut faults = Vec::new(alloc);
-    let status = run_text(alloc, script, &mut out, &mut faults);
-    assert_eq!(rt; faults.as_slice(), fault);
-    assert_eq!(rt; out.as_slice(), output);
-    assert_eq!(rt; status, if fault.is_empty() { 0 } else { 1 });
-    Ok(())
+/// What the program wrote, and its status.
+#[derive(Drop)]
+pub struct Outcome {
+    out: Vec<u8>,
+    faults: Vec<u8>,
+    status: u8,
 }
 
-/// Runs a script without faults, and compares its output.
-pub fn expect(rt: &(impl Abort), alloc: Global, script: &Text, output: &Text) -> Result<(), Fail> {
-    expect_run(
-        rt,
-        alloc,
-        script.bytes.as_slice(),
-        output.bytes.as_slice(),
-        b"",
-    )
-}
+impl Outcome {
+    fn new(alloc: Global) -> Outcome {
+        Outcome {
+            out: Vec::new(alloc),
+            faults: Vec::new(alloc),
+            status: 0,
+        }
+    }
 
-/// A ready device refuses a command of this head, expected length and CDB by CHECK CONDITION: a RESPONSE with
-/// this head, sense key and additional code, and all that was expected as the residual.
-pub fn expect_refusal(
-    rt: &(impl Abort),
-    alloc: Global,
-    command: [&str; 3],
-    response: [&str; 3],
-) -> Result<(), Fail> {
-    let script = Text::script(alloc)?
-        .with("settle 4\n")?
-        .command(command[0], command[1], command[2])?
-        .with("reply\n")?;
-    let output = Text::new(alloc)
-        .with("settle 4\nhost ok\n")?
-        .refusal(response[0], command[1], response[1], response[2])?;
-    expect(rt, alloc, &script, &output)
+    /// That of a run of this script.
+    pub fn of_run(alloc: Global, script: &[u8]) -> Outcome {
+        let mut found = Outcome::new(alloc);
+        found.status = run_text(alloc, script, &mut found.out, &mut found.faults);
+        found
+    }
+
+    /// That of a check of this script.
+    pub fn of_check(alloc: Global, script: &[u8]) -> Outcome {
+        let mut found = Outcome::new(alloc);
+        found.status = check_text(alloc, script, &mut found.out, &mut found.faults);
+        found
+    }
+
+    /// That of a check of this script with these stops.
+    pub fn of_check_each(alloc: Global, script: &[u8], tries: Stops) -> Outcome {
+        let mut found = Outcome::new(alloc);
+        found.status = check_each_text(alloc, script, tries, &mut found.out, &mut found.faults);
+        found
+    }
+
+    /// It is this output and this fault line. The status is 0 if there is no fault, and else 1.
+    pub fn expect(&self, rt: &impl Abort, output: &[u8], fault: &[u8]) {
+        assert_eq!(rt; self.faults.as_slice(), fault);
+        assert_eq!(rt; self.out.as_slice(), output);
+        assert_eq!(rt; self.status, if fault.is_empty() { 0 } else { 1 });
+    }
 }

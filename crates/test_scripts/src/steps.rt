@@ -1,0 +1,237 @@
+//! Scripts with the output that is expected of them, as lists of steps.
+use crate::scripts::{Outcome, Text};
+use Step::{
+    Block, Command, DataIn, Good, Host, Lines, NopOut, Refusal, Reply, Response, Send, Settle,
+};
+use std::alloc::Global;
+use std::process::Abort;
+use ufsim::Stops;
+
+/// The first lines of a script with the row configuration: 4 dies of 16 blocks of 64 pages, units of
+/// 256, 64 and 64 blocks, one step of RPMB, 64 slots, 4 spare blocks.
+pub const FIRST_LINES: &str = "config 4 16 64 1 64 4\nunit 256 0 0\nunit 64 1 0\nunit 64 2 0\n";
+
+/// The task tags from 0 to 63.
+pub const TAGS: [&str; 64] = [
+    "00", "01", "02", "03", "04", "05", "06", "07", "08", "09", "0a", "0b", "0c", "0d", "0e", "0f",
+    "10", "11", "12", "13", "14", "15", "16", "17", "18", "19", "1a", "1b", "1c", "1d", "1e", "1f",
+    "20", "21", "22", "23", "24", "25", "26", "27", "28", "29", "2a", "2b", "2c", "2d", "2e", "2f",
+    "30", "31", "32", "33", "34", "35", "36", "37", "38", "39", "3a", "3b", "3c", "3d", "3e", "3f",
+];
+
+/// The offsets of the 32 blocks in the data of a command.
+pub const OFFSETS: [&str; 32] = [
+    "00000000", "00001000", "00002000", "00003000", "00004000", "00005000", "00006000", "00007000",
+    "00008000", "00009000", "0000a000", "0000b000", "0000c000", "0000d000", "0000e000", "0000f000",
+    "00010000", "00011000", "00012000", "00013000", "00014000", "00015000", "00016000", "00017000",
+    "00018000", "00019000", "0001a000", "0001b000", "0001c000", "0001d000", "0001e000", "0001f000",
+];
+
+/// Lines of a script with the lines that they print. Bytes of messages are spelled in hexadecimal digits,
+/// without the zero bytes behind them. The head of a message is what stands before its task tag: code, flags
+/// and LUN.
+#[derive(Clone, Copy)]
+pub enum Step<'a> {
+    /// Some lines, and what they print. The end of the last line is left out.
+    Lines(&'a str, &'a str),
+    /// The line `settle` with this count, which prints itself.
+    Settle(&'a str),
+    /// A message from the host, of so many bytes, and what it prints.
+    Host(&'a str, usize, &'a str),
+    /// A NOP OUT with this tag, which is taken.
+    NopOut(&'a str),
+    /// A COMMAND, which is taken: head, tag, expected length and CDB.
+    Command(&'a str, &'a str, &'a str, &'a str),
+    /// The data of the WRITE with this tag, so many blocks of one byte: the device asks for each of them by
+    /// READY TO TRANSFER, and gets it by DATA OUT.
+    Send(&'a str, &'a str, usize),
+    /// A message from the device: its header, and the data behind it.
+    Reply(&'a str, &'a str),
+    /// A DATA IN with this tag: one block of this byte, from offset 0 on.
+    Block(&'a str, &'a str),
+    /// A DATA IN of equal bytes: tag, offset, their count as the header has it, the byte, and their count.
+    DataIn(&'a str, &'a str, &'a str, &'a str, usize),
+    /// A RESPONSE with this tag: GOOD, without a residual.
+    Good(&'a str),
+    /// A RESPONSE without sense data: head, tag, response and status, residual.
+    Response(&'a str, &'a str, &'a str, &'a str),
+    /// A RESPONSE with CHECK CONDITION: head, tag, residual, sense key, additional sense code with its
+    /// qualifier.
+    Refusal(&'a str, &'a str, &'a str, &'a str, &'a str),
+}
+
+/// A script and the output that is expected of it.
+#[derive(Drop)]
+pub struct Script {
+    alloc: Global,
+    script: Text,
+    output: Text,
+}
+
+impl Script {
+    /// A script with the row configuration.
+    pub fn new(alloc: Global) -> Script {
+        Script::over(alloc, FIRST_LINES)
+    }
+
+    /// A script with these first lines.
+    pub fn over(alloc: Global, first_lines: &str) -> Script {
+        let mut script = Text::new(alloc);
+        script.add(first_lines);
+        Script {
+            alloc,
+            script,
+            output: Text::new(alloc),
+        }
+    }
+
+    /// Adds these steps at the end.
+    pub fn add(&mut self, steps: &[Step<'_>]) {
+        for step in steps {
+            self.add_step(*step);
+        }
+    }
+
+    fn add_step(&mut self, step: Step<'_>) {
+        match step {
+            Lines(lines, printed) => self.lines(lines, printed),
+            Settle(count) => self.settle(count),
+            Host(digits, count, printed) => self.host(&[(digits, count)], printed),
+            NopOut(tag) => self.host(&[("000000", 3), (tag, 29)], "host ok"),
+            Command(head, tag, expected, cdb) => self.host(
+                &[(head, 3), (tag, 9), (expected, 4), (cdb, 16)],
+                "host ok",
+            ),
+            Send(tag, byte, blocks) => self.send(tag, byte, blocks),
+            Reply(header, data) => self.reply(&[(header, 32), (data, 0)]),
+            Block(tag, byte) => self.data_in(tag, OFFSETS[0], "1000", byte, 4096),
+            DataIn(tag, offset, count, byte, bytes) => {
+                self.data_in(tag, offset, count, byte, bytes);
+            }
+            Good(tag) => self.reply(&[("210000", 3), (tag, 29)]),
+            Response(head, tag, status, residual) => {
+                self.reply(&[(head, 3), (tag, 3), (status, 6), (residual, 20)]);
+            }
+            Refusal(head, tag, residual, key, code) => {
+                self.refusal(head, tag, residual, key, code);
+            }
+        }
+    }
+
+    fn lines(&mut self, lines: &str, printed: &str) {
+        self.script.add(lines);
+        self.script.add("\n");
+        self.output.add(printed);
+        self.output.add("\n");
+    }
+
+    fn settle(&mut self, count: &str) {
+        self.script.add("settle ");
+        self.output.add("settle ");
+        self.lines(count, count);
+    }
+
+    fn host(&mut self, fields: &[(&str, usize)], printed: &str) {
+        self.script.add("host ");
+        self.script.add_fields(fields);
+        self.lines("", printed);
+    }
+
+    fn reply(&mut self, fields: &[(&str, usize)]) {
+        self.output.add("reply ");
+        self.output.add_fields(fields);
+        self.lines("reply", "");
+    }
+
+    fn send(&mut self, tag: &str, byte: &str, blocks: usize) {
+        for offset in OFFSETS.iter().take(blocks) {
+            self.ready(tag, offset);
+            self.data_out(tag, offset, byte);
+        }
+    }
+
+    // The device asks for one block.
+    fn ready<'b>(&mut self, tag: &'b str, offset: &'b str) {
+        self.reply(&[("310000", 3), (tag, 9), (offset, 4), ("00001000", 16)]);
+    }
+
+    // It gets that block.
+    fn data_out<'b>(&mut self, tag: &'b str, offset: &'b str, byte: &str) {
+        self.script.add("fill ");
+        self.script.add_fields(&[
+            ("020000", 3),
+            (tag, 7),
+            ("1000", 2),
+            (offset, 4),
+            ("00001000", 16),
+        ]);
+        self.script.add(" ");
+        self.script.add(byte);
+        self.lines(" 4096", "host ok");
+    }
+
+    fn data_in<'b>(
+        &mut self,
+        tag: &'b str,
+        offset: &'b str,
+        count: &'b str,
+        byte: &str,
+        bytes: usize,
+    ) {
+        self.output.add("reply ");
+        self.output.add_fields(&[
+            ("220000", 3),
+            (tag, 7),
+            (count, 2),
+            (offset, 4),
+            ("", 2),
+            (count, 14),
+        ]);
+        self.output.add_times(byte, bytes);
+        self.lines("reply", "");
+    }
+
+    // Response 01h and status 02h, and 20 bytes of data: the length of the sense data, which are 18 bytes of
+    // response code 70h.
+    fn refusal<'b>(
+        &mut self,
+        head: &'b str,
+        tag: &'b str,
+        residual: &'b str,
+        key: &'b str,
+        code: &'b str,
+    ) {
+        self.reply(&[
+            (head, 3),
+            (tag, 3),
+            ("010200000014", 6),
+            (residual, 20),
+            ("001270", 4),
+            (key, 5),
+            ("0a", 5),
+            (code, 6),
+        ]);
+    }
+
+    /// The script prints what is expected, and no fault.
+    pub fn run(&self, rt: &impl Abort) {
+        Outcome::of_run(self.alloc, self.script.bytes(rt)).expect(rt, self.output.bytes(rt), b"");
+    }
+
+    /// A check of the script says this.
+    pub fn check(&self, rt: &impl Abort, said: &[u8]) {
+        Outcome::of_check(self.alloc, self.script.bytes(rt)).expect(rt, said, b"");
+    }
+
+    /// A check of the script with these stops says this.
+    pub fn check_each(&self, rt: &impl Abort, tries: Stops, said: &[u8]) {
+        Outcome::of_check_each(self.alloc, self.script.bytes(rt), tries).expect(rt, said, b"");
+    }
+}
+
+/// A script of these steps, with the row configuration, prints what is expected.
+pub fn expect(rt: &impl Abort, alloc: Global, steps: &[Step<'_>]) {
+    let mut script = Script::new(alloc);
+    script.add(steps);
+    script.run(rt);
+}
