@@ -8,6 +8,8 @@ mod crates_once;
 #[cfg(test)]
 mod faulty_die;
 #[cfg(test)]
+mod frames;
+#[cfg(test)]
 mod journals;
 #[cfg(test)]
 mod macs;
