@@ -1,22 +1,21 @@
 //! The device and its world at work where scripts do not lead: failed jobs, bad blocks, worlds that end,
-//! openings by several threads, and a device among threads: hosts, lanes and a keeper.
+//! dies as stops leave them, and openings by several threads.
 //! Expected bytes come from the device's formats and from the standards, never from its own output.
+//!
+//! A device has many parts, and a function that lets one go is proved for each of them. So a test hands the device
+//! that it is done with to `drop`, which is proved once.
 #![tactic(auto)]
 
 #[cfg(test)]
+mod answers;
+#[cfg(test)]
 mod collections;
+#[cfg(test)]
+mod dies;
 #[cfg(test)]
 mod erases;
 #[cfg(test)]
-mod example;
-#[cfg(test)]
 mod failures;
-#[cfg(test)]
-mod flags;
-#[cfg(test)]
-mod gate_die;
-#[cfg(test)]
-mod hosts;
 #[cfg(test)]
 mod leftovers;
 #[cfg(test)]
@@ -27,13 +26,5 @@ mod mendings;
 mod openings;
 #[cfg(test)]
 mod players;
-#[cfg(test)]
-mod scans_beside;
-#[cfg(test)]
-mod sharing;
-#[cfg(test)]
-mod steps;
-#[cfg(test)]
-mod threads;
 #[cfg(test)]
 mod worlds;

@@ -1,10 +1,9 @@
-//! A world at work, one of whose jobs may fail.
+//! A world over small dies at work, one of whose jobs may fail.
+use crate::dies::small;
 use device::World;
-use geometry::Config;
 use nand_model::{Die, MemDie};
 use std::alloc::Global;
 use std::process::Abort;
-use std::test::Fail;
 use ufs_spec::{Event, Job, Leftover, Output, Page, Place, Upiu};
 use workbench::collected::{Left, blank, torn};
 use workbench::messages::{FUA, READ, WRITE, block_out, command, good, is_block};
@@ -31,16 +30,15 @@ pub fn page_of(rt: &impl Abort, dies: &[MemDie], place: Place) -> Page {
 }
 
 impl Player {
-    /// A world over these dies, in which this job fails and leaves this; none fails at 0.
+    /// A world over these small dies, in which this job fails and leaves this; none fails at 0.
     pub fn new(
         rt: &impl Abort,
         alloc: Global,
-        config: Config,
         dies: Vec<MemDie>,
         failing: u32,
         left: Left,
     ) -> Player {
-        let Ok(world) = World::new(alloc, config, dies) else {
+        let Ok(world) = World::new(alloc, small(rt), dies) else {
             panic!(rt; "the dies fit");
         };
         Player {
@@ -63,11 +61,10 @@ impl Player {
     }
 
     /// Hands the device a message that it takes.
-    pub fn send(&mut self, rt: &impl Abort, message: &[u8]) -> Result<(), Fail> {
-        let event = Event::Host(Vec::from_slice(self.alloc, message)?);
-        let output = self.step(rt, &event);
+    pub fn send(&mut self, rt: &impl Abort, message: &[u8]) {
+        let message = Vec::from_slice(self.alloc, message).expect(rt, "memory");
+        let output = self.step(rt, &Event::Host(message));
         assert!(rt; matches!(output, Output::Host(Ok(()))));
-        Ok(())
     }
 
     /// The reply that is due, if one is.
@@ -90,33 +87,34 @@ impl Player {
     }
 
     /// One job of the die, which fails if its number says so.
-    pub fn work(&mut self, rt: &impl Abort, die: u8) -> Result<(), Fail> {
-        let Some(job) = self.take(rt, die) else {
-            return Ok(());
-        };
-        let mut end = Event::Finish(die);
-        if self.jobs == self.failing {
-            let is_read = matches!(job, Job::Read(_));
-            self.has_failed_read = is_read;
-            self.is_locked = !is_read;
-            end = Event::Fail(die, self.left_of(rt, &job)?);
+    pub fn work(&mut self, rt: &impl Abort, die: u8) {
+        if let Some(job) = self.take(rt, die) {
+            let end = self.end_of(rt, die, &job);
+            let output = self.step(rt, &end);
+            assert!(rt; matches!(output, Output::Ended));
         }
-        let output = self.step(rt, &end);
-        assert!(rt; matches!(output, Output::Ended));
-        Ok(())
+    }
+
+    /// The end of the job that was given out last.
+    fn end_of(&mut self, rt: &impl Abort, die: u8, job: &Job) -> Event {
+        if self.jobs != self.failing {
+            return Event::Finish(die);
+        }
+        self.has_failed_read = matches!(job, Job::Read(_));
+        self.is_locked = !self.has_failed_read;
+        Event::Fail(die, self.left_of(rt, job))
     }
 
     /// What the job leaves where it fails: of a read nothing.
-    fn left_of(&self, rt: &impl Abort, job: &Job) -> Result<Option<Leftover>, Fail> {
+    fn left_of(&self, rt: &impl Abort, job: &Job) -> Option<Leftover> {
         match job {
-            Job::Read(_) => Ok(None),
+            Job::Read(_) => None,
             Job::Program(place, page) => {
                 let page = self.page_left(rt, *place, *page, self.left);
-                Ok(Some(Leftover::Page(*place, page)))
+                Some(Leftover::Page(*place, page))
             }
             Job::Erase { die, block } => {
-                let left = self.block_left(rt, *die, *block, 16, (self.left, self.left))?;
-                Ok(Some(left))
+                Some(self.block_left(rt, *die, *block, 16, (self.left, self.left)))
             }
         }
     }
@@ -129,13 +127,14 @@ impl Player {
         block: u16,
         odd: u16,
         lefts: (Left, Left),
-    ) -> Result<Leftover, Fail> {
+    ) -> Leftover {
         let mut pages = Vec::new(self.alloc);
         for page in 0..16u16 {
             let left = if page == odd { lefts.0 } else { lefts.1 };
-            pages.push(self.page_left(rt, Place { die, block, page }, blank(), left))?;
+            let page = self.page_left(rt, Place { die, block, page }, blank(), left);
+            pages.push(page).expect(rt, "memory");
         }
-        Ok(Leftover::Block { die, block, pages })
+        Leftover::Block { die, block, pages }
     }
 
     /// What is left of one page that was to hold this.
@@ -147,43 +146,54 @@ impl Player {
         }
     }
 
+    /// A stop, of which the jobs in flight leave this.
+    pub fn stop(&mut self, rt: &impl Abort, lefts: Vec<Leftover>) {
+        let output = self.step(rt, &Event::Stop(lefts));
+        assert!(rt; matches!(output, Output::Stopped));
+    }
+
+    /// A stop with one job in flight, which leaves this.
+    pub fn stop_leaving(&mut self, rt: &impl Abort, left: Leftover) {
+        let lefts = Vec::from_array(self.alloc, [left]).expect(rt, "memory");
+        self.stop(rt, lefts);
+    }
+
     /// Rounds of a turn and of one job of each of the first `dies` dies.
-    pub fn settle(&mut self, rt: &impl Abort, rounds: u8, dies: u8) -> Result<(), Fail> {
+    pub fn settle(&mut self, rt: &impl Abort, rounds: u8, dies: u8) {
         for _ in 0..rounds {
             self.step(rt, &Event::Turn);
             for die in 0..dies {
-                self.work(rt, die)?;
+                self.work(rt, die);
             }
         }
-        Ok(())
     }
 
     /// The next reply, after as much work of the four dies from this one on as it needs.
-    pub fn hear(&mut self, rt: &impl Abort, first: u8) -> Result<Upiu, Fail> {
+    pub fn hear(&mut self, rt: &impl Abort, first: u8) -> Upiu {
         for turn in 0..12u8 {
             if let Some(reply) = self.reply(rt) {
-                return Ok(reply);
+                return reply;
             }
-            self.work(rt, (first % 4 + turn) % 4)?;
+            self.work(rt, (first % 4 + turn) % 4);
         }
         panic!(rt; "a reply is due");
     }
 
     /// A FUA write of one block of equal bytes at this address of unit 0, task tag 07: its
     /// RESPONSE.
-    pub fn write(&mut self, rt: &impl Abort, address: u8, byte: u8) -> Result<Upiu, Fail> {
-        self.send(rt, &command(7, WRITE, FUA, u32::from(address), 1))?;
-        let asked = self.hear(rt, address)?;
+    pub fn write(&mut self, rt: &impl Abort, address: u8, byte: u8) -> Upiu {
+        self.send(rt, &command(7, WRITE, FUA, u32::from(address), 1));
+        let asked = self.hear(rt, address);
         if asked.first().copied() != Some(0x31) {
-            return Ok(asked);
+            return asked;
         }
-        self.send(rt, &block_out(7, 0, byte))?;
+        self.send(rt, &block_out(7, 0, byte));
         self.hear(rt, address)
     }
 
     /// A READ of that block, task tag 08: its first reply.
-    pub fn read(&mut self, rt: &impl Abort, address: u8) -> Result<Upiu, Fail> {
-        self.send(rt, &command(8, READ, 0, u32::from(address), 1))?;
+    pub fn read(&mut self, rt: &impl Abort, address: u8) -> Upiu {
+        self.send(rt, &command(8, READ, 0, u32::from(address), 1));
         self.hear(rt, address)
     }
 

@@ -1,10 +1,10 @@
 //! A job of one die takes as long as the other die needs for all that a host writes, and a stop comes then.
+use crate::collections::power_off;
 use geometry::Config;
 use nand_model::MemDie;
 use std::alloc::Global;
 use std::process::Abort;
-use std::test::Fail;
-use ufs_spec::{ConfigFault, Job, Page, Place, UnitSpec};
+use ufs_spec::{Job, Page, Place, UnitSpec};
 use workbench::collected::{Left, torn};
 use workbench::messages::{READ, WRITE, block_out, command, good, is_block, ready};
 use workbench::{Workbench, new_dies};
@@ -23,13 +23,13 @@ const PAGES: u16 = 16;
 const TEST_UNIT_READY: u8 = 0;
 
 /// Two dies, room in the cache for all of the WRITEs, and nearly the greatest unit.
-fn config() -> Result<Config, ConfigFault> {
+fn config(rt: &impl Abort) -> Config {
     let units = [UnitSpec {
         blocks: u32::from(WRITTEN),
         boot: 0,
         protect: 0,
     }];
-    Config::new(2, BLOCKS, PAGES, &units, 1, WRITTEN, 0)
+    Config::new(2, BLOCKS, PAGES, &units, 1, WRITTEN, 0).expect(rt, "a configuration")
 }
 
 /// A WRITE without FUA of 32 blocks of equal bytes: whether it is answered GOOD.
@@ -134,21 +134,27 @@ fn count_there(bench: &mut Workbench, newer: u8, older: u8) -> Option<u32> {
     }
 }
 
-/// A mended device whose blocks were written four times, so that it collects; `None` where it does not
-/// come about.
-fn written(alloc: Global) -> Result<Option<Workbench>, Fail> {
-    let dies = new_dies(alloc, 2, BLOCKS, PAGES)?;
-    let mut bench = Workbench::new(alloc, config()?, dies)?;
-    if !is_mended(&mut bench) {
-        return Ok(None);
-    }
+/// A mended device over these dies.
+fn mended(rt: &impl Abort, alloc: Global, dies: Vec<MemDie>) -> Workbench {
+    let mut bench = Workbench::new(alloc, config(rt), dies).expect(rt, "the dies are opened");
+    assert!(rt; is_mended(&mut bench));
+    bench
+}
+
+/// All of the WRITEs are answered GOOD, and then programmed.
+fn write_all(rt: &impl Abort, bench: &mut Workbench, first: u8) {
+    assert!(rt; write_from(bench, 0, first));
+    work_on(bench);
+}
+
+/// A mended device whose blocks were written four times, so that it collects.
+fn written(rt: &impl Abort, alloc: Global) -> Workbench {
+    let dies = new_dies(alloc, 2, BLOCKS, PAGES).expect(rt, "memory");
+    let mut bench = mended(rt, alloc, dies);
     for times in 0..4u8 {
-        if !write_from(&mut bench, 0, times) {
-            return Ok(None);
-        }
-        work_on(&mut bench);
+        write_all(rt, &mut bench, times);
     }
-    Ok(Some(bench))
+    bench
 }
 
 /// The program that die 0 is given, after the erase that it may need: it stays in flight.
@@ -179,46 +185,43 @@ fn leave(dies: &mut [MemDie], place: Place, page: &Page, left: Left) {
 }
 
 /// Of the first of the WRITEs die 0 has a page in flight all the time, and die 1 does all that it is given; then a
-/// stop leaves that page so. The device is mended, and takes WRITEs again. It has none of those before if the
-/// page is not whole, since that of the first is missing, and else the first so many of them.
-fn stop_beside_a_held_die(rt: &impl Abort, alloc: Global, left: Left) -> Result<(), Fail> {
-    let Some(mut bench) = written(alloc)? else {
-        panic!(rt; "the device is written");
-    };
+/// stop leaves that page so. The dies after it.
+fn stopped_beside_a_held_die(rt: &impl Abort, mut bench: Workbench, left: Left) -> Vec<MemDie> {
     assert!(rt; write_32(&mut bench, 0, byte_of(0x80, 0)));
-    let Some((place, page)) = held_program(&mut bench) else {
-        panic!(rt; "die 0 is given a program");
-    };
+    let (place, page) = held_program(&mut bench).expect(rt, "die 0 is given a program");
     assert!(rt; write_from(&mut bench, 1, 0x80));
     work_on(&mut bench);
-    let mut dies = bench.dies;
+    let mut dies = power_off(bench);
     leave(dies.as_mut_slice(), place, &page, left);
-    let mut bench = Workbench::new(alloc, config()?, dies)?;
-    assert!(rt; is_mended(&mut bench));
-    let Some(count) = count_there(&mut bench, 0x80, 3) else {
-        panic!(rt; "the first so many WRITEs are there");
-    };
+    dies
+}
+
+/// The device is mended after that stop, and takes WRITEs again. It has none of those before if the page is not
+/// whole, since that of the first is missing, and else the first so many of them.
+fn stop_beside_a_held_die(rt: &impl Abort, alloc: Global, left: Left) {
+    let dies = stopped_beside_a_held_die(rt, written(rt, alloc), left);
+    let mut bench = mended(rt, alloc, dies);
+    let count = count_there(&mut bench, 0x80, 3).expect(rt, "the first so many WRITEs are there");
     assert!(rt; (count > 0) == (left == Left::New));
-    assert!(rt; write_from(&mut bench, 0, 0xC0));
-    work_on(&mut bench);
+    write_all(rt, &mut bench, 0xC0);
     assert!(rt; reads_all(&mut bench, 0xC0));
-    Ok(())
+    drop(bench);
 }
 
 /// Sixteen WRITEs of 32 blocks while die 0 holds a page of the first, which the stop leaves old.
 #[test]
-fn a_held_page_is_left_old(rt: HostRuntime) -> Result<(), Fail> {
-    stop_beside_a_held_die(&rt, rt.alloc(), Left::Old)
+fn a_held_page_is_left_old(rt: HostRuntime) {
+    stop_beside_a_held_die(&rt, rt.alloc(), Left::Old);
 }
 
 /// The stop tears the page.
 #[test]
-fn a_held_page_is_torn(rt: HostRuntime) -> Result<(), Fail> {
-    stop_beside_a_held_die(&rt, rt.alloc(), Left::Torn)
+fn a_held_page_is_torn(rt: HostRuntime) {
+    stop_beside_a_held_die(&rt, rt.alloc(), Left::Torn);
 }
 
 /// The page is whole.
 #[test]
-fn a_held_page_is_left_whole(rt: HostRuntime) -> Result<(), Fail> {
-    stop_beside_a_held_die(&rt, rt.alloc(), Left::New)
+fn a_held_page_is_left_whole(rt: HostRuntime) {
+    stop_beside_a_held_die(&rt, rt.alloc(), Left::New);
 }

@@ -1,5 +1,5 @@
 //! Rows of many writes, over dies of 4,096 pages: too long to be tried without LLVM. Short ones like them
-//! stand in `test_device` and `test_scripts`.
+//! stand in `test_device` and `test_scripts`. A test hands the device that it is done with to `drop`, as those do.
 #![tactic(auto)]
 
 #[cfg(test)]

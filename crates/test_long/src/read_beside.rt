@@ -1,16 +1,14 @@
 //! A READ whose blocks are overwritten while the device collects blocks.
-use std::test::Fail;
+use crate::collections::{opened, row_dies};
 use workbench::collected::reads_beside_collection;
-use workbench::{Workbench, new_dies, row_config};
 
 /// A READ of 32 blocks gives all of them as they were at its COMMAND, though they are overwritten after
 /// each DATA IN. The dies have 4,096 pages, and 143 times 32 are written here without those of marks and
 /// copies, so that blocks are collected on the way; those of the READ are not erased before it lets go.
 #[test]
-fn read_beside_collection(rt: HostRuntime) -> Result<(), Fail> {
-    let alloc = rt.alloc();
-    let mut bench = Workbench::new(alloc, row_config()?, new_dies(alloc, 4, 16, 64)?)?;
+fn read_beside_collection(rt: HostRuntime) {
+    let mut bench = opened(&rt, rt.alloc(), row_dies(&rt, rt.alloc()));
     bench.settle(4, 4);
     assert!(rt; reads_beside_collection(&mut bench, 110));
-    Ok(())
+    drop(bench);
 }

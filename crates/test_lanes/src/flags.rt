@@ -4,14 +4,13 @@ ghost use Rattle.std.specs.Prelude.{◌≡◌, None};
 ghost use Rattle.std.specs.Thread.{IsSync};
 
 use crate::example::{DATA_IN, HAS_READ, IS_READY, READ, WRITTEN, asks, with_block};
-use crate::sharing::{last_lane, last_port, shared_over};
+use crate::sharing::{Crew, crew_over, two_dies};
 use crate::steps::{hears, one_job, sends, settle, writes};
-use crate::threads::two_dies;
-use lanes::{Keeper, Lane, Port, Shared, Tried};
+use lanes::{Keeper, Lane, Port, Tried};
 use nand_model::MemDie;
+use std::process::Abort;
 use std::sync::Wait;
 use std::sync::atomic::{AtomicBool, Ordering};
-use std::test::*;
 use std::thread;
 use std::thread::Threads;
 use ufs_spec::{Job, Upiu};
@@ -222,84 +221,65 @@ fn port_receives<R: Threads + Wait + Sync>(
 
 /// The jobs of a lane in its loop make a device ready.
 #[test]
-fn a_lane_serves_until_its_flag_is_set(rt: HostRuntime) -> Result<(), Fail> {
-    let alloc = rt.alloc();
-    let Shared {
-        mut ports,
-        mut lanes,
-        mut keeper,
-    } = shared_over(alloc, two_dies(alloc)?, 1)?;
-    let (Some(mut lane), Some(mut port)) = (last_lane(&mut lanes), ports.pop()) else {
-        panic!(rt; "the callers")
-    };
-    assert!(rt; lane_serves(&rt, &mut lane, &mut keeper, &mut port));
-    Ok(())
+fn a_lane_serves_until_its_flag_is_set(rt: HostRuntime) {
+    let mut crew = crew_over(&rt, rt.alloc(), two_dies(&rt, rt.alloc()));
+    assert!(rt; lane_serves(&rt, &mut crew.first, &mut crew.keeper, &mut crew.port));
+    drop(crew);
 }
 
 /// The replies to a READ are received, though its block comes late; then none is due.
 #[test]
-fn a_port_receives_until_its_flag_is_set(rt: HostRuntime) -> Result<(), Fail> {
-    let alloc = rt.alloc();
-    let Shared {
-        mut ports,
-        mut lanes,
-        mut keeper,
-    } = shared_over(alloc, two_dies(alloc)?, 1)?;
-    let (Some(mut other), Some(mut one), Some(mut port)) = (
-        last_lane(&mut lanes),
-        last_lane(&mut lanes),
-        last_port(&mut ports, &keeper),
-    ) else {
-        panic!(rt; "the callers")
-    };
-    settle(&rt, &mut keeper, &mut one, &mut other);
-    assert!(rt; writes(&mut port, 0));
-    settle(&rt, &mut keeper, &mut one, &mut other);
-    assert!(rt; hears(&mut port, &WRITTEN) && sends(&mut port, &READ));
-    assert!(rt; port_receives(&rt, &mut port, &mut one));
-    Ok(())
+fn a_port_receives_until_its_flag_is_set(rt: HostRuntime) {
+    let mut crew = crew_over(&rt, rt.alloc(), two_dies(&rt, rt.alloc()));
+    settle(&rt, &mut crew);
+    assert!(rt; writes(&mut crew.port, 0));
+    settle(&rt, &mut crew);
+    assert!(rt; hears(&mut crew.port, &WRITTEN) && sends(&mut crew.port, &READ));
+    assert!(rt; port_receives(&rt, &mut crew.port, &mut crew.second));
+    drop(crew);
 }
 
 /// The turns of a keeper in its loop make a device ready.
 #[test]
-fn a_keeper_serves_until_its_flag_is_set(rt: HostRuntime) -> Result<(), Fail> {
-    let alloc = rt.alloc();
-    let Shared {
-        mut ports,
-        mut lanes,
-        mut keeper,
-    } = shared_over(alloc, two_dies(alloc)?, 1)?;
-    let (Some(mut lane), Some(mut port)) = (last_lane(&mut lanes), ports.pop()) else {
-        panic!(rt; "the callers")
-    };
-    assert!(rt; keeper_serves(&rt, &mut keeper, &mut lane, &mut port));
-    Ok(())
+fn a_keeper_serves_until_its_flag_is_set(rt: HostRuntime) {
+    let mut crew = crew_over(&rt, rt.alloc(), two_dies(&rt, rt.alloc()));
+    assert!(rt; keeper_serves(&rt, &mut crew.keeper, &mut crew.first, &mut crew.port));
+    drop(crew);
 }
 
-/// While the flag is set no loop does anything: the keeper's step stays due, and then the lane's job; a message is
-/// not sent, and a reply that is due is not received. Without the flag they are.
-#[test]
-fn a_set_flag_ends_each_loop_at_once(rt: HostRuntime) -> Result<(), Fail> {
-    let alloc = rt.alloc();
-    let Shared {
-        mut ports,
-        mut lanes,
-        mut keeper,
-    } = shared_over(alloc, two_dies(alloc)?, 1)?;
-    let (Some(mut lane), Some(mut port)) = (last_lane(&mut lanes), ports.pop()) else {
-        panic!(rt; "the callers")
-    };
-    let stop = AtomicBool::new(true);
+/// The loops of the keeper and of a lane do nothing: its step stays due, and then the lane's job.
+fn expect_due<R: Abort + Wait>(rt: &R, crew: &mut Crew<MemDie>, stop: &AtomicBool)
+    requires { crew.old.first.ended ≡ None }
+{
+    crew.keeper.serve(rt, stop);
+    assert!(rt; matches!(crew.keeper.try_turn(), Tried::Did(true)));
+    crew.first.serve(rt, stop);
+    assert!(rt; matches!(crew.first.try_take(), Tried::Did(Some(Job::Erase { .. }))));
+}
+
+/// A port does not send a message, and does not receive a reply that is due.
+fn expect_unheard<R: Abort + Wait>(rt: &R, port: &mut Port<MemDie>, stop: &AtomicBool) {
     let mut heard = Upiu::new();
-    keeper.serve(&rt, &stop);
-    assert!(rt; matches!(keeper.try_turn(), Tried::Did(true)));
-    lane.serve(&rt, &stop);
-    assert!(rt; matches!(lane.try_take(), Tried::Did(Some(Job::Erase { .. }))));
-    assert!(rt; port.send(&rt, &IS_READY, &stop).is_none());
+    assert!(rt; port.send(rt, &IS_READY, stop).is_none());
     assert!(rt; matches!(port.try_reply(&mut heard), Tried::Did(false)));
-    assert!(rt; sends(&mut port, &IS_READY) && !port.receive(&rt, &mut heard, &stop));
+    assert!(rt; sends(port, &IS_READY) && !port.receive(rt, &mut heard, stop));
+}
+
+/// It receives the reply, and sends a message.
+fn expect_heard<R: Abort + Wait>(rt: &R, port: &mut Port<MemDie>, stop: &AtomicBool) {
+    let mut heard = Upiu::new();
+    assert!(rt; port.receive(rt, &mut heard, stop) && heard.len() == 52);
+    assert!(rt; matches!(port.send(rt, &IS_READY, stop), Some(Ok(()))));
+}
+
+/// While the flag is set no loop does anything. Without the flag a message is sent, and the reply received.
+#[test]
+fn a_set_flag_ends_each_loop_at_once(rt: HostRuntime) {
+    let mut crew = crew_over(&rt, rt.alloc(), two_dies(&rt, rt.alloc()));
+    let stop = AtomicBool::new(true);
+    expect_due(&rt, &mut crew, &stop);
+    expect_unheard(&rt, &mut crew.port, &stop);
     stop.store(false, Ordering::SeqCst);
-    assert!(rt; port.receive(&rt, &mut heard, &stop) && heard.len() == 52);
-    assert!(rt; matches!(port.send(&rt, &IS_READY, &stop), Some(Ok(()))));
-    Ok(())
+    expect_heard(&rt, &mut crew.port, &stop);
+    drop(crew);
 }

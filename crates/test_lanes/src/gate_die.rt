@@ -1,13 +1,13 @@
 //! A die in memory that waits at a gate: with its programs while the gate is shut, and with its reads until
 //! another die is read too.
-ghost use Rattle.std.specs.Prelude.{◌≡◌, ◌<◌, ◌≤◌, IfOk, OnOk, OnErr, map, replicate};
+ghost use Rattle.std.specs.Prelude.{◌≡◌, ◌<◌, ◌≤◌, OnOk, OnErr, map, replicate};
 ghost use Rattle.ufs_spec.specs.Dies.{DieState, new_die};
 
 use nand_model::{Die, DieFault, MemDie};
 use std::alloc::Global;
+use std::process::Abort;
 use std::sync::Arc;
 use std::sync::atomic::{AtomicBool, Ordering};
-use std::test::*;
 use std::thread;
 use ufs_spec::Page;
 
@@ -24,14 +24,15 @@ pub(crate) struct Gate {
 
 impl Gate {
     /// An open gate.
-    pub(crate) fn new() -> Gate {
-        Gate {
+    pub(crate) fn new(rt: &impl Abort, alloc: Global) -> Arc<Gate, Global> {
+        let gate = Gate {
             is_shut: AtomicBool::new(false),
             has_run_out: AtomicBool::new(false),
             has_reads_meet: AtomicBool::new(false),
             first_is_read: AtomicBool::new(false),
             second_is_read: AtomicBool::new(false),
-        }
+        };
+        Arc::new(alloc, gate).expect(rt, "memory")
     }
 
     /// Waits until the gate is open, but no longer than a million turns.
@@ -116,22 +117,26 @@ impl Die for GateDie {
 }
 
 /// A new die of 16 blocks of 64 pages, at this gate.
-fn gate_die(alloc: Global, gate: &Arc<Gate, Global>, is_first: bool) -> Result<GateDie, Fail>
-    ensures { IfOk result (λ d. d.die ≡ new_die 16 64) }
+fn gate_die(rt: &impl Abort, alloc: Global, gate: &Arc<Gate, Global>, is_first: bool) -> GateDie
+    ensures { result.die ≡ new_die 16 64 }
 {
-    Ok(GateDie {
-        die: MemDie::new(alloc, 16, 64)?,
-        gate: Arc::try_clone(gate)?,
+    GateDie {
+        die: MemDie::new(alloc, 16, 64).expect(rt, "memory"),
+        gate: Arc::try_clone(gate).expect(rt, "memory"),
         is_first,
-    })
+    }
 }
 
 /// Two of them.
-pub(crate) fn two_gate_dies(alloc: Global, gate: &Arc<Gate, Global>) -> Result<Vec<GateDie>, Fail>
-    ensures { IfOk result (λ v. map (λ d. d.die) v.items ≡ replicate 2 (new_die 16 64)) }
+pub(crate) fn two_gate_dies(
+    rt: &impl Abort,
+    alloc: Global,
+    gate: &Arc<Gate, Global>,
+) -> Vec<GateDie>
+    ensures { map (λ d. d.die) result.items ≡ replicate 2 (new_die 16 64) }
 {
-    let mut dies = Vec::with_capacity(alloc, 2)?;
-    dies.push_reserved(gate_die(alloc, gate, true)?);
-    dies.push_reserved(gate_die(alloc, gate, false)?);
-    Ok(dies)
+    let mut dies = Vec::with_capacity(alloc, 2).expect(rt, "memory");
+    dies.push_reserved(gate_die(rt, alloc, gate, true));
+    dies.push_reserved(gate_die(rt, alloc, gate, false));
+    dies
 }

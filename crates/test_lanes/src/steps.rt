@@ -1,18 +1,16 @@
 //! What two hosts and two dies do step by step: two ports that meet, and a die whose job takes long.
-ghost use Rattle.std.specs.Prelude.{◌≡◌, None, Some, true};
+ghost use Rattle.std.specs.Prelude.{◌≡◌, None, Some};
 ghost use Rattle.std.specs.Thread.{IsSync};
 ghost use Rattle.lanes.specs.Callers.{job_of};
 
 use crate::example::{ASKED, DATA_IN, DATA_OUT, HAS_READ, READ, WRITE, WRITTEN, with_block};
 use crate::gate_die::{Gate, GateDie, two_gate_dies};
-use crate::sharing::{last_lane, last_port, shared_over};
-use crate::threads::two_dies;
-use lanes::{Keeper, Lane, Port, Shared, Tried, meet};
+use crate::sharing::{Crew, crew_of, crew_over, last_port, shared_over, two_dies};
+use lanes::{Lane, Port, Tried, meet};
 use nand_model::Die;
-use std::alloc::Global;
+use std::process::Abort;
+use std::sync::Wait;
 use std::sync::atomic::{AtomicBool, Ordering};
-use std::sync::{Arc, Wait};
-use std::test::*;
 use std::thread;
 use std::thread::Threads;
 use ufs_spec::{Job, Upiu};
@@ -28,20 +26,15 @@ pub(crate) fn one_job<R: Wait, D: Die>(rt: &R, lane: &mut Lane<D>)
 }
 
 /// The keeper's steps and both dies' jobs, in sixteen rounds.
-pub(crate) fn settle<R: Wait, D: Die>(
-    rt: &R,
-    keeper: &mut Keeper<D>,
-    one: &mut Lane<D>,
-    other: &mut Lane<D>,
-)
-    requires { (one.old.ended ≡ None) × (other.old.ended ≡ None) }
-    ensures lanes { (one.new.ended ≡ None) × (other.new.ended ≡ None) }
-    ensures table { keeper.new.table ≡ keeper.old.table }
+pub(crate) fn settle<R: Wait, D: Die>(rt: &R, crew: &mut Crew<D>)
+    requires { (crew.old.first.ended ≡ None) × (crew.old.second.ended ≡ None) }
+    ensures lanes { (crew.new.first.ended ≡ None) × (crew.new.second.ended ≡ None) }
+    ensures port { crew.new.port ≡ crew.old.port }
 {
     for _ in 0..16u8 {
-        keeper.try_turn();
-        one_job(rt, one);
-        one_job(rt, other);
+        crew.keeper.try_turn();
+        one_job(rt, &mut crew.second);
+        one_job(rt, &mut crew.first);
     }
 }
 
@@ -76,31 +69,19 @@ pub(crate) fn writes<D: Die>(port: &mut Port<D>, address: u8) -> bool
 
 /// One host has a block written; they meet, and the other host reads it.
 #[test]
-fn a_port_reads_what_another_wrote(rt: HostRuntime) -> Result<(), Fail> {
-    let alloc = rt.alloc();
-    let Shared {
-        mut ports,
-        mut lanes,
-        mut keeper,
-    } = shared_over(alloc, two_dies(alloc)?, 2)?;
-    let (Some(mut other), Some(mut one), Some(mut reader), Some(mut writer)) = (
-        last_lane(&mut lanes),
-        last_lane(&mut lanes),
-        last_port(&mut ports, &keeper),
-        last_port(&mut ports, &keeper),
-    ) else {
-        panic!(rt; "the callers")
-    };
-    settle(&rt, &mut keeper, &mut one, &mut other);
-    assert!(rt; writes(&mut writer, 3));
-    settle(&rt, &mut keeper, &mut one, &mut other);
-    assert!(rt; hears(&mut writer, &WRITTEN));
-    meet(&mut writer, &mut reader);
+fn a_port_reads_what_another_wrote(rt: HostRuntime) {
+    let mut shared = shared_over(&rt, rt.alloc(), two_dies(&rt, rt.alloc()), 2);
+    let mut reader = last_port(&rt, &mut shared.ports, &shared.keeper);
+    let mut crew = crew_of(&rt, shared);
+    settle(&rt, &mut crew);
+    assert!(rt; writes(&mut crew.port, 3));
+    settle(&rt, &mut crew);
+    assert!(rt; hears(&mut crew.port, &WRITTEN));
+    meet(&mut crew.port, &mut reader);
     assert!(rt; sends(&mut reader, &at(&READ, 3)));
-    settle(&rt, &mut keeper, &mut one, &mut other);
-    assert!(rt; hears(&mut reader, &with_block(&DATA_IN)));
-    assert!(rt; hears(&mut reader, &HAS_READ));
-    Ok(())
+    settle(&rt, &mut crew);
+    assert!(rt; hears(&mut reader, &with_block(&DATA_IN)) && hears(&mut reader, &HAS_READ));
+    drop(crew);
 }
 
 /// The host: a block that lies on the other die is read while the program is held, and only then the
@@ -121,16 +102,15 @@ fn reads_beside<R: Wait>(rt: &R, port: &mut Port<GateDie>, gate: &Gate, stop: &A
 /// The lane in whose die the program is held, and the other one with the host, in threads.
 fn beside<R: Threads + Wait + Sync>(
     rt: &R,
-    lane: &mut Lane<GateDie>,
+    crew: &mut Crew<GateDie>,
     job: &Job,
-    other: &mut Lane<GateDie>,
-    port: &mut Port<GateDie>,
     gate: &Gate,
 ) -> bool
-    requires held { job_of lane.old.view.lane ≡ Some job.now }
-    requires idle { (lane.old.ended ≡ None) × (other.old.ended ≡ None) }
+    requires held { job_of crew.old.second.view.lane ≡ Some job.now }
+    requires idle { (crew.old.first.ended ≡ None) × (crew.old.second.ended ≡ None) }
 {
     let stop = AtomicBool::new(false);
+    let (lane, other, port) = (&mut crew.second, &mut crew.first, &mut crew.port);
     thread::join(
         rt,
         ||
@@ -164,32 +144,31 @@ fn serve_beside<R: Threads + Wait + Sync>(
     .1
 }
 
-/// A program on one die is held until a block was read from the other.
-#[test]
-fn a_read_is_answered_beside_a_program(rt: HostRuntime) -> Result<(), Fail> {
-    let alloc = rt.alloc();
-    let gate = Arc::new(alloc, Gate::new())?;
-    let Shared {
-        mut ports,
-        mut lanes,
-        mut keeper,
-    } = shared_over(alloc, two_gate_dies(alloc, &gate)?, 1)?;
-    let (Some(mut one), Some(mut zero), Some(mut port)) = (
-        last_lane(&mut lanes),
-        last_lane(&mut lanes),
-        last_port(&mut ports, &keeper),
-    ) else {
-        panic!(rt; "the callers")
-    };
-    settle(&rt, &mut keeper, &mut zero, &mut one);
-    assert!(rt; writes(&mut port, 0));
-    one_job(&rt, &mut one);
-    assert!(rt; hears(&mut port, &WRITTEN) && writes(&mut port, 1));
-    gate.is_shut.store(true, Ordering::SeqCst);
-    let Tried::Did(Some(job)) = zero.try_take() else {
+/// Block 0 is written on the first die, and the write of block 1 waits for the program that the other one
+/// is given.
+fn held_program<R: Abort + Wait>(rt: &R, crew: &mut Crew<GateDie>) -> Job
+    requires { (crew.old.first.ended ≡ None) × (crew.old.second.ended ≡ None) }
+    ensures idle { (crew.new.first.ended ≡ None) × (crew.new.second.ended ≡ None) }
+    ensures given { job_of crew.new.second.view.lane ≡ Some result }
+{
+    settle(rt, crew);
+    assert!(rt; writes(&mut crew.port, 0));
+    one_job(rt, &mut crew.first);
+    assert!(rt; hears(&mut crew.port, &WRITTEN) && writes(&mut crew.port, 1));
+    let Tried::Did(Some(job)) = crew.second.try_take() else {
         panic!(rt; "the program of address 1")
     };
-    assert!(rt; beside(&rt, &mut zero, &job, &mut one, &mut port, &gate));
+    job
+}
+
+/// A program on one die is held until a block was read from the other.
+#[test]
+fn a_read_is_answered_beside_a_program(rt: HostRuntime) {
+    let gate = Gate::new(&rt, rt.alloc());
+    let mut crew = crew_over(&rt, rt.alloc(), two_gate_dies(&rt, rt.alloc(), &gate));
+    let job = held_program(&rt, &mut crew);
+    gate.is_shut.store(true, Ordering::SeqCst);
+    assert!(rt; beside(&rt, &mut crew, &job, &gate));
     assert!(rt; !gate.has_run_out.load(Ordering::SeqCst));
-    Ok(())
+    drop(crew);
 }
