@@ -85,7 +85,7 @@ def main(scripts):
         print("butcherford: the program was not built, for what the lines above say", file=sys.stderr)
         return 1
     took = round(time.monotonic() - began)
-    print(f"butcherford: built without proving, in {took} s; `make prove` proves it, and takes hours the first time")
+    print(f"butcherford: built without proving, in {took} s; `make prove` proves it, and takes an hour or more the first time")
     for script in scripts:
         if not (show(script, outputs_of(ran.stdout, script)) and ended_well(ran.stderr, script)):
             sys.stdout.flush()

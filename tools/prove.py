@@ -89,7 +89,7 @@ def main():
     if shutil.which("rt") is None:
         print("prove: the kit's command rt is not on the PATH; it is needed to prove", file=sys.stderr)
         return 2
-    say("butcherford: proving everything; from nothing it takes hours, later runs do only what changed")
+    say("butcherford: proving everything; from nothing it takes an hour or more, later runs do only what changed")
     before, was_there = texts(), libraries()
     counts = [told("the gate, rt ci", ["rt", "ci"], len(lines_of()))]
     # Only what the gate built just now, of the texts that are here, serves the wrong bodies.
