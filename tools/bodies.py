@@ -4,19 +4,27 @@ from typing import NamedTuple, Tuple
 
 HEAD = re.compile(r"^(?P<indent> *)(?:pub(?:\([^)]*\))? )?(?:const )?fn (?P<name>\w+)", re.MULTILINE)
 IMPL = re.compile(r"^impl\b(?P<words>[^{;]*)\{", re.MULTILINE)
+# What may not stand there a second time: a function that calls itself has one proof with all of its cycle.
+ONLY_ONCE = re.compile(r"#\[(?:cycle|test|cfg|unsafe)\b")
 CONSTANT = re.compile(r"^ *(?:pub(?:\([^)]*\))? )?const (?P<name>\w+): .*;$", re.MULTILINE)
+# A body, and the head of a function that takes the one which stood there.
+MOVED = re.compile(r"\s*(?P<body>\{.*\}) fn \w+\([^{}]*", re.DOTALL)
 # A brace after these words holds a clause of a contract, and any other one opens the body.
 CLAUSE = re.compile(r"\b(?:requires|ensures|ghost)\*?(?:\s+\w+)?\s*:?\s*$")
 
 
 class Function(NamedTuple):
-    """A function: its file, the type or trait that it is a method of, its name and the place of its body."""
+    """A function: its file, the type or trait that it is a method of, its name and the place of its body; where its
+    attributes and its name begin; and whether it may stand in its file once more, under another name."""
 
     file: str
     owner: str
     name: str
     start: int
     end: int
+    head: int
+    named: int
+    may_be_copied: bool
 
     def modules(self):
         """The modules of its file, below the crate."""
@@ -68,14 +76,28 @@ def body_of(text, start):
         at = end
 
 
+def with_attributes(text, start):
+    """The place where the attributes of what begins here begin."""
+    while text[:start].rstrip().endswith("]"):
+        at, depth = len(text[:start].rstrip()) - 1, 1
+        while depth and at:
+            at -= 1
+            depth += {"]": 1, "[": -1}.get(text[at], 0)
+        if not at or text[at - 1] != "#":
+            break
+        start = text.rfind("\n", 0, at) + 1
+    return start
+
+
 def owners(text):
-    """The places of the impls of a file, with the name that rt gives to what they belong to."""
+    """The places of the impls of a file, with the name that rt gives to what they belong to, and whether each is of a
+    trait."""
     found = []
     for impl in IMPL.finditer(text):
         words = re.sub(r"<[^<>]*>", "", re.sub(r"<[^<>]*>", "", impl["words"])).split()
         of_trait = "for" in words
         owner = words[-1].split("::")[-1] + (words[words.index("for") - 1].split("::")[-1] if of_trait else "")
-        found.append((impl.start(), closed(text, impl.end() - 1), owner))
+        found.append((impl.start(), closed(text, impl.end() - 1), owner, of_trait))
     return found
 
 
@@ -87,8 +109,10 @@ def functions(file, text):
         body = body_of(plain, head.start("name"))
         if body is None or any(other.start < head.start() < other.end for other in found):
             continue
-        owner = next((name for start, end, name in impls if start < head.start() < end), "")
-        found.append(Function(file, owner, head["name"], *body))
+        owner, of_trait = next((tuple(it[2:]) for it in impls if it[0] < head.start() < it[1]), ("", bool(head["indent"])))
+        begin = with_attributes(plain, head.start())
+        is_plain = head["name"] != "main" and not ONLY_ONCE.search(plain, begin, head.start())
+        found.append(Function(file, owner, head["name"], *body, begin, head.start("name"), is_plain and not of_trait))
     return found
 
 
@@ -115,3 +139,14 @@ def touched(texts, file, start, end) -> Tuple[Function, ...]:
     declared = CONSTANT.finditer(blanked(texts[file]))
     constants = [it["name"] for it in declared if it.start() <= start and end <= it.end()]
     return tuple(sorted(using(texts, constants[0]))) if constants else ()
+
+
+def moved_body(texts, file, start, end, new):
+    """The function before whose body a change writes another one, and that body; None, if the change is not of this
+    form. What stood there becomes the body of a function that nothing calls."""
+    text = texts[file]
+    found = MOVED.fullmatch(new, end - start) if new.startswith(text[start:end]) else None
+    if found is None or closed(blanked(found["body"]), 0) != len(found["body"]):
+        return None
+    before = [it for it in functions(file, text) if it.named < end <= it.start and not text[end : it.start].strip()]
+    return (before[0], found["body"]) if before else None

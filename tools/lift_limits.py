@@ -4,9 +4,9 @@
 usage: lift_limits.py [--list] [--each] [LIMIT..]
 
 A limit is a definition that goes with a later stage. Here each gets its last value: all of them at once, or with --each
-one after another; with names only these. Then `rt check` proves the laws of ufs_laws and power_loss. A law that falls
-leaned on a limit. Some laws replay a run by today's limits, or speak of what is not built: these are excused by name,
-with the reason. A limit that is gone already is told and left out.
+one after another; with names only these. Then `rt check` proves the crates of laws. A law that falls leaned on a limit.
+Some laws replay a run by today's limits, or speak of what is not built: these are excused by name, with the reason. A
+limit that is gone already is told and left out.
 
 The last line counts. The status is 0 if no law leaned on a limit, 1 if one did, and 2 if nothing could be said.
 """
@@ -21,7 +21,7 @@ from trial_copy import TrialCopy
 
 STAGES = "ufs_spec/specs/Stages.antt"
 CDBS = "ufs_spec/specs/Cdbs.antt"
-CRATES = ("ufs_laws", "power_loss")
+CRATES = ("ufs_laws", "power_loss", "many_stops")
 
 
 class Limit(NamedTuple):

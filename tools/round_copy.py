@@ -201,18 +201,23 @@ class RoundCopy:
         except Exception as fault:  # of the kit's module, whatever it is
             print(f"wrong_bodies: the libraries below {self.crate} are built once more ({fault!r})", file=sys.stderr)
 
-    def check(self, texts, only=()):
-        """Checks the crate with these texts of its code, over what the checks before it proved: all of it, or only the
-        functions with these names and those that they call. It is one process: four took 142 s of processor time for
+    def check(self, texts, only=(), proofs=None):
+        """Checks the crate with these texts of its code, and with these files added to its proofs, over what the checks
+        before it proved: all of it, or only the functions with these names and those that they call. It is one process: four took 142 s of processor time for
         a round of 32 edits that one took 102 s for, and no less for smaller rounds."""
         folder = self.folder / "crates" / self.crate
         for file, text in texts.items():
             path = folder / file
             if path.read_text(encoding="utf-8") != text:
                 path.write_text(text, encoding="utf-8")
+        for file, text in (proofs or {}).items():
+            (folder / file).parent.mkdir(parents=True, exist_ok=True)
+            (folder / file).write_text(text, encoding="utf-8")
         parts = [word for name in sorted(only) for word in ("--only", name)]
         waits = Waits()
         status, text, seconds = run(["rt", "check", "--jobs", "1", *parts], folder, waits.hear)
+        for place in {(folder / file).parent for file in proofs or {}}:
+            shutil.rmtree(place)
         return said_of(self.crate, status, text, seconds, waits.found)
 
     def remove(self):

@@ -4,14 +4,20 @@
 usage: wrong_bodies.py [--texts] [--list] [--after-gate] [--anew] [--lanes N] [CRATE [NAME..]]
 
 wrong_bodies/CRATE/NAME.edit has the form of the kit's must-fail edits: a line 'file: src/lib.rt',
-then pairs of lines 'old: TEXT' and 'new: TEXT'. An edit goes into the first round whose edits touch
-none of its functions. A round is one check of a copy of the crate with all its edits. An edit is
-refused if a function of its own falls for a reason of its own: a goal that was not proved, or a
-proof that no longer fits, and not only a call of what fell. What a round does not tell is tried in
-halves, and alone in the end. wrong_bodies/CRATE/control.edit changes a body so that it means the
-same. It stands in each round and has to be proved there. Only if the first round does not show
-that, the control is tried alone: the whole crate has to be proved with it before anything else is
-tried.
+then pairs of lines 'old: TEXT' and 'new: TEXT'. A round is one check of a copy of the crate with
+many edits. An edit of one function's body alone is written beside it: the function stands there once
+more, with the wrong body, under another name, and with the files that prove it under that name. So
+all of a crate's edits of this kind are one round, or a few of a hundred, and no other function rests
+on them. A function that files prove stands there also with its own body, as a control of its own: if
+that copy is not proved, its wrong bodies are tried in its place. Any other edit is made in place. It
+goes into the first of the later rounds whose edits touch none of its functions.
+
+An edit is refused if a function of its own falls for a reason of its own: a goal that was not
+proved, or a proof that no longer fits, and not only a call of what fell. What a round does not tell
+is tried in halves, and alone in the end, then in place and over the whole crate.
+wrong_bodies/CRATE/control.edit changes a body so that it means the same. It stands in each round and
+has to be proved there. Only if the first round does not show that, the control is tried alone: the
+whole crate has to be proved with it before anything else is tried.
 
 A wrong body is tried only in a crate that is proved as it stands. So a round need not prove the
 rest of the crate: it checks the functions that its edits and the control touch, and those that they
@@ -36,7 +42,8 @@ import signal
 import sys
 import time
 
-from bodies import touched
+from bodies import moved_body, touched
+from copies import AS_IT_STANDS, Ambiguous, added, copy_of
 from crates import ROOT, below
 from edits import Fault, changed, crates_of, edits_of, must_fail_edits, places, read_texts, together
 from round_copy import RoundCopy, build_below, is_built, is_of_gate, is_proved, prove
@@ -44,6 +51,8 @@ from verdicts import Verdicts, stated_sum, texts_sum
 
 # A check takes up to so much memory.
 CHECK_BYTES = 4_000_000_000
+# So many copies are in one round at most, as one process holds them all.
+MOST = 100
 # A function that takes so many seconds is worth a line.
 LONG = 5
 # What a verdict is made from, in two sums. The first is there at once. The second leaves out the bodies
@@ -57,6 +66,23 @@ class NoControl(Exception):
     """Why nothing can be said of the wrong bodies of a crate."""
 
 
+def names_in(said, functions):
+    """The names in rt's verdicts of these functions, and of the closures in them."""
+    return [name for name in said.verdicts if any(it.is_named(name) for it in functions)]
+
+
+def shared_out(edits):
+    """The edits in as few rounds as one check has room for, and these about as long as one another."""
+    count = -(-len(edits) // MOST)
+    return [edits[len(edits) * at // count : len(edits) * (at + 1) // count] for at in range(count)]
+
+
+def is_whole(said, copy):
+    """Whether a copy with the function's own body is proved."""
+    names = names_in(said, {copy.as_function()})
+    return bool(names) and all(is_proved(said.verdicts[name]) for name in names)
+
+
 class Crate:
     """A crate's wrong bodies in rounds, and what came of them."""
 
@@ -67,6 +93,8 @@ class Crate:
         self.missing = [it for it in wanted if it not in [edit.name for edit in edits]]
         self.good, self.bad, self.kept, self.seconds, self.checks = [], [], [], 0.0, 0
         self.places, self.functions, self.is_control_proved, self.unproved = {}, {}, False, None
+        # The copies that hold the edits, and by function those with its own body.
+        self.copies, self.whole = {}, {}
         self.verdicts, self.sums, self.names = None, [], {}
 
     def all(self):
@@ -113,9 +141,13 @@ class Crate:
             parts = [touched(self.texts, *it[:3]) for it in self.places[edit.name] or []]
             # With a part outside of all bodies nobody knows what the edit touches.
             self.functions[edit.name] = {it for part in parts for it in part} if parts and all(parts) else set()
+            self.copy(edit)
         kept = self.functions[self.control.name] if self.control else set()
+        left = [it for it in self.edits if it not in self.kept]
+        # Those of one function come together, so that its copy with its own body is mostly in one round.
+        copied = sorted((it for it in left if it.name in self.copies), key=lambda it: self.copies[it.name].function)
         self.rounds, self.alone = [], []
-        for edit in [it for it in self.edits if it not in self.kept]:
+        for edit in [it for it in left if it not in copied]:
             own = self.functions[edit.name]
             if not own or own & kept:
                 self.alone.append(edit)
@@ -126,13 +158,51 @@ class Crate:
                     break
             else:
                 self.rounds.append([edit])
+        self.rounds[:0] = shared_out(copied)
 
-    def names_of(self, edit, said):
+    def copy(self, edit):
+        """Makes the copy that holds an edit, if this is of one body that may stand there twice."""
+        changes = self.places[edit.name] or []
+        moved = moved_body(self.texts, *changes[0]) if len(changes) == 1 else None
+        if moved:
+            function, body = moved
+            self.functions[edit.name] = {function}
+            changes = [(function.file, function.start, function.end, body)]
+        own = self.functions[edit.name]
+        function = next(iter(own)) if len(own) == 1 else None
+        inside = function and all(it[0] == function.file and function.start <= it[1] <= it[2] <= function.end
+                                  for it in changes)
+        if not inside or not function.may_be_copied:
+            return
+        try:
+            made = copy_of(self.name, self.texts, function, changes, edit.name)
+            if made.proofs and function not in self.whole:
+                self.whole[function] = copy_of(self.name, self.texts, function, [], AS_IT_STANDS)
+            self.copies[edit.name] = made
+        except Ambiguous:
+            pass
+
+    def wholes(self, edits):
+        """The copies with their own bodies of the functions that these edits have copies of."""
+        functions = [self.copies[it.name].function for it in edits if it.name in self.copies]
+        return [self.whole[it] for it in dict.fromkeys(functions) if it in self.whole]
+
+    def own(self, edit, in_place=False):
+        """The functions that an edit touches, where it stands in a round, or in place."""
+        made = None if in_place else self.copies.get(edit.name)
+        return {made.as_function()} if made else self.functions[edit.name]
+
+    def changes(self, edit):
+        """The changes of the texts by which an edit stands in a round."""
+        made = self.copies.get(edit.name)
+        return added([made]) if made else self.places[edit.name]
+
+    def names_of(self, edit, said, in_place=False):
         """The names in rt's verdicts of the functions that an edit touches."""
-        return [name for name in said.verdicts if any(it.is_named(name) for it in self.functions[edit.name])]
+        return names_in(said, self.own(edit, in_place))
 
-    def check(self, copy, texts, only=()):
-        said = copy.check(texts, only)
+    def check(self, copy, texts, only=(), proofs=()):
+        said = copy.check(texts, only, dict(proofs))
         self.seconds += said.seconds
         self.checks += 1
         if os.environ.get("WRONG_BODIES_TIMES"):
@@ -141,15 +211,24 @@ class Crate:
             print(f"{self.name}: check {self.checks} took {said.seconds:.0f} s{of_them}", flush=True)
         return said
 
-    def check_touched(self, copy, texts, edits):
-        """Checks the functions that these edits touch, and those that they call. If rt cannot tell functions apart by
-        the ends of their names, it checks the whole crate."""
-        said = self.check(copy, texts, {it.short_name() for edit in edits for it in self.functions[edit.name]})
-        return said if said.reached() else self.check(copy, texts)
+    def check_touched(self, copy, texts, functions, proofs=()):
+        """Checks these functions, and those that they call. If rt cannot tell functions apart by the ends of their
+        names, it checks the whole crate."""
+        said = self.check(copy, texts, {it.short_name() for it in functions}, proofs)
+        return said if said.reached() else self.check(copy, texts, proofs=proofs)
 
-    def reason(self, edit, said):
+    def check_round(self, copy, edits):
+        """Checks a round: the edits, the control, and the copies with their own bodies."""
+        touch = [*edits, self.control]
+        made = [self.copies[it.name] for it in touch if it.name in self.copies] + self.wholes(touch)
+        texts = together([*map(self.changes, touch), added(self.wholes(touch))], self.texts)
+        functions = {it for edit in touch for it in self.own(edit)} | {it.as_function() for it in self.wholes(touch)}
+        proofs = [file for it in made for file in it.proofs.items()]
+        return self.check_touched(copy, texts, functions, proofs)
+
+    def reason(self, edit, said, in_place=False):
         """Why a function of the edit's own fell, if it fell for a reason of its own."""
-        reasons = [(name, said.reason_of(name)) for name in self.names_of(edit, said)]
+        reasons = [(name, said.reason_of(name)) for name in self.names_of(edit, said, in_place)]
         return next((f"{name}: {why}" for name, why in reasons if why), None)
 
     def note(self, edit, is_right, words):
@@ -166,13 +245,13 @@ class Crate:
         if not control or not all(is_proved(said.verdicts[name]) for name in control):
             return "the control is not proved"
         mine = {name for edit in edits for name in self.names_of(edit, said)}
+        mine |= {name for it in self.wholes(edits) for name in names_in(said, {it.as_function()})}
         others = [name for name in said.verdicts if name not in mine and not said.fell_alone(name)]
         return f"{others[0]} fell, which no edit touches: {said.verdicts[others[0]][:120]}" if others else None
 
     def try_round(self, copy, edits):
         """Tries the edits of a round together, and those that it does not tell of in smaller rounds."""
-        touch = [*edits, self.control]
-        said = self.check_touched(copy, together([self.places[it.name] for it in touch], self.texts), touch)
+        said = self.check_round(copy, edits)
         fault = self.fault_of(edits, said)
         self.stand_on_control(copy, fault)
         if fault and len(edits) > 1:
@@ -183,7 +262,9 @@ class Crate:
             return
         for edit in edits:
             reason = None if fault else self.reason(edit, said)
-            if reason:
+            if not all(is_whole(said, it) for it in self.wholes([edit])):
+                self.try_apart(copy, edit)
+            elif reason:
                 self.note(edit, True, f"refused, as it must be ({reason})")
             else:
                 self.try_alone(copy, edit)
@@ -191,8 +272,8 @@ class Crate:
     def try_apart(self, copy, edit):
         """Tries an edit that can be in no round: first only what it touches, if that is known, and then all."""
         if self.functions[edit.name]:
-            said = self.check_touched(copy, changed(edit, self.texts), [edit])
-            reason = self.reason(edit, said)
+            said = self.check_touched(copy, changed(edit, self.texts), self.functions[edit.name])
+            reason = self.reason(edit, said, in_place=True)
             if reason and said.reached():
                 self.note(edit, True, f"refused, as it must be (alone: {reason})")
                 return
@@ -206,7 +287,7 @@ class Crate:
         elif said.status == 0:
             self.note(edit, False, f"NOT REFUSED: {self.name} is proved with it, so a contract lets it through: mend that")
         else:
-            words = self.reason(edit, said) or said.first_error()
+            words = self.reason(edit, said, in_place=True) or said.first_error()
             self.note(edit, True, f"refused, as it must be (alone: {words})")
 
     def stand_on_control(self, copy, fault):
@@ -215,7 +296,7 @@ class Crate:
             return
         if fault:
             said = self.check(copy, changed(self.control, self.texts))
-            if said.status or not self.names_of(self.control, said):
+            if said.status or not self.names_of(self.control, said, in_place=True):
                 raise NoControl(said.first_error())
         self.is_control_proved = True
         self.note(self.control, True, "proved, as it must be (the control)")

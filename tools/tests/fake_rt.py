@@ -1,8 +1,10 @@
 #!/usr/bin/env python3
 """Stands in for the kit's command rt in the tests of the tools: a function is proved if it gives the
-number that it is named after. Each check adds a line to the file that FAKE_LOG names: the crate, and
-the functions that were to be checked, or that its library was to be built. It cannot tell which
-function FAKE_UNKNOWN names. Before the checks it builds the library lower.
+number that it is named after, and if the file that proves it, where it has one, speaks of it. Each
+check adds a line to the file that FAKE_LOG names: the crate, and the functions that were to be
+checked, or that its library was to be built. It cannot tell which function FAKE_UNKNOWN names, and
+a check of all refuses proofs of a function that is not there. Before the checks it builds the
+library lower.
 """
 import os
 import pathlib
@@ -13,6 +15,18 @@ FUNCTION = re.compile(r"fn (\w+)\(\) -> u8 \{\n    (.*)\n\}")
 NUMBERS = {"ten": 10, "twenty": 20, "thirty": 30, "forty": 40}
 
 
+def number_of(name):
+    """The number that a function is named after, or the one that it is a copy of."""
+    return NUMBERS[name.split("_")[0]]
+
+
+def fits(name):
+    """Whether what proves a function speaks of it, and of no name that only another one has."""
+    file = pathlib.Path("proofs", name, "Answers.antt")
+    text = file.read_text(encoding="utf-8") if file.exists() else f".{name}.Goals"
+    return f".{name}.Goals" in text and ("-- only here" not in text or "_" not in name)
+
+
 def check(crate, only, wanted):
     """Says of each function of the crate here whether it is proved, or of these alone, and gives the status."""
     with open(os.environ["FAKE_LOG"], "a", encoding="utf-8") as log:
@@ -21,8 +35,12 @@ def check(crate, only, wanted):
     if os.environ.get("FAKE_UNKNOWN") in only:
         print("rattle: the name fits several functions")
         return 2
-    bodies = [(name, body) for name, body in bodies if name in (only or NUMBERS)]
-    fallen = [name for name, body in bodies if sum(map(int, body.split(" + "))) != NUMBERS[name]]
+    bodies = [(name, body) for name, body in bodies if not only or name in only]
+    stray = {path.name for path in pathlib.Path("proofs").glob("*") if path.is_dir()} - {name for name, _ in bodies}
+    if stray and not only:
+        print(f"rattle: there is no function {stray}")
+        return 2
+    fallen = [name for name, body in bodies if not fits(name) or sum(map(int, body.split(" + "))) != number_of(name)]
     for name, _ in bodies:
         verdict = "not proved: `search` did not prove its result" if name in fallen else "proved"
         print(f"fn {crate}::{name}: {verdict}")

@@ -14,6 +14,10 @@ BODY = "pub fn {name}() -> u8 {{\n    {number}\n}}\n"
 EDIT = "file: src/lib.rt\nold: {old}\nnew: {new}\n"
 NUMBERS = {"ten": 10, "twenty": 20, "thirty": 30, "forty": 40}
 COUNTS = re.compile(r"^wrong bodies: (\d+) tried in this run, (\d+) kept from earlier runs", re.M)
+# The check of all edits and the control, each in a copy of its function.
+ROUND = "upper ten_ten_is_eleven thirty_control twenty_twenty_is_one_more"
+# A file that proves a function.
+PROOF = "use Rattle.upper.proofs.ten.Goals as goal\n"
 # What a whole run has to try: two wrong bodies and the control.
 ALL = 3
 
@@ -158,13 +162,13 @@ class WrongBodies(unittest.TestCase):
 
     def test_a_round_checks_only_what_is_touched(self):
         self.sees(ALL, 0, "--anew")
-        self.assertEqual(["upper lib", "upper ten thirty twenty"], self.repository.checks())
+        self.assertEqual(["upper lib", ROUND], self.repository.checks())
 
     def test_what_the_gate_proved_is_not_proved_again(self):
         for part in ("lower/out/rlib/lower", "upper/out/rlib/upper"):
             self.repository.write(f"crates/{part}.rlib/lang/lib.rt", "")
         self.sees(ALL, 0, "--anew", "--after-gate")
-        self.assertEqual(["upper ten thirty twenty"], self.repository.checks())
+        self.assertEqual([ROUND], self.repository.checks())
 
     def test_what_the_gate_did_not_prove_keeps_nothing(self):
         self.repository.write("crates/lower/out/rlib/lower.rlib/lang/lib.rt", "")
@@ -173,15 +177,31 @@ class WrongBodies(unittest.TestCase):
         self.assertIn("the gate did not prove it", found[2])
         self.assertEqual([], self.repository.checks())
 
-    def test_a_round_checks_all_where_a_name_fits_several_functions(self):
-        self.repository.unknown = "twenty"
+    def test_two_wrong_bodies_of_one_function_are_tried_in_one_check(self):
+        self.repository.write("wrong_bodies/upper/ten_is_twelve.edit", EDIT.format(old="10", new="12"))
+        self.sees(ALL + 1, 0, "--anew", passed=ALL + 1)
+        self.assertEqual(["upper lib", ROUND.replace("thirty", "ten_ten_is_twelve thirty")], self.repository.checks())
+
+    def test_a_function_that_files_prove_is_copied_with_them_and_with_its_own_body(self):
+        self.repository.write("crates/upper/proofs/ten/Answers.antt", PROOF)
         self.sees(ALL, 0, "--anew")
-        self.assertEqual(["upper lib", "upper ten thirty twenty", "upper all"], self.repository.checks())
+        self.assertEqual(["upper lib", ROUND.replace(" ten", " ten_as_it_stands ten")], self.repository.checks())
+
+    def test_a_wrong_body_is_tried_in_place_where_its_function_is_not_proved_under_another_name(self):
+        self.repository.write("crates/upper/proofs/ten/Answers.antt", PROOF + "-- only here\n")
+        self.sees(ALL, 0, "--anew")
+        checks = ["upper lib", ROUND.replace(" ten", " ten_as_it_stands ten"), "upper ten"]
+        self.assertEqual(checks, self.repository.checks())
+
+    def test_a_round_checks_all_where_a_name_fits_several_functions(self):
+        self.repository.unknown = "twenty_twenty_is_one_more"
+        self.sees(ALL, 0, "--anew")
+        self.assertEqual(["upper lib", ROUND, "upper all"], self.repository.checks())
 
     def test_an_edit_that_its_round_does_not_refuse_is_tried_over_the_whole_crate(self):
         self.repository.change("wrong_bodies/upper/ten_is_eleven.edit", "new: 11", "new: 5 + 5")
         self.sees(ALL, 0, "--anew", passed=ALL - 1, failed=1)
-        self.assertEqual(["upper lib", "upper ten thirty twenty", "upper all"], self.repository.checks())
+        self.assertEqual(["upper lib", ROUND, "upper all"], self.repository.checks())
 
     def test_what_is_not_refused_is_not_kept(self):
         self.repository.change("wrong_bodies/upper/ten_is_eleven.edit", "new: 11", "new: 5 + 5")
