@@ -1,3 +1,4 @@
+pub mod Counts
 pub mod LiveCounts
 pub mod Relations
 pub mod Searches

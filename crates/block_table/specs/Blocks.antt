@@ -6,6 +6,7 @@ use Rattle.block_table.specs.declared.BlockState.TheVariants as state
 use Rattle.block_table.specs.declared.rows.DieRow.{DieRow}
 use Rattle.block_table.specs.declared.rows.OpenBlock.{OpenBlock}
 use Rattle.block_table.specs.declared.Sizes.{Sizes}
+use Rattle.block_table.specs.Rows.{rows_failed, rows_filling, rows_in_flight}
 
 -- what each block is, in order by die and block, what is known of each die, and whether a block is bad
 pub record Blocks : Type 0 where
@@ -17,7 +18,14 @@ pub record Blocks : Type 0 where
 -- the block holds nothing that is needed, so it may be erased
 abbrev pub is_free : BlockState → Bool
 is_free state.Free = true
+is_free state.Stale = true
+is_free state.Ready = true
 is_free _ = false
+
+-- pages of the block open and none is needed, so it is erased before all else
+abbrev pub is_stale : BlockState → Bool
+is_stale state.Stale = true
+is_stale _ = false
 
 -- a program or an erase of the block failed, or it was bad from the start; it is never filled again
 abbrev pub is_bad : BlockState → Bool
@@ -41,9 +49,21 @@ abbrev pub changed : Blocks → ℕ → ℕ → BlockState → Option OpenBlock 
 changed t die block s o =
     record t { states = slice_set t.states (block_index t die block) s; rows = slice_set t.rows die (row_after o) }
 
--- the block is empty, and the die fills it
+-- the block was erased and may be filled; the die has no job, and fills what it filled before
+abbrev pub erased_at : Blocks → ℕ → ℕ → Blocks
+erased_at t die block =
+    record t {
+      states = slice_set t.states (block_index t die block) state.Ready;
+      rows = rows_in_flight t.rows die None;
+    }
+
+-- the die fills the block from its first page on, and its job stays as it is
 abbrev pub opened_at : Blocks → ℕ → ℕ → Blocks
-opened_at t die block = changed t die block state.Open (Some (record { block = block; next = 0 }))
+opened_at t die block =
+    record t {
+      states = slice_set t.states (block_index t die block) state.Open;
+      rows = rows_filling t.rows die (Some (record { block = block; next = 0 }));
+    }
 
 -- the die's open block has one page less, and is closed with its last
 abbrev pub page_written : Blocks → ℕ → Option OpenBlock → Blocks
@@ -53,16 +73,21 @@ page_written t die (Some o) =
     then record t { rows = slice_set t.rows die (row_after (Some (record { block = o.block; next = o.next + 1 }))) }
     else changed t die o.block state.Closed None
 
--- a block that is not bad is free after its collection
+-- a block that is not bad is stale after its collection
 abbrev pub freed_state : BlockState → BlockState
 freed_state state.Bad = state.Bad
-freed_state _ = state.Free
+freed_state _ = state.Stale
 
--- the block's collection is over: it is free from now on, unless it is bad
+-- the block's collection is over: it is stale from now on, unless it is bad
 abbrev pub freed : Blocks → ℕ → ℕ → Blocks
 freed t die block =
     record t { states = slice_set t.states (block_index t die block) (freed_state (state_of t die block)) }
 
--- the block is bad, and the die fills none and has no job
+-- the block is bad; the die has no job, and fills the block no more
 abbrev pub gone_bad : Blocks → ℕ → ℕ → Blocks
-gone_bad t die block = record (changed t die block state.Bad None) { has_bad = true }
+gone_bad t die block =
+    record t {
+      states = slice_set t.states (block_index t die block) state.Bad;
+      rows = rows_failed t.rows die block;
+      has_bad = true;
+    }

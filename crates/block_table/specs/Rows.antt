@@ -2,6 +2,7 @@
 use Rattle.std.specs.Prelude.{ℕ, ◌==◌, ◌&&◌, Bool, true, false, if◌then◌else◌, is_some, List, slice_get, slice_set}
 use Rattle.std.specs.Prelude.{Option, Some, None}
 use Rattle.block_table.specs.declared.rows.DieRow.{DieRow}
+use Rattle.block_table.specs.declared.rows.OpenBlock.{OpenBlock}
 use Rattle.block_table.specs.declared.rows.Flight.{Flight}
 use Rattle.block_table.specs.declared.rows.Flight.TheVariants as flight
 use Rattle.block_table.specs.declared.rows.Reader.TheVariants as reader
@@ -19,7 +20,7 @@ abbrev pub flight_erases : Option Flight → Bool
 flight_erases (Some (flight.Erase block)) = true
 flight_erases _ = false
 
--- the die erases a block, which it will then fill
+-- the die erases a block
 abbrev pub erases : DieRow → Bool
 erases r = flight_erases r.flight
 
@@ -67,6 +68,30 @@ flight_set rows die f (Some r) = slice_set rows die (record { filling = r.fillin
 -- this is in flight of the die from now on, if there is such a die
 abbrev pub rows_in_flight : List DieRow → ℕ → Option Flight → List DieRow
 rows_in_flight rows die f = flight_set rows die f (slice_get rows die)
+
+-- the die fills this from now on, and its job stays; nothing changes if there is no such die
+abbrev pub filling_set : List DieRow → ℕ → Option OpenBlock → Option DieRow → List DieRow
+filling_set rows die o None = rows
+filling_set rows die o (Some r) = slice_set rows die (record { filling = o; flight = r.flight })
+
+-- the die fills this from now on, if there is such a die
+abbrev pub rows_filling : List DieRow → ℕ → Option OpenBlock → List DieRow
+rows_filling rows die o = filling_set rows die o (slice_get rows die)
+
+-- what a die that fills this fills once the block went bad: another block it goes on to fill
+abbrev pub filling_but : ℕ → Option OpenBlock → Option OpenBlock
+filling_but block None = None
+filling_but block (Some o) = if o.block == block then None else Some o
+
+-- the die has no job, and fills the block no more; nothing changes if there is no such die
+abbrev pub failed_set : List DieRow → ℕ → ℕ → Option DieRow → List DieRow
+failed_set rows die block None = rows
+failed_set rows die block (Some r) =
+    slice_set rows die (record { filling = filling_but block r.filling; flight = None })
+
+-- a job of the die failed in the block: the die has no job, and fills the block no more
+abbrev pub rows_failed : List DieRow → ℕ → ℕ → List DieRow
+rows_failed rows die block = failed_set rows die block (slice_get rows die)
 
 -- a read in flight for a reader who let go is for nobody
 abbrev pub flight_without : ℕ → Option Flight → Option Flight

@@ -4,8 +4,8 @@
 
 ghost use Rattle.std.specs.Prelude.{◌≡◌, ◌≤◌, ◌*◌, IfOk, None, Some, count_by, length, map, replicate, slice_get, slice_set};
 ghost use Rattle.std.specs.List.{list_any};
-ghost use Rattle.block_table.specs.Blocks.{Blocks, block_index, freed, freed_state, gone_bad, is_bad, is_free, opened_at, page_written, state_of};
-ghost use Rattle.block_table.specs.Rows.{erases, fills, idle_row, reads_for, reads_step, rows_in_flight, without_block, without_reader, writes_page, writes_step};
+ghost use Rattle.block_table.specs.Blocks.{Blocks, block_index, erased_at, freed, freed_state, gone_bad, is_bad, is_free, is_stale, opened_at, page_written, state_of};
+ghost use Rattle.block_table.specs.Rows.{erases, filling_but, fills, idle_row, reads_for, reads_step, rows_filling, rows_in_flight, without_block, without_reader, writes_page, writes_step};
 
 use std::alloc::{AllocError, Global};
 use std::marker::Model;
@@ -17,13 +17,21 @@ pub use live::{BlockAt, LivePages};
 use rows::{without_block, without_reader};
 pub use rows::{DieRow, Flight, OpenBlock, Reader};
 
-/// What a block is to the device: free to be erased, being filled, full, or bad.
+/// What a block is to the device: free in one of three ways, being filled, full, or bad.
 #[derive(Clone, Copy, Debug, Default, PartialEq, Eq)]
 pub enum BlockState {
+    /// Free: nothing in it opens, and it is erased before it is filled.
     #[default]
     Free,
+    /// Free: pages of it open and none is needed, and it is erased first of all.
+    Stale,
+    /// Free: it was erased in this life, and may be filled at once.
+    Ready,
+    /// A die fills it.
     Open,
+    /// It is full, or something in it was needed at the life's start.
     Closed,
+    /// A program or an erase of it failed, or it was bad from the start.
     Bad,
 }
 
@@ -45,6 +53,8 @@ pub struct BlockTable {
     rows: Vec<DieRow>,
     /// How many blocks are free.
     free: usize,
+    /// How many blocks are stale, which are free as well.
+    stale: usize,
     /// Whether any block is bad; it stays so.
     has_bad: bool,
 }
@@ -80,12 +90,14 @@ impl BlockTable {
         }) }
     {
         let free = count_free(states.as_slice());
+        let stale = count_stale(states.as_slice());
         let has_bad = any_bad(states.as_slice());
         Ok(BlockTable {
             sizes,
             states,
             rows: vec![in alloc; DieRow::default(); sizes.dies as usize]?,
             free,
+            stale,
             has_bad,
         })
     }
@@ -103,6 +115,13 @@ impl BlockTable {
         ensures { result ≡ count_by is_free self.now.states }
     {
         self.free
+    }
+
+    /// Whether any block is stale.
+    pub fn has_stale(&self) -> bool
+        ensures { result ≡ list_any is_stale self.now.states }
+    {
+        self.stale > 0
     }
 
     /// Whether any block is bad.
@@ -126,7 +145,7 @@ impl BlockTable {
         self.rows.iter().any(|row| row.filling.is_some())
     }
 
-    /// Whether any die erases a block, which it will then fill.
+    /// Whether any die erases a block.
     pub fn erases_any(&self) -> bool
         ensures { result ≡ list_any erases self.now.rows }
     {
@@ -213,12 +232,30 @@ impl BlockTable {
         }
     }
 
-    /// The block is empty after an erase: the die fills it from now on, and has no job.
+    /// The block is empty after an erase, and may be filled. The die has no job, and fills the block
+    /// that it filled before.
     pub fn erased(&mut self, die: u8, block: u16)
+        ensures { self.new ≡ erased_at self.old die block }
+    {
+        self.set_state(die, block, BlockState::Ready);
+        self.set_flight(die, None);
+    }
+
+    /// The die fills this block from its first page on. Its job stays as it is.
+    pub fn opened(&mut self, die: u8, block: u16)
         ensures { self.new ≡ opened_at self.old die block }
     {
         self.set_state(die, block, BlockState::Open);
-        self.job_over(die, Some(OpenBlock { block, next: 0 }));
+        if let Some(row) = self.row(die) {
+            let filling = Some(OpenBlock { block, next: 0 });
+            self.set_row(
+                die,
+                DieRow {
+                    filling,
+                    flight: row.flight,
+                },
+            );
+        }
     }
 
     /// The next page of the block that the die fills is written: the block is closed with its last
@@ -241,7 +278,7 @@ impl BlockTable {
         }
     }
 
-    /// The block is free from now on, unless it is bad: its collection is over.
+    /// The block is stale from now on, unless it is bad: its collection is over.
     pub fn freed(&mut self, die: u8, block: u16)
         ensures { self.new ≡ freed self.old die block }
     {
@@ -249,13 +286,16 @@ impl BlockTable {
         self.set_state(die, block, state);
     }
 
-    /// The block is bad from now on. The die fills none and has no job.
+    /// The block is bad from now on. The die has no job, and fills this block no more; another one
+    /// that it fills it goes on to fill.
     pub fn went_bad(&mut self, die: u8, block: u16)
         ensures { self.new ≡ gone_bad self.old die block }
     {
         self.set_state(die, block, BlockState::Bad);
         self.has_bad = true;
-        self.job_over(die, None);
+        if let Some(row) = self.row(die) {
+            self.job_over(die, filling_but(row.filling, block));
+        }
     }
 
     /// Where the block is among all blocks.
@@ -280,6 +320,12 @@ impl BlockTable {
         }
         if is_free(&state) {
             self.free += 1;
+        }
+        if is_stale(&self.states[index]) {
+            self.stale -= 1;
+        }
+        if is_stale(&state) {
+            self.stale += 1;
         }
         self.states[index] = state;
     }
@@ -317,6 +363,13 @@ fn count_free(states: &[BlockState]) -> usize
     states.iter().filter(|state| is_free(state)).count()
 }
 
+/// How many of the blocks are stale.
+fn count_stale(states: &[BlockState]) -> usize
+    ensures { result ≡ count_by is_stale states.now }
+{
+    states.iter().filter(|state| is_stale(state)).count()
+}
+
 /// Whether any of the blocks is bad.
 fn any_bad(states: &[BlockState]) -> bool
     ensures { result ≡ list_any is_bad states.now }
@@ -330,6 +383,22 @@ fn is_free(state: &BlockState) -> bool
 {
     match state {
         BlockState::Free => true,
+        BlockState::Stale => true,
+        BlockState::Ready => true,
+        BlockState::Open => false,
+        BlockState::Closed => false,
+        BlockState::Bad => false,
+    }
+}
+
+/// Whether a block that is so is stale.
+fn is_stale(state: &BlockState) -> bool
+    ensures { result ≡ is_stale state.now }
+{
+    match state {
+        BlockState::Free => false,
+        BlockState::Stale => true,
+        BlockState::Ready => false,
         BlockState::Open => false,
         BlockState::Closed => false,
         BlockState::Bad => false,
@@ -342,6 +411,8 @@ fn is_bad(state: &BlockState) -> bool
 {
     match state {
         BlockState::Free => false,
+        BlockState::Stale => false,
+        BlockState::Ready => false,
         BlockState::Open => false,
         BlockState::Closed => false,
         BlockState::Bad => true,
@@ -354,8 +425,20 @@ fn freed_state(state: BlockState) -> BlockState
 {
     match state {
         BlockState::Bad => BlockState::Bad,
-        BlockState::Free => BlockState::Free,
-        BlockState::Open => BlockState::Free,
-        BlockState::Closed => BlockState::Free,
+        BlockState::Free => BlockState::Stale,
+        BlockState::Stale => BlockState::Stale,
+        BlockState::Ready => BlockState::Stale,
+        BlockState::Open => BlockState::Stale,
+        BlockState::Closed => BlockState::Stale,
+    }
+}
+
+/// What a die that fills this fills once the block went bad.
+fn filling_but(filling: Option<OpenBlock>, block: u16) -> Option<OpenBlock>
+    ensures { result ≡ filling_but block filling }
+{
+    match filling {
+        Some(open) if open.block != block => Some(open),
+        _ => None,
     }
 }

@@ -253,6 +253,8 @@ impl LivePages {
         let sizes = self.sizes();
         match state {
             BlockState::Free => false,
+            BlockState::Stale => false,
+            BlockState::Ready => false,
             BlockState::Open => false,
             BlockState::Closed => live < sizes.pages,
             BlockState::Bad => live > 0,

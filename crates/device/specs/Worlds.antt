@@ -3,7 +3,7 @@ use Rattle.std.specs.Prelude.{◌≡◌, ◌⊎◌, ℕ, zero, suc, ◌<◌, fal
 use Rattle.std.specs.Prelude.{slice_index_or, slice_set, take, Option, Some, None, option_map, Result, Ok, Err}
 use Rattle.ufs_spec.specs.Cells.{Array}
 use Rattle.ufs_spec.specs.Dies.{DieState, new_die, power_cycle_ended, ready_page, with_bad, with_block, with_page}
-use Rattle.ufs_spec.specs.Disk.{BlockState, Erasing, Filling, Flight, Reading, Spot, job_of}
+use Rattle.ufs_spec.specs.Disk.{BlockState, Erasing, Filling, Flight, Free, Reading, Ready, Spot, Vacancy, job_of}
 use Rattle.ufs_spec.specs.Lives.{AreLeftovers, Fit, GoesOn, Headline, IsLawfulLeftover, IsLeftoverOf, IsOpened, Lived}
 use Rattle.ufs_spec.specs.Lives.{Lives, Runs, Stops, array_of, bad_of, die_of}
 use Rattle.ufs_spec.specs.Sound.{Sound, Suits}
@@ -39,28 +39,37 @@ abbrev pub jobs_given : List (Option Job) → ℕ → Option Job → List (Optio
 jobs_given jobs die None = jobs
 jobs_given jobs die (Some job) = slice_set jobs die (Some job)
 
--- the next page of a block that is being filled may be programmed, and the blocks that are bad to the layer are those
--- that are bad to the dies
-pub record BlocksFit (n : Numbers) (dies : List DieState) (blocks : Spot → BlockState) : Type 0 where
-  pub ready : (spot : Spot) (next : ℕ) → spot.die < n.dies → spot.block < n.blocks → blocks spot ≡ Filling next →
-      ready_page (die_at dies spot.die) spot.block ≡ Some next
+-- the page of a block that is programmed next, if one may be: of a block that is being filled it is known, and of a
+-- free block that was erased in this life it is the first
+abbrev pub next_of : BlockState → Vacancy → Option ℕ
+next_of (Filling next) vacancy = Some next
+next_of Free Ready = Some 0
+next_of state vacancy = None
+
+-- where the layer says which page of a block is programmed next, the die lets it be programmed, and the blocks that are
+-- bad to the layer are those that are bad to the dies
+pub record BlocksFit (n : Numbers) (dies : List DieState) (blocks : Spot → BlockState) (vacancies : Spot → Vacancy) :
+    Type 0 where
+  pub ready : (spot : Spot) (next : ℕ) → spot.die < n.dies → spot.block < n.blocks →
+      next_of (blocks spot) (vacancies spot) ≡ Some next → ready_page (die_at dies spot.die) spot.block ≡ Some next
   pub bad : (spot : Spot) → is_bad (blocks spot) ≡ bad_of dies spot
 
 -- the dies hold the pages, and each has the job that is in flight on it
-pub record DiesFit (n : Numbers) (array : Array) (blocks : Spot → BlockState) (flights : ℕ → Option Flight)
-    (dies : List DieState) (jobs : List (Option Job)) : Type 0 where
+pub record DiesFit (n : Numbers) (array : Array) (blocks : Spot → BlockState) (vacancies : Spot → Vacancy)
+    (flights : ℕ → Option Flight) (dies : List DieState) (jobs : List (Option Job)) : Type 0 where
   pub sizes : Fit n dies
   pub pages : array ≡ array_of dies
   pub as_many : length jobs ≡ length dies
   pub jobs_are : (die : ℕ) → job_at jobs die ≡ option_map job_of (flights die)
-  pub blocks_fit : BlocksFit n dies blocks
+  pub blocks_fit : BlocksFit n dies blocks vacancies
   -- a block that is being erased is one of theirs
   pub erases : (die : ℕ) (spot : Spot) → flights die ≡ Some (Erasing spot) → IsSpot n spot
 
 -- the dies hold the pages of this state, and have the jobs that it has in flight
 abbrev pub FitState : List DieState → List (Option Job) → State → Type 0
 FitState dies jobs s =
-    DiesFit (numbers_of s) s.array s.translation.disk.blocks s.translation.disk.flights dies jobs
+    DiesFit (numbers_of s) s.array s.translation.disk.blocks s.translation.disk.vacancies
+    s.translation.disk.flights dies jobs
 
 -- the world is the device in this state with its dies: one configuration, a core that describes the state, and dies
 -- with the pages and the jobs in flight that the state has

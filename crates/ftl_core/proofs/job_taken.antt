@@ -1,3 +1,4 @@
+pub mod BegunRows
 pub mod FlightKinds
 pub mod Flown
 pub mod Lowest

@@ -52,17 +52,20 @@ use Rattle.ftl_core.specs.Takes.{is_group_page, next_place, step_wants}
 
 -- Blocks
 
--- the state of a block as it is kept: which page of an open block comes next is kept with its die
-abbrev pub block_kept : disk.BlockState → BlockState
-block_kept disk.Free = state.Free
-block_kept (disk.Filling next) = state.Open
-block_kept disk.Closed = state.Closed
-block_kept disk.Bad = state.Bad
+-- the state of a block as it is kept, with what is in it if it is free: which page of an open block comes next is kept
+-- with its die
+abbrev pub block_kept : disk.BlockState → disk.Vacancy → BlockState
+block_kept disk.Free disk.Untouched = state.Free
+block_kept disk.Free disk.Stale = state.Stale
+block_kept disk.Free disk.Ready = state.Ready
+block_kept (disk.Filling next) v = state.Open
+block_kept disk.Closed v = state.Closed
+block_kept disk.Bad v = state.Bad
 
 -- the state of each block of each die, in order, and whether one is bad
-pub record BlocksKept (n : Numbers) (blocks : Spot → disk.BlockState) (states : List BlockState)
-    (has_bad : Bool) : Type 0 where
-  pub all : states ≡ map (λ (s : Spot). block_kept (blocks s)) (spots n)
+pub record BlocksKept (n : Numbers) (blocks : Spot → disk.BlockState) (vacancies : Spot → disk.Vacancy)
+    (states : List BlockState) (has_bad : Bool) : Type 0 where
+  pub all : states ≡ map (λ (s : Spot). block_kept (blocks s) (vacancies s)) (spots n)
   pub bad : has_bad ≡ nat_lt 0 (count_by (λ (s : Spot). is_bad (blocks s)) (spots n))
 
 -- Dies
@@ -98,8 +101,7 @@ IsStepCell (Some (steps.Copy n k from (Some read))) (GroupPage tag body) =
     (tag.number ≡ n) × (tag.index ≡ read.index)
 IsStepCell step cell = ⊥
 
--- the job in flight on a die; an erase is in flight only where no block is open, and the page of an accepted group only
--- where no repair is under way
+-- the job in flight on a die; the page of an accepted group is in flight only where no repair is under way
 abbrev pub IsFlight : Numbers → Option kept_step.Step → ℕ → Option OpenBlock → Option Flight → Option disk.Flight →
     Type 0
 IsFlight n step die filling None None = Unit {0}
@@ -110,7 +112,7 @@ IsFlight n step die filling (Some (flight.Step place)) (Some (disk.Programming p
 IsFlight n step die filling (Some (flight.Group place number i)) (Some (disk.Programming p (GroupPage tag body))) =
     (p ≡ place) × IsNext die filling place × (tag.number ≡ number) × (tag.index ≡ i) × (repairs_in step ≡ 0)
 IsFlight n step die filling (Some (flight.Erase block)) (Some (disk.Erasing s)) =
-    (s ≡ spot_at die block) × (block < n.blocks) × (filling ≡ None)
+    (s ≡ spot_at die block) × (block < n.blocks)
 IsFlight n step die filling kept other = ⊥
 
 -- what is kept of a die: the block that it fills, and the job that it has in flight
@@ -326,7 +328,7 @@ pub record PlanKept (n : Numbers) (plan : Option Collection) (w : Option layer.P
 -- what the layer keeps agrees with the specified layer, part by part
 pub record Kept (c : Core) (t : Translation) : Type 0 where
   pub numbers : c.numbers ≡ t.numbers
-  pub blocks : BlocksKept t.numbers t.disk.blocks c.states c.has_bad
+  pub blocks : BlocksKept t.numbers t.disk.blocks t.disk.vacancies c.states c.has_bad
   pub dies : DiesKept t.numbers t.disk.blocks t.disk.flights c.step c.rows
   pub fly : PagesFly t.ledger.standing t.disk.flights c.rows
   pub ledger_kept : LedgerKept c.numbers c.places c.pages c.frontier c.last t.ledger

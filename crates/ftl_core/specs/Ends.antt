@@ -107,11 +107,11 @@ mending_after m = mending.Mended
 abbrev pub mark_over : Core → Core
 mark_over c = record c { step = None; mending = mending_after c.mending }
 
--- the block of a collection is free behind its mark, unless it is bad
+-- the block of a collection is free behind its mark and to be erased, unless it is bad
 abbrev pub block_freed : Core → Spot → Core
 block_freed c s = with_state c s.die s.block (freed_state (state_of c s.die s.block))
 
--- the begun collection, if there is one, is over, and its block is free unless it is bad
+-- the begun collection, if there is one, is over, and its block is free and to be erased unless it is bad
 abbrev pub plan_freed : Core → Option Collection → Core
 plan_freed c None = c
 plan_freed c (Some p) = record (block_freed c p.victim) { plan = None }

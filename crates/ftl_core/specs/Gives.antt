@@ -44,7 +44,7 @@ abbrev pub step_ended : Core → ℕ → DieRow → Place → Bool → Core
 step_ended c die b place true = step_written c die b place
 step_ended c die b place false = step_failed c die place
 
--- an erase ended: well, and the die fills the block; or it failed, and the block is bad
+-- an erase ended: well, and the block may be filled; or it failed, and the block is bad
 abbrev pub erase_ended : Core → ℕ → ℕ → Bool → Core
 erase_ended c die block true = erased c die block
 erase_ended c die block false = went_bad c die block

@@ -3,7 +3,7 @@ use Rattle.ufs_spec.specs.Pages.{greatest_number}
 use Rattle.ufs_spec.specs.declared.configs.Numbers.{Numbers}
 use Rattle.std.specs.Prelude.{ℕ, ◌+◌, ◌-◌, ◌*◌, ◌==◌, min, nat_le, nat_lt, Bool, true, false, ◌&&◌, ◌||◌, not}
 use Rattle.std.specs.Prelude.{if◌then◌else◌, List, [], ◌++◌, length, map, replicate, count_by, slice_get, slice_set}
-use Rattle.std.specs.Prelude.{Option, Some, None, unwrap_or, option_map, filter, find, is_none, is_some}
+use Rattle.std.specs.Prelude.{Option, Some, None, unwrap_or, option_map, filter, find, is_none}
 use Rattle.std.specs.List.{list_any}
 use Rattle.ufs_spec.specs.Keys.{below}
 use Rattle.ufs_spec.specs.Plain.{zero_block}
@@ -16,6 +16,7 @@ use Rattle.block_table.specs.declared.BlockState.TheVariants as state
 use Rattle.block_table.specs.declared.rows.OpenBlock.{OpenBlock}
 use Rattle.block_table.specs.declared.rows.DieRow.{DieRow}
 use Rattle.block_table.specs.declared.rows.Flight.{Flight}
+use Rattle.block_table.specs.declared.rows.Flight.TheVariants as flight
 use Rattle.unit_map.specs.declared.Stored.{Stored}
 use Rattle.write_cache.specs.declared.slots.Claimed.{Claimed}
 use Rattle.write_cache.specs.declared.slots.Pending.{Pending}
@@ -33,10 +34,10 @@ use Rattle.recovery.specs.declared.found.Found.{Found}
 use Rattle.recovery.specs.declared.keys.FoundBlock.{FoundBlock}
 use Rattle.recovery.specs.declared.keys.FoundBlock.TheVariants as found
 use Rattle.recovery.specs.declared.pages.FoundPage.{FoundPage}
-use Rattle.block_table.specs.Blocks.{is_free}
+use Rattle.block_table.specs.Blocks.{is_free, is_stale}
 pub use Rattle.block_table.specs.Rows.{erases, fills, flight_erases, flight_reads, flight_set, flight_without}
-pub use Rattle.block_table.specs.Rows.{flight_without_block, idle_row, reads_for, rows_in_flight, without_block}
-pub use Rattle.block_table.specs.Rows.{without_reader}
+pub use Rattle.block_table.specs.Rows.{flight_without_block, idle_row, reads_for, rows_failed, rows_in_flight}
+pub use Rattle.block_table.specs.Rows.{without_block, without_reader}
 use Rattle.unit_map.specs.Places.{stored_in}
 use Rattle.write_cache.specs.Slots.{claim_filled, empty_claim, is_claim_of, is_named, key_at, last_page, page_claimed}
 use Rattle.ftl_core.specs.Core.{Core}
@@ -48,12 +49,14 @@ use Rattle.ftl_core.specs.KnownLive.{lives_of_places}
 -- one began
 abbrev pub state_of_found : FoundBlock → BlockState
 state_of_found found.Free = state.Free
+state_of_found found.Stale = state.Stale
 state_of_found found.Closed = state.Closed
 state_of_found found.Bad = state.Bad
 
 -- the scan found the block bad
 abbrev pub is_bad_found : FoundBlock → Bool
 is_bad_found found.Free = false
+is_bad_found found.Stale = false
 is_bad_found found.Closed = false
 is_bad_found found.Bad = true
 
@@ -170,9 +173,23 @@ keeps_page die block _ = false
 abbrev pub keeps : ℕ → ℕ → Pin → Bool
 keeps die block p = keeps_page die block p.looked
 
--- a free block, of which no reader keeps a page, may be erased
-abbrev pub is_erasable : Core → ℕ → ℕ → Bool
-is_erasable c die block = is_free (state_of c die block) && not (list_any (keeps die block) c.pins)
+-- two states are the same
+abbrev pub is_so : BlockState → BlockState → Bool
+is_so state.Free state.Free = true
+is_so state.Stale state.Stale = true
+is_so state.Ready state.Ready = true
+is_so state.Open state.Open = true
+is_so state.Closed state.Closed = true
+is_so state.Bad state.Bad = true
+is_so a b = false
+
+-- a block that is so, and of which no reader keeps a page, may be used
+abbrev pub may_be_used : Core → ℕ → BlockState → ℕ → Bool
+may_be_used c die s block = is_so (state_of c die block) s && not (list_any (keeps die block) c.pins)
+
+-- some block is stale, so no step is ordered before it was erased
+abbrev pub has_stale : Core → Bool
+has_stale c = list_any is_stale c.states
 
 -- What is owed to a die
 
@@ -189,7 +206,7 @@ is_owed_by rows die p = p.wanted && looks_on die p.looked && not (list_any (read
 abbrev pub has_room_for_groups : Core → Bool
 has_room_for_groups c = nat_le (own_room c.numbers) (free_blocks c)
 
--- a block of some die is being filled, or is being erased to be filled
+-- a block of some die is being filled, or is being erased
 abbrev pub has_open_block : Core → Bool
 has_open_block c = list_any fills c.rows || list_any erases c.rows
 
@@ -207,9 +224,28 @@ abbrev pub may_open : Core → Waiting → Bool
 may_open c waiting.Step = may_open_for_step c
 may_open c (waiting.Group n i) = may_open_for_group c
 
--- the die has this job in flight, over the open block that it had
+-- a block that is filled from its first page on
+abbrev pub first_page : ℕ → OpenBlock
+first_page block = record { block = block; next = 0 }
+
+-- the block that a die begins to fill with the job: that of a program, where the die fills none
+abbrev pub begins : Option OpenBlock → Flight → Option ℕ
+begins None (flight.Step place) = Some place.block
+begins None (flight.Group place n i) = Some place.block
+begins filling f = None
+
+-- the die has the job in flight: over the block that it fills, or over one that it begins to fill
+abbrev pub started_with : Core → ℕ → Option OpenBlock → Flight → Option ℕ → Core
+started_with c die filling f None = with_row c die record { filling = filling; flight = Some f }
+started_with c die filling f (Some block) =
+    with_row (with_state c die block state.Open) die record {
+      filling = Some (first_page block);
+      flight = Some f;
+    }
+
+-- the die has this job in flight, and fills the block that the job begins, if it begins one
 abbrev pub started : Core → ℕ → DieRow → Flight → Core
-started c die b f = with_row c die record { filling = b.filling; flight = Some f }
+started c die b f = started_with c die b.filling f (begins b.filling f)
 
 -- the die has this job in flight from now on, or none
 abbrev pub in_flight : Core → ℕ → Option Flight → Core
@@ -251,21 +287,14 @@ page_written c die b (Some o) =
     then with_row c die record { filling = Some (record { block = o.block; next = o.next + 1 }); flight = None }
     else with_row (with_state c die o.block state.Closed) die record { filling = None; flight = None }
 
--- the block is bad from now on, and the die fills no block
+-- the block is bad from now on; the die has no job, and fills this block no more
 abbrev pub went_bad : Core → ℕ → ℕ → Core
 went_bad c die block =
-    with_row (record (with_state c die block state.Bad) { has_bad = true }) die record {
-      filling = None;
-      flight = None;
-    }
+    record (with_state c die block state.Bad) { has_bad = true; rows = rows_failed c.rows die block }
 
--- an erase ended well: the die fills the block, from its first page on
+-- an erase ended well: the block may be filled; the die has no job, and fills what it filled before
 abbrev pub erased : Core → ℕ → ℕ → Core
-erased c die block =
-    with_row (with_state c die block state.Open) die record {
-      filling = Some (record { block = block; next = 0 });
-      flight = None;
-    }
+erased c die block = record (with_state c die block state.Ready) { rows = rows_in_flight c.rows die None }
 
 -- Looking
 

@@ -12,6 +12,8 @@ use Rattle.ufs_spec.specs.declared.flash.Tag.{Tag}
 use Rattle.ufs_spec.specs.declared.flash.Fence.{Fence}
 use Rattle.ufs_spec.specs.declared.flash.Key.{Key}
 use Rattle.ufs_spec.specs.declared.flash.Place.{Place}
+use Rattle.block_table.specs.declared.BlockState.{BlockState}
+use Rattle.block_table.specs.declared.BlockState.TheVariants as state
 use Rattle.block_table.specs.declared.rows.OpenBlock.{OpenBlock}
 use Rattle.block_table.specs.declared.rows.DieRow.{DieRow}
 use Rattle.block_table.specs.declared.rows.Flight.{Flight}
@@ -28,7 +30,8 @@ use Rattle.ftl_core.specs.declared.books.Waiting.TheVariants as waiting
 use Rattle.ftl_core.specs.Core.{Core}
 pub use Rattle.block_table.specs.Rows.{flight_writes, is_step_flight, is_step_reading, reads_step, writes_page}
 pub use Rattle.block_table.specs.Rows.{writes_step}
-use Rattle.ftl_core.specs.Moves.{has_room_for_groups, is_erasable, is_owed_by, mark_key, may_open, single_tag, started}
+use Rattle.ftl_core.specs.Moves.{first_page, has_room_for_groups, is_owed_by, mark_key, may_be_used, may_open}
+use Rattle.ftl_core.specs.Moves.{single_tag, started}
 use Rattle.write_cache.specs.Slots.{is_named}
 use Rattle.ftl_core.specs.Moves.{tag_of_page}
 
@@ -89,13 +92,27 @@ abbrev pub page_flight : Place → Waiting → Flight
 page_flight place waiting.Step = flight.Step place
 page_flight place (waiting.Group n i) = flight.Group place n i
 
--- the block of the die that is erased for what waits, where one may be opened for it
-abbrev pub block_for : Core → ℕ → Waiting → Option ℕ
-block_for c die w = if may_open c w then lowest_below (is_erasable c die) c.numbers.blocks else None
+-- the lowest block of the die that is so and has no pin
+abbrev pub lowest : Core → ℕ → BlockState → Option ℕ
+lowest c die s = lowest_below (may_be_used c die s) c.numbers.blocks
 
--- what waits is programmed into the open block, and where none is open one is erased
+-- the erase of that block
+abbrev pub erase_of : Core → ℕ → BlockState → Option Flight
+erase_of c die s = option_map flight.Erase (lowest c die s)
+
+-- what waits is programmed into this block, which was erased in this life; without one a free block is erased
+abbrev pub flight_into : Core → ℕ → Waiting → Option ℕ → Option Flight
+flight_into c die w (Some block) = Some (page_flight (next_place die (first_page block)) w)
+flight_into c die w None = erase_of c die state.Free
+
+-- what opens a block of the die for what waits, where one may be opened for it: the lowest that was erased in this
+-- life is filled, else one is erased
+abbrev pub opening_flight : Core → ℕ → Waiting → Option Flight
+opening_flight c die w = if may_open c w then flight_into c die w (lowest c die state.Ready) else None
+
+-- what waits is programmed into the open block, and where none is open one is opened
 abbrev pub waiting_flight : Core → ℕ → Option OpenBlock → Waiting → Option Flight
-waiting_flight c die None w = option_map flight.Erase (block_for c die w)
+waiting_flight c die None w = opening_flight c die w
 waiting_flight c die (Some o) w = Some (page_flight (next_place die o) w)
 
 -- where what was looked up is to be read from; a slot, or a key that was never written, needs no read
@@ -132,9 +149,14 @@ abbrev pub owed_read : Core → ℕ → Option ℕ → Option Flight
 owed_read c die None = step_read c die
 owed_read c die (Some k) = option_and_then read_of (slice_get c.pins k)
 
--- a read goes before all that waits
+-- the erase of a stale block goes before all that waits
+abbrev pub unread_flight : Core → ℕ → Option OpenBlock → Option Flight → Option Flight
+unread_flight c die filling None = option_and_then (waiting_flight c die filling) (waiting_of c)
+unread_flight c die filling (Some f) = Some f
+
+-- a read goes before all else
 abbrev pub owed_flight : Core → ℕ → Option OpenBlock → Option Flight → Option Flight
-owed_flight c die filling None = option_and_then (waiting_flight c die filling) (waiting_of c)
+owed_flight c die filling None = unread_flight c die filling (erase_of c die state.Stale)
 owed_flight c die filling (Some f) = Some f
 
 -- What the die is told

@@ -1,6 +1,6 @@
 -- Which step is due, as the code finds it, and what it makes of what is kept. Describes says what that means.
 use Rattle.std.specs.Prelude.{◌≡◌, ◌&&◌, Bool, true, false, List, [], ◌∷◌, is_none, is_some, slice_get, Option, Some}
-use Rattle.std.specs.Prelude.{None, option_map}
+use Rattle.std.specs.Prelude.{None, not, option_map}
 use Rattle.ufs_spec.specs.declared.flash.Key.{Key}
 use Rattle.collector.specs.Plans as plans
 use Rattle.collector.specs.Plans.{Collection, IsCollected}
@@ -10,7 +10,7 @@ use Rattle.ftl_core.specs.declared.books.Mending.TheVariants as mending
 use Rattle.ftl_core.specs.declared.books.Step.TheVariants as step
 use Rattle.ftl_core.specs.Collects.{victim, wants_collection}
 use Rattle.ftl_core.specs.Core.{Core}
-use Rattle.ftl_core.specs.Moves.{has_mark_number, has_number, mark_ordered, repair_ordered}
+use Rattle.ftl_core.specs.Moves.{has_mark_number, has_number, has_stale, mark_ordered, repair_ordered}
 
 -- Mending
 
@@ -90,9 +90,9 @@ is_step_due c (mending.Unmarked fence) = has_mark_number c
 is_step_due c mending.Repairing = is_repair_due c (slice_get c.lost c.repaired)
 is_step_due c mending.Mended = is_collection_due c c.plan
 
--- a step may be ordered: none is under way, and one is due
+-- a step may be ordered: none is under way, no block is stale, and one is due
 abbrev pub is_turn_due : Core → Bool
-is_turn_due c = is_none c.step && is_step_due c c.mending
+is_turn_due c = is_none c.step && not (has_stale c) && is_step_due c c.mending
 
 -- what one step makes of what is kept, where one is due
 abbrev pub IsStepTurned : Core → Mending → Core → Type 0

@@ -192,6 +192,7 @@ fn state_of_found(block: FoundBlock) -> BlockState
 {
     match block {
         FoundBlock::Free => BlockState::Free,
+        FoundBlock::Stale => BlockState::Stale,
         FoundBlock::Closed => BlockState::Closed,
         FoundBlock::Bad => BlockState::Bad,
     }

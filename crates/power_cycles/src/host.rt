@@ -16,6 +16,13 @@ const WRITING: u8 = 7;
 
 const READING: u8 = 8;
 
+const OPEN: [u8; 3] = [9, 10, 11];
+
+/// So many blocks each READ has that stays open, and so many they have together.
+const EACH_OPEN: u16 = 4;
+
+pub const OPEN_BLOCKS: u32 = 12;
+
 /// The transaction code of DATA IN, in byte 0 of a message.
 const DATA_IN: u8 = 0x22;
 
@@ -177,6 +184,28 @@ impl Player {
             self.round(Stop::Never)?;
         }
         Err(Fault::Stuck(Wait::Reading))
+    }
+
+    /// READs of one stretch of blocks from this address on are begun. They stay open: nobody takes their replies.
+    pub fn begin_reads(&mut self, address: u32) -> Result<(), Fault> {
+        let mut first = address;
+        for tag in OPEN {
+            if !self.send(&command(tag, READ, 0, first, EACH_OPEN))? {
+                return Err(Fault::Stuck(Wait::Reading));
+            }
+            first = first.wrapping_add(u32::from(EACH_OPEN));
+        }
+        Ok(())
+    }
+
+    /// Rounds until the stop is due, or until there is nothing to do.
+    pub fn work_until(&mut self, stop: Stop) -> Result<(), Fault> {
+        for _ in 0..MOST_ROUNDS {
+            if self.round(stop)? != Round::Worked {
+                return Ok(());
+            }
+        }
+        Ok(())
     }
 
     /// A FUA write of this stamp is answered GOOD, and read.

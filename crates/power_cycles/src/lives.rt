@@ -1,5 +1,6 @@
 //! Lives of a device one after another, each from an opening to a stop.
 use crate::fault::Fault;
+use crate::host::OPEN_BLOCKS;
 use crate::kept::Kept;
 use crate::player::{Player, Stop};
 use crate::shapes::{PAGES, Shape};
@@ -42,10 +43,13 @@ pub enum Plan {
     EachJob,
     /// The same, while one die in turn does none of its jobs: the first that it has stays in flight.
     HeldDie,
+    /// The device is mended and written, and READs are begun whose replies nobody takes. The stop comes in the middle
+    /// of the collection beside them, in each other life while a die does none of its jobs.
+    OpenReads,
 }
 
 /// All of these.
-pub const PLANS: [Plan; 7] = [
+pub const PLANS: [Plan; 8] = [
     Plan::NoWrite,
     Plan::OneWrite,
     Plan::FirstMark,
@@ -53,6 +57,7 @@ pub const PLANS: [Plan; 7] = [
     Plan::SameJob,
     Plan::EachJob,
     Plan::HeldDie,
+    Plan::OpenReads,
 ];
 
 impl Plan {
@@ -66,6 +71,7 @@ impl Plan {
             Plan::SameJob => "same-job",
             Plan::EachJob => "each-job",
             Plan::HeldDie => "held-die",
+            Plan::OpenReads => "open-reads",
         }
     }
 }
@@ -184,16 +190,35 @@ impl Series {
         Ok(())
     }
 
+    /// One die in turn is held, if there are several.
+    fn hold(&mut self, life: u32) {
+        if self.shape.dies > 1 {
+            self.player.held = Some((life / 2 % u32::from(self.shape.dies.max(1))) as u8);
+        }
+    }
+
     /// The device is mended; then a die is held while it is written until the stop is due.
     fn live_beside_held(&mut self, life: u32) -> Result<(), Fault> {
         if life % 2 == 0 {
             self.mend(Stop::Never)?;
         }
-        if self.shape.dies > 1 {
-            self.player.held = Some((life / 2 % u32::from(self.shape.dies.max(1))) as u8);
-        }
+        self.hold(life);
         let jobs = self.jobs_of(life).saturating_add(MOST_JOBS);
         self.mend_and_write(life, Stop::AfterJobs(jobs))
+    }
+
+    /// The device is mended and written; then READs stay open while it works on until the stop is due.
+    fn live_beside_reads(&mut self, life: u32) -> Result<(), Fault> {
+        self.mend(Stop::Never)?;
+        self.player
+            .write_batch(&mut self.kept, batch_of(life), Stop::Never)?;
+        if life % 2 == 1 {
+            self.hold(life);
+        }
+        self.player
+            .begin_reads(self.kept.address_of(life, OPEN_BLOCKS))?;
+        let jobs = self.player.done.saturating_add(self.jobs_of(life));
+        self.player.work_until(Stop::AfterJobs(jobs))
     }
 
     /// What the host does in this life, up to its stop.
@@ -216,6 +241,7 @@ impl Series {
                 self.write_to_mark(life)?;
             }
             Plan::HeldDie => self.live_beside_held(life)?,
+            Plan::OpenReads => self.live_beside_reads(life)?,
             Plan::SameJob | Plan::EachJob => {
                 let jobs = self.jobs_of(life);
                 self.mend_and_write(life, Stop::AfterJobs(jobs))?;

@@ -10,7 +10,7 @@ pub use Rattle.power_loss.specs.Invariant.{IsSecure, IsToCopy, LookedRight, Mark
 pub use Rattle.power_loss.specs.Invariant.{MarksRight, MendingRight, OnePlanRight, PagesRight, PinsRight, PlanRight}
 pub use Rattle.power_loss.specs.Invariant.{ProgramRight, ReadsRight, RepairingRight, RestsRight, SafeRight, SlotsRight}
 pub use Rattle.power_loss.specs.Invariant.{SourceRight, Standing, StandsIn, StepKindRight, StepRight, ToReadRight}
-pub use Rattle.power_loss.specs.Invariant.{IsThereOrSpare, MayBeErased, Valid}
+pub use Rattle.power_loss.specs.Invariant.{AreNoneStale, IsThereOrSpare, MayBeErased, StaleRight, VacanciesRight, Valid}
 pub use Rattle.std.proofs.Common.{All, Bool, List, None, Option, Some, [], ap, arith, cond, drop, false, fold, get_or}
 pub use Rattle.std.proofs.Common.{if◌then◌else◌, inl, inr, is_none, is_some, length, lt-ltb, map, min, not, refl}
 pub use Rattle.std.proofs.Common.{replicate, slice_get, subst, suc, sym, take, true, zero, ℕ, ⊎_elim, ◌&&◌, ◌*◌, ◌++◌}
@@ -44,9 +44,10 @@ pub use Rattle.ufs_spec.specs.Cells.{AreWithin, Array, Cell, Cells, DataHold, Gr
 pub use Rattle.ufs_spec.specs.Cells.{MarkPage, Nothing, Opens, Shows, key_of, mark_tag, same_place}
 pub use Rattle.ufs_spec.specs.Disk.{Bad, BlockState, CellCrash, Closed, Crash, Disk, Erasing, Filling, Flight}
 pub use Rattle.ufs_spec.specs.Disk.{ForNobody, ForRest, ForStep, ForTask, Free, HasCopy, IsNewestFinished, IsReplaced}
-pub use Rattle.ufs_spec.specs.Disk.{MayErase, Programming, Reader, Reading, Spent, SpentBy, Spot, Touches, at_die}
-pub use Rattle.ufs_spec.specs.Disk.{at_place, at_spot, erase_failed, erased, flight_alone, job_begun, page_of, place_in}
-pub use Rattle.ufs_spec.specs.Disk.{program_failed, programmed, same_spot, spot_of, state_after, with_erasing}
+pub use Rattle.ufs_spec.specs.Disk.{MayErase, Programming, Reader, Reading, Ready, Spent, SpentBy, Spot, Stale, Touches}
+pub use Rattle.ufs_spec.specs.Disk.{Untouched, Vacancy, at_die, at_place, at_spot, blocks_begun, erase_failed, erased}
+pub use Rattle.ufs_spec.specs.Disk.{flight_alone, job_begun, page_of, place_in, program_failed, programmed, same_spot}
+pub use Rattle.ufs_spec.specs.Disk.{spot_of, state_after, with_erasing}
 pub use Rattle.ufs_spec.specs.Kept.{CellsStandFor, Counts, HasPage, HoldAll, Holds, IsFenced, IsKept, IsNewestMark}
 pub use Rattle.ufs_spec.specs.Kept.{IsRecorded, IsWhole, StandsFor, fence_in, recorded_in}
 pub use Rattle.ufs_spec.specs.Keys.{CanApplyAll, Contents, Group, IsArea, IsBlock, IsCommand, IsData, IsKey, IsPlain}

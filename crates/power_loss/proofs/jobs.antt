@@ -4,6 +4,7 @@ pub mod EraseEnded
 pub mod JobsBegin
 pub mod LawfulFailures
 pub mod MarkEnded
+pub mod NoneStale
 pub mod PageEnded
 pub mod ProgramEnded
 pub mod ProgramFailed

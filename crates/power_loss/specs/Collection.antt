@@ -1,6 +1,6 @@
 -- Which block is to be collected, and when.
-use Rattle.std.specs.Prelude.{◌≡◌, ◌⊎◌, ◌+◌, ◌*◌, ◌<◌, ◌≤◌, true, false, None}
-use Rattle.ufs_spec.specs.Disk.{Bad, Closed, Spot}
+use Rattle.std.specs.Prelude.{◌≡◌, ◌≢◌, ◌⊎◌, ◌+◌, ◌*◌, ◌<◌, ◌≤◌, true, false, None}
+use Rattle.ufs_spec.specs.Disk.{Bad, Closed, Free, Spot, Stale}
 use Rattle.ufs_spec.specs.Translation.{Translation, count_blocks, has_mark_number, is_free, is_mended, is_pinned}
 use Rattle.ufs_spec.specs.Translation.{live_count, own_room}
 use Rattle.power_loss.specs.Exchange.{IsSpot}
@@ -40,11 +40,17 @@ AreFewFree t =
 abbrev pub IsRoomScarce : Translation → Type 0
 IsRoomScarce t = AreFewFree t ⊎ ((s : Spot) × IsBadWithLive t s)
 
--- collection is due: the device is mended, nothing is under way, a block can be collected and room is scarce
+-- no free block is to be erased for pages of it that may go
+abbrev pub IsNoneStale : Translation → Type 0
+IsNoneStale t = (s : Spot) → IsSpot t.numbers s → t.disk.blocks s ≡ Free → t.disk.vacancies s ≢ Stale
+
+-- collection is due: the device is mended, nothing is under way, no free block is to be erased first, a block can be
+-- collected and room is scarce
 pub record IsCollectionDue (t : Translation) : Type 0 where
   pub mended : is_mended t.work.mending ≡ true
   pub no_step : t.work.step ≡ None
   pub no_plan : t.work.plan ≡ None
+  pub none_stale : IsNoneStale t
   pub number : has_mark_number t ≡ true
   pub some : (s : Spot) × CanBeCollected t s
   pub scarce : IsRoomScarce t

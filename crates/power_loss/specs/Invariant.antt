@@ -4,7 +4,7 @@ use Rattle.std.specs.Prelude.{◌≡◌, ◌≢◌, ◌⊎◌, ℕ, suc, ◌+◌
 use Rattle.std.specs.Prelude.{Option, Some, None, slice_get}
 use Rattle.ufs_spec.specs.Cells.{AreWithin, Cell, Cells, GroupPage, IsPlace, Mark, MarkPage, Nothing}
 use Rattle.ufs_spec.specs.Disk.{BlockState, Bad, Closed, Disk, Erasing, Filling, Flight, Free, Programming, Reader}
-use Rattle.ufs_spec.specs.Disk.{Reading, Spot, spot_of}
+use Rattle.ufs_spec.specs.Disk.{Reading, Ready, Spot, Stale, Vacancy, spot_of}
 use Rattle.ufs_spec.specs.Keys.{Group, Item, put_groups}
 use Rattle.ufs_spec.specs.Kept.{HoldAll, IsKept, IsNewestMark, recorded_in}
 use Rattle.ufs_spec.specs.Ledger.{Entry, InSlot, Ledger, Looked, Name, OnPage, Unwritten, accepted_groups}
@@ -67,6 +67,12 @@ pub record BlocksRight (numbers : Numbers) (cells : Cells) (finished : Place →
   pub blank : (p : Place) (next : ℕ) → blocks (spot_of p) ≡ Filling next → next ≤ p.page → cells p ≡ Nothing
   -- a block whose erase is in flight is free, and one whose erase failed is bad
   pub erased : (s : Spot) → erasing s ≡ true → (blocks s ≡ Free) ⊎ (blocks s ≡ Bad)
+
+-- a free block has pages only if it is stale, and one that was erased in this life is not being erased again
+pub record VacanciesRight (cells : Cells) (blocks : Spot → BlockState) (vacancies : Spot → Vacancy)
+    (erasing : Spot → Bool) : Type 0 where
+  pub empty : (p : Place) → blocks (spot_of p) ≡ Free → vacancies (spot_of p) ≢ Stale → cells p ≡ Nothing
+  pub ready : (s : Spot) → blocks s ≡ Free → vacancies s ≡ Ready → erasing s ≡ false
 
 -- Jobs
 
@@ -419,6 +425,21 @@ pub record UnmendedRight (b : Book) (mended : Bool) (standing : Standing) (cells
 pub record SlotsRight (slots pending claims : ℕ) : Type 0 where
   pub within : pending + claims ≤ slots
 
+-- Free blocks that are to be erased
+
+-- no free block of the dies is still to be erased for pages of it that may go
+abbrev pub AreNoneStale : Numbers → (Spot → BlockState) → (Spot → Vacancy) → Type 0
+AreNoneStale numbers blocks vacancies =
+    (s : Spot) → s.die < numbers.dies → s.block < numbers.blocks → blocks s ≡ Free → vacancies s ≢ Stale
+
+-- from the order of the first mark on there is none until the device is mended: none is when it is ordered, and no
+-- victim is freed meanwhile
+abbrev pub StaleRight : Numbers → (Spot → BlockState) → (Spot → Vacancy) → Option Step → Mending → Type 0
+StaleRight numbers blocks vacancies step (Unmarked fence lost) =
+    (s : Step) → step ≡ Some s → AreNoneStale numbers blocks vacancies
+StaleRight numbers blocks vacancies step (Repairing left) = AreNoneStale numbers blocks vacancies
+StaleRight numbers blocks vacancies step Mended = Unit {0}
+
 -- All of it
 
 -- the invariant of the translation layer: what holds between any two of its moves, one record for each part
@@ -427,6 +448,8 @@ pub record Valid (t : Translation) : Type 0 where
   pub frontier : FrontierRight (book t) t.ledger.standing t.ledger.frontier
   pub pages : PagesRight (book t) t.ledger.standing t.ledger.frontier t.disk.cells t.disk.finished
   pub blocks : BlocksRight t.numbers t.disk.cells t.disk.finished t.disk.blocks t.disk.erasing
+  pub vacancies : VacanciesRight t.disk.cells t.disk.blocks t.disk.vacancies t.disk.erasing
+  pub stale : StaleRight t.numbers t.disk.blocks t.disk.vacancies t.work.step t.work.mending
   pub flights : FlightsRight (book t) t.ledger.frontier t.ledger.marks t.disk.blocks t.disk.erasing t.disk.flights
       t.work.step
   pub safe : SafeRight (book t) (recorded_in t.ledger.newest) t.ledger.standing t.disk.cells t.disk.finished

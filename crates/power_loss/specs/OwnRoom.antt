@@ -1,6 +1,7 @@
 -- How many free blocks groups leave to the device's own pages, and what a die is given them for.
-use Rattle.std.specs.Prelude.{◌≡◌, ℕ, ◌+◌, ◌*◌, ◌≤◌, Some}
+use Rattle.std.specs.Prelude.{◌≡◌, ◌≢◌, ℕ, ◌+◌, ◌*◌, ◌≤◌, Some}
 use Rattle.ufs_spec.specs.Cells.{Cell}
+use Rattle.ufs_spec.specs.Disk.{Erasing, Flight, Free, Programming, Reading, Stale, spot_of}
 use Rattle.ufs_spec.specs.Translation.{Translation, waiting_step}
 use Rattle.ufs_spec.specs.declared.configs.Numbers.{Numbers}
 
@@ -18,3 +19,10 @@ pub record IsOwnRoom (n : Numbers) (room : ℕ) : Type 0 where
 -- this is the page of the step under way, its content is there, and no die programs it yet
 abbrev pub IsWaitingStep : Translation → Cell → Type 0
 IsWaitingStep t cell = waiting_step t t.work.step ≡ Some cell
+
+-- this job opens a block: it erases one to fill it, not for pages of it that may go, or it programs into one that is
+-- free still
+abbrev pub OpensBlock : Translation → Flight → Type 0
+OpensBlock t (Erasing s) = t.disk.vacancies s ≢ Stale
+OpensBlock t (Programming p cell) = t.disk.blocks (spot_of p) ≡ Free
+OpensBlock t (Reading reader place) = ⊥

@@ -14,7 +14,8 @@ pub fn the_victim_has_the_fewest_live_pages()
     ensures none { (t : Translation) (s : Spot) → victim t ≡ None → CanBeCollected t s → ⊥ }
 {}
 
-/// A collection begins exactly when it is due, and it begins with the victim.
+/// A collection begins exactly when it is due, and it begins with the victim. None is due while a free block
+/// is still to be erased for pages of it that may go.
 pub fn collection_is_due_when_it_should()
     ensures due { (t : Translation) → IsCollectionDue t → is_step_due t ≡ true }
     ensures only { (t : Translation) → is_mended t.work.mending ≡ true → t.work.plan ≡ None → is_step_due t ≡ true →

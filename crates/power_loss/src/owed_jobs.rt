@@ -1,7 +1,7 @@
 //! The laws of owed jobs: what a die may be given while others work.
 ghost use Rattle.std.specs.Prelude.{◌≡◌, ◌≢◌, ◌⊎◌, ◌<◌, ◌≤◌, ℕ, Bool, false, true, List, Option, Some, None};
 ghost use Rattle.ufs_spec.specs.Cells.{Cell, GroupPage, Mark, MarkPage};
-ghost use Rattle.ufs_spec.specs.Disk.{Erasing, Filling, ForStep, Programming, Reader, Reading, Spot};
+ghost use Rattle.ufs_spec.specs.Disk.{Erasing, Filling, Flight, ForStep, Programming, Reader, Reading, Spot};
 ghost use Rattle.ufs_spec.specs.Ledger.{Name};
 ghost use Rattle.ufs_spec.specs.Moves.{EndJob, Move, ReadRight, moved};
 ghost use Rattle.ufs_spec.specs.Translation.{CopyStep, MayTake, Translation, count_blocks, is_free, name_of, own_room, turned};
@@ -10,7 +10,7 @@ ghost use Rattle.ufs_spec.specs.declared.flash.Place.{Place};
 ghost use Rattle.ufs_spec.specs.declared.flash.Tag.{Tag};
 ghost use Rattle.power_loss.specs.Exchange.{IsSpot};
 ghost use Rattle.power_loss.specs.OwedJobs.{IsFirstProgram, IsStepsPage};
-ghost use Rattle.power_loss.specs.OwnRoom.{IsOwnRoom, IsWaitingStep};
+ghost use Rattle.power_loss.specs.OwnRoom.{IsOwnRoom, IsWaitingStep, OpensBlock};
 
 /// While a die programs a page, a copy or a mark, no die is given the same; and while a die does a wanted read, no
 /// die is given a read for the same reader.
@@ -44,23 +44,25 @@ pub fn a_copy_is_programmed_after_its_read()
         (there ≡ false) × (place ≡ from) }
 {}
 
-/// A page of a group is given to no die while fewer blocks are free than groups leave to the device's own pages, and no
-/// block is erased for one unless more are free. What is given then is for the page of the step under way that waits.
+/// A page of a group is given to no die while fewer blocks are free than groups leave to the device's own
+/// pages, and no block is opened for one unless more are free. What is given then is for the page of the step
+/// under way that waits. A free block with pages that may go is erased whatever is free, since that opens none.
 pub fn groups_leave_room()
     ensures room { (n : Numbers) → 1 ≤ n.pages → IsOwnRoom n (own_room n) }
     ensures page { (t : Translation) (die : ℕ) (p : Place) (cell : Cell) → MayTake t die (Some (Programming p cell)) →
         IsWaitingStep t cell ⊎ (own_room t.numbers ≤ count_blocks t is_free) }
-    ensures block { (t : Translation) (die : ℕ) (s : Spot) → MayTake t die (Some (Erasing s)) →
+    ensures block { (t : Translation) (die : ℕ) (flight : Flight) → MayTake t die (Some flight) → OpensBlock t flight →
         ((cell : Cell) × IsWaitingStep t cell) ⊎ (own_room t.numbers < count_blocks t is_free) }
 {}
 
-/// While fewer blocks are free than groups leave, the device opens one block after another: a die is given the erase of a
-/// block only where no block is being filled and no die erases one.
+/// While fewer blocks are free than groups leave, the device opens one block after another: a die is given
+/// the erase of a block to fill it, or the first page of one that was erased before, only where no block is
+/// being filled and no die erases one.
 pub fn one_block_after_another()
-    ensures filled { (t : Translation) (die : ℕ) (s opened : Spot) (next : ℕ) →
-        MayTake t die (Some (Erasing s)) → count_blocks t is_free < own_room t.numbers →
+    ensures filled { (t : Translation) (die : ℕ) (flight : Flight) (opened : Spot) (next : ℕ) →
+        MayTake t die (Some flight) → OpensBlock t flight → count_blocks t is_free < own_room t.numbers →
         IsSpot t.numbers opened → t.disk.blocks opened ≡ Filling next → ⊥ }
-    ensures erased { (t : Translation) (die other : ℕ) (s opened : Spot) →
-        MayTake t die (Some (Erasing s)) → count_blocks t is_free < own_room t.numbers →
+    ensures erased { (t : Translation) (die other : ℕ) (flight : Flight) (opened : Spot) →
+        MayTake t die (Some flight) → OpensBlock t flight → count_blocks t is_free < own_room t.numbers →
         other < t.numbers.dies → t.disk.flights other ≡ Some (Erasing opened) → ⊥ }
 {}

@@ -6,3 +6,4 @@ pub mod Needs
 pub mod Rule
 pub mod Sorting
 pub mod Spots
+pub mod Vacancies

@@ -2,10 +2,11 @@
 use Rattle.std.specs.Prelude.{◌≡◌, ◌+◌, ℕ, Bool, List, length, map, Option, Some, option_map, slice_get, sum}
 use Rattle.ufs_spec.specs.Cells.{AreWithin, Cells, Mark}
 use Rattle.ufs_spec.specs.Dies.{DieState, is_bad_block}
-use Rattle.ufs_spec.specs.Disk.{Spot}
+use Rattle.ufs_spec.specs.Disk.{Spot, Untouched}
+use Rattle.ufs_spec.specs.Disk as disk
 use Rattle.ufs_spec.specs.Keys.{area_pages, below, settings_key}
 use Rattle.ufs_spec.specs.Kept.{IsKept, IsNewestMark, fence_in}
-use Rattle.ufs_spec.specs.Openings.{AreLost, IsGreatestSeen, lost_from}
+use Rattle.ufs_spec.specs.Openings.{AreLost, IsGreatestSeen, IsVacancyAt, lost_from}
 use Rattle.ufs_spec.specs.Plain.{shape_of_numbers}
 use Rattle.ufs_spec.specs.Sound.{CellsSuit}
 use Rattle.power_loss.specs.FreeBlocks.{AreFoundFree, blocks_by}
@@ -20,6 +21,7 @@ use Rattle.recovery.specs.KeysInOrder.{state_of_found}
 use Rattle.recovery.specs.Listed.{AreInRange, IsContentPage, outside}
 use Rattle.recovery.specs.Reading.{IsReadingFault}
 use Rattle.recovery.specs.declared.keys.FoundBlock.{FoundBlock}
+use Rattle.recovery.specs.declared.keys.FoundBlock.TheVariants.{Bad, Closed, Free, Stale}
 use Rattle.recovery.specs.declared.pages.FoundPage.{FoundPage}
 use Rattle.recovery.specs.declared.found.Found.{Found}
 
@@ -41,6 +43,14 @@ pub record IsBasis (n : Numbers) (c : Cells) (bad : Spot → Bool) (f : Found) :
   pub free : Spot → Bool
   pub free_right : AreFoundFree c (newest_found f) bad free
 
+-- what a free block was found to be is what is in it: nothing that opens, or a page at least that does. Of the others
+-- this says nothing
+abbrev pub IsVacancyFound : Cells → Spot → FoundBlock → Type 0
+IsVacancyFound c s Free = IsVacancyAt c s Untouched
+IsVacancyFound c s Stale = IsVacancyAt c s disk.Stale
+IsVacancyFound c s Closed = Unit {0}
+IsVacancyFound c s Bad = Unit {0}
+
 -- what was found is what the definitions say of these cells: the newest mark, the kept number, the greatest number
 -- seen, the lost numbers with their keys, the content of each key, and what each block is
 pub record IsFound (n : Numbers) (c : Cells) (bad : Spot → Bool) (f : Found) : Type 0 where
@@ -54,10 +64,11 @@ pub record IsFound (n : Numbers) (c : Cells) (bad : Spot → Bool) (f : Found) :
       (e : Option FoundPage) × (slice_get f.contents.items i ≡ Some e)
       × IsContentPage (outside basis.free c) (newest_found f) f.kept k e
   pub lost : AreLost c f.first_lost f.greatest_seen f.lost.items
-  -- of each block of each die, in order, what it is
+  -- of each block of each die, in order, what it is, and of a free one whether a page of it opens
   pub as_many : length f.blocks.items ≡ length (spots n)
   pub blocks : (i : ℕ) (s : Spot) → slice_get (spots n) i ≡ Some s →
       (b : FoundBlock) × (slice_get f.blocks.items i ≡ Some b) × (state_of_found b ≡ blocks_by bad basis.free s)
+      × IsVacancyFound c s b
 
 -- the page of the settings is the one that has their content outside of the free blocks
 pub record HasSettings (n : Numbers) (c : Cells) (bad : Spot → Bool) (f : Found) : Type 0 where

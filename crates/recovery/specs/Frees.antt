@@ -108,6 +108,18 @@ pub record AreUnused (blocks : ℕ) (bad : List Bool) (pages : List FoundPage) (
       (slice_get bad k ≡ Some true)
       ⊎ ((i : ℕ) × (e : FoundPage) × (slice_get pages i ≡ Some e) × (block_of blocks e ≡ k))
 
+-- ## Blocks of which a page opens
+
+-- which blocks hold one of the first pages, or one of the first marks
+pub record AreOpening (blocks : ℕ) (pages : List FoundPage) (n : ℕ) (marks : List FoundMark) (m : ℕ)
+    (opening : List Bool) : Type 0 where
+  pub opens : (k : ℕ) → slice_get opening k ≡ Some true →
+      ((i : ℕ) × (e : FoundPage) × (slice_get pages i ≡ Some e) × (block_of blocks e ≡ k))
+      ⊎ ((i : ℕ) × (e : FoundMark) × (slice_get marks i ≡ Some e) × (block_number blocks e.place ≡ k))
+  pub holds_none : (k : ℕ) → slice_get opening k ≡ Some false →
+      ((i : ℕ) (e : FoundPage) → i < n → slice_get pages i ≡ Some e → block_of blocks e ≢ k)
+      × ((i : ℕ) (e : FoundMark) → i < m → slice_get marks i ≡ Some e → block_number blocks e.place ≢ k)
+
 -- ## Pages that are needed
 
 -- the page of the key is newer than one with this tag

@@ -14,7 +14,7 @@ use Rattle.ufs_spec.specs.declared.flash.Place.{Place}
 use Rattle.ufs_spec.specs.declared.flash.Tag.{Tag}
 use Rattle.geometry.specs.Keys.{IsIndex}
 use Rattle.recovery.specs.declared.keys.FoundBlock.{FoundBlock}
-use Rattle.recovery.specs.declared.keys.FoundBlock.TheVariants.{Bad, Closed, Free}
+use Rattle.recovery.specs.declared.keys.FoundBlock.TheVariants.{Bad, Closed, Free, Stale}
 use Rattle.recovery.specs.declared.pages.FoundPage.{FoundPage}
 
 -- Keys that the device has
@@ -79,11 +79,13 @@ pub record AreMarked (s : Shape) (marked : List Bool) (n : ℕ) (keys : List Key
 -- the state that a block has in an opened translation layer
 abbrev pub state_of_found : FoundBlock → BlockState
 state_of_found Free = disk.Free
+state_of_found Stale = disk.Free
 state_of_found Closed = disk.Closed
 state_of_found Bad = disk.Bad
 
--- what a block is by whether it is free and whether its die says that it is bad
-abbrev pub found_block : Bool → Bool → FoundBlock
-found_block free true = Bad
-found_block true false = Free
-found_block false false = Closed
+-- what a block is by whether it is free, whether a page of it opens, and whether its die says that it is bad
+abbrev pub found_block : Bool → Bool → Bool → FoundBlock
+found_block free opens true = Bad
+found_block true true false = Stale
+found_block true false false = Free
+found_block false opens false = Closed

@@ -1,7 +1,8 @@
 -- What is found is what the definitions open over the same pages.
 use Rattle.std.specs.Prelude.{◌≡◌, ◌≢◌, ℕ, ◌≤◌, AllPairs, List, Option, Some, None, length, slice_get}
 use Rattle.ufs_spec.specs.Pages.{greatest_number}
-use Rattle.ufs_spec.specs.Disk.{Spot}
+use Rattle.ufs_spec.specs.Disk.{Spot, Untouched, Vacancy}
+use Rattle.ufs_spec.specs.Disk as disk
 use Rattle.ufs_spec.specs.Ledger.{Name}
 use Rattle.ufs_spec.specs.Openings.{number_of}
 use Rattle.ufs_spec.specs.Plain.{shape_of_numbers}
@@ -14,6 +15,7 @@ use Rattle.recovery.specs.Found.{newest_found}
 use Rattle.geometry.specs.Keys.{IsIndex}
 use Rattle.recovery.specs.KeysInOrder.{state_of_found}
 use Rattle.recovery.specs.declared.keys.FoundBlock.{FoundBlock}
+use Rattle.recovery.specs.declared.keys.FoundBlock.TheVariants.{Bad, Closed, Free, Stale}
 use Rattle.recovery.specs.declared.pages.FoundPage.{FoundPage}
 use Rattle.recovery.specs.declared.found.Found.{Found}
 
@@ -28,6 +30,13 @@ IsPageOf standing e name = ⊥
 abbrev pub IsFenceFound : Found → Option Fence → Type 0
 IsFenceFound f None = Unit {0}
 IsFenceFound f (Some fence) = (fence.first ≡ f.first_lost) × (fence.last ≡ f.greatest_seen)
+
+-- what is in a block that was found to be so, if it is free
+abbrev pub IsVacancyOf : FoundBlock → Vacancy → Type 0
+IsVacancyOf Free v = v ≡ Untouched
+IsVacancyOf Stale v = v ≡ disk.Stale
+IsVacancyOf Closed v = Unit {0}
+IsVacancyOf Bad v = Unit {0}
 
 -- the layer that is opened has what was found
 pub record OpensFound (n : Numbers) (f : Found) (t : Translation) : Type 0 where
@@ -47,3 +56,4 @@ pub record OpensFound (n : Numbers) (f : Found) (t : Translation) : Type 0 where
   pub as_many : length f.blocks.items ≡ length (spots n)
   pub blocks : (i : ℕ) (s : Spot) → slice_get (spots n) i ≡ Some s →
       (b : FoundBlock) × (slice_get f.blocks.items i ≡ Some b) × (t.disk.blocks s ≡ state_of_found b)
+      × IsVacancyOf b (t.disk.vacancies s)

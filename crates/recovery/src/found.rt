@@ -19,7 +19,7 @@ ghost use Rattle.recovery.specs.Stood.{IsStoodFor};
 ghost use Rattle.recovery.specs.declared.pages.FoundPage.{FoundPage};
 
 use crate::blocks::bad_blocks;
-use crate::free::free_blocks;
+use crate::free::{free_blocks, opening_blocks};
 use crate::kept::{first_lost, greatest_seen, kept_number, recorded_frontier};
 use crate::keys::{FoundBlock, are_known, block_states, content_pages, lost_keys};
 use crate::outside::outside_pages;
@@ -173,7 +173,8 @@ fn found_in(
     let free = free_blocks(alloc, &table.newest, pages, marks, bad, numbers)?;
     let outside = outside_pages(alloc, pages, free.as_slice(), numbers.blocks)?;
     let contents = content_pages(alloc, outside.as_slice(), fence, kept, numbers)?;
-    let blocks = block_states(alloc, free.as_slice(), bad)?;
+    let opening = opening_blocks(alloc, pages, marks, numbers.blocks, bad.len())?;
+    let blocks = block_states(alloc, free.as_slice(), opening.as_slice(), bad)?;
     Ok(Found {
         newest: table.newest,
         kept,

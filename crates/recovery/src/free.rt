@@ -8,7 +8,7 @@ ghost use Rattle.ufs_spec.specs.Sound.{CellsSuit};
 ghost use Rattle.ufs_spec.specs.Translation.{spots};
 ghost use Rattle.geometry.specs.Keys.{IsIndex, key_total};
 ghost use Rattle.page_tag.specs.Contents.{mark_of};
-ghost use Rattle.recovery.specs.Frees.{AreAged, AreByAge, AreDecided, AreFoundFree, AreGreatest, AreHeld, AreNeeded, AreRising, AreSamePages, AreUnused};
+ghost use Rattle.recovery.specs.Frees.{AreAged, AreByAge, AreDecided, AreFoundFree, AreGreatest, AreHeld, AreNeeded, AreOpening, AreRising, AreSamePages, AreUnused};
 ghost use Rattle.recovery.specs.Frees.{HasOther, IsCutAt, IsKeptCopy, IsNeededIn, PagesRecord, RecordsUpTo, TellsNeed, block_number, block_of, is_free_in, is_older};
 ghost use Rattle.recovery.specs.KeysInOrder.{is_fenced};
 ghost use Rattle.recovery.specs.Listed.{AreListed, AreMarksListed};
@@ -441,4 +441,26 @@ pub(crate) fn free_blocks(
         Some(mark) => free_behind(alloc, mark, pages, marks, bad, numbers),
         None => unused_blocks(alloc, pages, bad, numbers.blocks),
     }
+}
+
+/// For each of so many blocks whether a page of it opens: one of these pages or marks lies in it.
+pub(crate) fn opening_blocks(
+    alloc: Global,
+    pages: &[FoundPage],
+    marks: &[FoundMark],
+    blocks: u16,
+    count: usize,
+) -> Result<Vec<bool>, AllocError>
+    ensures as_many { IfOk result (λ v. length v.items ≡ count) }
+    ensures opening { IfOk result (λ v.
+        AreOpening blocks pages.now (length pages.now) marks.now (length marks.now) v.items) }
+{
+    let mut opening = vec![in alloc; false; count]?;
+    for page in pages {
+        answer(&mut opening, block_number(page.place, blocks), true);
+    }
+    for mark in marks {
+        answer(&mut opening, block_number(mark.place, blocks), true);
+    }
+    Ok(opening)
 }

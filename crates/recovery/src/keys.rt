@@ -19,8 +19,10 @@ use ufs_spec::{Fence, Key, Numbers, Tag};
 /// What a block is when a device is opened over written dies.
 #[derive(Clone, Copy, Debug, PartialEq, Eq)]
 pub enum FoundBlock {
-    /// None of its pages is needed: it may be erased.
+    /// No page of it opens: it may be erased.
     Free,
+    /// Pages of it open, and none of them is needed: it may be erased.
+    Stale,
     /// One of its pages is needed.
     Closed,
     /// It is bad.
@@ -212,33 +214,38 @@ fn marked_keys(alloc: Global, marked: &[bool], numbers: &Numbers) -> Result<Vec<
     Ok(keys)
 }
 
-/// What each block is, by whether it is free and whether it is bad.
+/// What each block is, by whether it is free, whether a page of it opens, and whether it is bad.
 pub fn block_states(
     alloc: Global,
     free: &[bool],
+    opening: &[bool],
     bad: &[bool],
 ) -> Result<Vec<FoundBlock>, AllocError>
-    requires { length free.now ≡ length bad.now }
+    requires free { length free.now ≡ length bad.now }
+    requires opening { length opening.now ≡ length bad.now }
     ensures each_block { IfOk result (λ states. length states.items ≡ length bad.now) }
-    ensures states { IfOk result (λ states. (i : ℕ) (is_free is_bad : Bool) → slice_get free.now i ≡ Some is_free →
-        slice_get bad.now i ≡ Some is_bad → slice_get states.items i ≡ Some (found_block is_free is_bad)) }
+    ensures states { IfOk result (λ states. (i : ℕ) (is_free opens is_bad : Bool) →
+        slice_get free.now i ≡ Some is_free → slice_get opening.now i ≡ Some opens →
+        slice_get bad.now i ≡ Some is_bad → slice_get states.items i ≡ Some (found_block is_free opens is_bad)) }
 {
     let mut states = Vec::with_capacity(alloc, bad.len())?;
     for (index, is_bad) in bad.iter().enumerate() {
-        states.push(found_block(free[index], *is_bad))?;
+        states.push(found_block(free[index], opening[index], *is_bad))?;
     }
     Ok(states)
 }
 
-/// What a block is.
-fn found_block(is_free: bool, is_bad: bool) -> FoundBlock
-    ensures { result ≡ found_block is_free is_bad }
+/// What a block is, of which a page opens or none does.
+fn found_block(is_free: bool, opens: bool, is_bad: bool) -> FoundBlock
+    ensures { result ≡ found_block is_free opens is_bad }
 {
     if is_bad {
         FoundBlock::Bad
-    } else if is_free {
-        FoundBlock::Free
-    } else {
+    } else if !is_free {
         FoundBlock::Closed
+    } else if opens {
+        FoundBlock::Stale
+    } else {
+        FoundBlock::Free
     }
 }

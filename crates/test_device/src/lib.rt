@@ -17,6 +17,8 @@ mod erases;
 #[cfg(test)]
 mod failures;
 #[cfg(test)]
+mod freed_blocks;
+#[cfg(test)]
 mod leftovers;
 #[cfg(test)]
 mod locks;

@@ -6,7 +6,7 @@ use nand_model::{Die, MemDie};
 use page_tag::{mark_body, seal};
 use std::alloc::Global;
 use std::process::Abort;
-use ufs_spec::{Fence, Page, Tag};
+use ufs_spec::{Fence, Job, Page, Tag};
 use workbench::Workbench;
 
 /// The page of a group of one page: a block of equal bytes at an address of unit 0.
@@ -120,5 +120,47 @@ fn half_a_mending_is_mended_again(rt: HostRuntime) {
     put(&rt, dies.as_mut_slice(), 1, 0, &data(2, 4, 0));
     let mut bench = opened(&rt, alloc, row(&rt), dies);
     expect_mended(&rt, &mut bench, 3, &[(0, 0x11), (2, 0)]);
+    drop(bench);
+}
+
+/// The dies as a stop left them while two free blocks were still to be erased: in one is an older mark, in the other a
+/// page whose address has a newer one. Of two groups behind the newest mark the first is missing.
+fn dies_with_two_free_blocks(rt: &impl Abort, alloc: Global) -> Vec<MemDie> {
+    let mut dies = marked_dies(rt, alloc);
+    put(rt, dies.as_mut_slice(), 1, 0, &data(5, 1, 0x11));
+    put(rt, dies.as_mut_slice(), 2, 0, &data(5, 2, 0x22));
+    put(rt, dies.as_mut_slice(), 2, 1, &data(7, 4, 0x44));
+    put(rt, dies.as_mut_slice(), 3, 0, &mark(rt, 2, 2, None));
+    dies
+}
+
+/// The die is given this block to erase, and erases it.
+fn erase(rt: &impl Abort, bench: &mut Workbench, die: u8) {
+    let Some(job) = bench.device.take(die) else {
+        panic!(rt; "an erase is owed");
+    };
+    assert!(rt; matches!(job, Job::Erase { die: at, block: 0 } if at == die));
+    assert!(rt; !bench.device.turn());
+    assert!(rt; bench.end(die, &job));
+}
+
+/// No turn orders a step before both of the free blocks are erased, and no other die has a job till then. The first
+/// mark goes into one of them, without a second erase.
+#[test]
+fn free_blocks_are_erased_before_the_mending(rt: HostRuntime) {
+    let alloc = rt.alloc();
+    let dies = dies_with_two_free_blocks(&rt, alloc);
+    let mut bench = opened(&rt, alloc, row(&rt), dies);
+    assert!(rt; !bench.device.turn());
+    assert!(rt; bench.device.take(2).is_none() && bench.device.take(3).is_none());
+    erase(&rt, &mut bench, 0);
+    erase(&rt, &mut bench, 1);
+    assert!(rt; bench.device.turn());
+    let Some(job) = bench.device.take(0) else {
+        panic!(rt; "the mark is owed");
+    };
+    assert!(rt; matches!(&job, Job::Program(place, _) if place.block == 0 && place.page == 0));
+    assert!(rt; bench.end(0, &job));
+    expect_mended(&rt, &mut bench, 2, &[(5, 0x22), (7, 0)]);
     drop(bench);
 }

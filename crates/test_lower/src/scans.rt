@@ -33,7 +33,8 @@ fn new_dies_hold_nothing(rt: HostRuntime) -> Result<(), Fail> {
 }
 
 /// Of groups 1, 2 and 3 the second is torn, so that the kept number stops at 1, and the page of
-/// group 3 is lost. The block of the torn page has nothing else, so it is free.
+/// group 3 is lost. The block of the torn page has nothing else, so it is free, and no page of it
+/// opens.
 #[test]
 fn a_gap_loses_the_group_behind_it(rt: HostRuntime) -> Result<(), Fail> {
     let config = row_config()?;
@@ -57,6 +58,7 @@ fn a_gap_loses_the_group_behind_it(rt: HostRuntime) -> Result<(), Fail> {
     assert!(rt; is_only_lost(&found, 2));
     assert!(rt; is_block(&found, 0, 0, FoundBlock::Closed));
     assert!(rt; is_block(&found, 0, 1, FoundBlock::Closed));
+    assert!(rt; is_block(&found, 1, 0, FoundBlock::Free));
     assert!(rt; is_block(&found, 2, 0, FoundBlock::Closed));
     assert!(rt; count_of(&found, FoundBlock::Free) == 61);
     Ok(())
@@ -66,7 +68,7 @@ fn a_gap_loses_the_group_behind_it(rt: HostRuntime) -> Result<(), Fail> {
 /// Address 5 has a page of group 1 in two blocks: the lower block is free, and the page in the other
 /// one is told. Address 6 has pages of groups 3 and 2, and the newer one is told, though it was read
 /// first. The page of group 4 lies in the fence, so it is lost. The blocks of the older mark and of
-/// the lost page are free too.
+/// the lost page are free too. A page of each of these three opens, so they are stale.
 #[test]
 fn the_newest_mark_and_pages_are_told(rt: HostRuntime) -> Result<(), Fail> {
     let config = row_config()?;
@@ -98,11 +100,13 @@ fn the_newest_mark_and_pages_are_told(rt: HostRuntime) -> Result<(), Fail> {
     assert!(rt; lies_nowhere(&found, 7));
     assert!(rt; is_only_lost(&found, 7));
     assert!(rt; is_block(&found, 0, 0, FoundBlock::Closed));
-    assert!(rt; is_block(&found, 0, 3, FoundBlock::Free));
+    assert!(rt; is_block(&found, 0, 3, FoundBlock::Stale));
     assert!(rt; is_block(&found, 1, 1, FoundBlock::Closed));
     assert!(rt; is_block(&found, 1, 2, FoundBlock::Closed));
-    assert!(rt; is_block(&found, 2, 0, FoundBlock::Free));
-    assert!(rt; is_block(&found, 3, 0, FoundBlock::Free));
+    assert!(rt; is_block(&found, 2, 0, FoundBlock::Stale));
+    assert!(rt; is_block(&found, 3, 0, FoundBlock::Stale));
+    assert!(rt; count_of(&found, FoundBlock::Stale) == 3);
+    assert!(rt; count_of(&found, FoundBlock::Free) == 58);
     Ok(())
 }
 

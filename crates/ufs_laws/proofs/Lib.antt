@@ -2,6 +2,7 @@ pub mod answers
 pub mod array_cells
 pub mod deciding
 pub mod exchanges
+pub mod free_blocks
 pub mod jobs
 pub mod lives
 pub mod new_dies

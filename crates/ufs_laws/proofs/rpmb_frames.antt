@@ -1,5 +1,6 @@
 pub mod AcceptedWrites
 pub mod FramesRead
 pub mod Regions
+pub mod RequestOutcomes
 pub mod RightWrites
 pub mod WorkedMacs

@@ -1,5 +1,6 @@
 pub mod Exchange
 pub mod Flights
+pub mod FreeBlocks
 pub mod GapRows
 pub mod Requests
 pub mod Replies

@@ -61,7 +61,7 @@ pub record Gets (s : State) (call : Call) (answer : Answer) : Type 0 where
 abbrev pub place_of : ℕ → Place
 place_of page = record { die = 0; block = 0; page = page }
 
--- the erase of that block, which opens it
+-- the erase of that block, which comes before it is filled
 abbrev pub erase : Flight
 erase = Erasing (record { die = 0; block = 0 })
 
@@ -143,7 +143,7 @@ state_1 s = observe s Turn (OfTurn true)
 unfoldable pub state_2 : State → State
 state_2 s = observe (state_1 s) Turn (OfTurn false)
 
--- a block must be open before the mark can be programmed: die 0 is given its erase
+-- no block was erased in this life, and one must be before the mark can be programmed: die 0 is given its erase
 unfoldable pub state_3 : State → State
 state_3 s = observe (state_2 s) (Take 0) (OfTake (Some erase))
 
@@ -151,11 +151,11 @@ state_3 s = observe (state_2 s) (Take 0) (OfTake (Some erase))
 unfoldable pub state_4 : State → State
 state_4 s = observe (state_3 s) (Take 0) (OfTake None)
 
--- the erase ended well: die 0 fills the block
+-- the erase ended well: the block is free, and may be filled at once
 unfoldable pub state_5 : State → State
 state_5 s = observe (state_4 s) (program_ends (state_4 s)) (OfDone true)
 
--- die 0 is given the program of the mark
+-- die 0 is given the program of the mark, and fills the block from now on
 unfoldable pub state_6 : State → State
 state_6 s = observe (state_5 s) (Take 0) (OfTake (Some mark_program))
 

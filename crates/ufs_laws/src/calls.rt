@@ -169,8 +169,8 @@ pub fn new_dies_open()
         IsOpened n array bad s → mended s ≡ false }
     ensures step_due { (n : Numbers) (array : Array) (bad : Spot → Bool) (s : State) → ((p : Place) → array p ≡ blank_page) →
         IsOpened n array bad s → is_step_due s.translation ≡ true }
-    ensures no_job { (n : Numbers) (array : Array) (bad : Spot → Bool) (s : State) → IsOpened n array bad s → (die : ℕ) →
-        MayTake s.translation die None }
+    ensures no_job { (n : Numbers) (array : Array) (bad : Spot → Bool) (s : State) → ((p : Place) → array p ≡ blank_page) →
+        IsOpened n array bad s → (die : ℕ) → MayTake s.translation die None }
     ensures no_reply { (n : Numbers) (array : Array) (bad : Spot → Bool) (s : State) → IsOpened n array bad s → (m : Message) →
         Due s m → ⊥ }
     ensures first_job { (n : Numbers) (array : Array) (bad : Spot → Bool) (s : State) → ((p : Place) → array p ≡ blank_page) →

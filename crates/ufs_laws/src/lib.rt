@@ -12,6 +12,7 @@ mod rpmb;
 mod runs;
 mod table;
 mod tables;
+mod vacancies;
 
 pub use arrays::{
     array_stands_for_something, new_dies_stand_for_zero, page_is_one_cell,
@@ -39,3 +40,7 @@ pub use rpmb::{
 pub use runs::{a_refused_read_says_why, a_written_block_is_read};
 pub use table::{each_line_of_the_table_counts, lines_that_never_meet};
 pub use tables::{failed_request_accepts_nothing, worked_queries, worked_sense};
+pub use vacancies::{
+    freed_victims_are_stale, ready_blocks_are_filled_first, stale_blocks_are_erased_first,
+    vacancies_are_by_cells,
+};

@@ -37,12 +37,22 @@ place_in s page = record { die = s.die; block = s.block; page = page }
 pub data BlockState : Type 0 where
   -- nothing in it is needed: it may be erased
   Free : BlockState
-  -- it was erased in this life, and this page of it is programmed next
+  -- it was erased in this life, a program into it was handed out since, and this page of it is programmed next
   Filling : (next : ℕ) → BlockState
   -- it is full, or something in it was needed at the life's start
   Closed : BlockState
   -- one of its jobs failed, in this life or before
   Bad : BlockState
+
+-- what is in a free block
+pub data Vacancy : Type 0 where
+  -- nothing that opens, as at the life's start: it is erased right before it is filled
+  Untouched : Vacancy
+  -- pages that open, none of which is needed: it is erased before any step is ordered, since what is not needed beside
+  -- the pages of this moment may be needed beside those of a later one
+  Stale : Vacancy
+  -- nothing: it was erased in this life, and may be filled at once
+  Ready : Vacancy
 
 -- Jobs
 
@@ -83,6 +93,8 @@ pub record Disk : Type 0 where
   pub finished : Place → Bool
   -- how far each block is
   pub blocks : Spot → BlockState
+  -- what is in each free block; of the others it says nothing
+  pub vacancies : Spot → Vacancy
   -- the job of each die
   pub flights : ℕ → Option Flight
   -- whether an erase of the block is in flight, or has failed in this life
@@ -109,9 +121,20 @@ abbrev pub erasing_begun : Disk → Flight → Spot → Bool
 erasing_begun d (Erasing s) = at_spot d.erasing s true
 erasing_begun d _ = d.erasing
 
+-- how far each block is once this job is given: a block is being filled from the moment at which a program into it is
+-- handed out
+abbrev pub blocks_begun : Disk → Flight → Spot → BlockState
+blocks_begun d (Programming p cell) = at_spot d.blocks (spot_of p) (Filling p.page)
+blocks_begun d _ = d.blocks
+
 -- the die has this job from now on
 abbrev pub job_begun : Disk → ℕ → Flight → Disk
-job_begun d die flight = record d { flights = at_die d.flights die (Some flight); erasing = erasing_begun d flight }
+job_begun d die flight =
+    record d {
+      flights = at_die d.flights die (Some flight);
+      blocks = blocks_begun d flight;
+      erasing = erasing_begun d flight;
+    }
 
 -- the die has no job any more
 abbrev pub ended : Disk → ℕ → Disk
@@ -130,13 +153,13 @@ programmed pages d p cell =
       blocks = at_spot d.blocks (spot_of p) (state_after pages p.page);
     }
 
--- an erase ended well: each page of the block is nothing, its first page is programmed next, and it
--- no longer counts as being erased
+-- an erase ended well: each page of the block is nothing, it may be filled at once, and it no longer counts as being
+-- erased
 abbrev pub erased : Disk → Spot → Disk
 erased d s =
     record (ended d s.die) {
       cells = λ p. if same_spot (spot_of p) s then Nothing else d.cells p;
-      blocks = at_spot d.blocks s (Filling 0);
+      vacancies = at_spot d.vacancies s Ready;
       erasing = at_spot d.erasing s false;
     }
 

@@ -5,8 +5,8 @@ use Rattle.std.specs.Prelude.{◌++◌, All, filter, length, map, max, slice_get
 use Rattle.ufs_spec.specs.Cells.{Cell, Cells, GroupPage, IsCell, Mark, MarkPage, Nothing, Opens, key_of}
 use Rattle.ufs_spec.specs.Configs.{command_blocks}
 use Rattle.ufs_spec.specs.Disk.{BlockState, Bad, CellCrash, Disk, Erasing, Flight, ForNobody, ForRest, ForStep, ForTask}
-use Rattle.ufs_spec.specs.Disk.{Free, Programming, Reader, Reading, at_spot, ended, erase_failed, erased, flight_alone}
-use Rattle.ufs_spec.specs.Disk.{program_failed, programmed}
+use Rattle.ufs_spec.specs.Disk.{Free, Programming, Reader, Reading, Stale, at_spot, ended, erase_failed, erased}
+use Rattle.ufs_spec.specs.Disk.{flight_alone, program_failed, programmed}
 use Rattle.ufs_spec.specs.Keys.{Group, IsBlock, IsKey, IsSettingsBody, Item}
 use Rattle.ufs_spec.specs.Ledger.{Ledger, Name, before_accepted, look, page_stands, same_name, settled_look}
 use Rattle.ufs_spec.specs.Plain.{shape_of_numbers}
@@ -67,10 +67,14 @@ abbrev pub freed_state : BlockState → BlockState
 freed_state Bad = Bad
 freed_state state = Free
 
--- the block of the plan, if there is one, is free, unless it is bad
+-- the block of the plan, if there is one, is free, unless it is bad, and is to be erased for what is in it
 abbrev pub freed : Disk → Option Plan → Disk
 freed d None = d
-freed d (Some plan) = record d { blocks = at_spot d.blocks plan.victim (freed_state (d.blocks plan.victim)) }
+freed d (Some plan) =
+    record d {
+      blocks = at_spot d.blocks plan.victim (freed_state (d.blocks plan.victim));
+      vacancies = at_spot d.vacancies plan.victim Stale;
+    }
 
 -- a mark was programmed: it is the newest, the step and the plan that it ends are over, and the mending goes on
 abbrev pub mark_written : Translation → Place → Mark → Translation

@@ -3,7 +3,7 @@
 use Rattle.std.specs.Prelude.{◌≡◌, ◌≢◌, ◌⊎◌, ℕ, suc, ◌<◌, ◌≤◌, Bool, true, false, List, [], Option, Some, None}
 use Rattle.std.specs.Prelude.{slice_get}
 use Rattle.ufs_spec.specs.Cells.{Cell, Cells, GroupPage, Mark, MarkPage, Nothing, key_of}
-use Rattle.ufs_spec.specs.Disk.{BlockState, Bad, Closed, Disk, Free, Spot, spot_of}
+use Rattle.ufs_spec.specs.Disk.{BlockState, Bad, Closed, Disk, Free, Ready, Spot, Stale, Untouched, Vacancy, spot_of}
 use Rattle.ufs_spec.specs.Keys.{IsKey}
 use Rattle.ufs_spec.specs.Kept.{HasNone, HoldAll, IsFenced, IsKept, IsNewest, IsNewestMark, fence_in}
 use Rattle.ufs_spec.specs.Ledger.{Entry, Ledger, Name}
@@ -189,11 +189,18 @@ abbrev pub number_of : Option Mark → ℕ
 number_of None = 0
 number_of (Some m) = m.number
 
+-- what is in a block when a life begins, free or not: no page that opens, or one at least
+abbrev pub IsVacancyAt : Cells → Spot → Vacancy → Type 0
+IsVacancyAt c s Untouched = (p : Place) → spot_of p ≡ s → c p ≡ Nothing
+IsVacancyAt c s Stale = (p : Place) × (spot_of p ≡ s) × (c p ≢ Nothing)
+IsVacancyAt c s Ready = ⊥
+
 -- what is known of the dies: all that is there is finished, and no job is in flight
 pub record IsOpenedDisk (c : Cells) (m : Option Mark) (bad : Spot → Bool) (d : Disk) : Type 0 where
   pub cells : d.cells ≡ c
   pub finished : (p : Place) → d.finished p ≡ true
   pub blocks : AreFirstBlocks c m bad d.blocks
+  pub vacancies : (s : Spot) → IsVacancyAt c s (d.vacancies s)
   pub idle : (die : ℕ) → d.flights die ≡ None
   pub none_erasing : (s : Spot) → d.erasing s ≡ false
 

@@ -8,7 +8,8 @@ use Rattle.std.specs.Int.{div_ceil}
 use Rattle.std.specs.List.{flat_map, list_any}
 use Rattle.ufs_spec.specs.Cells.{Cell, GroupPage, MarkPage, Nothing, key_of, same_place}
 use Rattle.ufs_spec.specs.Disk.{BlockState, Bad, Closed, Disk, Erasing, Filling, Flight, ForRest, ForStep, ForTask}
-use Rattle.ufs_spec.specs.Disk.{Free, Programming, Reader, Reading, Spot, job_begun, place_in, same_spot, spot_of}
+use Rattle.ufs_spec.specs.Disk.{Free, Programming, Reader, Reading, Ready, Spot, Stale, Untouched, Vacancy, job_begun}
+use Rattle.ufs_spec.specs.Disk.{place_in, same_spot, spot_of}
 use Rattle.ufs_spec.specs.Keys.{Group, below, Item}
 use Rattle.ufs_spec.specs.Ledger.{Entry, Ledger, Looked, Name, OnPage, accepted_groups, before_accepted, entry_of}
 use Rattle.ufs_spec.specs.Ledger.{is_name, is_standing, latest_durable, next_number, pending, same_name, InSlot}
@@ -104,6 +105,25 @@ is_free _ = false
 abbrev pub is_bad : BlockState → Bool
 is_bad Bad = true
 is_bad _ = false
+
+-- whether what is in a free block opens and may go
+abbrev pub is_stale : Vacancy → Bool
+is_stale Stale = true
+is_stale _ = false
+
+-- whether a free block was erased in this life
+abbrev pub is_ready : Vacancy → Bool
+is_ready Ready = true
+is_ready _ = false
+
+-- whether nothing in a free block opens, and it was not erased in this life
+abbrev pub is_untouched : Vacancy → Bool
+is_untouched Untouched = true
+is_untouched _ = false
+
+-- the block is free, and what is in it is so
+abbrev pub is_vacant : Translation → (Vacancy → Bool) → Spot → Bool
+is_vacant t is s = is_free (t.disk.blocks s) && is (t.disk.vacancies s)
 
 -- how many blocks of all dies are in such a state
 abbrev pub count_blocks : Translation → (BlockState → Bool) → ℕ
@@ -264,9 +284,16 @@ next_order t (Repairing (k ∷ ks)) plan = if has_number t then Some (OrderRepai
 next_order t Mended (Some plan) = plan_order t plan.victim plan.copies
 next_order t Mended None = if wants_collection t && has_mark_number t then victim_order t (victim t) else None
 
--- the step that a turn orders; none while one is under way
+-- whether a free block of some die is still to be erased for what is in it
+abbrev pub has_stale : Translation → Bool
+has_stale t = list_any (is_vacant t is_stale) (spots t.numbers)
+
+-- the step that a turn orders; none while one is under way, nor while a free block is to be erased for what is in it. So
+-- each mark, copy and repair finds all free blocks empty: the pages of one may owe it to others that they may go, and
+-- to these each step may bring an end
 abbrev pub due_order : Translation → Option Order
-due_order t = if is_none t.work.step then next_order t t.work.mending t.work.plan else None
+due_order t =
+    if is_none t.work.step && not (has_stale t) then next_order t t.work.mending t.work.plan else None
 
 -- whether a turn is answered yes
 abbrev pub is_step_due : Translation → Bool
@@ -543,13 +570,17 @@ first_of (x ∷ xs) = Some x
 abbrev pub next_place : Translation → ℕ → Option Place
 next_place t die = first_of (filter_map (λ s. next_in s (t.disk.blocks s)) (spots_of t.numbers die))
 
--- whether the block is free and nobody keeps a page of it
-abbrev pub may_be_erased : Translation → Spot → Bool
-may_be_erased t s = is_free (t.disk.blocks s) && not (is_pinned t s)
+-- whether the block is free, what is in it is so, and nobody keeps a page of it: it may be erased, and then filled
+abbrev pub may_be_used : Translation → (Vacancy → Bool) → Spot → Bool
+may_be_used t is s = is_vacant t is s && not (is_pinned t s)
 
--- the erase of the lowest block of the die that may be erased
-abbrev pub next_erase : Translation → ℕ → Option Flight
-next_erase t die = option_map Erasing (find (may_be_erased t) (spots_of t.numbers die))
+-- the lowest block of the die that may be used, of those in which it is so
+abbrev pub lowest_vacant : Translation → (Vacancy → Bool) → ℕ → Option Spot
+lowest_vacant t is die = find (may_be_used t is) (spots_of t.numbers die)
+
+-- the erase of that block
+abbrev pub next_erase : Translation → (Vacancy → Bool) → ℕ → Option Flight
+next_erase t is die = option_map Erasing (lowest_vacant t is die)
 
 -- whether a page of a group may be programmed: not into the room that groups leave to the device's own pages
 abbrev pub has_room_for_groups : Translation → Bool
@@ -559,12 +590,12 @@ has_room_for_groups t = nat_le (own_room t.numbers) (count_blocks t is_free)
 abbrev pub may_open_for_group : Translation → Bool
 may_open_for_group t = nat_lt (own_room t.numbers) (count_blocks t is_free)
 
--- whether a die with this job erases a block, which it will then fill
+-- whether a die with this job erases a block
 abbrev pub flies_erase : Option Flight → Bool
 flies_erase (Some (Erasing s)) = true
 flies_erase _ = false
 
--- whether a block of some die is being filled, or is being erased to be filled
+-- whether a block of some die is being filled, or is being erased
 abbrev pub has_open_block : Translation → Bool
 has_open_block t = list_any (λ die. is_some (next_place t die)) (below t.numbers.dies) || some_flight t flies_erase
 
@@ -573,10 +604,19 @@ has_open_block t = list_any (λ die. is_some (next_place t die)) (below t.number
 abbrev pub may_open_for_step : Translation → Bool
 may_open_for_step t = has_room_for_groups t || not (has_open_block t)
 
--- the program of the page at the die's next place; without such a place the erase of a block, if one may be opened
+-- the program of the first page of this block, which was erased in this life; without one the erase of a block
+abbrev pub flight_into : Translation → ℕ → Cell → Option Spot → Option Flight
+flight_into t die cell (Some s) = Some (Programming (place_in s 0) cell)
+flight_into t die cell None = next_erase t is_untouched die
+
+-- what opens a block of the die for the page: the lowest that was erased in this life is filled, else one is erased
+abbrev pub opening_flight : Translation → ℕ → Cell → Option Flight
+opening_flight t die cell = flight_into t die cell (lowest_vacant t is_ready die)
+
+-- the program of the page at the die's next place; without such a place what opens a block, if one may be opened
 abbrev pub flight_at : Translation → ℕ → Bool → Cell → Option Place → Option Flight
 flight_at t die opens cell (Some p) = Some (Programming p cell)
-flight_at t die opens cell None = if opens then next_erase t die else None
+flight_at t die opens cell None = if opens then opening_flight t die cell else None
 
 -- the page of a step goes before those of groups
 abbrev pub flight_for : Translation → ℕ → Option Cell → Option Name → Option Flight
@@ -586,9 +626,16 @@ flight_for t die None (Some name) =
     else None
 flight_for t die None None = None
 
--- the program or the erase that is owed to the die, once no read is
+-- the first of two jobs, if there is one, else the second
+abbrev pub flight_or : Option Flight → Option Flight → Option Flight
+flight_or (Some flight) other = Some flight
+flight_or None other = other
+
+-- the program or the erase that is owed to the die, once no read is: a free block is erased for what is in it before
+-- anything is programmed
 abbrev pub next_flight : Translation → ℕ → Option Flight
-next_flight t die = flight_for t die (waiting_step t t.work.step) (waiting_name t)
+next_flight t die =
+    flight_or (next_erase t is_stale die) (flight_for t die (waiting_step t t.work.step) (waiting_name t))
 
 -- the die is one of the device's and has no job
 abbrev pub is_idle : Translation → ℕ → Bool

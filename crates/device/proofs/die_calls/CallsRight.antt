@@ -1,11 +1,11 @@
 -- The calls of the dies and of the device itself are answered as the definitions say.
-use Rattle.std.proofs.Common.{◌≡◌, ◌∙◌, ℕ, ◌==◌, Bool, true, false, List, [], Option, Some, None, length}
+use Rattle.std.proofs.Common.{◌≡◌, ◌∙◌, ℕ, ◌==◌, ◌||◌, Bool, true, false, List, [], Option, Some, None, length}
 use Rattle.std.proofs.Common.{refl, sym, ap, subst, arith, All, inl, inr}
-use Rattle.std.specs.Prelude.{if◌then◌else◌, ◌-◌, ◌≤◌}
+use Rattle.std.specs.Prelude.{if◌then◌else◌, ◌-◌, ◌≤◌, count_by, nat_lt}
 use Rattle.ufs_spec.specs.Cells.{Array, Cell, Cells, IsCell}
 use Rattle.ufs_spec.specs.Commands.{Command}
 use Rattle.ufs_spec.specs.Configs.{IsConfig}
-use Rattle.ufs_spec.specs.Disk.{CellCrash, Flight, Programming, Spot, flight_alone, page_of}
+use Rattle.ufs_spec.specs.Disk.{CellCrash, Erasing, Flight, Programming, Reading, Spot, flight_alone, page_of}
 use Rattle.ufs_spec.specs.Exchanges as exchange
 use Rattle.ufs_spec.specs.Lives.{IsOpened}
 use Rattle.ufs_spec.specs.Machine.{Take, OfTake, MayLeave, Turn, OfTurn, behind, durable}
@@ -14,13 +14,16 @@ use Rattle.ufs_spec.specs.Moves.{WentWell, WentWrong, moved}
 use Rattle.ufs_spec.specs.Plain.{after as after_all}
 use Rattle.ufs_spec.specs.Refusals.{State, locked, numbers_of}
 use Rattle.ufs_spec.specs.Sound.{Sound}
-use Rattle.ufs_spec.specs.Translation.{Pin, Translation, is_step_due}
+use Rattle.ufs_spec.specs.Pages.{greatest_number}
+use Rattle.ufs_spec.specs.Stages.{most_bad}
+use Rattle.ufs_spec.specs.Translation.{MayTake, Pin, Translation, is_step_due, spots}
 use Rattle.ufs_spec.specs.declared.configs.Numbers.{Numbers}
 use Rattle.ufs_spec.specs.declared.flash.Job.{Job}
 use Rattle.ufs_spec.specs.declared.flash.Outcome.{Outcome}
 use Rattle.ufs_spec.specs.declared.flash.Place.{Place}
 use Rattle.ufs_laws.proofs.array_cells.CrashedCells.{cell_crash}
 use Rattle.power_loss.specs.Exchange.{IsArrayOf, IsTied}
+use Rattle.power_loss.proofs.jobs_owed.ProgramsAndErases.{program_owed}
 use Rattle.power_loss.proofs.openings.OpenedStates.{opened_state as opened_valid}
 use Rattle.ftl_core.specs.Core.{Core}
 use Rattle.ftl_core.specs.Describes as layer_kept
@@ -29,8 +32,10 @@ use Rattle.device.specs.Describes.{Describes, IsAnswered, IsGiven, TasksKept, Is
 use Rattle.device.specs.Describes.{wanted_by, wanted_kept}
 use Rattle.device.specs.Kept.{DeviceCore, idle_device}
 use Rattle.device.proofs.die_calls.EndsTold.{meant_fits}
+use Rattle.device.proofs.dies_of_world.DieParts.{begun_bad}
+use Rattle.device.proofs.dies_of_world.DiesFit.{named_next}
 use Rattle.std.proofs.lemmas.List.Elements.{All-nil}
-use Rattle.ufs_spec.specs.Ledger.{before_accepted}
+use Rattle.ufs_spec.specs.Ledger.{before_accepted, next_number}
 use Rattle.ufs_spec.specs.Exchanges.{most_tasks}
 use Rattle.power_loss.proofs.shown_blocks.LivesShowBlocks.{opened_shows}
 use Rattle.device.proofs.described.Answered.{IsBehind, answered}
@@ -49,11 +54,25 @@ gives d s die (Some flight) after k layer claims =
     layer_moves d after s s.array (moved s.translation (GiveJob die flight)) k layer claims
     (record { before = refl; wanted = λ tag index. refl })
 
-gives_told : (s : State) (die : ℕ) (flight : Option Flight) → (locked s ≡ true → All (IsTold (durable s)) s.tasks) →
+-- a program that is handed out goes to a good block, which stays good
+gives_locked : (s : State) (die : ℕ) (flight : Flight) → MayTake s.translation die (Some flight) →
+    locked (behind s (Take die) (OfTake (Some flight))) ≡ locked s
+gives_locked s die (Reading who p) may = refl
+gives_locked s die (Erasing spot) may = refl
+gives_locked s die (Programming p cell) may =
+    let t = s.translation in
+    let good = (named_next t p (program_owed t die p cell may).place.next).0 in
+    ap
+    (λ (is : Spot → Bool).
+    nat_lt (most_bad t.numbers) (count_by is (spots t.numbers)) || nat_lt greatest_number (next_number t.ledger))
+    (λ i spot. begun_bad t.disk.blocks p good spot i)
+
+gives_told : (s : State) (die : ℕ) (flight : Option Flight) → MayTake s.translation die flight →
+    (locked s ≡ true → All (IsTold (durable s)) s.tasks) →
     locked (behind s (Take die) (OfTake flight)) ≡ true → All (IsTold (durable (behind s (Take die) (OfTake flight))))
     (behind s (Take die) (OfTake flight)).tasks
-gives_told s die None told lock = told lock
-gives_told s die (Some flight) told lock = told lock
+gives_told s die None may told lock = told lock
+gives_told s die (Some flight) may told lock = told (sym (gives_locked s die flight may) ∙ lock)
 
 pub gives_right : (d : DeviceCore) (s : State) (die : ℕ) (job : Option Job) (after : Core) → Describes d s →
     layer_kept.IsTaken s.translation die job after → claims_for after ≡ claims_for d.ftl →
@@ -65,7 +84,7 @@ gives_right d s die job after h taken claims = record {
       answered d (record d { ftl = after }) s (Take die) (OfTake taken.job) h tt taken.right
       (record {
         keeps = gives d s die taken.job after h.kept taken.describes claims;
-        told = gives_told s die taken.job h.told;
+        told = gives_told s die taken.job taken.right h.told;
       });
 }
 

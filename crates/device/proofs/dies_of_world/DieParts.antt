@@ -5,7 +5,7 @@ use Rattle.std.specs.Prelude.{nat_lt, slice_index_or, slice_set}
 use Rattle.std.proofs.lemmas.Bool.Decides.{eqb_tells}
 use Rattle.std.proofs.lemmas.List.{get_or-set_other, get_or-set_same, get_or_past, length-set, set-get_or}
 use Rattle.std.proofs.lemmas.List.Elements.{All-get_or, All-set}
-use Rattle.ufs_spec.proofs.Facts.{if_both, ltb-false}
+use Rattle.ufs_spec.proofs.Facts.{if_both, ltb-false, none-some}
 use Rattle.ufs_spec.specs.Cells.{IsPlace}
 use Rattle.ufs_spec.specs.Dies.{Did, DieState, IsOfSize, after_job, blank_page, die_erased, die_programmed}
 use Rattle.ufs_spec.specs.Dies.{is_bad_block, new_die, page_at, pages_of, ready_page}
@@ -13,8 +13,8 @@ use Rattle.ufs_spec.specs.DieLaws.{after_job_size, did_well, erased_blank, erase
 use Rattle.ufs_spec.specs.DieLaws.{has_page, pages_in, programmed_next, programmed_next_elsewhere}
 use Rattle.ufs_spec.specs.DieLaws.{with_block_elsewhere, with_page_there}
 use Rattle.ufs_spec.specs.DieLaws.{with_page_elsewhere_in_block}
-use Rattle.ufs_spec.specs.Disk.{BlockState, Closed, Filling, Flight, Spot, at_die, at_place, at_spot, job_of}
-use Rattle.ufs_spec.specs.Disk.{same_spot, spot_of, state_after}
+use Rattle.ufs_spec.specs.Disk.{BlockState, Closed, Filling, Flight, Free, Ready, Spot, Vacancy, at_die, at_place}
+use Rattle.ufs_spec.specs.Disk.{at_spot, job_of, same_spot, spot_of, state_after}
 use Rattle.ufs_spec.specs.Lives.{Fit, array_of, bad_of}
 use Rattle.ufs_spec.specs.Machine.{in_block}
 use Rattle.ufs_spec.specs.Translation.{is_bad}
@@ -24,8 +24,8 @@ use Rattle.ufs_spec.specs.declared.flash.Outcome.{Outcome}
 use Rattle.ufs_spec.specs.declared.flash.Page.{Page}
 use Rattle.ufs_spec.specs.declared.flash.Place.{Place}
 use Rattle.ufs_laws.proofs.jobs.JobsInFlight.{at_its_die, at_other}
-use Rattle.power_loss.proofs.books.SmallFacts.{at_spot_cases, at_spot_is, spot_cases, spot_is}
-use Rattle.device.specs.Worlds.{BlocksFit, die_at, job_at}
+use Rattle.power_loss.proofs.books.SmallFacts.{at_spot_cases, spot_cases, spot_is}
+use Rattle.device.specs.Worlds.{BlocksFit, die_at, job_at, next_of}
 
 -- Lists
 
@@ -115,46 +115,117 @@ put_bad dies die x other l e =
     (λ is. ap (λ (bad : List Bool). slice_index_or bad other.block false) e
     ∙ ap (λ (k : ℕ). is_bad_block (die_at dies k) other.block) (sym is)) (λ away. refl)
 
+-- the value that was changed, and each other one
+pub at_itself : {A : Type 0} (f : Spot → A) (spot : Spot) (x : A) → at_spot f spot x spot ≡ x
+at_itself {A} f spot x =
+    ⊎_elim (λ (k : (spot ≡ spot) × (at_spot f spot x spot ≡ x)). k.1)
+    (λ (k : (spot ≢ spot) × (at_spot f spot x spot ≡ f spot)). absurd (k.0 refl)) (at_spot_cases f spot x spot)
+
+pub at_another : {A : Type 0} (f : Spot → A) (spot : Spot) (x : A) (other : Spot) → other ≢ spot →
+    at_spot f spot x other ≡ f other
+at_another {A} f spot x other differ =
+    ⊎_elim (λ (k : (other ≡ spot) × (at_spot f spot x other ≡ x)). absurd (differ k.0))
+    (λ (k : (other ≢ spot) × (at_spot f spot x other ≡ f other)). k.1) (at_spot_cases f spot x other)
+
 -- a change of one block, which is bad to its die where it is bad to the layer
-pub put_blocks : (n : Numbers) (dies : List DieState) (blocks : Spot → BlockState) (spot : Spot) (new : BlockState)
-    (x : DieState) →
-    spot.die < length dies → is_bad_block x spot.block ≡ is_bad new →
-    ((c : ℕ) → c ≢ spot.block → is_bad_block x c ≡ is_bad_block (die_at dies spot.die) c) →
-    ((next : ℕ) → new ≡ Filling next → ready_page x spot.block ≡ Some next) →
-    ((c : ℕ) → c ≢ spot.block → ready_page x c ≡ ready_page (die_at dies spot.die) c) →
-    BlocksFit n dies blocks → BlocksFit n (slice_set dies spot.die x) (at_spot blocks spot new)
-put_blocks n dies blocks spot new x l bad_here bad_leaves next_here leaves h = record {
-  ready = λ other next d b e.
-      put_block ready_page dies spot x l leaves other
-      ∙ ⊎_elim
-      (λ (k : (other ≡ spot) × (new ≡ Filling next)). ap ready (k.0) ∙ (at_itself ∙ next_here next k.1))
-      (λ (k : (other ≢ spot) × (blocks other ≡ Filling next)). at_another other k.0 ∙ h.ready other next d b k.1)
-      (at_spot_is blocks spot new other (Filling next) e);
-  bad = λ other. sym (put_block is_bad_block dies spot x l bad_leaves other ∙ same_bad other (same_spot other spot));
+module _ (n : Numbers) (dies : List DieState) (blocks new_blocks : Spot → BlockState)
+    (vacancies new_vacancies : Spot → Vacancy) (spot : Spot) (x : DieState) where
+  abbrev new_next : Spot → Option ℕ
+  new_next s = next_of (new_blocks s) (new_vacancies s)
+
+  pub put_blocks : spot.die < length dies → is_bad_block x spot.block ≡ is_bad (new_blocks spot) →
+      ((c : ℕ) → c ≢ spot.block → is_bad_block x c ≡ is_bad_block (die_at dies spot.die) c) →
+      ((next : ℕ) → new_next spot ≡ Some next → ready_page x spot.block ≡ Some next) →
+      ((c : ℕ) → c ≢ spot.block → ready_page x c ≡ ready_page (die_at dies spot.die) c) →
+      ((other : Spot) → other ≢ spot → new_blocks other ≡ blocks other) →
+      ((other : Spot) → other ≢ spot → new_vacancies other ≡ vacancies other) →
+      BlocksFit n dies blocks vacancies → BlocksFit n (slice_set dies spot.die x) new_blocks new_vacancies
+  put_blocks l bad_here bad_leaves next_here leaves same_state same_vacancy h = record {
+    ready = λ other next d b e.
+        put_block ready_page dies spot x l leaves other
+        ∙ ⊎_elim
+        (λ (k : (same_spot other spot ≡ true) × (other ≡ spot)).
+        ap ready k.1
+        ∙ (at_itself before spot (ready_page x spot.block) ∙ next_here next (ap new_next (sym k.1) ∙ e)))
+        (λ (k : (same_spot other spot ≡ false) × (other ≢ spot)).
+        at_another before spot (ready_page x spot.block) other k.1
+        ∙ h.ready other next d b (same_next other k.1 ∙ e))
+        (spot_cases other spot);
+    bad = λ other. sym (put_block is_bad_block dies spot x l bad_leaves other ∙ same_bad other);
+  }
+    where
+      before : Spot → Option ℕ
+      before s = ready_page (die_at dies s.die) s.block
+
+      ready : Spot → Option ℕ
+      ready = at_spot before spot (ready_page x spot.block)
+
+      bad_before : Spot → Bool
+      bad_before s = is_bad_block (die_at dies s.die) s.block
+
+      same_next : (other : Spot) → other ≢ spot → next_of (blocks other) (vacancies other) ≡ new_next other
+      same_next other differ =
+          sym (ap (λ (s : BlockState). next_of s (new_vacancies other)) (same_state other differ)
+          ∙ ap (next_of (blocks other)) (same_vacancy other differ))
+
+      same_bad : (other : Spot) →
+          at_spot bad_before spot (is_bad_block x spot.block) other ≡ is_bad (new_blocks other)
+      same_bad other =
+          ⊎_elim
+          (λ (k : (same_spot other spot ≡ true) × (other ≡ spot)).
+          ap (at_spot bad_before spot (is_bad_block x spot.block)) k.1
+          ∙ (at_itself bad_before spot (is_bad_block x spot.block)
+          ∙ (bad_here ∙ ap (λ (s : Spot). is_bad (new_blocks s)) (sym k.1))))
+          (λ (k : (same_spot other spot ≡ false) × (other ≢ spot)).
+          at_another bad_before spot (is_bad_block x spot.block) other k.1
+          ∙ (sym (h.bad other) ∙ sym (ap is_bad (same_state other k.1))))
+          (spot_cases other spot)
+
+-- a change of the layer alone that names no page to be programmed that was not named, and leaves bad blocks bad and
+-- others good
+pub still_fit : (n : Numbers) (dies : List DieState) (blocks new_blocks : Spot → BlockState)
+    (vacancies new_vacancies : Spot → Vacancy) →
+    ((spot : Spot) (next : ℕ) → next_of (new_blocks spot) (new_vacancies spot) ≡ Some next →
+    next_of (blocks spot) (vacancies spot) ≡ Some next) →
+    ((spot : Spot) → is_bad (new_blocks spot) ≡ is_bad (blocks spot)) → BlocksFit n dies blocks vacancies →
+    BlocksFit n dies new_blocks new_vacancies
+still_fit n dies blocks new_blocks vacancies new_vacancies named same_bad h = record {
+  ready = λ spot next d b e. h.ready spot next d b (named spot next e);
+  bad = λ spot. same_bad spot ∙ h.bad spot;
 }
+
+-- the program of a page of a good block is handed out: no block is bad or good that was not
+pub begun_bad : (blocks : Spot → BlockState) (p : Place) → is_bad (blocks (spot_of p)) ≡ false → (spot : Spot) →
+    is_bad (at_spot blocks (spot_of p) (Filling p.page) spot) ≡ is_bad (blocks spot)
+begun_bad blocks p was_good spot =
+    ⊎_elim
+    (λ (k : (spot ≡ spot_of p) × (new spot ≡ Filling p.page)).
+    ap is_bad k.1 ∙ (sym was_good ∙ ap (λ (s : Spot). is_bad (blocks s)) (sym k.0)))
+    (λ (k : (spot ≢ spot_of p) × (new spot ≡ blocks spot)). ap is_bad k.1)
+    (at_spot_cases blocks (spot_of p) (Filling p.page) spot)
   where
-    before : Spot → Option ℕ
-    before s = ready_page (die_at dies s.die) s.block
+    new : Spot → BlockState
+    new = at_spot blocks (spot_of p) (Filling p.page)
 
-    ready : Spot → Option ℕ
-    ready = at_spot before spot (ready_page x spot.block)
-
-    at_itself : ready spot ≡ ready_page x spot.block
-    at_itself =
-        ⊎_elim (λ (k : (spot ≡ spot) × (ready spot ≡ ready_page x spot.block)). k.1)
-        (λ (k : (spot ≢ spot) × (ready spot ≡ before spot)). absurd (k.0 refl))
-        (at_spot_cases before spot (ready_page x spot.block) spot)
-
-    at_another : (other : Spot) → other ≢ spot → ready other ≡ before other
-    at_another other differ =
-        ⊎_elim (λ (k : (other ≡ spot) × (ready other ≡ ready_page x spot.block)). absurd (differ k.0))
-        (λ (k : (other ≢ spot) × (ready other ≡ before other)). k.1)
-        (at_spot_cases before spot (ready_page x spot.block) other)
-
-    same_bad : (other : Spot) (b : Bool) →
-        (if b then is_bad_block x spot.block else bad_of dies other) ≡ is_bad (if b then new else blocks other)
-    same_bad other true = bad_here
-    same_bad other false = sym (h.bad other)
+-- and if it is the page that is programmed next, the block is being filled from then on
+pub begun_blocks : (n : Numbers) (dies : List DieState) (blocks : Spot → BlockState) (vacancies : Spot → Vacancy)
+    (p : Place) → is_bad (blocks (spot_of p)) ≡ false →
+    next_of (blocks (spot_of p)) (vacancies (spot_of p)) ≡ Some p.page → BlocksFit n dies blocks vacancies →
+    BlocksFit n dies (at_spot blocks (spot_of p) (Filling p.page)) vacancies
+begun_blocks n dies blocks vacancies p was_good was_next h =
+    still_fit n dies blocks new vacancies vacancies
+    (λ spot next e.
+    ⊎_elim
+    (λ (k : (spot ≡ spot_of p) × (new spot ≡ Filling p.page)).
+    ap (λ (s : Spot). next_of (blocks s) (vacancies s)) k.0
+    ∙ (was_next ∙ (sym (ap (λ (s : BlockState). next_of s (vacancies spot)) k.1) ∙ e)))
+    (λ (k : (spot ≢ spot_of p) × (new spot ≡ blocks spot)).
+    sym (ap (λ (s : BlockState). next_of s (vacancies spot)) k.1) ∙ e)
+    (at_spot_cases blocks (spot_of p) (Filling p.page) spot))
+    (begun_bad blocks p was_good) h
+  where
+    new : Spot → BlockState
+    new = at_spot blocks (spot_of p) (Filling p.page)
 
 -- Pages
 
@@ -180,30 +251,41 @@ pages_put dies spot x q l leaves b e =
 
 -- A program
 
-behind_next : (pages page next : ℕ) → state_after pages page ≡ Filling next → Some (page + 1) ≡ Some next
-behind_next pages page next e = by (page + 1 == pages) e
+behind_next : (pages page next : ℕ) (v : Vacancy) → next_of (state_after pages page) v ≡ Some next →
+    Some (page + 1) ≡ Some next
+behind_next pages page next v e = by (page + 1 == pages) e
   where
-    by : (b : Bool) → (if b then Closed else Filling (page + 1)) ≡ Filling next → Some (page + 1) ≡ Some next
-    by true h = cc
-    by false h = cc
+    by : (b : Bool) → next_of (if b then Closed else Filling (page + 1)) v ≡ Some next → Some (page + 1) ≡ Some next
+    by true h = absurd (none-some next h)
+    by false h = h
 
 behind_good : (pages page : ℕ) → is_bad (state_after pages page) ≡ false
 behind_good pages page = if_both (λ (s : BlockState). is_bad s ≡ false) (page + 1 == pages) refl refl
 
-pub program_blocks : (n : Numbers) (dies : List DieState) (blocks : Spot → BlockState) (p : Place) (content : Page) →
-    Fit n dies → p.die < length dies → IsPlace n p → blocks (spot_of p) ≡ Filling p.page → BlocksFit n dies blocks →
+pub program_blocks : (n : Numbers) (dies : List DieState) (blocks : Spot → BlockState) (vacancies : Spot → Vacancy)
+    (p : Place) (content : Page) → Fit n dies → p.die < length dies → IsPlace n p →
+    blocks (spot_of p) ≡ Filling p.page → BlocksFit n dies blocks vacancies →
     BlocksFit n (slice_set dies p.die (die_programmed (die_at dies p.die) p.block p.page content))
-    (at_spot blocks (spot_of p) (state_after n.pages p.page))
-program_blocks n dies blocks p content fit l place fills h =
+    (at_spot blocks (spot_of p) (state_after n.pages p.page)) vacancies
+program_blocks n dies blocks vacancies p content fit l place fills h =
     let die = die_at dies p.die in
     let size = die_size n dies p.die fit l in
     let long : length die.ready ≡ n.blocks = size.2 in
     let within = place.block in
     let inside : p.block < length die.ready = omega arith in
-    put_blocks n dies blocks (spot_of p) (state_after n.pages p.page) (die_programmed die p.block p.page content) l
-    (sym (h.bad (spot_of p)) ∙ (ap is_bad fills ∙ sym (behind_good n.pages p.page))) (λ c differ. refl)
-    (λ next e. programmed_next die p.block p.page content inside ∙ behind_next n.pages p.page next e)
-    (λ c differ. programmed_next_elsewhere die p.block p.page c content differ) h
+    let new = at_spot blocks (spot_of p) (state_after n.pages p.page) in
+    let is : new (spot_of p) ≡ state_after n.pages p.page =
+    at_itself blocks (spot_of p) (state_after n.pages p.page) in
+    put_blocks n dies blocks new vacancies vacancies (spot_of p) (die_programmed die p.block p.page content) l
+    (sym (h.bad (spot_of p)) ∙ (ap is_bad fills ∙ (sym (behind_good n.pages p.page) ∙ sym (ap is_bad is))))
+    (λ c differ. refl)
+    (λ next e.
+    programmed_next die p.block p.page content inside
+    ∙ behind_next n.pages p.page next (vacancies (spot_of p))
+    (sym (ap (λ (s : BlockState). next_of s (vacancies (spot_of p))) is) ∙ e))
+    (λ c differ. programmed_next_elsewhere die p.block p.page c content differ)
+    (λ other differ. at_another blocks (spot_of p) (state_after n.pages p.page) other differ)
+    (λ other differ. refl) h
 
 pub program_pages : (n : Numbers) (dies : List DieState) (p : Place) (content : Page) → Fit n dies →
     p.die < length dies →
@@ -247,22 +329,23 @@ program_pages n dies p content fit l place = λ i q. at q i
 
 -- An erase
 
-first_next : (next : ℕ) → Filling 0 ≡ Filling next → Some 0 ≡ Some next
-first_next next e = cc
-
-pub erase_blocks : (n : Numbers) (dies : List DieState) (blocks : Spot → BlockState) (spot : Spot) → Fit n dies →
-    spot.die < length dies → spot.block < n.blocks → is_bad (blocks spot) ≡ false → BlocksFit n dies blocks →
-    BlocksFit n (slice_set dies spot.die (die_erased (die_at dies spot.die) spot.block))
-    (at_spot blocks spot (Filling 0))
-erase_blocks n dies blocks spot fit l within was_good h =
+pub erase_blocks : (n : Numbers) (dies : List DieState) (blocks : Spot → BlockState) (vacancies : Spot → Vacancy)
+    (spot : Spot) → Fit n dies → spot.die < length dies → spot.block < n.blocks → blocks spot ≡ Free →
+    BlocksFit n dies blocks vacancies →
+    BlocksFit n (slice_set dies spot.die (die_erased (die_at dies spot.die) spot.block)) blocks
+    (at_spot vacancies spot Ready)
+erase_blocks n dies blocks vacancies spot fit l within is_free h =
     let die = die_at dies spot.die in
     let size = die_size n dies spot.die fit l in
     let long : length die.ready ≡ n.blocks = size.2 in
     let inside : spot.block < length die.ready = omega arith in
-    put_blocks n dies blocks spot (Filling 0) (die_erased die spot.block) l
-    (sym (h.bad spot) ∙ was_good) (λ c differ. refl)
-    (λ next e. erased_next die spot.block inside ∙ first_next next e)
-    (λ c differ. erased_next_elsewhere die spot.block c differ) h
+    let new = at_spot vacancies spot Ready in
+    let is_next : next_of (blocks spot) (new spot) ≡ Some 0 =
+    ap (λ (s : BlockState). next_of s (new spot)) is_free ∙ ap (next_of Free) (at_itself vacancies spot Ready) in
+    put_blocks n dies blocks blocks vacancies new spot (die_erased die spot.block) l (sym (h.bad spot))
+    (λ c differ. refl) (λ next e. erased_next die spot.block inside ∙ (sym is_next ∙ e))
+    (λ c differ. erased_next_elsewhere die spot.block c differ) (λ other differ. refl)
+    (λ other differ. at_another vacancies spot Ready other differ) h
 
 pub erase_pages : (n : Numbers) (dies : List DieState) (spot : Spot) → Fit n dies → spot.die < length dies →
     spot.block < n.blocks →

@@ -1,21 +1,23 @@
 -- The dies of a world fit the state, event by event.
-use Rattle.std.proofs.Common.{◌≡◌, ◌≢◌, ◌∙◌, ℕ, ◌<◌, ◌≤◌, Bool, true, false, List, [], ◌∷◌, Option, Some, None, length}
-use Rattle.std.proofs.Common.{refl, sym, ap, subst, ⊎_elim, arith}
+use Rattle.std.proofs.Common.{◌≡◌, ◌≢◌, ◌∙◌, ◌⊎◌, ℕ, ◌<◌, ◌≤◌, Bool, true, false, List, [], ◌∷◌, Option, Some, None}
+use Rattle.std.proofs.Common.{length, refl, sym, ap, subst, ⊎_elim, arith}
 use Rattle.std.specs.Prelude.{replicate, if◌then◌else◌, slice_set, option_map, Result, Ok, Err}
 use Rattle.std.proofs.lemmas.List.{get_or-replicate, get_or_past, length-replicate, length-set}
-use Rattle.ufs_spec.proofs.Facts.{none-some}
+use Rattle.ufs_spec.proofs.Facts.{none-some, same_Some}
 use Rattle.ufs_spec.specs.Cells.{Array, Cells, GroupPage, IsCell, IsPlace, Nothing}
 use Rattle.ufs_spec.specs.DieLaws.{has_page}
 use Rattle.ufs_spec.specs.Dies.{CanDo, DieState, IsOfSize, after_job, blank_page, outcome_of}
-use Rattle.ufs_spec.specs.Disk.{BlockState, Erasing, Flight, Programming, Reading, Spot, at_die, at_place, job_of}
-use Rattle.ufs_spec.specs.Disk.{page_of, spot_of}
+use Rattle.ufs_spec.specs.Disk.{Bad, BlockState, Closed, Erasing, Filling, Flight, Free, Programming, Reading, Ready}
+use Rattle.ufs_spec.specs.Disk.{Spot, Stale, Untouched, Vacancy, at_die, at_place, blocks_begun, job_of, page_of}
+use Rattle.ufs_spec.specs.Disk.{spot_of}
 use Rattle.ufs_spec.specs.Lives.{Fit, IsOpened, array_of, bad_of, ended_well}
 use Rattle.ufs_spec.specs.Machine.{Reply, Done, OfDone, Take, OfTake, Heard, OfHost, Host, OfReply, Turn, OfTurn}
 use Rattle.ufs_spec.specs.Machine.{array_after, given, hears, in_block, fills, lock_applied, observe, replied}
 use Rattle.ufs_spec.specs.Machine.{with_moves}
 use Rattle.ufs_spec.specs.Moves.{Ending, IsEndingOf, TakeStep, ending_fits}
-use Rattle.ufs_spec.specs.Refusals.{State}
-use Rattle.ufs_spec.specs.Translation.{MayTake, is_bad}
+use Rattle.ufs_spec.specs.Openings.{IsVacancyAt}
+use Rattle.ufs_spec.specs.Refusals.{State, numbers_of}
+use Rattle.ufs_spec.specs.Translation.{MayTake, Translation, is_bad}
 use Rattle.ufs_spec.specs.declared.configs.Numbers.{Numbers}
 use Rattle.ufs_spec.specs.declared.faults.HostFault.{HostFault}
 use Rattle.ufs_spec.specs.declared.flash.Job.{Job}
@@ -32,19 +34,20 @@ use Rattle.ufs_laws.specs.Flights.{die_of_flight}
 use Rattle.ufs_laws.specs.Requests.{HaveNoRequest}
 use Rattle.power_loss.proofs.openings.FirstBlocks.{bad_as_before, never_filling}
 use Rattle.power_loss.specs.Exchange.{IsTied}
-use Rattle.power_loss.proofs.jobs_owed.ProgramsAndErases.{take_inside}
+use Rattle.power_loss.proofs.jobs_owed.ProgramsAndErases.{OpensReady, program_owed, take_inside}
 use Rattle.power_loss.proofs.books.SmallFacts.{at_die_is, spot_is}
-use Rattle.device.specs.Worlds.{BlocksFit, DiesFit, FitState, die_at, job_at, jobs_given}
-use Rattle.device.proofs.dies_of_world.DieParts.{die_size, erase_blocks, erase_pages, program_blocks}
+use Rattle.device.specs.Worlds.{BlocksFit, DiesFit, FitState, die_at, job_at, jobs_given, next_of}
+use Rattle.device.proofs.dies_of_world.DieParts.{begun_blocks, die_size, erase_blocks, erase_pages, program_blocks}
 use Rattle.device.proofs.dies_of_world.DieParts.{program_pages, put_jobs, put_same, put_sizes}
-use Rattle.device.proofs.dies_of_world.FinishDies.{blocks_behind, flights_behind, seen_behind}
+use Rattle.device.proofs.dies_of_world.FinishDies.{blocks_behind, flights_behind, seen_behind, vacancies_behind}
 use Rattle.device.proofs.dies_of_world.FreedBlock.{written_fits}
 use Rattle.device.proofs.dies_of_world.QuietDies.{Seen, hears_same, replied_same, seen, seen_over, step_same, told_same}
 
 -- A fit reads the numbers, the pages and the blocks of a state, and the jobs that are in flight
 
 abbrev FitSeen : List DieState → List (Option Job) → (ℕ → Option Flight) → Seen → Type 0
-FitSeen dies jobs flights k = DiesFit k.layer.numbers k.array k.layer.blocks flights dies jobs
+FitSeen dies jobs flights k =
+    DiesFit k.layer.numbers k.array k.layer.blocks k.layer.vacancies flights dies jobs
 
 -- a die whose job is an erase does one of that block
 is_erase : (o : Option Flight) (s : Spot) → Some (job.Erase s.die s.block) ≡ option_map job_of o → o ≡ Some (Erasing s)
@@ -86,6 +89,22 @@ told_stays : (dies : List DieState) (jobs : List (Option Job)) (s u : State) →
 told_stays dies jobs s u look same h =
     stays dies jobs s (lock_applied (fills u)) (told_same u ∙ look) (λ die. settled_jobs u die ∙ same die) h
 
+-- a program is owed to the next page of a block that is being filled, or to the first of one that was erased in this
+-- life
+pub named_next : (t : Translation) (p : Place) → (t.disk.blocks (spot_of p) ≡ Filling p.page) ⊎ OpensReady t p →
+    (is_bad (t.disk.blocks (spot_of p)) ≡ false)
+    × (next_of (t.disk.blocks (spot_of p)) (t.disk.vacancies (spot_of p)) ≡ Some p.page)
+named_next t p h =
+    ⊎_elim
+    (λ (fills : t.disk.blocks (spot_of p) ≡ Filling p.page).
+    (ap is_bad fills, ap (λ (state : BlockState). next_of state (t.disk.vacancies (spot_of p))) fills))
+    (λ (opens : OpensReady t p). (
+      ap is_bad opens.free,
+      ap (λ (state : BlockState). next_of state (t.disk.vacancies (spot_of p))) opens.free
+          ∙ (ap (next_of Free) opens.ready ∙ ap (λ (page : ℕ). Some page) (sym opens.first)),
+    ))
+    h
+
 -- Calls
 
 module _ (dies : List DieState) (jobs : List (Option Job)) (s : State) (fit : FitState dies jobs s) where
@@ -106,6 +125,16 @@ module _ (dies : List DieState) (jobs : List (Option Job)) (s : State) (fit : Fi
 
   -- a die is given a job
 
+  -- a program that is handed out is of the page that the die lets be programmed next
+  begun : (flight : Flight) (die : ℕ) → MayTake s.translation die (Some flight) →
+      BlocksFit (numbers_of s) dies (blocks_begun s.translation.disk flight) s.translation.disk.vacancies
+  begun (Reading who p) die may = fit.blocks_fit
+  begun (Erasing spot) die may = fit.blocks_fit
+  begun (Programming p cell) die may =
+      let owed = named_next s.translation p (program_owed s.translation die p cell may).place.next in
+      begun_blocks (numbers_of s) dies s.translation.disk.blocks s.translation.disk.vacancies p owed.0 owed.1
+      fit.blocks_fit
+
   give : (die : ℕ) (flight : Flight) → MayTake s.translation die (Some flight) →
       FitState dies (slice_set jobs die (Some (job_of flight))) (given s die (Some flight))
   give die flight may =
@@ -119,7 +148,7 @@ module _ (dies : List DieState) (jobs : List (Option Job)) (s : State) (fit : Fi
         pages = fit.pages;
         as_many = length-set jobs die (Some (job_of flight)) ∙ fit.as_many;
         jobs_are = put_jobs jobs flights die (Some flight) inside fit.jobs_are;
-        blocks_fit = fit.blocks_fit;
+        blocks_fit = begun flight die may;
         erases = λ other spot e.
             ⊎_elim
             (λ (k : (other ≡ die) × (Some flight ≡ Some (Erasing spot))).
@@ -146,9 +175,10 @@ page_inside n cells p tag body within e =
     (is_place n p)
 
 -- the pages and the blocks behind the job are those of the die behind it
-pub record AreBehind (n : Numbers) (dies : List DieState) (array : Array) (blocks : Spot → BlockState) : Type 0 where
+pub record AreBehind (n : Numbers) (dies : List DieState) (array : Array) (blocks : Spot → BlockState)
+    (vacancies : Spot → Vacancy) : Type 0 where
   pub pages : array ≡ array_of dies
-  pub blocks_fit : BlocksFit n dies blocks
+  pub blocks_fit : BlocksFit n dies blocks vacancies
 
 module _ (dies : List DieState) (jobs : List (Option Job)) (s : State) (fit : FitState dies jobs s)
     (tied : IsTied s) where
@@ -191,7 +221,8 @@ module _ (dies : List DieState) (jobs : List (Option Job)) (s : State) (fit : Fi
         has_page (die_at dies p.die) p.block p.page n.blocks n.pages place.block place.page
             (size p.die (Programming p cell) flies),
         sym (fit.blocks_fit.bad (spot_of p)) ∙ ap is_bad right.next,
-        fit.blocks_fit.ready (spot_of p) p.page place.die place.block right.next,
+        fit.blocks_fit.ready (spot_of p) p.page place.die place.block
+            (ap (λ (state : BlockState). next_of state (s.translation.disk.vacancies (spot_of p))) right.next),
       )
   can_do (Erasing spot) flies =
       let right = tied.valid.flights.erases spot.die spot flies in
@@ -231,9 +262,9 @@ module _ (dies : List DieState) (jobs : List (Option Job)) (s : State) (fit : Fi
 
   are_behind : (flight : Flight) → flights (die_of_flight flight) ≡ Some flight →
       AreBehind n (done_by (die_of_flight flight) flight) (array_after s flight (ended_well flight) s.array)
-      (blocks_behind s.translation flight)
+      (blocks_behind s.translation flight) (vacancies_behind s.translation flight)
   are_behind (Reading who p) flies =
-      subst (λ (ds : List DieState). AreBehind n ds s.array s.translation.disk.blocks)
+      subst (λ (ds : List DieState). AreBehind n ds s.array s.translation.disk.blocks s.translation.disk.vacancies)
       (sym (put_same dies p.die)) record { pages = fit.pages; blocks_fit = fit.blocks_fit }
   are_behind (Programming p cell) flies =
       let right = tied.valid.flights.programs p.die p cell flies in
@@ -243,35 +274,35 @@ module _ (dies : List DieState) (jobs : List (Option Job)) (s : State) (fit : Fi
             ap (λ (array : Array). at_place array p (page_of cell)) fit.pages
             ∙ program_pages n dies p (page_of cell) fit.sizes l right.place;
         blocks_fit = written_fits s.translation (done_by p.die (Programming p cell)) p cell
-            (program_blocks n dies s.translation.disk.blocks p (page_of cell) fit.sizes l right.place right.next
-            fit.blocks_fit);
+            (program_blocks n dies s.translation.disk.blocks s.translation.disk.vacancies p (page_of cell) fit.sizes l
+            right.place right.next fit.blocks_fit);
       }
   are_behind (Erasing spot) flies =
-      let blocks = s.translation.disk.blocks in
-      let good : is_bad (blocks spot) ≡ false = ap is_bad (tied.valid.flights.erases spot.die spot flies).free in
+      let free = (tied.valid.flights.erases spot.die spot flies).free in
       let within = (fit.erases spot.die spot flies).block in
       let l = is_inside spot.die (Erasing spot) flies in
       record {
         pages =
             ap (λ (array : Array). λ (p : Place). if in_block n spot p then blank_page else array p) fit.pages
             ∙ erase_pages n dies spot fit.sizes l within;
-        blocks_fit = erase_blocks n dies blocks spot fit.sizes l within good fit.blocks_fit;
+        blocks_fit = erase_blocks n dies s.translation.disk.blocks s.translation.disk.vacancies spot fit.sizes l within
+            free fit.blocks_fit;
       }
 
   -- behind the end of a job the dies that hold what is behind it fit
   pub ended_fits : (die : ℕ) (flight : Flight) (ending : Ending) (left : Array) (after : List DieState) (array : Array)
-      (blocks : Spot → BlockState) → HaveNoRequest s.tasks → flights die ≡ Some flight →
-      ending_fits (Some flight) ending ≡ true → Fit n after → AreBehind n after array blocks →
+      (blocks : Spot → BlockState) (vacancies : Spot → Vacancy) → HaveNoRequest s.tasks → flights die ≡ Some flight →
+      ending_fits (Some flight) ending ≡ true → Fit n after → AreBehind n after array blocks vacancies →
       seen (observe s (Done die ending left) (OfDone true))
-      ≡ seen_over array (record { numbers = n; blocks = blocks }) →
+      ≡ seen_over array (record { numbers = n; blocks = blocks; vacancies = vacancies }) →
       FitState after (slice_set jobs die None) (observe s (Done die ending left) (OfDone true))
-  ended_fits die flight ending left after array blocks none flies right sizes put looks =
+  ended_fits die flight ending left after array blocks vacancies none flies right sizes put looks =
       let u = observe s (Done die ending left) (OfDone true) in
       let l = is_inside die flight flies in
       let as_many = fit.as_many in
       let inside : die < length jobs = omega arith in
       let known : FitSeen after (slice_set jobs die None) (at_die flights die None)
-      (seen_over array (record { numbers = n; blocks = blocks })) =
+      (seen_over array (record { numbers = n; blocks = blocks; vacancies = vacancies })) =
       record {
         sizes = sizes;
         pages = put.pages;
@@ -287,7 +318,8 @@ module _ (dies : List DieState) (jobs : List (Option Job)) (s : State) (fit : Fi
       subst (FitSeen after (slice_set jobs die None) u.translation.disk.flights) (sym looks)
       (subst
       (λ (g : ℕ → Option Flight).
-      FitSeen after (slice_set jobs die None) g (seen_over array (record { numbers = n; blocks = blocks })))
+      FitSeen after (slice_set jobs die None) g
+      (seen_over array (record { numbers = n; blocks = blocks; vacancies = vacancies })))
       (sym (flights_behind s die flight ending left none flies (lies_home die flight flies) right)) known)
 
   pub finish_fits : (die : ℕ) (flight : Flight) → HaveNoRequest s.tasks → flights die ≡ Some flight →
@@ -296,11 +328,12 @@ module _ (dies : List DieState) (jobs : List (Option Job)) (s : State) (fit : Fi
   finish_fits die flight none flies =
       let array = array_after s flight (ended_well flight) s.array in
       let blocks = blocks_behind s.translation flight in
-      let put : AreBehind n (done_by die flight) array blocks =
-      subst (λ (e : ℕ). flights e ≡ Some flight → AreBehind n (done_by e flight) array blocks)
+      let vacancies = vacancies_behind s.translation flight in
+      let put : AreBehind n (done_by die flight) array blocks vacancies =
+      subst (λ (e : ℕ). flights e ≡ Some flight → AreBehind n (done_by e flight) array blocks vacancies)
       (lies_home die flight flies) (are_behind flight) flies in
-      ended_fits die flight (ended_well flight) s.array (done_by die flight) array blocks none flies (well_fits flight)
-      (put_sizes n dies die (job_of flight) fit.sizes (is_inside die flight flies)) put
+      ended_fits die flight (ended_well flight) s.array (done_by die flight) array blocks vacancies none flies
+      (well_fits flight) (put_sizes n dies die (job_of flight) fit.sizes (is_inside die flight flies)) put
       (seen_behind s die flight flies)
 
 -- The opening
@@ -313,6 +346,16 @@ none_given count die =
     ⊎_elim (λ (past : count ≤ die). get_or_past (replicate count none) die none (omega arith))
     (λ (l : die < count). get_or-replicate count die none none l) (split count die)
 
+-- no block is being filled and none was erased in this life, so of none a page may be programmed
+none_next : (state : BlockState) (vacancy : Vacancy) (next : ℕ) → (state ≡ Filling next → ⊥) → (vacancy ≡ Ready → ⊥) →
+    next_of state vacancy ≡ Some next → ⊥
+none_next (Filling other) vacancy next unfilled unready e = unfilled (ap Filling (same_Some other next e))
+none_next Free Ready next unfilled unready e = unready refl
+none_next Free Untouched next unfilled unready e = none-some next e
+none_next Free Stale next unfilled unready e = none-some next e
+none_next Closed vacancy next unfilled unready e = none-some next e
+none_next Bad vacancy next unfilled unready e = none-some next e
+
 pub opens_fit : (n : Numbers) (dies : List DieState) (s : State) → Fit n dies →
     IsOpened n (array_of dies) (bad_of dies) s → FitState dies (replicate (length dies) None) s
 opens_fit n dies s sizes opened =
@@ -324,7 +367,11 @@ opens_fit n dies s sizes opened =
       as_many = length-replicate (length dies) None;
       jobs_are = λ die. none_given (length dies) die ∙ sym (ap (option_map job_of) (t.disk.idle die));
       blocks_fit = record {
-        ready = λ spot next d b e. absurd (never_filling t.disk.blocks e);
+        ready = λ spot next d b e.
+            absurd (none_next (blocks spot) (s.translation.disk.vacancies spot) next
+            (λ fills. never_filling t.disk.blocks fills)
+            (λ (is : s.translation.disk.vacancies spot ≡ Ready).
+            subst (IsVacancyAt opened.cells spot) is (t.disk.vacancies spot)) e);
         bad = λ spot. bad_as_before spot t.disk.blocks;
       };
       erases = λ die spot e. absurd (none-some (Erasing spot) (sym (t.disk.idle die) ∙ e));

@@ -1,21 +1,20 @@
 -- A die whose job failed holds what the job leaves, and the block of the job is bad.
-use Rattle.std.proofs.Common.{◌≡◌, ◌∙◌, ℕ, ◌<◌, Bool, false, List, [], ◌∷◌, Option, Some, None, length, refl, ap}
+use Rattle.std.proofs.Common.{◌≡◌, ◌∙◌, ℕ, ◌<◌, Bool, false, List, [], ◌∷◌, Option, None, length, refl, sym, ap}
 use Rattle.std.proofs.Common.{arith}
 use Rattle.std.specs.Prelude.{slice_index_or}
+use Rattle.ufs_spec.proofs.Facts.{none-some}
 use Rattle.ufs_spec.specs.DieLaws.{with_bad_bad, with_bad_elsewhere, with_bad_next_elsewhere, with_bad_size}
-use Rattle.ufs_spec.specs.Dies.{DieState, IsOfSize, ready_page, with_bad}
-use Rattle.ufs_spec.specs.Disk.{Bad, BlockState, Filling, Spot, at_spot}
+use Rattle.ufs_spec.specs.Dies.{DieState, IsOfSize, with_bad}
+use Rattle.ufs_spec.specs.Disk.{Bad, BlockState, Spot, Vacancy, at_spot}
 use Rattle.ufs_spec.specs.Lives.{Fit, IsLeft, array_of, die_of}
+use Rattle.ufs_spec.specs.Translation.{is_bad}
 use Rattle.ufs_spec.specs.declared.configs.Numbers.{Numbers}
 use Rattle.ufs_spec.specs.declared.events.Leftover.{Leftover}
 use Rattle.device.specs.Leftovers.{IsInside}
-use Rattle.device.specs.Worlds.{BlocksFit, block_of, die_at, die_left, dies_failed}
-use Rattle.device.proofs.dies_of_world.DieParts.{die_size, put_blocks}
+use Rattle.device.specs.Worlds.{BlocksFit, block_of, die_at, die_left, dies_failed, next_of}
+use Rattle.device.proofs.dies_of_world.DieParts.{at_another, at_itself, die_size, put_blocks}
 use Rattle.device.proofs.dies_of_world.LeftDies.{in_a_block, is_of_dies, left_keeps_bad, left_keeps_ready, left_size}
 use Rattle.device.proofs.dies_of_world.LeftDies.{one_is_left, put_fit, spot_left}
-
-no_filling : (next : ℕ) (o : Option ℕ) → Bad ≡ Filling next → o ≡ Some next
-no_filling next o e = cc
 
 module _ (n : Numbers) (dies : List DieState) (l : Leftover) (fit : Fit n dies) (on : IsInside n l) where
   abbrev d : DieState
@@ -36,18 +35,22 @@ module _ (n : Numbers) (dies : List DieState) (l : Leftover) (fit : Fit n dies) 
   pub failed_left : IsLeft (array_of dies) (l ∷ []) (array_of (dies_failed dies (die_of l) l))
   failed_left = one_is_left n dies l fit on wrong (λ c i. refl)
 
-  pub failed_blocks : (blocks : Spot → BlockState) → BlocksFit n dies blocks →
-      BlocksFit n (dies_failed dies (die_of l) l) (at_spot blocks (spot_left l) Bad)
-  failed_blocks blocks h =
+  pub failed_blocks : (blocks : Spot → BlockState) (vacancies : Spot → Vacancy) → BlocksFit n dies blocks vacancies →
+      BlocksFit n (dies_failed dies (die_of l) l) (at_spot blocks (spot_left l) Bad) vacancies
+  failed_blocks blocks vacancies h =
       let less = in_a_block n l on in
       let long : length d.bad ≡ n.blocks = size.3 in
-      put_blocks n dies blocks (spot_left l) Bad wrong there (with_bad_bad d (block_of l) (omega arith))
+      let new = at_spot blocks (spot_left l) Bad in
+      let is : new (spot_left l) ≡ Bad = at_itself blocks (spot_left l) Bad in
+      put_blocks n dies blocks new vacancies vacancies (spot_left l) wrong there
+      (with_bad_bad d (block_of l) (omega arith) ∙ sym (ap is_bad is))
       (λ c differ.
       with_bad_elsewhere d (block_of l) c differ
       ∙ ap (λ (bad : List Bool). slice_index_or bad c false) (left_keeps_bad (die_at dies (die_of l)) l))
-      (λ next e. no_filling next (ready_page wrong (block_of l)) e)
+      (λ next e.
+      absurd (none-some next (sym (ap (λ (s : BlockState). next_of s (vacancies (spot_left l))) is) ∙ e)))
       (λ c differ.
       with_bad_next_elsewhere d (block_of l) c differ
       ∙ ap (λ (ready : List (Option ℕ)). slice_index_or ready c None)
       (left_keeps_ready (die_at dies (die_of l)) l))
-      h
+      (λ other differ. at_another blocks (spot_left l) Bad other differ) (λ other differ. refl) h

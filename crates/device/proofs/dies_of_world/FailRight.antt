@@ -63,15 +63,19 @@ module _ (w : WorldState) (s : State) (die : ℕ) (l : Leftover) (fit : Fits w s
   -- the dies hold what the failed job leaves
   behind : (left : Array) → IsLeft s.array (l ∷ []) left →
       AreBehind n (dies_failed w.dies die l) left (blocks_failed s.translation (spot_left l))
+      s.translation.disk.vacancies
   behind left is_left =
-      subst (λ (e : ℕ). AreBehind n (dies_failed w.dies e l) left (blocks_failed s.translation (spot_left l)))
+      subst
+      (λ (e : ℕ). AreBehind n (dies_failed w.dies e l) left (blocks_failed s.translation (spot_left l))
+      s.translation.disk.vacancies)
       (home w s die l fit is)
       record {
         pages =
             one_left s.array (l ∷ []) (one_apart l) left (array_of (dies_failed w.dies (die_of l) l)) is_left
             (subst (λ (array : Array). IsLeft array (l ∷ []) (array_of (dies_failed w.dies (die_of l) l)))
             (sym fit.dies_fit.pages) (failed_left n w.dies l fit.dies_fit.sizes on));
-        blocks_fit = failed_blocks n w.dies l fit.dies_fit.sizes on s.translation.disk.blocks fit.dies_fit.blocks_fit;
+        blocks_fit = failed_blocks n w.dies l fit.dies_fit.sizes on s.translation.disk.blocks
+            s.translation.disk.vacancies fit.dies_fit.blocks_fit;
       }
 
   sizes : Fit n (dies_failed w.dies die l)
@@ -97,7 +101,7 @@ module _ (w : WorldState) (s : State) (die : ℕ) (l : Leftover) (fit : Fits w s
       )
       refl answered
       (ended_fits w.dies w.jobs s fit.dies_fit fit.describes.tied die flight (WentWrong c) left
-      (dies_failed w.dies die l) left (blocks_failed s.translation (spot_left l))
+      (dies_failed w.dies die l) left (blocks_failed s.translation (spot_left l)) s.translation.disk.vacancies
       (no_requests (before_accepted s.translation.ledger) w.core.tasks s.tasks fit.describes.kept.tasks) flies right
       sizes (behind left is_left) looks)
 
@@ -203,7 +207,7 @@ module _ (w : WorldState) (s : State) (die : ℕ) (fit : Fits w s) where
       (subst (λ (o : Option Flight). IsEndingOf s.translation.disk.cells o outcome.ReadFailed ReadWrong) (sym flies)
       (refl, tt)) tt)
       (ended_fits w.dies w.jobs s fit.dies_fit fit.describes.tied die (Reading reader p) ReadWrong s.array w.dies
-      s.array s.translation.disk.blocks
+      s.array s.translation.disk.blocks s.translation.disk.vacancies
       (no_requests (before_accepted s.translation.ledger) w.core.tasks s.tasks fit.describes.kept.tasks) flies refl
       fit.dies_fit.sizes record { pages = fit.dies_fit.pages; blocks_fit = fit.dies_fit.blocks_fit }
       (seen_unread s die reader p s.array flies))

@@ -2,8 +2,8 @@
 use Rattle.std.proofs.Common.{◌≡◌, ℕ, true, Option, Some, None, refl, sym, ap, ◌∙◌}
 use Rattle.ufs_spec.proofs.Facts.{if_both}
 use Rattle.ufs_spec.specs.Cells.{Array, Cell, Cells, GroupPage, MarkPage, Nothing}
-use Rattle.ufs_spec.specs.Disk.{Bad, BlockState, Erasing, Filling, Flight, ForNobody, ForRest, ForStep, ForTask}
-use Rattle.ufs_spec.specs.Disk.{Programming, Reader, Reading, Spot, at_die, at_spot, program_failed, programmed}
+use Rattle.ufs_spec.specs.Disk.{Bad, BlockState, Erasing, Flight, ForNobody, ForRest, ForStep, ForTask, Programming}
+use Rattle.ufs_spec.specs.Disk.{Reader, Reading, Ready, Spot, Vacancy, at_die, at_spot, program_failed, programmed}
 use Rattle.ufs_spec.specs.Disk.{spot_of, state_after}
 use Rattle.ufs_spec.specs.Exchanges.{NotRead, ReadState, WasRead}
 use Rattle.ufs_spec.specs.Lives.{ended_well}
@@ -26,10 +26,21 @@ blocks_behind t (Programming p (GroupPage tag body)) =
     at_spot t.disk.blocks (spot_of p) (state_after t.numbers.pages p.page)
 blocks_behind t (Programming p (MarkPage m)) =
     (freed (programmed t.numbers.pages t.disk p (MarkPage m)) t.work.plan).blocks
-blocks_behind t (Erasing spot) = at_spot t.disk.blocks spot (Filling 0)
+blocks_behind t (Erasing spot) = t.disk.blocks
+
+-- what is in each free block then: nothing in one that was erased, and what may go in one that is freed
+abbrev pub vacancies_behind : Translation → Flight → Spot → Vacancy
+vacancies_behind t (Programming p (MarkPage m)) =
+    (freed (programmed t.numbers.pages t.disk p (MarkPage m)) t.work.plan).vacancies
+vacancies_behind t (Erasing spot) = at_spot t.disk.vacancies spot Ready
+vacancies_behind t flight = t.disk.vacancies
 
 abbrev pub layer_behind : Translation → Flight → LayerSeen
-layer_behind t flight = record { numbers = t.numbers; blocks = blocks_behind t flight }
+layer_behind t flight = record {
+  numbers = t.numbers;
+  blocks = blocks_behind t flight;
+  vacancies = vacancies_behind t flight;
+}
 
 read_layer : (t : Translation) (reader : Reader) → layer_seen (read_right t reader) ≡ layer_seen t
 read_layer t (ForTask tag index) = refl
@@ -99,7 +110,7 @@ abbrev pub blocks_failed : Translation → Spot → Spot → BlockState
 blocks_failed t spot = at_spot t.disk.blocks spot Bad
 
 abbrev pub layer_failed : Translation → Spot → LayerSeen
-layer_failed t spot = record { numbers = t.numbers; blocks = blocks_failed t spot }
+layer_failed t spot = record { numbers = t.numbers; blocks = blocks_failed t spot; vacancies = t.disk.vacancies }
 
 program_layer : (t : Translation) (die : ℕ) (p : Place) (cell : Cell) (c : Cells) →
     layer_seen (job_ended t die (Programming p cell) (WentWrong c)) ≡ layer_failed t (spot_of p)

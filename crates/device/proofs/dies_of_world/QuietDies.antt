@@ -1,8 +1,8 @@
--- Moves and messages that leave the pages, the numbers and the state of each block: all but the beginning and the end
--- of a job.
+-- Moves and messages that leave the pages, the numbers, the state of each block and what is in the free ones: all but
+-- the beginning and the end of a job.
 use Rattle.std.proofs.Common.{◌≡◌, [], ◌∷◌, refl, ap, ◌∙◌}
 use Rattle.ufs_spec.specs.Cells.{Array}
-use Rattle.ufs_spec.specs.Disk.{BlockState, Spot}
+use Rattle.ufs_spec.specs.Disk.{BlockState, Spot, Vacancy}
 use Rattle.ufs_spec.specs.Machine.{Heard, fills, hears, lock_applied, replied, with_moves}
 use Rattle.ufs_spec.specs.Moves.{EndJob, Move, GiveJob, TakeStep, moved}
 use Rattle.ufs_spec.specs.Refusals.{State}
@@ -18,13 +18,14 @@ use Rattle.ufs_laws.proofs.walk.LayerEffects.{turn_only}
 pub record LayerSeen : Type 0 where
   pub numbers : Numbers
   pub blocks : Spot → BlockState
+  pub vacancies : Spot → Vacancy
 
 pub record Seen : Type 0 where
   pub array : Array
   pub layer : LayerSeen
 
 abbrev pub layer_seen : Translation → LayerSeen
-layer_seen t = record { numbers = t.numbers; blocks = t.disk.blocks }
+layer_seen t = record { numbers = t.numbers; blocks = t.disk.blocks; vacancies = t.disk.vacancies }
 
 abbrev pub seen_over : Array → LayerSeen → Seen
 seen_over array layer = record { array = array; layer = layer }

@@ -27,11 +27,13 @@ use Rattle.ftl_core.proofs.opened.Spots.{free_counted}
 use Rattle.ftl_core.proofs.pins.PinsAlike.{pinned_as}
 
 -- the same blocks are bad
-same_bad : (b : disk.BlockState) → is_bad (block_kept b) ≡ layer.is_bad b
-same_bad disk.Free = refl
-same_bad (disk.Filling next) = refl
-same_bad disk.Closed = refl
-same_bad disk.Bad = refl
+same_bad : (b : disk.BlockState) (v : disk.Vacancy) → is_bad (block_kept b v) ≡ layer.is_bad b
+same_bad disk.Free disk.Untouched = refl
+same_bad disk.Free disk.Stale = refl
+same_bad disk.Free disk.Ready = refl
+same_bad (disk.Filling next) v = refl
+same_bad disk.Closed v = refl
+same_bad disk.Bad v = refl
 
 -- the live pages of a block are the same, in the same order
 pub lives_agree : (c : Core) (t : Translation) → Describes c t → (s : Spot) →
@@ -55,36 +57,39 @@ module _ (c : Core) (t : Translation) (h : Describes c t) where
 
   -- the state that is kept of a block of the dies is its state
   state_agrees : (s : Spot) → has_block (sizes_of t.numbers) s ≡ true →
-      state_of c s.die s.block ≡ block_kept (t.disk.blocks s)
+      state_of c s.die s.block ≡ block_kept (t.disk.blocks s) (t.disk.vacancies s)
   state_agrees s there =
       let u : (nat_lt s.die t.numbers.dies ≡ true) × (nat_lt s.block t.numbers.blocks ≡ true) = and_parts _ _ there in
       state_is c t s.die s.block h (ltb-true s.die t.numbers.dies u.0) (ltb-true s.block t.numbers.blocks u.1)
 
   -- as much is gained by collecting a block
-  gains_agree : (s : Spot) (b : disk.BlockState) → gains c.live s (block_kept b) ≡ layer.gains t s b
-  gains_agree s disk.Free = refl
-  gains_agree s (disk.Filling next) = refl
-  gains_agree s disk.Closed = λ i. nat_lt (counts_agree s i) (sizes_are i).pages
-  gains_agree s disk.Bad = ap (nat_lt 0) (counts_agree s)
+  gains_agree : (s : Spot) (b : disk.BlockState) (v : disk.Vacancy) →
+      gains c.live s (block_kept b v) ≡ layer.gains t s b
+  gains_agree s disk.Free disk.Untouched = refl
+  gains_agree s disk.Free disk.Stale = refl
+  gains_agree s disk.Free disk.Ready = refl
+  gains_agree s (disk.Filling next) v = refl
+  gains_agree s disk.Closed v = λ i. nat_lt (counts_agree s i) (sizes_are i).pages
+  gains_agree s disk.Bad v = ap (nat_lt 0) (counts_agree s)
 
   -- the same blocks of the dies may be collected
   may_agree : (s : Spot) → has_block (sizes_of t.numbers) s ≡ true → may_be_victim c s ≡ layer.may_be_victim t s
   may_agree s there =
-      let gained = ap (gains c.live s) (state_agrees s there) ∙ gains_agree s (t.disk.blocks s) in
+      let gained = ap (gains c.live s) (state_agrees s there) ∙ gains_agree s (t.disk.blocks s) (t.disk.vacancies s) in
       λ i. not (pinned_agree s i) && gained i
 
   -- and the same bad ones hold live pages
   bad_agree : (s : Spot) → has_block (sizes_of t.numbers) s ≡ true →
       is_bad_with_live c s ≡ layer.is_bad_with_live t s
   bad_agree s there =
-      let bad = ap is_bad (state_agrees s there) ∙ same_bad (t.disk.blocks s) in
+      let bad = ap is_bad (state_agrees s there) ∙ same_bad (t.disk.blocks s) (t.disk.vacancies s) in
       λ i. bad i && not (pinned_agree s i) && nat_lt 0 (counts_agree s i)
 
   -- few blocks are free on both sides or on none
   few_agree : has_few_free c ≡
       nat_lt (count_blocks t layer.is_free) (wanted_room t.numbers)
   few_agree =
-      let free = ap (count_by is_free) h.kept.blocks.all ∙ free_counted t.numbers t.disk.blocks in
+      let free = ap (count_by is_free) h.kept.blocks.all ∙ free_counted t.numbers t.disk.blocks t.disk.vacancies in
       λ i. nat_lt (free i) (wanted_room (h.kept.numbers i))
 
 -- the block that is found to be collected is the one that the layer is to collect

@@ -160,7 +160,7 @@ module _ (c : Core) (t : Translation) (die : ℕ) (b : DieRow) (o : OpenBlock) (
 
   -- what is kept, with these states of blocks and this open block of the die
   kept_written : (x : disk.BlockState) (states : List BlockState) (filling : Option OpenBlock) →
-      BlocksKept t.numbers (at_spot t.disk.blocks (spot_at die o.block) x) states c.has_bad →
+      BlocksKept t.numbers (at_spot t.disk.blocks (spot_at die o.block) x) t.disk.vacancies states c.has_bad →
       IsFilling t.numbers (at_spot t.disk.blocks (spot_at die o.block) x) die filling →
       Kept
       (record c {
@@ -203,7 +203,7 @@ module _ (c : Core) (t : Translation) (die : ℕ) (b : DieRow) (o : OpenBlock) (
       (written_at t die o tag body) (ap (λ (n : Numbers). n.pages) h.kept.numbers)
       (h.valid.blocks.filling (spot_at die o.block) o.next is_open.1)
       (kept_written (disk.Filling (o.next + 1)) c.states (Some (record { block = o.block; next = o.next + 1 }))
-      (blocks_on t.numbers t.disk.blocks c.states c.has_bad (spot_at die o.block) o.next
+      (blocks_on t.numbers t.disk.blocks t.disk.vacancies c.states c.has_bad (spot_at die o.block) o.next
       (o.next + 1) is_open.1 h.kept.blocks)
       (filling_on t.numbers t.disk.blocks die o (o.next + 1) is_open))
       (kept_written disk.Closed (states_with c die o.block state.Closed) None

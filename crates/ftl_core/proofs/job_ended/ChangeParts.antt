@@ -1,6 +1,6 @@
 -- What describes a translation layer once the program or the erase of one die ended.
 use Rattle.std.proofs.Common.{◌≡◌, ◌≢◌, ◌∙◌, ◌⊎◌, ℕ, ◌+◌, ◌<◌, Bool, true, false, List, [], Option, Some, None, map}
-use Rattle.std.proofs.Common.{sym, ap, subst, inl, inr, ⊎_elim, arith, lt-ltb}
+use Rattle.std.proofs.Common.{refl, sym, ap, subst, inl, inr, ⊎_elim, arith, lt-ltb}
 use Rattle.std.proofs.lemmas.Bool.Decides.{eqb_tells, nat_tests}
 use Rattle.std.specs.Prelude.{◌-◌, ◌*◌, ◌==◌, count_by, drop, nat_lt, slice_get, slice_set}
 use Rattle.ufs_spec.specs.Cells.{Cells, Mark}
@@ -22,9 +22,10 @@ use Rattle.ftl_core.specs.declared.books.Step.{Step}
 use Rattle.unit_map.specs.declared.Stored.{Stored}
 use Rattle.ftl_core.specs.Describes.{BlocksKept, IsFilling, IsFlight, Kept, LedgerKept, PagesFly, PinsKept}
 use Rattle.ftl_core.specs.Describes.{StepReadsKept, WorkKept, block_kept, spot_at}
-use Rattle.ftl_core.specs.Moves.{page_written, with_row, with_state}
+use Rattle.block_table.specs.Rows.{failed_set, filling_but}
+use Rattle.ftl_core.specs.Moves.{flight_set, page_written, rows_failed, rows_in_flight, with_row, with_state}
 use Rattle.ftl_core.proofs.job_taken.Flown.{dies_changed, reads_over, step_reads_over}
-use Rattle.ftl_core.proofs.opened.Spots.{block_lost, block_put}
+use Rattle.ftl_core.proofs.opened.Spots.{block_lost, block_put, block_vacant}
 
 -- The job that ends
 
@@ -68,6 +69,7 @@ over t die blocks cells finished erasing ledger work = record t {
     cells = cells;
     finished = finished;
     blocks = blocks;
+    vacancies = t.disk.vacancies;
     flights = at_die t.disk.flights die None;
     erasing = erasing;
   };
@@ -93,7 +95,7 @@ pub kept_beside : (c : Core) (t : Translation) (die block : ℕ) (b : DieRow) (x
     (states : List BlockState) (has_bad : Bool) (pages : List Pending) (mending : Mending) (step : Option Step)
     (next : ℕ) (cells : Cells) (finished : Place → Bool) (erasing : Spot → Bool) (ledger : Ledger) (work : Work) →
     Kept c t → slice_get c.rows die ≡ Some b →
-    BlocksKept t.numbers (blocks_with t die block x) states has_bad →
+    BlocksKept t.numbers (blocks_with t die block x) t.disk.vacancies states has_bad →
     IsFilling t.numbers (blocks_with t die block x) die f →
     PagesFly ledger.standing (at_die t.disk.flights die None) (rows_with c die f) →
     LedgerKept c.numbers c.places pages c.frontier c.last ledger →
@@ -128,7 +130,7 @@ pub kept_over : (c : Core) (t : Translation) (die block : ℕ) (b : DieRow) (x :
     (states : List BlockState) (has_bad : Bool) (pages : List Pending)
     (cells : Cells) (finished : Place → Bool) (erasing : Spot → Bool) (ledger : Ledger) (work : Work) →
     Kept c t → slice_get c.rows die ≡ Some b →
-    BlocksKept t.numbers (blocks_with t die block x) states has_bad →
+    BlocksKept t.numbers (blocks_with t die block x) t.disk.vacancies states has_bad →
     IsFilling t.numbers (blocks_with t die block x) die f →
     PagesFly ledger.standing (at_die t.disk.flights die None) (rows_with c die f) →
     LedgerKept c.numbers c.places pages c.frontier c.last ledger →
@@ -156,47 +158,99 @@ ledger_marked n places pages frontier last l newest marks h = record {
   places = h.places;
 }
 
+-- Rows
+
+-- the die has no job any more, and fills what it filled
+pub idle_rows : (c : Core) (die : ℕ) (b : DieRow) → slice_get c.rows die ≡ Some b →
+    rows_in_flight c.rows die None ≡ rows_with c die b.filling
+idle_rows c die b there = ap (flight_set c.rows die None) there
+
+-- a job of the die failed in the block: the die fills it no more
+pub failed_rows : (c : Core) (die block : ℕ) (b : DieRow) → slice_get c.rows die ≡ Some b →
+    rows_failed c.rows die block ≡ rows_with c die (filling_but block b.filling)
+failed_rows c die block b there = ap (failed_set c.rows die block) there
+
 -- Blocks
 
+-- a value that a block has already is put for it: nothing changes
+pub same_put : {A : Type 0} (f : Spot → A) (s : Spot) (x : A) → f s ≡ x → at_spot f s x ≡ f
+same_put {A} f s x is = λ i a. one a i
+  where
+    one : (a : Spot) → at_spot f s x a ≡ f a
+    one a = ⊎_elim (λ h. h.1 ∙ sym is ∙ ap f (sym h.0)) (λ h. h.1) (at_spot_cases f s x a)
+
 -- what is kept of the blocks is as it was
-pub blocks_same : (n : Numbers) (blocks now : Spot → disk.BlockState) (states : List BlockState) (has_bad : Bool) →
-    ((s : Spot) → block_kept (now s) ≡ block_kept (blocks s)) → ((s : Spot) → is_bad (now s) ≡ is_bad (blocks s)) →
-    BlocksKept n blocks states has_bad → BlocksKept n now states has_bad
-blocks_same n blocks now states has_bad same bad k = record {
+pub blocks_same : (n : Numbers) (blocks now : Spot → disk.BlockState) (vacancies : Spot → disk.Vacancy)
+    (states : List BlockState) (has_bad : Bool) →
+    ((s : Spot) → block_kept (now s) (vacancies s) ≡ block_kept (blocks s) (vacancies s)) →
+    ((s : Spot) → is_bad (now s) ≡ is_bad (blocks s)) →
+    BlocksKept n blocks vacancies states has_bad → BlocksKept n now vacancies states has_bad
+blocks_same n blocks now vacancies states has_bad same bad k = record {
   all = k.all ∙ ap (λ (f : Spot → BlockState). map f (spots n)) (λ i s. sym (same s) i);
   bad = k.bad ∙ ap (λ (f : Spot → Bool). nat_lt 0 (count_by f (spots n))) (λ i s. sym (bad s) i);
 }
 
 -- a block that is filled is filled on
-pub blocks_on : (n : Numbers) (blocks : Spot → disk.BlockState) (states : List BlockState) (has_bad : Bool) (s : Spot)
-    (next more : ℕ) → blocks s ≡ disk.Filling next →
-    BlocksKept n blocks states has_bad → BlocksKept n (at_spot blocks s (disk.Filling more)) states has_bad
-blocks_on n blocks states has_bad s next more fills k =
-    blocks_same n blocks (at_spot blocks s (disk.Filling more)) states has_bad
-    (λ a. ⊎_elim (λ h. ap block_kept h.1 ∙ sym (ap block_kept (ap blocks h.0 ∙ fills))) (λ h. ap block_kept h.1)
+pub blocks_on : (n : Numbers) (blocks : Spot → disk.BlockState) (vacancies : Spot → disk.Vacancy)
+    (states : List BlockState) (has_bad : Bool) (s : Spot) (next more : ℕ) → blocks s ≡ disk.Filling next →
+    BlocksKept n blocks vacancies states has_bad →
+    BlocksKept n (at_spot blocks s (disk.Filling more)) vacancies states has_bad
+blocks_on n blocks vacancies states has_bad s next more fills k =
+    blocks_same n blocks (at_spot blocks s (disk.Filling more)) vacancies states has_bad
+    (λ a. ⊎_elim
+    (λ h. ap (kept_at a) h.1 ∙ sym (ap (kept_at a) (ap blocks h.0 ∙ fills)))
+    (λ h. ap (kept_at a) h.1)
     (at_spot_cases blocks s (disk.Filling more) a))
     (λ a. ⊎_elim (λ h. ap is_bad h.1 ∙ sym (ap is_bad (ap blocks h.0 ∙ fills))) (λ h. ap is_bad h.1)
     (at_spot_cases blocks s (disk.Filling more) a))
     k
+  where
+    kept_at : Spot → disk.BlockState → BlockState
+    kept_at a x = block_kept x (vacancies a)
 
 -- the state of a block is another, at the place where what is kept has it
 pub blocks_put : (c : Core) (t : Translation) (die block : ℕ) (x : disk.BlockState) → Kept c t → die < t.numbers.dies →
     block < t.numbers.blocks →
     is_bad (t.disk.blocks (spot_at die block)) ≡ false → is_bad x ≡ false →
-    BlocksKept t.numbers (at_spot t.disk.blocks (spot_at die block) x)
-    (states_with c die block (block_kept x)) c.has_bad
+    BlocksKept t.numbers (at_spot t.disk.blocks (spot_at die block) x) t.disk.vacancies
+    (states_with c die block (block_kept x (t.disk.vacancies (spot_at die block)))) c.has_bad
 blocks_put c t die block x k there within was is =
-    subst (λ (n : Numbers). BlocksKept t.numbers (at_spot t.disk.blocks (spot_at die block) x)
-    (slice_set c.states (die * n.blocks + block) (block_kept x)) c.has_bad) (sym k.numbers)
-    (block_put t.numbers t.disk.blocks c.states c.has_bad (spot_at die block) x k.blocks there within was is)
+    subst (λ (n : Numbers). BlocksKept t.numbers (at_spot t.disk.blocks (spot_at die block) x) t.disk.vacancies
+    (slice_set c.states (die * n.blocks + block) (block_kept x (t.disk.vacancies (spot_at die block)))) c.has_bad)
+    (sym k.numbers)
+    (block_put t.numbers t.disk.blocks t.disk.vacancies c.states c.has_bad (spot_at die block) x k.blocks there within
+    was is)
+
+-- a block that is not bad is free, and what is in it is so
+pub blocks_vacant : (c : Core) (t : Translation) (die block : ℕ) (v : disk.Vacancy) → Kept c t →
+    die < t.numbers.dies → block < t.numbers.blocks → is_bad (t.disk.blocks (spot_at die block)) ≡ false →
+    BlocksKept t.numbers (at_spot t.disk.blocks (spot_at die block) disk.Free)
+    (at_spot t.disk.vacancies (spot_at die block) v) (states_with c die block (block_kept disk.Free v)) c.has_bad
+blocks_vacant c t die block v k there within was =
+    subst (λ (n : Numbers). BlocksKept t.numbers (at_spot t.disk.blocks (spot_at die block) disk.Free)
+    (at_spot t.disk.vacancies (spot_at die block) v)
+    (slice_set c.states (die * n.blocks + block) (block_kept disk.Free v)) c.has_bad) (sym k.numbers)
+    (block_vacant t.numbers t.disk.blocks t.disk.vacancies c.states c.has_bad (spot_at die block) v k.blocks there
+    within was)
+
+-- a block is bad, whatever is in it
+pub blocks_lost_with : (c : Core) (t : Translation) (die block : ℕ) (held : Spot → disk.Vacancy) → Kept c t →
+    die < t.numbers.dies → block < t.numbers.blocks →
+    ((s : Spot) → s ≢ spot_at die block → held s ≡ t.disk.vacancies s) →
+    BlocksKept t.numbers (at_spot t.disk.blocks (spot_at die block) disk.Bad) held
+    (states_with c die block state.Bad) true
+blocks_lost_with c t die block held k there within beside =
+    subst (λ (n : Numbers). BlocksKept t.numbers (at_spot t.disk.blocks (spot_at die block) disk.Bad) held
+    (slice_set c.states (die * n.blocks + block) state.Bad) true) (sym k.numbers)
+    (block_lost t.numbers t.disk.blocks t.disk.vacancies held c.states c.has_bad (spot_at die block) k.blocks there
+    within beside)
 
 pub blocks_lost : (c : Core) (t : Translation) (die block : ℕ) → Kept c t → die < t.numbers.dies →
     block < t.numbers.blocks →
-    BlocksKept t.numbers (at_spot t.disk.blocks (spot_at die block) disk.Bad) (states_with c die block state.Bad) true
+    BlocksKept t.numbers (at_spot t.disk.blocks (spot_at die block) disk.Bad) t.disk.vacancies
+    (states_with c die block state.Bad) true
 blocks_lost c t die block k there within =
-    subst (λ (n : Numbers). BlocksKept t.numbers (at_spot t.disk.blocks (spot_at die block) disk.Bad)
-    (slice_set c.states (die * n.blocks + block) state.Bad) true) (sym k.numbers)
-    (block_lost t.numbers t.disk.blocks c.states c.has_bad (spot_at die block) k.blocks there within)
+    blocks_lost_with c t die block t.disk.vacancies k there within (λ s apart. refl)
 
 -- a block that is written next is closed with its last page
 page_ways : (pages next : ℕ) → next < pages →

@@ -1,23 +1,24 @@
 -- A page's program fails, or a block is erased or could not be.
-use Rattle.std.proofs.Common.{◌≡◌, ℕ, ◌<◌, Bool, true, false, List, Option, Some, None, refl, ap}
+use Rattle.std.proofs.Common.{◌≡◌, ℕ, ◌<◌, true, false, List, Some, None, refl, sym, ap, subst}
 use Rattle.std.specs.Prelude.{slice_get}
 use Rattle.ufs_spec.specs.Cells.{Cells}
 use Rattle.ufs_spec.specs.Disk as disk
-use Rattle.ufs_spec.specs.Disk.{Spot, at_place}
+use Rattle.ufs_spec.specs.Disk.{Spot, at_place, at_spot}
 use Rattle.ufs_spec.specs.Translation.{Translation, is_bad}
 use Rattle.power_loss.specs.Invariant.{EraseRight}
 use Rattle.ftl_core.specs.Core.{Core}
-use Rattle.block_table.specs.declared.BlockState.{BlockState}
+use Rattle.block_table.specs.Rows.{filling_but}
 use Rattle.block_table.specs.declared.BlockState.TheVariants as state
 use Rattle.block_table.specs.declared.rows.DieRow.{DieRow}
 use Rattle.block_table.specs.declared.rows.OpenBlock.{OpenBlock}
 use Rattle.ftl_core.specs.Describes.{BlocksKept, Describes, IsFilling, Kept, spot_at}
-use Rattle.ftl_core.specs.Moves.{erased, went_bad}
+use Rattle.ftl_core.specs.Moves.{erased, went_bad, with_row}
 use Rattle.ftl_core.specs.Takes.{next_place}
-use Rattle.ftl_core.proofs.job_ended.ChangeParts.{bad_fills, blocks_lost, blocks_put, blocks_with, rows_with, changed}
-use Rattle.ftl_core.proofs.job_ended.ChangeParts.{filling_kept, kept_over, over, states_with}
+use Rattle.ftl_core.proofs.job_ended.ChangeParts.{blocks_lost, blocks_vacant, changed, failed_rows, filling_kept}
+use Rattle.ftl_core.proofs.job_ended.ChangeParts.{idle_rows, kept_over, same_put, states_with}
+use Rattle.ftl_core.proofs.job_ended.JobsOver.{filling_failed}
+use Rattle.ftl_core.proofs.job_ended.ReadsEnded.{idle_kept}
 use Rattle.ftl_core.proofs.job_taken.Flown.{die_within, fly_over}
-use Rattle.ftl_core.proofs.job_ended.JobsOver.{filling_begun, filling_none, filling_over}
 
 -- Pages
 
@@ -26,12 +27,16 @@ pub page_ends_wrong : (c : Core) (t : Translation) (die : ℕ) (b : DieRow) (o :
     Describes c t → slice_get c.rows die ≡ Some b → b.filling ≡ Some o →
     Kept (went_bad c die o.block) (record t { disk = disk.program_failed t.disk (next_place die o) left })
 page_ends_wrong c t die b o left h there fills =
-    kept_over c t die o.block b disk.Bad None (states_with c die o.block state.Bad) true c.pages left
+    subst (λ (rows : List DieRow). Kept (changed c (states_with c die o.block state.Bad) rows true c.pages c.mending
+    c.step c.next_mark) (record t { disk = disk.program_failed t.disk (next_place die o) left }))
+    (sym (failed_rows c die o.block b there))
+    (kept_over c t die o.block b disk.Bad (filling_but o.block b.filling) (states_with c die o.block state.Bad) true
+    c.pages left
     (at_place t.disk.finished (next_place die o) false) t.disk.erasing t.ledger t.work
     h.kept there (blocks_lost c t die o.block h.kept (die_within c t die b h.kept there) is_open.0)
-    (filling_over t.numbers t.disk.blocks die o disk.Bad bad_fills is_open)
-    (fly_over t.ledger.standing t.disk.flights die c.rows None h.kept.fly)
-    h.kept.ledger_kept h.kept.work h.kept.pins refl h.kept.readers
+    (filling_failed t.numbers t.disk.blocks die o.block b.filling is_open.0 (h.kept.dies.each die b there).filling)
+    (fly_over t.ledger.standing t.disk.flights die c.rows (filling_but o.block b.filling) h.kept.fly)
+    h.kept.ledger_kept h.kept.work h.kept.pins refl h.kept.readers)
   where
     is_open : IsFilling t.numbers t.disk.blocks die (Some o)
     is_open = filling_kept c t die b (Some o) h.kept there fills
@@ -39,36 +44,56 @@ page_ends_wrong c t die b o left h there fills =
 -- Erases
 
 module _ (c : Core) (t : Translation) (die : ℕ) (b : DieRow) (block : ℕ) (h : Describes c t)
-    (there : slice_get c.rows die ≡ Some b)
-    (fills : b.filling ≡ None) (within : block < t.numbers.blocks)
+    (there : slice_get c.rows die ≡ Some b) (within : block < t.numbers.blocks)
     (flies : t.disk.flights die ≡ Some (disk.Erasing (spot_at die block))) where
   erase_right : EraseRight t.disk.blocks t.disk.erasing die (spot_at die block)
   erase_right = h.valid.flights.erases die (spot_at die block) flies
 
-  erase_parts : (x : disk.BlockState) (states : List BlockState) (f : Option OpenBlock) (has_bad : Bool) (cells : Cells)
-      (erasing : Spot → Bool) →
-      BlocksKept t.numbers (blocks_with t die block x) states has_bad →
-      IsFilling t.numbers (blocks_with t die block x) die f →
-      Kept (changed c states (rows_with c die f) has_bad c.pages c.mending c.step c.next_mark)
-      (over t die (blocks_with t die block x) cells t.disk.finished erasing t.ledger t.work)
-  erase_parts x states f has_bad cells erasing bs fs =
-      kept_over c t die block b x f states has_bad c.pages cells t.disk.finished erasing t.ledger t.work h.kept there
-      bs fs (fly_over t.ledger.standing t.disk.flights die c.rows f h.kept.fly)
-      h.kept.ledger_kept h.kept.work h.kept.pins refl h.kept.readers
+  -- the block was free, and may be filled now
+  blocks_ready : BlocksKept t.numbers t.disk.blocks (at_spot t.disk.vacancies (spot_at die block) disk.Ready)
+      (states_with c die block state.Ready) c.has_bad
+  blocks_ready =
+      subst (λ (x : Spot → disk.BlockState). BlocksKept t.numbers x
+      (at_spot t.disk.vacancies (spot_at die block) disk.Ready) (states_with c die block state.Ready) c.has_bad)
+      (same_put t.disk.blocks (spot_at die block) disk.Free erase_right.free)
+      (blocks_vacant c t die block disk.Ready h.kept (die_within c t die b h.kept there) within
+      (ap is_bad erase_right.free))
+
+  -- the die has no job, and fills what it filled
+  idle : Kept (with_row c die (record { filling = b.filling; flight = None }))
+      (record t { disk = disk.ended t.disk die })
+  idle = idle_kept c t die b h.kept there
 
   pub erase_ends_well : Kept (erased c die block) (record t { disk = disk.erased t.disk (spot_at die block) })
   erase_ends_well =
-      erase_parts (disk.Filling 0) (states_with c die block state.Open)
-      (Some (record { block = block; next = 0 })) c.has_bad
-      (disk.erased t.disk (spot_at die block)).cells (disk.erased t.disk (spot_at die block)).erasing
-      (blocks_put c t die block (disk.Filling 0) h.kept (die_within c t die b h.kept there) within
-      (ap is_bad erase_right.free) refl)
-      (filling_begun t.numbers t.disk.blocks die block 0 within (filling_kept c t die b None h.kept there fills))
+      subst (λ (rows : List DieRow). Kept (changed c (states_with c die block state.Ready) rows c.has_bad c.pages
+      c.mending c.step c.next_mark) (record t { disk = disk.erased t.disk (spot_at die block) }))
+      (sym (idle_rows c die b there))
+      (record {
+        numbers = idle.numbers;
+        blocks = blocks_ready;
+        dies = idle.dies;
+        fly = idle.fly;
+        ledger_kept = idle.ledger_kept;
+        work = idle.work;
+        plan = idle.plan;
+        claims = idle.claims;
+        pins = idle.pins;
+        differ = idle.differ;
+        reads = idle.reads;
+        step_reads = idle.step_reads;
+        readers = idle.readers;
+      })
 
   pub erase_ends_wrong : (left : Cells) →
       Kept (went_bad c die block) (record t { disk = disk.erase_failed t.disk (spot_at die block) left })
   erase_ends_wrong left =
-      erase_parts disk.Bad (states_with c die block state.Bad) None true left t.disk.erasing
+      subst (λ (rows : List DieRow). Kept (changed c (states_with c die block state.Bad) rows true c.pages c.mending
+      c.step c.next_mark) (record t { disk = disk.erase_failed t.disk (spot_at die block) left }))
+      (sym (failed_rows c die block b there))
+      (kept_over c t die block b disk.Bad (filling_but block b.filling) (states_with c die block state.Bad) true c.pages
+      left t.disk.finished t.disk.erasing t.ledger t.work h.kept there
       (blocks_lost c t die block h.kept (die_within c t die b h.kept there) within)
-      (filling_none t.numbers t.disk.blocks die block disk.Bad bad_fills
-      (filling_kept c t die b None h.kept there fills))
+      (filling_failed t.numbers t.disk.blocks die block b.filling within (h.kept.dies.each die b there).filling)
+      (fly_over t.ledger.standing t.disk.flights die c.rows (filling_but block b.filling) h.kept.fly)
+      h.kept.ledger_kept h.kept.work h.kept.pins refl h.kept.readers)

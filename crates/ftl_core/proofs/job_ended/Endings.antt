@@ -124,14 +124,14 @@ kept_then c t die o tag ending b after found h there is new =
         (record { there = there; filling = fills; flies = flies; job = does; beside = no_repair })) e)
         (λ left e. same _ _ (page_ends_wrong c t die b filled left h there fills) e) o ending now new
 
-    erases : (block : ℕ) → block < t.numbers.blocks → b.filling ≡ None →
+    erases : (block : ℕ) → block < t.numbers.blocks →
         Goal (Some (flight.Erase block)) (Some (disk.Erasing (spot_at die block)))
-    erases block within closed does flies now new =
+    erases block within does flies now new =
         erase_ends (λ out e. IsFlightAfter c die b (Some (flight.Erase block)) out tag after →
         Kept after (end_flight t die (Some (disk.Erasing (spot_at die block))) e))
         t.disk.cells (spot_at die block)
-        (λ e. same _ _ (erase_ends_well c t die b block h there closed within flies) e)
-        (λ left e. same _ _ (erase_ends_wrong c t die b block h there closed within flies left) e) o ending now new
+        (λ e. same _ _ (erase_ends_well c t die b block h there within flies) e)
+        (λ left e. same _ _ (erase_ends_wrong c t die b block h there within flies left) e) o ending now new
 
 kept_of : (c : Core) (t : Translation) (die : ℕ) (o : Outcome) (tag : Option Tag) (ending : Ending)
     (book : Option DieRow) (after : Core) → IsTagRead o tag → Describes c t → slice_get c.rows die ≡ book →
@@ -167,7 +167,7 @@ told_then c t die o ending r b h there is answer =
     (λ filled cell fills page flies now told. programs (next_place die filled) cell now told)
     (λ filled tag body fills no_repair flies now told.
     programs (next_place die filled) (GroupPage tag body) now told)
-    (λ block within closed flies now told. (
+    (λ block within flies now told. (
       ended.Other,
       erase_ends (λ out e. r ≡ option_map other_for (gives.ending out) → r ≡ Some ended.Other) t.disk.cells
           (spot_at die block) (λ says. says) (λ left says. says)
@@ -256,7 +256,7 @@ known_then c t die o r b h there answer =
     (λ filled cell fills page told. ap is_some told ∙ programs_suit (next_place die filled) cell o)
     (λ filled tag body fills no_repair told.
     ap is_some told ∙ programs_suit (next_place die filled) (GroupPage tag body) o)
-    (λ block within closed told. ap is_some told ∙ erases_suit (spot_at die block) o)
+    (λ block within told. ap is_some told ∙ erases_suit (spot_at die block) o)
     b.flight (t.disk.flights die) (h.kept.dies.each die b there).job answer
 
 known_of : (c : Core) (t : Translation) (die : ℕ) (o : Outcome) (r : Option Ended) (book : Option DieRow) →

@@ -22,6 +22,7 @@ use Rattle.power_loss.proofs.books.SmallFacts.{at_spot_cases}
 use Rattle.power_loss.proofs.jobs.MarkEnded.{behind_unmended}
 use Rattle.power_loss.specs.Invariant.{MendingRight, Valid}
 use Rattle.ftl_core.specs.Core.{Core}
+use Rattle.block_table.specs.Rows.{filling_but}
 use Rattle.block_table.specs.declared.BlockState.{BlockState}
 use Rattle.block_table.specs.declared.BlockState.TheVariants as state
 use Rattle.block_table.specs.declared.rows.DieRow.{DieRow}
@@ -39,9 +40,9 @@ use Rattle.collector.specs.Plans.{Collection, layer_plan}
 use Rattle.ftl_core.specs.Moves.{mark_ordered, page_written, repairs_in, went_bad}
 use Rattle.ftl_core.specs.Takes.{next_place}
 use Rattle.ftl_core.proofs.job_ended.ChangeParts.{bad_fills, blocks_lost, blocks_on, blocks_put, blocks_with}
-use Rattle.ftl_core.proofs.job_ended.ChangeParts.{rows_with, changed, closed_fills, filling_kept}
+use Rattle.ftl_core.proofs.job_ended.ChangeParts.{rows_with, changed, closed_fills, failed_rows, filling_kept}
 use Rattle.ftl_core.proofs.job_ended.ChangeParts.{kept_beside, ledger_marked, over, page_ends, states_with}
-use Rattle.ftl_core.proofs.job_ended.JobsOver.{filling_on, filling_over}
+use Rattle.ftl_core.proofs.job_ended.JobsOver.{filling_failed, filling_on, filling_over}
 use Rattle.ftl_core.proofs.job_ended.StepsOver.{none_reads, suits_next}
 use Rattle.ftl_core.proofs.job_taken.Flown.{die_within, fly_over}
 
@@ -137,7 +138,7 @@ module _ (c : Core) (t : Translation) (die : ℕ) (b : DieRow) (o : OpenBlock) (
   filling = filling_kept c t die b (Some o) h.kept there fills
 
   mark_parts : (x : disk.BlockState) (states : List BlockState) (f : Option OpenBlock) →
-      BlocksKept t.numbers (blocks_with t die o.block x) states c.has_bad →
+      BlocksKept t.numbers (blocks_with t die o.block x) t.disk.vacancies states c.has_bad →
       IsFilling t.numbers (blocks_with t die o.block x) die f →
       Kept (changed c states (rows_with c die f) c.has_bad c.pages (ends.mending_after c.mending) None c.next_mark)
       (mark_stands t die o m x)
@@ -170,7 +171,7 @@ module _ (c : Core) (t : Translation) (die : ℕ) (b : DieRow) (o : OpenBlock) (
       c.has_bad c.pages (ends.mending_after c.mending) None c.next_mark)
       (mark_stands t die o m (disk.Filling (o.next + 1)))
   mark_on = mark_parts (disk.Filling (o.next + 1)) c.states (Some (record { block = o.block; next = o.next + 1 }))
-      (blocks_on t.numbers t.disk.blocks c.states c.has_bad (spot_at die o.block) o.next
+      (blocks_on t.numbers t.disk.blocks t.disk.vacancies c.states c.has_bad (spot_at die o.block) o.next
       (o.next + 1) filling.1 h.kept.blocks)
       (filling_on t.numbers t.disk.blocks die o (o.next + 1) filling)
 
@@ -259,12 +260,19 @@ module _ (c : Core) (t : Translation) (die : ℕ) (b : DieRow) (o : OpenBlock) (
       (at_place t.disk.finished (next_place die o) false) t.disk.erasing
       (record t.ledger { marks = marks }) (record t.work { step = w }))
   fail_parts s next marks w no_repair same is numbered =
-      kept_beside c t die o.block b disk.Bad None (states_with c die o.block state.Bad) true c.pages c.mending s next
+      subst (λ (rows : List DieRow). Kept (changed c (states_with c die o.block state.Bad) rows true c.pages c.mending s
+      next) (over t die (blocks_with t die o.block disk.Bad) cells
+      (at_place t.disk.finished (next_place die o) false) t.disk.erasing
+      (record t.ledger { marks = marks }) (record t.work { step = w })))
+      (sym (failed_rows c die o.block b there))
+      (kept_beside c t die o.block b disk.Bad (filling_but o.block b.filling) (states_with c die o.block state.Bad) true
+      c.pages c.mending s next
       cells (at_place t.disk.finished (next_place die o) false) t.disk.erasing
       (record t.ledger { marks = marks }) (record t.work { step = w })
       h.kept there (blocks_lost c t die o.block h.kept (die_within c t die b h.kept there) failed_filling.0)
-      (filling_over t.numbers t.disk.blocks die o disk.Bad bad_fills failed_filling)
-      (fly_over t.ledger.standing t.disk.flights die c.rows None h.kept.fly)
+      (filling_failed t.numbers t.disk.blocks die o.block b.filling failed_filling.0
+      (h.kept.dies.each die b there).filling)
+      (fly_over t.ledger.standing t.disk.flights die c.rows (filling_but o.block b.filling) h.kept.fly)
       (ledger_marked c.numbers c.places c.pages c.frontier c.last t.ledger t.ledger.newest marks h.kept.ledger_kept)
       record {
         mending_is = h.kept.work.mending_is;
@@ -279,7 +287,7 @@ module _ (c : Core) (t : Translation) (die : ℕ) (b : DieRow) (o : OpenBlock) (
       }
       h.kept.pins
       (suits_next c t die (next_place die o) (MarkPage m) h flies page s no_repair)
-      (none_reads c t die (next_place die o) (MarkPage m) h flies page s) refl h.kept.readers
+      (none_reads c t die (next_place die o) (MarkPage m) h flies page s) refl h.kept.readers)
 
   failed_fence : m.fence ≡ fence
   failed_fence =

@@ -1,5 +1,5 @@
 -- The collection that is begun is over: its block is free, unless it is bad.
-use Rattle.std.proofs.Common.{◌≡◌, ◌≢◌, ◌∙◌, ◌⊎◌, ℕ, ◌<◌, Bool, true, false, List, Option, Some, None, refl, sym, ap}
+use Rattle.std.proofs.Common.{◌≡◌, ◌∙◌, ◌⊎◌, ℕ, ◌<◌, Bool, true, false, List, Option, Some, None, refl, sym, ap}
 use Rattle.std.proofs.Common.{subst, ⊎_elim}
 use Rattle.std.specs.Prelude.{◌-◌, count_by, if◌then◌else◌, nat_lt, option_map}
 use Rattle.ufs_spec.proofs.Facts.{none-some}
@@ -8,18 +8,19 @@ use Rattle.ufs_spec.specs.Disk.{Spot, at_spot}
 use Rattle.ufs_spec.specs.Moves as moves
 use Rattle.ufs_spec.specs.Translation as layer
 use Rattle.ufs_spec.specs.Translation.{Translation, is_bad, spots}
-use Rattle.ufs_spec.specs.declared.configs.Numbers.{Numbers}
-use Rattle.power_loss.proofs.books.SmallFacts.{at_spot_cases, at_spot_is}
+use Rattle.power_loss.proofs.jobs.StandsSecurely.{at_spot_other}
 use Rattle.block_table.specs.Blocks.{freed_state}
 use Rattle.block_table.specs.declared.BlockState.{BlockState}
 use Rattle.block_table.specs.declared.rows.OpenBlock.{OpenBlock}
 use Rattle.collector.specs.Plans.{Collection, layer_plan}
 use Rattle.block_table.specs.declared.rows.DieRow.{DieRow}
 use Rattle.ftl_core.specs.Core.{Core}
-use Rattle.ftl_core.specs.Describes.{BlocksKept, IsFilling, Kept, block_kept, spot_at}
+use Rattle.ftl_core.specs.Describes.{BlocksKept, Kept, block_kept}
 use Rattle.ftl_core.specs.Ends.{plan_freed, plan_over}
 use Rattle.ftl_core.specs.Moves.{page_written, state_of}
-use Rattle.ftl_core.proofs.job_ended.ChangeParts.{bad_fills, blocks_lost, blocks_put, closed_fills, states_with}
+use Rattle.ftl_core.proofs.job_ended.ChangeParts.{bad_fills, blocks_lost_with, blocks_vacant, closed_fills, same_put}
+use Rattle.ftl_core.proofs.job_ended.ChangeParts.{states_with}
+use Rattle.ftl_core.proofs.job_ended.JobsOver.{filling_beside}
 use Rattle.ftl_core.proofs.job_taken.NextErases.{state_kept}
 
 -- A page that is written leaves the collection
@@ -53,65 +54,46 @@ freed_fills (disk.Filling n) next e = free_fills next e
 freed_fills disk.Closed next e = free_fills next e
 freed_fills disk.Bad next e = bad_fills next e
 
--- a block that was not filled and is not filled is open on no die
-filling_beside : (n : Numbers) (blocks : Spot → disk.BlockState) (s : Spot) (x : disk.BlockState) (die : ℕ)
-    (o : Option OpenBlock) → ((next : ℕ) → blocks s ≡ disk.Filling next → ⊥) →
-    ((next : ℕ) → x ≡ disk.Filling next → ⊥) → IsFilling n blocks die o → IsFilling n (at_spot blocks s x) die o
-filling_beside n blocks s x die None was is h = λ block next within e. ⊎_elim
-    (λ (k : (spot_at die block ≡ s) × (x ≡ disk.Filling next)). is next k.1)
-    (λ (k : (spot_at die block ≢ s) × (blocks (spot_at die block) ≡ disk.Filling next)). h block next within k.1)
-    (at_spot_is blocks s x (spot_at die block) (disk.Filling next) e)
-filling_beside n blocks s x die (Some o) was is h = (
-  h.0,
-  ⊎_elim
-      (λ k. absurd (was o.next (sym (ap blocks k.0) ∙ h.1)))
-      (λ k. k.1 ∙ h.1)
-      (at_spot_cases blocks s x (spot_at die o.block)),
-  λ (block : ℕ) (next : ℕ) (within : block < n.blocks)
-      (e : at_spot blocks s x (spot_at die block) ≡ disk.Filling next). ⊎_elim
-      (λ (k : (spot_at die block ≡ s) × (x ≡ disk.Filling next)). absurd (is next k.1))
-      (λ (k : (spot_at die block ≢ s) × (blocks (spot_at die block) ≡ disk.Filling next)). h.2 block next within k.1)
-      (at_spot_is blocks s x (spot_at die block) (disk.Filling next) e),
-)
-
 -- What is kept of blocks
 
 module _ (c : Core) (t : Translation) (k : Kept c t) (s : Spot) (h : IsFreeable t s) where
   abbrev now : Spot → disk.BlockState
   now = at_spot t.disk.blocks s (moves.freed_state (t.disk.blocks s))
 
+  -- what is in it is to be erased
+  abbrev held : Spot → disk.Vacancy
+  held = at_spot t.disk.vacancies s disk.Stale
+
   abbrev states : List BlockState
   states = states_with c s.die s.block (freed_state (state_of c s.die s.block))
 
   told : (x : disk.BlockState) → t.disk.blocks s ≡ x →
-      BlocksKept t.numbers (at_spot t.disk.blocks s (moves.freed_state x))
-      (states_with c s.die s.block (freed_state (block_kept x))) c.has_bad →
-      BlocksKept t.numbers now states c.has_bad
+      BlocksKept t.numbers (at_spot t.disk.blocks s (moves.freed_state x)) held
+      (states_with c s.die s.block (freed_state (block_kept x (t.disk.vacancies s)))) c.has_bad →
+      BlocksKept t.numbers now held states c.has_bad
   told x is b = subst (λ (z : disk.BlockState × BlockState).
-      BlocksKept t.numbers (at_spot t.disk.blocks s (moves.freed_state z.0))
+      BlocksKept t.numbers (at_spot t.disk.blocks s (moves.freed_state z.0)) held
       (states_with c s.die s.block (freed_state z.1)) c.has_bad)
-      (λ i. (sym is i, (ap block_kept (sym is) ∙ sym (state_kept c t s.die s.block k h.die h.block)) i)) b
+      (λ i. (
+        sym is i,
+        (ap (λ (y : disk.BlockState). block_kept y (t.disk.vacancies s)) (sym is)
+            ∙ sym (state_kept c t s.die s.block k h.die h.block)) i,
+      )) b
 
-  -- a bad block stays so
-  still : t.disk.blocks s ≡ disk.Bad → at_spot t.disk.blocks s disk.Bad ≡ t.disk.blocks
-  still bad = λ i a. one a i
-    where
-      one : (a : Spot) → at_spot t.disk.blocks s disk.Bad a ≡ t.disk.blocks a
-      one a = ⊎_elim (λ x. x.1 ∙ sym bad ∙ ap t.disk.blocks (sym x.0)) (λ x. x.1)
-          (at_spot_cases t.disk.blocks s disk.Bad a)
-
-  blocks_freed : BlocksKept t.numbers now states c.has_bad
+  blocks_freed : BlocksKept t.numbers now held states c.has_bad
   blocks_freed = ⊎_elim
       (λ (closed : t.disk.blocks s ≡ disk.Closed). told disk.Closed closed
-      (blocks_put c t s.die s.block disk.Free k h.die h.block (ap is_bad closed) refl))
+      (blocks_vacant c t s.die s.block disk.Stale k h.die h.block (ap is_bad closed)))
       (λ (bad : t.disk.blocks s ≡ disk.Bad).
-      let lost = blocks_lost c t s.die s.block k h.die h.block in
+      let lost = blocks_lost_with c t s.die s.block held k h.die h.block
+      (λ a apart. at_spot_other t.disk.vacancies s disk.Stale a apart) in
       told disk.Bad bad
       (record {
         all = lost.all;
+        -- a bad block stays so
         bad = k.blocks.bad
             ∙ ap (λ (f : Spot → disk.BlockState). nat_lt 0 (count_by (λ (a : Spot). is_bad (f a)) (spots t.numbers)))
-            (sym (still bad));
+            (sym (same_put t.disk.blocks s disk.Bad bad));
       }))
       h.state
 

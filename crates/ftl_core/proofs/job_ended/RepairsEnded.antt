@@ -156,7 +156,7 @@ module _ (c : Core) (t : Translation) (die : ℕ) (b : DieRow) (o : OpenBlock) (
 
   -- what is kept before the frontier climbs, with these states of blocks and this open block of the die
   page_stands : (x : disk.BlockState) (states : List BlockState) (f : Option OpenBlock) →
-      BlocksKept t.numbers (at_spot t.disk.blocks (spot_at die o.block) x) states c.has_bad →
+      BlocksKept t.numbers (at_spot t.disk.blocks (spot_at die o.block) x) t.disk.vacancies states c.has_bad →
       IsFilling t.numbers (at_spot t.disk.blocks (spot_at die o.block) x) die f →
       Kept (changed c states (rows_with c die f) c.has_bad c.pages c.mending None c.next_mark)
       (repair_written t die o tag body x)
@@ -250,7 +250,7 @@ module _ (c : Core) (t : Translation) (die : ℕ) (b : DieRow) (o : OpenBlock) (
       (ap (λ (m : Numbers). m.pages) h.kept.numbers) (h.valid.blocks.filling (spot_at die o.block) o.next filling.1)
       (page_durable (disk.Filling (o.next + 1)) c.states (Some (record { block = o.block; next = o.next + 1 }))
       (page_stands (disk.Filling (o.next + 1)) c.states (Some (record { block = o.block; next = o.next + 1 }))
-      (blocks_on t.numbers t.disk.blocks c.states c.has_bad (spot_at die o.block) o.next
+      (blocks_on t.numbers t.disk.blocks t.disk.vacancies c.states c.has_bad (spot_at die o.block) o.next
       (o.next + 1) filling.1 h.kept.blocks)
       (filling_on t.numbers t.disk.blocks die o (o.next + 1) filling)))
       (page_durable disk.Closed (states_with c die o.block state.Closed) None

@@ -86,7 +86,7 @@ module _ (n : Numbers) (step : Option Step) (die : ℕ) (filling : Option OpenBl
     (groups : (o : OpenBlock) (tag : Tag) (body : List ℕ) → filling ≡ Some o → repairs_in step ≡ 0 →
     P (Some (flight.Group (next_place die o) tag.number tag.index))
     (Some (disk.Programming (next_place die o) (GroupPage tag body))))
-    (erases : (block : ℕ) → block < n.blocks → filling ≡ None →
+    (erases : (block : ℕ) → block < n.blocks →
     P (Some (flight.Erase block)) (Some (disk.Erasing (spot_at die block)))) where
   pub flight_cases : (f : Option Flight) (g : Option disk.Flight) → IsFlight n step die filling f g → P f g
   flight_cases None None h = none
@@ -109,5 +109,5 @@ module _ (n : Numbers) (step : Option Step) (die : ℕ) (filling : Option OpenBl
       (Some (disk.Programming z.3 (GroupPage tag body))))
       (λ i. (h.1.2 i, h.2 i, h.3 i, (h.1.2 ∙ sym h.0) i)) (groups h.1.0 tag body h.1.1 h.4)
   flight_cases (Some (flight.Erase block)) (Some (disk.Erasing s)) h =
-      subst (λ (z : Spot). P (Some (flight.Erase block)) (Some (disk.Erasing z))) (sym h.0) (erases block h.1 h.2)
+      subst (λ (z : Spot). P (Some (flight.Erase block)) (Some (disk.Erasing z))) (sym h.0) (erases block h.1)
   flight_cases f g h = absurd h

@@ -86,7 +86,7 @@ reads_agree c t reader index k = rows_agree c t (reads_for reader index) (flies_
     (λ (f : Option Flight) (g : Option disk.Flight).
     flight_reads reader index f ≡ flies_reader (ForTask reader index) g)
     refl (λ place tag i. refl) (λ place. refl) (λ place. refl) (λ o cell fills page. refl)
-    (λ o tag body fills no_repair. refl) (λ block within none. refl) b.flight (t.disk.flights die) h)
+    (λ o tag body fills no_repair. refl) (λ block within. refl) b.flight (t.disk.flights die) h)
 
 -- whether a die reads for the step under way
 pub step_reads_agree : (c : Core) (t : Translation) → Kept c t →
@@ -95,7 +95,7 @@ step_reads_agree c t k = rows_agree c t reads_step (flies_reader ForStep) k
     (λ die b at h. flight_cases t.numbers c.step die b.filling
     (λ (f : Option Flight) (g : Option disk.Flight). is_step_reading f ≡ flies_reader ForStep g)
     refl (λ place tag i. refl) (λ place. refl) (λ place. refl) (λ o cell fills page. refl)
-    (λ o tag body fills no_repair. refl) (λ block within none. refl) b.flight (t.disk.flights die) h)
+    (λ o tag body fills no_repair. refl) (λ block within. refl) b.flight (t.disk.flights die) h)
 
 -- the page that is copied has the name of the copy
 pub copy_name : (l : Ledger) (n : ℕ) (k : Key) (read : Tag) (content : List ℕ) (name : Name) (tag : Tag) →
@@ -134,7 +134,7 @@ writes_agree c t name k new no_repairs = rows_agree c t (writes_page name.number
     (λ o cell fills page. no_name t.ledger c.step c.content t.work.step name (next_place die o) cell k.work.step_is
     new no_repairs page)
     (λ o tag body fills no_repair. refl)
-    (λ block within none. refl) b.flight (t.disk.flights die) h)
+    (λ block within. refl) b.flight (t.disk.flights die) h)
 
 -- a page of the step under way that is a mark
 mark_page : (number : ℕ) (fence : Option Fence) (place : Place) (cell : Cell) →
@@ -150,7 +150,7 @@ marks_agree c t number fence k is = rows_agree c t writes_step flies_mark k
     (λ (f : Option Flight) (g : Option disk.Flight). is_step_flight f ≡ flies_mark g)
     refl (λ place tag i. refl) (λ place. refl) (λ place. refl)
     (λ o cell fills page. mark_page number fence (next_place die o) cell page)
-    (λ o tag body fills no_repair. refl) (λ block within none. refl) b.flight (t.disk.flights die)
+    (λ o tag body fills no_repair. refl) (λ block within. refl) b.flight (t.disk.flights die)
     (subst (λ (s : Option Step). IsFlight t.numbers s die b.filling b.flight (t.disk.flights die)) is h))
 
 -- a page of the step under way that is a repair
@@ -171,7 +171,7 @@ repairs_agree c t number key from there k is = rows_agree c t writes_step (flies
     (λ (f : Option Flight) (g : Option disk.Flight). is_step_flight f ≡ flies_name (name_at number 0) g)
     refl (λ place tag i. refl) (λ place. refl) (λ place. refl)
     (λ o cell fills page. repair_page number key from there (next_place die o) cell page)
-    (λ o tag body fills no_repair. absurd (omega (arith, no_repair))) (λ block within none. refl)
+    (λ o tag body fills no_repair. absurd (omega (arith, no_repair))) (λ block within. refl)
     b.flight (t.disk.flights die)
     (subst (λ (s : Option Step). IsFlight t.numbers s die b.filling b.flight (t.disk.flights die)) is h))
 
@@ -202,7 +202,7 @@ copies_agree c t number key from read name k copy is = rows_agree c t writes_ste
     ∙ ap (λ (z : Name). t.ledger.standing z.number z.index) (sym e.1) ∙ copy.stands)))
     (λ e. sym e.0)
     (name_cases name (name_of tag)))
-    (λ block within none f. refl) b.flight (t.disk.flights die)
+    (λ block within f. refl) b.flight (t.disk.flights die)
     (subst (λ (s : Option Step). IsFlight t.numbers s die b.filling b.flight (t.disk.flights die)) is h) refl)
 
 -- where no step is under way, a page that a die programs is that of a pending group

@@ -1,8 +1,19 @@
--- A number of which a test holds, and of none below it, is the lowest.
-use Rattle.std.proofs.Common.{◌≡◌, ◌∙◌, ℕ, zero, suc, ◌<◌, ◌≤◌, Bool, true, false, Option, None, Some, IfSome, IfNone}
+-- A number of which a test holds, and of none below it, is the lowest; and no block is the lowest stale one where none
+-- is stale.
+use Rattle.std.proofs.Common.{◌≡◌, ◌∙◌, ℕ, zero, suc, ◌<◌, ◌≤◌, Bool, true, false, Option, None, Some}
 use Rattle.std.proofs.Common.{inl, inr, ap, arith, refl, sym}
 use Rattle.std.proofs.Math.Nat.{eq-or-lt_of_le}
-use Rattle.ftl_core.specs.Takes.{found_or, lowest_below}
+use Rattle.std.proofs.Common.{slice_get, option_map, unwrap_or, not, true≢false}
+use Rattle.std.specs.List.{list_any}
+use Rattle.std.specs.Prelude.{◌&&◌}
+use Rattle.std.proofs.lemmas.Map.Keys.{any_passes_from_place}
+use Rattle.block_table.specs.Blocks.{is_stale}
+use Rattle.block_table.specs.declared.BlockState.{BlockState}
+use Rattle.block_table.specs.declared.BlockState.TheVariants as state
+use Rattle.block_table.specs.declared.rows.Flight.TheVariants as flight
+use Rattle.ftl_core.specs.Core.{Core}
+use Rattle.ftl_core.specs.Moves.{has_stale, is_so, keeps, may_be_used, state_index}
+use Rattle.ftl_core.specs.Takes.{erase_of, found_or, lowest_below}
 
 pub none_below : (test : ℕ → Bool) (n : ℕ) → ((k : ℕ) → k < n → test k ≡ false) → lowest_below test n ≡ None
 unfolding lowest_below
@@ -25,11 +36,22 @@ lowest test (suc n) b less right none =
       | inr below ↦ ap (λ r. found_or r (test n) n) (lowest test n b below right none)
     ]
 
-pub is_lowest :
-    (test : ℕ → Bool) (n : ℕ) (r : Option ℕ) →
-    IfSome r (λ b. (b < n) × (test b ≡ true)) →
-    IfSome r (λ b. (k : ℕ) → k < b → test k ≡ false) →
-    IfNone r ((k : ℕ) → k < n → test k ≡ false) →
-    r ≡ lowest_below test n
-is_lowest test n None found low none = sym (none_below test n none)
-is_lowest test n (Some b) found low none = sym (lowest test n b found.0 found.1 low)
+-- where no block is stale, the one of this die and number is not
+not_stale : (c : Core) (die block : ℕ) (o : Option BlockState) → slice_get c.states (state_index c die block) ≡ o →
+    has_stale c ≡ false → is_so (unwrap_or o state.Bad) state.Stale ≡ false
+not_stale c die block None e none = refl
+not_stale c die block (Some state.Free) e none = refl
+not_stale c die block (Some state.Stale) e none =
+    absurd (true≢false
+    (sym (any_passes_from_place is_stale c.states (state_index c die block) state.Stale e refl) ∙ none))
+not_stale c die block (Some state.Ready) e none = refl
+not_stale c die block (Some state.Open) e none = refl
+not_stale c die block (Some state.Closed) e none = refl
+not_stale c die block (Some state.Bad) e none = refl
+
+pub none_stale : (c : Core) (die : ℕ) → has_stale c ≡ false → erase_of c die state.Stale ≡ None
+none_stale c die none =
+    ap (option_map flight.Erase)
+    (none_below (may_be_used c die state.Stale) c.numbers.blocks (λ block less.
+    ap (λ b. b && not (list_any (keeps die block) c.pins))
+    (not_stale c die block (slice_get c.states (state_index c die block)) refl none)))

@@ -1,20 +1,22 @@
--- The block of a die that is erased next.
+-- The blocks of a die that are erased or filled next.
 use Rattle.std.proofs.Common.{◌≡◌, ◌∙◌, ℕ, zero, suc, ◌+◌, ◌*◌, ◌<◌, ◌&&◌, not, Bool, true, false, Option, Some, None}
 use Rattle.std.proofs.Common.{slice_get, option_map, refl, sym, ap, arith}
 use Rattle.std.specs.Prelude.{unwrap_or}
+use Rattle.ufs_spec.proofs.Facts.{and_parts, false≢true}
 use Rattle.ufs_spec.specs.Disk as disk
 use Rattle.ufs_spec.specs.Disk.{Spot}
 use Rattle.ufs_spec.specs.Ledger.{entry_of}
-use Rattle.ufs_spec.specs.Translation.{Translation, may_be_erased, next_erase}
+use Rattle.ufs_spec.specs.Translation as layer
+use Rattle.ufs_spec.specs.Translation.{Translation, next_erase}
 use Rattle.ufs_spec.specs.declared.configs.Numbers.{Numbers}
+use Rattle.block_table.specs.declared.BlockState.{BlockState}
 use Rattle.block_table.specs.declared.BlockState.TheVariants as state
 use Rattle.ftl_core.specs.Core.{Core}
 use Rattle.ftl_core.specs.Describes.{Describes, Kept, block_kept, spot_at}
-use Rattle.ftl_core.specs.Moves.{is_erasable, state_of}
-use Rattle.block_table.specs.Blocks.{is_free}
-use Rattle.ftl_core.specs.Takes.{found_or, lowest_below}
+use Rattle.ftl_core.specs.Moves.{is_so, may_be_used, state_of}
+use Rattle.ftl_core.specs.Takes.{found_or, lowest, lowest_below}
 use Rattle.ftl_core.proofs.pins.PinsAlike.{pinned_as}
-use Rattle.ftl_core.proofs.opened.Spots.{found_lowest, same_free, state_there}
+use Rattle.ftl_core.proofs.opened.Spots.{found_lowest, state_there}
 
 -- The lowest that passes
 
@@ -43,55 +45,96 @@ lowest_passes p (suc n) b h = by (lowest_below p n) (p n) refl refl h (λ e. low
 -- what is kept of a block of the dies is what it is
 pub state_kept : (c : Core) (t : Translation) (die block : ℕ) → Kept c t → die < t.numbers.dies →
     block < t.numbers.blocks →
-    state_of c die block ≡ block_kept (t.disk.blocks (spot_at die block))
+    state_of c die block ≡ block_kept (t.disk.blocks (spot_at die block)) (t.disk.vacancies (spot_at die block))
 state_kept c t die block k there within =
     ap (λ (z : Numbers). unwrap_or (slice_get c.states (die * z.blocks + block)) state.Bad) k.numbers
     ∙ ap (λ z. unwrap_or (slice_get z (die * t.numbers.blocks + block)) state.Bad) k.blocks.all
     ∙ ap (λ z. unwrap_or z state.Bad)
-    (state_there t.numbers (λ (s : Spot). block_kept (t.disk.blocks s)) die block there within)
+    (state_there t.numbers (λ (s : Spot). block_kept (t.disk.blocks s) (t.disk.vacancies s)) die block there within)
 
 pub state_is : (c : Core) (t : Translation) (die block : ℕ) → Describes c t → die < t.numbers.dies →
     block < t.numbers.blocks →
-    state_of c die block ≡ block_kept (t.disk.blocks (spot_at die block))
+    state_of c die block ≡ block_kept (t.disk.blocks (spot_at die block)) (t.disk.vacancies (spot_at die block))
 state_is c t die block h there within = state_kept c t die block h.kept there within
 
-erasable_is : (c : Core) (t : Translation) (die block : ℕ) → Describes c t → die < t.numbers.dies →
-    block < t.numbers.blocks →
-    is_erasable c die block ≡ may_be_erased t (spot_at die block)
-erasable_is c t die block h there within =
-    let free = ap is_free (state_is c t die block h there within) ∙ same_free (t.disk.blocks (spot_at die block)) in
-    let pinned = pinned_as t.ledger.frontier (entry_of t.ledger) t
-    (spot_at die block) c.pins h.kept.work.no_rests h.kept.pins in
-    λ i. free i && not (pinned i)
+-- What is in a free block
 
--- the block that is erased next
-abbrev pub block_next : Core → ℕ → Option ℕ
-block_next c die = lowest_below (is_erasable c die) c.numbers.blocks
+-- a block is kept as one that is so where it is free, and what is in it passes
+abbrev pub Means : BlockState → (disk.Vacancy → Bool) → Type 0
+Means s is = (b : disk.BlockState) (v : disk.Vacancy) → is_so (block_kept b v) s ≡ (layer.is_free b && is v)
 
-block_same : (c : Core) (t : Translation) (die : ℕ) → Describes c t → die < t.numbers.dies →
-    block_next c die ≡ lowest_below (λ b. may_be_erased t (spot_at die b)) t.numbers.blocks
-block_same c t die h there =
-    ap (λ (z : Numbers). lowest_below (is_erasable c die) z.blocks) h.kept.numbers
-    ∙ lowest_alike (is_erasable c die) (λ b. may_be_erased t (spot_at die b)) t.numbers.blocks
-    (λ k l. erasable_is c t die k h there l)
+pub free_means : Means state.Free layer.is_untouched
+free_means disk.Free disk.Untouched = refl
+free_means disk.Free disk.Stale = refl
+free_means disk.Free disk.Ready = refl
+free_means (disk.Filling next) v = refl
+free_means disk.Closed v = refl
+free_means disk.Bad v = refl
 
-pub erased_next : (c : Core) (t : Translation) (die : ℕ) → Describes c t → die < t.numbers.dies →
-    next_erase t die ≡ option_map (λ block. disk.Erasing (spot_at die block)) (block_next c die)
-erased_next c t die h there =
-    ap (option_map disk.Erasing)
-    (found_lowest t.numbers die (may_be_erased t)
-    ∙ ap (option_map (spot_at die)) (sym (block_same c t die h there)))
-    ∙ twice (block_next c die)
-  where
-    twice : (o : Option ℕ) → option_map disk.Erasing (option_map (spot_at die) o) ≡ option_map
-        (λ block. disk.Erasing (spot_at die block)) o
-    twice None = refl
-    twice (Some b) = refl
+pub stale_means : Means state.Stale layer.is_stale
+stale_means disk.Free disk.Untouched = refl
+stale_means disk.Free disk.Stale = refl
+stale_means disk.Free disk.Ready = refl
+stale_means (disk.Filling next) v = refl
+stale_means disk.Closed v = refl
+stale_means disk.Bad v = refl
 
--- the block that is erased next is one of the die's
-pub block_right : (c : Core) (t : Translation) (die block : ℕ) → Describes c t → die < t.numbers.dies →
-    block_next c die ≡ Some block →
-    block < t.numbers.blocks
-block_right c t die block h there found =
-    (lowest_passes (λ b. may_be_erased t (spot_at die b)) t.numbers.blocks block
-    (sym (block_same c t die h there) ∙ found)).0
+pub ready_means : Means state.Ready layer.is_ready
+ready_means disk.Free disk.Untouched = refl
+ready_means disk.Free disk.Stale = refl
+ready_means disk.Free disk.Ready = refl
+ready_means (disk.Filling next) v = refl
+ready_means disk.Closed v = refl
+ready_means disk.Bad v = refl
+
+-- The lowest block of a die that may be used
+
+module _ (c : Core) (t : Translation) (die : ℕ) (s : BlockState) (is : disk.Vacancy → Bool) (means : Means s is)
+    (h : Describes c t) (there : die < t.numbers.dies) where
+  usable_is : (block : ℕ) → block < t.numbers.blocks →
+      may_be_used c die s block ≡ layer.may_be_used t is (spot_at die block)
+  usable_is block within =
+      let so = ap (λ (z : BlockState). is_so z s) (state_is c t die block h there within)
+      ∙ means (t.disk.blocks (spot_at die block)) (t.disk.vacancies (spot_at die block)) in
+      let pinned = pinned_as t.ledger.frontier (entry_of t.ledger) t
+      (spot_at die block) c.pins h.kept.work.no_rests h.kept.pins in
+      λ i. so i && not (pinned i)
+
+  lowest_same : lowest c die s ≡ lowest_below (λ b. layer.may_be_used t is (spot_at die b)) t.numbers.blocks
+  lowest_same =
+      ap (λ (z : Numbers). lowest_below (may_be_used c die s) z.blocks) h.kept.numbers
+      ∙ lowest_alike (may_be_used c die s) (λ b. layer.may_be_used t is (spot_at die b)) t.numbers.blocks usable_is
+
+  -- it is the one that the layer would use
+  pub lowest_is : layer.lowest_vacant t is die ≡ option_map (spot_at die) (lowest c die s)
+  lowest_is =
+      found_lowest t.numbers die (layer.may_be_used t is) ∙ ap (option_map (spot_at die)) (sym lowest_same)
+
+  -- and its erase is the same
+  pub erased_next : next_erase t is die ≡ option_map (λ block. disk.Erasing (spot_at die block)) (lowest c die s)
+  erased_next = ap (option_map disk.Erasing) lowest_is ∙ twice (lowest c die s)
+    where
+      twice : (o : Option ℕ) → option_map disk.Erasing (option_map (spot_at die) o) ≡ option_map
+          (λ block. disk.Erasing (spot_at die block)) o
+      twice None = refl
+      twice (Some b) = refl
+
+  -- it is one of the die's
+  pub block_right : (block : ℕ) → lowest c die s ≡ Some block → block < t.numbers.blocks
+  block_right block found =
+      (lowest_passes (λ b. layer.may_be_used t is (spot_at die b)) t.numbers.blocks block (sym lowest_same ∙ found)).0
+
+  -- and it is free
+  pub block_free : (block : ℕ) → lowest c die s ≡ Some block → t.disk.blocks (spot_at die block) ≡ disk.Free
+  block_free block found =
+      free_is (t.disk.blocks (spot_at die block))
+      (and_parts (layer.is_free (t.disk.blocks (spot_at die block))) (is (t.disk.vacancies (spot_at die block)))
+      (and_parts (layer.is_vacant t is (spot_at die block)) (not (layer.is_pinned t (spot_at die block)))
+      (lowest_passes (λ b. layer.may_be_used t is (spot_at die b)) t.numbers.blocks block
+      (sym lowest_same ∙ found)).1).0).0
+    where
+      free_is : (b : disk.BlockState) → layer.is_free b ≡ true → b ≡ disk.Free
+      free_is disk.Free e = refl
+      free_is (disk.Filling next) e = absurd (false≢true e)
+      free_is disk.Closed e = absurd (false≢true e)
+      free_is disk.Bad e = absurd (false≢true e)

@@ -4,38 +4,51 @@ use Rattle.std.proofs.Common.{refl, sym, ap, subst, inl, inr, ⊎_elim, arith, g
 use Rattle.std.specs.Prelude.{◌&&◌, Contains, find, nat_lt, slice_get, slice_set, option_and_then}
 use Rattle.std.proofs.lemmas.Option.{slice_get_cases}
 use Rattle.ufs_spec.proofs.Facts.{false≢true, true≢false}
+use Rattle.ufs_spec.specs.Cells.{Cell, Cells, GroupPage}
 use Rattle.ufs_spec.specs.Disk as disk
-use Rattle.ufs_spec.specs.Disk.{ForStep, ForTask, at_die, job_of as told_by}
+use Rattle.ufs_spec.specs.Disk.{ForStep, ForTask, Spot, at_die, job_of as told_by}
 use Rattle.ufs_spec.specs.Ledger.{Name}
 use Rattle.ufs_spec.specs.Moves.{GiveJob}
 use Rattle.ufs_spec.specs.Translation.{MayTake, Translation, Want, flies_name, is_idle, next_flight, some_flight, taken}
 use Rattle.ufs_spec.specs.Translation.{want_at, wants_on}
+use Rattle.ufs_spec.specs.Translation as layer
+use Rattle.ufs_spec.specs.declared.configs.Numbers.{Numbers}
 use Rattle.ufs_spec.specs.declared.flash.Place.{Place}
 use Rattle.ufs_laws.proofs.jobs.OneJob.{given as some_job, nothing_inside}
 use Rattle.power_loss.proofs.moves.MovesKeepValid.{all_keep}
 use Rattle.power_loss.proofs.books.PagesByName.{none_some}
 use Rattle.power_loss.proofs.books.SmallFacts.{at_die_cases}
+use Rattle.block_table.specs.declared.BlockState.{BlockState}
+use Rattle.block_table.specs.declared.BlockState.TheVariants as state
 use Rattle.block_table.specs.declared.rows.DieRow.{DieRow}
 use Rattle.block_table.specs.declared.rows.Flight.{Flight}
 use Rattle.block_table.specs.declared.rows.Flight.TheVariants as flight
+use Rattle.block_table.specs.declared.rows.OpenBlock.{OpenBlock}
 use Rattle.ftl_core.specs.Core.{Core}
-use Rattle.ftl_core.specs.Describes.{Describes, IsFlight, IsTaken, Kept, PagesFly, ReadsKept, Standing, given}
-use Rattle.ftl_core.specs.Describes.{IsWanted, StepReadsKept, WritesGroup}
+use Rattle.ftl_core.specs.Describes.{BlocksKept, CopiesKnown, Describes, IsFilling, IsFlight, IsTaken, Kept, PagesFly}
+use Rattle.ftl_core.specs.Describes.{IsWanted, ReadsKept, Standing, StepReadsKept, WritesGroup, given, spot_at}
+use Rattle.ftl_core.specs.KnownLive.{KnowsLive}
 use Rattle.ftl_core.specs.declared.books.Pin.{Pin}
-use Rattle.ftl_core.specs.Moves.{is_pin_of, started}
-use Rattle.ftl_core.specs.Takes.{begun_if_any, core_taken, flight_taken, job_of, job_taken, step_wants}
-use Rattle.ftl_core.proofs.job_taken.Flown.{dies_put}
-use Rattle.ftl_core.proofs.job_taken.FlightKinds.{none_flies}
+use Rattle.ftl_core.specs.declared.books.Step.{Step}
+use Rattle.ftl_core.specs.declared.books.Waiting.{Waiting}
+use Rattle.ftl_core.specs.declared.books.Waiting.TheVariants as waiting
+use Rattle.ftl_core.specs.Moves.{begins, first_page, is_pin_of, started, started_with}
+use Rattle.ftl_core.specs.Takes.{begun_if_any, core_taken, flight_taken, job_of, job_taken, next_place, page_flight}
+use Rattle.ftl_core.specs.Takes.{step_wants}
+use Rattle.ftl_core.proofs.job_ended.ChangeParts.{blocks_put, elsewhere, same_put, states_with}
+use Rattle.ftl_core.proofs.job_ended.JobsOver.{filling_begun}
+use Rattle.ftl_core.proofs.job_taken.Flown.{die_within, dies_put}
+use Rattle.ftl_core.proofs.job_taken.FlightKinds.{flight_cases, none_flies}
 use Rattle.ftl_core.proofs.opened.ListParts.{get_set}
 
 -- the page of no name flies from two dies, if no other die flies that of the new job
-fly_begun : (standing : Standing) (flights : ℕ → Option disk.Flight) (rows : List DieRow) (die : ℕ) (b : DieRow)
-    (kept : Flight) (f : disk.Flight) → PagesFly standing flights rows →
+fly_begun : (standing : Standing) (flights : ℕ → Option disk.Flight) (rows : List DieRow) (die : ℕ)
+    (filling : Option OpenBlock) (kept : Flight) (f : disk.Flight) → PagesFly standing flights rows →
     ((name : Name) → flies_name name (Some f) ≡ true → (e : ℕ) → flies_name name (flights e) ≡ false) →
     ((place : Place) (number index : ℕ) → kept ≡ flight.Group place number index → standing number index ≡ None) →
     PagesFly standing (at_die flights die (Some f))
-    (slice_set rows die (record { filling = b.filling; flight = Some kept }))
-fly_begun standing flights rows die b kept f h alone fresh = record { one = one; new = new }
+    (slice_set rows die (record { filling = filling; flight = Some kept }))
+fly_begun standing flights rows die filling kept f h alone fresh = record { one = one; new = new }
   where
     -- the new job's page, and one that flew before
     both : (e : ℕ) (name : Name) → flies_name name (Some f) ≡ true → flies_name name (flights e) ≡ true → ⊥
@@ -61,15 +74,15 @@ fly_begun standing flights rows die b kept f h alone fresh = record { one = one;
     same_job x y e = cc
 
     new : (d number index : ℕ) →
-        WritesGroup (slice_set rows die (record { filling = b.filling; flight = Some kept })) d number index →
+        WritesGroup (slice_set rows die (record { filling = filling; flight = Some kept })) d number index →
         standing number index ≡ None
     new d number index w = ⊎_elim
-        (λ (e : (d ≡ die) × (record { filling = b.filling; flight = Some kept } ≡ w.book)).
+        (λ (e : (d ≡ die) × (record { filling = filling; flight = Some kept } ≡ w.book)).
         fresh w.place number index
         (same_job kept (flight.Group w.place number index) (ap (λ (z : DieRow). z.flight) e.1 ∙ w.job)))
         (λ (e : (d ≢ die) × (slice_get rows d ≡ Some w.book)).
         h.new d number index (record { book = w.book; there = e.1; place = w.place; job = w.job }))
-        (get_set rows die (record { filling = b.filling; flight = Some kept }) d w.book w.there)
+        (get_set rows die (record { filling = filling; flight = Some kept }) d w.book w.there)
 
 -- a job that may begin: a page that it writes flies from no die, and that of a group does not stand; a page that it
 -- reads for a task is one that its reader wants, and one for the step under way the page that this wants
@@ -81,16 +94,24 @@ pub record MayBegin (c : Core) (t : Translation) (kept : Flight) (job : disk.Fli
       (p : Pin) × (find (is_pin_of tag index) c.pins ≡ Some p) × IsWanted place p
   pub step_wanted : (place : Place) → job ≡ disk.Reading ForStep place → step_wants c.step ≡ Some place
 
-pub kept_begun : (c : Core) (t : Translation) (die : ℕ) (b : DieRow) (f : Flight) (job : disk.Flight) → Kept c t →
-    slice_get c.rows die ≡ Some b → IsFlight t.numbers c.step die b.filling (Some f) (Some job) → MayBegin c t f job →
-    Kept (started c die b f) (taken t die job)
-kept_begun c t die b f job k at is may = record {
+-- a job is given, and the die fills this block then
+kept_given : (c : Core) (t : Translation) (die : ℕ) (b : DieRow) (f : Flight) (job : disk.Flight)
+    (states : List BlockState) (filling : Option OpenBlock) → Kept c t → slice_get c.rows die ≡ Some b →
+    BlocksKept t.numbers (disk.blocks_begun t.disk job) t.disk.vacancies states c.has_bad →
+    ((s : Spot) → s.die ≢ die → disk.blocks_begun t.disk job s ≡ t.disk.blocks s) →
+    IsFilling t.numbers (disk.blocks_begun t.disk job) die filling →
+    IsFlight t.numbers c.step die filling (Some f) (Some job) → MayBegin c t f job →
+    Kept (record c {
+      states = states;
+      rows = slice_set c.rows die (record { filling = filling; flight = Some f });
+    }) (taken t die job)
+kept_given c t die b f job states filling k at blocks beside fills is may = record {
   numbers = k.numbers;
-  blocks = k.blocks;
-  dies = dies_put t.numbers t.disk.blocks t.disk.blocks t.disk.flights c.step c.rows die b
-      (record { filling = b.filling; flight = Some f })
-      (Some job) k.dies at (λ s apart. refl) (record { filling = (k.dies.each die b at).filling; job = is });
-  fly = fly_begun t.ledger.standing t.disk.flights c.rows die b f job k.fly
+  blocks = blocks;
+  dies = dies_put t.numbers t.disk.blocks (disk.blocks_begun t.disk job) t.disk.flights c.step c.rows die b
+      (record { filling = filling; flight = Some f })
+      (Some job) k.dies at beside (record { filling = fills; job = is });
+  fly = fly_begun t.ledger.standing t.disk.flights c.rows die filling f job k.fly
       (λ name flies. none_flies t.numbers.dies t.disk.flights (flies_name name) refl k.dies.no_more
       (may.alone name flies)) may.fresh;
   ledger_kept = k.ledger_kept;
@@ -118,6 +139,93 @@ kept_begun c t die b f job k at is may = record {
         (λ h. may.step_wanted place (some_one job (disk.Reading ForStep place) (sym h.1 ∙ reading)))
         (λ h. k.step_reads e place (sym h.1 ∙ reading))
         (at_die_cases t.disk.flights die (Some job) e)
+
+-- Over the block that the die fills
+
+-- what the blocks are once this job is given
+blocks_given : disk.Disk → Option disk.Flight → Spot → disk.BlockState
+blocks_given d None = d.blocks
+blocks_given d (Some job) = disk.blocks_begun d job
+
+-- a job that suits the block that a die fills changes no block
+blocks_stay : (n : Numbers) (step : Option Step) (d : disk.Disk) (die : ℕ) (filling : Option OpenBlock)
+    (f : Option Flight) (g : Option disk.Flight) → IsFilling n d.blocks die filling →
+    IsFlight n step die filling f g → blocks_given d g ≡ d.blocks
+unfolding blocks_given
+blocks_stay n step d die filling f g fills is =
+    flight_cases n step die filling (λ (f : Option Flight) (g : Option disk.Flight). blocks_given d g ≡ d.blocks)
+    refl (λ place tag i. refl) (λ place. refl) (λ place. refl) (λ o cell e page. programs o cell e)
+    (λ o tag body e no_repair. programs o (GroupPage tag body) e) (λ block within. refl) f g is
+  where
+    programs : (o : OpenBlock) (cell : Cell) → filling ≡ Some o →
+        disk.blocks_begun d (disk.Programming (next_place die o) cell) ≡ d.blocks
+    programs o cell e =
+        same_put d.blocks (spot_at die o.block) (disk.Filling o.next)
+        (subst (λ (x : Option OpenBlock). IsFilling n d.blocks die x) e fills).1
+
+-- and begins none
+begins_none : (n : Numbers) (step : Option Step) (die : ℕ) (filling : Option OpenBlock) (f : Flight)
+    (g : Option disk.Flight) → IsFlight n step die filling (Some f) g → begins filling f ≡ None
+begins_none n step die (Some o) f g is = refl
+begins_none n step die None (flight.Read place reader) g is = refl
+begins_none n step die None (flight.Erase block) g is = refl
+begins_none n step die None (flight.Step place) (Some (disk.Programming p cell)) is =
+    absurd (none_some is.1.0 is.1.1)
+begins_none n step die None (flight.Step place) g is = absurd is
+begins_none n step die None (flight.Group place number i) (Some (disk.Programming p (GroupPage tag body))) is =
+    absurd (none_some is.1.0 is.1.1)
+begins_none n step die None (flight.Group place number i) g is = absurd is
+
+kept_begun : (c : Core) (t : Translation) (die : ℕ) (b : DieRow) (f : Flight) (job : disk.Flight) → Kept c t →
+    slice_get c.rows die ≡ Some b → IsFlight t.numbers c.step die b.filling (Some f) (Some job) → MayBegin c t f job →
+    Kept (started c die b f) (taken t die job)
+unfolding blocks_given
+kept_begun c t die b f job k at is may =
+    let row = k.dies.each die b at in
+    let stay : disk.blocks_begun t.disk job ≡ t.disk.blocks =
+    blocks_stay t.numbers c.step t.disk die b.filling (Some f) (Some job) row.filling is in
+    subst (λ (o : Option ℕ). Kept (started_with c die b.filling f o) (taken t die job))
+    (sym (begins_none t.numbers c.step die b.filling f (Some job) is))
+    (kept_given c t die b f job c.states b.filling k at
+    (subst (λ (x : Spot → disk.BlockState). BlocksKept t.numbers x t.disk.vacancies c.states c.has_bad) (sym stay)
+    k.blocks)
+    (λ s apart i. stay i s)
+    (subst (λ (x : Spot → disk.BlockState). IsFilling t.numbers x die b.filling) (sym stay) row.filling) is may)
+
+-- Over a block that the die begins to fill
+
+-- the first page of a block of the die
+abbrev pub opening_place : ℕ → ℕ → Place
+opening_place die block = next_place die (first_page block)
+
+begins_page : (die block : ℕ) (w : Waiting) →
+    begins None (page_flight (opening_place die block) w) ≡ Some block
+begins_page die block waiting.Step = refl
+begins_page die block (waiting.Group n i) = refl
+
+kept_opened : (c : Core) (t : Translation) (die block : ℕ) (b : DieRow) (w : Waiting) (cell : Cell) → Kept c t →
+    slice_get c.rows die ≡ Some b → b.filling ≡ None → block < t.numbers.blocks →
+    t.disk.blocks (spot_at die block) ≡ disk.Free →
+    IsFlight t.numbers c.step die (Some (first_page block)) (Some (page_flight (opening_place die block) w))
+    (Some (disk.Programming (opening_place die block) cell)) →
+    MayBegin c t (page_flight (opening_place die block) w) (disk.Programming (opening_place die block) cell) →
+    Kept (started c die b (page_flight (opening_place die block) w))
+    (taken t die (disk.Programming (opening_place die block) cell))
+kept_opened c t die block b w cell k at closed within free is may =
+    subst (λ (z : Core). Kept z (taken t die (disk.Programming (opening_place die block) cell))) (sym begun)
+    (kept_given c t die b (page_flight (opening_place die block) w)
+    (disk.Programming (opening_place die block) cell) (states_with c die block state.Open) (Some (first_page block)) k
+    at (blocks_put c t die block (disk.Filling 0) k (die_within c t die b k at) within (ap layer.is_bad free) refl)
+    (elsewhere t.disk.blocks die block (disk.Filling 0))
+    (filling_begun t.numbers t.disk.blocks die block 0 within
+    (subst (λ (x : Option OpenBlock). IsFilling t.numbers t.disk.blocks die x) closed (k.dies.each die b at).filling))
+    is may)
+  where
+    begun : started c die b (page_flight (opening_place die block) w)
+        ≡ started_with c die b.filling (page_flight (opening_place die block) w) (Some block)
+    begun = ap (started_with c die b.filling (page_flight (opening_place die block) w))
+        (ap (λ (x : Option OpenBlock). begins x (page_flight (opening_place die block) w)) closed
+        ∙ begins_page die block w)
 
 -- Idle dies
 
@@ -191,23 +299,61 @@ nothing_taken c t die h none may = record {
         (λ i. begun_if_any c die (slice_get c.rows die) (none i) (option_and_then (job_of c die) (none i)))
         ∙ as_it_was (slice_get c.rows die)
 
+-- a job that begins changes neither what is live nor what is to be copied
+live_begun : (c : Core) (die : ℕ) (filling : Option OpenBlock) (f : Flight) (o : Option ℕ) →
+    KnowsLive c.numbers c.places c.pages c.live →
+    KnowsLive (started_with c die filling f o).numbers (started_with c die filling f o).places
+    (started_with c die filling f o).pages (started_with c die filling f o).live
+live_begun c die filling f None h = h
+live_begun c die filling f (Some block) h = h
+
+copies_begun : (c : Core) (die : ℕ) (filling : Option OpenBlock) (f : Flight) (o : Option ℕ) (cells : Cells)
+    (step : Option layer.Step) → CopiesKnown cells c.plan step →
+    CopiesKnown cells (started_with c die filling f o).plan step
+copies_begun c die filling f None cells step h = h
+copies_begun c die filling f (Some block) cells step h = h
+
 -- or a job
-pub job_begun : (c : Core) (t : Translation) (die : ℕ) (b : DieRow) (f : Flight) (job : disk.Flight) → Describes c t →
+begun_is : (c : Core) (t : Translation) (die : ℕ) (b : DieRow) (f : Flight) (job : disk.Flight) → Describes c t →
     slice_get c.rows die ≡ Some b → flight_taken c die ≡ Some f → job_of c die f ≡ Some (told_by job) →
-    IsFlight t.numbers c.step die b.filling (Some f) (Some job) → MayBegin c t f job → MayTake t die (Some job) →
+    Kept (started c die b f) (taken t die job) → MayTake t die (Some job) →
     IsTaken t die (job_taken c die) (core_taken c die)
-job_begun c t die b f job h there taken told is begins may = record {
+begun_is c t die b f job h there taken told kept may = record {
   job = Some job;
   right = may;
   shown = ap (option_and_then (job_of c die)) taken ∙ told;
   describes = subst (λ (z : Core). Describes z (given t die (Some job))) (sym begun)
       (record {
         valid = all_keep t (GiveJob die job) h.valid may;
-        kept = kept_begun c t die b f job h.kept there is begins;
-        live = h.live;
-        copies = h.copies;
+        kept = kept;
+        live = live_begun c die b.filling f (begins b.filling f) h.live;
+        copies = copies_begun c die b.filling f (begins b.filling f) t.disk.cells t.work.step h.copies;
       });
 }
   where
     begun : core_taken c die ≡ started c die b f
     begun = λ i. begun_if_any c die (there i) (taken i) ((ap (option_and_then (job_of c die)) taken ∙ told) i)
+
+-- over the block that the die fills
+pub job_begun : (c : Core) (t : Translation) (die : ℕ) (b : DieRow) (f : Flight) (job : disk.Flight) → Describes c t →
+    slice_get c.rows die ≡ Some b → flight_taken c die ≡ Some f → job_of c die f ≡ Some (told_by job) →
+    IsFlight t.numbers c.step die b.filling (Some f) (Some job) → MayBegin c t f job → MayTake t die (Some job) →
+    IsTaken t die (job_taken c die) (core_taken c die)
+job_begun c t die b f job h there taken told is begins may =
+    begun_is c t die b f job h there taken told (kept_begun c t die b f job h.kept there is begins) may
+
+-- or over one that it begins to fill
+pub job_opened : (c : Core) (t : Translation) (die block : ℕ) (b : DieRow) (w : Waiting) (cell : Cell) →
+    Describes c t → slice_get c.rows die ≡ Some b → b.filling ≡ None → block < t.numbers.blocks →
+    t.disk.blocks (spot_at die block) ≡ disk.Free →
+    flight_taken c die ≡ Some (page_flight (opening_place die block) w) →
+    job_of c die (page_flight (opening_place die block) w)
+    ≡ Some (told_by (disk.Programming (opening_place die block) cell)) →
+    IsFlight t.numbers c.step die (Some (first_page block)) (Some (page_flight (opening_place die block) w))
+    (Some (disk.Programming (opening_place die block) cell)) →
+    MayBegin c t (page_flight (opening_place die block) w) (disk.Programming (opening_place die block) cell) →
+    MayTake t die (Some (disk.Programming (opening_place die block) cell)) →
+    IsTaken t die (job_taken c die) (core_taken c die)
+job_opened c t die block b w cell h there closed within free taken told is begins may =
+    begun_is c t die b (page_flight (opening_place die block) w) (disk.Programming (opening_place die block) cell) h
+    there taken told (kept_opened c t die block b w cell h.kept there closed within free is begins) may

@@ -25,7 +25,7 @@ use Rattle.ftl_core.proofs.opened.Spots.{free_counted, next_found}
 
 -- as many blocks are free
 pub free_alike : (c : Core) (t : Translation) → Kept c t → free_blocks c ≡ count_blocks t layer.is_free
-free_alike c t k = ap (count_by is_free) k.blocks.all ∙ free_counted t.numbers t.disk.blocks
+free_alike c t k = ap (count_by is_free) k.blocks.all ∙ free_counted t.numbers t.disk.blocks t.disk.vacancies
 
 -- room is for groups on both sides or on none
 pub room_alike : (c : Core) (t : Translation) → Describes c t →
@@ -55,7 +55,7 @@ erases_agree c t k = rows_agree c t erases flies_erase k
     (λ die b at h. flight_cases t.numbers c.step die b.filling
     (λ (f : Option Flight) (g : Option disk.Flight). flight_erases f ≡ flies_erase g)
     refl (λ place tag i. refl) (λ place. refl) (λ place. refl) (λ o cell fills page. refl)
-    (λ o tag body fills no_repair. refl) (λ block within none. refl) b.flight (t.disk.flights die) h)
+    (λ o tag body fills no_repair. refl) (λ block within. refl) b.flight (t.disk.flights die) h)
 
 -- a block is open on both sides or on none
 pub open_alike : (c : Core) (t : Translation) → Kept c t → has_open_block c ≡ layer.has_open_block t

@@ -9,13 +9,14 @@ use Rattle.ufs_spec.specs.Disk as disk
 use Rattle.ufs_spec.specs.Disk.{job_of as told_by}
 use Rattle.ufs_spec.specs.Ledger.{Name, entry_of}
 use Rattle.ufs_spec.specs.Translation as layer
-use Rattle.ufs_spec.specs.Translation.{Translation, cell_now, flies_name, flight_at, flight_for, is_idle, is_mended}
-use Rattle.ufs_spec.specs.Translation.{name_of, next_erase, next_flight, some_flight, waiting_step, wants_on}
+use Rattle.ufs_spec.specs.Translation.{Translation, cell_now, flies_name, flight_at, flight_for, flight_or, is_idle}
+use Rattle.ufs_spec.specs.Translation.{is_mended, name_of, next_erase, next_flight, some_flight, waiting_name}
+use Rattle.ufs_spec.specs.Translation.{waiting_step, wants_on}
 use Rattle.ufs_spec.specs.declared.flash.Job.{Job}
 use Rattle.ufs_spec.specs.declared.flash.Place.{Place}
 use Rattle.ufs_spec.specs.declared.flash.Tag.{Tag}
-use Rattle.power_loss.proofs.books.PagesByName.{none_some}
 use Rattle.power_loss.proofs.books.SmallFacts.{and_true, if_true, name_is, name_told}
+use Rattle.block_table.specs.declared.BlockState.TheVariants as state
 use Rattle.block_table.specs.declared.rows.DieRow.{DieRow}
 use Rattle.block_table.specs.declared.rows.Flight.{Flight}
 use Rattle.block_table.specs.declared.rows.Flight.TheVariants as flight
@@ -25,19 +26,20 @@ use Rattle.ftl_core.specs.declared.books.Waiting.{Waiting}
 use Rattle.ftl_core.specs.declared.books.Waiting.TheVariants as waiting
 use Rattle.ftl_core.specs.Core.{Core}
 use Rattle.ftl_core.specs.Describes.{Describes, IsFlight, IsTaken, PageKept, names_pending, spot_at}
-use Rattle.ftl_core.specs.Moves.{has_room_for_groups, is_owed_by, may_open, tag_of_page}
+use Rattle.ftl_core.specs.Moves.{first_page, has_room_for_groups, is_owed_by, may_open, tag_of_page}
 use Rattle.ftl_core.specs.Takes as takes
-use Rattle.ftl_core.specs.Takes.{block_for, core_taken, first_owed, flight_taken, group_job_of, idle_flight}
-use Rattle.ftl_core.specs.Takes.{is_group_page, job_of, job_taken, next_place, owed_flight, owed_read, page_of_group}
-use Rattle.ftl_core.specs.Takes.{page_waiting, page_waits, step_read, step_waits, waiting_flight, waiting_of}
-use Rattle.ftl_core.specs.Takes.{waiting_group, waiting_page, writes_page}
+use Rattle.ftl_core.specs.Takes.{core_taken, erase_of, first_owed, flight_into, flight_taken, group_job_of, idle_flight}
+use Rattle.ftl_core.specs.Takes.{is_group_page, job_of, job_taken, lowest, next_place, owed_flight, owed_read}
+use Rattle.ftl_core.specs.Takes.{page_flight, page_of_group, page_waiting, page_waits, step_read, step_waits}
+use Rattle.ftl_core.specs.Takes.{unread_flight, waiting_flight, waiting_group, waiting_of, waiting_page, writes_page}
 use Rattle.ftl_core.proofs.job_taken.Flown.{die_within, no_job, writes_agree}
 use Rattle.ftl_core.proofs.job_taken.Mended.{mended_with, no_repair}
-use Rattle.ftl_core.proofs.job_taken.NextErases.{block_next, block_right, erased_next}
+use Rattle.ftl_core.proofs.job_taken.NextErases.{block_free, block_right, erased_next, free_means, lowest_is}
+use Rattle.ftl_core.proofs.job_taken.NextErases.{ready_means, stale_means}
 use Rattle.ftl_core.proofs.job_taken.NextNames.{next_name}
 use Rattle.ftl_core.proofs.job_taken.NextPages.{IsProgrammed, kept_found, page_name, page_programmed}
-use Rattle.ftl_core.proofs.job_taken.NextStarts.{MayBegin, is_free_die, job_begun, next_may, not_idle, nothing_taken}
-use Rattle.ftl_core.proofs.job_taken.NextStarts.{outside}
+use Rattle.ftl_core.proofs.job_taken.NextStarts.{MayBegin, is_free_die, job_begun, job_opened, next_may, not_idle}
+use Rattle.ftl_core.proofs.job_taken.NextStarts.{nothing_taken, opening_place, outside}
 use Rattle.ftl_core.proofs.job_taken.OpenBlocks.{group_alike, room_alike, step_alike}
 use Rattle.ftl_core.proofs.pins.FoundPins.{found_passes, position_missed}
 use Rattle.ftl_core.proofs.job_taken.ReadsTaken.{none_read, read_taken, step_taken}
@@ -54,6 +56,13 @@ erase_begins c t block s = record {
   wanted = λ tag index place e. cc;
   step_wanted = λ place e. cc;
 }
+
+-- the program of what waits may begin at the next page of this block, once the die fills it
+record IsBegunBy (c : Core) (t : Translation) (die : ℕ) (w : Waiting) (cell : Cell) (o : OpenBlock) : Type 0 where
+  told : job_of c die (page_flight (next_place die o) w) ≡ Some (told_by (disk.Programming (next_place die o) cell))
+  is : IsFlight t.numbers c.step die (Some o) (Some (page_flight (next_place die o) w))
+      (Some (disk.Programming (next_place die o) cell))
+  begins : MayBegin c t (page_flight (next_place die o) w) (disk.Programming (next_place die o) cell)
 
 -- What waits
 
@@ -72,24 +81,15 @@ module _ (c : Core) (t : Translation) (die : ℕ) (b : DieRow) (h : Describes c 
   unread : wants_on t die ≡ []
   unread = none_read c t die h.kept (position_missed (is_owed_by c.rows die) c.pins none_owed) step_unread
 
-  -- what is in flight then is what waits
-  taken_is : (o : Option OpenBlock) → b.filling ≡ o →
-      flight_taken c die ≡ option_and_then (waiting_flight c die o) (waiting_of c)
-  taken_is o fills =
+  here : die < t.numbers.dies
+  here = die_within c t die b h.kept there
+
+  -- what is in flight then is the erase of a stale block, else what waits
+  unread_is : flight_taken c die ≡ unread_flight c die b.filling (erase_of c die state.Stale)
+  unread_is =
       ap (takes.flight_for c die) there ∙ ap (idle_flight c die b.filling) idle
       ∙ ap (λ (k : Option ℕ). owed_flight c die b.filling (owed_read c die k)) none_owed
       ∙ ap (owed_flight c die b.filling) step_unread
-      ∙ ap (λ (x : Option OpenBlock). option_and_then (waiting_flight c die x) (waiting_of c)) fills
-
-  -- by the definitions too
-  next_is : (cell : Option Cell) → waiting_step t t.work.step ≡ cell →
-      next_flight t die ≡ flight_for t die cell (option_map page_name (page_waiting c))
-  next_is cell step = λ i. flight_for t die (step i) (next_name c t h i)
-
-  place_is : (o : Option OpenBlock) → b.filling ≡ o → layer.next_place t die ≡ option_map (next_place die) o
-  place_is o fills =
-      next_found t.numbers t.disk.blocks die b.filling (h.kept.dies.each die b there).filling
-      ∙ ap (option_map (next_place die)) fills
 
   -- none is taken
   nothing_waits : flight_taken c die ≡ None → next_flight t die ≡ None →
@@ -103,189 +103,242 @@ module _ (c : Core) (t : Translation) (die : ℕ) (b : DieRow) (h : Describes c 
   next_begun f job taken next told is begins =
       job_begun c t die b f job h there taken told is begins (next_may t die job free unread next)
 
-  -- the die fills no block: one is erased, if one may be
-  erase_taken : (w : Waiting) → b.filling ≡ None → waiting_of c ≡ Some w →
-      next_flight t die ≡ (if may_open c w then next_erase t die else None) →
+  erase_begun : (block : ℕ) → block < t.numbers.blocks → flight_taken c die ≡ Some (flight.Erase block) →
+      next_flight t die ≡ Some (disk.Erasing (spot_at die block)) →
       IsTaken t die (job_taken c die) (core_taken c die)
-  erase_taken w closed waits opens = by (block_for c die w) refl
-    where
-      opened : (a : Bool) → (if a then option_map (λ block. disk.Erasing (spot_at die block))
-          (block_next c die) else None)
-          ≡ option_map (λ block. disk.Erasing (spot_at die block)) (if a then block_next c die else None)
-      opened true = refl
-      opened false = refl
+  erase_begun block within taken next = next_begun (flight.Erase block) (disk.Erasing (spot_at die block)) taken next
+      refl (refl, within) (erase_begins c t block (spot_at die block))
 
-      opened_is : (a : Bool) (block : ℕ) → (if a then block_next c die else None) ≡ Some block →
-          block_next c die ≡ Some block
-      opened_is true block e = e
-      opened_is false block e = absurd (none_some block e)
-
-      here : (block : ℕ) → block_next c die ≡ Some block → block < t.numbers.blocks
-      here block e = block_right c t die block h (die_within c t die b h.kept there) e
-
-      next : next_flight t die ≡ option_map (λ block. disk.Erasing (spot_at die block)) (block_for c die w)
-      next =
-          opens
-          ∙ ap (λ (f : Option disk.Flight). if may_open c w then f else None)
-          (erased_next c t die h (die_within c t die b h.kept there))
-          ∙ opened (may_open c w)
-
-      taken : flight_taken c die ≡ option_map flight.Erase (block_for c die w)
-      taken = taken_is None closed ∙ ap (option_and_then (waiting_flight c die None)) waits
-
-      by : (r : Option ℕ) → block_for c die w ≡ r → IsTaken t die (job_taken c die) (core_taken c die)
-      by None e = nothing_waits (taken ∙ ap (option_map flight.Erase) e)
-          (next ∙ ap (option_map (λ block. disk.Erasing (spot_at die block))) e)
-      by (Some block) e = next_begun (flight.Erase block) (disk.Erasing (spot_at die block))
-          (taken ∙ ap (option_map flight.Erase) e)
-          (next ∙ ap (option_map (λ block. disk.Erasing (spot_at die block))) e)
-          refl
-          (refl, here block (opened_is (may_open c w) block e), closed)
-          (erase_begins c t block (spot_at die block))
-
-  -- the page of the step under way waits
-  page_taken : StepPage c t → (o : Option OpenBlock) → step_waits c ≡ true → b.filling ≡ o →
+  -- a stale block is erased
+  stale_taken : (block : ℕ) → lowest c die state.Stale ≡ Some block →
       IsTaken t die (job_taken c die) (core_taken c die)
-  page_taken page None waits fills =
-      erase_taken waiting.Step fills
-      (ap (λ (z : Bool). if z then Some waiting.Step else waiting_group c) waits)
-      (next_is (Some page.cell) page.waits
-      ∙ ap (flight_at t die (layer.may_open_for_step t) page.cell) (place_is None fills)
-      ∙ ap (λ (z : Bool). if z then next_erase t die else None) (sym (step_alike c t h)))
-  page_taken page (Some o) waits fills = next_begun (flight.Step (next_place die o))
-      (disk.Programming (next_place die o) page.cell)
-      (taken_is (Some o) fills
-      ∙ ap (λ (z : Bool). option_and_then (waiting_flight c die (Some o)) (if z then Some waiting.Step else
-      waiting_group c)) waits)
-      (next_is (Some page.cell) page.waits
-      ∙ ap (flight_at t die (layer.may_open_for_step t) page.cell) (place_is (Some o) fills))
-      (page.told (next_place die o))
-      (refl, (o, fills, refl), page.is)
-      (page.begins (next_place die o))
+  stale_taken block found = erase_begun block
+      (block_right c t die state.Stale layer.is_stale stale_means h here block found)
+      (unread_is ∙ ap (λ (o : Option ℕ). unread_flight c die b.filling (option_map flight.Erase o)) found)
+      (ap (λ (o : Option disk.Flight). flight_or o
+      (flight_for t die (waiting_step t t.work.step) (waiting_name t)))
+      (erased_next c t die state.Stale layer.is_stale stale_means h here
+      ∙ ap (option_map (λ block. disk.Erasing (spot_at die block))) found))
 
-  -- a page of a group waits, and room is for groups
-  group_taken : (p : Pending) (o : Option OpenBlock) → step_waits c ≡ false → waiting_step t t.work.step ≡ None →
-      has_room_for_groups c ≡ true → page_waiting c ≡ Some p → b.filling ≡ o →
-      IsTaken t die (job_taken c die) (core_taken c die)
-  group_taken p o no_step no_page room first fills = by o fills
+  -- No block is stale
+
+  module _ (none_stale : lowest c die state.Stale ≡ None) where
+    -- what is in flight then is what waits
+    taken_is : (o : Option OpenBlock) → b.filling ≡ o →
+        flight_taken c die ≡ option_and_then (waiting_flight c die o) (waiting_of c)
+    taken_is o fills =
+        unread_is ∙ ap (λ (k : Option ℕ). unread_flight c die b.filling (option_map flight.Erase k)) none_stale
+        ∙ ap (λ (x : Option OpenBlock). option_and_then (waiting_flight c die x) (waiting_of c)) fills
+
+    -- by the definitions too
+    next_is : (cell : Option Cell) → waiting_step t t.work.step ≡ cell →
+        next_flight t die ≡ flight_for t die cell (option_map page_name (page_waiting c))
+    next_is cell step =
+        ap (λ (o : Option disk.Flight). flight_or o
+        (flight_for t die (waiting_step t t.work.step) (waiting_name t)))
+        (erased_next c t die state.Stale layer.is_stale stale_means h here
+        ∙ ap (option_map (λ block. disk.Erasing (spot_at die block))) none_stale)
+        ∙ (λ i. flight_for t die (step i) (next_name c t h i))
+
+    place_is : (o : Option OpenBlock) → b.filling ≡ o → layer.next_place t die ≡ option_map (next_place die) o
+    place_is o fills =
+        next_found t.numbers t.disk.blocks die b.filling (h.kept.dies.each die b there).filling
+        ∙ ap (option_map (next_place die)) fills
+
+    -- what waits is programmed into the block that the die fills; if it fills none, one is opened where that may be
+    waiting_taken : (w : Waiting) (cell : Cell) → ((o : OpenBlock) → IsBegunBy c t die w cell o) →
+        waiting_of c ≡ Some w → (o : Option OpenBlock) → b.filling ≡ o →
+        next_flight t die ≡ flight_at t die (may_open c w) cell (option_map (next_place die) o) →
+        IsTaken t die (job_taken c die) (core_taken c die)
+    waiting_taken w cell page waits (Some o) fills next =
+        next_begun (page_flight (next_place die o) w) (disk.Programming (next_place die o) cell)
+        (taken_is (Some o) fills ∙ ap (option_and_then (waiting_flight c die (Some o))) waits) next
+        (page o).told
+        (subst (λ (x : Option OpenBlock). IsFlight t.numbers c.step die x (Some (page_flight (next_place die o) w))
+        (Some (disk.Programming (next_place die o) cell))) (sym fills) (page o).is)
+        (page o).begins
+    waiting_taken w cell page waits None fills next =
+        opens (may_open c w) refl (lowest c die state.Ready) refl (lowest c die state.Free) refl
+      where
+        -- what is in flight then, by whether a block may be opened and which one is ready
+        taken : (a : Bool) → may_open c w ≡ a → (ready : Option ℕ) → lowest c die state.Ready ≡ ready →
+            flight_taken c die ≡ (if a then flight_into c die w ready else None)
+        taken a may ready r =
+            taken_is None fills ∙ ap (option_and_then (waiting_flight c die None)) waits
+            ∙ (λ i. if may i then flight_into c die w (r i) else None)
+
+        -- by the definitions too
+        given : (a : Bool) → may_open c w ≡ a → (ready : Option ℕ) → lowest c die state.Ready ≡ ready →
+            next_flight t die ≡ (if a then layer.flight_into t die cell (option_map (spot_at die) ready) else None)
+        given a may ready r =
+            let same = lowest_is c t die state.Ready layer.is_ready ready_means h here
+            ∙ ap (option_map (spot_at die)) r in
+            next ∙ (λ i. if may i then layer.flight_into t die cell (same i) else None)
+
+        erase : next_erase t layer.is_untouched die
+            ≡ option_map (λ block. disk.Erasing (spot_at die block)) (lowest c die state.Free)
+        erase = erased_next c t die state.Free layer.is_untouched free_means h here
+
+        opens : (a : Bool) → may_open c w ≡ a → (ready : Option ℕ) → lowest c die state.Ready ≡ ready →
+            (other : Option ℕ) → lowest c die state.Free ≡ other →
+            IsTaken t die (job_taken c die) (core_taken c die)
+        opens false may ready r other f = nothing_waits (taken false may ready r) (given false may ready r)
+        opens true may (Some block) r other f =
+            let within = block_right c t die state.Ready layer.is_ready ready_means h here block r in
+            let empty = block_free c t die state.Ready layer.is_ready ready_means h here block r in
+            let p = page (first_page block) in
+            job_opened c t die block b w cell h there fills within empty (taken true may (Some block) r) p.told p.is
+            p.begins
+            (next_may t die (disk.Programming (opening_place die block) cell) free unread
+            (given true may (Some block) r))
+        opens true may None r (Some block) f = erase_begun block
+            (block_right c t die state.Free layer.is_untouched free_means h here block f)
+            (taken true may None r ∙ ap (option_map flight.Erase) f)
+            (given true may None r ∙ erase ∙ ap (option_map (λ block. disk.Erasing (spot_at die block))) f)
+        opens true may None r None f = nothing_waits
+            (taken true may None r ∙ ap (option_map flight.Erase) f)
+            (given true may None r ∙ erase ∙ ap (option_map (λ block. disk.Erasing (spot_at die block))) f)
+
+    -- the page of the step under way waits
+    page_taken : StepPage c t → step_waits c ≡ true → IsTaken t die (job_taken c die) (core_taken c die)
+    page_taken page waits =
+        waiting_taken waiting.Step page.cell
+        (λ o. record {
+          told = page.told (next_place die o);
+          is = (refl, (o, refl, refl), page.is);
+          begins = page.begins (next_place die o);
+        })
+        (ap (λ (z : Bool). if z then Some waiting.Step else waiting_group c) waits) b.filling refl
+        (next_is (Some page.cell) page.waits
+        ∙ (λ i. flight_at t die (sym (step_alike c t h) i) page.cell (place_is b.filling refl i)))
+
+    -- a page of a group waits, and room is for groups
+    group_taken : (p : Pending) → step_waits c ≡ false → waiting_step t t.work.step ≡ None →
+        has_room_for_groups c ≡ true → page_waiting c ≡ Some p →
+        IsTaken t die (job_taken c die) (core_taken c die)
+    group_taken p no_step no_page room first =
+        waiting_taken (waiting_page p) (GroupPage tag_now r.page.body)
+        (λ o. record {
+          told = job_is (next_place die o);
+          is = (refl, (o, refl, refl), r.kept.number, r.kept.index, no_repair c t h mended);
+          begins = begins (next_place die o);
+        })
+        waits b.filling refl
+        (next_to
+        ∙ (λ i. flight_at t die (sym (group_alike c t h) i) (r.cell i) (place_is b.filling refl i)))
+      where
+        waits : waiting_of c ≡ Some (waiting_page p)
+        waits =
+            (λ i. if no_step i then Some waiting.Step else waiting_group c)
+            ∙ (λ i. if room i then option_map waiting_page (first i) else None)
+
+        -- it goes to the die's next place
+        next_to : next_flight t die ≡ flight_at t die (layer.may_open_for_group t)
+            (cell_now t.ledger (page_name p)) (layer.next_place t die)
+        next_to =
+            next_is None no_page
+            ∙ (λ i. flight_for t die None (option_map page_name (first i)))
+            ∙ (λ i. if (sym (room_alike c t h) ∙ room) i then flight_at t die (layer.may_open_for_group t)
+            (cell_now t.ledger (page_name p)) (layer.next_place t die) else None)
+
+        mended : is_mended t.work.mending ≡ true
+        mended = mended_with c t (page_waits c.rows) p h first
+
+        r : IsProgrammed c t (page_name p)
+        r = page_programmed c t (page_waits c.rows) p h first
+
+        tag_now : Tag
+        tag_now = tag_of_page r.page.key r.page.number r.page.index r.page.size c.frontier
+
+        k : PageKept t.ledger.standing (entry_of t.ledger) p (page_name p)
+        k = (kept_found t.ledger.standing (entry_of t.ledger) (page_waits c.rows) c.pages (names_pending t.ledger) p
+            h.kept.ledger_kept.pages first).1
+
+        waits_here : (is_none p.written ≡ true) × (not (list_any (writes_page p.number p.index) c.rows) ≡ true)
+        waits_here = and_true (is_none p.written) (not (list_any (writes_page p.number p.index) c.rows))
+            (found_passes (page_waits c.rows) c.pages p first)
+
+        new : t.ledger.standing p.number p.index ≡ None
+        new = k.stands ∙ none_is p.written waits_here.0
+
+        unflown : some_flight t (flies_name (page_name p)) ≡ false
+        unflown = sym (writes_agree c t (page_name p) h.kept new (no_repair c t h mended))
+            ∙ not-true' (list_any (writes_page p.number p.index) c.rows) waits_here.1
+
+        job_is : (place : Place) → job_of c die (flight.Group place p.number p.index)
+            ≡ Some (told_by (disk.Programming place (GroupPage tag_now r.page.body)))
+        job_is place =
+            ap (group_job_of c place) r.found
+            ∙ if_true (is_group_page r.page) (Some (page_of_group c place r.page)) None r.kept.group_page
+
+        -- the page that is begun is that one
+        begun_is : (place q : Place) (n i : ℕ) → flight.Group place p.number p.index ≡ flight.Group q n i →
+            (p.number ≡ n) × (p.index ≡ i)
+        begun_is place q n i e = let number : p.number ≡ n = cc in let index : p.index ≡ i = cc in (number, index)
+
+        begins : (place : Place) → MayBegin c t (flight.Group place p.number p.index)
+            (disk.Programming place (GroupPage tag_now r.page.body))
+        begins place = record {
+          alone = λ name e.
+              let is : name ≡ page_name p = name_told name (name_of tag_now) e
+              ∙ name_is (name_of tag_now) (page_name p) r.kept.number r.kept.index in
+              ap (λ (z : Name). some_flight t (flies_name z)) is ∙ unflown;
+          fresh = λ q n i e.
+              let same = begun_is place q n i e in
+              (λ j. t.ledger.standing (sym same.0 j) (sym same.1 j)) ∙ new;
+          wanted = λ tag index p e. cc;
+          step_wanted = λ p e. cc;
+        }
+
+    -- what waits, if anything does
+    next_taken : length c.numbers.units.items ≤ 8 → IsTaken t die (job_taken c die) (core_taken c die)
+    next_taken few = by (step_waits c) refl (step_page c t h few)
+      where
+        -- none of a group is taken where it has no room, or none waits
+        none_taken : step_waits c ≡ false → waiting_step t t.work.step ≡ None → waiting_group c ≡ None →
+            flight_for t die None (option_map page_name (page_waiting c)) ≡ None →
+            IsTaken t die (job_taken c die) (core_taken c die)
+        none_taken e no_page none next = nothing_waits
+            (taken_is b.filling refl
+            ∙ (λ i. option_and_then (waiting_flight c die b.filling)
+            (if e i then Some waiting.Step else waiting_group c))
+            ∙ ap (option_and_then (waiting_flight c die b.filling)) none)
+            (next_is None no_page ∙ next)
+
+        no_room : (o : Option Name) → layer.has_room_for_groups t ≡ false → flight_for t die None o ≡ None
+        no_room None full = refl
+        no_room (Some name) full = ap (λ (z : Bool). if z then flight_at t die (layer.may_open_for_group t)
+            (cell_now t.ledger name) (layer.next_place t die) else None) full
+
+        no_group : (z : Bool) → (if z then option_map waiting_page None else None) ≡ None
+        no_group true = refl
+        no_group false = refl
+
+        by_group : step_waits c ≡ false → waiting_step t t.work.step ≡ None → (room : Bool) →
+            has_room_for_groups c ≡ room → (o : Option Pending) → page_waiting c ≡ o →
+            IsTaken t die (job_taken c die) (core_taken c die)
+        by_group e no_page true room (Some p) f = group_taken p e no_page room f
+        by_group e no_page true room None f = none_taken e no_page
+            ((λ i. if has_room_for_groups c then option_map waiting_page (f i) else None)
+            ∙ no_group (has_room_for_groups c))
+            (λ i. flight_for t die None (option_map page_name (f i)))
+        by_group e no_page false full o f = none_taken e no_page
+            (ap (λ (z : Bool). if z then option_map waiting_page (page_waiting c) else None) full)
+            (no_room (option_map page_name (page_waiting c)) (sym (room_alike c t h) ∙ full))
+
+        by : (m : Bool) → step_waits c ≡ m →
+            (step_waits c ≡ true → StepPage c t) × (step_waits c ≡ false → waiting_step t t.work.step ≡ None) →
+            IsTaken t die (job_taken c die) (core_taken c die)
+        by true e page = page_taken (page.0 e) e
+        by false e page = by_group e (page.1 e) (has_room_for_groups c) refl (page_waiting c) refl
+
+  -- what is owed, if anything is
+  unread_taken : length c.numbers.units.items ≤ 8 → IsTaken t die (job_taken c die) (core_taken c die)
+  unread_taken few = by (lowest c die state.Stale) refl
     where
-      waits : waiting_of c ≡ Some (waiting_page p)
-      waits =
-          (λ i. if no_step i then Some waiting.Step else waiting_group c)
-          ∙ (λ i. if room i then option_map waiting_page (first i) else None)
-
-      -- it goes to the die's next place
-      next_to : (at : Option Place) → layer.next_place t die ≡ at →
-          next_flight t die ≡ flight_at t die (layer.may_open_for_group t) (cell_now t.ledger (page_name p)) at
-      next_to at place =
-          next_is None no_page
-          ∙ (λ i. flight_for t die None (option_map page_name (first i)))
-          ∙ (λ i. if (sym (room_alike c t h) ∙ room) i then flight_at t die (layer.may_open_for_group t)
-          (cell_now t.ledger (page_name p)) (place i) else None)
-
-      mended : is_mended t.work.mending ≡ true
-      mended = mended_with c t (page_waits c.rows) p h first
-
-      r : IsProgrammed c t (page_name p)
-      r = page_programmed c t (page_waits c.rows) p h first
-
-      tag_now : Tag
-      tag_now = tag_of_page r.page.key r.page.number r.page.index r.page.size c.frontier
-
-      k : PageKept t.ledger.standing (entry_of t.ledger) p (page_name p)
-      k = (kept_found t.ledger.standing (entry_of t.ledger) (page_waits c.rows) c.pages (names_pending t.ledger) p
-          h.kept.ledger_kept.pages first).1
-
-      waits_here : (is_none p.written ≡ true) × (not (list_any (writes_page p.number p.index) c.rows) ≡ true)
-      waits_here = and_true (is_none p.written) (not (list_any (writes_page p.number p.index) c.rows))
-          (found_passes (page_waits c.rows) c.pages p first)
-
-      new : t.ledger.standing p.number p.index ≡ None
-      new = k.stands ∙ none_is p.written waits_here.0
-
-      unflown : some_flight t (flies_name (page_name p)) ≡ false
-      unflown = sym (writes_agree c t (page_name p) h.kept new (no_repair c t h mended))
-          ∙ not-true' (list_any (writes_page p.number p.index) c.rows) waits_here.1
-
-      job_is : (place : Place) → job_of c die (flight.Group place p.number p.index)
-          ≡ Some (told_by (disk.Programming place (GroupPage tag_now r.page.body)))
-      job_is place =
-          ap (group_job_of c place) r.found
-          ∙ if_true (is_group_page r.page) (Some (page_of_group c place r.page)) None r.kept.group_page
-
-      -- the page that is begun is that one
-      begun_is : (place q : Place) (n i : ℕ) → flight.Group place p.number p.index ≡ flight.Group q n i →
-          (p.number ≡ n) × (p.index ≡ i)
-      begun_is place q n i e = let number : p.number ≡ n = cc in let index : p.index ≡ i = cc in (number, index)
-
-      begins : (place : Place) → MayBegin c t (flight.Group place p.number p.index)
-          (disk.Programming place (GroupPage tag_now r.page.body))
-      begins place = record {
-        alone = λ name e.
-            let is : name ≡ page_name p = name_told name (name_of tag_now) e
-            ∙ name_is (name_of tag_now) (page_name p) r.kept.number r.kept.index in
-            ap (λ (z : Name). some_flight t (flies_name z)) is ∙ unflown;
-        fresh = λ q n i e.
-            let same = begun_is place q n i e in
-            (λ j. t.ledger.standing (sym same.0 j) (sym same.1 j)) ∙ new;
-        wanted = λ tag index p e. cc;
-        step_wanted = λ p e. cc;
-      }
-
-      by : (x : Option OpenBlock) → b.filling ≡ x → IsTaken t die (job_taken c die) (core_taken c die)
-      by None e = erase_taken (waiting_page p) e waits
-          (next_to None (place_is None e)
-          ∙ ap (λ (z : Bool). if z then next_erase t die else None) (sym (group_alike c t h)))
-      by (Some x) e = next_begun (flight.Group (next_place die x) p.number p.index)
-          (disk.Programming (next_place die x) (GroupPage tag_now r.page.body))
-          (taken_is (Some x) e ∙ ap (option_and_then (waiting_flight c die (Some x))) waits)
-          (next_to (Some (next_place die x)) (place_is (Some x) e)
-          ∙ ap (λ z. Some (disk.Programming (next_place die x) z)) r.cell)
-          (job_is (next_place die x))
-          (refl, (x, e, refl), r.kept.number, r.kept.index, no_repair c t h mended)
-          (begins (next_place die x))
-
-  -- what waits, if anything does
-  next_taken : length c.numbers.units.items ≤ 8 → IsTaken t die (job_taken c die) (core_taken c die)
-  next_taken few = by (step_waits c) refl (step_page c t h few)
-    where
-      -- none of a group is taken where it has no room, or none waits
-      none_taken : step_waits c ≡ false → waiting_step t t.work.step ≡ None → waiting_group c ≡ None →
-          flight_for t die None (option_map page_name (page_waiting c)) ≡ None →
-          IsTaken t die (job_taken c die) (core_taken c die)
-      none_taken e no_page none next = nothing_waits
-          (taken_is b.filling refl
-          ∙ (λ i. option_and_then (waiting_flight c die b.filling)
-          (if e i then Some waiting.Step else waiting_group c))
-          ∙ ap (option_and_then (waiting_flight c die b.filling)) none)
-          (next_is None no_page ∙ next)
-
-      no_room : (o : Option Name) → layer.has_room_for_groups t ≡ false → flight_for t die None o ≡ None
-      no_room None full = refl
-      no_room (Some name) full = ap (λ (z : Bool). if z then flight_at t die (layer.may_open_for_group t)
-          (cell_now t.ledger name) (layer.next_place t die) else None) full
-
-      no_group : (z : Bool) → (if z then option_map waiting_page None else None) ≡ None
-      no_group true = refl
-      no_group false = refl
-
-      by_group : step_waits c ≡ false → waiting_step t t.work.step ≡ None → (room : Bool) →
-          has_room_for_groups c ≡ room → (o : Option Pending) → page_waiting c ≡ o →
-          IsTaken t die (job_taken c die) (core_taken c die)
-      by_group e no_page true room (Some p) f = group_taken p b.filling e no_page room f refl
-      by_group e no_page true room None f = none_taken e no_page
-          ((λ i. if has_room_for_groups c then option_map waiting_page (f i) else None)
-          ∙ no_group (has_room_for_groups c))
-          (λ i. flight_for t die None (option_map page_name (f i)))
-      by_group e no_page false full o f = none_taken e no_page
-          (ap (λ (z : Bool). if z then option_map waiting_page (page_waiting c) else None) full)
-          (no_room (option_map page_name (page_waiting c)) (sym (room_alike c t h) ∙ full))
-
-      by : (m : Bool) → step_waits c ≡ m →
-          (step_waits c ≡ true → StepPage c t) × (step_waits c ≡ false → waiting_step t t.work.step ≡ None) →
-          IsTaken t die (job_taken c die) (core_taken c die)
-      by true e page = page_taken (page.0 e) b.filling e refl
-      by false e page = by_group e (page.1 e) (has_room_for_groups c) refl (page_waiting c) refl
+      by : (o : Option ℕ) → lowest c die state.Stale ≡ o → IsTaken t die (job_taken c die) (core_taken c die)
+      by None e = next_taken e few
+      by (Some block) e = stale_taken block e
 
 -- All dies
 
@@ -301,7 +354,7 @@ takes_right c after die told is new few t h =
     by_owed b there idle None owed = by_read (step_read c die) refl
       where
         by_read : (f : Option Flight) → step_read c die ≡ f → IsTaken t die (job_taken c die) (core_taken c die)
-        by_read None read = next_taken c t die b h there idle owed read few
+        by_read None read = unread_taken c t die b h there idle owed read few
         by_read (Some f) read = step_taken c t die b f h there idle owed read
     by_owed b there idle (Some k) owed = read_taken c t die k b h there idle owed
 

@@ -107,9 +107,9 @@ module _ (c : Core) (t : Translation) (die : ℕ) (o : Outcome) (tag : Option Ta
               (record { there = there; filling = fills; flies = flies; job = does; beside = no_repair })
           by false = h.live
 
-      erases_end : (block : ℕ) → block < t.numbers.blocks → b.filling ≡ None →
+      erases_end : (block : ℕ) → block < t.numbers.blocks →
           Goal (Some (flight.Erase block)) (Some (disk.Erasing (spot_at die block)))
-      erases_end block within closed does flies new = changed (flight.Erase block) new by
+      erases_end block within does flies new = changed (flight.Erase block) new by
         where
           by : (well : Bool) → Knows (facts (change_ended c die b (flight.Erase block) well))
           by true = h.live

@@ -6,16 +6,15 @@ use Rattle.std.specs.List.{list_any}
 use Rattle.std.proofs.lemmas.Bool.Decides.{nat_tests}
 use Rattle.std.proofs.lemmas.List.Sums.{sum_by-cons}
 use Rattle.ufs_spec.proofs.Facts.{same_Some}
-use Rattle.ufs_spec.proofs.Lists.{map_twice}
 use Rattle.ufs_spec.specs.Disk as disk
 use Rattle.ufs_spec.specs.Disk.{Spot}
 use Rattle.ufs_spec.specs.Translation.{is_bad, spots}
 use Rattle.ufs_spec.specs.declared.configs.Numbers.{Numbers}
 use Rattle.recovery.specs.KeysInOrder.{state_of_found as layer_state}
+use Rattle.recovery.specs.Opened.{IsVacancyOf}
 use Rattle.recovery.specs.declared.keys.FoundBlock.{FoundBlock}
 use Rattle.recovery.specs.declared.keys.FoundBlock.TheVariants as found
 use Rattle.recovery.specs.declared.found.Found.{Found}
-use Rattle.block_table.specs.declared.BlockState.{BlockState}
 use Rattle.ftl_core.specs.Describes.{BlocksKept, block_kept}
 use Rattle.ftl_core.specs.Moves.{is_bad_found, state_of_found}
 
@@ -34,7 +33,7 @@ some_one {A} test (x ∷ xs) = by (test x) (count_by test xs) (some_one test xs)
         some_more m = grind (arith, nat_tests)
     by false n e = e ∙ ap (nat_lt 0) (omega arith)
 
-any_mapped : {A B : Type 0} (test : B → Bool) (g : A → B) (xs : List A) →
+pub any_mapped : {A B : Type 0} (test : B → Bool) (g : A → B) (xs : List A) →
     list_any test (map g xs) ≡ list_any (λ (x : A). test (g x)) xs
 any_mapped test g [] = refl
 any_mapped test g (x ∷ xs) = ap (λ (b : Bool). test (g x) || b) (any_mapped test g xs)
@@ -54,24 +53,26 @@ all_alike {A} {B} {C} f g (x ∷ xs) (y ∷ ys) long each =
     let behind = all_alike f g xs ys (omega (arith, long)) (λ i z at. each (suc i) z at) in
     (λ i. here i ∷ behind i)
 
-state_same : (b : FoundBlock) → state_of_found b ≡ block_kept (layer_state b)
-state_same found.Free = refl
-state_same found.Closed = refl
-state_same found.Bad = refl
+-- what was found of a block is kept as its state, with what is in it if it is free
+state_same : (b : FoundBlock) (x : disk.BlockState) (v : disk.Vacancy) → x ≡ layer_state b → IsVacancyOf b v →
+    block_kept x v ≡ state_of_found b
+state_same found.Free x v is in_it = (λ i. block_kept (is i) (in_it i))
+state_same found.Stale x v is in_it = (λ i. block_kept (is i) (in_it i))
+state_same found.Closed x v is in_it = ap (λ (y : disk.BlockState). block_kept y v) is
+state_same found.Bad x v is in_it = ap (λ (y : disk.BlockState). block_kept y v) is
 
 bad_same : (b : FoundBlock) → is_bad_found b ≡ is_bad (layer_state b)
 bad_same found.Free = refl
+bad_same found.Stale = refl
 bad_same found.Closed = refl
 bad_same found.Bad = refl
 
-blocks_listed : (n : Numbers) (blocks : Spot → disk.BlockState) (bs : List FoundBlock) →
-    map layer_state bs ≡ map blocks (spots n) →
-    BlocksKept n blocks (map state_of_found bs) (list_any is_bad_found bs)
-blocks_listed n blocks bs same = record {
-  all =
-      ap (λ (f : FoundBlock → BlockState). map f bs) (λ i b. state_same b i)
-      ∙ (sym (map_twice block_kept layer_state bs)
-      ∙ (ap (map block_kept) same ∙ map_twice block_kept blocks (spots n)));
+blocks_listed : (n : Numbers) (blocks : Spot → disk.BlockState) (vacancies : Spot → disk.Vacancy)
+    (bs : List FoundBlock) → map layer_state bs ≡ map blocks (spots n) →
+    map state_of_found bs ≡ map (λ (s : Spot). block_kept (blocks s) (vacancies s)) (spots n) →
+    BlocksKept n blocks vacancies (map state_of_found bs) (list_any is_bad_found bs)
+blocks_listed n blocks vacancies bs same kept = record {
+  all = kept;
   bad =
       ap (λ (f : FoundBlock → Bool). list_any f bs) (λ i b. bad_same b i)
       ∙ (sym (any_mapped is_bad layer_state bs)
@@ -79,12 +80,17 @@ blocks_listed n blocks bs same = record {
       ∙ (any_mapped is_bad blocks (spots n) ∙ some_one (λ (s : Spot). is_bad (blocks s)) (spots n))));
 }
 
-pub blocks_found : (n m : Numbers) (f : Found) (blocks : Spot → disk.BlockState) → n ≡ m →
-    length f.blocks.items ≡ length (spots n) →
+pub blocks_found : (n m : Numbers) (f : Found) (blocks : Spot → disk.BlockState) (vacancies : Spot → disk.Vacancy) →
+    n ≡ m → length f.blocks.items ≡ length (spots n) →
     ((i : ℕ) (s : Spot) → slice_get (spots n) i ≡ Some s →
-    (b : FoundBlock) × (slice_get f.blocks.items i ≡ Some b) × (blocks s ≡ layer_state b)) →
-    BlocksKept m blocks (map state_of_found f.blocks.items) (list_any is_bad_found f.blocks.items)
-blocks_found n m f blocks same as_many each =
-    subst (λ (x : Numbers). BlocksKept x blocks (map state_of_found f.blocks.items)
+    (b : FoundBlock) × (slice_get f.blocks.items i ≡ Some b) × (blocks s ≡ layer_state b)
+    × IsVacancyOf b (vacancies s)) →
+    BlocksKept m blocks vacancies (map state_of_found f.blocks.items) (list_any is_bad_found f.blocks.items)
+blocks_found n m f blocks vacancies same as_many each =
+    subst (λ (x : Numbers). BlocksKept x blocks vacancies (map state_of_found f.blocks.items)
     (list_any is_bad_found f.blocks.items)) same
-    (blocks_listed n blocks f.blocks.items (all_alike blocks layer_state (spots n) f.blocks.items as_many each))
+    (blocks_listed n blocks vacancies f.blocks.items
+    (all_alike blocks layer_state (spots n) f.blocks.items as_many
+    (λ i s at. let r = each i s at in (r.0, r.1, r.2)))
+    (all_alike (λ (s : Spot). block_kept (blocks s) (vacancies s)) state_of_found (spots n) f.blocks.items as_many
+    (λ i s at. let r = each i s at in (r.0, r.1, state_same r.0 (blocks s) (vacancies s) r.2 r.3))))

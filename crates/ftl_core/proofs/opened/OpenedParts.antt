@@ -37,6 +37,7 @@ bad_same (b ∷ bs) =
   where
     one : (x : FoundBlock) → is_bad (state_of_found x) ≡ is_bad_found x
     one found.Free = refl
+    one found.Stale = refl
     one found.Closed = refl
     one found.Bad = refl
 

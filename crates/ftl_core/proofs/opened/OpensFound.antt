@@ -277,7 +277,7 @@ opens_right n f c bad t pages right within sound found o =
     let kept : Kept (opened n f) t =
     record {
       numbers = sym o.numbers;
-      blocks = blocks_found n t.numbers f t.disk.blocks (sym o.numbers) h.as_many h.blocks;
+      blocks = blocks_found n t.numbers f t.disk.blocks t.disk.vacancies (sym o.numbers) h.as_many h.blocks;
       dies = dies_idle n t.numbers t.disk.blocks t.disk.flights (sym o.numbers) o.disk.idle fills;
       fly = record {
         one = λ d e name x y. absurd (flies_none name (t.disk.flights d) (o.disk.idle d) x);

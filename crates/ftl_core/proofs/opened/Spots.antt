@@ -190,19 +190,21 @@ state_there n f die block there within =
     ∙ ap (option_map f) (slice_get-get_or (spots n) (die * n.blocks + block) (spot_at die block) here
     ∙ ap (λ (s : Spot). Some s) (spot_there n die block (spot_at die block) there within))
 
-pub same_free : (s : disk.BlockState) → is_free (block_kept s) ≡ layer.is_free s
-same_free disk.Free = refl
-same_free (disk.Filling next) = refl
-same_free disk.Closed = refl
-same_free disk.Bad = refl
+pub same_free : (s : disk.BlockState) (v : disk.Vacancy) → is_free (block_kept s v) ≡ layer.is_free s
+same_free disk.Free disk.Untouched = refl
+same_free disk.Free disk.Stale = refl
+same_free disk.Free disk.Ready = refl
+same_free (disk.Filling next) v = refl
+same_free disk.Closed v = refl
+same_free disk.Bad v = refl
 
 -- the free blocks, counted by either of their states
-pub free_counted : (n : Numbers) (f : Spot → disk.BlockState) →
-    count_by is_free (map (λ (s : Spot). block_kept (f s)) (spots n)) ≡ count_by (λ (s : Spot). layer.is_free (f s))
-    (spots n)
-free_counted n f =
-    fold-map (λ (a : ℕ) (x : BlockState). a + cond (is_free x) 1 0) (λ (s : Spot). block_kept (f s)) 0 (spots n)
-    ∙ ap (λ (test : Spot → Bool). count_by test (spots n)) (λ i s. same_free (f s) i)
+pub free_counted : (n : Numbers) (f : Spot → disk.BlockState) (g : Spot → disk.Vacancy) →
+    count_by is_free (map (λ (s : Spot). block_kept (f s) (g s)) (spots n))
+    ≡ count_by (λ (s : Spot). layer.is_free (f s)) (spots n)
+free_counted n f g =
+    fold-map (λ (a : ℕ) (x : BlockState). a + cond (is_free x) 1 0) (λ (s : Spot). block_kept (f s) (g s)) 0 (spots n)
+    ∙ ap (λ (test : Spot → Bool). count_by test (spots n)) (λ i s. same_free (f s) (g s) i)
 
 found_last : {X : Type 0} (g : ℕ → X) (o : Option ℕ) (b : Bool) (n : ℕ) →
     option_or (option_map g o) (cond b (Some (g n)) None) ≡ option_map g (found_or o b n)
@@ -284,72 +286,102 @@ pub next_found : (n : Numbers) (blocks : Spot → disk.BlockState) (die : ℕ) (
 next_found n blocks die None h = ap (λ (xs : List Place). first_of xs) (none_next blocks die n.blocks h)
 next_found n blocks die (Some o) h = ap (λ (xs : List Place). first_of xs) (one_next blocks die n.blocks o h.0 h.1 h.2)
 
+-- a value that is put for a block is there, and at no other block
+put_here : {A : Type 0} (f : Spot → A) (s : Spot) (x : A) → at_spot f s x s ≡ x
+put_here f s x = ⊎_elim (λ h. h.1) (λ h. absurd (h.0 refl)) (at_spot_cases f s x s)
+
+put_beside : {A : Type 0} (f : Spot → A) (s : Spot) (x : A) (t : Spot) → t ≢ s → at_spot f s x t ≡ f t
+put_beside f s x t apart = ⊎_elim (λ h. absurd (apart h.0)) (λ h. h.1) (at_spot_cases f s x t)
+
 -- the state of one block is another
-states_put : (n : Numbers) (blocks : Spot → disk.BlockState) (s : Spot) (x : disk.BlockState) → s.die < n.dies →
-    s.block < n.blocks →
-    slice_set (map (λ (t : Spot). block_kept (blocks t)) (spots n)) (s.die * n.blocks + s.block) (block_kept x)
-    ≡ map (λ (t : Spot). block_kept (at_spot blocks s x t)) (spots n)
-states_put n blocks s x there within =
-    ap (λ (xs : List BlockState). set xs (s.die * n.blocks + s.block) (block_kept x))
-    (mapped (λ (t : Spot). block_kept (blocks t)) spot_at n.blocks n.dies)
-    ∙ (ap (λ (y : disk.BlockState). set (joined was n.blocks n.dies) (s.die * n.blocks + s.block) (block_kept y))
-    (sym here)
-    ∙ (sym (rows_set was is n.blocks n.dies s.die s.block there within
-    (λ r c apart. ap block_kept (other (spot_at r c) apart)))
-    ∙ sym (mapped (λ (t : Spot). block_kept (at_spot blocks s x t)) spot_at n.blocks n.dies)))
-  where
-    was : ℕ → ℕ → BlockState
-    was die block = block_kept (blocks (spot_at die block))
+states_put : (n : Numbers) (was is : Spot → BlockState) (s : Spot) → s.die < n.dies → s.block < n.blocks →
+    ((t : Spot) → t ≢ s → is t ≡ was t) →
+    slice_set (map was (spots n)) (s.die * n.blocks + s.block) (is s) ≡ map is (spots n)
+states_put n was is s there within other =
+    ap (λ (xs : List BlockState). set xs (s.die * n.blocks + s.block) (is s)) (mapped was spot_at n.blocks n.dies)
+    ∙ (sym (rows_set (λ die block. was (spot_at die block)) (λ die block. is (spot_at die block)) n.blocks n.dies s.die
+    s.block there within
+    (λ r c apart. other (spot_at r c)
+    (λ e. apart (ap (λ (u : Spot). u.die) e, ap (λ (u : Spot). u.block) e))))
+    ∙ sym (mapped is spot_at n.blocks n.dies))
 
-    is : ℕ → ℕ → BlockState
-    is die block = block_kept (at_spot blocks s x (spot_at die block))
-
-    here : at_spot blocks s x s ≡ x
-    here = ⊎_elim (λ h. h.1) (λ h. absurd (h.0 refl)) (at_spot_cases blocks s x s)
-
-    other : (t : Spot) → ((t.die ≡ s.die) × (t.block ≡ s.block) → ⊥) → at_spot blocks s x t ≡ blocks t
-    other t apart = ⊎_elim (λ h. absurd (apart (ap (λ (u : Spot). u.die) h.0, ap (λ (u : Spot). u.block) h.0)))
-        (λ h. h.1) (at_spot_cases blocks s x t)
-
--- a block's state changes, and it is bad neither before nor then
-pub block_put : (n : Numbers) (blocks : Spot → disk.BlockState) (states : List BlockState) (has_bad : Bool) (s : Spot)
-    (x : disk.BlockState) →
-    BlocksKept n blocks states has_bad → s.die < n.dies → s.block < n.blocks → is_bad (blocks s) ≡ false →
-    is_bad x ≡ false →
-    BlocksKept n (at_spot blocks s x) (slice_set states (s.die * n.blocks + s.block) (block_kept x)) has_bad
-block_put n blocks states has_bad s x h die block was is = record {
-  all = ap (λ (xs : List BlockState). set xs (s.die * n.blocks + s.block) (block_kept x)) h.all
-      ∙ states_put n blocks s x die block;
+-- a block and what is in it change, and it is bad neither before nor then
+block_changed : (n : Numbers) (blocks now : Spot → disk.BlockState) (vacancies held : Spot → disk.Vacancy)
+    (states : List BlockState) (has_bad : Bool) (s : Spot) → BlocksKept n blocks vacancies states has_bad →
+    s.die < n.dies → s.block < n.blocks → ((t : Spot) → t ≢ s → now t ≡ blocks t) →
+    ((t : Spot) → t ≢ s → held t ≡ vacancies t) → is_bad (now s) ≡ is_bad (blocks s) →
+    BlocksKept n now held (slice_set states (s.die * n.blocks + s.block) (block_kept (now s) (held s))) has_bad
+block_changed n blocks now vacancies held states has_bad s h die block others beside as_bad = record {
+  all = ap (λ (xs : List BlockState). set xs (s.die * n.blocks + s.block) (block_kept (now s) (held s))) h.all
+      ∙ states_put n (λ (t : Spot). block_kept (blocks t) (vacancies t)) (λ (t : Spot). block_kept (now t) (held t)) s
+      die block (λ t apart. (λ i. block_kept (others t apart i) (beside t apart i)));
   bad = h.bad ∙ ap (λ (test : Spot → Bool). nat_lt 0 (count_by test (spots n))) (λ i t. sym (same t) i);
 }
   where
-    same : (t : Spot) → is_bad (at_spot blocks s x t) ≡ is_bad (blocks t)
-    same t = ⊎_elim (λ k. ap is_bad k.1 ∙ (is ∙ (sym was ∙ ap (λ (u : Spot). is_bad (blocks u)) (sym k.0))))
-        (λ k. ap is_bad k.1) (at_spot_cases blocks s x t)
+    same : (t : Spot) → is_bad (now t) ≡ is_bad (blocks t)
+    same t = ⊎_elim
+        (λ k. ap (λ (u : Spot). is_bad (now u)) k.0 ∙ (as_bad ∙ ap (λ (u : Spot). is_bad (blocks u)) (sym k.0)))
+        (λ k. ap is_bad (others t k.0)) (at_spot_cases blocks s disk.Bad t)
+
+-- a block's state changes, and it is bad neither before nor then
+pub block_put : (n : Numbers) (blocks : Spot → disk.BlockState) (vacancies : Spot → disk.Vacancy)
+    (states : List BlockState) (has_bad : Bool) (s : Spot) (x : disk.BlockState) →
+    BlocksKept n blocks vacancies states has_bad → s.die < n.dies → s.block < n.blocks →
+    is_bad (blocks s) ≡ false → is_bad x ≡ false →
+    BlocksKept n (at_spot blocks s x) vacancies
+    (slice_set states (s.die * n.blocks + s.block) (block_kept x (vacancies s))) has_bad
+block_put n blocks vacancies states has_bad s x h die block was is =
+    subst (λ (y : disk.BlockState). BlocksKept n (at_spot blocks s x) vacancies
+    (slice_set states (s.die * n.blocks + s.block) (block_kept y (vacancies s))) has_bad) (put_here blocks s x)
+    (block_changed n blocks (at_spot blocks s x) vacancies vacancies states has_bad s h die block
+    (λ t apart. put_beside blocks s x t apart) (λ t apart. refl)
+    (ap is_bad (put_here blocks s x) ∙ is ∙ sym was))
+
+-- a block that is not bad is free from now on, and what is in it is so
+pub block_vacant : (n : Numbers) (blocks : Spot → disk.BlockState) (vacancies : Spot → disk.Vacancy)
+    (states : List BlockState) (has_bad : Bool) (s : Spot) (v : disk.Vacancy) →
+    BlocksKept n blocks vacancies states has_bad → s.die < n.dies → s.block < n.blocks → is_bad (blocks s) ≡ false →
+    BlocksKept n (at_spot blocks s disk.Free) (at_spot vacancies s v)
+    (slice_set states (s.die * n.blocks + s.block) (block_kept disk.Free v)) has_bad
+block_vacant n blocks vacancies states has_bad s v h die block was =
+    subst (λ (y : BlockState). BlocksKept n (at_spot blocks s disk.Free) (at_spot vacancies s v)
+    (slice_set states (s.die * n.blocks + s.block) y) has_bad)
+    (λ i. block_kept (put_here blocks s disk.Free i) (put_here vacancies s v i))
+    (block_changed n blocks (at_spot blocks s disk.Free) vacancies (at_spot vacancies s v) states has_bad s h die block
+    (λ t apart. put_beside blocks s disk.Free t apart) (λ t apart. put_beside vacancies s v t apart)
+    (ap is_bad (put_here blocks s disk.Free) ∙ sym was))
 
 some_counted : (k count : ℕ) → k ≡ 1 → k ≤ count → nat_lt 0 count ≡ true
 some_counted k count one within = lt-ltb 0 count (omega arith)
 
--- a block goes bad
-pub block_lost : (n : Numbers) (blocks : Spot → disk.BlockState) (states : List BlockState) (has_bad : Bool)
-    (s : Spot) →
-    BlocksKept n blocks states has_bad → s.die < n.dies → s.block < n.blocks →
-    BlocksKept n (at_spot blocks s disk.Bad) (slice_set states (s.die * n.blocks + s.block) state.Bad) true
-block_lost n blocks states has_bad s h die block = record {
+-- a block goes bad, whatever is in it
+pub block_lost : (n : Numbers) (blocks : Spot → disk.BlockState) (vacancies held : Spot → disk.Vacancy)
+    (states : List BlockState) (has_bad : Bool) (s : Spot) →
+    BlocksKept n blocks vacancies states has_bad → s.die < n.dies → s.block < n.blocks →
+    ((t : Spot) → t ≢ s → held t ≡ vacancies t) →
+    BlocksKept n (at_spot blocks s disk.Bad) held (slice_set states (s.die * n.blocks + s.block) state.Bad) true
+block_lost n blocks vacancies held states has_bad s h die block beside = record {
   all = ap (λ (xs : List BlockState). set xs (s.die * n.blocks + s.block) state.Bad) h.all
-      ∙ states_put n blocks s disk.Bad die block;
+      ∙ (ap (λ (y : BlockState). set (map was (spots n)) (s.die * n.blocks + s.block) y)
+      (sym (ap (λ (y : disk.BlockState). block_kept y (held s)) (put_here blocks s disk.Bad)))
+      ∙ states_put n was is_now s die block
+      (λ t apart. (λ i. block_kept (put_beside blocks s disk.Bad t apart i) (beside t apart i))));
   bad = sym (some_counted (one (get_or (spots n) (s.die * n.blocks + s.block) s)) (count_by is (spots n)) counted
       (get_or-le-sum_by one (spots n) (s.die * n.blocks + s.block) s (place_of_block n s.die s.block die block)));
 }
   where
+    was : Spot → BlockState
+    was t = block_kept (blocks t) (vacancies t)
+
+    is_now : Spot → BlockState
+    is_now t = block_kept (at_spot blocks s disk.Bad t) (held t)
+
     is : Spot → Bool
     is t = is_bad (at_spot blocks s disk.Bad t)
 
     one : Spot → ℕ
     one t = cond (is t) 1 0
 
-    here : at_spot blocks s disk.Bad s ≡ disk.Bad
-    here = ⊎_elim (λ k. k.1) (λ k. absurd (k.0 refl)) (at_spot_cases blocks s disk.Bad s)
-
     counted : one (get_or (spots n) (s.die * n.blocks + s.block) s) ≡ 1
-    counted = ap one (spot_there n s.die s.block s die block) ∙ ap (λ (b : disk.BlockState). cond (is_bad b) 1 0) here
+    counted = ap one (spot_there n s.die s.block s die block)
+        ∙ ap (λ (b : disk.BlockState). cond (is_bad b) 1 0) (put_here blocks s disk.Bad)

@@ -1,13 +1,17 @@
 -- A layer whose mending has no step under way: when a step is due, and that nothing else is pending.
 use Rattle.std.proofs.Common.{◌≡◌, ◌∙◌, ◌⊎◌, ℕ, zero, suc, ◌+◌, Bool, true, false, List, [], ◌∷◌, Option, Some, None}
 use Rattle.std.proofs.Common.{length, drop, refl, sym, ap, subst, inl, inr, arith}
-use Rattle.std.specs.Prelude.{if◌then◌else◌, nat_le, nat_lt, is_none, is_some, slice_get}
+use Rattle.std.specs.Prelude.{◌&&◌, if◌then◌else◌, nat_le, nat_lt, not, is_none, is_some, slice_get}
+use Rattle.std.specs.List.{list_any}
 use Rattle.std.proofs.lemmas.Bool.Decides.{nat_tests}
 use Rattle.ufs_spec.specs.Pages.{greatest_number}
 use Rattle.ufs_spec.specs.Ledger.{Ledger}
 use Rattle.ufs_spec.specs.Ledger as ledger
+use Rattle.ufs_spec.specs.Disk as disk
+use Rattle.ufs_spec.specs.Disk.{Spot}
 use Rattle.ufs_spec.specs.Translation as layer
-use Rattle.ufs_spec.specs.Translation.{OrderMark, OrderRepair, Repairing, Translation, due_order, is_mended}
+use Rattle.ufs_spec.specs.Translation.{OrderMark, OrderRepair, Repairing, Translation, due_order, is_mended, spots}
+use Rattle.block_table.specs.Blocks.{is_stale}
 use Rattle.ufs_spec.specs.declared.flash.Key.{Key}
 use Rattle.ufs_spec.proofs.Facts.{none_is}
 use Rattle.power_loss.proofs.books.PagesByName.{none_some}
@@ -17,10 +21,11 @@ use Rattle.power_loss.specs.Invariant.{IsLastRepair}
 use Rattle.ftl_core.specs.declared.books.Step as kept_step
 use Rattle.ftl_core.specs.declared.books.Step.TheVariants as steps
 use Rattle.ftl_core.specs.Core.{Core}
-use Rattle.ftl_core.specs.Describes.{Describes, Kept, StepKept, mending_kept}
+use Rattle.ftl_core.specs.Describes.{Describes, Kept, StepKept, block_kept, mending_kept}
 use Rattle.ftl_core.proofs.job_taken.Mended.{none_waiting}
 use Rattle.ftl_core.proofs.look_and_accept.Numbers.{numbers_right}
-use Rattle.ftl_core.specs.Moves.{has_mark_number, has_number}
+use Rattle.ftl_core.proofs.opened.FoundBlocks.{any_mapped}
+use Rattle.ftl_core.specs.Moves.{has_mark_number, has_number, has_stale}
 use Rattle.ftl_core.specs.Turns.{is_repair_due}
 
 -- Lists
@@ -98,10 +103,33 @@ pub some_if : {A : Type 0} (b : Bool) (x : A) → b ≡ is_some (if b then Some 
 some_if true x = refl
 some_if false x = refl
 
--- the step that is due where none is under way
-pub order_is : (c : Core) (t : Translation) → Kept c t → c.step ≡ None →
+-- a block is kept as stale where it is free, and what is in it opens
+pub stale_agrees : (c : Core) (t : Translation) → Kept c t → has_stale c ≡ layer.has_stale t
+stale_agrees c t k =
+    ap (list_any is_stale) k.blocks.all
+    ∙ any_mapped is_stale (λ (s : Spot). block_kept (t.disk.blocks s) (t.disk.vacancies s)) (spots t.numbers)
+    ∙ ap (λ (test : Spot → Bool). list_any test (spots t.numbers))
+    (λ i s. one (t.disk.blocks s) (t.disk.vacancies s) i)
+  where
+    one : (b : disk.BlockState) (v : disk.Vacancy) →
+        is_stale (block_kept b v) ≡ (layer.is_free b && layer.is_stale v)
+    one disk.Free disk.Untouched = refl
+    one disk.Free disk.Stale = refl
+    one disk.Free disk.Ready = refl
+    one (disk.Filling next) v = refl
+    one disk.Closed v = refl
+    one disk.Bad v = refl
+
+-- whether a step may be ordered now
+pub may_agree : (c : Core) (t : Translation) → Kept c t →
+    (is_none c.step && not (has_stale c)) ≡ (is_none t.work.step && not (layer.has_stale t))
+may_agree c t k = λ i.
+    step_kept_none t.ledger c.step c.content t.work.step k.work.step_is i && not (stale_agrees c t k i)
+
+-- the step that is due where none is under way, and no block is stale
+pub order_is : (c : Core) (t : Translation) → Kept c t → (is_none c.step && not (has_stale c)) ≡ true →
     due_order t ≡ layer.next_order t (mending_kept c.mending (drop c.repaired c.lost)) t.work.plan
-order_is c t k none = (λ i. if is_none (no_step c t k none i) then
+order_is c t k may = (λ i. if (sym (may_agree c t k) ∙ may) i then
     layer.next_order t (k.work.mending_is i) t.work.plan else None)
 
 pub repair_due : (c : Core) (t : Translation) (left : List Key) (plan : Option layer.Plan) → Describes c t →

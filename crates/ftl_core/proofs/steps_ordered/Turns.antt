@@ -1,7 +1,7 @@
 -- A turn orders the step of the mending or of collection that is due.
 use Rattle.std.proofs.Common.{◌≡◌, ◌∙◌, ◌&&◌, Bool, true, false, List, [], ◌∷◌, Option, Some, None, drop, refl, sym}
 use Rattle.std.proofs.Common.{ap, subst}
-use Rattle.std.specs.Prelude.{if◌then◌else◌, is_none, is_some}
+use Rattle.std.specs.Prelude.{if◌then◌else◌, is_none, is_some, not}
 use Rattle.ufs_spec.proofs.Facts.{none_is, and_parts}
 use Rattle.ufs_spec.specs.Moves.{TakeStep, moved}
 use Rattle.ufs_spec.specs.Translation as layer
@@ -13,14 +13,14 @@ use Rattle.ftl_core.specs.declared.books.Mending as kept
 use Rattle.ftl_core.specs.declared.books.Mending.TheVariants as mendings
 use Rattle.ftl_core.specs.Core.{Core}
 use Rattle.ftl_core.specs.Describes.{Describes, Kept, mending_kept}
-use Rattle.ftl_core.specs.Moves.{has_mark_number, mark_ordered, repair_ordered}
+use Rattle.ftl_core.specs.Moves.{has_mark_number, has_stale, mark_ordered, repair_ordered}
 use Rattle.ftl_core.specs.Turns.{IsStepTurned, IsTurned, is_repair_due, is_step_due, is_turn_due, repair_turned}
 use Rattle.ftl_core.proofs.live_pages.SameLive.{Knows, facts, knows_on, turned_same}
 use Rattle.ftl_core.proofs.steps_ordered.CollectionsOrdered.{collection_due, collection_turned}
 use Rattle.ftl_core.proofs.steps_ordered.CopiesOrdered.{IsOrdered, mark_copies}
 use Rattle.ftl_core.proofs.steps_ordered.CopiesOrdered.{mark_turn, none_copied, order_if, repair_is_none}
 use Rattle.ftl_core.proofs.steps_ordered.QuietLayers.{at_front, get_dropped, group_number, is_quiet, mark_number}
-use Rattle.ftl_core.proofs.steps_ordered.QuietLayers.{order_is, repair_due, some_if, step_kept_none}
+use Rattle.ftl_core.proofs.steps_ordered.QuietLayers.{may_agree, order_is, repair_due, some_if}
 use Rattle.ftl_core.proofs.steps_ordered.RepairsOrdered.{repair_waits}
 
 -- What is due
@@ -35,20 +35,28 @@ step_due c t mendings.Repairing h none is =
     ∙ repair_due c t (drop c.repaired c.lost) t.work.plan h none is
 step_due c t mendings.Mended h none is = collection_due c t h
 
+-- three tests, of which the last two go together
+and_three : (a b x : Bool) → (a && b && x) ≡ ((a && b) && x)
+and_three true b x = refl
+and_three false b x = refl
+
 -- a step is due where the definitions have one
 pub turns_due : (c : Core) (t : Translation) → Describes c t → is_turn_due c ≡ layer.is_step_due t
-turns_due c t h = by (is_none c.step) refl
+turns_due c t h =
+    and_three (is_none c.step) (not (has_stale c)) (is_step_due c c.mending)
+    ∙ by (is_none c.step && not (has_stale c)) refl
   where
-    by : (b : Bool) → is_none c.step ≡ b → (is_none c.step && is_step_due c c.mending) ≡ is_some (due_order t)
+    by : (b : Bool) → (is_none c.step && not (has_stale c)) ≡ b →
+        ((is_none c.step && not (has_stale c)) && is_step_due c c.mending) ≡ is_some (due_order t)
     by true e =
-        let none = none_is c.step e in
         ap (λ (x : Bool). x && is_step_due c c.mending) e
-        ∙ step_due c t c.mending h none h.kept.work.mending_is
-        ∙ ap is_some (sym (order_is c t h.kept none))
+        ∙ step_due c t c.mending h (none_is c.step (and_parts (is_none c.step) (not (has_stale c)) e).0)
+        h.kept.work.mending_is
+        ∙ ap is_some (sym (order_is c t h.kept e))
     by false e =
         ap (λ (x : Bool). x && is_step_due c c.mending) e
         ∙ sym (ap (λ (x : Bool). is_some (if x then layer.next_order t t.work.mending t.work.plan else None))
-        (sym (step_kept_none t.ledger c.step c.content t.work.step h.kept.work.step_is) ∙ e))
+        (sym (may_agree c t h.kept) ∙ e))
 
 -- A mark
 
@@ -107,9 +115,10 @@ turned_by c new t h false e turned =
     (λ i. (sym turned i, sym (none_due (due_order t) (sym (turns_due c t h) ∙ e)) i))
     (record { kept = h.kept; copies = h.copies })
 turned_by c new t h true e turned =
-    let parts = and_parts (is_none c.step) (is_step_due c c.mending) e in
-    let none = none_is c.step parts.0 in
-    subst (λ (o : Option Order). IsOrdered new (stepped t o)) (sym (order_is c t h.kept none))
+    let parts = and_parts (is_none c.step && not (has_stale c)) (is_step_due c c.mending)
+    (sym (and_three (is_none c.step) (not (has_stale c)) (is_step_due c c.mending)) ∙ e) in
+    let none = none_is c.step (and_parts (is_none c.step) (not (has_stale c)) parts.0).0 in
+    subst (λ (o : Option Order). IsOrdered new (stepped t o)) (sym (order_is c t h.kept parts.0))
     (turn_at c new t c.mending h none refl h.kept.work.mending_is parts.1 turned)
 
 turned_live : (c new : Core) → Knows (facts c) → (due : Bool) → IsTurned c due new → Knows (facts new)

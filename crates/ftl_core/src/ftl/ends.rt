@@ -253,14 +253,14 @@ impl Ftl {
         self.blocks.page_written(die, row.filling);
     }
 
-    /// The block is bad from now on, and the die fills no block.
+    /// The block is bad from now on. The die has no job, and fills this block no more.
     fn went_bad(&mut self, die: u8, block: u16)
         ensures { self.new ≡ went_bad self.old die block }
     {
         self.blocks.went_bad(die, block);
     }
 
-    /// The block is empty, and the die fills it from now on.
+    /// The block is empty and may be filled. The die has no job, and fills the block that it filled.
     fn erase_done(&mut self, die: u8, block: u16)
         ensures { self.new ≡ erased self.old die block }
     {
@@ -288,7 +288,7 @@ impl Ftl {
         }
     }
 
-    /// A mark is written. If it is that of a collection, the collected block is free.
+    /// A mark is written. If it is that of a collection, the collected block is free, and to be erased.
     fn mark_written(&mut self, die: u8, row: DieRow)
         ensures { self.new ≡ plan_over (page_written (mark_over self.old) die row row.filling) }
     {
@@ -297,7 +297,8 @@ impl Ftl {
         self.plan_over();
     }
 
-    /// The collection that is begun, if one is, is over: its block is free, unless it is bad.
+    /// The collection that is begun, if one is, is over: its block is free and to be erased, unless it
+    /// is bad.
     fn plan_over(&mut self)
         ensures { self.new ≡ plan_over self.old }
     {

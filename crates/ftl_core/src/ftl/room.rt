@@ -67,7 +67,7 @@ impl Ftl {
         self.blocks.erases_any()
     }
 
-    /// Whether a block of some die is being filled, or is being erased to be filled.
+    /// Whether a block of some die is being filled, or is being erased.
     fn has_open_block(&self) -> bool
         ensures { result ≡ has_open_block self.now }
     {

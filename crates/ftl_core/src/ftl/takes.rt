@@ -3,19 +3,20 @@ ghost use Rattle.std.specs.Prelude.{◌≡◌, ℕ, ◌<◌, ◌≤◌, ◌+◌,
 ghost use Rattle.std.specs.Prelude.{true, false, if◌then◌else◌, unwrap_or, count_by, find, option_copied, option_map, position};
 ghost use Rattle.std.specs.List.{list_any};
 ghost use Rattle.ufs_spec.specs.Pages.{IsTag, greatest_number};
-ghost use Rattle.ftl_core.specs.Takes.{block_for, copy_program, core_taken, first_owed, group_job, is_group_page};
-ghost use Rattle.ftl_core.specs.Takes.{is_sealable, is_step_there, job_of, job_taken};
-ghost use Rattle.ftl_core.specs.Takes.{lowest_below, mark_program, next_place, owed_flight, owed_read, page_flight};
+ghost use Rattle.ftl_core.specs.Takes.{copy_program, core_taken, erase_of, first_owed, flight_into, group_job};
+ghost use Rattle.ftl_core.specs.Takes.{is_group_page, is_sealable, is_step_there, job_of, job_taken, lowest};
+ghost use Rattle.ftl_core.specs.Takes.{mark_program, next_place, opening_flight, owed_flight, owed_read, page_flight};
 ghost use Rattle.ftl_core.specs.Takes.{page_of_group, page_waiting, page_waits, read_of, reads_step};
 ghost use Rattle.ftl_core.specs.Takes.{repair_job, repair_program, writes_step};
 ghost use Rattle.ftl_core.specs.Takes.{step_job, step_read, step_waits, step_wants, waiting_flight, waiting_of};
-ghost use Rattle.ftl_core.specs.Takes.{waiting_page};
-ghost use Rattle.ftl_core.specs.Moves.{claims_for, in_flight, is_erasable, is_owed_by, keeps};
-ghost use Rattle.ftl_core.specs.Moves.{looks_on, single_tag, state_of, tag_of_page};
+ghost use Rattle.ftl_core.specs.Takes.{unread_flight, waiting_page};
+ghost use Rattle.ftl_core.specs.Moves.{begins, claims_for, first_page, in_flight, is_owed_by, keeps, looks_on};
+ghost use Rattle.ftl_core.specs.Moves.{may_be_used, single_tag, started, started_with, state_of, tag_of_page};
 ghost use Rattle.ufs_spec.specs.Translation.{Translation};
 ghost use Rattle.ftl_core.specs.Describes.{Describes, IsTaken, spot_at};
 ghost use Rattle.ftl_core.specs.Stops.{MayGo, StopsRightGiven};
 ghost use Rattle.ufs_spec.specs.declared.flash.Job.TheVariants as job;
+ghost use Rattle.block_table.specs.declared.BlockState.TheVariants as state;
 
 use super::Ftl;
 use crate::books::{Looked, Pin, Step, Waiting};
@@ -189,6 +190,24 @@ fn page_flight(place: Place, waiting: Waiting) -> Flight
     }
 }
 
+/// The block as one that is filled from its first page on.
+fn first_page(block: u16) -> OpenBlock
+    ensures { result ≡ first_page block }
+{
+    OpenBlock { block, next: 0 }
+}
+
+/// The block that a die begins to fill with this job: that of a program, where the die fills none.
+fn begins(filling: Option<OpenBlock>, flight: Flight) -> Option<u16>
+    ensures { result ≡ begins filling flight }
+{
+    match (filling, flight) {
+        (None, Flight::Step { place }) => Some(place.block),
+        (None, Flight::Group { place, .. }) => Some(place.block),
+        _ => None,
+    }
+}
+
 impl Ftl {
     /// What the block is; `Bad` if there is no such block.
     fn state(&self, die: u8, block: u16) -> BlockState
@@ -220,28 +239,35 @@ impl Ftl {
         self.live.is_pinned(die, block)
     }
 
-    /// Whether the block is free and no reader keeps a page of it.
-    fn is_erasable(&self, die: u8, block: u16) -> bool
+    /// Whether the block is so and no reader keeps a page of it.
+    fn may_be_used(&self, die: u8, state: BlockState, block: u16) -> bool
         requires die_there { die < length self.now.rows }
         requires block_there { block < self.now.numbers.blocks }
-        ensures { result ≡ is_erasable self.now die block }
+        ensures { result ≡ may_be_used self.now die state block }
     {
-        self.state(die, block) == BlockState::Free && !self.is_pinned(die, block)
+        self.state(die, block) == state && !self.is_pinned(die, block)
     }
 
-    /// The lowest free block of the die without a pin.
-    fn lowest_free(&self, die: u8) -> Option<u16>
+    /// The lowest block of the die that is so and has no pin.
+    fn lowest(&self, die: u8, state: BlockState) -> Option<u16>
         requires { die < length self.now.rows }
-        ensures found { IfSome result (λ b. (b < self.now.numbers.blocks) × (is_erasable self.now die b ≡ true)) }
-        ensures lowest { IfSome result (λ b. (k : ℕ) → k < b → is_erasable self.now die k ≡ false) }
-        ensures none { IfNone result ((k : ℕ) → k < self.now.numbers.blocks → is_erasable self.now die k ≡ false) }
+        ensures { result ≡ lowest self.now die state }
     {
         for block in 0..self.config.numbers().blocks {
-            if self.is_erasable(die, block) {
+            if self.may_be_used(die, state, block) {
                 return Some(block);
             }
         }
         None
+    }
+
+    /// The erase of the lowest block of the die that is so and has no pin.
+    fn erase_of(&self, die: u8, state: BlockState) -> Option<Flight>
+        requires { die < length self.now.rows }
+        ensures { result ≡ erase_of self.now die state }
+    {
+        let block = self.lowest(die, state)?;
+        Some(Flight::Erase { block })
     }
 
     /// Whether some die writes the page of the step under way.
@@ -405,29 +431,69 @@ impl Ftl {
         }
     }
 
-    /// The block of the die that is erased for what waits, where one may be opened for it.
-    fn block_for(&self, die: u8, waiting: Waiting) -> Option<u16>
+    /// The erase of the lowest stale block of the die without a pin. No block is looked at where none is
+    /// stale.
+    fn stale_erase(&self, die: u8) -> Option<Flight>
         requires { die < length self.now.rows }
-        ensures { result ≡ block_for self.now die waiting }
+        ensures { result ≡ erase_of self.now die state.Stale }
     {
-        if self.may_open(waiting) {
-            self.lowest_free(die)
+        if self.blocks.has_stale() {
+            self.erase_of(die, BlockState::Stale)
         } else {
             None
         }
     }
 
-    /// The job of what waits: it goes to the next page of the open block, and a block is erased for
+    /// The program of what waits into this block, which was erased in this life; without one the
+    /// erase of a block that is free.
+    fn flight_into(&self, die: u8, waiting: Waiting, ready: Option<u16>) -> Option<Flight>
+        requires { die < length self.now.rows }
+        ensures { result ≡ flight_into self.now die waiting ready }
+    {
+        match ready {
+            Some(block) => Some(page_flight(next_place(die, first_page(block)), waiting)),
+            None => self.erase_of(die, BlockState::Free),
+        }
+    }
+
+    /// What opens a block of the die for what waits, where one may be opened for it: the lowest block
+    /// that was erased in this life is filled, else one is erased.
+    fn opening_flight(&self, die: u8, waiting: Waiting) -> Option<Flight>
+        requires { die < length self.now.rows }
+        ensures { result ≡ opening_flight self.now die waiting }
+    {
+        if self.may_open(waiting) {
+            self.flight_into(die, waiting, self.lowest(die, BlockState::Ready))
+        } else {
+            None
+        }
+    }
+
+    /// The job of what waits: it goes to the next page of the open block, and a block is opened for
     /// it if none is open.
     fn waiting_flight(&self, die: u8, row: DieRow, waiting: Waiting) -> Option<Flight>
         requires { die < length self.now.rows }
         ensures { result ≡ waiting_flight self.now die row.filling waiting }
     {
-        let Some(open) = row.filling else {
-            let block = self.block_for(die, waiting)?;
-            return Some(Flight::Erase { block });
-        };
-        Some(page_flight(next_place(die, open), waiting))
+        match row.filling {
+            Some(open) => Some(page_flight(next_place(die, open), waiting)),
+            None => self.opening_flight(die, waiting),
+        }
+    }
+
+    /// The job of an idle die that is owed no read: the erase of a stale block, else that of what
+    /// waits first.
+    fn unread_flight(&self, die: u8, row: DieRow) -> Option<Flight>
+        requires { die < length self.now.rows }
+        ensures { result ≡ unread_flight self.now die row.filling (erase_of self.now die state.Stale) }
+    {
+        match self.stale_erase(die) {
+            Some(flight) => Some(flight),
+            None => match self.waiting() {
+                Some(waiting) => self.waiting_flight(die, row, waiting),
+                None => None,
+            },
+        }
     }
 
     /// The read that the step under way is owed of a page of this die.
@@ -454,24 +520,43 @@ impl Ftl {
         }
     }
 
-    /// The job that an idle die is owed: a read, else that of what waits first.
+    /// The job that an idle die is owed: a read, else the erase of a stale block, else that of what
+    /// waits first.
     fn owed_flight(&self, die: u8, row: DieRow) -> Option<Flight>
         requires { die < length self.now.rows }
         ensures { result ≡ owed_flight self.now die row.filling (owed_read self.now die (first_owed self.now die)) }
     {
         match self.owed_read(die) {
             Some(flight) => Some(flight),
-            None => match self.waiting() {
-                Some(waiting) => self.waiting_flight(die, row, waiting),
-                None => None,
-            },
+            None => self.unread_flight(die, row),
         }
     }
 
-    /// The next job of the die, which is then in flight: a read that is owed, else the program of
-    /// the first waiting page, else the erase of a block to put it into. `None` where the die is
-    /// not one of the device, has a job in flight, or is owed nothing. It takes no SHA-256: whoever has
-    /// the job seals its page.
+    /// The die has this job in flight from now on, and fills the block that the job begins, if it
+    /// begins one.
+    fn begin(&mut self, die: u8, row: DieRow, flight: Flight)
+        requires { slice_get self.old.rows die ≡ Some row }
+        ensures { self.new ≡ started self.old die row flight }
+    {
+        match begins(row.filling, flight) {
+            Some(block) => self.begin_block(die, row, block, flight),
+            None => self.set_flight(die, Some(flight)),
+        }
+    }
+
+    /// The die fills this block from its first page on, and has this job in flight.
+    fn begin_block(&mut self, die: u8, row: DieRow, block: u16, flight: Flight)
+        requires { slice_get self.old.rows die ≡ Some row }
+        ensures { self.new ≡ started_with self.old die row.filling flight (Some block) }
+    {
+        self.blocks.opened(die, block);
+        self.set_flight(die, Some(flight));
+    }
+
+    /// The next job of the die, which is then in flight: a read that is owed, else the erase of a
+    /// block whose pages open and may go, else the program of the first waiting page, else the erase
+    /// of a block to put it into. `None` where the die is not one of the device, has a job in flight,
+    /// or is owed nothing. It takes no SHA-256: whoever has the job seals its page.
     pub fn take(&mut self, die: u8) -> Option<UnsealedJob>
         ensures nothing { IfNone result (self.new ≡ self.old) }
         ensures job { result ≡ job_taken self.old die }
@@ -495,7 +580,7 @@ impl Ftl {
         if job.is_none() {
             return None;
         }
-        self.set_flight(die, Some(flight));
+        self.begin(die, row, flight);
         job
     }
 }

@@ -19,8 +19,9 @@ use ufs_spec::{Fence, GREATEST_NUMBER, Key};
 
 impl Ftl {
     /// Does one step of the mending or of collection, if one is due: it orders a mark, a repair or a copy.
-    /// False, and nothing changes, if none is due: one is under way, no number is left, or the device is
-    /// mended and either has room or has no block whose collection gains room.
+    /// False, and nothing changes, if none is due: one is under way, a free block is still to be erased for
+    /// the pages that open in it, no number is left, or the device is mended and either has room or has no
+    /// block whose collection gains room.
     pub fn turn(&mut self) -> bool
         ensures due { result ≡ is_turn_due self.old }
         ensures after { IsTurned self.old result self.new }
@@ -30,7 +31,7 @@ impl Ftl {
         ensures stop { (t : Translation) → Describes self.old t → StopsRight self.new (moved t TakeStep) }
         ensures same_claims { claims_for self.new ≡ claims_for self.old }
     {
-        if self.step.is_some() {
+        if self.step.is_some() || self.blocks.has_stale() {
             return false;
         }
         match self.mending {

@@ -5,7 +5,8 @@ use Rattle.power_loss.proofs.Common.{if◌then◌else◌, Bool, true, false, Lis
 use Rattle.power_loss.proofs.Common.{◌∙◌, subst, inl, inr, ⊎_elim, arith, lt-ltb, filter, list_any, none_is, and_parts}
 use Rattle.power_loss.proofs.Common.{false≢true, ltb-false, ltb-true, not-true, or_cases, and_from, or_left, or_right}
 use Rattle.power_loss.proofs.Common.{none-some, same_Some, cond-false, cond-true, cases_Bool, Cell, GroupPage}
-use Rattle.power_loss.proofs.Common.{BlockState, Bad, Closed, Spot, next_number, Mended, Mending, Order, OrderPlanMark}
+use Rattle.power_loss.proofs.Common.{BlockState, Bad, Closed, Free, Spot, Stale, next_number, Mended, Mending, Order}
+use Rattle.power_loss.proofs.Common.{OrderPlanMark}
 use Rattle.power_loss.proofs.Common.{Plan, Translation, copy_begun, due_order, has_mark_number, is_free, is_locked}
 use Rattle.power_loss.proofs.Common.{is_mended, is_pinned, is_step_due, live_places, next_order, ordered, plan_order}
 use Rattle.power_loss.proofs.Common.{spots, stepped, turned, victim, victim_order, wants_collection, with_plan, Place}
@@ -13,11 +14,12 @@ use Rattle.power_loss.proofs.MachineWords.{IsBefore}
 use Rattle.std.proofs.Common.{max, nat_lt}
 use Rattle.ufs_spec.specs.Pages.{greatest_number}
 use Rattle.ufs_spec.specs.Stages.{most_bad}
-use Rattle.ufs_spec.specs.Translation.{count_blocks, gains, is_bad, is_bad_with_live}
+use Rattle.ufs_spec.specs.Translation.{count_blocks, gains, has_stale, is_bad, is_bad_with_live, is_stale, is_vacant}
 use Rattle.ufs_spec.specs.Translation.{least_of, live_count}
 use Rattle.ufs_spec.specs.Translation.{may_be_victim, own_room, wanted_room}
 use Rattle.power_loss.specs.Collection.{AreFewFree, CanBeCollected, IsBadWithLive, IsCollectionDue, IsRoomScarce}
-use Rattle.power_loss.specs.Collection.{IsVictim}
+use Rattle.power_loss.specs.Collection.{IsNoneStale, IsVictim}
+use Rattle.power_loss.proofs.jobs_owed.ProgramsAndErases.{free_is, stale_is}
 use Rattle.power_loss.proofs.ordered_lists.ElementsAndOrders.{IsIn, IsOrdered, filter_in, in_spots, kept_in}
 use Rattle.power_loss.proofs.ordered_lists.ElementsAndOrders.{ordered_filter, spots_in, spots_ordered}
 
@@ -235,18 +237,40 @@ scarce_shown t r =
     (λ (k : (s : Spot) × IsBadWithLive t s). or_right (is_few t) (is_any_bad t)
     (in_any (is_bad_with_live t) k.0 (spots t.numbers) (in_spots k.1.inside) (live_shown k.1))) r
 
+-- a free block is still to be erased for what is in it, or none is
+
+stale_vacant : (t : Translation) (s : Spot) → is_vacant t is_stale s ≡ true →
+    (t.disk.blocks s ≡ Free) × (t.disk.vacancies s ≡ Stale)
+stale_vacant t s h =
+    let c = and_parts (is_free (t.disk.blocks s)) (is_stale (t.disk.vacancies s)) h in
+    (free_is (t.disk.blocks s) c.0, stale_is (t.disk.vacancies s) c.1)
+
+pub stale_told : (t : Translation) → has_stale t ≡ false → IsNoneStale t
+stale_told t none s inside free stale =
+    false≢true (sym none ∙ in_any (is_vacant t is_stale) s (spots t.numbers) (in_spots inside)
+    (and_from (is_free (t.disk.blocks s)) (is_stale (t.disk.vacancies s)) (ap is_free free) (ap is_stale stale)))
+
+pub stale_shown : (t : Translation) → IsNoneStale t → has_stale t ≡ false
+stale_shown t none = ⊎_elim
+    (λ h.
+    let r = any_in (is_vacant t is_stale) (spots t.numbers) h in
+    let v = stale_vacant t r.0 r.2 in
+    absurd (none r.0 (spots_in r.1) v.0 v.1)) (λ h. h) (cases_Bool (has_stale t))
+
 pub due_only : (t : Translation) → is_mended t.work.mending ≡ true → t.work.plan ≡ None → is_step_due t ≡ true →
     IsCollectionDue t
 due_only t mended plan h =
-    let a = due_if (is_none t.work.step) (next_order t t.work.mending t.work.plan) h in
+    let a = due_if (is_none t.work.step && not (has_stale t)) (next_order t t.work.mending t.work.plan) h in
+    let free = and_parts (is_none t.work.step) (not (has_stale t)) a.0 in
     let w = mended_told t.work.mending mended in
     let n : is_some (next_order t Mended None) ≡ true = ap is_some (λ j. next_order t (sym w j) (sym plan j)) ∙ a.1 in
     let b = due_if (wants_collection t && has_mark_number t) (victim_order t (victim t)) n in
     let c = and_parts (wants_collection t) (has_mark_number t) b.0 in
     record {
       mended = mended;
-      no_step = none_is t.work.step a.0;
+      no_step = none_is t.work.step free.0;
       no_plan = plan;
+      none_stale = stale_told t (not-true (has_stale t) free.1);
       number = c.1;
       some = found (victim t) refl b.1;
       scarce = scarce_told t c.0;
@@ -259,7 +283,8 @@ due_only t mended plan h =
 -- the order that comes of it
 order_is : {t : Translation} → IsCollectionDue t → due_order t ≡ victim_order t (victim t)
 order_is {t} d =
-    (λ j. if is_none (d.no_step j) then next_order t (mended_told t.work.mending d.mended j) (d.no_plan j) else None)
+    (λ j. if is_none (d.no_step j) && not (stale_shown t d.none_stale j)
+    then next_order t (mended_told t.work.mending d.mended j) (d.no_plan j) else None)
     ∙ cond-true (wants_collection t && has_mark_number t) (victim_order t (victim t)) None
     (and_from (wants_collection t) (has_mark_number t) (scarce_shown t d.scarce) d.number)
 

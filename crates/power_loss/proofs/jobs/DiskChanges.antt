@@ -10,8 +10,9 @@ use Rattle.power_loss.proofs.Common.{mark_not_nothing, page_not_nothing, Book, b
 use Rattle.power_loss.proofs.Common.{BlocksRight, EraseRight, FlightsRight, IsLastRepair, IsOpenedOrOwn, IsNeededPage}
 use Rattle.power_loss.proofs.Common.{IsOwnMark, IsToCopy, MarkFlightRight, MarksRight, MendingRight, PagesRight}
 use Rattle.power_loss.proofs.Common.{PlanRight, ProgramRight, ReadsRight, StepKindRight, StepRight, ToReadRight, Valid}
-use Rattle.power_loss.proofs.Common.{recorded_in}
+use Rattle.power_loss.proofs.Common.{Stale, VacanciesRight, recorded_in}
 use Rattle.power_loss.proofs.books.LayerParts.{MarksOf, MendingOf, OwnMarkOf, UnmarkedOf}
+use Rattle.power_loss.proofs.jobs.NoneStale.{HadStep, stale_stays}
 use Rattle.power_loss.proofs.jobs.StandsSecurely.{Keeps, all_safe, free_is_not_bad, mark_stands_moves, secure_moves}
 use Rattle.power_loss.proofs.jobs.StandsSecurely.{true_is_not_false}
 use Rattle.power_loss.proofs.kept_pages.PagesStay.{HeldStay}
@@ -36,12 +37,14 @@ pub record Change (t : Translation) (e : Disk) : Type 0 where
   pub unended : (q : Place) → e.finished q ≡ false →
       (t.disk.finished q ≡ false) ⊎ ((e.cells q ≡ Nothing) ⊎ IsFresh t e q)
   pub blocks : BlocksRight t.numbers e.cells e.finished e.blocks e.erasing
+  pub vacancies : VacanciesRight e.cells e.blocks e.vacancies e.erasing
   pub flew : (die : ℕ) (p : Place) (cell : Cell) → e.flights die ≡ Some (Programming p cell) → t.disk.flights die ≡ Some
       (Programming p cell)
   pub programs : (die : ℕ) (p : Place) (cell : Cell) → e.flights die ≡ Some (Programming p cell) →
       ProgramRight t.numbers e.blocks die p
   pub erases : (die : ℕ) (s : Spot) → e.flights die ≡ Some (Erasing s) → EraseRight e.blocks e.erasing die s
   pub freed : (s : Spot) → e.blocks s ≡ Free → t.disk.blocks s ≡ Free
+  pub stale : (s : Spot) → e.blocks s ≡ Free → e.vacancies s ≡ Stale → t.disk.vacancies s ≡ Stale
   pub spent : (s : Spot) → e.erasing s ≡ true → (t.disk.blocks s ≡ Free) ⊎ (t.disk.erasing s ≡ true)
   pub victims : (s : Spot) → (t.disk.blocks s ≡ Closed) ⊎ (t.disk.blocks s ≡ Bad) →
       (e.blocks s ≡ Closed) ⊎ (e.blocks s ≡ Bad)
@@ -62,6 +65,8 @@ pub record Follows (t : Translation) (e : Disk) (marks : ℕ) (step : Option Ste
   pub copy : (name : Name) (p : Place) (there : Bool) → t.work.step ≡ Some
       (record { kind = CopyStep name p; there = there }) →
       step ≡ Some (record { kind = CopyStep name p; there = there })
+  -- it goes on with the one that was under way
+  pub had : HadStep t.work.step step
   -- it needs no other read
   pub wants : (wants_of_step step ≡ wants_of_step t.work.step) ⊎ (wants_of_step step ≡ [])
 
@@ -330,6 +335,7 @@ changed {t} {e} {marks} {step} v c gone f held = assumption (
       (first : (book t).first_page key ≡ Some name) (h : t.ledger.standing name.number name.index ≡ Some p).
       secure_moves c.keeps (v.unmended.stand un key name p has first h),
   to_read_change t e v c f,
+  stale_stays t.numbers t.work.mending (λ a free stale. (c.freed a free, c.stale a free stale)) f.had v.stale,
 )
 
 -- The same step
@@ -356,6 +362,7 @@ same_step {t} v c old = record {
   mark = λ die p m h. v.flights.mark die p m (c.flew die p (MarkPage m) h);
   repair = λ r. r;
   copy = λ name p there h. h;
+  had = λ s h. (s, h);
   wants = inl refl;
 }
 

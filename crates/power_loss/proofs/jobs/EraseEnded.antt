@@ -1,18 +1,19 @@
 -- Erases that end keep a life valid.
-use Rattle.power_loss.proofs.Common.{◌≡◌, ◌≢◌, ℕ, ◌<◌, ◌≤◌, Bool, true, false, ◌⊎◌, Some, None, refl, sym, ap, ◌∙◌, inl}
-use Rattle.power_loss.proofs.Common.{inr, ⊎_elim, arith, Cell, Cells, Nothing, BlockState, Bad, CellCrash, Erasing}
-use Rattle.power_loss.proofs.Common.{Filling, Free, Programming, Spot, at_die, at_spot, erase_failed, erased}
+use Rattle.power_loss.proofs.Common.{◌≡◌, ◌≢◌, ℕ, Bool, true, false, ◌⊎◌, Some, None, refl, sym, ap, ◌∙◌, inl}
+use Rattle.power_loss.proofs.Common.{inr, ⊎_elim, Cell, Cells, Nothing, BlockState, Bad, CellCrash, Erasing}
+use Rattle.power_loss.proofs.Common.{Free, Programming, Spot, at_die, at_spot, erase_failed, erased}
 use Rattle.power_loss.proofs.Common.{flight_alone, spot_of, WentWell, WentWrong, job_ended, Translation, Place}
-use Rattle.power_loss.proofs.Common.{at_die_is, at_spot_is, spot_cases, BlocksRight, EraseRight, ProgramRight, Valid}
-use Rattle.power_loss.proofs.Common.{none-some}
+use Rattle.power_loss.proofs.Common.{at_die_is, at_spot_is, spot_cases, BlocksRight, EraseRight, ProgramRight, Ready}
+use Rattle.power_loss.proofs.Common.{Stale}
+use Rattle.power_loss.proofs.Common.{VacanciesRight, Valid, none-some}
 use Rattle.power_loss.proofs.jobs.DiskChanges.{Change, lost_pages}
 use Rattle.power_loss.proofs.jobs.ReadsAndTasks.{idle_fewer}
 use Rattle.power_loss.proofs.kept_pages.ReadsStay.{idle_reads, reads_stay}
 use Rattle.power_loss.proofs.kept_pages.PagesStay.{held_stay, stay_erased, stay_unerased}
-use Rattle.power_loss.proofs.jobs.StandsSecurely.{at_spot_other, erase_left, erased_here, erased_other}
+use Rattle.power_loss.proofs.jobs.StandsSecurely.{at_spot_here, at_spot_other, erase_left, erased_here, erased_other}
 use Rattle.power_loss.proofs.jobs.StandsSecurely.{keeps_erase_failed, keeps_erased, true_is_not_false, blocks_bad}
-use Rattle.power_loss.proofs.jobs.StandsSecurely.{closed_is_not_free, free_is_not_bad, free_is_not_filling, one_filling}
-use Rattle.power_loss.proofs.jobs.StandsSecurely.{state_kept, victim_kept}
+use Rattle.power_loss.proofs.jobs.StandsSecurely.{closed_is_not_free, free_is_not_bad, free_is_not_filling}
+use Rattle.power_loss.proofs.jobs.StandsSecurely.{ready_is_not_stale, state_kept, vacancies_put, victim_kept}
 
 -- jobs of the other dies
 
@@ -43,47 +44,69 @@ other_erase {t} {die} s x v home same other a h = ⊎_elim (λ k. absurd (none-s
 
 -- An erase that went well
 
-fits : {x next pages : ℕ} → 1 ≤ pages → x ≡ 0 → next ≡ x → next < pages
-fits l e f = omega arith
-
-erased_blocks : {t : Translation} (s : Spot) → Valid t → t.disk.blocks s ≡ Free → BlocksRight t.numbers
-    (erased t.disk s).cells t.disk.finished (erased t.disk s).blocks (erased t.disk s).erasing
-erased_blocks {t} s v free = record {
-  unfinished = λ p h. let r = v.blocks.unfinished p h in
-      state_kept t.disk.blocks s (Filling 0) r (free_is_not_bad free);
-  filling = λ a next h. ⊎_elim
-      (λ k. let z = one_filling k.1 in let l = v.book_right.pages in
-      omega arith) (λ k. v.blocks.filling a next k.1) (at_spot_is t.disk.blocks s (Filling 0) a (Filling next) h);
-  blank = λ p next h l. ⊎_elim (λ k. erased_here t.disk p k.0)
-      (λ k. erased_other t.disk s p k.0 ∙ v.blocks.blank p next k.1 l)
-      (at_spot_is t.disk.blocks s (Filling 0) (spot_of p) (Filling next) h);
-  erased = λ a h. ⊎_elim (λ k. absurd (true_is_not_false refl (sym k.1)))
-      (λ k. ⊎_elim (λ o. inl (at_spot_other t.disk.blocks s (Filling 0) a k.0 ∙
-      o)) (λ o. inr (at_spot_other t.disk.blocks s (Filling 0) a k.0 ∙ o)) (v.blocks.erased a k.1))
-      (at_spot_is t.disk.erasing s false a true h);
-}
-
 erased_less : (t : Translation) (s : Spot) (q : Place) → ((erased t.disk s).cells q ≡ t.disk.cells q) ⊎
     ((erased t.disk s).cells q ≡ Nothing)
 erased_less t s q = ⊎_elim (λ k. inr (erased_here t.disk q k.1)) (λ k. inl (erased_other t.disk s q k.1))
     (spot_cases (spot_of q) s)
 
-erased_change : {t : Translation} (s : Spot) → Valid t → t.disk.blocks s ≡ Free → t.disk.erasing s ≡ true →
-    Change t (erased t.disk s)
-erased_change {t} s v free erasing = record {
+erased_blocks : {t : Translation} (s : Spot) → Valid t → BlocksRight t.numbers (erased t.disk s).cells t.disk.finished
+    (erased t.disk s).blocks (erased t.disk s).erasing
+erased_blocks {t} s v = record {
+  unfinished = v.blocks.unfinished;
+  filling = v.blocks.filling;
+  blank = λ p next h l. ⊎_elim (λ k. k ∙ v.blocks.blank p next h l) (λ k. k) (erased_less t s p);
+  erased = λ a h. ⊎_elim (λ k. absurd (true_is_not_false refl (sym k.1))) (λ k. v.blocks.erased a k.1)
+      (at_spot_is t.disk.erasing s false a true h);
+}
+
+-- the block is empty, and no longer counts as being erased
+erased_vacancies : {t : Translation} (s : Spot) → Valid t → VacanciesRight (erased t.disk s).cells
+    (erased t.disk s).blocks (erased t.disk s).vacancies (erased t.disk s).erasing
+erased_vacancies {t} s v = record {
+  empty = λ q free full. ⊎_elim (λ k. erased_here t.disk q k.1)
+      (λ k. erased_other t.disk s q k.1
+      ∙ v.vacancies.empty q free (λ e. full (at_spot_other t.disk.vacancies s Ready (spot_of q) k.1 ∙ e)))
+      (spot_cases (spot_of q) s);
+  ready = λ a free is. ⊎_elim (λ k. at_spot_here t.disk.erasing s false a k.0)
+      (λ k. at_spot_other t.disk.erasing s false a k.0 ∙ v.vacancies.ready a free k.1)
+      (at_spot_is t.disk.vacancies s Ready a Ready is);
+}
+
+-- what flies behind the erase flew on another die
+erased_programs : {t : Translation} (s : Spot) → Valid t → (other : ℕ) (p : Place) (cell : Cell) →
+    at_die t.disk.flights s.die None other ≡ Some (Programming p cell) → ProgramRight t.numbers t.disk.blocks other p
+erased_programs {t} s v other p cell h =
+    v.flights.programs other p cell ((idle_fewer {f = t.disk.flights} s.die).programs other p cell h)
+
+erased_erases : {t : Translation} (s : Spot) → Valid t → (other : ℕ) (a : Spot) →
+    at_die t.disk.flights s.die None other ≡ Some (Erasing a) →
+    EraseRight t.disk.blocks (at_spot t.disk.erasing s false) other a
+erased_erases {t} s v other a h = ⊎_elim (λ k. absurd (none-some _ k.1))
+    (λ k.
+    let r = v.flights.erases other a k.1 in
+    record {
+      at_home = r.at_home;
+      free = r.free;
+      counted = at_spot_other t.disk.erasing s false a (λ e. k.0 (sym r.at_home ∙ ap (λ z. z.die) e)) ∙ r.counted;
+    }) (at_die_is t.disk.flights s.die None other (Some (Erasing a)) h)
+
+erased_change : {t : Translation} (s : Spot) → Valid t → t.disk.erasing s ≡ true → Change t (erased t.disk s)
+erased_change {t} s v erasing = record {
   keeps = keeps_erased s erasing;
   left = λ q. ⊎_elim (λ k. inl k) (λ k. inr (inl k)) (erased_less t s q);
   ended = λ q h. h;
   unended = λ q h. inl h;
-  blocks = erased_blocks s v free;
+  blocks = erased_blocks s v;
+  vacancies = erased_vacancies s v;
   flew = (idle_fewer s.die).programs;
-  programs = other_program s.die s (Filling 0) v free;
-  erases = other_erase s (Filling 0) v refl (λ a out. at_spot_other t.disk.erasing s false a out);
-  freed = λ a h. ⊎_elim (λ k. absurd (free_is_not_filling k.1 refl)) (λ k. k.1)
-      (at_spot_is t.disk.blocks s (Filling 0) a Free h);
+  programs = erased_programs s v;
+  erases = erased_erases s v;
+  freed = λ a h. h;
+  stale = λ a free is. ⊎_elim (λ k. absurd (ready_is_not_stale refl k.1)) (λ k. k.1)
+      (at_spot_is t.disk.vacancies s Ready a Stale is);
   spent = λ a h. ⊎_elim (λ k. absurd (true_is_not_false refl (sym k.1))) (λ k. inr k.1)
       (at_spot_is t.disk.erasing s false a true h);
-  victims = λ a. victim_kept t.disk.blocks s (Filling 0) (λ e. closed_is_not_free e free) (free_is_not_bad free);
+  victims = λ a h. h;
   reads = reads_stay (stay_erased t.disk s erasing) (idle_reads t.disk.flights s.die) v.reads;
 }
 
@@ -91,7 +114,7 @@ pub ends_erase : {t : Translation} (die : ℕ) (s : Spot) → Valid t → t.disk
     Valid (job_ended t die (Erasing s) WentWell)
 ends_erase {t} die s v e =
     let r = v.flights.erases die s e in
-    lost_pages v (erased_change s v r.free r.counted)
+    lost_pages v (erased_change s v r.counted)
     (λ p h. ⊎_elim (λ k. inr (inl (ap t.disk.blocks k.1 ∙ r.free))) (λ k. inl (sym (erased_other t.disk s p k.1) ∙ h))
     (spot_cases (spot_of p) s)) (erased_less t s) (held_stay (erased t.disk s) v (stay_erased t.disk s r.counted))
 
@@ -112,10 +135,13 @@ failed_change {t} {s} left v free erasing less = record {
   ended = λ q h. h;
   unended = λ q h. inl h;
   blocks = failed_blocks s v free (λ q. ⊎_elim (λ k. inl k) (λ k. inr k.1) (less q));
+  vacancies = vacancies_put s Bad (λ e. free_is_not_bad e refl) v.vacancies
+      (λ q out h. ⊎_elim (λ k. k ∙ h) (λ k. k.1) (less q));
   flew = (idle_fewer s.die).programs;
   programs = other_program s.die s Bad v free;
   erases = other_erase s Bad v refl (λ a out. refl);
   freed = λ a h. ⊎_elim (λ k. absurd (free_is_not_bad k.1 refl)) (λ k. k.1) (at_spot_is t.disk.blocks s Bad a Free h);
+  stale = λ a free is. is;
   spent = λ a h. inr h;
   victims = λ a. victim_kept t.disk.blocks s Bad (λ e. closed_is_not_free e free) (free_is_not_bad free);
   reads = reads_stay

@@ -9,14 +9,18 @@ use Rattle.power_loss.proofs.Common.{Place, spot_cases, at_die_is, at_spot_is, m
 use Rattle.power_loss.proofs.Common.{page_not_mark, page_not_nothing, or_parts, same_Some, true≢false, none_in_empty}
 use Rattle.power_loss.proofs.Common.{Book, IsKnown, IsLostNumber, IsOverwritten, IsWritten, book, last_number}
 use Rattle.power_loss.proofs.Common.{FenceRight, IsLastRepair, IsLaterMark, IsToCopy, MarkFlightRight}
-use Rattle.power_loss.proofs.Common.{MarkStepRight, StandsIn, Valid, one_page}
+use Rattle.power_loss.proofs.Common.{BlockState, BlocksRight, Filling, Free, MarkStepRight, StandsIn, Valid}
+use Rattle.power_loss.proofs.Common.{at_spot_cases, one_page, ◌≢◌}
 use Rattle.power_loss.proofs.books.LayerParts.{MarksOf, MendingOf, OwnMarkOf, UnmarkedOf}
 use Rattle.power_loss.proofs.kept_pages.PagesStay.{held_begun}
 use Rattle.power_loss.proofs.jobs_owed.BegunPrograms.{CellRight, IsMarkedOnce, begins}
 use Rattle.power_loss.proofs.jobs.DiskChanges.{Change, lost_pages}
-use Rattle.power_loss.proofs.jobs_owed.ProgramsAndErases.{EraseOwed, erase_owed, idle_below, place_owed, program_owed}
+use Rattle.power_loss.proofs.jobs_owed.ProgramsAndErases.{EraseOwed, OpensReady, erase_owed, idle_below, program_owed}
 use Rattle.power_loss.proofs.kept_pages.ReadsStay.{reads_erase_begun}
-use Rattle.power_loss.proofs.jobs.StandsSecurely.{at_spot_here, at_spot_other, keeps_erase_begun}
+use Rattle.power_loss.proofs.jobs.StandsSecurely.{at_spot_here, at_spot_other, closed_is_not_free, free_is_not_bad}
+use Rattle.power_loss.proofs.jobs.StandsSecurely.{free_is_not_filling, keeps_erase_begun, one_filling, put_needed}
+use Rattle.power_loss.proofs.jobs.StandsSecurely.{ready_is_not_stale, state_kept, true_is_not_false, vacancies_put}
+use Rattle.power_loss.proofs.jobs.StandsSecurely.{victim_kept}
 use Rattle.power_loss.proofs.jobs_owed.WhatWaits.{MarkWaits, PageWaits, name_cell_waits, step_cell_waits}
 use Rattle.power_loss.proofs.books.PagesByName.{written_more}
 use Rattle.power_loss.proofs.stops.LeftUnmarked.{newest_there, Started}
@@ -62,6 +66,13 @@ erase_change {t} {die} {s} v o = record {
         counted = counted_more t.disk.erasing s a r.counted;
       }) (at_die_is t.disk.flights die (Some (Erasing s)) other (Some (Erasing a)) h);
   freed = λ a h. h;
+  stale = λ a free is. is;
+  vacancies = record {
+    empty = v.vacancies.empty;
+    ready = λ a free is.
+        at_spot_other t.disk.erasing s true a (λ e. o.unready (ap t.disk.vacancies (sym e) ∙ is))
+        ∙ v.vacancies.ready a free is;
+  };
   spent = λ a h. ⊎_elim (λ k. inl (ap t.disk.blocks k.0 ∙ o.free)) (λ k. inr k.1)
       (at_spot_is t.disk.erasing s true a true h);
   victims = λ a h. h;
@@ -243,6 +254,93 @@ mark_right {t} {cell} v w = record {
         (λ k. absurd (⊎_elim (λ j. none_in_empty pl.copies j.0 q (w.right.behind_copies pl e) j.1)
         (λ h. mark_no_copy q w.step_is h.1) k)) r)
 
+-- A block that is opened
+
+-- the layer in which the block of the place is being filled from that page on
+abbrev pub filled_at : Translation → Place → Translation
+filled_at t p = record t { disk = record t.disk { blocks = at_spot t.disk.blocks (spot_of p) (Filling p.page) } }
+
+opened_blocks : {t : Translation} {p : Place} → Valid t → OpensReady t p →
+    BlocksRight t.numbers t.disk.cells t.disk.finished (filled_at t p).disk.blocks t.disk.erasing
+opened_blocks {t} {p} v o = record {
+  unfinished = λ q h. state_kept t.disk.blocks (spot_of p) (Filling p.page) (v.blocks.unfinished q h)
+      (free_is_not_bad o.free);
+  filling = λ a next h. ⊎_elim
+      (λ k. let z = one_filling k.1 in let l = v.book_right.pages in let first = o.first in
+      omega (arith, z, l, first))
+      (λ k. v.blocks.filling a next k.1) (at_spot_is t.disk.blocks (spot_of p) (Filling p.page) a (Filling next) h);
+  blank = λ q next h l. ⊎_elim
+      (λ k. v.vacancies.empty q (ap t.disk.blocks k.0 ∙ o.free)
+      (λ e. ready_is_not_stale (ap t.disk.vacancies k.0 ∙ o.ready) e))
+      (λ k. v.blocks.blank q next k.1 l)
+      (at_spot_is t.disk.blocks (spot_of p) (Filling p.page) (spot_of q) (Filling next) h);
+  erased = λ a h. ⊎_elim
+      (λ k. absurd (true_is_not_false (ap t.disk.erasing (sym k.0) ∙ h) (v.vacancies.ready (spot_of p) o.free o.ready)))
+      (λ k. ⊎_elim (λ e. inl (k.1 ∙ e)) (λ e. inr (k.1 ∙ e)) (v.blocks.erased a h))
+      (at_spot_cases t.disk.blocks (spot_of p) (Filling p.page) a);
+}
+
+opened_change : {t : Translation} {p : Place} → Valid t → OpensReady t p → Change t (filled_at t p).disk
+opened_change {t} {p} v o = record {
+  keeps = λ q some ended stays needed.
+      record { there = refl; ended = ended; stays = stays; needed = put_needed t.disk.blocks (spot_of p) full needed };
+  left = λ q. inl refl;
+  ended = λ q h. h;
+  unended = λ q h. inl h;
+  blocks = opened_blocks v o;
+  vacancies = vacancies_put (spot_of p) (Filling p.page) full v.vacancies (λ q out h. h);
+  flew = λ die q cell h. h;
+  programs = λ die q cell h. let r = v.flights.programs die q cell h in record {
+    at_home = r.at_home;
+    place = r.place;
+    next = state_kept t.disk.blocks (spot_of p) (Filling p.page) r.next (λ e. free_is_not_filling o.free e);
+  };
+  erases = λ die a h. let r = v.flights.erases die a h in record {
+    at_home = r.at_home;
+    free = at_spot_other t.disk.blocks (spot_of p) (Filling p.page) a
+        (λ e. true_is_not_false (ap t.disk.erasing (sym e) ∙ r.counted)
+        (v.vacancies.ready (spot_of p) o.free o.ready)) ∙ r.free;
+    counted = r.counted;
+  };
+  freed = λ a h. ⊎_elim (λ k. absurd (full k.1)) (λ k. k.1)
+      (at_spot_is t.disk.blocks (spot_of p) (Filling p.page) a Free h);
+  stale = λ a free is. is;
+  spent = λ a h. inr h;
+  victims = λ a. victim_kept t.disk.blocks (spot_of p) (Filling p.page) (λ e. closed_is_not_free e o.free)
+      (free_is_not_bad o.free);
+  reads = v.reads;
+}
+  where
+    full : Filling p.page ≢ Free
+    full e = free_is_not_filling e refl
+
+-- where the place is the next of a block that is being filled, nothing is another
+same_blocks : (f : Spot → BlockState) (s : Spot) (x : BlockState) → f s ≡ x → at_spot f s x ≡ f
+same_blocks f s x is = λ i a. same a i
+  where
+    same : (a : Spot) → at_spot f s x a ≡ f a
+    same a = ⊎_elim (λ k. k.1 ∙ sym (ap f k.0 ∙ is)) (λ k. k.1) (at_spot_cases f s x a)
+
+opened_valid : (t : Translation) (p : Place) → Valid t → (t.disk.blocks (spot_of p) ≡ Filling p.page) ⊎ OpensReady t p →
+    Valid (filled_at t p)
+opened_valid t p v (inl is) =
+    subst (λ (b : Spot → BlockState). Valid (record t { disk = record t.disk { blocks = b } }))
+    (sym (same_blocks t.disk.blocks (spot_of p) (Filling p.page) is)) v
+opened_valid t p v (inr o) =
+    lost_pages v (opened_change v o) (λ q h. inl h) (λ q. inl refl) (v.pins, v.rests)
+
+cell_opened : {t : Translation} {cell : Cell} (p : Place) → CellRight t cell → CellRight (filled_at t p) cell
+cell_opened p c = record {
+  something = c.something;
+  known = c.known;
+  recorded = c.recorded;
+  mark = c.mark;
+  alone = c.alone;
+  unmarked = c.unmarked;
+  later = c.later;
+  flown = c.flown;
+}
+
 -- A program
 
 cell_right : {t : Translation} {cell : Cell} → Valid t → PageWaits t cell ⊎ MarkWaits t cell → CellRight t cell
@@ -253,12 +351,20 @@ pub takes_program : (t : Translation) (die : ℕ) (p : Place) (cell : Cell) → 
     MayTake t die (Some (Programming p cell)) → Valid (taken t die (Programming p cell))
 takes_program t die p cell v may =
     let o = program_owed t die p cell may in
-    let r = place_owed t die p o.place in
+    let r = o.place in
     let below = idle_below t die may.0 in
     let home = r.inside.at_home in
-    begins t die p cell v
+    let opened = opened_valid t p v r.next in
+    let next = at_spot_here t.disk.blocks (spot_of p) (Filling p.page) (spot_of p) refl in
+    begins (filled_at t p) die p cell opened
     record {
       at_home = home;
-      place = record { die = omega arith; block = r.inside.block; page = v.blocks.filling (spot_of p) p.page r.next };
-      next = r.next;
-    } (cell_right v (⊎_elim (λ h. step_cell_waits t cell v h) (λ h. inl (name_cell_waits v h.1.1 h.1.2)) o.is))
+      place = record {
+        die = omega (arith, below, home);
+        block = r.inside.block;
+        page = opened.blocks.filling (spot_of p) p.page next;
+      };
+      next = next;
+    }
+    (cell_opened p
+    (cell_right v (⊎_elim (λ h. step_cell_waits t cell v h) (λ h. inl (name_cell_waits v h.1.1 h.1.2)) o.is)))

@@ -7,16 +7,19 @@ use Rattle.power_loss.proofs.Common.{job_ended, mending_after, number_of, MarkSt
 use Rattle.power_loss.proofs.Common.{Unmarked, is_mended, Fence, Key, Place, Tag, one_mark, page_not_mark, false≢true}
 use Rattle.power_loss.proofs.Common.{none-some, none_in_empty, at_place_is, AreWholeAbove, Book, IsPlainMark, book}
 use Rattle.power_loss.proofs.Common.{FlightsRight, MarksRight, MendingRight, OnePlanRight, PagesRight, RepairingRight}
-use Rattle.power_loss.proofs.Common.{Valid}
+use Rattle.power_loss.proofs.Common.{Repairing, Stale, StaleRight, Vacancy, Valid, at_spot}
+use Rattle.power_loss.proofs.jobs.NoneStale.{WereStale, none_stale_stays}
+use Rattle.ufs_spec.specs.Moves.{freed_state}
 use Rattle.power_loss.proofs.books.LayerParts.{MarksOf, MendingOf, OwnMarkOf, UnmarkedOf}
 use Rattle.power_loss.proofs.kept_pages.PagesStay.{pins_stay, rests_stay}
 use Rattle.power_loss.proofs.kept_pages.ReadsStay.{idle_reads, reads_stay}
 use Rattle.power_loss.proofs.jobs.StandsSecurely.{at_place_here, at_place_other, secure_from, secure_moves}
 use Rattle.power_loss.proofs.stops.LeftUnmarked.{opened_below}
-use Rattle.power_loss.proofs.jobs.ProgramEnded.{AreOverwritten, Frees, GoesTo, blocks_behind}
+use Rattle.power_loss.proofs.jobs.ProgramEnded.{AreOverwritten, Frees, FreesStale, GoesTo, blocks_behind}
 use Rattle.power_loss.proofs.jobs.ProgramEnded.{blocks_freed, blocks_programmed, erase_goes_on, frees_none, frees_one}
 use Rattle.power_loss.proofs.jobs.ProgramEnded.{goes_to, keeps, needed_now, not_there, other_flight, program_goes_on}
-use Rattle.power_loss.proofs.jobs.ProgramEnded.{safe_freed, safe_marked, stay, still_victim}
+use Rattle.power_loss.proofs.jobs.ProgramEnded.{frees_stale, safe_freed, safe_marked, stay, still_victim, was_free}
+use Rattle.power_loss.proofs.jobs.ProgramEnded.{vacancies_freed, vacancies_programmed}
 
 mark_is : {m other : Mark} → m.number ≡ other.number → m.records ≡ other.records → m.fence ≡ other.fence →
     m.numbers ≡ other.numbers → m ≡ other
@@ -52,13 +55,14 @@ record MarkEnds (t : Translation) (m : Mark) : Type 0 where
       a.number ≡ other.number → a ≡ other
 
 -- the disk behind the mark, with blocks freed
-abbrev marked_disk : Translation → Place → Mark → (Spot → BlockState) → Disk
-marked_disk t p m after = record (programmed t.numbers.pages t.disk p (MarkPage m)) { blocks = after }
+abbrev marked_disk : Translation → Place → Mark → (Spot → BlockState) → (Spot → Vacancy) → Disk
+marked_disk t p m after has =
+    record (programmed t.numbers.pages t.disk p (MarkPage m)) { blocks = after; vacancies = has }
 
-abbrev marked_with : Translation → Place → Mark → (Spot → BlockState) → Translation
-marked_with t p m after =
+abbrev marked_with : Translation → Place → Mark → (Spot → BlockState) → (Spot → Vacancy) → Translation
+marked_with t p m after has =
     record t {
-      disk = marked_disk t p m after;
+      disk = marked_disk t p m after has;
       ledger = record t.ledger { newest = Some m };
       work = record t.work { mending = mending_after t.work.mending; plan = None; step = None };
     }
@@ -242,44 +246,70 @@ module _ {t : Translation} {die : ℕ} {p : Place} {m : Mark} (v : Valid t)
       no_plan = refl;
     }
 
-    mark_mending : (w : Mending) → (IsVictim (spot_of p) → ⊥) → ((s : Spot) → IsVictim s → w ≡ Mended) → MendingOf t w →
-        MendingRight (book t) (marked_disk t p m after) (record t.ledger { newest = Some m }) None None
+    mark_mending : (has : Spot → Vacancy) (w : Mending) → (IsVictim (spot_of p) → ⊥) →
+        ((s : Spot) → IsVictim s → w ≡ Mended) → MendingOf t w →
+        MendingRight (book t) (marked_disk t p m after has) (record t.ledger { newest = Some m }) None None
         (mending_after w)
-    mark_mending (Unmarked None lost) out of r = record {
+    mark_mending has (Unmarked None lost) out of r = record {
       mark = m;
       is = refl;
       right = mark_marks out (unmarked_ends None r);
       more = plain_unlost (own_flight None r).fence_is r.fence_right.1;
     }
-    mark_mending (Unmarked (Some fence) lost) out of r = record {
+    mark_mending has (Unmarked (Some fence) lost) out of r = record {
       mark = m;
       is = refl;
       right = mark_marks out (unmarked_ends (Some fence) r);
       more = mark_repairing fence r;
     }
-    mark_mending w out of r = record {
+    mark_mending has w out of r = record {
       mark = m;
       is = refl;
       right = mark_marks out (marked_ends r.is r.right);
       more = (r.right.flies die p m job).plain;
     }
 
+    -- where no victim is freed no block is to be erased that was not
+    mark_stale : (has : Spot → Vacancy) (w : Mending) → ((s : Spot) → IsVictim s → w ≡ Mended) →
+        FreesStale (blocks_behind t.numbers t.disk p) after t.disk.vacancies has IsVictim →
+        StaleRight t.numbers t.disk.blocks t.disk.vacancies t.work.step w →
+        StaleRight t.numbers after has None (mending_after w)
+    mark_stale has (Unmarked None lost) of stale r = tt
+    mark_stale has (Unmarked (Some fence) lost) of stale r =
+        let f = v.flights.mark die p m job in
+        none_stale_stays t.numbers (were_stale has stale (λ s h. absurd (unmarked (of s h)))) (r _ f.step_is)
+      where
+        unmarked : Unmarked (Some fence) lost ≡ Mended → ⊥
+        unmarked e = cc
+
+        were_stale : (has : Spot → Vacancy) →
+            FreesStale (blocks_behind t.numbers t.disk p) after t.disk.vacancies has IsVictim →
+            ((s : Spot) → IsVictim s → ⊥) → WereStale t.disk.blocks after t.disk.vacancies has
+        were_stale has stale none s free is = ⊎_elim
+            (λ k. (was_free goes s k.0, sym k.1 ∙ is)) (λ k. absurd (none s k.1)) (stale s free)
+    mark_stale has (Repairing left) of stale r = tt
+    mark_stale has Mended of stale r = tt
+
     -- All of it
 
     mark_valid : (IsVictim (spot_of p) → ⊥) → ((s : Spot) → IsVictim s → t.work.mending ≡ Mended) →
-        AreOverwritten (book t) t.ledger.standing IsVictim m.records → Valid (marked_with t p m after)
-    mark_valid out of flown = record {
+        AreOverwritten (book t) t.ledger.standing IsVictim m.records → (has : Spot → Vacancy) →
+        FreesStale (blocks_behind t.numbers t.disk p) after t.disk.vacancies has IsVictim →
+        Valid (marked_with t p m after has)
+    mark_valid out of flown has stale = record {
       book_right = v.book_right;
       frontier = v.frontier;
       pages = mark_pages;
       blocks = blocks_freed frees (blocks_programmed goes (MarkPage m) v.blocks);
+      vacancies = vacancies_freed stale (vacancies_programmed goes (MarkPage m) v.vacancies);
+      stale = mark_stale has t.work.mending of stale v.stale;
       flights = mark_flights;
       safe = let ends = mark_ends t.work.mending v.mending in
           safe_freed v.frontier frees ends.within flown ends.marked (safe_marked goes (MarkPage m) v.safe);
       numbered = λ q other h. ⊎_elim
           (λ k. let e = (v.flights.mark die p m job).number in let x = ap (λ (z : Mark). z.number) k.1 in
           omega (arith, e, x)) (λ k. v.numbered q other k.1) (this_or_old h);
-      mending = mark_mending t.work.mending out of v.mending;
+      mending = mark_mending has t.work.mending out of v.mending;
       step = record { kind = λ s e. absurd (none-some s e) };
       plan = record { mended = λ pl e. absurd (none-some pl e); one = λ pl e. absurd (none-some pl e) };
       slots = v.slots;
@@ -300,18 +330,26 @@ module _ {t : Translation} {die : ℕ} {p : Place} {m : Mark} (v : Valid t)
     }
 
   by_plan : (plan : Option Plan) → t.work.plan ≡ plan →
-      Valid (marked_with t p m (freed (programmed t.numbers.pages t.disk p (MarkPage m)) plan).blocks)
+      Valid (marked_with t p m (freed (programmed t.numbers.pages t.disk p (MarkPage m)) plan).blocks
+      (freed (programmed t.numbers.pages t.disk p (MarkPage m)) plan).vacancies)
   by_plan None e = mark_valid (frees_none) (λ h. h) (λ s h. absurd h) (λ n i x q is known h free. absurd h)
-  by_plan (Some pl) e = mark_valid (frees_one (still_victim goes one.state))
+      t.disk.vacancies (λ s h. inl (h, refl))
+  by_plan (Some pl) e = mark_valid frees
       (λ h. not_there goes one.state (sym h)) (λ s h. v.plan.mended pl e)
       (λ n i x q is known h free.
       one.flown die p m job n i x q (record { is = is; known = known; inside = h; free = free }))
+      (at_spot t.disk.vacancies pl.victim Stale) (frees_stale t.disk.vacancies frees)
     where
       one : OnePlanRight (book t) t.ledger.frontier t.ledger.standing t.disk.blocks t.disk.flights t.work.step pl
       one = v.plan.one pl e
 
--- the disk differs in its blocks alone
-freed_is : (d : Disk) (plan : Option Plan) → record d { blocks = (freed d plan).blocks } ≡ freed d plan
+      frees : Frees (blocks_behind t.numbers t.disk p) (at_spot (blocks_behind t.numbers t.disk p) pl.victim
+          (freed_state (blocks_behind t.numbers t.disk p pl.victim))) (λ s. s ≡ pl.victim)
+      frees = frees_one (still_victim goes one.state)
+
+-- the disk differs in its blocks and what is in them alone
+freed_is : (d : Disk) (plan : Option Plan) →
+    record d { blocks = (freed d plan).blocks; vacancies = (freed d plan).vacancies } ≡ freed d plan
 freed_is d None = refl
 freed_is d (Some plan) = refl
 

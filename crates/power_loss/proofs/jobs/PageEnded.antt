@@ -22,6 +22,8 @@ use Rattle.power_loss.proofs.jobs.StandsSecurely.{at_place_other, mark_stands_mo
 use Rattle.power_loss.proofs.jobs.ProgramEnded.{GoesTo, blocks_behind, blocks_programmed}
 use Rattle.power_loss.proofs.jobs.ProgramEnded.{erase_goes_on, goes_to, keeps, not_there, other_flight, program_goes_on}
 use Rattle.power_loss.proofs.jobs.ProgramEnded.{safe_written, secure_written, stay, still_free, still_victim}
+use Rattle.power_loss.proofs.jobs.NoneStale.{stale_stays}
+use Rattle.power_loss.proofs.jobs.ProgramEnded.{vacancies_programmed, was_free}
 
 -- The step under way
 
@@ -232,6 +234,9 @@ ends_page {t} die p tag body v job = record {
   frontier = page_frontier v job;
   pages = page_pages v job;
   blocks = blocks_programmed g (GroupPage tag body) v.blocks;
+  vacancies = vacancies_programmed g (GroupPage tag body) v.vacancies;
+  stale = stale_stays t.numbers t.work.mending (λ s free is. (was_free g s free, is))
+      (λ s e. (s, (behind_of (name_of tag) t.work.step e).0)) v.stale;
   flights = page_flights v job;
   safe = safe_written g tag body v.safe;
   numbered = λ q m h. v.numbered q m (old v job q m h).1;

@@ -8,7 +8,7 @@ use Rattle.power_loss.proofs.Common.{name_of, Numbers, Key, Place, Tag, page_not
 use Rattle.power_loss.proofs.Common.{cond-true, none-some, true≢false, at_die_is, at_name_cases, at_place_is}
 use Rattle.power_loss.proofs.Common.{at_spot_cases, at_spot_is, Book, IsLostNumber, IsOverwritten, IsPageAt}
 use Rattle.power_loss.proofs.Common.{BlocksRight, EraseRight, Flights, FrontierRight, IsSafe, IsSecure}
-use Rattle.power_loss.proofs.Common.{ProgramRight, SafeRight, Standing}
+use Rattle.power_loss.proofs.Common.{ProgramRight, SafeRight, Stale, Standing, VacanciesRight, Vacancy}
 use Rattle.ufs_spec.specs.Moves.{freed_state}
 use Rattle.power_loss.proofs.books.PagesByName.{overwritten_more, overwritten_twice}
 use Rattle.power_loss.proofs.books.FrontierClimbs.{stood}
@@ -16,7 +16,8 @@ use Rattle.power_loss.proofs.kept_pages.PagesStay.{StayThere, stay_written}
 use Rattle.power_loss.proofs.jobs.StandsSecurely.{Keeps, all_safe, at_place_here, at_place_other, at_spot_other}
 use Rattle.power_loss.proofs.jobs.StandsSecurely.{behind_is_not_free, closed_is_not_filling, filling_is_not_bad}
 use Rattle.power_loss.proofs.jobs.StandsSecurely.{free_is_not_filling, keeps_program, secure_from, closed_is_not_free}
-use Rattle.power_loss.proofs.jobs.StandsSecurely.{free_is_not_bad, one_filling, victim_kept}
+use Rattle.power_loss.proofs.jobs.StandsSecurely.{free_is_not_bad, one_filling, ready_is_not_stale, vacancies_put}
+use Rattle.power_loss.proofs.jobs.StandsSecurely.{victim_kept}
 
 -- a block behind a program is filled up to its next page
 behind_filling : {pages page next : ℕ} → page < pages → state_after pages page ≡ Filling next →
@@ -74,6 +75,11 @@ module _ {n : Numbers} {d : Disk} {p : Place} (g : GoesTo n d p) where
   still_victim = victim_kept d.blocks (spot_of p) (state_after n.pages p.page)
       (λ c. closed_is_not_filling c g.next) (filling_is_not_bad g.next)
 
+  -- what is free behind it was free
+  pub was_free : (s : Spot) → blocks_behind n d p s ≡ Free → d.blocks s ≡ Free
+  was_free s h = ⊎_elim (λ k. absurd (behind_is_not_free n.pages p.page k.1)) (λ k. k.1)
+      (at_spot_is d.blocks (spot_of p) (state_after n.pages p.page) s Free h)
+
   pub blocks_programmed : (y : Cell) → BlocksRight n d.cells d.finished d.blocks d.erasing →
       BlocksRight n (at_place d.cells p y) (at_place d.finished p true) (blocks_behind n d p) d.erasing
   blocks_programmed y r = record {
@@ -90,6 +96,13 @@ module _ {n : Numbers} {d : Disk} {p : Place} (g : GoesTo n d p) where
     erased = λ s h. ⊎_elim (λ e. inl (still e (λ k. free_is_not_filling k refl)))
         (λ e. inr (still e (filling_is_not_bad refl))) (r.erased s h);
   }
+
+  pub vacancies_programmed : (y : Cell) {vacancies : Spot → Vacancy} →
+      VacanciesRight d.cells d.blocks vacancies d.erasing →
+      VacanciesRight (at_place d.cells p y) (blocks_behind n d p) vacancies d.erasing
+  vacancies_programmed y r = vacancies_put (spot_of p) (state_after n.pages p.page)
+      (behind_is_not_free n.pages p.page) r
+      (λ q out h. at_place_other d.cells p y q (λ e. out (ap spot_of e)) ∙ h)
 
   -- programs and erases of other dies go on
   pub program_goes_on : {q : Place} {e : ℕ} → ProgramRight n d.blocks e q → e ≢ p.die →
@@ -217,6 +230,28 @@ blocks_freed f r = record {
   filling = λ s next h. r.filling s next (f.filling s next h);
   blank = λ q next h l. r.blank q next (f.filling (spot_of q) next h) l;
   erased = λ s h. ⊎_elim (λ e. inl (f.free s e)) (λ e. inr (f.bad s e)) (r.erased s h);
+}
+
+-- what is free behind it was so and has what it had, or is a victim and to be erased for what is in it
+abbrev pub FreesStale : (before after : Spot → BlockState) (had has : Spot → Vacancy) (IsVictim : Spot → Type 0) →
+    Type 0
+FreesStale before after had has IsVictim =
+    (s : Spot) → after s ≡ Free → ((before s ≡ Free) × (has s ≡ had s)) ⊎ ((has s ≡ Stale) × IsVictim s)
+
+pub frees_stale : {blocks after : Spot → BlockState} (vacancies : Spot → Vacancy) {victim : Spot} →
+    Frees blocks after (λ s. s ≡ victim) → FreesStale blocks after vacancies (at_spot vacancies victim Stale)
+    (λ s. s ≡ victim)
+frees_stale vacancies {victim} f s h = ⊎_elim (λ k. inr (k.1, k.0))
+    (λ k. inl (⊎_elim (λ free. free) (λ e. absurd (k.0 e)) (f.freed s h), k.1)) (at_spot_cases vacancies victim Stale s)
+
+pub vacancies_freed : {cells : Cells} {before after : Spot → BlockState} {had has : Spot → Vacancy}
+    {erasing : Spot → Bool} {IsVictim : Spot → Type 0} → FreesStale before after had has IsVictim →
+    VacanciesRight cells before had erasing →
+    VacanciesRight cells after has erasing
+vacancies_freed f r = record {
+  empty = λ q free full. ⊎_elim (λ k. r.empty q k.0 (λ e. full (k.1 ∙ e))) (λ k. absurd (full k.0))
+      (f (spot_of q) free);
+  ready = λ s free is. ⊎_elim (λ k. r.ready s k.0 (sym k.1 ∙ is)) (λ k. absurd (ready_is_not_stale is k.0)) (f s free);
 }
 
 -- what stands in what is freed is overwritten at or under the bound

@@ -14,7 +14,8 @@ use Rattle.power_loss.proofs.jobs.ReadsAndTasks.{idle_fewer}
 use Rattle.power_loss.proofs.kept_pages.ReadsStay.{idle_reads, reads_stay}
 use Rattle.power_loss.proofs.jobs.StandsSecurely.{at_place_here, at_spot_here, at_spot_other, filling_is_not_bad}
 use Rattle.power_loss.proofs.jobs.StandsSecurely.{free_is_not_filling, keeps_program_failed, program_left, blocks_bad}
-use Rattle.power_loss.proofs.jobs.StandsSecurely.{closed_is_not_filling, free_is_not_bad, state_kept, victim_kept}
+use Rattle.power_loss.proofs.jobs.StandsSecurely.{closed_is_not_filling, free_is_not_bad, state_kept, vacancies_put}
+use Rattle.power_loss.proofs.jobs.StandsSecurely.{victim_kept}
 use Rattle.power_loss.proofs.jobs.JobsBegin.{mark_no_copy, mark_no_repair}
 
 -- The place of a program
@@ -93,11 +94,14 @@ module _ (t : Translation) (die : ℕ) (p : Place) (cell : Cell) (left : Cells) 
         (fresh_at q (by q)))
         (λ k. inl k.1) (at_place_is t.disk.finished p false q false h);
     blocks = bad_blocks;
+    vacancies = vacancies_put (spot_of p) Bad (λ b. free_is_not_bad b refl) v.vacancies
+        (λ q out h. left_other q (λ at. out (ap spot_of at)) ∙ h);
     flew = (idle_fewer {f = t.disk.flights} p.die).programs;
     programs = other_place;
     erases = other_erase;
     freed = λ a h. ⊎_elim (λ k. absurd (free_is_not_bad k.1 refl)) (λ k. k.1)
         (at_spot_is t.disk.blocks (spot_of p) Bad a Free h);
+    stale = λ a free is. is;
     spent = λ a h. inr h;
     victims = λ a. victim_kept t.disk.blocks (spot_of p) Bad (λ c. closed_is_not_filling c place.next)
         (filling_is_not_bad place.next);
@@ -166,6 +170,7 @@ module _ (t : Translation) (die : ℕ) (p : Place) (m : Mark) (left : Cells) (v 
     mark = λ d q other h. absurd (none_flies t die p m v e d q h);
     repair = λ r. absurd (let f = v.flights.mark die p m e in mark_no_repair (book t) f.step_is r);
     copy = λ name q there h. absurd (let f = v.flights.mark die p m e in mark_no_copy q f.step_is h);
+    had = λ s h. let f = v.flights.mark die p m e in (_, f.step_is);
     wants = inr refl;
   }
 
@@ -176,6 +181,7 @@ module _ (t : Translation) (die : ℕ) (p : Place) (m : Mark) (left : Cells) (v 
     mark = λ d q other h. absurd (none_flies t die p m v e d q h);
     repair = λ r. absurd (let f = v.flights.mark die p m e in mark_no_repair (book t) f.step_is r);
     copy = λ name q there h. absurd (let f = v.flights.mark die p m e in mark_no_copy q f.step_is h);
+    had = λ s h. absurd (none-some s h);
     wants = inr refl;
   }
 

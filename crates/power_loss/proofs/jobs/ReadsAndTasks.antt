@@ -15,6 +15,7 @@ use Rattle.std.proofs.Common.{max}
 use Rattle.ufs_laws.proofs.jobs.JobsOnTheirDies.{read_here}
 use Rattle.ufs_spec.specs.Moves.{let_go}
 use Rattle.power_loss.proofs.books.LayerParts.{MarksOf, MendingOf, NeededOf, LookedOf, SourceOf}
+use Rattle.power_loss.proofs.jobs.NoneStale.{stale_stays}
 use Rattle.power_loss.proofs.kept_pages.LookedUpPages.{look_right}
 use Rattle.power_loss.proofs.kept_pages.PagesStay.{pins_wanted}
 use Rattle.power_loss.proofs.kept_pages.ReadsStay.{gone_reads, idle_reads, reads_begun, reads_fewer, there_wants}
@@ -235,6 +236,8 @@ content_there {t} v =
           subst (Rattle.power_loss.specs.Invariant.StepKindRight (book t) t.ledger.marks t.disk.cells t.work.mending
           t.work.plan) (sym y.2) (v.step.kind y.0 y.1),
       there_wants (λ w. NeededOf t w.place) t.work.step,
+      stale_stays t.numbers t.work.mending (λ s free is. (free, is))
+          (λ x e. let y = there_kind t.work.step e in (y.0, y.1)) v.stale,
     )
 
 pub reads_right : {t : Translation} (reader : Reader) → Valid t → Valid (read_right t reader)

@@ -7,7 +7,7 @@ use Rattle.power_loss.proofs.Common.{Programming, Spot, Touches, at_place, at_sp
 use Rattle.power_loss.proofs.Common.{flight_alone, program_failed, programmed, same_spot, spot_of, state_after, Key}
 use Rattle.power_loss.proofs.Common.{Place, mark_not_nothing, page_not_nothing, cases_Bool, cond-false, cond-true}
 use Rattle.power_loss.proofs.Common.{place_cases, spot_cases, Book, IsSafe, IsSecure, MarkStands, SafeRight, Standing}
-use Rattle.power_loss.proofs.Common.{Numbers, BlocksRight, at_spot_is}
+use Rattle.power_loss.proofs.Common.{Numbers, BlocksRight, Ready, Stale, Vacancy, VacanciesRight, at_spot_is}
 use Rattle.power_loss.proofs.books.PagesByName.{overwritten_more}
 
 -- What a change keeps
@@ -140,6 +140,20 @@ blocks_bad {blocks = blocks} s r unfinished blank = record {
     bad : (a : Spot) → blocks a ≡ Bad → at_spot blocks s Bad a ≡ Bad
     bad a h = ⊎_elim (λ e. at_spot_here blocks s Bad a e.1) (λ o. at_spot_other blocks s Bad a o.1 ∙ h) (spot_cases a s)
 
+pub ready_is_not_stale : {x : Vacancy} → x ≡ Ready → x ≡ Stale → ⊥
+ready_is_not_stale e f = cc
+
+-- a block gets a state that is not free
+pub vacancies_put : {cells left : Cells} {blocks : Spot → BlockState} {vacancies : Spot → Vacancy}
+    {erasing : Spot → Bool} (s : Spot) (x : BlockState) → x ≢ Free → VacanciesRight cells blocks vacancies erasing →
+    ((q : Place) → spot_of q ≢ s → cells q ≡ Nothing → left q ≡ Nothing) →
+    VacanciesRight left (at_spot blocks s x) vacancies erasing
+vacancies_put {blocks = blocks} s x some r blank = record {
+  empty = λ q free full. ⊎_elim (λ k. absurd (some k.1)) (λ k. blank q k.0 (r.empty q k.1 full))
+      (at_spot_is blocks s x (spot_of q) Free free);
+  ready = λ a free is. ⊎_elim (λ k. absurd (some k.1)) (λ k. r.ready a k.1 is) (at_spot_is blocks s x a Free free);
+}
+
 -- a block behind a program is closed or is being filled
 pub behind_is_not_free : (pages page : ℕ) → state_after pages page ≢ Free
 behind_is_not_free pages page h = ⊎_elim
@@ -205,7 +219,7 @@ keeps_erased {d} s erasing q some ended stays needed = record {
   there = erased_other d s q out;
   ended = ended;
   stays = at_spot_other d.erasing s false (spot_of q) out ∙ stays;
-  needed = λ h. needed (sym (at_spot_other d.blocks s (Filling 0) (spot_of q) out) ∙ h);
+  needed = needed;
 }
   where
     out : spot_of q ≢ s
@@ -224,7 +238,7 @@ keeps_erase_failed {d} s erasing same q some ended stays needed = record {
     out h = true_is_not_false erasing (sym (ap d.erasing h) ∙ stays)
 
 -- a block that is not free stays so where it gets a state that is not free
-put_needed : (f : Spot → BlockState) (s : Spot) {t : Spot} {x : BlockState} → x ≢ Free → f t ≢ Free →
+pub put_needed : (f : Spot → BlockState) (s : Spot) {t : Spot} {x : BlockState} → x ≢ Free → f t ≢ Free →
     at_spot f s x t ≢ Free
 put_needed f s {t} {x} here there h = ⊎_elim (λ k. here (sym (at_spot_here f s x t k.1) ∙ h))
     (λ k. there (sym (at_spot_other f s x t k.1) ∙ h)) (spot_cases t s)

@@ -1,7 +1,7 @@
--- A program that begins keeps a life valid, where what it writes is right.
+-- A program that begins in a block that is being filled keeps a life valid, where what it writes is right.
 use Rattle.power_loss.proofs.Common.{◌≡◌, ℕ, ◌≤◌, ◌⊎◌, List, Option, Some, refl, sym, ◌∙◌, subst, inl, inr, ⊎_elim}
 use Rattle.power_loss.proofs.Common.{Cell, GroupPage, Mark, MarkPage, Nothing, Erasing, Programming, Spot, at_die}
-use Rattle.power_loss.proofs.Common.{Entry, Mending, Plan, Translation, Unmarked, taken, Fence, Key, Place, Tag}
+use Rattle.power_loss.proofs.Common.{Entry, Mending, Plan, Translation, Unmarked, Fence, Key, Place, Tag}
 use Rattle.power_loss.proofs.Common.{at_die_is, IsKnown, IsOverwritten, book, FlightsRight, IsLaterMark, IsOwnMark}
 use Rattle.power_loss.proofs.Common.{MarkFlightRight, MarksRight, MendingRight, PlanRight, ProgramRight, StandsIn}
 use Rattle.power_loss.proofs.Common.{Valid}
@@ -127,7 +127,9 @@ module _ (t : Translation) (die : ℕ) (p : Place) (cell : Cell) (v : Valid t)
         };
   }
 
-  pub begins : Valid (taken t die (Programming p cell))
+  pub begins : Valid (record t {
+    disk = record t.disk { flights = at_die t.disk.flights die (Some (Programming p cell)) };
+  })
   begins = assumption (
     begun_flights,
     begun_mending t.work.mending refl v.mending,

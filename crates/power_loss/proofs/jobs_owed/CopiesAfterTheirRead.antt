@@ -1,5 +1,6 @@
 -- A copy begins without its content, and only the end of the read of its page brings it.
-use Rattle.power_loss.proofs.Common.{◌≡◌, ◌⊎◌, ℕ, Bool, true, false, is_none, if◌then◌else◌, Option, Some, None, refl}
+use Rattle.power_loss.proofs.Common.{◌≡◌, ◌⊎◌, ◌&&◌, ℕ, not, Bool, true, false, is_none, if◌then◌else◌, Option, Some}
+use Rattle.power_loss.proofs.Common.{None, refl}
 use Rattle.power_loss.proofs.Common.{sym, ap, ◌∙◌, subst, inl, inr, ⊎_elim, false≢true, none-some, same_Some, Cell}
 use Rattle.power_loss.proofs.Common.{GroupPage, MarkPage, Nothing, Erasing, Flight, ForRest, ForStep, ForTask}
 use Rattle.power_loss.proofs.Common.{Programming, Reader, Reading, program_failed, Name, EndJob, Ending, Move}
@@ -8,6 +9,7 @@ use Rattle.power_loss.proofs.Common.{is_kind_of, mark_again, moved, read_right, 
 use Rattle.power_loss.proofs.Common.{MayTake, Order, OrderCopy, Step, StepKind, Translation, Want, copy_begun}
 use Rattle.power_loss.proofs.Common.{due_order, has_mark_number, mark_ordered, name_of, next_order, stepped, turned}
 use Rattle.power_loss.proofs.Common.{want_at, wants_of_step, with_plan, Fence, Place}
+use Rattle.ufs_spec.specs.Translation.{has_stale}
 use Rattle.power_loss.proofs.ordered_lists.ElementsAndOrders.{IsIn}
 use Rattle.power_loss.proofs.jobs_owed.OneDieForEachJob.{read_owed}
 
@@ -85,8 +87,8 @@ unbrought t move now (inr none) name from h k = absurd (false≢true (sym none �
 turn_brings : (t : Translation) → Brings t TakeStep (turned t).work.step
 turn_brings t = by t.work.step refl
   where
-    by : (s : Option Step) → t.work.step ≡ s →
-        Brings t TakeStep (stepped t (if is_none s then next_order t t.work.mending t.work.plan else None)).work.step
+    by : (s : Option Step) → t.work.step ≡ s → Brings t TakeStep
+        (stepped t (if is_none s && not (has_stale t) then next_order t t.work.mending t.work.plan else None)).work.step
     by None is = λ name from h k. absurd (none-some (copy_of name from false) (sym is ∙ h))
     by (Some s) is = unbrought t TakeStep t.work.step (inl refl)
 

@@ -2,17 +2,17 @@
 use Rattle.power_loss.proofs.Common.{◌≡◌, ℕ, ◌<◌, ◌&&◌, not, if◌then◌else◌, Bool, true, false, ◌⊎◌, is_none, Option}
 use Rattle.power_loss.proofs.Common.{Some, None, refl, sym, ap, ◌∙◌, subst, inl, inr, ⊎_elim, filter_map, list_any}
 use Rattle.power_loss.proofs.Common.{none_is, and_parts, ltb-true, none-some, not-true, same_Some, Cell, BlockState}
-use Rattle.power_loss.proofs.Common.{Erasing, Filling, Flight, Free, Programming, Reading, Spot, place_in, spot_of}
+use Rattle.power_loss.proofs.Common.{Erasing, Filling, Flight, Free, Programming, Reading, Ready, Spot, Stale}
+use Rattle.power_loss.proofs.Common.{Untouched, Vacancy, ◌≢◌, place_in, spot_of}
 use Rattle.power_loss.proofs.Common.{below, Name, accepted_groups, before_accepted, is_standing, MayTake, Step}
 use Rattle.power_loss.proofs.Common.{Translation, cell_now, flies_name, flight_at, flight_for, is_free, is_pinned}
 use Rattle.power_loss.proofs.Common.{has_room_for_groups, is_rest_of, may_open_for_group, may_open_for_step}
 use Rattle.power_loss.proofs.Common.{names_after, next_place, some_flight, step_cell, step_flies}
 use Rattle.power_loss.proofs.Common.{waiting_name, waiting_step, Numbers, Place}
 use Rattle.power_loss.proofs.MachineWords.{IsSpot}
-use Rattle.std.proofs.Common.{find, option_map}
-use Rattle.ufs_spec.specs.Translation.{is_idle, may_be_erased, next_in}
-use Rattle.ufs_spec.specs.Translation.{spots_of}
-use Rattle.ufs_spec.specs.Translation.{waits}
+use Rattle.std.proofs.Common.{option_map}
+use Rattle.ufs_spec.specs.Translation.{flight_into, flight_or, is_idle, is_ready, is_stale, is_untouched, is_vacant}
+use Rattle.ufs_spec.specs.Translation.{lowest_vacant, may_be_used, next_erase, next_flight, next_in, spots_of, waits}
 use Rattle.power_loss.proofs.ordered_lists.ElementsAndOrders.{IsIn, below_in, first_in, found_in, map_in, mapped_in}
 
 -- The blocks of a die
@@ -31,31 +31,147 @@ spot_in {n} {die} {s} h =
 pub idle_below : (t : Translation) (die : ℕ) → is_idle t die ≡ true → die < t.numbers.dies
 idle_below t die h = ltb-true die t.numbers.dies (and_parts _ (is_none (t.disk.flights die)) h).0
 
+-- Blocks that may be used
+
+pub free_is : (x : BlockState) → is_free x ≡ true → x ≡ Free
+free_is Free h = refl
+free_is state h = cc
+
+-- a free block of the die, in which it is so and of which nobody keeps a page
+pub record VacantOwed (t : Translation) (is : Vacancy → Bool) (die : ℕ) (s : Spot) : Type 0 where
+  pub inside : IsSpotOf t.numbers die s
+  pub free : t.disk.blocks s ≡ Free
+  pub vacancy : is (t.disk.vacancies s) ≡ true
+  pub unkept : is_pinned t s ≡ false
+
+pub vacant_owed : (t : Translation) (is : Vacancy → Bool) (die : ℕ) (s : Spot) → lowest_vacant t is die ≡ Some s →
+    VacantOwed t is die s
+vacant_owed t is die s e =
+    let x = found_in (may_be_used t is) (spots_of t.numbers die) s e in
+    let b = and_parts (is_vacant t is s) (not (is_pinned t s)) x.1 in
+    let c = and_parts (is_free (t.disk.blocks s)) (is (t.disk.vacancies s)) b.0 in
+    record {
+      inside = spot_in x.0;
+      free = free_is (t.disk.blocks s) c.0;
+      vacancy = c.1;
+      unkept = not-true (is_pinned t s) b.1;
+    }
+
+-- what is in a block that is erased
+
+ready_is : (x : Vacancy) → is_ready x ≡ true → x ≡ Ready
+ready_is Ready h = refl
+ready_is x h = cc
+
+pub stale_is : (x : Vacancy) → is_stale x ≡ true → x ≡ Stale
+stale_is Stale h = refl
+stale_is x h = cc
+
+untouched_is : (x : Vacancy) → is_untouched x ≡ true → x ≡ Untouched
+untouched_is Untouched h = refl
+untouched_is x h = cc
+
+stale_not_ready : {x : Vacancy} → x ≡ Stale → x ≢ Ready
+stale_not_ready e h = let no : Stale ≡ Ready = sym e ∙ h in cc
+
+untouched_not_ready : {x : Vacancy} → x ≡ Untouched → x ≢ Ready
+untouched_not_ready e h = let no : Untouched ≡ Ready = sym e ∙ h in cc
+
+-- The place of a program
+
+-- the place is the first of a free block that was erased in this life
+pub record OpensReady (t : Translation) (p : Place) : Type 0 where
+  pub free : t.disk.blocks (spot_of p) ≡ Free
+  pub ready : t.disk.vacancies (spot_of p) ≡ Ready
+  pub unkept : is_pinned t (spot_of p) ≡ false
+  pub first : p.page ≡ 0
+
+-- the place is the next of a block that is being filled, or such a first one
+pub record PlaceOwed (t : Translation) (die : ℕ) (p : Place) : Type 0 where
+  pub inside : IsSpotOf t.numbers die (spot_of p)
+  pub next : (t.disk.blocks (spot_of p) ≡ Filling p.page) ⊎ OpensReady t p
+
+next_is : (s : Spot) (x : BlockState) {p : Place} → next_in s x ≡ Some p → (place_in s p.page ≡ p)
+    × (x ≡ Filling p.page)
+next_is s (Filling next) {p} h =
+    let e = same_Some (place_in s next) p h in
+    (ap (λ (z : Place). place_in s z.page) (sym e) ∙ e, ap (λ (z : Place). Filling z.page) e)
+next_is s state {p} h = absurd (none-some p h)
+
+-- the next place of a die is that of a block of it that is being filled
+pub next_owed : (t : Translation) (die : ℕ) (p : Place) → next_place t die ≡ Some p →
+    IsSpotOf t.numbers die (spot_of p) × (t.disk.blocks (spot_of p) ≡ Filling p.page)
+next_owed t die p h =
+    let next = λ (s : Spot). next_in s (t.disk.blocks s) in
+    let r = mapped_in next (spots_of t.numbers die) (first_in (filter_map next (spots_of t.numbers die)) h) in
+    let k = next_is r.0 (t.disk.blocks r.0) r.2 in
+    let e : r.0 ≡ spot_of p = ap spot_of k.0 in
+    (subst (IsSpotOf t.numbers die) e (spot_in r.1), ap t.disk.blocks (sym e) ∙ k.1)
+
+place_owed : (t : Translation) (die : ℕ) (p : Place) → next_place t die ≡ Some p → PlaceOwed t die p
+place_owed t die p h = let o = next_owed t die p h in record { inside = o.0; next = inl o.1 }
+
+ready_owed : (t : Translation) (die : ℕ) (s : Spot) → lowest_vacant t is_ready die ≡ Some s →
+    PlaceOwed t die (place_in s 0)
+ready_owed t die s e =
+    let o = vacant_owed t is_ready die s e in
+    record {
+      inside = o.inside;
+      next = inr (record {
+        free = o.free;
+        ready = ready_is (t.disk.vacancies s) o.vacancy;
+        unkept = o.unkept;
+        first = refl;
+      });
+    }
+
 -- What a program or an erase is
 
 pub record ProgramOwed (t : Translation) (die : ℕ) (p : Place) (cell : Cell) (w : Option Cell) (waiting : Option Name) :
     Type 0 where
-  pub place : next_place t die ≡ Some p
+  pub place : PlaceOwed t die p
   pub is : (w ≡ Some cell) ⊎ ((w ≡ None) × ((name : Name) × (waiting ≡ Some name) × (cell ≡ cell_now t.ledger name)))
 
 -- what a flight that is owed is
 abbrev IsFlight : Translation → ℕ → Option Cell → Option Name → Flight → Type 0
 IsFlight t die w waiting (Programming p cell) = ProgramOwed t die p cell w waiting
-IsFlight t die w waiting (Erasing s) = find (may_be_erased t) (spots_of t.numbers die) ≡ Some s
+IsFlight t die w waiting (Erasing s) =
+    (lowest_vacant t is_stale die ≡ Some s) ⊎ (lowest_vacant t is_untouched die ≡ Some s)
 IsFlight t die w waiting (Reading reader place) = ⊥
 
-erase_flight : (t : Translation) (die : ℕ) (w : Option Cell) (waiting : Option Name) {f : Flight} (o : Option Spot) →
-    find (may_be_erased t) (spots_of t.numbers die) ≡ o → option_map Erasing o ≡ Some f → IsFlight t die w waiting f
-erase_flight t die w waiting {f} None is h = absurd (none-some f h)
-erase_flight t die w waiting {f} (Some s) is h = subst (IsFlight t die w waiting) (same_Some (Erasing s) f h) is
+-- an erase that is owed is that of the lowest block that may be used
+pub erase_told : (o : Option Spot) {f : Flight} → option_map Erasing o ≡ Some f →
+    (s : Spot) × (o ≡ Some s) × (Erasing s ≡ f)
+erase_told None {f} h = absurd (none-some f h)
+erase_told (Some s) {f} h = (s, refl, same_Some (Erasing s) f h)
+
+untouched_flight : (t : Translation) (die : ℕ) (w : Option Cell) (waiting : Option Name) {f : Flight} →
+    next_erase t is_untouched die ≡ Some f → IsFlight t die w waiting f
+untouched_flight t die w waiting {f} h =
+    let r = erase_told (lowest_vacant t is_untouched die) h in subst (IsFlight t die w waiting) r.2 (inr r.1)
+
+stale_flight : (t : Translation) (die : ℕ) (w : Option Cell) (waiting : Option Name) {f : Flight} →
+    next_erase t is_stale die ≡ Some f → IsFlight t die w waiting f
+stale_flight t die w waiting {f} h =
+    let r = erase_told (lowest_vacant t is_stale die) h in subst (IsFlight t die w waiting) r.2 (inl r.1)
+
+into_flight : (t : Translation) (die : ℕ) {cell : Cell} (o : Option Spot) {w : Option Cell} {waiting : Option Name}
+    {f : Flight} → lowest_vacant t is_ready die ≡ o →
+    (w ≡ Some cell) ⊎ ((w ≡ None) × ((name : Name) × (waiting ≡ Some name) × (cell ≡ cell_now t.ledger name))) →
+    flight_into t die cell o ≡ Some f → IsFlight t die w waiting f
+into_flight t die {cell} (Some s) {w} {waiting} {f} e is h =
+    subst (IsFlight t die w waiting) (same_Some (Programming (place_in s 0) cell) f h)
+    (record { place = ready_owed t die s e; is = is })
+into_flight t die None {w} {waiting} e is h = untouched_flight t die w waiting h
 
 at_flight : (t : Translation) (die : ℕ) (opens : Bool) {cell : Cell} (place : Option Place) {w : Option Cell}
     {waiting : Option Name} {f : Flight} → next_place t die ≡ place →
     (w ≡ Some cell) ⊎ ((w ≡ None) × ((name : Name) × (waiting ≡ Some name) × (cell ≡ cell_now t.ledger name))) →
     flight_at t die opens cell place ≡ Some f → IsFlight t die w waiting f
 at_flight t die opens {cell} (Some p) {w} {waiting} {f} e is h =
-    subst (IsFlight t die w waiting) (same_Some (Programming p cell) f h) (record { place = e; is = is })
-at_flight t die true None {w} {waiting} {f} e is h = erase_flight t die w waiting _ refl h
+    subst (IsFlight t die w waiting) (same_Some (Programming p cell) f h)
+    (record { place = place_owed t die p e; is = is })
+at_flight t die true None {w} {waiting} {f} e is h = into_flight t die (lowest_vacant t is_ready die) refl is h
 at_flight t die false None {f = f} e is h = absurd (none-some f h)
 
 -- what is owed for a group alone is owed where room is for groups
@@ -77,28 +193,43 @@ flight_is t die None (Some name) {f} h = at_flight t die (may_open_for_group t) 
     (inr (refl, (name, refl, refl))) (with_room t die name h).1
 flight_is t die None None {f} h = absurd (none-some f h)
 
--- Erases
+-- the first of two jobs, or the second where there is no first
+pub or_told : (o other : Option Flight) {f : Flight} → flight_or o other ≡ Some f →
+    (o ≡ Some f) ⊎ ((o ≡ None) × (other ≡ Some f))
+or_told (Some flight) other h = inl h
+or_told None other h = inr (refl, h)
 
-free_is : (x : BlockState) → is_free x ≡ true → x ≡ Free
-free_is Free h = refl
-free_is state h = cc
+next_is_flight : (t : Translation) (die : ℕ) {f : Flight} → next_flight t die ≡ Some f →
+    IsFlight t die (waiting_step t t.work.step) (waiting_name t) f
+next_is_flight t die {f} h = ⊎_elim (λ k. stale_flight t die (waiting_step t t.work.step) (waiting_name t) k)
+    (λ k. flight_is t die (waiting_step t t.work.step) (waiting_name t) k.1)
+    (or_told (next_erase t is_stale die) (flight_for t die (waiting_step t t.work.step) (waiting_name t)) h)
+
+-- Erases
 
 pub record EraseOwed (t : Translation) (die : ℕ) (s : Spot) : Type 0 where
   pub idle : t.disk.flights die ≡ None
   pub inside : IsSpotOf t.numbers die s
   pub free : t.disk.blocks s ≡ Free
   pub unkept : is_pinned t s ≡ false
+  -- it was not erased in this life
+  pub unready : t.disk.vacancies s ≢ Ready
 
 pub erase_owed : (t : Translation) (die : ℕ) (s : Spot) → MayTake t die (Some (Erasing s)) → EraseOwed t die s
-erase_owed t die s may =
-    let e = flight_is t die (waiting_step t t.work.step) (waiting_name t) may.1.1 in
-    let x = found_in (may_be_erased t) (spots_of t.numbers die) s e in
-    let b = and_parts (is_free (t.disk.blocks s)) (not (is_pinned t s)) x.1 in
-    record {
+erase_owed t die s may = ⊎_elim
+    (λ k. let o = vacant_owed t is_stale die s k in
+    of_vacant o (stale_not_ready (stale_is (t.disk.vacancies s) o.vacancy)))
+    (λ k. let o = vacant_owed t is_untouched die s k in
+    of_vacant o (untouched_not_ready (untouched_is (t.disk.vacancies s) o.vacancy)))
+    (next_is_flight t die may.1.1)
+  where
+    of_vacant : {is : Vacancy → Bool} → VacantOwed t is die s → t.disk.vacancies s ≢ Ready → EraseOwed t die s
+    of_vacant o unready = record {
       idle = none_is (t.disk.flights die) (and_parts _ (is_none (t.disk.flights die)) may.0).1;
-      inside = spot_in x.0;
-      free = free_is (t.disk.blocks s) b.0;
-      unkept = not-true (is_pinned t s) b.1;
+      inside = o.inside;
+      free = o.free;
+      unkept = o.unkept;
+      unready = unready;
     }
 
 -- the block is one of the dies'
@@ -107,32 +238,11 @@ take_inside t die s may =
     let i = (erase_owed t die s may).inside in
     record { die = subst (λ d. d < t.numbers.dies) (sym i.at_home) (idle_below t die may.0); block = i.block }
 
--- The place of a program
-
-pub record PlaceOwed (t : Translation) (die : ℕ) (p : Place) : Type 0 where
-  pub inside : IsSpotOf t.numbers die (spot_of p)
-  pub next : t.disk.blocks (spot_of p) ≡ Filling p.page
-
-next_is : (s : Spot) (x : BlockState) {p : Place} → next_in s x ≡ Some p → (place_in s p.page ≡ p)
-    × (x ≡ Filling p.page)
-next_is s (Filling next) {p} h =
-    let e = same_Some (place_in s next) p h in
-    (ap (λ (z : Place). place_in s z.page) (sym e) ∙ e, ap (λ (z : Place). Filling z.page) e)
-next_is s state {p} h = absurd (none-some p h)
-
-pub place_owed : (t : Translation) (die : ℕ) (p : Place) → next_place t die ≡ Some p → PlaceOwed t die p
-place_owed t die p h =
-    let next = λ (s : Spot). next_in s (t.disk.blocks s) in
-    let r = mapped_in next (spots_of t.numbers die) (first_in (filter_map next (spots_of t.numbers die)) h) in
-    let k = next_is r.0 (t.disk.blocks r.0) r.2 in
-    let e : r.0 ≡ spot_of p = ap spot_of k.0 in
-    record { inside = subst (IsSpotOf t.numbers die) e (spot_in r.1); next = ap t.disk.blocks (sym e) ∙ k.1 }
-
 -- What is programmed
 
 pub program_owed : (t : Translation) (die : ℕ) (p : Place) (cell : Cell) → MayTake t die (Some (Programming p cell)) →
     ProgramOwed t die p cell (waiting_step t t.work.step) (waiting_name t)
-program_owed t die p cell may = flight_is t die (waiting_step t t.work.step) (waiting_name t) may.1.1
+program_owed t die p cell may = next_is_flight t die may.1.1
 
 given_if : {A : Type 0} (b : Bool) {x y : A} → (if b then Some x else None) ≡ Some y → (b ≡ true) × (x ≡ y)
 given_if true {x} {y} h = (refl, same_Some x y h)

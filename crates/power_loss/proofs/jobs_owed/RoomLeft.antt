@@ -2,8 +2,9 @@
 use Rattle.power_loss.proofs.Common.{◌≡◌, ℕ, suc, ◌+◌, ◌*◌, ◌<◌, ◌≤◌, ◌⊎◌, not, Bool, true, false, List, [], ◌∷◌}
 use Rattle.power_loss.proofs.Common.{Option, Some, None, is_some, refl, sym, ap, ◌∙◌, inl, inr, ⊎_elim, arith}
 use Rattle.power_loss.proofs.Common.{filter_map, list_any, false≢true, leb-true, ltb-true, none-some, not-true}
-use Rattle.power_loss.proofs.Common.{or_cases, or_left, or_right, Cell, Erasing, Filling, Flight, Programming}
-use Rattle.power_loss.proofs.Common.{Spot, below, place_in, Name, MayTake, Translation, cell_now, flight_at, flight_for}
+use Rattle.power_loss.proofs.Common.{or_cases, or_left, or_right, same_Some, ◌≢◌, subst, Cell, Erasing, Filling, Flight}
+use Rattle.power_loss.proofs.Common.{Free, Programming, Reading, Spot, Stale, below, place_in, spot_of, Name, MayTake}
+use Rattle.power_loss.proofs.Common.{Translation, cell_now, flight_at, flight_for}
 use Rattle.power_loss.proofs.Common.{has_open_block, has_room_for_groups, is_free, may_open_for_group}
 use Rattle.power_loss.proofs.Common.{may_open_for_step, next_place, some_flight, waiting_name, waiting_step, Numbers}
 use Rattle.power_loss.proofs.Common.{Place}
@@ -11,10 +12,12 @@ use Rattle.power_loss.proofs.MachineWords.{IsSpot}
 use Rattle.std.proofs.Math.Nat.{lt_of_mul-lt-mul_right}
 use Rattle.std.proofs.lemmas.Grind.{div_ceil_times}
 use Rattle.std.specs.Int.{div_ceil}
-use Rattle.ufs_spec.specs.Translation.{count_blocks, first_of, flies_erase, next_in, own_room, spots_of}
-use Rattle.power_loss.specs.OwnRoom.{IsOwnRoom, IsWaitingStep}
+use Rattle.ufs_spec.specs.Translation.{count_blocks, first_of, flies_erase, is_stale, lowest_vacant, next_erase}
+use Rattle.ufs_spec.specs.Translation.{next_flight, next_in, own_room, spots_of}
+use Rattle.power_loss.specs.OwnRoom.{IsOwnRoom, IsWaitingStep, OpensBlock}
 use Rattle.power_loss.proofs.collected_blocks.FewestLivePages.{in_any}
-use Rattle.power_loss.proofs.jobs_owed.ProgramsAndErases.{program_owed, with_room}
+use Rattle.power_loss.proofs.jobs_owed.ProgramsAndErases.{erase_told, next_owed, or_told, program_owed, stale_is}
+use Rattle.power_loss.proofs.jobs_owed.ProgramsAndErases.{vacant_owed, with_room}
 use Rattle.power_loss.proofs.ordered_lists.ElementsAndOrders.{IsIn, in_below, in_map, in_mapped}
 
 -- How much room it is
@@ -46,49 +49,86 @@ room_for t die None (Some name) h none = (with_room t die name h).0
 room_for t die None None {f} h none = absurd (none-some f h)
 room_for t die (Some cell) name h none = absurd (none-some cell (sym none))
 
+-- what is programmed is not the erase of a block for pages that may go
+program_later : (t : Translation) (die : ℕ) (p : Place) (cell : Cell) →
+    next_flight t die ≡ Some (Programming p cell) →
+    flight_for t die (waiting_step t t.work.step) (waiting_name t) ≡ Some (Programming p cell)
+program_later t die p cell h = ⊎_elim (λ k. absurd (apart (erase_told (lowest_vacant t is_stale die) k).2)) (λ k. k.1)
+    (or_told (next_erase t is_stale die) (flight_for t die (waiting_step t t.work.step) (waiting_name t)) h)
+  where
+    apart : {s : Spot} → Erasing s ≡ Programming p cell → ⊥
+    apart e = cc
+
 pub page_room : (t : Translation) (die : ℕ) (p : Place) (cell : Cell) → MayTake t die (Some (Programming p cell)) →
     IsWaitingStep t cell ⊎ (own_room t.numbers ≤ count_blocks t is_free)
 page_room t die p cell may = ⊎_elim (λ step. inl step)
     (λ group. inr (leb-true (own_room t.numbers) (count_blocks t is_free)
-    (room_for t die (waiting_step t t.work.step) (waiting_name t) may.1.1 group.0))) (program_owed t die p cell may).is
+    (room_for t die (waiting_step t t.work.step) (waiting_name t) (program_later t die p cell may.1.1) group.0)))
+    (program_owed t die p cell may).is
 
--- a block is erased where one may be opened
-opened_at : (t : Translation) (die : ℕ) (opens : Bool) (cell : Cell) (at : Option Place) (s : Spot) →
-    flight_at t die opens cell at ≡ Some (Erasing s) → opens ≡ true
-opened_at t die opens cell (Some p) s h = absurd (apart h)
+-- What opens a block
+
+stale_opens_none : (t : Translation) (die : ℕ) (flight : Flight) → next_erase t is_stale die ≡ Some flight →
+    OpensBlock t flight → ⊥
+stale_opens_none t die flight h opens =
+    let r = erase_told (lowest_vacant t is_stale die) h in
+    let other : t.disk.vacancies r.0 ≢ Stale = subst (OpensBlock t) (sym r.2) opens in
+    other (stale_is (t.disk.vacancies r.0) (vacant_owed t is_stale die r.0 r.1).vacancy)
+
+-- so what opens one is for the page that waits
+opens_later : (t : Translation) (die : ℕ) (flight : Flight) → OpensBlock t flight →
+    next_flight t die ≡ Some flight →
+    flight_for t die (waiting_step t t.work.step) (waiting_name t) ≡ Some flight
+opens_later t die flight opens h = ⊎_elim (λ k. absurd (stale_opens_none t die flight k opens)) (λ k. k.1)
+    (or_told (next_erase t is_stale die) (flight_for t die (waiting_step t t.work.step) (waiting_name t)) h)
+
+-- a block is opened where one may be
+opened_at : (t : Translation) (die : ℕ) (opens : Bool) (cell : Cell) (at : Option Place) (flight : Flight) →
+    next_place t die ≡ at → OpensBlock t flight → flight_at t die opens cell at ≡ Some flight → opens ≡ true
+opened_at t die opens cell (Some p) flight is h e =
+    let free : t.disk.blocks (spot_of p) ≡ Free =
+    subst (OpensBlock t) (sym (same_Some (Programming p cell) flight e)) h in
+    absurd (apart (sym free ∙ (next_owed t die p is).1))
   where
-    apart : Some (Programming p cell) ≡ Some (Erasing s) → ⊥
+    apart : Free ≡ Filling p.page → ⊥
     apart e = cc
-opened_at t die true cell None s h = refl
-opened_at t die false cell None s h = absurd (none-some (Erasing s) h)
+opened_at t die true cell None flight is h e = refl
+opened_at t die false cell None flight is h e = absurd (none-some flight e)
 
 -- for the page of a step that waits, or for a group
-opened_for : (t : Translation) (die : ℕ) (w : Option Cell) (name : Option Name) (s : Spot) →
-    flight_for t die w name ≡ Some (Erasing s) →
+opened_for : (t : Translation) (die : ℕ) (w : Option Cell) (name : Option Name) (flight : Flight) →
+    OpensBlock t flight → flight_for t die w name ≡ Some flight →
     ((cell : Cell) × (w ≡ Some cell) × (may_open_for_step t ≡ true)) ⊎ (may_open_for_group t ≡ true)
-opened_for t die (Some cell) name s h =
-    inl (cell, refl, opened_at t die (may_open_for_step t) cell (next_place t die) s h)
-opened_for t die None (Some name) s h = inr (opened_at t die (may_open_for_group t) (cell_now t.ledger name)
-    (next_place t die) s (with_room t die name h).1)
-opened_for t die None None s h = absurd (none-some (Erasing s) h)
+opened_for t die (Some cell) name flight opens h =
+    inl (cell, refl, opened_at t die (may_open_for_step t) cell (next_place t die) flight refl opens h)
+opened_for t die None (Some name) flight opens h =
+    inr (opened_at t die (may_open_for_group t) (cell_now t.ledger name) (next_place t die) flight refl opens
+    (with_room t die name h).1)
+opened_for t die None None flight opens h = absurd (none-some flight h)
 
-given_for : (t : Translation) (die : ℕ) (s : Spot) → MayTake t die (Some (Erasing s)) →
+given_for : (t : Translation) (die : ℕ) (flight : Flight) → MayTake t die (Some flight) → OpensBlock t flight →
     ((cell : Cell) × IsWaitingStep t cell × (may_open_for_step t ≡ true)) ⊎ (may_open_for_group t ≡ true)
-given_for t die s may = opened_for t die (waiting_step t t.work.step) (waiting_name t) s may.1.1
+given_for t die (Erasing s) may opens = opened_for t die (waiting_step t t.work.step) (waiting_name t) (Erasing s) opens
+    (opens_later t die (Erasing s) opens may.1.1)
+given_for t die (Programming p cell) may opens =
+    opened_for t die (waiting_step t t.work.step) (waiting_name t) (Programming p cell) opens
+    (opens_later t die (Programming p cell) opens may.1.1)
+given_for t die (Reading reader place) may opens = absurd opens
 
-pub block_room : (t : Translation) (die : ℕ) (s : Spot) → MayTake t die (Some (Erasing s)) →
+pub block_room : (t : Translation) (die : ℕ) (flight : Flight) → MayTake t die (Some flight) → OpensBlock t flight →
     ((cell : Cell) × IsWaitingStep t cell) ⊎ (own_room t.numbers < count_blocks t is_free)
-block_room t die s may = ⊎_elim (λ step. inl (step.0, step.1))
-    (λ group. inr (ltb-true (own_room t.numbers) (count_blocks t is_free) group)) (given_for t die s may)
+block_room t die flight may opens = ⊎_elim (λ step. inl (step.0, step.1))
+    (λ group. inr (ltb-true (own_room t.numbers) (count_blocks t is_free) group)) (given_for t die flight may opens)
 
 -- What is given below the room
 
-none_open : (t : Translation) (die : ℕ) (s : Spot) → MayTake t die (Some (Erasing s)) →
+none_open : (t : Translation) (die : ℕ) (flight : Flight) → MayTake t die (Some flight) → OpensBlock t flight →
     count_blocks t is_free < own_room t.numbers → has_open_block t ≡ false
-none_open t die s may few = ⊎_elim (λ step. by (or_cases (has_room_for_groups t) (not (has_open_block t)) step.2))
+none_open t die flight may opens few =
+    ⊎_elim (λ step. by (or_cases (has_room_for_groups t) (not (has_open_block t)) step.2))
     (λ group. let room = ltb-true (own_room t.numbers) (count_blocks t is_free) group in
     absurd (omega (arith, room, few)))
-    (given_for t die s may)
+    (given_for t die flight may opens)
   where
     by : (has_room_for_groups t ≡ true) ⊎ (not (has_open_block t) ≡ true) → has_open_block t ≡ false
     by (inl room) = let enough = leb-true (own_room t.numbers) (count_blocks t is_free) room in
@@ -120,13 +160,14 @@ erased_open t die s there job =
     (in_any (λ d. flies_erase (t.disk.flights d)) die (below t.numbers.dies) (in_below t.numbers.dies die there)
     (ap flies_erase job))
 
-pub none_filled : (t : Translation) (die : ℕ) (s opened : Spot) (next : ℕ) → MayTake t die (Some (Erasing s)) →
-    count_blocks t is_free < own_room t.numbers → IsSpot t.numbers opened → t.disk.blocks opened ≡ Filling next → ⊥
-none_filled t die s opened next may few inside filling =
-    false≢true (sym (none_open t die s may few) ∙ filled_open t opened next inside filling)
+pub none_filled : (t : Translation) (die : ℕ) (flight : Flight) (opened : Spot) (next : ℕ) →
+    MayTake t die (Some flight) → OpensBlock t flight → count_blocks t is_free < own_room t.numbers →
+    IsSpot t.numbers opened → t.disk.blocks opened ≡ Filling next → ⊥
+none_filled t die flight opened next may opens few inside filling =
+    false≢true (sym (none_open t die flight may opens few) ∙ filled_open t opened next inside filling)
 
-pub none_erased : (t : Translation) (die other : ℕ) (s opened : Spot) → MayTake t die (Some (Erasing s)) →
-    count_blocks t is_free < own_room t.numbers → other < t.numbers.dies →
+pub none_erased : (t : Translation) (die other : ℕ) (flight : Flight) (opened : Spot) → MayTake t die (Some flight) →
+    OpensBlock t flight → count_blocks t is_free < own_room t.numbers → other < t.numbers.dies →
     t.disk.flights other ≡ Some (Erasing opened) → ⊥
-none_erased t die other s opened may few there job =
-    false≢true (sym (none_open t die s may few) ∙ erased_open t other opened there job)
+none_erased t die other flight opened may opens few there job =
+    false≢true (sym (none_open t die flight may opens few) ∙ erased_open t other opened there job)

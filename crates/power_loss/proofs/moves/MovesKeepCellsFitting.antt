@@ -1,29 +1,27 @@
 -- What each move leaves of a translation layer whose pages, once programmed, open as they are meant to.
-use Rattle.power_loss.proofs.Common.{◌≡◌, ℕ, zero, suc, ◌+◌, ◌-◌, ◌≤◌, ◌&&◌, Bool, true, false, not, List, [], ◌∷◌}
+use Rattle.power_loss.proofs.Common.{◌≡◌, ℕ, zero, suc, ◌+◌, ◌-◌, ◌≤◌, Bool, true, List, [], ◌∷◌}
 use Rattle.power_loss.proofs.Common.{Option, Some, None, length, drop, refl, sym, ap, ◌∙◌, subst, ⊎_elim, arith}
-use Rattle.power_loss.proofs.Common.{option_map, leb-true, length-append, get_or_from_slice_get, slice_get_within}
+use Rattle.power_loss.proofs.Common.{leb-true, length-append, get_or_from_slice_get, slice_get_within}
 use Rattle.power_loss.proofs.Common.{false≢true, none-some, same_Some, Cell, IsCell, IsFence, Mark, MarkPage, Disk}
-use Rattle.power_loss.proofs.Common.{Erasing, Flight, Programming, Reader, Spot, at_die, page_of, Contents, Group}
+use Rattle.power_loss.proofs.Common.{Flight, Programming, Reader, at_die, page_of, Contents, Group}
 use Rattle.power_loss.proofs.Common.{IsBlock, IsKey, IsSettingsBody, Item, Entry, Ledger, Name, at_name}
 use Rattle.power_loss.proofs.Common.{before_accepted, next_number, is_standing, Accept, EndJob, IsAllowedMove, LetGo}
 use Rattle.power_loss.proofs.Common.{LetGoAll, Move, GiveJob, TakeStep, mending_after, moved, without_reader}
 use Rattle.power_loss.proofs.Common.{IsFirstFence, shape_of_numbers, CopyStep, MarkStep, Mended, Mending, MayTake, Plan}
-use Rattle.power_loss.proofs.Common.{Repairing, RepairStep, Step, StepKind, Translation, Unmarked, flight_at}
-use Rattle.power_loss.proofs.Common.{has_mark_number, cell_now, flight_for, is_mended, has_number, name_of}
-use Rattle.power_loss.proofs.Common.{repair_ordered, may_open_for_group, may_open_for_step, next_place}
-use Rattle.power_loss.proofs.Common.{waiting_name, step_flies, records_now}
-use Rattle.power_loss.proofs.Common.{step_cell, taken, waiting_step, Numbers, Fence, Key, Place, Book, book}
+use Rattle.power_loss.proofs.Common.{Repairing, RepairStep, Step, StepKind, Translation, Unmarked}
+use Rattle.power_loss.proofs.Common.{has_mark_number, cell_now, is_mended, has_number, name_of}
+use Rattle.power_loss.proofs.Common.{repair_ordered, records_now}
+use Rattle.power_loss.proofs.Common.{step_cell, taken, Numbers, Fence, Key, Place, Book, book}
 use Rattle.power_loss.proofs.Common.{last_number, Flights, FenceRight, IsLastRepair, MarkFlightRight, MendingRight}
 use Rattle.power_loss.proofs.Common.{StepKindRight, Valid, program_unread as program_left}
 use Rattle.power_loss.proofs.MachineWords.{IsConfig, BookFits, EntryFits}
-use Rattle.std.specs.Prelude.{if◌then◌else◌, slice_get}
+use Rattle.std.specs.Prelude.{slice_get}
 use Rattle.std.proofs.lemmas.Bool.{ltb-true}
 use Rattle.ufs_spec.specs.Pages.{group_bound}
 use Rattle.ufs_spec.specs.Pages.{greatest_number}
 use Rattle.ufs_spec.specs.Ledger.{entry_of}
-use Rattle.ufs_spec.specs.Translation.{IsOwed}
 use Rattle.power_loss.proofs.moves.MovesKeepValid.{all_keep}
-use Rattle.power_loss.proofs.jobs_owed.ProgramsAndErases.{with_room}
+use Rattle.power_loss.proofs.jobs_owed.ProgramsAndErases.{NameOwed, page_owed}
 use Rattle.power_loss.proofs.books.PagesByName.{IsAdded, grown, page_splits}
 use Rattle.power_loss.proofs.books.FrontierClimbs.{climb}
 use Rattle.ufs_laws.proofs.walk.LayerEffects.{ComesOf, Effect, MarkAgain, MarkOrdered, MarkWritten, PageWritten}
@@ -139,16 +137,6 @@ accepts_fit {t} claimed g f may = assumption (
 
 -- What is programmed
 
-no_erase : (x : Option Spot) (p : Place) (cell : Cell) → option_map Erasing x ≡ Some (Programming p cell) → ⊥
-no_erase None p cell h = cc
-no_erase (Some s) p cell h = cc
-
-flight_cell : (t : Translation) (die : ℕ) (opens : Bool) {new : Cell} (at : Option Place) (p : Place) {cell : Cell} →
-    flight_at t die opens new at ≡ Some (Programming p cell) → new ≡ cell
-flight_cell t die opens (Some q) p h = cc
-flight_cell t die true None p {cell} h = absurd (no_erase _ p cell h)
-flight_cell t die false None p h = cc
-
 abbrev IsFit : Cell → Type 0
 IsFit cell = IsCell (page_of cell) cell
 
@@ -196,35 +184,17 @@ step_cell_fits {t} (MarkStep number fence) f r =
 step_cell_fits {t} (CopyStep name from) f r = cell_now_fits name f
 step_cell_fits {t} (RepairStep name from) f r = cell_now_fits name f
 
-waiting_cell : (t : Translation) (step : Option Step) {cell : Cell} → waiting_step t step ≡ Some cell →
-    (x : Step) × (step ≡ Some x) × (step_cell t x.kind ≡ cell)
-waiting_cell t None h = cc
-waiting_cell t (Some step) {cell} h = (step, refl, by (step.there && not (step_flies t step.kind)) h)
-  where
-    by : (b : Bool) → (if b then Some (step_cell t step.kind) else None) ≡ Some cell → step_cell t step.kind ≡ cell
-    by true e = cc
-    by false e = cc
-
-owed_fits : {t : Translation} (die : ℕ) (w : Option Cell) (name : Option Name) (p : Place) (cell : Cell) → Fits t →
-    waiting_step t t.work.step ≡ w → flight_for t die w name ≡ Some (Programming p cell) → IsFit cell
-owed_fits {t} die (Some new) name p cell f e h =
-    let x = waiting_cell t t.work.step e in
-    let same = x.2 ∙ flight_cell t die (may_open_for_step t) (next_place t die) p h in
-    subst IsFit same (step_cell_fits x.0.kind f (f.valid.step.kind x.0 x.1))
-owed_fits {t} die None (Some name) p cell f e h =
-    subst IsFit (flight_cell t die (may_open_for_group t) (next_place t die) p (with_room t die name h).1)
-    (cell_now_fits name f)
-owed_fits die None None p cell f e h = cc
-
 takes_fit : {t : Translation} (die : ℕ) (flight : Flight) → Fits t → MayTake t die (Some flight) →
     Fits (taken t die flight)
 takes_fit {t} die flight f may = light f (all_keep t (GiveJob die flight) f.valid may) refl
     (begun_programs t.disk.flights die flight new f.programs) f.marks f.repaired
   where
     new : (p : Place) (cell : Cell) → flight ≡ Programming p cell → IsFit cell
-    new p cell e =
-        let owed = subst (IsOwed t die) e may.1 in
-        owed_fits die (waiting_step t t.work.step) (waiting_name t) p cell f refl owed.1
+    new p cell e = ⊎_elim
+        (λ s. subst IsFit s.is (step_cell_fits s.step.kind f (f.valid.step.kind s.step s.under_way)))
+        (λ (k : (name : Name) × (cell ≡ cell_now t.ledger name) × NameOwed t name).
+        subst IsFit (sym k.1) (cell_now_fits k.0 f))
+        (page_owed t die p cell (subst (λ (x : Flight). MayTake t die (Some x)) e may))
 
 -- Jobs that end
 

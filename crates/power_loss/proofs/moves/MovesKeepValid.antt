@@ -6,6 +6,7 @@ use Rattle.power_loss.proofs.Common.{MayEnd, Move, ReadRight, ReadWrong, Release
 use Rattle.power_loss.proofs.Common.{WantPage, WentWell, WentWrong, end_flight, moved, MayTake, Translation, taken}
 use Rattle.power_loss.proofs.Common.{Mended, Mending, Order, OrderMark, OrderPlanMark, OrderRepair, Plan, Repairing}
 use Rattle.power_loss.proofs.Common.{Unmarked, live_places, turned, with_plan, OrderCopy, ordered, Valid, FenceRight}
+use Rattle.power_loss.proofs.Common.{AreNoneStale}
 use Rattle.power_loss.proofs.Common.{Fence, Place}
 use Rattle.power_loss.proofs.accepted_groups.AcceptedGroup.{accepts}
 use Rattle.power_loss.proofs.jobs.JobsBegin.{takes_program, takes_erase}
@@ -14,6 +15,7 @@ use Rattle.power_loss.proofs.jobs.ProgramFailed.{fails_page, fails_mark}
 use Rattle.power_loss.proofs.jobs.ReadsAndTasks.{claims, ends_read_right, ends_read_wrong, keeps, lets_go, lets_go_all}
 use Rattle.power_loss.proofs.jobs.ReadsAndTasks.{releases, takes_read, tells, wants_page}
 use Rattle.power_loss.proofs.jobs.MarkEnded.{ends_mark}
+use Rattle.power_loss.proofs.jobs.NoneStale.{none_at_order}
 use Rattle.power_loss.proofs.jobs.PageEnded.{ends_page}
 use Rattle.power_loss.proofs.books.PagesByName.{none_some, some_is}
 use Rattle.power_loss.proofs.collected_blocks.LivePages.{live_needed}
@@ -43,18 +45,21 @@ fence_due (Unmarked first lost) fence h = h
 fence_due (Repairing left) fence h = h
 fence_due Mended fence h = absurd h
 
-orders : (t : Translation) (o : Order) → Valid t → (t.work.step ≡ None) × IsDue t o → Valid (ordered t o)
-orders t (OrderMark fence) v (none, (number, due)) = marks_ordered fence v none (fence_due t.work.mending fence due)
+orders : (t : Translation) (o : Order) → Valid t → AreNoneStale t.numbers t.disk.blocks t.disk.vacancies →
+    (t.work.step ≡ None) × IsDue t o → Valid (ordered t o)
+orders t (OrderMark fence) v fresh (none, (number, due)) =
+    marks_ordered fence v none fresh (fence_due t.work.mending fence due)
     (λ pl h. absurd (subst (λ w. IsMarkDue w fence) (v.plan.mended pl h) due))
-orders t (OrderRepair k left) v (none, (number, is)) = repairs_ordered k left v none is
-orders t (OrderCopy s p left) v (none, (mended, is)) =
+orders t (OrderRepair k left) v fresh (none, (number, is)) = repairs_ordered k left v none is
+orders t (OrderCopy s p left) v fresh (none, (mended, is)) =
     copies_ordered s p left (planned s (p ∷ left) v none mended is) none mended refl
-orders t (OrderPlanMark s) v (none, (number, mended, is)) = marks_ordered None (planned s [] v none mended is) none
+orders t (OrderPlanMark s) v fresh (none, (number, mended, is)) =
+    marks_ordered None (planned s [] v none mended is) none fresh
     (subst (λ (z : Mending). FenceRight z None) (sym mended) refl)
     (λ pl h. sym (ap (λ (x : Plan). x.copies) (some_is (plan_with s []) pl h)))
 
 pub turns : (t : Translation) → Valid t → Valid (turned t)
-turns t v = turned_if Valid t (λ none. v) (λ o due. orders t o v (order_due t o due))
+turns t v = turned_if Valid t (λ none. v) (λ o due. orders t o v (none_at_order t o due) (order_due t o due))
 
 -- Jobs, and the other moves
 

@@ -1,10 +1,12 @@
 -- The order in which blocks are gone through for free ones, the older first; and what is said of all places is decided.
 use Rattle.power_loss.proofs.Common.{◌≡◌, ◌≢◌, ◌⊎◌, ℕ, zero, suc, ◌+◌, ◌*◌, ◌<◌, ◌≤◌, Bool, true, false, if◌then◌else◌}
 use Rattle.power_loss.proofs.Common.{refl, sym, ap, subst, inl, inr, ⊎_elim, arith, cases_order, AreWithin, Cells}
-use Rattle.power_loss.proofs.Common.{IsPlace, Nothing, Spot, same_spot, spot_of, Numbers, Place, spot_cases}
+use Rattle.power_loss.proofs.Common.{Cell, IsPlace, Nothing, Spot, Stale, Untouched, Vacancy, same_spot, spot_of}
+use Rattle.power_loss.proofs.Common.{Numbers, Place, spot_cases}
+use Rattle.power_loss.proofs.stops.LeftUnmarked.{some_or_nothing}
 use Rattle.ufs_laws.proofs.deciding.SearchOverPlaces.{Decided, Greatest, alike, both, greatest, is_below, is_number}
 use Rattle.ufs_laws.proofs.deciding.SearchOverPlaces.{is_place, some_below}
-use Rattle.ufs_spec.specs.Openings.{IsLatestIn, IsLowerSpot, IsOlder, recorded_by}
+use Rattle.ufs_spec.specs.Openings.{IsLatestIn, IsLowerSpot, IsOlder, IsVacancyAt, recorded_by}
 
 -- Deciding
 
@@ -55,6 +57,16 @@ lex x y a b d l h = let k = times_more (suc x) y d l in omega arith
 module _ (n : Numbers) (c : Cells) (within : AreWithin n c) where
   pub inside : (p : Place) → c p ≢ Nothing → IsPlace n p
   inside p some = ⊎_elim (λ i. i) (λ out. absurd (some (within p out))) (is_place n p)
+
+  -- what is in a block: nothing that opens, or a page at least
+  pub vacancy_at : (s : Spot) → (x : Vacancy) × IsVacancyAt c s x
+  vacancy_at s = ⊎_elim (λ h. (Stale, (h.0, h.1.0, h.1.1)))
+      (λ none. (Untouched, λ p at. ⊎_elim (λ e. e) (λ some. absurd (none (p, (at, some)))) (some_or_nothing (c p))))
+      (some_place n (λ p. (spot_of p ≡ s) × (c p ≢ Nothing)) (λ p. both (is_spot (spot_of p) s) (is_some (c p)))
+      (λ p h. inside p h.1))
+    where
+      is_some : (x : Cell) → Decided (x ≢ Nothing)
+      is_some x = ⊎_elim (λ e. inr (λ h. h e)) (λ h. inl h) (some_or_nothing x)
 
   abbrev only_in : Spot → Cells
   only_in s p = if same_spot (spot_of p) s then c p else Nothing

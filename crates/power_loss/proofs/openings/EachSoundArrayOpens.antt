@@ -14,6 +14,7 @@ use Rattle.ufs_spec.specs.Exchanges.{empty_registers}
 use Rattle.ufs_spec.specs.Openings.{IsOpenedDisk, IsOpenedLedger}
 use Rattle.power_loss.proofs.openings.OpenedFromPages.{cells_right}
 use Rattle.power_loss.proofs.openings.FoundInCells.{first_of, is_entry, mending_at, some_top, stands_at}
+use Rattle.power_loss.proofs.openings.BlocksByAge.{vacancy_at}
 use Rattle.power_loss.proofs.openings.FreeInOrder.{are_found, found_free}
 use Rattle.power_loss.proofs.openings.FreeTogether.{first_blocks}
 use Rattle.power_loss.specs.FreeBlocks.{blocks_by}
@@ -54,6 +55,7 @@ module _ (n : Numbers) (c : Cells) (within : AreWithin n c) (bad : Spot → Bool
     cells = c;
     finished = λ p. true;
     blocks = blocks;
+    vacancies = λ s. (vacancy_at n c within s).0;
     flights = λ die. None;
     erasing = λ s. false;
   }
@@ -91,6 +93,7 @@ module _ (n : Numbers) (c : Cells) (within : AreWithin n c) (bad : Spot → Bool
     cells = refl;
     finished = λ p. refl;
     blocks = blocks_are;
+    vacancies = λ s. (vacancy_at n c within s).1;
     idle = λ die. refl;
     none_erasing = λ s. refl;
   }

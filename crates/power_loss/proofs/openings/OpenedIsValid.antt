@@ -5,7 +5,7 @@ use Rattle.power_loss.proofs.Common.{Mark, MarkPage, Spot, spot_of, IsNewestMark
 use Rattle.power_loss.proofs.Common.{AreLost, IsMendingAt, IsOpenedTranslation, CellsSound, Mended, Mending, Repairing}
 use Rattle.power_loss.proofs.Common.{Translation, Unmarked, is_mended, wants_of_step, Numbers, Key, Place}
 use Rattle.power_loss.proofs.Common.{before_accepted, at_most, none-some, CellsRight, HasKey, IsWholeOld, book}
-use Rattle.power_loss.proofs.Common.{HistoryRight, MarkStands, MayBeErased, Valid, inr, true≢false}
+use Rattle.power_loss.proofs.Common.{HistoryRight, MarkStands, MayBeErased, StaleRight, Valid, inr, true≢false}
 use Rattle.power_loss.specs.Invariant.{LostRight}
 use Rattle.power_loss.proofs.books.LayerParts.{MarksOf, MendingOf, NeededOf, LookedOf, SourceOf}
 use Rattle.power_loss.proofs.accepted_groups.ClaimedSlots.{no_pages}
@@ -14,6 +14,7 @@ use Rattle.power_loss.proofs.openings.OpenedContents.{book_is_right}
 use Rattle.power_loss.proofs.openings.OpenedPages.{all_safe, blocks_are_right, first_stands, flights_are_right}
 use Rattle.power_loss.proofs.openings.OpenedPages.{free_mark, free_or_not, frontier_is_right, mark_not_free}
 use Rattle.power_loss.proofs.openings.OpenedPages.{none_flies, not_erasing, numbered, pages_are_right}
+use Rattle.power_loss.proofs.openings.OpenedPages.{vacancies_are_right}
 use Rattle.power_loss.proofs.jobs.DiskChanges.{spare_moves}
 use Rattle.ufs_spec.specs.Openings.{IsFree}
 
@@ -144,12 +145,22 @@ module _ {bad : Spot → Bool} {t : Translation} (o : Opened bad t) where
         durable = inl o.start.ledger.none_held;
       }
 
+  -- no step is under way
+  none_begun : (w : Mending) →
+      IsMendingAt t.disk.cells t.ledger.newest t.ledger.first_lost t.ledger.greatest_seen w →
+      StaleRight t.numbers t.disk.blocks t.disk.vacancies t.work.step w
+  none_begun (Unmarked fence lost) x = λ s e. absurd (none-some s (sym o.start.no_step ∙ e))
+  none_begun (Repairing left) x = absurd x
+  none_begun Mended x = tt
+
   valid : Valid t
   valid = record {
     book_right = book_is_right o;
     frontier = frontier_is_right o;
     pages = pages_are_right o;
     blocks = blocks_are_right o;
+    vacancies = vacancies_are_right o;
+    stale = none_begun t.work.mending o.start.mending;
     flights = flights_are_right o;
     safe = all_safe o;
     numbered = numbered o;

@@ -6,10 +6,11 @@ use Rattle.power_loss.proofs.Common.{Counts, IsFenced, IsNewestMark, fence_in, r
 use Rattle.power_loss.proofs.Common.{IsFirst, IsSpare, Overwrites, StandsAt, number_of, Translation, is_free, name_of}
 use Rattle.power_loss.proofs.Common.{Key, Place, Tag, mark_not_nothing, page_not_nothing, none-some, true≢false}
 use Rattle.power_loss.proofs.Common.{IsLostNumber, IsPageAt, book, AreNumbered, BlocksRight, FlightsRight}
-use Rattle.power_loss.proofs.Common.{FrontierRight, HasKey, PagesRight, SafeRight}
+use Rattle.power_loss.proofs.Common.{FrontierRight, HasKey, PagesRight, Ready, SafeRight, Stale, Untouched, Vacancy}
+use Rattle.power_loss.proofs.Common.{VacanciesRight}
 use Rattle.power_loss.specs.Invariant.{IsSecurelyOverwritten}
 use Rattle.ufs_spec.specs.Kept.{IsNewest}
-use Rattle.ufs_spec.specs.Openings.{IsFree}
+use Rattle.ufs_spec.specs.Openings.{IsFree, IsVacancyAt}
 use Rattle.power_loss.proofs.books.LayerParts.{SecureOf}
 use Rattle.power_loss.proofs.jobs.StandsSecurely.{closed_is_not_filling, filling_is_not_bad, free_is_not_filling}
 use Rattle.power_loss.proofs.openings.OpenedByName.{Opened, from_old, is_known, low_cases, old_page, old_within}
@@ -71,6 +72,17 @@ module _ {bad : Spot → Bool} {t : Translation} (o : Opened bad t) where
     blank = λ p next h l. absurd (not_filling h);
     erased = λ s h. absurd (not_erasing h);
   }
+
+  pub vacancies_are_right : VacanciesRight t.disk.cells t.disk.blocks t.disk.vacancies t.disk.erasing
+  vacancies_are_right = record {
+    empty = λ p free full. empty p (t.disk.vacancies (spot_of p)) (o.start.disk.vacancies (spot_of p)) full;
+    ready = λ s free is. o.start.disk.none_erasing s;
+  }
+    where
+      empty : (p : Place) (x : Vacancy) → IsVacancyAt t.disk.cells (spot_of p) x → x ≢ Stale → t.disk.cells p ≡ Nothing
+      empty p Untouched h full = h p refl
+      empty p Stale h full = absurd (full refl)
+      empty p Ready h full = absurd h
 
   -- The frontier and pages
 

@@ -5,7 +5,9 @@ use Rattle.power_loss.proofs.Common.{EndJob, WentWell, end_flight, mending_after
 use Rattle.power_loss.proofs.Common.{MayTake, Mended, Mending, OrderMark, Repairing, Step, StepKind, Translation}
 use Rattle.power_loss.proofs.Common.{Unmarked, due_order, has_mark_number, is_mended, next_order, stepped, taken}
 use Rattle.power_loss.proofs.Common.{turned, Fence, Key, Place, none-some, eqb-self, cond-true, IsPlainMark, book}
-use Rattle.power_loss.proofs.Common.{last_number, IsLastRepair, StepKindRight, Valid}
+use Rattle.power_loss.proofs.Common.{last_number, IsLastRepair, StaleRight, StepKindRight, Valid, ◌&&◌, false, not}
+use Rattle.ufs_spec.specs.Translation.{has_stale}
+use Rattle.power_loss.proofs.collected_blocks.FewestLivePages.{stale_shown}
 use Rattle.power_loss.proofs.stops.LeftCells.{same_mark}
 use Rattle.power_loss.proofs.jobs.JobsBegin.{takes_program}
 use Rattle.power_loss.proofs.books.LayerParts.{MendingOf}
@@ -66,8 +68,11 @@ pub ordered : (t : Translation) → Valid t → t.work.mending ≡ Repairing [] 
     has_mark_number t ≡ true →
     (turned t).work.step ≡ Some (record { kind = MarkStep (t.ledger.marks + 1) None; there = true })
 ordered t v w none more =
+    let fresh : has_stale t ≡ false = stale_shown t
+    (λ s inside free. subst (StaleRight t.numbers t.disk.blocks t.disk.vacancies t.work.step) w v.stale s inside.die
+    inside.block free) in
     let e : due_order t ≡ Some (OrderMark None) =
-    (λ j. if is_none (none j) then next_order t (w j) t.work.plan else None)
+    (λ j. if is_none (none j) && not (fresh j) then next_order t (w j) t.work.plan else None)
     ∙ cond-true (has_mark_number t) (Some (OrderMark None)) None more in
     ap (λ o. (stepped t o).work.step) e
 

@@ -10,7 +10,8 @@ use Rattle.power_loss.proofs.Common.{grown_length, Book, HasKey, IsPageAt, IsWri
 use Rattle.power_loss.proofs.Common.{FenceRight, FlightsRight, HistoryRight, IsLastRepair, IsOpenedOrOwn, IsOwnMark}
 use Rattle.power_loss.proofs.Common.{IsToCopy, MarkStepRight, MarksRight, MendingRight, OnePlanRight, PlanRight}
 use Rattle.power_loss.proofs.Common.{RepairingRight, Standing, StepKindRight, StepRight, ToReadRight, Valid}
-use Rattle.power_loss.proofs.Common.{MarkFlightRight}
+use Rattle.power_loss.proofs.Common.{AreNoneStale, MarkFlightRight, StaleRight}
+use Rattle.power_loss.proofs.jobs.NoneStale.{none_is_right}
 use Rattle.ufs_spec.specs.Translation.{with_repair}
 use Rattle.power_loss.proofs.books.PagesByName.{MayAdd, added_page, book_grows, fence_grows, grown, last_grows}
 use Rattle.power_loss.proofs.books.PagesByName.{lost_before, page_grows, written_grows, written_more}
@@ -43,12 +44,13 @@ no_step {step} {s} e f = none-some s (sym e ∙ f)
 
 -- a step is ordered: of a plan or of none, with as many marks or more
 pub next_step : {t : Translation} {more : ℕ} {plan : Option Plan} {next : Option Step} → Valid t → t.work.step ≡ None →
-    t.ledger.marks ≤ more → MendingRight (book t) t.disk (record t.ledger { marks = more }) plan next t.work.mending →
+    t.ledger.marks ≤ more → StaleRight t.numbers t.disk.blocks t.disk.vacancies next t.work.mending →
+    MendingRight (book t) t.disk (record t.ledger { marks = more }) plan next t.work.mending →
     StepRight (book t) more t.disk.cells t.work.mending plan next →
     PlanRight (book t) t.ledger.frontier t.ledger.standing t.disk.blocks t.disk.flights t.work.mending next plan →
     ToReadRight t.disk.cells t.disk.finished t.disk.blocks t.disk.erasing next plan →
     Valid (record t { ledger = record t.ledger { marks = more }; work = record t.work { plan = plan; step = next } })
-next_step {t = t} {more = more} {next = next} v none up mending step planned reads = assumption (
+next_step {t = t} {more = more} {next = next} v none up stale mending step planned reads = assumption (
   next_flights {more = more} {next = next} none v.flights,
   λ (p : Place) (m : Mark) (h : t.disk.cells p ≡ MarkPage m). let l = v.numbered p m h in
       let up : m.number ≤ more = omega arith in up,
@@ -120,9 +122,11 @@ next_plan {next = next} {pl = pl} e r = record {
 
 -- a mark is ordered
 pub marks_ordered : {t : Translation} (fence : Option Fence) → Valid t → t.work.step ≡ None →
-    FenceRight t.work.mending fence → ((pl : Plan) → t.work.plan ≡ Some pl → pl.copies ≡ []) →
+    AreNoneStale t.numbers t.disk.blocks t.disk.vacancies → FenceRight t.work.mending fence →
+    ((pl : Plan) → t.work.plan ≡ Some pl → pl.copies ≡ []) →
     Valid (mark_ordered t fence)
-marks_ordered {t} fence v none right behind = next_step v none (omega arith)
+marks_ordered {t} fence v none fresh right behind = next_step v none (omega arith)
+    (none_is_right t.numbers (Some step) t.work.mending fresh)
     (step_mending (book t) t.disk t.ledger more t.work.plan (Some step) t.work.mending none (omega arith) v.mending)
     (record {
       kind = λ s h. subst (λ (z : Step). StepKindRight (book t) more t.disk.cells t.work.mending t.work.plan z.kind)
@@ -241,6 +245,8 @@ repairs_ordered {t} k left v none m = record {
   frontier = frontier_grows g v.frontier;
   pages = pages_grow g v.pages;
   blocks = v.blocks;
+  vacancies = v.vacancies;
+  stale = subst (StaleRight t.numbers t.disk.blocks t.disk.vacancies t.work.step) m v.stale;
   flights = next_flights none (flights_grow g t.disk v.flights);
   safe = safe_grows g t.disk v.frontier v.safe;
   numbered = v.numbered;

@@ -4,7 +4,8 @@ use Rattle.power_loss.proofs.Common.{ap, ◌∙◌, subst, inl, inr, ⊎_elim, a
 use Rattle.power_loss.proofs.Common.{same_Some, Cell, Cells, GroupPage, Mark, key_of, Disk, Spot, recorded_in, Entry}
 use Rattle.power_loss.proofs.Common.{Ledger, CopyStep, Mended, Mending, Plan, Step, Translation, Want, copy_begun}
 use Rattle.power_loss.proofs.Common.{name_of, with_plan, Place, Tag, Book, IsLostNumber, IsOverwritten, IsPageAt, book}
-use Rattle.power_loss.proofs.Common.{IsToCopy, MendingRight, OnePlanRight, StandsIn, StepKindRight, StepRight}
+use Rattle.power_loss.proofs.Common.{IsToCopy, MendingRight, OnePlanRight, StaleRight, StandsIn, StepKindRight}
+use Rattle.power_loss.proofs.Common.{StepRight}
 use Rattle.power_loss.proofs.Common.{ToReadRight, Valid}
 use Rattle.power_loss.proofs.books.PagesByName.{overwritten_more}
 use Rattle.power_loss.proofs.kept_pages.ReadsStay.{copy_read, copy_wants}
@@ -27,6 +28,7 @@ pub plans : {t : Translation} {pl : Plan} {next : Option Step} → Valid t → t
     ToReadRight t.disk.cells t.disk.finished t.disk.blocks t.disk.erasing next (Some pl) →
     Valid (record t { work = record t.work { plan = Some pl; step = next } })
 plans {t} {pl} {next} v none mended r s reads = next_step v none (omega arith)
+    (subst (StaleRight t.numbers t.disk.blocks t.disk.vacancies next) (sym mended) tt)
     (mended_mending (book t) t.disk t.ledger t.work.plan (Some pl) t.work.step next mended v.mending) s
     (record {
       mended = λ other h. mended;

@@ -3,7 +3,7 @@ use Rattle.power_loss.proofs.Common.{◌≡◌, ◌≢◌, ℕ, ◌+◌, ◌<◌
 use Rattle.power_loss.proofs.Common.{Option, Some, None, refl, sym, ap, ◌∙◌, subst, inl, inr, ⊎_elim, arith}
 use Rattle.power_loss.proofs.Common.{at_die_is, false≢true, none-some, same_Some, slice_get_within}
 use Rattle.power_loss.proofs.Common.{name_self, program_unread, Cell, GroupPage}
-use Rattle.power_loss.proofs.Common.{Flight, Programming}
+use Rattle.power_loss.proofs.Common.{Filling, Flight, Programming, spot_of}
 use Rattle.power_loss.proofs.Common.{Reader, Reading, at_die, below, Name, same_name}
 use Rattle.power_loss.proofs.Common.{is_kind_of}
 use Rattle.power_loss.proofs.Common.{step_after}
@@ -20,6 +20,8 @@ use Rattle.power_loss.proofs.books.FrontierClimbs.{get_drop}
 use Rattle.power_loss.proofs.collected_blocks.FewestLivePages.{in_any}
 use Rattle.power_loss.proofs.jobs_owed.ProgramsAndErases.{StepOwed, name_owed, program_owed, step_owed}
 use Rattle.power_loss.proofs.jobs_owed.WhatWaits.{name_of_group}
+use Rattle.power_loss.proofs.jobs.StandsSecurely.{free_is_not_filling}
+use Rattle.power_loss.proofs.room_to_mend.PinsOffFree.{none_freed, pins_stay}
 use Rattle.power_loss.proofs.ordered_lists.ElementsAndOrders.{in_below}
 
 -- Programs in flight
@@ -152,7 +154,8 @@ program_begins {t} die p cell v un alone may = ⊎_elim (λ h. with (step_owed t
   where
     with : StepOwed t cell → MendsAlone (taken t die (Programming p cell))
     with s = record {
-      pins = alone.pins;
+      pins = pins_stay t.pins
+          (none_freed t.disk.blocks (spot_of p) (Filling p.page) (λ e. free_is_not_filling e refl)) alone.pins;
       no_rests = alone.no_rests;
       readable = alone.readable;
       of_step = λ d q other h. ⊎_elim

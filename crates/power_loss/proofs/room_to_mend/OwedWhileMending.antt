@@ -16,9 +16,11 @@ use Rattle.power_loss.proofs.Common.{IsNeededPage, Valid}
 use Rattle.power_loss.proofs.MachineWords.{IsSpot}
 use Rattle.std.proofs.lemmas.List.Folds.{list_any_none}
 use Rattle.ufs_spec.proofs.Lists.{find_some}
-use Rattle.power_loss.proofs.Common.{All-weaker, Contains, Looked, OnPage, Pin, spot_cases, spot_of}
-use Rattle.ufs_spec.specs.Translation.{flies_erase, flies_reader, is_idle, is_of_die, is_unread, may_be_erased}
-use Rattle.ufs_spec.specs.Translation.{next_erase, next_flight, spots_of, want_of_kind, want_of_pin, want_of_rest}
+use Rattle.power_loss.proofs.Common.{All-weaker, Contains, Looked, OnPage, Pin, Ready, Stale, Untouched, Vacancy}
+use Rattle.power_loss.proofs.Common.{place_in, spot_cases, spot_of}
+use Rattle.ufs_spec.specs.Translation.{flies_erase, flies_reader, flight_into, flight_or, has_stale, is_idle, is_of_die}
+use Rattle.ufs_spec.specs.Translation.{is_ready, is_stale, is_unread, is_untouched, is_vacant, lowest_vacant}
+use Rattle.ufs_spec.specs.Translation.{may_be_used, next_flight, spots_of, want_of_kind, want_of_pin, want_of_rest}
 use Rattle.ufs_spec.specs.Translation.{wants, wants_on}
 use Rattle.power_loss.specs.MendingRoom.{HasJob, HasRoom, IsOffFree, IsOutOfNumbers, MayGoOn, MendsAlone, OwesJob}
 use Rattle.power_loss.specs.MendingRoom.{page_room}
@@ -80,13 +82,17 @@ unmended_due t (Repairing (k ∷ ks)) plan un = ⊎_elim
     (cases_Bool (has_number t))
 unmended_due t Mended plan un = absurd (false≢true (sym un))
 
-turn_due : (t : Translation) → t.work.step ≡ None → is_mended t.work.mending ≡ false →
+turn_due : (t : Translation) → t.work.step ≡ None → has_stale t ≡ false → is_mended t.work.mending ≡ false →
     (is_step_due t ≡ true) ⊎ IsOutOfNumbers t
-turn_due t none un = ⊎_elim
-    (λ h.
-    inl (ap (λ (s : Option Step). is_some (if is_none s then next_order t t.work.mending t.work.plan else None)) none
-    ∙ h)) (λ h. inr h)
+turn_due t none fresh un = ⊎_elim (λ h. inl (due_at t none fresh ∙ h)) (λ h. inr h)
     (unmended_due t t.work.mending t.work.plan un)
+  where
+    due_at : (t : Translation) → t.work.step ≡ None → has_stale t ≡ false →
+        is_step_due t ≡ is_some (next_order t t.work.mending t.work.plan)
+    due_at t none fresh =
+        ap (λ (s : Option Step).
+        is_some (if is_none s && not (has_stale t) then next_order t t.work.mending t.work.plan else None)) none
+        ∙ ap (λ b. is_some (if not b then next_order t t.work.mending t.work.plan else None)) fresh
 
 -- The content of the step is not there
 
@@ -153,36 +159,111 @@ unless_read t die idle other = by (wants_on t die) refl
       (idle, subst (λ (xs : List Want). Contains xs w) (sym is) (in_contained (w ∷ ws) (inl refl))),
     )
 
--- where the page of a step waits, what is owed to a die is its program or an erase
-step_flight : (t : Translation) (die : ℕ) {cell : Cell} {o : Option Place} → waiting_step t t.work.step ≡ Some cell →
-    next_place t die ≡ o → next_flight t die ≡ flight_at t die (may_open_for_step t) cell o
-step_flight t die {cell} waits at = ap (λ (w : Option Cell). flight_for t die w (waiting_name t)) waits
+-- the first erase of a block for pages that may go is owed before anything is programmed
+stale_owed : (t : Translation) (die : ℕ) (s : Spot) → is_idle t die ≡ true → lowest_vacant t is_stale die ≡ Some s →
+    OwesJob t
+stale_owed t die s idle is = unless_read t die idle (λ none. (
+  die,
+  Erasing s,
+  (
+    idle,
+    (
+      none,
+      ap (λ (o : Option Spot).
+          flight_or (option_map Erasing o) (flight_for t die (waiting_step t t.work.step) (waiting_name t))) is,
+    ),
+  ),
+))
+
+-- so a die to which no such erase is owed is owed something else, or one is
+unless_stale : (t : Translation) (die : ℕ) → is_idle t die ≡ true → (lowest_vacant t is_stale die ≡ None → OwesJob t) →
+    OwesJob t
+unless_stale t die idle other = by (lowest_vacant t is_stale die) refl
+  where
+    by : (o : Option Spot) → lowest_vacant t is_stale die ≡ o → OwesJob t
+    by None is = other is
+    by (Some s) is = stale_owed t die s idle is
+
+-- where the page of a step waits, what is owed to a die is its program, or what opens a block
+step_flight : (t : Translation) (die : ℕ) {cell : Cell} {o : Option Place} → lowest_vacant t is_stale die ≡ None →
+    waiting_step t t.work.step ≡ Some cell → next_place t die ≡ o →
+    next_flight t die ≡ flight_at t die (may_open_for_step t) cell o
+step_flight t die {cell} fresh waits at =
+    ap (λ (s : Option Spot).
+    flight_or (option_map Erasing s) (flight_for t die (waiting_step t t.work.step) (waiting_name t))) fresh
+    ∙ ap (λ (w : Option Cell). flight_for t die w (waiting_name t)) waits
     ∙ ap (flight_at t die (may_open_for_step t) cell) at
 
 program_owed : (t : Translation) (die : ℕ) (p : Place) {cell : Cell} → is_idle t die ≡ true →
     waiting_step t t.work.step ≡ Some cell → next_place t die ≡ Some p → OwesJob t
-program_owed t die p {cell} idle waits at = unless_read t die idle (λ none.
-    (die, Programming p cell, (idle, (none, step_flight t die waits at))))
+program_owed t die p {cell} idle waits at = unless_stale t die idle (λ fresh. unless_read t die idle (λ none.
+    (die, Programming p cell, (idle, (none, step_flight t die fresh waits at)))))
 
-erase_owed : (t : Translation) (s : Spot) {cell : Cell} → IsIn s (spots_of t.numbers s.die) →
-    is_idle t s.die ≡ true → waiting_step t t.work.step ≡ Some cell → next_place t s.die ≡ None →
-    may_open_for_step t ≡ true → may_be_erased t s ≡ true → OwesJob t
-erase_owed t s {cell} inside idle waits at opens may =
-    let i = has_at (spots_of t.numbers s.die) s inside in
-    let f = find_some (may_be_erased t) (spots_of t.numbers s.die) i.0 s i.1 may in
-    unless_read t s.die idle (λ none. (
-      s.die,
-      Erasing f.0,
+-- where a block may be opened
+opening_owed : (t : Translation) (die : ℕ) {cell : Cell} (o : Option Spot) (s : Spot) → is_idle t die ≡ true →
+    waiting_step t t.work.step ≡ Some cell → next_place t die ≡ None → may_open_for_step t ≡ true →
+    lowest_vacant t is_ready die ≡ o → lowest_vacant t is_untouched die ≡ Some s → OwesJob t
+opening_owed t die {cell} o s idle waits at opens ready untouched =
+    unless_stale t die idle (λ fresh. unless_read t die idle
+    (λ none. by o (flight fresh ∙ ap (flight_into t die cell) ready) none))
+  where
+    flight : lowest_vacant t is_stale die ≡ None →
+        next_flight t die ≡ flight_into t die cell (lowest_vacant t is_ready die)
+    flight fresh = step_flight t die fresh waits at
+        ∙ ap (λ (b : Bool). if b then flight_into t die cell (lowest_vacant t is_ready die) else None) opens
+
+    by : (o : Option Spot) → next_flight t die ≡ flight_into t die cell o → wants_on t die ≡ [] → OwesJob t
+    by (Some r) is none = (die, Programming (place_in r 0) cell, (idle, (none, is)))
+    by None is none = (die, Erasing s, (idle, (none, is ∙ ap (option_map Erasing) untouched)))
+
+ready_owed : (t : Translation) (die : ℕ) {cell : Cell} (s : Spot) → is_idle t die ≡ true →
+    waiting_step t t.work.step ≡ Some cell → next_place t die ≡ None → may_open_for_step t ≡ true →
+    lowest_vacant t is_ready die ≡ Some s → OwesJob t
+ready_owed t die {cell} s idle waits at opens ready =
+    unless_stale t die idle (λ fresh. unless_read t die idle (λ none. (
+      die,
+      Programming (place_in s 0) cell,
       (
         idle,
         (
           none,
-          step_flight t s.die waits at
-              ∙ ap (λ (b : Bool). if b then next_erase t s.die else None) opens
-              ∙ ap (option_map Erasing) f.1,
+          step_flight t die fresh waits at
+              ∙ ap (λ (b : Bool). if b then flight_into t die cell (lowest_vacant t is_ready die) else None) opens
+              ∙ ap (flight_into t die cell) ready,
         ),
       ),
-    ))
+    )))
+
+free_may : (t : Translation) (is : Vacancy → Bool) (s : Spot) → t.disk.blocks s ≡ Free →
+    is (t.disk.vacancies s) ≡ true → is_pinned t s ≡ false → may_be_used t is s ≡ true
+free_may t is s free h none =
+    ap (λ x. (is_free x && is (t.disk.vacancies s)) && not (is_pinned t s)) free
+    ∙ ap (λ b. b && not (is_pinned t s)) h ∙ ap not none
+
+-- where a free block of the die may be used, there is a lowest one
+lowest_there : (t : Translation) (is : Vacancy → Bool) (s : Spot) → IsIn s (spots_of t.numbers s.die) →
+    may_be_used t is s ≡ true → (a : Spot) × (lowest_vacant t is s.die ≡ Some a)
+lowest_there t is s inside may =
+    let i = has_at (spots_of t.numbers s.die) s inside in
+    let f = find_some (may_be_used t is) (spots_of t.numbers s.die) i.0 s i.1 may in
+    (f.0, f.1)
+
+-- a free block that is not pinned is erased or filled
+free_owed : (t : Translation) (s : Spot) {cell : Cell} → IsIn s (spots_of t.numbers s.die) → is_idle t s.die ≡ true →
+    waiting_step t t.work.step ≡ Some cell → next_place t s.die ≡ None → may_open_for_step t ≡ true →
+    t.disk.blocks s ≡ Free → is_pinned t s ≡ false → OwesJob t
+free_owed t s {cell} inside idle waits at opens free none = by (t.disk.vacancies s) refl
+  where
+    lowest : (is : Vacancy → Bool) → is (t.disk.vacancies s) ≡ true →
+        (a : Spot) × (lowest_vacant t is s.die ≡ Some a)
+    lowest is h = lowest_there t is s inside (free_may t is s free h none)
+
+    by : (x : Vacancy) → t.disk.vacancies s ≡ x → OwesJob t
+    by Stale e = let f = lowest is_stale (ap is_stale e) in stale_owed t s.die f.0 idle f.1
+    by Ready e = let f = lowest is_ready (ap is_ready e) in ready_owed t s.die f.0 idle waits at opens f.1
+    by Untouched e =
+        let f = lowest is_untouched (ap is_untouched e) in
+        opening_owed t s.die (lowest_vacant t is_ready s.die) f.0 idle waits at opens refl f.1
 
 -- a free block is not pinned
 not_into : (blocks : Spot → BlockState) (s : Spot) (looked : Looked) → blocks s ≡ Free → IsOffFree blocks looked →
@@ -198,9 +279,6 @@ unpinned t s free alone =
     (All-weaker (λ (pin : Pin). IsOffFree t.disk.blocks pin.looked) (λ (pin : Pin). looks_into s pin.looked ≡ false)
     (λ pin off. not_into t.disk.blocks s pin.looked free off) t.pins alone.pins))
     ∙ ap (λ (x : List Rest). list_any (λ (rest : Rest). reads_from s rest.source) x) alone.no_rests
-
-free_may : (t : Translation) (s : Spot) → t.disk.blocks s ≡ Free → is_pinned t s ≡ false → may_be_erased t s ≡ true
-free_may t s free none = ap (λ x. is_free x && not (is_pinned t s)) free ∙ ap not none
 
 in_its_die : (n : Numbers) (s : Spot) → IsSpot n s → IsIn s (spots_of n s.die)
 in_its_die n s inside = in_map (λ block. record { die = s.die; block = block }) s.block (below n.blocks)
@@ -228,7 +306,7 @@ opens_one t s {cell} idle alone waits closed inside room = by (next_place t s.di
     by (Some p) at = program_owed t s.die p home waits at
     by None at =
         let is = free (t.disk.blocks s) refl room in
-        erase_owed t s (in_its_die t.numbers s inside) home waits at opens (free_may t s is (unpinned t s is alone))
+        free_owed t s (in_its_die t.numbers s inside) home waits at opens is (unpinned t s is alone)
 
 page_waits : (t : Translation) {cell : Cell} → AllIdle t → MendsAlone t →
     waiting_step t t.work.step ≡ Some cell → 1 ≤ pages_left t → OwesJob t
@@ -260,6 +338,21 @@ step_owed t step v alone room idle is = ⊎_elim
         ∙ ap (λ b. if b && not (step_flies t step.kind) then Some (step_cell t step.kind) else None) there
         ∙ ap (λ b. if not b then Some (step_cell t step.kind) else None) (no_step_flies t step.kind idle)
 
+-- A free block is still to be erased
+
+stale_free : (x : BlockState) (v : Vacancy) → is_free x && is_stale v ≡ true → (x ≡ Free) × (is_stale v ≡ true)
+stale_free Free v h = (refl, h)
+stale_free x v h = absurd (false≢true h)
+
+has_stale_owed : (t : Translation) → MendsAlone t → AllIdle t → has_stale t ≡ true → OwesJob t
+has_stale_owed t alone idle h =
+    let r = any_in (is_vacant t is_stale) (spots t.numbers) h in
+    let inside = spots_in r.1 in
+    let b = stale_free (t.disk.blocks r.0) (t.disk.vacancies r.0) r.2 in
+    let f = lowest_there t is_stale r.0 (in_its_die t.numbers r.0 inside)
+    (free_may t is_stale r.0 b.0 b.1 (unpinned t r.0 b.0 alone)) in
+    stale_owed t r.0.die f.0 (is_idle_now t r.0.die idle inside.die) f.1
+
 -- Together
 
 pub goes_on : (t : Translation) → Valid t → is_mended t.work.mending ≡ false → MendsAlone t → HasRoom 0 t → MayGoOn t
@@ -268,5 +361,6 @@ goes_on t v un alone room = ⊎_elim (λ some. inl (has_job t some)) (λ none. i
   where
     by : (s : Option Step) → t.work.step ≡ s → AllIdle t →
         OwesJob t ⊎ ((is_step_due t ≡ true) ⊎ IsOutOfNumbers t)
-    by None is idle = inr (turn_due t is un)
+    by None is idle = ⊎_elim (λ stale. inl (has_stale_owed t alone idle stale))
+        (λ fresh. inr (turn_due t is fresh un)) (cases_Bool (has_stale t))
     by (Some step) is idle = inl (step_owed t step v alone room idle is)

@@ -136,17 +136,22 @@ pub failure_takes : (n : Numbers) (blocks : Spot → BlockState) (s : Spot) →
 failure_takes n blocks s =
     room_less n blocks s Bad n.pages (let l = room_within n.pages (blocks s) in omega (arith, l))
 
--- a free block that was erased has as much room as before
-pub erase_leaves : (n : Numbers) (blocks : Spot → BlockState) (s : Spot) → blocks s ≡ Free →
-    room_in n blocks ≤ room_in n (at_spot blocks s (Filling 0))
-erase_leaves n blocks s free =
-    sum_no_less (λ x. page_room n.pages (blocks x)) (λ x. page_room n.pages (at_spot blocks s (Filling 0) x)) (spots n)
-    (λ x i. ⊎_elim
+-- a block whose state has as much room as before leaves all of it
+pub change_leaves : (n : Numbers) (blocks : Spot → BlockState) (s : Spot) (x : BlockState) →
+    page_room n.pages (blocks s) ≡ page_room n.pages x → room_in n blocks ≤ room_in n (at_spot blocks s x)
+change_leaves n blocks s x same =
+    sum_no_less (λ a. page_room n.pages (blocks a)) (λ a. page_room n.pages (at_spot blocks s x a)) (spots n)
+    (λ a i. ⊎_elim
     (λ k.
     let e = ap (page_room n.pages) k.1 in
-    let f = ap (page_room n.pages) (ap blocks k.0 ∙ free) in
-    omega (arith, e, f)) (λ k. let e = ap (page_room n.pages) k.1 in omega (arith, e))
-    (at_spot_cases blocks s (Filling 0) x))
+    let f = ap (λ z. page_room n.pages (blocks z)) k.0 in
+    omega (arith, e, f, same)) (λ k. let e = ap (page_room n.pages) k.1 in omega (arith, e))
+    (at_spot_cases blocks s x a))
+
+-- a free block has room for as many pages as one whose first page is programmed next
+pub opening_leaves : (pages : ℕ) {x : BlockState} {page : ℕ} → x ≡ Free → page ≡ 0 →
+    page_room pages x ≡ page_room pages (Filling page)
+opening_leaves pages {page} free first = let e = ap (page_room pages) free in omega (arith, e, first)
 
 -- A life begins
 

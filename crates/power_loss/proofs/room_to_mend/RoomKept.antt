@@ -1,13 +1,13 @@
 -- Each move by which no program or erase fails leaves room for the mending, which alone takes pages.
 use Rattle.power_loss.proofs.Common.{◌≡◌, ℕ, suc, ◌+◌, ◌≤◌, Bool, true, false, is_none, List, []}
-use Rattle.power_loss.proofs.Common.{Option, Some, None, refl, sym, ap, ◌∙◌, subst, arith}
+use Rattle.power_loss.proofs.Common.{Option, Some, None, refl, sym, ap, ◌∙◌, subst, arith, ⊎_elim}
 use Rattle.power_loss.proofs.Common.{◌==◌, none-some, same_Some}
 use Rattle.power_loss.proofs.Common.{true≢false, Cell, GroupPage, Mark, MarkPage}
 use Rattle.power_loss.proofs.Common.{Nothing, Erasing, Flight, ForNobody, ForRest, ForStep, ForTask, Programming}
 use Rattle.power_loss.proofs.Common.{Reader, Reading, Spot, programmed, erased, Accept, spot_of}
 use Rattle.power_loss.proofs.Common.{Acknowledge, Claim, EndJob, Ending, GiveJob, IsAllowedMove, Keep, LetGo, LetGoAll}
 use Rattle.power_loss.proofs.Common.{Move, ReadRight, ReadWrong, Release, TakeStep, WantPage, WentWell, WentWrong}
-use Rattle.power_loss.proofs.Common.{die_idle, end_flight, freed, is_for, is_for_task, is_pin_of, moved}
+use Rattle.power_loss.proofs.Common.{die_idle, end_flight, is_for, is_for_task, is_pin_of, moved}
 use Rattle.power_loss.proofs.Common.{read_right, read_wrong, step_after, step_there}
 use Rattle.power_loss.proofs.Common.{MayTake, Order, OrderCopy}
 use Rattle.power_loss.proofs.Common.{OrderMark, OrderPlanMark, OrderRepair, Pin, Plan, Step}
@@ -20,17 +20,18 @@ use Rattle.ufs_spec.specs.Translation.{want_from, want_of_kind}
 use Rattle.ufs_laws.proofs.walk.LayerEffects.{IsDue, order_due, turned_if}
 use Rattle.power_loss.proofs.Common.{map, with_wanted, All, All-filter, All-push, Filling}
 use Rattle.power_loss.specs.MendingRoom.{ArePinsOffFree, HasRoom, IsOffFree, MendsAlone, fails_job, flies_kind}
-use Rattle.power_loss.specs.MendingRoom.{page_of_step, pages_left}
+use Rattle.power_loss.specs.MendingRoom.{page_of_step, page_room, pages_left}
 use Rattle.power_loss.proofs.jobs.JobsBegin.{erase_is_no_program}
 use Rattle.power_loss.proofs.jobs.PageEnded.{ends_page}
-use Rattle.power_loss.proofs.jobs.StandsSecurely.{behind_is_not_free, free_is_not_filling}
+use Rattle.power_loss.proofs.jobs_owed.ProgramsAndErases.{OpensReady, program_owed}
+use Rattle.power_loss.proofs.jobs.StandsSecurely.{behind_is_not_free}
 use Rattle.power_loss.proofs.room_to_mend.PinsOffFree.{look_off, none_freed, pins_settled_off, pins_stay}
 use Rattle.power_loss.proofs.room_to_mend.PinsOffFree.{pins_wanted_off}
 use Rattle.power_loss.proofs.mending_steps.TurnsLeft.{move_keeps_turns, order_takes}
 use Rattle.power_loss.proofs.room_to_mend.AloneKept.{AreFewer, begun_fewer, ended_fewer, fewer}
 use Rattle.power_loss.proofs.room_to_mend.AloneKept.{gone_fewer, name_over, none_flown, none_readable, program_begins}
 use Rattle.power_loss.proofs.room_to_mend.AloneKept.{read_is_no_program, step_over, unflown}
-use Rattle.power_loss.proofs.room_to_mend.RoomInBlocks.{erase_leaves, program_takes}
+use Rattle.power_loss.proofs.room_to_mend.RoomInBlocks.{change_leaves, opening_leaves, program_takes}
 
 -- both hold of the layer
 abbrev pub Kept : ℕ → Translation → Type 0
@@ -156,7 +157,7 @@ module _ {t : Translation} (v : Valid t) (un : is_mended t.work.mending ≡ fals
       of = alone.of_step die p (MarkPage m) e
 
       by : (o : Option Plan) → t.work.plan ≡ o →
-          Kept k (record (mark_written t p m) { disk = freed (programmed t.numbers.pages t.disk p (MarkPage m)) o })
+          Kept k (mark_written (record t { work = record t.work { plan = o } }) p m)
       by (Some pl) is = absurd (true≢false (sym (ap is_mended (v.plan.mended pl is)) ∙ un))
       by None is = (
         unflown (record (mark_written t p m) { disk = programmed t.numbers.pages t.disk p (MarkPage m) })
@@ -173,11 +174,8 @@ module _ {t : Translation} (v : Valid t) (un : is_mended t.work.mending ≡ fals
   erase_ends : (die : ℕ) (s : Spot) → t.disk.flights die ≡ Some (Erasing s) →
       Kept k (record t { disk = erased t.disk s })
   erase_ends die s e = (
-    kept_fewer (record t { disk = erased t.disk s })
-        (pins_stay t.pins (none_freed t.disk.blocks s (Filling 0) (λ e. free_is_not_filling e refl)) alone.pins)
-        alone.no_rests refl (ended_fewer t.disk.flights s.die),
-    as_before (turns_left t) (page_of_step t.work.step) (turns_left t) (page_of_step t.work.step) _ (pages_left t) _
-        room (same (turns_left t)) refl (erase_leaves t.numbers t.disk.blocks s (v.flights.erases die s e).free),
+    kept_fewer (record t { disk = erased t.disk s }) alone.pins alone.no_rests refl (ended_fewer t.disk.flights s.die),
+    room,
   )
 
   ends : (die : ℕ) (flight : Option Flight) (ending : Ending) → t.disk.flights die ≡ flight →
@@ -224,6 +222,14 @@ module _ {t : Translation} (v : Valid t) (un : is_mended t.work.mending ≡ fals
 
   -- Jobs that begin
 
+  -- a program that is given to a die takes no room before it ended
+  begin_leaves : (die : ℕ) (p : Place) (cell : Cell) → MayTake t die (Some (Programming p cell)) →
+      pages_left t ≤ pages_left (taken t die (Programming p cell))
+  begin_leaves die p cell may = change_leaves t.numbers t.disk.blocks (spot_of p) (Filling p.page)
+      (⊎_elim (λ filled. ap (page_room t.numbers.pages) filled)
+      (λ (o : OpensReady t p). opening_leaves t.numbers.pages o.free o.first)
+      (program_owed t die p cell may).place.next)
+
   takes : (die : ℕ) (flight : Flight) → MayTake t die (Some flight) → Kept k (taken t die flight)
   takes die (Reading reader place) may = (
     kept_fewer (taken t die (Reading reader place)) alone.pins alone.no_rests refl
@@ -235,7 +241,11 @@ module _ {t : Translation} (v : Valid t) (un : is_mended t.work.mending ≡ fals
         (begun_fewer t.disk.flights die (Some (Erasing s)) (λ p cell h. erase_is_no_program h)),
     room,
   )
-  takes die (Programming p cell) may = (program_begins die p cell v un alone may, room)
+  takes die (Programming p cell) may = (
+    program_begins die p cell v un alone may,
+    as_before (turns_left t) (page_of_step t.work.step) (turns_left t) (page_of_step t.work.step) _ (pages_left t) _
+        room (same (turns_left t)) refl (begin_leaves die p cell may),
+  )
 
   -- Each move
 

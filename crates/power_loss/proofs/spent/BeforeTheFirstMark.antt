@@ -11,8 +11,9 @@ use Rattle.power_loss.proofs.Common.{OrderPlanMark, OrderRepair, Plan, Repairing
 use Rattle.power_loss.proofs.Common.{has_mark_number, has_number, live_places, mark_ordered, next_order, plan_order}
 use Rattle.power_loss.proofs.Common.{stepped, turned, victim, victim_order, wants_collection, with_plan, Numbers, Fence}
 use Rattle.power_loss.proofs.Common.{Key, Place, Tag, false≢true, true≢false, mark_not_nothing, spot_cases}
-use Rattle.power_loss.proofs.Common.{at_place_cases, Valid}
+use Rattle.power_loss.proofs.Common.{at_place_cases, not, Valid}
 use Rattle.power_loss.proofs.MachineWords.{IsStartRight, StartsRight, is_marked}
+use Rattle.ufs_spec.specs.Translation.{has_stale}
 use Rattle.power_loss.proofs.books.LayerParts.{MendingOf}
 use Rattle.power_loss.proofs.jobs.StandsSecurely.{erase_left, erased_here, erased_other, program_left}
 use Rattle.power_loss.proofs.stops.LeftUnmarked.{opened_below}
@@ -121,7 +122,7 @@ order_same t Mended None = when t (wants_collection t && has_mark_number t) (vic
     (victim_same t (victim t))
 
 turn_same : (t : Translation) → IsNotMore t (turned t)
-turn_same t = when t (is_none t.work.step) (next_order t t.work.mending t.work.plan)
+turn_same t = when t (is_none t.work.step && not (has_stale t)) (next_order t t.work.mending t.work.plan)
     (order_same t t.work.mending t.work.plan)
 
 -- Endings

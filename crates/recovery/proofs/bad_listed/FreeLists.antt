@@ -19,7 +19,7 @@ use Rattle.ufs_laws.proofs.deciding.SearchOverPlaces.{is_place}
 use Rattle.recovery.specs.Frees.{block_of, has_spot, is_free_in, is_outside, spot_number}
 use Rattle.recovery.specs.Listed.{AreListed, outside}
 use Rattle.recovery.specs.declared.pages.FoundPage.{FoundPage}
-use Rattle.recovery.proofs.frees.Spots.{row, rows_long}
+use Rattle.recovery.proofs.frees.Spots.{IsInside, row, rows_long}
 use Rattle.recovery.proofs.tables.Joined.{in_either}
 use Rattle.recovery.proofs.opened.OutsidePages.{outside_there}
 
@@ -59,6 +59,11 @@ rows_at columns (suc dies) i s h = ⊎_elim
     (omega arith, omega arith, omega arith))
     (in_either (flat_map (row columns) (below dies)) (row columns dies) i s
     (ap (λ (xs : List Spot). slice_get xs i) (flat_map_more (row columns) [] (below dies) dies) ∙ h))
+
+-- each block has its number, and lies on the dies
+pub spot_at : (n : Numbers) (i : ℕ) (s : Spot) → slice_get (spots n) i ≡ Some s →
+    (i ≡ spot_number n.blocks s) × IsInside n s
+spot_at n i s at = let r = rows_at n.blocks n.dies i s at in (r.0, record { die = r.1; block = r.2 })
 
 -- in a list with an answer for each block this is the one of the block
 pub free_at : (n : Numbers) (is_bad : Spot → Bool) (items : List Bool) (i : ℕ) (s : Spot) →

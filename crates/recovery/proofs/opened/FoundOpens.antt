@@ -1,13 +1,13 @@
 -- What a scan finds is what the definitions open over the same pages.
 use Rattle.std.proofs.Common.{◌≡◌, ◌∙◌, ℕ, ◌≤◌, Bool, List, Option, Some, None, ap, arith, subst}
-use Rattle.std.proofs.Common.{sym}
+use Rattle.std.proofs.Common.{refl, sym}
 use Rattle.std.specs.Prelude.{slice_get}
 use Rattle.ufs_spec.specs.Pages.{greatest_number}
 use Rattle.ufs_spec.specs.Cells.{Cells, Mark}
-use Rattle.ufs_spec.specs.Disk.{Spot}
+use Rattle.ufs_spec.specs.Disk.{Ready, Spot, Stale, Untouched, Vacancy}
 use Rattle.ufs_spec.specs.Kept.{IsKept, IsNewestMark, fence_in, recorded_in}
 use Rattle.ufs_spec.specs.Openings.{AreLost, IsAtMost, IsFirstFence, IsMendingAt, IsOpenedTranslation, IsGreatestSeen}
-use Rattle.ufs_spec.specs.Openings.{StandsAt, lost_from, number_of}
+use Rattle.ufs_spec.specs.Openings.{IsVacancyAt, StandsAt, lost_from, number_of}
 use Rattle.ufs_spec.specs.Plain.{shape_of_numbers}
 use Rattle.ufs_spec.specs.Sound.{CellsSound}
 use Rattle.ufs_spec.specs.Translation.{Translation, Unmarked}
@@ -15,10 +15,12 @@ use Rattle.ufs_spec.specs.declared.configs.Numbers.{Numbers}
 use Rattle.ufs_spec.specs.declared.flash.Fence.{Fence}
 use Rattle.ufs_spec.specs.declared.flash.Key.{Key}
 use Rattle.ufs_laws.proofs.array_cells.StandsForOne.{kept_one, mark_one}
-use Rattle.recovery.specs.Found.{IsFound, newest_found}
+use Rattle.recovery.specs.Found.{IsFound, IsVacancyFound, newest_found}
 use Rattle.geometry.specs.Keys.{IsIndex}
 use Rattle.recovery.specs.Listed.{AreInRange, IsContentPage, outside}
-use Rattle.recovery.specs.Opened.{IsFenceFound, IsPageOf, OpensFound}
+use Rattle.recovery.specs.Opened.{IsFenceFound, IsPageOf, IsVacancyOf, OpensFound}
+use Rattle.recovery.specs.declared.keys.FoundBlock.{FoundBlock}
+use Rattle.recovery.specs.declared.keys.FoundBlock.TheVariants as block
 use Rattle.recovery.specs.declared.found.Found.{Found}
 use Rattle.recovery.specs.declared.pages.FoundPage.{FoundPage}
 use Rattle.geometry.proofs.Indexes.{index_known}
@@ -57,6 +59,27 @@ fence_found : (f : Found) (m : Option Mark) (low top : ℕ) (fence : Option Fenc
     top ≡ f.greatest_seen → IsFirstFence m low top fence → IsFenceFound f fence
 fence_found f m low top None first last h = tt
 fence_found f m low top (Some fence) first last h = (h.0 ∙ first, h.1 ∙ last)
+
+-- Vacancies
+
+-- a block in which nothing opens has no page that opens
+untouched_one : (c : Cells) (s : Spot) (v : Vacancy) → IsVacancyAt c s Untouched → IsVacancyAt c s v → v ≡ Untouched
+untouched_one c s Untouched none there = refl
+untouched_one c s Stale none there = absurd (there.2 (none there.0 there.1))
+untouched_one c s Ready none there = absurd there
+
+stale_one : (c : Cells) (s : Spot) (v : Vacancy) → IsVacancyAt c s Stale → IsVacancyAt c s v → v ≡ Stale
+stale_one c s Untouched some there = absurd (some.2 (there some.0 some.1))
+stale_one c s Stale some there = refl
+stale_one c s Ready some there = absurd there
+
+-- a free block has the vacancy that was found
+vacancy_there : (c : Cells) (s : Spot) (b : FoundBlock) (v : Vacancy) → IsVacancyFound c s b → IsVacancyAt c s v →
+    IsVacancyOf b v
+vacancy_there c s block.Free v found there = untouched_one c s v found there
+vacancy_there c s block.Stale v found there = stale_one c s v found there
+vacancy_there c s block.Closed v found there = tt
+vacancy_there c s block.Bad v found there = tt
 
 module _ (n : Numbers) (c : Cells) (bad : Spot → Bool) (f : Found) (t : Translation)
     (sound : CellsSound c t.ledger.newest) (found : IsFound n c bad f) (opened : IsOpenedTranslation n c bad t) where
@@ -138,6 +161,10 @@ module _ (n : Numbers) (c : Cells) (bad : Spot → Bool) (f : Found) (t : Transl
     differ = lost_differ c f.first_lost f.greatest_seen f.lost.items found.lost;
     as_many = found.as_many;
     blocks = λ i s at.
-        let r = found.blocks i s at in
-        (r.0, r.1, ap (λ blocks. blocks s) same_blocks ∙ sym r.2);
+        let r = found.blocks i s at in (
+          r.0,
+          r.1,
+          ap (λ blocks. blocks s) same_blocks ∙ sym r.2,
+          vacancy_there c s r.0 (t.disk.vacancies s) r.3 (opened.disk.vacancies s),
+        );
   }

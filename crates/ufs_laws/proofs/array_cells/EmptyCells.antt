@@ -4,10 +4,11 @@ use Rattle.std.proofs.Common.{⊎_elim, arith}
 use Rattle.ufs_spec.proofs.CellKinds.{mark_not_nothing, page_not_nothing}
 use Rattle.ufs_spec.proofs.Facts.{none-some}
 use Rattle.ufs_spec.specs.Cells.{Cells, GroupPage, Mark, MarkPage, Nothing}
-use Rattle.ufs_spec.specs.Disk.{Bad, BlockState, Closed, Free, Spot}
+use Rattle.ufs_spec.specs.Disk.{Bad, BlockState, Closed, Free, Ready, Spot, Stale, Untouched, Vacancy}
 use Rattle.ufs_spec.specs.Kept.{HasNone, IsKept, IsNewestMark, IsRecorded, IsWhole}
 use Rattle.ufs_spec.specs.Ledger.{Entry, Name}
-use Rattle.ufs_spec.specs.Openings.{AreFirstBlocks, AreLost, IsAtMost, IsEntry, IsMendingAt, IsGreatestSeen, StandsAt}
+use Rattle.ufs_spec.specs.Openings.{AreFirstBlocks, AreLost, IsAtMost, IsEntry, IsMendingAt, IsGreatestSeen}
+use Rattle.ufs_spec.specs.Openings.{IsVacancyAt, StandsAt}
 use Rattle.ufs_spec.specs.Sound.{CellsSound, CellsSuit}
 use Rattle.ufs_spec.specs.Translation.{Mended, Mending, Repairing, Unmarked}
 use Rattle.ufs_spec.specs.declared.configs.Numbers.{Numbers}
@@ -122,6 +123,11 @@ module _ (c : Cells) (empty : (p : Place) → c p ≡ Nothing) where
       by true e = h.were_bad s e
       by false e = ⊎_elim (λ free. free) (λ closed. let x = h.oldest_first s closed in absurd (x.2 (empty x.0)))
           (h.were_good s e)
+
+  pub is_untouched : (s : Spot) (v : Vacancy) → IsVacancyAt c s v → v ≡ Untouched
+  is_untouched s Untouched h = refl
+  is_untouched s Stale h = absurd (h.2 (empty h.0))
+  is_untouched s Ready h = absurd h
 
   none_lost : (low top : ℕ) → AreLost c low top []
   none_lost low top = record {

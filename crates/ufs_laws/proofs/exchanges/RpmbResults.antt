@@ -1,6 +1,7 @@
 -- The result of an RPMB request that is accepted.
 use Rattle.std.proofs.Common.{◌≡◌, ◌⊎◌, ◌&&◌, ◌==◌, ℕ, Bool, true, false, cond, List, [], ◌∷◌, Option, Some, None}
 use Rattle.std.proofs.Common.{bit_or, refl, ◌∙◌, inl, inr}
+use Rattle.ufs_laws.proofs.rpmb_frames.RequestOutcomes.{no_command, refused}
 use Rattle.ufs_spec.specs.Commands.{Command}
 use Rattle.ufs_spec.specs.Exchanges.{Registers, Status}
 use Rattle.ufs_spec.specs.Plain.{counter_end}
@@ -18,18 +19,12 @@ zero_or_end region = end_bit (has_key region && (region.counter == counter_end))
 same_result : (n result : ℕ) (a : Option Command) (c : Command) → Results n a ≡ Results result (Some c) → result ≡ n
 same_result n result a c e = cc
 
-no_command : (n result : ℕ) (c : Command) → Results n None ≡ Results result (Some c) → ⊥
-no_command n result c e = cc
-
 behind : (region : Region) (a : Option Command) (failed : Option ℕ) (result : ℕ) (c : Command) →
     outcome_after region a failed ≡ Results result (Some c) → (result ≡ 0) ⊎ (result ≡ 0x80)
 behind region a (Some r) result c e = absurd (no_command (with_end_bit region r) result c e)
 behind region a None result c e =
     let same = same_result (with_end_bit (applied region a) 0) result a c e in
     elim (zero_or_end (applied region a)) [ inl zero ↦ inl (same ∙ zero) | inr end ↦ inr (same ∙ end) ]
-
-refused : (status : Status) (result : ℕ) (c : Command) → Refused status ≡ Results result (Some c) → ⊥
-refused status result c e = cc
 
 chosen : (malformed lacking : Bool) (s t : Status) (o : RpmbOutcome) (result : ℕ) (c : Command) →
     cond malformed (Refused s) (cond lacking (Refused t) o) ≡ Results result (Some c) → o ≡ Results result (Some c)

@@ -5,11 +5,13 @@ use Rattle.std.specs.List.{cons_option}
 use Rattle.std.proofs.lemmas.List.Elements.{All-contains, filter_passes}
 use Rattle.ufs_laws.specs.Flights.{die_of_flight}
 use Rattle.ufs_spec.specs.Cells.{Cell}
-use Rattle.ufs_spec.specs.Disk.{BlockState, Filling, Flight, Erasing, Programming, Reader, Reading, Spot}
+use Rattle.ufs_spec.specs.Disk.{BlockState, Filling, Flight, Erasing, Programming, Reader, Reading, Spot, Vacancy}
+use Rattle.ufs_spec.specs.Disk.{place_in}
 use Rattle.ufs_spec.specs.Keys.{below}
 use Rattle.ufs_spec.specs.Ledger.{Name}
 use Rattle.ufs_spec.specs.Translation.{MayTake, Translation, Want, cell_now, first_of, flight_at, flight_for, is_of_die}
-use Rattle.ufs_spec.specs.Translation.{has_room_for_groups, may_be_erased, may_open_for_group, may_open_for_step}
+use Rattle.ufs_spec.specs.Translation.{flight_into, flight_or, has_room_for_groups, is_ready, is_stale, is_untouched}
+use Rattle.ufs_spec.specs.Translation.{lowest_vacant, may_be_used, may_open_for_group, may_open_for_step, next_erase}
 use Rattle.ufs_spec.specs.Translation.{next_flight, next_in, next_place, waiting_name, waiting_step}
 use Rattle.ufs_spec.specs.Translation.{want_at, wants, wants_on}
 use Rattle.ufs_spec.specs.declared.flash.Place.{Place}
@@ -59,12 +61,35 @@ erase_first : (die block : ℕ) (may : Bool) (rest : Option Spot) (flight : Flig
 erase_first die block false rest flight h e = h e
 erase_first die block true rest flight h e = lies_on (Erasing (spot_at die block)) flight die refl e
 
-erase_among : (t : Translation) (die : ℕ) (blocks : List ℕ) (flight : Flight)
-    → option_map Erasing (find (may_be_erased t) (map (spot_at die) blocks)) ≡ Some flight → die_of_flight flight ≡ die
-erase_among t die [] flight e = absurd (let none : None ≡ Some flight = e in cc)
-erase_among t die (block ∷ more) flight e =
-    erase_first die block (may_be_erased t (spot_at die block)) (find (may_be_erased t) (map (spot_at die) more)) flight
-    (erase_among t die more flight) e
+erase_among : (is : Spot → Bool) (die : ℕ) (blocks : List ℕ) (flight : Flight)
+    → option_map Erasing (find is (map (spot_at die) blocks)) ≡ Some flight → die_of_flight flight ≡ die
+erase_among is die [] flight e = absurd (let none : None ≡ Some flight = e in cc)
+erase_among is die (block ∷ more) flight e =
+    erase_first die block (is (spot_at die block)) (find is (map (spot_at die) more)) flight
+    (erase_among is die more flight) e
+
+erase_here : (t : Translation) (is : Vacancy → Bool) (die : ℕ) (flight : Flight) → next_erase t is die ≡ Some flight →
+    die_of_flight flight ≡ die
+erase_here t is die flight e = erase_among (may_be_used t is) die (below t.numbers.blocks) flight e
+
+-- Blocks that were erased
+
+block_first : (die block : ℕ) (may : Bool) (rest : Option Spot) (s : Spot) → (rest ≡ Some s → s.die ≡ die)
+    → cond may (Some (spot_at die block)) rest ≡ Some s → s.die ≡ die
+block_first die block false rest s h e = h e
+block_first die block true rest s h e = let same : spot_at die block ≡ s = cc in ap (λ (x : Spot). x.die) (sym same)
+
+block_among : (is : Spot → Bool) (die : ℕ) (blocks : List ℕ) (s : Spot) → find is (map (spot_at die) blocks) ≡ Some s →
+    s.die ≡ die
+block_among is die [] s e = absurd (let none : None ≡ Some s = e in cc)
+block_among is die (block ∷ more) s e =
+    block_first die block (is (spot_at die block)) (find is (map (spot_at die) more)) s (block_among is die more s) e
+
+into_here : (t : Translation) (die : ℕ) (cell : Cell) (o : Option Spot) (flight : Flight) →
+    ((s : Spot) → o ≡ Some s → s.die ≡ die)
+    → flight_into t die cell o ≡ Some flight → die_of_flight flight ≡ die
+into_here t die cell (Some s) flight h e = lies_on (Programming (place_in s 0) cell) flight die (h s refl) e
+into_here t die cell None flight h e = erase_here t is_untouched die flight e
 
 -- Each job
 
@@ -73,7 +98,9 @@ flight_here : (t : Translation) (die : ℕ) (opens : Bool) (cell : Cell) (p : Op
     → flight_at t die opens cell p ≡ Some flight → die_of_flight flight ≡ die
 flight_here t die opens cell (Some p) flight next e =
     lies_on (Programming p cell) flight die (next_among t die (below t.numbers.blocks) p next) e
-flight_here t die true cell None flight next e = erase_among t die (below t.numbers.blocks) flight e
+flight_here t die true cell None flight next e =
+    into_here t die cell (lowest_vacant t is_ready die) flight
+    (block_among (may_be_used t is_ready) die (below t.numbers.blocks)) e
 flight_here t die false cell None flight next e = absurd (let none : None ≡ Some flight = e in cc)
 
 flight_for_here : (t : Translation) (die : ℕ) (cell : Option Cell) (name : Option Name) (flight : Flight)
@@ -89,8 +116,16 @@ flight_for_here t die None (Some name) flight e = by (has_room_for_groups t) e
     by false k = absurd (let none : None ≡ Some flight = k in cc)
 flight_for_here t die None None flight e = absurd (let none : None ≡ Some flight = e in cc)
 
+either_here : (o other : Option Flight) (flight : Flight) (die : ℕ) → (o ≡ Some flight → die_of_flight flight ≡ die) →
+    (other ≡ Some flight → die_of_flight flight ≡ die)
+    → flight_or o other ≡ Some flight → die_of_flight flight ≡ die
+either_here (Some f) other flight die one two e = one e
+either_here None other flight die one two e = two e
+
 next_here : (t : Translation) (die : ℕ) (flight : Flight) → next_flight t die ≡ Some flight → die_of_flight flight ≡ die
-next_here t die flight e = flight_for_here t die (waiting_step t t.work.step) (waiting_name t) flight e
+next_here t die flight e =
+    either_here (next_erase t is_stale die) _ flight die (erase_here t is_stale die flight)
+    (flight_for_here t die (waiting_step t t.work.step) (waiting_name t) flight) e
 
 pub job_here : (t : Translation) (die : ℕ) (flight : Flight) → MayTake t die (Some flight) → die_of_flight flight ≡ die
 job_here t die (Reading reader place) h = read_here t die reader place h

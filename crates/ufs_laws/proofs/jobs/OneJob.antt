@@ -6,7 +6,8 @@ use Rattle.ufs_spec.specs.Cells.{Cell}
 use Rattle.ufs_spec.specs.Ledger.{Name}
 use Rattle.ufs_spec.specs.Disk.{Flight, Erasing, Reader, Reading, Spot}
 use Rattle.ufs_spec.specs.Translation.{IsOwed, MayTake, Translation, Want, cell_now, flight_at, flight_for}
-use Rattle.ufs_spec.specs.Translation.{has_room_for_groups, is_idle, may_open_for_group, next_flight, next_place}
+use Rattle.ufs_spec.specs.Translation.{flight_into, flight_or, has_room_for_groups, is_idle, is_stale}
+use Rattle.ufs_spec.specs.Translation.{may_open_for_group, next_erase, next_flight, next_place}
 use Rattle.ufs_spec.specs.Translation.{want_at, wants_on}
 use Rattle.ufs_spec.specs.declared.flash.Place.{Place}
 use Rattle.ufs_spec.proofs.Facts.{and_parts, none_is}
@@ -28,10 +29,16 @@ no_erase_reads None (Reading reader place) e read = cc
 no_erase_reads other (Reading reader place) e read = cc
 no_erase_reads o flight e read = read
 
+no_read_into : (t : Translation) (die : ℕ) (cell : Cell) (s : Option Spot) (flight : Flight)
+    → flight_into t die cell s ≡ Some flight → IsRead flight → ⊥
+no_read_into t die cell (Some s) (Reading reader place) e read = cc
+no_read_into t die cell None (Reading reader place) e read = no_erase_reads _ (Reading reader place) e tt
+no_read_into t die cell s flight e read = read
+
 no_read_at : (t : Translation) (die : ℕ) (opens : Bool) (cell : Cell) (p : Option Place) (flight : Flight)
     → flight_at t die opens cell p ≡ Some flight → IsRead flight → ⊥
 no_read_at t die opens cell (Some p) (Reading reader place) e read = cc
-no_read_at t die true cell None (Reading reader place) e read = no_erase_reads _ (Reading reader place) e tt
+no_read_at t die true cell None (Reading reader place) e read = no_read_into t die cell _ (Reading reader place) e tt
 no_read_at t die false cell None (Reading reader place) e read = cc
 no_read_at t die opens cell p flight e read = read
 
@@ -47,8 +54,16 @@ no_read_for t die None (Some name) flight e read = by (has_room_for_groups t) e
     by false k = cc
 no_read_for t die None None flight e read = cc
 
+-- what is told of two jobs is told of the first of them
+no_read_of : (o other : Option Flight) (flight : Flight) → (o ≡ Some flight → ⊥) → (other ≡ Some flight → ⊥) →
+    flight_or o other ≡ Some flight → ⊥
+no_read_of (Some f) other flight one two e = one e
+no_read_of None other flight one two e = two e
+
 next_is_no_read : (t : Translation) (die : ℕ) (flight : Flight) → next_flight t die ≡ Some flight → IsRead flight → ⊥
-next_is_no_read t die flight e read = no_read_for t die _ _ flight e read
+next_is_no_read t die flight e read =
+    no_read_of (next_erase t is_stale die) _ flight (λ k. no_erase_reads _ flight k read)
+    (λ k. no_read_for t die _ _ flight k read) e
 
 -- One or none
 
@@ -87,7 +102,7 @@ none_found t die reader place none h =
     nothing_inside (want_at reader place) (subst (λ (ws : List Want). Contains ws (want_at reader place)) none h)
 
 -- where no read is owed, what is owed is the next flight
-is_next : (t : Translation) (die : ℕ) (flight : Flight) → wants_on t die ≡ [] → IsOwed t die flight →
+pub is_next : (t : Translation) (die : ℕ) (flight : Flight) → wants_on t die ≡ [] → IsOwed t die flight →
     next_flight t die ≡ Some flight
 is_next t die (Reading reader place) none e = absurd (none_found t die reader place none e)
 is_next t die flight none e = e.1

@@ -7,7 +7,8 @@ use Rattle.ufs_laws.proofs.array_cells.EmptyCells.{fresh_block}
 use Rattle.ufs_laws.proofs.jobs.JobsInFlight.{told_layer}
 use Rattle.ufs_laws.proofs.jobs.JobsOnTheirDies.{spot_at}
 use Rattle.ufs_laws.proofs.exchanges.RequestsSettled.{settled_is}
-use Rattle.ufs_laws.proofs.new_dies.NewDeviceState.{Open, first_is, first_layer, first_state, open_in}
+use Rattle.ufs_laws.proofs.new_dies.NewDeviceState.{Open, first_is, first_layer, first_state, no_stale, none_ready}
+use Rattle.ufs_laws.proofs.new_dies.NewDeviceState.{none_stale, open_in}
 use Rattle.ufs_laws.proofs.array_cells.StandsForSomething.{AllBlank}
 use Rattle.ufs_spec.proofs.Facts.{false≢true, lt-ltb, or_right}
 use Rattle.ufs_spec.proofs.Lists.{below_at, find_some, none_passes}
@@ -19,8 +20,9 @@ use Rattle.ufs_spec.specs.Machine.{Turn, OfTurn, observe, with_moves}
 use Rattle.ufs_spec.specs.Moves.{TakeStep}
 use Rattle.ufs_spec.specs.Refusals.{State}
 use Rattle.ufs_spec.specs.Translation.{MarkStep, MayTake, Translation, has_open_block, has_room_for_groups}
-use Rattle.ufs_spec.specs.Translation.{mark_ordered, may_be_erased, may_open_for_step, next_flight, next_in}
-use Rattle.ufs_spec.specs.Translation.{next_place, step_cell, waiting_step}
+use Rattle.ufs_spec.specs.Translation.{is_ready, is_stale, is_untouched, lowest_vacant, mark_ordered, may_be_used}
+use Rattle.ufs_spec.specs.Translation.{may_open_for_step, next_flight, next_in, next_place, step_cell, turned}
+use Rattle.ufs_spec.specs.Translation.{waiting_step}
 use Rattle.ufs_spec.specs.declared.configs.Numbers.{Numbers}
 
 -- no block of new dies is being filled
@@ -41,9 +43,9 @@ module _ (n : Numbers) (bad : Spot → Bool) (o : Open) (good : Spot) (there : g
   abbrev t : Translation
   t = mark_ordered (first_layer n bad o) None
 
-  found : (spot : Spot) × (find (may_be_erased t) (map (spot_at good.die) (below n.blocks)) ≡ Some spot)
+  found : (spot : Spot) × (find (may_be_used t is_untouched) (map (spot_at good.die) (below n.blocks)) ≡ Some spot)
   found =
-      find_some (may_be_erased t) (map (spot_at good.die) (below n.blocks)) good.block good
+      find_some (may_be_used t is_untouched) (map (spot_at good.die) (below n.blocks)) good.block good
       (slice_get-map (spot_at good.die) (below n.blocks) good.block
       ∙ ap (option_map (spot_at good.die)) (below_at n.blocks good.block within))
       (rw right refl)
@@ -68,16 +70,25 @@ module _ (n : Numbers) (bad : Spot → Bool) (o : Open) (good : Spot) (there : g
   opens : may_open_for_step t ≡ true
   opens = or_right (has_room_for_groups t) (not (has_open_block t)) (ap not closed)
 
+  stale : lowest_vacant t is_stale good.die ≡ None
+  stale = none_stale n bad o good.die
+
+  ready : lowest_vacant t is_ready good.die ≡ None
+  ready = none_ready n bad o good.die
+
   flight : next_flight t good.die ≡ Some (Erasing found.0)
-  flight = rw (waits, place, opens, found.1) refl
+  flight = rw (stale, waits, place, opens, ready, found.1) refl
 
   first_erase : (spot : Spot) × MayTake t good.die (Some (Erasing spot))
   first_erase = (found.0, (rw (lt-ltb good.die n.dies there) refl, (refl, flight)))
 
+  turned_to : turned (first_layer n bad o) ≡ t
+  turned_to = rw (no_stale n bad o) refl
+
   reached : (observe (first_state n bad o) Turn (OfTurn true)).translation ≡ t
   reached =
       let s : State = with_moves (first_state n bad o) (TakeStep ∷ []) in
-      ap (λ (v : State). v.translation) (settled_is s tt) ∙ told_layer s
+      ap (λ (v : State). v.translation) (settled_is s tt) ∙ told_layer s ∙ turned_to
 
   behind_step :
       (spot : Spot)

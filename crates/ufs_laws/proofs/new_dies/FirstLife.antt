@@ -1,9 +1,10 @@
 -- The first life of new dies: it begins, and it begins with a mark to be programmed and nothing else to do.
 pub use Rattle.ufs_laws.proofs.new_dies.NewDeviceState.{none_there}
-use Rattle.std.proofs.Common.{◌≡◌, ℕ, Bool, true, false, [], None, refl, ap, inr}
+use Rattle.std.proofs.Common.{◌≡◌, ◌∙◌, ℕ, Bool, true, false, [], None, refl, ap, inr, subst, sym}
 use Rattle.ufs_laws.proofs.array_cells.EmptyCells as cells
 use Rattle.ufs_laws.proofs.plain_contents.NewDevice.{new_plain, new_zeros}
-use Rattle.ufs_laws.proofs.new_dies.NewDeviceState.{Open, first_disk, first_is, first_state, new_ledger}
+use Rattle.ufs_laws.proofs.new_dies.NewDeviceState.{Open, first_disk, first_is, first_layer, first_state, new_ledger}
+use Rattle.ufs_laws.proofs.new_dies.NewDeviceState.{no_stale, none_stale, open_in}
 use Rattle.ufs_laws.proofs.array_cells.StandsForOne.{plain_one}
 use Rattle.ufs_laws.proofs.pages.PageIsOneCell.{one_cell}
 use Rattle.ufs_laws.proofs.answers.OnlyAnswers.{none_due}
@@ -19,7 +20,8 @@ use Rattle.ufs_spec.specs.Machine.{Due}
 use Rattle.ufs_spec.specs.Openings.{IsOpenedDisk, IsOpenedLedger}
 use Rattle.ufs_spec.specs.Plain.{zero as zero_state}
 use Rattle.ufs_spec.specs.Refusals.{State, mended}
-use Rattle.ufs_spec.specs.Translation.{MayTake, Translation, is_step_due, next_flight, wants_on}
+use Rattle.ufs_spec.specs.Translation.{MayTake, Translation, flight_for, is_step_due, next_flight, waiting_name}
+use Rattle.ufs_spec.specs.Translation.{waiting_step, wants_on}
 use Rattle.ufs_spec.specs.declared.configs.Numbers.{Numbers}
 use Rattle.ufs_spec.specs.declared.flash.Place.{Place}
 use Rattle.ufs_spec.specs.declared.messages.Message.{Message}
@@ -37,6 +39,7 @@ disk_opened bad = record {
   cells = refl;
   finished = λ p. refl;
   blocks = cells.blocks_are empty none None bad;
+  vacancies = λ s p at. refl;
   idle = λ die. refl;
   none_erasing = λ s. refl;
 }
@@ -104,24 +107,27 @@ module _ (n : Numbers) (array : Array) (bad : Spot → Bool) (s : State) (blank 
 
   -- a mark is due
   pub step_due : is_step_due s.translation ≡ true
-  step_due = ap (λ (t : State). is_step_due t.translation) (first_is n array bad s blank h)
+  step_due = ap (λ (t : State). is_step_due t.translation) (first_is n array bad s blank h) ∙ due
+    where
+      due : is_step_due (first_layer n bad (open_in s)) ≡ true
+      due = rw (no_stale n bad (open_in s)) refl
+
+  -- no block has what is to be erased, so no die is owed a job
+  pub no_job : (die : ℕ) → MayTake s.translation die None
+  no_job die =
+      let first = first_layer n bad (open_in s) in
+      let none : next_flight first die ≡ None = rw (none_stale n bad (open_in s) die) refl in
+      subst (λ (u : State). MayTake u.translation die None) (sym (first_is n array bad s blank h)) (inr (refl, none))
 
 -- nothing else is
 pub no_reply : (n : Numbers) (array : Array) (bad : Spot → Bool) (s : State) → IsOpened n array bad s → (m : Message) →
     Due s m → ⊥
 no_reply n array bad s h = none_due s h.no_tasks h.no_shorts
 
-no_wants : (t : Translation) (die : ℕ) → t.pins ≡ [] → t.work.step ≡ None → t.work.rests ≡ [] → wants_on t die ≡ []
+pub no_wants : (t : Translation) (die : ℕ) → t.pins ≡ [] → t.work.step ≡ None → t.work.rests ≡ [] → wants_on t die ≡ []
 no_wants t die pins step rests = rw (pins, step, rests) refl
 
-no_flight : (t : Translation) (die : ℕ) → t.work.step ≡ None → t.ledger.groups ≡ [] → t.ledger.repairs ≡ 0 →
-    next_flight t die ≡ None
+-- whatever life begins, only what is in free blocks is erased before its first step
+pub no_flight : (t : Translation) (die : ℕ) → t.work.step ≡ None → t.ledger.groups ≡ [] → t.ledger.repairs ≡ 0 →
+    flight_for t die (waiting_step t t.work.step) (waiting_name t) ≡ None
 no_flight t die step groups repairs = rw (step, groups, repairs) refl
-
-pub no_job : (n : Numbers) (array : Array) (bad : Spot → Bool) (s : State) → IsOpened n array bad s → (die : ℕ) →
-    MayTake s.translation die None
-no_job n array bad s h die =
-    let t = s.translation in
-    let u = h.translation in
-    inr
-    (no_wants t die u.no_pins u.no_step u.no_rests, no_flight t die u.no_step u.ledger.none_new u.ledger.none_repaired)

@@ -1,13 +1,16 @@
 -- What a device is that was opened over new dies: all of it is known, but for the arrays, the base, and what its ledger
 -- says of keys.
-use Rattle.std.proofs.Common.{◌≡◌, ℕ, suc, Bool, true, false, [], Option, None, ap, ◌∙◌, subst}
+use Rattle.std.proofs.Common.{◌≡◌, ◌&&◌, ℕ, suc, Bool, true, false, List, [], ◌∷◌, find, Option, None, ap, ◌∙◌}
+use Rattle.std.proofs.Common.{refl, subst, sym}
+use Rattle.ufs_spec.proofs.Facts.{false≢true}
+use Rattle.ufs_spec.proofs.Lists.{none_passes}
 use Rattle.ufs_laws.proofs.pages.BlankPages.{blank_is_nothing}
 use Rattle.ufs_laws.proofs.array_cells.EmptyCells as cells
 use Rattle.ufs_laws.proofs.array_cells.EmptyCells.{fresh_block}
 use Rattle.ufs_laws.proofs.array_cells.StandsForSomething.{AllBlank}
 use Rattle.ufs_laws.specs.Runs.{IsNew, row}
 use Rattle.ufs_spec.specs.Cells.{Array, IsCell, Nothing}
-use Rattle.ufs_spec.specs.Disk.{Disk, Spot}
+use Rattle.ufs_spec.specs.Disk.{Disk, Spot, Untouched}
 use Rattle.ufs_spec.specs.Exchanges.{empty_registers}
 use Rattle.ufs_spec.specs.Keys.{Contents}
 use Rattle.ufs_spec.specs.Kept.{fence_in}
@@ -16,7 +19,8 @@ use Rattle.ufs_spec.specs.Lives.{IsOpened}
 use Rattle.ufs_spec.specs.Openings.{IsMendingAt, IsGreatestSeen, lost_from, number_of}
 use Rattle.ufs_spec.specs.Plain.{Plain}
 use Rattle.ufs_spec.specs.Refusals.{State}
-use Rattle.ufs_spec.specs.Translation.{Mending, Translation, Unmarked, Work}
+use Rattle.ufs_spec.specs.Translation.{Mending, Translation, Unmarked, Work, has_stale, is_free, is_ready, is_stale}
+use Rattle.ufs_spec.specs.Translation.{is_vacant, lowest_vacant, may_be_used, spots, spots_of}
 use Rattle.ufs_spec.specs.declared.configs.Numbers.{Numbers}
 use Rattle.ufs_spec.specs.declared.flash.Key.{Key}
 use Rattle.ufs_spec.specs.declared.flash.Place.{Place}
@@ -41,6 +45,7 @@ first_disk bad = record {
   cells = λ p. Nothing;
   finished = λ p. true;
   blocks = λ b. fresh_block (bad b);
+  vacancies = λ b. Untouched;
   flights = λ die. None;
   erasing = λ b. false;
 }
@@ -79,6 +84,36 @@ first_state n bad o = record {
   power_on = false;
   registers = empty_registers;
 }
+
+-- Nothing to erase is in any of its blocks
+
+none_found : (f : Spot → Bool) (spots : List Spot) → ((s : Spot) → f s ≡ false) → find f spots ≡ None
+none_found f [] none = refl
+none_found f (s ∷ more) none = rw (none s) (none_found f more none)
+
+never : (free other : Bool) → ((free && false) && other) ≡ false
+never true other = refl
+never false other = refl
+
+not_stale : (free : Bool) → (free && false) ≡ false
+not_stale true = refl
+not_stale false = refl
+
+module _ (n : Numbers) (bad : Spot → Bool) (o : Open) where
+  pub none_stale : (die : ℕ) → lowest_vacant (first_layer n bad o) is_stale die ≡ None
+  none_stale die =
+      none_found (may_be_used (first_layer n bad o) is_stale) (spots_of n die)
+      (λ s. never (is_free (fresh_block (bad s))) true)
+
+  pub none_ready : (die : ℕ) → lowest_vacant (first_layer n bad o) is_ready die ≡ None
+  none_ready die =
+      none_found (may_be_used (first_layer n bad o) is_ready) (spots_of n die)
+      (λ s. never (is_free (fresh_block (bad s))) true)
+
+  pub no_stale : has_stale (first_layer n bad o) ≡ false
+  no_stale =
+      none_passes (is_vacant (first_layer n bad o) is_stale) (spots n)
+      (λ k s at is. false≢true (sym (not_stale (is_free (fresh_block (bad s)))) ∙ is))
 
 -- Of the worked run's device, of which no block is bad
 
@@ -140,6 +175,7 @@ module _ (n : Numbers) (array : Array) (bad : Spot → Bool) (s : State) (blank 
         finished = λ p. d.finished p i;
         blocks = λ b.
             cells.blocks_one h.cells none_there s.translation.ledger.newest bad s.translation.disk.blocks d.blocks b i;
+        vacancies = λ b. cells.is_untouched h.cells none_there b (s.translation.disk.vacancies b) (d.vacancies b) i;
         flights = λ die. d.idle die i;
         erasing = λ b. d.none_erasing b i;
       }

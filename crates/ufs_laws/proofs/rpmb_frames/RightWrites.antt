@@ -11,12 +11,7 @@ use Rattle.ufs_spec.specs.Rpmb.{Refused, Region, Results, RpmbOutcome, agrees, c
 use Rattle.ufs_spec.specs.Rpmb.{first_failed, fails_if, frames_mac, has_key, has_wrong_mac, is_past_area}
 use Rattle.ufs_spec.specs.Rpmb.{is_well_formed, lacks_result, last_mac, outcome_after, rpmb_outcome, same_bytes}
 use Rattle.ufs_laws.specs.RpmbWrites.{IsRightWrite, SaysTheSame}
-
-no_command : (n result : ℕ) (c : Command) → Results n None ≡ Results result (Some c) → ⊥
-no_command n result c e = cc
-
-refused : (status : Status) (result : ℕ) (c : Command) → Refused status ≡ Results result (Some c) → ⊥
-refused status result c e = cc
+use Rattle.ufs_laws.proofs.rpmb_frames.RequestOutcomes.{no_command, refused}
 
 same_command : (n result : ℕ) (a : Option Command) (c : Command) → Results n a ≡ Results result (Some c) → a ≡ Some c
 same_command n result a c e = cc

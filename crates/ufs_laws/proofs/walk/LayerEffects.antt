@@ -1,7 +1,7 @@
 -- What the end of a job, and a step of mending or collection, make of the translation layer: one effect of few kinds.
 -- So a law of both is a case for each kind that it looks at, and one for all others (`ended`, `turned_by`).
 use Rattle.std.proofs.Common.{◌≡◌, ◌⊎◌, ◌&&◌, ℕ, Bool, true, false, if◌then◌else◌, is_none, List, [], ◌∷◌, map, Option}
-use Rattle.std.proofs.Common.{Some, None, inl, inr, refl, sym, subst}
+use Rattle.std.proofs.Common.{Some, None, inl, inr, not, refl, sym, subst}
 use Rattle.ufs_spec.proofs.Facts.{none-some, same_Some}
 use Rattle.ufs_spec.specs.Cells.{Cell, Cells, GroupPage, Mark, MarkPage, Nothing}
 use Rattle.ufs_spec.specs.Disk.{Erasing, Flight, ForNobody, ForRest, ForStep, ForTask, Programming, Reader, Reading}
@@ -13,9 +13,9 @@ use Rattle.ufs_spec.specs.Moves.{rests_without}
 use Rattle.ufs_spec.specs.Moves.{step_there, with_wanted}
 use Rattle.ufs_spec.specs.Translation.{CopyStep, Mended, Mending, Order, OrderCopy, OrderMark, OrderPlanMark}
 use Rattle.ufs_spec.specs.Translation.{OrderRepair, Plan, Repairing, Step, Translation, Unmarked, Work, copy_begun}
-use Rattle.ufs_spec.specs.Translation.{due_order, has_mark_number, has_number, live_places, mark_ordered, name_of}
-use Rattle.ufs_spec.specs.Translation.{next_order, ordered, plan_order, repair_ordered, stepped, turned, victim}
-use Rattle.ufs_spec.specs.Translation.{victim_order, wants_collection, with_plan, with_step}
+use Rattle.ufs_spec.specs.Translation.{due_order, has_mark_number, has_number, has_stale, live_places, mark_ordered}
+use Rattle.ufs_spec.specs.Translation.{name_of, next_order, ordered, plan_order, repair_ordered, stepped, turned}
+use Rattle.ufs_spec.specs.Translation.{victim, victim_order, wants_collection, with_plan, with_step}
 use Rattle.ufs_spec.specs.declared.flash.Fence.{Fence}
 use Rattle.ufs_spec.specs.declared.flash.Key.{Key}
 use Rattle.ufs_spec.specs.declared.flash.Place.{Place}
@@ -152,13 +152,14 @@ next_due t Mended None o m pl e =
 
 -- an order comes where no step is under way, for its reason
 pub order_due : (t : Translation) (o : Order) → due_order t ≡ Some o → (t.work.step ≡ None) × IsDue t o
-order_due t o e = by t.work.step refl e
+order_due t o e = by t.work.step (has_stale t) refl e
   where
-    by : (step : Option Step) → t.work.step ≡ step →
-        (if is_none step then next_order t t.work.mending t.work.plan else None) ≡ Some o →
+    by : (step : Option Step) (stale : Bool) → t.work.step ≡ step →
+        (if is_none step && not stale then next_order t t.work.mending t.work.plan else None) ≡ Some o →
         (t.work.step ≡ None) × IsDue t o
-    by None is k = (is, next_due t t.work.mending t.work.plan o refl refl k)
-    by (Some step) is k = absurd (none-some o k)
+    by None false is k = (is, next_due t t.work.mending t.work.plan o refl refl k)
+    by None true is k = absurd (none-some o k)
+    by (Some step) stale is k = absurd (none-some o k)
 
 -- ## What each comes of
 

@@ -1,5 +1,7 @@
-use Rattle.std.proofs.Common.{◌≡◌, ap, Option, sym, subst, ◌∙◌, Bool, true, false, length, slice_get, List, refl}
+use Rattle.std.proofs.Common.{◌≡◌, ap, Option, Some, sym, subst, ◌∙◌, ℕ, Bool, true, false, length, slice_get, List}
+use Rattle.std.proofs.Common.{arith, get_or, refl}
 use Rattle.std.proofs.lemmas.List.{length-map}
+use Rattle.std.proofs.lemmas.Option.{slice_get-get_or, slice_get_within}
 use Rattle.ufs_spec.specs.Openings.{lost_from}
 use Rattle.ufs_spec.specs.Translation.{spots}
 use Rattle.ufs_spec.specs.declared.configs.Numbers.{Numbers}
@@ -13,14 +15,16 @@ use Rattle.std.specs.List.{filter}
 use Rattle.recovery.specs.Reading.{newest_in}
 use Rattle.recovery.specs.declared.pages.FoundPage.{FoundPage}
 use Rattle.recovery.proofs.bad_listed.BadBlocks.{bad_at}
-use Rattle.recovery.proofs.bad_listed.FreeLists.{free_at, outside_listed}
+use Rattle.recovery.proofs.bad_listed.FreeLists.{free_at, outside_listed, spot_at}
+use Rattle.recovery.proofs.frees.Vacancies.{vacancy_found}
 use Rattle.recovery.proofs.found.found_in.Goals as goal
 
 -- what a block was found to be is what it is by the two answers
-state_is : (bad free : Bool) → state_of_found (found_block free bad) ≡ block_by bad free
-state_is true free = refl
-state_is false true = refl
-state_is false false = refl
+state_is : (bad free opens : Bool) → state_of_found (found_block free opens bad) ≡ block_by bad free
+state_is true free opens = refl
+state_is false true true = refl
+state_is false true false = refl
+state_is false false opens = refl
 
 pub returns : goal.returns
 returns c = λ cells is_bad table in_range within suits bads.
@@ -36,6 +40,9 @@ returns c = λ cells is_bad table in_range within suits bads.
     let free = is_free_in n is_bad items in
     let long : length items ≡ length (spots n) =
     c.in_ok-free.ensures.as_many ∙ ap length bads ∙ length-map (spots n) is_bad in
+    let opening : List Bool = c.in_ok-opening.opening.items in
+    let as_many : length opening ≡ length (spots n) =
+    c.in_ok-opening.ensures.as_many ∙ ap length bads ∙ length-map (spots n) is_bad in
     let recorded = c.recorded_frontier-recorded.ensures.recorded cells m listed fence table.recorded in
     let top = c.greatest_seen-greatest_seen.ensures.top cells m listed fence table.recorded in
     record {
@@ -58,11 +65,20 @@ returns c = λ cells is_bad table in_range within suits bads.
           (outside_listed n is_bad items cells within pages listed)) fence;
       lost = c.in_ok-lost.ensures cells c.greatest_seen-greatest_seen.result listed top.0.numbers suits.keys;
       as_many = c.in_ok-blocks.ensures.each_block ∙ ap length bads ∙ length-map (spots n) is_bad;
-      blocks = λ i s at. (
-        found_block (free s) (is_bad s),
-        c.in_ok-blocks.ensures.states i (free s) (is_bad s)
-            (ap (λ (xs : List Bool). slice_get xs i) c.as_slice-3.ensures.value
-            ∙ free_at n is_bad items i s long at) (bad_at n is_bad c.args.bad.now i s bads at),
-        state_is (is_bad s) (free s),
-      );
+      blocks = λ i s at.
+          let spot = spot_at n i s at in
+          let inside = slice_get_within (spots n) i s at in
+          let opens = get_or opening i false in
+          let there : slice_get opening i ≡ Some opens = slice_get-get_or opening i false (omega (arith, inside, as_many)) in (
+            found_block (free s) opens (is_bad s),
+            c.in_ok-blocks.ensures.states i (free s) opens (is_bad s)
+                (ap (λ (xs : List Bool). slice_get xs i) c.as_slice-3.ensures.value
+                ∙ free_at n is_bad items i s long at)
+                (ap (λ (xs : List Bool). slice_get xs i) c.as_slice-4.ensures.value ∙ there)
+                (bad_at n is_bad c.args.bad.now i s bads at),
+            state_is (is_bad s) (free s) opens,
+            vacancy_found n cells within pages c.as_slice-marks.result.now listed marks opening
+                c.in_ok-opening.ensures.opening s spot.1 (free s) opens (is_bad s)
+                (subst (λ (k : ℕ). slice_get opening k ≡ Some opens) spot.0 there),
+          );
     }

@@ -7,5 +7,5 @@ abbrev pub invariant-loop-index : goal.invariant-loop-index
 invariant-loop-index l = record {
   long : length l.states.items ≡ l.index;
   states : (i : ℕ) → i < l.index →
-      slice_get l.states.items i ≡ Some (found_block (get_or l.free i false) (get_or l.bad i false));
+      slice_get l.states.items i ≡ Some (found_block (get_or l.free i false) (get_or l.opening i false) (get_or l.bad i false));
 }

@@ -20,7 +20,7 @@ returns-then-is_none-clause-described c =
 
 pub returns-clause-described : goal.returns-clause-described
 returns-clause-described c =
-    takes_right c.args.self.now c.set_flight.new.self c.args.die c.job_of-job.result (search rules) (search rules)
+    takes_right c.args.self.now c.begin.new.self c.args.die c.job_of-job.result (search rules) (search rules)
     c.has_few_units.ensures
 
 pub returns-then-is_some-clause-stop : goal.returns-then-is_some-clause-stop
@@ -49,11 +49,11 @@ returns-then-is_none-clause-erase c =
 
 pub returns-clause-stop : goal.returns-clause-stop
 returns-clause-stop c =
-    takes_stop c.args.self.now c.set_flight.new.self c.args.die c.job_of-job.result (returns-clause-described c)
+    takes_stop c.args.self.now c.begin.new.self c.args.die c.job_of-job.result (returns-clause-described c)
 
 pub returns-clause-erase : goal.returns-clause-erase
 returns-clause-erase c =
-    takes_erase c.args.self.now c.set_flight.new.self c.args.die c.job_of-job.result (returns-clause-described c)
+    takes_erase c.args.self.now c.begin.new.self c.args.die c.job_of-job.result (returns-clause-described c)
 
 pub returns-in_err-row-clause-stop : goal.returns-in_err-row-clause-stop
 returns-in_err-row-clause-stop c =

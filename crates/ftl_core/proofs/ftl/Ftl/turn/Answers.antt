@@ -8,6 +8,16 @@ use Rattle.ftl_core.proofs.ftl.Ftl.turn.Goals as goal
 pub returns-then-is_some-clause-described : goal.returns-then-is_some-clause-described
 returns-then-is_some-clause-described c = turns_told c.args.self.now _ false (search rules) (search rules)
 
+pub returns-then-is_some-clause-described_due : goal.returns-then-is_some-clause-described_due
+returns-then-is_some-clause-described_due c =
+    let due : false ≡ is_turn_due c.args.self.now = search rules in
+    λ t h. due ∙ turns_due c.args.self.now t h
+
+pub returns-in-Unmarked-clause-described_due : goal.returns-in-Unmarked-clause-described_due
+returns-in-Unmarked-clause-described_due c =
+    let due : c.turn_mark.result ≡ is_turn_due c.args.self.now = search rules in
+    λ t h. due ∙ turns_due c.args.self.now t h
+
 pub returns-in-Unmarked-clause-described : goal.returns-in-Unmarked-clause-described
 returns-in-Unmarked-clause-described c = turns_told c.args.self.now _ c.turn_mark.result (search rules) (search rules)
 

@@ -1,0 +1,4 @@
+pub mod ErasesInOrder
+pub mod FirstVacancies
+pub mod FreedVictims
+pub mod StaleBlocks

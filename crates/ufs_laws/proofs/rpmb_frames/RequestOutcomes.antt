@@ -1,0 +1,11 @@
+-- Outcomes of RPMB requests by which no command is accepted.
+use Rattle.std.proofs.Common.{◌≡◌, ℕ, Some, None}
+use Rattle.ufs_spec.specs.Commands.{Command}
+use Rattle.ufs_spec.specs.Exchanges.{Status}
+use Rattle.ufs_spec.specs.Rpmb.{Refused, Results}
+
+pub no_command : (n result : ℕ) (c : Command) → Results n None ≡ Results result (Some c) → ⊥
+no_command n result c e = cc
+
+pub refused : (status : Status) (result : ℕ) (c : Command) → Refused status ≡ Results result (Some c) → ⊥
+refused status result c e = cc
