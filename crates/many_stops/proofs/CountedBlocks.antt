@@ -1,0 +1,91 @@
+-- How many blocks are free: no fewer where each block that was free is so, one less at the most where all but one are,
+-- and one more where each is and another is free too.
+use Rattle.std.proofs.Common.{◌≡◌, ◌≢◌, ℕ, ◌+◌, ◌≤◌, cond, refl, sym, ap, ◌∙◌, ⊎_elim, arith}
+use Rattle.ufs_spec.proofs.Updates.{at_spot_cases}
+use Rattle.ufs_spec.specs.Disk.{BlockState, Free, Spot, at_spot}
+use Rattle.ufs_spec.specs.Translation.{is_free, spots}
+use Rattle.ufs_spec.specs.declared.configs.Numbers.{Numbers}
+use Rattle.power_loss.proofs.openings.OpenedPages.{free_or_not}
+use Rattle.power_loss.proofs.ordered_lists.ElementsAndOrders.{in_spots, spots_in}
+use Rattle.power_loss.proofs.room_to_mend.RoomInBlocks.{sum_no_less}
+use Rattle.power_loss.specs.Exchange.{IsSpot}
+use Rattle.many_stops.proofs.room_left.SumsOfRoom.{spot_told, spots_apart, sum_less, sum_more}
+use Rattle.many_stops.specs.RoomOfGroups.{free_count}
+
+-- a block counts if it is free
+abbrev weight : BlockState → ℕ
+weight x = cond (is_free x) 1 0
+
+weight_within : (x : BlockState) → weight x ≤ 1
+weight_within Free = omega arith
+weight_within state = omega arith
+
+weight_none : (x : BlockState) → x ≢ Free → weight x ≡ 0
+weight_none Free h = absurd (h refl)
+weight_none state h = refl
+
+weight_free : {x : BlockState} → x ≡ Free → weight x ≡ 1
+weight_free e = ap weight e
+
+weight_less : (x y : BlockState) → (x ≡ Free → y ≡ Free) → weight x ≤ weight y
+weight_less x y h = ⊎_elim
+    (λ e. let a = weight_free e in let b = weight_free (h e) in omega (arith, a, b))
+    (λ out. let a = weight_none x out in omega (arith, a)) (free_or_not x)
+
+-- each block of the dies that was free is so
+pub no_fewer : (n : Numbers) (was now : Spot → BlockState) → ((s : Spot) → IsSpot n s → was s ≡ Free → now s ≡ Free) →
+    free_count n was ≤ free_count n now
+no_fewer n was now each = sum_no_less (λ s. weight (was s)) (λ s. weight (now s)) (spots n)
+    (λ s i. weight_less (was s) (now s) (each s (spots_in i)))
+
+-- each but one is so
+all_but_one : (n : Numbers) (was now : Spot → BlockState) (lost : Spot) →
+    ((s : Spot) → IsSpot n s → s ≢ lost → was s ≡ Free → now s ≡ Free) → free_count n was ≤ 1 + free_count n now
+all_but_one n was now lost each =
+    sum_less 1 (λ s. weight (was s)) (λ s. weight (now s)) lost (spots n) (spot_told lost) (spots_apart n)
+    (λ s i other. weight_less (was s) (now s) (each s (spots_in i) other))
+    (let w = weight_within (was lost) in omega (arith, w))
+
+-- each is so, and one that was not
+pub one_more : (n : Numbers) (was now : Spot → BlockState) (won : Spot) → IsSpot n won →
+    ((s : Spot) → IsSpot n s → was s ≡ Free → now s ≡ Free) → was won ≢ Free → now won ≡ Free →
+    1 + free_count n was ≤ free_count n now
+one_more n was now won on each taken free =
+    sum_more 1 (λ s. weight (was s)) (λ s. weight (now s)) won (spots n) (in_spots on)
+    (λ s i. weight_less (was s) (now s) (each s (spots_in i)))
+    (let a = weight_none (was won) taken in let b = weight_free free in omega (arith, a, b))
+
+-- each but one is so, and one that was not
+pub one_for_another : (n : Numbers) (was now : Spot → BlockState) (lost won : Spot) → IsSpot n won →
+    ((s : Spot) → IsSpot n s → s ≢ lost → was s ≡ Free → now s ≡ Free) → was won ≢ Free → now won ≡ Free →
+    won ≢ lost → free_count n was ≤ free_count n now
+one_for_another n was now lost won on each taken free apart =
+    let with_lost = at_spot now lost Free in
+    let up : 1 + free_count n was ≤ free_count n with_lost =
+    one_more n was with_lost won on
+    (λ s on e. ⊎_elim (λ k. k.1) (λ k. k.1 ∙ each s on k.0 e) (at_spot_cases now lost Free s)) taken
+    (⊎_elim (λ k. absurd (apart k.0)) (λ k. k.1 ∙ free) (at_spot_cases now lost Free won)) in
+    let down : free_count n with_lost ≤ 1 + free_count n now =
+    all_but_one n with_lost now lost
+    (λ s on other e. ⊎_elim (λ k. absurd (other k.0)) (λ k. sym k.1 ∙ e) (at_spot_cases now lost Free s)) in
+    omega (arith, up, down)
+
+-- Where one block changes
+
+-- a block that was not free leaves those free that are
+pub others_free : (blocks : Spot → BlockState) (s : Spot) (x : BlockState) → blocks s ≢ Free →
+    (a : Spot) → blocks a ≡ Free → at_spot blocks s x a ≡ Free
+others_free blocks s x taken a free = ⊎_elim (λ k. absurd (taken (ap blocks (sym k.0) ∙ free))) (λ k. k.1 ∙ free)
+    (at_spot_cases blocks s x a)
+
+-- so no fewer are
+pub none_fewer : (n : Numbers) (blocks : Spot → BlockState) (s : Spot) (x : BlockState) → blocks s ≢ Free →
+    free_count n blocks ≤ free_count n (at_spot blocks s x)
+none_fewer n blocks s x taken =
+    no_fewer n blocks (at_spot blocks s x) (λ a on free. others_free blocks s x taken a free)
+
+-- whatever one block becomes, one less is free at the most
+pub one_fewer : (n : Numbers) (blocks : Spot → BlockState) (s : Spot) (x : BlockState) →
+    free_count n blocks ≤ 1 + free_count n (at_spot blocks s x)
+one_fewer n blocks s x = all_but_one n blocks (at_spot blocks s x) s
+    (λ a on other e. ⊎_elim (λ k. absurd (other k.0)) (λ k. k.1 ∙ e) (at_spot_cases blocks s x a))

@@ -1,0 +1,267 @@
+-- What holds of a life from its opening on, if that found room, and in which no program and no erase fails: until the
+-- device is mended the mending has room, and fills one block after another.
+use Rattle.std.proofs.Common.{◌≡◌, ◌≢◌, ℕ, ◌+◌, ◌-◌, ◌*◌, ◌≤◌, Bool, true, false, length, Option, Some, None}
+use Rattle.std.proofs.Common.{if◌then◌else◌, inl, inr, ⊎_elim, refl, sym, ap, ◌∙◌, subst, arith}
+use Rattle.ufs_spec.proofs.Facts.{cases_Bool, true≢false}
+use Rattle.ufs_spec.proofs.Updates.{at_die_cases, at_place_cases}
+use Rattle.ufs_spec.specs.Cells.{Cell, Cells, Mark, MarkPage}
+use Rattle.ufs_spec.specs.Disk.{CellCrash, Programming, Spot, Touches, at_die, at_place, programmed}
+use Rattle.ufs_spec.specs.Moves.{EndJob, IsAllowedMove, WentWell, end_flight, ending_fits, freed}
+use Rattle.ufs_spec.specs.Moves.{mark_written, moved}
+use Rattle.ufs_spec.specs.Openings.{AreLost, IsOpenedTranslation}
+use Rattle.ufs_spec.specs.Translation.{Mended, Mending, Plan, Repairing, Translation, Unmarked, count_blocks, is_bad}
+use Rattle.ufs_spec.specs.Translation.{is_free, is_mended, own_room}
+use Rattle.ufs_spec.specs.declared.flash.Place.{Place}
+use Rattle.power_loss.proofs.books.LayerParts.{MendingOf, StopLeaves}
+use Rattle.power_loss.proofs.mending_steps.TurnsOfALife.{false_before}
+use Rattle.power_loss.proofs.moves.MovesKeepCellsFitting.{move_stays}
+use Rattle.power_loss.proofs.moves.MovesKeepValid.{all_keep}
+use Rattle.power_loss.proofs.openings.OpenedByName.{Opened}
+use Rattle.power_loss.proofs.repaired_keys.LivesMendSoon.{listed}
+use Rattle.power_loss.proofs.repaired_keys.RepairsStayFew.{begins, move_few}
+use Rattle.power_loss.proofs.room_to_mend.AloneKept.{none_flown}
+use Rattle.power_loss.proofs.room_to_mend.LivesWithRoom.{Mends, move_mends}
+use Rattle.power_loss.proofs.room_to_mend.RoomInBlocks.{opening_alone, opening_room}
+use Rattle.power_loss.proofs.jobs_owed.ProgramsAndErases.{free_is}
+use Rattle.power_loss.proofs.stops.LeftCells.{mark_from}
+use Rattle.power_loss.specs.FewRepairs.{HasFewLost, HasFewRepairs, still_lost}
+use Rattle.power_loss.specs.Invariant.{Valid}
+use Rattle.power_loss.specs.MendingRoom.{HasRoom, fails_job}
+use Rattle.many_stops.proofs.finding_room.BlocksOneByOne.{Filled, move_fills, opening_filled}
+use Rattle.many_stops.proofs.finding_room.RoomForAMending.{blocks_hold, own_room_twice}
+use Rattle.many_stops.proofs.finding_room.SinceTheOpening.{SinceOpening, WereGood, move_since}
+use Rattle.many_stops.proofs.finding_room.SinceTheOpening.{opening_since}
+use Rattle.many_stops.proofs.finding_room.StopsOfAMending.{HasNewMark, HasNoNewMark, bad_is, new_mark}
+use Rattle.many_stops.proofs.finding_room.StopsOfAMending.{repairing_leaves, unmarked_leaves}
+use Rattle.many_stops.proofs.finding_room.WithoutFailures.{IsKeptByMoves}
+use Rattle.many_stops.proofs.free_at_stops.MovesKeepFree.{move_keeps, none_fails_stale, opening_keeps}
+use Rattle.many_stops.proofs.free_at_stops.MovesKeepFree.{stop_costs_none}
+use Rattle.many_stops.proofs.room_left.HandedPages.{handed_or_not}
+use Rattle.many_stops.proofs.room_left.IdleLives.{idle_stop}
+use Rattle.many_stops.proofs.room_left.MovesLeaveRoom.{move_leaves, opening_leaves}
+use Rattle.many_stops.specs.FreeOverStops.{KeepsFree}
+use Rattle.many_stops.specs.RoomOfGroups.{HasHandedOut, LeavesOwnRoom, free_count}
+use Rattle.many_stops.specs.RoomOverStops.{FindsRoom, HasSpareBlocks, mending_blocks}
+
+-- so many free blocks of an opening its mending leaves
+abbrev blocks_over : Translation → ℕ
+blocks_over o = free_count o.numbers o.disk.blocks - mending_blocks o.numbers
+
+pub record MendsFrom (o t : Translation) : Type 0 where
+  pub room : HasSpareBlocks o
+  pub mends : Mends (blocks_over o) t
+  pub since : SinceOpening o t
+  pub filled : Filled t
+
+pub record LivesFrom (o t : Translation) : Type 0 where
+  pub free : KeepsFree t
+  pub leaves : LeavesOwnRoom t
+  pub few : HasFewRepairs t
+  pub mends : is_mended t.work.mending ≡ false → MendsFrom o t
+
+-- Moves
+
+no_failure : (b : Bool) (k : ℕ) → b ≡ false → k ≡ k + (if b then 1 else 0)
+no_failure true k h = absurd (true≢false h)
+no_failure false k h = omega arith
+
+pub lives_on : (o : Translation) → WereGood o → IsKeptByMoves (LivesFrom o)
+lives_on o good t move v may well l = record {
+  free = move_keeps t move v may (none_fails_stale t move well) l.free;
+  leaves = move_leaves t move v may well l.leaves;
+  few = move_few move v l.few;
+  mends = λ now.
+      let un = false_before (is_mended t.work.mending) (move_stays t move).mended now in
+      let m = l.mends un in
+      record {
+        room = m.room;
+        mends = move_mends move (blocks_over o)
+            (subst (λ k. Mends k t) (no_failure (fails_job move) (blocks_over o) well) m.mends) un may;
+        since = move_since good v un m.mends.alone m.since move may well;
+        filled = move_fills v un m.mends.alone m.filled move may well;
+      };
+}
+
+-- A life begins
+
+enough_over : (pages lost slots blocks free : ℕ) → lost ≤ slots → slots + 2 ≤ pages * blocks → blocks ≤ free →
+    lost + 2 + (free - blocks) * pages ≤ pages * free
+enough_over pages lost slots blocks free few hold enough = by (free - blocks) (omega (arith, enough))
+  where
+    by : (over : ℕ) → free ≡ blocks + over → lost + 2 + over * pages ≤ pages * free
+    by over e = rw e (omega (arith, few, hold))
+
+module _ (bad : Spot → Bool) (o : Translation) (opens : Opened bad o) (good : (s : Spot) → bad s ≡ false)
+    (v : Valid o) (pages : 2 ≤ o.numbers.pages) (few : HasFewLost o.numbers o.disk.cells o.ledger.newest) where
+  -- the keys that are lost, no more of them than slots
+  pub lost_are : AreLost o.disk.cells o.ledger.first_lost o.ledger.greatest_seen (still_lost o.work.mending)
+  lost_are = listed o.ledger.newest o.work.mending opens.start.mending
+
+  pub lost_few : length (still_lost o.work.mending) ≤ o.numbers.slots
+  lost_few = few opens.start.ledger.kept o.ledger.greatest_seen (still_lost o.work.mending) opens.start.ledger.is_kept
+      opens.start.ledger.greatest_seen
+      (subst (λ low. AreLost o.disk.cells low o.ledger.greatest_seen (still_lost o.work.mending))
+      opens.start.ledger.first_lost lost_are)
+
+  first_room : HasSpareBlocks o → HasRoom (blocks_over o) o
+  first_room room = opening_room o.numbers o.disk.cells bad o (still_lost o.work.mending) (blocks_over o) opens.start
+      lost_are
+      (enough_over o.numbers.pages (length (still_lost o.work.mending)) o.numbers.slots (mending_blocks o.numbers)
+      (free_count o.numbers o.disk.blocks) lost_few (blocks_hold o.numbers pages) room.free)
+
+  first_mends : FindsRoom o → is_mended o.work.mending ≡ false → MendsFrom o o
+  first_mends (inl mended) un = absurd (true≢false (sym mended ∙ un))
+  first_mends (inr room) un = record {
+    room = room;
+    mends = record {
+      valid = v;
+      alone = opening_alone o.numbers o.disk.cells bad o opens.start;
+      room = first_room room;
+    };
+    since = opening_since o.numbers o.disk.cells bad o opens.start un;
+    filled = opening_filled o.numbers o.disk.cells bad o opens.pages opens.start good;
+  }
+
+  pub lives_begin : FindsRoom o → LivesFrom o o
+  lives_begin room = record {
+    free = opening_keeps o.numbers o.disk.cells bad o opens.start;
+    leaves = opening_leaves o.numbers o.disk.cells bad o good opens.start;
+    few = begins opens v few;
+    mends = first_mends room;
+  }
+
+-- Stops
+
+free_spares : (next : Translation) → 2 * mending_blocks next.numbers ≤ free_count next.numbers next.disk.blocks →
+    HasSpareBlocks next
+free_spares next many = record {
+  free = omega (arith, many);
+  spare = λ s. is_free (next.disk.blocks s);
+  each = λ s h. inl (free_is (next.disk.blocks s) h);
+  many = many;
+}
+
+module _ (t : Translation) (left : Cells) (next : Translation) (dies : 1 ≤ t.numbers.dies) (v : Valid t)
+    (crash : StopLeaves t left) (start : IsOpenedTranslation t.numbers left (λ s. is_bad (t.disk.blocks s)) next) where
+  -- a mended life leaves nothing to mend, or the room that groups leave
+  mended_leaves : KeepsFree t → LeavesOwnRoom t → HasFewRepairs t → is_mended t.work.mending ≡ true → FindsRoom next
+  mended_leaves free leaves few mended = ⊎_elim
+      (λ handed. inr (free_spares next
+      (subst (λ n. 2 * mending_blocks n ≤ free_count n next.disk.blocks) (sym start.numbers)
+      (enough (own handed) (stop_costs_none t left next v free crash start)))))
+      (λ idle. inl (idle_stop t.numbers t next left (λ s. is_bad (t.disk.blocks s)) v few leaves mended idle crash
+      start).mended)
+      (handed_or_not t v)
+    where
+      own : HasHandedOut t → own_room t.numbers ≤ count_blocks t is_free + 1
+      own handed = ⊎_elim (λ l. omega (arith, l)) (λ o. o.short) (leaves.room handed)
+
+      kept : count_blocks next is_free ≡ free_count t.numbers next.disk.blocks
+      kept = ap (λ n. free_count n next.disk.blocks) start.numbers
+
+      enough : own_room t.numbers ≤ count_blocks t is_free + 1 → count_blocks t is_free ≤ count_blocks next is_free →
+          2 * mending_blocks t.numbers ≤ free_count t.numbers next.disk.blocks
+      enough own l = let k = own_room_twice t.numbers in let e = kept in omega (arith, dies, own, l, k, e)
+
+-- and so does a life that is not mended, where no mark is left that was in flight
+module _ (bad : Spot → Bool) (o t : Translation) (left : Cells) (next : Translation) (opens : Opened bad o)
+    (good : (s : Spot) → bad s ≡ false) (dies : 1 ≤ t.numbers.dies) (v : Valid t) (l : LivesFrom o t)
+    (crash : StopLeaves t left) (start : IsOpenedTranslation t.numbers left (λ s. is_bad (t.disk.blocks s)) next)
+    (none : HasNoNewMark t left) where
+  has_room : MendsFrom o t → HasRoom (free_count t.numbers o.disk.blocks - mending_blocks t.numbers) t
+  has_room m = subst (λ n. HasRoom (free_count n o.disk.blocks - mending_blocks n) t) (sym m.since.numbers_are)
+      m.mends.room
+
+  unmended_leaves : is_mended t.work.mending ≡ false → (w : Mending) → t.work.mending ≡ w → MendingOf t w →
+      HasSpareBlocks next
+  unmended_leaves un (Unmarked fence lost) is u =
+      let m = l.mends un in
+      unmarked_leaves o t left next bad opens good v l.leaves.good un m.mends.alone m.since crash start none m.room
+      fence lost is u
+  unmended_leaves un (Repairing keys) is w =
+      let m = l.mends un in
+      repairing_leaves o t left next bad opens good v l.leaves.good un m.mends.alone m.since crash start none m.room
+      keys is w dies m.filled (has_room m)
+  unmended_leaves un Mended is w = absurd (true≢false (ap is_mended (sym is) ∙ un))
+
+  settled_leaves : FindsRoom next
+  settled_leaves = ⊎_elim (λ mended. mended_leaves t left next dies v crash start l.free l.leaves l.few mended)
+      (λ un. inr (unmended_leaves un t.work.mending refl v.mending)) (cases_Bool (is_mended t.work.mending))
+
+-- A mark that is left as it was meant
+
+-- a stop that leaves it is a stop behind the end of its program
+mark_crash : (t : Translation) (left : Cells) (die : ℕ) (p : Place) (m : Mark) → Valid t → StopLeaves t left →
+    t.disk.flights die ≡ Some (Programming p (MarkPage m)) → left p ≡ MarkPage m → StopLeaves (mark_written t p m) left
+mark_crash t left die p m v crash e there = by t.work.plan
+  where
+    home : p.die ≡ die
+    home = (v.flights.programs die p (MarkPage m) e).at_home
+
+    still : (q : Place) (intended : Cell) → q ≢ p → Touches (t.disk.flights q.die) q intended →
+        Touches (at_die t.disk.flights p.die None q.die) q intended
+    still q intended other touches = ⊎_elim
+        (λ k. absurd (other (sym (subst (λ f. Touches f q intended) (ap t.disk.flights (k.0 ∙ home) ∙ e) touches).0)))
+        (λ k. subst (λ f. Touches f q intended) (sym k.1) touches) (at_die_cases t.disk.flights p.die None q.die)
+
+    each : CellCrash (at_place t.disk.cells p (MarkPage m)) (at_die t.disk.flights p.die None) left
+    each q = ⊎_elim (λ k. inl (ap left k.0 ∙ there ∙ sym k.1))
+        (λ k. ⊎_elim (λ h. inl (h ∙ sym k.1)) (λ h. inr (h.0, still q h.0 k.0 h.1, h.2)) (crash q))
+        (at_place_cases t.disk.cells p (MarkPage m) q)
+
+    by : (plan : Option Plan) → CellCrash (freed (programmed t.numbers.pages t.disk p (MarkPage m)) plan).cells
+        (freed (programmed t.numbers.pages t.disk p (MarkPage m)) plan).flights left
+    by None = each
+    by (Some pl) = each
+
+flights_freed : (t : Translation) (p : Place) (m : Mark) (die : ℕ) → (mark_written t p m).disk.flights die ≡
+    at_die t.disk.flights p.die None die
+flights_freed t p m die = by t.work.plan
+  where
+    by : (plan : Option Plan) → (freed (programmed t.numbers.pages t.disk p (MarkPage m)) plan).flights die ≡
+        at_die t.disk.flights p.die None die
+    by None = refl
+    by (Some pl) = refl
+
+-- A stop of a life that found room leaves room
+
+module _ (bad : Spot → Bool) (o t : Translation) (left : Cells) (next : Translation) (opens : Opened bad o)
+    (good : (s : Spot) → bad s ≡ false) (dies : 1 ≤ t.numbers.dies) (v : Valid t) (l : LivesFrom o t)
+    (crash : StopLeaves t left)
+    (start : IsOpenedTranslation t.numbers left (λ s. is_bad (t.disk.blocks s)) next) where
+  were_good : WereGood o
+  were_good s = opens.start.disk.blocks.were_good s (good s)
+
+  marked_leaves : is_mended t.work.mending ≡ false → HasNewMark t left → FindsRoom next
+  marked_leaves un x = settled_leaves bad o (mark_written t x.place x.mark) left next opens good dies
+      (at_end Valid (all_keep t (EndJob x.die WentWell) v may)) behind left_behind
+      (subst (λ b. IsOpenedTranslation t.numbers left b next) (λ i s. same s i) start) none_new
+    where
+      may : IsAllowedMove t (EndJob x.die WentWell)
+      may = (ap (λ f. ending_fits f WentWell) x.flies, tt)
+
+      at_end : (P : Translation → Type 0) → P (moved t (EndJob x.die WentWell)) → P (mark_written t x.place x.mark)
+      at_end P h = subst (λ f. P (end_flight t x.die f WentWell)) x.flies h
+
+      behind : LivesFrom o (mark_written t x.place x.mark)
+      behind = at_end (LivesFrom o) (lives_on o were_good t (EndJob x.die WentWell) v may refl l)
+
+      left_behind : StopLeaves (mark_written t x.place x.mark) left
+      left_behind = mark_crash t left x.die x.place x.mark v crash x.flies x.there
+
+      same : (s : Spot) → is_bad (t.disk.blocks s) ≡ is_bad ((mark_written t x.place x.mark).disk.blocks s)
+      same s = bad_is (t.disk.blocks s) (l.leaves.good s)
+          ∙ sym (bad_is ((mark_written t x.place x.mark).disk.blocks s) (behind.leaves.good s))
+
+      none_new : HasNoNewMark (mark_written t x.place x.mark) left
+      none_new p m h = ⊎_elim (λ e. e)
+          (λ f. absurd (none_flown x.die x.place (MarkPage x.mark) v (l.mends un).mends.alone x.flies p.die p
+          (MarkPage m)
+          (sym (flights_freed t x.place x.mark p.die) ∙ f)))
+          (mark_from (mark_written t x.place x.mark).disk left p left_behind h)
+
+  pub stop_leaves : FindsRoom next
+  stop_leaves = ⊎_elim (λ mended. mended_leaves t left next dies v crash start l.free l.leaves l.few mended)
+      (λ un. ⊎_elim (λ x. marked_leaves un x)
+      (λ none. settled_leaves bad o t left next opens good dies v l crash start none)
+      (new_mark t left v crash next.ledger.newest start.ledger.newest)) (cases_Bool (is_mended t.work.mending))

@@ -1,0 +1,4 @@
+pub mod BeforeAnyStep
+pub mod FreeAtStops
+pub mod MovesKeepFree
+pub mod OneStaleBlock

@@ -1,0 +1,10 @@
+pub mod SumsOfRoom
+pub mod RoomInOpenBlocks
+pub mod RoomStays
+pub mod ProgramBegins
+pub mod PageEnds
+pub mod MarkEnds
+pub mod TurnsLeaveRoom
+pub mod MovesLeaveRoom
+pub mod HandedPages
+pub mod IdleLives

@@ -1,0 +1,125 @@
+-- Whether a life handed out a page of its host can be told: its accepted groups have only so many pages.
+use Rattle.std.proofs.Common.{◌≡◌, ◌⊎◌, ℕ, zero, suc, ◌+◌, ◌-◌, ◌<◌, ◌||◌, Bool, true, false, List, [], ◌∷◌, length}
+use Rattle.std.proofs.Common.{Option, Some, None, is_some, refl, sym, ap, ◌∙◌, subst, inl, inr, ⊎_elim, arith}
+use Rattle.std.specs.Prelude.{slice_get}
+use Rattle.std.specs.List.{list_any}
+use Rattle.std.proofs.lemmas.Option.{slice_get_within}
+use Rattle.ufs_spec.proofs.Equalities.{name_self, name_told}
+use Rattle.ufs_spec.proofs.Facts.{false≢true, none-some, or_cases, or_left, or_right, same_Some}
+use Rattle.ufs_spec.specs.Cells.{GroupPage}
+use Rattle.ufs_spec.specs.Disk.{Flight, Programming}
+use Rattle.ufs_spec.specs.Keys.{Group, below}
+use Rattle.ufs_spec.specs.Ledger.{Entry, Name, accepted_groups, before_accepted, is_standing}
+use Rattle.ufs_spec.specs.Translation.{Translation, flies_name, name_of, names_after, names_of, some_flight}
+use Rattle.ufs_spec.specs.declared.flash.Place.{Place}
+use Rattle.power_loss.specs.Book.{IsPageAt, book}
+use Rattle.power_loss.specs.Invariant.{Flights, Standing, Valid}
+use Rattle.power_loss.proofs.books.FrontierClimbs.{get_drop}
+use Rattle.power_loss.proofs.books.PagesByName.{page_new}
+use Rattle.power_loss.proofs.collected_blocks.FewestLivePages.{any_in, in_any}
+use Rattle.power_loss.proofs.jobs_owed.WhatWaits.{name_of_group}
+use Rattle.power_loss.proofs.ordered_lists.ElementsAndOrders.{IsIn, in_below, in_left, in_map, in_right}
+use Rattle.many_stops.specs.RoomOfGroups.{FliesBehind, HasHandedOut, StandsBehind}
+use Rattle.many_stops.proofs.room_left.RoomStays.{home_of}
+
+-- Names of accepted groups
+
+-- a page of a group of the list has a name in it
+in_names : (n : ℕ) (gs : List Group) (at index : ℕ) {g : Group} → slice_get gs at ≡ Some g → index < length g →
+    IsIn (record { number = n + suc at; index = index }) (names_after n gs)
+in_names n [] at index {g} is l = absurd (none-some g is)
+in_names n (x ∷ xs) zero index {g} is l = in_left (record { number = n + 1; index = index }) (names_of (n + 1) x)
+    (names_after (n + 1) xs)
+    (in_map (λ i. record { number = n + 1; index = i }) index (below (length x))
+    (in_below (length x) index (let e = ap (λ (z : Group). length z) (same_Some x g is) in omega (arith, e, l))))
+in_names n (x ∷ xs) (suc at) index is l =
+    subst (λ k. IsIn (record { number = k; index = index }) (names_after n (x ∷ xs))) (more n at)
+    (in_right (record { number = n + 1 + suc at; index = index }) (names_of (n + 1) x) (names_after (n + 1) xs)
+    (in_names (n + 1) xs at index is l))
+  where
+    more : (n at : ℕ) → n + 1 + suc at ≡ n + suc (suc at)
+    more n at = omega arith
+
+-- the names of all pages of accepted groups
+abbrev accepted_names : Translation → List Name
+accepted_names t = names_after (before_accepted t.ledger) (accepted_groups t.ledger)
+
+accepted_name : (t : Translation) (number index : ℕ) (e : Entry) → before_accepted t.ledger < number →
+    IsPageAt (book t) number index e → IsIn (record { number = number; index = index }) (accepted_names t)
+accepted_name t number index e behind is =
+    let page = page_new (book t) number (above t.ledger.greatest_seen t.ledger.repairs number behind) is in
+    let place = at_place t.ledger.greatest_seen t.ledger.repairs number behind in
+    subst (λ k. IsIn (record { number = k; index = index }) (accepted_names t)) (number_is _ _ behind)
+    (in_names (before_accepted t.ledger) (accepted_groups t.ledger) (number - before_accepted t.ledger - 1) index
+    (get_drop t.ledger.groups t.ledger.repairs (number - before_accepted t.ledger - 1)
+    ∙ ap (slice_get t.ledger.groups) place ∙ page.is)
+    (slice_get_within page.group index e.item page.item))
+  where
+    above : (top repairs number : ℕ) → top + repairs < number → top < number
+    above top repairs number l = omega (arith, l)
+
+    at_place : (top repairs number : ℕ) → top + repairs < number →
+        repairs + (number - (top + repairs) - 1) ≡ number - top - 1
+    at_place top repairs number l = omega (arith, l)
+
+    number_is : (before number : ℕ) → before < number → before + suc (number - before - 1) ≡ number
+    number_is before number l = omega (arith, l)
+
+-- Whether a page was handed out
+
+abbrev was_handed : Translation → Name → Bool
+was_handed t name = is_standing t.ledger name.number name.index || some_flight t (flies_name name)
+
+stands_somewhere : (n i before : ℕ) (standing : Standing) (o : Option Place) → standing n i ≡ o →
+    is_some o ≡ true → before < n → StandsBehind before standing
+stands_somewhere n i before standing None e h behind = absurd (false≢true h)
+stands_somewhere n i before standing (Some p) e h behind =
+    record { number = n; index = i; place = p; behind = behind; stands = e }
+
+flies_somewhere : {before : ℕ} {flights : Flights} (name : Name) (die : ℕ) (o : Option Flight) → flights die ≡ o →
+    flies_name name o ≡ true → before < name.number → FliesBehind before flights
+flies_somewhere name die (Some (Programming p (GroupPage tag body))) e h behind = record {
+  die = die;
+  place = p;
+  tag = tag;
+  body = body;
+  behind = let same = ap (λ (z : Name). z.number) (name_told name (name_of tag) h) in omega (arith, same, behind);
+  flies = e;
+}
+flies_somewhere name die o e h behind = absurd (false≢true h)
+
+some_handed : (t : Translation) (name : Name) → IsIn name (accepted_names t) → was_handed t name ≡ true →
+    HasHandedOut t
+some_handed t name i h =
+    let k = name_of_group (before_accepted t.ledger) (accepted_groups t.ledger) name i in
+    let behind = later _ _ _ k.number in
+    ⊎_elim (λ s. inl (stands_somewhere name.number name.index (before_accepted t.ledger) t.ledger.standing
+    (t.ledger.standing name.number name.index) refl s behind))
+    (λ f.
+    let d = any_in (λ die. flies_name name (t.disk.flights die)) (below t.numbers.dies) f in
+    inr (flies_somewhere name d.0 (t.disk.flights d.0) refl d.2 behind))
+    (or_cases (is_standing t.ledger name.number name.index) (some_flight t (flies_name name)) h)
+  where
+    later : (n before at : ℕ) → n ≡ before + suc at → before < n
+    later n before at e = omega (arith, e)
+
+handed_shows : (t : Translation) → Valid t → HasHandedOut t → list_any (was_handed t) (accepted_names t) ≡ true
+handed_shows t v (inl s) =
+    let known = v.frontier.known s.number s.index s.place s.stands in
+    let name : Name = record { number = s.number; index = s.index } in
+    in_any (was_handed t) name (accepted_names t) (accepted_name t s.number s.index known.0 s.behind known.1)
+    (or_left (is_standing t.ledger s.number s.index) (some_flight t (flies_name name)) (ap is_some s.stands))
+handed_shows t v (inr f) =
+    let name = name_of f.tag in
+    in_any (was_handed t) name (accepted_names t)
+    (accepted_name t f.tag.number f.tag.index _ f.behind (v.flights.known f.die f.place f.tag f.body f.flies))
+    (or_right (is_standing t.ledger f.tag.number f.tag.index) (some_flight t (flies_name name))
+    (in_any (λ die. flies_name name (t.disk.flights die)) f.die (below t.numbers.dies)
+    (in_below t.numbers.dies f.die (home_of v f.die f.flies)) (ap (flies_name name) f.flies ∙ name_self name)))
+
+pub handed_or_not : (t : Translation) → Valid t → HasHandedOut t ⊎ (HasHandedOut t → ⊥)
+handed_or_not t v = by (list_any (was_handed t) (accepted_names t)) refl
+  where
+    by : (b : Bool) → list_any (was_handed t) (accepted_names t) ≡ b → HasHandedOut t ⊎ (HasHandedOut t → ⊥)
+    by true e = let n = any_in (was_handed t) (accepted_names t) e in inl (some_handed t n.0 n.1 n.2)
+    by false e = inr (λ h. false≢true (sym e ∙ handed_shows t v h))

@@ -1,0 +1,125 @@
+-- A mended life that handed out no page of its host shows no number above its frontier. So a stop loses nothing of it,
+-- and leaves a mark without a fence: the next life is mended from its start.
+use Rattle.std.proofs.Common.{◌≡◌, ℕ, suc, ◌<◌, ◌≤◌, Bool, true, false, List, Option, Some, None, refl, sym, ap, ◌∙◌}
+use Rattle.std.proofs.Common.{subst, inl, inr, ⊎_elim, arith}
+use Rattle.ufs_spec.proofs.Facts.{at_most, false≢true, none-some}
+use Rattle.ufs_spec.specs.Cells.{Cells, GroupPage, Mark}
+use Rattle.ufs_spec.specs.Disk.{Spot, spot_of}
+use Rattle.ufs_spec.specs.Kept.{IsKept, IsNewestMark, fence_in, recorded_in}
+use Rattle.ufs_spec.specs.Ledger.{before_accepted}
+use Rattle.ufs_spec.specs.Openings.{IsAtMost, IsMendingAt, IsOpenedTranslation, MayBeMended, lost_from}
+use Rattle.ufs_spec.specs.Translation.{Mended, Mending, Repairing, Translation, Unmarked, is_mended}
+use Rattle.ufs_spec.specs.declared.configs.Numbers.{Numbers}
+use Rattle.ufs_spec.specs.declared.flash.Place.{Place}
+use Rattle.ufs_spec.specs.declared.flash.Tag.{Tag}
+use Rattle.power_loss.specs.Book.{IsPlainMark, book}
+use Rattle.power_loss.specs.FewRepairs.{HasFewRepairs}
+use Rattle.power_loss.specs.Invariant.{Valid}
+use Rattle.power_loss.proofs.books.LayerParts.{MarksOf, MendingOf, StopLeaves}
+use Rattle.power_loss.proofs.stops.BookImage.{Image, finished_parts, image, newest_or_later, newest_stays}
+use Rattle.power_loss.proofs.stops.ImagePages.{kept_covers}
+use Rattle.power_loss.proofs.stops.LeftCells.{page_from}
+use Rattle.many_stops.specs.RoomOfGroups.{HasHandedOut, HasNothingToMend, LeavesOwnRoom}
+
+module _ {t : Translation} {c : Cells} (v : Valid t) (r : LeavesOwnRoom t) (none : HasHandedOut t → ⊥)
+    (crash : StopLeaves t c) where
+  -- Numbers that are shown
+
+  -- a page that is there ended well, since no block is bad
+  ended : (p : Place) → t.disk.finished p ≡ true
+  ended p = by (t.disk.finished p) refl
+    where
+      by : (b : Bool) → t.disk.finished p ≡ b → b ≡ true
+      by true e = refl
+      by false e = absurd (r.good (spot_of p) (v.blocks.unfinished p e))
+
+  shown_number : (p : Place) (tag : Tag) (body : List ℕ) → c p ≡ GroupPage tag body →
+      tag.number ≤ before_accepted t.ledger
+  shown_number p tag body h = ⊎_elim (λ l. l)
+      (λ behind. absurd (⊎_elim
+      (λ here.
+      let s = v.pages.stands p tag body here (ended p) in
+      none (inl (record { number = tag.number; index = tag.index; place = s.0; behind = behind; stands = s.1 })))
+      (λ job. none (inr (record {
+        die = p.die;
+        place = p;
+        tag = tag;
+        body = body;
+        behind = behind;
+        flies = job;
+      }))) (page_from t.disk p crash h)))
+      (at_most tag.number (before_accepted t.ledger))
+
+  module _ {first m : Mark} (marks : MarksOf t first) (is : t.ledger.newest ≡ Some first)
+      (plain : IsPlainMark (book t) first) (n : IsNewestMark c (Some m)) where
+    its_image : Image (book t) t.ledger.frontier (recorded_in t.ledger.newest) c m
+    its_image = image v crash
+        (finished_parts v crash marks is (inr plain) n.0.1 (n.1 marks.stands.place first (newest_stays v crash marks)))
+
+    -- behind a mark without a fence none has one
+    none_fenced : m.fence ≡ None
+    none_fenced = ⊎_elim (λ e. ap (λ (x : Mark). x.fence) e ∙ plain.none) (λ l. l.plain.none)
+        (newest_or_later v crash n.0.0 marks n.0.1 (n.1 marks.stands.place first (newest_stays v crash marks)))
+
+    under_frontier : before_accepted t.ledger ≤ t.ledger.frontier → IsAtMost c (Some m) t.ledger.frontier
+    under_frontier durable = record {
+      numbers = λ p tag body h. let l = shown_number p tag body h in omega (arith, l, durable);
+      frontiers = λ p tag body h. its_image.recorded p tag body h;
+      marks = λ p other h. its_image.marks p other h;
+      fence = λ f e. absurd (none-some f (sym none_fenced ∙ e));
+    }
+
+  -- The newest mark
+
+  none_newest : {first : Mark} → MarksOf t first → IsNewestMark c None → ⊥
+  none_newest {first} marks n = n marks.stands.place first (newest_stays v crash marks)
+
+  -- The next life
+
+  nothing_lost : (n : Numbers) (bad : Spot → Bool) (next : Translation) → IsOpenedTranslation n c bad next →
+      before_accepted t.ledger ≤ t.ledger.frontier → (w : Mending) → is_mended w ≡ true → MendingOf t w →
+      (newest : Option Mark) → next.ledger.newest ≡ newest →
+      MayBeMended next.ledger.newest next.ledger.first_lost next.ledger.greatest_seen
+  nothing_lost n bad next o durable Mended is marked None e =
+      absurd (none_newest marked.right (subst (IsNewestMark c) e o.ledger.newest))
+  nothing_lost n bad next o durable Mended is marked (Some m) e =
+      let newest = subst (IsNewestMark c) e o.ledger.newest in
+      let none = none_fenced marked.right marked.is marked.more newest in
+      let image = its_image marked.right marked.is marked.more newest in
+      let kept = subst (λ z. IsKept c z o.ledger.kept) e o.ledger.is_kept in
+      let far = kept_covers image kept in
+      let low = o.ledger.greatest_seen.1 t.ledger.frontier
+      (subst (λ z. IsAtMost c z t.ledger.frontier) (sym e)
+      (under_frontier marked.right marked.is marked.more newest durable)) in
+      let lost : next.ledger.first_lost ≡ suc o.ledger.kept =
+      o.ledger.first_lost ∙ ap (λ z. lost_from (fence_in z) o.ledger.kept) e
+      ∙ ap (λ f. lost_from f o.ledger.kept) none in (
+        λ k. none-some m (sym k ∙ e),
+        ap fence_in e ∙ none,
+        above _ _ _ _ far low lost,
+      )
+    where
+      above : (frontier kept top low : ℕ) → frontier ≤ kept → top ≤ frontier → low ≡ suc kept → top < low
+      above frontier kept top low far l e = omega (arith, far, l, e)
+  nothing_lost n bad next o durable (Unmarked fence lost) is marked newest e = absurd (false≢true is)
+  nothing_lost n bad next o durable (Repairing left) is marked newest e = absurd (false≢true is)
+
+-- a life that may be mended at its opening is
+mended_at_once : (c : Cells) (newest : Option Mark) (low top : ℕ) (w : Mending) → IsMendingAt c newest low top w →
+    MayBeMended newest low top → is_mended w ≡ true
+mended_at_once c newest low top Mended at may = refl
+mended_at_once c newest low top (Unmarked fence lost) at may = absurd (at.0 may)
+mended_at_once c newest low top (Repairing left) at may = absurd at
+
+pub idle_stop : (n : Numbers) (t next : Translation) (left : Cells) (bad : Spot → Bool) → Valid t → HasFewRepairs t →
+    LeavesOwnRoom t → is_mended t.work.mending ≡ true → (HasHandedOut t → ⊥) → StopLeaves t left →
+    IsOpenedTranslation n left bad next → HasNothingToMend next
+idle_stop n t next left bad v few r mended none crash o =
+    let may = nothing_lost v r none crash n bad next o (few.durable mended) t.work.mending mended v.mending
+    next.ledger.newest refl in
+    record {
+      none_lost = may.2;
+      no_fence = may.1;
+      mended = mended_at_once left next.ledger.newest next.ledger.first_lost next.ledger.greatest_seen next.work.mending
+          o.mending may;
+    }

@@ -1,0 +1,270 @@
+-- A program that is given to a die leaves the room: that of a group is given where there is enough, and below it that
+-- of a step opens a block only where none is being filled.
+use Rattle.std.proofs.Common.{◌≡◌, ◌⊎◌, ℕ, ◌+◌, ◌-◌, ◌<◌, ◌≤◌, true, if◌then◌else◌, List, Option, Some, None, refl, sym}
+use Rattle.std.proofs.Common.{ap, ◌∙◌, subst, inl, inr, ⊎_elim, arith}
+use Rattle.ufs_spec.proofs.Equalities.{name_self}
+use Rattle.ufs_spec.proofs.Facts.{at_most, none-some}
+use Rattle.ufs_spec.proofs.Updates.{at_die_cases, at_die_is, at_spot_is}
+use Rattle.ufs_spec.specs.Cells.{Cell, GroupPage, Mark, MarkPage, Nothing}
+use Rattle.ufs_spec.specs.Disk.{BlockState, Bad, Filling, Programming, Spot, at_die, at_spot, spot_of}
+use Rattle.ufs_spec.specs.Ledger.{Entry, Name, before_accepted, entry_of}
+use Rattle.ufs_spec.specs.Moves.{is_kind_of}
+use Rattle.ufs_spec.specs.Translation.{count_blocks, CopyStep, MarkStep, MayTake, RepairStep, Step, StepKind}
+use Rattle.ufs_spec.specs.Translation.{Translation, cell_of_entry, is_free, is_mended, name_of, own_room, step_cell}
+use Rattle.ufs_spec.specs.Translation.{tag_of, taken, waiting_name, waiting_step}
+use Rattle.ufs_spec.specs.declared.flash.Place.{Place}
+use Rattle.ufs_spec.specs.declared.flash.Tag.{Tag}
+use Rattle.power_loss.specs.Book.{book}
+use Rattle.power_loss.specs.Invariant.{Flights, StepKindRight, Valid}
+use Rattle.power_loss.proofs.books.PagesByName.{page_within}
+use Rattle.power_loss.proofs.jobs.StandsSecurely.{filling_is_not_bad, free_is_not_filling}
+use Rattle.power_loss.proofs.jobs_owed.OneDieForEachJob.{one_page}
+use Rattle.power_loss.proofs.jobs_owed.ProgramsAndErases.{OpensReady, ProgramOwed, StepOwed, idle_below, program_owed}
+use Rattle.power_loss.proofs.jobs_owed.ProgramsAndErases.{step_owed}
+use Rattle.power_loss.proofs.jobs_owed.RoomLeft.{block_room, none_filled, page_room}
+use Rattle.many_stops.specs.RoomOfGroups.{HasHandedOut, IsHandedOut, IsOneShort, LeavesOwnRoom, filling_room}
+use Rattle.many_stops.specs.RoomOfGroups.{free_count, open_room, page_of_group, pages_of_plan, room_on_dies}
+use Rattle.many_stops.proofs.CountedBlocks.{none_fewer, one_fewer}
+use Rattle.many_stops.proofs.room_left.RoomInOpenBlocks.{die_room, opened_room}
+use Rattle.many_stops.proofs.room_left.RoomInOpenBlocks.{room_is_filled, rooms_hold, rooms_no_less}
+use Rattle.many_stops.proofs.room_left.RoomInOpenBlocks.{same_room}
+use Rattle.many_stops.proofs.room_left.RoomStays.{RoomOf, handed_mended, home_of, no_less, room_stays}
+
+-- What a die programs
+
+mark_is_no_page : {m : Mark} {tag : Tag} {body : List ℕ} → MarkPage m ≡ GroupPage tag body → ⊥
+mark_is_no_page e = cc
+
+page_now : (name : Name) (o : Option Entry) (frontier : ℕ) {tag : Tag} {body : List ℕ} →
+    cell_of_entry name o frontier ≡ GroupPage tag body → name ≡ name_of tag
+page_now name None frontier {tag} {body} h = absurd (apart h)
+  where
+    apart : Nothing ≡ GroupPage tag body → ⊥
+    apart e = cc
+page_now name (Some e) frontier {tag} {body} h = ap name_of (tags h)
+  where
+    tags : GroupPage (tag_of name e frontier) e.item.body ≡ GroupPage tag body → tag_of name e frontier ≡ tag
+    tags e = cc
+
+-- the page of the step is none of a group
+entry_is_no_groups : (step : Step) (name : Name) (p : Place) (o : Option Entry) (frontier : ℕ) →
+    is_kind_of name step.kind ≡ true →
+    page_of_group (Some step) (Some (Programming p (cell_of_entry name o frontier))) ≡ 0
+entry_is_no_groups step name p None frontier h = refl
+entry_is_no_groups step name p (Some e) frontier h = ap (λ b. if b then 0 else 1) h
+
+steps_page : (t : Translation) (step : Step) (kind : StepKind) (p : Place) → step.kind ≡ kind →
+    page_of_group (Some step) (Some (Programming p (step_cell t kind))) ≡ 0
+steps_page t step (MarkStep number fence) p e = refl
+steps_page t step (CopyStep name from) p e = entry_is_no_groups step name p (entry_of t.ledger name) t.ledger.frontier
+    (ap (is_kind_of name) e ∙ name_self name)
+steps_page t step (RepairStep name from) p e = entry_is_no_groups step name p (entry_of t.ledger name) t.ledger.frontier
+    (ap (is_kind_of name) e ∙ name_self name)
+
+-- a job is the one that began, or was there before
+same_program : {p q : Place} {cell other : Cell} → Some (Programming p cell) ≡ Some (Programming q other) →
+    (p ≡ q) × (cell ≡ other)
+same_program {p} {q} {cell} {other} e = (place e, this e)
+  where
+    place : Some (Programming p cell) ≡ Some (Programming q other) → p ≡ q
+    place e = cc
+
+    this : Some (Programming p cell) ≡ Some (Programming q other) → cell ≡ other
+    this e = cc
+
+is_this : (t : Translation) {die : ℕ} {p : Place} {cell : Cell} {d : ℕ} {q : Place} {other : Cell} →
+    at_die t.disk.flights die (Some (Programming p cell)) d ≡ Some (Programming q other) →
+    ((d ≡ die) × (p ≡ q) × (cell ≡ other)) ⊎ (t.disk.flights d ≡ Some (Programming q other))
+is_this t {die} {p} {cell} {d} {q} {other} h = ⊎_elim
+    (λ (k : (d ≡ die) × (Some (Programming p cell) ≡ Some (Programming q other))). let r = same_program
+    k.1 in inl (k.0, r.0, r.1)) (λ k. inr k.1)
+    (at_die_is t.disk.flights die (Some (Programming p cell)) d (Some (Programming q other)) h)
+
+module _ {t : Translation} (v : Valid t) (r : LeavesOwnRoom t) where
+  -- A program begins
+
+  -- a page of the host that the step programs stands
+  step_stands : (s : Step) (kind : StepKind) {tag : Tag} {body : List ℕ} → t.work.step ≡ Some s → s.kind ≡ kind →
+      step_cell t kind ≡ GroupPage tag body → before_accepted t.ledger < tag.number → HasHandedOut t
+  step_stands s (MarkStep number fence) is k e behind = absurd (mark_is_no_page e)
+  step_stands s (CopyStep name from) {tag} is k e behind =
+      let same = page_now name (entry_of t.ledger name) t.ledger.frontier e in
+      let c = r.copied name from s.there (is ∙ ap (λ z. Some (record { kind = z; there = s.there })) k) in
+      inl (record {
+        number = tag.number;
+        index = tag.index;
+        place = c.0;
+        behind = behind;
+        stands = ap (λ (z : Name). t.ledger.standing z.number z.index) (sym same) ∙ c.1;
+      })
+  step_stands s (RepairStep name from) {tag} is k e behind =
+      let right : StepKindRight (book t) t.ledger.marks t.disk.cells t.work.mending t.work.plan (RepairStep name from) =
+      subst (StepKindRight (book t) t.ledger.marks t.disk.cells t.work.mending t.work.plan) k (v.step.kind s is) in
+      let all = (v.history.mending (ap is_mended right.1)).0 in
+      let within = page_within (book t) name.number name.index right.2.0 right.2.1 in
+      let same = ap (λ (z : Name). z.number) (page_now name (entry_of t.ledger name) t.ledger.frontier e) in
+      absurd (omega (arith, all, within, same, behind))
+
+  module _ (die : ℕ) (p : Place) (cell : Cell) (may : MayTake t die (Some (Programming p cell))) where
+    abbrev flown : Flights
+    flown = at_die t.disk.flights die (Some (Programming p cell))
+
+    abbrev after : Spot → BlockState
+    after = at_spot t.disk.blocks (spot_of p) (Filling p.page)
+
+    owed : ProgramOwed t die p cell (waiting_step t t.work.step) (waiting_name t)
+    owed = program_owed t die p cell may
+
+    -- where it begins a block that is being filled, as many are free; else one less
+    free_after : t.disk.blocks (spot_of p) ≡ Filling p.page → count_blocks t is_free ≤ free_count t.numbers after
+    free_after is =
+        none_fewer t.numbers t.disk.blocks (spot_of p) (Filling p.page) (λ free. free_is_not_filling free is)
+
+    opened_after : count_blocks t is_free ≤ 1 + free_count t.numbers after
+    opened_after = one_fewer t.numbers t.disk.blocks (spot_of p) (Filling p.page)
+
+    -- For a group
+
+    below_more : (a b c : ℕ) → a < b → b ≤ 1 + c → a ≤ c
+    below_more a b c l k = omega (arith, l, k)
+
+    for_group : waiting_step t t.work.step ≡ None → own_room t.numbers ≤ free_count t.numbers after
+    for_group none = ⊎_elim
+        (λ filled. no_less (own_room t.numbers) (count_blocks t is_free) (free_count t.numbers after)
+        (⊎_elim (λ w. absurd (waits w)) (λ l. l) (page_room t die p cell may)) (free_after filled))
+        (λ (o : OpensReady t p). below_more (own_room t.numbers) (count_blocks t is_free) (free_count t.numbers after)
+        (⊎_elim (λ w. absurd (waits w.1)) (λ l. l) (block_room t die (Programming p cell) may o.free)) opened_after)
+        owed.place.next
+      where
+        waits : {c : Cell} → waiting_step t t.work.step ≡ Some c → ⊥
+        waits {c} w = none-some c (sym none ∙ w)
+
+    -- For the step
+
+    module _ (s : StepOwed t cell) where
+      none_of_group : page_of_group t.work.step (Some (Programming p cell)) ≡ 0
+      none_of_group = ap (λ z. page_of_group z (Some (Programming p cell))) s.under_way
+          ∙ ap (λ c. page_of_group (Some s.step) (Some (Programming p c))) (sym s.is)
+          ∙ steps_page t s.step s.step.kind p refl
+
+      handed_before : IsHandedOut (before_accepted t.ledger) t.ledger.standing flown → HasHandedOut t
+      handed_before (inl h) = inl h
+      handed_before (inr f) = ⊎_elim
+          (λ k. step_stands s.step s.step.kind s.under_way refl (s.is ∙ k.2) f.behind)
+          (λ k. inr (record {
+            die = f.die;
+            place = f.place;
+            tag = f.tag;
+            body = f.body;
+            behind = f.behind;
+            flies = k;
+          })) (is_this t f.flies)
+
+      pages_after : (d : ℕ) → page_of_group t.work.step (flown d) ≤ page_of_group t.work.step (t.disk.flights d)
+      pages_after d = ⊎_elim
+          (λ k. let e = ap (page_of_group t.work.step) k.1 ∙ none_of_group in omega (arith, e))
+          (λ k. let e = ap (page_of_group t.work.step) k.1 in omega (arith, e))
+          (at_die_cases t.disk.flights die (Some (Programming p cell)) d)
+
+      filled_after : t.disk.blocks (spot_of p) ≡ Filling p.page →
+          RoomOf t.numbers t.disk.blocks t.disk.flights t.work.step t.work.plan →
+          RoomOf t.numbers after flown t.work.step t.work.plan
+      filled_after is =
+          room_stays t.numbers t.disk.blocks after t.disk.flights flown t.work.step t.work.step t.work.plan
+          (free_after is)
+          (λ fits. no_less (pages_of_plan t.work.plan t.work.step) (open_room t) _ fits
+          (rooms_no_less t.numbers t.disk.blocks after t.work.step t.work.step t.disk.flights flown
+          (λ d. same_room t.numbers t.disk.blocks (spot_of p) (Filling p.page) d
+          (let e = ap (filling_room t.numbers.pages) is in omega (arith, e))) pages_after))
+
+      -- the block that is opened has room for all of a plan
+      room_opened : (o : OpensReady t p) → t.numbers.pages ≤ room_on_dies t.numbers after t.work.step flown
+      room_opened o =
+          let i = owed.place.inside in
+          let l = idle_below t die may.0 in
+          let home : p.die ≡ die = i.at_home in
+          let at : die_room t.numbers after die ≡
+          die_room t.numbers (at_spot t.disk.blocks (spot_of p) (Filling 0)) p.die =
+          ap (λ d. die_room t.numbers after d) (sym home)
+          ∙ ap (λ k. die_room t.numbers (at_spot t.disk.blocks (spot_of p) (Filling k)) p.die) o.first in
+          let whole = opened_room t.numbers t.disk.blocks (spot_of p) i.block in
+          let here : page_of_group t.work.step (flown die) ≡ 0 =
+          ⊎_elim (λ k. ap (page_of_group t.work.step) k.1 ∙ none_of_group) (λ k. absurd (k.0 refl))
+          (at_die_cases t.disk.flights die (Some (Programming p cell)) die) in
+          let held = rooms_hold t.numbers after t.work.step flown die l in
+          enough t.numbers.pages _ _ _ _ whole at here held
+        where
+          enough : (pages a b c d : ℕ) → pages ≤ b → a ≡ b → c ≡ 0 → a - c ≤ d → pages ≤ d
+          enough pages a b c d l e z k = omega (arith, l, e, z, k)
+
+      opened_so : (o : OpensReady t p) → is_mended t.work.mending ≡ true → own_room t.numbers ≤ count_blocks t is_free →
+          RoomOf t.numbers after flown t.work.step t.work.plan
+      opened_so o mended l =
+          let pl = r.planned mended s.step s.under_way in
+          let g = r.gains pl.0 pl.1 in
+          let e = ap (λ z. pages_of_plan z t.work.step) pl.1 in
+          inr (record {
+            short = one_less (own_room t.numbers) (count_blocks t is_free) (free_count t.numbers after) l opened_after;
+            under_way = pl.0;
+            is = pl.1;
+            fits = fit _ _ _ _ e g.less (room_opened o);
+          })
+        where
+          one_less : (a b c : ℕ) → a ≤ b → b ≤ 1 + c → a ≤ c + 1
+          one_less a b c l k = omega (arith, l, k)
+
+          fit : (a b c d : ℕ) → a ≡ b → b ≤ c → c ≤ d → a ≤ d
+          fit a b c d e l k = omega (arith, e, l, k)
+
+      -- below the room a block is opened only where none is being filled, but then no plan fits
+      none_fits : (o : OpensReady t p) → count_blocks t is_free < own_room t.numbers →
+          IsOneShort t.numbers t.disk.blocks t.disk.flights t.work.step t.work.plan → ⊥
+      none_fits o few short =
+          let e = ap (λ z. pages_of_plan z t.work.step) short.is in
+          let fits = short.fits in
+          let f = room_is_filled t.numbers t.disk.blocks t.work.step t.disk.flights (some _ _ _ e fits) in
+          none_filled t die (Programming p cell) f.spot f.next may o.free few f.inside f.is
+        where
+          some : (a b c : ℕ) → a ≡ b + 1 → a ≤ c → 1 ≤ c
+          some a b c e l = omega (arith, e, l)
+
+      opened_after_all : (o : OpensReady t p) → is_mended t.work.mending ≡ true →
+          RoomOf t.numbers t.disk.blocks t.disk.flights t.work.step t.work.plan →
+          RoomOf t.numbers after flown t.work.step t.work.plan
+      opened_after_all o mended (inl l) = opened_so o mended l
+      opened_after_all o mended (inr short) = ⊎_elim (λ l. opened_so o mended l) (λ few. absurd (none_fits o few short))
+          (at_most (own_room t.numbers) (count_blocks t is_free))
+
+      for_step : IsHandedOut (before_accepted t.ledger) t.ledger.standing flown →
+          RoomOf t.numbers after flown t.work.step t.work.plan
+      for_step h =
+          let handed = handed_before h in
+          ⊎_elim (λ filled. filled_after filled (r.room handed))
+          (λ o. opened_after_all o (handed_mended v handed) (r.room handed)) owed.place.next
+
+    pub program_leaves : LeavesOwnRoom (taken t die (Programming p cell))
+    program_leaves = record {
+      good = λ s h. ⊎_elim (λ k. filling_is_not_bad refl k.1) (λ k. r.good s k.1)
+          (at_spot_is t.disk.blocks (spot_of p) (Filling p.page) s Bad h);
+      one_die = λ d e q z a b x y h k same. one d e q z a b x y (is_this t h) (is_this t k) same;
+      copied = r.copied;
+      planned = r.planned;
+      gains = r.gains;
+      room = λ h. ⊎_elim (λ w. for_step (step_owed t t.work.step cell refl w) h) (λ w. inl (for_group w.0)) owed.is;
+    }
+      where
+        other_name : (e : ℕ) (q : Place) (a b : Tag) (x y : List ℕ) → cell ≡ GroupPage a x →
+            t.disk.flights e ≡ Some (Programming q (GroupPage b y)) → name_of b ≡ name_of a → ⊥
+        other_name e q a b x y is flies same =
+            one_page t die e p q a b x y (subst (λ c. MayTake t die (Some (Programming p c))) is may)
+            (home_of v e flies) flies same
+
+        one : (d e : ℕ) (q z : Place) (a b : Tag) (x y : List ℕ) →
+            ((d ≡ die) × (p ≡ q) × (cell ≡ GroupPage a x))
+            ⊎ (t.disk.flights d ≡ Some (Programming q (GroupPage a x))) →
+            ((e ≡ die) × (p ≡ z) × (cell ≡ GroupPage b y))
+            ⊎ (t.disk.flights e ≡ Some (Programming z (GroupPage b y))) → name_of a ≡ name_of b → d ≡ e
+        one d e q z a b x y (inl h) (inl k) same = h.0 ∙ sym k.0
+        one d e q z a b x y (inl h) (inr k) same = absurd (other_name e z a b x y h.2 k (sym same))
+        one d e q z a b x y (inr h) (inl k) same = absurd (other_name d q b a y x k.2 h same)
+        one d e q z a b x y (inr h) (inr k) same = r.one_die d e q z a b x y h k same

@@ -1,0 +1,3 @@
+pub mod FreeOverStops
+pub mod RoomOfGroups
+pub mod RoomOverStops

@@ -1,0 +1,57 @@
+-- How much room an opening finds for its mending, whatever stops left it.
+use Rattle.std.specs.Prelude.{◌≡◌, ◌≢◌, ◌⊎◌, ℕ, ◌+◌, ◌*◌, ◌≤◌, Bool, true, false, List, count_by}
+use Rattle.std.specs.Int.{div_ceil}
+use Rattle.std.specs.List.{list_any}
+use Rattle.ufs_spec.specs.Cells.{Cells, GroupPage}
+use Rattle.ufs_spec.specs.Disk.{BlockState, Bad, Free, Spot, spot_of}
+use Rattle.ufs_spec.specs.Lives.{Life, Lived}
+use Rattle.ufs_spec.specs.Refusals.{State, mended}
+use Rattle.ufs_spec.specs.Translation.{Translation, count_blocks, is_free, is_mended, spots}
+use Rattle.ufs_spec.specs.declared.configs.Numbers.{Numbers}
+use Rattle.ufs_spec.specs.declared.events.Event.{Event}
+use Rattle.ufs_spec.specs.declared.events.Output.{Output}
+use Rattle.ufs_spec.specs.declared.flash.Place.{Place}
+use Rattle.ufs_spec.specs.declared.flash.Tag.{Tag}
+use Rattle.power_loss.specs.MendingRoom.{MayGoOn, makes_bad}
+
+-- so many free blocks are room for one mending, whatever it has to repair: as many as hold the pages of a full write
+-- cache, and one. The room that groups leave is one block for each die, and twice as many
+abbrev pub mending_blocks : Numbers → ℕ
+mending_blocks n = div_ceil n.slots n.pages + 1
+
+-- each page of a group in the block has a number from the low one on; whatever marks it holds
+abbrev pub HoldsLost : Cells → ℕ → Spot → Type 0
+HoldsLost c low s = (p : Place) (t : Tag) (body : List ℕ) → spot_of p ≡ s → c p ≡ GroupPage t body → low ≤ t.number
+
+-- the block is free, or will be at the next opening, once the first mark of this life is finished: its pages are lost,
+-- or marks
+abbrev pub IsFreeOrLost : Translation → Spot → Type 0
+IsFreeOrLost t s = (t.disk.blocks s ≡ Free) ⊎ HoldsLost t.disk.cells t.ledger.first_lost s
+
+-- there is room for a mending, and, with blocks that hold nothing but what is lost, for the one after it
+pub record HasSpareBlocks (t : Translation) : Type 0 where
+  pub free : mending_blocks t.numbers ≤ count_blocks t is_free
+  pub spare : Spot → Bool
+  pub each : (s : Spot) → spare s ≡ true → IsFreeOrLost t s
+  pub many : 2 * mending_blocks t.numbers ≤ count_by spare (spots t.numbers)
+
+-- a device that is opened is mended at once, or finds such room
+abbrev pub FindsRoom : Translation → Type 0
+FindsRoom t = (is_mended t.work.mending ≡ true) ⊎ HasSpareBlocks t
+
+-- no block is bad
+abbrev pub AreNoneBad : (Spot → BlockState) → Type 0
+AreNoneBad blocks = (s : Spot) → blocks s ≢ Bad
+
+-- no program and no erase fails in these events
+abbrev pub NoneFails : List Event → Type 0
+NoneFails es = list_any makes_bad es ≡ false
+
+-- up to each of its events that does not find it mended, a life in which no program and no erase failed may go on
+abbrev pub IsNeverLockedOut : Lived → Type 0
+IsNeverLockedOut l = (es : List Event) (os : List Output) (middle : State) → Life l.start es os middle →
+    NoneFails es → mended middle ≡ false → MayGoOn middle.translation
+
+-- the life begins with room for its mending, and is never locked out
+abbrev pub OpensWithRoom : Lived → Type 0
+OpensWithRoom l = FindsRoom l.start.translation × IsNeverLockedOut l
