@@ -1,1 +1,2 @@
+mod HeldUnits
 mod ShownFacts

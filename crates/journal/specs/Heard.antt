@@ -10,21 +10,20 @@ use Rattle.ufs_spec.specs.CdbFields.{is_forced, is_immediate, six_address}
 use Rattle.ufs_spec.specs.Cdbs.{six_blocks, synchronize_cache_10, write_10, write_6}
 use Rattle.ufs_spec.specs.Commands.{Command}
 use Rattle.ufs_spec.specs.Messages.{is_short}
-use Rattle.journal.specs.Writes.{WriteBegun, is_whole, with_block, write_of, writes_of}
+use Rattle.journal.specs.Writes.{WriteBegun, is_whole, with_block, write_of}
 use Rattle.journal.specs.declared.messages.OpenTask.{OpenTask}
 
--- the commands that make what the life began with and then the WRITEs that it accepted, in order; how many of them,
--- from the first on, were acknowledged as durable; the commands that have no RESPONSE yet; whether a block is bad
+-- the WRITEs that the life accepted, in order; how many of them, from the first on, were acknowledged as durable; the
+-- commands that have no RESPONSE yet; whether a block is bad
 pub record Heard : Type 0 where
   pub commands : List Command
   pub held : ℕ
   pub tasks : List OpenTask
   pub locked : Bool
 
--- a life begins over these blocks, unit by unit: all that makes them is durable
-abbrev pub life_over : List (List (List ℕ)) → Heard
-life_over base =
-    record { commands = writes_of 0 base; held = length (writes_of 0 base); tasks = []; locked = false }
+-- a life begins: whatever it begins with, nothing came yet
+abbrev pub life_begun : Heard
+life_begun = record { commands = []; held = 0; tasks = []; locked = false }
 
 -- ## The open commands
 

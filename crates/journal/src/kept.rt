@@ -1,13 +1,12 @@
-//! Whether the blocks that a device shows are those of the plain device after a prefix of commands.
-ghost use Rattle.std.specs.Prelude.{◌≡◌, ◌+◌, ◌<◌, ◌≤◌, ◌↔◌, ℕ, All, IfNone, IfOk, IfSome, None, false, length, map};
+//! Whether the blocks that a device shows are those of a plain device after a prefix of commands.
+ghost use Rattle.std.specs.Prelude.{◌≡◌, ◌+◌, ◌<◌, ◌≤◌, ◌↔◌, ℕ, All, IfNone, IfSome, None, false, length, map};
 ghost use Rattle.std.specs.Prelude.{slice_get, slice_index_or, Some, take, true};
 ghost use Rattle.ufs_spec.specs.Commands.{command_of};
-ghost use Rattle.ufs_spec.specs.Plain.{Plain, CanApply, after, apply, block_at, greatest_command, shape_of, shape_of_numbers, unit_of, zero};
+ghost use Rattle.ufs_spec.specs.Plain.{Plain, CanApply, after, apply, block_at, greatest_command, shape_of, shape_of_numbers, unit_of};
 ghost use Rattle.journal.specs.Shown.{IsShownAt, IsWriteWithin, Shows};
 
-use std::alloc::Global;
 use ufs_spec::{
-    Block, Cmd, GREATEST_COMMAND, NoMemory, Numbers, PlainDevice, UnitSpec, commands_keep_the_shape,
+    Block, Cmd, GREATEST_COMMAND, Numbers, PlainDevice, UnitSpec, commands_keep_the_shape,
 };
 
 /// Where a block is.
@@ -17,27 +16,24 @@ struct Spot {
     address: u32,
 }
 
-/// Whether the first commands, the first `held` of them at least, make of a new device one whose blocks
-/// are those found, unit by unit.
-///
-/// # Errors
-///
-/// `NoMemory` where there was none for the plain device.
+/// Whether the first commands, the first `held` of them at least, make of the base a device whose blocks
+/// are those found, unit by unit. The base is led through the commands, so it is used up.
 pub fn is_kept(
-    alloc: Global,
     numbers: &Numbers,
+    base: PlainDevice,
     commands: &[Cmd],
     held: usize,
     found: &[Vec<Block>],
-) -> Result<bool, NoMemory>
-    ensures kept { IfOk result (λ b. b ≡ true → (k : ℕ) × (held ≤ k) × (k ≤ length commands.now)
-        × Shows (map (λ v. v.items) found.now) (after (zero numbers.now) (take k (map command_of commands.now)))) }
+) -> bool
+    requires shape { shape_of base ≡ shape_of_numbers numbers.now }
+    ensures kept { result ≡ true → (k : ℕ) × (held ≤ k) × (k ≤ length commands.now)
+        × Shows (map (λ v. v.items) found.now) (after base (take k (map command_of commands.now))) }
     // Where each command is a write within the numbers, the answer false says that no prefix is there.
-    ensures lost { IfOk result (λ b. b ≡ false → All (IsWriteWithin numbers.now) (map command_of commands.now)
+    ensures lost { result ≡ false → All (IsWriteWithin numbers.now) (map command_of commands.now)
         → (k : ℕ) → held ≤ k → k ≤ length commands.now
-        → Shows (map (λ v. v.items) found.now) (after (zero numbers.now) (take k (map command_of commands.now))) → ⊥) }
+        → Shows (map (λ v. v.items) found.now) (after base (take k (map command_of commands.now))) → ⊥ }
 {
-    let mut plain = PlainDevice::new(alloc, numbers)?;
+    let mut plain = base;
     // A block that was not the plain device's. While it is not, no other has to be looked at.
     let mut other = Spot {
         unit: 0,
@@ -47,15 +43,15 @@ pub fn is_kept(
         if index >= held {
             match difference(numbers, found, &plain, other) {
                 Some(spot) => other = spot,
-                None => return Ok(true),
+                None => return true,
             }
         }
         if !is_write_within(numbers, command) {
-            return Ok(false);
+            return false;
         }
         apply_command(numbers, &mut plain, command);
     }
-    Ok(held <= commands.len() && difference(numbers, found, &plain, other).is_none())
+    held <= commands.len() && difference(numbers, found, &plain, other).is_none()
 }
 
 /// Does a command that lies within the numbers.

@@ -3,17 +3,15 @@
 ghost use Rattle.std.specs.Prelude.{◌≡◌, ◌++◌, ◌∷◌, [], ◌+◌, ◌<◌, ◌≤◌, IfOk, IfSome, OnOk, length, map, position, true};
 ghost use Rattle.ufs_spec.specs.Commands.{command_of};
 ghost use Rattle.journal.specs.Heard.{answered, asked_write, begun, begun_write, block_of, has_tag, heard, is_flush};
-ghost use Rattle.journal.specs.Heard.{life_over, open_with, received, taken, told, with_open, without};
-ghost use Rattle.journal.specs.Writes.{has_content, is_whole, with_block, write_at, write_of, write_there};
-ghost use Rattle.journal.specs.Writes.{writes_from, writes_to};
+ghost use Rattle.journal.specs.Heard.{life_begun, open_with, received, taken, told, with_open, without};
+ghost use Rattle.journal.specs.Writes.{is_whole, with_block, write_of};
 
 use std::alloc::Global;
 use std::marker::Model;
 use ufs_spec::codes::{COMMAND, DATA_OUT, RESPONSE};
 use ufs_spec::{Block, Cmd, NoMemory, read_u16, read_u32};
 
-/// What the host of one life wrote. The commands begin with those that make a new device what it was
-/// when the life began.
+/// What the host of one life wrote.
 #[derive(Drop)]
 pub struct Journal {
     commands: Vec<Cmd>,
@@ -89,36 +87,27 @@ const IMMED: u8 = 0x02;
 const HEADER: usize = 32;
 
 impl Journal {
-    /// A life begins over these blocks, unit by unit.
-    ///
-    /// # Errors
-    ///
-    /// `NoMemory` where there was none for the commands that make them.
-    pub fn new(alloc: Global, base: &[Vec<Block>]) -> Result<Journal, NoMemory>
-        ensures { IfOk result (λ j. j ≡ life_over (map (λ v. v.items) base.now)) }
+    /// A life begins.
+    pub fn new(alloc: Global) -> Journal
+        ensures { result ≡ life_begun }
     {
-        let mut commands = Vec::new(alloc);
-        for (index, blocks) in base.iter().enumerate() {
-            write_unit(alloc, index, blocks.as_slice(), &mut commands)?;
-        }
-        let held = commands.len();
-        Ok(Journal {
-            commands,
-            held,
+        Journal {
+            commands: Vec::new(alloc),
+            held: 0,
             tasks: Vec::new(alloc),
             is_locked: false,
-        })
+        }
     }
 
-    /// The commands that made what the life began with, and then those accepted in it, in order.
+    /// The commands that were accepted in the life, in order.
     pub fn commands(&self) -> &[Cmd]
         ensures { map command_of result.now ≡ self.now.commands }
     {
         self.commands.as_slice()
     }
 
-    /// How many of the commands, from the first one on, a stop has to keep: those that made what the
-    /// life began with, and those up to the last that was acknowledged as durable.
+    /// How many of the commands, from the first one on, a stop has to keep: those up to the last that was
+    /// acknowledged as durable.
     pub fn held(&self) -> usize
         ensures { result ≡ self.now.held }
     {
@@ -331,97 +320,6 @@ fn add_command(commands: &mut Vec<Cmd>, command: Cmd) -> Result<usize, NoMemory>
         Ok(()) => Ok(commands.len()),
         Err(_) => Err(NoMemory),
     }
-}
-
-// A write of each block of a unit that is not all zeros, if the unit's number is a byte.
-fn write_unit(
-    alloc: Global,
-    index: usize,
-    blocks: &[Block],
-    commands: &mut Vec<Cmd>,
-) -> Result<(), NoMemory>
-    ensures { OnOk result (map command_of commands.new.items
-        ≡ map command_of commands.old.items ++ writes_to index blocks.now) }
-{
-    match u8::try_from(index) {
-        Ok(unit) => write_blocks(alloc, unit, blocks, commands),
-        Err(_) => Ok(()),
-    }
-}
-
-// A write of each block of a unit that is not all zeros.
-fn write_blocks(
-    alloc: Global,
-    unit: u8,
-    blocks: &[Block],
-    commands: &mut Vec<Cmd>,
-) -> Result<(), NoMemory>
-    ensures { OnOk result (map command_of commands.new.items
-        ≡ map command_of commands.old.items ++ writes_from unit 0 blocks.now) }
-{
-    for (index, block) in blocks.iter().enumerate() {
-        write_block(alloc, unit, index, block, commands)?;
-    }
-    Ok(())
-}
-
-// A write of the block, if it is not all zeros and its address has 32 bits.
-fn write_block(
-    alloc: Global,
-    unit: u8,
-    index: usize,
-    block: &Block,
-    commands: &mut Vec<Cmd>,
-) -> Result<(), NoMemory>
-    ensures { OnOk result (map command_of commands.new.items
-        ≡ map command_of commands.old.items ++ write_at unit index block.now) }
-{
-    match u32::try_from(index) {
-        Ok(address) => write_there(alloc, unit, address, block, commands),
-        Err(_) => Ok(()),
-    }
-}
-
-// A write of the block, if it is not all zeros.
-fn write_there(
-    alloc: Global,
-    unit: u8,
-    address: u32,
-    block: &Block,
-    commands: &mut Vec<Cmd>,
-) -> Result<(), NoMemory>
-    ensures { OnOk result (map command_of commands.new.items
-        ≡ map command_of commands.old.items ++ write_there unit address block.now) }
-{
-    if !has_content(block) {
-        return Ok(());
-    }
-    let blocks = one_block(alloc, block)?;
-    let command = Cmd::Write {
-        unit,
-        address,
-        blocks,
-    };
-    add_command(commands, command)?;
-    Ok(())
-}
-
-// A list of one block.
-fn one_block(alloc: Global, block: &Block) -> Result<Vec<Block>, NoMemory>
-    ensures { IfOk result (λ v. v.items ≡ block.now ∷ []) }
-{
-    let mut blocks = Vec::new(alloc);
-    match blocks.push(*block) {
-        Ok(()) => Ok(blocks),
-        Err(_) => Err(NoMemory),
-    }
-}
-
-// Whether not all bytes are zero.
-fn has_content(block: &Block) -> bool
-    ensures { result ≡ has_content block.now }
-{
-    block.iter().any(|byte| *byte != 0)
 }
 
 /// The block of a message with data.

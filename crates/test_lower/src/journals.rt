@@ -1,11 +1,11 @@
 //! The comparison, on blocks that are a prefix of what was written and on blocks that are none, and what a
 //! journal takes from messages.
 use geometry::Config;
-use journal::{Journal, is_kept};
+use journal::{Journal, device_holding, is_kept};
 use std::alloc::Global;
 use std::process::Abort;
 use std::test::Fail;
-use ufs_spec::{Block, Cmd, UnitSpec};
+use ufs_spec::{Block, Cmd, PlainDevice, UnitSpec, commands_keep_the_shape};
 use workbench::messages::{FUA, SYNCHRONIZE, WRITE, block_out, command, good};
 
 /// Two units, of 4 and of 2 blocks.
@@ -59,10 +59,28 @@ fn three_writes(alloc: Global) -> Result<Vec<Cmd>, Fail> {
     Ok(commands)
 }
 
-/// Whether these blocks are those after a prefix of the commands that has the held ones.
+/// Whether these blocks are those that a prefix of the commands, with the held ones in it, makes of a new
+/// device.
 fn keeps(alloc: Global, commands: &[Cmd], held: usize, found: &[Vec<Block>]) -> Result<bool, Fail> {
     let config = config()?;
-    Ok(is_kept(alloc, config.numbers(), commands, held, found)?)
+    commands_keep_the_shape();
+    let base = PlainDevice::new(alloc, config.numbers())?;
+    Ok(is_kept(config.numbers(), base, commands, held, found))
+}
+
+/// The same over a device that holds the blocks of the base; `None` where those are not the units'.
+fn keeps_over(
+    alloc: Global,
+    base: &[Vec<Block>],
+    commands: &[Cmd],
+    held: usize,
+    found: &[Vec<Block>],
+) -> Result<Option<bool>, Fail> {
+    let config = config()?;
+    match device_holding(alloc, config.numbers(), base)? {
+        Some(base) => Ok(Some(is_kept(config.numbers(), base, commands, held, found))),
+        None => Ok(None),
+    }
 }
 
 /// Each prefix that has the held writes is kept.
@@ -166,7 +184,7 @@ fn expect_counts(rt: &impl Abort, journal: &Journal, accepted: usize, held: usiz
 #[test]
 fn writes_of_several_tasks_are_accepted_in_order(rt: HostRuntime) -> Result<(), Fail> {
     let alloc = rt.alloc();
-    let mut journal = Journal::new(alloc, &[])?;
+    let mut journal = Journal::new(alloc);
     journal.hear(alloc, &write_10(1, false))?;
     journal.hear(alloc, &write_10(2, true))?;
     journal.hear(alloc, &write_10(3, false))?;
@@ -192,7 +210,7 @@ fn writes_of_several_tasks_are_accepted_in_order(rt: HostRuntime) -> Result<(), 
 #[test]
 fn a_flush_holds_the_writes_before_it(rt: HostRuntime) -> Result<(), Fail> {
     let alloc = rt.alloc();
-    let mut journal = Journal::new(alloc, &[])?;
+    let mut journal = Journal::new(alloc);
     journal.hear(alloc, &write_10(1, false))?;
     journal.hear(alloc, &block_out(1, 0, 0x11))?;
     journal.hear(alloc, &flush(9, true))?;
@@ -219,7 +237,7 @@ fn is_write_at(command: Option<&Cmd>, wanted: u32) -> bool {
 #[test]
 fn write_6_is_accepted_and_an_empty_or_locked_write_is_not(rt: HostRuntime) -> Result<(), Fail> {
     let alloc = rt.alloc();
-    let mut journal = Journal::new(alloc, &[])?;
+    let mut journal = Journal::new(alloc);
     journal.hear(alloc, &write_6(1))?;
     journal.hear(alloc, &block_out(1, 0, 0x11))?;
     assert!(rt; is_write_at(journal.commands().first(), 0x01_0203));
@@ -235,17 +253,46 @@ fn write_6_is_accepted_and_an_empty_or_locked_write_is_not(rt: HostRuntime) -> R
     Ok(())
 }
 
-/// A life that begins over blocks holds them.
+/// What a life begins over is in each prefix, below what the life wrote.
 #[test]
 fn a_life_holds_the_blocks_that_it_begins_over(rt: HostRuntime) -> Result<(), Fail> {
     let alloc = rt.alloc();
     let base = blocks(alloc, [0, 0x55, 0, 0], [0x66, 0])?;
-    let journal = Journal::new(alloc, base.as_slice())?;
-    expect_counts(&rt, &journal, 2, 2);
-    for (byte, is_good) in [(0x55u8, true), (0u8, false)] {
+    let mut commands = Vec::new(alloc);
+    commands.push(write(alloc, 0, 1, 0x77)?)?;
+    for (held, byte, is_good) in [
+        (0usize, 0x55u8, true),
+        (0, 0x77, true),
+        (0, 0, false),
+        (1, 0x55, false),
+        (1, 0x77, true),
+    ] {
         let found = blocks(alloc, [0, byte, 0, 0], [0x66, 0])?;
-        let kept = keeps(alloc, journal.commands(), journal.held(), found.as_slice())?;
-        assert!(rt; kept == is_good);
+        let (base, commands) = (base.as_slice(), commands.as_slice());
+        let kept = keeps_over(alloc, base, commands, held, found.as_slice())?;
+        assert!(rt; kept == Some(is_good), "{held} {byte}");
     }
+    Ok(())
+}
+
+/// Blocks of too few units, of too many, or of too short a unit are no beginning.
+#[test]
+fn blocks_of_other_units_begin_no_life(rt: HostRuntime) -> Result<(), Fail> {
+    let alloc = rt.alloc();
+    let found = blocks(alloc, [0, 0, 0, 0], [0, 0])?;
+    for (first, second) in [(4usize, None), (4, Some(1usize)), (3, Some(2))] {
+        let mut base = blocks(alloc, [0, 0, 0, 0], [0, 0])?;
+        match second {
+            Some(count) => base[1].truncate(count),
+            None => base.truncate(1),
+        }
+        base[0].truncate(first);
+        let kept = keeps_over(alloc, base.as_slice(), &[], 0, found.as_slice())?;
+        assert!(rt; kept.is_none(), "{first}");
+    }
+    let mut base = blocks(alloc, [0, 0, 0, 0], [0, 0])?;
+    base.push(Vec::new(alloc))?;
+    let kept = keeps_over(alloc, base.as_slice(), &[], 0, found.as_slice())?;
+    assert!(rt; kept.is_none());
     Ok(())
 }

@@ -1,5 +1,8 @@
 //! Stops a script's device inside each of its programs and erases, and looks whether the device that
 //! opens afterwards holds what a prefix of the accepted commands makes, with each acknowledged one in it.
+ghost use Rattle.std.specs.Prelude.{◌≡◌, IfOk, IfSome};
+ghost use Rattle.ufs_spec.specs.Plain.{shape_of, shape_of_numbers};
+
 use crate::fault::Word;
 use crate::reading::{Visit, blocks_held};
 use crate::stopped::{
@@ -7,10 +10,10 @@ use crate::stopped::{
 };
 use device::World;
 use geometry::Config;
-use journal::{Journal, is_kept};
+use journal::{Journal, device_holding, is_kept};
 use nand_model::MemDie;
 use std::alloc::Global;
-use ufs_spec::{Block, Event, Output};
+use ufs_spec::{Block, Event, Numbers, Output, PlainDevice, commands_keep_the_shape};
 
 /// Which stops are tried at a program or an erase.
 #[derive(Clone, Copy)]
@@ -29,6 +32,8 @@ pub enum Stops {
 pub(crate) struct Check {
     config: Config,
     tries: Stops,
+    /// The blocks that the life began with, unit by unit; `None` where it began over new dies.
+    base: Option<Vec<Vec<Block>>>,
     journal: Journal,
     /// How many stops were tried.
     pub stops: usize,
@@ -38,14 +43,15 @@ pub(crate) struct Check {
 
 impl Check {
     /// Nothing was tried yet, over new dies.
-    pub fn new(alloc: Global, config: Config, tries: Stops) -> Result<Check, Word> {
-        Ok(Check {
+    pub fn new(alloc: Global, config: Config, tries: Stops) -> Check {
+        Check {
             config,
             tries,
-            journal: Journal::new(alloc, &[])?,
+            base: None,
+            journal: Journal::new(alloc),
             stops: 0,
             bad: 0,
-        })
+        }
     }
 
     /// An event of the script showed this. After a program or an erase was given to a die the stops are
@@ -93,8 +99,9 @@ impl Check {
         let dies = copied_dies(alloc, world.dies())?;
         let is_bad = has_bad(dies.as_slice());
         match blocks_held(alloc, &self.config, dies)? {
-            Some(base) => {
-                self.journal = Journal::new(alloc, base.as_slice())?;
+            Some(blocks) => {
+                self.base = Some(blocks);
+                self.journal = Journal::new(alloc);
             }
             None => self.bad = self.bad.saturating_add(1),
         }
@@ -138,10 +145,26 @@ impl Check {
         Ok(())
     }
 
+    // Whether these blocks are those after a prefix of what was accepted in the life.
     fn is_kept(&self, alloc: Global, found: &[Vec<Block>]) -> Result<bool, Word> {
         let numbers = self.config.numbers();
-        let held = self.journal.held();
-        Ok(is_kept(alloc, numbers, self.journal.commands(), held, found)?)
+        let commands = self.journal.commands();
+        match self.base(alloc)? {
+            Some(base) => Ok(is_kept(numbers, base, commands, self.journal.held(), found)),
+            None => Ok(false),
+        }
+    }
+
+    // The plain device that the life began with; `None` where the blocks that were read are not those of
+    // the units.
+    fn base(&self, alloc: Global) -> Result<Option<PlainDevice>, Word>
+        ensures { IfOk result (λ o. IfSome o (λ p. shape_of p ≡ shape_of_numbers self.now.config)) }
+    {
+        let numbers = self.config.numbers();
+        match &self.base {
+            Some(blocks) => Ok(device_holding(alloc, numbers, blocks.as_slice())?),
+            None => new_device(alloc, numbers),
+        }
     }
 
     // As `try_stop`, and in the mending a second stop at each program and each erase.
@@ -215,4 +238,12 @@ impl Check {
         }
         Ok(())
     }
+}
+
+// A new device.
+fn new_device(alloc: Global, numbers: &Numbers) -> Result<Option<PlainDevice>, Word>
+    ensures { IfOk result (λ o. IfSome o (λ p. shape_of p ≡ shape_of_numbers numbers.now)) }
+{
+    commands_keep_the_shape();
+    Ok(Some(PlainDevice::new(alloc, numbers)?))
 }

@@ -147,7 +147,7 @@ impl Runner {
 
     // The same, with these stops tried at each program and each erase.
     fn checking(alloc: Global, first: &FirstLines, tries: Stops) -> Result<Runner, Word> {
-        let check = Check::new(alloc, first.config()?, tries)?;
+        let check = Check::new(alloc, first.config()?, tries);
         Ok(Runner::over(alloc, first.open(alloc)?, first.dies, Some(check)))
     }
 

@@ -1,9 +1,8 @@
-use Rattle.std.proofs.Common.{◌≡◌, ◌<◌, ◌≤◌, ◌∙◌, ℕ, sym, subst, map, ap, arith, ⊎_elim, take}
+use Rattle.std.proofs.Common.{◌≡◌, ◌<◌, ◌≤◌, ◌∙◌, ℕ, refl, sym, subst, map, ap, arith, ⊎_elim, take}
 use Rattle.std.proofs.lemmas.Bool.{cases_lt}
 use Rattle.std.proofs.lemmas.List.{get_or-map, length-map}
 use Rattle.ufs_spec.specs.Commands.{command_of}
-use Rattle.ufs_spec.specs.Plain.{Plain, after, apply, shape_of, zero}
-use Rattle.ufs_spec.proofs.PlainFacts.{new_shape}
+use Rattle.ufs_spec.specs.Plain.{Plain, after, apply}
 use Rattle.journal.specs.Shown.{IsWriteWithin, Shows}
 use Rattle.journal.proofs.ShownFacts.{after_more}
 use Rattle.journal.proofs.kept.is_kept.Goals as goal
@@ -11,8 +10,8 @@ use Rattle.journal.proofs.kept.is_kept.Goals.{then-index-held+in-Some, else-inde
 
 pub loop-index-init : goal.loop-index-init
 loop-index-init c = record {
-  shape = ap shape_of c.in_ok-plain.ensures ∙ new_shape c.args.numbers.now;
-  now = c.in_ok-plain.ensures;
+  shape = c.requires.shape;
+  now = refl;
   none = λ k low high. absurd (omega arith);
 }
 
@@ -39,10 +38,10 @@ loop-index-preserved c = record {
       let here = get_or-map command_of commands i command (command_of command) c.loop-index-test.true in
       let long = length-map commands command_of in
       let less = c.loop-index-test.true in
-      let more = after_more (zero c.args.numbers.now) (map command_of commands) i (command_of command) (omega arith) in
+      let more = after_more c.args.base (map command_of commands) i (command_of command) (omega arith) in
       c.apply_command.ensures.applied
       ∙ ap (λ (p : Plain). apply p (command_of command)) c.loop-index.invariant.now
-      ∙ ap (apply (after (zero c.args.numbers.now) (take i (map command_of commands))))
+      ∙ ap (apply (after c.args.base (take i (map command_of commands))))
       (sym (here ∙ ap command_of (sym c.index-commands-index.is)))
       ∙ sym more;
   none =
@@ -53,7 +52,7 @@ loop-index-preserved c = record {
       let same : c.loop-index.index ≡ k = omega arith in
       elim c.if-index-held.branch [
         | then-index-held+in-Some w ↦
-            λ shown. w.in-Some.ensures.some (subst (Shows _) (ap (λ (j : ℕ). after (zero c.args.numbers.now)
+            λ shown. w.in-Some.ensures.some (subst (Shows _) (ap (λ (j : ℕ). after c.args.base
             (take j (map command_of c.args.commands.now))) (sym same) ∙ sym c.loop-index.invariant.now) shown)
         | else-index-held w ↦ let early = w.if-index-held.false in absurd (omega arith)
       ])

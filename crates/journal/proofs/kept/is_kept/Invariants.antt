@@ -1,7 +1,7 @@
 use Rattle.std.proofs.Common.{◌≡◌, ◌<◌, ◌≤◌, ℕ, map}
 use Rattle.std.specs.Prelude.{take}
 use Rattle.ufs_spec.specs.Commands.{command_of}
-use Rattle.ufs_spec.specs.Plain.{after, shape_of, shape_of_numbers, zero}
+use Rattle.ufs_spec.specs.Plain.{after, shape_of, shape_of_numbers}
 use Rattle.journal.specs.Shown.{Shows}
 use Rattle.journal.proofs.kept.is_kept.Given as goal
 
@@ -9,8 +9,8 @@ use Rattle.journal.proofs.kept.is_kept.Given as goal
 abbrev pub invariant-loop-index : goal.invariant-loop-index
 invariant-loop-index l = record {
   shape : shape_of l.plain ≡ shape_of_numbers l.numbers;
-  now : l.plain ≡ after (zero l.numbers) (take l.index (map command_of l.commands));
+  now : l.plain ≡ after l.fn.base (take l.index (map command_of l.commands));
   none :
       (k : ℕ) → l.held ≤ k → k < l.index →
-      Shows (map (λ v. v.items) l.found) (after (zero l.numbers) (take k (map command_of l.commands))) → ⊥;
+      Shows (map (λ v. v.items) l.found) (after l.fn.base (take k (map command_of l.commands))) → ⊥;
 }
