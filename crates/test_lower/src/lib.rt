@@ -18,6 +18,8 @@ mod page_contents;
 #[cfg(test)]
 mod plain_rows;
 #[cfg(test)]
+mod rpmb_rows;
+#[cfg(test)]
 mod scans;
 #[cfg(test)]
 mod scans_by_workers;

@@ -1,0 +1,7 @@
+pub mod AskedChecks
+pub mod Compared
+pub mod DataFrames
+pub mod Filled
+pub mod Formed
+pub mod Parts
+pub mod Signed

@@ -1,0 +1,15 @@
+//! The replay protected memory block of one region: what a request does, what answers it, and the
+//! registers in which answers wait (JESD220, 12.4). The area itself lies on the dies.
+#![tactic(auto)]
+
+mod machine;
+mod macs;
+mod outcomes;
+mod regions;
+mod requests;
+mod responses;
+
+pub use machine::Rpmb;
+pub use outcomes::{Accepted, Failure, Outcome, Refusal};
+pub use regions::RegionState;
+pub use requests::{Request, asked_by, data_of};
