@@ -9,12 +9,17 @@ _ufstool_words() {
     test-unit-ready | read-capacity) echo "$command" ;;
     nop) echo '--task --help' ;;
     data-out) echo '--unit --task --offset --bytes --fill --help' ;;
+    rpmb-key) echo '--key --key-file --task --help' ;;
+    rpmb-write) echo '--address --counter --data --blocks --fill --key --key-file --task --help' ;;
+    rpmb-read) echo '--address --blocks --nonce --task --help' ;;
+    rpmb-counter) echo '--nonce --task --help' ;;
+    rpmb-result) echo '--task --help' ;;
     esac
 }
 
 _ufstool() {
     local current=${COMP_WORDS[COMP_CWORD]} words=
-    local messages='read6 write6 read10 write10 synchronize-cache flush test-unit-ready request-sense read-capacity nop data-out'
+    local messages='read6 write6 read10 write10 synchronize-cache flush test-unit-ready request-sense read-capacity nop data-out rpmb-key rpmb-write rpmb-read rpmb-counter rpmb-result'
     COMPREPLY=()
     if [ "$COMP_CWORD" -eq 1 ]; then
         words='explain host draw help --help --version'
@@ -26,6 +31,8 @@ _ufstool() {
         words='--help'
         if [ "${COMP_WORDS[1]}" = draw ]; then
             words='--line --svg --help'
+        elif [ "${COMP_WORDS[1]}" = explain ]; then
+            words='--frames --key --key-file --help'
         fi
     else
         compopt -o filenames 2>/dev/null

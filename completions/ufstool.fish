@@ -1,6 +1,6 @@
 # Completion of ufstool in fish.
 set -l messages read6 write6 read10 write10 synchronize-cache flush test-unit-ready request-sense \
-    read-capacity nop data-out
+    read-capacity nop data-out rpmb-key rpmb-write rpmb-read rpmb-counter rpmb-result
 set -l commands read6 write6 read10 write10 synchronize-cache flush test-unit-ready request-sense read-capacity
 
 complete -c ufstool -f
@@ -16,11 +16,17 @@ complete -c ufstool -n "__fish_seen_subcommand_from host; and not __fish_seen_su
 complete -c ufstool -n "__fish_seen_subcommand_from $messages" -l task -x -d 'The task tag'
 complete -c ufstool -n "__fish_seen_subcommand_from $commands data-out" -l unit -x -d 'The LUN'
 complete -c ufstool -n "__fish_seen_subcommand_from $commands" -l expected -x -d 'How many bytes the host sends or has room for'
-complete -c ufstool -n '__fish_seen_subcommand_from read6 write6 read10 write10' -l address -x -d 'The first block'
-complete -c ufstool -n '__fish_seen_subcommand_from read6 write6 read10 write10' -l blocks -x -d 'How many blocks'
+complete -c ufstool -n '__fish_seen_subcommand_from read6 write6 read10 write10 rpmb-write rpmb-read' -l address -x -d 'The first block'
+complete -c ufstool -n '__fish_seen_subcommand_from read6 write6 read10 write10 rpmb-write rpmb-read' -l blocks -x -d 'How many blocks'
 complete -c ufstool -n '__fish_seen_subcommand_from read10 write10' -l fua -d 'Set FUA'
 complete -c ufstool -n '__fish_seen_subcommand_from synchronize-cache flush' -l immediate -d 'Set IMMED'
 complete -c ufstool -n '__fish_seen_subcommand_from request-sense' -l allocation -x -d 'The allocation length'
 complete -c ufstool -n '__fish_seen_subcommand_from data-out' -l offset -x -d 'Where the data are in those of the command'
 complete -c ufstool -n '__fish_seen_subcommand_from data-out' -l bytes -x -d 'How many bytes'
-complete -c ufstool -n '__fish_seen_subcommand_from data-out' -l fill -x -d 'The byte, two hexadecimal digits'
+complete -c ufstool -n '__fish_seen_subcommand_from data-out rpmb-write' -l fill -x -d 'The byte, two hexadecimal digits'
+complete -c ufstool -n '__fish_seen_subcommand_from explain' -l frames -d 'Frames in hexadecimal digits'
+complete -c ufstool -n '__fish_seen_subcommand_from explain rpmb-key rpmb-write' -l key -x -d 'The key, 64 hexadecimal digits'
+complete -c ufstool -n '__fish_seen_subcommand_from explain rpmb-key rpmb-write' -l key-file -r -F -d 'A file with the key'
+complete -c ufstool -n '__fish_seen_subcommand_from rpmb-write' -l data -r -F -d 'A file with the blocks'
+complete -c ufstool -n '__fish_seen_subcommand_from rpmb-write' -l counter -x -d 'The write counter'
+complete -c ufstool -n '__fish_seen_subcommand_from rpmb-read rpmb-counter' -l nonce -x -d 'The nonce, 32 hexadecimal digits'

@@ -275,24 +275,33 @@ fn a_life_holds_the_blocks_that_it_begins_over(rt: HostRuntime) -> Result<(), Fa
     Ok(())
 }
 
+/// So many blocks of zeros.
+fn zeros(alloc: Global, count: usize) -> Result<Vec<Block>, Fail> {
+    let mut all = Vec::new(alloc);
+    for _ in 0..count {
+        all.push([0; 4096])?;
+    }
+    Ok(all)
+}
+
+/// Whether units of so many blocks are no beginning.
+fn begins_none(alloc: Global, counts: &[usize], found: &[Vec<Block>]) -> Result<bool, Fail> {
+    let mut base = Vec::new(alloc);
+    for count in counts {
+        base.push(zeros(alloc, *count)?)?;
+    }
+    let kept = keeps_over(alloc, base.as_slice(), &[], 0, found)?;
+    Ok(kept.is_none())
+}
+
 /// Blocks of too few units, of too many, or of too short a unit are no beginning.
 #[test]
 fn blocks_of_other_units_begin_no_life(rt: HostRuntime) -> Result<(), Fail> {
     let alloc = rt.alloc();
     let found = blocks(alloc, [0, 0, 0, 0], [0, 0])?;
-    for (first, second) in [(4usize, None), (4, Some(1usize)), (3, Some(2))] {
-        let mut base = blocks(alloc, [0, 0, 0, 0], [0, 0])?;
-        match second {
-            Some(count) => base[1].truncate(count),
-            None => base.truncate(1),
-        }
-        base[0].truncate(first);
-        let kept = keeps_over(alloc, base.as_slice(), &[], 0, found.as_slice())?;
-        assert!(rt; kept.is_none(), "{first}");
-    }
-    let mut base = blocks(alloc, [0, 0, 0, 0], [0, 0])?;
-    base.push(Vec::new(alloc))?;
-    let kept = keeps_over(alloc, base.as_slice(), &[], 0, found.as_slice())?;
-    assert!(rt; kept.is_none());
+    assert!(rt; begins_none(alloc, &[4], found.as_slice())?);
+    assert!(rt; begins_none(alloc, &[4, 1], found.as_slice())?);
+    assert!(rt; begins_none(alloc, &[3, 2], found.as_slice())?);
+    assert!(rt; begins_none(alloc, &[4, 2, 0], found.as_slice())?);
     Ok(())
 }

@@ -68,6 +68,8 @@ pub enum Cause<'a> {
     Room { needed: u64, left: u64 },
     /// Two units have the same boot number.
     BootTwice(u32),
+    /// So many bytes are no whole frames.
+    FrameBytes(usize),
     /// A line that says what the configuration is comes too late.
     TooLate(&'a str),
     /// The run ended at this line, as its output says.
@@ -144,6 +146,7 @@ impl Cause<'_> {
                     "two units have the boot number {boot}; give it to one of them"
                 )
             }
+            Cause::FrameBytes(count) => { write!(f, "there are {count} bytes; a frame has 512") }
             Cause::TooLate(word) => {
                 write!(
                     f,

@@ -43,6 +43,9 @@ pub enum LineFault {
     /// A DATA OUT has 1 to 4096 bytes.
     #[error("a DATA OUT has 1 to 4096 bytes; give such a number to --bytes")]
     Count,
+    /// A request of the unit RPMB writes or reads 1 to 8 blocks.
+    #[error("a request writes or reads 1 to 8 blocks of 256 bytes")]
+    Blocks,
     /// Memory was refused.
     #[error("there is not enough memory")]
     Memory,
@@ -140,8 +143,8 @@ fn command_of(unit: u8, task: u8, command: Cdb, expected: Option<u32>) -> Result
     Ok(command_message(direction_of(&command), unit, task, length, cdb))
 }
 
-// The COMMAND with these fields (JESD220, 10.7.1).
-fn command_message(flags: u8, lun: u8, tag: u8, expected: u32, cdb: [u8; 16]) -> Message
+/// The COMMAND with these fields (JESD220, 10.7.1).
+pub fn command_message(flags: u8, lun: u8, tag: u8, expected: u32, cdb: [u8; 16]) -> Message
     requires { AreFlags flags }
     ensures { IsMessage result }
 {
@@ -166,8 +169,8 @@ fn data_out_of(unit: u8, task: u8, offset: u32, count: u16, fill: u8) -> Result<
     Ok(data_message(unit, task, offset, &bytes[..count]))
 }
 
-// The DATA OUT with these bytes (JESD220, 10.7.3).
-fn data_message(lun: u8, tag: u8, offset: u32, bytes: &[u8]) -> Message
+/// The DATA OUT with these bytes (JESD220, 10.7.3).
+pub fn data_message(lun: u8, tag: u8, offset: u32, bytes: &[u8]) -> Message
     requires { (1 ≤ length bytes.now) × (length bytes.now ≤ 4096) }
     ensures { IsMessage result }
 {

@@ -3,15 +3,24 @@
 
 mod cause;
 mod commands;
+mod digits;
 mod first_lines;
+mod frame_lines;
+mod frames;
 mod host;
 mod lines;
+mod macs;
 mod messages;
 mod names;
 mod outputs;
+mod requests;
+mod rpmb;
 mod script;
 mod telling;
 
+pub use digits::spelled;
+pub use frame_lines::explain_frames;
 pub use host::{HostMessage, LineFault, host_line, message_of, write_host_line};
+pub use rpmb::{RpmbRequest, write_rpmb_lines};
 pub use telling::explain;
 pub use ufs_spec::Cdb;

@@ -126,6 +126,11 @@ fn write_short_fields<W: fmt::Write>(f: &mut fmt::Formatter<W>, message: &Messag
 fn write_data<W: fmt::Write>(f: &mut fmt::Formatter<W>, offset: u32, bytes: &[u8]) -> fmt::Result {
     let count = bytes.len();
     write!(f, ": {count} bytes at offset {offset}")?;
+    write_contents(f, bytes)
+}
+
+/// What the bytes are, if all are the same, or the first of them.
+pub fn write_contents<W: fmt::Write>(f: &mut fmt::Formatter<W>, bytes: &[u8]) -> fmt::Result {
     match repeated(bytes) {
         Some(byte) => write!(f, ", each {byte:02X}h"),
         None => write_bytes(f, bytes),

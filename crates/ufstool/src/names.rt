@@ -1,8 +1,19 @@
 //! The names that the standards give to codes (JESD220, SAM, SPC, SBC).
+use rpmb_frame::codes;
 use ufs_spec::{HostFault, Sense};
 
 // The name of a code among these.
 fn name_in(names: &[(u8, &'static str)], code: u8) -> Option<&'static str> {
+    for (known, name) in names {
+        if *known == code {
+            return Some(*name);
+        }
+    }
+    None
+}
+
+// The name of a code of two bytes among these.
+fn long_name_in(names: &[(u16, &'static str)], code: u16) -> Option<&'static str> {
     for (known, name) in names {
         if *known == code {
             return Some(*name);
@@ -213,4 +224,55 @@ const KNOWN_UNITS: [(u8, &str); 4] = [
 /// The name of a well known unit, with its LUN (JESD220, 10.5).
 pub fn known_unit_name(lun: u8) -> Option<&'static str> {
     name_in(&KNOWN_UNITS, lun)
+}
+
+const FRAMES: [(u16, &str); 9] = [
+    (
+        codes::KEY_PROGRAMMING_REQUEST,
+        "authentication key programming request",
+    ),
+    (codes::COUNTER_READ_REQUEST, "write counter read request"),
+    (
+        codes::DATA_WRITE_REQUEST,
+        "authenticated data write request",
+    ),
+    (codes::DATA_READ_REQUEST, "authenticated data read request"),
+    (codes::RESULT_READ_REQUEST, "result read request"),
+    (
+        codes::KEY_PROGRAMMING_RESPONSE,
+        "authentication key programming response",
+    ),
+    (codes::COUNTER_READ_RESPONSE, "write counter read response"),
+    (
+        codes::DATA_WRITE_RESPONSE,
+        "authenticated data write response",
+    ),
+    (
+        codes::DATA_READ_RESPONSE,
+        "authenticated data read response",
+    ),
+];
+
+/// The name of a frame's message type (JESD220, 12.4).
+pub fn frame_name(kind: u16) -> &'static str {
+    long_name_in(&FRAMES, kind).unwrap_or("a frame without a name")
+}
+
+const FRAME_RESULTS: [(u16, &str); 8] = [
+    (codes::OPERATION_OK, "operation OK"),
+    (codes::GENERAL_FAILURE, "general failure"),
+    (codes::AUTHENTICATION_FAILURE, "authentication failure"),
+    (codes::COUNTER_FAILURE, "counter failure"),
+    (codes::ADDRESS_FAILURE, "address failure"),
+    (codes::WRITE_FAILURE, "write failure"),
+    (codes::READ_FAILURE, "read failure"),
+    (
+        codes::KEY_NOT_PROGRAMMED,
+        "authentication key not yet programmed",
+    ),
+];
+
+/// The name of a frame's result, without the bit that tells of the counter (JESD220, 12.4).
+pub fn frame_result_name(code: u16) -> &'static str {
+    long_name_in(&FRAME_RESULTS, code).unwrap_or("a result without a name")
 }

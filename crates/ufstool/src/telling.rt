@@ -3,25 +3,28 @@ ghost use Rattle.std.specs.Prelude.{◌≡◌, ◌≤◌};
 
 use crate::cause::Cause;
 use crate::first_lines::{ConfigLine, UnitLine, UnitSum, missing_line};
+use crate::frames::write_frames_of;
 use crate::lines::{Line, Lines, first_word, line_text};
 use crate::messages::MessageWords;
 use crate::names::host_fault_words;
-use crate::outputs::read_answer;
+use crate::outputs::{Answer, read_answer};
 use crate::script::{Request, read_left, read_request};
 use std::alloc::Global;
 use std::fmt;
 use std::io::Write;
 
 /// Says line by line what a script of `ufsim` asks for, on `out`. With the output that `ufsim run`
-/// printed for it, what was answered comes after each line that has an answer. What is wrong is told
-/// in one line on `faults`, with the number of the script's line, its cause and what to do; nothing is
-/// told of the lines after it.
+/// printed for it, what was answered comes after each line that has an answer. Frames that a message
+/// brings come in lines of their own, and under a key it is told whether their MAC is right. What is
+/// wrong is told in one line on `faults`, with the number of the script's line, its cause and what to
+/// do; nothing is told of the lines after it.
 ///
 /// The status is 0 if every line was told, else 1.
 pub fn explain<W: Write, F: Write>(
     alloc: Global,
     script: &[u8],
     output: Option<&[u8]>,
+    key: Option<&[u8; 32]>,
     out: &mut W,
     faults: &mut F,
 ) -> u8
@@ -35,6 +38,7 @@ pub fn explain<W: Write, F: Write>(
         last_unit: 0,
         is_open: false,
         answers: lines_of(output),
+        key,
         number: 0,
     };
     match told.tell_all(script, out) {
@@ -67,6 +71,8 @@ struct Told<'a> {
     is_open: bool,
     // What is left of the output, if there is one.
     answers: Option<Lines<'a>>,
+    // The key of frames, if it is known.
+    key: Option<&'a [u8; 32]>,
     // The line of the script that was read last.
     number: usize,
 }
@@ -144,6 +150,7 @@ impl Told<'_> {
     ) -> Result<(), Cause<'s>> {
         let request = read_request(self.alloc, text)?;
         writeln!(out, "line {number}: {request}")?;
+        self.tell_sent(&request, out)?;
         self.answer(&request, out)
     }
 
@@ -180,14 +187,41 @@ impl Told<'_> {
             return Err(wrong);
         };
         match read_answer(self.alloc, request, text) {
-            Some(answer) => Ok(writeln!(out, "    -> {answer}")?),
+            Some(answer) => {
+                writeln!(out, "    -> {answer}")?;
+                self.tell_received(&answer, out)
+            }
             None => Err(wrong),
         }
     }
+
+    // Tells the frames that the host sends.
+    fn tell_sent<W: Write>(
+        &self,
+        request: &Request<'_>,
+        out: &mut W,
+    ) -> Result<(), Cause<'static>> {
+        if let Request::Host(bytes) = request {
+            if let Ok(message) = upiu::read_host(bytes.as_slice()) {
+                write_frames_of(&message, self.key, out)?;
+            }
+        }
+        Ok(())
+    }
+
+    // Tells the frames that the device sends.
+    fn tell_received<W: Write>(&self, answer: &Answer, out: &mut W) -> Result<(), Cause<'static>> {
+        if let Answer::Reply(bytes) = answer {
+            if let Ok(message) = upiu::read(bytes.as_slice()) {
+                write_frames_of(&message, self.key, out)?;
+            }
+        }
+        Ok(())
+    }
 }
 
-// Whether a line says nothing: it is empty or a comment.
-fn is_silent(line: &[u8]) -> bool {
+/// Whether a line says nothing: it is empty or a comment.
+pub fn is_silent(line: &[u8]) -> bool {
     match line.first() {
         Some(first) => *first == b'#',
         None => true,

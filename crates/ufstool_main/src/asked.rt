@@ -1,7 +1,7 @@
 //! What the words of the program ask for.
 use clap::ArgMatches;
 use die_map::Form;
-use ufstool::{Cdb, HostMessage};
+use ufstool::{Cdb, HostMessage, RpmbRequest, spelled};
 
 /// What the program is asked to do.
 #[derive(Clone, Copy)]
@@ -10,6 +10,12 @@ pub enum Call<'a> {
     Explain {
         script: &'a str,
         output: Option<&'a str>,
+        key: Option<KeySource<'a>>,
+    },
+    /// Say in words what the frames in a file are.
+    ExplainFrames {
+        file: &'a str,
+        key: Option<KeySource<'a>>,
     },
     /// Draw what a script leaves on the dies, up to the line with the number `last`.
     Draw {
@@ -19,41 +25,161 @@ pub enum Call<'a> {
     },
     /// Write the line of a script that hands a device this message.
     Host(HostMessage),
+    /// Write the lines of a script that bring this request to the unit RPMB.
+    Rpmb {
+        task: u8,
+        call: RpmbCall<'a>,
+    },
 }
 
-/// What the matches of the program ask for; `None` if one of them is not there.
-pub fn read_call<'a>(matches: &ArgMatches<'a>) -> Option<Call<'a>> {
+/// Where the key of the unit RPMB is.
+#[derive(Clone, Copy)]
+pub enum KeySource<'a> {
+    /// It was given in digits.
+    Digits([u8; 32]),
+    /// A file has it.
+    File(&'a str),
+}
+
+/// Where blocks of 256 bytes are.
+#[derive(Clone, Copy)]
+pub enum BlockSource<'a> {
+    /// A file has them.
+    File(&'a str),
+    /// All their bytes are the same.
+    Filled { fill: u8, count: u16 },
+}
+
+/// A request to the unit RPMB, of which no file was read yet.
+#[derive(Clone, Copy)]
+pub enum RpmbCall<'a> {
+    /// A request without a key.
+    Plain(RpmbRequest<'a>),
+    ProgramKey {
+        key: KeySource<'a>,
+    },
+    WriteData {
+        key: KeySource<'a>,
+        counter: u32,
+        address: u16,
+        blocks: BlockSource<'a>,
+    },
+}
+
+/// What is wrong with a word that clap takes.
+pub type WordFault = &'static str;
+
+const MISSING: WordFault = "a word is missing";
+
+const FILL: WordFault = "--fill takes two hexadecimal digits";
+
+const KEY: WordFault = "--key takes 64 hexadecimal digits";
+
+const NONCE: WordFault = "--nonce takes 32 hexadecimal digits";
+
+/// What the matches of the program ask for.
+pub fn read_call<'a>(matches: &ArgMatches<'a>) -> Result<Call<'a>, WordFault> {
     if let Some(explain) = matches.subcommand_matches("explain") {
-        return Some(Call::Explain {
-            script: explain.get_str("SCRIPT")?,
-            output: explain.get_str("OUTPUT"),
-        });
+        return read_explain(explain);
     }
     if let Some(draw) = matches.subcommand_matches("draw") {
         let is_svg = draw.get_flag("svg");
-        return Some(Call::Draw {
-            script: draw.get_str("SCRIPT")?,
+        return Ok(Call::Draw {
+            script: draw.get_str("SCRIPT").ok_or(MISSING)?,
             last: draw.get_one("line").unwrap_or(usize::MAX),
             form: if is_svg { Form::Svg } else { Form::Text },
         });
     }
-    let host = matches.subcommand_matches("host")?;
-    let (name, matches) = host.subcommand()?;
-    Some(Call::Host(read_host(name, matches)?))
+    let host = matches.subcommand_matches("host").ok_or(MISSING)?;
+    let (name, matches) = host.subcommand().ok_or(MISSING)?;
+    if name.starts_with("rpmb-") {
+        return Ok(Call::Rpmb {
+            task: byte_in(matches, "task"),
+            call: read_rpmb(name, matches)?,
+        });
+    }
+    Ok(Call::Host(read_host(name, matches)?))
 }
 
-fn read_host(name: &str, matches: &ArgMatches<'_>) -> Option<HostMessage> {
+fn read_explain<'a>(matches: &ArgMatches<'a>) -> Result<Call<'a>, WordFault> {
+    let script = matches.get_str("SCRIPT").ok_or(MISSING)?;
+    let key = read_key(matches)?;
+    if matches.get_flag("frames") {
+        return Ok(Call::ExplainFrames { file: script, key });
+    }
+    Ok(Call::Explain {
+        script,
+        output: matches.get_str("OUTPUT"),
+        key,
+    })
+}
+
+// The key, if one is given.
+fn read_key<'a>(matches: &ArgMatches<'a>) -> Result<Option<KeySource<'a>>, WordFault> {
+    if let Some(name) = matches.get_str("key-file") {
+        return Ok(Some(KeySource::File(name)));
+    }
+    match matches.get_str("key") {
+        Some(digits) => Ok(Some(KeySource::Digits(spelled(digits).ok_or(KEY)?))),
+        None => Ok(None),
+    }
+}
+
+fn read_rpmb<'a>(name: &str, matches: &ArgMatches<'a>) -> Result<RpmbCall<'a>, WordFault> {
+    match name {
+        "rpmb-key" => Ok(RpmbCall::ProgramKey {
+            key: read_key(matches)?.ok_or(MISSING)?,
+        }),
+        "rpmb-write" => Ok(RpmbCall::WriteData {
+            key: read_key(matches)?.ok_or(MISSING)?,
+            counter: long_in(matches, "counter"),
+            address: short_in(matches, "address"),
+            blocks: read_blocks(matches)?,
+        }),
+        "rpmb-read" => Ok(RpmbCall::Plain(RpmbRequest::ReadData {
+            address: short_in(matches, "address"),
+            count: short_in(matches, "blocks"),
+            nonce: read_nonce(matches)?,
+        })),
+        "rpmb-counter" => Ok(RpmbCall::Plain(RpmbRequest::ReadCounter {
+            nonce: read_nonce(matches)?,
+        })),
+        _ => Ok(RpmbCall::Plain(RpmbRequest::ReadResult)),
+    }
+}
+
+fn read_nonce(matches: &ArgMatches<'_>) -> Result<[u8; 16], WordFault> {
+    spelled(matches.get_str("nonce").ok_or(MISSING)?).ok_or(NONCE)
+}
+
+fn read_blocks<'a>(matches: &ArgMatches<'a>) -> Result<BlockSource<'a>, WordFault> {
+    match matches.get_str("data") {
+        Some(name) => Ok(BlockSource::File(name)),
+        None => Ok(BlockSource::Filled {
+            fill: read_fill(matches)?,
+            count: short_in(matches, "blocks"),
+        }),
+    }
+}
+
+// The byte that --fill gives.
+fn read_fill(matches: &ArgMatches<'_>) -> Result<u8, WordFault> {
+    let fill: [u8; 1] = spelled(matches.get_str("fill").ok_or(MISSING)?).ok_or(FILL)?;
+    Ok(fill[0])
+}
+
+fn read_host(name: &str, matches: &ArgMatches<'_>) -> Result<HostMessage, WordFault> {
     let task = byte_in(matches, "task");
     match name {
-        "nop" => Some(HostMessage::NopOut { task }),
-        "data-out" => Some(HostMessage::DataOut {
+        "nop" => Ok(HostMessage::NopOut { task }),
+        "data-out" => Ok(HostMessage::DataOut {
             unit: byte_in(matches, "unit"),
             task,
             offset: long_in(matches, "offset"),
             count: short_in(matches, "bytes"),
-            fill: byte_of(matches.get_str("fill")?)?,
+            fill: read_fill(matches)?,
         }),
-        _ => Some(HostMessage::Command {
+        _ => Ok(HostMessage::Command {
             unit: byte_in(matches, "unit"),
             task,
             cdb: read_cdb(name, matches),
@@ -114,13 +240,4 @@ fn short_in(matches: &ArgMatches<'_>, name: &str) -> u16 {
 
 fn long_in(matches: &ArgMatches<'_>, name: &str) -> u32 {
     matches.get_one(name).unwrap_or(0)
-}
-
-// The byte that two hexadecimal digits spell.
-fn byte_of(digits: &str) -> Option<u8> {
-    if digits.len() == 2 {
-        u8::from_str_radix(digits, 16).ok()
-    } else {
-        None
-    }
 }

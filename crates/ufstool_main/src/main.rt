@@ -3,18 +3,22 @@
 #![tactic(auto)]
 
 mod asked;
+mod files;
 mod program;
+mod rpmb;
+mod rpmb_words;
 
-use crate::asked::{Call, read_call};
+use crate::asked::{Call, KeySource, read_call};
+use crate::files::{file_bytes, key_bytes};
 use crate::program::program;
+use crate::rpmb::run_rpmb;
 use clap::ArgMatches;
 use clap::error::ErrorKind;
 use die_map::{Form, draw};
-use std::io::ErrorKind as FileError;
 use std::process::ExitCode;
 use std::rt::{Env, Files};
-use std::{env, fs, io};
-use ufstool::{explain, write_host_line};
+use std::{env, io};
+use ufstool::{explain, explain_frames, write_host_line};
 
 fn main(rt: HostRuntime) -> ExitCode {
     match words(&rt) {
@@ -50,72 +54,102 @@ fn call(rt: &HostRuntime, words: &[String]) -> ExitCode {
 
 fn run(rt: &HostRuntime, matches: &ArgMatches<'_>) -> ExitCode {
     match read_call(matches) {
-        Some(Call::Explain { script, output }) => run_explain(rt, script, output),
-        Some(Call::Draw { script, last, form }) => run_draw(rt, script, last, form),
-        Some(Call::Host(message)) => {
-            let mut out = io::writer(rt);
-            let status = write_host_line(rt.alloc(), &message, &mut out, &mut rt.stderr());
-            ExitCode::from(status)
-        }
-        None => {
-            let _ = rt.eprintln(
-                "ufstool: --fill takes two hexadecimal digits; see 'ufstool --help'",
-            );
+        Ok(call) => match run_call(rt, &call) {
+            Ok(status) => status,
+            Err(status) => status,
+        },
+        Err(fault) => {
+            let _ = rt.eprintln(format_args!("ufstool: {fault}; see 'ufstool --help'"));
             ExitCode::from(2)
         }
     }
 }
 
-fn run_draw(rt: &HostRuntime, script: &str, last: usize, form: Form) -> ExitCode {
-    match fs::read(rt, script) {
-        Ok(text) => {
+// Does what is asked for. The status is an error where a file could not be read.
+fn run_call(rt: &HostRuntime, call: &Call<'_>) -> Result<ExitCode, ExitCode> {
+    match *call {
+        Call::Explain {
+            script,
+            output,
+            key,
+        } => run_explain(rt, script, output, key),
+        Call::ExplainFrames { file, key } => run_explain_frames(rt, file, key),
+        Call::Draw { script, last, form } => run_draw(rt, script, last, form),
+        Call::Host(message) => {
             let mut out = io::writer(rt);
-            let mut faults = rt.stderr();
-            let status = draw(
-                rt.alloc(),
-                text.as_slice(),
-                last,
-                form,
-                &mut out,
-                &mut faults,
-            );
-            ExitCode::from(status)
+            let status = write_host_line(rt.alloc(), &message, &mut out, &mut rt.stderr());
+            Ok(ExitCode::from(status))
         }
-        Err(error) => unread(rt, script, error.kind()),
+        Call::Rpmb { task, call } => run_rpmb(rt, task, &call),
     }
 }
 
-fn run_explain(rt: &HostRuntime, script: &str, output: Option<&str>) -> ExitCode {
+fn run_draw(rt: &HostRuntime, script: &str, last: usize, form: Form) -> Result<ExitCode, ExitCode> {
+    let text = file_bytes(rt, script)?;
     let mut out = io::writer(rt);
     let mut faults = rt.stderr();
-    let text = match fs::read(rt, script) {
-        Ok(text) => text,
-        Err(error) => return unread(rt, script, error.kind()),
-    };
-    let Some(name) = output else {
-        let status = explain(rt.alloc(), text.as_slice(), None, &mut out, &mut faults);
-        return ExitCode::from(status);
-    };
-    match fs::read(rt, name) {
-        Ok(shown) => {
-            let shown = Some(shown.as_slice());
-            ExitCode::from(explain(rt.alloc(), text.as_slice(), shown, &mut out, &mut faults))
-        }
-        Err(error) => unread(rt, name, error.kind()),
-    }
+    let status = draw(
+        rt.alloc(),
+        text.as_slice(),
+        last,
+        form,
+        &mut out,
+        &mut faults,
+    );
+    Ok(ExitCode::from(status))
 }
 
-// A file that cannot be read.
-fn unread(rt: &impl Eprint, name: &str, kind: FileError) -> ExitCode {
-    let why = match kind {
-        FileError::OutOfMemory => "there is not enough memory to read it",
-        FileError::NotFound => "there is no such file",
-        FileError::PermissionDenied => "it may not be read",
-        FileError::IsADirectory => "it is a folder; name a file in it",
-        _ => "it cannot be read",
+fn run_explain(
+    rt: &HostRuntime,
+    script: &str,
+    output: Option<&str>,
+    source: Option<KeySource<'_>>,
+) -> Result<ExitCode, ExitCode> {
+    let text = file_bytes(rt, script)?;
+    let shown = match output {
+        Some(name) => Some(file_bytes(rt, name)?),
+        None => None,
     };
-    let _ = rt.eprintln(format_args!("ufstool: file {name}: {why}"));
-    ExitCode::FAILURE
+    let key = given_key(rt, source)?;
+    let status = explain(
+        rt.alloc(),
+        text.as_slice(),
+        shown.as_ref().map(|bytes| bytes.as_slice()),
+        key.as_ref(),
+        &mut io::writer(rt),
+        &mut rt.stderr(),
+    );
+    Ok(ExitCode::from(status))
+}
+
+fn run_explain_frames(
+    rt: &HostRuntime,
+    name: &str,
+    source: Option<KeySource<'_>>,
+) -> Result<ExitCode, ExitCode> {
+    let text = file_bytes(rt, name)?;
+    let key = given_key(rt, source)?;
+    let mut out = io::writer(rt);
+    let mut faults = rt.stderr();
+    let status = explain_frames(
+        rt.alloc(),
+        text.as_slice(),
+        key.as_ref(),
+        &mut out,
+        &mut faults,
+    );
+    Ok(ExitCode::from(status))
+}
+
+// The key, if the words give one.
+fn given_key(
+    rt: &HostRuntime,
+    source: Option<KeySource<'_>>,
+) -> Result<Option<[u8; 32]>, ExitCode> {
+    match source {
+        Some(source) => Ok(Some(key_bytes(rt, source)?)),
+        None => Ok(None),
+    }
 }
 
 fn failed(rt: &impl Eprint, why: &str) -> ExitCode {

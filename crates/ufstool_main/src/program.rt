@@ -1,9 +1,10 @@
 //! The words of the program.
+use crate::rpmb_words::{with_key, with_rpmb};
 use clap::{Arg, ArgAction, Command, value_parser};
 use std::alloc::{AllocError, Global};
 
 /// A command that is being made; making one may want memory.
-type Made<'a> = Result<Command<'a>, AllocError>;
+pub type Made<'a> = Result<Command<'a>, AllocError>;
 
 /// The program with its commands.
 pub fn program<'a>(alloc: Global) -> Made<'a> {
@@ -20,13 +21,13 @@ pub fn program<'a>(alloc: Global) -> Made<'a> {
     with(program, draw_command(alloc))
 }
 
-// The command with one more below it.
-fn with<'a>(command: Made<'a>, below: Made<'a>) -> Made<'a> {
+/// The command with one more below it.
+pub fn with<'a>(command: Made<'a>, below: Made<'a>) -> Made<'a> {
     command?.subcommand(below?)
 }
 
-// The command with one more argument.
-fn with_arg<'a>(command: Made<'a>, arg: Arg<'a>) -> Made<'a> {
+/// The command with one more argument.
+pub fn with_arg<'a>(command: Made<'a>, arg: Arg<'a>) -> Made<'a> {
     command?.arg(arg)
 }
 
@@ -41,7 +42,11 @@ fn explain_command<'a>(alloc: Global) -> Made<'a> {
     let explain = Command::new(alloc, "explain").about(
         "Says line by line what a script asks for and what was answered",
     );
-    with_arg(explain.arg(script(alloc)), output)
+    let explain = with_arg(explain.arg(script(alloc)), output);
+    let help =
+        "The script has frames in hexadecimal digits, one or more in a line, in place of events";
+    let explain = with_arg(explain, flag(alloc, "frames", help));
+    with_key(alloc, explain, false)
 }
 
 fn draw_command<'a>(alloc: Global) -> Made<'a> {
@@ -69,7 +74,8 @@ fn host_command<'a>(alloc: Global) -> Made<'a> {
         .arg_required_else_help(true);
     let host = with_transfers(alloc, Ok(host));
     let host = with_flush(alloc, host);
-    with_others(alloc, host)
+    let host = with_others(alloc, host);
+    with_rpmb(alloc, host)
 }
 
 // The command with the READs and WRITEs.
@@ -141,8 +147,8 @@ fn data_out<'a>(alloc: Global) -> Made<'a> {
     with_arg(command, fill(alloc))
 }
 
-// The option `--NAME VALUE`.
-fn option<'a>(alloc: Global, name: &'a str, value: &'a str, help: &'a str) -> Arg<'a> {
+/// The option `--NAME VALUE`.
+pub fn option<'a>(alloc: Global, name: &'a str, value: &'a str, help: &'a str) -> Arg<'a> {
     Arg::new(alloc, name)
         .long(name)
         .value_name(value)
@@ -180,7 +186,8 @@ fn bytes<'a>(alloc: Global) -> Arg<'a> {
         .default_value("4096")
 }
 
-fn fill<'a>(alloc: Global) -> Arg<'a> {
+/// The byte of which all data are.
+pub fn fill<'a>(alloc: Global) -> Arg<'a> {
     let help = "The byte of which all data are, as two hexadecimal digits";
     option(alloc, "fill", "BYTE", help).default_value("00")
 }
@@ -191,7 +198,8 @@ fn unit<'a>(alloc: Global) -> Arg<'a> {
         .default_value("0")
 }
 
-fn task<'a>(alloc: Global) -> Arg<'a> {
+/// The task tag.
+pub fn task<'a>(alloc: Global) -> Arg<'a> {
     option(alloc, "task", "TAG", "The task tag, 0 to 255 in decimal")
         .value_parser(value_parser!(u8))
         .default_value("0")

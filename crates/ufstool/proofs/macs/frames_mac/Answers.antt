@@ -1,0 +1,13 @@
+use Rattle.std.proofs.Common.{map, subst, take}
+use Rattle.std.specs.List.{flat_map}
+use Rattle.hmac_sha256.specs.Hmac.{Holds}
+use Rattle.ufs_spec.specs.Frames.{covered_bytes, frame_in}
+use Rattle.ufstool.proofs.Covered.{covered_more}
+use Rattle.ufstool.proofs.macs.frames_mac.Goals as goal
+
+pub loop-frame-preserved : goal.loop-frame-preserved
+loop-frame-preserved c =
+    subst (Holds c.update.new.self c.args.key.now)
+    (covered_more c.args.frames.now c.loop-frame.frame-index _ c.loop-frame-test.true c.covered_in.ensures)
+    (c.update.ensures c.args.key.now
+    (flat_map covered_bytes (map frame_in (take c.loop-frame.frame-index c.args.frames.now))) c.loop-frame.invariant)
